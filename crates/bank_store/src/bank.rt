@@ -208,7 +208,8 @@ impl<S: Alter + Drop> Counter for Bank<S> {
     ghost use Rattle.message_records.specs.Reading.{request_of};
     ghost use Rattle.message_records.specs.Records.{RequestFields};
     ghost use Rattle.bank_transactions.specs.Causes.{IsBefore};
-    ghost use Rattle.bank_transactions.specs.Stored.{IsStoredBalance, IsStoredNext, RepliesToStored};
+    ghost use Rattle.bank_transactions.specs.Stored.{IsStoredBalance, IsStoredNext, OpensByStored};
+    ghost use Rattle.bank_transactions.specs.Stored.{RepliesToAllStored, RepliesToStored};
     ghost use Rattle.bank_transactions.specs.Batches.{DecidesNone};
     ghost use Rattle.bank_store.specs.Down.{AnswersBy, IsBankCall, OfDamage, WasBroken, bank_reason};
     ghost use Rattle.bank_store.specs.NoneOrAll.{LeavesNoneOrAll, IsIdle};
@@ -271,6 +272,9 @@ impl<S: Alter + Drop> Counter for Bank<S> {
         ensures idle { OnOk result ((bank_seen S.Store self.new).honest → (t : Tables)
             → (bank_seen S.Store self.old).tables t → AreOfALog t → DecidesNone t moment records.now
             → IsIdle S.Store self.old self.new t) }
+        // Whatever rows the file holds.
+        ensures stored { IfOk result (λ replies. (bank_seen S.Store self.new).honest
+            → RepliesToAllStored (database_of S.Store self.old) moment records.now replies.items) }
     {
         range_law(moment);
         self.up()?;
@@ -295,6 +299,10 @@ impl<S: Alter + Drop> Counter for Bank<S> {
             (λ log opening. opening ≡ opening_behind log branch (opened_with count floor)) }
         ensures call { IsBankCall S.Store self.old self.new (Open branch (opened_with count floor) ∷ []) result }
         ensures frugal { result ≢ Err fault.Memory }
+        // Whatever rows the file holds.
+        ensures stored { IfOk result (λ opening. (bank_seen S.Store self.new).honest
+            → OpensByStored (database_of S.Store self.old) (database_of S.Store self.new) branch
+            (opened_with count floor) opening) }
     {
         range_law(branch);
         floor_law(&floor);

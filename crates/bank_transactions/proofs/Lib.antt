@@ -2,8 +2,11 @@
 pub mod Blamed
 pub mod Broken
 pub mod Chained
+pub mod Left
 pub mod FailedBalances
 pub mod FittingAccounts
+pub mod HeldRows
+pub mod HeldSlots
 pub mod NextRow
 pub mod Opened
 pub mod ReadsInTurn
@@ -13,9 +16,11 @@ pub mod Transacted
 pub mod Both
 pub mod LookUps
 pub mod Loops
+pub mod Partly
 pub mod FilledSlots
 pub mod Rows
 pub mod Whole
 pub mod Together
+pub mod HeldBatch
 pub mod Answered
 pub mod Idle

@@ -1,5 +1,5 @@
 -- What the parts of a call do to the tables, and what a whole transaction does.
-use Rattle.std.specs.Prelude.{◌≡◌, IsTrue, Bool, true, false, Result, Ok, Err, IfOk, ⊤}
+use Rattle.std.specs.Prelude.{◌≡◌, IsTrue, Bool, true, false, Result, Ok, Err, IfOk, OnOk, ⊤}
 use Rattle.sqlite.specs.Tree.{Trees}
 use Rattle.sqlite.specs.State.{State, KeepsCommit, HasCleanDisk, IsRolledBack, Survives}
 use Rattle.sqlite.specs.Steps.{FailsToCommit}
@@ -78,6 +78,13 @@ pub record DoesBy {S X : Type 0} (Met : Damage S) (g : Ghosts S) (old new : Tran
       → LeavesAndAnswers now (after tables) (wanted tables) result)))
       (Inside (λ before now. CommitsNothing before now result
       × Blames Met g old.conn.now new.conn.now result))
+
+-- whatever tables are shown, after `Ok` they are these
+pub record Leaves {S X : Type 0} (g : Ghosts S) (old new : Transaction S) (after : Tables → Tables)
+    (result : Result X TableFault) : Type 0 where
+  pub shown : OnOk result (HasCleanDisk (state g new.conn.now) → IsTrue (state g old.conn.now).in_transaction
+      → (tables : Tables) → Shows (state g old.conn.now).now tables
+      → Shows (state g new.conn.now).now (after tables))
 
 -- a part that only writes: damage was met by a statement as it wrote
 abbrev pub Does : {S X : Type 0} → Ghosts S → Transaction S → Transaction S → (Tables → Type 0)

@@ -1,17 +1,25 @@
 -- What the parts of filling a batch say.
-use Rattle.std.specs.Prelude.{◌≡◌, ℕ, List, Option, Result, Ok, Err}
+use Rattle.std.specs.Prelude.{◌≡◌, ℕ, List, map, Option, None, Result, Ok, Err}
+use Rattle.std.specs.List.{AllByRecursion}
 use Rattle.sqlite.specs.declared.transaction.Transaction.{Transaction}
 use Rattle.sqlite_trees.specs.declared.store.Store.{Ghosts}
 use Rattle.posting_rules.specs.Damage.{IsUndamaged}
 use Rattle.posting_rules.specs.Tables.{Tables, row_at, branch_key}
 use Rattle.posting_rules.specs.declared.rows.BranchRow.{BranchRow}
+use Rattle.posting_batch.specs.declared.slots.AccountSlot.{AccountSlot}
 use Rattle.posting_batch.specs.declared.slots.BranchSlot.{BranchSlot}
+use Rattle.posting_batch.specs.declared.slots.RequestSlot.{RequestSlot}
+use Rattle.posting_batch.specs.declared.slots.TellerSlot.{TellerSlot}
+use Rattle.posting_batch.specs.Overlay.{Overlay}
 use Rattle.posting_batch.specs.Slots.{in_slot, row_of_slot, branch_slot_key}
 use Rattle.sql_meanings.specs.Calls.{Says}
 use Rattle.store_rows.specs.Calls.{OfTables}
+use Rattle.store_rows.specs.Rules.{BranchKeeps, StoredRows, branch_under}
+use Rattle.store_rows.specs.Stored.{FindsStored, IsBranch}
 use Rattle.store_rows.specs.declared.fault.TableFault.{TableFault}
 use Rattle.bank_transactions.specs.Causes.{Blames, IsFirstBroken}
 use Rattle.bank_transactions.specs.Doing.{IsLookedUp, ChangesNothing}
+use Rattle.bank_transactions.specs.Stored.{HoldsAccount, HoldsDecided, HoldsFloor, HoldsKept, HoldsTellerRow}
 
 -- this is the answer, where the call was answered
 abbrev pub handing : {X Y : Type 0} → Y → Result X TableFault → Result Y TableFault
@@ -34,3 +42,58 @@ HasBranch branch n t = IsUndamaged t × (branch ≡ row_at branch_key t.branches
 -- the slot under a number tells the row of that branch
 abbrev pub TellsBranch : List BranchSlot → Tables → ℕ → Type 0
 TellsBranch slots t n = in_slot row_of_slot (row_at branch_slot_key slots n) ≡ row_at branch_key t.branches n
+
+-- ---- of whatever rows a file holds
+
+-- the slot, without what it is filled with
+abbrev pub emptied_branch : BranchSlot → BranchSlot
+emptied_branch s = record s { stored = None; floor = None }
+
+abbrev pub emptied_teller : TellerSlot → TellerSlot
+emptied_teller s = record s { stored = None }
+
+abbrev pub emptied_account : AccountSlot → AccountSlot
+emptied_account s = record s { stored = None }
+
+abbrev pub emptied_request : RequestSlot → RequestSlot
+emptied_request s = record s { kept = None }
+
+-- the overlay, without what it is filled with
+abbrev pub emptied : Overlay → Overlay
+emptied o = record o {
+  branches = map emptied_branch o.branches;
+  tellers = map emptied_teller o.tellers;
+  accounts = map emptied_account o.accounts;
+  kept = map emptied_request o.kept;
+  decided = 0;
+}
+
+-- the row of a branch as it is stored, none where it has none
+abbrev pub HoldsBranch : StoredRows → ℕ → Option BranchRow → Type 0
+HoldsBranch rows n row = FindsStored (branch_under rows n) IsBranch BranchKeeps (Ok row)
+
+-- the slot has what the rows hold under its key
+pub record BranchHeld (rows : StoredRows) (s : BranchSlot) : Type 0 where
+  pub row : HoldsBranch rows s.branch s.stored
+  pub floor : HoldsFloor rows s.branch s.floor
+
+abbrev pub TellerHeld : StoredRows → TellerSlot → Type 0
+TellerHeld rows s = HoldsTellerRow rows s.teller s.stored
+
+abbrev pub AccountHeld : StoredRows → AccountSlot → Type 0
+AccountHeld rows s = HoldsAccount rows s.account s.stored
+
+abbrev pub RequestHeld : StoredRows → RequestSlot → Type 0
+RequestHeld rows s = HoldsKept rows s.teller s.number s.kept
+
+-- each slot has, and the count is that of the rows
+pub record AreHeld (rows : StoredRows) (o : Overlay) : Type 0 where
+  pub branches : AllByRecursion (BranchHeld rows) o.branches
+  pub tellers : AllByRecursion (TellerHeld rows) o.tellers
+  pub accounts : AllByRecursion (AccountHeld rows) o.accounts
+  pub kept : AllByRecursion (RequestHeld rows) o.kept
+  pub decided : HoldsDecided rows o.decided
+
+-- the slot under a number tells the row of that branch as it is stored
+abbrev pub TellsStored : List BranchSlot → StoredRows → ℕ → Type 0
+TellsStored slots rows n = HoldsBranch rows n (in_slot row_of_slot (row_at branch_slot_key slots n))

@@ -43,6 +43,7 @@ ghost use Rattle.posting_batch.specs.View.{reads_of, IsMadeOf};
 ghost use Rattle.store_rows.specs.View.{Shows};
 ghost use Rattle.bank_transactions.specs.Doing.{Acts, Transacts};
 ghost use Rattle.bank_transactions.specs.Batches.{items_of, DecidesNone, WritesNothing, KeepsOnly};
+ghost use Rattle.bank_transactions.specs.Stored.{RepliesToAllStored};
 
 use crate::batch_changes::write;
 use crate::slots::fill;
@@ -68,6 +69,9 @@ pub fn answer_batch<S: Alter>(
         → DecidesNone tables moment records
         → WritesNothing (state S.Store tx.old.conn.now)
         (state S.Store tx.new.conn.now) tables moment records) }
+    ensures stored { IfOk result (λ replies. HasCleanDisk (state S.Store tx.new.conn.now)
+        → (records : List (List ℕ)) → IsMadeOf batch records
+        → RepliesToAllStored (state S.Store tx.old.conn.now).now moment records replies.items) }
 {
     fill(tx, &mut batch)?;
     let before = batch.overlay.decided;
@@ -95,6 +99,10 @@ pub fn post_all<S: Alter>(
         → (tables : Tables) → Shows (state S.Store conn.old).now tables → AreOfALog tables
         → DecidesNone tables moment records
         → KeepsOnly (state S.Store conn.old) (state S.Store conn.new) tables) }
+    // Whatever rows the file holds.
+    ensures stored { IfOk result (λ replies. HasCleanDisk (state S.Store conn.new)
+        → (records : List (List ℕ)) → IsMadeOf batch records
+        → RepliesToAllStored (state S.Store conn.old).now moment records replies.items) }
 {
     let mut tx = begin(conn);
     let replies = answer_batch(&mut tx, moment, batch);

@@ -9,7 +9,8 @@ ghost use Rattle.sqlite.specs.State.{HasCleanDisk};
 ghost use Rattle.store_rows.specs.Rules.{branch_under, BranchKeeps, OfRows};
 ghost use Rattle.store_rows.specs.Stored.{FindsStored, IsBranch};
 ghost use Rattle.bank_transactions.specs.Doing.{Reads};
-ghost use Rattle.bank_transactions.specs.Stored.{IsStoredBalance, IsStoredFound, IsStoredTeller};
+ghost use Rattle.bank_transactions.specs.Stored.{HoldsDecided, HoldsKept, IsStoredBalance, IsStoredFound};
+ghost use Rattle.bank_transactions.specs.Stored.{IsStoredTeller};
 
 use crate::floors::balance_and_floor;
 use message_records::{Account, Branch, Cents, Number, Request, Teller};
@@ -87,7 +88,9 @@ pub fn kept_request<S: Alter>(
     teller: Teller,
     number: Number,
 ) -> Result<Option<Kept>, TableFault>
-    ensures { Reads S.Store tx.old tx.new (λ tables. kept_in tables.requests teller number) result }
+    ensures says { Reads S.Store tx.old tx.new (λ tables. kept_in tables.requests teller number) result }
+    ensures stored { IfOk result (λ kept. HasCleanDisk (state S.Store tx.new.conn.now)
+        → OfRows (λ rows. HoldsKept rows teller number kept) (state S.Store tx.old.conn.now).now) }
 {
     let Some(row) = find_request(tx, teller, number)? else {
         return Ok(None);
@@ -110,6 +113,8 @@ pub fn kept_request<S: Alter>(
 pub fn decided<S: Alter>(tx: &mut Transaction<'_, S>) -> Result<u64, TableFault>
     ensures within { IfOk result (λ decided. decided ≤ MAX_DECIDED) }
     ensures says { Reads S.Store tx.old tx.new (λ tables. tables.decided) result }
+    ensures stored { IfOk result (λ decided. HasCleanDisk (state S.Store tx.new.conn.now)
+        → OfRows (λ rows. HoldsDecided rows decided) (state S.Store tx.old.conn.now).now) }
 {
     let Some(meta) = read_meta(tx)? else {
         return Err(TableFault::Damaged(Rule::Meta));

@@ -1,13 +1,16 @@
 //! A branch comes with its ten tellers and its accounts.
-ghost use Rattle.std.specs.Prelude.{◌≡◌, ◌≤◌, ◌<◌, ◌+◌, ℕ, Some, None, false};
+ghost use Rattle.std.specs.Prelude.{◌≡◌, ◌≤◌, ◌<◌, ◌+◌, ℕ, IfOk, IsTrue, Some, None, false};
+ghost use Rattle.sqlite.specs.Held.{state};
+ghost use Rattle.sqlite.specs.State.{HasCleanDisk};
 ghost use Rattle.posting_rules.specs.Changes.{tables_opened, tables_with_branch, with_floor};
 ghost use Rattle.posting_rules.specs.Commands.{opened_with};
 ghost use Rattle.posting_rules.specs.Counter.{opening_for};
 ghost use Rattle.posting_rules.specs.LookUps.{terms_in};
 ghost use Rattle.posting_rules.specs.Sound.{AreSound};
 ghost use Rattle.posting_rules.specs.Tables.{row_at, branch_key, floor_key};
-ghost use Rattle.bank_transactions.specs.Doing.{Acts, Does, Reads};
+ghost use Rattle.bank_transactions.specs.Doing.{Acts, Does, Leaves, Reads};
 ghost use Rattle.bank_transactions.specs.NewRows.{tables_staffed, with_new, with_new_rows, is_taken, last_of};
+ghost use Rattle.bank_transactions.specs.Stored.{AnswersStored, OpensByStored};
 
 use crate::floors::floor_at;
 use crate::found::branch_at;
@@ -34,8 +37,9 @@ fn add_new<S: Alter>(
 ) -> Result<(), TableFault>
     requires above { 1 ≤ number }
     requires below { number ≤ last_of kind }
-    ensures { Does S.Store tx.old tx.new (λ tables. is_taken kind number tables ≡ false)
+    ensures does { Does S.Store tx.old tx.new (λ tables. is_taken kind number tables ≡ false)
         (with_new kind number) (λ _. tt) result }
+    ensures leaves { Leaves S.Store tx.old tx.new (with_new kind number) result }
 {
     let balance = Cents::zero();
     match kind {
@@ -59,10 +63,11 @@ fn add_rows<S: Alter>(
 ) -> Result<(), TableFault>
     requires above { 1 ≤ first }
     requires below { first + count ≤ last_of kind + 1 }
-    ensures { Does S.Store tx.old tx.new
+    ensures does { Does S.Store tx.old tx.new
         (λ tables. (n : ℕ) → n < count → is_taken kind (first + n) (with_new_rows kind first n tables)
         ≡ false)
         (with_new_rows kind first count) (λ _. tt) result }
+    ensures leaves { Leaves S.Store tx.old tx.new (with_new_rows kind first count) result }
 {
     for place in 0..count {
         add_new(tx, kind, first + place)?;
@@ -76,8 +81,9 @@ fn add_its_floor<S: Alter>(
     branch: Branch,
     floor: Option<Cents>,
 ) -> Result<(), TableFault>
-    ensures { Does S.Store tx.old tx.new (λ tables. row_at floor_key tables.floors branch ≡ None)
+    ensures does { Does S.Store tx.old tx.new (λ tables. row_at floor_key tables.floors branch ≡ None)
         (with_floor branch floor) (λ _. tt) result }
+    ensures leaves { Leaves S.Store tx.old tx.new (with_floor branch floor) result }
 {
     let Some(lowest) = floor else {
         return Ok(());
@@ -93,9 +99,10 @@ fn add_branch_with_rows<S: Alter>(
 ) -> Result<(), TableFault>
     requires branch { branch ≤ LAST_BRANCH }
     requires few { count ≤ MAX_ACCOUNTS }
-    ensures { Does S.Store tx.old tx.new
+    ensures does { Does S.Store tx.old tx.new
         (λ tables. AreSound tables × (row_at branch_key tables.branches branch ≡ None))
         (λ tables. tables_staffed tables branch count) (λ _. tt) result }
+    ensures leaves { Leaves S.Store tx.old tx.new (λ tables. tables_staffed tables branch count) result }
 {
     let row = BranchRow {
         branch,
@@ -118,9 +125,10 @@ fn add_whole_branch<S: Alter>(
 ) -> Result<(), TableFault>
     requires branch { branch ≤ LAST_BRANCH }
     requires few { count ≤ MAX_ACCOUNTS }
-    ensures { Does S.Store tx.old tx.new
+    ensures does { Does S.Store tx.old tx.new
         (λ tables. AreSound tables × (row_at branch_key tables.branches branch ≡ None))
         (λ tables. tables_opened tables branch (opened_with count floor)) (λ _. tt) result }
+    ensures leaves { Leaves S.Store tx.old tx.new (λ tables. tables_opened tables branch (opened_with count floor)) result }
 {
     add_branch_with_rows(tx, branch, count)?;
     add_its_floor(tx, branch, floor)
@@ -144,8 +152,10 @@ fn opening_of<S: Alter>(
     count: u32,
     floor: &Option<Cents>,
 ) -> Result<Opening, TableFault>
-    ensures { Reads S.Store tx.old tx.new
+    ensures says { Reads S.Store tx.old tx.new
         (λ tables. opening_for (terms_in tables branch) (opened_with count floor.now)) result }
+    ensures stored { IfOk result (λ opening. HasCleanDisk (state S.Store tx.new.conn.now)
+        → AnswersStored (state S.Store tx.old.conn.now).now branch (opened_with count floor.now) opening) }
 {
     let Some(row) = branch_at(tx, branch.get())? else {
         return Ok(Opening::Opened);
@@ -163,9 +173,13 @@ pub(crate) fn open_inside<S: Alter>(
 ) -> Result<Opening, TableFault>
     requires branch { branch ≤ LAST_BRANCH }
     requires few { count ≤ MAX_ACCOUNTS }
-    ensures { Acts S.Store tx.old tx.new AreSound
+    ensures acts { Acts S.Store tx.old tx.new AreSound
         (λ tables. tables_with_branch tables branch (opened_with count floor))
         (λ tables. opening_for (terms_in tables branch) (opened_with count floor)) result }
+    ensures stored { IfOk result (λ opening. HasCleanDisk (state S.Store tx.new.conn.now)
+        → IsTrue (state S.Store tx.old.conn.now).in_transaction
+        → OpensByStored (state S.Store tx.old.conn.now).now (state S.Store tx.new.conn.now).now branch
+        (opened_with count floor) opening) }
 {
     match opening_of(tx, branch, count, &floor)? {
         Opening::Opened => {

@@ -1,7 +1,9 @@
 //! The slots of a batch are filled from the tables, each key read once.
-ghost use Rattle.std.specs.Prelude.{◌≡◌, ⊤, List, map};
+ghost use Rattle.std.specs.Prelude.{◌≡◌, ⊤, IfOk, List, OnOk, map};
 ghost use Rattle.std.specs.List.{AllByRecursion};
 ghost use Rattle.std.specs.Option.{option_map};
+ghost use Rattle.sqlite.specs.Held.{state};
+ghost use Rattle.sqlite.specs.State.{HasCleanDisk};
 ghost use Rattle.posting_rules.specs.Numbering.{branch_of_teller, branch_of_account};
 ghost use Rattle.posting_rules.specs.Damage.{IsUndamaged};
 ghost use Rattle.posting_rules.specs.LookUps.{account_balance_in, balance_of_teller};
@@ -10,7 +12,10 @@ ghost use Rattle.posting_batch.specs.declared.slots.BranchSlot.{BranchSlot};
 ghost use Rattle.posting_batch.specs.Batch.{HasHomes, filled};
 ghost use Rattle.posting_batch.specs.View.{view, reads_of};
 ghost use Rattle.bank_transactions.specs.Doing.{Reads};
-ghost use Rattle.bank_transactions.specs.Filling.{handing, HasBranch, ReadsWhere, TellsBranch};
+ghost use Rattle.store_rows.specs.Rules.{OfRows, StoredRows};
+ghost use Rattle.bank_transactions.specs.Filling.{handing, HasBranch, HoldsBranch, ReadsWhere, TellsBranch};
+ghost use Rattle.bank_transactions.specs.Filling.{AreHeld, TellsStored, emptied};
+ghost use Rattle.bank_transactions.specs.Stored.{HoldsAccount, HoldsTellerRow};
 
 use crate::floors::{balance_and_floor, floor_at, is_below};
 use crate::{branch_at, decided, kept_request, teller_balances};
@@ -33,19 +38,39 @@ trait Slot: Copy {
     /// What slots of branches say of the branch that its key gives, where it gives one.
     ghost Knows: { List BranchSlot → Tables → Self → Type 0 };
 
+    /// The slot without what it is filled with.
+    ghost bare: { Self → Self };
+
+    /// What the slots of branches say of that branch is what the rows hold, whatever they are.
+    ghost KnowsRow: { List BranchSlot → StoredRows → Self → Type 0 };
+
+    /// The slot has what the rows hold under its key.
+    ghost Held: { StoredRows → Self → Type 0 };
+
     /// Fills it, by the slots of branches.
     fn fill<S: Alter>(self, tx: &mut Transaction<'_, S>, branches: &[BranchSlot]) -> Read<Self>
-        ensures { ReadsWhere S.Store tx.old tx.new
+        ensures says { ReadsWhere S.Store tx.old tx.new
             (λ tables. IsUndamaged tables × Knows branches.now tables self)
-            (λ tables. filled_from tables self) result };
+            (λ tables. filled_from tables self) result }
+        ensures same { IfOk result (λ slot. bare slot ≡ bare self) }
+        ensures stored { IfOk result (λ slot. HasCleanDisk (state S.Store tx.new.conn.now)
+            → OfRows (λ rows. KnowsRow branches.now rows self → Held rows slot)
+            (state S.Store tx.old.conn.now).now) };
 }
 
 impl Slot for BranchSlot {
     ghost use Rattle.posting_batch.specs.Batch.{branch_filled};
+    ghost use Rattle.bank_transactions.specs.Filling.{BranchHeld, emptied_branch};
 
     ghost filled_from = { branch_filled };
 
     ghost Knows = { λ _ _ _. ⊤ };
+
+    ghost bare = { emptied_branch };
+
+    ghost KnowsRow = { λ _ _ _. ⊤ };
+
+    ghost Held = { BranchHeld };
 
     fn fill<S: Alter>(self, tx: &mut Transaction<'_, S>, _branches: &[BranchSlot]) -> Read<Self> {
         let stored = branch_at(tx, self.branch)?;
@@ -60,8 +85,10 @@ impl Slot for BranchSlot {
 
 // The balance of a teller, none where it isn't open, looked up together with the row of its branch.
 fn teller_beside<S: Alter>(tx: &mut Transaction<'_, S>, teller: Teller) -> Read<Option<Cents>>
-    ensures { Reads S.Store tx.old tx.new
+    ensures says { Reads S.Store tx.old tx.new
         (λ tables. option_map balance_of_teller (row_at teller_key tables.tellers teller)) result }
+    ensures stored { IfOk result (λ balance. HasCleanDisk (state S.Store tx.new.conn.now)
+        → OfRows (λ rows. HoldsTellerRow rows teller balance) (state S.Store tx.old.conn.now).now) }
 {
     match teller_balances(tx, teller)? {
         Some((balance, _)) => Ok(Some(balance)),
@@ -76,8 +103,11 @@ fn teller_within<S: Alter>(
     teller: Teller,
     branch: Option<BranchRow>,
 ) -> Read<Option<Cents>>
-    ensures { ReadsWhere S.Store tx.old tx.new (HasBranch branch (branch_of_teller teller))
+    ensures says { ReadsWhere S.Store tx.old tx.new (HasBranch branch (branch_of_teller teller))
         (λ tables. option_map balance_of_teller (row_at teller_key tables.tellers teller)) result }
+    ensures stored { IfOk result (λ balance. HasCleanDisk (state S.Store tx.new.conn.now)
+        → OfRows (λ rows. HoldsBranch rows (branch_of_teller teller) branch
+        → HoldsTellerRow rows teller balance) (state S.Store tx.old.conn.now).now) }
 {
     let balance = balance_of(tx, Member::Teller(teller))?;
     if balance.is_some() != branch.is_some() {
@@ -88,7 +118,9 @@ fn teller_within<S: Alter>(
 
 // The balance of an account, none where it isn't open, looked up together with the rows of its branch.
 fn account_beside<S: Alter>(tx: &mut Transaction<'_, S>, account: Account) -> Read<Option<Cents>>
-    ensures { Reads S.Store tx.old tx.new (λ tables. account_balance_in tables account) result }
+    ensures says { Reads S.Store tx.old tx.new (λ tables. account_balance_in tables account) result }
+    ensures stored { IfOk result (λ balance. HasCleanDisk (state S.Store tx.new.conn.now)
+        → OfRows (λ rows. HoldsAccount rows account balance) (state S.Store tx.old.conn.now).now) }
 {
     let (balance, _) = balance_and_floor(tx, account)?;
     Ok(balance)
@@ -102,8 +134,11 @@ fn account_within<S: Alter>(
     branch: Option<BranchRow>,
     floor: Option<Cents>,
 ) -> Read<Option<Cents>>
-    ensures { ReadsWhere S.Store tx.old tx.new (HasBranch branch (branch_of_account account))
+    ensures says { ReadsWhere S.Store tx.old tx.new (HasBranch branch (branch_of_account account))
         (λ tables. account_balance_in tables account) result }
+    ensures stored { IfOk result (λ balance. HasCleanDisk (state S.Store tx.new.conn.now)
+        → OfRows (λ rows. HoldsBranch rows (branch_of_account account) branch
+        → HoldsAccount rows account balance) (state S.Store tx.old.conn.now).now) }
 {
     let balance = balance_of(tx, Member::Account(account))?;
     let is_open = match branch {
@@ -118,10 +153,17 @@ fn account_within<S: Alter>(
 
 impl Slot for TellerSlot {
     ghost use Rattle.posting_batch.specs.Batch.{teller_filled};
+    ghost use Rattle.bank_transactions.specs.Filling.{TellerHeld, emptied_teller};
 
     ghost filled_from = { teller_filled };
 
     ghost Knows = { λ slots tables slot. TellsBranch slots tables (branch_of_teller slot.teller) };
+
+    ghost bare = { emptied_teller };
+
+    ghost KnowsRow = { λ slots rows slot. TellsStored slots rows (branch_of_teller slot.teller) };
+
+    ghost Held = { TellerHeld };
 
     fn fill<S: Alter>(self, tx: &mut Transaction<'_, S>, branches: &[BranchSlot]) -> Read<Self> {
         let branch = stored_branch(branches, branch_of_teller(self.teller));
@@ -132,10 +174,17 @@ impl Slot for TellerSlot {
 
 impl Slot for AccountSlot {
     ghost use Rattle.posting_batch.specs.Batch.{account_filled};
+    ghost use Rattle.bank_transactions.specs.Filling.{AccountHeld, emptied_account};
 
     ghost filled_from = { account_filled };
 
     ghost Knows = { λ slots tables slot. TellsBranch slots tables (branch_of_account slot.account) };
+
+    ghost bare = { emptied_account };
+
+    ghost KnowsRow = { λ slots rows slot. TellsStored slots rows (branch_of_account slot.account) };
+
+    ghost Held = { AccountHeld };
 
     fn fill<S: Alter>(self, tx: &mut Transaction<'_, S>, branches: &[BranchSlot]) -> Read<Self> {
         let number = branch_of_account(self.account);
@@ -148,10 +197,17 @@ impl Slot for AccountSlot {
 
 impl Slot for RequestSlot {
     ghost use Rattle.posting_batch.specs.Batch.{request_filled};
+    ghost use Rattle.bank_transactions.specs.Filling.{RequestHeld, emptied_request};
 
     ghost filled_from = { request_filled };
 
     ghost Knows = { λ _ _ _. ⊤ };
+
+    ghost bare = { emptied_request };
+
+    ghost KnowsRow = { λ _ _ _. ⊤ };
+
+    ghost Held = { RequestHeld };
 
     fn fill<S: Alter>(self, tx: &mut Transaction<'_, S>, _branches: &[BranchSlot]) -> Read<Self> {
         let kept = kept_request(tx, self.teller, self.number)?;
@@ -165,9 +221,13 @@ fn fill_all<S: Alter, T: Slot>(
     slots: &mut [T],
     branches: &[BranchSlot],
 ) -> Read<()>
-    ensures { ReadsWhere S.Store tx.old tx.new
+    ensures says { ReadsWhere S.Store tx.old tx.new
         (λ tables. IsUndamaged tables × AllByRecursion (T.Knows branches.now tables) slots.old)
         (λ tables. map (T.filled_from tables) slots.old) (handing slots.new result) }
+    ensures same { OnOk result (map T.bare slots.new ≡ map T.bare slots.old) }
+    ensures stored { OnOk result (HasCleanDisk (state S.Store tx.new.conn.now)
+        → OfRows (λ rows. AllByRecursion (T.KnowsRow branches.now rows) slots.old
+        → AllByRecursion (T.Held rows) slots.new) (state S.Store tx.old.conn.now).now) }
 {
     for slot in slots.iter_mut() {
         *slot = (*slot).fill(tx, branches)?;
@@ -181,6 +241,11 @@ pub fn fill<S: Alter>(tx: &mut Transaction<'_, S>, batch: &mut Batch) -> Result<
     ensures says { ReadsWhere S.Store tx.old tx.new
         (λ tables. IsUndamaged tables × HasHomes (view batch.old.overlay))
         (λ tables. filled tables (view batch.old.overlay)) (handing (view batch.new.overlay) result) }
+    ensures same { OnOk result (emptied (view batch.new.overlay) ≡ emptied (view batch.old.overlay)) }
+    // Whatever rows the file holds.
+    ensures stored { OnOk result (HasCleanDisk (state S.Store tx.new.conn.now)
+        → HasHomes (view batch.old.overlay)
+        → OfRows (λ rows. AreHeld rows (view batch.new.overlay)) (state S.Store tx.old.conn.now).now) }
 {
     batch.overlay.decided = decided(tx)?;
     fill_all(tx, &mut batch.overlay.branches, &[])?;

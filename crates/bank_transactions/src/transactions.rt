@@ -8,7 +8,7 @@ ghost use Rattle.posting_rules.specs.Counter.{opening_for};
 ghost use Rattle.posting_rules.specs.LookUps.{account_balance_in, terms_in};
 ghost use Rattle.posting_rules.specs.Sound.{AreSound};
 ghost use Rattle.bank_transactions.specs.Doing.{Consults, Ends, Transacts};
-ghost use Rattle.bank_transactions.specs.Stored.{IsStoredBalance, RepliesToStored};
+ghost use Rattle.bank_transactions.specs.Stored.{IsStoredBalance, OpensByStored, RepliesToStored};
 
 use crate::found::open_balance;
 use crate::new_branch::open_inside;
@@ -103,9 +103,13 @@ pub fn open_branch<S: Alter>(
     requires mode { conn.old.in_transaction ≡ false }
     requires branch { branch ≤ LAST_BRANCH }
     requires few { count ≤ MAX_ACCOUNTS }
-    ensures { Transacts S.Store conn.old conn.new AreSound
+    ensures transacts { Transacts S.Store conn.old conn.new AreSound
         (λ tables. tables_with_branch tables branch (opened_with count floor))
         (λ tables. opening_for (terms_in tables branch) (opened_with count floor)) result }
+    // Whatever rows the file holds.
+    ensures stored { IfOk result (λ opening. HasCleanDisk (state S.Store conn.new)
+        → OpensByStored (state S.Store conn.old).now (state S.Store conn.new).now branch
+        (opened_with count floor) opening) }
 {
     let mut tx = begin(conn);
     let opening = open_inside(&mut tx, branch, count, floor);

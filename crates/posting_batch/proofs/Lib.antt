@@ -13,3 +13,4 @@ pub mod NewRows
 pub mod Idle
 pub mod Examples
 pub mod Written
+pub mod ToldTables

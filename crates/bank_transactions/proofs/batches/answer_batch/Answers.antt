@@ -6,6 +6,7 @@ use Rattle.posting_batch.specs.View.{view}
 use Rattle.bank_transactions.proofs.Chained.{acts_read, does_err}
 use Rattle.bank_transactions.proofs.Answered.{ready, leads_back, counts_none, answered_idle}
 use Rattle.bank_transactions.proofs.Answered.{answered_written, answered_not}
+use Rattle.bank_transactions.proofs.HeldBatch.{homes_made, in_turn}
 use Rattle.bank_transactions.proofs.LookUps.{does_look}
 use Rattle.bank_transactions.proofs.batches.answer_batch.Goals.{then-overlay-before+in_ok-write}
 use Rattle.bank_transactions.proofs.batches.answer_batch.Goals.{else-overlay-before}
@@ -73,3 +74,16 @@ returns-clause-idle g c clean records made t shows so none =
             stays = told.1;
           })
     ]
+
+pub returns-clause-stored : goal.returns-clause-stored
+returns-clause-stored g c clean records made rows has =
+    let fill = c.in_ok-fill.ensures in
+    let before : HasCleanDisk (state g.S.Store c.fill.new.tx.conn.now) =
+    elim c.if-overlay-before.branch [
+      | then-overlay-before+in_ok-write w ↦
+          omega (arith, w.in_ok-write.ensures.says.survives.clean, rw w.tx-is at clean)
+      | else-overlay-before w ↦ rw w.tx-is at clean
+    ] in
+    in_turn rows c.args.batch c.fill.new.batch records c.args.moment c.judge-overlay.result.replies.items made
+    fill.reads fill.same (fill.stored before (homes_made c.args.batch records made) rows has)
+    c.judge-overlay.ensures.replies

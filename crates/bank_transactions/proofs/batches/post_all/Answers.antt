@@ -1,6 +1,8 @@
 -- The parts of the transaction are one: the batch is answered.
 use Rattle.std.proofs.Common.{rules}
 use Rattle.posting_batch.specs.View.{IsMadeOf}
+use Rattle.bank_transactions.specs.Stored.{RepliesToAllStored}
+use Rattle.bank_transactions.proofs.HeldBatch.{stored_after}
 use Rattle.bank_transactions.proofs.Transacted.{of_given, transacts}
 use Rattle.bank_transactions.proofs.Idle.{ends_items, idle_after}
 use Rattle.bank_transactions.proofs.batches.post_all.Goals as goal
@@ -24,3 +26,12 @@ returns-clause-idle g c =
     c.begin-tx.ensures.begun c.finish.ensures
     (λ records made. let does = c.answer_batch-replies.ensures.says records made in search rules)
     c.answer_batch-replies.ensures.idle
+
+pub returns-clause-stored : goal.returns-clause-stored
+returns-clause-stored g c =
+    stored_after g.S.Store (IsMadeOf c.args.batch)
+    (λ db records replies. RepliesToAllStored db c.args.moment records replies.items) c.args.conn.now
+    c.begin-tx.result.conn.now c.answer_batch-replies.new.tx.conn.now c.finish.new.tx.0 c.conn-1.given.0
+    c.answer_batch-replies.result c.finish.result c.begin-tx.ensures.begun c.finish.ensures
+    (λ records made. let does = c.answer_batch-replies.ensures.says records made in search rules)
+    c.answer_batch-replies.ensures.stored

@@ -1,6 +1,6 @@
 -- What the row of the bank tells of how many requests are decided.
 use Rattle.std.proofs.Common.{◌≡◌, ◌≤◌, ◌<◌, ℕ, ℤ, pos, negsuc, nat_abs, [], ◌∷◌, Some, None, Option, Err}
-use Rattle.std.proofs.Common.{true, rules, arith, sym, ap, ◌∙◌}
+use Rattle.std.proofs.Common.{false, true, rules, arith, sym, ap, refl, ◌∙◌}
 use Rattle.std.specs.Prelude.{int_lt}
 use Rattle.std.proofs.lemmas.Int.{ints}
 use Rattle.sqlite.specs.Held.{state}
@@ -121,3 +121,23 @@ returns-clause-says g c = record {
   kept = search rules;
   survives = search rules;
 }
+
+-- a number that isn't negative is the whole number of its size
+whole : (z : ℤ) → int_lt z (pos 0) ≡ false → z ≡ pos (nat_abs z)
+whole (pos k) low = refl
+whole (negsuc k) low = absurd cc
+
+with_decided : (m : StoredMeta) (z : ℤ) → m.decided ≡ z
+    → Some m ≡ Some (record { version = m.version; decided = z })
+with_decided m z is = ap (λ (d : ℤ). Some (record { version = m.version; decided = d })) is
+
+pub returns-clause-stored : goal.returns-clause-stored
+returns-clause-stored g c = λ clean rows has.
+    let m = c.in-Some.meta in
+    let same : to_z w64 (of_z w64 m.decided) ≡ m.decided = search rules in
+    let told = (c.in_ok-meta.ensures.says.told clean rows.meta
+    (record { sound = has.sound; holds = has.each.0 })).0 in (
+      m.version,
+      sym told ∙ c.in-Some.is
+          ∙ with_decided m _ (sym same ∙ whole (to_z w64 (of_z w64 m.decided)) c.if-meta-lt0.false),
+    )

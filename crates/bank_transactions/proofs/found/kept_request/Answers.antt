@@ -9,16 +9,16 @@ use Rattle.bank_transactions.proofs.SoundRows.{is_a_request, request_is, request
 use Rattle.message_records.specs.declared.limits.TheConstants.{MAX_DELTA}
 use Rattle.bank_transactions.proofs.found.kept_request.Goals as goal
 
-pub returns-in_err-row : goal.returns-in_err-row
-returns-in_err-row g c =
+pub returns-in_err-row-clause-says : goal.returns-in_err-row-clause-says
+returns-in_err-row-clause-says g c =
     let fault = c.in_err-row.field-0.0 in
     let same : c.from_residual.result ≡ Err fault = search rules in
     rw same (find_failed (λ t. request_in t c.args.teller c.args.number) BreaksRequest fault
     (λ t r rule sound. request_unbroken t c.args.teller c.args.number r rule sound)
     (request_broken _ c.args.teller c.args.number fault) c.in_err-row.ensures)
 
-pub returns-then-is_none : goal.returns-then-is_none
-returns-then-is_none g c = record {
+pub returns-then-is_none-clause-says : goal.returns-then-is_none-clause-says
+returns-then-is_none-clause-says g c = record {
   told = λ clean t shows sound.
       let row = c.in-Some.row in
       let found : request_in t c.args.teller c.args.number
@@ -40,3 +40,8 @@ returns-then-is_none g c = record {
       );
   survives = search rules;
 }
+
+pub returns-clause-stored : goal.returns-clause-stored
+returns-clause-stored g c = λ clean rows has.
+    let it = (rw c.in-Some.is at (c.in_ok-row.ensures.kept clean).1) rows has in
+    (it.0, it.1, it.2.3)

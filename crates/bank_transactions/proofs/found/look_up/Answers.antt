@@ -30,7 +30,7 @@ returns-in_err-kept-clause-says g c =
     let same : c.from_residual-in_err-kept.result
     ≡ Err c.in_err-kept.field-0.0 = search rules in
     rw same (reads_but c.in_err-kept.field-0.0
-    (reads_both c.in_ok-decided.ensures.says c.in_ok-teller.ensures.says) c.in_err-kept.ensures)
+    (reads_both c.in_ok-decided.ensures.says c.in_ok-teller.ensures.says) c.in_err-kept.ensures.says)
 
 pub returns-in_err-account-clause-says : goal.returns-in_err-account-clause-says
 returns-in_err-account-clause-says g c =
@@ -38,13 +38,13 @@ returns-in_err-account-clause-says g c =
     ≡ Err c.in_err-account.field-0.0 = search rules in
     rw same (reads_but c.in_err-account.field-0.0
     (reads_both (reads_both c.in_ok-decided.ensures.says c.in_ok-teller.ensures.says)
-    c.in_ok-kept.ensures)
+    c.in_ok-kept.ensures.says)
     c.in_err-account.ensures.says)
 
 pub returns-clause-says : goal.returns-clause-says
 returns-clause-says g c =
     reads_as found_of (reads_both
     (reads_both (reads_both c.in_ok-decided.ensures.says c.in_ok-teller.ensures.says)
-    c.in_ok-kept.ensures)
+    c.in_ok-kept.ensures.says)
     c.in_ok-account.ensures.says)
     (λ t. search rules)

@@ -22,6 +22,8 @@ use Rattle.bank_transactions.specs.declared.new_branch.NewRows.TheVariants.{Tell
 use Rattle.bank_transactions.proofs.Chained.{does_then, does_err, does_for}
 use Rattle.bank_transactions.proofs.Opened.{opened_is, next_teller, next_account}
 use Rattle.bank_transactions.proofs.Statements.{does_add}
+use Rattle.bank_transactions.proofs.Left.{leaves_add, leaves_err, leaves_for, leaves_then}
+use Rattle.bank_transactions.specs.Doing.{Leaves}
 use Rattle.bank_transactions.proofs.new_branch.add_branch_with_rows.Goals as goal
 
 -- a branch that isn't open
@@ -59,23 +61,23 @@ module _ (b count : ℕ) where
     staff teller from above first second = does_then first second
         (λ t new n lt. next_teller t b count teller (first_account b) from refl new.0 above new.1 n lt)
 
-pub returns-in_err-add_branch : goal.returns-in_err-add_branch
-returns-in_err-add_branch g c =
+pub returns-in_err-add_branch-clause-does : goal.returns-in_err-add_branch-clause-does
+returns-in_err-add_branch-clause-does g c =
     let same : c.from_residual.result ≡ Err c.in_err-add_branch.field-0.0 = search rules in
     rw same (does_err (put c.args.branch c.args.count c.zero.result c.zero.ensures
     c.in_err-add_branch.ensures) (λ t new. new))
 
-pub returns-in_err-add_rows : goal.returns-in_err-add_rows
-returns-in_err-add_rows g c =
+pub returns-in_err-add_rows-clause-does : goal.returns-in_err-add_rows-clause-does
+returns-in_err-add_rows-clause-does g c =
     let b = c.args.branch in
     let teller = c.first_teller-teller in
     let same : c.from_residual-in_err-add_rows.result ≡ Err c.in_err-add_rows.field-0.0 = search rules in
     let first = put b c.args.count c.zero.result c.zero.ensures c.in_ok-add_branch.ensures in
     rw same (does_err (staff b c.args.count teller.result teller.ensures.value teller.ensures.least
-    first c.in_err-add_rows.ensures) (λ t new. new))
+    first c.in_err-add_rows.ensures.does) (λ t new. new))
 
-pub returns : goal.returns
-returns g c =
+pub returns-clause-does : goal.returns-clause-does
+returns-clause-does g c =
     let b = c.args.branch in
     let count = c.args.count in
     let teller = c.first_teller-teller in
@@ -83,8 +85,8 @@ returns g c =
     let start = c.first_account-account.ensures.value in
     let first = put b count c.zero.result c.zero.ensures c.in_ok-add_branch.ensures in
     does_for (does_then
-    (staff b count teller.result teller.ensures.value above first c.in_ok-add_rows.ensures)
-    c.add_rows-2.ensures
+    (staff b count teller.result teller.ensures.value above first c.in_ok-add_rows.ensures.does)
+    c.add_rows-2.ensures.does
     (λ t new k lt. next_account t b count _ _ teller.ensures.value start new.0 above
     new.1 k c.requires.few (subst (λ m. k < m) c.from.ensures lt)))
     (λ t new. (
@@ -92,3 +94,43 @@ returns g c =
       opened_is t b count _ _ teller.ensures.value start c.from.result c.from.ensures,
       refl,
     ))
+
+-- ---- what it leaves
+
+pub returns-in_err-add_branch-clause-leaves : goal.returns-in_err-add_branch-clause-leaves
+returns-in_err-add_branch-clause-leaves g c =
+    let same : c.from_residual.result ≡ Err c.in_err-add_branch.field-0.0 = search rules in
+    rw same leaves_err
+
+pub returns-in_err-add_rows-clause-leaves : goal.returns-in_err-add_rows-clause-leaves
+returns-in_err-add_rows-clause-leaves g c =
+    let same : c.from_residual-in_err-add_rows.result ≡ Err c.in_err-add_rows.field-0.0 = search rules in
+    rw same leaves_err
+
+module _ (b count : ℕ) {S : Type 0} {g : Ghosts S} {x y : Transaction S} where
+  left : {r : Result (Unit {0}) TableFault} (balance : ℤ) → balance ≡ pos 0
+      → Says g x y (Inside (OfTables (λ before now t.
+      PutsOneRow before now branch (is_some (row_at branch_key t.branches b))
+      (with_branch (row b count balance) t) r)))
+      (Inside (λ before now. Puts before now r))
+      → Leaves g x y (branched b count) r
+  left {r} balance zero says = leaves_for
+      (leaves_add g x y branch (λ t. is_some (row_at branch_key t.branches b))
+      (λ t. with_branch (row b count balance) t) r says)
+      (λ t. ap (λ (z : ℤ). with_branch (row b count z) t) zero)
+
+pub returns-clause-leaves : goal.returns-clause-leaves
+returns-clause-leaves g c =
+    let b = c.args.branch in
+    let count = c.args.count in
+    let teller = c.first_teller-teller in
+    let above = teller.ensures.least in
+    let start = c.first_account-account.ensures.value in
+    let first = put b count c.zero.result c.zero.ensures c.in_ok-add_branch.ensures in
+    let one = left b count c.zero.result c.zero.ensures c.in_ok-add_branch.ensures in
+    let two = c.in_ok-add_rows.ensures in
+    let three = c.add_rows-2.ensures in
+    leaves_for (leaves_then
+    (staff b count teller.result teller.ensures.value above first two.does) three.does
+    (leaves_then first two.does one two.leaves) three.leaves)
+    (λ t. opened_is t b count _ _ teller.ensures.value start c.from.result c.from.ensures)

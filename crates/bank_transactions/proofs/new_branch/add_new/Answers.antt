@@ -4,10 +4,11 @@ use Rattle.store_rows.specs.BankTables.{account, teller}
 use Rattle.bank_transactions.specs.NewRows.{is_taken, with_new}
 use Rattle.bank_transactions.specs.declared.new_branch.NewRows.TheVariants.{Tellers, Accounts}
 use Rattle.bank_transactions.proofs.Statements.{does_add}
+use Rattle.bank_transactions.proofs.Left.{leaves_add}
 use Rattle.bank_transactions.proofs.new_branch.add_new.Goals as goal
 
-pub returns-in-Tellers : goal.returns-in-Tellers
-returns-in-Tellers g c =
+pub returns-in-Tellers-clause-does : goal.returns-in-Tellers-clause-does
+returns-in-Tellers-clause-does g c =
     let n = c.args.number in
     let same : c.unwrap-teller.result ≡ n = search rules in
     let nothing : c.zero-balance.result ≡ pos 0 = c.zero-balance.ensures in
@@ -15,11 +16,29 @@ returns-in-Tellers g c =
     (does_add g.S.Store _ _ teller (is_taken Tellers n) (with_new Tellers n) _
     (rw (same, nothing) at c.add_member.ensures) (λ t free. free))
 
-pub returns-in-Accounts : goal.returns-in-Accounts
-returns-in-Accounts g c =
+pub returns-in-Accounts-clause-does : goal.returns-in-Accounts-clause-does
+returns-in-Accounts-clause-does g c =
     let n = c.args.number in
     let same : c.unwrap-account.result ≡ n = search rules in
     let nothing : c.zero-balance.result ≡ pos 0 = c.zero-balance.ensures in
     rw c.in-Accounts.is
     (does_add g.S.Store _ _ account (is_taken Accounts n) (with_new Accounts n) _
     (rw (same, nothing) at c.add_member-in-Accounts.ensures) (λ t free. free))
+
+pub returns-in-Tellers-clause-leaves : goal.returns-in-Tellers-clause-leaves
+returns-in-Tellers-clause-leaves g c =
+    let n = c.args.number in
+    let same : c.unwrap-teller.result ≡ n = search rules in
+    let nothing : c.zero-balance.result ≡ pos 0 = c.zero-balance.ensures in
+    rw c.in-Tellers.is
+    (leaves_add g.S.Store _ _ teller (is_taken Tellers n) (with_new Tellers n) _
+    (rw (same, nothing) at c.add_member.ensures))
+
+pub returns-in-Accounts-clause-leaves : goal.returns-in-Accounts-clause-leaves
+returns-in-Accounts-clause-leaves g c =
+    let n = c.args.number in
+    let same : c.unwrap-account.result ≡ n = search rules in
+    let nothing : c.zero-balance.result ≡ pos 0 = c.zero-balance.ensures in
+    rw c.in-Accounts.is
+    (leaves_add g.S.Store _ _ account (is_taken Accounts n) (with_new Accounts n) _
+    (rw (same, nothing) at c.add_member-in-Accounts.ensures))

@@ -4,17 +4,28 @@ use Rattle.posting_rules.specs.Commands.{opened_with}
 use Rattle.posting_rules.proofs.Stepping.{opening_floor_is_free}
 use Rattle.posting_rules.specs.declared.limits.TheConstants.{TELLERS_PER_BRANCH}
 use Rattle.bank_transactions.proofs.Chained.{does_err, does_for, does_then}
+use Rattle.bank_transactions.proofs.Left.{leaves_err, leaves_then}
 use Rattle.bank_transactions.proofs.new_branch.add_whole_branch.Goals as goal
 
-pub returns-in_err-add_branch_with_rows : goal.returns-in_err-add_branch_with_rows
-returns-in_err-add_branch_with_rows g c =
+pub returns-in_err-add_branch_with_rows-clause-does : goal.returns-in_err-add_branch_with_rows-clause-does
+returns-in_err-add_branch_with_rows-clause-does g c =
     let same : c.from_residual.result ≡ Err c.in_err-add_branch_with_rows.field-0.0 = search rules in
-    rw same (does_err c.in_err-add_branch_with_rows.ensures (λ t new. new))
+    rw same (does_err c.in_err-add_branch_with_rows.ensures.does (λ t new. new))
 
-pub returns : goal.returns
-returns g c =
+pub returns-clause-does : goal.returns-clause-does
+returns-clause-does g c =
     let b = c.args.branch in
     let count = c.args.count in
-    does_for (does_then c.in_ok-add_branch_with_rows.ensures c.add_its_floor.ensures
+    does_for (does_then c.in_ok-add_branch_with_rows.ensures.does c.add_its_floor.ensures.does
     (λ t new. opening_floor_is_free t b (opened_with count None) TELLERS_PER_BRANCH count new.0 new.1))
     (λ t new. (new, refl, refl))
+
+pub returns-in_err-add_branch_with_rows-clause-leaves : goal.returns-in_err-add_branch_with_rows-clause-leaves
+returns-in_err-add_branch_with_rows-clause-leaves g c =
+    let same : c.from_residual.result ≡ Err c.in_err-add_branch_with_rows.field-0.0 = search rules in
+    rw same leaves_err
+
+pub returns-clause-leaves : goal.returns-clause-leaves
+returns-clause-leaves g c =
+    leaves_then c.in_ok-add_branch_with_rows.ensures.does c.add_its_floor.ensures.does
+    c.in_ok-add_branch_with_rows.ensures.leaves c.add_its_floor.ensures.leaves

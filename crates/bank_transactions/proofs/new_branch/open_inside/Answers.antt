@@ -11,6 +11,12 @@ use Rattle.std.specs.Option.{option_map}
 use Rattle.bank_transactions.proofs.Chained.{acts_read, acts_wrote, does_both, does_but, does_err, does_for}
 use Rattle.bank_transactions.proofs.Chained.{does_tell}
 use Rattle.bank_transactions.proofs.Statements.{does_read}
+use Rattle.std.proofs.Common.{arith, ap, subst}
+use Rattle.sqlite.specs.Effect.{Database}
+use Rattle.sqlite.specs.Held.{state}
+use Rattle.sqlite.specs.State.{HasCleanDisk}
+use Rattle.store_rows.specs.View.{Shows}
+use Rattle.bank_transactions.proofs.Chained.{still_in}
 use Rattle.bank_transactions.proofs.new_branch.open_inside.Goals as goal
 
 -- a branch that is open stays as it is
@@ -30,21 +36,21 @@ opened_now : (t : Tables) (b : ℕ) (terms : Terms) → row_at branch_key t.bran
     → tables_opened t b terms ≡ tables_with_branch t b terms
 opened_now t b terms is = rw is refl
 
-pub returns-in_err-opening : goal.returns-in_err-opening
-returns-in_err-opening g c =
+pub returns-in_err-opening-clause-acts : goal.returns-in_err-opening-clause-acts
+returns-in_err-opening-clause-acts g c =
     let same : c.from_residual.result ≡ Err c.in_err-opening.field-0.0 = search rules in
     rw same (acts_read (does_err
     (does_read g.S.Store c.args.tx.now c.opening_of.new.tx
     (λ t. opening_for (terms_in t c.args.branch) (opened_with c.args.count c.args.floor)) _
-    c.in_err-opening.ensures)
+    c.in_err-opening.ensures.says)
     (λ t sound. sound.undamaged)))
 
-pub returns-in_default : goal.returns-in_default
-returns-in_default g c =
+pub returns-in_default-clause-acts : goal.returns-in_default-clause-acts
+returns-in_default-clause-acts g c =
     let b = c.args.branch in
     let terms = opened_with c.args.count c.args.floor in
     acts_read (does_tell
-    (does_read g.S.Store c.args.tx.now c.opening_of.new.tx _ _ c.in_ok-opening.ensures)
+    (does_read g.S.Store c.args.tx.now c.opening_of.new.tx _ _ c.in_ok-opening.ensures.says)
     (λ t sound. (
       sound.undamaged,
       λ found. (
@@ -54,29 +60,54 @@ returns-in_default g c =
       ),
     )))
 
-pub returns-in_err-add_whole_branch-in-Opened : goal.returns-in_err-add_whole_branch-in-Opened
-returns-in_err-add_whole_branch-in-Opened g c =
+pub returns-in_err-add_whole_branch-in-Opened-clause-acts : goal.returns-in_err-add_whole_branch-in-Opened-clause-acts
+returns-in_err-add_whole_branch-in-Opened-clause-acts g c =
     let b = c.args.branch in
     let terms = opened_with c.args.count c.args.floor in
     let same : c.from_residual-in_err-add_whole_branch-in-Opened.result
     ≡ Err c.in_err-add_whole_branch-in-Opened.field-0.0 = search rules in
     rw same (acts_wrote (does_but
-    (does_for (does_read g.S.Store c.args.tx.now c.opening_of.new.tx _ _ c.in_ok-opening.ensures)
+    (does_for (does_read g.S.Store c.args.tx.now c.opening_of.new.tx _ _ c.in_ok-opening.ensures.says)
     (λ t sound. (sound.undamaged, refl, refl)))
-    c.in_err-add_whole_branch-in-Opened.ensures
+    c.in_err-add_whole_branch-in-Opened.ensures.does
     (λ t sound found. (
       sound,
       not_there t b terms (row_at branch_key t.branches b) (sym c.in-Opened.is ∙ found),
     ))))
 
-pub returns-in_ok-add_whole_branch-in-Opened : goal.returns-in_ok-add_whole_branch-in-Opened
-returns-in_ok-add_whole_branch-in-Opened g c =
+pub returns-in_ok-add_whole_branch-in-Opened-clause-acts : goal.returns-in_ok-add_whole_branch-in-Opened-clause-acts
+returns-in_ok-add_whole_branch-in-Opened-clause-acts g c =
     let b = c.args.branch in
     let terms = opened_with c.args.count c.args.floor in
     acts_wrote (does_both
-    (does_for (does_read g.S.Store c.args.tx.now c.opening_of.new.tx _ _ c.in_ok-opening.ensures)
+    (does_for (does_read g.S.Store c.args.tx.now c.opening_of.new.tx _ _ c.in_ok-opening.ensures.says)
     (λ t sound. (sound.undamaged, refl, refl)))
-    c.in_ok-add_whole_branch-in-Opened.ensures
+    c.in_ok-add_whole_branch-in-Opened.ensures.does
     (λ t sound found.
     let at = not_there t b terms (row_at branch_key t.branches b) (sym c.in-Opened.is ∙ found) in
     ((sound, at), opened_now t b terms at, sym c.in-Opened.is ∙ found)))
+
+-- ---- of whatever rows the file holds
+
+pub returns-in_default-clause-stored : goal.returns-in_default-clause-stored
+returns-in_default-clause-stored g c clean live = record {
+  answers = c.in_ok-opening.ensures.stored clean;
+  stays = λ other. (c.in_ok-opening.ensures.says.kept clean).0.now;
+  opens = λ is t shows. absurd (c.in_default.not-Opened is);
+}
+
+pub returns-in_ok-add_whole_branch-in-Opened-clause-stored : goal.returns-in_ok-add_whole_branch-in-Opened-clause-stored
+returns-in_ok-add_whole_branch-in-Opened-clause-stored g c clean live =
+    let added = c.in_ok-add_whole_branch-in-Opened.ensures in
+    let mid : HasCleanDisk (state g.S.Store c.opening_of.new.tx.conn.now) =
+    omega (arith, added.does.says.survives.clean, clean) in
+    let looked = (c.in_ok-opening.ensures.says.kept mid).0 in
+    record {
+      answers = rw c.in-Opened.is at (c.in_ok-opening.ensures.stored mid);
+      stays = λ other. absurd (other refl);
+      opens = λ is t shows.
+          added.leaves.shown clean
+          (still_in (state g.S.Store c.args.tx.now.conn.now) (state g.S.Store c.opening_of.new.tx.conn.now)
+          looked.goes_on live) t
+          (subst (λ (db : Database). Shows db t) (sym looked.now) shows);
+    }

@@ -1,5 +1,5 @@
 -- What a branch was opened with, if it was.
-use Rattle.std.proofs.Common.{◌≡◌, ℕ, None, Some, Err, rules, refl, sym, ap, ◌∙◌}
+use Rattle.std.proofs.Common.{◌≡◌, ℕ, ℤ, None, Option, Some, Ok, Err, rules, refl, sym, ap, ◌∙◌}
 use Rattle.posting_rules.specs.Commands.{Terms, opened_with}
 use Rattle.posting_rules.specs.Counter.{opening_for}
 use Rattle.posting_rules.specs.LookUps.{floor_in, terms_in}
@@ -7,6 +7,13 @@ use Rattle.posting_rules.specs.Tables.{Tables, row_at, branch_key}
 use Rattle.posting_rules.specs.declared.counter.Opening.TheVariants.{Opened}
 use Rattle.posting_rules.specs.declared.rows.BranchRow.{BranchRow}
 use Rattle.bank_transactions.proofs.ReadsInTurn.{reads_both, reads_but, reads_told}
+use Rattle.std.proofs.Common.{arith, subst}
+use Rattle.sqlite.specs.Effect.{Database}
+use Rattle.sqlite.specs.Held.{state}
+use Rattle.sqlite.specs.State.{HasCleanDisk}
+use Rattle.store_rows.specs.Rules.{BranchKeeps, StoredRows, branch_under}
+use Rattle.store_rows.specs.Stored.{FindsStored, IsBranch}
+use Rattle.bank_transactions.specs.Stored.{HoldsFloor, HoldsTerms, IsStoredFloor}
 use Rattle.bank_transactions.proofs.new_branch.opening_of.Goals as goal
 
 not_open : (t : Tables) (b : ℕ) (terms : Terms) → row_at branch_key t.branches b ≡ None
@@ -17,18 +24,18 @@ open_so : (t : Tables) (b : ℕ) (terms : Terms) (row : BranchRow) → row_at br
     → opening_for (Some (opened_with row.accounts (floor_in t b))) terms ≡ opening_for (terms_in t b) terms
 open_so t b terms row is = rw is refl
 
-pub returns-in_err-row : goal.returns-in_err-row
-returns-in_err-row g c =
+pub returns-in_err-row-clause-says : goal.returns-in_err-row-clause-says
+returns-in_err-row-clause-says g c =
     let same : c.from_residual.result ≡ Err c.in_err-row.field-0.0 = search rules in
     rw same c.in_err-row.ensures.says
 
-pub returns-in_err-first : goal.returns-in_err-first
-returns-in_err-first g c =
+pub returns-in_err-first-clause-says : goal.returns-in_err-first-clause-says
+returns-in_err-first-clause-says g c =
     let same : c.from_residual-in_err-first.result ≡ Err c.in_err-first.field-0.0 = search rules in
     rw same (reads_but c.in_err-first.field-0.0 c.in_ok-row.ensures.says c.in_err-first.ensures.says)
 
-pub returns : goal.returns
-returns g c =
+pub returns-clause-says : goal.returns-clause-says
+returns-clause-says g c =
     let b = c.args.branch in
     let terms = opened_with c.args.count c.args.floor.now in
     rw c.opened_again.ensures
@@ -37,3 +44,27 @@ returns g c =
     ap (row_at branch_key t.branches) (sym c.get.ensures.value) ∙ sym (ap (λ p. p.0) told) ∙ c.in-Some.is in
     let its : c.in_ok-first.first ≡ floor_in t b = ap (λ p. p.1) told ∙ ap (floor_in t) c.get-2.ensures.value in
     rw its (open_so t b terms c.in-Some.row at)))
+
+-- ---- of the stored rows
+
+terms_held : (rows : StoredRows) (b n m : ℕ) (row : BranchRow) (floor : Option ℤ) → n ≡ b → m ≡ b
+    → FindsStored (branch_under rows n) IsBranch BranchKeeps (Ok (Some row)) → HoldsFloor rows m floor
+    → HoldsTerms rows b (Some (opened_with row.accounts floor))
+terms_held rows b n m row floor one two finds holds =
+    let it = subst (λ (k : ℕ). FindsStored (branch_under rows k) IsBranch BranchKeeps (Ok (Some row))) one finds in
+    (it.0, it.1, it.2.1, subst (λ (k : ℕ). HoldsFloor rows k floor) two holds)
+
+pub returns-clause-stored : goal.returns-clause-stored
+returns-clause-stored g c clean =
+    let mid : HasCleanDisk (state g.S.Store c.branch_at.new.tx.conn.now) =
+    omega (arith, c.in_ok-first.ensures.says.survives.clean, clean) in
+    let still = (c.in_ok-row.ensures.says.kept mid).0.now in
+    let found = rw c.in-Some.is at (c.in_ok-row.ensures.stored mid) in
+    let floor = subst (λ (d : Database). IsStoredFloor d c.get-2.result c.in_ok-first.first) still
+    (c.in_ok-first.ensures.stored clean) in
+    record {
+      first = Some (opened_with c.in-Some.row.accounts c.in_ok-first.first);
+      stored = λ rows has. terms_held rows c.args.branch c.get.result c.get-2.result c.in-Some.row
+          c.in_ok-first.first c.get.ensures.value c.get-2.ensures.value (found rows has) (floor rows has);
+      is = c.opened_again.ensures;
+    }

@@ -1,11 +1,23 @@
 -- One slot more is filled.
-use Rattle.std.proofs.Common.{◌<◌, Err, ◌≡◌, length, rules, arith, refl, ◌∙◌}
+use Rattle.std.proofs.Common.{◌<◌, Err, ◌≡◌, ◌+◌, ℕ, suc, length, rules, arith, refl, sym, subst, ◌∙◌}
+use Rattle.sqlite.specs.Effect.{Database}
+use Rattle.sqlite.specs.Held.{state}
+use Rattle.sqlite.specs.State.{HasCleanDisk}
+use Rattle.store_rows.specs.Rules.{HoldsBank}
 use Rattle.bank_transactions.proofs.LookUps.{reads_none, reads_but, reads_so}
 use Rattle.bank_transactions.proofs.Loops.{fill_more, all_filled, next_is}
+use Rattle.bank_transactions.proofs.Partly.{all_bare, all_held, partly_next, partly_none}
 use Rattle.bank_transactions.proofs.slots.fill_all.Goals as goal
 
+one_more : (n : ℕ) → n + 1 ≡ suc n
+one_more n = omega arith
+
 pub loop-slot-init : goal.loop-slot-init
-loop-slot-init g c = reads_none (search rules) (λ t so. refl)
+loop-slot-init g c = record {
+  says = reads_none (search rules) (λ t so. refl);
+  same = partly_none _ c.args.slots.now;
+  stored = λ clean rows has. partly_none _ c.args.slots.now;
+}
 
 pub loop-slot-preserved : goal.loop-slot-preserved
 loop-slot-preserved g c =
@@ -14,12 +26,25 @@ loop-slot-preserved g c =
     let ys = c.loop-slot.slots in
     let i = c.loop-slot.slot-index in
     let x = c.slot-item.result in
+    let y = c.in_ok-slot.field-0 in
     let lt : i < length xs = omega arith in
-    fill_more fill xs ys i x c.in_ok-slot.field-0 lt c.slot-item.is c.loop-slot.invariant c.in_ok-slot.ensures
-    (λ t so first. (so.0, next_is fill (g.T.Slot.Knows c.args.branches.now t) xs ys i x t lt first so.1))
+    let so_far = c.loop-slot.invariant in
+    let one = c.in_ok-slot.ensures in
+    record {
+      says = fill_more fill xs ys i x y lt c.slot-item.is so_far.says one.says
+          (λ t so first. (so.0, next_is fill (g.T.Slot.Knows c.args.branches.now t) xs ys i x t lt first so.1));
+      same = partly_next _ xs ys i (i + 1) x y (one_more i) lt one.same so_far.same;
+      stored =
+          λ clean rows has.
+          let mid : HasCleanDisk (state g.S.Store c.loop-slot.tx.conn.now) =
+          omega (arith, one.says.says.survives.clean, clean) in
+          let there = subst (λ (db : Database). HoldsBank db rows) (sym (so_far.says.says.kept mid).0.now) has in
+          partly_next _ xs ys i (i + 1) x y (one_more i) lt (one.stored clean rows there)
+          (so_far.stored mid rows has);
+    }
 
-pub returns-in_err-slot : goal.returns-in_err-slot
-returns-in_err-slot g c =
+pub returns-in_err-slot-clause-says : goal.returns-in_err-slot-clause-says
+returns-in_err-slot-clause-says g c =
     let fill = g.T.Slot.filled_from in
     let same : c.from_residual.result ≡ Err c.in_err-slot.field-0.0 = search rules in
     let xs = c.args.slots.now in
@@ -27,12 +52,24 @@ returns-in_err-slot g c =
     let i = c.loop-slot.slot-index in
     let x = c.slot-item.result in
     let lt : i < length xs = omega arith in
-    rw same (reads_but c.loop-slot.invariant c.in_err-slot.ensures
+    rw same (reads_but c.loop-slot.invariant.says c.in_err-slot.ensures.says
     (λ t so first. (so.0, next_is fill (g.T.Slot.Knows c.args.branches.now t) xs ys i x t lt first so.1)))
 
-pub returns : goal.returns
-returns g c =
+pub returns-clause-says : goal.returns-clause-says
+returns-clause-says g c =
     let xs = c.args.slots.now in
     let at_end : c.loop-slot.slot-index ≡ length xs = omega arith in
-    reads_so c.loop-slot.invariant
+    reads_so c.loop-slot.invariant.says
     (λ t so. (so, λ e. e ∙ all_filled g.T.Slot.filled_from xs c.loop-slot.slot-index t at_end))
+
+pub returns-clause-same : goal.returns-clause-same
+returns-clause-same g c =
+    let at_end : c.loop-slot.slot-index ≡ length c.args.slots.now = omega arith in
+    all_bare g.T.Slot.bare c.args.slots.now c.loop-slot.slots c.loop-slot.slot-index at_end
+    c.loop-slot.invariant.same
+
+pub returns-clause-stored : goal.returns-clause-stored
+returns-clause-stored g c clean rows has =
+    let at_end : c.loop-slot.slot-index ≡ length c.args.slots.now = omega arith in
+    all_held (g.T.Slot.KnowsRow c.args.branches.now rows) (g.T.Slot.Held rows) c.args.slots.now
+    c.loop-slot.slots c.loop-slot.slot-index at_end (c.loop-slot.invariant.stored clean rows has)

@@ -23,8 +23,8 @@ no_balance t n sound none =
     not_one (row_at teller_key t.tellers n) (row_at branch_key t.branches (branch_of_teller n))
     (λ there. sound.tellers n (teller_some t n sound there)) none
 
-pub returns-in-None : goal.returns-in-None
-returns-in-None g c = record {
+pub returns-in-None-clause-says : goal.returns-in-None-clause-says
+returns-in-None-clause-says g c = record {
   told = λ clean t shows sound.
       let told = c.in_ok-balance.ensures.says.told clean t shows sound in
       (no_balance t c.args.teller sound (sym c.in-None.is ∙ told.0), told.1);

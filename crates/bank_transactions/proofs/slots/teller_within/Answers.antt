@@ -3,10 +3,17 @@ use Rattle.std.proofs.Common.{◌≡◌, Err, rules}
 use Rattle.store_rows.specs.declared.holders.Member.TheVariants.{Teller}
 use Rattle.bank_transactions.proofs.FailedBalances.{balance_failed}
 use Rattle.bank_transactions.proofs.LookUps.{looks_again}
+use Rattle.std.proofs.Common.{arith}
+use Rattle.sqlite.specs.Held.{state}
+use Rattle.sqlite.specs.State.{HasCleanDisk}
+use Rattle.posting_rules.specs.Numbering.{branch_of_teller}
+use Rattle.bank_transactions.specs.Filling.{HoldsBranch}
+use Rattle.bank_transactions.specs.Stored.{HoldsTellerRow}
+use Rattle.bank_transactions.proofs.HeldRows.{held_before, teller_held}
 use Rattle.bank_transactions.proofs.slots.teller_within.Goals as goal
 
-pub returns-in_err-balance : goal.returns-in_err-balance
-returns-in_err-balance g c =
+pub returns-in_err-balance-clause-says : goal.returns-in_err-balance-clause-says
+returns-in_err-balance-clause-says g c =
     let fault = c.in_err-balance.field-0.0 in
     let same : c.from_residual.result ≡ Err fault = search rules in
     rw same (record {
@@ -14,5 +21,21 @@ returns-in_err-balance g c =
     })
 
 -- both rows are looked up again
-pub returns-then-is_some : goal.returns-then-is_some
-returns-then-is_some g c = looks_again c.in_ok-balance.ensures c.teller_beside.ensures (λ t so. so.0)
+pub returns-then-is_some-clause-says : goal.returns-then-is_some-clause-says
+returns-then-is_some-clause-says g c = looks_again c.in_ok-balance.ensures c.teller_beside.ensures.says (λ t so. so.0)
+
+pub returns-then-is_some-clause-stored : goal.returns-then-is_some-clause-stored
+returns-then-is_some-clause-stored g c =
+    held_before (HasCleanDisk (state g.S.Store c.teller_beside.new.tx.conn.now))
+    (λ rows balance. HoldsTellerRow rows c.args.teller balance)
+    (λ rows. HoldsBranch rows (branch_of_teller c.args.teller) c.args.branch) _ _ c.teller_beside.result
+    (λ clean.
+    let mid : HasCleanDisk (state g.S.Store c.balance_of.new.tx.conn.now) =
+    omega (arith, c.teller_beside.ensures.says.survives.clean, clean) in
+    (c.in_ok-balance.ensures.kept mid).0.0.now_is)
+    c.teller_beside.ensures.stored
+
+pub returns-clause-stored : goal.returns-clause-stored
+returns-clause-stored g c clean rows has branch =
+    teller_held rows c.args.teller c.in_ok-balance.balance c.args.branch
+    ((c.in_ok-balance.ensures.kept clean).1 rows has) branch (search rules)

@@ -26,7 +26,7 @@ refused g c =
     (Open b terms ∷ [])
     (opens b terms above c.requires.few) are c.in-Err.fault c.go_down.result c.go_down.ensures.down
     c.go_down.ensures.survives
-    c.in-Err.ensures
+    c.in-Err.ensures.transacts
 
 pub returns-in-Ok : goal.returns-in-Ok
 returns-in-Ok g c =
@@ -36,7 +36,7 @@ returns-in-Ok g c =
     let are : AreCommands (Open b terms ∷ []) =
     ((above, c.requires.branch, c.requires.some, c.requires.few, c.floor_law.ensures), tt) in
     let Down = IsSome c.args.self.now.fault in
-    let says = c.in-Ok.ensures in
+    let says = c.in-Ok.ensures.transacts in
     record {
       answer =
           λ clean log s. (says.told clean s.tables s.are
@@ -48,6 +48,7 @@ returns-in-Ok g c =
           (takes sound_tables (Open b terms ∷ []) (opens b terms above c.requires.few) are Down Down
           c.in_ok-up.ensures.up says) (still_clean says.survives);
       frugal = λ same. (let it = same in cc);
+      stored = c.in-Ok.ensures.stored;
     }
 
 pub returns-in-Err : goal.returns-in-Err
@@ -58,6 +59,7 @@ returns-in-Err g c =
       call = refused_call g.S.Store c.args.self.now c.go_down.new.self _ c.go_down.result no
           c.in_ok-up.ensures.up;
       frugal = λ same. no.frugal (let it = same in cc);
+      stored = tt;
     }
 
 pub returns-in_err-up-clause-call : goal.returns-in_err-up-clause-call

@@ -60,6 +60,7 @@ returns-in-Ok g c =
             survives = λ trees may. (t, it.survives trees may, refl);
             still = it.same;
           };
+      stored = λ clean. c.in-Ok.ensures.stored clean rs made;
     }
 
 pub returns-in-Err : goal.returns-in-Err
@@ -78,6 +79,7 @@ returns-in-Err g c =
           (IsSome c.go_down.new.self.fault) (c.in-Err.ensures.says rs c.in_ok-batch.ensures.made)
           c.go_down.ensures.survives;
       idle = tt;
+      stored = tt;
     }
 
 pub returns-in_err-up-clause-call : goal.returns-in_err-up-clause-call

@@ -1,0 +1,264 @@
+-- A batch whose slots have what the rows hold answers the replies to its records in tables that have what the
+-- rows hold, whatever rows a file holds.
+use Rattle.std.proofs.Common.{◌≡◌, ℕ, ℤ, Bool, eqb, List, [], ◌∷◌, map, Option, Some, None, Result, Ok, Err, refl}
+use Rattle.std.proofs.Common.{pos, true, sym, ap, subst, ◌∙◌, inl, inr, arith}
+use Rattle.std.specs.Prelude.{IfOk, IfSome, IsSome, IsTrue, is_some, option_and_then, option_map}
+use Rattle.std.specs.List.{AllByRecursion, find}
+use Rattle.std.proofs.lemmas.Bool.{eqb-true}
+use Rattle.message_records.specs.Reading.{request_of}
+use Rattle.message_records.specs.Records.{RequestFields}
+use Rattle.message_records.specs.declared.fault.Bad.{Bad}
+use Rattle.posting_rules.specs.Changes.{replies_past_all}
+use Rattle.posting_rules.specs.LookUps.{account_balance_in, balance_of_branch, balance_of_teller, both_of, floor_in}
+use Rattle.posting_rules.specs.LookUps.{kept_in}
+use Rattle.posting_rules.specs.Numbering.{branch_of_account, branch_of_teller}
+use Rattle.posting_rules.specs.Tables.{Tables, branch_key, row_at, teller_key}
+use Rattle.posting_rules.specs.declared.rows.BranchRow.{BranchRow}
+use Rattle.posting_rules.proofs.Keyed.{by_test}
+use Rattle.posting_batch.specs.declared.batch.Batch.{Batch}
+use Rattle.posting_batch.specs.declared.slots.BranchSlot.{BranchSlot}
+use Rattle.posting_batch.specs.declared.slots.RequestSlot.{RequestSlot}
+use Rattle.posting_batch.specs.Batch.{CoversAll, CoversRead, HasHomes, HasRisingSlots, account_filled}
+use Rattle.posting_batch.specs.Batch.{branch_filled, covering_all, filled, no_slots, request_filled, teller_filled}
+use Rattle.posting_batch.specs.Overlay.{Overlay}
+use Rattle.posting_batch.specs.Placed.{IsRising, number_below, request_below}
+use Rattle.posting_batch.specs.Slots.{account_slot_key, branch_slot_key, is_for, teller_slot_key}
+use Rattle.posting_batch.specs.View.{IsFilledFrom, IsMadeOf, reads_of, view}
+use Rattle.posting_batch.proofs.Covered.{Stands, homes_all, stands}
+use Rattle.posting_batch.proofs.KeptSlots.{both_true}
+use Rattle.posting_batch.proofs.Orders.{rising_mapped}
+use Rattle.posting_batch.proofs.SlotsInOrder.{made_all}
+use Rattle.posting_batch.proofs.ToldTables.{IsOwn, tables_told, told_filled}
+use Rattle.sql_meanings.specs.Entries.{Entry}
+use Rattle.sql_meanings.proofs.Changes.{found_key}
+use Rattle.sqlite.specs.Effect.{Database}
+use Rattle.sqlite.specs.Held.{Held, state}
+use Rattle.sqlite.specs.State.{HasCleanDisk}
+use Rattle.sqlite_trees.specs.declared.store.Store.{Ghosts}
+use Rattle.store_rows.specs.Rules.{BranchKeeps, StoredRows, branch_under, row_under}
+use Rattle.store_rows.specs.Stored.{FindsStored, IsBranch}
+use Rattle.store_rows.specs.declared.fault.TableFault.{TableFault}
+use Rattle.bank_transactions.specs.Doing.{Ends}
+use Rattle.bank_transactions.specs.Filling.{AccountHeld, AreHeld, BranchHeld, HoldsBranch, RequestHeld, TellerHeld}
+use Rattle.bank_transactions.specs.Filling.{emptied, emptied_account, emptied_branch, emptied_request, emptied_teller}
+use Rattle.bank_transactions.specs.Stored.{HasRead, HasStored, HoldsAccount, HoldsFloor, HoldsKept, HoldsTeller}
+use Rattle.bank_transactions.specs.Stored.{HoldsTellerRow, RepliesInTurn}
+use Rattle.bank_transactions.proofs.HeldSlots.{at_key}
+use Rattle.bank_transactions.proofs.Together.{within_or_none}
+
+-- ---- an overlay that is filled again
+
+map_twice : {A B C : Type 0} (f : B → C) (g : A → B) (h : A → C) → ((a : A) → f (g a) ≡ h a) → (xs : List A)
+    → map f (map g xs) ≡ map h xs
+map_twice f g h same [] = refl
+map_twice {A} {B} {C} f g h same (x ∷ xs) =
+    ap (λ (c : C). c ∷ map f (map g xs)) (same x)
+    ∙ ap (λ (cs : List C). h x ∷ cs) (map_twice f g h same xs)
+
+-- what slots were filled with before doesn't count
+module _ (t : Tables) where
+  filled_again : (o : Overlay) → filled t (emptied o) ≡ filled t o
+  filled_again o = rw (
+    map_twice (branch_filled t) emptied_branch (branch_filled t) (λ s. refl) o.branches,
+    map_twice (teller_filled t) emptied_teller (teller_filled t) (λ s. refl) o.tellers,
+    map_twice (account_filled t) emptied_account (account_filled t) (λ s. refl) o.accounts,
+    map_twice (request_filled t) emptied_request (request_filled t) (λ s. refl) o.kept,
+  ) refl
+
+  filled_over : (o p : Overlay) → emptied o ≡ emptied p → filled t o ≡ filled t p
+  filled_over o p same = sym (filled_again o) ∙ ap (filled t) same ∙ filled_again p
+
+-- slots that change and keep their keys stood in the same order
+module _ {S : Type 0} (below : S → S → Bool) (f : S → S)
+    (same : (a b : S) → below (f a) (f b) ≡ below a b) where
+  above_back : (a : S) (xs : List S) → AllByRecursion (λ x. IsTrue (below (f a) x)) (map f xs)
+      → AllByRecursion (λ x. IsTrue (below a x)) xs
+  above_back a [] all = tt
+  above_back a (x ∷ xs) all = (sym (same a x) ∙ all.0, above_back a xs all.1)
+
+  rising_back : (xs : List S) → IsRising below (map f xs) → IsRising below xs
+  rising_back [] rises = tt
+  rising_back (x ∷ xs) rises = (above_back x xs rises.0, rising_back xs rises.1)
+
+rising_emptied : (o : Overlay) → HasRisingSlots o → HasRisingSlots (emptied o)
+rising_emptied o rises = record {
+  branches = rising_mapped (number_below branch_slot_key) emptied_branch (λ a b. refl) o.branches rises.branches;
+  tellers = rising_mapped (number_below teller_slot_key) emptied_teller (λ a b. refl) o.tellers rises.tellers;
+  accounts = rising_mapped (number_below account_slot_key) emptied_account (λ a b. refl) o.accounts
+      rises.accounts;
+  kept = rising_mapped request_below emptied_request (λ a b. refl) o.kept rises.kept;
+}
+
+rising_filled : (o : Overlay) → HasRisingSlots (emptied o) → HasRisingSlots o
+rising_filled o rises = record {
+  branches = rising_back (number_below branch_slot_key) emptied_branch (λ a b. refl) o.branches rises.branches;
+  tellers = rising_back (number_below teller_slot_key) emptied_teller (λ a b. refl) o.tellers rises.tellers;
+  accounts = rising_back (number_below account_slot_key) emptied_account (λ a b. refl) o.accounts
+      rises.accounts;
+  kept = rising_back request_below emptied_request (λ a b. refl) o.kept rises.kept;
+}
+
+-- ---- what the tables tell of a record
+
+told : {S X : Type 0} (content : S → X) (P : X → Type 0) (x : X) (o : Option S) → IsSome o
+    → IfSome o (λ s. P (content s)) → IfSome o (λ s. content s ≡ x) → P x
+told content P x None there held is = absurd cc
+told content P x (Some s) there held is = subst P is held
+
+each : {S : Type 0} (P Q : S → Type 0) → ((s : S) → P s → Q s) → (slots : List S) → AllByRecursion P slots
+    → AllByRecursion Q slots
+each P Q so [] all = tt
+each P Q so (s ∷ slots) all = (so s all.0, each P Q so slots all.1)
+
+module _ (rows : StoredRows) where
+  both_held : (n : ℕ) (x : Option ℤ) (y : Option BranchRow) → HoldsTellerRow rows n x
+      → HoldsBranch rows (branch_of_teller n) y → HoldsTeller rows n (both_of x (option_map balance_of_branch y))
+  both_held n None y teller branch = teller.found
+  both_held n (Some z) None teller branch =
+      absurd (let there = sym (ap is_some branch) ∙ teller.fits.0 (ap is_some teller.found.1) in cc)
+  both_held n (Some z) (Some b) teller branch =
+      (teller.found.0, teller.found.1, teller.found.2, (branch.0, branch.1, branch.2.2))
+
+  kept_at : (slots : List RequestSlot) → AllByRecursion (RequestHeld rows) slots → (n m : ℕ)
+      → IfSome (find (is_for n m) slots) (λ s. HoldsKept rows n m s.kept)
+  kept_at [] all n m = tt
+  kept_at (s ∷ slots) all n m =
+      elim (by_test (is_for n m s)) [
+        | inl t ↦
+            let both = both_true (eqb s.teller n) (eqb s.number m) t in
+            rw t (subst (λ (j : ℕ). HoldsKept rows j m s.kept) (eqb-true s.teller n both.0)
+            (subst (λ (j : ℕ). HoldsKept rows s.teller j s.kept) (eqb-true s.number m both.1) all.0))
+        | inr f ↦ rw f (kept_at slots all.1 n m)
+      ]
+
+  module _ (o : Overlay) (t : Tables) (reads : List (Result RequestFields Bad)) (stand : Stands o t reads)
+      (held : AreHeld rows o) where
+    has_request : (r : RequestFields) → CoversRead o (Ok r) → HasStored rows t r
+    has_request r covers =
+        let b = branch_of_teller r.teller in
+        let a = branch_of_account r.account in
+        let teller : HoldsTellerRow rows r.teller
+        (option_map balance_of_teller (row_at teller_key t.tellers r.teller)) =
+        told (λ s. s.stored) (λ z. HoldsTellerRow rows r.teller z) _ _ covers.teller
+        (at_key teller_slot_key (λ k s. HoldsTellerRow rows k s.stored) o.tellers held.tellers r.teller)
+        (stand.fits.tellers r.teller) in
+        let branch : HoldsBranch rows b (row_at branch_key t.branches b) =
+        told (λ s. s.stored) (λ row. HoldsBranch rows b row) _ _ covers.branch
+        (at_key branch_slot_key (λ k s. HoldsBranch rows k s.stored) o.branches
+        (each (BranchHeld rows) (λ s. HoldsBranch rows s.branch s.stored) (λ s it. it.row) o.branches
+        held.branches) b)
+        (stand.fits.branches b) in
+        record {
+          teller = both_held r.teller _ _ teller branch;
+          teller_fits = teller.fits;
+          account =
+              told (λ s. s.stored) (λ z. HoldsAccount rows r.account z) (account_balance_in t r.account) _
+              covers.account
+              (at_key account_slot_key (λ k s. HoldsAccount rows k s.stored) o.accounts held.accounts r.account)
+              (stand.fits.accounts r.account);
+          floor =
+              told (λ s. s.floor) (λ z. HoldsFloor rows a z) (floor_in t a) _ covers.its_branch
+              (at_key branch_slot_key (λ k s. HoldsFloor rows k s.floor) o.branches
+              (each (BranchHeld rows) (λ s. HoldsFloor rows s.branch s.floor) (λ s it. it.floor) o.branches
+              held.branches) a)
+              (stand.fits.floors a);
+          kept =
+              told (λ s. s.kept) (λ k. HoldsKept rows r.teller r.number k) (kept_in t.requests r.teller r.number)
+              _ covers.kept (kept_at o.kept held.kept r.teller r.number)
+              (subst (λ (u : Tables). IfSome (find (is_for r.teller r.number) o.kept)
+              (λ s. s.kept ≡ kept_in u.requests r.teller r.number)) stand.same
+              (stand.fits.kept r.teller r.number));
+        }
+
+    has_read : (read : Result RequestFields Bad) → CoversRead o read → HasRead rows t read
+    has_read (Err fault) covers = tt
+    has_read (Ok r) covers = has_request r covers
+
+    has_records : (records : List (List ℕ)) → CoversAll o (map request_of records)
+        → AllByRecursion (λ bytes. HasRead rows t (request_of bytes)) records
+    has_records [] covers = tt
+    has_records (bytes ∷ records) covers =
+        (has_read (request_of bytes) covers.0, has_records records covers.1)
+
+  -- ---- the branch of each slot
+
+  own_number : (n m : ℕ) → ◌≡◌ {A = ℤ} (pos n) (pos m) → n ≡ m
+  own_number n m same = cc
+
+  own_key : (n : ℕ) (b : BranchRow) (r : Entry) → branch_under rows n ≡ Some r → r.key ≡ pos b.branch
+      → b.branch ≡ n
+  own_key n b r found key = elim (within_or_none n) [
+    | inl is ↦ own_number b.branch n (sym key ∙ found_key (pos n) rows.branches r
+        (sym (ap (option_and_then (row_under rows.branches)) is) ∙ found))
+    | inr none ↦ absurd (let no = sym (ap (option_and_then (row_under rows.branches)) none) ∙ found in cc)
+  ]
+
+  own_row : (n : ℕ) (o : Option BranchRow) → HoldsBranch rows n o → IfSome o (λ b. b.branch ≡ n)
+  own_row n None holds = tt
+  own_row n (Some b) holds = own_key n b holds.0 holds.1 holds.2.0
+
+-- ---- a batch that is made, filled and judged
+
+module _ (rows : StoredRows) (b b' : Batch) (records : List (List ℕ)) (m : ℕ) (items : List (List ℕ))
+    (made : IsMadeOf b records) (reads : reads_of b' ≡ reads_of b)
+    (same : emptied (view b'.overlay) ≡ emptied (view b.overlay)) (held : AreHeld rows (view b'.overlay))
+    (replies : (t : Tables) (rs : List (List ℕ)) → IsFilledFrom b' t rs → items ≡ replies_past_all t m rs) where
+  abbrev slots : Overlay
+  slots = view b'.overlay
+
+  abbrev covering : Overlay
+  covering = covering_all no_slots (map request_of records)
+
+  -- tables that have what the slots tell
+  abbrev its_tables : Tables
+  its_tables = tables_told slots
+
+  emptied_so : emptied slots ≡ emptied covering
+  emptied_so = same ∙ ap emptied made.overlay
+
+  rises : HasRisingSlots slots
+  rises = rising_filled slots (subst HasRisingSlots (sym emptied_so)
+      (rising_emptied covering (made_all (map request_of records)).rising))
+
+  filled_so : slots ≡ filled its_tables covering
+  filled_so = sym (told_filled slots rises
+      (each (BranchHeld rows) IsOwn (λ s it. own_row rows s.branch s.stored it.row) slots.branches held.branches))
+      ∙ filled_over its_tables slots covering emptied_so
+
+  pub in_turn : RepliesInTurn rows m records items
+  in_turn =
+      let stand = subst (λ (o : Overlay). Stands o its_tables (map request_of records)) (sym filled_so)
+      (stands its_tables (map request_of records)) in
+      record {
+        tables = its_tables;
+        stored = has_records rows slots its_tables (map request_of records) stand held records stand.covers;
+        decided = held.decided;
+        are = replies its_tables records (record { reads = reads ∙ made.reads; overlay = filled_so });
+      }
+
+-- every branch that a batch asks for has its slot
+pub homes_made : (b : Batch) (records : List (List ℕ)) → IsMadeOf b records → HasHomes (view b.overlay)
+homes_made b records made = subst HasHomes (sym made.overlay) (homes_all (map request_of records))
+
+-- ---- the whole transaction
+
+-- what an answer says of the rows that were there as its transaction began is so of those before it
+pub stored_after : {S X : Type 0} (g : Ghosts S) (Made : List (List ℕ) → Type 0)
+    (Q : Database → List (List ℕ) → X → Type 0) (old begun last end new : Held S)
+    (answer result : Result X TableFault) → begun ≡ record old { in_transaction = true }
+    → Ends g last end answer result → ((records : List (List ℕ)) → Made records → end ≡ new)
+    → IfOk answer (λ x. HasCleanDisk (state g last) → (records : List (List ℕ)) → Made records
+    → Q (state g begun).now records x)
+    → IfOk result (λ x. HasCleanDisk (state g new) → (records : List (List ℕ)) → Made records
+    → Q (state g old).now records x)
+stored_after g Made Q old begun last end new answer (Err fault) is ends same stored = tt
+stored_after g Made Q old begun last end new (Err fault) (Ok y) is ends same stored =
+    absurd (let no = ends.given in cc)
+stored_after {S} {X} g Made Q old begun last end new (Ok x) (Ok y) is ends same stored = λ clean records made.
+    let ended : HasCleanDisk (state g end) = subst (λ (h : Held S). HasCleanDisk (state g h))
+    (sym (same records made)) clean in
+    let before : HasCleanDisk (state g last) = omega (arith, ends.survives.clean) in
+    let given : x ≡ y = (let it = ends.given in cc) in
+    subst (λ (z : X). Q (state g old).now records z) given
+    (subst (λ (db : Database). Q db records x) (ap (λ (h : Held S). (state g h).now) is)
+    (stored before records made))
