@@ -1,8 +1,8 @@
 -- What the bank did for a message, and what was told of it.
 use Rattle.std.proofs.Common.{◌≡◌, ℕ, inl, inr, Bool, true, false, List, [], ◌∷◌, length, take, Option, Some}
 use Rattle.std.proofs.Common.{None, Result, Ok, Err, refl, sym, ap, subst, eqb, ◌∙◌, arith}
-use Rattle.std.proofs.lemmas.Bool.{and_parts, ne_eqb, eqb-true}
-use Rattle.std.specs.Prelude.{ℤ, codes, bytes_eq, IfErr, OnErr, MatchOption}
+use Rattle.std.proofs.lemmas.Bool.{and_parts, ne_eqb}
+use Rattle.std.specs.Prelude.{ℤ, codes, bytes_eq, IfErr, OnErr}
 use Rattle.std.specs.Io.KnownBytes.{Appends}
 use Rattle.std.proofs.lemmas.List.{take_all}
 use Rattle.message_records.specs.Spelling.{reply_spelling}
@@ -15,15 +15,13 @@ use Rattle.posting_core.specs.Clock.{IsReading, AreReadings}
 use Rattle.posting_core.specs.Stream.{IsOfCall}
 use Rattle.counter_http.specs.declared.fault.ServeFault.{ServeFault}
 use Rattle.counter_http.specs.declared.fault.ServeFault.TheVariants as told
-use Rattle.counter_http.specs.Answers.{octets, account_answer, account_named, balance_answer, status_words}
-use Rattle.counter_http.specs.Answers.{plain, branch_lines, IsForBank, is_reading, bare, is_record}
-use Rattle.counter_http.specs.Answers.{not_allowed, submits, answer_on, Asked, Answer, answer_to, answer_text}
+use Rattle.counter_http.specs.Answers.{octets, balance_answer, status_words}
+use Rattle.counter_http.specs.Answers.{bare, is_record}
+use Rattle.counter_http.specs.Answers.{submits, answer_on, Asked, Answer, answer_to, answer_text}
 use Rattle.counter_http.specs.Answers.{shows, unavailable, is_posting}
 use Rattle.counter_http.specs.declared.routes.Route.{Route}
 use Rattle.counter_http.specs.declared.routes.Route.TheVariants.{Posting, Account, Branches}
-use Rattle.counter_http.specs.declared.telling.Response.{Response}
-use Rattle.counter_http.specs.Telling.{said}
-use Rattle.counter_http.specs.Paths.{account_in, route_of, path_of}
+use Rattle.counter_http.specs.Paths.{route_of, path_of}
 use Rattle.counter_http.proofs.PartsWritten.{bare_of, front_of}
 use Rattle.counter_http.specs.Turns.{commands_if, commands_for, readings_if, readings_for, IsDealtWith}
 use Rattle.counter_http.specs.Turns.{IfRefused, IsRefusedAt, IsWrittenTo, ServingBreaksOff, IsTellingOf}
@@ -185,26 +183,22 @@ not_found = refl
 
 -- ---- by the route
 
-pub submits_by : (a : Asked) (o : Option Route) → route_of (path_of a.target) ≡ o → is_posting a ≡ submits o a
+-- what holds on the route of a message holds of it
+pub submits_as : (a : Asked) (b : Bool) → submits (route_of (path_of a.target)) a ≡ b → is_posting a ≡ b
 unfolding is_posting
-submits_by a o e = ap (λ (r : Option Route). submits r a) e
+submits_as a b is = is
 
-pub answer_by : (log : List Command) (a : Asked) (o : Option Route) → route_of (path_of a.target) ≡ o
-    → answer_to log a ≡ answer_on log o a
+pub answers_as : (a : Asked) (log : List Command) (x : Answer)
+    → answer_on log (route_of (path_of a.target)) a ≡ x → answer_to log a ≡ x
 unfolding answer_to
-answer_by log a o e = ap (λ (r : Option Route). answer_on log r a) e
+answers_as a log x is = is
 
+-- a record of another length
 pub not_as_long : (a : Asked) → bytes_eq a.method (codes "POST") ≡ true → (length a.body ≡ 100 → ⊥)
     → (is_record a ≡ false) × ((log : List Command) → answer_on log (Some Posting) a ≡ bare 400)
 not_as_long a t n =
     let long : eqb (length a.body) 100 ≡ false =
     ne_eqb (length a.body) 100 n in (rw (t, long) refl, λ log. rw (t, long) refl)
-
-pub too_few : (a : Asked) → is_posting a ≡ true → route_of (path_of a.target) ≡ Some Posting
-    → length a.body ≡ 100
-too_few a p e =
-    eqb-true (length a.body) 100 ((and_parts (bytes_eq a.method (codes "POST")) (eqb (length a.body) 100)
-    (sym (submits_by a (Some Posting) e) ∙ p)).1)
 
 -- nothing is submitted, and the bank is left alone
 pub fixed : {C : Type 0} (seen : C → Seen) (w w' k : Option (List ℕ)) (c : C) (a : Asked) (x : Answer)
@@ -235,87 +229,11 @@ idle seen w w' k old new a result is d = (
   subst (λ (cs : List Command). IsDealtWith seen w w' old new a cs result) (sym (idle_commands a 0 is)) d,
 )
 
-abbrev IsFixed : Asked → Response → Type 0
-IsFixed a response = (is_posting a ≡ false) × ((log : List Command) → answer_to log a ≡ said response)
-
-pub by_posting : (a : Asked) (o : Option Route) (r : Option Response) → route_of (path_of a.target) ≡ o
-    → o ≡ Some Posting
-    → MatchOption r (is_record a ≡ true)
-    (λ x. (is_record a ≡ false) × ((log : List Command) → answer_on log (Some Posting) a ≡ said x))
-    → MatchOption r (IsForBank a o) (IsFixed a)
-by_posting a o None e f h =
-    subst (λ (p : Option Route). IsForBank a p) (sym f) (submits_by a (Some Posting) (e ∙ f) ∙ h)
-by_posting a o (Some x) e f h =
-    (submits_by a (Some Posting) (e ∙ f) ∙ h.0, λ log. answer_by log a (Some Posting) (e ∙ f) ∙ h.1 log)
-
-reading_by : (a : Asked) (o : Option Route) (v : Route) (r : Option Response)
-    → route_of (path_of a.target) ≡ o → o ≡ Some v → submits (Some v) a ≡ false
-    → ((log : List Command) → is_reading a.method ≡ false
-    → answer_on log (Some v) a ≡ not_allowed (codes "GET, HEAD"))
-    → (is_reading a.method ≡ true → is_posting a ≡ false → IsForBank a (Some v))
-    → MatchOption r (is_reading a.method ≡ true)
-    (λ x. (is_reading a.method ≡ false) × (said x ≡ not_allowed (codes "GET, HEAD")))
-    → MatchOption r (IsForBank a o) (IsFixed a)
-reading_by a o v None e f idle other bank h =
-    subst (λ (p : Option Route). IsForBank a p) (sym f) (bank h (submits_by a (Some v) (e ∙ f) ∙ idle))
-reading_by a o v (Some x) e f idle other bank h =
-    (submits_by a (Some v) (e ∙ f) ∙ idle, λ log. answer_by log a (Some v) (e ∙ f) ∙ other log h.0 ∙ sym h.1)
-
-pub by_account : (a : Asked) (o : Option Route) (r : Option Response) → route_of (path_of a.target) ≡ o
-    → o ≡ Some Account
-    → MatchOption r (is_reading a.method ≡ true)
-    (λ x. (is_reading a.method ≡ false) × (said x ≡ not_allowed (codes "GET, HEAD")))
-    → MatchOption r (IsForBank a o) (IsFixed a)
-by_account a o r e f h = reading_by a o Account r e f refl (λ log n. rw n refl) (λ t n. (t, n)) h
-
-pub by_branches : (a : Asked) (o : Option Route) (r : Option Response) → route_of (path_of a.target) ≡ o
-    → o ≡ Some Branches
-    → MatchOption r (is_reading a.method ≡ true)
-    (λ x. (is_reading a.method ≡ false) × (said x ≡ not_allowed (codes "GET, HEAD")))
-    → MatchOption r (IsForBank a o) (IsFixed a)
-by_branches a o r e f h = reading_by a o Branches r e f refl (λ log n. rw n refl) (λ t n. (t, n)) h
-
-pub by_none : (a : Asked) (o : Option Route) (x : Response) → route_of (path_of a.target) ≡ o → o ≡ None
-    → said x ≡ bare_of 404 (codes "404 Not Found\n") → IsFixed a x
-by_none a o x e f h = (submits_by a None (e ∙ f), λ log. answer_by log a None (e ∙ f) ∙ sym not_found ∙ sym h)
-
-pub is_long : (a : Asked) (o : Option Route) → route_of (path_of a.target) ≡ o → o ≡ Some Posting
-    → IsForBank a o → length a.body ≡ 100
-is_long a o e f h = too_few a (subst (λ (p : Option Route). IsForBank a p) f h) (e ∙ f)
-
-pub branches_answer : (log : List Command) (a : Asked) → route_of (path_of a.target) ≡ Some Branches
-    → is_reading a.method ≡ true → answer_to log a ≡ plain (branch_lines log)
-branches_answer log a e t = answer_by log a (Some Branches) e ∙ (rw t refl)
-
 -- ---- an account
 
-pub account_answer_is : (log : List Command) (a : Asked) → route_of (path_of a.target) ≡ Some Account
-    → is_reading a.method ≡ true
-    → answer_to log a ≡ account_answer log (account_named (account_in (path_of a.target)))
-account_answer_is log a e t = answer_by log a (Some Account) e ∙ (rw t refl)
-
--- the path names no account
-pub no_account : (log : List Command) (a : Asked) (id : Option ℕ) (x : Answer)
-    → route_of (path_of a.target) ≡ Some Account → is_reading a.method ≡ true
-    → id ≡ account_named (account_in (path_of a.target)) → id ≡ None
-    → x ≡ bare_of 404 (codes "404 Not Found\n") → x ≡ answer_to log a
-no_account log a id x e t f n is =
-    is ∙ not_found ∙ ap (account_answer log) (sym n ∙ f) ∙ sym (account_answer_is log a e t)
-
--- it names this one
-pub account_told : (log : List Command) (a : Asked) (id : Option ℕ) (account : ℕ) (o balance : Option ℤ)
-    (x : Answer) → route_of (path_of a.target) ≡ Some Account
-    → is_reading a.method ≡ true → id ≡ account_named (account_in (path_of a.target)) → id ≡ Some account
+-- what was told of a balance is the answer
+pub account_told : (log : List Command) (a : Asked) (account : ℕ) (o balance : Option ℤ) (x : Answer)
+    → ((log : List Command) → answer_to log a ≡ balance_answer account (balance_behind log account))
     → o ≡ balance_behind log account → o ≡ balance → x ≡ balance_answer account balance → x ≡ answer_to log a
-account_told log a id account o balance x e t f n b same is =
-    is ∙ ap (balance_answer account) (sym same ∙ b) ∙ ap (account_answer log) (sym n ∙ f)
-    ∙ sym (account_answer_is log a e t)
-
--- it isn't open
-pub account_closed : (log : List Command) (a : Asked) (id : Option ℕ) (account : ℕ) (o : Option ℤ)
-    (x : Answer) → route_of (path_of a.target) ≡ Some Account
-    → is_reading a.method ≡ true → id ≡ account_named (account_in (path_of a.target)) → id ≡ Some account
-    → o ≡ balance_behind log account → o ≡ None → x ≡ bare_of 404 (codes "404 Not Found\n")
-    → x ≡ answer_to log a
-account_closed log a id account o x e t f n b none is =
-    account_told log a id account o None x e t f n b none (is ∙ not_found)
+account_told log a account o balance x answers b same is =
+    is ∙ ap (balance_answer account) (sym same ∙ b) ∙ sym (answers log)

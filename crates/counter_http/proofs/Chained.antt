@@ -10,7 +10,7 @@ use Rattle.counter_http.specs.Serving as http
 use Rattle.counter_http.specs.declared.fault.ServeFault.{ServeFault}
 use Rattle.counter_http.specs.declared.fault.ServeFault.TheVariants as serve
 use Rattle.posting_rules.specs.declared.fault.Fault.TheVariants as bank
-use Rattle.counter_http.specs.Connections.{AllGoOn, AreServed, Connection, EndsServing, Known, ServesConnections}
+use Rattle.counter_http.specs.Connections.{AllGoOn, AreServed, Connection, Known, ServesConnections}
 use Rattle.counter_http.specs.Connections.{ServesDoor, ServesOne, known_of, unknown}
 use Rattle.counter_http.specs.declared.listen_fault.ListenFault.{ListenFault}
 use Rattle.counter_http.specs.declared.listen_fault.ListenFault.TheVariants.{Network, Bank}

@@ -14,7 +14,7 @@ use Rattle.matchit.specs.Rows.{RowsOf}
 use Rattle.matchit.specs.Router.{RouteOf}
 use Rattle.counter_http.specs.declared.routes.Route.{Route}
 use Rattle.matchit.specs.Seek.{step, or_else, param_step, seek, first, has_slash}
-use Rattle.counter_http.specs.Paths.{is_slash, route_named, route_of, path_of}
+use Rattle.counter_http.specs.Paths.{is_slash, route_named, route_of}
 use Rattle.counter_http.specs.Rows.{fixed, account_row, all_routes}
 use Rattle.counter_http.specs.declared.routes.Route.TheVariants.{Posting, Branches}
 
@@ -237,16 +237,10 @@ bytes_from : (bs : List ℕ) → ((i : ℕ) → get_or bs i 0 < 256) → AreByte
 bytes_from [] h = tt
 bytes_from (b ∷ bs) h = (h 0, bytes_from bs (λ i. h (suc i)))
 
-bytes_take : (n : ℕ) (bs : List ℕ) → AreBytes bs → AreBytes (take n bs)
-bytes_take zero bs all = tt
-bytes_take (suc n) [] all = tt
-bytes_take (suc n) (b ∷ bs) all = (all.0, bytes_take n bs all.1)
+pub text_bytes : (path text : List ℕ) → ((i : ℕ) → get_or path i 0 < 256) → text ≡ path → AreBytes text
+text_bytes path text h e = subst AreBytes (sym e) (bytes_from path h)
 
-pub path_bytes : (target path : List ℕ) (n : ℕ) → ((i : ℕ) → get_or target i 0 < 256) → path ≡ take n target
-    → AreBytes path
-path_bytes target path n h e = subst AreBytes (sym e) (bytes_take n target (bytes_from target h))
-
-no_text : (path : List ℕ) → (IsUtf8 path → ⊥) → None ≡ route_of path
+pub no_text : (path : List ℕ) → (IsUtf8 path → ⊥) → None ≡ route_of path
 unfolding route_of
 no_text path not = elim (cases_Bool (is_utf8 path)) [
   | inl t ↦ absurd (not (IsUtf8-from_is_utf8 path t))
@@ -259,10 +253,6 @@ unfolding route_of
 find_text path o bytes text e =
     let t : is_utf8 path ≡ true = is_utf8-from_IsUtf8 path text in
     rw t (ap (option_map value_in) (sym e) ∙ routed path bytes)
-
-pub find_no_text : (target path : List ℕ) → path ≡ path_of target → (IsUtf8 path → ⊥)
-    → None ≡ route_of (path_of target)
-find_no_text target path e not = no_text path not ∙ ap route_of e
 
 pub position_within : (p : ℕ → Bool) (xs : List ℕ) → position_or_len p xs ≤ length xs
 position_within p [] = omega arith

@@ -1,5 +1,5 @@
 -- The answer to each message.
-use Rattle.std.specs.Prelude.{◌≡◌, ℕ, zero, suc, ◌-◌, ℤ, List, [], ◌∷◌, ◌++◌, length, Option, Some, None}
+use Rattle.std.specs.Prelude.{ℕ, zero, suc, ◌-◌, ℤ, List, [], ◌∷◌, ◌++◌, length, Option, Some, None}
 use Rattle.std.specs.Prelude.{Bool, true, false, not, ◌&&◌, ◌||◌, ◌==◌, nat_lt, nat_le, codes, bytes_eq}
 use Rattle.std.specs.Prelude.{unwrap_or, get_or, replicate, if◌then◌else◌}
 use Rattle.std.specs.Option.{option_and_then}
@@ -176,10 +176,3 @@ final_answer Finished = []
 final_answer Closed = []
 final_answer No_head = refusal true ∷ []
 final_answer (No_body h) = refusal (not (is_head_request h)) ∷ []
-
--- the bank is asked: a record is submitted, or a reading method came to another route
-abbrev pub IsForBank : Asked → Option Route → Type 0
-IsForBank asked None = ⊥
-IsForBank asked (Some Posting) = is_posting asked ≡ true
-IsForBank asked (Some Account) = (is_reading asked.method ≡ true) × (is_posting asked ≡ false)
-IsForBank asked (Some Branches) = (is_reading asked.method ≡ true) × (is_posting asked ≡ false)

@@ -13,3 +13,4 @@ pub mod Outputs
 pub mod ListenFaults
 pub mod WaitingLimits
 pub mod Connections
+pub mod Tasks

@@ -1,27 +1,28 @@
 //! The answer to each message.
-ghost use Rattle.std.specs.Prelude.{◌≡◌, ℕ, take, IfErr, OnErr, true, Some, [], Err};
+ghost use Rattle.std.specs.Prelude.{◌≡◌, ℕ, List, take, IfErr, OnErr, true, [], Err};
 ghost use Rattle.std.specs.Result.{IsErrOf};
 ghost use Rattle.std.specs.Io.KnownBytes.{Appends};
 ghost use Rattle.posting_core.specs.Clock.{AreReadings};
 ghost use Rattle.posting_core.specs.Stream.{IsOfCall};
+ghost use Rattle.posting_rules.specs.Commands.{Command};
+ghost use Rattle.posting_rules.specs.Entries.{balance_behind};
 ghost use Rattle.counter_http.specs.Answers.{refusal, answer_text, shows, unavailable, is_posting};
-ghost use Rattle.counter_http.specs.Answers.{is_reading, plain};
+ghost use Rattle.counter_http.specs.Answers.{answer_to, balance_answer, branch_lines, plain};
 ghost use Rattle.counter_http.specs.Ends.{SendsAs};
 ghost use Rattle.counter_http.specs.Next.{asked};
-ghost use Rattle.counter_http.specs.Paths.{route_of, path_of};
 ghost use Rattle.counter_http.specs.Telling.{said};
 ghost use Rattle.counter_http.specs.Turns.{commands_for, readings_for, IfRefused, IsDealtWith, IsTellingOf};
 ghost use Rattle.counter_http.specs.Turns.{IsWrittenTo};
 
-use crate::accounts::account_in;
 use crate::fault::ServeFault;
-use crate::fixed::{bare, fixed_answer};
+use crate::fixed::{bad_request, not_found, unavailable};
 use crate::lines::{all_lines, line_of_account};
 use crate::next::{Whole, is_head};
-use crate::routes::{Route, Routes, path_of};
+use crate::routes::Routes;
+use crate::tasks::{Task, task_of};
 use crate::telling::{Response, tell};
 use http::StatusCode;
-use message_records::REQUEST_BYTES;
+use message_records::{Account, REQUEST_BYTES};
 use posting_core::{Clock, Counter, Fault, Sink};
 use std::alloc::Global;
 
@@ -32,12 +33,7 @@ pub(crate) fn refuse<W: Sink>(writer: &mut W, shows_body: bool) -> Result<(), Se
     ensures fault { OnErr result (IsErrOf result ServeFault.Write) }
     ensures ends { SendsAs result (W.told writer.old) (W.told writer.new) }
 {
-    match tell(
-        writer,
-        &bare(b"400 Bad Request\n", StatusCode::BAD_REQUEST),
-        shows_body,
-        true,
-    ) {
+    match tell(writer, &bad_request(), shows_body, true) {
         Ok(()) => Ok(()),
         Err(_) => Err(ServeFault::Write),
     }
@@ -83,11 +79,7 @@ fn fail<W: Sink>(message: &Whole<'_>, fault: Fault, writer: &mut W) -> ServeFaul
         × IsTellingOf fault result n (unavailable (asked message.now)) }
     ensures ends { SendsAs (Err result) (W.told writer.old) (W.told writer.new) }
 {
-    let response = bare(
-        b"503 Service Unavailable\n",
-        StatusCode::SERVICE_UNAVAILABLE,
-    );
-    match tell(writer, &response, !is_head(message.method), true) {
+    match tell(writer, &unavailable(), !is_head(message.method), true) {
         Ok(()) => ServeFault::Bank(fault),
         Err(_) => ServeFault::Write,
     }
@@ -127,37 +119,25 @@ fn answer_posting<W: Sink, K: Clock, C: Counter>(
     }
 }
 
-// Answers with the balance of the account that the path names.
+// Answers with the balance of an account.
 fn answer_account<W: Sink, C: Counter>(
     alloc: Global,
     message: &Whole<'_>,
+    account: Account,
     writer: &mut W,
     bank: &mut C,
 ) -> Result<(), ServeFault>
-    requires route { route_of (path_of message.now.target.now) ≡ Some Route.Account }
-    requires reads { is_reading message.now.method.now ≡ true }
+    requires { (log : List Command) → answer_to log (asked message.now)
+        ≡ balance_answer account (balance_behind log account) }
     ensures answers { IsDealtWith C.seen (W.contents writer.old) (W.contents writer.new) bank.old bank.new
         (asked message.now) [] result }
     ensures why { IfErr result (λ fault. IfRefused fault (IsOfCall C.seen C.reason bank.old bank.new)) }
     ensures honest { (C.seen bank.new).honest → (C.seen bank.old).honest }
     ensures ends { SendsAs result (W.told writer.old) (W.told writer.new) }
 {
-    let Some(account) = account_in(path_of(message.target)) else {
-        return say(
-            message,
-            &bare(b"404 Not Found\n", StatusCode::NOT_FOUND),
-            writer,
-        );
-    };
     let balance = match bank.balance(account) {
         Ok(Some(balance)) => balance,
-        Ok(None) => {
-            return say(
-                message,
-                &bare(b"404 Not Found\n", StatusCode::NOT_FOUND),
-                writer,
-            );
-        }
+        Ok(None) => return say(message, &not_found(), writer),
         Err(fault) => return Err(fail(message, fault, writer)),
     };
     match line_of_account(alloc, account, balance) {
@@ -173,8 +153,7 @@ fn answer_branches<W: Sink, C: Counter>(
     writer: &mut W,
     bank: &mut C,
 ) -> Result<(), ServeFault>
-    requires route { route_of (path_of message.now.target.now) ≡ Some Route.Branches }
-    requires reads { is_reading message.now.method.now ≡ true }
+    requires { (log : List Command) → answer_to log (asked message.now) ≡ plain (branch_lines log) }
     ensures answers { IsDealtWith C.seen (W.contents writer.old) (W.contents writer.new) bank.old bank.new
         (asked message.now) [] result }
     ensures why { IfErr result (λ fault. IfRefused fault (IsOfCall C.seen C.reason bank.old bank.new)) }
@@ -205,19 +184,10 @@ pub(crate) fn answer_message<W: Sink, K: Clock, C: Counter>(
     ensures honest { (C.seen bank.new).honest → (C.seen bank.old).honest }
     ensures ends { SendsAs result (W.told writer.old) (W.told writer.new) }
 {
-    let route = routes.find(message.target);
-    if let Some(response) = fixed_answer(message, route) {
-        return say(message, &response, writer);
-    }
-    match route {
-        None => unreachable!(),
-        Some(Route::Posting) => {
-            let Some(bytes) = message.body.as_array::<REQUEST_BYTES>() else {
-                unreachable!()
-            };
-            answer_posting(message, bytes, writer, clock, bank)
-        }
-        Some(Route::Account) => answer_account(alloc, message, writer, bank),
-        Some(Route::Branches) => answer_branches(alloc, message, writer, bank),
+    match task_of(message, routes) {
+        Task::Say(response) => say(message, &response, writer),
+        Task::Submit(record) => answer_posting(message, record, writer, clock, bank),
+        Task::Balance(account) => answer_account(alloc, message, account, writer, bank),
+        Task::Branches => answer_branches(alloc, message, writer, bank),
     }
 }

@@ -57,6 +57,7 @@ mod pace;
 mod queue;
 mod reader;
 mod routes;
+mod tasks;
 mod telling;
 pub mod waiting_limits;
 mod writer;

@@ -60,14 +60,14 @@ impl Routes {
         Ok(Routes { router })
     }
 
-    /// The route of a target.
-    pub(crate) fn find(&self, target: &[u8]) -> Option<Route>
-        ensures { result ≡ route_of (path_of target.now) }
+    /// The route of a path.
+    pub(crate) fn find(&self, path: &[u8]) -> Option<Route>
+        ensures { result ≡ route_of path.now }
     {
-        let Ok(path) = str::from_utf8(path_of(target)) else {
+        let Ok(text) = str::from_utf8(path) else {
             return None;
         };
-        match self.router.at(path) {
+        match self.router.at(text) {
             Ok(found) => Some(*found.value),
             Err(_) => None,
         }

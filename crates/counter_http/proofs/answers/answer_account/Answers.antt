@@ -1,49 +1,32 @@
-use Rattle.std.proofs.Common.{◌∙◌, ap, [], ℕ, List, Some, refl, inr}
+use Rattle.std.proofs.Common.{◌∙◌, ap, [], Some, None, refl, inr}
 use Rattle.posting_rules.specs.declared.fault.Fault.TheVariants.{Memory}
-use Rattle.counter_http.specs.Answers.{account_named, plain}
+use Rattle.counter_http.specs.Answers.{plain}
 use Rattle.counter_http.specs.Next.{asked}
-use Rattle.counter_http.specs.Paths.{account_in}
 use Rattle.counter_http.specs.Telling.{said}
-use Rattle.counter_http.proofs.Answered.{told_answer, no_account, account_closed, account_told}
+use Rattle.counter_http.proofs.Answered.{told_answer, account_told}
 use Rattle.counter_http.proofs.Answered.{told_refused, refused_first, why_first, why_said, why_told}
 use Rattle.counter_http.proofs.answers.answer_account.Goals as goal
-
--- the path names no account
-pub returns-in_default-clause-answers : goal.returns-in_default-clause-answers
-returns-in_default-clause-answers g c =
-    let a = asked c.args.message.now in
-    let named = c.account_in.ensures ∙ ap (λ (p : List ℕ). account_named (account_in p)) c.path_of.ensures in
-    told_answer g.C.Counter.seen _ _ c.args.bank.now c.args.bank.now a [] (said c.bare.result) c.say.result
-    (record { shows = λ h log s. s; stands = λ h log s. s }) (λ d. d)
-    (λ h log s. no_account log a c.account_in.result _ c.requires.route c.requires.reads named c.in_default.is
-    c.bare.ensures)
-    c.say.ensures.written c.say.ensures.fault
 
 -- it isn't open
 pub returns-in-Ok-None-clause-answers : goal.returns-in-Ok-None-clause-answers
 returns-in-Ok-None-clause-answers g c =
     let a = asked c.args.message.now in
-    let named = c.account_in.ensures ∙ ap (λ (p : List ℕ). account_named (account_in p)) c.path_of.ensures in
-    told_answer g.C.Counter.seen _ _ c.args.bank.now c.balance.new.self a [] (said c.bare-in-Ok-None.result)
-    c.say-in-Ok-None.result
+    told_answer g.C.Counter.seen _ _ c.args.bank.now c.balance.new.self a [] (said c.not_found.result)
+    c.say.result
     c.in-Ok-None.ensures.call.done (λ d. absurd (c.in-Ok-None.ensures.call.up d))
-    (λ h log s. account_closed log a c.account_in.result c.in-Some.account c.in-Ok-None.field-0 _
-    c.requires.route c.requires.reads
-    named c.in-Some.is (c.in-Ok-None.ensures.answer h log s) c.in-Ok-None.field-0-is c.bare-in-Ok-None.ensures)
-    c.say-in-Ok-None.ensures.written c.say-in-Ok-None.ensures.fault
+    (λ h log s. account_told log a c.args.account c.in-Ok-None.field-0 None _ c.requires
+    (c.in-Ok-None.ensures.answer h log s) c.in-Ok-None.field-0-is c.not_found.ensures)
+    c.say.ensures.written c.say.ensures.fault
 
 -- it has this balance
 pub returns-in-Ok-clause-answers : goal.returns-in-Ok-clause-answers
 returns-in-Ok-clause-answers g c =
     let a = asked c.args.message.now in
-    let named = c.account_in.ensures ∙ ap (λ (p : List ℕ). account_named (account_in p)) c.path_of.ensures in
     told_answer g.C.Counter.seen _ _ c.args.bank.now c.balance.new.self a [] (plain c.as_bytes.result.now)
     c.say_text.result
     c.in-Ok-Some.ensures.call.done (λ d. absurd (c.in-Ok-Some.ensures.call.up d))
-    (λ h log s. account_told log a c.account_in.result c.in-Some.account c.in-Ok-Some.field-0
-    (Some c.in-Ok-Some.balance) _
-    c.requires.route c.requires.reads named c.in-Some.is (c.in-Ok-Some.ensures.answer h log s)
-    c.in-Ok-Some.field-0-is
+    (λ h log s. account_told log a c.args.account c.in-Ok-Some.field-0 (Some c.in-Ok-Some.balance) _
+    c.requires (c.in-Ok-Some.ensures.answer h log s) c.in-Ok-Some.field-0-is
     (ap plain (c.as_bytes.ensures.value ∙ c.in-Ok.ensures)))
     c.say_text.ensures.written c.say_text.ensures.fault
 
@@ -75,9 +58,6 @@ returns-in-Err-line_of_account-clause-answers g c =
     fails.ensures.written.1 fails.ensures.written.2
 
 -- what the bank and the writer ensure of every call
-pub returns-in_default-clause-honest : goal.returns-in_default-clause-honest
-returns-in_default-clause-honest g c = λ h. h
-
 pub returns-in-Ok-None-clause-honest : goal.returns-in-Ok-None-clause-honest
 returns-in-Ok-None-clause-honest g c = c.balance.ensures.call.honest
 
@@ -90,11 +70,8 @@ returns-in-Err-clause-honest g c = c.balance.ensures.call.honest
 pub returns-in-Err-line_of_account-clause-honest : goal.returns-in-Err-line_of_account-clause-honest
 returns-in-Err-line_of_account-clause-honest g c = c.balance.ensures.call.honest
 
-pub returns-in_default-clause-ends : goal.returns-in_default-clause-ends
-returns-in_default-clause-ends g c = c.say.ensures.ends
-
 pub returns-in-Ok-None-clause-ends : goal.returns-in-Ok-None-clause-ends
-returns-in-Ok-None-clause-ends g c = c.say-in-Ok-None.ensures.ends
+returns-in-Ok-None-clause-ends g c = c.say.ensures.ends
 
 pub returns-in-Ok-clause-ends : goal.returns-in-Ok-clause-ends
 returns-in-Ok-clause-ends g c = c.say_text.ensures.ends
@@ -107,15 +84,10 @@ returns-in-Err-line_of_account-clause-ends g c = c.fail-in-Err-line_of_account.e
 
 -- ---- why a call was refused
 
-pub returns-in_default-clause-why : goal.returns-in_default-clause-why
-returns-in_default-clause-why g c =
-    why_said g.C.Counter.seen g.C.Counter.reason c.args.bank.now c.args.bank.now c.say.result
-    c.say.ensures.fault
-
 pub returns-in-Ok-None-clause-why : goal.returns-in-Ok-None-clause-why
 returns-in-Ok-None-clause-why g c =
-    why_said g.C.Counter.seen g.C.Counter.reason c.args.bank.now c.balance.new.self c.say-in-Ok-None.result
-    c.say-in-Ok-None.ensures.fault
+    why_said g.C.Counter.seen g.C.Counter.reason c.args.bank.now c.balance.new.self c.say.result
+    c.say.ensures.fault
 
 pub returns-in-Ok-clause-why : goal.returns-in-Ok-clause-why
 returns-in-Ok-clause-why g c =

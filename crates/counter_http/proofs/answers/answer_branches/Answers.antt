@@ -1,7 +1,7 @@
 use Rattle.std.proofs.Common.{◌∙◌, ap, sym, []}
 use Rattle.counter_http.specs.Answers.{plain}
 use Rattle.counter_http.specs.Next.{asked}
-use Rattle.counter_http.proofs.Answered.{told_answer, told_refused, branches_answer, why_said, why_told}
+use Rattle.counter_http.proofs.Answered.{told_answer, told_refused, why_said, why_told}
 use Rattle.counter_http.proofs.answers.answer_branches.Goals as goal
 
 pub returns-in-Ok-clause-answers : goal.returns-in-Ok-clause-answers
@@ -11,7 +11,7 @@ returns-in-Ok-clause-answers g c =
     c.say_text.result
     c.in-Ok.ensures.done c.in-Ok.ensures.up
     (λ h log s. ap plain (c.as_bytes.ensures.value ∙ c.in-Ok.ensures.lines h log s)
-    ∙ sym (branches_answer log a c.requires.route c.requires.reads)) c.say_text.ensures.written
+    ∙ sym (c.requires log)) c.say_text.ensures.written
     c.say_text.ensures.fault
 
 pub returns-in-Err-clause-answers : goal.returns-in-Err-clause-answers

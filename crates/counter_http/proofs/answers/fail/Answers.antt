@@ -2,13 +2,12 @@ use Rattle.std.proofs.Common.{◌∙◌, ap, subst, refl, Bool, true, ℕ, List,
 use Rattle.std.specs.Prelude.{not}
 use Rattle.std.specs.Io.KnownBytes.{Appends}
 use Rattle.counter_http.specs.Answers.{Answer, answer_text, bare}
-use Rattle.counter_http.proofs.Answered.{no_service}
 use Rattle.counter_http.proofs.answers.fail.Goals as goal
 
 pub returns-in-Ok-clause-written : goal.returns-in-Ok-clause-written
 returns-in-Ok-clause-written g c =
     let same = ap (λ (a : Answer). answer_text a (not c.is_head.result) true)
-    (c.bare-response.ensures ∙ no_service)
+    c.unavailable.ensures
     ∙ ap (λ (b : Bool). answer_text (bare 503) (not b) true) c.is_head.ensures in (
       c.in-Ok.ensures.written.0,
       subst (λ (z : List ℕ). Appends (g.W.Sink.contents c.args.writer.now)
@@ -20,7 +19,7 @@ returns-in-Ok-clause-written g c =
 pub returns-in-Err-clause-written : goal.returns-in-Err-clause-written
 returns-in-Err-clause-written g c =
     let same = ap (λ (a : Answer). answer_text a (not c.is_head.result) true)
-    (c.bare-response.ensures ∙ no_service)
+    c.unavailable.ensures
     ∙ ap (λ (b : Bool). answer_text (bare 503) (not b) true) c.is_head.ensures in (
       c.in-Err.ensures.written.0,
       subst (λ (z : List ℕ). Appends (g.W.Sink.contents c.args.writer.now)

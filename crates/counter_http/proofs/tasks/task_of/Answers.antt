@@ -1,0 +1,16 @@
+use Rattle.std.proofs.Common.{rules, ◌≡◌, Option, Some, ap, subst, sym, ◌∙◌}
+use Rattle.counter_http.specs.declared.routes.Route.{Route}
+use Rattle.counter_http.specs.declared.routes.Route.TheVariants.{Account}
+use Rattle.counter_http.specs.Next.{asked}
+use Rattle.counter_http.specs.Paths.{route_of}
+use Rattle.counter_http.specs.Tasks.{IsTaskOn}
+use Rattle.counter_http.proofs.tasks.task_of.Goals as goal
+
+-- the path is that of an account
+pub returns-in-Some-Account : goal.returns-in-Some-Account
+returns-in-Some-Account c =
+    let account : c.in-Some-Account.field-0 ≡ Account = search rules in
+    let route = sym (c.in-Some-Account.is ∙ ap (λ (r : Route). Some r) account) ∙ c.find.ensures
+    ∙ ap route_of c.path_of-path.ensures in
+    subst (λ (o : Option Route). IsTaskOn o (asked c.args.message.now) c.account_task.result) route
+    c.account_task.ensures

@@ -1,0 +1,25 @@
+-- What is to be done for a message.
+use Rattle.std.specs.Prelude.{◌≡◌, List, Option, true, false}
+use Rattle.posting_rules.specs.Commands.{Command}
+use Rattle.posting_rules.specs.Entries.{balance_behind}
+use Rattle.counter_http.specs.Answers.{Asked, answer_on, balance_answer, branch_lines, plain, submits}
+use Rattle.counter_http.specs.Paths.{path_of, route_of}
+use Rattle.counter_http.specs.Telling.{said}
+use Rattle.counter_http.specs.declared.routes.Route.{Route}
+use Rattle.counter_http.specs.declared.tasks.Task.{Task}
+use Rattle.counter_http.specs.declared.tasks.Task.TheVariants.{Say, Submit, Balance, Branches}
+
+-- on a route the answer is this, whatever the bank shows; its record is submitted; or the answer is read
+abbrev pub IsTaskOn : Option Route → Asked → Task → Type 0
+IsTaskOn route asked (Say response) =
+    (submits route asked ≡ false) × ((log : List Command) → answer_on log route asked ≡ said response)
+IsTaskOn route asked (Submit bytes) = (submits route asked ≡ true) × (bytes.now ≡ asked.body)
+IsTaskOn route asked (Balance account) =
+    (submits route asked ≡ false)
+    × ((log : List Command) → answer_on log route asked ≡ balance_answer account (balance_behind log account))
+IsTaskOn route asked Branches =
+    (submits route asked ≡ false)
+    × ((log : List Command) → answer_on log route asked ≡ plain (branch_lines log))
+
+abbrev pub IsTaskOf : Asked → Task → Type 0
+IsTaskOf asked task = IsTaskOn (route_of (path_of asked.target)) asked task

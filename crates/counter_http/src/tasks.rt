@@ -1,0 +1,91 @@
+//! What is to be done for a message, decided once by its path and its method.
+ghost use Rattle.std.specs.Prelude.{◌≡◌, codes, bytes_eq};
+ghost use Rattle.counter_http.specs.Answers.{is_reading};
+ghost use Rattle.counter_http.specs.Next.{asked};
+ghost use Rattle.counter_http.specs.Paths.{path_of};
+ghost use Rattle.counter_http.specs.Tasks.{IsTaskOf, IsTaskOn};
+
+use crate::accounts::account_in;
+use crate::fixed::{bad_request, not_found, not_taken};
+use crate::next::{Whole, is_head};
+use crate::routes::{Route, Routes, path_of};
+use crate::telling::Response;
+use message_records::{Account, REQUEST_BYTES};
+
+/// What is to be done for a message.
+#[derive(Clone, Copy)]
+pub(crate) enum Task<'b> {
+    /// This is answered, without the bank.
+    Say(Response<'static>),
+    /// This record is submitted.
+    Submit(&'b [u8; REQUEST_BYTES]),
+    /// The balance of this account is read.
+    Balance(Account),
+    /// The open branches are read.
+    Branches,
+}
+
+// A method that submits.
+fn is_post(method: &[u8]) -> bool
+    ensures { result ≡ bytes_eq method.now (codes "POST") }
+{
+    method == b"POST".as_slice()
+}
+
+// A method that reads.
+fn is_reading(method: &[u8]) -> bool
+    ensures { result ≡ is_reading method.now }
+{
+    method == b"GET".as_slice() || is_head(method)
+}
+
+// Where a record is posted.
+fn posting_task<'b>(message: &Whole<'b>) -> Task<'b>
+    ensures { IsTaskOn (Some Route.Posting) (asked message.now) result }
+{
+    if !is_post(message.method) {
+        return Task::Say(not_taken(b"POST"));
+    }
+    match message.body.as_array::<REQUEST_BYTES>() {
+        Some(record) => Task::Submit(record),
+        None => Task::Say(bad_request()),
+    }
+}
+
+// At the path of an account.
+fn account_task<'b>(message: &Whole<'b>, path: &[u8]) -> Task<'b>
+    requires { path.now ≡ path_of message.now.target.now }
+    ensures { IsTaskOn (Some Route.Account) (asked message.now) result }
+{
+    if !is_reading(message.method) {
+        return Task::Say(not_taken(b"GET, HEAD"));
+    }
+    match account_in(path) {
+        Some(account) => Task::Balance(account),
+        None => Task::Say(not_found()),
+    }
+}
+
+// Where the branches are read.
+fn branches_task<'b>(message: &Whole<'b>) -> Task<'b>
+    ensures { IsTaskOn (Some Route.Branches) (asked message.now) result }
+{
+    if is_reading(message.method) {
+        Task::Branches
+    } else {
+        Task::Say(not_taken(b"GET, HEAD"))
+    }
+}
+
+/// What is to be done for a message.
+pub(crate) fn task_of<'b>(message: &Whole<'b>, routes: &Routes) -> Task<'b>
+    ensures { IsTaskOf (asked message.now) result }
+{
+    let path = path_of(message.target);
+    match routes.find(path) {
+        None => Task::Say(not_found()),
+        Some(Route::Posting) => posting_task(message),
+        Some(Route::Account) => account_task(message, path),
+        Some(Route::Branches) => branches_task(message),
+    }
+}
