@@ -3,9 +3,11 @@ pub mod Broke
 pub mod Causes
 pub mod Countered
 pub mod FoundBank
+pub mod FoundEarlier
 pub mod Probed
 pub mod MetaRow
 pub mod Refusing
+pub mod Moved
 pub mod NewBank
 pub mod Opened
 pub mod Settled
