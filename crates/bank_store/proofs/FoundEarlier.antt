@@ -1,7 +1,7 @@
 -- What is found of a bank of the version before floors, what is moved of it, and what is known where a log is shown.
 use Rattle.std.proofs.Common.{◌≡◌, ◌≤◌, ℕ, ℤ, pos, List, [], ◌∷◌, map, nat_abs, Option, Some, None, Ok, Err, Result}
 use Rattle.std.proofs.Common.{refl, sym, ap, subst, ◌∙◌, inl, inr, false}
-use Rattle.std.specs.Prelude.{◌⊎◌, ◌≢◌}
+use Rattle.std.specs.Prelude.{◌⊎◌, ◌≢◌, IfErr, OnOk}
 use Rattle.sqlite.specs.Table.{Table}
 use Rattle.sqlite.specs.Effect.{Database}
 use Rattle.sqlite.specs.State.{State}
@@ -32,8 +32,9 @@ use Rattle.store_rows.proofs.Floorless.{floors_refused}
 use Rattle.bank_store.specs.Connections.{IsAsBefore, IsReadOnly}
 use Rattle.bank_store.specs.FoundBank.{BankIsFound, MetaIs, Misses}
 use Rattle.bank_store.specs.MetaRow.{ChecksCount, IsNoCount, IsOfVersion, IsOurs}
-use Rattle.bank_store.specs.Migration.{BankIsMoved, IsEarlier, IsUnmoved, Misplaces, MissesEarlier, MovesFound}
-use Rattle.bank_store.specs.Migration.{IsUncounted, SeeksEarlier, ShowsEarlier, earlier_probes}
+use Rattle.bank_store.specs.Migration.{BankIsMoved, IsEarlier, IsUnmoved, Migrates, Misplaces, MissesEarlier}
+use Rattle.bank_store.specs.Migration.{IsUncounted, MovesFound, SeeksEarlier, ShowsEarlier, earlier_probes}
+use Rattle.bank_store.specs.declared.migration.Migrated.TheVariants.{Moved}
 use Rattle.bank_store.specs.OpenFaults.{of_the_store}
 use Rattle.bank_store.specs.TablePresence.{IsPresent, Lacks, OneOf}
 use Rattle.bank_store.specs.declared.presence.Presence.{Presence}
@@ -72,14 +73,37 @@ module _ (old mid new : State) (tables : IsPresent old.now earlier_probes Whole)
 
 -- ---- and moved
 
-module _ (old mid : State) (same : IsAsBefore old mid) where
-  -- what is moved then was there before
-  pub moves_at : (new : State) (r : Result (Unit {0}) OpenFault) → MovesFound mid new r → MovesFound old new r
-  moves_at new (Ok done) h =
-      subst (λ (db : Database). IsPresent db earlier_probes Whole × BankIsMoved db new) same.now_is h
-  moves_at new (Err fault) h = (
-    subst (λ (db : Database). MissesEarlier db fault ⊎ IsUnmoved db fault) same.now_is h.0,
-    reads_at old mid same new fault h.1,
+-- what is found is moved, or why not
+pub found_moves : (old mid new : State) → IsPresent old.now earlier_probes Whole → IsAsBefore old mid
+    → (r : Result (Unit {0}) OpenFault) → OnOk r (BankIsMoved mid.now new) → IfErr r (IsUnmoved mid.now)
+    → IfErr r (λ fault. IsReadOnly {X = Unit {0}} mid new (Err fault)) → MovesFound old new r
+found_moves old mid new tables same (Ok done) moved why reads =
+    (tables, subst (λ (db : Database). BankIsMoved db new) same.now_is moved)
+found_moves old mid new tables same (Err fault) moved why reads = (
+  inr (subst (λ (db : Database). IsUnmoved db fault) same.now_is why),
+  reads_at old mid same new fault reads,
+)
+
+-- its version was looked at first
+module _ (old mid new : State) (version : ℤ) (one : version ≡ BEFORE_FLOORS)
+    (found : Misses old (Version version) × IsAsBefore old mid) where
+  pub was_earlier : IsEarlier old
+  was_earlier = subst (λ (n : ℤ). Misses old (Version n)) one found.0
+
+  pub moved_at : MovesFound mid new (Ok tt) → Migrates old new (Ok (Moved BEFORE_FLOORS))
+  moved_at h = (
+    was_earlier,
+    subst (λ (db : Database). IsPresent db earlier_probes Whole) found.1.now_is h.0,
+    subst (λ (db : Database). BankIsMoved db new) found.1.now_is h.1,
+  )
+
+  pub unmoved_at : (fault : OpenFault) → MovesFound mid new (Err fault) → Migrates old new (Err fault)
+  unmoved_at fault h = (
+    inr (
+      was_earlier,
+      subst (λ (db : Database). MissesEarlier db fault ⊎ IsUnmoved db fault) found.1.now_is h.0,
+    ),
+    reads_at old mid found.1 new fault h.1,
   )
 
 -- ---- where a log is shown

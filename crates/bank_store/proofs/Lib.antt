@@ -1,5 +1,6 @@
 -- What the proofs of the calls share.
 pub mod Broke
+pub mod CarriedOver
 pub mod Causes
 pub mod Countered
 pub mod FoundBank
@@ -11,5 +12,6 @@ pub mod Moved
 pub mod NewBank
 pub mod Opened
 pub mod Settled
+pub mod TakenUp
 pub mod Unmade
 pub mod WalkSteps

@@ -103,20 +103,6 @@ module _ {S : Type 0} (g : Ghosts S) (old begun last new : Held S)
   pub from_begun : (P : Database → Type 0) → P (state g begun).now → P (state g old).now
   from_begun P = subst (λ (h : Held S). P (state g h).now) is
 
-  pub committed : ChangesTables (state g begun).now (state g last).now (Ok tt)
-      → ((t : Tables) → Shows (state g last).now t
-      → Shows (state g new).now t × Shows (state g new).committed t)
-      → ((t : Tables) → Shows (state g last).now t → (left : Trees) → (state g new).may_leave left
-      → ShowsTrees left t)
-      → (state g new).now ≡ (state g last).now → BankIsMoved (state g old).now (state g new)
-  committed changed ok alone same t was =
-      let done = from_begun (λ (db : Database). ChangesTables db (state g last).now (Ok tt)) changed t was in
-      record {
-        shows = (ok t done.0).0;
-        left = alone t done.0;
-        spares = subst (λ (db : Database). SparesStanding (state g old).now db meta.name) (sym same) done.1;
-      }
-
   -- a stop leaves what it could leave before, or the moved bank
   pub stops : Survives (state g begun) (state g last) (λ _. ⊥)
       → Survives (state g last) (state g new) (MayLeave (state g last).now)

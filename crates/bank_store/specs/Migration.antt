@@ -142,9 +142,14 @@ Misplaces old fault = (Misses old fault × (fault ≢ Version BEFORE_FLOORS))
 -- or why neither
 abbrev pub Migrates : State → State → Result Migrated OpenFault → Type 0
 Migrates old new (Ok Already) = BankIsFound old new
-Migrates old new (Ok (Moved from)) = (from ≡ BEFORE_FLOORS) × IsEarlier old
-    × IsPresent old.now earlier_probes Whole × BankIsMoved old.now new
+Migrates old new (Ok (Moved from)) = IsEarlier old × IsPresent old.now earlier_probes Whole
+    × BankIsMoved old.now new
 Migrates old new (Err fault) = Misplaces old fault × IsReadOnly {X = Unit {0}} old new (Err fault)
+
+-- a bank is moved from the version before floors
+abbrev pub IsFrom : Migrated → Type 0
+IsFrom Already = ⊤
+IsFrom (Moved from) = from ≡ BEFORE_FLOORS
 
 -- what a stop may leave more: a moved bank, where one of the version before floors was
 abbrev pub HasCarriedOver : State → Trees → Type 0

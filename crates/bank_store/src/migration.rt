@@ -5,7 +5,7 @@ ghost use Rattle.sqlite.specs.Held.{state};
 ghost use Rattle.sql_meanings.specs.Calls.{Inside, Says};
 ghost use Rattle.sql_meanings.specs.Outcomes.{WritesKept};
 ghost use Rattle.bank_store.specs.Connections.{IsGivenBack, IsReadOnly};
-ghost use Rattle.bank_store.specs.Migration.{ChangesTables, HasCarriedOver, HasMoved, IsMigrated};
+ghost use Rattle.bank_store.specs.Migration.{ChangesTables, HasCarriedOver, HasMoved, IsFrom, IsMigrated};
 ghost use Rattle.bank_store.specs.Migration.{KnowsAnswer, LeavesBank, Migrates, Misplaces, MovesBank, MovesFound};
 ghost use Rattle.bank_store.specs.Migration.{SeeksEarlier, state_of};
 ghost use Rattle.bank_store.specs.Seen.{alloc_of};
@@ -127,6 +127,7 @@ fn find_or_move<S: Alter>(conn: &mut Connection<S>) -> Result<Migrated, OpenFaul
     requires { conn.old.in_transaction ≡ false }
     ensures told { HasCleanDisk (state S.Store conn.new)
         → Migrates (state S.Store conn.old) (state S.Store conn.new) result }
+    ensures from { IfOk result IsFrom }
     ensures cause { IfErr result (KnowsCause S.Store conn.old conn.new) }
     ensures mode { conn.new.in_transaction ≡ false }
     ensures survives { Survives (state S.Store conn.old) (state S.Store conn.new)
@@ -136,7 +137,7 @@ fn find_or_move<S: Alter>(conn: &mut Connection<S>) -> Result<Migrated, OpenFaul
         Ok(()) => Ok(Migrated::Already),
         Err(OpenFault::Version(version)) if version == BEFORE_FLOORS => {
             move_found(conn)?;
-            Ok(Migrated::Moved(version))
+            Ok(Migrated::Moved(BEFORE_FLOORS))
         }
         Err(fault) => Err(fault),
     }

@@ -79,5 +79,8 @@ returns-in-Err-set_version-clause-cause g c live =
     let e = c.in-Err-set_version.field-0 in
     known_within g.S.Store old mid new new (comes one.survives) (λ clean. clean) (same_moment (state g.S.Store new))
     Store
-    (λ clean. (e, failed_here g.S.Store mid new e
-    (two.kept clean (one.kept (still_clean two.survives clean) live).0.mode).1))
+    (λ clean. (
+      e,
+      failed_here g.S.Store mid new e
+          (two.kept clean (one.kept (still_clean two.survives clean) live).0.mode).1,
+    ))
