@@ -1,17 +1,14 @@
 -- A bank that is carried over stands at the plain log, and what is known of the answer and of what a refusal leaves.
-use Rattle.std.proofs.Common.{◌≡◌, List, Result, Ok, Err, nat_abs, refl, ap, inl, inr}
-use Rattle.std.specs.Prelude.{IfOk, IfErr}
+use Rattle.std.proofs.Common.{List, Ok, Err, nat_abs, refl, ap, inl, inr}
 use Rattle.sqlite.specs.Held.{Held, state}
 use Rattle.sqlite.specs.State.{State, HasCleanDisk, Survives}
 use Rattle.sqlite_trees.specs.declared.store.Store.{Ghosts}
 use Rattle.posting_rules.specs.Commands.{Command}
 use Rattle.posting_rules.specs.Counter.{StandsAt}
 use Rattle.posting_rules.specs.Editions.{plain}
-use Rattle.posting_rules.specs.declared.open_fault.OpenFault.{OpenFault}
 use Rattle.posting_rules.proofs.Editions.{plain_are_commands}
 use Rattle.store_rows.specs.declared.migration.TheConstants.{BEFORE_FLOORS}
-use Rattle.bank_store.specs.FoundBank.{BankIsFound}
-use Rattle.bank_store.specs.Migration.{BankIsMoved, HasCarriedOver, IsCarriedOver, IsFrom, IsMigrated, KnowsAnswer}
+use Rattle.bank_store.specs.Migration.{BankIsMoved, HasCarriedOver, IsFrom, IsMigrated, KnowsAnswer}
 use Rattle.bank_store.specs.Migration.{LeavesBank, Migrates, Misplaces, ShowsEarlier}
 use Rattle.bank_store.specs.Seen.{bank_seen, file_of, seen_in}
 use Rattle.bank_store.specs.declared.bank.Bank.{Bank}

@@ -1,11 +1,11 @@
 -- What the changed tables show, why they aren't changed, and what a transaction leaves that changes them.
-use Rattle.std.proofs.Common.{◌≡◌, [], ◌∷◌, true, false, None, Some, Option, is_some, Ok, Err, refl, sym, ap, ◌∙◌}
+use Rattle.std.proofs.Common.{◌≡◌, [], ◌∷◌, true, false, None, Some, Option, is_some, Ok, Err, refl, ap, ◌∙◌}
 use Rattle.std.proofs.Common.{subst, inl, inr, arith}
-use Rattle.std.specs.Prelude.{◌≢◌, IsTrue}
+use Rattle.std.specs.Prelude.{IsTrue}
 use Rattle.std.proofs.lemmas.Bool.{cases_Bool}
 use Rattle.sqlite.specs.Effect.{Database}
 use Rattle.sqlite.specs.Held.{Held, state}
-use Rattle.sqlite.specs.State.{State, HasCleanDisk, KeepsCommit, IsUnchanged, IsRolledBack, Survives}
+use Rattle.sqlite.specs.State.{State, HasCleanDisk, KeepsCommit, Survives}
 use Rattle.sqlite.specs.State.{Shows as StateShows}
 use Rattle.sqlite.specs.Tree.{Trees}
 use Rattle.sqlite.specs.declared.error.Error.{Error}
@@ -13,21 +13,19 @@ use Rattle.sqlite.proofs.Callers.{survives_begin}
 use Rattle.sqlite.proofs.StateLemmas.{survives_then}
 use Rattle.sqlite_trees.specs.declared.store.Store.{Ghosts}
 use Rattle.posting_rules.specs.Tables.{Tables}
-use Rattle.posting_rules.specs.declared.open_fault.OpenFault.{OpenFault}
 use Rattle.posting_rules.specs.declared.open_fault.OpenFault.TheVariants.{Damaged}
 use Rattle.posting_rules.specs.declared.fault.Rule.TheVariants.{Meta}
-use Rattle.sql_meanings.specs.Making.{SparesStanding}
 use Rattle.sql_meanings.proofs.Contents.{held}
 use Rattle.store_rows.specs.BankTables.{meta}
 use Rattle.store_rows.specs.Columns.{meta_in}
 use Rattle.store_rows.specs.Failures.{HasFailed}
-use Rattle.store_rows.specs.Migration.{FloorsAreMade, HoldsTables, MakesFloors, SetsVersion, ShowsFloorless}
+use Rattle.store_rows.specs.Migration.{FloorsAreMade, MakesFloors, SetsVersion}
 use Rattle.store_rows.specs.View.{Shows, ShowsTrees, contents_of, meta_entry, tables_of}
 use Rattle.store_rows.specs.declared.metas.StoredMeta.{StoredMeta}
 use Rattle.store_rows.specs.declared.metas.TheConstants.{VERSION}
 use Rattle.store_rows.specs.declared.migration.TheConstants.{BEFORE_FLOORS}
 use Rattle.bank_transactions.proofs.Blamed.{failed_here}
-use Rattle.bank_store.specs.Migration.{BankIsMoved, ChangesTables, HasMoved, IsUnmoved}
+use Rattle.bank_store.specs.Migration.{ChangesTables, HasMoved, IsUnmoved}
 use Rattle.bank_store.specs.OpenFaults.{of_the_store, unmoved_by}
 use Rattle.bank_store.specs.StoreFaults.{KnowsCause}
 use Rattle.bank_store.proofs.Unmade.{own_error}

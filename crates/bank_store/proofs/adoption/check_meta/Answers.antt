@@ -1,10 +1,8 @@
 -- What the row of the bank says against it.
-use Rattle.std.proofs.Common.{◌≡◌, ℕ, ℤ, pos, Some, Ok, Err, Result, rules, sym, ap, subst, ◌∙◌, inr}
+use Rattle.std.proofs.Common.{◌≡◌, ℤ, Some, Ok, Err, Result, rules, sym, ap, subst, ◌∙◌, inr}
 use mir.Val.{to_z, of_z}
 use mir.Syntax.{w64}
-use Rattle.posting_rules.specs.declared.fault.Rule.TheVariants.{Meta}
 use Rattle.posting_rules.specs.declared.open_fault.OpenFault.{OpenFault}
-use Rattle.posting_rules.specs.declared.open_fault.OpenFault.TheVariants.{Damaged}
 use Rattle.store_rows.specs.declared.metas.StoredMeta.{StoredMeta}
 use Rattle.store_rows.specs.declared.metas.TheConstants.{VERSION}
 use Rattle.bank_store.specs.MetaRow.{ChecksCount, ChecksMeta}

@@ -1,7 +1,6 @@
 -- One statement after the other, and how each may fail.
-use Rattle.std.proofs.Common.{◌≡◌, true, false, Ok, Err, inl, inr, refl, sym, subst, ◌∙◌, rules, arith}
+use Rattle.std.proofs.Common.{◌∙◌}
 use Rattle.sqlite.specs.Held.{state}
-use Rattle.sqlite.specs.State.{HasCleanDisk}
 use Rattle.sql_meanings.proofs.Makings.{kept}
 use Rattle.sql_meanings.proofs.Saying.{survives_both}
 use Rattle.bank_transactions.proofs.Blamed.{comes, failed_here, same_moment}

@@ -1,6 +1,5 @@
 -- The bank that was found, carried over or not, and what is known where there is none.
 use Rattle.std.proofs.Common.{Ok, sym, subst}
-use Rattle.std.specs.Prelude.{IsSome}
 use Rattle.sqlite.specs.State.{HasCleanDisk, Survives}
 use Rattle.sqlite.specs.Held.{state}
 use Rattle.bank_store.specs.Migration.{HasCarriedOver, Migrates}

@@ -1,5 +1,4 @@
 -- What is found is moved.
-use Rattle.std.proofs.Common.{Ok, Err, rules}
 use Rattle.sqlite.specs.Held.{state}
 use Rattle.bank_transactions.proofs.Blamed.{comes, same_moment}
 use Rattle.bank_store.specs.StoreFaults.{KnowsCause}

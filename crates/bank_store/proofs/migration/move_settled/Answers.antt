@@ -1,6 +1,6 @@
 -- Where the tables can't be changed, the store still answers and everything is as it was, or it is told to have
 -- failed.
-use Rattle.std.proofs.Common.{Err, refl, sym, ◌∙◌}
+use Rattle.std.proofs.Common.{Err, sym, ◌∙◌}
 use Rattle.sqlite.specs.Held.{state}
 use Rattle.sqlite.proofs.StateLemmas.{survives_then}
 use Rattle.store_rows.specs.Probes.{probe_of}
