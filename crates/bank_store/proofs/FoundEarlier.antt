@@ -31,7 +31,7 @@ use Rattle.store_rows.proofs.Floorless.{floors_refused}
 use Rattle.bank_store.specs.Connections.{IsAsBefore, IsReadOnly}
 use Rattle.bank_store.specs.FoundBank.{BankIsFound, MetaIs, Misses}
 use Rattle.bank_store.specs.MetaRow.{ChecksCount, IsNoCount, IsOfVersion, IsOurs}
-use Rattle.bank_store.specs.Migration.{BankIsMoved, IsEarlier, IsUnmoved, Migrates, Misplaces, MissesEarlier}
+use Rattle.bank_store.specs.Migration.{HasEarlier, IsCounted, BankIsMoved, IsEarlier, IsUnmoved, Migrates, Misplaces, MissesEarlier}
 use Rattle.bank_store.specs.Migration.{IsUncounted, MovesFound, SeeksEarlier, ShowsEarlier, earlier_probes}
 use Rattle.bank_store.specs.declared.migration.Migrated.TheVariants.{Moved}
 use Rattle.bank_store.specs.OpenFaults.{of_the_store}
@@ -65,7 +65,8 @@ module _ (old mid new : State) (tables : IsPresent old.now earlier_probes Whole)
   pub counted : (m : StoredMeta)
       → ((rows : List Entry) → HoldsRows mid.now bank.meta rows → Some m ≡ meta_in rows)
       → (r : Result (Unit {0}) OpenFault) → ChecksCount m.decided r → SeeksEarlier old new r
-  counted m read (Ok done) checks = (tables, as_before old mid new first then)
+  counted m read (Ok done) checks =
+      (record { tables = tables; meta = row_is (Some m) read IsCounted (m, refl, checks) }, as_before old mid new first then)
   counted m read (Err fault) (is, outside) =
       subst (λ (f : OpenFault). SeeksEarlier old new (Err f)) (sym is)
       ((tables, row_is (Some m) read IsUncounted (inr (m, refl, outside))), as_before old mid new first then)
@@ -73,7 +74,7 @@ module _ (old mid new : State) (tables : IsPresent old.now earlier_probes Whole)
 -- ---- and moved
 
 -- what is found is moved, or why not
-pub found_moves : (old mid new : State) → IsPresent old.now earlier_probes Whole → IsAsBefore old mid
+pub found_moves : (old mid new : State) → HasEarlier old.now → IsAsBefore old mid
     → (r : Result (Unit {0}) OpenFault) → OnOk r (BankIsMoved mid.now new) → IfErr r (IsUnmoved mid.now)
     → IfErr r (λ fault. IsReadOnly {X = Unit {0}} mid new (Err fault)) → MovesFound old new r
 found_moves old mid new tables same (Ok done) moved why reads =
@@ -92,7 +93,7 @@ module _ (old mid new : State) (version : ℤ) (one : version ≡ BEFORE_FLOORS)
   pub moved_at : MovesFound mid new (Ok tt) → Migrates old new (Ok (Moved BEFORE_FLOORS))
   moved_at h = (
     was_earlier,
-    subst (λ (db : Database). IsPresent db earlier_probes Whole) found.1.now_is h.0,
+    subst HasEarlier found.1.now_is h.0,
     subst (λ (db : Database). BankIsMoved db new) found.1.now_is h.1,
   )
 

@@ -24,9 +24,13 @@ IsOfVersion version stored =
 abbrev pub IsOutside : ℤ → Type 0
 IsOutside decided = (decided <ℤ pos 0) ⊎ (pos MAX_DECIDED <ℤ decided)
 
+-- or within it
+abbrev pub IsWithin : ℤ → Type 0
+IsWithin decided = (count : ℕ) × (decided ≡ pos count) × (count ≤ MAX_DECIDED)
+
 -- what is said against a count
 abbrev pub ChecksCount : ℤ → Result (Unit {0}) OpenFault → Type 0
-ChecksCount decided (Ok done) = (count : ℕ) × (decided ≡ pos count) × (count ≤ MAX_DECIDED)
+ChecksCount decided (Ok done) = IsWithin decided
 ChecksCount decided (Err fault) = (fault ≡ Damaged Meta) × IsOutside decided
 
 -- it is missing, or it has our version and its count is outside its range

@@ -27,7 +27,7 @@ use Rattle.store_rows.specs.declared.migration.TheConstants.{BEFORE_FLOORS}
 use Rattle.store_rows.specs.declared.probes.BankTable.TheVariants as table
 use Rattle.bank_store.specs.Connections.{conn_seen, IsAsBefore, IsReadOnly, IsUndoneIfOpen}
 use Rattle.bank_store.specs.FoundBank.{BankIsFound, IsTakenUp, Misses, RowIs}
-use Rattle.bank_store.specs.MetaRow.{IsOutside}
+use Rattle.bank_store.specs.MetaRow.{IsOutside, IsWithin}
 use Rattle.bank_store.specs.OpenFaults.{of_the_store}
 use Rattle.bank_store.specs.Seen.{bank_seen, file_of}
 use Rattle.bank_store.specs.StoreFaults.{KnowsCause}
@@ -109,6 +109,15 @@ pub record MovesBank {S : Type 0} (g : Ghosts S) (old new : Held S) (result : Re
 
 -- ---- a bank is looked for, and carried over
 
+-- the row is there, and its count is within its range
+abbrev pub IsCounted : Option StoredMeta → Type 0
+IsCounted stored = (m : StoredMeta) × (stored ≡ Some m) × IsWithin m.decided
+
+-- a file with that version has a bank of it
+pub record HasEarlier (db : Database) : Type 0 where
+  pub tables : IsPresent db earlier_probes Whole
+  pub meta : RowIs db IsCounted
+
 -- the row is missing, or its count is outside its range
 abbrev pub IsUncounted : Option StoredMeta → Type 0
 IsUncounted stored = (stored ≡ None) ⊎ ((m : StoredMeta) × (stored ≡ Some m) × IsOutside m.decided)
@@ -123,12 +132,12 @@ MissesEarlier old _ = ⊥
 
 -- it has one, and everything is as it was; or why it hasn't
 abbrev pub SeeksEarlier : State → State → Result (Unit {0}) OpenFault → Type 0
-SeeksEarlier old new (Ok done) = IsPresent old.now earlier_probes Whole × IsAsBefore old new
+SeeksEarlier old new (Ok done) = HasEarlier old.now × IsAsBefore old new
 SeeksEarlier old new (Err fault) = MissesEarlier old.now fault × IsReadOnly {X = Unit {0}} old new (Err fault)
 
 -- it had one, which is moved; or why not
 abbrev pub MovesFound : State → State → Result (Unit {0}) OpenFault → Type 0
-MovesFound old new (Ok done) = IsPresent old.now earlier_probes Whole × BankIsMoved old.now new
+MovesFound old new (Ok done) = HasEarlier old.now × BankIsMoved old.now new
 MovesFound old new (Err fault) = (MissesEarlier old.now fault ⊎ IsUnmoved old.now fault)
     × IsReadOnly {X = Unit {0}} old new (Err fault)
 
@@ -142,8 +151,7 @@ Misplaces old fault = (Misses old fault × (fault ≢ Version BEFORE_FLOORS))
 -- or why neither
 abbrev pub Migrates : State → State → Result Migrated OpenFault → Type 0
 Migrates old new (Ok Already) = BankIsFound old new
-Migrates old new (Ok (Moved from)) = IsEarlier old × IsPresent old.now earlier_probes Whole
-    × BankIsMoved old.now new
+Migrates old new (Ok (Moved from)) = IsEarlier old × HasEarlier old.now × BankIsMoved old.now new
 Migrates old new (Err fault) = Misplaces old fault × IsReadOnly {X = Unit {0}} old new (Err fault)
 
 -- a bank is moved from the version before floors
@@ -165,8 +173,7 @@ state_of g (Err refused) = state g refused.conn
 -- What holds of a bank that was carried over: its file had a bank of the version before floors, all of whose rows
 -- it has, and it stands at the plain log of whatever log that showed. It is up.
 pub record IsCarriedOver {S : Type 0} (g : Ghosts S) (conn : Held S) (bank : Bank S g) : Type 0 where
-  pub was : HasCleanDisk (file_of bank) → IsEarlier (state g conn)
-      × IsPresent (state g conn).now earlier_probes Whole
+  pub was : HasCleanDisk (file_of bank) → IsEarlier (state g conn) × HasEarlier (state g conn).now
   pub moved : HasCleanDisk (file_of bank) → BankIsMoved (state g conn).now (file_of bank)
   pub stands : (bank_seen g bank).honest → (log : List Command) → ShowsEarlier (state g conn).now log
       → StandsAt (bank_seen g bank) (plain (nat_abs BEFORE_FLOORS) log)
