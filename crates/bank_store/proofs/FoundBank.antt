@@ -43,11 +43,11 @@ use Rattle.posting_rules.specs.declared.limits.TheConstants.{MAX_DECIDED}
 
 -- ---- the row of the bank
 
-abbrev version_in : Option StoredMeta → ℤ
+abbrev pub version_in : Option StoredMeta → ℤ
 version_in None = pos 0
 version_in (Some m) = m.version
 
-abbrev decided_in : Option StoredMeta → ℤ
+abbrev pub decided_in : Option StoredMeta → ℤ
 decided_in None = pos 0
 decided_in (Some m) = m.decided
 
@@ -87,31 +87,29 @@ one_of_ours db rows has ours = elim (one_at_most db rows has) [
       (ours.0, one.1 ∙ ap (λ (r : Entry). r ∷ []) (one_row e ours.0 one.2 wide told), ours.2)
 ]
 
--- the row wasn't read
-module _ (old mid new : State) (tables : IsPresent old.now all_probes Whole)
-    (first : IsAsBefore old mid) where
+-- the row wasn't read: `Missed` says why there is no bank
+module _ (old mid new : State) (first : IsAsBefore old mid) (Missed : OpenFault → Type 0) (at_store : Missed Store)
+    (at_value : MetaIs old (λ _. ⊥) → HasOtherValue old.now → Missed (Damaged Value)) where
   abbrev MissedAt : OpenFault → Type 0
   MissedAt fault =
       ((rows : List Entry) → HoldsRows mid.now bank.meta rows → TellsMeta (meta_in rows) (Err fault))
       → IsOfOtherType mid.now fault → IsReadOnly {X = Option StoredMeta} mid new (Err fault)
-      → SeeksBank old new (Err fault)
+      → Missed fault × IsReadOnly {X = Unit {0}} old new (Err fault)
 
-  at_store : MissedAt Store
-  at_store tells other reads = (tt, λ still. as_before old mid new first (reads still))
+  by_store : MissedAt Store
+  by_store tells other reads = (at_store, λ still. as_before old mid new first (reads still))
 
-  at_value : MissedAt (Damaged Value)
-  at_value tells other same = (
-    (
-      tables,
-      λ rows has. tells rows (subst (λ (db : Database). HoldsRows db bank.meta rows) (sym first.now_is) has),
-      subst HasOtherValue first.now_is other,
-    ),
+  by_value : MissedAt (Damaged Value)
+  by_value tells other same = (
+    at_value
+        (λ rows has. tells rows (subst (λ (db : Database). HoldsRows db bank.meta rows) (sym first.now_is) has))
+        (subst HasOtherValue first.now_is other),
     as_before old mid new first same,
   )
 
   pub missed : (fault : OpenFault) → RowIsUnread fault → MissedAt fault
-  missed fault (inl is) = subst MissedAt (sym is) at_store
-  missed fault (inr is) = subst MissedAt (sym is) at_value
+  missed fault (inl is) = subst MissedAt (sym is) by_store
+  missed fault (inr is) = subst MissedAt (sym is) by_value
 
 -- what was read of the row, and what was said against it
 module _ (old mid new : State) (stored : Option StoredMeta) (tables : IsPresent old.now all_probes Whole)
@@ -182,7 +180,7 @@ module _ (old mid : State) (same : IsAsBefore old mid) where
   misses_at (Damaged Key) misses = absurd misses
   misses_at (Damaged Floor) misses = absurd misses
 
-  reads_at : (new : State) (fault : OpenFault) → IsReadOnly {X = Unit {0}} mid new (Err fault)
+  pub reads_at : (new : State) (fault : OpenFault) → IsReadOnly {X = Unit {0}} mid new (Err fault)
       → IsReadOnly {X = Unit {0}} old new (Err fault)
   reads_at new Store reads = λ still. as_before old mid new same (reads still)
   reads_at new NotBlank reads = as_before old mid new same reads
@@ -230,7 +228,7 @@ other_read old mid new m version there first read then same other = (
 -- ---- where a log is shown
 
 -- a database that shows tables lacks none of them
-has_its_table : (probes : List (List ℕ × Table)) (it : List ℕ × Table) → Has probes it
+pub has_its_table : (probes : List (List ℕ × Table)) (it : List ℕ × Table) → Has probes it
     → Has (map (λ p. p.1) probes) it.1
 has_its_table [] it has = has
 has_its_table (p ∷ probes) it (inl is) = inl (ap (λ q. q.1) is)
@@ -253,7 +251,7 @@ holds t sound = (t.decided, refl, sound.decided)
 not_other : (stored : Option StoredMeta) (n : ℤ) → IsOurs stored → IsOfVersion n stored → ⊥
 not_other stored n ours other = other.2 (sym (ap version_in other.1) ∙ ap version_in ours.1)
 
-not_outside : (z : ℤ) (n most : ℕ) → z ≡ pos n → n ≤ most → (z <ℤ pos 0) ⊎ (pos most <ℤ z) → ⊥
+pub not_outside : (z : ℤ) (n most : ℕ) → z ≡ pos n → n ≤ most → (z <ℤ pos 0) ⊎ (pos most <ℤ z) → ⊥
 not_outside z n most is le (inl below) = let h = rw is at below in omega (arith, ints)
 not_outside z n most is le (inr above) = let h = rw is at above in omega (arith, ints)
 

@@ -1,5 +1,5 @@
 -- A connection that was given back shows what it showed.
-use Rattle.std.proofs.Common.{◌≡◌, Option, Result, Ok, Err, refl, sym, ◌∙◌}
+use Rattle.std.proofs.Common.{◌≡◌, Result, Ok, Err, refl, sym, ◌∙◌}
 use Rattle.std.specs.Prelude.{◌≢◌, IsTrue}
 use Rattle.sqlite.specs.State.{State, Fails}
 use Rattle.sqlite.specs.declared.error.Error.{Error}

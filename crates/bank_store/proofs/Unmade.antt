@@ -24,7 +24,7 @@ use Rattle.posting_rules.specs.declared.open_fault.OpenFault.{OpenFault}
 use Rattle.posting_rules.specs.declared.open_fault.OpenFault.TheVariants.{NotBlank}
 
 -- what the store names is its own
-own_error : (cause : StoreError) → of_the_store (store_error cause) ≡ true
+pub own_error : (cause : StoreError) → of_the_store (store_error cause) ≡ true
 own_error OutOfMemory = refl
 own_error Io = refl
 own_error Corrupt = refl

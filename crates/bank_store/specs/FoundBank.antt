@@ -1,5 +1,6 @@
 -- A bank is found over a connection, or why none is.
 use Rattle.std.specs.Prelude.{◌≡◌, ◌≤◌, ℕ, List, [], ◌∷◌, ℤ, Option, Result, Ok, Err, ⊤}
+use Rattle.sqlite.specs.Effect.{Database}
 use Rattle.sqlite.specs.State.{State, HasCleanDisk}
 use Rattle.sqlite.specs.Held.{Held, state}
 use Rattle.sqlite_trees.specs.declared.store.Store.{Ghosts}
@@ -27,8 +28,12 @@ use Rattle.posting_rules.specs.declared.open_fault.OpenFault.TheVariants.{Store,
 use Rattle.posting_rules.specs.declared.open_fault.OpenFault.TheVariants.{Damaged}
 
 -- whatever rows of `meta` the database holds, the row of the bank is so
+abbrev pub RowIs : Database → (Option StoredMeta → Type 0) → Type 0
+RowIs db P = (rows : List Entry) → HoldsRows db bank.meta rows → P (meta_in rows)
+
+-- so it is in the database that is shown
 abbrev pub MetaIs : State → (Option StoredMeta → Type 0) → Type 0
-MetaIs s P = (rows : List Entry) → HoldsRows s.now bank.meta rows → P (meta_in rows)
+MetaIs s = RowIs s.now
 
 -- its tables are there, `meta` with its one row, of our version and with a count within its range, and
 -- everything is as it was

@@ -5,6 +5,7 @@ pub mod TablePresence
 pub mod MetaRow
 pub mod FoundBank
 pub mod NewBank
+pub mod Migration
 pub mod OpenFaults
 pub mod StoreFaults
 pub mod Seen

@@ -20,12 +20,24 @@ abbrev pub IsOfVersion : ℤ → Option StoredMeta → Type 0
 IsOfVersion version stored =
     (decided : ℤ) × (stored ≡ Some (record { version = version; decided = decided })) × (version ≢ VERSION)
 
+-- a count of requests is outside its range
+abbrev pub IsOutside : ℤ → Type 0
+IsOutside decided = (decided <ℤ pos 0) ⊎ (pos MAX_DECIDED <ℤ decided)
+
+-- or within it
+abbrev pub IsWithin : ℤ → Type 0
+IsWithin decided = (count : ℕ) × (decided ≡ pos count) × (count ≤ MAX_DECIDED)
+
+-- what is said against a count
+abbrev pub ChecksCount : ℤ → Result (Unit {0}) OpenFault → Type 0
+ChecksCount decided (Ok done) = IsWithin decided
+ChecksCount decided (Err fault) = (fault ≡ Damaged Meta) × IsOutside decided
+
 -- it is missing, or it has our version and its count is outside its range
 abbrev pub IsNoCount : Option StoredMeta → Type 0
 IsNoCount stored =
     (stored ≡ None)
-    ⊎ ((decided : ℤ) × (stored ≡ Some (record { version = VERSION; decided = decided }))
-    × ((decided <ℤ pos 0) ⊎ (pos MAX_DECIDED <ℤ decided)))
+    ⊎ ((decided : ℤ) × (stored ≡ Some (record { version = VERSION; decided = decided })) × IsOutside decided)
 
 -- what is said against the row
 abbrev pub ChecksMeta : Option StoredMeta → Result (Unit {0}) OpenFault → Type 0

@@ -7,7 +7,7 @@ use Rattle.posting_rules.specs.declared.fault.Rule.TheVariants.{Value}
 use Rattle.store_rows.specs.declared.fault.TableFault.{TableFault}
 use Rattle.store_rows.specs.declared.fault.TableFault.TheVariants.{Sqlite, Damaged as Broken}
 use Rattle.posting_rules.specs.declared.open_fault.OpenFault.{OpenFault}
-use Rattle.posting_rules.specs.declared.open_fault.OpenFault.TheVariants.{Store, NotBlank, Damaged}
+use Rattle.posting_rules.specs.declared.open_fault.OpenFault.TheVariants.{Store, NotBlank, Foreign, Damaged}
 
 -- the error is the store's own: for memory, the disk, a size or the limit on steps
 abbrev pub of_the_store : Error → Bool
@@ -24,6 +24,10 @@ of_the_store _ = false
 -- what an error says that came while the tables were made
 abbrev pub unmade_by : Error → OpenFault
 unmade_by e = if of_the_store e then Store else NotBlank
+
+-- what an error says that came while the table of floors was made
+abbrev pub unmoved_by : Error → OpenFault
+unmoved_by e = if of_the_store e then Store else Foreign
 
 -- why a bank isn't made
 abbrev pub IsUnmade : OpenFault → Type 0

@@ -11,7 +11,7 @@ ghost use Rattle.store_rows.specs.BankTables.{meta as table};
 ghost use Rattle.store_rows.specs.View.{HoldsRows};
 ghost use Rattle.bank_store.specs.Connections.{conn_seen, state_in, IsGivenBack, IsReadOnly, IsUndoneIfOpen};
 ghost use Rattle.bank_store.specs.FoundBank.{HasNoOtherVersion, IsTakenUp, LooksAtVersion, Misses, SeeksBank};
-ghost use Rattle.bank_store.specs.MetaRow.{ChecksMeta, TellsMeta, IsOfOtherType};
+ghost use Rattle.bank_store.specs.MetaRow.{ChecksCount, ChecksMeta, TellsMeta, IsOfOtherType};
 ghost use Rattle.bank_store.specs.OpenFaults.{RowIsUnread};
 ghost use Rattle.bank_store.specs.Seen.{alloc_of};
 ghost use Rattle.bank_store.specs.StoreFaults.{KnowsCause};
@@ -47,9 +47,11 @@ fn stored_meta<S: Alter>(conn: &mut Connection<S>) -> Result<Option<StoredMeta>,
     }
 }
 
-// The same. The store is asked for a table once more, so that it is known to be open and to have undone the
-// transaction.
-fn settled_meta<S: Alter>(conn: &mut Connection<S>) -> Result<Option<StoredMeta>, OpenFault>
+/// The row of the bank, if there is one. The store is asked for a table once more, so that it is known to be open
+/// and to have undone the transaction.
+pub(crate) fn settled_meta<S: Alter>(
+    conn: &mut Connection<S>,
+) -> Result<Option<StoredMeta>, OpenFault>
     requires { conn.old.in_transaction ≡ false }
     ensures told { HasCleanDisk (state S.Store conn.new) → (rows : List Entry)
         → HoldsRows (state S.Store conn.old).now table rows → TellsMeta (meta_in rows) result }
@@ -70,17 +72,24 @@ fn settled_meta<S: Alter>(conn: &mut Connection<S>) -> Result<Option<StoredMeta>
     }
 }
 
-// Whether the row is of our version, and its count of requests is within 0..=`MAX_DECIDED`.
+/// Whether the count of requests is within 0..=`MAX_DECIDED`.
+pub(crate) fn check_count(meta: &StoredMeta) -> Result<(), OpenFault>
+    ensures { ChecksCount meta.now.decided result }
+{
+    if meta.decided < 0 || meta.decided as u64 > MAX_DECIDED {
+        return Err(OpenFault::Damaged(Rule::Meta));
+    }
+    Ok(())
+}
+
+// Whether the row is of our version, and its count is within its range.
 fn check_meta(meta: &StoredMeta) -> Result<(), OpenFault>
     ensures { ChecksMeta (Some meta.now) result }
 {
     if meta.version != VERSION {
         return Err(OpenFault::Version(meta.version));
     }
-    if meta.decided < 0 || meta.decided as u64 > MAX_DECIDED {
-        return Err(OpenFault::Damaged(Rule::Meta));
-    }
-    Ok(())
+    check_count(meta)
 }
 
 // Looks for the tables of a bank, and then for the row of `meta`.
@@ -123,8 +132,8 @@ fn refuse_other_version<S: Alter>(conn: &mut Connection<S>) -> Result<(), OpenFa
     }
 }
 
-// Looks for a bank of this version.
-fn find_bank<S: Alter>(conn: &mut Connection<S>) -> Result<(), OpenFault>
+/// Looks for a bank of this version.
+pub(crate) fn find_bank<S: Alter>(conn: &mut Connection<S>) -> Result<(), OpenFault>
     requires { conn.old.in_transaction ≡ false }
     ensures told { HasCleanDisk (state S.Store conn.new)
         → SeeksBank (state S.Store conn.old) (state S.Store conn.new) result }

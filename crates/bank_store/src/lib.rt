@@ -57,6 +57,7 @@ mod adoption;
 mod bank;
 mod creation;
 mod laws;
+mod migration;
 mod presence;
 mod refused;
 mod walks;
@@ -72,6 +73,7 @@ pub use message_records::{
     Account, Bad, BadReply, Branch, Cents, Moment, Number, Outcome, Reply, Request, Teller,
     decode_reply, decode_request, encode_request,
 };
+pub use migration::{Migrated, migrate};
 pub use posting_rules::{
     BranchLine, Counter, Fault, LAST_BRANCH, MAX_ACCOUNTS, MAX_DECIDED, OpenFault, Opening,
     Ordinal, RECORDS_PER_BATCH, Rule,

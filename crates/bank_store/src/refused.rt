@@ -1,6 +1,6 @@
 //! Why no bank is made or found over a connection.
 ghost use Rattle.std.specs.Prelude.{◌≡◌};
-ghost use Rattle.bank_store.specs.OpenFaults.{of_the_store, unmade_by, unread_by, IsUnmade, RowIsUnread};
+ghost use Rattle.bank_store.specs.OpenFaults.{of_the_store, unmade_by, unmoved_by, unread_by, IsUnmade, RowIsUnread};
 
 use posting_rules::{OpenFault, Rule};
 use sqlite::{Alter, Connection, Error, ErrorCode};
@@ -52,6 +52,17 @@ pub(crate) fn unmade(e: &Error) -> OpenFault
         OpenFault::Store
     } else {
         OpenFault::NotBlank
+    }
+}
+
+/// The fault for an error that came while the table of floors was made: `Store` or `Foreign`.
+pub(crate) fn unmoved(e: &Error) -> OpenFault
+    ensures { result ≡ unmoved_by e.now }
+{
+    if is_of_the_store(e) {
+        OpenFault::Store
+    } else {
+        OpenFault::Foreign
     }
 }
 

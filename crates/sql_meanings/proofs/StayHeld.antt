@@ -23,6 +23,13 @@ module _ (old new : Database) (sound : IsDatabase new) (keeps : KeepsWhatStood o
             (sym (ap (λ n. new.trees n) found.0 ∙ keeps.rows _ stood.listed)) holds.rows;
       }
 
+  -- and in the same tree
+  pub same_place : (t : Table) (es : List Entry) → t.references ≡ [] → Holds old t es
+      → tree_of new.schema t.name ≡ tree_of old.schema t.name
+  same_place t es free holds =
+      (stands_defined new.schema new.trees (placed_at t (tree_of old.schema t.name)) sound
+      (keeps.stands _ (defined_stands old.schema t free holds.defined))).0
+
   -- each of several
   pub still_hold : (tables : List Table) (contents : List (List Entry)) → stand_apart tables ≡ true
       → HoldsEach old tables contents → HoldsEach new tables contents

@@ -35,7 +35,7 @@ of_numbers = (
 )
 
 -- the lowest balance of a branch's accounts
-of_floors : CreatesOnly MAKE_FLOOR.now bank.floor
+pub of_floors : CreatesOnly MAKE_FLOOR.now bank.floor
 unfolding everything listing_tests
 of_floors = creates_by _ _ (makeable MAKE_FLOOR.now bank.floor refl refl refl refl refl refl refl refl) refl _ _ _
     refl refl refl refl refl refl refl (lit≤ tt) refl

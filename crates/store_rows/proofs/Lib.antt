@@ -6,6 +6,7 @@ pub mod CreationEnds
 pub mod CreationSteps
 pub mod EmptyFile
 pub mod Failing
+pub mod Floorless
 pub mod FoundRows
 pub mod GetRequest
 pub mod Getting
@@ -28,4 +29,5 @@ pub mod StoredRows
 pub mod TableKinds
 pub mod Telling
 pub mod TheTables
+pub mod VersionRow
 pub mod Writes

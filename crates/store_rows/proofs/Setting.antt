@@ -9,7 +9,7 @@ use Rattle.sql_meanings.proofs.Keyed.{sets_by}
 use Rattle.sql_meanings.proofs.SetRows.{ChangesAs}
 use Rattle.store_rows.specs.BankTables as bank
 use Rattle.store_rows.specs.declared.texts.TheConstants.{SET_META, SET_BRANCH, SET_TELLER}
-use Rattle.store_rows.specs.declared.texts.TheConstants.{SET_ACCOUNT}
+use Rattle.store_rows.specs.declared.texts.TheConstants.{SET_ACCOUNT, SET_VERSION}
 use Rattle.store_rows.proofs.Checked.{meta_checked}
 use Rattle.store_rows.proofs.Getting.{keys}
 
@@ -49,11 +49,38 @@ second_wide v [] wide = wide
 second_wide v (a ∷ []) wide = wide
 second_wide v (a ∷ b ∷ more) wide = wide
 
+-- ---- the first of two
+
+-- the numbers with this one in the first place
+abbrev pub first_as : ℤ → List ℤ → List ℤ
+first_as v [] = []
+first_as v (a ∷ more) = v ∷ more
+
+abbrev pub set_version : ℤ → Entry → Entry
+set_version v e = record e { values = first_as v e.values; texts = [] }
+
+abbrev version_set : List Term
+version_set = col 1 0 ∷ col 1 0 ∷ lit Null ∷ col 0 1 ∷ col 1 3 ∷ []
+
+version_shown : (k v key : ℤ) (values : List ℤ) (texts : List (List ℕ)) → length values ≡ 2
+    → eval_all version_set ((Int k ∷ Int v ∷ [])
+    ∷ stored (record { key = key; values = values; texts = texts }) ∷ [])
+    ≡ Int key ∷ stored (record { key = key; values = first_as v values; texts = [] })
+version_shown k v key [] texts wide = absurd (omega arith)
+version_shown k v key (a ∷ []) texts wide = absurd (omega arith)
+version_shown k v key (a ∷ b ∷ []) texts wide = refl
+version_shown k v key (a ∷ b ∷ c ∷ more) texts wide = absurd (omega arith)
+
+first_wide : (v : ℤ) (values : List ℤ) → length values ≡ 2 → length (first_as v values) ≡ 2
+first_wide v [] wide = wide
+first_wide v (a ∷ more) wide = wide
+
 pub record SetsNumbers : Type 0 where
   pub meta : (v : ℤ) → ChangesAs bank.meta SET_META.now (pos 1) (Int v ∷ []) (set_second v)
   pub branch : (k v : ℤ) → ChangesAs bank.branch SET_BRANCH.now k (Int v ∷ []) (set_second v)
   pub teller : (k v : ℤ) → ChangesAs bank.teller SET_TELLER.now k (Int v ∷ []) (set_first v)
   pub account : (k v : ℤ) → ChangesAs bank.account SET_ACCOUNT.now k (Int v ∷ []) (set_first v)
+  pub version : (v : ℤ) → ChangesAs bank.meta SET_VERSION.now (pos 1) (Int v ∷ []) (set_version v)
 
 pub sets : SetsNumbers
 unfolding everything program.program
@@ -77,4 +104,10 @@ sets = record {
       refl refl refl (lit≤ tt) refl refl refl refl refl
       (λ _. refl) (λ _. refl) (λ _ _ _ has. rw (has.low, has.found)) (λ _ _ _ has. rw (has.low, has.found))
       (λ _ _. refl) (λ _. refl) (λ _ _. (refl, refl)) (λ _ _ _. refl) refl;
+  version = λ v. sets_by bank.meta SET_VERSION.now set_version version_set (pos 1) v _ _ _ _ _ _ _ _ keys.meta
+      refl refl refl (lit≤ tt) refl refl refl refl refl
+      (λ _. refl) (λ _. refl) (λ _ _ _ has. rw (has.low, has.found)) (λ _ _ _ has. rw (has.low, has.found))
+      (λ e wide. version_shown (pos 1) v e.key e.values e.texts wide.0) (λ _. refl)
+      (λ e wide. (first_wide v e.values wide.0, refl))
+      (λ e _. meta_checked e.key (Null ∷ (numbers (first_as v e.values) ++ []))) refl;
 }

@@ -19,7 +19,7 @@ pub data HasFailed (old new : State) (e : Error) : Type 0 where
   -- a query failed: that it finds no row is no failure
   Asking : (text : List ℕ) (params : Row) → QueriesRowInside text params old new (Err e)
       → e ≢ QueryReturnedNoRows → HasFailed old new e
-  -- a row couldn't be changed
+  -- a row couldn't be changed, or a table not made
   Changing : (text : List ℕ) (params : Row) → ExecutesInside 0 text params old new (Err e)
       → HasFailed old new e
   -- a row couldn't be put in: that its key is taken is no failure

@@ -1,16 +1,17 @@
 //! The table of the bank as a whole: one row.
 ghost use Rattle.std.specs.Prelude.{◌≡◌, ◌≤◌, ◌∷◌, [], pos, true, option_map, IfOk, IfErr};
 ghost use Rattle.posting_rules.specs.Changes.{with_decided};
-ghost use Rattle.sql_meanings.specs.Calls.{Says};
+ghost use Rattle.sql_meanings.specs.Calls.{Inside, Says};
 ghost use Rattle.sql_meanings.specs.Outcomes.{TellsRow};
 ghost use Rattle.store_rows.specs.Calls.{OfMeta, SetsNumber};
 ghost use Rattle.sqlite.specs.Held.{state};
 ghost use Rattle.sqlite.specs.State.{HasCleanDisk};
 ghost use Rattle.sqlite.specs.declared.types.Value.TheVariants.{Int};
 ghost use Rattle.store_rows.specs.Columns.{meta_in, meta_shown};
-ghost use Rattle.store_rows.specs.Failures.{Asks, Looks};
+ghost use Rattle.store_rows.specs.Failures.{Asks, Changes, Looks};
+ghost use Rattle.store_rows.specs.Migration.{SetsVersion};
 ghost use Rattle.store_rows.specs.Outcomes.{Finds, Never};
-ghost use Rattle.store_rows.specs.declared.texts.TheConstants.{SET_META};
+ghost use Rattle.store_rows.specs.declared.texts.TheConstants.{SET_META, SET_VERSION};
 ghost use Rattle.store_rows.specs.BankTables.{meta as table};
 ghost use Rattle.store_rows.specs.Statements.{ShowsFirst, TellsOther};
 ghost use Rattle.store_rows.specs.declared.metas.TheConstants.{META_ID as id};
@@ -20,7 +21,7 @@ use crate::columns::integer_at;
 use crate::fault::TableFault;
 use crate::found::{FromRow, found};
 use crate::statements::{row_under, write_under};
-use crate::texts::{GET_META, SET_META};
+use crate::texts::{GET_META, SET_META, SET_VERSION};
 use posting_rules::MAX_DECIDED;
 use sqlite::{Alter, Error, Row, Transaction};
 
@@ -78,4 +79,13 @@ pub fn set_decided<S: Alter>(tx: &mut Transaction<'_, S>, decided: u64) -> Resul
     ensures { SetsNumber S.Store tx.old tx.new table SET_META.now (λ _. true) (with_decided decided) result }
 {
     write_under(tx, SET_META, META_ID, decided as i64)
+}
+
+/// Writes the version of the tables, and reports whether meta has its row.
+pub fn set_version<S: Alter>(tx: &mut Transaction<'_, S>, version: i64) -> Result<bool, Error>
+    ensures { Says S.Store tx.old tx.new
+        (Inside (λ old new. SetsVersion version old new result))
+        (Inside (λ old new. Changes SET_VERSION.now old new result)) }
+{
+    write_under(tx, SET_VERSION, META_ID, version)
 }

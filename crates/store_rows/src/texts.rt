@@ -48,6 +48,9 @@ pub(crate) const GET_META: &str = "SELECT version, decided FROM meta WHERE id = 
 /// Another number of decided requests.
 pub(crate) const SET_META: &str = "UPDATE meta SET decided = ?2 WHERE id = ?1";
 
+/// Another version of the tables.
+pub(crate) const SET_VERSION: &str = "UPDATE meta SET version = ?2 WHERE id = ?1";
+
 /// The first row of meta.
 pub(crate) const ADD_META: &str = "INSERT INTO meta (id, version, decided) VALUES (?1, ?2, ?3)";
 

@@ -4,7 +4,7 @@ use Rattle.sqlite.specs.Held.{state}
 use Rattle.store_rows.specs.Probes.{all_probes}
 use Rattle.posting_rules.specs.declared.fault.Rule.TheVariants.{Meta}
 use Rattle.bank_store.specs.Connections.{IsAsBefore}
-use Rattle.bank_store.specs.FoundBank.{SeeksBank}
+use Rattle.bank_store.specs.FoundBank.{Misses, SeeksBank}
 use Rattle.bank_store.specs.TablePresence.{IsPresent}
 use Rattle.bank_store.specs.declared.presence.Presence.{Presence}
 use Rattle.posting_rules.specs.declared.open_fault.OpenFault.{OpenFault}
@@ -74,8 +74,8 @@ returns-in_err-settled_meta-in-Whole g c =
           subst (λ (p : Presence). IsPresent old.now all_probes p × IsAsBefore old mid) c.in-Whole.is
           (c.in_ok-tables_there.ensures.told (still_clean e.ensures.survives clean)) in
           subst (λ (r : Result (Unit {0}) OpenFault). SeeksBank old new r) (sym is)
-          (missed old mid new there.0 there.1 e.field-0.0 e.ensures.fault (e.ensures.told clean)
-          (e.ensures.other clean) (e.ensures.same clean));
+          (missed old mid new there.1 (Misses old) tt (λ none other. (there.0, none, other)) e.field-0.0
+          e.ensures.fault (e.ensures.told clean) (e.ensures.other clean) (e.ensures.same clean));
       cause =
           rw is (known_within g.S.Store c.args.conn.now c.tables_there.new.conn c.settled_meta.new.conn
           c.settled_meta.new.conn (comes c.tables_there.ensures.survives)

@@ -1,7 +1,6 @@
 -- Where the tables can't be made, the store still answers and everything is as it was, or it is told to have
 -- failed.
 use Rattle.std.proofs.Common.{refl, sym, ◌∙◌, inl}
-use Rattle.sqlite.specs.Effect.{Database}
 use Rattle.sqlite.specs.Held.{state}
 use Rattle.sqlite.proofs.StateLemmas.{survives_then}
 use Rattle.store_rows.specs.Creation.{HasNewBank}

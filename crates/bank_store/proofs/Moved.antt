@@ -1,0 +1,117 @@
+-- What the changed tables show, why they aren't changed, and what a transaction leaves that changes them.
+use Rattle.std.proofs.Common.{◌≡◌, [], ◌∷◌, true, false, None, Some, Option, is_some, Ok, Err, refl, ap, ◌∙◌}
+use Rattle.std.proofs.Common.{subst, inl, inr, arith}
+use Rattle.std.specs.Prelude.{IsTrue}
+use Rattle.std.proofs.lemmas.Bool.{cases_Bool}
+use Rattle.sqlite.specs.Effect.{Database}
+use Rattle.sqlite.specs.Held.{Held, state}
+use Rattle.sqlite.specs.State.{State, HasCleanDisk, KeepsCommit, Survives}
+use Rattle.sqlite.specs.State.{Shows as StateShows}
+use Rattle.sqlite.specs.Tree.{Trees}
+use Rattle.sqlite.specs.declared.error.Error.{Error}
+use Rattle.sqlite.proofs.Callers.{survives_begin}
+use Rattle.sqlite.proofs.StateLemmas.{survives_then}
+use Rattle.sqlite_trees.specs.declared.store.Store.{Ghosts}
+use Rattle.posting_rules.specs.Tables.{Tables}
+use Rattle.posting_rules.specs.declared.open_fault.OpenFault.TheVariants.{Damaged}
+use Rattle.posting_rules.specs.declared.fault.Rule.TheVariants.{Meta}
+use Rattle.sql_meanings.proofs.Contents.{held}
+use Rattle.store_rows.specs.BankTables.{meta}
+use Rattle.store_rows.specs.Columns.{meta_in}
+use Rattle.store_rows.specs.Failures.{HasFailed}
+use Rattle.store_rows.specs.Migration.{FloorsAreMade, MakesFloors, SetsVersion}
+use Rattle.store_rows.specs.View.{Shows, ShowsTrees, contents_of, meta_entry, tables_of}
+use Rattle.store_rows.specs.declared.metas.StoredMeta.{StoredMeta}
+use Rattle.store_rows.specs.declared.metas.TheConstants.{VERSION}
+use Rattle.store_rows.specs.declared.migration.TheConstants.{BEFORE_FLOORS}
+use Rattle.bank_transactions.proofs.Blamed.{failed_here}
+use Rattle.bank_store.specs.Migration.{ChangesTables, HasMoved, IsUnmoved}
+use Rattle.bank_store.specs.OpenFaults.{of_the_store, unmoved_by}
+use Rattle.bank_store.specs.StoreFaults.{KnowsCause}
+use Rattle.bank_store.proofs.Unmade.{own_error}
+
+-- ---- the table of floors isn't made
+
+pub refused_unmoved : (old new : State) (e : Error) → MakesFloors old new (Err e) → IsUnmoved old.now (unmoved_by e)
+refused_unmoved old new e why = elim (cases_Bool (of_the_store e)) [
+  | inl own ↦ rw own tt
+  | inr other ↦ elim why [
+    | inl fails ↦ absurd (let own : of_the_store e ≡ true = ap of_the_store fails.1 ∙ own_error fails.0 in cc)
+    | inr refused ↦ rw other (e, other, refused.0)
+  ]
+]
+
+pub unmoved_known : {S : Type 0} (g : Ghosts S) (old new : Held S) (e : Error)
+    → (HasCleanDisk (state g new) → HasFailed (state g old) (state g new) e) → KnowsCause g old new (unmoved_by e)
+unmoved_known g old new e why = elim (cases_Bool (of_the_store e)) [
+  | inl own ↦ rw own (λ clean. (e, failed_here g old new e (why clean)))
+  | inr other ↦ rw other tt
+]
+
+-- ---- the version is written
+
+module _ (old mid new : State) (made : FloorsAreMade old.now mid.now) where
+  pub moved : SetsVersion VERSION mid new (Ok true) → ChangesTables old.now new.now (Ok tt)
+  moved set t was =
+      let done = set.1 BEFORE_FLOORS t (made.tables t was) in
+      let holds = held old.now (tables_of 1) (contents_of 1 t) was.shows.each 0 meta
+      (meta_entry BEFORE_FLOORS t.decided ∷ []) refl refl in
+      let place = made.places meta _ refl holds in (
+        record { sound = done.0.sound; each = done.0.each },
+        λ u stands apart.
+            let then = done.2 u (made.keeps.stands u stands) (λ same. apart (same ∙ place)) in
+            (then.0, then.1 ∙ made.keeps.rows u stands.listed),
+      )
+
+  none_there : (o : Option StoredMeta) → false ≡ is_some o → o ≡ None
+  none_there None h = refl
+  none_there (Some x) h = absurd (cc)
+
+  pub not_there : SetsVersion VERSION mid new (Ok false) → IsUnmoved old.now (Damaged Meta)
+  not_there set rows has = none_there (meta_in rows)
+      (set.0 rows (record { sound = made.sound; holds = made.holds meta rows refl has.holds }))
+
+-- ---- what is kept
+
+module _ (old mid new : State) (first : StateShows old mid mid.now old.committed true) where
+  pub goes_on : StateShows mid new new.now mid.committed true → StateShows old new new.now old.committed true
+  goes_on then = record {
+    was_open = first.was_open;
+    is_open = then.is_open;
+    now_is = refl;
+    committed_is = then.committed_is ∙ first.committed_is;
+    mode = then.mode;
+  }
+
+pub commits_nothing : (old new : State) → StateShows old new new.now old.committed true → KeepsCommit old new
+commits_nothing old new shows = record { was_open = λ _. shows.was_open; committed = λ _. shows.committed_is }
+
+-- ---- the transaction
+
+-- what a commit may leave of these tables
+abbrev pub MayLeave : Database → Trees → Type 0
+MayLeave last left = (t : Tables) → Shows last t → ShowsTrees left t
+
+-- the connection, the transaction as it begins and after the changes, the connection after it
+module _ {S : Type 0} (g : Ghosts S) (old begun last new : Held S)
+    (is : begun ≡ record old { in_transaction = true }) where
+  pub live : IsTrue (state g begun).in_transaction
+  live = ap (λ (h : Held S). h.in_transaction) is
+
+  pub from_begun : (P : Database → Type 0) → P (state g begun).now → P (state g old).now
+  from_begun P = subst (λ (h : Held S). P (state g h).now) is
+
+  -- a stop leaves what it could leave before, or the moved bank
+  pub stops : Survives (state g begun) (state g last) (λ _. ⊥)
+      → Survives (state g last) (state g new) (MayLeave (state g last).now)
+      → (HasCleanDisk (state g last) → ChangesTables (state g begun).now (state g last).now (Ok tt))
+      → Survives (state g old) (state g new) (HasMoved (state g old).now)
+  stops first then changed =
+      survives_begin g old (state g new) (HasMoved (state g old).now)
+      (subst (λ (h : Held S). Survives (state g h) (state g new) (HasMoved (state g old).now)) is
+      (survives_then (state g begun) (state g last) (state g new) (λ _. ⊥) (MayLeave (state g last).now)
+      (HasMoved (state g old).now) (λ clean left none. absurd none)
+      (λ clean left made t was.
+      made t (from_begun (λ (db : Database). ChangesTables db (state g last).now (Ok tt))
+      (changed (omega (arith, then.clean))) t was).0)
+      first then))

@@ -1,0 +1,70 @@
+-- Why the tables aren't changed, or not committed.
+use Rattle.std.proofs.Common.{◌≡◌, Err, true, rules, subst}
+use Rattle.sqlite.specs.State.{Survives}
+use Rattle.sqlite.specs.Held.{state}
+use Rattle.bank_transactions.specs.Causes.{IsBefore}
+use Rattle.bank_transactions.proofs.Blamed.{comes, failed_here, same_moment, then_moment}
+use Rattle.posting_rules.specs.declared.open_fault.OpenFault.TheVariants.{Store}
+use Rattle.store_rows.specs.Failures.{Committing}
+use Rattle.bank_store.specs.Migration.{HasMoved, IsUnmoved}
+use Rattle.bank_store.proofs.Causes.{begun_after, known_within, still_clean}
+use Rattle.bank_store.proofs.Moved.{from_begun, live, stops}
+use Rattle.bank_store.proofs.migration.move_bank.Goals as goal
+
+pub returns-in_err-change_tables : goal.returns-in_err-change_tables
+returns-in_err-change_tables g c =
+    let s = state g.S.Store in
+    let old = c.args.conn.now in
+    let at = c.begin-tx.result.conn.now in
+    let last = c.change_tables.new.tx.conn.now in
+    let new = c.drop-tx.new.self.0 in
+    let is = c.begin-tx.ensures.begun in
+    let same : new ≡ c.conn-1.given.0 = search rules in
+    let e = c.in_err-change_tables in
+    let told : c.from_residual.result ≡ Err e.field-0.0 = search rules in
+    let ended = c.drop-tx.ensures.survives in
+    record {
+      moved = search rules;
+      undone = search rules;
+      why = rw (told, ← same) (λ clean.
+          from_begun g.S.Store old at last new is (λ db. IsUnmoved db e.field-0.0)
+          (e.ensures.says.told (still_clean ended clean) (live g.S.Store old at last new is)));
+      cause =
+          let begun : IsBefore (s old) (s at) = rw is (begun_after g.S.Store old true) in
+          rw (told, ← same)
+          (known_within g.S.Store old at last new begun (still_clean ended) (comes ended) e.field-0.0
+          (e.ensures.cause (live g.S.Store old at last new is)));
+      survives = search rules;
+      mode = rw (← same) c.drop-tx.ensures.ended;
+    }
+
+pub returns-in-Err : goal.returns-in-Err
+returns-in-Err g c =
+    let s = state g.S.Store in
+    let old = c.args.conn.now in
+    let at = c.begin-tx.result.conn.now in
+    let last = c.change_tables.new.tx.conn.now in
+    let new = c.commit.new.tx.0 in
+    let is = c.begin-tx.ensures.begun in
+    let same : new ≡ c.conn-2-1.given.0 = search rules in
+    record {
+      moved = search rules;
+      undone = search rules;
+      why = λ clean. tt;
+      cause =
+          let begun : IsBefore (s old) (s at) = rw is (begun_after g.S.Store old true) in
+          let before = then_moment (s old) (s at) (s last) begun (comes c.in_ok-change_tables.ensures.says.survives) in
+          rw (← same)
+          (known_within g.S.Store old last new new before (λ clean. clean) (same_moment (s new)) Store
+          (λ clean. (
+            c.in-Err.field-0,
+            failed_here g.S.Store last new c.in-Err.field-0
+                (Committing (c.in-Err.ensures.cause clean)),
+          )));
+      survives =
+          let changed = c.in_ok-change_tables.ensures.says in
+          subst (λ h. Survives (s old) (s h) (HasMoved (s old).now)) same
+          (stops g.S.Store old at last new is changed.survives c.in-Err.ensures.survives
+          (λ clean. changed.told clean (live g.S.Store old at last new is)));
+      mode = rw (← same) c.commit.ensures.ended;
+    }

@@ -1,0 +1,204 @@
+-- A bank of the version before floors is carried over to this version, or why none is.
+use Rattle.std.specs.Prelude.{◌≡◌, ◌≢◌, ◌⊎◌, ℕ, nat_abs, List, [], ◌∷◌, map, false, Option, Some, None}
+use Rattle.std.specs.Prelude.{Result, Ok, Err, IfOk, IfErr, OnErr, OnOk, ⊤}
+use Rattle.sqlite.specs.Effect.{Database}
+use Rattle.sqlite.specs.Held.{Held, state}
+use Rattle.sqlite.specs.Schema.{Schema}
+use Rattle.sqlite.specs.State.{State, HasCleanDisk, Survives}
+use Rattle.sqlite.specs.Table.{Table}
+use Rattle.sqlite.specs.Tree.{Trees}
+use Rattle.sqlite.specs.declared.error.Error.{Error}
+use Rattle.sqlite_trees.specs.declared.store.Store.{Ghosts}
+use Rattle.posting_rules.specs.Commands.{Command, AreCommands}
+use Rattle.posting_rules.specs.Counter.{LeavesOnly, ShowsLog, StandsAt}
+use Rattle.posting_rules.specs.Editions.{AreTablesIn, plain}
+use Rattle.posting_rules.specs.Tables.{Tables, AreTablesOf}
+use Rattle.posting_rules.specs.declared.fault.Rule.TheVariants.{Meta, Value}
+use Rattle.posting_rules.specs.declared.open_fault.OpenFault.{OpenFault}
+use Rattle.posting_rules.specs.declared.open_fault.OpenFault.TheVariants.{Store, Foreign, Version, Damaged}
+use Rattle.sql_meanings.specs.Making.{SparesStanding}
+use Rattle.store_rows.specs.BankTables.{meta}
+use Rattle.store_rows.specs.Migration.{RefusesFloors, ShowsFloorless, TakesFloors}
+use Rattle.store_rows.specs.Probes.{probe_of}
+use Rattle.store_rows.specs.Statements.{HasOtherValue}
+use Rattle.store_rows.specs.View.{Shows, ShowsAs, ShowsTrees}
+use Rattle.store_rows.specs.declared.metas.StoredMeta.{StoredMeta}
+use Rattle.store_rows.specs.declared.migration.TheConstants.{BEFORE_FLOORS}
+use Rattle.store_rows.specs.declared.probes.BankTable.TheVariants as table
+use Rattle.bank_store.specs.Connections.{conn_seen, IsAsBefore, IsReadOnly, IsUndoneIfOpen}
+use Rattle.bank_store.specs.FoundBank.{BankIsFound, IsTakenUp, Misses, RowIs}
+use Rattle.bank_store.specs.MetaRow.{IsOutside, IsWithin}
+use Rattle.bank_store.specs.OpenFaults.{of_the_store}
+use Rattle.bank_store.specs.Seen.{bank_seen, file_of}
+use Rattle.bank_store.specs.StoreFaults.{KnowsCause}
+use Rattle.bank_store.specs.TablePresence.{IsPresent, Lacks, OneOf}
+use Rattle.bank_store.specs.declared.bank.Bank.{Bank}
+use Rattle.bank_store.specs.declared.migration.Migrated.{Migrated}
+use Rattle.bank_store.specs.declared.migration.Migrated.TheVariants.{Moved, Already}
+use Rattle.bank_store.specs.declared.presence.Presence.TheVariants.{Whole}
+use Rattle.bank_store.specs.declared.refused.Refused.{Refused}
+
+-- ---- a file of the version before floors
+
+-- it shows the log, as that version did
+pub record ShowsEarlier (db : Database) (log : List Command) : Type 0 where
+  pub commands : AreCommands log
+  pub tables : Tables
+  pub are : ShowsAs (nat_abs BEFORE_FLOORS) db tables
+  pub shows : AreTablesIn (nat_abs BEFORE_FLOORS) tables log
+
+-- the same of bare trees
+abbrev pub ShowsEarlierTrees : Trees → List Command → Type 0
+ShowsEarlierTrees trees log = (schema : Schema) × ShowsEarlier (record { schema = schema; trees = trees }) log
+
+-- and so does everything that a stop may leave
+pub record StandsEarlier (s : State) (log : List Command) : Type 0 where
+  pub shows : ShowsEarlier s.now log
+  pub survives : (left : Trees) → s.may_leave left → ShowsEarlierTrees left log
+
+-- its tables: all but that of floors
+abbrev pub earlier_probes : List (List ℕ × Table)
+earlier_probes =
+    map probe_of (table.Meta ∷ table.Branch ∷ table.Teller ∷ table.Account ∷ table.History ∷ table.Request ∷ [])
+
+-- `meta` has its version
+abbrev pub IsEarlier : State → Type 0
+IsEarlier old = Misses old (Version BEFORE_FLOORS)
+
+-- ---- the tables are changed
+
+-- These tables are shown now, also by whatever a stop leaves, and every table but `meta` that has a tree of its
+-- own is as it was.
+pub record IsMoved (old : Database) (new : State) (t : Tables) : Type 0 where
+  pub shows : Shows new.now t
+  pub left : (left : Trees) → new.may_leave left → ShowsTrees left t
+  pub spares : SparesStanding old new.now meta.name
+
+-- a bank that had no floors is one of this version, with the same rows
+abbrev pub BankIsMoved : Database → State → Type 0
+BankIsMoved old new = (t : Tables) → ShowsFloorless old t → IsMoved old new t
+
+-- the same of what a stop may leave
+abbrev pub HasMoved : Database → Trees → Type 0
+HasMoved old left = (t : Tables) → ShowsFloorless old t → ShowsTrees left t
+
+-- Why the tables aren't changed: that of floors is refused, by an error that isn't the store's own; or `meta`
+-- lacks its row; or the store failed.
+abbrev pub IsUnmoved : Database → OpenFault → Type 0
+IsUnmoved old Store = ⊤
+IsUnmoved old Foreign = (e : Error) × (of_the_store e ≡ false) × RefusesFloors old.schema e
+IsUnmoved old (Damaged Meta) = RowIs old (λ stored. stored ≡ None)
+IsUnmoved old _ = ⊥
+
+-- inside a transaction
+abbrev pub ChangesTables : Database → Database → Result (Unit {0}) OpenFault → Type 0
+ChangesTables old new (Ok done) = (t : Tables) → ShowsFloorless old t
+    → Shows new t × SparesStanding old new meta.name
+ChangesTables old new (Err fault) = IsUnmoved old fault
+
+-- What a call that changes the tables comes to: a bank is moved, or, as long as the store is open, nothing has
+-- changed. A stop leaves what it could leave before, or the moved bank.
+pub record MovesBank {S : Type 0} (g : Ghosts S) (old new : Held S) (result : Result (Unit {0}) OpenFault)
+    : Type 0 where
+  pub moved : HasCleanDisk (state g new) → OnOk result (BankIsMoved (state g old).now (state g new))
+  pub undone : HasCleanDisk (state g new) → OnErr result (IsUndoneIfOpen (state g old) (state g new))
+  pub why : HasCleanDisk (state g new) → IfErr result (IsUnmoved (state g old).now)
+  pub cause : IfErr result (KnowsCause g old new)
+  pub survives : Survives (state g old) (state g new) (HasMoved (state g old).now)
+  pub mode : new.in_transaction ≡ false
+
+-- ---- a bank is looked for, and carried over
+
+-- the row is there, and its count is within its range
+abbrev pub IsCounted : Option StoredMeta → Type 0
+IsCounted stored = (m : StoredMeta) × (stored ≡ Some m) × IsWithin m.decided
+
+-- a file with that version has a bank of it
+pub record HasEarlier (db : Database) : Type 0 where
+  pub tables : IsPresent db earlier_probes Whole
+  pub meta : RowIs db IsCounted
+
+-- the row is missing, or its count is outside its range
+abbrev pub IsUncounted : Option StoredMeta → Type 0
+IsUncounted stored = (stored ≡ None) ⊎ ((m : StoredMeta) × (stored ≡ Some m) × IsOutside m.decided)
+
+-- why a file with that version has no bank of it
+abbrev pub MissesEarlier : Database → OpenFault → Type 0
+MissesEarlier old Store = ⊤
+MissesEarlier old Foreign = OneOf earlier_probes (Lacks old)
+MissesEarlier old (Damaged Meta) = IsPresent old earlier_probes Whole × RowIs old IsUncounted
+MissesEarlier old (Damaged Value) = IsPresent old earlier_probes Whole × RowIs old (λ _. ⊥) × HasOtherValue old
+MissesEarlier old _ = ⊥
+
+-- it has one, and everything is as it was; or why it hasn't
+abbrev pub SeeksEarlier : State → State → Result (Unit {0}) OpenFault → Type 0
+SeeksEarlier old new (Ok done) = HasEarlier old.now × IsAsBefore old new
+SeeksEarlier old new (Err fault) = MissesEarlier old.now fault × IsReadOnly {X = Unit {0}} old new (Err fault)
+
+-- it had one, which is moved; or why not
+abbrev pub MovesFound : State → State → Result (Unit {0}) OpenFault → Type 0
+MovesFound old new (Ok done) = HasEarlier old.now × BankIsMoved old.now new
+MovesFound old new (Err fault) = (MissesEarlier old.now fault ⊎ IsUnmoved old.now fault)
+    × IsReadOnly {X = Unit {0}} old new (Err fault)
+
+-- Why no bank is carried over. Without that version, as for one that is taken up; with it, since there is no
+-- bank of it, or since its tables can't be changed.
+abbrev pub Misplaces : State → OpenFault → Type 0
+Misplaces old fault = (Misses old fault × (fault ≢ Version BEFORE_FLOORS))
+    ⊎ (IsEarlier old × (MissesEarlier old.now fault ⊎ IsUnmoved old.now fault))
+
+-- the bank was of this version, and everything is as it was; or it was of the one before floors, and is moved;
+-- or why neither
+abbrev pub Migrates : State → State → Result Migrated OpenFault → Type 0
+Migrates old new (Ok Already) = BankIsFound old new
+Migrates old new (Ok (Moved from)) = IsEarlier old × HasEarlier old.now × BankIsMoved old.now new
+Migrates old new (Err fault) = Misplaces old fault × IsReadOnly {X = Unit {0}} old new (Err fault)
+
+-- a bank is moved from the version before floors
+abbrev pub IsFrom : Migrated → Type 0
+IsFrom Already = ⊤
+IsFrom (Moved from) = from ≡ BEFORE_FLOORS
+
+-- what a stop may leave more: a moved bank, where one of the version before floors was
+abbrev pub HasCarriedOver : State → Trees → Type 0
+HasCarriedOver old left = IsEarlier old × HasMoved old.now left
+
+-- ---- what the caller gets
+
+-- what the connection shows that is given back, in a bank or alone
+abbrev pub state_of : {S : Type 0} (g : Ghosts S) → Result (Bank S g × Migrated) (Refused S) → State
+state_of g (Ok done) = file_of done.0
+state_of g (Err refused) = state g refused.conn
+
+-- What holds of a bank that was carried over: its file had a bank of the version before floors, all of whose rows
+-- it has, and it stands at the plain log of whatever log that showed. It is up.
+pub record IsCarriedOver {S : Type 0} (g : Ghosts S) (conn : Held S) (bank : Bank S g) : Type 0 where
+  pub was : HasCleanDisk (file_of bank) → IsEarlier (state g conn) × HasEarlier (state g conn).now
+  pub moved : HasCleanDisk (file_of bank) → BankIsMoved (state g conn).now (file_of bank)
+  pub stands : (bank_seen g bank).honest → (log : List Command) → ShowsEarlier (state g conn).now log
+      → StandsAt (bank_seen g bank) (plain (nat_abs BEFORE_FLOORS) log)
+  pub up : (bank_seen g bank).is_down → ⊥
+
+-- it was carried over from this version, or was of the present one and is taken up
+abbrev pub IsMigrated : {S : Type 0} (g : Ghosts S) → Held S → Bank S g × Migrated → Type 0
+IsMigrated g conn (bank, Moved from) = (from ≡ BEFORE_FLOORS) × IsCarriedOver g conn bank
+IsMigrated g conn (bank, Already) = IsTakenUp g conn bank
+
+-- What is answered where a log is shown, but for a fault of the store: of this version, that nothing was done; of
+-- the version before floors, where nothing else has the name of the table of floors, that it was moved.
+pub record KnowsAnswer {S : Type 0} (g : Ghosts S) (conn : Held S)
+    (result : Result (Bank S g × Migrated) (Refused S)) : Type 0 where
+  pub ours : HasCleanDisk (state_of g result) → (log : List Command) → ShowsLog (conn_seen g conn) log
+      → IfOk result (λ done. done.1 ≡ Already) × IfErr result (λ refused. refused.fault ≡ Store)
+  pub earlier : HasCleanDisk (state_of g result) → (log : List Command) → ShowsEarlier (state g conn).now log
+      → TakesFloors (state g conn).now.schema
+      → IfOk result (λ done. done.1 ≡ Moved BEFORE_FLOORS) × IfErr result (λ refused. refused.fault ≡ Store)
+
+-- What a refusal leaves where the connection stood at a log: of this version, that log; of the version before
+-- floors, the log as that version, or its plain log as this one.
+pub record LeavesBank {S : Type 0} (g : Ghosts S) (conn : Held S) (refused : Refused S) : Type 0 where
+  pub ours : HasCleanDisk (state g refused.conn) → (log : List Command) → StandsAt (conn_seen g conn) log
+      → LeavesOnly (conn_seen g refused.conn) (λ t. AreTablesOf t log)
+  pub earlier : HasCleanDisk (state g refused.conn) → (log : List Command) → StandsEarlier (state g conn) log
+      → (left : Trees) → (state g refused.conn).may_leave left → ShowsEarlierTrees left log
+      ⊎ ((t : Tables) × ShowsTrees left t × AreTablesOf t (plain (nat_abs BEFORE_FLOORS) log))

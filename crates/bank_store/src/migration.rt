@@ -1,0 +1,184 @@
+//! Carrying a bank of the version before floors over to this version.
+ghost use Rattle.std.specs.Prelude.{◌≡◌, IfErr, IfOk, IsTrue, Err, false};
+ghost use Rattle.sqlite.specs.State.{HasCleanDisk, Survives};
+ghost use Rattle.sqlite.specs.Held.{state};
+ghost use Rattle.sql_meanings.specs.Calls.{Inside, Says};
+ghost use Rattle.sql_meanings.specs.Outcomes.{WritesKept};
+ghost use Rattle.bank_store.specs.Connections.{IsGivenBack, IsReadOnly};
+ghost use Rattle.bank_store.specs.Migration.{ChangesTables, HasCarriedOver, HasMoved, IsFrom, IsMigrated};
+ghost use Rattle.bank_store.specs.Migration.{KnowsAnswer, LeavesBank, Migrates, Misplaces, MovesBank, MovesFound};
+ghost use Rattle.bank_store.specs.Migration.{SeeksEarlier, state_of};
+ghost use Rattle.bank_store.specs.Seen.{alloc_of};
+ghost use Rattle.bank_store.specs.StoreFaults.{KnowsCause};
+
+use crate::adoption::{check_count, find_bank, settled_meta};
+use crate::bank::Bank;
+use crate::presence::{Presence, count_tables};
+use crate::refused::{Refused, unmoved};
+use bank_transactions::{begin, note_settled};
+use posting_rules::{OpenFault, Rule};
+use sqlite::{Alter, Connection, Transaction};
+use std::alloc::Global;
+use store_rows::{
+    BEFORE_FLOORS, BankTable, VERSION, commit, make_floors, probe_table, set_version,
+};
+
+/// What was done so that a file has a bank of this version.
+#[derive(Clone, Copy, Debug, PartialEq, Eq)]
+pub enum Migrated {
+    /// It had one of this earlier version, which was carried over.
+    Moved(i64),
+    /// It had one of this version, and nothing was done.
+    Already,
+}
+
+// Makes the table of floors, and writes the version.
+fn change_tables<S: Alter>(tx: &mut Transaction<'_, S>) -> Result<(), OpenFault>
+    ensures says { Says S.Store tx.old tx.new
+        (Inside (λ old new. ChangesTables old.now new.now result))
+        (Inside (λ old new. WritesKept old new result)) }
+    ensures cause { IsTrue tx.old.conn.now.in_transaction
+        → IfErr result (KnowsCause S.Store tx.old.conn.now tx.new.conn.now) }
+{
+    match make_floors(tx) {
+        Ok(()) => {}
+        Err(e) => return Err(unmoved(&e)),
+    }
+    match set_version(tx, VERSION) {
+        Ok(true) => Ok(()),
+        Ok(false) => Err(OpenFault::Damaged(Rule::Meta)),
+        Err(_) => Err(OpenFault::Store),
+    }
+}
+
+// The same, in one transaction.
+fn move_bank<S: Alter>(conn: &mut Connection<S>) -> Result<(), OpenFault>
+    requires { conn.old.in_transaction ≡ false }
+    ensures { MovesBank S.Store conn.old conn.new result }
+{
+    let mut tx = begin(conn);
+    change_tables(&mut tx)?;
+    match commit(tx) {
+        Ok(()) => Ok(()),
+        Err(_) => Err(OpenFault::Store),
+    }
+}
+
+// The same. Where the tables can't be changed the store is asked for a table once more, so that it is known to
+// be open and to have undone the transaction.
+fn move_settled<S: Alter>(conn: &mut Connection<S>) -> Result<(), OpenFault>
+    requires { conn.old.in_transaction ≡ false }
+    ensures moves { MovesBank S.Store conn.old conn.new result }
+    ensures same { HasCleanDisk (state S.Store conn.new)
+        → IfErr result (λ fault. IsReadOnly {X = Unit {0}} (state S.Store conn.old) (state S.Store conn.new)
+        (Err fault)) }
+{
+    note_settled(conn);
+    let Err(fault) = move_bank(conn) else {
+        return Ok(());
+    };
+    let Ok(_) = probe_table(conn, BankTable::Meta) else {
+        return Err(OpenFault::Store);
+    };
+    Err(fault)
+}
+
+// Looks for the tables of a bank before floors, and then for its count of requests.
+fn find_earlier<S: Alter>(conn: &mut Connection<S>) -> Result<(), OpenFault>
+    requires { conn.old.in_transaction ≡ false }
+    ensures told { HasCleanDisk (state S.Store conn.new)
+        → SeeksEarlier (state S.Store conn.old) (state S.Store conn.new) result }
+    ensures cause { IfErr result (KnowsCause S.Store conn.old conn.new) }
+    ensures mode { conn.new.in_transaction ≡ false }
+    ensures survives { Survives (state S.Store conn.old) (state S.Store conn.new) (λ _. ⊥) }
+{
+    let others = [
+        BankTable::Branch,
+        BankTable::Teller,
+        BankTable::Account,
+        BankTable::History,
+        BankTable::Request,
+    ];
+    let Presence::Whole = count_tables(conn, BankTable::Meta, &others)? else {
+        return Err(OpenFault::Foreign);
+    };
+    match settled_meta(conn)? {
+        None => Err(OpenFault::Damaged(Rule::Meta)),
+        Some(meta) => check_count(&meta),
+    }
+}
+
+// Moves the bank that a file of the version before floors has.
+fn move_found<S: Alter>(conn: &mut Connection<S>) -> Result<(), OpenFault>
+    requires { conn.old.in_transaction ≡ false }
+    ensures told { HasCleanDisk (state S.Store conn.new)
+        → MovesFound (state S.Store conn.old) (state S.Store conn.new) result }
+    ensures cause { IfErr result (KnowsCause S.Store conn.old conn.new) }
+    ensures mode { conn.new.in_transaction ≡ false }
+    ensures survives { Survives (state S.Store conn.old) (state S.Store conn.new)
+        (HasMoved (state S.Store conn.old).now) }
+{
+    find_earlier(conn)?;
+    move_settled(conn)
+}
+
+// Looks for a bank of this version, and moves one of the version before floors.
+fn find_or_move<S: Alter>(conn: &mut Connection<S>) -> Result<Migrated, OpenFault>
+    requires { conn.old.in_transaction ≡ false }
+    ensures told { HasCleanDisk (state S.Store conn.new)
+        → Migrates (state S.Store conn.old) (state S.Store conn.new) result }
+    ensures from { IfOk result IsFrom }
+    ensures cause { IfErr result (KnowsCause S.Store conn.old conn.new) }
+    ensures mode { conn.new.in_transaction ≡ false }
+    ensures survives { Survives (state S.Store conn.old) (state S.Store conn.new)
+        (HasCarriedOver (state S.Store conn.old)) }
+{
+    match find_bank(conn) {
+        Ok(()) => Ok(Migrated::Already),
+        Err(OpenFault::Version(version)) if version == BEFORE_FLOORS => {
+            move_found(conn)?;
+            Ok(Migrated::Moved(BEFORE_FLOORS))
+        }
+        Err(fault) => Err(fault),
+    }
+}
+
+/// Makes sure that the connection's file has a bank of this version: takes up one of this version, as `adopt`
+/// does, and carries one of the version before floors over to it, in one transaction. All its rows stay, so it
+/// shows what it showed, and no branch has a floor. A stop in the call leaves the bank as it was or carried over.
+///
+/// The connection has to be outside a transaction, as a new one is.
+///
+/// # Errors
+///
+/// The connection comes back with each, outside a transaction. Each but the last says what the file has, and that
+/// it is as it was.
+///
+/// - [`OpenFault::Version`]: `meta` is there and has a version that is neither.
+/// - [`OpenFault::Blank`]: none of a bank's tables is there.
+/// - [`OpenFault::Foreign`]: some of them are there, and some aren't; or the table of floors can't be made, as
+///   where something else has its name.
+/// - [`OpenFault::Damaged`]: the row of `meta` is missing, is out of its range or has a value of another
+///   type.
+/// - [`OpenFault::Store`]: a call of `sqlite` failed. Nothing has changed, as long as the store is open.
+pub fn migrate<S: Alter>(
+    alloc: Global,
+    mut conn: Connection<S>,
+) -> Result<(Bank<S>, Migrated), Refused<S>>
+    requires { conn.in_transaction ≡ false }
+    ensures migrated { IfOk result (IsMigrated S.Store conn) }
+    ensures alloc { IfOk result (λ done. alloc_of done.0 ≡ alloc) }
+    ensures misplaced { IfErr result (λ refused. HasCleanDisk (state S.Store refused.conn)
+        → Misplaces (state S.Store conn) refused.fault) }
+    ensures cause { IfErr result (λ refused. KnowsCause S.Store conn refused.conn refused.fault) }
+    ensures back { IfErr result (IsGivenBack S.Store conn) }
+    ensures known { KnowsAnswer S.Store conn result }
+    ensures remains { IfErr result (LeavesBank S.Store conn) }
+    ensures survives { Survives (state S.Store conn) (state_of S.Store result)
+        (HasCarriedOver (state S.Store conn)) }
+{
+    match find_or_move(&mut conn) {
+        Ok(migrated) => Ok((Bank::over(alloc, conn), migrated)),
+        Err(fault) => Err(Refused { fault, conn }),
+    }
+}
