@@ -6,8 +6,8 @@ use Rattle.std.specs.List.{find, AllByRecursion}
 use Rattle.std.specs.Option.{option_map}
 use Rattle.std.proofs.lemmas.Bool.Decides.{nat_tests}
 use Rattle.posting_rules.specs.Kept.{KeptFields}
-use Rattle.posting_rules.specs.LookUps.{account_balance_in, balance_of_account, balance_of_teller, floor_in}
-use Rattle.posting_rules.specs.LookUps.{kept_in, kept_of_row, lowest_of}
+use Rattle.posting_rules.specs.LookUps.{balance_of_account, balance_of_teller}
+use Rattle.posting_rules.specs.LookUps.{kept_of_row, lowest_of}
 use Rattle.posting_rules.specs.Tables.{Tables, row_at, account_key, account_row_of, branch_key, floor_key}
 use Rattle.posting_rules.specs.Tables.{floor_row_of, teller_key, teller_row_of}
 use Rattle.posting_rules.specs.declared.rows.AccountRow.{AccountRow}

@@ -11,7 +11,7 @@ use Rattle.std.specs.Option.{option_map}
 use Rattle.bank_transactions.proofs.Chained.{acts_read, acts_wrote, does_both, does_but, does_err, does_for}
 use Rattle.bank_transactions.proofs.Chained.{does_tell}
 use Rattle.bank_transactions.proofs.Statements.{does_read}
-use Rattle.std.proofs.Common.{arith, ap, subst}
+use Rattle.std.proofs.Common.{arith, subst}
 use Rattle.sqlite.specs.Effect.{Database}
 use Rattle.sqlite.specs.Held.{state}
 use Rattle.sqlite.specs.State.{HasCleanDisk}

@@ -1,11 +1,5 @@
 -- The row of the next branch, and then its floor.
-use Rattle.std.proofs.Common.{◌≡◌, ℕ, None, Some, Err, rules, refl}
-use Rattle.posting_rules.specs.Branches.{line_of}
-use Rattle.posting_rules.specs.LookUps.{floor_in}
-use Rattle.posting_rules.specs.Tables.{Tables}
-use Rattle.posting_rules.specs.declared.rows.BranchRow.{BranchRow}
-use Rattle.store_rows.specs.Columns.{branch_above}
-use Rattle.bank_transactions.specs.NextBranch.{line_above}
+use Rattle.std.proofs.Common.{◌≡◌, Err, rules}
 use Rattle.bank_transactions.proofs.ReadsInTurn.{reads_but}
 use Rattle.bank_transactions.proofs.next_branch.branch_after.Goals as goal
 
