@@ -173,31 +173,6 @@ goes_on {C} seen known g g1 g2 g3 k k' k'' old mid new result n e chain opened c
       own = more.own;
     }
 
-pub all_served : {C E : Type 0} (seen : C → Seen) (known : E → Known) (g g' : Option (List E))
-    (k k' : Option (List ℕ)) (old new : C) (n : ℕ)
-    → Chain seen known g g' k k' old new n → ServesDoor seen known g g' k k' old new n (Ok tt)
-all_served seen known g g' k k' old new n chain = record {
-  connections = chain.connections;
-  are_served = chain.are_served;
-  ends = (chain.count, chain.go_on);
-  given = chain.given;
-  gave = chain.gave;
-  own = chain.own;
-}
-
-pub none_given : {C E : Type 0} (seen : C → Seen) (known : E → Known) (g g1 g2 : Option (List E))
-    (k k' : Option (List ℕ)) (old new : C) (n all : ℕ)
-    → Chain seen known g g1 k k' old new n → GrowsBy g1 g2 [] → n < all
-    → ServesDoor seen known g g2 k k' old new all (Err Network)
-none_given seen known g g1 g2 k k' old new n all chain refused few = record {
-  connections = chain.connections;
-  are_served = chain.are_served;
-  ends = (omega (arith, chain.count), chain.go_on);
-  given = chain.given;
-  gave = gave_same g g1 g2 chain.given chain.gave refused;
-  own = chain.own;
-}
-
 never_network : (r : Result ℕ ServeFault) → after_connection r ≡ Err Network → ⊥
 never_network (Ok served) is = cc
 never_network (Err serve.Read) is = cc
