@@ -6,7 +6,8 @@ use Rattle.posting_rules.specs.Counter.{Seen, StandsAt, LeavesOnly, ShowsBeginni
 use Rattle.posting_rules.specs.Runs.{behind}
 use Rattle.posting_rules.proofs.Remaining.{leaves_weaker}
 use Rattle.bank_lives.specs.Lives.{EndsLife, Life}
-use Rattle.bank_lives.specs.ManyLives.{Given, IsOpenedOn, Keeps, Lives, ShowsKept, created, released, stopped}
+use Rattle.bank_lives.specs.ManyLives.{Given, IsOpenedOn, Keeps, Lives, ShowsKept, created, carried_over, released}
+use Rattle.bank_lives.specs.ManyLives.{stopped}
 use Rattle.bank_lives.proofs.Lived.{end_leaves, life_given, life_honest, life_lives}
 
 -- the beginning of what was given that is found
@@ -39,17 +40,18 @@ begins_left last first log given least opened left =
     }
 
 module _ {M : Type 0} (seen : M → Seen) where
-  -- where a life begins: the first of all at the empty log, any other by the one before it
-  abbrev pub Before : M → List Given → Type 0
-  Before first [] = StandsAt (seen first) []
-  Before first (life ∷ lives) = (before : M) × Lives seen before lives × (seen before).honest
+  -- where a life begins: the first of all at its log, any other by the one before it
+  abbrev pub Before : List Command → M → List Given → Type 0
+  Before start first [] = StandsAt (seen first) start
+  Before start first (life ∷ lives) = (before : M) × Lives seen start before lives × (seen before).honest
       × ((log : List Command) → StandsAt (seen before) log
       → Begins (seen first) log life.commands life.least)
 
-  pub before_life : (first : M) (lives : List Given) → Lives seen first lives → (seen first).honest
-      → Before first lives
-  before_life first lives (created it stands) h = stands h
-  before_life first lives (released before it life others some lived up) h = (
+  pub before_life : (start : List Command) (first : M) (lives : List Given) → Lives seen start first lives
+      → (seen first).honest → Before start first lives
+  before_life start first lives (created it stands) h = stands h
+  before_life start first lives (carried_over it log stands) h = stands h
+  before_life start first lives (released begun before it life others some lived up) h = (
     before,
     some,
     life_honest seen before it life.commands life.least lived h,
@@ -60,7 +62,7 @@ module _ {M : Type 0} (seen : M → Seen) where
           | inr cut ↦ absurd (up cut.0)
         ]),
   )
-  before_life first lives (stopped before now last it life others some lived ends clean opened) h = (
+  before_life start first lives (stopped begun before now last it life others some lived ends clean opened) h = (
     before,
     some,
     life_honest seen before now life.commands life.least lived (ends.honest clean),
@@ -69,23 +71,24 @@ module _ {M : Type 0} (seen : M → Seen) where
   )
 
   -- a log that is, life by life, a beginning of what was given
-  pub kept : (lives : List Given) (first : M) → Lives seen first lives → (seen first).honest
-      → (log : List Command) × Keeps log lives × StandsAt (seen first) log
-  kept [] first some h = ([], refl, before_life first [] some h)
-  kept (life ∷ lives) first some h =
-      let was = before_life first (life ∷ lives) some h in
-      let it = kept lives was.0 was.1 was.2 in
+  pub kept : (start : List Command) (lives : List Given) (first : M) → Lives seen start first lives
+      → (seen first).honest → (log : List Command) × Keeps start log lives × StandsAt (seen first) log
+  kept start [] first some h = (start, refl, before_life start first [] some h)
+  kept start (life ∷ lives) first some h =
+      let was = before_life start first (life ∷ lives) some h in
+      let it = kept start lives was.0 was.1 was.2 in
       let b = was.3 it.0 it.2 in
       (behind it.0 (take b.count life.commands), (it.0, it.1, b.count, b.holds, b.within, refl), b.stands)
 
   -- at each moment of the last life a stop leaves one with a beginning of this life's
-  pub left_of : (lives : List Given) (life : Given) (first now last : M) → Lives seen first lives
+  pub left_of : (start : List Command) (lives : List Given) (life : Given) (first now last : M)
+      → Lives seen start first lives
       → Life seen first now life.commands life.least → EndsLife (seen now) (seen last) → (seen last).honest
-      → LeavesOnly (seen last) (ShowsKept (life ∷ lives))
-  left_of lives life first now last some lived ends h =
-      let it = kept lives first some (life_honest seen first now life.commands life.least lived
+      → LeavesOnly (seen last) (ShowsKept start (life ∷ lives))
+  left_of start lives life first now last some lived ends h =
+      let it = kept start lives first some (life_honest seen first now life.commands life.least lived
       (ends.honest h)) in
-      leaves_weaker (seen last) (ShowsBeginning it.0 life.commands life.least) (ShowsKept (life ∷ lives))
+      leaves_weaker (seen last) (ShowsBeginning it.0 life.commands life.least) (ShowsKept start (life ∷ lives))
       (λ t b. record {
         log = behind it.0 (take b.count life.commands);
         keeps = (it.0, it.1, b.count, b.holds, b.within, refl);

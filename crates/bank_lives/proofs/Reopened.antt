@@ -57,10 +57,11 @@ found_at seen log given least count holds within none_shares consistent stands o
 }
 
 -- a bank that stands at what the lives before it lead to
-pub kept_at : (seen : Seen) (lives : List Given) (log : List Command) → Keeps log lives → NoneShares
+pub kept_at : (seen : Seen) (start : List Command) (lives : List Given) (log : List Command)
+    → Keeps start log lives → NoneShares
     → TablesAreConsistent → (stands : StandsAt seen log)
-    → ((other : Tables) → seen.tables other → other ≡ stands.shows.tables) → IsKept seen lives
-kept_at seen lives log keeps none_shares consistent stands one = record {
+    → ((other : Tables) → seen.tables other → other ≡ stands.shows.tables) → IsKept seen start lives
+kept_at seen start lives log keeps none_shares consistent stands one = record {
   log = log;
   keeps = keeps;
   stands = stands;

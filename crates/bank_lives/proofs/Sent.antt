@@ -69,15 +69,15 @@ one_life_more was first log records answered place life it le sent on =
     }
 
 module _ {M : Type 0} (seen : M → Seen) where
-  posted : (records : List (List ℕ)) (before sent : List Given) (answered : ℕ) (first : M)
-      → Lives seen first (sent ++ before) → Sends records sent answered → (seen first).honest
-      → (log : List Command) × Keeps log before × Posted (seen first) log records answered
-  posted records before sent answered first lives begins h =
-      let it = kept seen before first lives h in
+  posted : (start : List Command) (records : List (List ℕ)) (before sent : List Given) (answered : ℕ) (first : M)
+      → Lives seen start first (sent ++ before) → Sends records sent answered → (seen first).honest
+      → (log : List Command) × Keeps start log before × Posted (seen first) log records answered
+  posted start records before sent answered first lives begins h =
+      let it = kept seen start before first lives h in
       (it.0, it.1, none_posted (seen first) it.0 records it.2)
-  posted records before sent answered first lives (goes_on life others some place sends le from) h =
-      let was = before_life seen first (life ∷ others ++ before) lives h in
-      let it = posted records before others some was.0 was.1 sends was.2 in
+  posted start records before sent answered first lives (goes_on life others some place sends le from) h =
+      let was = before_life seen start first (life ∷ others ++ before) lives h in
+      let it = posted start records before others some was.0 was.1 sends was.2 in
       (it.0, it.1, one_life_more (seen was.0) (seen first) it.0 records some place life it.2 le from was.3)
 
 -- who goes on gets the replies that he would have got
@@ -96,12 +96,12 @@ replies_on seen log records answered place commands it le sent =
     (first_replies log whole records (posts_both p again.added it.first.posts again.posts) again.are)
     ∙ within_front (length commands) place (length whole) (replies_to log (posts 0 records)) again.long
 
-pub finds_sent : {M : Type 0} (seen : M → Seen) (sent before : List Given) (records : List (List ℕ))
-    (answered : ℕ) (first : M) → NoneShares → Lives seen first (sent ++ before)
+pub finds_sent : {M : Type 0} (seen : M → Seen) (start : List Command) (sent before : List Given)
+    (records : List (List ℕ)) (answered : ℕ) (first : M) → NoneShares → Lives seen start first (sent ++ before)
     → Sends records sent answered → (seen first).honest
-    → (log : List Command) × Keeps log before × FindsSent (seen first) log records answered
-finds_sent seen sent before records answered first none_shares lives sends h =
-    let it = posted seen records before sent answered first lives sends h in
+    → (log : List Command) × Keeps start log before × FindsSent (seen first) log records answered
+finds_sent seen start sent before records answered first none_shares lives sends h =
+    let it = posted seen start records before sent answered first lives sends h in
     let log = it.0 in
     let its = it.2 in (
       log,

@@ -1,11 +1,13 @@
 -- Any number of lives, one after another, and what is found at last.
-use Rattle.std.specs.Prelude.{◌≡◌, ◌≤◌, ℕ, List, [], ◌∷◌, length, take, AllPairs}
+use Rattle.std.specs.Prelude.{◌≡◌, ◌≤◌, ℕ, nat_abs, List, [], ◌∷◌, length, take, AllPairs}
 use Rattle.posting_rules.specs.Commands.{Command, AreCommands}
 use Rattle.posting_rules.specs.Counter.{Seen, StandsAt}
+use Rattle.posting_rules.specs.Editions.{plain}
 use Rattle.posting_rules.specs.Entries.{decided}
 use Rattle.posting_rules.specs.Laws.{Differ, IsConsistent}
 use Rattle.posting_rules.specs.Runs.{behind}
 use Rattle.posting_rules.specs.Tables.{Tables, AreTablesOf}
+use Rattle.store_rows.specs.declared.migration.TheConstants.{BEFORE_FLOORS}
 use Rattle.bank_lives.specs.Lives.{Life, EndsLife}
 
 -- what one life was given, and how many of it the least beginning has that holds all that were acknowledged
@@ -20,37 +22,44 @@ pub record IsOpenedOn (last first : Seen) : Type 0 where
   pub stands : (t : Tables) (log : List Command) → AreCommands log → last.found remains t → AreTablesOf t log
       → StandsAt first log
 
--- The moment at which a life begins, and what the lives before it were given, the last of them first.
-pub data Lives {M : Type 0} (seen : M → Seen) : M → List Given → Type 0 where
+-- The log that the first life began at, the moment at which a life begins, and what the lives before it were
+-- given, the last of them first.
+pub data Lives {M : Type 0} (seen : M → Seen) : List Command → M → List Given → Type 0 where
   -- a new bank
-  created : (first : M) → ((seen first).honest → StandsAt (seen first) []) → Lives seen first []
+  created : (first : M) → ((seen first).honest → StandsAt (seen first) []) → Lives seen [] first []
+  -- a bank of the version before floors that was carried over, and stands at the plain log of what it showed
+  carried_over : (first : M) (log : List Command)
+      → ((seen first).honest → StandsAt (seen first) (plain (nat_abs BEFORE_FLOORS) log))
+      → Lives seen (plain (nat_abs BEFORE_FLOORS) log) first []
   -- the life before ended at this moment, with a release: it wasn't down
-  released : (before first : M) (life : Given) (lives : List Given) → Lives seen before lives
-      → Life seen before first life.commands life.least → ((seen first).is_down → ⊥)
-      → Lives seen first (life ∷ lives)
+  released : (start : List Command) (before first : M) (life : Given) (lives : List Given)
+      → Lives seen start before lives → Life seen before first life.commands life.least
+      → ((seen first).is_down → ⊥) → Lives seen start first (life ∷ lives)
   -- it was stopped, on a disk that returns what was written, and this one was opened on what the stop left
-  stopped : (before now last first : M) (life : Given) (lives : List Given) → Lives seen before lives
-      → Life seen before now life.commands life.least → EndsLife (seen now) (seen last)
-      → (seen last).honest → IsOpenedOn (seen last) (seen first) → Lives seen first (life ∷ lives)
+  stopped : (start : List Command) (before now last first : M) (life : Given) (lives : List Given)
+      → Lives seen start before lives → Life seen before now life.commands life.least
+      → EndsLife (seen now) (seen last) → (seen last).honest → IsOpenedOn (seen last) (seen first)
+      → Lives seen start first (life ∷ lives)
 
--- the log is, life by life, a beginning of what was given that holds all that was acknowledged
-abbrev pub Keeps : List Command → List Given → Type 0
-Keeps log [] = log ≡ []
-Keeps log (life ∷ lives) = (before : List Command) × Keeps before lives × (count : ℕ)
+-- the log is that at which the first life began and then, life by life, a beginning of what was given that holds
+-- all that was acknowledged
+abbrev pub Keeps : List Command → List Command → List Given → Type 0
+Keeps start log [] = log ≡ start
+Keeps start log (life ∷ lives) = (before : List Command) × Keeps start before lives × (count : ℕ)
     × (life.least ≤ count) × (count ≤ length life.commands) × (log ≡ behind before (take count life.commands))
 
 -- It shows such a log, and so does whatever a stop leaves of it. Each request is posted once, and accounts,
 -- tellers, branches and the deltas of history have one sum (TPC-B clause 2).
-pub record IsKept (seen : Seen) (lives : List Given) : Type 0 where
+pub record IsKept (seen : Seen) (start : List Command) (lives : List Given) : Type 0 where
   pub log : List Command
-  pub keeps : Keeps log lives
+  pub keeps : Keeps start log lives
   pub stands : StandsAt seen log
   pub once : AllPairs Differ (decided log)
   pub sums : (t : Tables) → seen.tables t → IsConsistent t
 
 -- the tables show such a log
-pub record ShowsKept (lives : List Given) (tables : Tables) : Type 0 where
+pub record ShowsKept (start : List Command) (lives : List Given) (tables : Tables) : Type 0 where
   pub log : List Command
-  pub keeps : Keeps log lives
+  pub keeps : Keeps start log lives
   pub are : AreCommands log
   pub shows : AreTablesOf tables log

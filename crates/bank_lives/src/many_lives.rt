@@ -37,18 +37,20 @@ pub fn reopenings_law<S: Alter>(conn: &Connection<S>)
 
 /// **After any number of lives the bank shows a log that is, life by life, a beginning of what was given, which
 /// holds all that was acknowledged. Each request is posted once, every branch has the sum of its tellers, and
-/// accounts, tellers and the deltas of history have one sum** (TPC-B clause 2). Each life is a run of calls,
-/// streams and reports, and ends with a release or with a stop at any store call; a reopening that was refused
-/// is a life that was given nothing.
+/// accounts, tellers and the deltas of history have one sum** (TPC-B clause 2). A bank that was made begins with
+/// no command, and one that was carried over from the version before floors with the plain log of its file. Each
+/// life is a run of calls, streams and reports, and ends with a release or with a stop at any store call; a
+/// reopening that was refused is a life that was given nothing.
 pub fn lives_law<S: Alter>(_bank: &Bank<S>)
-    ensures found { (first : Moment S.Store) (lives : List Given) → Lives (seen_at S.Store) first lives
-        → (seen_at S.Store first).honest → IsKept (seen_at S.Store first) lives }
+    ensures found { (start : List Command) (first : Moment S.Store) (lives : List Given)
+        → Lives (seen_at S.Store) start first lives
+        → (seen_at S.Store first).honest → IsKept (seen_at S.Store first) start lives }
     // Wherever the last life is stopped, all that may be left shows such a log.
-    ensures left { (lives : List Given) (life : Given) (first now last : Moment S.Store)
-        → Lives (seen_at S.Store) first lives
+    ensures left { (start : List Command) (lives : List Given) (life : Given) (first now last : Moment S.Store)
+        → Lives (seen_at S.Store) start first lives
         → Life (seen_at S.Store) first now life.commands life.least
         → EndsLife (seen_at S.Store now) (seen_at S.Store last) → (seen_at S.Store last).honest
-        → LeavesOnly (seen_at S.Store last) (ShowsKept (life ∷ lives)) }
+        → LeavesOnly (seen_at S.Store last) (ShowsKept start (life ∷ lives)) }
 {
     each_request_once();
     tables_are_consistent();
@@ -58,10 +60,11 @@ pub fn lives_law<S: Alter>(_bank: &Bank<S>)
 /// before it, gets the replies that he would have got. The tables are those of a beginning of his list that
 /// holds every answered record, each posting once, and at last of his whole list, moments aside.
 pub fn sender_law<S: Alter>(_bank: &Bank<S>)
-    ensures { (first : Moment S.Store) (sent before : List Given) (records : List (List ℕ)) (answered : ℕ)
-        → Lives (seen_at S.Store) first (sent ++ before) → Sends records sent answered
+    ensures { (start : List Command) (first : Moment S.Store) (sent before : List Given)
+        (records : List (List ℕ)) (answered : ℕ)
+        → Lives (seen_at S.Store) start first (sent ++ before) → Sends records sent answered
         → (seen_at S.Store first).honest
-        → (log : List Command) × Keeps log before × FindsSent (seen_at S.Store first) log records answered }
+        → (log : List Command) × Keeps start log before × FindsSent (seen_at S.Store first) log records answered }
 {
     each_request_once();
 }

@@ -47,9 +47,10 @@ pub fn reopen<S: Alter + Drop, T: Alter>(
     ensures kept { IfOk result (λ bank. (bank_seen T.Store bank).honest → Opens (state T.Store conn)
         → (bank_seen S.Store stopped.now).honest
         → (bank_seen S.Store stopped.now).left (state T.Store conn).now.trees
-        → (first : Moment S.Store) (life : Given) (lives : List Given) → Lives (seen_at S.Store) first lives
+        → (start : List Command) (first : Moment S.Store) (life : Given) (lives : List Given)
+        → Lives (seen_at S.Store) start first lives
         → Life (seen_at S.Store) first (Of_bank stopped.now) life.commands life.least
-        → IsKept (bank_seen T.Store bank) (life ∷ lives)) }
+        → IsKept (bank_seen T.Store bank) start (life ∷ lives)) }
     ensures missed { IfErr result (λ refused. HasCleanDisk (state T.Store refused.conn)
         → Opens (state T.Store conn)
         → (bank_seen S.Store stopped.now).honest

@@ -1,12 +1,15 @@
 -- A connection that was just opened.
 use Rattle.std.proofs.Common.{◌≡◌, ◌∙◌, List, sym, ap, subst}
-use Rattle.sqlite.specs.Effect.{Database}
+use Rattle.sqlite.specs.Effect.{Database, IsDatabase}
+use Rattle.sqlite.specs.Schema.{Schema}
 use Rattle.sqlite.specs.State.{State, Opens}
 use Rattle.sqlite.specs.Tree.{Trees}
 use Rattle.posting_rules.specs.Commands.{Command, AreCommands}
 use Rattle.posting_rules.specs.Counter.{StandsAt}
 use Rattle.posting_rules.specs.Tables.{Tables, AreTablesOf}
+use Rattle.sql_meanings.proofs.Trees.{same_schema}
 use Rattle.store_rows.specs.View.{Shows, ShowsTrees}
+use Rattle.bank_store.specs.Migration.{ShowsEarlier, ShowsEarlierTrees, StandsEarlier}
 use Rattle.bank_store.specs.Seen.{seen_in}
 
 -- it stands at what its trees show
@@ -20,4 +23,15 @@ stands_opened s D up opens settled t log are left shown shows = record {
   survives = λ db may.
       let same = settled db may ∙ ap (λ (it : Database). it.trees) (sym opens.clean) in
       (t, subst (λ (trees : Trees). ShowsTrees trees t) (sym same) left, shows);
+}
+
+-- the same of a file of the version before floors
+pub stands_earlier : (s : State) → Opens s → ((db : Trees) → s.may_leave db → db ≡ s.committed.trees)
+    → IsDatabase s.now → (log : List Command) → ShowsEarlierTrees s.now.trees log → StandsEarlier s log
+stands_earlier s opens settled sound log left = record {
+  shows = subst (λ (schema : Schema). ShowsEarlier (record { schema = schema; trees = s.now.trees }) log)
+      (same_schema s.now left.0 ∣ sound ∣₁ left.1.are.sound) left.1;
+  survives = λ db may.
+      let same = settled db may ∙ ap (λ (it : Database). it.trees) (sym opens.clean) in
+      subst (λ (trees : Trees). ShowsEarlierTrees trees log) (sym same) left;
 }

@@ -8,6 +8,7 @@ ghost use Rattle.posting_rules.specs.Counter.{StandsAt};
 ghost use Rattle.posting_rules.specs.Tables.{Tables, AreTablesOf};
 ghost use Rattle.store_rows.specs.View.{ShowsTrees};
 ghost use Rattle.bank_store.specs.Connections.{conn_seen};
+ghost use Rattle.bank_store.specs.Migration.{ShowsEarlierTrees, StandsEarlier};
 
 use message_records::{Cents, Whole};
 use sqlite::{Alter, Connection};
@@ -38,4 +39,15 @@ pub fn opened_law<S: Alter>(conn: &Connection<S>)
         → StandsAt (conn_seen S.Store conn.now) log }
 {
     trees_show_law(conn);
+}
+
+/// The same of a bank of the version before floors: where the machine stops while it is carried over, it can be
+/// carried over again.
+pub fn opened_earlier_law<S: Alter>(conn: &Connection<S>)
+    ensures { Opens (state S.Store conn.now) → (log : List Command)
+        → ShowsEarlierTrees (state S.Store conn.now).now.trees log
+        → StandsEarlier (state S.Store conn.now) log }
+{
+    // What a schema says of its connection is what this law rests on, so it is asked for.
+    let _schema = conn.schema();
 }

@@ -2,7 +2,8 @@
 //! what it answered is found again after a stop of the machine (TPC-B, clauses 1 and 2).
 //!
 //! [`create`] makes a bank, [`adopt`] takes up the one that a file has, and [`Bank::release`] gives the
-//! connection back. The function `first_bank` of `store_tests`, which a test runs, makes a bank over a
+//! connection back. [`migrate`] first carries a bank of an earlier version over, which [`adopt`] refuses with
+//! [`OpenFault::Version`]. The function `first_bank` of `store_tests`, which a test runs, makes a bank over a
 //! connection, opens branch 1 with three accounts and posts 500 cents to the first. The reply has the
 //! outcome `Posted` and the balance 500:
 //!
@@ -68,7 +69,7 @@ pub use bank_walks::{
     Joined, StoredAccount, StoredBranch, StoredPosting, StoredRequest, StoredTeller,
 };
 pub use creation::create;
-pub use laws::opened_law;
+pub use laws::{opened_earlier_law, opened_law};
 pub use message_records::{
     Account, Bad, BadReply, Branch, Cents, Moment, Number, Outcome, Reply, Request, Teller,
     decode_reply, decode_request, encode_request,

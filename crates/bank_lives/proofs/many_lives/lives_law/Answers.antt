@@ -9,8 +9,8 @@ use Rattle.bank_lives.proofs.ManyLived.{kept, left_of}
 use Rattle.bank_lives.proofs.many_lives.lives_law.Goals as goal
 
 pub returns-clause-found : goal.returns-clause-found
-returns-clause-found g c first lives some h =
-    let it = kept (seen_at g.S.Store) lives first some h in
+returns-clause-found g c start first lives some h =
+    let it = kept (seen_at g.S.Store) start lives first some h in
     let shows = it.2.shows in
     record {
       log = it.0;
@@ -24,5 +24,5 @@ returns-clause-found g c first lives some h =
     }
 
 pub returns-clause-left : goal.returns-clause-left
-returns-clause-left g c lives life first now last some lived ends h =
-    left_of (seen_at g.S.Store) lives life first now last some lived ends h
+returns-clause-left g c start lives life first now last some lived ends h =
+    left_of (seen_at g.S.Store) start lives life first now last some lived ends h

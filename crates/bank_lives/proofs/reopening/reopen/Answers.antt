@@ -27,9 +27,9 @@ returns-clause-found g c =
 
 pub returns-clause-kept : goal.returns-clause-kept
 returns-clause-kept g c =
-    if_ok _ _ (λ bank taken honest opens stopped left first life lives some lived.
+    if_ok _ _ (λ bank taken honest opens stopped left start first life lives some lived.
     let last = Of_bank c.args.stopped.now in
-    let was = kept (seen_at g.S.Store) lives first some (life_honest (seen_at g.S.Store) first last
+    let was = kept (seen_at g.S.Store) start lives first some (life_honest (seen_at g.S.Store) first last
     life.commands life.least lived stopped) in
     let it = begins_opened (state g.T.Store c.args.conn) was.0 life.commands life.least opens
     (λ db may. g.met.T.Store.settled c.args.conn.store db opens.is_open may)
@@ -37,7 +37,7 @@ returns-clause-kept g c =
     (life_leaves (seen_at g.S.Store) first last life.commands life.least lived stopped was.0 was.2
     (g.T.Store.view c.args.conn.store).trees left) in
     let at = taken.stands honest _ it.stands in
-    kept_at (bank_seen g.T.Store bank) (life ∷ lives) (behind was.0 (take it.count life.commands))
+    kept_at (bank_seen g.T.Store bank) start (life ∷ lives) (behind was.0 (take it.count life.commands))
     (was.0, was.1, it.count, it.holds, it.within, refl)
     c.each_request_once.ensures
     c.tables_are_consistent.ensures at
