@@ -2,8 +2,9 @@
 """Refuses each allocation of the built program in turn, one a run, in eight cases: the first posting, a truncated stream,
 one record twice in a batch, a plan loaded twice, two messages in a row, an audit that finds damage, a statement, and a
 drive made twice. What is told is the fault or the case's own answer; nothing that was acknowledged is lost; and the case
-passes when it is run again: on the same bank where a connection was refused memory, else on the reopened one. It needs the
-built program and a C compiler, and stands outside the gate.
+passes when it is run again: on the same bank where a connection was refused memory, else on the reopened one. A run that was
+refused and left both files as they were isn't run again: it would be the run that was refused nothing. It needs the built
+program and a C compiler, and stands outside the gate. TMPDIR names the folder of its files, which is best in memory.
     tools/refuse_memory.py [CASE..]"""
 import os
 import shutil
@@ -87,14 +88,23 @@ class Folder:
     def note(self, fault):
         self.faults[fault] = self.faults.get(fault, 0) + 1
 
-    def copy(self, name):
-        """The bank that a case begins with, anew."""
+    def files(self, name):
+        """What a bank's two files hold, none of one that isn't there."""
+        held = []
         for end in ("", "-wal"):
+            path = f"{self.path}/{name}.db{end}"
+            held.append(open(path, "rb").read() if os.path.exists(path) else None)
+        return held
+
+    def restored(self, held):
+        """The bank of a run, in files that hold this."""
+        for end, content in zip(("", "-wal"), held):
             target = self.path + "/work.db" + end
             if os.path.exists(target):
                 os.remove(target)
-            if os.path.exists(self.path + "/" + name + ".db" + end):
-                shutil.copyfile(self.path + "/" + name + ".db" + end, target)
+            if content is not None:
+                with open(target, "wb") as out:
+                    out.write(content)
         return self.path + "/work.db"
 
     def tables(self, file):
@@ -173,11 +183,17 @@ def loaded_in_all(output):
     return len(words) == 6 and words[5] == b"0" and int(words[1]) + int(words[3]) == 2
 
 
-def try_at(folder, case, wanted, place, at):
-    """Refuses an allocation in one run of a case, and makes that run again. Whether there was such an allocation."""
-    file = folder.copy(case.name)
+def before_run(folder, case, place):
+    """What the files hold before a run of a case."""
+    file = folder.restored(folder.files(case.name))
     for before in case.runs[:place]:
         ensure(made(folder, case, file, before, 0)[0] == before[3], "a run before it")
+    return folder.files("work")
+
+
+def try_at(folder, case, wanted, held, place, at):
+    """Refuses an allocation in one run of a case, and makes that run again. Whether there was such an allocation."""
+    file = folder.restored(held)
     run = case.runs[place]
     (status, output, fault), refused = made(folder, case, file, run, at)
     own = run[3]
@@ -187,6 +203,8 @@ def try_at(folder, case, wanted, place, at):
         ensure(own[1].startswith(output), f"other output {output!r}")
         ensure(run[0] != "post" or len(output) % 200 == 0, f"a part of a reply {output!r}")
         folder.note(FAULTS[fault])
+        if folder.files("work") == held:
+            return refused
     elif refused:
         folder.note("own answer")
     again = made(folder, case, file, run, 0)[0]
@@ -214,10 +232,10 @@ def connect(port, given):
     return answered
 
 
-def serve_at(folder, case, wanted, at):
+def serve_at(folder, case, wanted, held, at):
     """The same of two messages, which three connections of one server send one after another, and then those of a server
     that is refused nothing. Behind a connection that was refused memory the next is answered by the same bank."""
-    file = folder.copy(case.name)
+    file = folder.restored(held)
     given, own = post(FIRST) * 2, ANSWER * 2
     server = subprocess.Popen([BANK, "serve", file, "127.0.0.1:0", "--connections", "3"], stdout=subprocess.PIPE,
                               stderr=subprocess.PIPE, env=folder.environment(at))
@@ -247,6 +265,8 @@ def serve_at(folder, case, wanted, at):
     else:
         ensure(refused and status == 3 and fault in SERVE_FAULTS, f"status {status}, {fault!r}")
         folder.note(SERVE_FAULTS[fault])
+        if not line and folder.files("work") == held:
+            return refused
     server = subprocess.Popen([BANK, "serve", file, "127.0.0.1:0", "--connections", "1"], stdout=subprocess.PIPE,
                               env=folder.environment(0))
     folder.runs += 1
@@ -259,7 +279,7 @@ def serve_at(folder, case, wanted, at):
 
 def wanted_of(folder, case):
     """The tables behind a case in which nothing is refused."""
-    file = folder.copy(case.name)
+    file = folder.restored(folder.files(case.name))
     if not case.runs:
         subprocess.run([BANK, "post", file], input=FIRST, check=True, stdout=subprocess.DEVNULL)
     for run in case.runs:
@@ -275,9 +295,11 @@ def play(folder, case):
     allocations = 0
     for place in range(max(1, len(case.runs))):
         at = 1
+        held = before_run(folder, case, place)
         while True:
             try:
-                more = try_at(folder, case, wanted, place, at) if case.runs else serve_at(folder, case, wanted, at)
+                more = try_at(folder, case, wanted, held, place, at) if case.runs else \
+                    serve_at(folder, case, wanted, held, at)
             except Wrong as wrong:
                 sys.exit(f"refuse_memory: {case.name}, run {place + 1}, allocation {at}: {wrong}")
             if not more:

@@ -17,7 +17,7 @@ cd "$work"
 "$bank" serve bank.db 127.0.0.1:0 --connections 10 >listening &
 server=$!
 for ((tries = 0; tries < 100; tries++)); do
-    grep -q listening listening && break
+    grep -qs listening listening && break
     sleep 0.1
 done
 base=http://$(cut -d ' ' -f 2 listening)

@@ -15,7 +15,7 @@ found=0
 for call in pwrite64 ftruncate fdatasync fsync; do
     for ((at = 1; ; at++)); do
         rm -f a.db a.db-wal
-        if strace -f -o trace -e "inject=$call:error=EIO:signal=KILL:when=$at" "$bank" init a.db >said 2>&1; then
+        if { strace -f -o trace -e "inject=$call:error=EIO:signal=KILL:when=$at" "$bank" init a.db >said 2>&1; } 2>/dev/null; then
             break
         fi
         stops=$((stops + 1))

@@ -20,6 +20,7 @@
 //!   `broken END`        gives the next run an `input` that fails, or an `output` that does
 //!   `bank WORD..`       runs the program on these words
 //!   `first NAME FILE..` runs the first program of a library on these files
+//!   `simulate SEED COUNT` plays the simulations of so many seeds, and prints what they did
 #![tactic(auto)]
 
 mod ends;
@@ -27,6 +28,7 @@ mod files;
 mod first_programs;
 mod script;
 mod showing;
+mod simulated;
 
 use anyhow::Context;
 use bank_scenarios::play;

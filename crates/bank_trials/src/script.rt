@@ -3,6 +3,7 @@ use crate::ends::Broken;
 use crate::files::{compare, look, put, query, run_sql, write_lines};
 use crate::first_programs;
 use crate::showing::tell;
+use crate::simulated::simulate;
 use anyhow::{Result, bail};
 use bank_commands::run;
 use command_line::Status;
@@ -52,6 +53,7 @@ impl Script {
             "like" => any(compare(rt, rest, self.output.as_slice())),
             "bank" => any(self.run(rt, line)),
             "first" => self.run_first(rt, rest),
+            "simulate" => simulate(rt, rest),
             _ => self.prepare(rt, word, rest),
         }
     }

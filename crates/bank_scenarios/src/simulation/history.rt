@@ -1,0 +1,247 @@
+//! What a bank is given in a simulation, drawn from a seed, and what comes of each part by the bank in memory.
+use super::ledger::{Entry, Ledger, Sums};
+use crate::answers::is_floor;
+use crate::draws::{Draws, draw_group};
+use anyhow::{Context, Result, ensure};
+use message_records::{
+    Account, Branch, Cents, Moment, Outcome, REPLY_BYTES, REQUEST_BYTES, Reply, decode_reply,
+};
+use posting_core::{Counter, PlainBank};
+use std::alloc::Global;
+
+/// What a bank is given.
+#[derive(Clone, Copy)]
+pub enum Given {
+    /// A branch is opened with so many accounts, and with a floor in cents if it has one.
+    Branch(Branch, u32, Option<i64>),
+    Record([u8; REQUEST_BYTES]),
+}
+
+/// A part of what a bank is given, and what comes of it.
+#[derive(Clone, Copy)]
+pub struct Part {
+    pub given: Given,
+    /// The reply to a record.
+    pub reply: [u8; REPLY_BYTES],
+    /// What it decides, if it is a request that wasn't decided before.
+    pub entry: Option<Entry>,
+    /// The sums over the tables behind it.
+    pub state: Sums,
+}
+
+/// The parts, in their order.
+#[derive(Drop)]
+pub struct History {
+    parts: Vec<Part>,
+    ledger: Ledger,
+}
+
+/// The moment of each record.
+pub fn moment() -> Moment {
+    Moment::new(0).unwrap()
+}
+
+fn signed(number: u64) -> i64 {
+    i64::try_from(number).unwrap_or(0)
+}
+
+// How many records a round has. Few have so many that limits are met.
+fn length(draws: &mut Draws) -> u32 {
+    match draws.below(12) {
+        0 => draws.below(280).saturating_add(1),
+        _ => draws.below(30).saturating_add(1),
+    }
+}
+
+// A branch that is opened in the first round or in the second, and what it is opened with.
+#[derive(Clone, Copy)]
+struct Opened {
+    branch: u64,
+    accounts: u32,
+    floor: Option<i64>,
+    is_first: bool,
+}
+
+// A floor near zero, one that some amounts reach, or none.
+fn floor(draws: &mut Draws) -> Option<i64> {
+    match draws.below(4) {
+        0 => Some(-i64::from(draws.below(1_000))),
+        1 => Some(-10 * i64::from(draws.below(4_000_000_000))),
+        _ => None,
+    }
+}
+
+fn draw_branch(draws: &mut Draws, branch: u64, most: u32, chances: u32) -> Opened {
+    Opened {
+        branch,
+        accounts: draws.below(most).saturating_add(1),
+        floor: floor(draws),
+        is_first: draws.below(chances) > 0,
+    }
+}
+
+// The branches that are opened. Records name accounts beyond theirs too.
+fn plan(draws: &mut Draws) -> [Opened; 3] {
+    [
+        draw_branch(draws, 1, 3, 8),
+        draw_branch(draws, 2, 2, 3),
+        draw_branch(draws, 9999, 20, 2),
+    ]
+}
+
+// A reply to a decided request, as the tables keep it.
+fn entry_of(reply: &Reply, ordinal: i64) -> Option<Entry> {
+    let request = reply.request()?;
+    let outcome = match reply.outcome() {
+        Outcome::Posted => 0,
+        Outcome::WrongBranch => 12,
+        Outcome::NoAccount => 13,
+        Outcome::OverLimit => 14,
+        Outcome::BelowFloor => 17,
+        _ => return None,
+    };
+    Some(Entry {
+        ordinal,
+        account: signed(request.account().get()),
+        teller: signed(request.teller().get()),
+        branch: signed(request.branch().get()),
+        number: signed(request.number().get()),
+        delta: request.delta().get(),
+        outcome,
+        balance: reply.balance().map_or(0, |balance| balance.get()),
+    })
+}
+
+impl History {
+    /// Two rounds, each of branches that are opened and of mixed records behind them.
+    pub fn draw(alloc: Global, draws: &mut Draws) -> Result<History> {
+        let mut history = History {
+            parts: Vec::new(alloc),
+            ledger: Ledger::new(),
+        };
+        history.fill(draws, &mut PlainBank::new(alloc), &mut Vec::new(alloc))?;
+        Ok(history)
+    }
+
+    fn fill(
+        &mut self,
+        draws: &mut Draws,
+        bank: &mut PlainBank,
+        sent: &mut Vec<[u8; REQUEST_BYTES]>,
+    ) -> Result<()> {
+        let plan = plan(draws);
+        for is_first in [true, false] {
+            self.open_round(bank, &plan, is_first)?;
+            let before = sent.len();
+            let count = length(draws);
+            draw_group(draws, count, sent)?;
+            self.post(bank, sent.get(before..).unwrap_or(&[]))?;
+        }
+        Ok(())
+    }
+
+    // Opens the branches of a round.
+    fn open_round(&mut self, bank: &mut PlainBank, plan: &[Opened], is_first: bool) -> Result<()> {
+        for opened in plan {
+            if opened.is_first == is_first {
+                self.open(bank, opened)?;
+            }
+        }
+        Ok(())
+    }
+
+    fn open(&mut self, bank: &mut PlainBank, opened: &Opened) -> Result<()> {
+        let (accounts, floor) = (opened.accounts, opened.floor);
+        let branch = Branch::new(opened.branch).context("a branch")?;
+        ensure!(
+            branch.get() <= 9999 && accounts >= 1 && accounts <= 100_000,
+            "a branch"
+        );
+        let lowest = floor.and_then(Cents::new);
+        ensure!(is_floor(&lowest), "a floor");
+        bank.open_branch(branch, accounts, lowest)?;
+        self.ledger.open(signed(branch.get()), accounts, floor);
+        self.add(
+            Given::Branch(branch, accounts, floor),
+            [b' '; REPLY_BYTES],
+            None,
+        )
+    }
+
+    fn post(&mut self, bank: &mut PlainBank, records: &[[u8; REQUEST_BYTES]]) -> Result<()> {
+        for record in records {
+            let reply = bank.submit(moment(), record)?;
+            let entry = self.decided_by(&reply);
+            if let Some(entry) = &entry {
+                self.ledger.decide(entry);
+            }
+            self.add(Given::Record(*record), reply, entry)?;
+        }
+        Ok(())
+    }
+
+    // What a reply says that is decided, unless it is that to an earlier record.
+    fn decided_by(&self, reply: &[u8; REPLY_BYTES]) -> Option<Entry> {
+        let reply = decode_reply(reply).ok()?;
+        let entry = entry_of(&reply, self.ledger.next_ordinal())?;
+        let is_known = self.parts.iter().any(|part| match &part.entry {
+            Some(known) => known.teller == entry.teller && known.number == entry.number,
+            None => false,
+        });
+        if is_known { None } else { Some(entry) }
+    }
+
+    fn add(&mut self, given: Given, reply: [u8; REPLY_BYTES], entry: Option<Entry>) -> Result<()> {
+        let state = self.ledger.sums();
+        self.parts.push(Part {
+            given,
+            reply,
+            entry,
+            state,
+        })?;
+        Ok(())
+    }
+
+    pub fn len(&self) -> usize {
+        self.parts.len()
+    }
+
+    pub fn part(&self, at: usize) -> Option<&Part> {
+        self.parts.get(at)
+    }
+
+    /// Up to so many records from a part on, as far as no branch is opened.
+    pub fn records(&self, at: usize, most: usize) -> &[Part] {
+        let behind = self.parts.get(at..).unwrap_or(&[]);
+        let count = behind
+            .iter()
+            .take(most)
+            .take_while(|part| matches!(part.given, Given::Record(_)))
+            .count();
+        behind.get(..count).unwrap_or(&[])
+    }
+
+    /// The sums over the tables behind so many parts.
+    pub fn state(&self, count: usize) -> Sums {
+        match count.checked_sub(1).and_then(|last| self.part(last)) {
+            Some(part) => part.state,
+            None => Ledger::new().sums(),
+        }
+    }
+
+    /// The first so many parts.
+    pub fn first(&self, count: usize) -> &[Part] {
+        self.parts.get(..count).unwrap_or(&[])
+    }
+
+    /// The last branch that is opened in so many parts: from there on a record may come again.
+    pub fn last_opening(&self, count: usize) -> usize {
+        let mut last = 0usize;
+        for (place, part) in self.first(count).iter().enumerate() {
+            if matches!(part.given, Given::Branch(_, _, _)) {
+                last = place;
+            }
+        }
+        last
+    }
+}
