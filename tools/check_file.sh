@@ -1,6 +1,7 @@
 #!/bin/sh
-# Makes a bank in a file with the built program, and asks the C library of SQLite whether the file is sound, what it holds,
-# and whether the sums agree. It needs the built program and `sqlite3` on the path, and stands outside the gate.
+# Makes a bank in a file with the built program, and asks the C library of SQLite whether the file is sound, what it
+# holds, and whether the sums agree. It asks the same of a file of version 1 that is migrated, and whether that has the
+# rows that it had. It needs the built program and `sqlite3` on the path, and stands outside the gate.
 set -eu
 here=$(cd "$(dirname "$0")/.." && pwd)
 bank=$here/crates/bank/out/bank
@@ -8,6 +9,23 @@ test -x "$bank" || { echo "check_file: build the program first: (cd crates/bank 
 work=$(mktemp -d)
 trap 'rm -rf "$work"' EXIT
 file=$work/bank.db
+old=$work/old.db
+# The file is sound, no branch differs from its tellers, and the three sums are one.
+is_sound() {
+    verdict=$(sqlite3 "$1" \
+        "PRAGMA integrity_check" \
+        "SELECT 'branch ' || bid || ' differs' FROM branch WHERE balance <> (SELECT sum(balance) FROM teller WHERE (tid - 1) / 10 + 1 = bid)" \
+        "SELECT CASE WHEN (SELECT sum(balance) FROM account) = (SELECT sum(balance) FROM teller)
+            AND (SELECT sum(balance) FROM account) = (SELECT sum(delta) FROM history) THEN 'one sum' ELSE 'sums differ' END")
+    test "$verdict" = "ok
+one sum" || { echo "check_file: $1: $verdict" >&2; exit 1; }
+}
+# What a migration keeps: all rows, without the version.
+rows() {
+    for it in "decided FROM meta" "* FROM branch" "* FROM teller" "* FROM account" "* FROM history" "* FROM request"; do
+        sqlite3 "$1" "SELECT $it"
+    done
+}
 "$bank" init "$file"
 sqlite3 "$file" "CREATE TABLE note (id INTEGER PRIMARY KEY, title TEXT); INSERT INTO note (title) VALUES ('a user wrote this')"
 "$bank" load "$file" "$here/examples/plan.csv"
@@ -24,12 +42,13 @@ sqlite3 -header "$file" \
     "SELECT * FROM history" \
     "SELECT * FROM request" \
     "SELECT title FROM note"
-# The file is sound, no branch differs from its tellers, and the three sums are one.
-verdict=$(sqlite3 "$file" \
-    "PRAGMA integrity_check" \
-    "SELECT 'branch ' || bid || ' differs' FROM branch WHERE balance <> (SELECT sum(balance) FROM teller WHERE (tid - 1) / 10 + 1 = bid)" \
-    "SELECT CASE WHEN (SELECT sum(balance) FROM account) = (SELECT sum(balance) FROM teller)
-        AND (SELECT sum(balance) FROM account) = (SELECT sum(delta) FROM history) THEN 'one sum' ELSE 'sums differ' END")
-test "$verdict" = "ok
-one sum" || { echo "check_file: $verdict" >&2; exit 1; }
-echo "check_file: sound, and of one sum"
+is_sound "$file"
+cp "$here/crates/bank_trials/data/version_1.db" "$old"
+cp "$here/crates/bank_trials/data/version_1.db-wal" "$old-wal"
+rows "$old" >"$work/before"
+"$bank" migrate "$old"
+rows "$old" | cmp - "$work/before"
+test "$(sqlite3 "$old" "SELECT version FROM meta" "SELECT count(*) FROM branch_floor")" = "2
+0" || { echo "check_file: not migrated" >&2; exit 1; }
+is_sound "$old"
+echo "check_file: sound, and of one sum, also where it was migrated"

@@ -20,7 +20,7 @@ use Rattle.bank_files.specs.Opening.{IsOpenedOn}
 use Rattle.bank_commands.specs.InFile.{HoldsLog, IsFoundIn, BankIsMadeOver, IsNewIn, IsSettled, IsTakenUp}
 
 -- the connection's trees show what the files held
-left_in : (image : Image) (s : State) (log : List Command) → IsOpenedOn image s → (holds : HoldsLog image log)
+pub left_in : (image : Image) (s : State) (log : List Command) → IsOpenedOn image s → (holds : HoldsLog image log)
     → ShowsTrees s.now.trees holds.tables
 left_in image s log opened holds =
     let same : s.now.trees ≡ holds.trees =

@@ -1,4 +1,5 @@
 pub mod BankInFiles
+pub mod Migrations
 pub mod InFiles
 pub mod Refusals
 pub mod Worked

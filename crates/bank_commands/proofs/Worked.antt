@@ -1,12 +1,14 @@
 -- What is said of a command by the work that it did with the bank of its file.
-use Rattle.std.proofs.Common.{◌≡◌, ◌⊎◌, ap, inl, inr, subst, sym, ℕ, List, Option, Result, Ok, Err}
+use Rattle.std.proofs.Common.{◌≡◌, ◌⊎◌, ap, inl, inr, refl, subst, sym, ℕ, List, Option, Result, Ok, Err}
 use Rattle.std.proofs.Common.{OnOk, OnErr, IfErr, IsErrOf}
-use Rattle.std.specs.Io.KnownBytes.{Keeps}
+use Rattle.std.specs.Io.KnownBytes.{Appends, Keeps}
 use Rattle.std.proofs.KnownBytes.{Keeps-refl}
 use Rattle.sqlite_wal.specs.Recovery.{Image}
 use Rattle.posting_rules.specs.Counter.{Seen}
 use Rattle.command_line.specs.declared.fault.CommandFault.{CommandFault}
 use Rattle.command_line.specs.declared.fault.CommandFault.TheVariants.{Write}
+use Rattle.command_line.specs.declared.status.Status.TheVariants.{Done}
+use Rattle.command_line.specs.Working.{EndsWithLine, done_after}
 use Rattle.command_line.specs.Looking.{IsOfOpening}
 use Rattle.bank_commands.specs.InFile.{WorksIn}
 use Rattle.bank_commands.specs.Commands.{Ends, MakesIn, RunsIn, RunsInNew}
@@ -30,6 +32,15 @@ pub only_write : {X : Type 0} (P : CommandFault → Type 0) (r : Result X Comman
     → IfErr r (λ fault. (fault ≡ Write) ⊎ P fault)
 only_write P (Ok x) is = tt
 only_write P (Err fault) is = inl (let same : fault ≡ Write = cc in same)
+
+-- how a command ends that prints a line last
+pub line_ends : (w w' : Option (List ℕ)) (line : List ℕ) (r : Result (Unit {0}) CommandFault)
+    → OnOk r (Appends w w' line) → OnErr r (IsErrOf r Write)
+    → EndsWithLine (λ end. done_after r ≡ end) w w' Done line
+line_ends w w' line (Ok done) appends fault = inl (refl, appends)
+line_ends w w' line (Err f) appends fault =
+    let is : f ≡ Write = cc in
+    inr (ap (λ (e : CommandFault). done_after (Err e)) is)
 
 -- ---- the making of a bank, with which nothing is done
 

@@ -3,4 +3,5 @@ pub mod Unfound
 pub mod Commands
 pub mod Stating
 pub mod Auditing
+pub mod Migrating
 pub mod Running

@@ -9,8 +9,8 @@ use Rattle.posting_core.specs.declared.stream.StreamFault.{StreamFault}
 use Rattle.command_line.specs.CommandLine.{bank_app}
 use Rattle.command_line.specs.Words.{IsSpelledBy}
 use Rattle.command_line.specs.declared.reading.Command.{Command}
-use Rattle.command_line.specs.declared.reading.Command.TheVariants.{Audit, Drive, Init, Load, Post, Serve}
-use Rattle.command_line.specs.declared.reading.Command.TheVariants.{Statement}
+use Rattle.command_line.specs.declared.reading.Command.TheVariants.{Audit, Drive, Init, Load, Migrate, Post}
+use Rattle.command_line.specs.declared.reading.Command.TheVariants.{Serve, Statement}
 use Rattle.command_line.specs.Lines.{IsHelpOrVersion, created_line}
 use Rattle.command_line.specs.Looking.{IsOfOpening}
 use Rattle.command_line.specs.Faults.{fault_of_stream, status_of}
@@ -20,6 +20,7 @@ use Rattle.command_line.specs.declared.status.Status.TheVariants.{Done, System}
 use Rattle.bank_audits.specs.declared.fault.ReportFault.{ReportFault}
 use Rattle.bank_commands.specs.Auditing.{AuditsIn}
 use Rattle.bank_commands.specs.Commands.{DrivesIn, IsUntouched, LoadsIn, MakesIn, PostsIn, ServesIn}
+use Rattle.bank_commands.specs.Migrating.{MigratesIn}
 use Rattle.bank_commands.specs.Stating.{StatesIn, said_of_statement}
 use Rattle.command_line.specs.Auditing.{Prints}
 use Rattle.command_line.specs.Working.{TellsListening, done_after}
@@ -57,6 +58,8 @@ DoesCommand seen image r r' w w' k k' (Statement file account) result =
     StatesIn seen image account w w' (IsErrAnd result IsOfOpening) (λ told. result ≡ stated_by account told)
 DoesCommand seen image r r' w w' k k' (Serve file address connections) result =
     ServesIn seen image k k' connections (λ end. result ≡ end) × OnOk result (TellsListening w w')
+DoesCommand seen image r r' w w' k k' (Migrate file) result =
+    MigratesIn seen image w w' (λ end. result ≡ end)
 
 -- ---- a run
 

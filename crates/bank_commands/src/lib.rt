@@ -1,7 +1,8 @@
 //! The commands of the program over a bank in a file: [`init`] makes it, [`load_plan`] opens its branches,
 //! [`post`] posts to it, [`drive`] posts what the driver draws, [`serve`] posts what comes over HTTP,
-//! [`audit_file`] says whether the books agree (TPC-B clause 2), and [`statement`] writes the postings of an
-//! account. Each but [`init`] finds the bank in its file, and each closes the file after its work.
+//! [`audit_file`] says whether the books agree (TPC-B clause 2), [`statement`] writes the postings of an account,
+//! and [`migrate_file`] carries over a bank of an older version. Each but [`init`] finds the bank in its file, and
+//! each closes the file after its work.
 //!
 //! The function `first_commands` of `bank_trials`, which its script runs, makes a bank, opens the branches of
 //! a plan and posts the records of an input:
@@ -44,6 +45,7 @@
 mod audit;
 mod commands;
 mod files;
+mod migration;
 mod openings;
 mod running;
 mod server;
@@ -53,6 +55,7 @@ mod work;
 pub use audit::audit_file;
 pub use commands::{drive, init, load_plan, post};
 pub use files::close;
+pub use migration::migrate_file;
 pub use openings::settled;
 pub use running::{run, words_of};
 pub use server::serve;

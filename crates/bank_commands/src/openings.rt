@@ -75,8 +75,8 @@ fn take_up<S: Alter + Drop>(alloc: Global, conn: Connection<S>) -> Result<Bank<S
     }
 }
 
-// Why the connection was refused. It is dropped.
-fn fault_of<S: Alter + Drop>(refused: Refused<S>) -> CommandFault
+/// Why the connection was refused. It is dropped.
+pub(crate) fn fault_of<S: Alter + Drop>(refused: Refused<S>) -> CommandFault
     ensures is { result ≡ fault_of_opening refused.fault }
     ensures kind { IsOfOpening result }
 {

@@ -44,7 +44,7 @@ ghost use Rattle.command_line.specs.CommandLine.{bank_app};
 ghost use Rattle.command_line.specs.Words.{AreInRange, AsksForHelp, IsSpelled};
 ghost use Rattle.bank_commands.specs.Running.{AreRefused, DoesCommand, Runs};
 
-use crate::{audit_file, drive, init, load_plan, post, serve, statement};
+use crate::{audit_file, drive, init, load_plan, migrate_file, post, serve, statement};
 use command_line::{Command, CommandFault, Status, explain, read_words, tell};
 use posting_core::Clock;
 use sqlite::{FileFrom, FileStore, Start};
@@ -138,6 +138,10 @@ fn perform<S: Start, R: Read, W: Write, K: Clock>(
             connections,
         } => {
             serve(rt, start, file, address, connections, output, clock)?;
+            Ok(Status::Done)
+        }
+        Command::Migrate { file } => {
+            migrate_file(rt, start, file, output)?;
             Ok(Status::Done)
         }
     }

@@ -70,52 +70,56 @@ abbrev Completes : Shape → Type 0
 Completes s = (words : List Text) → HasNoFault s words → IsComplete (rows_at s words)
 
 file_completes : (name : Text)
-    → (name ≡ codes "init") ⊎ (name ≡ codes "post") ⊎ (name ≡ codes "audit")
+    → (name ≡ codes "init") ⊎ (name ≡ codes "post") ⊎ (name ≡ codes "audit") ⊎ (name ≡ codes "migrate")
     → Completes (one_file name)
 file_completes name (inl is) words none =
     (has_text (one_file name) words (codes "file") (one_is_plain name) none (refl, refl), inl is)
 file_completes name (inr (inl is)) words none =
     (has_text (one_file name) words (codes "file") (one_is_plain name) none (refl, refl), inr (inl is))
-file_completes name (inr (inr is)) words none =
+file_completes name (inr (inr (inl is))) words none =
     (has_text (one_file name) words (codes "file") (one_is_plain name) none (refl, refl), inr (inr (inl is)))
+file_completes name (inr (inr (inr is))) words none = (
+  has_text (one_file name) words (codes "file") (one_is_plain name) none (refl, refl),
+  inr (inr (inr (inl is))),
+)
 
 load_completes : Completes two_files
 load_completes words none =
     let s = two_files in (
       has_text s words (codes "file") load_is_plain none (refl, refl),
-      inr (inr (inr (inl (refl, has_text s words (codes "plan") load_is_plain none (refl, refl))))),
+      inr (inr (inr (inr (inl (refl, has_text s words (codes "plan") load_is_plain none (refl, refl)))))),
     )
 
 drive_completes : Completes file_and_numbers
 drive_completes words none =
     let s = file_and_numbers in (
       has_text s words (codes "file") drive_is_plain none (refl, refl),
-      inr (inr (inr (inr (inl (
+      inr (inr (inr (inr (inr (inl (
         refl,
         has_number s words (codes "seed") 0 MAX_SEED drive_is_plain none (refl, refl) refl,
         has_number s words (codes "count") 1 MAX_DRIVEN drive_is_plain none (refl, refl) refl,
-      ))))),
+      )))))),
     )
 
 statement_completes : Completes file_and_account
 statement_completes words none =
     let s = file_and_account in (
       has_text s words (codes "file") statement_is_plain none (refl, refl),
-      inr (inr (inr (inr (inr (inl (
+      inr (inr (inr (inr (inr (inr (inl (
         refl,
         has_number s words (codes "account") 1 MAX_ACCOUNT statement_is_plain none (refl, refl) refl,
-      )))))),
+      ))))))),
     )
 
 serve_completes : Completes file_and_address
 serve_completes words none =
     let s = file_and_address in (
       has_text s words (codes "file") serve_is_plain none (refl, refl),
-      inr (inr (inr (inr (inr (inr (
+      inr (inr (inr (inr (inr (inr (inr (
         refl,
         has_text s words (codes "address") serve_is_plain none (refl, refl),
         has_number s words (codes "connections") 1 MAX_CONNECTIONS serve_is_plain none (refl, refl) refl,
-      )))))),
+      ))))))),
     )
 
 -- ---- the words
@@ -165,10 +169,16 @@ each_completes name other = (
       (
         λ named. drive_completes,
         (
-          λ named. file_completes (codes "audit") (inr (inr refl)),
+          λ named. file_completes (codes "audit") (inr (inr (inl refl))),
           (
             λ named. statement_completes,
-            (λ named. serve_completes, (λ named. absurd (is_help name other named), tt)),
+            (
+              λ named. serve_completes,
+              (
+                λ named. file_completes (codes "migrate") (inr (inr (inr refl))),
+                (λ named. absurd (is_help name other named), tt),
+              ),
+            ),
           ),
         ),
       ),

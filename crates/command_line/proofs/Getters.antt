@@ -86,10 +86,11 @@ plan_of_load p name complete = elim complete.1 [
   | inl init ↦ absurd (apart (sym init ∙ name) refl)
   | inr (inl post) ↦ absurd (apart (sym post ∙ name) refl)
   | inr (inr (inl audit)) ↦ absurd (apart (sym audit ∙ name) refl)
-  | inr (inr (inr (inl load))) ↦ load.1
-  | inr (inr (inr (inr (inl drive)))) ↦ absurd (apart (sym drive.0 ∙ name) refl)
-  | inr (inr (inr (inr (inr (inl statement))))) ↦ absurd (apart (sym statement.0 ∙ name) refl)
-  | inr (inr (inr (inr (inr (inr serve))))) ↦ absurd (apart (sym serve.0 ∙ name) refl)
+  | inr (inr (inr (inl migrate))) ↦ absurd (apart (sym migrate ∙ name) refl)
+  | inr (inr (inr (inr (inl load)))) ↦ load.1
+  | inr (inr (inr (inr (inr (inl drive))))) ↦ absurd (apart (sym drive.0 ∙ name) refl)
+  | inr (inr (inr (inr (inr (inr (inl statement)))))) ↦ absurd (apart (sym statement.0 ∙ name) refl)
+  | inr (inr (inr (inr (inr (inr (inr serve)))))) ↦ absurd (apart (sym serve.0 ∙ name) refl)
 ]
 
 -- a complete `drive` has its numbers
@@ -99,10 +100,11 @@ numbers_of_drive p name complete = elim complete.1 [
   | inl init ↦ absurd (apart (sym init ∙ name) refl)
   | inr (inl post) ↦ absurd (apart (sym post ∙ name) refl)
   | inr (inr (inl audit)) ↦ absurd (apart (sym audit ∙ name) refl)
-  | inr (inr (inr (inl load))) ↦ absurd (apart (sym load.0 ∙ name) refl)
-  | inr (inr (inr (inr (inl drive)))) ↦ (drive.1, drive.2)
-  | inr (inr (inr (inr (inr (inl statement))))) ↦ absurd (apart (sym statement.0 ∙ name) refl)
-  | inr (inr (inr (inr (inr (inr serve))))) ↦ absurd (apart (sym serve.0 ∙ name) refl)
+  | inr (inr (inr (inl migrate))) ↦ absurd (apart (sym migrate ∙ name) refl)
+  | inr (inr (inr (inr (inl load)))) ↦ absurd (apart (sym load.0 ∙ name) refl)
+  | inr (inr (inr (inr (inr (inl drive))))) ↦ (drive.1, drive.2)
+  | inr (inr (inr (inr (inr (inr (inl statement)))))) ↦ absurd (apart (sym statement.0 ∙ name) refl)
+  | inr (inr (inr (inr (inr (inr (inr serve)))))) ↦ absurd (apart (sym serve.0 ∙ name) refl)
 ]
 
 -- a complete `statement` has the number of an account
@@ -112,10 +114,11 @@ account_of_statement p name complete = elim complete.1 [
   | inl init ↦ absurd (apart (sym init ∙ name) refl)
   | inr (inl post) ↦ absurd (apart (sym post ∙ name) refl)
   | inr (inr (inl audit)) ↦ absurd (apart (sym audit ∙ name) refl)
-  | inr (inr (inr (inl load))) ↦ absurd (apart (sym load.0 ∙ name) refl)
-  | inr (inr (inr (inr (inl drive)))) ↦ absurd (apart (sym drive.0 ∙ name) refl)
-  | inr (inr (inr (inr (inr (inl statement))))) ↦ statement.1
-  | inr (inr (inr (inr (inr (inr serve))))) ↦ absurd (apart (sym serve.0 ∙ name) refl)
+  | inr (inr (inr (inl migrate))) ↦ absurd (apart (sym migrate ∙ name) refl)
+  | inr (inr (inr (inr (inl load)))) ↦ absurd (apart (sym load.0 ∙ name) refl)
+  | inr (inr (inr (inr (inr (inl drive))))) ↦ absurd (apart (sym drive.0 ∙ name) refl)
+  | inr (inr (inr (inr (inr (inr (inl statement)))))) ↦ statement.1
+  | inr (inr (inr (inr (inr (inr (inr serve)))))) ↦ absurd (apart (sym serve.0 ∙ name) refl)
 ]
 
 -- a complete `serve` has its address and its number
@@ -125,10 +128,11 @@ values_of_serve p name complete = elim complete.1 [
   | inl init ↦ absurd (apart (sym init ∙ name) refl)
   | inr (inl post) ↦ absurd (apart (sym post ∙ name) refl)
   | inr (inr (inl audit)) ↦ absurd (apart (sym audit ∙ name) refl)
-  | inr (inr (inr (inl load))) ↦ absurd (apart (sym load.0 ∙ name) refl)
-  | inr (inr (inr (inr (inl drive)))) ↦ absurd (apart (sym drive.0 ∙ name) refl)
-  | inr (inr (inr (inr (inr (inl statement))))) ↦ absurd (apart (sym statement.0 ∙ name) refl)
-  | inr (inr (inr (inr (inr (inr serve))))) ↦ (serve.1, serve.2)
+  | inr (inr (inr (inl migrate))) ↦ absurd (apart (sym migrate ∙ name) refl)
+  | inr (inr (inr (inr (inl load)))) ↦ absurd (apart (sym load.0 ∙ name) refl)
+  | inr (inr (inr (inr (inr (inl drive))))) ↦ absurd (apart (sym drive.0 ∙ name) refl)
+  | inr (inr (inr (inr (inr (inr (inl statement)))))) ↦ absurd (apart (sym statement.0 ∙ name) refl)
+  | inr (inr (inr (inr (inr (inr (inr serve)))))) ↦ (serve.1, serve.2)
 ]
 
 -- ---- numbers

@@ -45,6 +45,11 @@ at_serve : (program : Text) → fault_of bank_app (program ∷ codes "serve" ∷
 unfolding clap_on_literals
 at_serve program = refl
 
+at_migrate : (program : Text)
+    → fault_of bank_app (program ∷ codes "migrate" ∷ codes "--help" ∷ []) ≡ help_alone
+unfolding clap_on_literals
+at_migrate program = refl
+
 asked : (words : List Text) → AsksForHelp words → fault_of bank_app words ≡ help_alone
 asked words (inl bank) = ap (fault_of bank_app) bank.2 ∙ at_bank bank.0 bank.1
 asked words (inr (inl init)) = ap (fault_of bank_app) init.1 ∙ at_init init.0
@@ -54,8 +59,10 @@ asked words (inr (inr (inr (inr (inl drive))))) = ap (fault_of bank_app) drive.1
 asked words (inr (inr (inr (inr (inr (inl audit)))))) = ap (fault_of bank_app) audit.1 ∙ at_audit audit.0
 asked words (inr (inr (inr (inr (inr (inr (inl statement))))))) = ap (fault_of bank_app) statement.1
     ∙ at_statement statement.0
-asked words (inr (inr (inr (inr (inr (inr (inr serve))))))) = ap (fault_of bank_app) serve.1
+asked words (inr (inr (inr (inr (inr (inr (inr (inl serve)))))))) = ap (fault_of bank_app) serve.1
     ∙ at_serve serve.0
+asked words (inr (inr (inr (inr (inr (inr (inr (inr migrate)))))))) = ap (fault_of bank_app) migrate.1
+    ∙ at_migrate migrate.0
 
 helped : {T : Type 0} (r : Result T Error) (kinds : Kinds) → kinds ≡ help_alone → FailsBy kinds r
     → IsErrAnd r IsHelp

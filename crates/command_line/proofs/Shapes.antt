@@ -11,7 +11,7 @@ use Rattle.command_line.proofs.Levels.{IsPlainLeaf}
 abbrev pub leaf_of : Shape → Shape
 leaf_of s = built_leaf (inherited (on_top with_leaf_noted (on_top marked_built bank_app)).top s)
 
--- `init`, `post` or `audit`, as built
+-- `init`, `post`, `audit` or `migrate`, as built
 abbrev pub one_file : Text → Shape
 one_file name = leaf_of (with_rule (new_app name) file_rule).top
 

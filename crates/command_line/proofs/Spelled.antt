@@ -10,8 +10,8 @@ use Rattle.clap.specs.Words.{kind_of}
 use Rattle.clap.specs.declared.error.Error.{Error}
 use Rattle.clap.specs.declared.error.kind.ErrorKind.TheVariants.{OutOfMemory}
 use Rattle.command_line.specs.declared.reading.Command.{Command}
-use Rattle.command_line.specs.declared.reading.Command.TheVariants.{Audit, Drive, Init, Load, Post, Serve}
-use Rattle.command_line.specs.declared.reading.Command.TheVariants.{Statement}
+use Rattle.command_line.specs.declared.reading.Command.TheVariants.{Audit, Drive, Init, Load, Migrate, Post}
+use Rattle.command_line.specs.declared.reading.Command.TheVariants.{Serve, Statement}
 use Rattle.message_records.specs.declared.limits.TheConstants.{MAX_ACCOUNT}
 use Rattle.command_line.specs.CommandLine.{bank_app}
 use Rattle.command_line.specs.Words.{IsCommandOf, IsReadFrom, IsSpelled, IsSpelledBy, IsText}
@@ -19,8 +19,8 @@ use Rattle.command_line.specs.Words.{IsWantOfMemory, begins_with_dash, number_of
 use Rattle.command_line.proofs.Getters.{apart}
 use Rattle.command_line.proofs.Shapes.{IsReadAs, file_and_account, file_and_address, file_and_numbers, one_file}
 use Rattle.command_line.proofs.Shapes.{two_files}
-use Rattle.command_line.proofs.SpelledFiles.{audit_read, init_read, load_goes, load_read, one_goes, post_read}
-use Rattle.command_line.proofs.SpelledFiles.{two_held}
+use Rattle.command_line.proofs.SpelledFiles.{audit_read, init_read, load_goes, load_read, migrate_read}
+use Rattle.command_line.proofs.SpelledFiles.{one_goes, post_read, two_held}
 use Rattle.command_line.proofs.SpelledNumbers.{drive_goes, drive_passes, drive_read, drive_words}
 use Rattle.command_line.proofs.SpelledNumbers.{serve_goes, serve_passes, serve_read, serve_words}
 use Rattle.command_line.proofs.SpelledNumbers.{statement_goes, statement_passes, statement_read}
@@ -113,6 +113,14 @@ serve_told rows file address connections words (Serve f a n) first second third 
     )
 serve_told rows file address connections words other first second third are told = absurd (apart told.0 refl)
 
+migrate_told : (rows : List Row) (file : Text) (words : List Text) (command : Command)
+    → IsText (codes "file") rows file → drop 1 words ≡ codes "migrate" ∷ file ∷ []
+    → IsCommandOf (codes "migrate", rows) command
+    → IsSpelledBy words command
+migrate_told rows file words (Migrate f) first are told =
+    rw (← text_told (codes "file") rows file f.now first told.1) are
+migrate_told rows file words other first are told = absurd (apart told.0 refl)
+
 -- ---- one file
 
 one_first : (name file : Text) → begins_with_dash file ≡ false
@@ -159,9 +167,12 @@ spelled_taken words (inr (inr (inr (inr (inl s))))) =
 spelled_taken words (inr (inr (inr (inr (inr (inl s)))))) =
     taken_as file_and_account (codes "statement") _ (statement_read s.1 s.2) words s.0 s.5
     (statement_passes s.1 s.2 s.3 s.4)
-spelled_taken words (inr (inr (inr (inr (inr (inr s)))))) =
+spelled_taken words (inr (inr (inr (inr (inr (inr (inl s))))))) =
     taken_as file_and_address (codes "serve") _ (serve_read s.1 s.2 s.3) words s.0 s.7
     (serve_passes s.1 s.2 s.3 s.4 s.5 s.6)
+spelled_taken words (inr (inr (inr (inr (inr (inr (inr s))))))) =
+    taken_as (one_file (codes "migrate")) (codes "migrate") _ (migrate_read s.1) words s.0 s.3
+    (one_passes (codes "migrate") s.1 s.2)
 
 -- words that spell a command tell that command
 pub spelled_at_ok : (words : List Text) (command : Command) → IsReadFrom words command → IsSpelled words
@@ -201,7 +212,7 @@ spelled_at_ok words command read (inr (inr (inr (inr (inr (inl s)))))) =
     statement_told rows s.1 s.2 words command
     (ap (first_of (codes "file")) end) (ap (one_of (codes "account")) end) (ap (drop 1) s.5)
     (read_as file_and_account (codes "statement") _ (statement_read s.1 s.2) words s.0 s.5 command read)
-spelled_at_ok words command read (inr (inr (inr (inr (inr (inr s)))))) =
+spelled_at_ok words command read (inr (inr (inr (inr (inr (inr (inl s))))))) =
     let rows = rows_after file_and_address.rules [] (serve_words s.1 s.2 s.3) in
     let end = rows_to file_and_address (serve_words s.1 s.2 s.3)
     (given 3 (with_address s.1 s.2) (codes "connections") s.3) (serve_goes s.1 s.2 s.3 s.4 s.5 s.6) in
@@ -209,6 +220,10 @@ spelled_at_ok words command read (inr (inr (inr (inr (inr (inr s)))))) =
     (ap (first_of (codes "file")) end) (ap (first_of (codes "address")) end)
     (ap (one_of (codes "connections")) end) (ap (drop 1) s.7)
     (read_as file_and_address (codes "serve") _ (serve_read s.1 s.2 s.3) words s.0 s.7 command read)
+spelled_at_ok words command read (inr (inr (inr (inr (inr (inr (inr s))))))) =
+    migrate_told (rows_after (one_file (codes "migrate")).rules [] (s.1 ∷ [])) s.1 words command
+    (one_first (codes "migrate") s.1 s.2) (ap (drop 1) s.3)
+    (read_as (one_file (codes "migrate")) (codes "migrate") _ (migrate_read s.1) words s.0 s.3 command read)
 
 -- and only want of memory is in the way
 pub spelled_at_err : (r : Result Command Error) (error : Error) (words : List Text)

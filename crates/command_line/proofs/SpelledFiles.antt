@@ -1,4 +1,4 @@
--- What clap reads in the words of a command with files alone: `init`, `post`, `audit` and `load`.
+-- What clap reads in the words of a command with files alone: `init`, `post`, `audit`, `migrate` and `load`.
 use Rattle.std.proofs.Common.{◌≡◌, false, refl, [], ◌∷◌, Some, codes}
 use Rattle.clap.specs.Walk.{Text, Walk, nothing_held}
 use Rattle.clap.proofs.OnLiterals.{clap_on_literals}
@@ -26,6 +26,10 @@ post_read file = record { rows = λ program. refl; taken = λ program. refl }
 pub audit_read : (file : Text) → IsReadAs (one_file (codes "audit")) (codes "audit") (file ∷ [])
 unfolding clap_on_literals
 audit_read file = record { rows = λ program. refl; taken = λ program. refl }
+
+pub migrate_read : (file : Text) → IsReadAs (one_file (codes "migrate")) (codes "migrate") (file ∷ [])
+unfolding clap_on_literals
+migrate_read file = record { rows = λ program. refl; taken = λ program. refl }
 
 -- ---- two files
 

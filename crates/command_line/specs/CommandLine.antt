@@ -83,6 +83,10 @@ abbrev pub serve_app : App
 serve_app =
     with_rule (with_rule (with_rule (new_app (codes "serve")) file_rule) address_rule) connections_rule
 
+-- `migrate FILE`
+abbrev pub migrate_app : App
+migrate_app = with_rule (new_app (codes "migrate")) file_rule
+
 -- `bank` before it has its commands: it wants one, and shows its help where no word follows its name
 abbrev pub bank_alone : App
 bank_alone = let bank = new_app (codes "bank") in record bank {
@@ -95,7 +99,8 @@ bank_alone = let bank = new_app (codes "bank") in record bank {
 
 -- the commands of `bank`, in the order of its help
 abbrev pub bank_commands : List App
-bank_commands = init_app ∷ load_app ∷ post_app ∷ drive_app ∷ audit_app ∷ statement_app ∷ serve_app ∷ []
+bank_commands = init_app ∷ load_app ∷ post_app ∷ drive_app ∷ audit_app ∷ statement_app ∷ serve_app
+    ∷ migrate_app ∷ []
 
 -- the command line `bank` with these commands
 abbrev pub with_commands : App → List App → App

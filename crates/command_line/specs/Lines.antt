@@ -1,7 +1,7 @@
 -- The lines that the program prints, and how it ends where its words aren't a command.
-use Rattle.std.specs.Prelude.{◌≡◌, ◌⊎◌, ◌≤◌, ℕ, List, [], ◌∷◌, ◌++◌, codes, length, take}
+use Rattle.std.specs.Prelude.{◌≡◌, ◌⊎◌, ◌≤◌, ℕ, ℤ, List, [], ◌∷◌, ◌++◌, codes, length, take}
 use Rattle.std.specs.Prelude.{Option, Result, OnErr, OnOk}
-use Rattle.std.specs.Fmt.{decimal}
+use Rattle.std.specs.Fmt.{decimal, signed_decimal}
 use Rattle.std.specs.Io.KnownBytes.{Appends}
 use Rattle.std.specs.Net.Text.{socket_text}
 use Rattle.std.specs.declared.net.socket_addr.SocketAddr.{SocketAddr}
@@ -33,6 +33,14 @@ abbrev pub driven_line : ℕ → Driven → List ℕ
 driven_line count driven = line (codes "records " ++ decimal count
     ++ codes " posted " ++ decimal driven.posted
     ++ codes " refused " ++ decimal driven.refused)
+
+-- a bank was carried over from one version to another
+abbrev pub migrated_line : ℤ → ℤ → List ℕ
+migrated_line from to = line (codes "migrated " ++ signed_decimal from ++ codes " to " ++ signed_decimal to)
+
+-- it had this version already
+abbrev pub already_line : ℤ → List ℕ
+already_line version = line (codes "already version " ++ signed_decimal version)
 
 -- where the counter listens
 abbrev pub listening_line : SocketAddr → List ℕ

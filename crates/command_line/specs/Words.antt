@@ -10,8 +10,8 @@ use Rattle.message_records.specs.declared.limits.TheConstants.{MAX_ACCOUNT}
 use Rattle.command_line.specs.CommandLine.{MAX_SEED, bank_app}
 use Rattle.command_line.specs.declared.limits.TheConstants.{MAX_CONNECTIONS}
 use Rattle.command_line.specs.declared.reading.Command.{Command}
-use Rattle.command_line.specs.declared.reading.Command.TheVariants.{Audit, Drive, Init, Load, Post, Serve}
-use Rattle.command_line.specs.declared.reading.Command.TheVariants.{Statement}
+use Rattle.command_line.specs.declared.reading.Command.TheVariants.{Audit, Drive, Init, Load, Migrate, Post}
+use Rattle.command_line.specs.declared.reading.Command.TheVariants.{Serve, Statement}
 
 -- the number that a text of digits spells; a plus may come before them
 abbrev pub number_of : Text → ℕ
@@ -58,6 +58,7 @@ IsCommandOf p (Statement file account) = (p.0 ≡ codes "statement") × IsText (
 IsCommandOf p (Serve file address connections) = (p.0 ≡ codes "serve") × IsText (codes "file") p.1 file.now
     × IsText (codes "address") p.1 address.now
     × IsNumber (codes "connections") p.1 connections
+IsCommandOf p (Migrate file) = (p.0 ≡ codes "migrate") × IsText (codes "file") p.1 file.now
 
 -- the command's numbers are in their ranges
 abbrev pub AreInRange : Command → Type 0
@@ -73,7 +74,7 @@ IsReadFrom words command = IsSomeAnd (subcommand_of bank_app words) (λ p. IsCom
 -- the name is that of a command, and each of its arguments has a value
 abbrev pub IsComplete : Text × List Row → Type 0
 IsComplete p = HasText (codes "file") p.1
-    × ((p.0 ≡ codes "init") ⊎ (p.0 ≡ codes "post") ⊎ (p.0 ≡ codes "audit")
+    × ((p.0 ≡ codes "init") ⊎ (p.0 ≡ codes "post") ⊎ (p.0 ≡ codes "audit") ⊎ (p.0 ≡ codes "migrate")
     ⊎ ((p.0 ≡ codes "load") × HasText (codes "plan") p.1)
     ⊎ ((p.0 ≡ codes "drive") × HasNumber (codes "seed") 0 MAX_SEED p.1
     × HasNumber (codes "count") 1 MAX_DRIVEN p.1)
@@ -131,10 +132,13 @@ AskToServe words = (program : Text) × (file : Text) × (address : Text) × (con
     × IsUnsignedIn 1 MAX_CONNECTIONS connections
     × (words ≡ program ∷ codes "serve" ∷ file ∷ address ∷ codes "--connections" ∷ connections ∷ [])
 
+abbrev pub AskToMigrate : List Text → Type 0
+AskToMigrate words = AskWithFile (codes "migrate") words
+
 -- the words spell a command: its name, its files, of which none begins with a dash, and its numbers
 abbrev pub IsSpelled : List Text → Type 0
 IsSpelled words = AskToInit words ⊎ AskToLoad words ⊎ AskToPost words ⊎ AskToDrive words ⊎ AskToAudit words
-    ⊎ AskForStatement words ⊎ AskToServe words
+    ⊎ AskForStatement words ⊎ AskToServe words ⊎ AskToMigrate words
 
 -- the words after the program's name are the command's own
 abbrev pub IsSpelledBy : List Text → Command → Type 0
@@ -150,6 +154,7 @@ IsSpelledBy words (Statement file account) = (n : Text)
 IsSpelledBy words (Serve file address connections) = (n : Text)
     × (drop 1 words ≡ codes "serve" ∷ file.now ∷ address.now ∷ codes "--connections" ∷ n ∷ [])
     × (connections ≡ number_of n)
+IsSpelledBy words (Migrate file) = drop 1 words ≡ codes "migrate" ∷ file.now ∷ []
 
 -- memory ran out
 abbrev pub IsWantOfMemory : Error → Type 0
@@ -171,6 +176,7 @@ AsksForHelp words = ((program : Text) × (rest : List Text) × (words ≡ progra
     ⊎ AsksForHelpOn (codes "audit") words
     ⊎ AsksForHelpOn (codes "statement") words
     ⊎ AsksForHelpOn (codes "serve") words
+    ⊎ AsksForHelpOn (codes "migrate") words
 
 -- the error is the help, or memory ran out
 abbrev pub IsHelp : Error → Type 0

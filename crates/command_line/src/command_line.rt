@@ -1,9 +1,9 @@
-//! The program's command line as `clap` gets it: seven commands, their arguments, and the texts of help.
+//! The program's command line as `clap` gets it: its commands, their arguments, and the texts of help.
 ghost use Rattle.std.specs.Prelude.{◌≡◌, IfOk, false};
 ghost use Rattle.clap.specs.Words.{App, Rule, app_of, new_app, rule_of, with_rule, with_subcommand};
 ghost use Rattle.command_line.specs.CommandLine.{IsApp, audit_app, bank_alone, bank_app, drive_app, file_rule};
-ghost use Rattle.command_line.specs.CommandLine.{init_app, load_app, number_rule, post_app, required_rule};
-ghost use Rattle.command_line.specs.CommandLine.{serve_app, statement_app};
+ghost use Rattle.command_line.specs.CommandLine.{init_app, load_app, migrate_app, number_rule, post_app};
+ghost use Rattle.command_line.specs.CommandLine.{required_rule, serve_app, statement_app};
 
 use crate::limits::MAX_CONNECTIONS;
 use crate::texts;
@@ -23,7 +23,8 @@ pub fn bank_command<'a>(alloc: Global) -> Result<Command<'a>, AllocError>
     let bank = with_command(bank, drive_command(alloc));
     let bank = with_command(bank, audit_command(alloc));
     let bank = with_command(bank, statement_command(alloc));
-    with_command(bank, serve_command(alloc))
+    let bank = with_command(bank, serve_command(alloc));
+    with_command(bank, migrate_command(alloc))
 }
 
 // The command line with one more command, where both could be made. No caller has to let go of one where
@@ -183,6 +184,18 @@ fn serve_command<'a>(alloc: Global) -> Result<Command<'a>, AllocError>
         texts::CONNECTIONS,
     );
     with_argument(with_argument(serve, address), connections)
+}
+
+fn migrate_command<'a>(alloc: Global) -> Result<Command<'a>, AllocError>
+    ensures { IfOk result (IsApp migrate_app) }
+{
+    command_on_file(
+        alloc,
+        "migrate",
+        texts::MIGRATE,
+        texts::MIGRATE_AT_LENGTH,
+        texts::MIGRATE_DETAILS,
+    )
 }
 
 // A required positional argument, which takes one value.

@@ -19,7 +19,7 @@
 //! Any other words are the error that `clap` gives, with its text for the user; a request for help is such an
 //! error too, of the kind `DisplayHelp`. Where the words are a command, only want of memory is one.
 //!
-//! Read next: [`Command`], the seven commands; [`read_words`]; `specs/Words`, how each command is spelled;
+//! Read next: [`Command`], what can be asked; [`read_words`]; `specs/Words`, how each command is spelled;
 //! the crate `bank_commands`, which runs what is asked.
 #![tactic(auto)]
 
@@ -40,8 +40,8 @@ pub use driving::drive_into;
 pub use fault::CommandFault;
 pub use limits::MAX_CONNECTIONS;
 pub use lines::{
-    ListeningLine, explain, print_created, print_driven, print_listening, print_loaded, tell,
-    tell_no_words,
+    ListeningLine, explain, print_already, print_created, print_driven, print_listening,
+    print_loaded, print_migrated, tell, tell_no_words,
 };
 pub use loading::{load_from, load_into};
 pub use reading::{Command, read_words};

@@ -5,8 +5,8 @@ ghost use Rattle.std.specs.IoError.{error_kind};
 ghost use Rattle.clap.specs.Words.{kind_of};
 ghost use Rattle.posting_core.specs.Told.{EndsWith, HasWriteFailed, IsFlush};
 ghost use Rattle.command_line.specs.Faults.{status_of};
-ghost use Rattle.command_line.specs.Lines.{IsHelpOrVersion, IsShown, PrintsLine, created_line, driven_line};
-ghost use Rattle.command_line.specs.Lines.{listening_line, loaded_line};
+ghost use Rattle.command_line.specs.Lines.{IsHelpOrVersion, IsShown, PrintsLine, already_line, created_line};
+ghost use Rattle.command_line.specs.Lines.{driven_line, listening_line, loaded_line, migrated_line};
 ghost use Rattle.command_line.specs.Statuses.{status_of_no_words};
 
 use crate::fault::CommandFault;
@@ -60,6 +60,26 @@ pub fn print_driven<W: Sink>(count: u64, driven: Driven, output: &mut W) -> Resu
     ensures failed { OnErr result (HasWriteFailed (W.told output.old) (W.told output.new)) }
 {
     print_line(driven_text(count, driven).as_str(), output)
+}
+
+/// Prints from which version to which a bank was carried over, as `migrated 1 to 2`.
+pub fn print_migrated<W: Sink>(from: i64, to: i64, output: &mut W) -> Result<(), CommandFault>
+    ensures prints { PrintsLine (migrated_line from to) (W.contents output.old) (W.contents output.new)
+        (W.told output.old) (W.told output.new) result }
+    ensures fault { OnErr result (IsErrOf result CommandFault.Write) }
+    ensures failed { OnErr result (HasWriteFailed (W.told output.old) (W.told output.new)) }
+{
+    print_line(migrated_text(from, to).as_str(), output)
+}
+
+/// Prints which version a bank had already, as `already version 2`.
+pub fn print_already<W: Sink>(version: i64, output: &mut W) -> Result<(), CommandFault>
+    ensures prints { PrintsLine (already_line version) (W.contents output.old) (W.contents output.new)
+        (W.told output.old) (W.told output.new) result }
+    ensures fault { OnErr result (IsErrOf result CommandFault.Write) }
+    ensures failed { OnErr result (HasWriteFailed (W.told output.old) (W.told output.new)) }
+{
+    print_line(already_text(version).as_str(), output)
 }
 
 /// Prints the address with its port at which the counter listens, as `listening 127.0.0.1:8080`.
@@ -131,6 +151,32 @@ fn driven_text(count: u64, driven: Driven) -> ArrayString<LINE>
     line.push_str(digits.format(driven.posted));
     line.push_str(" refused ");
     line.push_str(digits.format(driven.refused));
+    line.push_str("\n");
+    line
+}
+
+// The line that `migrate` prints of a bank that it carried over.
+fn migrated_text(from: i64, to: i64) -> ArrayString<LINE>
+    ensures { result.bytes ≡ migrated_line from to }
+{
+    let mut digits = Buffer::new();
+    let mut line = ArrayString::new();
+    line.push_str("migrated ");
+    line.push_str(digits.format(from));
+    line.push_str(" to ");
+    line.push_str(digits.format(to));
+    line.push_str("\n");
+    line
+}
+
+// The line that `migrate` prints of a bank that had its version already.
+fn already_text(version: i64) -> ArrayString<LINE>
+    ensures { result.bytes ≡ already_line version }
+{
+    let mut digits = Buffer::new();
+    let mut line = ArrayString::new();
+    line.push_str("already version ");
+    line.push_str(digits.format(version));
     line.push_str("\n");
     line
 }

@@ -51,6 +51,10 @@ pub enum Command<'a> {
         address: &'a str,
         connections: u64,
     },
+    /// Carry the file's bank, which an older version made, over to this version.
+    Migrate {
+        file: &'a str,
+    },
 }
 
 /// Reads the words of the command line, of which the first is the program's own name. The command is
@@ -119,6 +123,7 @@ fn command_of<'a>(name: &str, values: &ArgMatches<'a>) -> Command<'a>
                 connections,
             }
         }
+        "migrate" => Command::Migrate { file },
         _ => unreachable!(),
     }
 }

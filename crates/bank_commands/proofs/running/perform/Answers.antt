@@ -68,6 +68,16 @@ returns-in_ok-statement-in-Statement-clause-does g c =
 pub returns-in-Audit-clause-does : goal.returns-in-Audit-clause-does
 returns-in-Audit-clause-does g c = rw c.in-Audit.is c.audit_file.ensures.audits
 
+pub returns-in_err-migrate_file-in-Migrate-clause-does : goal.returns-in_err-migrate_file-in-Migrate-clause-does
+returns-in_err-migrate_file-in-Migrate-clause-does g c =
+    let f = c.in_err-migrate_file-in-Migrate.field-0.0 in
+    let same : c.from_residual-in_err-migrate_file-in-Migrate.result ≡ Err f = search rules in
+    rw (c.in-Migrate.is, same) c.in_err-migrate_file-in-Migrate.ensures.migrates
+
+pub returns-in_ok-migrate_file-in-Migrate-clause-does : goal.returns-in_ok-migrate_file-in-Migrate-clause-does
+returns-in_ok-migrate_file-in-Migrate-clause-does g c =
+    rw c.in-Migrate.is c.in_ok-migrate_file-in-Migrate.ensures.migrates
+
 -- ---- no command ends the program as a mistake in the words
 
 pub returns-in_err-init-in-Init-clause-taken : goal.returns-in_err-init-in-Init-clause-taken
@@ -123,6 +133,15 @@ returns-in_err-serve-in-Serve-clause-taken g c =
 
 pub returns-in_ok-serve-in-Serve-clause-taken : goal.returns-in_ok-serve-in-Serve-clause-taken
 returns-in_ok-serve-in-Serve-clause-taken g c = done_is_not_usage _ refl
+
+pub returns-in_err-migrate_file-in-Migrate-clause-taken : goal.returns-in_err-migrate_file-in-Migrate-clause-taken
+returns-in_err-migrate_file-in-Migrate-clause-taken g c =
+    let fault = c.in_err-migrate_file-in-Migrate.field-0.0 in
+    let same : c.from_residual-in_err-migrate_file-in-Migrate.result ≡ Err fault = search rules in
+    fault_is_not_usage _ fault same
+
+pub returns-in_ok-migrate_file-in-Migrate-clause-taken : goal.returns-in_ok-migrate_file-in-Migrate-clause-taken
+returns-in_ok-migrate_file-in-Migrate-clause-taken g c = done_is_not_usage _ refl
 
 pub returns-in-Audit-clause-taken : goal.returns-in-Audit-clause-taken
 returns-in-Audit-clause-taken g c = audited_is_not_usage c.audit_file.result c.audit_file.ensures.ends

@@ -1,6 +1,6 @@
 -- Each command is added in its turn.
-use Rattle.command_line.specs.CommandLine.{audit_app, bank_alone, drive_app, init_app, load_app, post_app}
-use Rattle.command_line.specs.CommandLine.{serve_app, statement_app}
+use Rattle.command_line.specs.CommandLine.{audit_app, bank_alone, drive_app, init_app, load_app, migrate_app}
+use Rattle.command_line.specs.CommandLine.{post_app, serve_app, statement_app}
 use Rattle.command_line.proofs.command_line.bank_command.Goals as goal
 
 pub returns : goal.returns
@@ -11,4 +11,5 @@ returns c =
     let drive = c.with_command-bank-4.ensures _ drive_app post c.drive_command.ensures in
     let audit = c.with_command-bank-5.ensures _ audit_app drive c.audit_command.ensures in
     let statement = c.with_command-bank-6.ensures _ statement_app audit c.statement_command.ensures in
-    c.with_command.ensures _ serve_app statement c.serve_command.ensures
+    let serve = c.with_command-bank-7.ensures _ serve_app statement c.serve_command.ensures in
+    c.with_command.ensures _ migrate_app serve c.migrate_command.ensures

@@ -1,5 +1,5 @@
 -- Each way out, by what ended it.
-use Rattle.std.proofs.Common.{◌≢◌, rules}
+use Rattle.std.proofs.Common.{rules}
 use Rattle.std.proofs.lemmas.Result.{err_from_is_err_and}
 use Rattle.command_line.proofs.LoadEnds.{over, unopened}
 use Rattle.command_line.proofs.loading.load_into.Goals as goal

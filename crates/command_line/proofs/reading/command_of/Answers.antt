@@ -25,6 +25,9 @@ returns-in-post-clause-command c = (c.in-post.is, c.text_in-file.ensures)
 pub returns-in-audit-clause-command : goal.returns-in-audit-clause-command
 returns-in-audit-clause-command c = (c.in-audit.is, c.text_in-file.ensures)
 
+pub returns-in-migrate-clause-command : goal.returns-in-migrate-clause-command
+returns-in-migrate-clause-command c = (c.in-migrate.is, c.text_in-file.ensures)
+
 pub text_in-plan-requires : goal.text_in-plan-requires
 text_in-plan-requires c =
     plan_of_load (c.args.name.now, rows_of (found_of c.args.values.now)) c.in-load.is c.requires

@@ -1,0 +1,18 @@
+#!/usr/bin/env bash
+# Carries a bank of an older version over to this one: copies its two files, migrates it, and audits what came of it.
+#
+#     examples/migrate.sh FILE [PROGRAM]
+#
+# It needs the built program (cd crates/bank && rt run -- --help), and no command may run on FILE meanwhile. The copies
+# are in the new folder FILE.before: to go back, put them in the place of both files.
+set -eu
+here="$(cd "$(dirname "$0")/.." && pwd)"
+file="$1"
+bank="$(realpath "${2:-$here/crates/bank/out/bank}")"
+
+mkdir "$file.before"
+for it in "$file" "$file-wal"; do
+    if [ -e "$it" ]; then cp -p "$it" "$file.before"; fi
+done
+"$bank" migrate "$file"
+"$bank" audit "$file"
