@@ -162,7 +162,10 @@ module _ (old mid : State) (same : IsAsBefore old mid) where
   misses_at Store misses = tt
   misses_at NotBlank misses = absurd misses
   misses_at Blank misses = present_at Absent misses
-  misses_at Foreign misses = (present_at Partial misses.0, λ n. meta_at (λ stored. IsOfVersion n stored → ⊥) (misses.1 n))
+  misses_at Foreign misses = (
+    present_at Partial misses.0,
+    λ n. meta_at (λ stored. IsOfVersion n stored → ⊥) (misses.1 n),
+  )
   misses_at (Version n) misses = (
     subst (λ (db : Database). IsReadable db (probe_of table.Meta)) same.now_is misses.0,
     meta_at (IsOfVersion n) misses.1,

@@ -31,7 +31,8 @@ use Rattle.store_rows.proofs.Floorless.{floors_refused}
 use Rattle.bank_store.specs.Connections.{IsAsBefore, IsReadOnly}
 use Rattle.bank_store.specs.FoundBank.{BankIsFound, MetaIs, Misses}
 use Rattle.bank_store.specs.MetaRow.{ChecksCount, IsNoCount, IsOfVersion, IsOurs}
-use Rattle.bank_store.specs.Migration.{HasEarlier, IsCounted, BankIsMoved, IsEarlier, IsUnmoved, Migrates, Misplaces, MissesEarlier}
+use Rattle.bank_store.specs.Migration.{BankIsMoved, HasEarlier, IsCounted, IsEarlier, IsUnmoved, Migrates, Misplaces}
+use Rattle.bank_store.specs.Migration.{MissesEarlier}
 use Rattle.bank_store.specs.Migration.{IsUncounted, MovesFound, SeeksEarlier, ShowsEarlier, earlier_probes}
 use Rattle.bank_store.specs.declared.migration.Migrated.TheVariants.{Moved}
 use Rattle.bank_store.specs.OpenFaults.{of_the_store}
@@ -65,8 +66,10 @@ module _ (old mid new : State) (tables : IsPresent old.now earlier_probes Whole)
   pub counted : (m : StoredMeta)
       → ((rows : List Entry) → HoldsRows mid.now bank.meta rows → Some m ≡ meta_in rows)
       → (r : Result (Unit {0}) OpenFault) → ChecksCount m.decided r → SeeksEarlier old new r
-  counted m read (Ok done) checks =
-      (record { tables = tables; meta = row_is (Some m) read IsCounted (m, refl, checks) }, as_before old mid new first then)
+  counted m read (Ok done) checks = (
+    record { tables = tables; meta = row_is (Some m) read IsCounted (m, refl, checks) },
+    as_before old mid new first then,
+  )
   counted m read (Err fault) (is, outside) =
       subst (λ (f : OpenFault). SeeksEarlier old new (Err f)) (sym is)
       ((tables, row_is (Some m) read IsUncounted (inr (m, refl, outside))), as_before old mid new first then)

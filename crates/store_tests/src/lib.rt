@@ -1,7 +1,7 @@
 //! Tests of the bank in tables that no scenario reaches: each statement of the bank's tables once, walks over
-//! rows that are beside one another, machines that stop at each call on a file, life after life, steady runs,
-//! files that fail while a bank is read, the texts of reports, whole and cut, and the first programs of the
-//! libraries.
+//! rows that are beside one another, machines that stop at each call on a file, life after life, a file of the
+//! version before floors, steady runs, files that fail while a bank is read, the texts of reports, whole and cut,
+//! and the first programs of the libraries.
 #![tactic(auto)]
 
 #[cfg(test)]
@@ -10,6 +10,8 @@ mod calls;
 mod cases;
 #[cfg(test)]
 mod drawn;
+#[cfg(test)]
+mod earlier;
 #[cfg(test)]
 mod failures;
 #[cfg(test)]

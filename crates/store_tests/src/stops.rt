@@ -82,8 +82,8 @@ pub fn passed(stops_db: bool, calls: u64) -> Passed {
     passed
 }
 
-// Stops the machine at each call on the one file or the other, and returns how many stops were in the task.
-fn stops_at_each(
+/// Stops the machine at each call on the one file or the other, and returns how many stops were in the task.
+pub fn stops_at_each(
     rt: &(impl Abort + Alloc<A = Global>),
     start: &Image,
     task: Task,

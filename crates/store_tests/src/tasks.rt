@@ -1,11 +1,13 @@
 //! Tasks on the bank of any store, one after another. What a task does with the bank borrows it.
 use crate::calls::{Asked, ask, ask_to_the_end};
 use crate::cases::{Case, Way};
+use crate::earlier::{EARLIER, migrated, migrated_again};
 use crate::readings::{Reading, is_consistent, read};
 use crate::reports::reports_are_cut;
+use crate::sql::batch;
 use crate::sums::{Ledger, Sums, sums_of};
 use crate::walks::{Rows, put_rows, walk_over};
-use bank_store::{Bank, OpenFault, Refused, adopt, create};
+use bank_store::{Bank, Migrated, OpenFault, Refused, adopt, create};
 use posting_core::Fault;
 use sqlite::{Alter, Connection};
 use std::alloc::{Alloc, AllocError, Global};
@@ -41,6 +43,14 @@ pub enum Task<'a> {
     Walk(Rows),
     /// Its reports are cut.
     Report,
+    /// It is made by hand, as a bank of the version before floors, with this beside it.
+    MakeEarlier(&'a str),
+    /// That bank is carried over.
+    Migrate,
+    /// What that left, which was answered or not, is carried over, if it wasn't, and read.
+    Remigrate(bool),
+    /// That bank isn't carried over, since something else has a name.
+    MeetForeign,
 }
 
 impl<'a> Task<'a> {
@@ -49,6 +59,7 @@ impl<'a> Task<'a> {
         match self {
             Task::Create => Task::Recreate(progress.is_done),
             Task::Work(case) => Task::Again(case, progress.parts),
+            Task::Migrate => Task::Remigrate(progress.is_done),
             task => task,
         }
     }
@@ -60,8 +71,17 @@ impl<'a> Task<'a> {
     fn may_stop(self) -> bool {
         matches!(
             self,
-            Task::Create | Task::Work(_) | Task::Read(_) | Task::Limited(_)
+            Task::Create | Task::Work(_) | Task::Read(_) | Task::Limited(_) | Task::Migrate
         )
+    }
+
+    // The fault for which there is no bank, if it isn't that the machine stopped.
+    fn fault(self) -> Option<OpenFault> {
+        match self {
+            Task::MakeEarlier(_) => Some(OpenFault::Version(1)),
+            Task::MeetForeign => Some(OpenFault::Foreign),
+            _ => None,
+        }
     }
 }
 
@@ -106,6 +126,10 @@ fn prepare<S: Alter>(rt: &impl Abort, conn: &mut Connection<S>, task: Task) {
         Task::Again(case, parts) => is_left(rt, conn, case.states, parts),
         Task::Walk(rows) => assert_eq!(rt; put_rows(conn, rows), Ok(1)),
         Task::Limited(rows) => conn.set_step_limit(Some(rows)),
+        Task::MakeEarlier(beside) => {
+            assert_eq!(rt; batch(conn, EARLIER), Ok(()));
+            assert_eq!(rt; batch(conn, beside), Ok(()));
+        }
         _ => {}
     }
 }
@@ -149,7 +173,8 @@ fn act<S: Alter + Drop>(
     task: Task,
 ) -> Progress {
     match task {
-        Task::Create | Task::Recreate(_) => {}
+        Task::Create | Task::Recreate(_) | Task::Migrate => {}
+        Task::MakeEarlier(_) | Task::MeetForeign => {}
         Task::Make(plan) => open_all(rt, bank, plan),
         Task::Post => ask_to_the_end(rt, bank, Asked::Postings),
         Task::Work(case) => return work_until(rt, bank, &case),
@@ -158,6 +183,7 @@ fn act<S: Alter + Drop>(
             ask_to_the_end(rt, bank, Asked::Case(&case));
         }
         Task::Read(reading) => return read(rt, bank, reading),
+        Task::Remigrate(_) => return read(rt, bank, Reading::AuditText),
         Task::Limited(_) => return read(rt, bank, Reading::History),
         Task::Walk(rows) => assert_eq!(rt; walk_over(rt, bank, rows), Ok(())),
         Task::Report => reports_are_cut(rt, bank),
@@ -176,10 +202,13 @@ fn review<S: Alter>(rt: &impl Abort, conn: &mut Connection<S>, task: Task) {
 
 // A bank is refused where the machine stops.
 fn refused(rt: &impl Abort, fault: OpenFault, task: Task) -> Progress {
+    if task.fault() == Some(fault) {
+        return DONE;
+    }
     assert_eq!(rt; fault, OpenFault::Store);
     assert!(rt; task.may_stop());
     Progress {
-        is_begun: task.makes(),
+        is_begun: task.makes() || matches!(task, Task::Migrate),
         ..NOT_BEGUN
     }
 }
@@ -214,10 +243,11 @@ fn taken<S: Alter + Drop>(
     task: Task,
 ) -> Result<Bank<S>, Refused<S>> {
     assert!(rt; conn.is_autocommit());
-    if task.makes() {
-        create(rt.alloc(), conn)
-    } else {
-        remade(rt, adopt(rt.alloc(), conn), task)
+    match task {
+        Task::Create | Task::Make(_) => create(rt.alloc(), conn),
+        Task::Migrate | Task::MeetForeign => migrated(rt, conn, Migrated::Moved(1)),
+        Task::Remigrate(is_answered) => migrated_again(rt, conn, is_answered),
+        _ => remade(rt, adopt(rt.alloc(), conn), task),
     }
 }
 
