@@ -95,7 +95,7 @@ def limited(bench):
     for is_told in (True, False):
         bench.cause = "a limit of bytes to a file, of which a write is refused" if is_told else \
             "a limit of bytes to a file, of which a write ends the process"
-        for limit in list(range(0, 40_000, 1_024)) + list(range(40_500, 700_000, 20_000)):
+        for limit in list(range(0, 40_000, 1_024)) + list(range(40_500, 1_500_000, 45_000)):
             file = bench.new_bank("limited")
             bench.is_told(bench.plain(["post", file], bench.given, limit=limit, is_told=is_told), FAILS)
             bench.is_mended(file)
@@ -130,7 +130,7 @@ def full(bench):
         return
     bench.cause = "a full disk"
     try:
-        for room in list(range(0, 80, 4)) + list(range(80, 800, 24)):
+        for room in list(range(0, 80, 4)) + list(range(80, 1_600, 50)):
             file = disk + "/full.db"
             for end in ("", "-wal", ".csv"):
                 if os.path.exists(file + end):

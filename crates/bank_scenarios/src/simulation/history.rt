@@ -112,6 +112,15 @@ fn entry_of(reply: &Reply, ordinal: i64) -> Option<Entry> {
     })
 }
 
+// Takes away where a request of some numbers adds, so that floors are met as limits are. What came again stays the same.
+fn lower(record: &mut [u8; REQUEST_BYTES]) {
+    let is_lowered = matches!(record[39], b'1' | b'3' | b'6' | b'8');
+    let is_zero = record[41..51].iter().all(|digit| *digit == b'0');
+    if is_lowered && !is_zero {
+        record[40] = b'-';
+    }
+}
+
 impl History {
     /// Two rounds, each of branches that are opened and of mixed records behind them.
     pub fn draw(alloc: Global, draws: &mut Draws) -> Result<History> {
@@ -135,6 +144,9 @@ impl History {
             let before = sent.len();
             let count = length(draws);
             draw_group(draws, count, sent)?;
+            for record in sent.iter_mut().skip(before) {
+                lower(record);
+            }
             self.post(bank, sent.get(before..).unwrap_or(&[]))?;
         }
         Ok(())

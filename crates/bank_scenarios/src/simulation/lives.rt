@@ -153,8 +153,13 @@ impl Simulation {
     pub fn live<S: Alter + Drop>(&mut self, mut conn: Connection<S>) -> (End, S) {
         add(&mut self.counts.lives, 1);
         let found = sums_of(&mut conn);
+        let is_unread = found.is_err() && self.is_made;
         if let Some(what) = self.wrong(found) {
             return (End::Differs(what), conn.into_store());
+        }
+        // A bank may be taken up from what was read before the stop. What it holds isn't known, so it is asked for nothing.
+        if is_unread {
+            return (End::Stopped, conn.into_store());
         }
         match taken(self.alloc, conn, self.is_made) {
             Ok(mut bank) => {
