@@ -1,5 +1,5 @@
--- A batch whose slots have what the rows hold answers the replies to its records in tables that have what the
--- rows hold, whatever rows a file holds.
+-- Records whose slots have what the rows hold are answered in tables that have what the rows hold, whatever rows
+-- a file holds: those of a batch, and a single one.
 use Rattle.std.proofs.Common.{◌≡◌, ℕ, ℤ, Bool, eqb, List, [], ◌∷◌, map, Option, Some, None, Result, Ok, Err, refl}
 use Rattle.std.proofs.Common.{pos, true, sym, ap, subst, ◌∙◌, inl, inr, arith}
 use Rattle.std.specs.Prelude.{IfOk, IfSome, IsSome, IsTrue, is_some, option_and_then, option_map}
@@ -19,8 +19,8 @@ use Rattle.posting_batch.specs.declared.batch.Batch.{Batch}
 use Rattle.posting_batch.specs.declared.slots.BranchSlot.{BranchSlot}
 use Rattle.posting_batch.specs.declared.slots.RequestSlot.{RequestSlot}
 use Rattle.posting_batch.specs.Batch.{CoversAll, CoversRead, HasHomes, HasRisingSlots, account_filled}
-use Rattle.posting_batch.specs.Batch.{IsJudged, floor_filled}
-use Rattle.posting_batch.specs.Batch.{branch_filled, covering, covering_all, filled, no_slots, request_filled, teller_filled}
+use Rattle.posting_batch.specs.Batch.{IsJudged, branch_filled, covering, covering_all, filled, floor_filled}
+use Rattle.posting_batch.specs.Batch.{no_slots, request_filled, teller_filled}
 use Rattle.posting_batch.specs.Judging.{found_over}
 use Rattle.posting_batch.specs.Overlay.{Overlay}
 use Rattle.posting_batch.specs.Placed.{IsRising, number_below, request_below}

@@ -11,14 +11,16 @@ use Rattle.posting_batch.specs.declared.slots.FloorSlot.{FloorSlot}
 use Rattle.posting_batch.specs.declared.slots.RequestSlot.{RequestSlot}
 use Rattle.posting_batch.specs.declared.slots.TellerSlot.{TellerSlot}
 use Rattle.store_rows.specs.Rules.{HoldsBank}
-use Rattle.bank_transactions.specs.Filling.{AccountHeld, BranchHeld, FloorHeld, RequestHeld, TellerHeld, emptied_account}
+use Rattle.bank_transactions.specs.Filling.{AccountHeld, BranchHeld, FloorHeld, RequestHeld, TellerHeld}
+use Rattle.bank_transactions.specs.Filling.{emptied_account}
 use Rattle.bank_transactions.specs.Filling.{emptied_branch, emptied_floor, emptied_request, emptied_teller}
 use Rattle.bank_transactions.proofs.HeldSlots.{emptied_same, know_all}
 use Rattle.smallvec.specs.SmallVec.{with_items}
 use Rattle.smallvec.proofs.SmallVecLemmas.{items-with_items}
 use Rattle.posting_batch.specs.View.{view}
 use Rattle.bank_transactions.proofs.LookUps.{reads_but, reads_so}
-use Rattle.bank_transactions.proofs.Whole.{accounts_in, accounts_ready, branches_in, count_in, floors_in, kept_in, plain}
+use Rattle.bank_transactions.proofs.Whole.{accounts_in, accounts_ready, branches_in, count_in, floors_in}
+use Rattle.bank_transactions.proofs.Whole.{kept_in, plain}
 use Rattle.bank_transactions.proofs.Whole.{nothing_asked, same_now, tellers_in, tellers_ready}
 use Rattle.bank_transactions.proofs.slots.fill.Goals as goal
 
@@ -82,7 +84,11 @@ returns-clause-says g c =
     let av = c.args.overlay.now.accounts in
     let kv = c.args.overlay.now.kept in
     let b_len : length c.fill_all.new.slots
-    ≡ length bv.items = omega (arith, c.fill_all.auto.slots, ap (λ (xs : List BranchSlot). length xs) c.deref_mut.ensures.value) in
+    ≡ length bv.items = omega (
+      arith,
+      c.fill_all.auto.slots,
+      ap (λ (xs : List BranchSlot). length xs) c.deref_mut.ensures.value,
+    ) in
     let f_len : length c.fill_all-2.new.slots
     ≡ length fv.items = omega (
       arith,
@@ -90,11 +96,23 @@ returns-clause-says g c =
       ap (λ (xs : List FloorSlot). length xs) c.deref_mut-2.ensures.value,
     ) in
     let t_len : length c.fill_all-3.new.slots
-    ≡ length tv.items = omega (arith, c.fill_all-3.auto.slots, ap (λ (xs : List TellerSlot). length xs) c.deref_mut-3.ensures.value) in
+    ≡ length tv.items = omega (
+      arith,
+      c.fill_all-3.auto.slots,
+      ap (λ (xs : List TellerSlot). length xs) c.deref_mut-3.ensures.value,
+    ) in
     let a_len : length c.fill_all-4.new.slots
-    ≡ length av.items = omega (arith, c.fill_all-4.auto.slots, ap (λ (xs : List AccountSlot). length xs) c.deref_mut-4.ensures.value) in
+    ≡ length av.items = omega (
+      arith,
+      c.fill_all-4.auto.slots,
+      ap (λ (xs : List AccountSlot). length xs) c.deref_mut-4.ensures.value,
+    ) in
     let k_len : length c.fill_all-5.new.slots
-    ≡ length kv.items = omega (arith, c.fill_all-5.auto.slots, ap (λ (xs : List RequestSlot). length xs) c.deref_mut-5.ensures.value) in
+    ≡ length kv.items = omega (
+      arith,
+      c.fill_all-5.auto.slots,
+      ap (λ (xs : List RequestSlot). length xs) c.deref_mut-5.ensures.value,
+    ) in
     let bs = items-with_items bv c.fill_all.new.slots b_len in
     let s1 = count_in {g = g.S.Store} o _ c.in_ok-overlay.ensures.says in
     let s2 = branches_in s1 c.deref_mut.ensures.value c.in_ok-fill_all.ensures.says in
@@ -110,7 +128,8 @@ returns-clause-says g c =
     (with_items tv c.fill_all-3.new.slots).items c.fill_all-3.new.slots
     (with_items av c.fill_all-4.new.slots).items c.fill_all-4.new.slots
     (with_items kv c.fill_all-5.new.slots).items c.fill_all-5.new.slots
-    bs (items-with_items fv c.fill_all-2.new.slots f_len) (items-with_items tv c.fill_all-3.new.slots t_len) (items-with_items av c.fill_all-4.new.slots a_len)
+    bs (items-with_items fv c.fill_all-2.new.slots f_len) (items-with_items tv c.fill_all-3.new.slots t_len)
+    (items-with_items av c.fill_all-4.new.slots a_len)
     (items-with_items kv c.fill_all-5.new.slots k_len) in
     reads_so s6 (λ t so. (so, λ e. held ∙ e))
 
@@ -125,7 +144,11 @@ returns-clause-same g c =
     let av = c.args.overlay.now.accounts in
     let kv = c.args.overlay.now.kept in
     let b_len : length c.fill_all.new.slots
-    ≡ length bv.items = omega (arith, c.fill_all.auto.slots, ap (λ (xs : List BranchSlot). length xs) c.deref_mut.ensures.value) in
+    ≡ length bv.items = omega (
+      arith,
+      c.fill_all.auto.slots,
+      ap (λ (xs : List BranchSlot). length xs) c.deref_mut.ensures.value,
+    ) in
     let f_len : length c.fill_all-2.new.slots
     ≡ length fv.items = omega (
       arith,
@@ -133,11 +156,23 @@ returns-clause-same g c =
       ap (λ (xs : List FloorSlot). length xs) c.deref_mut-2.ensures.value,
     ) in
     let t_len : length c.fill_all-3.new.slots
-    ≡ length tv.items = omega (arith, c.fill_all-3.auto.slots, ap (λ (xs : List TellerSlot). length xs) c.deref_mut-3.ensures.value) in
+    ≡ length tv.items = omega (
+      arith,
+      c.fill_all-3.auto.slots,
+      ap (λ (xs : List TellerSlot). length xs) c.deref_mut-3.ensures.value,
+    ) in
     let a_len : length c.fill_all-4.new.slots
-    ≡ length av.items = omega (arith, c.fill_all-4.auto.slots, ap (λ (xs : List AccountSlot). length xs) c.deref_mut-4.ensures.value) in
+    ≡ length av.items = omega (
+      arith,
+      c.fill_all-4.auto.slots,
+      ap (λ (xs : List AccountSlot). length xs) c.deref_mut-4.ensures.value,
+    ) in
     let k_len : length c.fill_all-5.new.slots
-    ≡ length kv.items = omega (arith, c.fill_all-5.auto.slots, ap (λ (xs : List RequestSlot). length xs) c.deref_mut-5.ensures.value) in
+    ≡ length kv.items = omega (
+      arith,
+      c.fill_all-5.auto.slots,
+      ap (λ (xs : List RequestSlot). length xs) c.deref_mut-5.ensures.value,
+    ) in
     emptied_same o c.in_ok-overlay.field-0
     (with_items bv c.fill_all.new.slots).items (with_items fv c.fill_all-2.new.slots).items
     (with_items tv c.fill_all-3.new.slots).items
@@ -162,7 +197,11 @@ returns-clause-stored g c clean homes rows has =
     let av = c.args.overlay.now.accounts in
     let kv = c.args.overlay.now.kept in
     let b_len : length c.fill_all.new.slots
-    ≡ length bv.items = omega (arith, c.fill_all.auto.slots, ap (λ (xs : List BranchSlot). length xs) c.deref_mut.ensures.value) in
+    ≡ length bv.items = omega (
+      arith,
+      c.fill_all.auto.slots,
+      ap (λ (xs : List BranchSlot). length xs) c.deref_mut.ensures.value,
+    ) in
     let f_len : length c.fill_all-2.new.slots
     ≡ length fv.items = omega (
       arith,
@@ -170,11 +209,23 @@ returns-clause-stored g c clean homes rows has =
       ap (λ (xs : List FloorSlot). length xs) c.deref_mut-2.ensures.value,
     ) in
     let t_len : length c.fill_all-3.new.slots
-    ≡ length tv.items = omega (arith, c.fill_all-3.auto.slots, ap (λ (xs : List TellerSlot). length xs) c.deref_mut-3.ensures.value) in
+    ≡ length tv.items = omega (
+      arith,
+      c.fill_all-3.auto.slots,
+      ap (λ (xs : List TellerSlot). length xs) c.deref_mut-3.ensures.value,
+    ) in
     let a_len : length c.fill_all-4.new.slots
-    ≡ length av.items = omega (arith, c.fill_all-4.auto.slots, ap (λ (xs : List AccountSlot). length xs) c.deref_mut-4.ensures.value) in
+    ≡ length av.items = omega (
+      arith,
+      c.fill_all-4.auto.slots,
+      ap (λ (xs : List AccountSlot). length xs) c.deref_mut-4.ensures.value,
+    ) in
     let k_len : length c.fill_all-5.new.slots
-    ≡ length kv.items = omega (arith, c.fill_all-5.auto.slots, ap (λ (xs : List RequestSlot). length xs) c.deref_mut-5.ensures.value) in
+    ≡ length kv.items = omega (
+      arith,
+      c.fill_all-5.auto.slots,
+      ap (λ (xs : List RequestSlot). length xs) c.deref_mut-5.ensures.value,
+    ) in
     let zero = c.in_ok-overlay.ensures in
     let one = c.in_ok-fill_all.ensures in
     let two = c.in_ok-fill_all-2.ensures in
