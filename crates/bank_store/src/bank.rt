@@ -246,7 +246,7 @@ impl<S: Alter + Drop> Counter for Bank<S> {
         let Ok(request) = decode_request(bytes) else {
             return Ok(encode_reply(&malformed_reply()));
         };
-        match post(&mut self.conn, moment, &request) {
+        match post(self.alloc, &mut self.conn, moment, &request) {
             Ok(reply) => Ok(reply),
             Err(fault) => Err(self.go_down(fault)),
         }

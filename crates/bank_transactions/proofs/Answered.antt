@@ -1,26 +1,33 @@
--- A batch that is made of records, filled, judged and written.
+-- Records whose slots are filled, judged and written: a single one, and those of a batch.
 use Rattle.std.proofs.Common.{◌≡◌, ℕ, List, map, Result, Ok, Err, refl, sym, ap, subst, ◌∙◌}
 use Rattle.sqlite.specs.Held.{state}
 use Rattle.sqlite.specs.declared.transaction.Transaction.{Transaction}
 use Rattle.sqlite_trees.specs.declared.store.Store.{Ghosts}
 use Rattle.message_records.specs.Reading.{request_of}
-use Rattle.posting_rules.specs.Changes.{tables_past_all, replies_past_all}
+use Rattle.message_records.specs.Records.{RequestFields}
+use Rattle.message_records.specs.Spelling.{reply_spelling}
+use Rattle.posting_rules.specs.Changes.{tables_past_all, replies_past_all, tables_with, reply_bytes}
 use Rattle.posting_rules.specs.Commands.{Command}
+use Rattle.posting_rules.specs.Runs.{posts}
 use Rattle.posting_rules.specs.Damage.{IsUndamaged}
-use Rattle.posting_rules.specs.Sound.{AreOfALog}
+use Rattle.posting_rules.specs.Sound.{AreOfALog, AreSound}
 use Rattle.posting_rules.specs.Tables.{Tables, AreTablesOf}
+use Rattle.posting_rules.proofs.Ready.{ready_sound}
 use Rattle.posting_rules.proofs.Undamaged.{undamaged}
 use Rattle.posting_batch.specs.declared.batch.Batch.{Batch}
-use Rattle.posting_batch.specs.Batch.{HasHomes, HasRisingSlots, ChangesRows, AddsFreeRows, filled}
+use Rattle.posting_batch.specs.Batch.{HasHomes, HasRisingSlots, ChangesRows, AddsFreeRows, filled, covering}
+use Rattle.posting_batch.specs.Batch.{no_slots, IsJudged, IsShown}
+use Rattle.posting_batch.specs.Judging.{overlay_with, reply_over}
 use Rattle.posting_batch.specs.Overlay.{Overlay, tables_over}
 use Rattle.posting_batch.specs.View.{view, reads_of, IsMadeOf, IsFilledFrom}
 use Rattle.posting_batch.proofs.Covered.{stands, homes_all}
+use Rattle.posting_batch.proofs.OneRecord.{one_adds, one_back, one_changes, one_filled, one_homes, one_judged}
+use Rattle.posting_batch.proofs.OneRecord.{one_reply, one_rising, one_tables}
 use Rattle.store_rows.specs.View as stored
 use Rattle.store_rows.specs.declared.fault.TableFault.{TableFault}
 use Rattle.bank_transactions.specs.Causes.{Damage, IsFirstBroken}
 use Rattle.bank_transactions.specs.Doing.{Acts, Does, DoesBy}
 use Rattle.bank_transactions.proofs.Chained.{acts_read, acts_wrote, does_but, does_for}
-use Rattle.bank_transactions.specs.Batches.{DecidesNone}
 use Rattle.bank_transactions.proofs.Both.{does_both}
 
 -- the same, said in other words where the answer is known
@@ -51,86 +58,119 @@ Written o t = IsUndamaged t × HasRisingSlots o × ChangesRows o t × AddsFreeRo
 sound : (t : Tables) → AreOfALog t → IsUndamaged t
 sound t it = undamaged t it.0 it.1 it.2
 
+-- what judging records comes to, whose slots were these and are filled now
+pub record Judging {X : Type 0} (So : Tables → Type 0) (after : Tables → Tables) (wanted : Tables → X)
+    (slots filled_slots judged : Overlay) (x : X) : Type 0 where
+  pub ready : (t : Tables) → So t → Ready slots t
+  pub tables : (t : Tables) → filled_slots ≡ filled t slots → tables_over judged t ≡ after t
+  pub answers : (t : Tables) → filled_slots ≡ filled t slots → x ≡ wanted t
+  pub writes : (t : Tables) → So t → filled_slots ≡ filled t slots → Written judged t
+  -- where nothing is decided, the tables are as they were
+  pub back : judged.decided ≡ filled_slots.decided → (t : Tables) → filled_slots ≡ filled t slots → after t ≡ t
+
+module _ {S X : Type 0} {g : Ghosts S} {old mid : Transaction S} {So : Tables → Type 0}
+    {after : Tables → Tables} {wanted : Tables → X} {p p' o : Overlay} {x : X}
+    (so : Judging So after wanted p p' o x)
+    (first : DoesBy (IsFirstBroken g) g old mid (Ready p) (λ t. t) (λ t. filled t p) (Ok p')) where
+  filled_so : DoesBy (IsFirstBroken g) g old mid So (λ t. t) (λ t. filled t p) (Ok p')
+  filled_so = does_for first (λ t it. (so.ready t it, refl, refl))
+
+  -- where the count stays, it is the one that was read
+  pub counts_none : (t : Tables) → p' ≡ filled t p → (after t).decided ≡ t.decided → o.decided ≡ p'.decided
+  counts_none t e none = ap (λ (u : Tables). u.decided) (so.tables t e) ∙ none
+      ∙ sym (ap (λ (q : Overlay). q.decided) e)
+
+  -- nothing is written, and the tables are as they were
+  pub answered_idle : o.decided ≡ p'.decided → Acts g old mid So after wanted (Ok x)
+  answered_idle none = acts_read (does_so filled_so (λ t it e. (sym (so.back none t e), so.answers t e)))
+
+  abbrev Knows : Tables → Type 0
+  Knows t = So t × (p' ≡ filled t p)
+
+  written_so : {new : Transaction S} {r : Result (Unit {0}) TableFault}
+      → Does {X = Unit {0}} g mid new (Written o) (λ t. tables_over o t) (λ _. tt {0}) r
+      → Does {X = Unit {0}} g mid new Knows after (λ _. tt {0}) r
+  written_so second = does_for second (λ t it. (so.writes t it.0 it.1, so.tables t it.1, refl))
+
+  pub answered_written : {new : Transaction S}
+      → Does {X = Unit {0}} g mid new (Written o) (λ t. tables_over o t) (λ _. tt {0}) (Ok (tt {0}))
+      → Acts g old new So after wanted (Ok x)
+  answered_written second =
+      acts_wrote (does_both filled_so (written_so second) (λ t it e. (it, e)) (λ t it e f. so.answers t e))
+
+  pub answered_not : {new : Transaction S} {e : TableFault}
+      → Does {X = Unit {0}} g mid new (Written o) (λ t. tables_over o t) (λ _. tt {0}) (Err e)
+      → Acts {X = X} g old new So after wanted (Err e)
+  answered_not second = acts_wrote (does_but filled_so (written_so second) (λ t it e. (it, e)))
+
+-- ---- a batch
+
 pub ready : (b : Batch) (records : List (List ℕ)) → IsMadeOf b records → (t : Tables) → AreOfALog t
     → Ready (view b.overlay) t
 ready b records made t it =
     (sound t it, subst HasHomes (sym made.overlay) (homes_all (map request_of records)))
 
--- a batch that is made, filled and judged, and what judging it comes to
-module _ {S : Type 0} {g : Ghosts S} {old mid : Transaction S} (b b' : Batch) (records : List (List ℕ))
-    (m : ℕ) (o : Overlay) (items : List (List ℕ))
-    (made : IsMadeOf b records) (same : reads_of b' ≡ reads_of b)
-    (tables : (t : Tables) (rs : List (List ℕ)) → IsFilledFrom b' t rs
-    → tables_over o t ≡ tables_past_all t m rs)
-    (replies : (t : Tables) (rs : List (List ℕ)) → IsFilledFrom b' t rs → items ≡ replies_past_all t m rs)
-    (changes : (t : Tables) (rs : List (List ℕ)) → IsFilledFrom b' t rs → ChangesRows o t)
-    (rising : HasRisingSlots (view b'.overlay) → HasRisingSlots o)
-    (adds : (t : Tables) (rs : List (List ℕ)) → IsFilledFrom b' t rs → (log : List Command)
-    → AreTablesOf t log → AddsFreeRows o t)
-    (idle : o.decided ≡ b'.overlay.decided → o ≡ view b'.overlay)
-    (first : DoesBy (IsFirstBroken g) g old mid (Ready (view b.overlay)) (λ t. t)
-    (λ t. filled t (view b.overlay)) (Ok (view b'.overlay))) where
-  is_filled : (t : Tables) → view b'.overlay ≡ filled t (view b.overlay) → IsFilledFrom b' t records
-  is_filled t e = record {
-    reads = same ∙ made.reads;
-    overlay = e ∙ ap (λ (p : Overlay). filled t p) made.overlay;
-  }
-
-  filled_so : DoesBy (IsFirstBroken g) g old mid AreOfALog (λ t. t) (λ t. filled t (view b.overlay))
-      (Ok (view b'.overlay))
-  filled_so = does_for first (λ t it. (ready b records made t it, refl, refl))
-
-  may_write : (t : Tables) → AreOfALog t → view b'.overlay ≡ filled t (view b.overlay) → Written o t
-  may_write t it e =
-      let is = is_filled t e in
-      let it_stands = stands t (map request_of records) in (
+pub judging_all : (b b' : Batch) (records : List (List ℕ)) (m : ℕ) (o : Overlay) (items : List (List ℕ))
+    → IsMadeOf b records → reads_of b' ≡ reads_of b
+    → ((t : Tables) (rs : List (List ℕ)) → IsFilledFrom b' t rs → IsJudged o items t m rs)
+    → ((t : Tables) (rs : List (List ℕ)) → IsFilledFrom b' t rs → (log : List Command)
+    → AreTablesOf t log → IsShown o items t log (posts m rs))
+    → (HasRisingSlots (view b'.overlay) → HasRisingSlots o)
+    → (o.decided ≡ b'.overlay.decided → o ≡ view b'.overlay)
+    → Judging AreOfALog (λ t. tables_past_all t m records) (λ t. replies_past_all t m records)
+    (view b.overlay) (view b'.overlay) o items
+judging_all b b' records m o items made same judged shown rising idle =
+    let is : (t : Tables) → view b'.overlay ≡ filled t (view b.overlay) → IsFilledFrom b' t records =
+    λ t e. record {
+      reads = same ∙ made.reads;
+      overlay = e ∙ ap (λ (p : Overlay). filled t p) made.overlay;
+    } in
+    record {
+      ready = ready b records made;
+      tables = λ t e. (judged t records (is t e)).tables;
+      answers = λ t e. (judged t records (is t e)).answers;
+      writes = λ t it e. (
         sound t it,
-        rising (subst HasRisingSlots (sym is.overlay) it_stands.rising),
-        changes t records is,
-        adds t records is it.0 it.2,
-      )
+        rising (subst HasRisingSlots (sym (is t e).overlay) (stands t (map request_of records)).rising),
+        (judged t records (is t e)).changes,
+        (shown t records (is t e) it.0 it.2).adds,
+      );
+      back = λ none t e.
+          sym (judged t records (is t e)).tables
+          ∙ ap (λ (p : Overlay). tables_over p t) (idle none ∙ (is t e).overlay)
+          ∙ (stands t (map request_of records)).same;
+    }
 
-  -- where nothing is decided, the records lead to the tables that were there
-  pub leads_back : o.decided ≡ b'.overlay.decided → (t : Tables) → view b'.overlay ≡ filled t (view b.overlay)
-      → tables_past_all t m records ≡ t
-  leads_back none t e =
-      let is = is_filled t e in
-      sym (tables t records is) ∙ ap (λ (p : Overlay). tables_over p t) (idle none ∙ is.overlay)
-      ∙ (stands t (map request_of records)).same
+-- ---- a single request
 
-  -- and then the count is the one that was read
-  pub counts_none : (t : Tables) → view b'.overlay ≡ filled t (view b.overlay) → DecidesNone t m records
-      → o.decided ≡ b'.overlay.decided
-  counts_none t e none = ap (λ (u : Tables). u.decided) (tables t records (is_filled t e)) ∙ none
-      ∙ sym (ap (λ (p : Overlay). p.decided) e)
+pub homes_one : (r : RequestFields) (p : Overlay) → p ≡ covering no_slots (Ok r) → HasHomes p
+homes_one r p made = subst HasHomes (sym made) (one_homes r)
 
-  -- nothing is written, and the tables are as they were
-  pub answered_idle : o.decided ≡ b'.overlay.decided
-      → Acts g old mid AreOfALog (λ t. tables_past_all t m records) (λ t. replies_past_all t m records)
-      (Ok items)
-  answered_idle none =
-      acts_read (does_so filled_so
-      (λ t it e. (sym (leads_back none t e), replies t records (is_filled t e))))
+pub ready_one : (r : RequestFields) (p : Overlay) → p ≡ covering no_slots (Ok r) → (t : Tables) → AreSound t
+    → Ready p t
+ready_one r p made t it = (it.undamaged, homes_one r p made)
 
-  abbrev Knows : Tables → Type 0
-  Knows t = AreOfALog t × (view b'.overlay ≡ filled t (view b.overlay))
-
-  written_so : {new : Transaction S} {r : Result (Unit {0}) TableFault}
-      → Does {X = Unit {0}} g mid new (Written o) (λ t. tables_over o t) (λ _. tt {0}) r
-      → Does {X = Unit {0}} g mid new Knows (λ t. tables_past_all t m records) (λ _. tt {0}) r
-  written_so second =
-      does_for second (λ t so. (may_write t so.0 so.1, tables t records (is_filled t so.1), refl))
-
-  pub answered_written : {new : Transaction S}
-      → Does {X = Unit {0}} g mid new (Written o) (λ t. tables_over o t) (λ _. tt {0}) (Ok (tt {0}))
-      → Acts g old new AreOfALog (λ t. tables_past_all t m records) (λ t. replies_past_all t m records)
-      (Ok items)
-  answered_written second =
-      acts_wrote (does_both filled_so (written_so second) (λ t it e. (it, e))
-      (λ t it e f. replies t records (is_filled t e)))
-
-  pub answered_not : {new : Transaction S} {e : TableFault}
-      → Does {X = Unit {0}} g mid new (Written o) (λ t. tables_over o t) (λ _. tt {0}) (Err e)
-      → Acts {X = List (List ℕ)} g old new AreOfALog (λ t. tables_past_all t m records)
-      (λ t. replies_past_all t m records) (Err e)
-  answered_not second = acts_wrote (does_but filled_so (written_so second) (λ t it e. (it, e)))
+pub judging_one : (r : RequestFields) (m : ℕ) (p p' o : Overlay) (reply : List ℕ)
+    → p ≡ covering no_slots (Ok r) → reply ≡ reply_spelling (reply_over p' (Ok r))
+    → o ≡ overlay_with p' m (Ok r)
+    → Judging AreSound (λ t. tables_with t m r) (λ t. reply_bytes t r) p p' o reply
+judging_one r m p p' o reply made told after =
+    let is : (t : Tables) → p' ≡ filled t p → p' ≡ one_filled t m r =
+    λ t e. e ∙ ap (λ (q : Overlay). filled t q) made in
+    let so : (t : Tables) → p' ≡ filled t p → o ≡ one_judged t m r =
+    λ t e. after ∙ ap (λ (q : Overlay). overlay_with q m (Ok r)) (is t e) in
+    record {
+      ready = ready_one r p made;
+      tables = λ t e. ap (λ (q : Overlay). tables_over q t) (so t e) ∙ one_tables t m r;
+      answers = λ t e.
+          told ∙ ap (λ (q : Overlay). reply_spelling (reply_over q (Ok r))) (is t e) ∙ one_reply t m r;
+      writes = λ t it e. (
+        it.undamaged,
+        subst HasRisingSlots (sym (so t e)) (one_rising t m r),
+        subst (λ (q : Overlay). ChangesRows q t) (sym (so t e)) (one_changes t m r),
+        subst (λ (q : Overlay). AddsFreeRows q t) (sym (so t e)) (one_adds t m r (ready_sound t it)),
+      );
+      back = λ none t e.
+          one_back t m r (sym (ap (λ (q : Overlay). q.decided) (so t e)) ∙ none
+          ∙ ap (λ (q : Overlay). q.decided) (is t e));
+    }

@@ -1,5 +1,5 @@
--- A batch whose slots have what the rows hold answers the replies to its records in tables that have what the
--- rows hold, whatever rows a file holds.
+-- Records whose slots have what the rows hold are answered in tables that have what the rows hold, whatever rows
+-- a file holds: those of a batch, and a single one.
 use Rattle.std.proofs.Common.{◌≡◌, ℕ, ℤ, Bool, eqb, List, [], ◌∷◌, map, Option, Some, None, Result, Ok, Err, refl}
 use Rattle.std.proofs.Common.{pos, true, sym, ap, subst, ◌∙◌, inl, inr, arith}
 use Rattle.std.specs.Prelude.{IfOk, IfSome, IsSome, IsTrue, is_some, option_and_then, option_map}
@@ -8,24 +8,28 @@ use Rattle.std.proofs.lemmas.Bool.{eqb-true}
 use Rattle.message_records.specs.Reading.{request_of}
 use Rattle.message_records.specs.Records.{RequestFields}
 use Rattle.message_records.specs.declared.fault.Bad.{Bad}
-use Rattle.posting_rules.specs.Changes.{replies_past_all}
 use Rattle.posting_rules.specs.LookUps.{account_balance_in, balance_of_branch, balance_of_teller, both_of, floor_in}
-use Rattle.posting_rules.specs.LookUps.{kept_in}
+use Rattle.posting_rules.specs.LookUps.{found_in, kept_in}
 use Rattle.posting_rules.specs.Numbering.{branch_of_account, branch_of_teller}
 use Rattle.posting_rules.specs.Tables.{Tables, branch_key, row_at, teller_key}
+use Rattle.posting_rules.specs.declared.judgments.Found.{Found}
 use Rattle.posting_rules.specs.declared.rows.BranchRow.{BranchRow}
 use Rattle.posting_rules.proofs.Keyed.{by_test}
 use Rattle.posting_batch.specs.declared.batch.Batch.{Batch}
+use Rattle.posting_batch.specs.declared.slots.BranchSlot.{BranchSlot}
 use Rattle.posting_batch.specs.declared.slots.RequestSlot.{RequestSlot}
 use Rattle.posting_batch.specs.Batch.{CoversAll, CoversRead, HasHomes, HasRisingSlots, account_filled}
-use Rattle.posting_batch.specs.Batch.{branch_filled, covering_all, filled, no_slots, request_filled, teller_filled}
+use Rattle.posting_batch.specs.Batch.{IsJudged, branch_filled, covering, covering_all, filled, floor_filled}
+use Rattle.posting_batch.specs.Batch.{no_slots, request_filled, teller_filled}
+use Rattle.posting_batch.specs.Judging.{found_over}
 use Rattle.posting_batch.specs.Overlay.{Overlay}
 use Rattle.posting_batch.specs.Placed.{IsRising, number_below, request_below}
-use Rattle.posting_batch.specs.Slots.{account_slot_key, branch_slot_key, is_for, teller_slot_key}
+use Rattle.posting_batch.specs.Slots.{account_slot_key, branch_slot_key, floor_slot_key, is_for, teller_slot_key}
 use Rattle.posting_batch.specs.View.{IsFilledFrom, IsMadeOf, reads_of, view}
 use Rattle.posting_batch.proofs.Covered.{Stands, homes_all, stands}
 use Rattle.posting_batch.proofs.KeptSlots.{both_true}
 use Rattle.posting_batch.proofs.Orders.{rising_mapped}
+use Rattle.posting_batch.proofs.Overlaid.{found_is}
 use Rattle.posting_batch.proofs.SlotsInOrder.{made_all}
 use Rattle.posting_batch.proofs.ToldTables.{IsOwn, tables_told, told_filled}
 use Rattle.sql_meanings.specs.Entries.{Entry}
@@ -34,13 +38,15 @@ use Rattle.sqlite.specs.Effect.{Database}
 use Rattle.sqlite.specs.Held.{Held, state}
 use Rattle.sqlite.specs.State.{HasCleanDisk}
 use Rattle.sqlite_trees.specs.declared.store.Store.{Ghosts}
-use Rattle.store_rows.specs.Rules.{StoredRows, branch_under, row_under}
+use Rattle.store_rows.specs.Rules.{BranchKeeps, HoldsBank, OfRows, StoredRows, branch_under, row_under}
+use Rattle.store_rows.specs.Stored.{BalanceKeeps, FindsStored, IsBalance, IsBranch}
 use Rattle.store_rows.specs.declared.fault.TableFault.{TableFault}
 use Rattle.bank_transactions.specs.Doing.{Ends}
-use Rattle.bank_transactions.specs.Filling.{AreHeld, BranchHeld, HoldsBranch, RequestHeld}
-use Rattle.bank_transactions.specs.Filling.{emptied, emptied_account, emptied_branch, emptied_request, emptied_teller}
+use Rattle.bank_transactions.specs.Filling.{AccountHeld, AreHeld, BranchHeld, HoldsBranch, RequestHeld, TellerHeld}
+use Rattle.bank_transactions.specs.Filling.{emptied, emptied_account, emptied_branch, emptied_floor}
+use Rattle.bank_transactions.specs.Filling.{emptied_request, emptied_teller}
 use Rattle.bank_transactions.specs.Stored.{HasRead, HasStored, HoldsAccount, HoldsFloor, HoldsKept, HoldsTeller}
-use Rattle.bank_transactions.specs.Stored.{HoldsTellerRow, RepliesInTurn}
+use Rattle.bank_transactions.specs.Stored.{HoldsTellerRow, IsStoredFound, RepliesInTurn}
 use Rattle.bank_transactions.proofs.HeldSlots.{at_key}
 use Rattle.bank_transactions.proofs.Together.{within_or_none}
 
@@ -58,6 +64,7 @@ module _ (t : Tables) where
   filled_again : (o : Overlay) → filled t (emptied o) ≡ filled t o
   filled_again o = rw (
     map_twice (branch_filled t) emptied_branch (branch_filled t) (λ s. refl) o.branches,
+    map_twice (floor_filled t) emptied_floor (floor_filled t) (λ s. refl) o.floors,
     map_twice (teller_filled t) emptied_teller (teller_filled t) (λ s. refl) o.tellers,
     map_twice (account_filled t) emptied_account (account_filled t) (λ s. refl) o.accounts,
     map_twice (request_filled t) emptied_request (request_filled t) (λ s. refl) o.kept,
@@ -81,6 +88,7 @@ module _ {S : Type 0} (below : S → S → Bool) (f : S → S)
 rising_emptied : (o : Overlay) → HasRisingSlots o → HasRisingSlots (emptied o)
 rising_emptied o rises = record {
   branches = rising_mapped (number_below branch_slot_key) emptied_branch (λ a b. refl) o.branches rises.branches;
+  floors = rising_mapped (number_below floor_slot_key) emptied_floor (λ a b. refl) o.floors rises.floors;
   tellers = rising_mapped (number_below teller_slot_key) emptied_teller (λ a b. refl) o.tellers rises.tellers;
   accounts = rising_mapped (number_below account_slot_key) emptied_account (λ a b. refl) o.accounts
       rises.accounts;
@@ -90,6 +98,7 @@ rising_emptied o rises = record {
 rising_filled : (o : Overlay) → HasRisingSlots (emptied o) → HasRisingSlots o
 rising_filled o rises = record {
   branches = rising_back (number_below branch_slot_key) emptied_branch (λ a b. refl) o.branches rises.branches;
+  floors = rising_back (number_below floor_slot_key) emptied_floor (λ a b. refl) o.floors rises.floors;
   tellers = rising_back (number_below teller_slot_key) emptied_teller (λ a b. refl) o.tellers rises.tellers;
   accounts = rising_back (number_below account_slot_key) emptied_account (λ a b. refl) o.accounts
       rises.accounts;
@@ -142,9 +151,7 @@ module _ (rows : StoredRows) where
         (stand.fits.tellers r.teller) in
         let branch : HoldsBranch rows b (row_at branch_key t.branches b) =
         told (λ s. s.stored) (λ row. HoldsBranch rows b row) _ _ covers.branch
-        (at_key branch_slot_key (λ k s. HoldsBranch rows k s.stored) o.branches
-        (each (BranchHeld rows) (λ s. HoldsBranch rows s.branch s.stored) (λ s it. it.row) o.branches
-        held.branches) b)
+        (at_key branch_slot_key (λ k s. HoldsBranch rows k s.stored) o.branches held.branches b)
         (stand.fits.branches b) in
         record {
           teller = both_held r.teller _ _ teller branch;
@@ -155,10 +162,8 @@ module _ (rows : StoredRows) where
               (at_key account_slot_key (λ k s. HoldsAccount rows k s.stored) o.accounts held.accounts r.account)
               (stand.fits.accounts r.account);
           floor =
-              told (λ s. s.floor) (λ z. HoldsFloor rows a z) (floor_in t a) _ covers.its_branch
-              (at_key branch_slot_key (λ k s. HoldsFloor rows k s.floor) o.branches
-              (each (BranchHeld rows) (λ s. HoldsFloor rows s.branch s.floor) (λ s it. it.floor) o.branches
-              held.branches) a)
+              told (λ s. s.floor) (λ z. HoldsFloor rows a z) (floor_in t a) _ covers.its_floor
+              (at_key floor_slot_key (λ k s. HoldsFloor rows k s.floor) o.floors held.floors a)
               (stand.fits.floors a);
           kept =
               told (λ s. s.kept) (λ k. HoldsKept rows r.teller r.number k) (kept_in t.requests r.teller r.number)
@@ -195,44 +200,80 @@ module _ (rows : StoredRows) where
   own_row n None holds = tt
   own_row n (Some b) holds = own_key n b holds.0 holds.1 holds.2.0
 
--- ---- a batch that is made, filled and judged
+-- ---- slots that are made for records, and filled
 
-module _ (rows : StoredRows) (b b' : Batch) (records : List (List ℕ)) (m : ℕ) (items : List (List ℕ))
-    (made : IsMadeOf b records) (reads : reads_of b' ≡ reads_of b)
-    (same : emptied (view b'.overlay) ≡ emptied (view b.overlay)) (held : AreHeld rows (view b'.overlay))
-    (replies : (t : Tables) (rs : List (List ℕ)) → IsFilledFrom b' t rs → items ≡ replies_past_all t m rs) where
-  abbrev slots : Overlay
-  slots = view b'.overlay
-
-  abbrev covering : Overlay
-  covering = covering_all no_slots (map request_of records)
-
+module _ (rows : StoredRows) (reads : List (Result RequestFields Bad)) (slots : Overlay)
+    (same : emptied slots ≡ emptied (covering_all no_slots reads)) (held : AreHeld rows slots) where
   -- tables that have what the slots tell
   abbrev its_tables : Tables
   its_tables = tables_told slots
 
-  emptied_so : emptied slots ≡ emptied covering
-  emptied_so = same ∙ ap emptied made.overlay
-
   rises : HasRisingSlots slots
-  rises = rising_filled slots (subst HasRisingSlots (sym emptied_so)
-      (rising_emptied covering (made_all (map request_of records)).rising))
+  rises = rising_filled slots (subst HasRisingSlots (sym same)
+      (rising_emptied (covering_all no_slots reads) (made_all reads).rising))
 
-  filled_so : slots ≡ filled its_tables covering
+  filled_so : slots ≡ filled its_tables (covering_all no_slots reads)
   filled_so = sym (told_filled slots rises
-      (each (BranchHeld rows) IsOwn (λ s it. own_row rows s.branch s.stored it.row) slots.branches held.branches))
-      ∙ filled_over its_tables slots covering emptied_so
+      (each (BranchHeld rows) IsOwn (λ s it. own_row rows s.branch s.stored it) slots.branches held.branches))
+      ∙ filled_over its_tables slots (covering_all no_slots reads) same
 
-  pub in_turn : RepliesInTurn rows m records items
-  in_turn =
-      let stand = subst (λ (o : Overlay). Stands o its_tables (map request_of records)) (sym filled_so)
-      (stands its_tables (map request_of records)) in
-      record {
-        tables = its_tables;
-        stored = has_records rows slots its_tables (map request_of records) stand held records stand.covers;
-        decided = held.decided;
-        are = replies its_tables records (record { reads = reads ∙ made.reads; overlay = filled_so });
-      }
+  they_stand : Stands slots its_tables reads
+  they_stand = subst (λ (o : Overlay). Stands o its_tables reads) (sym filled_so) (stands its_tables reads)
+
+-- a batch that is judged answers in turn
+pub in_turn : (rows : StoredRows) (b b' : Batch) (records : List (List ℕ)) (m : ℕ) (o : Overlay)
+    (items : List (List ℕ)) → IsMadeOf b records → reads_of b' ≡ reads_of b
+    → emptied (view b'.overlay) ≡ emptied (view b.overlay) → AreHeld rows (view b'.overlay)
+    → ((t : Tables) (rs : List (List ℕ)) → IsFilledFrom b' t rs → IsJudged o items t m rs)
+    → RepliesInTurn rows m records items
+in_turn rows b b' records m o items made reads same held judged =
+    let its : List (Result RequestFields Bad) = map request_of records in
+    let slots = view b'.overlay in
+    let so = same ∙ ap emptied made.overlay in
+    let stand = they_stand rows its slots so held in
+    record {
+      tables = its_tables rows its slots so held;
+      stored = has_records rows slots (its_tables rows its slots so held) its stand held records stand.covers;
+      decided = held.decided;
+      are = (judged (its_tables rows its slots so held) records (record {
+        reads = reads ∙ made.reads;
+        overlay = filled_so rows its slots so held;
+      })).answers;
+    }
+
+-- what is found for a single request is what the rows hold
+module _ (db : Database) (r : RequestFields) (slots : Overlay)
+    (same : emptied slots ≡ emptied (covering no_slots (Ok r)))
+    (held : OfRows (λ rows. AreHeld rows slots) db) where
+  found_so : (rows : StoredRows) → HoldsBank db rows → found_over slots r ≡ found_in (tables_told slots) r
+  found_so rows has =
+      let stand = they_stand rows (Ok r ∷ []) slots same (held rows has) in
+      found_is slots (tables_told slots) r stand.fits stand.covers.0
+      ∙ ap (λ (t : Tables). found_in t r) stand.same
+
+  has_so : (rows : StoredRows) → HoldsBank db rows → HasStored rows (tables_told slots) r
+  has_so rows has =
+      let stand = they_stand rows (Ok r ∷ []) slots same (held rows has) in
+      has_request rows slots (tables_told slots) (Ok r ∷ []) stand (held rows has) r stand.covers.0
+
+  pub found_stored : IsStoredFound db r (found_over slots r)
+  found_stored = record {
+    teller = record {
+      found = λ rows has. subst (λ (f : Found). HoldsTeller rows r.teller f.teller)
+          (sym (found_so rows has)) (has_so rows has).teller;
+      fits = λ rows has. (has_so rows has).teller_fits;
+    };
+    account = record {
+      found = λ rows has. subst (λ (f : Found). FindsStored (row_under rows.accounts r.account) IsBalance
+          BalanceKeeps (Ok f.account)) (sym (found_so rows has)) (has_so rows has).account.found;
+      fits = λ rows has. (has_so rows has).account.fits;
+    };
+    floor = λ rows has. subst (λ (f : Found). HoldsFloor rows (branch_of_account r.account) f.floor)
+        (sym (found_so rows has)) (has_so rows has).floor;
+    kept = λ rows has. subst (λ (f : Found). HoldsKept rows r.teller r.number f.kept)
+        (sym (found_so rows has)) (has_so rows has).kept;
+    decided = λ rows has. (held rows has).decided;
+  }
 
 -- every branch that a batch asks for has its slot
 pub homes_made : (b : Batch) (records : List (List ℕ)) → IsMadeOf b records → HasHomes (view b.overlay)

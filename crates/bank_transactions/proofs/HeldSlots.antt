@@ -1,5 +1,5 @@
 -- Slots that are filled have what the rows hold, whatever rows a file holds.
-use Rattle.std.proofs.Common.{◌≡◌, ℕ, eqb, List, [], ◌∷◌, map, Option, Some, None, refl, sym, ap, subst, ◌∙◌}
+use Rattle.std.proofs.Common.{◌≡◌, ℕ, Bool, eqb, List, [], ◌∷◌, map, Option, Some, None, Ok, refl, sym, ap, subst, ◌∙◌}
 use Rattle.std.proofs.Common.{inl, inr}
 use Rattle.std.specs.Prelude.{IsSome, IfSome, is_some}
 use Rattle.std.specs.List.{AllByRecursion}
@@ -9,6 +9,7 @@ use Rattle.posting_rules.specs.Tables.{row_at}
 use Rattle.posting_rules.proofs.Keyed.{by_test}
 use Rattle.posting_batch.specs.declared.slots.AccountSlot.{AccountSlot}
 use Rattle.posting_batch.specs.declared.slots.BranchSlot.{BranchSlot}
+use Rattle.posting_batch.specs.declared.slots.FloorSlot.{FloorSlot}
 use Rattle.posting_batch.specs.declared.slots.RequestSlot.{RequestSlot}
 use Rattle.posting_batch.specs.declared.slots.TellerSlot.{TellerSlot}
 use Rattle.posting_batch.specs.Overlay.{Overlay}
@@ -16,8 +17,9 @@ use Rattle.posting_batch.specs.Slots.{branch_slot_key, in_slot, row_of_slot}
 use Rattle.posting_batch.proofs.KeptSlots.{find-map}
 use Rattle.store_rows.specs.Rules.{StoredRows}
 use Rattle.bank_transactions.specs.Filling.{BranchHeld, HoldsBranch, TellsStored, emptied, emptied_account}
-use Rattle.bank_transactions.specs.Filling.{emptied_branch, emptied_request, emptied_teller}
-use Rattle.bank_transactions.proofs.Whole.{with_accounts, with_branches, with_count, with_kept, with_tellers}
+use Rattle.bank_transactions.specs.Filling.{emptied_branch, emptied_floor, emptied_request, emptied_teller}
+use Rattle.bank_transactions.proofs.Whole.{with_accounts, with_branches, with_count, with_floors, with_kept}
+use Rattle.bank_transactions.proofs.Whole.{with_tellers}
 
 -- what is so of each slot under its own key is so of the one that is found under a key
 pub at_key : {S : Type 0} (key : S → ℕ) (P : ℕ → S → Type 0) (slots : List S)
@@ -51,7 +53,7 @@ tells rows slots n all there =
     rows_of : (slots : List BranchSlot) → AllByRecursion (BranchHeld rows) slots
         → AllByRecursion (λ s. HoldsBranch rows s.branch s.stored) slots
     rows_of [] all = tt
-    rows_of (s ∷ slots) all = (all.0.row, rows_of slots all.1)
+    rows_of (s ∷ slots) all = (all.0, rows_of slots all.1)
 
     of : (o : Option BranchSlot) → IsSome o → IfSome o (λ s. HoldsBranch rows n s.stored)
         → HoldsBranch rows n (in_slot row_of_slot o)
@@ -80,10 +82,12 @@ know_all {A} branch_of rows old told new others xs is at same held homes =
     (tell_all branch_of rows old new others same held homes))
 
 -- the overlay with filled slots, without what they are filled with
-pub emptied_same : (o : Overlay) (n : ℕ) (b : List BranchSlot) (e : List TellerSlot) (a : List AccountSlot)
-    (k : List RequestSlot) → map emptied_branch b ≡ map emptied_branch o.branches
+pub emptied_same : (o : Overlay) (n : ℕ) (b : List BranchSlot) (f : List FloorSlot) (e : List TellerSlot)
+    (a : List AccountSlot) (k : List RequestSlot) → map emptied_branch b ≡ map emptied_branch o.branches
+    → map emptied_floor f ≡ map emptied_floor o.floors
     → map emptied_teller e ≡ map emptied_teller o.tellers
     → map emptied_account a ≡ map emptied_account o.accounts
     → map emptied_request k ≡ map emptied_request o.kept
-    → emptied (with_kept k (with_accounts a (with_tellers e (with_branches b (with_count n o))))) ≡ emptied o
-emptied_same o n b e a k eb ee ea ek = rw (eb, ee, ea, ek) refl
+    → emptied (with_kept k (with_accounts a (with_tellers e (with_floors f (with_branches b (with_count n o))))))
+    ≡ emptied o
+emptied_same o n b f e a k eb ef ee ea ek = rw (eb, ef, ee, ea, ek) refl

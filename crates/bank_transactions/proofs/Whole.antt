@@ -10,8 +10,10 @@ use Rattle.posting_rules.specs.Tables.{Tables}
 use Rattle.posting_batch.specs.declared.slots.AccountSlot.{AccountSlot}
 use Rattle.posting_batch.specs.declared.slots.TellerSlot.{TellerSlot}
 use Rattle.posting_batch.specs.declared.slots.BranchSlot.{BranchSlot}
+use Rattle.posting_batch.specs.declared.slots.FloorSlot.{FloorSlot}
 use Rattle.posting_batch.specs.declared.slots.RequestSlot.{RequestSlot}
-use Rattle.posting_batch.specs.Batch.{HasHomes, branch_filled, teller_filled, account_filled, request_filled}
+use Rattle.posting_batch.specs.Batch.{HasHomes, branch_filled, floor_filled, teller_filled, account_filled}
+use Rattle.posting_batch.specs.Batch.{request_filled}
 use Rattle.posting_batch.specs.Overlay.{Overlay}
 use Rattle.bank_transactions.specs.Doing.{Reads}
 use Rattle.bank_transactions.specs.Filling.{ReadsWhere, TellsBranch}
@@ -30,6 +32,9 @@ with_count n o = record o { decided = n }
 abbrev pub with_branches : List BranchSlot → Overlay → Overlay
 with_branches slots o = record o { branches = slots }
 
+abbrev pub with_floors : List FloorSlot → Overlay → Overlay
+with_floors slots o = record o { floors = slots }
+
 abbrev pub with_tellers : List TellerSlot → Overlay → Overlay
 with_tellers slots o = record o { tellers = slots }
 
@@ -40,11 +45,11 @@ abbrev pub with_kept : List RequestSlot → Overlay → Overlay
 with_kept slots o = record o { kept = slots }
 
 -- the same slots, held elsewhere
-pub same_now : (o : Overlay) (n : ℕ) (b b' : List BranchSlot) (e e' : List TellerSlot)
-    (a a' : List AccountSlot) (k k' : List RequestSlot) → b ≡ b' → e ≡ e' → a ≡ a' → k ≡ k'
-    → with_kept k (with_accounts a (with_tellers e (with_branches b (with_count n o))))
-    ≡ with_kept k' (with_accounts a' (with_tellers e' (with_branches b' (with_count n o))))
-same_now o n b b' e e' a a' k k' eb ee ea ek = rw (eb, ee, ea, ek) refl
+pub same_now : (o : Overlay) (n : ℕ) (b b' : List BranchSlot) (f f' : List FloorSlot) (e e' : List TellerSlot)
+    (a a' : List AccountSlot) (k k' : List RequestSlot) → b ≡ b' → f ≡ f' → e ≡ e' → a ≡ a' → k ≡ k'
+    → with_kept k (with_accounts a (with_tellers e (with_floors f (with_branches b (with_count n o)))))
+    ≡ with_kept k' (with_accounts a' (with_tellers e' (with_floors f' (with_branches b' (with_count n o)))))
+same_now o n b b' f f' e e' a a' k k' eb ef ee ea ek = rw (eb, ef, ee, ea, ek) refl
 
 -- ---- what is known of the branches
 
@@ -106,15 +111,18 @@ part {S} {A} o put fill p f xs zs ys same first second ready =
     reads_both first second ready (λ t so e h.
     ap (put ys) e ∙ ap (λ (ws : List A). put ws (f t)) (h ∙ ap (λ (ws : List A). map (fill t) ws) same))
 
--- so far filled: the count; and the branches; and the tellers; and the accounts; and all
+-- so far filled: the count; and the branches; and the floors; and the tellers; and the accounts; and all
 abbrev pub with_counted : Overlay → Tables → Overlay
 with_counted o t = with_count t.decided o
 
 abbrev pub to_branches : Overlay → Tables → Overlay
 to_branches o t = with_branches (map (branch_filled t) o.branches) (with_counted o t)
 
+abbrev pub to_floors : Overlay → Tables → Overlay
+to_floors o t = with_floors (map (floor_filled t) o.floors) (to_branches o t)
+
 abbrev pub to_tellers : Overlay → Tables → Overlay
-to_tellers o t = with_tellers (map (teller_filled t) o.tellers) (to_branches o t)
+to_tellers o t = with_tellers (map (teller_filled t) o.tellers) (to_floors o t)
 
 abbrev pub to_accounts : Overlay → Tables → Overlay
 to_accounts o t = with_accounts (map (account_filled t) o.accounts) (to_tellers o t)
@@ -140,7 +148,7 @@ module _ {o p : Overlay} where
   plain f xs t so e = (so.0, nothing_asked xs)
 
   pub tellers_ready : {told : List BranchSlot} {xs : List TellerSlot} → told ≡ p.branches → xs ≡ o.tellers
-      → (t : Tables) → So o t → p ≡ to_branches o t → OfTellers told xs t
+      → (t : Tables) → So o t → p ≡ to_floors o t → OfTellers told xs t
   tellers_ready {told} {xs} same is t so e =
       for_tellers o p t told xs so (ap (λ (q : Overlay). q.branches) e) same is
 
@@ -162,12 +170,19 @@ module _ {S : Type 0} {g : Ghosts S} {a b : Transaction S} where
         part o with_branches branch_filled p (with_counted o) xs o.branches ys is first second
         (plain (with_counted o) xs)
 
+    pub floors_in : {xs ys : List FloorSlot} → ReadsWhere g a b (So o) (to_branches o) (Ok p) → xs ≡ o.floors
+        → ReadsWhere g b c (Plain xs) (λ t. map (floor_filled t) xs) (Ok ys)
+        → ReadsWhere g a c (So o) (to_floors o) (Ok (with_floors ys p))
+    floors_in {xs} {ys} first is second =
+        part o with_floors floor_filled p (to_branches o) xs o.floors ys is first second
+        (plain (to_branches o) xs)
+
     pub tellers_in : {told : List BranchSlot} {xs ys : List TellerSlot}
-        → ReadsWhere g a b (So o) (to_branches o) (Ok p) → told ≡ p.branches → xs ≡ o.tellers
+        → ReadsWhere g a b (So o) (to_floors o) (Ok p) → told ≡ p.branches → xs ≡ o.tellers
         → ReadsWhere g b c (OfTellers told xs) (λ t. map (teller_filled t) xs) (Ok ys)
         → ReadsWhere g a c (So o) (to_tellers o) (Ok (with_tellers ys p))
     tellers_in {told} {xs} {ys} first same is second =
-        part o with_tellers teller_filled p (to_branches o) xs o.tellers ys is first second
+        part o with_tellers teller_filled p (to_floors o) xs o.tellers ys is first second
         (tellers_ready same is)
 
     pub accounts_in : {told : List BranchSlot} {xs ys : List AccountSlot}

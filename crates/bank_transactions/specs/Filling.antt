@@ -8,6 +8,7 @@ use Rattle.posting_rules.specs.Tables.{Tables, row_at, branch_key}
 use Rattle.posting_rules.specs.declared.rows.BranchRow.{BranchRow}
 use Rattle.posting_batch.specs.declared.slots.AccountSlot.{AccountSlot}
 use Rattle.posting_batch.specs.declared.slots.BranchSlot.{BranchSlot}
+use Rattle.posting_batch.specs.declared.slots.FloorSlot.{FloorSlot}
 use Rattle.posting_batch.specs.declared.slots.RequestSlot.{RequestSlot}
 use Rattle.posting_batch.specs.declared.slots.TellerSlot.{TellerSlot}
 use Rattle.posting_batch.specs.Overlay.{Overlay}
@@ -47,7 +48,10 @@ TellsBranch slots t n = in_slot row_of_slot (row_at branch_slot_key slots n) ≡
 
 -- the slot, without what it is filled with
 abbrev pub emptied_branch : BranchSlot → BranchSlot
-emptied_branch s = record s { stored = None; floor = None }
+emptied_branch s = record s { stored = None }
+
+abbrev pub emptied_floor : FloorSlot → FloorSlot
+emptied_floor s = record s { floor = None }
 
 abbrev pub emptied_teller : TellerSlot → TellerSlot
 emptied_teller s = record s { stored = None }
@@ -62,6 +66,7 @@ emptied_request s = record s { kept = None }
 abbrev pub emptied : Overlay → Overlay
 emptied o = record o {
   branches = map emptied_branch o.branches;
+  floors = map emptied_floor o.floors;
   tellers = map emptied_teller o.tellers;
   accounts = map emptied_account o.accounts;
   kept = map emptied_request o.kept;
@@ -73,9 +78,11 @@ abbrev pub HoldsBranch : StoredRows → ℕ → Option BranchRow → Type 0
 HoldsBranch rows n row = FindsStored (branch_under rows n) IsBranch BranchKeeps (Ok row)
 
 -- the slot has what the rows hold under its key
-pub record BranchHeld (rows : StoredRows) (s : BranchSlot) : Type 0 where
-  pub row : HoldsBranch rows s.branch s.stored
-  pub floor : HoldsFloor rows s.branch s.floor
+abbrev pub BranchHeld : StoredRows → BranchSlot → Type 0
+BranchHeld rows s = HoldsBranch rows s.branch s.stored
+
+abbrev pub FloorHeld : StoredRows → FloorSlot → Type 0
+FloorHeld rows s = HoldsFloor rows s.branch s.floor
 
 abbrev pub TellerHeld : StoredRows → TellerSlot → Type 0
 TellerHeld rows s = HoldsTellerRow rows s.teller s.stored
@@ -89,6 +96,7 @@ RequestHeld rows s = HoldsKept rows s.teller s.number s.kept
 -- each slot has, and the count is that of the rows
 pub record AreHeld (rows : StoredRows) (o : Overlay) : Type 0 where
   pub branches : AllByRecursion (BranchHeld rows) o.branches
+  pub floors : AllByRecursion (FloorHeld rows) o.floors
   pub tellers : AllByRecursion (TellerHeld rows) o.tellers
   pub accounts : AllByRecursion (AccountHeld rows) o.accounts
   pub kept : AllByRecursion (RequestHeld rows) o.kept

@@ -73,7 +73,7 @@ pub fn answer_batch<S: Alter>(
         → (records : List (List ℕ)) → IsMadeOf batch records
         → RepliesToAllStored (state S.Store tx.old.conn.now).now moment records replies.items) }
 {
-    fill(tx, &mut batch)?;
+    fill(tx, &mut batch.overlay)?;
     let before = batch.overlay.decided;
     let Judged { overlay, replies } = batch.judge(moment);
     if overlay.decided != before {

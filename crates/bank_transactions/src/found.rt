@@ -2,20 +2,19 @@
 //! they differ.
 ghost use Rattle.std.specs.Prelude.{◌≡◌, ◌≤◌, IfOk};
 ghost use Rattle.posting_rules.specs.Numbering.{branch_of_account, place_of_account};
-ghost use Rattle.posting_rules.specs.LookUps.{teller_balances_in, account_balance_in, kept_in, found_in};
+ghost use Rattle.posting_rules.specs.LookUps.{teller_balances_in, account_balance_in, kept_in};
 ghost use Rattle.posting_rules.specs.Tables.{row_at, branch_key};
 ghost use Rattle.sqlite.specs.Held.{state};
 ghost use Rattle.sqlite.specs.State.{HasCleanDisk};
 ghost use Rattle.store_rows.specs.Rules.{branch_under, BranchKeeps, OfRows};
 ghost use Rattle.store_rows.specs.Stored.{FindsStored, IsBranch};
 ghost use Rattle.bank_transactions.specs.Doing.{Reads};
-ghost use Rattle.bank_transactions.specs.Stored.{HoldsDecided, HoldsKept, IsStoredBalance, IsStoredFound};
+ghost use Rattle.bank_transactions.specs.Stored.{HoldsDecided, HoldsKept, IsStoredBalance};
 ghost use Rattle.bank_transactions.specs.Stored.{IsStoredTeller};
 
-use crate::floors::balance_and_floor;
 use message_records::{Account, Branch, Cents, Number, Request, Teller};
 use posting_rules::{
-    BranchRow, Found, Kept, LAST_BRANCH, MAX_ACCOUNTS, MAX_DECIDED, Rule, branch_of_account,
+    BranchRow, Kept, LAST_BRANCH, MAX_ACCOUNTS, MAX_DECIDED, Rule, branch_of_account,
     branch_of_teller, place_of_account,
 };
 use sqlite::{Alter, Transaction};
@@ -123,27 +122,4 @@ pub fn decided<S: Alter>(tx: &mut Transaction<'_, S>) -> Result<u64, TableFault>
         return Err(TableFault::Damaged(Rule::Meta));
     }
     Ok(meta.decided as u64)
-}
-
-/// All that is looked up for a request.
-pub(crate) fn look_up<S: Alter>(
-    tx: &mut Transaction<'_, S>,
-    request: &Request,
-) -> Result<Found, TableFault>
-    ensures within { IfOk result (λ found. found.decided ≤ MAX_DECIDED) }
-    ensures says { Reads S.Store tx.old tx.new (λ tables. found_in tables request.now) result }
-    ensures stored { IfOk result (λ found. HasCleanDisk (state S.Store tx.new.conn.now)
-        → IsStoredFound (state S.Store tx.old.conn.now).now request.now found) }
-{
-    let decided = decided(tx)?;
-    let teller = teller_balances(tx, request.teller())?;
-    let kept = kept_request(tx, request.teller(), request.number())?;
-    let (account, floor) = balance_and_floor(tx, request.account())?;
-    Ok(Found {
-        decided,
-        teller,
-        kept,
-        account,
-        floor,
-    })
 }

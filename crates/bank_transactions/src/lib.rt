@@ -15,9 +15,13 @@
 //! use bank_transactions::{open_branch, post};
 //! use message_records::{Account, Branch, Cents, Moment, Number, REPLY_BYTES, Request, Teller};
 //! use sqlite::{Alter, Connection};
+//! use std::alloc::Global;
 //! use store_rows::TableFault;
 //!
-//! pub fn first_request<S: Alter>(conn: &mut Connection<S>) -> Result<[u8; REPLY_BYTES], TableFault>
+//! pub fn first_request<S: Alter>(
+//!     alloc: Global,
+//!     conn: &mut Connection<S>,
+//! ) -> Result<[u8; REPLY_BYTES], TableFault>
 //!     requires { conn.old.in_transaction ≡ false }
 //! {
 //!     open_branch(conn, Branch::new(1).unwrap(), 3, None)?;
@@ -28,7 +32,7 @@
 //!         Number::new(1).unwrap(),
 //!         Cents::new(500).unwrap(),
 //!     );
-//!     post(conn, Moment::new(1_795_442_400).unwrap(), &request.unwrap())
+//!     post(alloc, conn, Moment::new(1_795_442_400).unwrap(), &request.unwrap())
 //! }
 //! ```
 //!
@@ -42,7 +46,6 @@
 mod balances;
 mod batch_changes;
 mod batches;
-mod changes;
 mod floors;
 mod found;
 mod new_branch;

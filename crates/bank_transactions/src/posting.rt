@@ -1,4 +1,5 @@
-//! A request is judged by what is looked up, and what changes is written.
+//! A single request is judged in slots of its own, as a batch is, and what changes is written. They lie in the
+//! value itself, so that it takes no memory.
 ghost use Rattle.posting_rules.specs.Changes.{tables_with, reply_bytes};
 ghost use Rattle.posting_rules.specs.Sound.{AreSound};
 ghost use Rattle.std.specs.Prelude.{IfOk};
@@ -7,15 +8,17 @@ ghost use Rattle.sqlite.specs.State.{HasCleanDisk};
 ghost use Rattle.bank_transactions.specs.Doing.{Acts};
 ghost use Rattle.bank_transactions.specs.Stored.{RepliesToStored};
 
-use crate::changes::apply;
-use crate::found::look_up;
-use message_records::{Moment, REPLY_BYTES, Request, encode_reply};
-use posting_rules::{judge, reply_to};
+use crate::batch_changes::write;
+use crate::slots::fill;
+use message_records::{Moment, REPLY_BYTES, Request};
+use posting_batch::Overlay;
 use sqlite::{Alter, Transaction};
+use std::alloc::Global;
 use store_rows::TableFault;
 
-/// Judges a request by what is looked up, and writes what changes.
+/// Judges a request by the rows that it can touch, each read once, and writes what changes.
 pub(crate) fn post_inside<S: Alter>(
+    alloc: Global,
     tx: &mut Transaction<'_, S>,
     moment: Moment,
     request: &Request,
@@ -25,8 +28,12 @@ pub(crate) fn post_inside<S: Alter>(
     ensures stored { IfOk result (λ reply. HasCleanDisk (state S.Store tx.new.conn.now)
         → RepliesToStored (state S.Store tx.old.conn.now).now request.now reply) }
 {
-    let found = look_up(tx, request)?;
-    let verdict = judge(&found, request);
-    apply(tx, moment, request, &found, &verdict)?;
-    Ok(encode_reply(&reply_to(&found, request, &verdict)))
+    let mut overlay = Overlay::for_request(alloc, request);
+    fill(tx, &mut overlay)?;
+    let before = overlay.decided;
+    let reply = overlay.judge(moment, request);
+    if overlay.decided != before {
+        write(tx, &overlay)?;
+    }
+    Ok(reply)
 }

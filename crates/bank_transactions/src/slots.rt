@@ -1,4 +1,4 @@
-//! The slots of a batch are filled from the tables, each key read once.
+//! The slots of records are filled from the tables, each key read once.
 ghost use Rattle.std.specs.Prelude.{◌≡◌, ⊤, IfOk, List, OnOk, map};
 ghost use Rattle.std.specs.List.{AllByRecursion};
 ghost use Rattle.std.specs.Option.{option_map};
@@ -10,7 +10,7 @@ ghost use Rattle.posting_rules.specs.LookUps.{account_balance_in, balance_of_tel
 ghost use Rattle.posting_rules.specs.Tables.{Tables, row_at, teller_key};
 ghost use Rattle.posting_batch.specs.declared.slots.BranchSlot.{BranchSlot};
 ghost use Rattle.posting_batch.specs.Batch.{HasHomes, filled};
-ghost use Rattle.posting_batch.specs.View.{view, reads_of};
+ghost use Rattle.posting_batch.specs.View.{view};
 ghost use Rattle.bank_transactions.specs.Doing.{Reads};
 ghost use Rattle.store_rows.specs.Rules.{OfRows, StoredRows};
 ghost use Rattle.bank_transactions.specs.Filling.{handing, HasBranch, HoldsBranch, ReadsWhere, TellsBranch};
@@ -21,7 +21,8 @@ use crate::floors::{balance_and_floor, floor_at, is_below};
 use crate::{branch_at, decided, kept_request, teller_balances};
 use message_records::{Account, Cents, Teller};
 use posting_batch::{
-    AccountSlot, Batch, BranchSlot, RequestSlot, TellerSlot, stored_branch, stored_floor,
+    AccountSlot, BranchSlot, FloorSlot, Overlay, RequestSlot, TellerSlot, stored_branch,
+    stored_floor,
 };
 use posting_rules::{BranchRow, branch_of_account, branch_of_teller, place_of_account};
 use sqlite::{Alter, Transaction};
@@ -47,8 +48,13 @@ trait Slot: Copy {
     /// The slot has what the rows hold under its key.
     ghost Held: { StoredRows → Self → Type 0 };
 
-    /// Fills it, by the slots of branches.
-    fn fill<S: Alter>(self, tx: &mut Transaction<'_, S>, branches: &[BranchSlot]) -> Read<Self>
+    /// Fills it, by the slots of branches. Those of floors tell whether an account is looked at twice.
+    fn fill<S: Alter>(
+        self,
+        tx: &mut Transaction<'_, S>,
+        branches: &[BranchSlot],
+        floors: &[FloorSlot],
+    ) -> Read<Self>
         ensures says { ReadsWhere S.Store tx.old tx.new
             (λ tables. IsUndamaged tables × Knows branches.now tables self)
             (λ tables. filled_from tables self) result }
@@ -72,14 +78,39 @@ impl Slot for BranchSlot {
 
     ghost Held = { BranchHeld };
 
-    fn fill<S: Alter>(self, tx: &mut Transaction<'_, S>, _branches: &[BranchSlot]) -> Read<Self> {
+    fn fill<S: Alter>(
+        self,
+        tx: &mut Transaction<'_, S>,
+        _branches: &[BranchSlot],
+        _floors: &[FloorSlot],
+    ) -> Read<Self> {
         let stored = branch_at(tx, self.branch)?;
+        Ok(BranchSlot { stored, ..self })
+    }
+}
+
+impl Slot for FloorSlot {
+    ghost use Rattle.posting_batch.specs.Batch.{floor_filled};
+    ghost use Rattle.bank_transactions.specs.Filling.{FloorHeld, emptied_floor};
+
+    ghost filled_from = { floor_filled };
+
+    ghost Knows = { λ _ _ _. ⊤ };
+
+    ghost bare = { emptied_floor };
+
+    ghost KnowsRow = { λ _ _ _. ⊤ };
+
+    ghost Held = { FloorHeld };
+
+    fn fill<S: Alter>(
+        self,
+        tx: &mut Transaction<'_, S>,
+        _branches: &[BranchSlot],
+        _floors: &[FloorSlot],
+    ) -> Read<Self> {
         let floor = floor_at(tx, self.branch)?;
-        Ok(BranchSlot {
-            stored,
-            floor,
-            ..self
-        })
+        Ok(FloorSlot { floor, ..self })
     }
 }
 
@@ -165,7 +196,12 @@ impl Slot for TellerSlot {
 
     ghost Held = { TellerHeld };
 
-    fn fill<S: Alter>(self, tx: &mut Transaction<'_, S>, branches: &[BranchSlot]) -> Read<Self> {
+    fn fill<S: Alter>(
+        self,
+        tx: &mut Transaction<'_, S>,
+        branches: &[BranchSlot],
+        _floors: &[FloorSlot],
+    ) -> Read<Self> {
         let branch = stored_branch(branches, branch_of_teller(self.teller));
         let stored = teller_within(tx, self.teller, branch)?;
         Ok(TellerSlot { stored, ..self })
@@ -186,10 +222,15 @@ impl Slot for AccountSlot {
 
     ghost Held = { AccountHeld };
 
-    fn fill<S: Alter>(self, tx: &mut Transaction<'_, S>, branches: &[BranchSlot]) -> Read<Self> {
+    fn fill<S: Alter>(
+        self,
+        tx: &mut Transaction<'_, S>,
+        branches: &[BranchSlot],
+        floors: &[FloorSlot],
+    ) -> Read<Self> {
         let number = branch_of_account(self.account);
         let branch = stored_branch(branches, number);
-        let floor = stored_floor(branches, number);
+        let floor = stored_floor(floors, number);
         let stored = account_within(tx, self.account, branch, floor)?;
         Ok(AccountSlot { stored, ..self })
     }
@@ -209,17 +250,23 @@ impl Slot for RequestSlot {
 
     ghost Held = { RequestHeld };
 
-    fn fill<S: Alter>(self, tx: &mut Transaction<'_, S>, _branches: &[BranchSlot]) -> Read<Self> {
+    fn fill<S: Alter>(
+        self,
+        tx: &mut Transaction<'_, S>,
+        _branches: &[BranchSlot],
+        _floors: &[FloorSlot],
+    ) -> Read<Self> {
         let kept = kept_request(tx, self.teller, self.number)?;
         Ok(RequestSlot { kept, ..self })
     }
 }
 
-// Fills slots, by those of branches.
+// Fills slots, by those of branches and of floors.
 fn fill_all<S: Alter, T: Slot>(
     tx: &mut Transaction<'_, S>,
     slots: &mut [T],
     branches: &[BranchSlot],
+    floors: &[FloorSlot],
 ) -> Read<()>
     ensures says { ReadsWhere S.Store tx.old tx.new
         (λ tables. IsUndamaged tables × AllByRecursion (T.Knows branches.now tables) slots.old)
@@ -230,27 +277,34 @@ fn fill_all<S: Alter, T: Slot>(
         → AllByRecursion (T.Held rows) slots.new) (state S.Store tx.old.conn.now).now) }
 {
     for slot in slots.iter_mut() {
-        *slot = (*slot).fill(tx, branches)?;
+        *slot = (*slot).fill(tx, branches, floors)?;
     }
     Ok(())
 }
 
-/// Fills a batch: each slot with what is in the tables under its key, and how many requests are decided.
-pub fn fill<S: Alter>(tx: &mut Transaction<'_, S>, batch: &mut Batch) -> Result<(), TableFault>
-    ensures reads { reads_of batch.new ≡ reads_of batch.old }
+/// Fills an overlay: each slot with what is in the tables under its key, and how many requests are decided.
+pub fn fill<S: Alter>(tx: &mut Transaction<'_, S>, overlay: &mut Overlay) -> Result<(), TableFault>
+    ensures new_rows { (overlay.new.history ≡ overlay.old.history)
+        × (overlay.new.requests ≡ overlay.old.requests) }
     ensures says { ReadsWhere S.Store tx.old tx.new
-        (λ tables. IsUndamaged tables × HasHomes (view batch.old.overlay))
-        (λ tables. filled tables (view batch.old.overlay)) (handing (view batch.new.overlay) result) }
-    ensures same { OnOk result (emptied (view batch.new.overlay) ≡ emptied (view batch.old.overlay)) }
+        (λ tables. IsUndamaged tables × HasHomes (view overlay.old))
+        (λ tables. filled tables (view overlay.old)) (handing (view overlay.new) result) }
+    ensures same { OnOk result (emptied (view overlay.new) ≡ emptied (view overlay.old)) }
     // Whatever rows the file holds.
     ensures stored { OnOk result (HasCleanDisk (state S.Store tx.new.conn.now)
-        → HasHomes (view batch.old.overlay)
-        → OfRows (λ rows. AreHeld rows (view batch.new.overlay)) (state S.Store tx.old.conn.now).now) }
+        → HasHomes (view overlay.old)
+        → OfRows (λ rows. AreHeld rows (view overlay.new)) (state S.Store tx.old.conn.now).now) }
 {
-    batch.overlay.decided = decided(tx)?;
-    fill_all(tx, &mut batch.overlay.branches, &[])?;
-    fill_all(tx, &mut batch.overlay.tellers, &batch.overlay.branches)?;
-    fill_all(tx, &mut batch.overlay.accounts, &batch.overlay.branches)?;
-    fill_all(tx, &mut batch.overlay.kept, &[])?;
+    overlay.decided = decided(tx)?;
+    fill_all(tx, &mut overlay.branches, &[], &[])?;
+    fill_all(tx, &mut overlay.floors, &[], &[])?;
+    fill_all(tx, &mut overlay.tellers, &overlay.branches, &[])?;
+    fill_all(
+        tx,
+        &mut overlay.accounts,
+        &overlay.branches,
+        &overlay.floors,
+    )?;
+    fill_all(tx, &mut overlay.kept, &[], &[])?;
     Ok(())
 }

@@ -16,6 +16,7 @@ use crate::posting::post_inside;
 use message_records::{Account, Branch, Cents, Moment, REPLY_BYTES, Request};
 use posting_rules::{LAST_BRANCH, MAX_ACCOUNTS, Opening};
 use sqlite::{Alter, Connection, Transaction};
+use std::alloc::Global;
 use store_rows::{TableFault, commit};
 
 /// Makes it known that a connection outside a transaction shows, as long as it is open, what was committed
@@ -63,7 +64,8 @@ pub fn finish<S: Alter, X: Drop>(
 }
 
 /// Answers a request, in one transaction (TPC-B 1.2): the 200 bytes of its reply, whether it was posted or
-/// refused. The moment is that of the posting. What was answered is there after a stop.
+/// refused. The moment is that of the posting. What was answered is there after a stop. It takes no memory of
+/// the allocator, which its slots only name.
 ///
 /// # Errors
 ///
@@ -72,6 +74,7 @@ pub fn finish<S: Alter, X: Drop>(
 /// - `TableFault::Damaged`: the rows that were looked up break this rule, or a statement met that they do as
 ///   it wrote. Everything is as it was, as long as the store is open.
 pub fn post<S: Alter>(
+    alloc: Global,
     conn: &mut Connection<S>,
     moment: Moment,
     request: &Request,
@@ -84,7 +87,7 @@ pub fn post<S: Alter>(
         → RepliesToStored (state S.Store conn.old).now request.now reply) }
 {
     let mut tx = begin(conn);
-    let reply = post_inside(&mut tx, moment, request);
+    let reply = post_inside(alloc, &mut tx, moment, request);
     finish(tx, reply)
 }
 

@@ -15,11 +15,13 @@ use Rattle.posting_batch.specs.declared.slots.BranchSlot.{BranchSlot}
 use Rattle.posting_batch.specs.declared.slots.RequestSlot.{RequestSlot}
 use Rattle.posting_batch.specs.Batch.{with_branch_slot, covering, covering_all, no_slots, CoversRead}
 use Rattle.posting_batch.specs.Batch.{CoversAll, HasRisingSlots, HasHomes, HasNoChange, filled, branch_filled}
+use Rattle.posting_batch.specs.Batch.{floor_filled}
 use Rattle.posting_batch.specs.Batch.{teller_filled, account_filled, request_filled}
 use Rattle.posting_batch.specs.Overlay.{Overlay, by_slot, over, put_account, put_teller, put_branch}
 use Rattle.posting_batch.specs.Overlay.{tables_over}
 use Rattle.posting_batch.specs.Placed.{placed, number_below, number_same, request_below}
 use Rattle.posting_batch.specs.Slots.{is_for, account_slot_key, teller_slot_key, branch_slot_key}
+use Rattle.posting_batch.specs.Slots.{floor_slot_key}
 use Rattle.posting_batch.specs.Slots.{empty_account, empty_teller, empty_branch}
 use Rattle.posting_batch.proofs.KeptSlots.{find-map, both_true}
 use Rattle.posting_batch.proofs.Orders.{all-placed, rising_mapped}
@@ -90,6 +92,8 @@ covers_filled o t (Ok r) covers = record {
       (λ s. refl) o.accounts covers.account;
   its_branch = found_filled (λ s. eqb s.branch (branch_of_account r.account)) (branch_filled t)
       (λ s. refl) o.branches covers.its_branch;
+  its_floor = found_filled (λ s. eqb s.branch (branch_of_account r.account)) (floor_filled t)
+      (λ s. refl) o.floors covers.its_floor;
   kept = found_filled (is_for r.teller r.number) (request_filled t) (λ s. refl) o.kept covers.kept;
 }
 
@@ -116,6 +120,8 @@ rising_filled : (o : Overlay) (t : Tables) → HasRisingSlots o → HasRisingSlo
 rising_filled o t rising = record {
   branches = rising_mapped (number_below branch_slot_key) (branch_filled t)
       (λ a b. refl) o.branches rising.branches;
+  floors = rising_mapped (number_below floor_slot_key) (floor_filled t)
+      (λ a b. refl) o.floors rising.floors;
   tellers = rising_mapped (number_below teller_slot_key) (teller_filled t)
       (λ a b. refl) o.tellers rising.tellers;
   accounts = rising_mapped (number_below account_slot_key) (account_filled t)
@@ -209,8 +215,8 @@ stands t reads =
       fits = record {
         branches = λ n. filled_at branch_slot_key (branch_filled t)
             (λ k s. s.stored ≡ row_at branch_key t.branches k) (λ s. refl) o.branches n;
-        floors = λ n. filled_at branch_slot_key (branch_filled t) (λ k s. s.floor ≡ floor_in t k)
-            (λ s. refl) o.branches n;
+        floors = λ n. filled_at floor_slot_key (floor_filled t) (λ k s. s.floor ≡ floor_in t k)
+            (λ s. refl) o.floors n;
         tellers = λ n. filled_at teller_slot_key (teller_filled t)
             (λ k s. s.stored ≡ option_map balance_of_teller (row_at teller_key t.tellers k))
             (λ s. refl) o.tellers n;

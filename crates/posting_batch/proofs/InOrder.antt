@@ -59,6 +59,7 @@ covers_after o m r q (Refused x) covers = record {
   teller = covers.teller;
   account = covers.account;
   its_branch = covers.its_branch;
+  its_floor = covers.its_floor;
   kept = still_for r.teller r.number _ o.kept q.teller q.number covers.kept;
 }
 covers_after o m r q (Posted a te b) covers = record {
@@ -70,6 +71,7 @@ covers_after o m r q (Posted a te b) covers = record {
       (λ s. refl) o.accounts q.account covers.account;
   its_branch = still_at branch_slot_key (branch_of_teller r.teller) (with_branch_changed b)
       (λ s. refl) o.branches (branch_of_account q.account) covers.its_branch;
+  its_floor = covers.its_floor;
   kept = still_for r.teller r.number _ o.kept q.teller q.number covers.kept;
 }
 
@@ -113,6 +115,7 @@ rising_after o m r (Unkept x) rising = rising
 rising_after o m r (Again x) rising = rising
 rising_after o m r (Refused x) rising = record {
   branches = rising.branches;
+  floors = rising.floors;
   tellers = rising.tellers;
   accounts = rising.accounts;
   kept = rising_kept r.teller r.number _ o.kept rising.kept;
@@ -120,6 +123,7 @@ rising_after o m r (Refused x) rising = record {
 rising_after o m r (Posted a te b) rising = record {
   branches = rising_changed branch_slot_key (branch_of_teller r.teller) (with_branch_changed b)
       (λ s. refl) o.branches rising.branches;
+  floors = rising.floors;
   tellers = rising_changed teller_slot_key r.teller (with_teller_changed te)
       (λ s. refl) o.tellers rising.tellers;
   accounts = rising_changed account_slot_key r.account (with_account_changed a)
@@ -147,7 +151,7 @@ all_tables o t m (bytes ∷ records) fits covers =
     (still_covers o m read (map request_of records) covers.1)
     ∙ ap (λ (u : Tables). tables_past_all u m records) (with_is o t m read fits covers.0)
 
-reply_is : (o : Overlay) (t : Tables) (read : Result RequestFields Bad) → Fits o t → CoversRead o read
+pub reply_is : (o : Overlay) (t : Tables) (read : Result RequestFields Bad) → Fits o t → CoversRead o read
     → reply_spelling (reply_over o read) ≡ reply_read (tables_over o t) read
 reply_is o t (Err fault) fits covers = refl
 reply_is o t (Ok r) fits covers = ap (λ (f : Found). reply_spelling (reply_in (case_of f r) r))

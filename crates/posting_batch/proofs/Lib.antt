@@ -14,3 +14,4 @@ pub mod Idle
 pub mod Examples
 pub mod Written
 pub mod ToldTables
+pub mod OneRecord

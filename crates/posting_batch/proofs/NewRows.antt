@@ -177,7 +177,7 @@ adds_after o t m r (Posted a te b) ready adds = record {
       (request_row_of (o.decided + 1) (posted_entry m r a)) t.requests adds.requests ready.next_request;
 }
 
-adds_with : (o : Overlay) (t : Tables) (m : ℕ) (read : Result RequestFields Bad) → AreReady (tables_over o t)
+pub adds_with : (o : Overlay) (t : Tables) (m : ℕ) (read : Result RequestFields Bad) → AreReady (tables_over o t)
     → AddsFreeRows o t → AddsFreeRows (overlay_with o m read) t
 adds_with o t m (Err fault) ready adds = adds
 adds_with o t m (Ok r) ready adds = adds_after o t m r (case_of (found_over o r) r) ready adds
@@ -195,10 +195,14 @@ adds_on o t log m (bytes ∷ records) fits covers shows adds =
     (past_shown (tables_over o t) log m bytes shows))
     (adds_with o t m read (ready_shown (tables_over o t) log shows) adds)
 
+-- no new row is under a key that is taken
+pub adds_none : (o : Overlay) (t : Tables) → HasNoChange o → AddsFreeRows o t
+adds_none o t un = record { history = rw un.history tt; requests = rw un.requests tt }
+
 -- the keys of the new rows of a batch are free
 pub all_adds : (o : Overlay) (t : Tables) (log : List Command) (m : ℕ) (records : List (List ℕ)) → Fits o t
     → HasNoChange o → CoversAll o (map request_of records)
     → AreTablesOf (tables_over o t) log → AddsFreeRows (overlay_with_all o m (map request_of records)) t
 all_adds o t log m records fits un covers shows =
     adds_on o t log m records fits covers shows
-    (record { history = rw un.history tt; requests = rw un.requests tt })
+    (adds_none o t un)

@@ -28,6 +28,7 @@ use Rattle.posting_rules.specs.Tables.{request_key, request_row_of, history_row_
 use Rattle.posting_batch.specs.declared.slots.AccountSlot.{AccountSlot}
 use Rattle.posting_batch.specs.declared.slots.TellerSlot.{TellerSlot}
 use Rattle.posting_batch.specs.declared.slots.BranchSlot.{BranchSlot}
+use Rattle.posting_batch.specs.declared.slots.FloorSlot.{FloorSlot}
 use Rattle.posting_batch.specs.declared.slots.RequestSlot.{RequestSlot}
 use Rattle.posting_batch.specs.Batch.{Covers}
 use Rattle.posting_batch.specs.Judging.{found_over, overlay_kept, overlay_posted, overlay_after}
@@ -36,14 +37,14 @@ use Rattle.posting_batch.specs.Slots.{in_slot, slot_balance, kept_in_slots, kept
 use Rattle.posting_batch.specs.Slots.{account_slot_key, account_slot_balance, with_account_changed}
 use Rattle.posting_batch.specs.Slots.{teller_slot_key, teller_slot_balance, with_teller_changed}
 use Rattle.posting_batch.specs.Slots.{branch_slot_key, branch_slot_balance, with_branch_changed, floor_of_slot}
-use Rattle.posting_batch.specs.Slots.{slot_floor}
+use Rattle.posting_batch.specs.Slots.{floor_slot_key, slot_floor}
 use Rattle.posting_batch.proofs.OverlaidRows.{over-changed, put_same, put_again, balance_is}
 
 -- each slot tells what is in the tables under its key
 pub record Fits (o : Overlay) (t : Tables) : Type 0 where
   pub branches : (n : ℕ)
       → IfSome (row_at branch_slot_key o.branches n) (λ s. s.stored ≡ row_at branch_key t.branches n)
-  pub floors : (n : ℕ) → IfSome (row_at branch_slot_key o.branches n) (λ s. s.floor ≡ floor_in t n)
+  pub floors : (n : ℕ) → IfSome (row_at floor_slot_key o.floors n) (λ s. s.floor ≡ floor_in t n)
   pub tellers : (n : ℕ)
       → IfSome (row_at teller_slot_key o.tellers n)
       (λ s. s.stored ≡ option_map balance_of_teller (row_at teller_key t.tellers n))
@@ -84,11 +85,11 @@ branch_now o t n fits there =
     by_slots None is = tt
     by_slots (Some s) is = ap (option_map balance_of_branch) is
 
-floor_now : (o : Overlay) (t : Tables) (n : ℕ) → Fits o t → IsSome (row_at branch_slot_key o.branches n)
-    → slot_floor o.branches n ≡ floor_in t n
-floor_now o t n fits there = by_slots (row_at branch_slot_key o.branches n) there (fits.floors n)
+floor_now : (o : Overlay) (t : Tables) (n : ℕ) → Fits o t → IsSome (row_at floor_slot_key o.floors n)
+    → slot_floor o.floors n ≡ floor_in t n
+floor_now o t n fits there = by_slots (row_at floor_slot_key o.floors n) there (fits.floors n)
   where
-    by_slots : (at : Option BranchSlot) → IsSome at → IfSome at (λ s. s.floor ≡ floor_in t n)
+    by_slots : (at : Option FloorSlot) → IsSome at → IfSome at (λ s. s.floor ≡ floor_in t n)
         → in_slot floor_of_slot at ≡ floor_in t n
     by_slots None there is = absurd cc
     by_slots (Some s) there is = is
@@ -114,7 +115,7 @@ found_is o t r fits covers =
     (branch_now o t (branch_of_teller r.teller) fits covers.branch)
     )
     (kept_now o t r.teller r.number fits covers.kept) (account_now o t r.account fits covers.account)
-    (floor_now o t (branch_of_account r.account) fits covers.its_branch)
+    (floor_now o t (branch_of_account r.account) fits covers.its_floor)
   where
     made : (a a' : Option (ℤ × ℤ)) (k k' : Option KeptFields) (b b' l l' : Option ℤ) → a ≡ a' → k ≡ k'
         → b ≡ b' → l ≡ l'

@@ -12,7 +12,8 @@ use Rattle.posting_batch.specs.Batch.{with_branch_slot, covering, covering_all, 
 use Rattle.posting_batch.specs.Overlay.{Overlay}
 use Rattle.posting_batch.specs.Placed.{placed, number_below, number_same, request_below, request_same}
 use Rattle.posting_batch.specs.Slots.{is_for, account_slot_key, teller_slot_key, branch_slot_key}
-use Rattle.posting_batch.specs.Slots.{empty_account, empty_teller, empty_branch, empty_request}
+use Rattle.posting_batch.specs.Slots.{empty_account, empty_teller, empty_branch, empty_floor, empty_request}
+use Rattle.posting_batch.specs.Slots.{floor_slot_key}
 use Rattle.posting_batch.proofs.Orders.{placed_has, placed_keeps}
 
 -- ---- one slot is placed
@@ -52,6 +53,7 @@ covers_new o (Ok r) =
       teller = has_number teller_slot_key (empty_teller r.teller) o.tellers;
       account = has_number account_slot_key (empty_account r.account) o.accounts;
       its_branch = has_number branch_slot_key (empty_branch (branch_of_account r.account)) first;
+      its_floor = has_number floor_slot_key (empty_floor (branch_of_account r.account)) o.floors;
       kept = has_request (empty_request r.teller r.number) o.kept;
     }
 
@@ -70,6 +72,8 @@ covers_still o (Ok r) (Ok q) covers =
       teller = keeps_number teller_slot_key (empty_teller r.teller) o.tellers q.teller covers.teller;
       account = keeps_number account_slot_key (empty_account r.account) o.accounts q.account covers.account;
       its_branch = keeps (branch_of_account q.account) covers.its_branch;
+      its_floor = keeps_number floor_slot_key (empty_floor (branch_of_account r.account)) o.floors
+          (branch_of_account q.account) covers.its_floor;
       kept = keeps_request (empty_request r.teller r.number) o.kept q.teller q.number covers.kept;
     }
 

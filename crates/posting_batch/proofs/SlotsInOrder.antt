@@ -8,7 +8,7 @@ use Rattle.posting_batch.specs.Batch.{HasNoChange}
 use Rattle.posting_batch.specs.Overlay.{Overlay}
 use Rattle.posting_batch.specs.Placed.{number_below, number_same, request_below, request_same}
 use Rattle.posting_batch.specs.Slots.{account_slot_key, teller_slot_key, branch_slot_key, empty_account}
-use Rattle.posting_batch.specs.Slots.{empty_teller, empty_branch, empty_request}
+use Rattle.posting_batch.specs.Slots.{empty_teller, empty_branch, empty_floor, empty_request, floor_slot_key}
 use Rattle.posting_batch.proofs.Orders.{all-placed, placed_rises, number_order, request_order}
 
 -- so are slots that were made
@@ -41,6 +41,9 @@ made_with o (Ok r) made =
             (number_order branch_slot_key) its first
             (placed_rises (number_below branch_slot_key) (number_same branch_slot_key)
             (number_order branch_slot_key) home o.branches made.rising.branches);
+        floors = placed_rises (number_below floor_slot_key) (number_same floor_slot_key)
+            (number_order floor_slot_key) (empty_floor (branch_of_account r.account)) o.floors
+            made.rising.floors;
         tellers = placed_rises (number_below teller_slot_key) (number_same teller_slot_key)
             (number_order teller_slot_key) (empty_teller r.teller) o.tellers made.rising.tellers;
         accounts = placed_rises (number_below account_slot_key) (number_same account_slot_key)
@@ -58,5 +61,5 @@ made_on o (read ∷ reads) made = made_on (covering o read) reads (made_with o r
 pub made_all : (reads : List (Result RequestFields Bad)) → IsMade (covering_all no_slots reads)
 made_all reads = made_on no_slots reads (record {
   unchanged = record { branches = tt; tellers = tt; accounts = tt; history = refl; requests = refl };
-  rising = record { branches = tt; tellers = tt; accounts = tt; kept = tt };
+  rising = record { branches = tt; floors = tt; tellers = tt; accounts = tt; kept = tt };
 })

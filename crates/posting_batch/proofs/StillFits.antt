@@ -89,8 +89,7 @@ after_fits o t m r (Refused x) fits new =
 after_fits o t m r (Posted a te b) fits new = record {
   branches = λ n. fits_changed branch_slot_key (branch_of_teller r.teller) (with_branch_changed b) (λ s. refl)
       (λ s. s.stored ≡ row_at branch_key t.branches n) (λ s h. h) o.branches n (fits.branches n);
-  floors = λ n. fits_changed branch_slot_key (branch_of_teller r.teller) (with_branch_changed b) (λ s. refl)
-      (λ s. s.floor ≡ floor_in t n) (λ s h. h) o.branches n (fits.floors n);
+  floors = fits.floors;
   tellers = λ n. fits_changed teller_slot_key r.teller (with_teller_changed te) (λ s. refl)
       (λ s. s.stored ≡ option_map balance_of_teller (row_at teller_key t.tellers n)) (λ s h. h) o.tellers n
       (fits.tellers n);

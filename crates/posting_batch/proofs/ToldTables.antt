@@ -6,8 +6,8 @@ use Rattle.std.specs.List.{find, AllByRecursion}
 use Rattle.std.specs.Option.{option_map}
 use Rattle.std.proofs.lemmas.Bool.Decides.{nat_tests}
 use Rattle.posting_rules.specs.Kept.{KeptFields}
-use Rattle.posting_rules.specs.LookUps.{balance_of_account, balance_of_teller}
-use Rattle.posting_rules.specs.LookUps.{kept_of_row, lowest_of}
+use Rattle.posting_rules.specs.LookUps.{account_balance_in, balance_of_account, balance_of_teller, floor_in}
+use Rattle.posting_rules.specs.LookUps.{kept_in, kept_of_row, lowest_of}
 use Rattle.posting_rules.specs.Tables.{Tables, row_at, account_key, account_row_of, branch_key, floor_key}
 use Rattle.posting_rules.specs.Tables.{floor_row_of, teller_key, teller_row_of}
 use Rattle.posting_rules.specs.declared.rows.AccountRow.{AccountRow}
@@ -17,13 +17,14 @@ use Rattle.posting_rules.specs.declared.rows.RequestRow.{RequestRow}
 use Rattle.posting_rules.specs.declared.rows.TellerRow.{TellerRow}
 use Rattle.posting_batch.specs.declared.slots.AccountSlot.{AccountSlot}
 use Rattle.posting_batch.specs.declared.slots.BranchSlot.{BranchSlot}
+use Rattle.posting_batch.specs.declared.slots.FloorSlot.{FloorSlot}
 use Rattle.posting_batch.specs.declared.slots.RequestSlot.{RequestSlot}
 use Rattle.posting_batch.specs.declared.slots.TellerSlot.{TellerSlot}
 use Rattle.posting_batch.specs.Batch.{HasRisingSlots, account_filled, branch_filled, filled, request_filled}
-use Rattle.posting_batch.specs.Batch.{teller_filled}
+use Rattle.posting_batch.specs.Batch.{floor_filled, teller_filled}
 use Rattle.posting_batch.specs.Overlay.{Overlay}
 use Rattle.posting_batch.specs.Placed.{IsRising, number_below, request_below}
-use Rattle.posting_batch.specs.Slots.{account_slot_key, branch_slot_key, teller_slot_key}
+use Rattle.posting_batch.specs.Slots.{account_slot_key, branch_slot_key, floor_slot_key, teller_slot_key}
 
 -- ---- the rows that slots tell, found again
 
@@ -166,10 +167,10 @@ make_branch s b = record b { branch = s.branch }
 abbrev branch_told : BranchSlot → Option BranchRow
 branch_told s = option_map (make_branch s) s.stored
 
-abbrev make_floor : BranchSlot → ℤ → FloorRow
+abbrev make_floor : FloorSlot → ℤ → FloorRow
 make_floor s z = floor_row_of s.branch z
 
-abbrev floor_told : BranchSlot → Option FloorRow
+abbrev floor_told : FloorSlot → Option FloorRow
 floor_told s = option_map (make_floor s) s.floor
 
 -- the tables that have what the slots tell, and nothing else
@@ -181,7 +182,7 @@ tables_told o = record {
   accounts = rows_told account_told o.accounts;
   history = [];
   requests = rows_told request_told o.kept;
-  floors = rows_told floor_told o.branches;
+  floors = rows_told floor_told o.floors;
 }
 
 -- ---- the overlay is filled from them
@@ -210,18 +211,17 @@ all_same {S} f P Q same (s ∷ slots) all more =
     ap (λ (x : S). x ∷ map f slots) (same s all.0 more.0)
     ∙ ap (λ (xs : List S). s ∷ xs) (all_same f P Q same slots all.1 more.1)
 
-both_all : {S : Type 0} (P Q : S → Type 0) (slots : List S) → AllByRecursion P slots
-    → AllByRecursion Q slots → AllByRecursion (λ s. P s × Q s) slots
-both_all P Q [] all more = tt
-both_all P Q (s ∷ slots) all more = ((all.0, more.0), both_all P Q slots all.1 more.1)
-
 every : {S : Type 0} (slots : List S) → AllByRecursion (λ _. Unit {0}) slots
 every [] = tt
 every (s ∷ slots) = (tt, every slots)
 
-branch_is : (s : BranchSlot) (row : Option BranchRow) (floor : Option ℤ) → row ≡ s.stored → floor ≡ s.floor
-    → ◌≡◌ {A = BranchSlot} (record s { stored = row; floor = floor }) s
-branch_is s row floor same fits = rw (same, fits) refl
+branch_is : (s : BranchSlot) (row : Option BranchRow) → row ≡ s.stored
+    → ◌≡◌ {A = BranchSlot} (record s { stored = row }) s
+branch_is s row same = rw same refl
+
+floor_is : (s : FloorSlot) (floor : Option ℤ) → floor ≡ s.floor
+    → ◌≡◌ {A = FloorSlot} (record s { floor = floor }) s
+floor_is s floor same = rw same refl
 
 teller_is : (s : TellerSlot) (balance : Option ℤ) → balance ≡ s.stored
     → ◌≡◌ {A = TellerSlot} (record s { stored = balance }) s
@@ -235,29 +235,28 @@ request_is : (s : RequestSlot) (kept : Option KeptFields) → kept ≡ s.kept
     → ◌≡◌ {A = RequestSlot} (record s { kept = kept }) s
 request_is s kept same = rw same refl
 
-overlay_is : (o : Overlay) (b : List BranchSlot) (t : List TellerSlot) (a : List AccountSlot)
-    (k : List RequestSlot) → b ≡ o.branches → t ≡ o.tellers → a ≡ o.accounts → k ≡ o.kept
-    → ◌≡◌ {A = Overlay} (record o { branches = b; tellers = t; accounts = a; kept = k }) o
-overlay_is o b t a k eb et ea ek = rw (eb, et, ea, ek) refl
+overlay_is : (o : Overlay) (b : List BranchSlot) (f : List FloorSlot) (t : List TellerSlot)
+    (a : List AccountSlot) (k : List RequestSlot) → b ≡ o.branches → f ≡ o.floors → t ≡ o.tellers
+    → a ≡ o.accounts → k ≡ o.kept
+    → ◌≡◌ {A = Overlay} (record o { branches = b; floors = f; tellers = t; accounts = a; kept = k }) o
+overlay_is o b f t a k eb ef et ea ek = rw (eb, ef, et, ea, ek) refl
 
 pub told_filled : (o : Overlay) → HasRisingSlots o → AllByRecursion IsOwn o.branches
     → filled (tables_told o) o ≡ o
 told_filled o rises own =
     let t = tables_told o in
-    overlay_is o _ _ _ _
-    (all_same (branch_filled t)
-    (λ s. (row_at branch_key t.branches s.branch ≡ branch_told s)
-    × (row_at floor_key t.floors s.branch ≡ floor_told s))
-    IsOwn
-    (λ s is its. branch_is s _ _ (is.0 ∙ branch_again s s.stored its)
-    (ap (option_map lowest_of) is.1 ∙ told_again (make_floor s) lowest_of (λ z. refl) s.floor))
-    o.branches
-    (both_all _ _ o.branches
+    overlay_is o _ _ _ _ _
+    (all_same (branch_filled t) (λ s. row_at branch_key t.branches s.branch ≡ branch_told s) IsOwn
+    (λ s is its. branch_is s _ (is ∙ branch_again s s.stored its)) o.branches
     (numbered_found branch_slot_key (λ s. s.stored) make_branch branch_key (λ s b. refl) o.branches
     rises.branches)
-    (numbered_found branch_slot_key (λ s. s.floor) make_floor floor_key (λ s z. refl) o.branches
-    rises.branches))
     own)
+    (all_same (floor_filled t) (λ s. row_at floor_key t.floors s.branch ≡ floor_told s) (λ _. Unit {0})
+    (λ s is its. floor_is s _
+    (ap (option_map lowest_of) is ∙ told_again (make_floor s) lowest_of (λ z. refl) s.floor))
+    o.floors
+    (numbered_found floor_slot_key (λ s. s.floor) make_floor floor_key (λ s z. refl) o.floors rises.floors)
+    (every o.floors))
     (all_same (teller_filled t) (λ s. row_at teller_key t.tellers s.teller ≡ teller_told s) (λ _. Unit {0})
     (λ s is its. teller_is s _
     (ap (option_map balance_of_teller) is ∙ told_again (make_teller s) balance_of_teller (λ z. refl) s.stored))

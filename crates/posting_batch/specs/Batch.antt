@@ -4,20 +4,24 @@ use Rattle.std.specs.List.{find, AllByRecursion}
 use Rattle.std.specs.Option.{option_map}
 use Rattle.message_records.specs.declared.fault.Bad.{Bad}
 use Rattle.message_records.specs.Records.{RequestFields}
-use Rattle.posting_rules.specs.Changes.{row_put}
+use Rattle.posting_rules.specs.Changes.{row_put, tables_past_all, replies_past_all}
+use Rattle.posting_rules.specs.Commands.{Command}
 use Rattle.posting_rules.specs.Numbering.{branch_of_teller, branch_of_account}
 use Rattle.posting_rules.specs.LookUps.{kept_in, account_balance_in, balance_of_teller, floor_in}
-use Rattle.posting_rules.specs.Tables.{Tables, row_at, branch_key, teller_key, account_key, history_key}
-use Rattle.posting_rules.specs.Tables.{request_key}
+use Rattle.posting_rules.specs.Runs.{behind, replies_to}
+use Rattle.posting_rules.specs.Tables.{Tables, AreTablesOf, row_at, branch_key, teller_key, account_key}
+use Rattle.posting_rules.specs.Tables.{history_key, request_key}
 use Rattle.posting_batch.specs.declared.slots.AccountSlot.{AccountSlot}
 use Rattle.posting_batch.specs.declared.slots.TellerSlot.{TellerSlot}
 use Rattle.posting_batch.specs.declared.slots.BranchSlot.{BranchSlot}
+use Rattle.posting_batch.specs.declared.slots.FloorSlot.{FloorSlot}
 use Rattle.posting_batch.specs.declared.slots.RequestSlot.{RequestSlot}
-use Rattle.posting_batch.specs.Overlay.{Overlay}
+use Rattle.posting_batch.specs.Overlay.{Overlay, tables_over}
 use Rattle.posting_batch.specs.Placed.{placed, number_below, number_same, request_below, request_same}
 use Rattle.posting_batch.specs.Placed.{IsRising}
 use Rattle.posting_batch.specs.Slots.{is_for, account_slot_key, teller_slot_key, branch_slot_key}
-use Rattle.posting_batch.specs.Slots.{empty_account, empty_teller, empty_branch, empty_request}
+use Rattle.posting_batch.specs.Slots.{empty_account, empty_teller, empty_branch, empty_floor, empty_request}
+use Rattle.posting_batch.specs.Slots.{floor_slot_key}
 
 -- ---- a batch is made
 
@@ -33,16 +37,21 @@ abbrev pub with_branch_slot : ℕ → List BranchSlot → List BranchSlot
 with_branch_slot n slots = placed (number_below branch_slot_key) (number_same branch_slot_key)
     (empty_branch n) slots
 
+abbrev pub with_floor_slot : ℕ → List FloorSlot → List FloorSlot
+with_floor_slot n slots = placed (number_below floor_slot_key) (number_same floor_slot_key)
+    (empty_floor n) slots
+
 abbrev pub with_request_slot : ℕ → ℕ → List RequestSlot → List RequestSlot
 with_request_slot n m slots = placed request_below request_same (empty_request n m) slots
 
 -- the overlay with slots for all that a record can touch: its teller, the branch that the teller's number
--- gives, its account, the branch that the account's number gives, and its teller and number
+-- gives, its account, the branch that the account's number gives with its floor, and its teller and number
 abbrev pub covering : Overlay → Result RequestFields Bad → Overlay
 covering o (Err fault) = o
 covering o (Ok r) = record o {
   branches = with_branch_slot (branch_of_account r.account)
       (with_branch_slot (branch_of_teller r.teller) o.branches);
+  floors = with_floor_slot (branch_of_account r.account) o.floors;
   tellers = with_teller_slot r.teller o.tellers;
   accounts = with_account_slot r.account o.accounts;
   kept = with_request_slot r.teller r.number o.kept;
@@ -55,6 +64,7 @@ covering_all o (read ∷ reads) = covering_all (covering o read) reads
 abbrev pub no_slots : Overlay
 no_slots = record {
   branches = [];
+  floors = [];
   tellers = [];
   accounts = [];
   kept = [];
@@ -69,6 +79,7 @@ pub record Covers (o : Overlay) (r : RequestFields) : Type 0 where
   pub teller : IsSome (row_at teller_slot_key o.tellers r.teller)
   pub account : IsSome (row_at account_slot_key o.accounts r.account)
   pub its_branch : IsSome (row_at branch_slot_key o.branches (branch_of_account r.account))
+  pub its_floor : IsSome (row_at floor_slot_key o.floors (branch_of_account r.account))
   pub kept : IsSome (find (is_for r.teller r.number) o.kept)
 
 abbrev pub CoversRead : Overlay → Result RequestFields Bad → Type 0
@@ -81,6 +92,7 @@ CoversAll o reads = AllByRecursion (CoversRead o) reads
 -- the slots are in the order of their keys, and no two have one key
 pub record HasRisingSlots (o : Overlay) : Type 0 where
   pub branches : IsRising (number_below branch_slot_key) o.branches
+  pub floors : IsRising (number_below floor_slot_key) o.floors
   pub tellers : IsRising (number_below teller_slot_key) o.tellers
   pub accounts : IsRising (number_below account_slot_key) o.accounts
   pub kept : IsRising request_below o.kept
@@ -103,7 +115,10 @@ pub record HasNoChange (o : Overlay) : Type 0 where
 -- ---- it is filled
 
 abbrev pub branch_filled : Tables → BranchSlot → BranchSlot
-branch_filled t s = record s { stored = row_at branch_key t.branches s.branch; floor = floor_in t s.branch }
+branch_filled t s = record s { stored = row_at branch_key t.branches s.branch }
+
+abbrev pub floor_filled : Tables → FloorSlot → FloorSlot
+floor_filled t s = record s { floor = floor_in t s.branch }
 
 abbrev pub teller_filled : Tables → TellerSlot → TellerSlot
 teller_filled t s = record s { stored = option_map balance_of_teller (row_at teller_key t.tellers s.teller) }
@@ -118,6 +133,7 @@ request_filled t s = record s { kept = kept_in t.requests s.teller s.number }
 abbrev pub filled : Tables → Overlay → Overlay
 filled t o = record o {
   branches = map (branch_filled t) o.branches;
+  floors = map (floor_filled t) o.floors;
   tellers = map (teller_filled t) o.tellers;
   accounts = map (account_filled t) o.accounts;
   kept = map (request_filled t) o.kept;
@@ -144,3 +160,18 @@ PutsFree key (r ∷ rs) rows = (row_at key rows (key r) ≡ None) × PutsFree ke
 pub record AddsFreeRows (o : Overlay) (t : Tables) : Type 0 where
   pub history : PutsFree history_key o.history t.history
   pub requests : PutsFree request_key o.requests t.requests
+
+-- the records leave these tables and are answered these replies; a balance is changed only where the row is
+pub record IsJudged (o : Overlay) (replies : List (List ℕ)) (t : Tables) (moment : ℕ)
+    (records : List (List ℕ)) : Type 0 where
+  pub tables : tables_over o t ≡ tables_past_all t moment records
+  pub answers : replies ≡ replies_past_all t moment records
+  pub changes : ChangesRows o t
+
+-- it comes to the log with these commands behind it, and answers their replies; the keys of the new rows are
+-- free
+pub record IsShown (o : Overlay) (replies : List (List ℕ)) (t : Tables) (log : List Command)
+    (commands : List Command) : Type 0 where
+  pub shows : AreTablesOf (tables_over o t) (behind log commands)
+  pub answers : replies ≡ replies_to log commands
+  pub adds : AddsFreeRows o t

@@ -26,7 +26,7 @@ found_over o r = record {
   kept = kept_in_slots o.kept r.teller r.number;
   decided = o.decided;
   account = slot_balance account_slot_key account_slot_balance o.accounts r.account;
-  floor = slot_floor o.branches (branch_of_account r.account);
+  floor = slot_floor o.floors (branch_of_account r.account);
 }
 
 -- a decided request is kept under the next ordinal, and counted
@@ -42,6 +42,7 @@ abbrev pub overlay_posted : Overlay → DecidedRequest → ℤ → ℤ → Overl
 overlay_posted o e teller branch = record {
   branches = row_changed branch_slot_key (with_branch_changed branch)
       (branch_of_teller e.request.teller) o.branches;
+  floors = o.floors;
   tellers = row_changed teller_slot_key (with_teller_changed teller) e.request.teller o.tellers;
   accounts = row_changed account_slot_key (with_account_changed e.balance) e.request.account o.accounts;
   kept = slots_kept e.request.teller e.request.number (kept_fields e) o.kept;

@@ -12,11 +12,13 @@ use Rattle.posting_rules.specs.Tables.{request_key}
 use Rattle.posting_batch.specs.declared.slots.AccountSlot.{AccountSlot}
 use Rattle.posting_batch.specs.declared.slots.TellerSlot.{TellerSlot}
 use Rattle.posting_batch.specs.declared.slots.BranchSlot.{BranchSlot}
+use Rattle.posting_batch.specs.declared.slots.FloorSlot.{FloorSlot}
 use Rattle.posting_batch.specs.declared.slots.RequestSlot.{RequestSlot}
 use Rattle.posting_batch.specs.Slots.{account_slot_key, teller_slot_key, branch_slot_key}
 
 pub record Overlay : Type 0 where
   pub branches : List BranchSlot
+  pub floors : List FloorSlot
   pub tellers : List TellerSlot
   pub accounts : List AccountSlot
   pub kept : List RequestSlot

@@ -9,6 +9,7 @@ use Rattle.posting_rules.specs.LookUps.{balance_of_branch}
 use Rattle.posting_batch.specs.declared.slots.AccountSlot.{AccountSlot}
 use Rattle.posting_batch.specs.declared.slots.TellerSlot.{TellerSlot}
 use Rattle.posting_batch.specs.declared.slots.BranchSlot.{BranchSlot}
+use Rattle.posting_batch.specs.declared.slots.FloorSlot.{FloorSlot}
 use Rattle.posting_batch.specs.declared.slots.RequestSlot.{RequestSlot}
 
 -- ---- balances
@@ -41,8 +42,10 @@ branch_slot_key s = s.branch
 abbrev pub row_of_slot : BranchSlot → Option BranchRow
 row_of_slot s = s.stored
 
--- the floor of its accounts
-abbrev pub floor_of_slot : BranchSlot → Option ℤ
+abbrev pub floor_slot_key : FloorSlot → ℕ
+floor_slot_key s = s.branch
+
+abbrev pub floor_of_slot : FloorSlot → Option ℤ
 floor_of_slot s = s.floor
 
 abbrev pub branch_slot_balance : BranchSlot → Option ℤ
@@ -52,7 +55,6 @@ abbrev pub with_branch_changed : ℤ → BranchSlot → BranchSlot
 with_branch_changed z s = record {
   branch = s.branch;
   stored = s.stored;
-  floor = s.floor;
   changed = Some z;
 }
 
@@ -65,8 +67,8 @@ abbrev pub slot_balance : {S : Type 0} → (S → ℕ) → (S → Option ℤ) �
 slot_balance key balance slots k = in_slot balance (row_at key slots k)
 
 -- the floor of a branch's accounts
-abbrev pub slot_floor : List BranchSlot → ℕ → Option ℤ
-slot_floor slots b = in_slot floor_of_slot (row_at branch_slot_key slots b)
+abbrev pub slot_floor : List FloorSlot → ℕ → Option ℤ
+slot_floor slots b = in_slot floor_of_slot (row_at floor_slot_key slots b)
 
 -- ---- kept requests
 
@@ -97,7 +99,10 @@ abbrev pub empty_teller : ℕ → TellerSlot
 empty_teller n = record { teller = n; stored = None; changed = None }
 
 abbrev pub empty_branch : ℕ → BranchSlot
-empty_branch n = record { branch = n; stored = None; floor = None; changed = None }
+empty_branch n = record { branch = n; stored = None; changed = None }
+
+abbrev pub empty_floor : ℕ → FloorSlot
+empty_floor n = record { branch = n; floor = None }
 
 abbrev pub empty_request : ℕ → ℕ → RequestSlot
 empty_request n m = record { teller = n; number = m; kept = None }

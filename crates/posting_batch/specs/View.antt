@@ -14,6 +14,7 @@ use Rattle.posting_batch.specs.Batch.{covering_all, no_slots, filled}
 abbrev pub view : held.Overlay → Overlay
 view o = record {
   branches = o.branches.items;
+  floors = o.floors.items;
   tellers = o.tellers.items;
   accounts = o.accounts.items;
   kept = o.kept.items;
@@ -25,6 +26,7 @@ view o = record {
 -- it is empty, and has room for what so many records come to
 pub record IsForRecords (count : ℕ) (o : held.Overlay) : Type 0 where
   pub branches : IsRoomFor (2 * count) o.branches
+  pub floors : IsRoomFor count o.floors
   pub tellers : IsRoomFor count o.tellers
   pub accounts : IsRoomFor count o.accounts
   pub kept : IsRoomFor count o.kept

@@ -1,17 +1,16 @@
 //! A batch of records: made from them, filled from the tables, and judged.
 ghost use Rattle.std.specs.Prelude.{◌≡◌, ◌≤◌, ◌+◌, ◌++◌, ℕ, List, [], map, length, vec_len, vec_capacity};
 ghost use Rattle.std.specs.Prelude.{IfOk};
+ghost use Rattle.smallvec.specs.SmallVec.{HasRoomFor};
 ghost use Rattle.message_records.specs.Reading.{request_of};
 ghost use Rattle.posting_rules.specs.declared.limits.TheConstants.{RECORDS_PER_BATCH};
-ghost use Rattle.posting_rules.specs.Changes.{tables_past_all, replies_past_all};
 ghost use Rattle.posting_rules.specs.Commands.{Command};
-ghost use Rattle.posting_rules.specs.Runs.{behind, posts, replies_to};
+ghost use Rattle.posting_rules.specs.Runs.{posts};
 ghost use Rattle.posting_rules.specs.Tables.{Tables, AreTablesOf};
-ghost use Rattle.posting_batch.specs.Overlay.{tables_over};
-ghost use Rattle.posting_batch.specs.Batch.{CoversAll, HasRisingSlots, ChangesRows, AddsFreeRows};
+ghost use Rattle.posting_batch.specs.Batch.{CoversAll, HasRisingSlots, IsJudged, IsShown};
 
 use crate::cover::decode_all;
-use crate::overlay::{Overlay, with_room};
+use crate::overlay::Overlay;
 use message_records::{Bad, Moment, REPLY_BYTES, REQUEST_BYTES, Request};
 use posting_rules::RECORDS_PER_BATCH;
 use std::alloc::{AllocError, Global};
@@ -25,8 +24,8 @@ pub struct Batch {
     replies: Vec<[u8; REPLY_BYTES]>,
     ghost fresh: { replies.items ≡ [] },
     ghost room: { length reads.items ≤ vec_capacity replies },
-    ghost requests: { vec_len overlay.requests + length reads.items ≤ vec_capacity overlay.requests },
-    ghost history: { vec_len overlay.history + length reads.items ≤ vec_capacity overlay.history },
+    ghost requests: { HasRoomFor overlay.requests (length reads.items) },
+    ghost history: { HasRoomFor overlay.history (length reads.items) },
 }
 
 /// A batch whose records are judged: what is to be written, and what is to be answered then.
@@ -52,8 +51,8 @@ impl Batch {
     {
         let count = records.len();
         let mut overlay = Overlay::for_records(alloc, count)?;
-        let mut reads = with_room(alloc, count)?;
-        let replies = with_room(alloc, count)?;
+        let mut reads = Vec::with_capacity(alloc, count)?;
+        let replies = Vec::with_capacity(alloc, count)?;
         decode_all(records, &mut reads, &mut overlay);
         Ok(Batch {
             reads,
@@ -66,27 +65,14 @@ impl Batch {
     /// left. It takes no memory, and can't fail. The moment is that of every posting.
     pub fn judge(self, moment: Moment) -> Judged
         // What it leaves and answers is what the records leave of the tables and are answered.
-        ensures tables { (t : Tables) (records : List (List ℕ)) → IsFilledFrom self t records
-            → tables_over (view result.overlay) t ≡ tables_past_all t moment records }
-        ensures replies { (t : Tables) (records : List (List ℕ)) → IsFilledFrom self t records
-            → result.replies.items ≡ replies_past_all t moment records }
-
-        // Of a log that the tables show: it comes to the log with the records behind it, and answers their
-        // replies.
-        ensures shows { (t : Tables) (records : List (List ℕ)) → IsFilledFrom self t records
+        ensures judged { (t : Tables) (records : List (List ℕ)) → IsFilledFrom self t records
+            → IsJudged (view result.overlay) result.replies.items t moment records }
+        // The same of a log that the tables show.
+        ensures shown { (t : Tables) (records : List (List ℕ)) → IsFilledFrom self t records
             → (log : List Command) → AreTablesOf t log
-            → AreTablesOf (tables_over (view result.overlay) t) (behind log (posts moment records)) }
-        ensures answers { (t : Tables) (records : List (List ℕ)) → IsFilledFrom self t records
-            → (log : List Command) → AreTablesOf t log
-            → result.replies.items ≡ replies_to log (posts moment records) }
-
-        // Each changed row is there, and is written once; each new row has a key that is free.
-        ensures changes { (t : Tables) (records : List (List ℕ)) → IsFilledFrom self t records
-            → ChangesRows (view result.overlay) t }
+            → IsShown (view result.overlay) result.replies.items t log (posts moment records) }
+        // Each changed row is written once.
         ensures rising { HasRisingSlots (view self.overlay) → HasRisingSlots (view result.overlay) }
-        ensures adds { (t : Tables) (records : List (List ℕ)) → IsFilledFrom self t records
-            → (log : List Command) → AreTablesOf t log
-            → AddsFreeRows (view result.overlay) t }
 
         // Each record has its reply, and each decided request is counted. Where none is decided, nothing is
         // changed and nothing is new.

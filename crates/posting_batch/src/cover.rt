@@ -1,55 +1,63 @@
 //! An empty slot for every key that a record can touch.
-ghost use Rattle.std.specs.Prelude.{◌≡◌, ◌≤◌, ◌<◌, ◌+◌, ◌*◌, ◌++◌, map, length, vec_len, vec_capacity};
+ghost use Rattle.std.specs.Prelude.{◌≡◌, ◌≤◌, ◌+◌, ◌*◌, ◌++◌, map, length, vec_len, vec_capacity};
+ghost use Rattle.std.specs.Prelude.{Ok};
+ghost use Rattle.smallvec.specs.SmallVec.{HasRoomFor, small_vec_len};
 ghost use Rattle.message_records.specs.Reading.{request_of};
-ghost use Rattle.posting_batch.specs.Batch.{covering, covering_all, with_branch_slot};
+ghost use Rattle.posting_batch.specs.Batch.{covering, covering_all, no_slots, with_branch_slot};
 ghost use Rattle.posting_batch.specs.View.{view};
 
 use crate::overlay::{Overlay, put};
 use crate::placement::place;
-use crate::slots::{AccountSlot, BranchSlot, RequestSlot, TellerSlot};
+use crate::slots::{AccountSlot, BranchSlot, FloorSlot, RequestSlot, TellerSlot};
 use message_records::{Bad, REQUEST_BYTES, Request, decode_request};
 use posting_rules::{branch_of_account, branch_of_teller};
+use smallvec::SmallVec;
+use std::alloc::Global;
 
 // Places an empty slot for a branch, for which there is room.
-fn place_branch(slots: &mut Vec<BranchSlot>, branch: u64)
-    requires { vec_len slots.old < vec_capacity slots.old }
+fn place_branch<const N: usize>(slots: &mut SmallVec<BranchSlot, N>, branch: u64)
+    requires { HasRoomFor slots.old 1 }
     ensures items { slots.new.items ≡ with_branch_slot branch slots.old.items }
-    ensures len { vec_len slots.new ≤ vec_len slots.old + 1 }
-    ensures capacity { vec_capacity slots.old ≤ vec_capacity slots.new }
+    ensures len { small_vec_len slots.new ≤ small_vec_len slots.old + 1 }
+    ensures capacity { slots.new.capacity ≡ slots.old.capacity }
 {
     let empty = BranchSlot {
         branch,
         stored: None,
-        floor: None,
         changed: None,
     };
     place(slots, empty);
 }
 
 impl Overlay {
-    // Places an empty slot under every key that a record can touch, for which there is room.
-    fn cover(&mut self, read: &Result<Request, Bad>)
-        requires branches { vec_len self.old.branches + 2 ≤ vec_capacity self.old.branches }
-        requires tellers { vec_len self.old.tellers < vec_capacity self.old.tellers }
-        requires accounts { vec_len self.old.accounts < vec_capacity self.old.accounts }
-        requires kept { vec_len self.old.kept < vec_capacity self.old.kept }
-        ensures overlay { view self.new ≡ covering (view self.old) read.now }
-        ensures branches { (vec_len self.new.branches ≤ vec_len self.old.branches + 2)
-            × (vec_capacity self.old.branches ≤ vec_capacity self.new.branches) }
-        ensures tellers { (vec_len self.new.tellers ≤ vec_len self.old.tellers + 1)
-            × (vec_capacity self.old.tellers ≤ vec_capacity self.new.tellers) }
-        ensures accounts { (vec_len self.new.accounts ≤ vec_len self.old.accounts + 1)
-            × (vec_capacity self.old.accounts ≤ vec_capacity self.new.accounts) }
-        ensures kept { (vec_len self.new.kept ≤ vec_len self.old.kept + 1)
-            × (vec_capacity self.old.kept ≤ vec_capacity self.new.kept) }
+    // Places an empty slot under every key that a request can touch, for which there is room.
+    fn cover(&mut self, request: &Request)
+        requires branches { HasRoomFor self.old.branches 2 }
+        requires floors { HasRoomFor self.old.floors 1 }
+        requires tellers { HasRoomFor self.old.tellers 1 }
+        requires accounts { HasRoomFor self.old.accounts 1 }
+        requires kept { HasRoomFor self.old.kept 1 }
+        ensures overlay { view self.new ≡ covering (view self.old) (Ok request.now) }
+        ensures branches { (small_vec_len self.new.branches ≤ small_vec_len self.old.branches + 2)
+            × (self.new.branches.capacity ≡ self.old.branches.capacity) }
+        ensures floors { (small_vec_len self.new.floors ≤ small_vec_len self.old.floors + 1)
+            × (self.new.floors.capacity ≡ self.old.floors.capacity) }
+        ensures tellers { (small_vec_len self.new.tellers ≤ small_vec_len self.old.tellers + 1)
+            × (self.new.tellers.capacity ≡ self.old.tellers.capacity) }
+        ensures accounts { (small_vec_len self.new.accounts ≤ small_vec_len self.old.accounts + 1)
+            × (self.new.accounts.capacity ≡ self.old.accounts.capacity) }
+        ensures kept { (small_vec_len self.new.kept ≤ small_vec_len self.old.kept + 1)
+            × (self.new.kept.capacity ≡ self.old.kept.capacity) }
         ensures history { self.new.history ≡ self.old.history }
         ensures requests { self.new.requests ≡ self.old.requests }
     {
-        let Ok(request) = read else {
-            return;
-        };
         place_branch(&mut self.branches, branch_of_teller(request.teller()));
         place_branch(&mut self.branches, branch_of_account(request.account()));
+        let floor = FloorSlot {
+            branch: branch_of_account(request.account()),
+            floor: None,
+        };
+        place(&mut self.floors, floor);
         let teller = TellerSlot {
             teller: request.teller(),
             stored: None,
@@ -69,6 +77,19 @@ impl Overlay {
         };
         place(&mut self.kept, kept);
     }
+
+    /// An empty slot under every key that a single request can touch, and room for what it comes to. All of it
+    /// lies in the value itself, so that no memory is taken of the allocator.
+    #[must_use]
+    pub fn for_request(alloc: Global, request: &Request) -> Self
+        ensures covers { view result ≡ covering no_slots (Ok request.now) }
+        ensures history { HasRoomFor result.history 1 }
+        ensures requests { HasRoomFor result.requests 1 }
+    {
+        let mut overlay = Overlay::for_one(alloc);
+        overlay.cover(request);
+        overlay
+    }
 }
 
 /// Decodes records and places their slots, for which there is room.
@@ -78,12 +99,11 @@ pub(crate) fn decode_all(
     overlay: &mut Overlay,
 )
     requires reads { vec_len reads.old + length records.now ≤ vec_capacity reads.old }
-    requires branches { vec_len overlay.old.branches + 2 * length records.now
-        ≤ vec_capacity overlay.old.branches }
-    requires tellers { vec_len overlay.old.tellers + length records.now ≤ vec_capacity overlay.old.tellers }
-    requires accounts { vec_len overlay.old.accounts + length records.now
-        ≤ vec_capacity overlay.old.accounts }
-    requires kept { vec_len overlay.old.kept + length records.now ≤ vec_capacity overlay.old.kept }
+    requires branches { HasRoomFor overlay.old.branches (2 * length records.now) }
+    requires floors { HasRoomFor overlay.old.floors (length records.now) }
+    requires tellers { HasRoomFor overlay.old.tellers (length records.now) }
+    requires accounts { HasRoomFor overlay.old.accounts (length records.now) }
+    requires kept { HasRoomFor overlay.old.kept (length records.now) }
     ensures reads { reads.new.items ≡ reads.old.items ++ map request_of records.now }
     ensures overlay { view overlay.new ≡ covering_all (view overlay.old) (map request_of records.now) }
     ensures history { overlay.new.history ≡ overlay.old.history }
@@ -91,7 +111,9 @@ pub(crate) fn decode_all(
 {
     for bytes in records {
         let read = decode_request(bytes);
-        overlay.cover(&read);
+        if let Ok(request) = &read {
+            overlay.cover(request);
+        }
         put(reads, read);
     }
 }

@@ -31,7 +31,8 @@
 //! }
 //! ```
 //!
-//! Only [`Batch::new`] takes memory, and where that was refused nothing is left. Judging can't fail.
+//! Only [`Batch::new`] takes memory, and where that was refused nothing is left. Judging can't fail. A single
+//! record is judged by the same: the slots of [`Overlay::for_request`] lie in the value, and take no memory.
 //!
 //! Read next: [`Batch`]; `specs/Batch`, what a batch covers and changes; the crate `bank_transactions`, which
 //! fills a batch from the tables of a file and writes it.
@@ -48,4 +49,4 @@ mod slots;
 pub use batch::{Batch, Judged};
 pub use overlay::Overlay;
 pub use search::{stored_branch, stored_floor};
-pub use slots::{AccountSlot, BranchSlot, RequestSlot, TellerSlot};
+pub use slots::{AccountSlot, BranchSlot, FloorSlot, RequestSlot, TellerSlot};

@@ -1,22 +1,33 @@
 //! Records are judged in the slots of a batch, one after another.
 ghost use Rattle.std.specs.Prelude.{◌≡◌, ◌≤◌, ◌<◌, ◌+◌, ◌++◌, [], ◌∷◌, map, length, vec_len, vec_capacity};
-ghost use Rattle.std.specs.Prelude.{IfOk, IsTrue};
+ghost use Rattle.std.specs.Prelude.{IfOk, IsTrue, Ok};
+ghost use Rattle.smallvec.specs.SmallVec.{HasRoomFor, small_vec_len};
 ghost use Rattle.message_records.specs.Spelling.{reply_spelling};
 ghost use Rattle.posting_rules.specs.declared.limits.TheConstants.{MAX_DECIDED, RECORDS_PER_BATCH};
 ghost use Rattle.posting_rules.specs.Cases.{IsProper};
 ghost use Rattle.posting_rules.specs.Entries.{posted_entry};
 ghost use Rattle.posting_rules.specs.Kept.{is_kept_with};
-ghost use Rattle.posting_batch.specs.Room.{IsRoomFor};
 
 use crate::changes::{change_at, keep_at};
 use crate::search::{balance_at, kept_at, stored_floor};
-use crate::slots::{AccountSlot, BranchSlot, RequestSlot, TellerSlot};
+use crate::slots::{AccountSlot, BranchSlot, FloorSlot, RequestSlot, TellerSlot};
 use message_records::{Bad, Cents, Moment, Outcome, REPLY_BYTES, Request, encode_reply};
 use posting_rules::{
     Found, HistoryRow, MAX_DECIDED, Ordinal, RequestRow, Verdict, branch_of_account,
     branch_of_teller, judge, malformed_reply, reply_to,
 };
+use smallvec::SmallVec;
 use std::alloc::{AllocError, Global};
+
+// Puts a row behind the others, for which there is room.
+fn put_row<T: Drop, const N: usize>(rows: &mut SmallVec<T, N>, row: T)
+    requires { HasRoomFor rows.old 1 }
+    ensures items { rows.new.items ≡ rows.old.items ++ row ∷ [] }
+    ensures len { small_vec_len rows.new ≡ small_vec_len rows.old + 1 }
+    ensures capacity { rows.new.capacity ≡ rows.old.capacity }
+{
+    rows.push_reserved(row);
+}
 
 // Puts something behind the others, for which there is room.
 pub(crate) fn put<T: Drop>(items: &mut Vec<T>, item: T)
@@ -28,32 +39,26 @@ pub(crate) fn put<T: Drop>(items: &mut Vec<T>, item: T)
     let _ = items.push(item);
 }
 
-// A vector with room for so many, which is all that it takes of memory.
-pub(crate) fn with_room<T: Drop>(alloc: Global, count: usize) -> Result<Vec<T>, AllocError>
-    ensures { IfOk result (IsRoomFor count) }
-{
-    let mut items = Vec::new(alloc);
-    items.reserve(count)?;
-    Ok(items)
-}
-
-/// What is known of the rows that a batch can touch, and the rows that are new.
+/// What is known of the rows that records can touch, and the rows that are new. What a single record comes to
+/// lies in the value itself; what more of them come to, in memory that is taken before they are judged.
 #[derive(Debug, Drop)]
 pub struct Overlay {
-    /// The branches of its tellers and of its accounts, by rising numbers.
-    pub branches: Vec<BranchSlot>,
-    /// Its tellers, by rising numbers.
-    pub tellers: Vec<TellerSlot>,
-    /// Its accounts, by rising numbers.
-    pub accounts: Vec<AccountSlot>,
-    /// What is kept of its requests, by rising tellers and numbers.
-    pub kept: Vec<RequestSlot>,
+    /// The branches of their tellers and of their accounts, by rising numbers.
+    pub branches: SmallVec<BranchSlot, 2>,
+    /// The floors of their accounts' branches, by rising numbers.
+    pub floors: SmallVec<FloorSlot, 1>,
+    /// Their tellers, by rising numbers.
+    pub tellers: SmallVec<TellerSlot, 1>,
+    /// Their accounts, by rising numbers.
+    pub accounts: SmallVec<AccountSlot, 1>,
+    /// What is kept of their requests, by rising tellers and numbers.
+    pub kept: SmallVec<RequestSlot, 1>,
     /// How many requests are decided: 0..=`MAX_DECIDED`.
     pub decided: u64,
     /// The postings that are new, in the order of their ordinals.
-    pub history: Vec<HistoryRow>,
+    pub history: SmallVec<HistoryRow, 1>,
     /// The decided requests that are new, in the order of their ordinals.
-    pub requests: Vec<RequestRow>,
+    pub requests: SmallVec<RequestRow, 1>,
     ghost few: { decided ≤ MAX_DECIDED },
 }
 
@@ -62,19 +67,36 @@ impl Overlay {
     ghost use Rattle.posting_batch.specs.Judging.{overlay_with, reply_over, overlay_with_all, replies_over};
     ghost use Rattle.posting_batch.specs.View.{view, IsForRecords};
 
-    // One without a slot and without a new row, with room for what so many records come to.
+    // One without a slot and without a new row, with room for what a single record comes to.
+    pub(crate) fn for_one(alloc: Global) -> Self
+        ensures { IsForRecords 1 result }
+    {
+        Overlay {
+            branches: SmallVec::new(alloc),
+            floors: SmallVec::new(alloc),
+            tellers: SmallVec::new(alloc),
+            accounts: SmallVec::new(alloc),
+            kept: SmallVec::new(alloc),
+            decided: 0,
+            history: SmallVec::new(alloc),
+            requests: SmallVec::new(alloc),
+        }
+    }
+
+    // The same, with room for what so many records come to.
     pub(crate) fn for_records(alloc: Global, count: usize) -> Result<Self, AllocError>
         requires { count ≤ RECORDS_PER_BATCH }
         ensures { IfOk result (IsForRecords count) }
     {
         Ok(Overlay {
-            branches: with_room(alloc, 2 * count)?,
-            tellers: with_room(alloc, count)?,
-            accounts: with_room(alloc, count)?,
-            kept: with_room(alloc, count)?,
+            branches: SmallVec::with_capacity(alloc, 2 * count)?,
+            floors: SmallVec::with_capacity(alloc, count)?,
+            tellers: SmallVec::with_capacity(alloc, count)?,
+            accounts: SmallVec::with_capacity(alloc, count)?,
+            kept: SmallVec::with_capacity(alloc, count)?,
             decided: 0,
-            history: with_room(alloc, count)?,
-            requests: with_room(alloc, count)?,
+            history: SmallVec::with_capacity(alloc, count)?,
+            requests: SmallVec::with_capacity(alloc, count)?,
         })
     }
 
@@ -90,17 +112,17 @@ impl Overlay {
             kept: kept_at(&self.kept, request.teller(), request.number()),
             decided: self.decided,
             account: balance_at(&self.accounts, request.account().get()),
-            floor: stored_floor(&self.branches, branch_of_account(request.account())),
+            floor: stored_floor(&self.floors, branch_of_account(request.account())),
         }
     }
 
     // Keeps a decided request under the next ordinal, for which there is room, and counts it.
     fn keep(&mut self, request: &Request, outcome: Outcome, balance: Cents)
-        requires room { vec_len self.old.requests < vec_capacity self.old.requests }
+        requires room { HasRoomFor self.old.requests 1 }
         requires few { self.old.decided < MAX_DECIDED }
         requires kept { IsTrue (is_kept_with outcome balance) }
-        ensures requests { (vec_len self.new.requests ≡ vec_len self.old.requests + 1)
-            × (vec_capacity self.old.requests ≤ vec_capacity self.new.requests) }
+        ensures requests { (small_vec_len self.new.requests ≡ small_vec_len self.old.requests + 1)
+            × (self.new.requests.capacity ≡ self.old.requests.capacity) }
         ensures history { self.new.history ≡ self.old.history }
         ensures overlay { view self.new
             ≡ overlay_kept (view self.old)
@@ -109,7 +131,7 @@ impl Overlay {
         let ordinal = Ordinal::new(self.decided + 1).unwrap();
         let row = RequestRow::decided(ordinal, request, outcome, balance);
         keep_at(&mut self.kept, request.teller(), request.number(), row.kept);
-        put(&mut self.requests, row);
+        put_row(&mut self.requests, row);
         self.decided += 1;
     }
 
@@ -122,10 +144,10 @@ impl Overlay {
         teller: Cents,
         branch: Cents,
     )
-        requires room { vec_len self.old.history < vec_capacity self.old.history }
+        requires room { HasRoomFor self.old.history 1 }
         requires few { self.old.decided < MAX_DECIDED }
-        ensures history { (vec_len self.new.history ≡ vec_len self.old.history + 1)
-            × (vec_capacity self.old.history ≤ vec_capacity self.new.history) }
+        ensures history { (small_vec_len self.new.history ≡ small_vec_len self.old.history + 1)
+            × (self.new.history.capacity ≡ self.old.history.capacity) }
         ensures requests { self.new.requests ≡ self.old.requests }
         ensures decided { self.new.decided ≡ self.old.decided }
         ensures overlay { overlay_kept (view self.new) (posted_entry moment request.now account)
@@ -136,7 +158,7 @@ impl Overlay {
         change_at(&mut self.tellers, request.teller().get(), teller);
         change_at(&mut self.branches, home, branch);
         let ordinal = Ordinal::new(self.decided + 1).unwrap();
-        put(
+        put_row(
             &mut self.history,
             HistoryRow::posted(ordinal, moment, request),
         );
@@ -145,12 +167,12 @@ impl Overlay {
     // Changes the slots as the verdict says, and puts the new rows, for which there is room.
     fn apply(&mut self, moment: Moment, request: &Request, verdict: &Verdict)
         requires proper { IsProper (found_over (view self.old) request.now) verdict.now }
-        requires requests { vec_len self.old.requests < vec_capacity self.old.requests }
-        requires history { vec_len self.old.history < vec_capacity self.old.history }
-        ensures requests { (vec_len self.new.requests ≤ vec_len self.old.requests + 1)
-            × (vec_capacity self.old.requests ≤ vec_capacity self.new.requests) }
-        ensures history { (vec_len self.new.history ≤ vec_len self.old.history + 1)
-            × (vec_capacity self.old.history ≤ vec_capacity self.new.history) }
+        requires requests { HasRoomFor self.old.requests 1 }
+        requires history { HasRoomFor self.old.history 1 }
+        ensures requests { (small_vec_len self.new.requests ≤ small_vec_len self.old.requests + 1)
+            × (self.new.requests.capacity ≡ self.old.requests.capacity) }
+        ensures history { (small_vec_len self.new.history ≤ small_vec_len self.old.history + 1)
+            × (self.new.history.capacity ≡ self.old.history.capacity) }
         ensures overlay { view self.new ≡ overlay_after (view self.old) moment request.now verdict.now }
     {
         match verdict {
@@ -167,20 +189,18 @@ impl Overlay {
         }
     }
 
-    // Judges a record, for which there is room, and answers it.
-    fn judge_record(&mut self, moment: Moment, read: &Result<Request, Bad>) -> [u8; REPLY_BYTES]
-        requires requests { vec_len self.old.requests < vec_capacity self.old.requests }
-        requires history { vec_len self.old.history < vec_capacity self.old.history }
-        ensures requests { (vec_len self.new.requests ≤ vec_len self.old.requests + 1)
-            × (vec_capacity self.old.requests ≤ vec_capacity self.new.requests) }
-        ensures history { (vec_len self.new.history ≤ vec_len self.old.history + 1)
-            × (vec_capacity self.old.history ≤ vec_capacity self.new.history) }
-        ensures reply { result ≡ reply_spelling (reply_over (view self.old) read.now) }
-        ensures overlay { view self.new ≡ overlay_with (view self.old) moment read.now }
+    /// Judges a request by its slots, for which there is room, and answers it (TPC-B 1.2). What it changes is in
+    /// the slots then, and what is new behind the other rows.
+    pub fn judge(&mut self, moment: Moment, request: &Request) -> [u8; REPLY_BYTES]
+        requires requests { HasRoomFor self.old.requests 1 }
+        requires history { HasRoomFor self.old.history 1 }
+        ensures requests { (small_vec_len self.new.requests ≤ small_vec_len self.old.requests + 1)
+            × (self.new.requests.capacity ≡ self.old.requests.capacity) }
+        ensures history { (small_vec_len self.new.history ≤ small_vec_len self.old.history + 1)
+            × (self.new.history.capacity ≡ self.old.history.capacity) }
+        ensures reply { result ≡ reply_spelling (reply_over (view self.old) (Ok request.now)) }
+        ensures overlay { view self.new ≡ overlay_with (view self.old) moment (Ok request.now) }
     {
-        let Ok(request) = read else {
-            return encode_reply(&malformed_reply());
-        };
         let found = self.look_up(request);
         let verdict = judge(&found, request);
         self.apply(moment, request, &verdict);
@@ -194,15 +214,18 @@ impl Overlay {
         reads: &[Result<Request, Bad>],
         replies: &mut Vec<[u8; REPLY_BYTES]>,
     )
-        requires requests { vec_len self.old.requests + length reads.now ≤ vec_capacity self.old.requests }
-        requires history { vec_len self.old.history + length reads.now ≤ vec_capacity self.old.history }
+        requires requests { HasRoomFor self.old.requests (length reads.now) }
+        requires history { HasRoomFor self.old.history (length reads.now) }
         requires replies { vec_len replies.old + length reads.now ≤ vec_capacity replies.old }
         ensures overlay { view self.new ≡ overlay_with_all (view self.old) moment reads.now }
         ensures replies { replies.new.items ≡ replies.old.items
             ++ map reply_spelling (replies_over (view self.old) moment reads.now) }
     {
         for read in reads {
-            let reply = self.judge_record(moment, read);
+            let reply = match read {
+                Ok(request) => self.judge(moment, request),
+                Err(_) => encode_reply(&malformed_reply()),
+            };
             put(replies, reply);
         }
     }

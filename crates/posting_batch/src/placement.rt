@@ -1,8 +1,10 @@
 //! Slots stand in the order of their keys, one for each key.
-ghost use Rattle.std.specs.Prelude.{◌≡◌, ◌≤◌, ◌<◌, ◌+◌, Bool, length, vec_len, vec_capacity};
+ghost use Rattle.std.specs.Prelude.{◌≡◌, ◌≤◌, ◌+◌, Bool, length};
+ghost use Rattle.smallvec.specs.SmallVec.{HasRoomFor, small_vec_len};
 ghost use Rattle.posting_batch.specs.Placed.{placed, rank};
 
-use crate::slots::{AccountSlot, BranchSlot, RequestSlot, TellerSlot};
+use crate::slots::{AccountSlot, BranchSlot, FloorSlot, RequestSlot, TellerSlot};
+use smallvec::SmallVec;
 
 /// A slot whose key has its place among others.
 pub(crate) trait Ranked {
@@ -70,6 +72,23 @@ impl Ranked for BranchSlot {
     }
 }
 
+impl Ranked for FloorSlot {
+    ghost use Rattle.posting_batch.specs.Placed.{number_below, number_same};
+    ghost use Rattle.posting_batch.specs.Slots.{floor_slot_key};
+
+    ghost below = { number_below floor_slot_key };
+
+    ghost same = { number_same floor_slot_key };
+
+    fn is_below(&self, other: &Self) -> bool {
+        self.branch < other.branch
+    }
+
+    fn is_same(&self, other: &Self) -> bool {
+        self.branch == other.branch
+    }
+}
+
 impl Ranked for RequestSlot {
     ghost use Rattle.posting_batch.specs.Placed.{request_below, request_same};
 
@@ -101,13 +120,16 @@ fn rank<T: Ranked>(slots: &[T], other: &T) -> usize
 }
 
 /// Places a slot in its order, for which there is room, unless there is one of its key.
-pub(crate) fn place<T: Ranked + Copy>(slots: &mut Vec<T>, empty: T)
-    requires { vec_len slots.old < vec_capacity slots.old }
+pub(crate) fn place<T: Ranked + Copy + Default, const N: usize>(
+    slots: &mut SmallVec<T, N>,
+    empty: T,
+)
+    requires { HasRoomFor slots.old 1 }
     ensures items { slots.new.items ≡ placed T.below T.same empty slots.old.items }
-    ensures len { vec_len slots.new ≤ vec_len slots.old + 1 }
-    ensures capacity { vec_capacity slots.old ≤ vec_capacity slots.new }
+    ensures len { small_vec_len slots.new ≤ small_vec_len slots.old + 1 }
+    ensures capacity { slots.new.capacity ≡ slots.old.capacity }
 {
-    let before = rank(slots, &empty);
+    let before = rank(slots.as_slice(), &empty);
     if before < slots.len() && slots[before].is_same(&empty) {
         return;
     }

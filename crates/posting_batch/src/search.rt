@@ -4,9 +4,9 @@ ghost use Rattle.std.specs.List.{find};
 ghost use Rattle.std.specs.Option.{option_map};
 ghost use Rattle.posting_rules.specs.Tables.{row_at};
 ghost use Rattle.posting_batch.specs.Slots.{slot_balance, kept_in_slots, is_for, kept_of_slot, row_of_slot};
-ghost use Rattle.posting_batch.specs.Slots.{in_slot, branch_slot_key, floor_of_slot, slot_floor};
+ghost use Rattle.posting_batch.specs.Slots.{in_slot, branch_slot_key, floor_of_slot, floor_slot_key, slot_floor};
 
-use crate::slots::{BalanceSlot, BranchSlot, RequestSlot};
+use crate::slots::{BalanceSlot, BranchSlot, FloorSlot, RequestSlot};
 use message_records::{Cents, Number, Teller};
 use posting_rules::{BranchRow, Kept};
 
@@ -45,9 +45,9 @@ pub fn stored_branch(slots: &[BranchSlot], number: u64) -> Option<BranchRow>
     told_branch(slots, number).flatten()
 }
 
-// What the slot of a branch tells of its floor.
-fn told_floor(slots: &[BranchSlot], number: u64) -> Option<Option<Cents>>
-    ensures { result ≡ option_map floor_of_slot (row_at branch_slot_key slots.now number) }
+// What the slot of a floor tells.
+fn told_floor(slots: &[FloorSlot], number: u64) -> Option<Option<Cents>>
+    ensures { result ≡ option_map floor_of_slot (row_at floor_slot_key slots.now number) }
 {
     slots
         .iter()
@@ -57,7 +57,7 @@ fn told_floor(slots: &[BranchSlot], number: u64) -> Option<Option<Cents>>
 
 /// The floor of a branch's accounts as its slot was filled; none where they have none, or there is no slot.
 #[must_use]
-pub fn stored_floor(slots: &[BranchSlot], number: u64) -> Option<Cents>
+pub fn stored_floor(slots: &[FloorSlot], number: u64) -> Option<Cents>
     ensures { result ≡ slot_floor slots.now number }
 {
     told_floor(slots, number).flatten()

@@ -16,6 +16,17 @@ pub struct AccountSlot {
     pub changed: Option<Cents>,
 }
 
+/// What fills a place that no slot has taken yet.
+impl Default for AccountSlot {
+    fn default() -> Self {
+        AccountSlot {
+            account: Account::new(1).unwrap(),
+            stored: None,
+            changed: None,
+        }
+    }
+}
+
 /// What is known of a teller.
 #[derive(Clone, Copy, Debug)]
 pub struct TellerSlot {
@@ -27,6 +38,17 @@ pub struct TellerSlot {
     pub changed: Option<Cents>,
 }
 
+/// What fills a place that no slot has taken yet.
+impl Default for TellerSlot {
+    fn default() -> Self {
+        TellerSlot {
+            teller: Teller::new(1).unwrap(),
+            stored: None,
+            changed: None,
+        }
+    }
+}
+
 /// What is known of a branch.
 #[derive(Clone, Copy, Debug)]
 pub struct BranchSlot {
@@ -34,10 +56,38 @@ pub struct BranchSlot {
     pub branch: u64,
     /// Its row in the tables; none where it has none.
     pub stored: Option<BranchRow>,
-    /// The floor of its accounts in the tables; none where they have none.
-    pub floor: Option<Cents>,
     /// The balance that its row is to have, where a posting changes it.
     pub changed: Option<Cents>,
+}
+
+/// What fills a place that no slot has taken yet.
+impl Default for BranchSlot {
+    fn default() -> Self {
+        BranchSlot {
+            branch: 1,
+            stored: None,
+            changed: None,
+        }
+    }
+}
+
+/// What is known of the floor of a branch's accounts.
+#[derive(Clone, Copy, Debug)]
+pub struct FloorSlot {
+    /// The number that an account gives. It may be beyond those of branches.
+    pub branch: u64,
+    /// The floor in the tables; none where the accounts have none.
+    pub floor: Option<Cents>,
+}
+
+/// What fills a place that no slot has taken yet.
+impl Default for FloorSlot {
+    fn default() -> Self {
+        FloorSlot {
+            branch: 1,
+            floor: None,
+        }
+    }
 }
 
 /// What is kept under a teller and a number.
@@ -49,6 +99,17 @@ pub struct RequestSlot {
     pub number: Number,
     /// What is kept; none where no request was decided under the two.
     pub kept: Option<Kept>,
+}
+
+/// What fills a place that no slot has taken yet.
+impl Default for RequestSlot {
+    fn default() -> Self {
+        RequestSlot {
+            teller: Teller::new(1).unwrap(),
+            number: Number::new(1).unwrap(),
+            kept: None,
+        }
+    }
 }
 
 /// A slot of a row that has a balance.

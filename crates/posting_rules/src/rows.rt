@@ -74,6 +74,20 @@ impl HistoryRow {
     }
 }
 
+/// What fills a place that no row has taken yet, in lists whose places lie in a value.
+impl Default for HistoryRow {
+    fn default() -> Self {
+        HistoryRow {
+            ordinal: Whole::new(1).unwrap(),
+            account: Whole::new(1).unwrap(),
+            teller: Whole::new(1).unwrap(),
+            branch: Whole::new(1).unwrap(),
+            delta: Cents::zero(),
+            moment: Whole::new(1).unwrap(),
+        }
+    }
+}
+
 /// A decided request, under its ordinal.
 #[derive(Clone, Copy, Debug, PartialEq, Eq)]
 pub struct RequestRow {
@@ -102,6 +116,20 @@ impl RequestRow {
             teller: request.teller(),
             number: request.number(),
             kept: Kept::new(account, branch, delta, outcome, balance).unwrap(),
+        }
+    }
+}
+
+/// What fills a place that no row has taken yet, in lists whose places lie in a value.
+impl Default for RequestRow {
+    fn default() -> Self {
+        let (account, branch) = (Whole::new(1).unwrap(), Whole::new(1).unwrap());
+        let (delta, balance) = (Cents::zero(), Cents::zero());
+        RequestRow {
+            ordinal: Whole::new(1).unwrap(),
+            teller: Whole::new(1).unwrap(),
+            number: Whole::new(1).unwrap(),
+            kept: Kept::new(account, branch, delta, Outcome::NoAccount, balance).unwrap(),
         }
     }
 }

@@ -60,10 +60,13 @@ fn over_rows<S: Alter>(rt: &impl Abort, conn: &mut Connection<S>) {
 }
 
 // A request is posted.
-fn is_posted_first<S: Alter>(rt: &impl Abort, conn: &mut Connection<S>) -> Result<(), Fail> {
+fn is_posted_first<S: Alter>(
+    rt: &(impl Abort + Alloc<A = Global>),
+    conn: &mut Connection<S>,
+) -> Result<(), Fail> {
     assert!(rt; conn.is_autocommit());
     store_rows::create(conn)?;
-    is_reply(rt, &first_request(conn)?, REPLY);
+    is_reply(rt, &first_request(rt.alloc(), conn)?, REPLY);
     Ok(())
 }
 

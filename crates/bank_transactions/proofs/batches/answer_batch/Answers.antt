@@ -1,11 +1,11 @@
 -- A batch that is filled, judged and written.
-use Rattle.std.proofs.Common.{◌≡◌, Err, rules, arith}
+use Rattle.std.proofs.Common.{◌≡◌, Err, rules, arith, refl}
 use Rattle.sqlite.specs.State.{HasCleanDisk}
 use Rattle.sqlite.specs.Held.{state}
 use Rattle.posting_batch.specs.View.{view}
 use Rattle.bank_transactions.proofs.Chained.{acts_read, does_err}
-use Rattle.bank_transactions.proofs.Answered.{ready, leads_back, counts_none, answered_idle}
-use Rattle.bank_transactions.proofs.Answered.{answered_written, answered_not}
+use Rattle.bank_transactions.proofs.Answered.{answered_idle, answered_not, answered_written, counts_none}
+use Rattle.bank_transactions.proofs.Answered.{judging_all, ready}
 use Rattle.bank_transactions.proofs.HeldBatch.{homes_made, in_turn}
 use Rattle.bank_transactions.proofs.LookUps.{does_look}
 use Rattle.bank_transactions.proofs.batches.answer_batch.Goals.{then-overlay-before+in_ok-write}
@@ -20,57 +20,44 @@ returns-in_err-fill-clause-says g c records made =
 pub returns-in_err-write-clause-says : goal.returns-in_err-write-clause-says
 returns-in_err-write-clause-says g c records made =
     let j = c.judge-overlay.ensures in
-    let o = view c.judge-overlay.result.overlay in
-    let items = c.judge-overlay.result.replies.items in
     let same : c.from_residual-in_err-write.result ≡ Err c.in_err-write.field-0.0 = search rules in
-    rw same (answered_not
-    {g = g.S.Store} c.args.batch c.fill.new.batch records c.args.moment o items made
-    c.in_ok-fill.ensures.reads j.tables j.replies j.changes j.rising j.adds j.idle
-    (does_look c.in_ok-fill.ensures.says) c.in_err-write.ensures)
+    let so = judging_all c.args.batch _ records
+    c.args.moment (view c.judge-overlay.result.overlay) c.judge-overlay.result.replies.items made refl
+    j.judged j.shown j.rising j.idle in
+    rw same (answered_not so (does_look c.in_ok-fill.ensures.says) c.in_err-write.ensures)
 
 pub returns-clause-says : goal.returns-clause-says
 returns-clause-says g c records made =
     let j = c.judge-overlay.ensures in
-    let o = view c.judge-overlay.result.overlay in
-    let items = c.judge-overlay.result.replies.items in
+    let so = judging_all c.args.batch _ records
+    c.args.moment (view c.judge-overlay.result.overlay) c.judge-overlay.result.replies.items made refl
+    j.judged j.shown j.rising j.idle in
+    let first = does_look c.in_ok-fill.ensures.says in
     elim c.if-overlay-before.branch [
-      | then-overlay-before+in_ok-write w ↦
-          rw w.tx-is (answered_written
-          {g = g.S.Store} c.args.batch c.fill.new.batch records c.args.moment o items made
-          c.in_ok-fill.ensures.reads j.tables j.replies j.changes j.rising j.adds j.idle
-          (does_look c.in_ok-fill.ensures.says) w.in_ok-write.ensures)
+      | then-overlay-before+in_ok-write w ↦ rw w.tx-is (answered_written so first w.in_ok-write.ensures)
       | else-overlay-before w ↦
-          rw w.tx-is (answered_idle
-          {g = g.S.Store} c.args.batch c.fill.new.batch records c.args.moment o items made
-          c.in_ok-fill.ensures.reads j.tables j.replies j.changes j.rising j.adds j.idle
-          (does_look c.in_ok-fill.ensures.says) (omega (arith, w.if-overlay-before.false)))
+          rw w.tx-is (answered_idle so first (omega (arith, w.if-overlay-before.false)))
     ]
 
 pub returns-clause-idle : goal.returns-clause-idle
 returns-clause-idle g c clean records made t shows so none =
     let j = c.judge-overlay.ensures in
-    let o = view c.judge-overlay.result.overlay in
-    let items = c.judge-overlay.result.replies.items in
     let fill = c.in_ok-fill.ensures in
+    let it = judging_all c.args.batch _ records
+    c.args.moment (view c.judge-overlay.result.overlay) c.judge-overlay.result.replies.items made refl
+    j.judged j.shown j.rising j.idle in
+    let first = does_look fill.says in
     elim c.if-overlay-before.branch [
       | then-overlay-before+in_ok-write w ↦
           let before : HasCleanDisk (state g.S.Store c.fill.new.tx.conn.now) = omega
           (arith, w.in_ok-write.ensures.says.survives.clean, rw w.tx-is at clean) in
           let told = fill.says.says.told before t shows (ready c.args.batch records made t so) in
-          let first = does_look fill.says in
-          absurd (w.if-overlay-before.true
-          (counts_none
-          {g = g.S.Store} c.args.batch c.fill.new.batch records c.args.moment o items made fill.reads
-          j.tables j.replies j.changes j.rising j.adds j.idle first t told.0 none))
+          absurd (w.if-overlay-before.true (counts_none it first t told.0 none))
       | else-overlay-before w ↦
           let told = fill.says.says.told (rw w.tx-is at clean) t shows
           (ready c.args.batch records made t so) in
-          let first = does_look fill.says in
           rw w.tx-is (record {
-            leads = leads_back
-                {g = g.S.Store} c.args.batch c.fill.new.batch records c.args.moment o items made fill.reads
-                j.tables j.replies j.changes j.rising j.adds j.idle first
-                (omega (arith, w.if-overlay-before.false)) t told.0;
+            leads = it.back (omega (arith, w.if-overlay-before.false)) t told.0;
             stays = told.1;
           })
     ]
@@ -84,6 +71,6 @@ returns-clause-stored g c clean records made rows has =
           omega (arith, w.in_ok-write.ensures.says.survives.clean, rw w.tx-is at clean)
       | else-overlay-before w ↦ rw w.tx-is at clean
     ] in
-    in_turn rows c.args.batch c.fill.new.batch records c.args.moment c.judge-overlay.result.replies.items made
-    fill.reads fill.same (fill.stored before (homes_made c.args.batch records made) rows has)
-    c.judge-overlay.ensures.replies
+    in_turn rows c.args.batch _ records c.args.moment
+    (view c.judge-overlay.result.overlay) c.judge-overlay.result.replies.items made refl fill.same
+    (fill.stored before (homes_made c.args.batch records made) rows has) c.judge-overlay.ensures.judged

@@ -7,144 +7,235 @@ use Rattle.sqlite.specs.State.{HasCleanDisk}
 use Rattle.posting_rules.specs.Numbering.{branch_of_account, branch_of_teller}
 use Rattle.posting_batch.specs.declared.slots.AccountSlot.{AccountSlot}
 use Rattle.posting_batch.specs.declared.slots.BranchSlot.{BranchSlot}
+use Rattle.posting_batch.specs.declared.slots.FloorSlot.{FloorSlot}
 use Rattle.posting_batch.specs.declared.slots.RequestSlot.{RequestSlot}
 use Rattle.posting_batch.specs.declared.slots.TellerSlot.{TellerSlot}
 use Rattle.store_rows.specs.Rules.{HoldsBank}
-use Rattle.bank_transactions.specs.Filling.{AccountHeld, BranchHeld, RequestHeld, TellerHeld, emptied_account}
-use Rattle.bank_transactions.specs.Filling.{emptied_branch, emptied_request, emptied_teller}
+use Rattle.bank_transactions.specs.Filling.{AccountHeld, BranchHeld, FloorHeld, RequestHeld, TellerHeld}
+use Rattle.bank_transactions.specs.Filling.{emptied_account}
+use Rattle.bank_transactions.specs.Filling.{emptied_branch, emptied_floor, emptied_request, emptied_teller}
 use Rattle.bank_transactions.proofs.HeldSlots.{emptied_same, know_all}
-use Rattle.std.specs.Vec.{with_items}
-use Rattle.std.proofs.lemmas.List.{with_items_is}
+use Rattle.smallvec.specs.SmallVec.{with_items}
+use Rattle.smallvec.proofs.SmallVecLemmas.{items-with_items}
 use Rattle.posting_batch.specs.View.{view}
 use Rattle.bank_transactions.proofs.LookUps.{reads_but, reads_so}
-use Rattle.bank_transactions.proofs.Whole.{accounts_in, accounts_ready, branches_in, count_in, kept_in, plain}
+use Rattle.bank_transactions.proofs.Whole.{accounts_in, accounts_ready, branches_in, count_in, floors_in}
+use Rattle.bank_transactions.proofs.Whole.{kept_in, plain}
 use Rattle.bank_transactions.proofs.Whole.{nothing_asked, same_now, tellers_in, tellers_ready}
 use Rattle.bank_transactions.proofs.slots.fill.Goals as goal
 
 pub returns-in_err-fill_all-clause-says : goal.returns-in_err-fill_all-clause-says
 returns-in_err-fill_all-clause-says g c =
     let same : c.from_residual-in_err-fill_all.result ≡ Err c.in_err-fill_all.field-0.0 = search rules in
-    let s1 = count_in {g = g.S.Store} (view c.args.batch.now.overlay) _ c.in_ok-batch.ensures.says in
+    let s1 = count_in {g = g.S.Store} (view c.args.overlay.now) _ c.in_ok-overlay.ensures.says in
     rw same (reads_but s1 c.in_err-fill_all.ensures.says (plain _ _))
 
 pub returns-in_err-fill_all-2-clause-says : goal.returns-in_err-fill_all-2-clause-says
 returns-in_err-fill_all-2-clause-says g c =
     let same : c.from_residual-in_err-fill_all-2.result ≡ Err c.in_err-fill_all-2.field-0.0 = search rules in
-    let bs = with_items_is c.args.batch.now.overlay.branches c.fill_all.new.slots
-    (omega (arith, c.fill_all.auto.slots, c.deref_mut.ensures.len)) in
-    let s1 = count_in {g = g.S.Store} (view c.args.batch.now.overlay) _ c.in_ok-batch.ensures.says in
+    let s1 = count_in {g = g.S.Store} (view c.args.overlay.now) _ c.in_ok-overlay.ensures.says in
     let s2 = branches_in s1 c.deref_mut.ensures.value c.in_ok-fill_all.ensures.says in
-    rw same (reads_but s2 c.in_err-fill_all-2.ensures.says
-    (tellers_ready (c.deref.ensures.value ∙ bs) c.deref_mut-2.ensures.value))
+    rw same (reads_but s2 c.in_err-fill_all-2.ensures.says (plain _ _))
 
 pub returns-in_err-fill_all-3-clause-says : goal.returns-in_err-fill_all-3-clause-says
 returns-in_err-fill_all-3-clause-says g c =
     let same : c.from_residual-in_err-fill_all-3.result ≡ Err c.in_err-fill_all-3.field-0.0 = search rules in
-    let bs = with_items_is c.args.batch.now.overlay.branches c.fill_all.new.slots
-    (omega (arith, c.fill_all.auto.slots, c.deref_mut.ensures.len)) in
-    let s1 = count_in {g = g.S.Store} (view c.args.batch.now.overlay) _ c.in_ok-batch.ensures.says in
+    let bs = items-with_items c.args.overlay.now.branches c.fill_all.new.slots
+    (omega (arith, c.fill_all.auto.slots, ap (λ (xs : List BranchSlot). length xs) c.deref_mut.ensures.value)) in
+    let s1 = count_in {g = g.S.Store} (view c.args.overlay.now) _ c.in_ok-overlay.ensures.says in
     let s2 = branches_in s1 c.deref_mut.ensures.value c.in_ok-fill_all.ensures.says in
-    let s3 = tellers_in s2
-    (c.deref.ensures.value ∙ bs) c.deref_mut-2.ensures.value c.in_ok-fill_all-2.ensures.says in
+    let s3 = floors_in s2 c.deref_mut-2.ensures.value c.in_ok-fill_all-2.ensures.says in
     rw same (reads_but s3 c.in_err-fill_all-3.ensures.says
-    (accounts_ready (c.deref-2.ensures.value ∙ bs) c.deref_mut-3.ensures.value))
+    (tellers_ready (c.deref.ensures ∙ bs) c.deref_mut-3.ensures.value))
 
 pub returns-in_err-fill_all-4-clause-says : goal.returns-in_err-fill_all-4-clause-says
 returns-in_err-fill_all-4-clause-says g c =
     let same : c.from_residual-in_err-fill_all-4.result ≡ Err c.in_err-fill_all-4.field-0.0 = search rules in
-    let bs = with_items_is c.args.batch.now.overlay.branches c.fill_all.new.slots
-    (omega (arith, c.fill_all.auto.slots, c.deref_mut.ensures.len)) in
-    let s1 = count_in {g = g.S.Store} (view c.args.batch.now.overlay) _ c.in_ok-batch.ensures.says in
+    let bs = items-with_items c.args.overlay.now.branches c.fill_all.new.slots
+    (omega (arith, c.fill_all.auto.slots, ap (λ (xs : List BranchSlot). length xs) c.deref_mut.ensures.value)) in
+    let s1 = count_in {g = g.S.Store} (view c.args.overlay.now) _ c.in_ok-overlay.ensures.says in
     let s2 = branches_in s1 c.deref_mut.ensures.value c.in_ok-fill_all.ensures.says in
-    let s3 = tellers_in s2
-    (c.deref.ensures.value ∙ bs) c.deref_mut-2.ensures.value c.in_ok-fill_all-2.ensures.says in
-    let s4 = accounts_in s3
-    (c.deref-2.ensures.value ∙ bs) c.deref_mut-3.ensures.value c.in_ok-fill_all-3.ensures.says in
-    rw same (reads_but s4 c.in_err-fill_all-4.ensures.says (plain _ _))
+    let s3 = floors_in s2 c.deref_mut-2.ensures.value c.in_ok-fill_all-2.ensures.says in
+    let s4 = tellers_in s3
+    (c.deref.ensures ∙ bs) c.deref_mut-3.ensures.value c.in_ok-fill_all-3.ensures.says in
+    rw same (reads_but s4 c.in_err-fill_all-4.ensures.says
+    (accounts_ready (c.deref-2.ensures ∙ bs) c.deref_mut-4.ensures.value))
+
+pub returns-in_err-fill_all-5-clause-says : goal.returns-in_err-fill_all-5-clause-says
+returns-in_err-fill_all-5-clause-says g c =
+    let same : c.from_residual-in_err-fill_all-5.result ≡ Err c.in_err-fill_all-5.field-0.0 = search rules in
+    let bs = items-with_items c.args.overlay.now.branches c.fill_all.new.slots
+    (omega (arith, c.fill_all.auto.slots, ap (λ (xs : List BranchSlot). length xs) c.deref_mut.ensures.value)) in
+    let s1 = count_in {g = g.S.Store} (view c.args.overlay.now) _ c.in_ok-overlay.ensures.says in
+    let s2 = branches_in s1 c.deref_mut.ensures.value c.in_ok-fill_all.ensures.says in
+    let s3 = floors_in s2 c.deref_mut-2.ensures.value c.in_ok-fill_all-2.ensures.says in
+    let s4 = tellers_in s3
+    (c.deref.ensures ∙ bs) c.deref_mut-3.ensures.value c.in_ok-fill_all-3.ensures.says in
+    let s5 = accounts_in s4
+    (c.deref-2.ensures ∙ bs) c.deref_mut-4.ensures.value c.in_ok-fill_all-4.ensures.says in
+    rw same (reads_but s5 c.in_err-fill_all-5.ensures.says (plain _ _))
 
 pub returns-clause-says : goal.returns-clause-says
 returns-clause-says g c =
-    let o = view c.args.batch.now.overlay in
-    let bv = c.args.batch.now.overlay.branches in
-    let tv = c.args.batch.now.overlay.tellers in
-    let av = c.args.batch.now.overlay.accounts in
-    let kv = c.args.batch.now.overlay.kept in
+    let o = view c.args.overlay.now in
+    let bv = c.args.overlay.now.branches in
+    let fv = c.args.overlay.now.floors in
+    let tv = c.args.overlay.now.tellers in
+    let av = c.args.overlay.now.accounts in
+    let kv = c.args.overlay.now.kept in
     let b_len : length c.fill_all.new.slots
-    ≡ bv.len = omega (arith, c.fill_all.auto.slots, c.deref_mut.ensures.len) in
-    let t_len : length c.fill_all-2.new.slots
-    ≡ tv.len = omega (arith, c.fill_all-2.auto.slots, c.deref_mut-2.ensures.len) in
-    let a_len : length c.fill_all-3.new.slots
-    ≡ av.len = omega (arith, c.fill_all-3.auto.slots, c.deref_mut-3.ensures.len) in
-    let k_len : length c.fill_all-4.new.slots
-    ≡ kv.len = omega (arith, c.fill_all-4.auto.slots, c.deref_mut-4.ensures.len) in
-    let bs = with_items_is bv c.fill_all.new.slots b_len in
-    let s1 = count_in {g = g.S.Store} o _ c.in_ok-batch.ensures.says in
+    ≡ length bv.items = omega (
+      arith,
+      c.fill_all.auto.slots,
+      ap (λ (xs : List BranchSlot). length xs) c.deref_mut.ensures.value,
+    ) in
+    let f_len : length c.fill_all-2.new.slots
+    ≡ length fv.items = omega (
+      arith,
+      c.fill_all-2.auto.slots,
+      ap (λ (xs : List FloorSlot). length xs) c.deref_mut-2.ensures.value,
+    ) in
+    let t_len : length c.fill_all-3.new.slots
+    ≡ length tv.items = omega (
+      arith,
+      c.fill_all-3.auto.slots,
+      ap (λ (xs : List TellerSlot). length xs) c.deref_mut-3.ensures.value,
+    ) in
+    let a_len : length c.fill_all-4.new.slots
+    ≡ length av.items = omega (
+      arith,
+      c.fill_all-4.auto.slots,
+      ap (λ (xs : List AccountSlot). length xs) c.deref_mut-4.ensures.value,
+    ) in
+    let k_len : length c.fill_all-5.new.slots
+    ≡ length kv.items = omega (
+      arith,
+      c.fill_all-5.auto.slots,
+      ap (λ (xs : List RequestSlot). length xs) c.deref_mut-5.ensures.value,
+    ) in
+    let bs = items-with_items bv c.fill_all.new.slots b_len in
+    let s1 = count_in {g = g.S.Store} o _ c.in_ok-overlay.ensures.says in
     let s2 = branches_in s1 c.deref_mut.ensures.value c.in_ok-fill_all.ensures.says in
-    let s3 = tellers_in s2
-    (c.deref.ensures.value ∙ bs) c.deref_mut-2.ensures.value c.in_ok-fill_all-2.ensures.says in
-    let s4 = accounts_in s3
-    (c.deref-2.ensures.value ∙ bs) c.deref_mut-3.ensures.value c.in_ok-fill_all-3.ensures.says in
-    let s5 = kept_in s4 c.deref_mut-4.ensures.value c.in_ok-fill_all-4.ensures.says in
-    let held = same_now o c.in_ok-batch.field-0
+    let s3 = floors_in s2 c.deref_mut-2.ensures.value c.in_ok-fill_all-2.ensures.says in
+    let s4 = tellers_in s3
+    (c.deref.ensures ∙ bs) c.deref_mut-3.ensures.value c.in_ok-fill_all-3.ensures.says in
+    let s5 = accounts_in s4
+    (c.deref-2.ensures ∙ bs) c.deref_mut-4.ensures.value c.in_ok-fill_all-4.ensures.says in
+    let s6 = kept_in s5 c.deref_mut-5.ensures.value c.in_ok-fill_all-5.ensures.says in
+    let held = same_now o c.in_ok-overlay.field-0
     (with_items bv c.fill_all.new.slots).items c.fill_all.new.slots
-    (with_items tv c.fill_all-2.new.slots).items c.fill_all-2.new.slots
-    (with_items av c.fill_all-3.new.slots).items c.fill_all-3.new.slots
-    (with_items kv c.fill_all-4.new.slots).items c.fill_all-4.new.slots
-    bs (with_items_is tv c.fill_all-2.new.slots t_len) (with_items_is av c.fill_all-3.new.slots a_len)
-    (with_items_is kv c.fill_all-4.new.slots k_len) in
-    reads_so s5 (λ t so. (so, λ e. held ∙ e))
+    (with_items fv c.fill_all-2.new.slots).items c.fill_all-2.new.slots
+    (with_items tv c.fill_all-3.new.slots).items c.fill_all-3.new.slots
+    (with_items av c.fill_all-4.new.slots).items c.fill_all-4.new.slots
+    (with_items kv c.fill_all-5.new.slots).items c.fill_all-5.new.slots
+    bs (items-with_items fv c.fill_all-2.new.slots f_len) (items-with_items tv c.fill_all-3.new.slots t_len)
+    (items-with_items av c.fill_all-4.new.slots a_len)
+    (items-with_items kv c.fill_all-5.new.slots k_len) in
+    reads_so s6 (λ t so. (so, λ e. held ∙ e))
 
 -- ---- of whatever rows a file holds
 
 pub returns-clause-same : goal.returns-clause-same
 returns-clause-same g c =
-    let o = view c.args.batch.now.overlay in
-    let bv = c.args.batch.now.overlay.branches in
-    let tv = c.args.batch.now.overlay.tellers in
-    let av = c.args.batch.now.overlay.accounts in
-    let kv = c.args.batch.now.overlay.kept in
+    let o = view c.args.overlay.now in
+    let bv = c.args.overlay.now.branches in
+    let fv = c.args.overlay.now.floors in
+    let tv = c.args.overlay.now.tellers in
+    let av = c.args.overlay.now.accounts in
+    let kv = c.args.overlay.now.kept in
     let b_len : length c.fill_all.new.slots
-    ≡ bv.len = omega (arith, c.fill_all.auto.slots, c.deref_mut.ensures.len) in
-    let t_len : length c.fill_all-2.new.slots
-    ≡ tv.len = omega (arith, c.fill_all-2.auto.slots, c.deref_mut-2.ensures.len) in
-    let a_len : length c.fill_all-3.new.slots
-    ≡ av.len = omega (arith, c.fill_all-3.auto.slots, c.deref_mut-3.ensures.len) in
-    let k_len : length c.fill_all-4.new.slots
-    ≡ kv.len = omega (arith, c.fill_all-4.auto.slots, c.deref_mut-4.ensures.len) in
-    emptied_same o c.in_ok-batch.field-0
-    (with_items bv c.fill_all.new.slots).items (with_items tv c.fill_all-2.new.slots).items
-    (with_items av c.fill_all-3.new.slots).items (with_items kv c.fill_all-4.new.slots).items
-    (ap (map emptied_branch) (with_items_is bv c.fill_all.new.slots b_len)
+    ≡ length bv.items = omega (
+      arith,
+      c.fill_all.auto.slots,
+      ap (λ (xs : List BranchSlot). length xs) c.deref_mut.ensures.value,
+    ) in
+    let f_len : length c.fill_all-2.new.slots
+    ≡ length fv.items = omega (
+      arith,
+      c.fill_all-2.auto.slots,
+      ap (λ (xs : List FloorSlot). length xs) c.deref_mut-2.ensures.value,
+    ) in
+    let t_len : length c.fill_all-3.new.slots
+    ≡ length tv.items = omega (
+      arith,
+      c.fill_all-3.auto.slots,
+      ap (λ (xs : List TellerSlot). length xs) c.deref_mut-3.ensures.value,
+    ) in
+    let a_len : length c.fill_all-4.new.slots
+    ≡ length av.items = omega (
+      arith,
+      c.fill_all-4.auto.slots,
+      ap (λ (xs : List AccountSlot). length xs) c.deref_mut-4.ensures.value,
+    ) in
+    let k_len : length c.fill_all-5.new.slots
+    ≡ length kv.items = omega (
+      arith,
+      c.fill_all-5.auto.slots,
+      ap (λ (xs : List RequestSlot). length xs) c.deref_mut-5.ensures.value,
+    ) in
+    emptied_same o c.in_ok-overlay.field-0
+    (with_items bv c.fill_all.new.slots).items (with_items fv c.fill_all-2.new.slots).items
+    (with_items tv c.fill_all-3.new.slots).items
+    (with_items av c.fill_all-4.new.slots).items (with_items kv c.fill_all-5.new.slots).items
+    (ap (map emptied_branch) (items-with_items bv c.fill_all.new.slots b_len)
     ∙ c.in_ok-fill_all.ensures.same ∙ ap (map emptied_branch) c.deref_mut.ensures.value)
-    (ap (map emptied_teller) (with_items_is tv c.fill_all-2.new.slots t_len)
-    ∙ c.in_ok-fill_all-2.ensures.same ∙ ap (map emptied_teller) c.deref_mut-2.ensures.value)
-    (ap (map emptied_account) (with_items_is av c.fill_all-3.new.slots a_len)
-    ∙ c.in_ok-fill_all-3.ensures.same ∙ ap (map emptied_account) c.deref_mut-3.ensures.value)
-    (ap (map emptied_request) (with_items_is kv c.fill_all-4.new.slots k_len)
-    ∙ c.in_ok-fill_all-4.ensures.same ∙ ap (map emptied_request) c.deref_mut-4.ensures.value)
+    (ap (map emptied_floor) (items-with_items fv c.fill_all-2.new.slots f_len)
+    ∙ c.in_ok-fill_all-2.ensures.same ∙ ap (map emptied_floor) c.deref_mut-2.ensures.value)
+    (ap (map emptied_teller) (items-with_items tv c.fill_all-3.new.slots t_len)
+    ∙ c.in_ok-fill_all-3.ensures.same ∙ ap (map emptied_teller) c.deref_mut-3.ensures.value)
+    (ap (map emptied_account) (items-with_items av c.fill_all-4.new.slots a_len)
+    ∙ c.in_ok-fill_all-4.ensures.same ∙ ap (map emptied_account) c.deref_mut-4.ensures.value)
+    (ap (map emptied_request) (items-with_items kv c.fill_all-5.new.slots k_len)
+    ∙ c.in_ok-fill_all-5.ensures.same ∙ ap (map emptied_request) c.deref_mut-5.ensures.value)
 
 pub returns-clause-stored : goal.returns-clause-stored
 returns-clause-stored g c clean homes rows has =
-    let o = view c.args.batch.now.overlay in
-    let bv = c.args.batch.now.overlay.branches in
-    let tv = c.args.batch.now.overlay.tellers in
-    let av = c.args.batch.now.overlay.accounts in
-    let kv = c.args.batch.now.overlay.kept in
+    let o = view c.args.overlay.now in
+    let bv = c.args.overlay.now.branches in
+    let fv = c.args.overlay.now.floors in
+    let tv = c.args.overlay.now.tellers in
+    let av = c.args.overlay.now.accounts in
+    let kv = c.args.overlay.now.kept in
     let b_len : length c.fill_all.new.slots
-    ≡ bv.len = omega (arith, c.fill_all.auto.slots, c.deref_mut.ensures.len) in
-    let t_len : length c.fill_all-2.new.slots
-    ≡ tv.len = omega (arith, c.fill_all-2.auto.slots, c.deref_mut-2.ensures.len) in
-    let a_len : length c.fill_all-3.new.slots
-    ≡ av.len = omega (arith, c.fill_all-3.auto.slots, c.deref_mut-3.ensures.len) in
-    let k_len : length c.fill_all-4.new.slots
-    ≡ kv.len = omega (arith, c.fill_all-4.auto.slots, c.deref_mut-4.ensures.len) in
-    let zero = c.in_ok-batch.ensures in
+    ≡ length bv.items = omega (
+      arith,
+      c.fill_all.auto.slots,
+      ap (λ (xs : List BranchSlot). length xs) c.deref_mut.ensures.value,
+    ) in
+    let f_len : length c.fill_all-2.new.slots
+    ≡ length fv.items = omega (
+      arith,
+      c.fill_all-2.auto.slots,
+      ap (λ (xs : List FloorSlot). length xs) c.deref_mut-2.ensures.value,
+    ) in
+    let t_len : length c.fill_all-3.new.slots
+    ≡ length tv.items = omega (
+      arith,
+      c.fill_all-3.auto.slots,
+      ap (λ (xs : List TellerSlot). length xs) c.deref_mut-3.ensures.value,
+    ) in
+    let a_len : length c.fill_all-4.new.slots
+    ≡ length av.items = omega (
+      arith,
+      c.fill_all-4.auto.slots,
+      ap (λ (xs : List AccountSlot). length xs) c.deref_mut-4.ensures.value,
+    ) in
+    let k_len : length c.fill_all-5.new.slots
+    ≡ length kv.items = omega (
+      arith,
+      c.fill_all-5.auto.slots,
+      ap (λ (xs : List RequestSlot). length xs) c.deref_mut-5.ensures.value,
+    ) in
+    let zero = c.in_ok-overlay.ensures in
     let one = c.in_ok-fill_all.ensures in
     let two = c.in_ok-fill_all-2.ensures in
     let three = c.in_ok-fill_all-3.ensures in
     let four = c.in_ok-fill_all-4.ensures in
+    let five = c.in_ok-fill_all-5.ensures in
+    let clean4 : HasCleanDisk (state g.S.Store c.fill_all-4.new.tx.conn.now) =
+    omega (arith, five.says.says.survives.clean, clean) in
     let clean3 : HasCleanDisk (state g.S.Store c.fill_all-3.new.tx.conn.now) =
-    omega (arith, four.says.says.survives.clean, clean) in
+    omega (arith, four.says.says.survives.clean, clean4) in
     let clean2 : HasCleanDisk (state g.S.Store c.fill_all-2.new.tx.conn.now) =
     omega (arith, three.says.says.survives.clean, clean3) in
     let clean1 : HasCleanDisk (state g.S.Store c.fill_all.new.tx.conn.now) =
@@ -155,23 +246,27 @@ returns-clause-stored g c clean homes rows has =
     let has1 = subst (λ (db : Database). HoldsBank db rows) (sym (one.says.says.kept clean1).0.now) has0 in
     let has2 = subst (λ (db : Database). HoldsBank db rows) (sym (two.says.says.kept clean2).0.now) has1 in
     let has3 = subst (λ (db : Database). HoldsBank db rows) (sym (three.says.says.kept clean3).0.now) has2 in
-    let bs = with_items_is bv c.fill_all.new.slots b_len in
+    let has4 = subst (λ (db : Database). HoldsBank db rows) (sym (four.says.says.kept clean4).0.now) has3 in
+    let bs = items-with_items bv c.fill_all.new.slots b_len in
     let branches = one.stored clean1 rows has0 (nothing_asked _) in
     let same = one.same ∙ ap (map emptied_branch) c.deref_mut.ensures.value in
     record {
       branches = subst (λ (slots : List BranchSlot). AllByRecursion (BranchHeld rows) slots) (sym bs) branches;
+      floors = subst (λ (slots : List FloorSlot). AllByRecursion (FloorHeld rows) slots)
+          (sym (items-with_items fv c.fill_all-2.new.slots f_len))
+          (two.stored clean2 rows has1 (nothing_asked _));
       tellers = subst (λ (slots : List TellerSlot). AllByRecursion (TellerHeld rows) slots)
-          (sym (with_items_is tv c.fill_all-2.new.slots t_len))
-          (two.stored clean2 rows has1
-          (know_all (λ s. branch_of_teller s.teller) rows o.branches _ c.fill_all.new.slots o.tellers _
-          (c.deref.ensures.value ∙ bs) c.deref_mut-2.ensures.value same branches homes.tellers));
-      accounts = subst (λ (slots : List AccountSlot). AllByRecursion (AccountHeld rows) slots)
-          (sym (with_items_is av c.fill_all-3.new.slots a_len))
+          (sym (items-with_items tv c.fill_all-3.new.slots t_len))
           (three.stored clean3 rows has2
+          (know_all (λ s. branch_of_teller s.teller) rows o.branches _ c.fill_all.new.slots o.tellers _
+          (c.deref.ensures ∙ bs) c.deref_mut-3.ensures.value same branches homes.tellers));
+      accounts = subst (λ (slots : List AccountSlot). AllByRecursion (AccountHeld rows) slots)
+          (sym (items-with_items av c.fill_all-4.new.slots a_len))
+          (four.stored clean4 rows has3
           (know_all (λ s. branch_of_account s.account) rows o.branches _ c.fill_all.new.slots o.accounts _
-          (c.deref-2.ensures.value ∙ bs) c.deref_mut-3.ensures.value same branches homes.accounts));
+          (c.deref-2.ensures ∙ bs) c.deref_mut-4.ensures.value same branches homes.accounts));
       kept = subst (λ (slots : List RequestSlot). AllByRecursion (RequestHeld rows) slots)
-          (sym (with_items_is kv c.fill_all-4.new.slots k_len))
-          (four.stored clean rows has3 (nothing_asked _));
+          (sym (items-with_items kv c.fill_all-5.new.slots k_len))
+          (five.stored clean rows has4 (nothing_asked _));
       decided = zero.stored clean0 rows has;
     }

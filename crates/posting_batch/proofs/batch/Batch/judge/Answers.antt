@@ -19,22 +19,13 @@ use Rattle.posting_batch.proofs.InOrder.{all_tables, all_replies, all_rising, ju
 use Rattle.posting_batch.proofs.NewRows.{all_changes, all_adds}
 use Rattle.posting_batch.proofs.batch.Batch.judge.Goals as goal
 
-pub returns-clause-tables : goal.returns-clause-tables
-returns-clause-tables c t records is =
+pub returns-clause-judged : goal.returns-clause-judged
+returns-clause-judged c t records is =
     let m = c.args.moment in
     let reads : List (Result RequestFields Bad) = map request_of records in
     let old = filled t (covering_all no_slots reads) in
     let it = stands t reads in
     let after = judged m c.judge_records.ensures.overlay (c.deref.ensures.value ∙ is.reads) is.overlay in
-    ap (λ (o : Overlay). tables_over o t) after ∙ all_tables old t m records it.fits it.covers ∙ ap
-    (λ (u : Tables). tables_past_all u m records) it.same
-
-pub returns-clause-replies : goal.returns-clause-replies
-returns-clause-replies c t records is =
-    let m = c.args.moment in
-    let reads : List (Result RequestFields Bad) = map request_of records in
-    let old = filled t (covering_all no_slots reads) in
-    let it = stands t reads in
     let told : c.judge_records.new.replies.items ≡ replies_past_all t m records =
     c.judge_records.ensures.replies
     ∙ ap (λ (items : List (List ℕ)). items
@@ -44,27 +35,14 @@ returns-clause-replies c t records is =
     ∙ ap (λ (o : Overlay). map reply_spelling (replies_over o m reads)) is.overlay
     ∙ all_replies old t m records it.fits it.covers ∙ ap
     (λ (u : Tables). replies_past_all u m records) it.same in
-    told
-
-pub returns-clause-answers : goal.returns-clause-answers
-returns-clause-answers c t records is log shows =
-    returns-clause-replies c t records is ∙ past.all_replies t log c.args.moment records shows
-
-pub returns-clause-shows : goal.returns-clause-shows
-returns-clause-shows c t records is log shows =
-    subst (λ (u : Tables). AreTablesOf u (behind log (posts c.args.moment records)))
-    (sym (returns-clause-tables c t records is))
-    (all_past t log c.args.moment records shows)
-
-pub returns-clause-changes : goal.returns-clause-changes
-returns-clause-changes c t records is =
-    let m = c.args.moment in
-    let reads : List (Result RequestFields Bad) = map request_of records in
-    let old = filled t (covering_all no_slots reads) in
-    let it = stands t reads in
-    let after = judged m c.judge_records.ensures.overlay (c.deref.ensures.value ∙ is.reads) is.overlay in
-    subst (λ (o : Overlay). ChangesRows o t) (sym after)
-    (all_changes old t m reads it.fits it.unchanged it.covers)
+    record {
+      tables =
+          ap (λ (o : Overlay). tables_over o t) after ∙ all_tables old t m records it.fits it.covers
+          ∙ ap (λ (u : Tables). tables_past_all u m records) it.same;
+      answers = told;
+      changes = subst (λ (o : Overlay). ChangesRows o t) (sym after)
+          (all_changes old t m reads it.fits it.unchanged it.covers);
+    }
 
 pub returns-clause-rising : goal.returns-clause-rising
 returns-clause-rising c rising =
@@ -80,16 +58,22 @@ returns-clause-count c =
     ++ map reply_spelling (replies_over old c.args.moment reads))) c.args.self.fresh
     ∙ all_answered old c.args.moment reads ∙ ap length c.deref.ensures.value
 
-pub returns-clause-adds : goal.returns-clause-adds
-returns-clause-adds c t records is log shows =
+pub returns-clause-shown : goal.returns-clause-shown
+returns-clause-shown c t records is log shows =
     let m = c.args.moment in
     let reads : List (Result RequestFields Bad) = map request_of records in
     let old = filled t (covering_all no_slots reads) in
     let it = stands t reads in
     let after = judged m c.judge_records.ensures.overlay (c.deref.ensures.value ∙ is.reads) is.overlay in
-    subst (λ (o : Overlay). AddsFreeRows o t) (sym after)
-    (all_adds old t log m records it.fits it.unchanged it.covers
-    (subst (λ (u : Tables). AreTablesOf u log) (sym it.same) shows))
+    let so = returns-clause-judged c t records is in
+    record {
+      shows = subst (λ (u : Tables). AreTablesOf u (behind log (posts m records))) (sym so.tables)
+          (all_past t log m records shows);
+      answers = so.answers ∙ past.all_replies t log m records shows;
+      adds = subst (λ (o : Overlay). AddsFreeRows o t) (sym after)
+          (all_adds old t log m records it.fits it.unchanged it.covers
+          (subst (λ (u : Tables). AreTablesOf u log) (sym it.same) shows));
+    }
 
 pub returns-clause-counts : goal.returns-clause-counts
 returns-clause-counts c =

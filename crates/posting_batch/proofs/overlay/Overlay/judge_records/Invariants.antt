@@ -1,5 +1,6 @@
 use Rattle.std.proofs.Common.{◌≡◌, ◌≤◌, ◌+◌, ◌-◌, ◌++◌, map, drop, length, vec_len}
 use Rattle.std.specs.Vec.{vec_capacity}
+use Rattle.smallvec.specs.SmallVec.{HasRoomFor}
 use Rattle.message_records.specs.Spelling.{reply_spelling}
 use Rattle.posting_batch.specs.Judging.{overlay_with_all, replies_over}
 use Rattle.posting_batch.specs.View.{view}
@@ -14,6 +15,6 @@ invariant-loop-read l = record {
       (replies_over (view l.self) l.moment (drop l.read-index l.reads))
       ≡ l.fn.replies.items ++ map reply_spelling (replies_over (view l.fn.self) l.moment l.reads);
   replies_room : vec_len l.replies + (length l.reads - l.read-index) ≤ vec_capacity l.replies;
-  requests_room : vec_len l.self.requests + (length l.reads - l.read-index) ≤ vec_capacity l.self.requests;
-  history_room : vec_len l.self.history + (length l.reads - l.read-index) ≤ vec_capacity l.self.history;
+  requests_room : HasRoomFor l.self.requests (length l.reads - l.read-index);
+  history_room : HasRoomFor l.self.history (length l.reads - l.read-index);
 }

@@ -1,0 +1,52 @@
+-- A single request, judged in the slots that are placed for it and filled from tables.
+use Rattle.std.proofs.Common.{◌≡◌, ◌∙◌, ℕ, List, [], ◌∷◌, Result, Ok, ap, sym, subst}
+use Rattle.message_records.specs.declared.fault.Bad.{Bad}
+use Rattle.message_records.specs.Records.{RequestFields}
+use Rattle.message_records.specs.Spelling.{reply_spelling}
+use Rattle.posting_rules.specs.Changes.{tables_read, tables_with, reply_bytes, reply_read}
+use Rattle.posting_rules.specs.Tables.{Tables}
+use Rattle.posting_rules.proofs.Ready.{AreReady}
+use Rattle.posting_batch.specs.Batch.{AddsFreeRows, ChangesRows, HasHomes, HasRisingSlots, covering, filled, no_slots}
+use Rattle.posting_batch.specs.Judging.{overlay_with, reply_over}
+use Rattle.posting_batch.specs.Overlay.{Overlay, tables_over}
+use Rattle.posting_batch.proofs.Covered.{Stands, homes_all, stands}
+use Rattle.posting_batch.proofs.Idle.{all_idle}
+use Rattle.posting_batch.proofs.InOrder.{all_rising, reply_is}
+use Rattle.posting_batch.proofs.NewRows.{adds_none, adds_with, all_changes}
+use Rattle.posting_batch.proofs.StillFits.{with_is}
+
+pub one_homes : (r : RequestFields) → HasHomes (covering no_slots (Ok r))
+one_homes r = homes_all (Ok r ∷ [])
+
+module _ (t : Tables) (m : ℕ) (r : RequestFields) where
+  abbrev pub one_filled : Overlay
+  one_filled = filled t (covering no_slots (Ok r))
+
+  abbrev pub one_judged : Overlay
+  one_judged = overlay_with one_filled m (Ok r)
+
+  pub one_stands : Stands one_filled t (Ok r ∷ [])
+  one_stands = stands t (Ok r ∷ [])
+
+  pub one_tables : tables_over one_judged t ≡ tables_with t m r
+  one_tables = with_is one_filled t m (Ok r) one_stands.fits one_stands.covers.0
+      ∙ ap (λ (u : Tables). tables_read u m (Ok r)) one_stands.same
+
+  pub one_reply : reply_spelling (reply_over one_filled (Ok r)) ≡ reply_bytes t r
+  one_reply = reply_is one_filled t (Ok r) one_stands.fits one_stands.covers.0
+      ∙ ap (λ (u : Tables). reply_read u (Ok r)) one_stands.same
+
+  pub one_rising : HasRisingSlots one_judged
+  one_rising = all_rising one_filled m (Ok r ∷ []) one_stands.rising
+
+  pub one_changes : ChangesRows one_judged t
+  one_changes = all_changes one_filled t m (Ok r ∷ []) one_stands.fits one_stands.unchanged one_stands.covers
+
+  pub one_adds : AreReady t → AddsFreeRows one_judged t
+  one_adds ready = adds_with one_filled t m (Ok r) (subst AreReady (sym one_stands.same) ready)
+      (adds_none one_filled t one_stands.unchanged)
+
+  -- where it isn't decided, the tables are as they were
+  pub one_back : one_judged.decided ≡ one_filled.decided → tables_with t m r ≡ t
+  one_back none = sym one_tables
+      ∙ ap (λ (o : Overlay). tables_over o t) (all_idle one_filled m (Ok r ∷ []) none) ∙ one_stands.same
