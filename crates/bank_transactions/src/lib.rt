@@ -32,7 +32,12 @@
 //!         Number::new(1).unwrap(),
 //!         Cents::new(500).unwrap(),
 //!     );
-//!     post(alloc, conn, Moment::new(1_795_442_400).unwrap(), &request.unwrap())
+//!     post(
+//!         alloc,
+//!         conn,
+//!         Moment::new(1_795_442_400).unwrap(),
+//!         &request.unwrap(),
+//!     )
 //! }
 //! ```
 //!
