@@ -1,7 +1,7 @@
 #!/usr/bin/env python3
 """Runs the merge gate, all of it from nothing, and says where its time went, crate by crate, as the table of docs/TIMES.md.
 
-    tools/gate_times.py LOG      what the gate prints goes to the file LOG
+    tools/gate_times.py LOG [--anew]      what the gate prints goes to the file LOG; --anew for a kit whose gate keeps proofs
 
 Each check of the gate is a process of its own. Once a second this reads from /proc how much processor time each has taken
 so far, and adds it up by crate: its proof, its tests and its must-fail edits.
@@ -69,7 +69,7 @@ def main():
     log = sys.argv[1]
     spent, peak, began = {}, 0, time.monotonic()
     with open(log, "w") as out:
-        gate = subprocess.Popen(["rt", "ci", "--anew"], stdin=subprocess.DEVNULL, stdout=out, stderr=subprocess.STDOUT)
+        gate = subprocess.Popen(["rt", "ci", *sys.argv[2:]], stdin=subprocess.DEVNULL, stdout=out, stderr=subprocess.STDOUT)
         while gate.poll() is None:
             peak = max(peak, sample(spent))
             time.sleep(1)
