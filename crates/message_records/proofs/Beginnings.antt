@@ -1,12 +1,12 @@
 -- No spelling begins another: all are equally long, and each is read as one value.
-use Rattle.std.proofs.Common.{◌≡◌, ℕ, List, [], ◌∷◌, ◌++◌, length, Result, Ok, refl, sym, ap, ◌∙◌, append-nil}
+use Rattle.std.proofs.Common.{◌≡◌, ℕ, ◌-◌, List, [], ◌∷◌, ◌++◌, length, replicate, Option, Some, None, Result, Ok, refl, sym, ap, ◌∙◌, append-nil}
 use Rattle.std.proofs.Common.{arith}
-use Rattle.std.specs.Prelude.{pos, unwrap_or}
-use Rattle.std.proofs.lemmas.List.{length-append}
+use Rattle.std.specs.Prelude.{pos, IfSome, unwrap_or}
+use Rattle.std.proofs.lemmas.List.{length-append, length-replicate}
 use Rattle.message_records.specs.declared.limits.TheConstants.{REPLY_BYTES, REQUEST_BYTES}
 use Rattle.message_records.specs.Outcomes.{code_of}
-use Rattle.message_records.specs.Records.{RequestFields, IsRequest, ReplyFields, IsReply}
-use Rattle.message_records.specs.Spelling.{no_fields, request_spelling, reply_spelling}
+use Rattle.message_records.specs.Records.{RequestFields, IsRequest, IsReference, ReplyFields, IsReply}
+use Rattle.message_records.specs.Spelling.{no_fields, filled, tag_of, reference_text, request_spelling, reply_spelling}
 use Rattle.message_records.specs.Reading.{request_of, reply_of}
 use Rattle.message_records.proofs.Digits.{length-digits}
 use Rattle.message_records.proofs.Amounts.{length-signed}
@@ -34,10 +34,27 @@ one_value read x y xs ys rest ex ey same e =
     let both : Ok x ≡ Ok y = sym ex ∙ ap read one ∙ ey in
     (cc, none)
 
+length-tag : (q : Option (List ℕ)) → length (tag_of q) ≡ 4
+length-tag None = refl
+length-tag (Some text) = refl
+
+length-behind : (q : Option (List ℕ)) → IfSome q IsReference → length (filled 49 (reference_text q)) ≡ 49
+length-behind None is = refl
+length-behind (Some text) is =
+    let spaces = length-replicate {A = ℕ} (49 - length text) 32 in
+    omega (arith, is.0, length-append text (replicate (49 - length text) 32), spaces)
+
 -- every request has so many bytes
-pub length-request : (r : RequestFields) → length (request_spelling r) ≡ REQUEST_BYTES
+pub length-request : (r : RequestFields) → IsRequest r → length (request_spelling r) ≡ REQUEST_BYTES
 unfolding request_spelling
-length-request r = omega (arith, length-append {A = ℕ}, length-fields r)
+length-request r h =
+    omega (
+      arith,
+      length-append {A = ℕ},
+      length-tag r.reference,
+      length-fields r,
+      length-behind r.reference h.reference,
+    )
 
 -- every reply has so many bytes
 pub length-reply : (r : ReplyFields) → length (reply_spelling r) ≡ REPLY_BYTES
@@ -59,7 +76,7 @@ pub no_request_begins : (r s : RequestFields) (rest : List ℕ) → IsRequest r 
 no_request_begins r s rest hr hs e =
     one_value request_of r s (request_spelling r) (request_spelling s) rest
     (request_again r (request_spelling r) hr refl) (request_again s (request_spelling s) hs refl)
-    (length-request r ∙ sym (length-request s)) e
+    (length-request r hr ∙ sym (length-request s hs)) e
 
 -- no spelling of a reply begins another
 pub no_reply_begins : (r s : ReplyFields) (rest : List ℕ) → IsReply r → IsReply s

@@ -2,6 +2,7 @@
 use Rattle.std.proofs.Common.{◌≡◌, ℕ, zero, suc, ◌+◌, ◌-◌, ◌≤◌, List, [], ◌∷◌, ◌++◌, length, replicate, refl}
 use Rattle.std.proofs.Common.{sym, ap, ◌∙◌, append_assoc, zero-add, lit≤, arith}
 use Rattle.std.specs.Prelude.{ℤ, pos, codes, unwrap_or}
+use Rattle.std.proofs.lemmas.List.{length-append}
 use Rattle.message_records.specs.declared.records.Outcome.{Outcome}
 use Rattle.message_records.specs.declared.limits.TheConstants.{REPLY_BYTES, REQUEST_BYTES}
 use Rattle.message_records.specs.declared.records.Outcome.TheVariants.{Posted, NoTeller, WrongBranch}
@@ -10,7 +11,7 @@ use Rattle.message_records.specs.declared.records.Outcome.TheVariants.{ReusedNum
 use Rattle.message_records.specs.Outcomes.{code_of, name_of}
 use Rattle.message_records.specs.Records.{RequestFields, ReplyFields}
 use Rattle.message_records.specs.Spelling.{digits, signed, fields_spelling, no_fields, filled}
-use Rattle.message_records.specs.Spelling.{request_spelling, reply_spelling}
+use Rattle.message_records.specs.Spelling.{tag_of, reference_text, request_spelling, reply_spelling}
 
 -- ---- the five fields
 
@@ -31,16 +32,20 @@ no_fields_spelled = refl
 
 -- ---- the request
 
--- tag and fields, filled with spaces, are the request
-pub request_put : (r : RequestFields) (d0 d1 d2 out : List ℕ) → d0 ≡ [] → d1 ≡ d0 ++ codes "DC01"
+-- tag, fields and reference, filled with spaces, are the request
+pub request_put : (r : RequestFields) (tag d0 d1 d2 d3 out : List ℕ) → tag ≡ tag_of r.reference → d0 ≡ []
+    → d1 ≡ d0 ++ tag
     → d2 ≡ d1 ++ fields_spelling r
-    → length d2 ≡ 51 → out ≡ d2 ++ replicate (REQUEST_BYTES - length d2) 32 → out ≡ request_spelling r
+    → d3 ≡ d2 ++ reference_text r.reference
+    → length d2 ≡ 51 → out ≡ d3 ++ replicate (REQUEST_BYTES - length d3) 32 → out ≡ request_spelling r
 unfolding request_spelling
-request_put r d0 d1 d2 out e0 e1 e2 len e =
-    let front : d2 ≡ codes "DC01" ++ fields_spelling r = rw (e2, e1, e0) refl in
-    e ∙ ap (λ (k : ℕ). d2 ++ replicate (REQUEST_BYTES - k) 32) len
-    ∙ ap (λ (t : List ℕ). t ++ replicate 49 32) front
-    ∙ append_assoc (codes "DC01") (fields_spelling r) (replicate 49 32)
+request_put r tag d0 d1 d2 d3 out t e0 e1 e2 e3 len e =
+    let text = reference_text r.reference in
+    let fields = fields_spelling r in
+    let front : d3 ≡ (tag_of r.reference ++ fields) ++ text = rw (e3, e2, e1, e0, t) refl in
+    let size : length d3 ≡ length d2 + length text = rw e3 (length-append d2 text) in
+    let left : 100 - length d3 ≡ 49 - length text = omega arith in
+    rw (e, left, front) (simp append_assoc)
 
 -- ---- the reply
 

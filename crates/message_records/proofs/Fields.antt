@@ -9,7 +9,7 @@ use Rattle.message_records.specs.declared.limits.TheConstants.{MAX_ACCOUNT, MAX_
 use Rattle.message_records.specs.declared.limits.TheConstants.{MAX_NUMBER}
 use Rattle.message_records.specs.declared.fault.Bad.TheVariants as bad
 use Rattle.message_records.specs.Ranges.{whole_within}
-use Rattle.message_records.specs.Records.{RequestFields, IsRequest}
+use Rattle.message_records.specs.Records.{RequestFields, IsRequest, IsShownRequest, unreferenced}
 use Rattle.message_records.specs.Spelling.{digits, signed, fields_spelling}
 use Rattle.message_records.specs.Reading.{number_of, signed_of, number_at, fields_of}
 use Rattle.message_records.proofs.Digits.{length-digits, chosen, number_of-digits, number_takes}
@@ -65,9 +65,9 @@ length-fields r =
     let delta = length-signed 10 r.delta in
     omega (arith, length-append {A = ℕ})
 
--- what is spelled is read
+-- what is spelled is read, without a reference
 pub fields_again : (r : RequestFields) (bytes : List ℕ) → IsRequest r → bytes ≡ fields_spelling r
-    → fields_of bytes ≡ Ok r
+    → fields_of bytes ≡ Ok (unreferenced r)
 unfolding fields_spelling fields_of
 fields_again r bytes h e =
     let from_number = digits 10 r.number ++ signed 10 r.delta in
@@ -92,9 +92,9 @@ fields_again r bytes h e =
       signed_again 10 r.delta (take 11 (drop 36 bytes)) delta (omega (arith, h.delta)),
     ) refl
 
--- what is read is spelled so, and in range
+-- what is read is spelled so, in range and without a reference
 pub fields_take : (r : RequestFields) (bytes : List ℕ) → length bytes ≡ 47 → fields_of bytes ≡ Ok r
-    → (bytes ≡ fields_spelling r) × IsRequest r
+    → (bytes ≡ fields_spelling r) × IsShownRequest r
 unfolding fields_spelling fields_of
 fields_take r bytes len e =
     let account = step_takes (number_at MAX_ACCOUNT bad.Account (take 12 (drop 0 bytes))) _ r e in
@@ -118,6 +118,7 @@ fields_take r bytes len e =
       branch = branch.0;
       number = number.0;
       delta = delta.0;
+      reference = None;
     } ≡ r =
     let h = delta.2 in cc in
     let from_delta : drop 36 bytes ≡ signed 10 delta.0 = last_joined 36 11 bytes
@@ -126,17 +127,21 @@ fields_take r bytes len e =
     let from_branch = field_joined 20 6 bytes (digits 6 branch.0) _ b.0 from_number in
     let from_teller = field_joined 12 8 bytes (digits 8 teller.0) _ t.0 from_branch in
     let from_account = field_joined 0 12 bytes (digits 12 account.0) _ a.0 from_teller in
-    subst (λ (y : RequestFields). (bytes ≡ fields_spelling y) × IsRequest y) r-is (
+    subst (λ (y : RequestFields). (bytes ≡ fields_spelling y) × IsShownRequest y) r-is (
       from_account,
-      record {
-        account_above = a.1;
-        account = a.2;
-        teller_above = t.1;
-        teller = t.2;
-        branch_above = b.1;
-        branch = b.2;
-        number_above = n.1;
-        number = n.2;
-        delta = omega (arith, d.1);
-      },
+      (
+        record {
+          account_above = a.1;
+          account = a.2;
+          teller_above = t.1;
+          teller = t.2;
+          branch_above = b.1;
+          branch = b.2;
+          number_above = n.1;
+          number = n.2;
+          delta = omega (arith, d.1);
+          reference = tt;
+        },
+        refl,
+      ),
     )

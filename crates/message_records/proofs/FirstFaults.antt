@@ -1,17 +1,22 @@
 -- Reading a reply field by field: its first fault, or its parts. The tests are as the code makes them.
-use Rattle.std.proofs.Common.{◌≡◌, ℕ, true, false, not, List, take, drop, replicate, Option, Result, Ok, Err}
-use Rattle.std.proofs.Common.{refl, sym, ap, ◌∙◌}
-use Rattle.std.specs.Prelude.{ℤ, Bool, codes, is_some, option_and_then}
-use Rattle.std.specs.Option.{ok_or}
+use Rattle.std.proofs.Common.{◌≡◌, ℕ, true, false, not, List, take, drop, replicate, Option, Some, None, Result, Ok, Err}
+use Rattle.std.proofs.Common.{length, refl, sym, ap, ◌∙◌, arith}
+use Rattle.std.specs.Prelude.{ℤ, Bool, codes, is_some, IfSome, option_and_then}
+use Rattle.std.specs.Option.{ok_or, option_map}
 use Rattle.std.specs.Str.{bytes_eq}
 use Rattle.std.proofs.lemmas.Bool.{not-true, not-false}
 use Rattle.message_records.specs.declared.fault.BadReply.{BadReply}
 use Rattle.message_records.specs.declared.fault.BadReply.TheVariants as bad_reply
 use Rattle.message_records.specs.declared.records.Outcome.{Outcome}
 use Rattle.message_records.specs.Outcomes.{name_of, has_request, has_balance}
-use Rattle.message_records.specs.Records.{RequestFields, ReplyFields, reply_from, agree}
+use Rattle.message_records.specs.declared.limits.TheConstants.{REPLY_BYTES}
+use Rattle.message_records.specs.Records.{RequestFields, IsShownRequest, ReplyFields, reply_from, agree}
+use Rattle.message_records.specs.Records.{unreferenced}
 use Rattle.message_records.specs.Spelling.{filled}
 use Rattle.message_records.specs.Reading.{number_of, outcome_with, shown_request_of, balance_of, reply_of}
+use Rattle.message_records.proofs.Pieces.{field_length}
+use Rattle.message_records.proofs.References.{unreferenced_same}
+use Rattle.message_records.proofs.ReadReplies.{shown_takes}
 
 -- the outcome that the bytes name
 abbrev pub outcome_in : List ℕ → Option Outcome
@@ -101,8 +106,14 @@ same_agree : (a b : Bool) → a ≡ b → agree a b ≡ true
 same_agree true b e = sym e
 same_agree false b e = rw (← e) refl
 
+-- what a reply shows has no reference
+shown_same : (q : Option RequestFields) → IfSome q IsShownRequest → option_map unreferenced q ≡ q
+shown_same None h = refl
+shown_same (Some r) h = ap Some (unreferenced_same r h.1)
+
 pub parts_found : (bytes name : List ℕ) (o : Outcome) (q : Option RequestFields) (b : Option ℤ)
     (made : Option ReplyFields)
+    → length bytes ≡ REPLY_BYTES
     → FrontRead bytes o q b
     → name ≡ name_of o
     → true ≡ bytes_eq (take 16 (drop 66 bytes)) (filled 16 name)
@@ -110,11 +121,14 @@ pub parts_found : (bytes name : List ℕ) (o : Outcome) (q : Option RequestField
     → is_some q ≡ has_request o → is_some b ≡ has_balance o → made ≡ reply_from o q b
     → ok_or made bad_reply.Outcome ≡ reply_of bytes
 unfolding reply_of
-parts_found bytes name o q b made front e test filler shows_request shows_balance m =
+parts_found bytes name o q b made len front e test filler shows_request shows_balance m =
     let named : bytes_eq (take 16 (drop 66 bytes)) (filled 16 (name_of o)) ≡ true = rw (← e) (sym test) in
     let filled_up = not-false (bytes_eq (take 118 (drop 82 bytes)) (replicate 118 32)) (sym filler) in
+    let shown = shown_takes o q (take 47 (drop 6 bytes)) (field_length 6 47 bytes (omega arith))
+    (sym front.request) in
     rw (
       m,
+      shown_same q shown.in_range,
       same_agree (is_some q) (has_request o) shows_request,
       same_agree (is_some b) (has_balance o) shows_balance,
       not-false (has_tag bytes) (sym front.tag),

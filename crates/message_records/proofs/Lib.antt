@@ -3,6 +3,7 @@ mod Examples
 pub mod Digits
 pub mod Amounts
 pub mod Pieces
+pub mod References
 pub mod Fields
 pub mod Filled
 pub mod Requests

@@ -14,7 +14,7 @@ use Rattle.message_records.specs.declared.records.Outcome.TheVariants.{Posted, N
 use Rattle.message_records.specs.declared.records.Outcome.TheVariants.{NoAccount, BelowFloor, OverLimit}
 use Rattle.message_records.specs.declared.records.Outcome.TheVariants.{ReusedNumber, Full, Malformed}
 use Rattle.message_records.specs.Outcomes.{code_of, name_of, has_request, has_balance}
-use Rattle.message_records.specs.Records.{RequestFields, IsRequest, ReplyFields, IsReply}
+use Rattle.message_records.specs.Records.{RequestFields, IsShownRequest, ReplyFields, IsReply}
 use Rattle.message_records.specs.Spelling.{digits, signed, fields_spelling, no_fields, filled, reply_spelling}
 use Rattle.message_records.specs.Reading.{◌>>=◌, number_of, signed_of, text_at, fields_of, outcome_with}
 use Rattle.message_records.specs.Reading.{shown_in_reply, no_fields_of, shown_request_of, balance_of}
@@ -59,10 +59,10 @@ outcome_takes o cs len e =
 
 -- ---- what is shown
 
-record IsShown (o : Outcome) (q : Option RequestFields) (bytes : List ℕ) : Type 0 where
-  spelled : bytes ≡ fields_spelling (unwrap_or q no_fields)
-  shows : is_some q ≡ has_request o
-  in_range : IfSome q IsRequest
+pub record IsShown (o : Outcome) (q : Option RequestFields) (bytes : List ℕ) : Type 0 where
+  pub spelled : bytes ≡ fields_spelling (unwrap_or q no_fields)
+  pub shows : is_some q ≡ has_request o
+  pub in_range : IfSome q IsShownRequest
 
 zeros_spelled : fields_spelling no_fields
     ≡ replicate 12 48 ++ (replicate 8 48 ++ (replicate 6 48 ++ (replicate 10 48 ++ (43 ∷ replicate 10 48))))
@@ -100,7 +100,8 @@ request_shown o q bytes has len e =
     subst (λ (y : Option RequestFields). IsShown o y bytes) read.2
     (record { spelled = taken.0; shows = has; in_range = taken.1 })
 
-shown_takes : (o : Outcome) (q : Option RequestFields) (bytes : List ℕ) → length bytes ≡ 47
+-- what is shown is spelled so, and in range
+pub shown_takes : (o : Outcome) (q : Option RequestFields) (bytes : List ℕ) → length bytes ≡ 47
     → shown_request_of o bytes ≡ Ok q → IsShown o q bytes
 shown_takes Malformed q bytes len e =
     let taken = no_fields_take q bytes len e in

@@ -9,13 +9,14 @@ use Rattle.message_records.specs.declared.records.Outcome.TheVariants.{Posted, N
 use Rattle.message_records.specs.declared.records.Outcome.TheVariants.{NoAccount, BelowFloor, OverLimit}
 use Rattle.message_records.specs.declared.records.Outcome.TheVariants.{ReusedNumber, Full, Malformed}
 use Rattle.message_records.specs.Outcomes.{code_of, name_of, has_request, has_balance}
-use Rattle.message_records.specs.Records.{RequestFields, IsRequest, ReplyFields, IsReply}
+use Rattle.message_records.specs.Records.{RequestFields, IsShownRequest, ReplyFields, IsReply}
 use Rattle.message_records.specs.Spelling.{digits, signed, fields_spelling, no_fields, filled, reply_spelling}
 use Rattle.message_records.specs.Reading.{number_of, outcome_with, shown_in_reply, no_fields_of}
 use Rattle.message_records.specs.Reading.{shown_request_of, balance_of, reply_of}
 use Rattle.message_records.proofs.Digits.{length-digits, number_of-digits}
 use Rattle.message_records.proofs.Amounts.{length-signed, signed_again}
 use Rattle.message_records.proofs.Pieces.{field_next, last_field, text_again}
+use Rattle.message_records.proofs.References.{unreferenced_same}
 use Rattle.message_records.proofs.Fields.{length-fields, fields_again}
 
 -- ---- outcomes
@@ -68,12 +69,13 @@ unfolding no_fields_of fields_spelling digits
 no_fields_again = refl
 
 shown_again : (o : Outcome) (q : Option RequestFields) (bytes : List ℕ) → is_some q ≡ has_request o
-    → IfSome q IsRequest
+    → IfSome q IsShownRequest
     → bytes ≡ fields_spelling (unwrap_or q no_fields) → shown_request_of o bytes ≡ Ok q
 shown_again Malformed None bytes s h e = ap no_fields_of e ∙ no_fields_again
 shown_again Malformed (Some r) bytes s h e = absurd cc
 shown_again _ None bytes s h e = absurd cc
-shown_again _ (Some r) bytes s h e = ap shown_in_reply (fields_again r bytes h e)
+shown_again _ (Some r) bytes s h e = ap shown_in_reply
+    (fields_again r bytes h.0 e ∙ ap Ok (unreferenced_same r h.1))
 
 -- the balance of a refused request is zero
 pub zero_balance : signed 12 (pos 0) ≡ 43 ∷ replicate 12 48

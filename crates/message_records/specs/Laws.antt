@@ -2,7 +2,7 @@
 use Rattle.std.specs.Prelude.{◌≡◌, ℕ, List, [], ◌++◌, Ok}
 use Rattle.message_records.specs.Records.{RequestFields, IsRequest, ReplyFields, IsReply}
 use Rattle.message_records.specs.Spelling.{request_spelling, reply_spelling}
-use Rattle.message_records.specs.Reading.{request_of, reply_of}
+use Rattle.message_records.specs.Reading.{plain_request_of, request_of, reply_of}
 
 -- what was written is read again
 abbrev pub RequestIsReadAgain : Type 0
@@ -10,6 +10,10 @@ RequestIsReadAgain = (r : RequestFields) → IsRequest r → request_of (request
 
 abbrev pub ReplyIsReadAgain : Type 0
 ReplyIsReadAgain = (r : ReplyFields) → IsReply r → reply_of (reply_spelling r) ≡ Ok r
+
+-- a request that is read without a reference is read
+abbrev pub PlainIsRequest : Type 0
+PlainIsRequest = (bytes : List ℕ) (r : RequestFields) → plain_request_of bytes ≡ Ok r → request_of bytes ≡ Ok r
 
 abbrev pub NoRequestBeginsAnother : Type 0
 NoRequestBeginsAnother = (r s : RequestFields) (rest : List ℕ) → IsRequest r → IsRequest s

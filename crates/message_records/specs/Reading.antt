@@ -16,7 +16,7 @@ use Rattle.message_records.specs.declared.limits.TheConstants.{MAX_ACCOUNT, MAX_
 use Rattle.message_records.specs.declared.limits.TheConstants.{MAX_NUMBER, REPLY_BYTES, REQUEST_BYTES}
 use Rattle.message_records.specs.Ranges.{whole_within}
 use Rattle.message_records.specs.Outcomes.{name_of}
-use Rattle.message_records.specs.Records.{RequestFields, ReplyFields}
+use Rattle.message_records.specs.Records.{RequestFields, ReplyFields, reference_from, referenced}
 use Rattle.message_records.specs.Spelling.{filled}
 
 -- what comes next, unless a field was faulty
@@ -61,7 +61,7 @@ number_at most fault cs = ok_or (option_and_then (whole_within 1 most) (number_o
 abbrev pub text_at : {E : Type 0} → List ℕ → E → List ℕ → Result (List ℕ) E
 text_at text fault cs = if bytes_eq cs text then Ok text else Err fault
 
--- the five fields of a request, in 47 bytes
+-- the five fields of a request, in 47 bytes, which has no reference yet
 unfoldable pub fields_of : List ℕ → Result RequestFields Bad
 fields_of bytes = do
   account ← number_at MAX_ACCOUNT bad.Account (slice_range bytes 0 12)
@@ -69,14 +69,36 @@ fields_of bytes = do
   branch ← number_at MAX_BRANCH bad.Branch (slice_range bytes 20 26)
   number ← number_at MAX_NUMBER bad.Number (slice_range bytes 26 36)
   delta ← ok_or (signed_of (slice_range bytes 36 47)) bad.Delta
-  Ok (record { account = account; teller = teller; branch = branch; number = number; delta = delta })
+  Ok (record {
+    account = account;
+    teller = teller;
+    branch = branch;
+    number = number;
+    delta = delta;
+    reference = None;
+  })
 
-unfoldable pub request_of : List ℕ → Result RequestFields Bad
-request_of bytes = do
+-- a request without a reference
+unfoldable pub plain_request_of : List ℕ → Result RequestFields Bad
+plain_request_of bytes = do
   tag ← text_at (codes "DC01") bad.Tag (slice_range bytes 0 4)
   fields ← fields_of (slice_range bytes 4 51)
   filler ← text_at (replicate 49 32) bad.Filler (slice_range bytes 51 REQUEST_BYTES)
   Ok fields
+
+-- a request with a reference
+unfoldable pub referenced_request_of : List ℕ → Result RequestFields Bad
+referenced_request_of bytes = do
+  tag ← text_at (codes "DC02") bad.Tag (slice_range bytes 0 4)
+  fields ← fields_of (slice_range bytes 4 51)
+  reference ← ok_or (reference_from (slice_range bytes 51 71)) bad.Reference
+  filler ← text_at (replicate 29 32) bad.Filler (slice_range bytes 71 REQUEST_BYTES)
+  Ok (referenced reference fields)
+
+-- the tag says which of the two it is
+unfoldable pub request_of : List ℕ → Result RequestFields Bad
+request_of bytes = if bytes_eq (slice_range bytes 0 4) (codes "DC02") then referenced_request_of bytes
+    else plain_request_of bytes
 
 -- ---- replies
 
@@ -94,7 +116,7 @@ outcome_with code =
     else if code == 90 then Some Malformed
     else None
 
--- a field of a request is a field of its reply
+-- a field of a request is a field of its reply, which has filler in the place of a reference
 abbrev pub in_reply : Bad → BadReply
 in_reply bad.Tag = bad_reply.Tag
 in_reply bad.Account = bad_reply.Account
@@ -102,6 +124,7 @@ in_reply bad.Teller = bad_reply.Teller
 in_reply bad.Branch = bad_reply.Branch
 in_reply bad.Number = bad_reply.Number
 in_reply bad.Delta = bad_reply.Delta
+in_reply bad.Reference = bad_reply.Filler
 in_reply bad.Filler = bad_reply.Filler
 
 abbrev pub shown_in_reply : Result RequestFields Bad → Result (Option RequestFields) BadReply

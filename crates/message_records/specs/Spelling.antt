@@ -1,6 +1,6 @@
 -- The one spelling of each request, 100 bytes, and of each reply, 200 bytes.
 use Rattle.std.specs.Prelude.{ℕ, zero, suc, ◌+◌, ◌-◌, ◌/◌, ◌%◌, ℤ, pos, negsuc, List, [], ◌∷◌, ◌++◌, length}
-use Rattle.std.specs.Prelude.{replicate, codes, unwrap_or}
+use Rattle.std.specs.Prelude.{replicate, codes, unwrap_or, Option, Some, None}
 use Rattle.message_records.specs.Outcomes.{code_of, name_of}
 use Rattle.message_records.specs.Records.{RequestFields, ReplyFields}
 
@@ -19,16 +19,25 @@ unfoldable pub fields_spelling : RequestFields → List ℕ
 fields_spelling r = digits 12 r.account ++
     (digits 8 r.teller ++ (digits 6 r.branch ++ (digits 10 r.number ++ signed 10 r.delta)))
 
-unfoldable pub request_spelling : RequestFields → List ℕ
-request_spelling r = codes "DC01" ++ (fields_spelling r ++ replicate 49 32)
-
--- what a reply shows in the place of a request where the bytes were none
-abbrev pub no_fields : RequestFields
-no_fields = record { account = 0; teller = 0; branch = 0; number = 0; delta = pos 0 }
-
 -- a text filled with spaces on the right
 abbrev pub filled : ℕ → List ℕ → List ℕ
 filled n text = text ++ replicate (n - length text) 32
+
+-- the first bytes of a request, by whether it has a reference
+abbrev pub tag_of : Option (List ℕ) → List ℕ
+tag_of None = codes "DC01"
+tag_of (Some text) = codes "DC02"
+
+abbrev pub reference_text : Option (List ℕ) → List ℕ
+reference_text None = []
+reference_text (Some text) = text
+
+unfoldable pub request_spelling : RequestFields → List ℕ
+request_spelling r = tag_of r.reference ++ (fields_spelling r ++ filled 49 (reference_text r.reference))
+
+-- what a reply shows in the place of a request where the bytes were none
+abbrev pub no_fields : RequestFields
+no_fields = record { account = 0; teller = 0; branch = 0; number = 0; delta = pos 0; reference = None }
 
 unfoldable pub reply_spelling : ReplyFields → List ℕ
 reply_spelling r =

@@ -1,13 +1,13 @@
 //! Which field of a record is faulty.
 ghost use Rattle.std.specs.Prelude.{◌≡◌};
-ghost use Rattle.message_records.specs.Faults.{fault_text};
+ghost use Rattle.message_records.specs.Faults.{fault_text, request_fault_text};
 
 use std::fmt;
 
 /// The first faulty field of a request, from the left.
 #[derive(Clone, Copy, Debug, PartialEq, Eq)]
 pub enum Bad {
-    /// Bytes 0..4 aren't `DC01`.
+    /// Bytes 0..4 are neither `DC01` nor `DC02`.
     Tag,
     /// Bytes 4..16 aren't twelve digits of 1..=`MAX_ACCOUNT`.
     Account,
@@ -19,7 +19,9 @@ pub enum Bad {
     Number,
     /// Bytes 40..51 aren't a sign and ten digits. Zero has the sign `+`.
     Delta,
-    /// Bytes 51..100 aren't spaces.
+    /// Bytes 51..71 of a `DC02` aren't printable ASCII, from the space to `~`.
+    Reference,
+    /// Bytes 51..100 of a `DC01`, or 71..100 of a `DC02`, aren't spaces.
     Filler,
 }
 
@@ -86,21 +88,26 @@ impl From<Bad> for BadReply {
             Bad::Branch => BadReply::Branch,
             Bad::Number => BadReply::Number,
             Bad::Delta => BadReply::Delta,
-            Bad::Filler => BadReply::Filler,
+            // A reply has filler in the place of a reference.
+            Bad::Reference | Bad::Filler => BadReply::Filler,
         }
     }
 }
 
-/// What is said of the same field of a reply.
+/// The word `faulty`, and the field's name.
 impl fmt::Display for Bad {
     ghost use Rattle.std.specs.Prelude.{Some};
-    ghost use Rattle.message_records.specs.Reading.{in_reply};
 
-    ghost output = { λ fault. Some (fault_text (in_reply fault)) };
+    ghost output = { λ fault. Some (request_fault_text fault) };
 
     fn fmt<W: fmt::Write>(&self, f: &mut fmt::Formatter<W>) -> fmt::Result {
-        let in_reply = BadReply::from(*self);
-        write!(f, "{in_reply}")
+        match self {
+            Bad::Reference => write!(f, "faulty reference"),
+            fault => {
+                let in_reply = BadReply::from(*fault);
+                write!(f, "{in_reply}")
+            }
+        }
     }
 }
 

@@ -1,7 +1,8 @@
 //! The records of a bank, and the types of their fields. A request is [`REQUEST_BYTES`] bytes of ASCII, and
-//! its reply is [`REPLY_BYTES`] (TPC-A, contents of the messages). Each value has one spelling: what is
-//! written is read again as the same value, and no other bytes are read as it. The test `first_record` of
-//! `counter_tests` writes a request and reads it:
+//! its reply is [`REPLY_BYTES`] (TPC-A, contents of the messages). A request may have a [`Reference`] behind
+//! its amount, [`REFERENCE_BYTES`] bytes of printable ASCII; its reply shows it without. Each value has one
+//! spelling: what is written is read again as the same value, and no other bytes are read as it. The test
+//! `first_record` of `counter_tests` writes a request and reads it:
 //!
 //! ```rust
 //! use message_records::{
@@ -15,7 +16,7 @@
 //!     let branch = Branch::new(1).unwrap();
 //!     let number = Number::new(1).unwrap();
 //!     let delta = Cents::new(500).unwrap();
-//!     let request = Request::new(account, teller, branch, number, delta).unwrap();
+//!     let request = Request::new(account, teller, branch, number, delta, None).unwrap();
 //!     let mut bytes = encode_request(&request);
 //!     let text = b"DC01000000000001000000010000010000000001+0000000500"; // and 49 spaces
 //!     assert!(rt; bytes.starts_with(text));
@@ -40,15 +41,17 @@ mod limits;
 mod numbers;
 mod reading;
 mod records;
+mod reference;
 mod writing;
 
 pub use fault::{Bad, BadReply};
 pub use laws::one_spelling;
 pub use limits::{
     MAX_ACCOUNT, MAX_BALANCE, MAX_BRANCH, MAX_DELTA, MAX_MOMENT, MAX_NUMBER, MAX_TELLER,
-    REPLY_BYTES, REQUEST_BYTES,
+    REFERENCE_BYTES, REPLY_BYTES, REQUEST_BYTES,
 };
 pub use numbers::{Account, Branch, Cents, Moment, Number, Teller, Whole};
 pub use reading::{decode_reply, decode_request, read_digits};
 pub use records::{Outcome, Reply, Request};
+pub use reference::Reference;
 pub use writing::{encode_reply, encode_request};

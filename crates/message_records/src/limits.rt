@@ -7,6 +7,9 @@ pub const REQUEST_BYTES: usize = 100;
 /// The length in bytes of a reply: its fields, and spaces behind them.
 pub const REPLY_BYTES: usize = 200;
 
+/// The length in bytes of a reference.
+pub const REFERENCE_BYTES: usize = 20;
+
 /// The greatest number of an account: twelve digits.
 pub const MAX_ACCOUNT: u64 = 999_999_999_999;
 

@@ -7,17 +7,24 @@ ghost use Rattle.message_records.specs.Outcomes.{has_request, has_balance};
 ghost use Rattle.message_records.specs.Records.{RequestFields, IsRequest, ReplyFields, IsReply};
 ghost use Rattle.message_records.specs.Spelling.{request_spelling, filled, reply_spelling};
 ghost use Rattle.message_records.specs.Reading.{number_of, signed_of, fields_of, request_of, outcome_with};
+ghost use Rattle.message_records.specs.Reading.{plain_request_of, referenced_request_of};
 ghost use Rattle.message_records.specs.Reading.{no_fields_of, shown_request_of, balance_of, reply_of};
 
 use crate::fault::{Bad, BadReply};
 use crate::limits::{MAX_BALANCE, REPLY_BYTES, REQUEST_BYTES};
 use crate::numbers::{Cents, Whole};
 use crate::records::{Outcome, Reply, Request};
+use crate::reference::Reference;
 
-/// The first bytes of a request.
+/// The first bytes of a request without a reference.
 pub(crate) const REQUEST_TAG: &[u8; 4] = b"DC01";
 
+/// The first bytes of a request with a reference.
+pub(crate) const REFERENCED_TAG: &[u8; 4] = b"DC02";
+
 const REQUEST_FILLER: [u8; 49] = [b' '; 49];
+
+const REFERENCED_FILLER: [u8; 29] = [b' '; 29];
 
 /// The first bytes of a reply.
 pub(crate) const REPLY_TAG: &[u8; 4] = b"DR01";
@@ -38,10 +45,22 @@ pub fn decode_request(bytes: &[u8; REQUEST_BYTES]) -> Result<Request, Bad>
     read_request(bytes)
 }
 
-// Field by field from the left, up to the first faulty one.
+// The tag says whether it has a reference.
 #[tactic(auto, unfolding(crate::specs::Reading::request_of))]
 fn read_request(bytes: &[u8; REQUEST_BYTES]) -> Result<Request, Bad>
     ensures { result ≡ request_of bytes.now }
+{
+    if bytes[..4] == REFERENCED_TAG[..] {
+        read_referenced(bytes)
+    } else {
+        read_plain(bytes)
+    }
+}
+
+// Field by field from the left, up to the first faulty one.
+#[tactic(auto, unfolding(crate::specs::Reading::plain_request_of))]
+fn read_plain(bytes: &[u8; REQUEST_BYTES]) -> Result<Request, Bad>
+    ensures { result ≡ plain_request_of bytes.now }
 {
     if bytes[..4] != REQUEST_TAG[..] {
         return Err(Bad::Tag);
@@ -51,6 +70,22 @@ fn read_request(bytes: &[u8; REQUEST_BYTES]) -> Result<Request, Bad>
         return Err(Bad::Filler);
     }
     Ok(request)
+}
+
+// Field by field from the left, up to the first faulty one, with a reference behind the amount.
+#[tactic(auto, unfolding(crate::specs::Reading::referenced_request_of))]
+fn read_referenced(bytes: &[u8; REQUEST_BYTES]) -> Result<Request, Bad>
+    ensures { result ≡ referenced_request_of bytes.now }
+{
+    if bytes[..4] != REFERENCED_TAG[..] {
+        return Err(Bad::Tag);
+    }
+    let request = read_fields(&bytes[4..51])?;
+    let reference = Reference::new(&bytes[51..71]).ok_or(Bad::Reference)?;
+    if bytes[71..] != REFERENCED_FILLER[..] {
+        return Err(Bad::Filler);
+    }
+    Ok(request.referenced(reference))
 }
 
 /// The reply that the bytes spell, or the first faulty field from the left.
@@ -171,7 +206,7 @@ fn is_filled(bytes: &[u8], text: &[u8]) -> bool
     bytes[..end] == text[..] && bytes[end..] == SPACES[end..]
 }
 
-// The five fields that a request and a reply have in common.
+// The five fields that a request and a reply have in common, of a request without a reference.
 #[tactic(auto, unfolding(crate::specs::Reading::fields_of))]
 fn read_fields(bytes: &[u8]) -> Result<Request, Bad>
     requires { length bytes.now ≡ 47 }
@@ -183,7 +218,7 @@ fn read_fields(bytes: &[u8]) -> Result<Request, Bad>
     let number = read_number(&bytes[26..36]).ok_or(Bad::Number)?;
     let delta = read_amount(&bytes[36..47]).ok_or(Bad::Delta)?;
     // Ten digits are within the limit.
-    Request::new(account, teller, branch, number, delta).ok_or(Bad::Delta)
+    Request::new(account, teller, branch, number, delta, None).ok_or(Bad::Delta)
 }
 
 // A number from 1 on.

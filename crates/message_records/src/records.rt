@@ -1,9 +1,10 @@
 //! A request, what becomes of it, and the reply to it.
-ghost use Rattle.std.specs.Prelude.{◌≡◌, ◌≤◌, nat_abs};
-ghost use Rattle.message_records.specs.Records.{request_from};
+ghost use Rattle.std.specs.Prelude.{◌≡◌, ◌≤◌, nat_abs, IfSome};
+ghost use Rattle.message_records.specs.Records.{request_from, referenced, unreferenced, IsReference};
 
 use crate::limits::MAX_DELTA;
 use crate::numbers::{Account, Branch, Cents, Number, Teller};
+use crate::reference::Reference;
 use std::fmt;
 use std::marker::Model;
 
@@ -16,6 +17,7 @@ pub struct Request {
     branch: Branch,
     number: Number,
     delta: Cents,
+    reference: Option<Reference>,
 }
 
 impl Model for Request {
@@ -31,6 +33,7 @@ impl Model for Request {
       branch = a.branch;
       number = a.number;
       delta = a.delta;
+      reference = a.reference;
     } };
 
     ghost invariant = { λ a. nat_abs a.delta ≤ MAX_DELTA };
@@ -41,6 +44,7 @@ impl Model for Request {
       branch = r.branch;
       number = r.number;
       delta = r.delta;
+      reference = r.reference;
     } };
 }
 
@@ -57,8 +61,9 @@ impl Request {
         branch: Branch,
         number: Number,
         delta: Cents,
+        reference: Option<Reference>,
     ) -> Option<Self>
-        ensures { result ≡ request_from account teller branch number delta }
+        ensures { result ≡ request_from account teller branch number delta reference }
     {
         let amount = delta.get();
         if -Self::DELTA_LIMIT <= amount && amount <= Self::DELTA_LIMIT {
@@ -68,6 +73,7 @@ impl Request {
                 branch,
                 number,
                 delta,
+                reference,
             })
         } else {
             None
@@ -108,6 +114,38 @@ impl Request {
         ensures limit { nat_abs result ≤ MAX_DELTA }
     {
         self.delta
+    }
+
+    /// What the request is referred to by, where it has a reference.
+    pub fn reference(&self) -> Option<Reference>
+        ensures value { result ≡ self.now.reference }
+        ensures is_reference { IfSome result IsReference }
+    {
+        let reference = self.reference?;
+        // Its text is known to be printable.
+        let _text = reference.text();
+        Some(reference)
+    }
+
+    /// The request with this reference.
+    pub(crate) fn referenced(self, reference: Reference) -> Self
+        ensures { result ≡ referenced reference self }
+    {
+        Request {
+            reference: Some(reference),
+            ..self
+        }
+    }
+
+    /// The request without its reference, as its reply shows it.
+    #[must_use]
+    pub fn unreferenced(self) -> Self
+        ensures { result ≡ unreferenced self }
+    {
+        Request {
+            reference: None,
+            ..self
+        }
     }
 }
 
@@ -188,8 +226,8 @@ impl fmt::Display for Outcome {
     }
 }
 
-/// The reply to what came in: it shows the request, unless the bytes were none, and the account's new balance
-/// where the request was posted (TPC-A, contents of the messages).
+/// The reply to what came in: it shows the request without its reference, unless the bytes were none, and the
+/// account's new balance where the request was posted (TPC-A, contents of the messages).
 #[derive(Clone, Copy, Debug, PartialEq, Eq)]
 pub struct Reply {
     outcome: Outcome,
@@ -198,7 +236,7 @@ pub struct Reply {
 }
 
 impl Model for Reply {
-    ghost use Rattle.std.specs.Prelude.{◌≡◌, is_some};
+    ghost use Rattle.std.specs.Prelude.{◌≡◌, is_some, IfSome, None};
     ghost use Rattle.message_records.specs.Outcomes.{has_request, has_balance};
     ghost use Rattle.message_records.specs.Records.{ReplyFields};
 
@@ -207,18 +245,19 @@ impl Model for Reply {
     ghost view = { λ a. record { outcome = a.outcome; request = a.request; balance = a.balance } };
 
     ghost invariant = { λ a. (is_some a.request ≡ has_request a.outcome)
-        × (is_some a.balance ≡ has_balance a.outcome) };
+        × (is_some a.balance ≡ has_balance a.outcome)
+        × IfSome a.request (λ r. r.reference ≡ None) };
 
     ghost inverse = { λ r. record { outcome = r.outcome; request = r.request; balance = r.balance } };
 }
 
 impl Reply {
-    ghost use Rattle.std.specs.Prelude.{is_some};
+    ghost use Rattle.std.specs.Prelude.{is_some, None};
     ghost use Rattle.message_records.specs.Outcomes.{has_request, has_balance};
     ghost use Rattle.message_records.specs.Records.{reply_from};
 
     /// The reply of these parts; none where they don't belong together. A request belongs to every outcome
-    /// but `Malformed`, and a balance to `Posted` alone.
+    /// but `Malformed`, and a balance to `Posted` alone. The reply shows the request without its reference.
     #[must_use]
     pub fn new(outcome: Outcome, request: Option<Request>, balance: Option<Cents>) -> Option<Self>
         ensures { result ≡ reply_from outcome request balance }
@@ -228,7 +267,7 @@ impl Reply {
         if request.is_some() == has_request && balance.is_some() == has_balance {
             Some(Reply {
                 outcome,
-                request,
+                request: request.map(Request::unreferenced),
                 balance,
             })
         } else {
@@ -243,7 +282,7 @@ impl Reply {
         self.outcome
     }
 
-    /// The request; none where the bytes that came in were none.
+    /// The request without its reference; none where the bytes that came in were none.
     pub fn request(&self) -> Option<Request>
         ensures { result ≡ self.now.request }
     {
@@ -261,6 +300,7 @@ impl Reply {
     pub(crate) fn shown(&self) -> (Option<Request>, Option<Cents>)
         ensures request { result.0 ≡ self.now.request }
         ensures shows_request { is_some self.now.request ≡ has_request self.now.outcome }
+        ensures unreferenced { IfSome self.now.request (λ r. r.reference ≡ None) }
         ensures balance { result.1 ≡ self.now.balance }
         ensures shows_balance { is_some self.now.balance ≡ has_balance self.now.outcome }
     {

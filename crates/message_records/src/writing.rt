@@ -1,14 +1,15 @@
 //! Writes the bytes of a request and of a reply.
 ghost use Rattle.std.specs.Prelude.{◌≡◌, ◌≤◌, ◌+◌, ◌++◌, pos, length, IfSome, Ok, nat_abs, unwrap_or};
-ghost use Rattle.message_records.specs.Records.{IsRequest};
+ghost use Rattle.message_records.specs.Records.{IsRequest, IsReference, unreferenced};
 ghost use Rattle.message_records.specs.Spelling.{signed, no_fields, fields_spelling, request_spelling};
+ghost use Rattle.message_records.specs.Spelling.{tag_of, reference_text};
 ghost use Rattle.message_records.specs.Spelling.{reply_spelling};
 ghost use Rattle.message_records.specs.Reading.{request_of, reply_of};
 
 use crate::draft::Draft;
-use crate::limits::{MAX_BALANCE, REPLY_BYTES, REQUEST_BYTES};
+use crate::limits::{MAX_BALANCE, REFERENCE_BYTES, REPLY_BYTES, REQUEST_BYTES};
 use crate::numbers::Cents;
-use crate::reading::{REPLY_TAG, REQUEST_TAG};
+use crate::reading::{REFERENCED_TAG, REPLY_TAG, REQUEST_TAG};
 use crate::records::{Reply, Request};
 
 // Zeros in the place of each field of a request.
@@ -22,9 +23,32 @@ pub fn encode_request(request: &Request) -> [u8; REQUEST_BYTES]
     ensures read_again { request_of result ≡ Ok request.now }
 {
     let mut draft = Draft::new();
-    draft.put_text(REQUEST_TAG);
+    draft.put_text(tag_of(request));
     put_fields(&mut draft, request);
+    put_reference(&mut draft, request);
     draft.finish()
+}
+
+// The first bytes of a request, by whether it has a reference.
+fn tag_of(request: &Request) -> &'static [u8; 4]
+    ensures value { result.now ≡ tag_of request.now.reference }
+    ensures len { length result.now ≡ 4 }
+{
+    match request.reference() {
+        Some(_) => REFERENCED_TAG,
+        None => REQUEST_TAG,
+    }
+}
+
+// The reference, where there is one.
+fn put_reference<const SIZE: usize>(draft: &mut Draft<SIZE>, request: &Request)
+    requires { length draft.old + REFERENCE_BYTES ≤ SIZE }
+    ensures value { draft.new ≡ draft.old ++ reference_text request.now.reference }
+    ensures is_reference { IfSome request.now.reference IsReference }
+{
+    if let Some(reference) = request.reference() {
+        draft.put_text(reference.text());
+    }
 }
 
 /// The bytes of the reply: ASCII, with spaces behind the fields.
@@ -50,7 +74,7 @@ fn put_fields<const SIZE: usize>(draft: &mut Draft<SIZE>, request: &Request)
     requires { length draft.old + 47 ≤ SIZE }
     ensures value { draft.new ≡ draft.old ++ fields_spelling request.now }
     ensures len { length draft.new ≡ length draft.old + 47 }
-    ensures in_range { IsRequest request.now }
+    ensures in_range { IsRequest (unreferenced request.now) }
 {
     draft.put_number(12, request.account().get());
     draft.put_number(8, request.teller().get());
@@ -64,7 +88,7 @@ fn put_shown<const SIZE: usize>(draft: &mut Draft<SIZE>, request: Option<Request
     requires { length draft.old + 47 ≤ SIZE }
     ensures value { draft.new ≡ draft.old ++ fields_spelling (unwrap_or request no_fields) }
     ensures len { length draft.new ≡ length draft.old + 47 }
-    ensures in_range { IfSome request IsRequest }
+    ensures in_range { IfSome request (λ r. IsRequest (unreferenced r)) }
 {
     match request {
         Some(request) => put_fields(draft, &request),

@@ -1,7 +1,7 @@
 -- The laws of the spellings.
 use Rattle.std.proofs.Common.{refl}
 use Rattle.message_records.specs.Spelling.{request_spelling, reply_spelling}
-use Rattle.message_records.proofs.Requests.{request_again}
+use Rattle.message_records.proofs.Requests.{request_again, plain_is_request}
 use Rattle.message_records.proofs.SpelledReplies.{reply_again}
 use Rattle.message_records.proofs.Beginnings.{no_request_begins, no_reply_begins}
 use Rattle.message_records.proofs.laws.one_spelling.Goals as goal
@@ -10,6 +10,7 @@ pub returns : goal.returns
 returns c = record {
   requests_are_read_again = λ r h. request_again r (request_spelling r) h refl;
   replies_are_read_again = λ r h. reply_again r (reply_spelling r) h refl;
+  plain_is_request = plain_is_request;
   no_request_begins_another = no_request_begins;
   no_reply_begins_another = no_reply_begins;
 }

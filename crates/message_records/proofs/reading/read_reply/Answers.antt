@@ -58,7 +58,7 @@ pub returns : goal.returns
 returns c =
     c.ok_or-2.ensures.value
     ∙ parts_found c.args.bytes.now c.as_bytes.result.now c.in_ok-outcome.outcome c.in_ok-request.request
-    c.in_ok-balance.balance c.new.result
+    c.in_ok-balance.balance c.new.result (search rules)
     (record {
       tag = c.if-ne.ensures;
       outcome = outcome_read c.args.bytes.now _ _ c.read_outcome.ensures c.in_ok-outcome.ensures.value;

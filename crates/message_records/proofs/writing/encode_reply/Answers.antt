@@ -1,11 +1,12 @@
 -- The draft is the spelling, which is read again.
-use Rattle.std.proofs.Common.{◌≡◌, ◌+◌, ◌++◌, ◌≤◌, length, Option, ap, subst, ◌∙◌, arith}
+use Rattle.std.proofs.Common.{◌≡◌, ◌+◌, ◌++◌, ◌≤◌, length, Option, Some, None, ap, subst, ◌∙◌, arith}
 use Rattle.std.specs.Prelude.{ℤ, pos, nat_abs, unwrap_or, IfSome}
 use Rattle.message_records.specs.declared.limits.TheConstants.{MAX_BALANCE}
 use Rattle.message_records.specs.Outcomes.{code_of, name_of}
-use Rattle.message_records.specs.Records.{RequestFields, IsRequest, IsReply}
+use Rattle.message_records.specs.Records.{RequestFields, IsRequest, IsShownRequest, IsReply, unreferenced}
 use Rattle.message_records.specs.Spelling.{signed, no_fields, fields_spelling}
 use Rattle.message_records.proofs.Composed.{reply_put}
+use Rattle.message_records.proofs.References.{is_shown}
 use Rattle.message_records.proofs.SpelledReplies.{reply_again}
 use Rattle.message_records.proofs.writing.encode_reply.Goals as goal
 
@@ -28,6 +29,15 @@ returns-clause-spelling c =
     code name c.new-draft.ensures.value c.put_text.ensures.value c.put_number.ensures.value request balance
     c.put_text-2.ensures.value len c.finish.ensures
 
+-- the fields are in range
+abbrev InFields : RequestFields → Type 0
+InFields r = IsRequest (unreferenced r)
+
+all_shown : (q : Option RequestFields) → IfSome q InFields → IfSome q (λ r. r.reference ≡ None)
+    → IfSome q IsShownRequest
+all_shown None h none = tt
+all_shown (Some r) h none = is_shown r h none
+
 pub returns-clause-read_again : goal.returns-clause-read_again
 returns-clause-read_again c =
     let reply = c.args.reply.now in
@@ -35,8 +45,9 @@ returns-clause-read_again c =
     let InRange : Option ℤ → Type 0 = λ q. IfSome q (λ z. nat_abs z ≤ MAX_BALANCE) in
     let is_reply : IsReply reply = record {
       shows_request = shown.shows_request;
-      request = subst (λ (q : Option RequestFields). IfSome q IsRequest) shown.request
-          c.put_shown.ensures.in_range;
+      request = all_shown reply.request
+          (subst (λ (q : Option RequestFields). IfSome q InFields) shown.request c.put_shown.ensures.in_range)
+          shown.unreferenced;
       shows_balance = shown.shows_balance;
       balance = subst InRange shown.balance c.put_balance.ensures.in_range;
     } in
