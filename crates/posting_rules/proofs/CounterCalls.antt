@@ -1,5 +1,6 @@
 -- What became of a counter's call, as the one record of it.
-use Rattle.std.proofs.Common.{◌≡◌, ◌++◌, List, [], Result, Ok, Err, refl, ap}
+use Rattle.std.proofs.Common.{◌≡◌, ◌++◌, List, [], Result, Ok, Err, refl, sym, ap, subst}
+use Rattle.std.proofs.Common.{◌∙◌}
 use Rattle.posting_rules.specs.declared.fault.Fault.{Fault}
 use Rattle.posting_rules.specs.declared.fault.Fault.TheVariants.{Memory, Down}
 use Rattle.posting_rules.specs.Commands.{Command}
@@ -100,6 +101,27 @@ module _ {C K X : Type 0} (seen : C → Seen) (contents : C → K) (reason : Fau
     honest = honest;
   }
 
+-- ---- a counter that was down
+
+module _ {C : Type 0} (seen : C → Seen) (old mid : C) (idle : (seen old).is_down → mid ≡ old) where
+  still_down : (seen old).is_down → (seen mid).is_down
+  still_down down = subst (λ (c : C). (seen c).is_down) (sym (idle down)) down
+
+  -- one that can be used wasn't down before
+  pub was_up : ((seen mid).is_down → ⊥) → (seen old).is_down → ⊥
+  was_up up down = up (still_down down)
+
+  -- what leaves it as it was does so behind what left it as it was
+  pub idle_behind : (new : C) → ((seen mid).is_down → new ≡ mid) → (seen old).is_down → new ≡ old
+  idle_behind new more down = more (still_down down) ∙ idle down
+
+  -- so does every call
+  pub call_idle_behind : {K X : Type 0} (contents : C → K) (reason : Fault → C → C → Type 0) (new : C)
+      (cs : List Command) (result : Result X Fault)
+      → IsCounterCall seen contents reason mid new cs result → (seen old).is_down → new ≡ old
+  call_idle_behind contents reason new cs result call =
+      idle_behind new (λ down. call.untried (call.down down))
+
 -- ---- calls one after another
 
 -- two calls take what they take together
@@ -114,7 +136,8 @@ Takes-append a b c xs ys p q honest = record {
 
 module _ {C : Type 0} (seen : C → Seen) (reason : Fault → C → C → Type 0) (old mid new : C)
     (before : List Command) (takes : Takes (seen old) (seen mid) before)
-    (honest : (seen mid).honest → (seen old).honest) (fault : Fault) where
+    (honest : (seen mid).honest → (seen old).honest) (idle : (seen old).is_down → mid ≡ old)
+    (fault : Fault) where
   -- a call was refused where some commands had been taken
   pub call_refused_behind : {K X : Type 0} (contents : C → K) (cs : List Command)
       → IsCounterCall {X = X} seen contents reason mid new cs (Err fault) → HasRefused seen reason old new fault
@@ -127,6 +150,7 @@ module _ {C : Type 0} (seen : C → Seen) (reason : Fault → C → C → Type 0
     why = call.why;
     tried = λ down. one_fault {X = X} fault Down (call.down down);
     untried = λ is. call.untried (ap (λ (f : Fault). let r : Result X Fault = Err f in r) is);
+    idle = idle;
   }
 
   -- what was refused later was refused behind all that was taken
@@ -140,6 +164,7 @@ module _ {C : Type 0} (seen : C → Seen) (reason : Fault → C → C → Type 0
     why = it.why;
     tried = it.tried;
     untried = it.untried;
+    idle = idle_behind seen old mid idle it.stood it.idle;
   }
 
 -- no command is taken by doing nothing

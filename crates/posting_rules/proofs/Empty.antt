@@ -20,6 +20,7 @@ pub empty_shown : AreTablesOf (record {
   history = [];
   requests = [];
   floors = [];
+  references = [];
 }) []
 empty_shown = record {
   rows = record {
@@ -30,11 +31,13 @@ empty_shown = record {
     history = λ o. refl;
     requests = λ o. refl;
     floors = λ b. refl;
+    references = λ o. refl;
     branch_keys = none_distinct;
     teller_keys = none_distinct;
     account_keys = none_distinct;
     history_keys = none_distinct;
     request_keys = none_distinct;
     floor_keys = none_distinct;
+    reference_keys = none_distinct;
   };
 }

@@ -81,7 +81,7 @@ pub found_shown : (t : Tables) (opened : ℕ → Option Terms) (es : List Decide
     → HasRows t opened es → found_in t r ≡ facts opened es r
 found_shown t opened es r new s =
     made _ _ _ _ _ _ _ _ _ _ (teller_balances_shown t opened es r.teller s)
-    (kept_shown t.requests es s.request_keys s.requests new r.teller r.number)
+    (kept_shown t.requests t.references es s.request_keys s.requests s.references new r.teller r.number)
     s.decided (account_balance_shown t opened es r.account s)
     (floor_shown t opened es (branch_of_account r.account) s)
   where

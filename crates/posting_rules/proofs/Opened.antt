@@ -159,6 +159,7 @@ branch_added old new opened es b terms all closed hb hc s step = record {
       (account_none opened es n all);
   history = λ o. rw step.history (s.history o);
   requests = λ o. rw step.requests (s.requests o);
+  references = λ o. rw step.references (s.references o);
   floors = floors_added old.floors new.floors opened b terms terms.floor refl closed step.floors s.floors;
   branch_keys = step.branches.keys;
   teller_keys = step.tellers.keys;
@@ -166,6 +167,7 @@ branch_added old new opened es b terms all closed hb hc s step = record {
   history_keys = rw step.history s.history_keys;
   request_keys = rw step.requests s.request_keys;
   floor_keys = floor_keys_added old.floors new.floors b terms.floor step.floors s.floor_keys;
+  reference_keys = rw step.references s.reference_keys;
 }
 
 -- a branch that wasn't open is added

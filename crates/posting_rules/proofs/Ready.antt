@@ -10,19 +10,20 @@ use Rattle.posting_rules.specs.Entries.{DecidedRequest, account_balance, teller_
 use Rattle.posting_rules.specs.Entries.{decided}
 use Rattle.posting_rules.specs.Tables.{Tables, HasRows, AreTablesOf, HasKeys, row_at, branch_key, teller_key}
 use Rattle.posting_rules.specs.Tables.{account_key, history_key, request_key, branch_row_of, teller_row_of}
-use Rattle.posting_rules.specs.Tables.{account_row_of, floor_key, floor_row_of}
+use Rattle.posting_rules.specs.Tables.{account_row_of, floor_key, floor_row_of, reference_key}
 use Rattle.posting_rules.specs.LookUps.{terms_in, floor_in, terms_of_branch}
 use Rattle.posting_rules.specs.Sound.{AreSound}
 use Rattle.posting_rules.specs.Numbering.{branch_of_teller, branch_of_account, place_of_account, first_teller}
 use Rattle.posting_rules.specs.Numbering.{first_account}
 use Rattle.posting_rules.proofs.Looked.{terms_shown}
-use Rattle.posting_rules.proofs.Stepped.{request_row_past, history_row_past}
+use Rattle.posting_rules.proofs.Stepped.{request_row_past, history_row_past, reference_row_past}
 use Rattle.posting_rules.specs.declared.limits.TheConstants.{ACCOUNTS_PER_BRANCH}
 
 -- the next ordinal is free, the tellers and the accounts are those of the branches, and only these have floors
 pub record AreReady (t : Tables) : Type 0 where
   pub next_request : row_at request_key t.requests (t.decided + 1) ≡ None
   pub next_posting : row_at history_key t.history (t.decided + 1) ≡ None
+  pub next_reference : row_at reference_key t.references (t.decided + 1) ≡ None
   pub its_tellers : (n : ℕ) → 1 ≤ n
       → is_some (row_at teller_key t.tellers n) ≡ is_some (row_at branch_key t.branches (branch_of_teller n))
   pub its_accounts : (n : ℕ) → 1 ≤ n
@@ -35,12 +36,14 @@ pub record AreReady (t : Tables) : Type 0 where
   pub history : HasKeys history_key t.history
   pub requests : HasKeys request_key t.requests
   pub floors : HasKeys floor_key t.floors
+  pub references : HasKeys reference_key t.references
 
 -- sound tables are
 pub ready_sound : (t : Tables) → AreSound t → AreReady t
 ready_sound t sound = let u = sound.undamaged in record {
   next_request = u.next_request;
   next_posting = u.next_posting;
+  next_reference = u.next_reference;
   its_tellers = u.tellers;
   its_accounts = u.accounts;
   its_floors = u.floors;
@@ -50,6 +53,7 @@ ready_sound t sound = let u = sound.undamaged in record {
   history = sound.history;
   requests = sound.requests;
   floors = sound.floors;
+  references = sound.references;
 }
 
 -- ---- the tables of a log
@@ -79,6 +83,13 @@ next_posting t opened es s =
     ap (λ (o : ℕ). row_at history_key t.history o) next ∙ s.history (suc (length es)) ∙ history_row_past es
     (length es) (omega arith)
 
+next_reference : (t : Tables) (opened : ℕ → Option Terms) (es : List DecidedRequest) → HasRows t opened es
+    → row_at reference_key t.references (length es + 1) ≡ None
+next_reference t opened es s =
+    let next : length es + 1 ≡ suc (length es) = omega arith in
+    ap (λ (o : ℕ). row_at reference_key t.references o) next ∙ s.references (suc (length es))
+    ∙ reference_row_past es (length es) (omega arith)
+
 -- a branch that has no row has no floor
 unopened : (o : Option Terms) (b : ℕ) (z : ℤ) → option_map (branch_row_of b z) o ≡ None
     → option_map (floor_row_of b) (option_and_then (λ n. n.floor) o) ≡ None
@@ -96,6 +107,8 @@ ready_shown t log shows =
           ∙ next_request t open_ es s;
       next_posting = ap (λ (n : ℕ). row_at history_key t.history (n + 1)) s.decided
           ∙ next_posting t open_ es s;
+      next_reference = ap (λ (n : ℕ). row_at reference_key t.references (n + 1)) s.decided
+          ∙ next_reference t open_ es s;
       its_tellers = λ n h.
           ap is_some (s.tellers n)
           ∙ there (leb 1 n) (is_some (open_ (branch_of_teller n))) (teller_row_of n (teller_balance es n))
@@ -116,6 +129,7 @@ ready_shown t log shows =
       history = s.history_keys;
       requests = s.request_keys;
       floors = s.floor_keys;
+      references = s.reference_keys;
     }
 
 -- ---- the numbers of a branch that has no row

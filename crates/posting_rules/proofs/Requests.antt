@@ -1,6 +1,6 @@
 -- Decided requests: no two share teller and number, so that a look-up of rows by both finds the kept request.
 use Rattle.std.proofs.Common.{◌≡◌, ℕ, ◌+◌, ◌≤◌, Bool, true, false, eqb, List, [], ◌∷◌, length, Option, Some}
-use Rattle.std.proofs.Common.{None, Result, Ok, Err, refl, sym, subst, ◌∙◌, arith, inl, inr}
+use Rattle.std.proofs.Common.{None, Result, Ok, Err, refl, sym, ap, subst, ◌∙◌, arith, inl, inr}
 use Rattle.std.specs.Prelude.{◌&&◌, AllPairs}
 use Rattle.std.specs.List.{find, AllByRecursion}
 use Rattle.std.specs.Option.{option_map}
@@ -14,12 +14,14 @@ use Rattle.message_records.specs.Reading.{request_of}
 use Rattle.posting_rules.specs.declared.judgments.Verdict.{Verdict}
 use Rattle.posting_rules.specs.declared.judgments.Verdict.TheVariants.{Unkept, Again, Refused, Posted}
 use Rattle.posting_rules.specs.declared.rows.RequestRow.{RequestRow}
+use Rattle.posting_rules.specs.declared.rows.ReferenceRow.{ReferenceRow}
 use Rattle.posting_rules.specs.Commands.{Command, Open, Post, opened, Terms}
-use Rattle.posting_rules.specs.Kept.{KeptFields}
+use Rattle.posting_rules.specs.Kept.{KeptFields, kept_with}
 use Rattle.posting_rules.specs.Cases.{case_of}
 use Rattle.posting_rules.specs.Entries.{DecidedRequest, kept, facts, with_verdict, with_record, decided}
 use Rattle.posting_rules.specs.Tables.{row_at, HasKeys, request_key, request_row, request_row_of}
-use Rattle.posting_rules.specs.LookUps.{kept_in, kept_of_row}
+use Rattle.posting_rules.specs.Tables.{reference_key, reference_row, reference_row_of}
+use Rattle.posting_rules.specs.LookUps.{kept_in, kept_of_row, text_of_reference}
 use Rattle.posting_rules.specs.Laws.{Differ}
 use Rattle.posting_rules.proofs.Keyed.{by_test, row_at-found, found_passes, none_passes}
 use Rattle.posting_rules.proofs.Verdicts.{IsVerdict, verdict_is}
@@ -89,16 +91,15 @@ low_ordinal : (n o : ℕ) → o ≤ n → eqb (n + 1) o ≡ false
 low_ordinal n o le = grind (arith, nat_tests)
 
 -- a kept request has a row under some ordinal
-pub record HasRow (es : List DecidedRequest) (t n : ℕ) (k : KeptFields) : Type 0 where
+pub record HasRow (es : List DecidedRequest) (t n : ℕ) : Type 0 where
   pub ordinal : ℕ
   pub within : ordinal ≤ length es
   pub row : RequestRow
   pub stands : request_row es ordinal ≡ Some row
   pub teller : row.teller ≡ t
   pub number : row.number ≡ n
-  pub kept : row.kept ≡ k
 
-kept_has_row : (es : List DecidedRequest) (t n : ℕ) (k : KeptFields) → kept es t n ≡ Some k → HasRow es t n k
+kept_has_row : (es : List DecidedRequest) (t n : ℕ) (k : KeptFields) → kept es t n ≡ Some k → HasRow es t n
 kept_has_row [] t n k e = absurd cc
 kept_has_row (e ∷ es) t n k h =
     elim (by_test (has_pair t n e)) [
@@ -110,7 +111,6 @@ kept_has_row (e ∷ es) t n k h =
             stands = rw (eq-eqb (length es + 1) (length es + 1) refl) refl;
             teller = eqb-true _ _ two.0;
             number = eqb-true _ _ two.1;
-            kept = let g = rw p at h in cc;
           }
       | inr f ↦ let rest = kept_has_row es t n k (let g = rw f at h in g) in
           record {
@@ -120,21 +120,30 @@ kept_has_row (e ∷ es) t n k h =
             stands = rw (low_ordinal (length es) rest.ordinal rest.within) rest.stands;
             teller = rest.teller;
             number = rest.number;
-            kept = rest.kept;
           }
     ]
 
--- a row of a request has what is kept under its teller and number
+-- the reference that the row of a decided request tells is the request's, and none where there is no row
+reference_told : (o : ℕ) (reference : Option (List ℕ))
+    → option_map text_of_reference (option_map (reference_row_of o) reference) ≡ reference
+reference_told o (Some text) = refl
+reference_told o None = refl
+
+-- what the rows of requests and of references under one ordinal keep
+abbrev kept_under : List DecidedRequest → ℕ → RequestRow → KeptFields
+kept_under es o row = kept_with (option_map text_of_reference (reference_row es o)) row.decision
+
+-- a row of a request has what is kept under its teller and number, with the reference under its ordinal
 row_is_kept : (es : List DecidedRequest) (o : ℕ) (row : RequestRow) → AreNew es → request_row es o ≡ Some row
-    → kept es row.teller row.number ≡ Some row.kept
+    → kept es row.teller row.number ≡ Some (kept_under es o row)
 row_is_kept [] o row h e = absurd cc
 row_is_kept (d ∷ es) o row h e =
     elim (by_test (eqb (length es + 1) o)) [
       | inl t ↦ let is : request_row_of o d ≡ row = (let g = rw t at e in cc) in
-          subst (λ (r : RequestRow). kept (d ∷ es) r.teller r.number ≡ Some r.kept) is
-          (rw (pair_same d.request.teller d.request.number) refl)
-      | inr f ↦ let older : kept es row.teller row.number ≡ Some row.kept = row_is_kept es o row h.1
-          (let g = rw f at e in g) in
+          subst (λ (r : RequestRow). kept (d ∷ es) r.teller r.number ≡ Some (kept_under (d ∷ es) o r)) is
+          (rw (pair_same d.request.teller d.request.number, t, reference_told o d.request.reference) refl)
+      | inr f ↦ let older : kept es row.teller row.number ≡ Some (kept_under es o row) =
+          row_is_kept es o row h.1 (let g = rw f at e in g) in
           elim (by_test (has_pair row.teller row.number d)) [
             | inl p ↦ let two = both_true (eqb d.request.teller row.teller) (eqb d.request.number row.number)
                 p in
@@ -142,7 +151,7 @@ row_is_kept (d ∷ es) o row h e =
                 let n-is : d.request.number ≡ row.number = eqb-true _ _ two.1 in
                 let none : kept es row.teller row.number ≡ None = rw (sym t-is, sym n-is) h.0 in
                 absurd (let g = sym none ∙ older in cc)
-            | inr g ↦ rw g older
+            | inr g ↦ rw (f, g) older
           ]
     ]
 
@@ -153,11 +162,14 @@ row_has_pair : (row : RequestRow) (t n : ℕ) → row.teller ≡ t → row.numbe
 row_has_pair row t n et en = let p : eqb row.teller t ≡ true = eq-eqb _ _ et in let q : eqb row.number n
     ≡ true = eq-eqb _ _ en in rw (p, q) refl
 
--- the rows of the decided requests, found by teller and number
-pub kept_shown : (rows : List RequestRow) (es : List DecidedRequest) → HasKeys request_key rows
-    → ((o : ℕ) → row_at request_key rows o ≡ request_row es o) → AreNew es → (t n : ℕ)
-    → kept_in rows t n ≡ kept es t n
-kept_shown rows es keys shown new t n = by_found (find (λ r. (eqb r.teller t) && (eqb r.number n)) rows) refl
+-- the rows of the decided requests, found by teller and number, with their references
+pub kept_shown : (rows : List RequestRow) (references : List ReferenceRow) (es : List DecidedRequest)
+    → HasKeys request_key rows
+    → ((o : ℕ) → row_at request_key rows o ≡ request_row es o)
+    → ((o : ℕ) → row_at reference_key references o ≡ reference_row es o) → AreNew es → (t n : ℕ)
+    → kept_in rows references t n ≡ kept es t n
+kept_shown rows references es keys shown referenced new t n =
+    by_found (find (λ r. (eqb r.teller t) && (eqb r.number n)) rows) refl
   where
     by_none : (o : Option KeptFields) → kept es t n ≡ o
         → find (λ r. (eqb r.teller t) && (eqb r.number n)) rows ≡ None → None ≡ o
@@ -170,7 +182,7 @@ kept_shown rows es keys shown new t n = by_found (find (λ r. (eqb r.teller t) &
         absurd (let g = sym (row_has_pair row.row t n row.teller row.number) ∙ failed in cc)
 
     by_found : (o : Option RequestRow) → find (λ r. (eqb r.teller t) && (eqb r.number n)) rows ≡ o
-        → option_map kept_of_row o ≡ kept es t n
+        → option_map (kept_of_row references) o ≡ kept es t n
     by_found None e = by_none (kept es t n) refl e ∙ refl
     by_found (Some row) e =
         let passes = both_true (eqb row.teller t) (eqb row.number n)
@@ -178,4 +190,6 @@ kept_shown rows es keys shown new t n = by_found (find (λ r. (eqb r.teller t) &
         let under : request_row es row.ordinal ≡ Some row = sym (shown row.ordinal) ∙ row_at-found request_key
         (λ r. (eqb r.teller t) && (eqb r.number n)) rows row keys e in
         let is = row_is_kept es row.ordinal row new under in
-        sym (rw (sym (eqb-true _ _ passes.0), sym (eqb-true _ _ passes.1)) is)
+        ap (λ (o : Option ReferenceRow). Some (kept_with (option_map text_of_reference o) row.decision))
+        (referenced row.ordinal)
+        ∙ sym (rw (sym (eqb-true _ _ passes.0), sym (eqb-true _ _ passes.1)) is)

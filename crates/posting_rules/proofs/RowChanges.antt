@@ -76,7 +76,7 @@ either_first : {A : Type 0} (a b : Bool) (x y z : A) → (a ≡ true → b ≡ f
 either_first true b x y z apart = rw (apart refl) refl
 either_first false b x y z apart = refl
 
-row_at-put : {R : Type 0} (key : R → ℕ) (x : R) (rows : List R) (n : ℕ)
+pub row_at-put : {R : Type 0} (key : R → ℕ) (x : R) (rows : List R) (n : ℕ)
     → row_at key (row_put key x rows) n ≡ cond (eqb (key x) n) (Some x) (row_at key rows n)
 row_at-put key x [] n = refl
 row_at-put key x (r ∷ rows) n =

@@ -2,14 +2,12 @@
 use Rattle.std.proofs.Common.{◌≡◌, ℕ, Bool, true, false, cond, eqb, leb, List, [], ◌∷◌, length, Option, Some}
 use Rattle.std.proofs.Common.{None, Result, Ok, Err, refl, sym, ap, subst, ◌∙◌, inl, inr}
 use Rattle.std.specs.Prelude.{ℤ, pos}
-use Rattle.std.specs.Ordering.{int_eq}
-use Rattle.std.proofs.lemmas.Cmp.{int_eq_equiv}
 use Rattle.std.proofs.lemmas.Bool.{eq-eqb}
 use Rattle.posting_rules.specs.declared.limits.TheConstants.{MAX_DECIDED}
 use Rattle.message_records.specs.declared.records.Outcome.{Outcome}
 use Rattle.message_records.specs.declared.records.Outcome.TheVariants as outcome
 use Rattle.message_records.specs.declared.fault.Bad.{Bad}
-use Rattle.message_records.specs.Records.{RequestFields, ReplyFields}
+use Rattle.message_records.specs.Records.{RequestFields, ReplyFields, unreferenced}
 use Rattle.message_records.specs.Reading.{request_of}
 use Rattle.posting_rules.specs.declared.judgments.Found.{Found}
 use Rattle.posting_rules.specs.declared.judgments.Verdict.{Verdict}
@@ -20,11 +18,11 @@ use Rattle.posting_rules.specs.Numbering.{branch_of_teller}
 use Rattle.posting_rules.specs.Cases.{new_case, account_case, plus_within, is_same, reply_in, kept_reply}
 use Rattle.posting_rules.specs.Cases.{balance_shown}
 use Rattle.posting_rules.specs.Entries.{DecidedRequest, facts, kept, with_verdict, with_record, decided}
-use Rattle.posting_rules.specs.Entries.{reply_to}
-use Rattle.posting_rules.specs.Entries.{reply}
+use Rattle.posting_rules.specs.Entries.{kept_fields, reply_to, reply}
 use Rattle.posting_rules.specs.Runs.{behind, ArePosts}
 use Rattle.posting_rules.proofs.Keyed.{by_test}
 use Rattle.posting_rules.proofs.Verdicts.{by_account, by_posting}
+use Rattle.posting_rules.proofs.VerdictsStated.{same_content}
 use Rattle.posting_rules.proofs.SettledReplies.{IsSettled, closed_case, known_is, new_is, full_is}
 use Rattle.posting_rules.proofs.SettledReplies.{settled_says}
 use Rattle.posting_rules.proofs.StaysSettled.{settled_stays}
@@ -40,22 +38,19 @@ decided_now : (opened : ℕ → Option Terms) (es : List DecidedRequest) (r : Re
     (z : ℤ)
     (out : ReplyFields)
     → is_teller_open opened r.teller ≡ true
-    → out ≡ record { outcome = o; request = Some r; balance = balance_shown o z }
+    → out ≡ record { outcome = o; request = Some (unreferenced r); balance = balance_shown o z }
     → IsSettled opened (record { moment = m; request = r; outcome = o; balance = z } ∷ es) r out
 decided_now opened es r m o z out teller_open is =
-    let k : KeptFields = record {
-      account = r.account;
-      branch = r.branch;
-      delta = r.delta;
-      outcome = o;
-      balance = z;
-    } in
-    let account : eqb r.account r.account ≡ true = eq-eqb _ _ refl in
-    let branch : eqb r.branch r.branch ≡ true = eq-eqb _ _ refl in
-    let delta : int_eq r.delta r.delta ≡ true = int_eq_equiv.refl r.delta in
+    let e : DecidedRequest = record { moment = m; request = r; outcome = o; balance = z } in
+    let k = kept_fields e in
+    let same : is_same k r ≡ true = same_content k r (record {
+      account = refl;
+      branch = refl;
+      delta = refl;
+      reference = refl;
+    }) in
     let teller : eqb r.teller r.teller ≡ true = eq-eqb _ _ refl in
     let number : eqb r.number r.number ≡ true = eq-eqb _ _ refl in
-    let same : is_same k r ≡ true = rw (account, branch, delta) refl in
     inr (inl (record {
       teller = teller_open;
       fields = k;

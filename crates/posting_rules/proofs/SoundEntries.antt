@@ -9,7 +9,7 @@ use Rattle.message_records.specs.declared.limits.TheConstants.{MAX_MOMENT, MAX_B
 use Rattle.message_records.specs.declared.fault.Bad.{Bad}
 use Rattle.message_records.specs.Records.{RequestFields, IsRequest}
 use Rattle.message_records.specs.Reading.{request_of}
-use Rattle.message_records.proofs.Requests.{request_takes}
+use Rattle.message_records.proofs.Requests.{read_in_range}
 use Rattle.posting_rules.specs.declared.judgments.Verdict.{Verdict}
 use Rattle.posting_rules.specs.declared.judgments.Verdict.TheVariants.{Unkept, Again, Refused, Posted}
 use Rattle.posting_rules.specs.Commands.{Command, Open, Post, IsCommand, AreCommands, opened, Terms}
@@ -93,7 +93,7 @@ sound_record : (opened : ℕ → Option Terms) (es : List DecidedRequest) (m : �
 sound_record opened es m bytes (Ok r) e is all =
     sound_verdict opened es m r (case_of (facts opened es r) r) (verdict_is opened es r)
     (keepable opened es r)
-    (request_takes r bytes is.1 e).1 is.0 all
+    (read_in_range bytes r is.1 e) is.0 all
 sound_record opened es m bytes (Err fault) e is all = all
 
 -- every request that a log of commands decides is sound

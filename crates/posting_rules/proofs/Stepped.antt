@@ -18,6 +18,7 @@ use Rattle.posting_rules.specs.declared.rows.AccountRow.{AccountRow}
 use Rattle.posting_rules.specs.declared.rows.HistoryRow.{HistoryRow}
 use Rattle.posting_rules.specs.declared.rows.RequestRow.{RequestRow}
 use Rattle.posting_rules.specs.declared.rows.FloorRow.{FloorRow}
+use Rattle.posting_rules.specs.declared.rows.ReferenceRow.{ReferenceRow}
 use Rattle.posting_rules.specs.Commands.{Command, Post, opened, is_teller_open, is_account_open, Terms}
 use Rattle.posting_rules.specs.Numbering.{branch_of_teller}
 use Rattle.posting_rules.specs.Cases.{case_of, reply_in}
@@ -28,9 +29,11 @@ use Rattle.posting_rules.specs.Entries.{with_record, reply_to, decided, reply}
 use Rattle.posting_rules.specs.Tables.{Tables, HasRows, HasKeys, AreTablesOf, row_at, branch_key, teller_key}
 use Rattle.posting_rules.specs.Tables.{account_key, history_key, request_key, branch_row_of, teller_row_of}
 use Rattle.posting_rules.specs.Tables.{account_row_of, history_row, history_row_of, request_row}
-use Rattle.posting_rules.specs.Tables.{request_row_of, floor_key}
+use Rattle.posting_rules.specs.Tables.{request_row_of, floor_key, reference_key, reference_row}
+use Rattle.posting_rules.specs.Tables.{reference_row_of}
 use Rattle.posting_rules.specs.LookUps.{found_in}
-use Rattle.posting_rules.specs.Steps.{GainsRow, KeepsRefusal, KeepsPosting, IsStep, with_branch_balance}
+use Rattle.posting_rules.specs.Steps.{GainsRow, AddsReference, KeepsRefusal, KeepsPosting, IsStep}
+use Rattle.posting_rules.specs.Steps.{with_branch_balance}
 use Rattle.posting_rules.specs.Steps.{with_teller_balance, with_account_balance}
 use Rattle.posting_rules.proofs.Verdicts.{IsVerdict, IsPosting, IsRefusal, verdict_is}
 use Rattle.posting_rules.proofs.Requests.{are_new}
@@ -38,10 +41,13 @@ use Rattle.posting_rules.proofs.Looked.{found_shown}
 
 -- ---- rows under ordinals
 
+one_more : (n : ℕ) → n + 1 ≡ suc n
+one_more n = omega arith
+
 other_ordinal : (n o : ℕ) → n < o → eqb (n + 1) (suc o) ≡ false
 other_ordinal n o lt = grind (arith, nat_tests)
 
--- no request and no posting has an ordinal past the last one
+-- no request, no posting and no reference has an ordinal past the last one
 pub request_row_past : (es : List DecidedRequest) (o : ℕ) → length es ≤ o → request_row es (suc o) ≡ None
 request_row_past [] o le = refl
 request_row_past (e ∷ es) o le = rw (other_ordinal (length es) o (omega arith))
@@ -55,6 +61,12 @@ pub history_row_past : (es : List DecidedRequest) (o : ℕ) → length es ≤ o 
 history_row_past [] o le = refl
 history_row_past (e ∷ es) o le = rw (other_ordinal (length es) o (omega arith), and_false (is_posted e))
     (history_row_past es o (omega arith))
+
+pub reference_row_past : (es : List DecidedRequest) (o : ℕ) → length es ≤ o
+    → reference_row es (suc o) ≡ None
+reference_row_past [] o le = refl
+reference_row_past (e ∷ es) o le = rw (other_ordinal (length es) o (omega arith))
+    (reference_row_past es o (omega arith))
 
 requests_added : (old new : List RequestRow) (es : List DecidedRequest) (e : DecidedRequest)
     → GainsRow request_key (request_row_of (length es + 1) e) old new
@@ -84,6 +96,38 @@ history_added old new es e done adds shown o =
         (Some (history_row_of o e)) (history_row es o)
     named true t = ap (λ (n : ℕ). Some (history_row_of n e)) (eqb-true _ _ t)
     named false f = refl
+
+-- the next ordinal has the reference of the request that is decided under it, or none
+references_added : (old new : List ReferenceRow) (es : List DecidedRequest) (e : DecidedRequest)
+    (reference : Option (List ℕ))
+    → e.request.reference ≡ reference → AddsReference (length es + 1) reference old new
+    → ((o : ℕ) → row_at reference_key old o ≡ reference_row es o) → (o : ℕ)
+    → row_at reference_key new o ≡ reference_row (e ∷ es) o
+references_added old new es e None its adds shown o =
+    ap (λ (rows : List ReferenceRow). row_at reference_key rows o) adds ∙ shown o ∙ rw its
+    (unreferenced (eqb (length es + 1) o) refl)
+  where
+    unreferenced : (b : Bool) → eqb (length es + 1) o ≡ b
+        → reference_row es o ≡ cond b None (reference_row es o)
+    unreferenced true t =
+        ap (λ (n : ℕ). reference_row es n) (sym (eqb-true _ _ t) ∙ one_more (length es))
+        ∙ reference_row_past es (length es) (omega arith)
+    unreferenced false f = refl
+references_added old new es e (Some text) its adds shown o =
+    adds.rows o ∙ ap (cond (eqb (length es + 1) o) (Some (reference_row_of (length es + 1) text))) (shown o)
+    ∙ rw its (named (eqb (length es + 1) o) refl)
+  where
+    named : (b : Bool) → eqb (length es + 1) o ≡ b
+        → cond b (Some (reference_row_of (length es + 1) text)) (reference_row es o) ≡ cond b
+        (Some (reference_row_of o text)) (reference_row es o)
+    named true t = ap (λ (n : ℕ). Some (reference_row_of n text)) (eqb-true _ _ t)
+    named false f = refl
+
+reference_keys_added : (old new : List ReferenceRow) (ordinal : ℕ) (reference : Option (List ℕ))
+    → AddsReference ordinal reference old new → HasKeys reference_key old → HasKeys reference_key new
+reference_keys_added old new ordinal None adds keys = subst
+    (λ (rows : List ReferenceRow). HasKeys reference_key rows) (sym adds) keys
+reference_keys_added old new ordinal (Some text) adds keys = adds.keys
 
 -- ---- balances
 
@@ -121,9 +165,6 @@ account_changed false hit n z old delta h = refl
 
 -- ---- the two verdicts that change tables
 
-one_more : (n : ℕ) → n + 1 ≡ suc n
-one_more n = omega arith
-
 refusal_shown : (old new : Tables) (opened : ℕ → Option Terms) (es : List DecidedRequest) (m : ℕ)
     (r : RequestFields)
     (o : Outcome)
@@ -145,6 +186,8 @@ refusal_shown old new opened es m r o s h step =
       history = λ k. ap (λ (rows : List HistoryRow). row_at history_key rows k) step.history ∙ s.history k
           ∙ unposted_history es e h.unposted k;
       requests = requests_added old.requests new.requests es e step.requests s.requests;
+      references = references_added old.references new.references es e r.reference refl step.references
+          s.references;
       floors = λ b. ap (λ (rows : List FloorRow). row_at floor_key rows b) step.floors ∙ s.floors b;
       branch_keys = subst (λ (rows : List BranchRow). HasKeys branch_key rows)
           (sym step.branches) s.branch_keys;
@@ -156,6 +199,8 @@ refusal_shown old new opened es m r o s h step =
           (sym step.history) s.history_keys;
       request_keys = step.requests.keys;
       floor_keys = subst (λ (rows : List FloorRow). HasKeys floor_key rows) (sym step.floors) s.floor_keys;
+      reference_keys = reference_keys_added old.references new.references (length es + 1) r.reference
+          step.references s.reference_keys;
     }
 
 posting_shown : (old new : Tables) (opened : ℕ → Option Terms) (es : List DecidedRequest) (m : ℕ)
@@ -185,6 +230,8 @@ posting_shown old new opened es m r a t b s h step =
           (λ q. h.account_is.sum ∙ ap (λ (x : ℕ). account_balance es x +ℤ r.delta) (eqb-true _ _ q));
       history = history_added old.history new.history es e refl step.history s.history;
       requests = requests_added old.requests new.requests es e step.requests s.requests;
+      references = references_added old.references new.references es e r.reference refl step.references
+          s.references;
       floors = λ n. ap (λ (rows : List FloorRow). row_at floor_key rows n) step.floors ∙ s.floors n;
       branch_keys = step.branches.keys;
       teller_keys = step.tellers.keys;
@@ -192,6 +239,8 @@ posting_shown old new opened es m r a t b s h step =
       history_keys = step.history.keys;
       request_keys = step.requests.keys;
       floor_keys = subst (λ (rows : List FloorRow). HasKeys floor_key rows) (sym step.floors) s.floor_keys;
+      reference_keys = reference_keys_added old.references new.references (length es + 1) r.reference
+          step.references s.reference_keys;
     }
 
 verdict_shown : (old new : Tables) (opened : ℕ → Option Terms) (es : List DecidedRequest) (m : ℕ)

@@ -8,17 +8,19 @@ use Rattle.posting_rules.specs.declared.judgments.Verdict.{Verdict}
 use Rattle.posting_rules.specs.declared.judgments.Verdict.TheVariants.{Unkept, Again, Refused, Posted}
 use Rattle.posting_rules.specs.declared.rows.RequestRow.{RequestRow}
 use Rattle.posting_rules.specs.declared.rows.FloorRow.{FloorRow}
+use Rattle.posting_rules.specs.declared.rows.ReferenceRow.{ReferenceRow}
 use Rattle.posting_rules.specs.Commands.{Command, AreCommands, Terms}
 use Rattle.posting_rules.specs.Cases.{case_of, plus_within}
 use Rattle.posting_rules.specs.Entries.{DecidedRequest, refused_entry, posted_entry}
 use Rattle.posting_rules.specs.Tables.{Tables, AreTablesOf, HasKeys, row_at, branch_key, teller_key}
 use Rattle.posting_rules.specs.Tables.{account_key}
 use Rattle.posting_rules.specs.Tables.{history_key, request_key, branch_row_of, request_row_of}
-use Rattle.posting_rules.specs.Tables.{history_row_of, floor_key, floor_row_of}
+use Rattle.posting_rules.specs.Tables.{history_row_of, floor_key, floor_row_of, reference_key}
+use Rattle.posting_rules.specs.Tables.{reference_row_of}
 use Rattle.posting_rules.specs.LookUps.{both_of, balance_of_branch, balance_of_teller, balance_of_account}
 use Rattle.posting_rules.specs.LookUps.{found_in}
 use Rattle.posting_rules.specs.Steps.{GainsRow, AddsRows, AddsFloor, KeepsRefusal, KeepsPosting, IsStep}
-use Rattle.posting_rules.specs.Steps.{OpensBranch}
+use Rattle.posting_rules.specs.Steps.{OpensBranch, AddsReference}
 use Rattle.posting_rules.specs.Numbering.{branch_of_teller, first_teller, first_account}
 use Rattle.posting_rules.specs.Steps as steps
 use Rattle.posting_rules.proofs.Undamaged.{undamaged}
@@ -26,6 +28,7 @@ use Rattle.posting_rules.proofs.Verdicts.{by_posting, by_account, by_new, by_kno
 use Rattle.posting_rules.specs.Changes.{rows_put, new_teller, new_account, with_decided, with_branch_balance}
 use Rattle.posting_rules.specs.Changes.{with_teller_balance, with_account_balance, with_branch, with_teller}
 use Rattle.posting_rules.specs.Changes.{with_account, with_history, with_request, with_floor, floor_put}
+use Rattle.posting_rules.specs.Changes.{with_reference, reference_put}
 use Rattle.posting_rules.specs.Sound.{AreSound}
 use Rattle.posting_rules.specs.Changes.{tables_kept, tables_moved, tables_posted, tables_after, with_tellers}
 use Rattle.posting_rules.specs.Changes.{with_accounts, tables_opened, HasRowsOf}
@@ -43,14 +46,23 @@ sound_tables t log are shows = record {
   history = shows.rows.history_keys;
   requests = shows.rows.request_keys;
   floors = shows.rows.floor_keys;
+  references = shows.rows.reference_keys;
 }
 
 -- ---- what is decided
 
+-- the reference that is put in
+reference_adds : (ordinal : ℕ) (reference : Option (List ℕ)) (rows : List ReferenceRow)
+    → HasKeys reference_key rows → row_at reference_key rows ordinal ≡ None
+    → AddsReference ordinal reference rows (reference_put ordinal reference rows)
+reference_adds ordinal None rows keys free = refl
+reference_adds ordinal (Some text) rows keys free = row_adds reference_key rows
+    (reference_row_of ordinal text) keys free
+
 -- the tables of a refusal
 pub refused_is : (t : Tables) (e : DecidedRequest) → AreReady t
     → KeepsRefusal t (tables_kept t (t.decided + 1) e) (t.decided + 1) e
-unfolding with_decided with_request
+unfolding with_decided with_request with_reference
 refused_is t e ready = record {
   decided = refl;
   branches = refl;
@@ -59,13 +71,16 @@ refused_is t e ready = record {
   history = refl;
   requests = row_adds request_key t.requests
       (request_row_of (t.decided + 1) e) ready.requests ready.next_request;
+  references = reference_adds (t.decided + 1) e.request.reference t.references
+      ready.references ready.next_reference;
   floors = refl;
 }
 
 -- the tables of a posting
 pub posted_is : (t : Tables) (e : DecidedRequest) (teller branch : ℤ) → AreReady t
     → KeepsPosting t (tables_posted t (t.decided + 1) e teller branch) (t.decided + 1) e teller branch
-unfolding with_decided with_request with_history with_branch_balance with_teller_balance with_account_balance
+unfolding with_decided with_request with_reference with_history
+    with_branch_balance with_teller_balance with_account_balance
 posted_is t e teller branch ready = record {
   decided = refl;
   branches =
@@ -79,6 +94,8 @@ posted_is t e teller branch ready = record {
       (history_row_of (t.decided + 1) e) ready.history ready.next_posting;
   requests = row_adds request_key t.requests
       (request_row_of (t.decided + 1) e) ready.requests ready.next_request;
+  references = reference_adds (t.decided + 1) e.request.reference t.references
+      ready.references ready.next_reference;
   floors = refl;
 }
 
@@ -102,6 +119,33 @@ pub request_as_before : (t : Tables) (ordinal : ℕ) (e : DecidedRequest) (telle
     → row_at request_key (tables_moved t ordinal e teller branch).requests n ≡ row_at request_key t.requests n
 request_as_before t ordinal e teller branch n =
     ap (λ (rows : List RequestRow). row_at request_key rows n) (requests_as_before t ordinal e teller branch)
+
+-- its writes leave the references too, and so does the row of the request
+pub references_as_before : (t : Tables) (ordinal : ℕ) (e : DecidedRequest) (teller branch : ℤ)
+    → (with_request (request_row_of ordinal e) (tables_moved t ordinal e teller branch)).references
+    ≡ t.references
+unfolding with_request with_history with_branch_balance with_teller_balance with_account_balance
+references_as_before t ordinal e teller branch = refl
+
+-- so that the next ordinal's reference is as free behind these as before
+pub reference_as_before : (t : Tables) (ordinal : ℕ) (e : DecidedRequest) (teller branch : ℤ) (n : ℕ)
+    → row_at reference_key
+    (with_request (request_row_of ordinal e) (tables_moved t ordinal e teller branch)).references n
+    ≡ row_at reference_key t.references n
+reference_as_before t ordinal e teller branch n =
+    ap (λ (rows : List ReferenceRow). row_at reference_key rows n)
+    (references_as_before t ordinal e teller branch)
+
+-- and so it is behind the row of a refused request
+pub reference_behind_request : (row : RequestRow) (t : Tables) (n : ℕ)
+    → row_at reference_key (with_request row t).references n ≡ row_at reference_key t.references n
+unfolding with_request
+reference_behind_request row t n = refl
+
+-- a request without a reference adds none
+pub no_reference_more : (ordinal : ℕ) (t : Tables) → t ≡ with_reference ordinal None t
+unfolding with_reference
+no_reference_more ordinal t = refl
 
 -- ---- the rows that a posting changes
 
@@ -165,6 +209,7 @@ opens_is t b terms ready low most none = record {
       ready.accounts (λ n lt. no_account t b n ready low none (omega arith));
   history = refl;
   requests = refl;
+  references = refl;
   floors = floor_adds b terms.floor t.floors ready.floors (ready.its_floors b none);
 }
 

@@ -9,13 +9,14 @@ use Rattle.std.proofs.lemmas.List.Elements.{All-contains, All-from_recursion}
 use Rattle.posting_rules.specs.declared.limits.TheConstants.{MAX_DECIDED, LAST_BRANCH, ACCOUNTS_PER_BRANCH}
 use Rattle.posting_rules.specs.declared.limits.TheConstants.{TELLERS_PER_BRANCH}
 use Rattle.message_records.specs.declared.limits.TheConstants.{MAX_BALANCE}
-use Rattle.message_records.specs.Records.{RequestFields, IsRequest}
+use Rattle.message_records.specs.Records.{RequestFields, IsRequest, IsReference}
 use Rattle.posting_rules.specs.declared.rows.BranchRow.{BranchRow}
 use Rattle.posting_rules.specs.declared.rows.TellerRow.{TellerRow}
 use Rattle.posting_rules.specs.declared.rows.AccountRow.{AccountRow}
 use Rattle.posting_rules.specs.declared.rows.HistoryRow.{HistoryRow}
 use Rattle.posting_rules.specs.declared.rows.RequestRow.{RequestRow}
 use Rattle.posting_rules.specs.declared.rows.FloorRow.{FloorRow}
+use Rattle.posting_rules.specs.declared.rows.ReferenceRow.{ReferenceRow}
 use Rattle.posting_rules.specs.Commands.{Command, Open, IsCommand, AreCommands, opened, is_within}
 use Rattle.posting_rules.specs.Commands.{is_teller_open, is_account_open, Terms, IsFloor}
 use Rattle.posting_rules.specs.Numbering.{branch_of_teller, branch_of_account, place_of_account}
@@ -26,10 +27,12 @@ use Rattle.posting_rules.specs.Tables.{Tables, AreTablesOf, HasKeys, row_at, bra
 use Rattle.posting_rules.specs.Tables.{account_key}
 use Rattle.posting_rules.specs.Tables.{history_key, request_key, branch_row_of, teller_row_of, account_row_of}
 use Rattle.posting_rules.specs.Tables.{history_row, history_row_of, request_row, request_row_of}
-use Rattle.posting_rules.specs.Tables.{floor_key, floor_row_of}
+use Rattle.posting_rules.specs.Tables.{floor_key, floor_row_of, reference_key, reference_row}
+use Rattle.posting_rules.specs.Tables.{reference_row_of}
 use Rattle.posting_rules.specs.LookUps.{floor_in}
 use Rattle.posting_rules.specs.Damage.{IsSoundBranch, IsSoundTeller, IsSoundAccount, IsSoundRequest}
-use Rattle.posting_rules.specs.Damage.{IsSoundPosting, IsSoundFloor, FieldsAreInRange, IsUndamaged}
+use Rattle.posting_rules.specs.Damage.{IsSoundPosting, IsSoundFloor, IsSoundReference, FieldsAreInRange}
+use Rattle.posting_rules.specs.Damage.{IsUndamaged}
 use Rattle.posting_rules.proofs.Keyed.{by_test}
 use Rattle.posting_rules.proofs.Verdicts.{when}
 use Rattle.posting_rules.proofs.NamedOpen.{both, some_within}
@@ -130,7 +133,7 @@ floor_sound (Some n) b r h e = by_floor n.floor h.4 e
         let is : floor_row_of b z ≡ r = cc in
         subst IsSoundFloor is (record { some = h.0; most = h.1; lowest = its })
 
--- ---- requests and history
+-- ---- requests, history and references
 
 -- a request's account, teller, branch and amount are in their ranges
 in_range : (r : RequestFields) → IsRequest r → FieldsAreInRange r.account r.teller r.branch r.delta
@@ -153,7 +156,7 @@ request_row_sound o e h least most = record {
   fields = in_range e.request h.request;
   number_above = h.request.number_above;
   number = h.request.number;
-  kept = h.kept;
+  decision = h.kept;
   balance = h.balance;
 }
 
@@ -190,6 +193,28 @@ posting_sound (e ∷ es) o r all h =
           let range = ordinal_within (length es) o (both (is_posted e) (eqb (length es + 1) o) t).1 all.1 in
           subst IsSoundPosting is (posting_row_sound o e all.0 range.0 range.1)
       | inr f ↦ posting_sound es o r all.2 (let g = rw f at h in g)
+    ]
+
+-- a reference that a request came with
+reference_row_sound : (o : ℕ) (reference : Option (List ℕ)) (r : ReferenceRow) → IfSome reference IsReference
+    → 1 ≤ o → o ≤ MAX_DECIDED → option_map (reference_row_of o) reference ≡ Some r → IsSoundReference r
+reference_row_sound o None r h least most same = absurd cc
+reference_row_sound o (Some text) r h least most same =
+    let is : reference_row_of o text ≡ r = cc in
+    subst IsSoundReference is (record { ordinal_above = least; ordinal = most; reference = h })
+
+-- the row of one of the references
+reference_sound : (es : List DecidedRequest) (o : ℕ) (r : ReferenceRow) → AreSound es
+    → reference_row es o ≡ Some r
+    → IsSoundReference r
+reference_sound [] o r all h = absurd cc
+reference_sound (e ∷ es) o r all h =
+    elim (by_test (eqb (length es + 1) o)) [
+      | inl t ↦
+          let range = ordinal_within (length es) o t all.1 in
+          reference_row_sound o e.request.reference r all.0.request.reference range.0 range.1
+          (let g = rw t at h in g)
+      | inr f ↦ reference_sound es o r all.2 (let g = rw f at h in g)
     ]
 
 -- ---- the law
@@ -231,6 +256,10 @@ undamaged t log are shows =
       each_posting = λ r has.
           posting_sound es r.ordinal r all
           (sym (s.history r.ordinal) ∙ row_at-contained history_key t.history r s.history_keys has);
+      each_reference = λ r has.
+          reference_sound es r.ordinal r all
+          (sym (s.references r.ordinal) ∙ row_at-contained reference_key t.references r s.reference_keys has);
       next_request = ready.next_request;
       next_posting = ready.next_posting;
+      next_reference = ready.next_reference;
     }

@@ -1,11 +1,12 @@
 -- What the table of cases says of a request behind a log, by what stands before it.
 use Rattle.std.proofs.Common.{◌≡◌, ◌≢◌, ℕ, ◌<◌, ◌≤◌, Bool, true, false, cond, eqb, leb, List, length, Some}
-use Rattle.std.proofs.Common.{None, refl, sym, subst, ◌∙◌, arith, inl, inr}
+use Rattle.std.proofs.Common.{None, refl, sym, ap, subst, ◌∙◌, arith, inl, inr}
 use Rattle.std.specs.Prelude.{ℤ, ◌+ℤ◌, ◌≤ℤ◌, nat_abs, ◌⊎◌, ◌&&◌, Option, IfSome, int_lt}
 use Rattle.std.specs.Ordering.{int_eq}
 use Rattle.std.proofs.lemmas.Bool.{eqb-true, eq-eqb, leb-true, le-leb}
 use Rattle.std.proofs.lemmas.Bool.Decides.{nat_tests, Decides-int_eq}
 use Rattle.std.proofs.lemmas.Int.{ints}
+use Rattle.std.proofs.lemmas.Slice.Eq.{bytes_eq-Decides}
 use Rattle.posting_rules.specs.declared.limits.TheConstants.{MAX_DECIDED}
 use Rattle.message_records.specs.declared.limits.TheConstants.{MAX_BALANCE}
 use Rattle.message_records.specs.declared.records.Outcome.TheVariants as outcome
@@ -17,7 +18,7 @@ use Rattle.posting_rules.specs.Commands.{Command, opened, is_teller_open, is_acc
 use Rattle.posting_rules.specs.Numbering.{branch_of_teller, branch_of_account}
 use Rattle.posting_rules.specs.Kept.{KeptFields}
 use Rattle.posting_rules.specs.Cases.{case_of, new_case, posting_of, plus_within, is_below, is_same}
-use Rattle.posting_rules.specs.Cases.{kept_reply}
+use Rattle.posting_rules.specs.Cases.{is_same_reference, kept_reply}
 use Rattle.posting_rules.specs.Entries.{facts, kept, account_balance, teller_balance, branch_balance, decided}
 use Rattle.posting_rules.specs.Stated.{IsDecided, IsWithin, StaysAbove, IsPosted, HasContent}
 use Rattle.posting_rules.proofs.Keyed.{by_test}
@@ -52,28 +53,46 @@ stays_up (Some l) z h = elim (by_test (int_lt z l)) [ inl t ↦ absurd (omega (a
 not_same : (m n : ℕ) → (m ≡ n → ⊥) → eqb m n ≡ false
 not_same m n h = grind (arith, nat_tests)
 
-both_tests : (a b c : Bool) → a ≡ true → b ≡ true → c ≡ true → (a && (b && c)) ≡ true
-both_tests a b c ea eb ec = rw (ea, eb, ec) refl
+-- references, or their absence, that the test finds the same
+same_reference : (one other : Option (List ℕ)) → is_same_reference one other ≡ true → one ≡ other
+same_reference None None e = refl
+same_reference None (Some other) e = absurd cc
+same_reference (Some one) None e = absurd cc
+same_reference (Some one) (Some other) e = ap Some ((bytes_eq-Decides one other).0 e)
+
+pub its_own_reference : (one : Option (List ℕ)) → is_same_reference one one ≡ true
+its_own_reference None = refl
+its_own_reference (Some one) = (bytes_eq-Decides one one).1 refl
+
+all_pass : (a b c d : Bool) → a ≡ true → b ≡ true → c ≡ true → d ≡ true → (a && (b && (c && d))) ≡ true
+all_pass a b c d ea eb ec ed = rw (ea, eb, ec, ed) refl
 
 pub same_content : (k : KeptFields) (r : RequestFields) → HasContent k r → is_same k r ≡ true
 same_content k r h =
-    both_tests (eqb k.account r.account) (eqb k.branch r.branch) (int_eq k.delta r.delta)
-    (eq-eqb _ _ h.account) (eq-eqb _ _ h.branch) ((Decides-int_eq k.delta r.delta).1 h.delta)
+    let kept = k.decision in
+    all_pass (eqb kept.account r.account) (eqb kept.branch r.branch) (int_eq kept.delta r.delta)
+    (is_same_reference k.reference r.reference)
+    (eq-eqb _ _ h.account) (eq-eqb _ _ h.branch) ((Decides-int_eq kept.delta r.delta).1 h.delta)
+    (subst (λ o. is_same_reference k.reference o ≡ true) h.reference (its_own_reference k.reference))
 
-all_tests : (a b c : Bool) → (a && (b && c)) ≡ true → (a ≡ true) × (b ≡ true) × (c ≡ true)
-all_tests true true c e = (refl, refl, e)
-all_tests true false c e = absurd cc
-all_tests false b c e = absurd cc
+each_passes : (a b c d : Bool) → (a && (b && (c && d))) ≡ true
+    → (a ≡ true) × (b ≡ true) × (c ≡ true) × (d ≡ true)
+each_passes true true true d e = (refl, refl, refl, e)
+each_passes true true false d e = absurd cc
+each_passes true false c d e = absurd cc
+each_passes false b c d e = absurd cc
 
 pub other_content : (k : KeptFields) (r : RequestFields) → (HasContent k r → ⊥) → is_same k r ≡ false
 other_content k r h =
+    let kept = k.decision in
     elim (by_test (is_same k r)) [
-      | inl t ↦ let each = all_tests (eqb k.account r.account) (eqb k.branch r.branch)
-          (int_eq k.delta r.delta) t in
+      | inl t ↦ let each = each_passes (eqb kept.account r.account) (eqb kept.branch r.branch)
+          (int_eq kept.delta r.delta) (is_same_reference k.reference r.reference) t in
           absurd (h (record {
             account = eqb-true _ _ each.0;
             branch = eqb-true _ _ each.1;
-            delta = (Decides-int_eq k.delta r.delta).0 each.2;
+            delta = (Decides-int_eq kept.delta r.delta).0 each.2;
+            reference = same_reference k.reference r.reference each.3;
           }))
       | inr f ↦ f
     ]

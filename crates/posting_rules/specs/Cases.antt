@@ -1,22 +1,31 @@
 -- What becomes of a request, by what is known where it comes in: the first case that applies.
-use Rattle.std.specs.Prelude.{ℤ, ◌+ℤ◌, Option, Some, None, Bool, true, false, ◌==◌, ◌&&◌, nat_le, ◌<◌, IsTrue}
-use Rattle.std.specs.Prelude.{if◌then◌else◌, int_lt}
+use Rattle.std.specs.Prelude.{ℕ, ℤ, ◌+ℤ◌, List, Option, Some, None, Bool, true, false, ◌==◌, ◌&&◌, nat_le, ◌<◌}
+use Rattle.std.specs.Prelude.{if◌then◌else◌, int_lt, IsTrue}
+use Rattle.std.specs.Str.{bytes_eq}
 use Rattle.std.specs.Ordering.{int_eq}
 use Rattle.posting_rules.specs.declared.limits.TheConstants.{MAX_DECIDED}
 use Rattle.message_records.specs.declared.limits.TheConstants.{MAX_BALANCE}
 use Rattle.message_records.specs.declared.records.Outcome.{Outcome}
 use Rattle.message_records.specs.declared.records.Outcome.TheVariants as outcome
 use Rattle.message_records.specs.Ranges.{cents_within}
-use Rattle.message_records.specs.Records.{RequestFields, ReplyFields}
+use Rattle.message_records.specs.Records.{RequestFields, ReplyFields, unreferenced}
 use Rattle.posting_rules.specs.declared.judgments.Found.{Found}
 use Rattle.posting_rules.specs.declared.judgments.Verdict.{Verdict}
 use Rattle.posting_rules.specs.declared.judgments.Verdict.TheVariants.{Unkept, Again, Refused, Posted}
 use Rattle.posting_rules.specs.Numbering.{branch_of_teller}
 use Rattle.posting_rules.specs.Kept.{KeptFields}
 
+-- one reference, or none on either side
+abbrev pub is_same_reference : Option (List ℕ) → Option (List ℕ) → Bool
+is_same_reference None None = true
+is_same_reference (Some one) (Some other) = bytes_eq one other
+is_same_reference _ _ = false
+
 -- the kept request has the content of this one
 abbrev pub is_same : KeptFields → RequestFields → Bool
-is_same k r = (k.account == r.account) && ((k.branch == r.branch) && int_eq k.delta r.delta)
+is_same k r =
+    (k.decision.account == r.account) && ((k.decision.branch == r.branch) && (int_eq k.decision.delta r.delta
+    && is_same_reference k.reference r.reference))
 
 abbrev pub balance_shown : Outcome → ℤ → Option ℤ
 balance_shown outcome.Posted z = Some z
@@ -24,7 +33,11 @@ balance_shown _ z = None
 
 -- the reply that the kept request got
 abbrev pub kept_reply : KeptFields → RequestFields → ReplyFields
-kept_reply k r = record { outcome = k.outcome; request = Some r; balance = balance_shown k.outcome k.balance }
+kept_reply k r = record {
+  outcome = k.decision.outcome;
+  request = Some (unreferenced r);
+  balance = balance_shown k.decision.outcome k.decision.balance;
+}
 
 -- a balance with an amount added, where it stays within the limit (TPC-B 1.2)
 abbrev pub plus_within : ℤ → ℤ → Option ℤ
@@ -63,14 +76,14 @@ teller_case (Some balances) f r = known_case f.kept f r balances.0 balances.1
 unfoldable pub case_of : Found → RequestFields → Verdict
 case_of f r = teller_case f.teller f r
 
--- the reply in each case
+-- the reply in each case; it shows the request without its reference
 abbrev pub reply_in : Verdict → RequestFields → ReplyFields
-reply_in (Unkept outcome) r = record { outcome = outcome; request = Some r; balance = None }
+reply_in (Unkept outcome) r = record { outcome = outcome; request = Some (unreferenced r); balance = None }
 reply_in (Again reply) r = reply
-reply_in (Refused outcome) r = record { outcome = outcome; request = Some r; balance = None }
+reply_in (Refused outcome) r = record { outcome = outcome; request = Some (unreferenced r); balance = None }
 reply_in (Posted account teller branch) r = record {
   outcome = outcome.Posted;
-  request = Some r;
+  request = Some (unreferenced r);
   balance = Some account;
 }
 

@@ -4,13 +4,15 @@ use Rattle.std.specs.Prelude.{Option, Some, None, Result, Ok, Err, IsSome}
 use Rattle.posting_rules.specs.declared.limits.TheConstants.{TELLERS_PER_BRANCH}
 use Rattle.posting_rules.specs.Tables.{Tables, branch_key, teller_key, account_key, history_key, request_key}
 use Rattle.posting_rules.specs.Tables.{row_at, branch_row_of, teller_row_of, account_row_of, request_row_of}
-use Rattle.posting_rules.specs.Tables.{history_row_of, floor_key, floor_row_of}
+use Rattle.posting_rules.specs.Tables.{history_row_of, floor_key, floor_row_of, reference_key}
+use Rattle.posting_rules.specs.Tables.{reference_row_of}
 use Rattle.posting_rules.specs.declared.rows.BranchRow.{BranchRow}
 use Rattle.posting_rules.specs.declared.rows.TellerRow.{TellerRow}
 use Rattle.posting_rules.specs.declared.rows.AccountRow.{AccountRow}
 use Rattle.posting_rules.specs.declared.rows.HistoryRow.{HistoryRow}
 use Rattle.posting_rules.specs.declared.rows.RequestRow.{RequestRow}
 use Rattle.posting_rules.specs.declared.rows.FloorRow.{FloorRow}
+use Rattle.posting_rules.specs.declared.rows.ReferenceRow.{ReferenceRow}
 use Rattle.message_records.specs.Spelling.{reply_spelling}
 use Rattle.message_records.specs.declared.fault.Bad.{Bad}
 use Rattle.message_records.specs.Records.{RequestFields}
@@ -95,11 +97,20 @@ floor_put branch (Some lowest) rows = row_put floor_key (floor_row_of branch low
 unfoldable pub with_floor : ℕ → Option ℤ → Tables → Tables
 with_floor branch floor t = record t { floors = floor_put branch floor t.floors }
 
+-- the reference of a decided request more, where it has one
+abbrev pub reference_put : ℕ → Option (List ℕ) → List ReferenceRow → List ReferenceRow
+reference_put ordinal None rows = rows
+reference_put ordinal (Some text) rows = row_put reference_key (reference_row_of ordinal text) rows
+
+unfoldable pub with_reference : ℕ → Option (List ℕ) → Tables → Tables
+with_reference ordinal reference t = record t { references = reference_put ordinal reference t.references }
+
 -- ---- a verdict
 
--- a decided request is kept under its ordinal, and counted
+-- a decided request is kept under its ordinal, posted or not, with its reference, and counted
 abbrev pub tables_kept : Tables → ℕ → DecidedRequest → Tables
-tables_kept t ordinal e = with_decided ordinal (with_request (request_row_of ordinal e) t)
+tables_kept t ordinal e =
+    with_decided ordinal (with_reference ordinal e.request.reference (with_request (request_row_of ordinal e) t))
 
 -- the three balances of a posting are written, and its row of history (TPC-B 1.2)
 abbrev pub tables_moved : Tables → ℕ → DecidedRequest → ℤ → ℤ → Tables
@@ -108,7 +119,7 @@ tables_moved t ordinal e teller branch =
     (with_branch_balance (branch_of_teller e.request.teller) branch
     (with_teller_balance e.request.teller teller (with_account_balance e.request.account e.balance t)))
 
--- the three balances, the row of history and the row of the request (TPC-B 1.2)
+-- the three balances, the row of history, and the row of the request with its reference (TPC-B 1.2)
 abbrev pub tables_posted : Tables → ℕ → DecidedRequest → ℤ → ℤ → Tables
 tables_posted t ordinal e teller branch = tables_kept (tables_moved t ordinal e teller branch) ordinal e
 

@@ -148,6 +148,8 @@ pub record HasRefused {C : Type 0} (seen : C → Seen) (reason : Fault → C →
   pub why : reason fault stood new
   pub tried : (seen stood).is_down → fault ≡ Down
   pub untried : fault ≡ Down → new ≡ stood
+  -- one that was down from the start stood as it was: it took nothing
+  pub idle : (seen old).is_down → stood ≡ old
 
 -- ---- the answer to an opening
 

@@ -11,11 +11,13 @@ use Rattle.posting_rules.specs.declared.rows.AccountRow.{AccountRow}
 use Rattle.posting_rules.specs.declared.rows.HistoryRow.{HistoryRow}
 use Rattle.posting_rules.specs.declared.rows.RequestRow.{RequestRow}
 use Rattle.posting_rules.specs.declared.rows.FloorRow.{FloorRow}
+use Rattle.posting_rules.specs.declared.rows.ReferenceRow.{ReferenceRow}
+use Rattle.message_records.specs.Records.{IsReference}
 use Rattle.posting_rules.specs.Commands.{Command, AreCommands, IsFloor, is_within}
 use Rattle.posting_rules.specs.Numbering.{branch_of_teller, branch_of_account, place_of_account}
 use Rattle.posting_rules.specs.Kept.{is_kept_with}
 use Rattle.posting_rules.specs.Tables.{Tables, AreTablesOf, row_at, branch_key, teller_key, account_key}
-use Rattle.posting_rules.specs.Tables.{history_key, request_key, floor_key}
+use Rattle.posting_rules.specs.Tables.{history_key, request_key, floor_key, reference_key}
 use Rattle.posting_rules.specs.LookUps.{floor_in, terms_in}
 
 -- ---- one row
@@ -63,13 +65,13 @@ pub record IsSoundRequest (r : RequestRow) : Type 0 where
   pub ordinal_above : 1 ≤ r.ordinal
   pub ordinal : r.ordinal ≤ MAX_DECIDED
   -- each field of the request is in its range
-  pub fields : FieldsAreInRange r.kept.account r.teller r.kept.branch r.kept.delta
+  pub fields : FieldsAreInRange r.decision.account r.teller r.decision.branch r.decision.delta
   pub number_above : 1 ≤ r.number
   pub number : r.number ≤ MAX_NUMBER
   -- its outcome is one that is kept, and only a posting has a balance
-  pub kept : IsTrue (is_kept_with r.kept.outcome r.kept.balance)
+  pub decision : IsTrue (is_kept_with r.decision.outcome r.decision.balance)
   -- that balance is within the limit (TPC-B 1.2)
-  pub balance : nat_abs r.kept.balance ≤ MAX_BALANCE
+  pub balance : nat_abs r.decision.balance ≤ MAX_BALANCE
 
 -- a posting whose fields are in the ranges of a request, at a moment within its range
 pub record IsSoundPosting (r : HistoryRow) : Type 0 where
@@ -88,6 +90,13 @@ pub record IsSoundFloor (r : FloorRow) : Type 0 where
   pub most : r.branch ≤ LAST_BRANCH
   -- it is at most zero, and within the limit (TPC-B 1.2)
   pub lowest : IsFloor r.lowest
+
+-- a reference under an ordinal that a bank may decide
+pub record IsSoundReference (r : ReferenceRow) : Type 0 where
+  pub ordinal_above : 1 ≤ r.ordinal
+  pub ordinal : r.ordinal ≤ MAX_DECIDED
+  -- it is as long as a reference, of printable bytes
+  pub reference : IsReference r.reference
 
 -- ---- the tables
 
@@ -119,10 +128,14 @@ pub record IsUndamaged (t : Tables) : Type 0 where
   pub each_request : (r : RequestRow) → Contains t.requests r → IsSoundRequest r
   -- every row of history has fields within their ranges
   pub each_posting : (r : HistoryRow) → Contains t.history r → IsSoundPosting r
+  -- every row of references has a reference, and an ordinal within its range
+  pub each_reference : (r : ReferenceRow) → Contains t.references r → IsSoundReference r
   -- the next ordinal has no request
   pub next_request : row_at request_key t.requests (t.decided + 1) ≡ None
-  -- and no posting
+  -- no posting
   pub next_posting : row_at history_key t.history (t.decided + 1) ≡ None
+  -- and no reference
+  pub next_reference : row_at reference_key t.references (t.decided + 1) ≡ None
 
 -- no log of commands leads to damaged tables
 abbrev pub TablesAreUndamaged : Type 0

@@ -1,8 +1,10 @@
 -- Earlier versions of a bank's file, and the log that each shows once it is carried over. A version differs from
 -- the present one in what it knows of a command, so its tables are defined as the present ones are.
-use Rattle.std.specs.Prelude.{◌≡◌, ◌↔◌, ℕ, List, [], ◌∷◌, map, Option, None, ◌==◌, if◌then◌else◌}
+use Rattle.std.specs.Prelude.{◌≡◌, ◌↔◌, ◌≤◌, ℕ, List, [], ◌∷◌, Option, None, Result, is_ok, ◌==◌, if◌then◌else◌}
 use Rattle.std.specs.Option.{option_map}
-use Rattle.message_records.specs.Reading.{request_of}
+use Rattle.message_records.specs.declared.fault.Bad.{Bad}
+use Rattle.message_records.specs.Records.{RequestFields}
+use Rattle.message_records.specs.Reading.{plain_request_of, request_of}
 use Rattle.posting_rules.specs.Commands.{Command, Open, Post, Terms, AreCommands, opened, opened_with}
 use Rattle.posting_rules.specs.Entries.{DecidedRequest, with_record, decided}
 use Rattle.posting_rules.specs.Tables.{Tables, HasRows, AreTablesOf}
@@ -11,17 +13,24 @@ use Rattle.posting_rules.specs.Tables.{Tables, HasRows, AreTablesOf}
 pub record Edition : Type 0 where
   -- of what a branch is opened with
   pub terms : Terms → Terms
+  -- of the bytes of a record
+  pub reads : List ℕ → Result RequestFields Bad
 
--- a branch has a count of accounts alone
-abbrev pub without_floors : Edition
-without_floors = record { terms = λ terms. opened_with terms.accounts None }
+-- a branch has a count of accounts alone, and no request has a reference
+abbrev pub before_floors : Edition
+before_floors = record { terms = λ terms. opened_with terms.accounts None; reads = λ b. plain_request_of b }
+
+-- no request has a reference
+abbrev pub before_references : Edition
+before_references = record { terms = λ terms. terms; reads = λ b. plain_request_of b }
 
 abbrev pub present : Edition
-present = record { terms = λ terms. terms }
+present = record { terms = λ terms. terms; reads = λ b. request_of b }
 
--- version 1 was before floors
+-- version 1 was before floors, and version 2 before references
 abbrev pub edition : ℕ → Edition
-edition version = if version == 1 then without_floors else present
+edition version =
+    if version == 1 then before_floors else if version == 2 then before_references else present
 
 abbrev pub opened_in : Edition → List Command → ℕ → Option Terms
 opened_in e log b = option_map e.terms (opened log b)
@@ -30,7 +39,7 @@ abbrev pub decided_in : Edition → List Command → List DecidedRequest
 decided_in e [] = []
 decided_in e (Open branch terms ∷ log) = decided_in e log
 decided_in e (Post moment bytes ∷ log) =
-    with_record moment (request_of bytes) (λ b. opened_in e log b) (decided_in e log)
+    with_record moment (e.reads bytes) (λ b. opened_in e log b) (decided_in e log)
 
 -- the tables are those of the log in a file of the version
 pub record AreTablesIn (version : ℕ) (tables : Tables) (log : List Command) : Type 0 where
@@ -38,13 +47,16 @@ pub record AreTablesIn (version : ℕ) (tables : Tables) (log : List Command) : 
 
 -- ---- the log of a file that is carried over
 
--- a command with what the version knows of it
-abbrev pub known : Edition → Command → Command
-known e (Open branch terms) = Open branch (e.terms terms)
-known e (Post moment bytes) = Post moment bytes
+-- the commands with what the version knows of them, less the records that it couldn't read: they changed no
+-- table, and now might
+abbrev pub known : Edition → List Command → List Command
+known e [] = []
+known e (Open branch terms ∷ log) = Open branch (e.terms terms) ∷ known e log
+known e (Post moment bytes ∷ log) =
+    if is_ok (e.reads bytes) then Post moment bytes ∷ known e log else known e log
 
 abbrev pub plain : ℕ → List Command → List Command
-plain version log = map (known (edition version)) log
+plain version log = known (edition version) log
 
 -- the tables of a log in a file of the version are the present ones of the log with what the version knows
 abbrev pub CarriesOver : Type 0
@@ -58,6 +70,11 @@ PlainAreCommands = (version : ℕ) (log : List Command) → AreCommands log → 
 -- before floors there was none
 abbrev pub HasNoFloors : Type 0
 HasNoFloors = (t : Tables) (log : List Command) → AreTablesIn 1 t log → t.floors ≡ []
+
+-- and before references there was none of these
+abbrev pub HasNoReferences : Type 0
+HasNoReferences = (version : ℕ) (t : Tables) (log : List Command) → 1 ≤ version → version ≤ 2
+    → AreTablesIn version t log → t.references ≡ []
 
 -- the present edition is the rule of this bank
 abbrev pub IsPresent : Type 0

@@ -15,7 +15,7 @@ use Rattle.posting_rules.specs.declared.judgments.Verdict.TheVariants.{Unkept, A
 use Rattle.posting_rules.specs.Commands.{Command, Open, Post, opened, is_teller_open, Terms, is_account_open}
 use Rattle.posting_rules.specs.Commands.{floor_of}
 use Rattle.posting_rules.specs.Numbering.{branch_of_teller, branch_of_account}
-use Rattle.posting_rules.specs.Kept.{KeptFields}
+use Rattle.posting_rules.specs.Kept.{DecisionFields, KeptFields}
 use Rattle.posting_rules.specs.Cases.{case_of, reply_in}
 
 -- A decided request. The balance is the account's new one where the request was posted, and zero elsewhere.
@@ -44,14 +44,17 @@ teller_balance es t = posted_sum (λ r. r.teller == t) es
 abbrev pub branch_balance : List DecidedRequest → ℕ → ℤ
 branch_balance es b = posted_sum (λ r. r.branch == b) es
 
-abbrev pub kept_fields : DecidedRequest → KeptFields
-kept_fields e = record {
+abbrev pub decision_of : DecidedRequest → DecisionFields
+decision_of e = record {
   account = e.request.account;
   branch = e.request.branch;
   delta = e.request.delta;
   outcome = e.outcome;
   balance = e.balance;
 }
+
+abbrev pub kept_fields : DecidedRequest → KeptFields
+kept_fields e = record { decision = decision_of e; reference = e.request.reference }
 
 -- the request that is kept under a teller and a number
 abbrev pub kept : List DecidedRequest → ℕ → ℕ → Option KeptFields

@@ -5,7 +5,7 @@ use Rattle.posting_rules.specs.declared.fault.Fault.{Fault}
 use Rattle.posting_rules.specs.declared.fault.Fault.TheVariants as fault
 use Rattle.posting_rules.specs.declared.fault.Rule.{Rule}
 use Rattle.posting_rules.specs.declared.fault.Rule.TheVariants.{Meta, Teller, Account, Balance, Request}
-use Rattle.posting_rules.specs.declared.fault.Rule.TheVariants.{Value, Key, Floor}
+use Rattle.posting_rules.specs.declared.fault.Rule.TheVariants.{Value, Key, Floor, Reference}
 use Rattle.posting_rules.specs.declared.open_fault.OpenFault.{OpenFault}
 use Rattle.posting_rules.specs.declared.open_fault.OpenFault.TheVariants as opening
 
@@ -18,6 +18,7 @@ number_of_rule Request = 5
 number_of_rule Value = 6
 number_of_rule Key = 7
 number_of_rule Floor = 8
+number_of_rule Reference = 9
 
 -- what a counter's fault is written as
 abbrev pub fault_text : Fault → List ℕ

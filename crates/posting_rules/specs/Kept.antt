@@ -1,18 +1,27 @@
 -- What is kept of a decided request, under its teller and number.
-use Rattle.std.specs.Prelude.{ℕ, ℤ, pos, Option, Some, None, Bool, true, false, ◌&&◌, ◌||◌, if◌then◌else◌}
+use Rattle.std.specs.Prelude.{ℕ, ℤ, pos, List, Option, Some, None, Bool, true, false, ◌&&◌, ◌||◌}
+use Rattle.std.specs.Prelude.{if◌then◌else◌}
+use Rattle.std.specs.Option.{option_map}
 use Rattle.std.specs.Ordering.{int_eq}
 use Rattle.message_records.specs.declared.records.Outcome.{Outcome}
 use Rattle.message_records.specs.declared.records.Outcome.TheVariants.{Posted, WrongBranch, NoAccount}
 use Rattle.message_records.specs.declared.records.Outcome.TheVariants.{BelowFloor, OverLimit}
 use Rattle.message_records.specs.Outcomes.{has_balance}
 
-pub record KeptFields : Type 0 where
+-- what was decided of a request
+pub record DecisionFields : Type 0 where
   pub account : ℕ
   pub branch : ℕ
   pub delta : ℤ
   pub outcome : Outcome
   -- the balance of the reply, zero where it shows none
   pub balance : ℤ
+
+-- and with the request's reference, all that is kept
+pub record KeptFields : Type 0 where
+  pub decision : DecisionFields
+  -- none where the request has no reference
+  pub reference : Option (List ℕ)
 
 -- the outcomes that are kept
 abbrev pub is_kept : Outcome → Bool
@@ -27,9 +36,9 @@ is_kept _ = false
 abbrev pub is_kept_with : Outcome → ℤ → Bool
 is_kept_with outcome balance = is_kept outcome && (has_balance outcome || int_eq balance (pos 0))
 
--- the kept request of these fields, where they belong together
-abbrev pub kept_from : ℕ → ℕ → ℤ → Outcome → ℤ → Option KeptFields
-kept_from account branch delta outcome balance =
+-- the decision of these fields, where they belong together
+abbrev pub decision_from : ℕ → ℕ → ℤ → Outcome → ℤ → Option DecisionFields
+decision_from account branch delta outcome balance =
     if is_kept_with outcome balance then Some (record {
       account = account;
       branch = branch;
@@ -37,3 +46,11 @@ kept_from account branch delta outcome balance =
       outcome = outcome;
       balance = balance;
     }) else None
+
+abbrev pub kept_with : Option (List ℕ) → DecisionFields → KeptFields
+kept_with reference decision = record { decision = decision; reference = reference }
+
+-- the kept request of these fields, where they belong together
+abbrev pub kept_from : ℕ → ℕ → ℤ → Outcome → ℤ → Option (List ℕ) → Option KeptFields
+kept_from account branch delta outcome balance reference =
+    option_map (kept_with reference) (decision_from account branch delta outcome balance)

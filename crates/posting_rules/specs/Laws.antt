@@ -58,10 +58,10 @@ tellers_of b rows = filter (λ r. nat_le 1 r.teller && (branch_of_teller r.telle
 -- under an ordinal there is neither a posted request nor a row of history, or there are both, and they agree
 abbrev pub Match : Option RequestRow → Option HistoryRow → Type 0
 Match None None = Unit {0}
-Match (Some r) None = has_balance r.kept.outcome ≡ true → ⊥
+Match (Some r) None = has_balance r.decision.outcome ≡ true → ⊥
 Match None (Some h) = ⊥
-Match (Some r) (Some h) = (has_balance r.kept.outcome ≡ true) × (h.account ≡ r.kept.account) ×
-    (h.teller ≡ r.teller) × (h.branch ≡ r.kept.branch) × (h.delta ≡ r.kept.delta)
+Match (Some r) (Some h) = (has_balance r.decision.outcome ≡ true) × (h.account ≡ r.decision.account) ×
+    (h.teller ≡ r.teller) × (h.branch ≡ r.decision.branch) × (h.delta ≡ r.decision.delta)
 
 pub record IsConsistent (t : Tables) : Type 0 where
   -- accounts, tellers and branches have one sum

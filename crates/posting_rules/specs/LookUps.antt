@@ -9,10 +9,12 @@ use Rattle.posting_rules.specs.declared.rows.TellerRow.{TellerRow}
 use Rattle.posting_rules.specs.declared.rows.AccountRow.{AccountRow}
 use Rattle.posting_rules.specs.declared.rows.RequestRow.{RequestRow}
 use Rattle.posting_rules.specs.declared.rows.FloorRow.{FloorRow}
+use Rattle.posting_rules.specs.declared.rows.ReferenceRow.{ReferenceRow}
 use Rattle.posting_rules.specs.Commands.{Terms, opened_with}
 use Rattle.posting_rules.specs.Numbering.{branch_of_teller, branch_of_account}
-use Rattle.posting_rules.specs.Kept.{KeptFields}
+use Rattle.posting_rules.specs.Kept.{KeptFields, kept_with}
 use Rattle.posting_rules.specs.Tables.{Tables, row_at, branch_key, teller_key, account_key, floor_key}
+use Rattle.posting_rules.specs.Tables.{reference_key}
 
 abbrev pub count_of_branch : BranchRow → ℕ
 count_of_branch r = r.accounts
@@ -54,18 +56,27 @@ teller_balances_in t n =
     both_of (option_map balance_of_teller (row_at teller_key t.tellers n))
     (option_map balance_of_branch (row_at branch_key t.branches (branch_of_teller n)))
 
-abbrev pub kept_of_row : RequestRow → KeptFields
-kept_of_row r = r.kept
+abbrev pub text_of_reference : ReferenceRow → List ℕ
+text_of_reference r = r.reference
+
+-- the reference under an ordinal
+abbrev pub reference_in : List ReferenceRow → ℕ → Option (List ℕ)
+reference_in rows ordinal = option_map text_of_reference (row_at reference_key rows ordinal)
+
+-- what is kept of a request: the decision in its row, with the reference under its ordinal
+abbrev pub kept_of_row : List ReferenceRow → RequestRow → KeptFields
+kept_of_row references r = kept_with (reference_in references r.ordinal) r.decision
 
 -- the request that the rows keep under a teller and a number
-abbrev pub kept_in : List RequestRow → ℕ → ℕ → Option KeptFields
-kept_in rows t n = option_map kept_of_row (find (λ r. (r.teller == t) && (r.number == n)) rows)
+abbrev pub kept_in : List RequestRow → List ReferenceRow → ℕ → ℕ → Option KeptFields
+kept_in requests references t n =
+    option_map (kept_of_row references) (find (λ r. (r.teller == t) && (r.number == n)) requests)
 
 -- all that is looked up for a request
 abbrev pub found_in : Tables → RequestFields → Found
 found_in t r = record {
   teller = teller_balances_in t r.teller;
-  kept = kept_in t.requests r.teller r.number;
+  kept = kept_in t.requests t.references r.teller r.number;
   decided = t.decided;
   account = account_balance_in t r.account;
   floor = floor_in t (branch_of_account r.account);

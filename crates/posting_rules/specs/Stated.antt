@@ -6,7 +6,7 @@ use Rattle.message_records.specs.declared.limits.TheConstants.{MAX_BALANCE}
 use Rattle.message_records.specs.declared.records.Outcome.{Outcome}
 use Rattle.message_records.specs.declared.records.Outcome.TheVariants as outcome
 use Rattle.message_records.specs.declared.fault.Bad.{Bad}
-use Rattle.message_records.specs.Records.{RequestFields, ReplyFields}
+use Rattle.message_records.specs.Records.{RequestFields, ReplyFields, unreferenced}
 use Rattle.message_records.specs.Reading.{request_of}
 use Rattle.posting_rules.specs.Commands.{Command, Post, opened, is_teller_open, is_account_open, floor_of}
 use Rattle.posting_rules.specs.Numbering.{branch_of_teller, branch_of_account}
@@ -57,7 +57,7 @@ pub record AddsEntry (before : List Command) (moment : ℕ) (bytes : List ℕ) (
   -- its outcome and balance are those of the reply, and the balance is zero where the reply has none
   pub replied : reply before bytes ≡ record {
     outcome = e.outcome;
-    request = Some r;
+    request = Some (unreferenced r);
     balance = balance_shown e.outcome e.balance;
   }
   pub unposted : (IsPosted before r → ⊥) → e.balance ≡ pos 0
@@ -68,16 +68,18 @@ pub record DecidesAsStated (before : List Command) (moment : ℕ) (bytes : List 
   pub otherwise : ((r : RequestFields) → IsDecided before bytes r → ⊥)
       → decided (Post moment bytes ∷ before) ≡ decided before
 
--- ---- the reply, by the first case that applies
+-- ---- the reply, by the first case that applies; it shows the request without its reference
 
 abbrev pub refusal : Outcome → RequestFields → ReplyFields
-refusal outcome r = record { outcome = outcome; request = Some r; balance = None }
+refusal outcome r = record { outcome = outcome; request = Some (unreferenced r); balance = None }
 
 -- the kept request has this content
 pub record HasContent (k : KeptFields) (r : RequestFields) : Type 0 where
-  pub account : k.account ≡ r.account
-  pub branch : k.branch ≡ r.branch
-  pub delta : k.delta ≡ r.delta
+  pub account : k.decision.account ≡ r.account
+  pub branch : k.decision.branch ≡ r.branch
+  pub delta : k.decision.delta ≡ r.delta
+  -- or neither has one
+  pub reference : k.reference ≡ r.reference
 
 pub record RepliesAsStated (before : List Command) (bytes : List ℕ) : Type 0 where
   pub malformed : (fault : Bad) → request_of bytes ≡ Err fault → reply before bytes ≡ malformed_reply
@@ -87,9 +89,9 @@ pub record RepliesAsStated (before : List Command) (bytes : List ℕ) : Type 0 w
   pub again : (r : RequestFields) (k : KeptFields) → Names before bytes r
       → kept (decided before) r.teller r.number ≡ Some k → HasContent k r
       → reply before bytes ≡ record {
-        outcome = k.outcome;
-        request = Some r;
-        balance = balance_shown k.outcome k.balance;
+        outcome = k.decision.outcome;
+        request = Some (unreferenced r);
+        balance = balance_shown k.decision.outcome k.decision.balance;
       }
   pub reused_number : (r : RequestFields) (k : KeptFields) → Names before bytes r
       → kept (decided before) r.teller r.number ≡ Some k → (HasContent k r → ⊥)
@@ -111,7 +113,7 @@ pub record RepliesAsStated (before : List Command) (bytes : List ℕ) : Type 0 w
   pub posted : (r : RequestFields) → IsDecided before bytes r → IsPosted before r
       → reply before bytes ≡ record {
         outcome = outcome.Posted;
-        request = Some r;
+        request = Some (unreferenced r);
         balance = Some (account_balance (decided before) r.account +ℤ r.delta);
       }
 

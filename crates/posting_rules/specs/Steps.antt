@@ -11,12 +11,14 @@ use Rattle.posting_rules.specs.declared.rows.BranchRow.{BranchRow}
 use Rattle.posting_rules.specs.declared.rows.TellerRow.{TellerRow}
 use Rattle.posting_rules.specs.declared.rows.AccountRow.{AccountRow}
 use Rattle.posting_rules.specs.declared.rows.FloorRow.{FloorRow}
+use Rattle.posting_rules.specs.declared.rows.ReferenceRow.{ReferenceRow}
 use Rattle.posting_rules.specs.Commands.{Terms}
 use Rattle.posting_rules.specs.Numbering.{branch_of_teller, first_teller, first_account}
 use Rattle.posting_rules.specs.Entries.{DecidedRequest, refused_entry, posted_entry}
 use Rattle.posting_rules.specs.Tables.{Tables, row_at, HasKeys, branch_key, teller_key, account_key}
 use Rattle.posting_rules.specs.Tables.{history_key, request_key, branch_row_of, teller_row_of, account_row_of}
 use Rattle.posting_rules.specs.Tables.{request_row_of, history_row_of, floor_key, floor_row_of}
+use Rattle.posting_rules.specs.Tables.{reference_key, reference_row_of}
 
 -- ---- rows of one table
 
@@ -51,6 +53,11 @@ with_teller_balance z r = record { teller = r.teller; balance = z }
 abbrev pub with_account_balance : ℤ → AccountRow → AccountRow
 with_account_balance z r = record { account = r.account; balance = z }
 
+-- the reference of a decided request is added where it has one, and no other
+abbrev pub AddsReference : ℕ → Option (List ℕ) → List ReferenceRow → List ReferenceRow → Type 0
+AddsReference ordinal None old new = new ≡ old
+AddsReference ordinal (Some text) old new = GainsRow reference_key (reference_row_of ordinal text) old new
+
 -- a refused request is kept under this ordinal
 pub record KeepsRefusal (old new : Tables) (ordinal : ℕ) (e : DecidedRequest) : Type 0 where
   pub decided : new.decided ≡ ordinal
@@ -59,6 +66,7 @@ pub record KeepsRefusal (old new : Tables) (ordinal : ℕ) (e : DecidedRequest) 
   pub accounts : new.accounts ≡ old.accounts
   pub history : new.history ≡ old.history
   pub requests : GainsRow request_key (request_row_of ordinal e) old.requests new.requests
+  pub references : AddsReference ordinal e.request.reference old.references new.references
   pub floors : new.floors ≡ old.floors
 
 -- a posting is kept under this ordinal, with the new balances of its account, its teller and its branch
@@ -73,6 +81,7 @@ pub record KeepsPosting (old new : Tables) (ordinal : ℕ) (e : DecidedRequest)
       (with_account_balance e.balance) old.accounts new.accounts
   pub history : GainsRow history_key (history_row_of ordinal e) old.history new.history
   pub requests : GainsRow request_key (request_row_of ordinal e) old.requests new.requests
+  pub references : AddsReference ordinal e.request.reference old.references new.references
   pub floors : new.floors ≡ old.floors
 
 -- what a verdict on a request does to the tables, where this is the next ordinal
@@ -101,4 +110,5 @@ pub record OpensBranch (old new : Tables) (b : ℕ) (terms : Terms) : Type 0 whe
       (first_account b) terms.accounts old.accounts new.accounts
   pub history : new.history ≡ old.history
   pub requests : new.requests ≡ old.requests
+  pub references : new.references ≡ old.references
   pub floors : AddsFloor b terms.floor old.floors new.floors

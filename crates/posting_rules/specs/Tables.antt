@@ -9,10 +9,11 @@ use Rattle.posting_rules.specs.declared.rows.AccountRow.{AccountRow}
 use Rattle.posting_rules.specs.declared.rows.HistoryRow.{HistoryRow}
 use Rattle.posting_rules.specs.declared.rows.RequestRow.{RequestRow}
 use Rattle.posting_rules.specs.declared.rows.FloorRow.{FloorRow}
+use Rattle.posting_rules.specs.declared.rows.ReferenceRow.{ReferenceRow}
 use Rattle.posting_rules.specs.Commands.{Command, Terms, opened, is_teller_open, is_account_open, floor_of}
 use Rattle.posting_rules.specs.Entries.{DecidedRequest, is_posted, account_balance, teller_balance}
 use Rattle.posting_rules.specs.Entries.{branch_balance}
-use Rattle.posting_rules.specs.Entries.{kept_fields, decided}
+use Rattle.posting_rules.specs.Entries.{decision_of, decided}
 
 pub record Tables : Type 0 where
   -- how many requests are decided
@@ -23,6 +24,7 @@ pub record Tables : Type 0 where
   pub history : List HistoryRow
   pub requests : List RequestRow
   pub floors : List FloorRow
+  pub references : List ReferenceRow
 
 -- the row under a key
 abbrev pub row_at : {R : Type 0} → (R → ℕ) → List R → ℕ → Option R
@@ -49,6 +51,9 @@ request_key r = r.ordinal
 
 abbrev pub floor_key : FloorRow → ℕ
 floor_key r = r.branch
+
+abbrev pub reference_key : ReferenceRow → ℕ
+reference_key r = r.ordinal
 
 -- ---- the rows that a log leads to, by what is open and what is decided
 
@@ -78,7 +83,7 @@ request_row_of ordinal e = record {
   ordinal = ordinal;
   teller = e.request.teller;
   number = e.request.number;
-  kept = kept_fields e;
+  decision = decision_of e;
 }
 
 abbrev pub request_row : List DecidedRequest → ℕ → Option RequestRow
@@ -108,6 +113,15 @@ floor_row_of b lowest = record { branch = b; lowest = lowest }
 abbrev pub floor_row : (ℕ → Option Terms) → ℕ → Option FloorRow
 floor_row opened b = option_map (floor_row_of b) (floor_of opened b)
 
+-- a decided request has a row of references, under its ordinal, where it came with one
+abbrev pub reference_row_of : ℕ → List ℕ → ReferenceRow
+reference_row_of ordinal text = record { ordinal = ordinal; reference = text }
+
+abbrev pub reference_row : List DecidedRequest → ℕ → Option ReferenceRow
+reference_row [] o = None
+reference_row (e ∷ es) o = if length es + 1 == o then option_map
+    (reference_row_of o) e.request.reference else reference_row es o
+
 -- the tables have these rows and no others, in whatever order
 pub record HasRows (tables : Tables) (opened : ℕ → Option Terms) (es : List DecidedRequest) : Type 0 where
   pub decided : tables.decided ≡ length es
@@ -117,12 +131,14 @@ pub record HasRows (tables : Tables) (opened : ℕ → Option Terms) (es : List 
   pub history : (o : ℕ) → row_at history_key tables.history o ≡ history_row es o
   pub requests : (o : ℕ) → row_at request_key tables.requests o ≡ request_row es o
   pub floors : (b : ℕ) → row_at floor_key tables.floors b ≡ floor_row opened b
+  pub references : (o : ℕ) → row_at reference_key tables.references o ≡ reference_row es o
   pub branch_keys : HasKeys branch_key tables.branches
   pub teller_keys : HasKeys teller_key tables.tellers
   pub account_keys : HasKeys account_key tables.accounts
   pub history_keys : HasKeys history_key tables.history
   pub request_keys : HasKeys request_key tables.requests
   pub floor_keys : HasKeys floor_key tables.floors
+  pub reference_keys : HasKeys reference_key tables.references
 
 -- the tables are those of the log
 pub record AreTablesOf (tables : Tables) (log : List Command) : Type 0 where

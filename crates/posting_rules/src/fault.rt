@@ -25,10 +25,12 @@ pub enum Rule {
     Key,
     /// The floor of a branch is within -999,999,999,999..=0 cents.
     Floor,
+    /// A reference is 20 bytes of printable ASCII.
+    Reference,
 }
 
 impl Rule {
-    /// The number of the rule: 1..=8.
+    /// The number of the rule: 1..=9.
     #[must_use]
     pub fn number(self) -> u8
         ensures { result ≡ number_of_rule self }
@@ -42,6 +44,7 @@ impl Rule {
             Rule::Value => 6,
             Rule::Key => 7,
             Rule::Floor => 8,
+            Rule::Reference => 9,
         }
     }
 }

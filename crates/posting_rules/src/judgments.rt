@@ -1,14 +1,14 @@
 //! What is looked up for a request, and what becomes of it.
 ghost use Rattle.std.specs.Prelude.{◌≡◌};
-ghost use Rattle.posting_rules.specs.Kept.{kept_from};
+ghost use Rattle.posting_rules.specs.Kept.{decision_from};
+ghost use Rattle.posting_rules.specs.Cases.{is_same_reference};
 
-use message_records::{Account, Branch, Cents, Outcome, Reply, Request};
+use message_records::{Account, Branch, Cents, Outcome, Reference, Reply, Request};
 use std::marker::Model;
 
-/// What is kept of a decided request, under its teller and number. The same request gets the same reply by
-/// it.
+/// What was decided of a request.
 #[derive(Clone, Copy, Debug, PartialEq, Eq)]
-pub struct Kept {
+pub struct Decision {
     account: Account,
     branch: Branch,
     delta: Cents,
@@ -16,11 +16,11 @@ pub struct Kept {
     balance: Cents,
 }
 
-impl Model for Kept {
+impl Model for Decision {
     ghost use Rattle.std.specs.Prelude.{IsTrue};
-    ghost use Rattle.posting_rules.specs.Kept.{KeptFields, is_kept_with};
+    ghost use Rattle.posting_rules.specs.Kept.{DecisionFields, is_kept_with};
 
-    ghost Value = { KeptFields };
+    ghost Value = { DecisionFields };
 
     ghost view = { λ k. record {
       account = k.account;
@@ -41,13 +41,12 @@ impl Model for Kept {
     } };
 }
 
-impl Kept {
+impl Decision {
     ghost use Rattle.std.specs.Prelude.{IsTrue};
-    ghost use Rattle.posting_rules.specs.Kept.{is_kept_with};
-    ghost use Rattle.posting_rules.specs.Cases.{is_same, kept_reply};
+    ghost use Rattle.posting_rules.specs.Kept.{is_kept_with, kept_with};
 
-    /// The kept request of these fields; none for an outcome that isn't kept, and none for a balance other
-    /// than zero where the request wasn't posted. `Posted`, `WrongBranch`, `NoAccount`, `BelowFloor` and
+    /// The decision of these fields; none for an outcome that isn't kept, and none for a balance other than
+    /// zero where the request wasn't posted. `Posted`, `WrongBranch`, `NoAccount`, `BelowFloor` and
     /// `OverLimit` are kept.
     #[must_use]
     pub fn new(
@@ -57,7 +56,7 @@ impl Kept {
         outcome: Outcome,
         balance: Cents,
     ) -> Option<Self>
-        ensures { result ≡ kept_from account branch delta outcome balance }
+        ensures { result ≡ decision_from account branch delta outcome balance }
     {
         let belongs = match outcome {
             Outcome::Posted => true,
@@ -66,7 +65,7 @@ impl Kept {
             Outcome::NoTeller | Outcome::ReusedNumber | Outcome::Full | Outcome::Malformed => false,
         };
         if belongs {
-            Some(Kept {
+            Some(Decision {
                 account,
                 branch,
                 delta,
@@ -114,25 +113,106 @@ impl Kept {
         self.balance
     }
 
+    /// What is kept of a request of which this was decided, with its reference.
+    #[must_use]
+    pub fn kept_with(self, reference: Option<Reference>) -> Kept
+        ensures { result ≡ kept_with reference self }
+    {
+        Kept {
+            decision: self,
+            reference,
+        }
+    }
+}
+
+/// What is kept of a decided request, under its teller and number. The same request gets the same reply by
+/// it.
+#[derive(Clone, Copy, Debug, PartialEq, Eq)]
+pub struct Kept {
+    decision: Decision,
+    reference: Option<Reference>,
+}
+
+impl Model for Kept {
+    ghost use Rattle.posting_rules.specs.Kept.{KeptFields};
+
+    ghost Value = { KeptFields };
+
+    ghost view = { λ k. record { decision = k.decision; reference = k.reference } };
+
+    ghost inverse = { λ k. record { decision = k.decision; reference = k.reference } };
+}
+
+impl Kept {
+    ghost use Rattle.posting_rules.specs.Kept.{kept_from};
+    ghost use Rattle.posting_rules.specs.Cases.{is_same, kept_reply};
+
+    /// The kept request of these fields; none where there is no such decision.
+    #[must_use]
+    pub fn new(
+        account: Account,
+        branch: Branch,
+        delta: Cents,
+        outcome: Outcome,
+        balance: Cents,
+        reference: Option<Reference>,
+    ) -> Option<Self>
+        ensures { result ≡ kept_from account branch delta outcome balance reference }
+    {
+        let decision = Decision::new(account, branch, delta, outcome, balance)?;
+        Some(decision.kept_with(reference))
+    }
+
+    /// What was decided of it.
+    pub fn decision(&self) -> Decision
+        ensures { result ≡ self.now.decision }
+    {
+        self.decision
+    }
+
+    /// What it is referred to by, where it has a reference.
+    pub fn reference(&self) -> Option<Reference>
+        ensures { result ≡ self.now.reference }
+    {
+        self.reference
+    }
+
     // Tests whether a request has the content of this one.
     pub(crate) fn is_same(&self, request: &Request) -> bool
         ensures { result ≡ is_same self.now request.now }
     {
-        self.account == request.account()
-            && self.branch == request.branch()
-            && self.delta == request.delta()
+        self.decision.account == request.account()
+            && self.decision.branch == request.branch()
+            && self.decision.delta == request.delta()
+            && is_same_reference(&self.reference, &request.reference())
     }
 
     // The reply that it got.
     pub(crate) fn reply(&self, request: &Request) -> Reply
         ensures { result ≡ kept_reply self.now request.now }
     {
-        let balance = if self.outcome == Outcome::Posted {
-            Some(self.balance)
+        let Decision {
+            outcome,
+            balance,
+            ..
+        } = self.decision;
+        let balance = if outcome == Outcome::Posted {
+            Some(balance)
         } else {
             None
         };
-        Reply::new(self.outcome, Some(*request), balance).unwrap()
+        Reply::new(outcome, Some(*request), balance).unwrap()
+    }
+}
+
+// Tests whether both are one reference, or neither is one.
+fn is_same_reference(one: &Option<Reference>, other: &Option<Reference>) -> bool
+    ensures { result ≡ is_same_reference one.now other.now }
+{
+    match (one, other) {
+        (None, None) => true,
+        (Some(one), Some(other)) => one.text()[..] == other.text()[..],
+        _ => false,
     }
 }
 

@@ -6,7 +6,8 @@ ghost use Rattle.posting_rules.specs.Laws.{AccountsStayAbove, EqualTablesAnswerA
 ghost use Rattle.posting_rules.specs.Alike.{OpeningsAnswerAlike, BalancesAnswerAlike, BranchesAnswerAlike};
 ghost use Rattle.posting_rules.specs.Damage.{TablesAreUndamaged};
 ghost use Rattle.posting_rules.specs.Resends.{RepliesAgain, RepliesInPlace, AddsOnce, KeepsCommands};
-ghost use Rattle.posting_rules.specs.Editions.{CarriesOver, PlainAreCommands, HasNoFloors, IsPresent};
+ghost use Rattle.posting_rules.specs.Editions.{CarriesOver, PlainAreCommands, HasNoFloors, HasNoReferences};
+ghost use Rattle.posting_rules.specs.Editions.{IsPresent};
 
 /// Which records are decided, which of them are posted, and what is replied, said case by case.
 pub fn cases_are_as_stated()
@@ -59,10 +60,12 @@ pub fn resends_get_their_replies()
 {}
 
 /// The tables of a log in a file of an earlier version are the present tables of what that version knew of the
-/// log: before version 2 there were no floors. So a file is carried over with all its rows as they are.
+/// log: before version 2 there were no floors, and before version 3 no references. So a file is carried over
+/// with all its rows as they are.
 pub fn earlier_versions_carry_over()
     ensures tables { CarriesOver }
     ensures commands { PlainAreCommands }
     ensures no_floors { HasNoFloors }
+    ensures no_references { HasNoReferences }
     ensures present { IsPresent }
 {}

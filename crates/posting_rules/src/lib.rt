@@ -12,7 +12,7 @@
 //!     let (account, teller) = (Account::new(1).unwrap(), Teller::new(1).unwrap());
 //!     let (branch, number) = (Branch::new(1).unwrap(), Number::new(1).unwrap());
 //!     let (zero, delta) = (Cents::zero(), Cents::new(500).unwrap());
-//!     let request = Request::new(account, teller, branch, number, delta).unwrap();
+//!     let request = Request::new(account, teller, branch, number, delta, None).unwrap();
 //!     let found = Found {
 //!         teller: Some((zero, zero)), // the balances of the teller and of its branch
 //!         kept: None,
@@ -46,7 +46,7 @@ mod rows;
 pub use cases::{judge, malformed_reply, reply_to};
 pub use counter::{BranchLine, Counter, Opening};
 pub use fault::{Fault, Rule};
-pub use judgments::{Found, Kept, Verdict};
+pub use judgments::{Decision, Found, Kept, Verdict};
 pub use laws::{
     accounts_stay_above, balances_stay_within, cases_are_as_stated, each_request_once,
     earlier_versions_carry_over, equal_tables_answer_alike, resends_get_their_replies,
@@ -60,4 +60,6 @@ pub use numbering::{
     branch_of_account, branch_of_teller, first_account, first_teller, place_of_account,
 };
 pub use open_fault::OpenFault;
-pub use rows::{AccountRow, BranchRow, FloorRow, HistoryRow, Ordinal, RequestRow, TellerRow};
+pub use rows::{
+    AccountRow, BranchRow, FloorRow, HistoryRow, Ordinal, ReferenceRow, RequestRow, TellerRow,
+};

@@ -4,9 +4,12 @@ ghost use Rattle.posting_rules.specs.Entries.{posted_entry};
 ghost use Rattle.posting_rules.specs.Kept.{is_kept_with};
 ghost use Rattle.posting_rules.specs.Tables.{request_row_of, history_row_of};
 
-use crate::judgments::Kept;
+use crate::judgments::Decision;
 use crate::limits::MAX_DECIDED;
-use message_records::{Account, Branch, Cents, Moment, Number, Outcome, Request, Teller, Whole};
+use message_records::{
+    Account, Branch, Cents, Moment, Number, Outcome, REFERENCE_BYTES, Reference, Request, Teller,
+    Whole,
+};
 
 /// How many requests were decided with and before one: 1..=`MAX_DECIDED`.
 pub type Ordinal = Whole<1, MAX_DECIDED>;
@@ -97,8 +100,8 @@ pub struct RequestRow {
     pub teller: Teller,
     /// The teller's own number for the request.
     pub number: Number,
-    /// What is kept of it.
-    pub kept: Kept,
+    /// What was decided of it.
+    pub decision: Decision,
 }
 
 impl RequestRow {
@@ -115,7 +118,7 @@ impl RequestRow {
             ordinal,
             teller: request.teller(),
             number: request.number(),
-            kept: Kept::new(account, branch, delta, outcome, balance).unwrap(),
+            decision: Decision::new(account, branch, delta, outcome, balance).unwrap(),
         }
     }
 }
@@ -129,7 +132,7 @@ impl Default for RequestRow {
             ordinal: Whole::new(1).unwrap(),
             teller: Whole::new(1).unwrap(),
             number: Whole::new(1).unwrap(),
-            kept: Kept::new(account, branch, delta, Outcome::NoAccount, balance).unwrap(),
+            decision: Decision::new(account, branch, delta, Outcome::NoAccount, balance).unwrap(),
         }
     }
 }
@@ -141,4 +144,23 @@ pub struct FloorRow {
     pub branch: Branch,
     /// The lowest balance that its accounts may have, in cents: zero at most.
     pub lowest: Cents,
+}
+
+/// The reference of a decided request, under the request's ordinal. A request without a row has none.
+#[derive(Clone, Copy, Debug, PartialEq, Eq)]
+pub struct ReferenceRow {
+    /// The ordinal of the request.
+    pub ordinal: Ordinal,
+    /// What it is referred to by.
+    pub reference: Reference,
+}
+
+/// What fills a place that no row has taken yet, in lists whose places lie in a value.
+impl Default for ReferenceRow {
+    fn default() -> Self {
+        ReferenceRow {
+            ordinal: Whole::new(1).unwrap(),
+            reference: Reference::new(&[b' '; REFERENCE_BYTES]).unwrap(),
+        }
+    }
 }
