@@ -166,6 +166,12 @@ was_down : {C : Type 0} (seen : C → Seen) (old now : C) (rows : Rows) → (len
 was_down seen old now [] first begun is_up down = is_up (rw (first refl) down)
 was_down seen old now (p ∷ rows) first begun is_up down = begun (omega arith) down
 
+-- a counter that was down is the one that it was
+pub behind-idle : {C : Type 0} (seen : C → Seen) (old now : C) (rows : Rows) (loaded : Loaded)
+    → IsBehind seen old now rows loaded → (seen old).is_down → now ≡ old
+behind-idle seen old now [] loaded b down = b.first refl
+behind-idle seen old now (p ∷ rows) loaded b down = absurd (b.begun (omega arith) down)
+
 -- after one more
 pub behind-more : {C : Type 0} (seen : C → Seen) (old now new : C) (rows : Rows) (p : Row) (loaded : Loaded)
     (opening : Opening)

@@ -58,6 +58,7 @@ pub fn load<C: Counter>(plan: &Plan, counter: &mut C) -> Result<Loaded, Fault>
         × IsRefusedAfter C.seen counter.old counter.new (openings plan.now) fault answered) }
     ensures why { IfErr result (HasRefused C.seen C.reason counter.old counter.new) }
     ensures down { IsErrOf result Fault.Down ↔ ((C.seen counter.old).is_down × (plan.now ≢ [])) }
+    ensures idle { (C.seen counter.old).is_down → counter.new ≡ counter.old }
 
     ensures honest { (C.seen counter.new).honest → (C.seen counter.old).honest }
 {

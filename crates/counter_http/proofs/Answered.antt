@@ -72,20 +72,20 @@ pub why_first : {C K X : Type 0} (seen : C → Seen) (contents : C → K) (reaso
     (old new : C) (cs : List Command) (fault : Fault)
     → IsCounterCall {X = X} seen contents reason old new cs (Err fault) → IsOfCall seen reason old new fault
 why_first seen contents reason old new cs fault call =
-    inl (call_refused_behind seen reason old old new [] (takes_none (seen old)) (λ h. h) fault contents cs
-    call)
+    inl (call_refused_behind seen reason old old new [] (takes_none (seen old)) (λ h. h) (λ d. refl) fault
+    contents cs call)
 
 -- what the bank says of a message holds behind those before it
 pub why_behind : {C : Type 0} (seen : C → Seen) (reason : Fault → C → C → Type 0) (old now new : C)
     (cs : List Command) → Takes (seen old) (seen now) cs → ((seen now).honest → (seen old).honest)
-    → (fault : ServeFault) → IfRefused fault (IsOfCall seen reason now new)
+    → ((seen old).is_down → now ≡ old) → (fault : ServeFault) → IfRefused fault (IsOfCall seen reason now new)
     → IfRefused fault (IsOfCall seen reason old new)
-why_behind seen reason old now new cs takes honest told.Write why = tt
-why_behind seen reason old now new cs takes honest (told.Bank fault) (inl call) =
-    inl (refused_behind seen reason old now new cs takes honest fault call)
-why_behind seen reason old now new cs takes honest (told.Bank fault) (inr own) = inr own
-why_behind seen reason old now new cs takes honest told.Read why = tt
-why_behind seen reason old now new cs takes honest told.Memory why = tt
+why_behind seen reason old now new cs takes honest idle told.Write why = tt
+why_behind seen reason old now new cs takes honest idle (told.Bank fault) (inl call) =
+    inl (refused_behind seen reason old now new cs takes honest idle fault call)
+why_behind seen reason old now new cs takes honest idle (told.Bank fault) (inr own) = inr own
+why_behind seen reason old now new cs takes honest idle told.Read why = tt
+why_behind seen reason old now new cs takes honest idle told.Memory why = tt
 
 -- at the first call
 pub refused_first : {C : Type 0} (seen : C → Seen) (old new : C) (fault : Fault) (cs : List Command)

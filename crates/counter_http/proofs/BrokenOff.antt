@@ -37,9 +37,9 @@ answer_begun : {C : Type 0} (seen : C → Seen) {r r' w w' w'' k k' k'' : Option
     → AreReadings k' k'' (moments_in t)
     → ((seen new).honest → (seen now).honest)
     → TurnIsAnsweredInPart w' w'' (seen now) (seen new) (asked_by t.message) (commands_in t)
-    → ServesConnection seen r r' q q' w w'' k k'' old new (Err Write)
+    → ((seen old).is_down → new ≡ old) → ServesConnection seen r r' q q' w w'' k k'' old new (Err Write)
 answer_begun seen {r = r} {r' = r'} {w = w} {w' = w'} {w'' = w''} {k = k} {k' = k'} {k'' = k''} old now new t
-    all rest g is front reading honest a =
+    all rest g is front reading honest a idle =
     let before = g.turns in
     let ts = before ++ t ∷ [] in
     let none : ts ++ [] ≡ ts = append-nil ts in
@@ -90,6 +90,7 @@ answer_begun seen {r = r} {r' = r'} {w = w} {w' = w'} {w'' = w''} {k = k} {k' = 
           ∙ ap joined (sym (answers-append log before (t ∷ [])) ∙ sym (append-nil (answers_to log ts))));
       survives = λ h log s. stop_all (seen new) log (commands_of (ts ++ [])) (commands_of ts)
           (ap commands_of none) (takes.stands h log s);
+      idle = idle;
     }
 
 -- the bank refused it, and so much was written
@@ -103,9 +104,9 @@ bank_failed : {C : Type 0} (seen : C → Seen) {r r' w w' w'' k k' k'' : Option 
     (unavailable (asked_by t.message) ∷ [])
     → ((text : List ℕ) → AnswersAreWritten result (text ++ more)
     (text ++ (unavailable (asked_by t.message) ++ [])))
-    → ServesConnection seen r r' q q' w w'' k k'' old new result
+    → ((seen old).is_down → new ≡ old) → ServesConnection seen r r' q q' w w'' k k'' old new result
 bank_failed seen {r = r} {r' = r'} {w = w} {w' = w'} {w'' = w''} {k = k} {k' = k'} {k'' = k''} old now new
-    result t all rest more fault g front reading wrote b exits writes =
+    result t all rest more fault g front reading wrote b exits writes idle =
     let before = g.turns in
     let last = unavailable (asked_by t.message) ∷ [] in
     let commands : commands_of (before ++ t ∷ []) ≡ commands_of before ++ commands_in t =
@@ -142,6 +143,7 @@ bank_failed seen {r = r} {r' = r'} {w = w} {w' = w'} {w'' = w''} {k = k} {k' = k
           (commands_of (before ++ t ∷ [])) commands
           (refused_stop fault (seen b.stood) (seen new) (behind log (commands_of before)) (commands_in t)
           b.refuses h (takes.stands (b.honest h) log s));
+      idle = idle;
     }
 
 -- the one message's commands
@@ -155,26 +157,26 @@ broken_at : {C : Type 0} (seen : C → Seen) (fault : ServeFault) {r r' w w' w''
     → AreReadings k' k'' (moments_in t)
     → ((seen new).honest → (seen now).honest)
     → ServingBreaksOff seen fault w' w'' now new (asked_by t.message) (commands_in t)
-    → ServesConnection seen r r' q q' w w'' k k'' old new (Err fault)
-broken_at seen Write old now new t all rest g is front reading honest (inl a) =
-    answer_begun seen old now new t all rest g is front reading honest a
-broken_at seen Write old now new t all rest g is front reading honest (inr a) =
+    → ((seen old).is_down → new ≡ old) → ServesConnection seen r r' q q' w w'' k k'' old new (Err fault)
+broken_at seen Write old now new t all rest g is front reading honest (inl a) idle =
+    answer_begun seen old now new t all rest g is front reading honest a idle
+broken_at seen Write old now new t all rest g is front reading honest (inr a) idle =
     bank_failed seen old now new (Err Write) t all rest a.written a.fault g front reading a.wrote a.refused
     (At_refusal (record { stays = g.stays; turn = t; whole = is; refused_is = refl; last_is = refl }) a.fault
     (subst (λ (cs : List Command). Refuses a.fault (seen a.refused.stood) (seen new) cs) (one_commands t)
     a.refused.refuses))
     (λ text. written_part text a.written text (unavailable (asked_by t.message) ++ []) refl
-    (a.told ∙ ap (take (length a.written)) (sym (append-nil (unavailable (asked_by t.message))))))
-broken_at seen (Bank fault) old now new t all rest g is front reading honest a =
+    (a.told ∙ ap (take (length a.written)) (sym (append-nil (unavailable (asked_by t.message)))))) idle
+broken_at seen (Bank fault) old now new t all rest g is front reading honest a idle =
     bank_failed seen old now new (Err (Bank fault)) t all rest (unavailable (asked_by t.message)) fault g
     front reading a.wrote a.refused (
       record { stays = g.stays; turn = t; whole = is; refused_is = refl; last_is = refl },
       subst (λ (cs : List Command). Refuses fault (seen a.refused.stood) (seen new) cs) (one_commands t)
           a.refused.refuses,
     )
-    (λ text. ap (λ (x : List ℕ). text ++ x) (sym (append-nil (unavailable (asked_by t.message)))))
-broken_at seen Read old now new t all rest g is front reading honest a = absurd a
-broken_at seen Memory old now new t all rest g is front reading honest a = absurd a
+    (λ text. ap (λ (x : List ℕ). text ++ x) (sym (append-nil (unavailable (asked_by t.message))))) idle
+broken_at seen Read old now new t all rest g is front reading honest a idle = absurd a
+broken_at seen Memory old now new t all rest g is front reading honest a idle = absurd a
 
 pub end_broken : {C : Type 0} (seen : C → Seen) (fault : ServeFault)
     {r r' w w' w'' k k' k'' : Option (List ℕ)} {q q' : Option (List ReadTold)} (old now new : C) {count : ℕ}
@@ -184,8 +186,9 @@ pub end_broken : {C : Type 0} (seen : C → Seen) (fault : ServeFault)
     → AreReadings k' k'' (readings_for m (asked p))
     → ((seen new).honest → (seen now).honest)
     → ServingBreaksOff seen fault w' w'' now new (asked p) (commands_for m (asked p))
-    → ServesConnection seen r r' q q' w w'' k k'' old new (Err fault)
-end_broken seen fault {w' = w'} {w'' = w''} {k' = k'} {k'' = k''} old now new m all p g is reading honest a =
+    → ((seen old).is_down → new ≡ old) → ServesConnection seen r r' q q' w w'' k k'' old new (Err fault)
+end_broken seen fault {w' = w'} {w'' = w''} {k' = k'} {k'' = k''} old now new m all p g is reading honest a
+    idle =
     broken_at seen fault old now new (turn_of m is) all (drop p.length all) g is.whole is.front
     (subst (λ (x : Asked). AreReadings k' k'' (readings_for m x)) is.asks reading) honest
-    (subst (λ (x : Asked). ServingBreaksOff seen fault w' w'' now new x (commands_for m x)) is.asks a)
+    (subst (λ (x : Asked). ServingBreaksOff seen fault w' w'' now new x (commands_for m x)) is.asks a) idle

@@ -43,9 +43,9 @@ end_with : {C : Type 0} (seen : C → Seen) {r r' w w' w'' k k' : Option (List �
     → Appends w' w'' more
     → Exits seen result (HasEnded r' q q') old new new ts [] rest last
     → ((text : List ℕ) → AnswersAreWritten result (text ++ more) (text ++ joined last))
-    → ServesConnection seen r r' q q' w w'' k k' old new result
+    → ((seen old).is_down → new ≡ old) → ServesConnection seen r r' q q' w w'' k k' old new result
 end_with seen {r = r} {r' = r'} {w = w} {w' = w'} {w'' = w''} {k = k} {k' = k'} old new result ts rest last
-    more read a wrote exits writes =
+    more read a wrote exits writes idle =
     let none : ts ++ [] ≡ ts = append-nil ts in
     record {
       taken = ts;
@@ -67,6 +67,7 @@ end_with seen {r = r} {r' = r'} {w = w} {w' = w'} {w'' = w''} {k = k} {k' = k'} 
           ∙ sym (joined-append (answers_to log ts) last)) (writes a.written);
       survives = λ h log s. stop_all (seen new) log (commands_of (ts ++ [])) (commands_of ts)
           (ap commands_of none) (a.takes.stands h log s);
+      idle = idle;
     }
 
 -- nothing remains
@@ -74,8 +75,8 @@ pub end_finished : {C : Type 0} (seen : C → Seen) {r r' w w' k k' : Option (Li
     {q q' : Option (List ReadTold)} (old new : C) {count : ℕ}
     (rest : List ℕ)
     → Going r r' w w' k k' (seen old) (seen new) rest count → HasEnded r' q q' → rest ≡ []
-    → ServesConnection seen r r' q q' w w' k k' old new (Ok count)
-end_finished seen {w' = w'} old new {count = count} rest g ended none =
+    → ((seen old).is_down → new ≡ old) → ServesConnection seen r r' q q' w w' k k' old new (Ok count)
+end_finished seen {w' = w'} old new {count = count} rest g ended none idle =
     end_with seen old new (Ok count) g.turns rest [] [] g.read g.answered (Appends-nil w') (
       record {
         ending = Finished;
@@ -86,17 +87,18 @@ end_finished seen {w' = w'} old new {count = count} rest g ended none =
       },
       omega (arith, g.count_is),
       refl,
-    ) (λ text. refl)
+    ) (λ text. refl) idle
 
 -- the reader failed
 pub end_unread : {C : Type 0} (seen : C → Seen) {r r' w w' k k' : Option (List ℕ)}
     {q q' : Option (List ReadTold)} (old new : C) {count : ℕ}
     (rest : List ℕ)
     → Going r r' w w' k k' (seen old) (seen new) rest count → BeginsWithNoMessage rest
-    → ServesConnection seen r r' q q' w w' k k' old new (Err Read)
-end_unread seen {w' = w'} old new rest g none =
+    → ((seen old).is_down → new ≡ old) → ServesConnection seen r r' q q' w w' k k' old new (Err Read)
+end_unread seen {w' = w'} old new rest g none idle =
     end_with seen old new (Err Read) g.turns rest [] [] g.read g.answered (Appends-nil w')
     (record { stays = g.stays; no_more = none; none_refused = refl; nothing = refl }, refl) (λ text. refl)
+    idle
 
 -- the answer to a message was the last
 pub end_closed : {C : Type 0} (seen : C → Seen) {r r' w w' w'' k k' k'' : Option (List ℕ)}
@@ -106,8 +108,8 @@ pub end_closed : {C : Type 0} (seen : C → Seen) {r r' w w' w'' k k' k'' : Opti
     → count' ≡ count + 1
     → AreReadings k' k'' (readings_for m (asked p)) → ((seen new).honest → (seen now).honest)
     → TurnIsAnswered w' w'' (seen now) (seen new) (asked p) (commands_for m (asked p))
-    → ServesConnection seen r r' q q' w w'' k k'' old new (Ok count')
-end_closed seen {r = r} {r' = r'} {w'' = w''} old now new m all count' p g is last n reading honest a =
+    → ((seen old).is_down → new ≡ old) → ServesConnection seen r r' q q' w w'' k k'' old new (Ok count')
+end_closed seen {r = r} {r' = r'} {w'' = w''} old now new m all count' p g is last n reading honest a idle =
     let t : Turn = turn_of m is in
     let ts = g.turns ++ t ∷ [] in
     let rest = drop p.length all in
@@ -132,7 +134,7 @@ end_closed seen {r = r} {r' = r'} {w'' = w''} old now new m all count' p g is la
       },
       omega (arith, n, g.count_is, length-append g.turns (t ∷ [])),
       refl,
-    ) (λ text. refl)
+    ) (λ text. refl) idle
 
 -- ---- a 400
 
@@ -205,13 +207,13 @@ pub end_told : {C : Type 0} (seen : C → Seen) {r r' w w' w'' k k' : Option (Li
     (g : Going r r' w w' k k' (seen old) (seen new) rest count)
     → IsWalked (HasEnded r' q q') g.turns [] rest (refusal shown ∷ [])
     → ((n : ℕ) × Appends w' w'' (take n (refusal shown)) × (n ≡ length (refusal shown))) → count' ≡ count + 1
-    → ServesConnection seen r r' q q' w w'' k k' old new (Ok count')
-end_told seen {w' = w'} {w'' = w''} old new shown count' rest g walked told one =
+    → ((seen old).is_down → new ≡ old) → ServesConnection seen r r' q q' w w'' k k' old new (Ok count')
+end_told seen {w' = w'} {w'' = w''} old new shown count' rest g walked told one idle =
     end_with seen old new (Ok count') g.turns rest (refusal shown ∷ []) (refusal shown) g.read g.answered
     (subst (λ (x : List ℕ). Appends w' w'' x) (take_all told.0 (refusal shown) (omega (arith, told.2)))
     told.1)
     (walked, omega (arith, one, g.count_is), refl)
-    (λ text. ap (λ (x : List ℕ). text ++ x) (sym (append-nil (refusal shown))))
+    (λ text. ap (λ (x : List ℕ). text ++ x) (sym (append-nil (refusal shown)))) idle
 
 -- it was written in part
 pub end_untold : {C : Type 0} (seen : C → Seen) {r r' w w' w'' k k' : Option (List ℕ)}
@@ -220,13 +222,13 @@ pub end_untold : {C : Type 0} (seen : C → Seen) {r r' w w' w'' k k' : Option (
     (g : Going r r' w w' k k' (seen old) (seen new) rest count)
     → IsWalked (HasEnded r' q q') g.turns [] rest (refusal shown ∷ [])
     → Appends w' w'' (take n (refusal shown))
-    → ServesConnection seen r r' q q' w w'' k k' old new (Err Write)
-end_untold seen old new shown n rest g walked wrote =
+    → ((seen old).is_down → new ≡ old) → ServesConnection seen r r' q q' w w'' k k' old new (Err Write)
+end_untold seen old new shown n rest g walked wrote idle =
     end_with seen old new (Err Write) g.turns rest (refusal shown ∷ []) (take n (refusal shown)) g.read
     g.answered wrote (At_last walked refl)
     (λ text. written_part text (take n (refusal shown)) text (refusal shown ++ []) refl
     (front_of n (refusal shown)
-    ∙ ap (take (length (take n (refusal shown)))) (sym (append-nil (refusal shown)))))
+    ∙ ap (take (length (take n (refusal shown)))) (sym (append-nil (refusal shown))))) idle
 
 -- memory was refused before anything was read
 pub untouched : {C : Type 0} (seen : C → Seen) {r : Option (List ℕ)} {q : Option (List ReadTold)}
@@ -235,3 +237,4 @@ pub untouched : {C : Type 0} (seen : C → Seen) {r : Option (List ℕ)} {q : Op
 untouched seen {r = r} {w = w} c =
     end_with seen c c (Err Memory) [] [] [] [] (Consumes-nil r) answered_none (Appends-nil w)
     (record { none_taken = refl; none_refused = refl; no_rest = refl; nothing = refl }, refl) (λ text. refl)
+    (λ down. refl)

@@ -1,7 +1,7 @@
 -- The lines of the open branches, one after another, and what the bank did meanwhile.
 use Rattle.std.proofs.Common.{lit<, Bool, false, ◌≡◌, ℕ, zero, suc, ◌-◌, ◌<◌, ◌≤◌, inl, inr, List, [], ◌∷◌}
 use Rattle.std.proofs.Common.{◌++◌, length, Option, Some, None, refl, sym, ap, ◌∙◌, append_assoc, append-nil}
-use Rattle.std.proofs.Common.{arith}
+use Rattle.std.proofs.Common.{arith, Ok}
 use Rattle.std.specs.Prelude.{codes, ℤ, pos, negsuc}
 use Rattle.std.proofs.lemmas.Bool.{cases_lt, le-ltb}
 use Rattle.posting_rules.specs.declared.counter.BranchLine.{BranchLine}
@@ -9,9 +9,10 @@ use Rattle.posting_rules.specs.Commands.{Command, opened, Terms, opened_with}
 use Rattle.posting_rules.specs.Entries.{branch_balance, decided}
 use Rattle.posting_rules.specs.declared.fault.Fault.{Fault}
 use Rattle.posting_rules.specs.declared.fault.Fault.TheVariants.{Memory}
-use Rattle.posting_rules.specs.Counter.{Seen, Takes, Refuses}
+use Rattle.posting_rules.specs.Counter.{Seen, IsCounterCall, Takes, Refuses}
 use Rattle.posting_rules.specs.declared.limits.TheConstants.{LAST_BRANCH}
 use Rattle.posting_rules.specs.Branches.{IsNextBranch}
+use Rattle.posting_rules.proofs.CounterCalls.{Takes-append, call_idle_behind}
 use Rattle.std.specs.Prelude.{replicate}
 use Rattle.std.specs.List.{repeat}
 use Rattle.std.specs.Int.{is_negative}
@@ -29,18 +30,17 @@ pub record Asking {C : Type 0} (seen : C → Seen) (old now : C) : Type 0 where
   pub honest : (seen now).honest → (seen old).honest
   pub up : (seen now).is_down → (seen old).is_down
   pub takes : Takes (seen old) (seen now) []
+  pub idle : (seen old).is_down → now ≡ old
 
 -- one call more
-pub asking_more : {C : Type 0} (seen : C → Seen) (old now new : C) → Asking seen old now
-    → Takes (seen now) (seen new) []
-    → ((seen new).is_down → ⊥) → ((seen new).honest → (seen now).honest) → Asking seen old new
-asking_more seen old now new a takes up honest = record {
-  honest = λ h. a.honest (honest h);
-  up = λ d. absurd (up d);
-  takes = record {
-    shows = λ h log s. takes.shows h log (a.takes.shows (honest h) log s);
-    stands = λ h log s. takes.stands h log (a.takes.stands (honest h) log s);
-  };
+pub asking_more : {C K X : Type 0} (seen : C → Seen) (contents : C → K) (reason : Fault → C → C → Type 0)
+    (old now new : C) (x : X) → Asking seen old now
+    → IsCounterCall seen contents reason now new [] (Ok x) → Asking seen old new
+asking_more seen contents reason old now new x a call = record {
+  honest = λ h. a.honest (call.honest h);
+  up = λ d. absurd (call.up d);
+  takes = Takes-append (seen old) (seen now) (seen new) [] [] a.takes call.done call.honest;
+  idle = call_idle_behind seen old now a.idle contents reason new [] (Ok x) call;
 }
 
 -- the next one was refused

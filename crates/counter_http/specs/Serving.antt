@@ -138,3 +138,5 @@ pub record ServesConnection {C : Type 0} (seen : C → Seen) (r r' : Option (Lis
   pub survives : (seen new).honest → (log : List Command) → StandsAt (seen old) log
       → LeavesOnly (seen new)
       (ShowsBeginning log (commands_of (taken ++ refused)) (length (commands_of taken)))
+  -- a bank that was down is the one that it was, and so is what a stop may leave of it
+  pub idle : (seen old).is_down → new ≡ old

@@ -101,6 +101,7 @@ fn answer_posting<W: Sink, K: Clock, C: Counter>(
         (asked message.now)
         (commands_for moment (asked message.now)) result }
     ensures why { IfErr result (λ fault. IfRefused fault (IsOfCall C.seen C.reason bank.old bank.new)) }
+    ensures idle { (C.seen bank.old).is_down → bank.new ≡ bank.old }
     ensures honest { (C.seen bank.new).honest → (C.seen bank.old).honest }
     ensures ends { SendsAs result (W.told writer.old) (W.told writer.new) }
 {
@@ -132,6 +133,7 @@ fn answer_account<W: Sink, C: Counter>(
     ensures answers { IsDealtWith C.seen (W.contents writer.old) (W.contents writer.new) bank.old bank.new
         (asked message.now) [] result }
     ensures why { IfErr result (λ fault. IfRefused fault (IsOfCall C.seen C.reason bank.old bank.new)) }
+    ensures idle { (C.seen bank.old).is_down → bank.new ≡ bank.old }
     ensures honest { (C.seen bank.new).honest → (C.seen bank.old).honest }
     ensures ends { SendsAs result (W.told writer.old) (W.told writer.new) }
 {
@@ -157,6 +159,7 @@ fn answer_branches<W: Sink, C: Counter>(
     ensures answers { IsDealtWith C.seen (W.contents writer.old) (W.contents writer.new) bank.old bank.new
         (asked message.now) [] result }
     ensures why { IfErr result (λ fault. IfRefused fault (IsOfCall C.seen C.reason bank.old bank.new)) }
+    ensures idle { (C.seen bank.old).is_down → bank.new ≡ bank.old }
     ensures honest { (C.seen bank.new).honest → (C.seen bank.old).honest }
     ensures ends { SendsAs result (W.told writer.old) (W.told writer.new) }
 {
@@ -181,6 +184,7 @@ pub(crate) fn answer_message<W: Sink, K: Clock, C: Counter>(
         (asked message.now)
         (commands_for moment (asked message.now)) result }
     ensures why { IfErr result (λ fault. IfRefused fault (IsOfCall C.seen C.reason bank.old bank.new)) }
+    ensures idle { (C.seen bank.old).is_down → bank.new ≡ bank.old }
     ensures honest { (C.seen bank.new).honest → (C.seen bank.old).honest }
     ensures ends { SendsAs result (W.told writer.old) (W.told writer.new) }
 {

@@ -42,6 +42,7 @@ pub(crate) fn all_lines<C: Counter>(alloc: Global, bank: &mut C) -> Result<Strin
     ensures up { OnOk result ((C.seen bank.new).is_down → (C.seen bank.old).is_down) }
     ensures why { IfErr result (IsOfCall C.seen C.reason bank.old bank.new) }
     ensures fault { IfErr result (λ fault. IsRefusedAt C.seen bank.old bank.new fault []) }
+    ensures idle { (C.seen bank.old).is_down → bank.new ≡ bank.old }
     ensures honest { (C.seen bank.new).honest → (C.seen bank.old).honest }
 {
     let mut body = String::new(alloc);

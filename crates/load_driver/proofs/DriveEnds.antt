@@ -102,14 +102,15 @@ module _ {C : Type 0} (seen : C → Seen) (old new : C) (k : Option (List ℕ)) 
           (u.takes.stands (u.honest h) log s);
     };
     listed = λ h log s. tt;
+    idle = u.idle;
   }
 
   -- there was nothing to draw from, or memory was refused
   pub ended_empty : (plan : Rows) (fault : DriveFault) → MayRefuse plan fault → Takes (seen old) (seen new) []
       → ((seen new).honest → (seen old).honest)
       → ((seen new).honest → (log : List Command) → ShowsLog (seen old) log → plan ≡ open_branches log)
-      → Drives seen old new k k seed count (Err fault)
-  ended_empty plan NoBranches none takes honest listed = record {
+      → ((seen old).is_down → new ≡ old) → Drives seen old new k k seed count (Err fault)
+  ended_empty plan NoBranches none takes honest listed idle = record {
     rows = plan;
     submits = record {
       taken = [];
@@ -127,8 +128,9 @@ module _ {C : Type 0} (seen : C → Seen) (old new : C) (k : Option (List ℕ)) 
     };
     listed = λ h log s. subst (λ (rows : Rows). IsAscending rows plan) (listed h log s)
         (no_rows_rise plan none);
+    idle = idle;
   }
-  ended_empty plan (Bank fault) memory takes honest listed =
+  ended_empty plan (Bank fault) memory takes honest listed idle =
       let same : Refuses Memory (seen new) (seen new) [] =
       record { tables = λ t h. h; down = λ d. d; left = λ remains left. (remains, left, λ t h. h) } in
       ended_unlisted fault (record {
@@ -137,6 +139,7 @@ module _ {C : Type 0} (seen : C → Seen) (old new : C) (k : Option (List ℕ)) 
         honest = λ h. h;
         takes = takes;
         refuses = subst (λ (f : Fault). Refuses f (seen new) (seen new) []) (sym memory) same;
+        idle = idle;
       })
 
 -- ---- what was submitted behind the listing
@@ -190,13 +193,14 @@ module _ {C : Type 0} (seen : C → Seen) (old mid new : C) (k k' : Option (List
   pub drives : (plan : Rows) (result : Result Driven DriveFault)
       → Submits seen mid new k k' rows seed count result
       → ((seen mid).honest → (log : List Command) → ShowsLog (seen old) log → plan ≡ open_branches log)
-      → IsAscending plan rows → Drives seen old new k k' seed count result
+      → IsAscending plan rows → ((seen old).is_down → new ≡ old) → Drives seen old new k k' seed count result
   unfolding behind_listing
-  drives plan result s listed ascending = record {
+  drives plan result s listed ascending idle = record {
     rows = rows;
     submits = behind_listing result s;
     listed = λ h log shows. if_listed result (s.taken ++ s.refused) (IsAscending (open_branches log) rows)
         (subst (λ (p : Rows). IsAscending p rows) (listed (honest h) log shows) ascending);
+    idle = idle;
   }
 
 -- ---- whether it is up, and why it was refused
@@ -235,14 +239,14 @@ up_behind (Err (Bank fault)) D E up = up_after fault D E up
 
 pub why_behind : {C : Type 0} (seen : C → Seen) (reason : Fault → C → C → Type 0) (old mid new : C)
     → Takes (seen old) (seen mid) [] → ((seen mid).honest → (seen old).honest)
-    → (result : Result Driven DriveFault)
+    → ((seen old).is_down → mid ≡ old) → (result : Result Driven DriveFault)
     → IfErr result (λ fault. IfRefused fault (IsOfCall seen reason mid new))
     → IfErr result (λ fault. IfRefused fault (IsOfCall seen reason old new))
-why_behind seen reason old mid new takes honest (Ok driven) why = tt
-why_behind seen reason old mid new takes honest (Err NoBranches) why = tt
-why_behind seen reason old mid new takes honest (Err (Bank fault)) (inl call) =
-    inl (refused_behind seen reason old mid new [] takes honest fault call)
-why_behind seen reason old mid new takes honest (Err (Bank fault)) (inr own) = inr own
+why_behind seen reason old mid new takes honest idle (Ok driven) why = tt
+why_behind seen reason old mid new takes honest idle (Err NoBranches) why = tt
+why_behind seen reason old mid new takes honest idle (Err (Bank fault)) (inl call) =
+    inl (refused_behind seen reason old mid new [] takes honest idle fault call)
+why_behind seen reason old mid new takes honest idle (Err (Bank fault)) (inr own) = inr own
 
 -- ---- records that come again
 

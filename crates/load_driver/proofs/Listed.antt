@@ -13,7 +13,7 @@ use Rattle.posting_rules.specs.Commands.{Command, opened}
 use Rattle.posting_rules.specs.Counter.{Seen, ShowsLog, Takes}
 use Rattle.branch_loader.specs.Plans.{IsRow, Row, Rows, floor_within, names, plan_of_list, row_of_listed, rows_by}
 use Rattle.branch_loader.specs.declared.fault.PlanFault.{PlanFault}
-use Rattle.posting_rules.proofs.CounterCalls.{Takes-append}
+use Rattle.posting_rules.proofs.CounterCalls.{Takes-append, was_up}
 use Rattle.branch_loader.proofs.Stated.{rows_by-ok, rows_by-done}
 use Rattle.load_driver.specs.Records.{open_branches, open_up_to, row_if_open}
 use Rattle.posting_rules.specs.declared.limits.TheConstants.{LAST_BRANCH, MAX_ACCOUNTS}
@@ -120,7 +120,7 @@ pub record Listing {C : Type 0} (seen : C → Seen) (old now : C) (rows : Rows) 
   pub takes : Takes (seen old) (seen now) []
   pub honest : (seen now).honest → (seen old).honest
   pub up : (seen now).is_down → (seen old).is_down
-  pub down : (seen old).is_down → (seen now).is_down
+  pub idle : (seen old).is_down → now ≡ old
 
 pub listing_first : {C : Type 0} (seen : C → Seen) (c : C) → Listing seen c c [] 0
 unfolding open_up_to rows_by
@@ -132,7 +132,7 @@ listing_first seen c = record {
   takes = record { shows = λ h log s. s; stands = λ h log s. s };
   honest = λ h. h;
   up = λ d. d;
-  down = λ d. d;
+  idle = λ d. refl;
 }
 
 pub listing_more : {C : Type 0} (seen : C → Seen) (old now new : C) (rows : Rows) (after : ℕ)
@@ -141,7 +141,7 @@ pub listing_more : {C : Type 0} (seen : C → Seen) (old now new : C) (rows : Ro
     → ((seen new).honest → (log : List Command) → ShowsLog (seen now) log → IsNextOpen log after line)
     → ((seen now).is_down → ⊥) → ((seen new).is_down → ⊥) → ((seen new).honest → (seen now).honest)
     → Listing seen old new (rows ++ (line.branch, line.accounts, line.floor) ∷ []) line.branch
-listing_more seen old now new rows after line l in_range takes next was_up is_up honest =
+listing_more seen old now new rows after line l in_range takes next up_now is_up honest =
     let p : Row = (line.branch, line.accounts, line.floor) in
     let above = in_range.above in
     let row : IsRow p = (omega arith, in_range.branch, in_range.some, in_range.few, in_range.floor) in
@@ -155,7 +155,7 @@ listing_more seen old now new rows after line l in_range takes next was_up is_up
       takes = Takes-append (seen old) (seen now) (seen new) [] [] l.takes takes honest;
       honest = λ h. l.honest (honest h);
       up = λ d. absurd (is_up d);
-      down = λ d. absurd (was_up (l.down d));
+      idle = λ d. absurd (was_up seen old now l.idle up_now d);
     }
 
 -- no branch stands behind the last one

@@ -29,6 +29,7 @@ pub record IsUnlisted {C : Type 0} (seen : C → Seen) (old new : C) (fault : Fa
   pub honest : (seen new).honest → (seen stood).honest
   pub takes : Takes (seen old) (seen stood) []
   pub refuses : Refuses fault (seen stood) (seen new) []
+  pub idle : (seen old).is_down → new ≡ old
 
 -- ---- how it ends: some batches were taken, the counter stood there, and a batch was refused then or none
 
@@ -102,6 +103,8 @@ pub record Drives {C : Type 0} (seen : C → Seen) (old new : C) (k k' : Option 
   pub submits : Submits seen old new k k' rows seed count result
   pub listed : (seen new).honest → (log : List Command) → ShowsLog (seen old) log
       → IfListed result (submits.taken ++ submits.refused) (IsAscending (open_branches log) rows)
+  -- a counter that was down is the one that it was, and so is what a stop may leave of it
+  pub idle : (seen old).is_down → new ≡ old
 
 -- ---- the fault that ended it
 

@@ -90,6 +90,7 @@ request_by rows place choice pick amount number = record {
   branch = (home_of rows place).0;
   number = number;
   delta = amount_by amount;
+  reference = None;
 }
 
 -- record n of ascending rows and a seed

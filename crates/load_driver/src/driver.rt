@@ -96,7 +96,15 @@ fn request_by(
     let account = Account::new(account_by(rows, home, words.choice, words.account)).unwrap();
     let teller = Teller::new(first_teller(branch) + place % TELLERS_PER_BRANCH).unwrap();
     let number = Number::new(number).unwrap();
-    Request::new(account, teller, branch, number, amount_by(words.amount)).unwrap()
+    Request::new(
+        account,
+        teller,
+        branch,
+        number,
+        amount_by(words.amount),
+        None,
+    )
+    .unwrap()
 }
 
 /// A driver: it draws the requests of a plan, one after the other, from the words of a seed (TPC-B 5.3).

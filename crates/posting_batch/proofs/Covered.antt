@@ -114,6 +114,7 @@ unchanged_filled o t un = record {
   accounts = all_mapped (λ s. s.changed ≡ None) (account_filled t) (λ s h. h) o.accounts un.accounts;
   history = un.history;
   requests = un.requests;
+  references = un.references;
 }
 
 rising_filled : (o : Overlay) (t : Tables) → HasRisingSlots o → HasRisingSlots (filled t o)
@@ -141,14 +142,15 @@ filled_at key f P makes (s ∷ slots) n =
     ]
 
 kept_at_key : (t : Tables) (slots : List RequestSlot) (n m : ℕ)
-    → IfSome (find (is_for n m) (map (request_filled t) slots)) (λ s. s.kept ≡ kept_in t.requests n m)
+    → IfSome (find (is_for n m) (map (request_filled t) slots))
+    (λ s. s.kept ≡ kept_in t.requests t.references n m)
 kept_at_key t [] n m = tt
 kept_at_key t (s ∷ slots) n m =
     elim (by_test (is_for n m s)) [
       | inl h ↦
           let both = both_true (eqb s.teller n) (eqb s.number m) h in
-          rw h (ap (λ (j : ℕ). kept_in t.requests j s.number) (eqb-true s.teller n both.0)
-          ∙ ap (λ (j : ℕ). kept_in t.requests n j) (eqb-true s.number m both.1))
+          rw h (ap (λ (j : ℕ). kept_in t.requests t.references j s.number) (eqb-true s.teller n both.0)
+          ∙ ap (λ (j : ℕ). kept_in t.requests t.references n j) (eqb-true s.number m both.1))
       | inr g ↦ rw g (kept_at_key t slots n m)
     ]
 
@@ -178,7 +180,7 @@ weaker P Q so (Some s) h = so s h
 
 unchanged_over : (o : Overlay) (t : Tables) → HasNoChange o → o.decided ≡ t.decided → tables_over o t ≡ t
 unchanged_over o t un counted =
-    tables_made _ _ _ _ _ _ _ _ _ _ _ _ _ counted
+    tables_made _ _ _ _ _ _ _ _ _ _ _ _ _ _ _ counted
     (same_rows branch_slot_key branch_key put_branch o.branches
     (λ n r. weaker (λ s. s.changed ≡ None) (λ s. put_branch s r ≡ r) (λ s h. rw h refl)
     (row_at branch_slot_key o.branches n)
@@ -191,7 +193,7 @@ unchanged_over o t un counted =
     (λ n r. weaker (λ s. s.changed ≡ None) (λ s. put_account s r ≡ r) (λ s h. rw h refl)
     (row_at account_slot_key o.accounts n)
     (found_all (λ s. s.changed ≡ None) (λ s. eqb s.account n) o.accounts un.accounts)) t.accounts)
-    (rw un.history refl) (rw un.requests refl)
+    (rw un.history refl) (rw un.requests refl) (rw un.references refl)
 
 -- ---- slots that were made for records, filled from tables
 
@@ -223,7 +225,7 @@ stands t reads =
         accounts = λ n. filled_at account_slot_key (account_filled t)
             (λ k s. s.stored ≡ account_balance_in t k) (λ s. refl) o.accounts n;
         kept = λ n m. subst (λ (u : Tables). IfSome (find (is_for n m) (filled t o).kept)
-            (λ s. s.kept ≡ kept_in u.requests n m)) (sym is) (kept_at_key t o.kept n m);
+            (λ s. s.kept ≡ kept_in u.requests u.references n m)) (sym is) (kept_at_key t o.kept n m);
       };
       same = is;
       unchanged = un;

@@ -1,11 +1,14 @@
 -- The worked examples of a batch, computed from the definitions.
-use Rattle.std.specs.Prelude.{◌≡◌, ℕ, ℤ, List, [], ◌∷◌, map, pos, negsuc, Option, Some, None, Result, Ok, refl}
+use Rattle.std.specs.Prelude.{◌≡◌, ℕ, ℤ, List, [], ◌∷◌, map, pos, negsuc, Option, Some, None, Result, Ok}
+use Rattle.std.specs.Prelude.{Err, refl}
 use Rattle.message_records.specs.declared.fault.Bad.{Bad}
 use Rattle.message_records.specs.declared.records.Outcome.{Outcome}
 use Rattle.message_records.specs.declared.records.Outcome.TheVariants.{Posted, ReusedNumber, NoAccount, BelowFloor}
-use Rattle.message_records.specs.Records.{RequestFields, ReplyFields}
+use Rattle.message_records.specs.declared.records.Outcome.TheVariants.{WrongBranch}
+use Rattle.message_records.specs.Records.{RequestFields, ReplyFields, referenced}
 use Rattle.posting_rules.specs.Cases.{case_of}
 use Rattle.posting_rules.specs.Tables.{Tables, branch_row_of, teller_row_of, account_row_of, floor_row_of}
+use Rattle.posting_rules.specs.Tables.{reference_row_of}
 use Rattle.posting_batch.specs.Batch.{covering_all, no_slots, filled}
 use Rattle.posting_batch.specs.Judging.{overlay_with_all, replies_over}
 use Rattle.posting_batch.specs.Overlay.{Overlay}
@@ -13,7 +16,14 @@ use Rattle.posting_rules.specs.Commands.{opened_with}
 
 -- account, teller, branch, number and amount
 request : ℕ → ℕ → ℕ → ℕ → ℤ → Result RequestFields Bad
-request a t b n z = Ok (record { account = a; teller = t; branch = b; number = n; delta = z })
+request a t b n z = Ok (record {
+  account = a;
+  teller = t;
+  branch = b;
+  number = n;
+  delta = z;
+  reference = None;
+})
 
 -- branch 1 with three accounts and a floor of -1000 cents, and branch 2 with two; of their tellers the first
 bank : Tables
@@ -26,6 +36,7 @@ bank = record {
   history = [];
   requests = [];
   floors = floor_row_of 1 (negsuc 999) ∷ [];
+  references = [];
 }
 
 batch_of : List (Result RequestFields Bad) → Overlay
@@ -92,3 +103,25 @@ replies_of_floored : told floored ≡ (Posted, Some (negsuc 999)) ∷ (BelowFloo
     (Posted, Some (negsuc 4999)) ∷ []
 unfolding request bank batch_of told floored case_of
 replies_of_floored = refl
+
+-- ---- requests with references, of which one is posted and one is refused
+
+-- the request with this reference
+referring : List ℕ → Result RequestFields Bad → Result RequestFields Bad
+referring text (Ok r) = Ok (referenced text r)
+referring text (Err fault) = Err fault
+
+referred : List (Result RequestFields Bad)
+referred = referring (65 ∷ []) (request 1 1 1 1 (pos 5)) ∷ referring (66 ∷ []) (request 1 1 2 2 (pos 5))
+    ∷ request 1 1 1 1 (pos 5) ∷ referring (65 ∷ []) (request 1 1 2 2 (pos 5))
+    ∷ referring (66 ∷ []) (request 1 1 2 2 (pos 5)) ∷ []
+
+replies_of_referred : told referred ≡ (Posted, Some (pos 5)) ∷ (WrongBranch, None) ∷ (ReusedNumber, None) ∷
+    (ReusedNumber, None) ∷ (WrongBranch, None) ∷ []
+unfolding request bank batch_of told referring referred case_of
+replies_of_referred = refl
+
+references_of_referred : (left referred).references ≡ reference_row_of 1 (65 ∷ []) ∷ reference_row_of 2
+    (66 ∷ []) ∷ []
+unfolding request bank batch_of left referring referred case_of
+references_of_referred = refl

@@ -1,6 +1,6 @@
 -- Records are judged one after another by slots that fit tables.
-use Rattle.std.proofs.Common.{◌≡◌, ℕ, List, [], ◌∷◌, map, Option, Some, None, Result, Ok, Err, refl, sym, ap}
-use Rattle.std.proofs.Common.{subst, ◌∙◌, inl, inr}
+use Rattle.std.proofs.Common.{◌≡◌, ℕ, List, [], ◌∷◌, map, length, Option, Some, None, Result, Ok, Err, refl}
+use Rattle.std.proofs.Common.{sym, ap, subst, ◌∙◌, inl, inr}
 use Rattle.std.specs.Prelude.{IsSome}
 use Rattle.std.specs.List.{find}
 use Rattle.std.specs.Option.{option_map}
@@ -19,7 +19,7 @@ use Rattle.posting_rules.specs.Tables.{Tables, row_at}
 use Rattle.posting_rules.proofs.Keyed.{by_test}
 use Rattle.posting_rules.proofs.RowChanges.{changed_at, key-changed_at, row_at-changed}
 use Rattle.posting_batch.specs.declared.slots.RequestSlot.{RequestSlot}
-use Rattle.posting_batch.specs.Batch.{Covers, CoversRead, CoversAll, HasRisingSlots}
+use Rattle.posting_batch.specs.Batch.{Covers, CoversRead, CoversAll, HasFreeOrdinals, HasRisingSlots}
 use Rattle.posting_batch.specs.Judging.{found_over, overlay_after, overlay_with, overlay_with_all, reply_over}
 use Rattle.posting_batch.specs.Judging.{replies_over}
 use Rattle.posting_batch.specs.Overlay.{Overlay, tables_over}
@@ -30,7 +30,7 @@ use Rattle.posting_batch.specs.Slots.{with_branch_changed}
 use Rattle.posting_batch.proofs.KeptSlots.{slot_for-kept}
 use Rattle.posting_batch.proofs.Orders.{rising_mapped}
 use Rattle.posting_batch.proofs.Overlaid.{Fits, found_is}
-use Rattle.posting_batch.proofs.StillFits.{with_is, with_fits}
+use Rattle.posting_batch.proofs.StillFits.{with_is, with_fits, still_free}
 
 -- ---- slots go on covering what they covered
 
@@ -140,14 +140,15 @@ all_rising o m (Ok r ∷ reads) rising = all_rising (overlay_with o m (Ok r)) m 
 
 -- ---- the tables and the replies
 
-pub all_tables : (o : Overlay) (t : Tables) (m : ℕ) (records : List (List ℕ)) → Fits o t
-    → CoversAll o (map request_of records)
+pub all_tables : (o : Overlay) (t : Tables) (m : ℕ) (records : List (List ℕ))
+    → HasFreeOrdinals (tables_over o t) (length records) → Fits o t → CoversAll o (map request_of records)
     → tables_over (overlay_with_all o m (map request_of records)) t ≡ tables_past_all
     (tables_over o t) m records
-all_tables o t m [] fits covers = refl
-all_tables o t m (bytes ∷ records) fits covers =
+all_tables o t m [] free fits covers = refl
+all_tables o t m (bytes ∷ records) free fits covers =
     let read = request_of bytes in
-    all_tables (overlay_with o m read) t m records (with_fits o t m read fits covers.0)
+    all_tables (overlay_with o m read) t m records (still_free o t m read (length records) free fits covers.0)
+    (with_fits o t m read (length records) free fits covers.0)
     (still_covers o m read (map request_of records) covers.1)
     ∙ ap (λ (u : Tables). tables_past_all u m records) (with_is o t m read fits covers.0)
 
@@ -157,18 +158,19 @@ reply_is o t (Err fault) fits covers = refl
 reply_is o t (Ok r) fits covers = ap (λ (f : Found). reply_spelling (reply_in (case_of f r) r))
     (found_is o t r fits covers)
 
-pub all_replies : (o : Overlay) (t : Tables) (m : ℕ) (records : List (List ℕ)) → Fits o t
-    → CoversAll o (map request_of records)
+pub all_replies : (o : Overlay) (t : Tables) (m : ℕ) (records : List (List ℕ))
+    → HasFreeOrdinals (tables_over o t) (length records) → Fits o t → CoversAll o (map request_of records)
     → map reply_spelling (replies_over o m (map request_of records)) ≡ replies_past_all
     (tables_over o t) m records
-all_replies o t m [] fits covers = refl
-all_replies o t m (bytes ∷ records) fits covers =
+all_replies o t m [] free fits covers = refl
+all_replies o t m (bytes ∷ records) free fits covers =
     let read = request_of bytes in
     let next = overlay_with o m read in
     ap (λ (x : List ℕ). x ∷ map reply_spelling (replies_over next m (map request_of records)))
     (reply_is o t read fits covers.0)
     ∙ ap (λ (rest : List (List ℕ)). reply_read (tables_over o t) read ∷ rest)
-    (all_replies next t m records (with_fits o t m read fits covers.0)
+    (all_replies next t m records (still_free o t m read (length records) free fits covers.0)
+    (with_fits o t m read (length records) free fits covers.0)
     (still_covers o m read (map request_of records) covers.1)
     ∙ ap (λ (u : Tables). replies_past_all u m records) (with_is o t m read fits covers.0))
 

@@ -4,14 +4,15 @@ use Rattle.std.proofs.Common.{None, refl, sym, ap, subst, ◌∙◌, inl, inr}
 use Rattle.std.specs.Prelude.{◌&&◌, IfSome}
 use Rattle.std.specs.List.{find}
 use Rattle.std.specs.Option.{option_map}
-use Rattle.std.proofs.lemmas.Bool.{eqb-true}
+use Rattle.std.proofs.lemmas.Bool.{eqb-true, eq-eqb}
+use Rattle.posting_rules.specs.declared.rows.ReferenceRow.{ReferenceRow}
 use Rattle.posting_rules.specs.declared.rows.RequestRow.{RequestRow}
-use Rattle.posting_rules.specs.Changes.{row_put}
-use Rattle.posting_rules.specs.Kept.{KeptFields}
-use Rattle.posting_rules.specs.LookUps.{kept_in, kept_of_row}
-use Rattle.posting_rules.specs.Tables.{request_key}
+use Rattle.posting_rules.specs.Changes.{row_put, reference_put}
+use Rattle.posting_rules.specs.Kept.{KeptFields, kept_with}
+use Rattle.posting_rules.specs.LookUps.{kept_in, kept_of_row, reference_in, text_of_reference}
+use Rattle.posting_rules.specs.Tables.{row_at, request_key, reference_key, reference_row_of}
 use Rattle.posting_rules.proofs.Keyed.{by_test, found_passes}
-use Rattle.posting_rules.proofs.RowChanges.{eqb-flip}
+use Rattle.posting_rules.proofs.RowChanges.{eqb-flip, row_at-put}
 use Rattle.posting_batch.specs.declared.slots.RequestSlot.{RequestSlot}
 use Rattle.posting_batch.specs.Slots.{slots_kept, with_kept, is_for}
 
@@ -57,6 +58,71 @@ find-put_here x n m t (r ∷ rows) none =
       | inr g ↦ rw (g, t) refl
     ]
 
+-- ---- references
+
+-- one is put in under an ordinal, and another ordinal has the one that it had
+reference_other : (k : ℕ) (reference : Option (List ℕ)) (rows : List ReferenceRow) (o : ℕ) → eqb o k ≡ false
+    → reference_in (reference_put k reference rows) o ≡ reference_in rows o
+reference_other k None rows o f = refl
+reference_other k (Some text) rows o f =
+    let g : eqb k o ≡ false = eqb-flip k o ∙ f in
+    ap (option_map text_of_reference) (row_at-put reference_key (reference_row_of k text) rows o ∙ rw g refl)
+
+-- where there was none, it is the one that was put in
+reference_here : (k : ℕ) (reference : Option (List ℕ)) (rows : List ReferenceRow)
+    → row_at reference_key rows k ≡ None
+    → reference_in (reference_put k reference rows) k ≡ reference
+reference_here k None rows none = ap (option_map text_of_reference) none
+reference_here k (Some text) rows none =
+    let t : eqb k k ≡ true = eq-eqb k k refl in
+    let is : row_at reference_key (reference_put k (Some text) rows) k ≡ Some (reference_row_of k text) =
+    row_at-put reference_key (reference_row_of k text) rows k ∙ rw t refl in
+    ap (option_map text_of_reference) is
+
+-- a row that a test finds has another ordinal than one that is free
+found_apart : (rows : List RequestRow) (test : RequestRow → Bool) (k : ℕ) (r : RequestRow)
+    → row_at request_key rows k ≡ None → find test rows ≡ Some r → eqb r.ordinal k ≡ false
+found_apart [] test k r none e = absurd cc
+found_apart (y ∷ rows) test k r none e =
+    elim (by_test (eqb y.ordinal k)) [
+      | inl t ↦ absurd (let h = rw t at none in cc)
+      | inr f ↦ elim (by_test (test y)) [
+        | inl u ↦ let is : y ≡ r = (let h = rw u at e in cc) in subst (λ x. eqb x.ordinal k ≡ false) is f
+        | inr g ↦ found_apart rows test k r (let h = rw f at none in h) (let h = rw g at e in h)
+      ]
+    ]
+
+-- ---- a request more with its reference, under an ordinal that is free
+
+module _ (rows : List RequestRow) (references : List ReferenceRow) (x : RequestRow)
+    (reference : Option (List ℕ)) where
+  abbrev then_in : ℕ → ℕ → Option KeptFields
+  then_in n m = kept_in (row_put request_key x rows) (reference_put x.ordinal reference references) n m
+
+  kept_other : (n m : ℕ) → row_at request_key rows x.ordinal ≡ None → is_of n m x ≡ false
+      → then_in n m ≡ kept_in rows references n m
+  kept_other n m free f =
+      ap (option_map (kept_of_row (reference_put x.ordinal reference references)))
+      (find-put_other x n m f rows)
+      ∙ by_found (find (is_of n m) rows) refl
+    where
+      by_found : (o : Option RequestRow) → find (is_of n m) rows ≡ o
+          → option_map (kept_of_row (reference_put x.ordinal reference references)) o ≡ option_map
+          (kept_of_row references) o
+      by_found None e = refl
+      by_found (Some r) e =
+          ap (λ (text : Option (List ℕ)). Some (kept_with text r.decision))
+          (reference_other x.ordinal reference references r.ordinal
+          (found_apart rows (is_of n m) x.ordinal r free e))
+
+  kept_here : (n m : ℕ) → row_at reference_key references x.ordinal ≡ None → is_of n m x ≡ true
+      → find (is_of n m) rows ≡ None → then_in n m ≡ Some (kept_with reference x.decision)
+  kept_here n m free t none =
+      ap (option_map (kept_of_row (reference_put x.ordinal reference references)))
+      (find-put_here x n m t rows none)
+      ∙ ap (λ (text : Option (List ℕ)). Some (kept_with text x.decision))
+      (reference_here x.ordinal reference references free)
+
 -- ---- slots
 
 pub both_true : (a b : Bool) → (a && b) ≡ true → (a ≡ true) × (b ≡ true)
@@ -80,22 +146,23 @@ pub slot_for-kept : (n m : ℕ) (k : KeptFields) (slots : List RequestSlot) (a b
     → find (is_for a b) (slots_kept n m k slots) ≡ option_map (with_kept n m k) (find (is_for a b) slots)
 slot_for-kept n m k slots a b = find-map (is_for a b) (with_kept n m k) (with_kept-same n m k a b) slots
 
--- one request more is kept, in its slot and among the rows
-pub kept_fits : (slots : List RequestSlot) (rows : List RequestRow) (x : RequestRow)
-    → kept_in rows x.teller x.number ≡ None
-    → ((n m : ℕ) → IfSome (find (is_for n m) slots) (λ s. s.kept ≡ kept_in rows n m))
+-- one request more is kept with its reference, in its slot and among the rows, under an ordinal that is free
+pub kept_fits : (slots : List RequestSlot) (rows : List RequestRow) (references : List ReferenceRow)
+    (x : RequestRow) (reference : Option (List ℕ)) → row_at request_key rows x.ordinal ≡ None
+    → row_at reference_key references x.ordinal ≡ None → kept_in rows references x.teller x.number ≡ None
+    → ((n m : ℕ) → IfSome (find (is_for n m) slots) (λ s. s.kept ≡ kept_in rows references n m))
     → (n m : ℕ)
-    → IfSome (find (is_for n m) (slots_kept x.teller x.number x.kept slots))
-    (λ s. s.kept ≡ kept_in (row_put request_key x rows) n m)
-kept_fits slots rows x none fits n m =
-    subst (λ (o : Option RequestSlot). IfSome o (λ s. s.kept ≡ kept_in (row_put request_key x rows) n m))
-    (sym (slot_for-kept x.teller x.number x.kept slots n m))
+    → IfSome (find (is_for n m) (slots_kept x.teller x.number (kept_with reference x.decision) slots))
+    (λ s. s.kept ≡ then_in rows references x reference n m)
+kept_fits slots rows references x reference free unreferenced none fits n m =
+    subst (λ (o : Option RequestSlot). IfSome o (λ s. s.kept ≡ then_in rows references x reference n m))
+    (sym (slot_for-kept x.teller x.number (kept_with reference x.decision) slots n m))
     (by_slots (find (is_for n m) slots) (fits n m) (found_pair slots n m))
   where
-    by_slots : (o : Option RequestSlot) → IfSome o (λ s. s.kept ≡ kept_in rows n m)
+    by_slots : (o : Option RequestSlot) → IfSome o (λ s. s.kept ≡ kept_in rows references n m)
         → IfSome o (λ s. is_for n m s ≡ true)
-        → IfSome (option_map (with_kept x.teller x.number x.kept) o)
-        (λ s. s.kept ≡ kept_in (row_put request_key x rows) n m)
+        → IfSome (option_map (with_kept x.teller x.number (kept_with reference x.decision)) o)
+        (λ s. s.kept ≡ then_in rows references x reference n m)
     by_slots None is own = tt
     by_slots (Some s) is own =
         let both = both_true (eqb s.teller n) (eqb s.number m) own in
@@ -112,11 +179,12 @@ kept_fits slots rows x none fits n m =
               let xn : x.teller ≡ n = eqb-true x.teller n tb.0 in
               let xm : x.number ≡ m = eqb-true x.number m tb.1 in
               let hit : is_for x.teller x.number s ≡ true = flip ∙ t in
-              let free : find (is_of n m) rows ≡ None =
-              map_none kept_of_row (find (is_of n m) rows) (ap (λ (j : ℕ). kept_in rows j m) (sym xn)
-              ∙ ap (λ (j : ℕ). kept_in rows x.teller j) (sym xm) ∙ none) in
-              rw hit (sym (ap (option_map kept_of_row) (find-put_here x n m t rows free)))
+              let empty : find (is_of n m) rows ≡ None =
+              map_none (kept_of_row references) (find (is_of n m) rows)
+              (ap (λ (j : ℕ). kept_in rows references j m) (sym xn)
+              ∙ ap (λ (j : ℕ). kept_in rows references x.teller j) (sym xm) ∙ none) in
+              rw hit (sym (kept_here rows references x reference n m unreferenced t empty))
           | inr f ↦
               let miss : is_for x.teller x.number s ≡ false = flip ∙ f in
-              rw miss (is ∙ sym (ap (option_map kept_of_row) (find-put_other x n m f rows)))
+              rw miss (is ∙ sym (kept_other rows references x reference n m free f))
         ]

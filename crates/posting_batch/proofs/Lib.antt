@@ -1,5 +1,6 @@
 pub mod Ranks
 pub mod Walked
+pub mod FreeOrdinals
 pub mod KeptSlots
 pub mod Orders
 pub mod OverlaidRows

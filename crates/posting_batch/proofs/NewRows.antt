@@ -1,5 +1,6 @@
 -- The rows that a batch changes are there, and the keys of its new rows are free.
-use Rattle.std.proofs.Common.{◌≡◌, ℕ, ◌+◌, eqb, List, [], ◌∷◌, ◌++◌, map, Option, Some, None, Result, Ok, Err}
+use Rattle.std.proofs.Common.{◌≡◌, ℕ, ◌+◌, eqb, List, [], ◌∷◌, ◌++◌, map, length, Option, Some, None, Result}
+use Rattle.std.proofs.Common.{Ok, Err}
 use Rattle.std.proofs.Common.{refl, sym, ap, subst, ◌∙◌, inl, inr}
 use Rattle.std.specs.Prelude.{ℤ, IsSome, IfSome}
 use Rattle.std.specs.List.{AllByRecursion}
@@ -14,6 +15,7 @@ use Rattle.posting_rules.specs.declared.judgments.Verdict.TheVariants.{Unkept, A
 use Rattle.posting_rules.specs.declared.rows.BranchRow.{BranchRow}
 use Rattle.posting_rules.specs.declared.rows.TellerRow.{TellerRow}
 use Rattle.posting_rules.specs.declared.rows.AccountRow.{AccountRow}
+use Rattle.posting_rules.specs.declared.rows.ReferenceRow.{ReferenceRow}
 use Rattle.posting_rules.specs.Cases.{case_of}
 use Rattle.posting_rules.specs.Changes.{row_changed, row_put, HasRowsOf}
 use Rattle.posting_rules.specs.Commands.{Command, Post}
@@ -23,6 +25,7 @@ use Rattle.posting_rules.specs.LookUps.{balance_of_branch, balance_of_teller, ba
 use Rattle.posting_rules.specs.Steps as steps
 use Rattle.posting_rules.specs.Tables.{Tables, AreTablesOf, row_at, branch_key, teller_key, account_key}
 use Rattle.posting_rules.specs.Tables.{history_key, request_key, request_row_of, history_row_of}
+use Rattle.posting_rules.specs.Tables.{reference_key, reference_row_of}
 use Rattle.posting_rules.proofs.Keyed.{by_test}
 use Rattle.posting_rules.proofs.Ready.{AreReady, ready_shown}
 use Rattle.posting_rules.proofs.Records.{past_shown}
@@ -31,14 +34,17 @@ use Rattle.posting_batch.specs.declared.slots.AccountSlot.{AccountSlot}
 use Rattle.posting_batch.specs.declared.slots.TellerSlot.{TellerSlot}
 use Rattle.posting_batch.specs.declared.slots.BranchSlot.{BranchSlot}
 use Rattle.posting_batch.specs.Batch.{CoversRead, CoversAll, HasNoChange, ChangesRows, PutsFree, AddsFreeRows}
-use Rattle.posting_batch.specs.Judging.{found_over, overlay_after, overlay_with, overlay_with_all}
+use Rattle.posting_batch.specs.Batch.{HasFreeOrdinals}
+use Rattle.posting_batch.specs.Judging.{found_over, reference_behind, overlay_after, overlay_with}
+use Rattle.posting_batch.specs.Judging.{overlay_with_all}
 use Rattle.posting_batch.specs.Overlay.{Overlay, by_slot, over, put_account, put_teller, put_branch, each_put}
 use Rattle.posting_batch.specs.Overlay.{tables_over}
 use Rattle.posting_batch.specs.Slots.{account_slot_key, with_account_changed, teller_slot_key}
 use Rattle.posting_batch.specs.Slots.{with_teller_changed, branch_slot_key, with_branch_changed}
 use Rattle.posting_batch.proofs.InOrder.{still_covers}
 use Rattle.posting_batch.proofs.Overlaid.{Fits, found_is}
-use Rattle.posting_batch.proofs.StillFits.{with_is, with_fits}
+use Rattle.posting_batch.proofs.FreeOrdinals.{free_shown}
+use Rattle.posting_batch.proofs.StillFits.{with_is, with_fits, still_free}
 use Rattle.posting_batch.proofs.OverlaidRows.{row_at-over, put_same}
 
 -- ---- what leaves a row its key
@@ -117,7 +123,7 @@ changes_after o t m r (Posted a te b) there has =
           o.accounts there.accounts;
     }
 
-changes_with : (o : Overlay) (t : Tables) (m : ℕ) (read : Result RequestFields Bad) → Fits o t
+pub changes_with : (o : Overlay) (t : Tables) (m : ℕ) (read : Result RequestFields Bad) → Fits o t
     → CoversRead o read → ChangesRows o t → ChangesRows (overlay_with o m read) t
 changes_with o t m (Err fault) fits covers there = there
 changes_with o t m (Ok r) fits covers there =
@@ -125,11 +131,13 @@ changes_with o t m (Ok r) fits covers there =
     (λ a te b e. rows_under o t r (posted_rows (tables_over o t) r a te b
     (ap (λ (f : Found). case_of f r) (sym (found_is o t r fits covers)) ∙ e)))
 
-changes_on : (o : Overlay) (t : Tables) (m : ℕ) (reads : List (Result RequestFields Bad)) → Fits o t
-    → CoversAll o reads → ChangesRows o t → ChangesRows (overlay_with_all o m reads) t
-changes_on o t m [] fits covers there = there
-changes_on o t m (read ∷ reads) fits covers there =
-    changes_on (overlay_with o m read) t m reads (with_fits o t m read fits covers.0)
+changes_on : (o : Overlay) (t : Tables) (m : ℕ) (reads : List (Result RequestFields Bad))
+    → HasFreeOrdinals (tables_over o t) (length reads) → Fits o t → CoversAll o reads → ChangesRows o t
+    → ChangesRows (overlay_with_all o m reads) t
+changes_on o t m [] free fits covers there = there
+changes_on o t m (read ∷ reads) free fits covers there =
+    changes_on (overlay_with o m read) t m reads (still_free o t m read (length reads) free fits covers.0)
+    (with_fits o t m read (length reads) free fits covers.0)
     (still_covers o m read reads covers.1) (changes_with o t m read fits covers.0 there)
 
 none_changed : {S : Type 0} (change_of : S → Option ℤ) (P : S → Type 0) (slots : List S)
@@ -139,19 +147,23 @@ none_changed change_of P [] all = tt
 none_changed change_of P (s ∷ slots) all =
     (let e : change_of s ≡ None = all.0 in rw e tt, none_changed change_of P slots all.1)
 
+-- no row is changed that isn't there
+pub changes_none : (o : Overlay) (t : Tables) → HasNoChange o → ChangesRows o t
+changes_none o t un = record {
+  branches = none_changed (λ s. s.changed)
+      (λ s. IsSome (row_at branch_key t.branches s.branch)) o.branches un.branches;
+  tellers = none_changed (λ s. s.changed)
+      (λ s. IsSome (row_at teller_key t.tellers s.teller)) o.tellers un.tellers;
+  accounts = none_changed (λ s. s.changed)
+      (λ s. IsSome (row_at account_key t.accounts s.account)) o.accounts un.accounts;
+}
+
 -- the rows that a batch changes are there
-pub all_changes : (o : Overlay) (t : Tables) (m : ℕ) (reads : List (Result RequestFields Bad)) → Fits o t
-    → HasNoChange o → CoversAll o reads
+pub all_changes : (o : Overlay) (t : Tables) (m : ℕ) (reads : List (Result RequestFields Bad))
+    → HasFreeOrdinals (tables_over o t) (length reads) → Fits o t → HasNoChange o → CoversAll o reads
     → ChangesRows (overlay_with_all o m reads) t
-all_changes o t m reads fits un covers =
-    changes_on o t m reads fits covers (record {
-      branches = none_changed (λ s. s.changed)
-          (λ s. IsSome (row_at branch_key t.branches s.branch)) o.branches un.branches;
-      tellers = none_changed (λ s. s.changed)
-          (λ s. IsSome (row_at teller_key t.tellers s.teller)) o.tellers un.tellers;
-      accounts = none_changed (λ s. s.changed)
-          (λ s. IsSome (row_at account_key t.accounts s.account)) o.accounts un.accounts;
-    })
+all_changes o t m reads free fits un covers =
+    changes_on o t m reads free fits covers (changes_none o t un)
 
 -- ---- the new rows
 
@@ -161,6 +173,13 @@ puts_more : {R : Type 0} (key : R → ℕ) (rs : List R) (r : R) (rows : List R)
 puts_more key [] r rows free next = (next, tt)
 puts_more key (x ∷ rs) r rows free next = (free.0, puts_more key rs r (row_put key x rows) free.1 next)
 
+references_more : (ordinal : ℕ) (reference : Option (List ℕ)) (rs rows : List ReferenceRow)
+    → PutsFree reference_key rs rows → row_at reference_key (each_put reference_key rs rows) ordinal ≡ None
+    → PutsFree reference_key (reference_behind ordinal reference rs) rows
+references_more ordinal None rs rows free next = free
+references_more ordinal (Some text) rs rows free next =
+    puts_more reference_key rs (reference_row_of ordinal text) rows free next
+
 adds_after : (o : Overlay) (t : Tables) (m : ℕ) (r : RequestFields) (v : Verdict) → AreReady (tables_over o t)
     → AddsFreeRows o t → AddsFreeRows (overlay_after o m r v) t
 adds_after o t m r (Unkept x) ready adds = adds
@@ -169,12 +188,16 @@ adds_after o t m r (Refused x) ready adds = record {
   history = adds.history;
   requests = puts_more request_key o.requests
       (request_row_of (o.decided + 1) (refused_entry m r x)) t.requests adds.requests ready.next_request;
+  references = references_more (o.decided + 1) r.reference o.references t.references adds.references
+      ready.next_reference;
 }
 adds_after o t m r (Posted a te b) ready adds = record {
   history = puts_more history_key o.history
       (history_row_of (o.decided + 1) (posted_entry m r a)) t.history adds.history ready.next_posting;
   requests = puts_more request_key o.requests
       (request_row_of (o.decided + 1) (posted_entry m r a)) t.requests adds.requests ready.next_request;
+  references = references_more (o.decided + 1) r.reference o.references t.references adds.references
+      ready.next_reference;
 }
 
 pub adds_with : (o : Overlay) (t : Tables) (m : ℕ) (read : Result RequestFields Bad) → AreReady (tables_over o t)
@@ -189,7 +212,8 @@ adds_on : (o : Overlay) (t : Tables) (log : List Command) (m : ℕ) (records : L
 adds_on o t log m [] fits covers shows adds = adds
 adds_on o t log m (bytes ∷ records) fits covers shows adds =
     let read = request_of bytes in
-    adds_on (overlay_with o m read) t (Post m bytes ∷ log) m records (with_fits o t m read fits covers.0)
+    adds_on (overlay_with o m read) t (Post m bytes ∷ log) m records
+    (with_fits o t m read 0 (free_shown (tables_over o t) log 1 shows) fits covers.0)
     (still_covers o m read (map request_of records) covers.1)
     (subst (λ (u : Tables). AreTablesOf u (Post m bytes ∷ log)) (sym (with_is o t m read fits covers.0))
     (past_shown (tables_over o t) log m bytes shows))
@@ -197,7 +221,11 @@ adds_on o t log m (bytes ∷ records) fits covers shows adds =
 
 -- no new row is under a key that is taken
 pub adds_none : (o : Overlay) (t : Tables) → HasNoChange o → AddsFreeRows o t
-adds_none o t un = record { history = rw un.history tt; requests = rw un.requests tt }
+adds_none o t un = record {
+  history = rw un.history tt;
+  requests = rw un.requests tt;
+  references = rw un.references tt;
+}
 
 -- the keys of the new rows of a batch are free
 pub all_adds : (o : Overlay) (t : Tables) (log : List Command) (m : ℕ) (records : List (List ℕ)) → Fits o t

@@ -1,6 +1,5 @@
 -- A single request, judged in the slots that are placed for it and filled from tables.
-use Rattle.std.proofs.Common.{◌≡◌, ◌∙◌, ℕ, List, [], ◌∷◌, Result, Ok, ap, sym, subst}
-use Rattle.message_records.specs.declared.fault.Bad.{Bad}
+use Rattle.std.proofs.Common.{◌≡◌, ◌∙◌, ℕ, [], ◌∷◌, Ok, ap, sym, subst}
 use Rattle.message_records.specs.Records.{RequestFields}
 use Rattle.message_records.specs.Spelling.{reply_spelling}
 use Rattle.posting_rules.specs.Changes.{tables_read, tables_with, reply_bytes, reply_read}
@@ -12,7 +11,7 @@ use Rattle.posting_batch.specs.Overlay.{Overlay, tables_over}
 use Rattle.posting_batch.proofs.Covered.{Stands, homes_all, stands}
 use Rattle.posting_batch.proofs.Idle.{all_idle}
 use Rattle.posting_batch.proofs.InOrder.{all_rising, reply_is}
-use Rattle.posting_batch.proofs.NewRows.{adds_none, adds_with, all_changes}
+use Rattle.posting_batch.proofs.NewRows.{adds_none, adds_with, changes_none, changes_with}
 use Rattle.posting_batch.proofs.StillFits.{with_is}
 
 pub one_homes : (r : RequestFields) → HasHomes (covering no_slots (Ok r))
@@ -40,7 +39,8 @@ module _ (t : Tables) (m : ℕ) (r : RequestFields) where
   one_rising = all_rising one_filled m (Ok r ∷ []) one_stands.rising
 
   pub one_changes : ChangesRows one_judged t
-  one_changes = all_changes one_filled t m (Ok r ∷ []) one_stands.fits one_stands.unchanged one_stands.covers
+  one_changes = changes_with one_filled t m (Ok r) one_stands.fits one_stands.covers.0
+      (changes_none one_filled t one_stands.unchanged)
 
   pub one_adds : AreReady t → AddsFreeRows one_judged t
   one_adds ready = adds_with one_filled t m (Ok r) (subst AreReady (sym one_stands.same) ready)

@@ -14,9 +14,10 @@ use Rattle.posting_rules.specs.declared.rows.AccountRow.{AccountRow}
 use Rattle.posting_rules.specs.declared.rows.HistoryRow.{HistoryRow}
 use Rattle.posting_rules.specs.declared.rows.RequestRow.{RequestRow}
 use Rattle.posting_rules.specs.declared.rows.FloorRow.{FloorRow}
+use Rattle.posting_rules.specs.declared.rows.ReferenceRow.{ReferenceRow}
 use Rattle.posting_rules.specs.Changes.{row_put, with_decided, with_branch_balance, with_teller_balance}
-use Rattle.posting_rules.specs.Changes.{with_account_balance, with_history, with_request, tables_kept}
-use Rattle.posting_rules.specs.Changes.{tables_posted, tables_after}
+use Rattle.posting_rules.specs.Changes.{with_account_balance, with_history, with_request, with_reference}
+use Rattle.posting_rules.specs.Changes.{reference_put, tables_kept, tables_posted, tables_after}
 use Rattle.posting_rules.specs.Numbering.{branch_of_teller, branch_of_account}
 use Rattle.posting_rules.specs.Entries.{DecidedRequest, refused_entry, posted_entry}
 use Rattle.posting_rules.specs.Kept.{KeptFields}
@@ -24,14 +25,16 @@ use Rattle.posting_rules.specs.LookUps.{both_of, kept_in, account_balance_in, ba
 use Rattle.posting_rules.specs.LookUps.{balance_of_teller, balance_of_branch, floor_in, found_in}
 use Rattle.posting_rules.specs.Steps as steps
 use Rattle.posting_rules.specs.Tables.{Tables, row_at, branch_key, teller_key, account_key, history_key}
-use Rattle.posting_rules.specs.Tables.{request_key, request_row_of, history_row_of}
+use Rattle.posting_rules.specs.Tables.{request_key, request_row_of, history_row_of, reference_key}
+use Rattle.posting_rules.specs.Tables.{reference_row_of}
 use Rattle.posting_batch.specs.declared.slots.AccountSlot.{AccountSlot}
 use Rattle.posting_batch.specs.declared.slots.TellerSlot.{TellerSlot}
 use Rattle.posting_batch.specs.declared.slots.BranchSlot.{BranchSlot}
 use Rattle.posting_batch.specs.declared.slots.FloorSlot.{FloorSlot}
 use Rattle.posting_batch.specs.declared.slots.RequestSlot.{RequestSlot}
 use Rattle.posting_batch.specs.Batch.{Covers}
-use Rattle.posting_batch.specs.Judging.{found_over, overlay_kept, overlay_posted, overlay_after}
+use Rattle.posting_batch.specs.Judging.{found_over, reference_behind, overlay_kept, overlay_posted}
+use Rattle.posting_batch.specs.Judging.{overlay_after}
 use Rattle.posting_batch.specs.Overlay.{Overlay, changed_to, each_put, tables_over}
 use Rattle.posting_batch.specs.Slots.{in_slot, slot_balance, kept_in_slots, kept_of_slot, is_for}
 use Rattle.posting_batch.specs.Slots.{account_slot_key, account_slot_balance, with_account_changed}
@@ -52,7 +55,8 @@ pub record Fits (o : Overlay) (t : Tables) : Type 0 where
       → IfSome (row_at account_slot_key o.accounts n) (λ s. s.stored ≡ account_balance_in t n)
   -- and, of kept requests, those that are new too
   pub kept : (n m : ℕ)
-      → IfSome (find (is_for n m) o.kept) (λ s. s.kept ≡ kept_in (tables_over o t).requests n m)
+      → IfSome (find (is_for n m) o.kept)
+      (λ s. s.kept ≡ kept_in (tables_over o t).requests (tables_over o t).references n m)
 
 account_now : (o : Overlay) (t : Tables) (n : ℕ) → Fits o t → IsSome (row_at account_slot_key o.accounts n)
     → slot_balance account_slot_key account_slot_balance o.accounts n ≡ option_map balance_of_account
@@ -95,12 +99,12 @@ floor_now o t n fits there = by_slots (row_at floor_slot_key o.floors n) there (
     by_slots (Some s) there is = is
 
 kept_now : (o : Overlay) (t : Tables) (n m : ℕ) → Fits o t → IsSome (find (is_for n m) o.kept)
-    → kept_in_slots o.kept n m ≡ kept_in (tables_over o t).requests n m
+    → kept_in_slots o.kept n m ≡ kept_in (tables_over o t).requests (tables_over o t).references n m
 kept_now o t n m fits there = by_slots (find (is_for n m) o.kept) there (fits.kept n m)
   where
     by_slots : (at : Option RequestSlot) → IsSome at
-        → IfSome at (λ s. s.kept ≡ kept_in (tables_over o t).requests n m)
-        → in_slot kept_of_slot at ≡ kept_in (tables_over o t).requests n m
+        → IfSome at (λ s. s.kept ≡ kept_in (tables_over o t).requests (tables_over o t).references n m)
+        → in_slot kept_of_slot at ≡ kept_in (tables_over o t).requests (tables_over o t).references n m
     by_slots None there is = absurd cc
     by_slots (Some s) there is = is
 
@@ -131,10 +135,18 @@ pub each_put-append : {R : Type 0} (key : R → ℕ) (rs : List R) (r : R) (rows
 each_put-append key [] r rows = refl
 each_put-append key (x ∷ rs) r rows = each_put-append key rs r (row_put key x rows)
 
+-- the reference of one request more
+pub reference_put-append : (ordinal : ℕ) (reference : Option (List ℕ)) (rs rows : List ReferenceRow)
+    → each_put reference_key (reference_behind ordinal reference rs) rows ≡ reference_put ordinal reference
+    (each_put reference_key rs rows)
+reference_put-append ordinal None rs rows = refl
+reference_put-append ordinal (Some text) rs rows = each_put-append reference_key rs
+    (reference_row_of ordinal text) rows
+
 -- tables whose parts are equal
 pub tables_made : (n n' : ℕ) (b b' : List BranchRow) (e e' : List TellerRow) (a a' : List AccountRow)
-    (h h' : List HistoryRow) (q q' : List RequestRow) (l : List FloorRow)
-    → n ≡ n' → b ≡ b' → e ≡ e' → a ≡ a' → h ≡ h' → q ≡ q'
+    (h h' : List HistoryRow) (q q' : List RequestRow) (l : List FloorRow) (f f' : List ReferenceRow)
+    → n ≡ n' → b ≡ b' → e ≡ e' → a ≡ a' → h ≡ h' → q ≡ q' → f ≡ f'
     → (let t : Tables = record {
       decided = n;
       branches = b;
@@ -143,6 +155,7 @@ pub tables_made : (n n' : ℕ) (b b' : List BranchRow) (e e' : List TellerRow) (
       history = h;
       requests = q;
       floors = l;
+      references = f;
     } in t)
     ≡ record {
       decided = n';
@@ -152,15 +165,17 @@ pub tables_made : (n n' : ℕ) (b b' : List BranchRow) (e e' : List TellerRow) (
       history = h';
       requests = q';
       floors = l;
+      references = f';
     }
-tables_made n n' b b' e e' a a' h h' q q' l en eb ee ea eh eq = rw (en, eb, ee, ea, eh, eq) refl
+tables_made n n' b b' e e' a a' h h' q q' l f f' en eb ee ea eh eq ef = rw (en, eb, ee, ea, eh, eq, ef) refl
 
 refused_over : (o : Overlay) (t : Tables) (e : DecidedRequest)
     → tables_over (overlay_kept o e) t ≡ tables_kept (tables_over o t) (o.decided + 1) e
-unfolding with_decided with_request
+unfolding with_decided with_request with_reference
 refused_over o t e =
-    tables_made _ _ _ _ _ _ _ _ _ _ _ _ _ refl refl refl refl refl
+    tables_made _ _ _ _ _ _ _ _ _ _ _ _ _ _ _ refl refl refl refl refl
     (each_put-append request_key o.requests (request_row_of (o.decided + 1) e) t.requests)
+    (reference_put-append (o.decided + 1) e.request.reference o.references t.references)
 
 -- the slots of a posting are there
 record HasSlotsOf (o : Overlay) (r : RequestFields) : Type 0 where
@@ -171,9 +186,10 @@ record HasSlotsOf (o : Overlay) (r : RequestFields) : Type 0 where
 posted_over : (o : Overlay) (t : Tables) (e : DecidedRequest) (teller branch : ℤ) → HasSlotsOf o e.request
     → tables_over (overlay_posted o e teller branch) t ≡ tables_posted (tables_over o t)
     (o.decided + 1) e teller branch
-unfolding with_decided with_request with_history with_branch_balance with_teller_balance with_account_balance
+unfolding with_decided with_request with_reference with_history
+    with_branch_balance with_teller_balance with_account_balance
 posted_over o t e teller branch there =
-    tables_made _ _ _ _ _ _ _ _ _ _ _ _ _ refl
+    tables_made _ _ _ _ _ _ _ _ _ _ _ _ _ _ _ refl
     (over-changed branch_slot_key branch_key (λ s r. changed_to steps.with_branch_balance s.changed r)
     (put_same branch_slot_key (λ s. None) (λ (s : BranchSlot). s.changed) branch_key balance_of_branch
     steps.with_branch_balance (λ z r. refl) (λ z r. refl) (λ z y r. refl))
@@ -197,6 +213,7 @@ posted_over o t e teller branch there =
     o.accounts (λ s. refl) there.account t.accounts)
     (each_put-append history_key o.history (history_row_of (o.decided + 1) e) t.history)
     (each_put-append request_key o.requests (request_row_of (o.decided + 1) e) t.requests)
+    (reference_put-append (o.decided + 1) e.request.reference o.references t.references)
 
 -- what a verdict makes of the overlay is what it makes of the tables with it
 pub after_is : (o : Overlay) (t : Tables) (m : ℕ) (r : RequestFields) (v : Verdict) → Covers o r

@@ -35,6 +35,7 @@ made_with o (Ok r) made =
             made.unchanged.accounts;
         history = made.unchanged.history;
         requests = made.unchanged.requests;
+        references = made.unchanged.references;
       };
       rising = record {
         branches = placed_rises (number_below branch_slot_key) (number_same branch_slot_key)
@@ -60,6 +61,13 @@ made_on o (read ∷ reads) made = made_on (covering o read) reads (made_with o r
 
 pub made_all : (reads : List (Result RequestFields Bad)) → IsMade (covering_all no_slots reads)
 made_all reads = made_on no_slots reads (record {
-  unchanged = record { branches = tt; tellers = tt; accounts = tt; history = refl; requests = refl };
+  unchanged = record {
+    branches = tt;
+    tellers = tt;
+    accounts = tt;
+    history = refl;
+    requests = refl;
+    references = refl;
+  };
   rising = record { branches = tt; floors = tt; tellers = tt; accounts = tt; kept = tt };
 })

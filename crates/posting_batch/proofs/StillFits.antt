@@ -1,6 +1,6 @@
 -- The slots of a batch go on telling what is in the tables, record by record.
-use Rattle.std.proofs.Common.{◌≡◌, ℕ, ◌+◌, Bool, true, false, cond, eqb, List, Option, Some, None, Result, Ok}
-use Rattle.std.proofs.Common.{Err, refl, sym, ap, subst, ◌∙◌}
+use Rattle.std.proofs.Common.{◌≡◌, ℕ, suc, ◌+◌, Bool, true, false, cond, eqb, List, Option, Some, None, Result}
+use Rattle.std.proofs.Common.{Ok, Err, refl, sym, ap, subst, ◌∙◌, arith}
 use Rattle.std.specs.Prelude.{IfSome}
 use Rattle.std.specs.List.{find}
 use Rattle.std.specs.Option.{option_map}
@@ -9,22 +9,25 @@ use Rattle.message_records.specs.Records.{RequestFields}
 use Rattle.posting_rules.specs.declared.judgments.Found.{Found}
 use Rattle.posting_rules.specs.declared.judgments.Verdict.{Verdict}
 use Rattle.posting_rules.specs.declared.judgments.Verdict.TheVariants.{Unkept, Again, Refused, Posted}
+use Rattle.posting_rules.specs.declared.rows.ReferenceRow.{ReferenceRow}
 use Rattle.posting_rules.specs.declared.rows.RequestRow.{RequestRow}
 use Rattle.posting_rules.specs.Cases.{case_of, plus_within}
-use Rattle.posting_rules.specs.Changes.{row_changed, tables_after, tables_read}
+use Rattle.posting_rules.specs.Changes.{row_changed, row_put, tables_after, tables_read}
 use Rattle.posting_rules.specs.Numbering.{branch_of_teller}
 use Rattle.posting_rules.specs.Entries.{DecidedRequest, refused_entry, posted_entry}
-use Rattle.posting_rules.specs.LookUps.{kept_in, account_balance_in, balance_of_teller, floor_in, found_in}
+use Rattle.posting_rules.specs.LookUps.{kept_in, account_balance_in, balance_of_teller, found_in}
 use Rattle.posting_rules.specs.Tables.{Tables, row_at, branch_key, teller_key, request_key, request_row_of}
+use Rattle.posting_rules.specs.Tables.{reference_key}
 use Rattle.posting_rules.proofs.RowChanges.{row_at-changed}
 use Rattle.posting_rules.proofs.Verdicts.{by_posting, by_account, by_new, by_known, by_teller}
-use Rattle.posting_batch.specs.Batch.{CoversRead}
+use Rattle.posting_batch.specs.Batch.{CoversRead, HasFreeOrdinals}
 use Rattle.posting_batch.specs.Judging.{found_over, overlay_kept, overlay_after, overlay_with}
-use Rattle.posting_batch.specs.Overlay.{Overlay, each_put, tables_over}
+use Rattle.posting_batch.specs.Overlay.{Overlay, tables_over}
 use Rattle.posting_batch.specs.Slots.{is_for, account_slot_key, with_account_changed, teller_slot_key}
 use Rattle.posting_batch.specs.Slots.{with_teller_changed, branch_slot_key, with_branch_changed}
+use Rattle.posting_batch.proofs.FreeOrdinals.{free_read}
 use Rattle.posting_batch.proofs.KeptSlots.{kept_fits}
-use Rattle.posting_batch.proofs.Overlaid.{Fits, found_is, each_put-append, after_is}
+use Rattle.posting_batch.proofs.Overlaid.{Fits, found_is, each_put-append, reference_put-append, after_is}
 
 -- ---- the slots go on telling what is in the tables
 
@@ -61,32 +64,51 @@ module _ {S : Type 0} (key : S → ℕ) (k : ℕ) (set : S → S) (kept : (s : S
       subst (λ (x : Option S). IfSome x P) (sym (row_at-changed key k set kept slots n))
       (mapped (eqb k n) (row_at key slots n) is)
 
-more_kept : (o : Overlay) (t : Tables) (e : DecidedRequest) → Fits o t
-    → kept_in (tables_over o t).requests e.request.teller e.request.number ≡ None
+-- the next ordinal has no request, and no reference
+record IsFreeNext (t : Tables) : Type 0 where
+  pub request : row_at request_key t.requests (t.decided + 1) ≡ None
+  pub reference : row_at reference_key t.references (t.decided + 1) ≡ None
+
+next_free : (t : Tables) (count : ℕ) → HasFreeOrdinals t (suc count) → IsFreeNext t
+next_free t count free = record {
+  request = free.requests (t.decided + 1) (omega arith) (omega arith);
+  reference = free.references (t.decided + 1) (omega arith) (omega arith);
+}
+
+more_kept : (o : Overlay) (t : Tables) (e : DecidedRequest) → Fits o t → IsFreeNext (tables_over o t)
+    → kept_in (tables_over o t).requests (tables_over o t).references e.request.teller e.request.number ≡ None
     → (n m : ℕ)
     → IfSome (find (is_for n m) (overlay_kept o e).kept)
-    (λ s. s.kept ≡ kept_in (tables_over (overlay_kept o e) t).requests n m)
-more_kept o t e fits none n m =
+    (λ s. s.kept ≡ kept_in (tables_over (overlay_kept o e) t).requests
+    (tables_over (overlay_kept o e) t).references n m)
+more_kept o t e fits free none n m =
+    let over = tables_over o t in
+    let row = request_row_of (o.decided + 1) e in
+    let requests = sym (each_put-append request_key o.requests row t.requests) in
+    let references = sym
+    (reference_put-append (o.decided + 1) e.request.reference o.references t.references) in
     subst (λ (rows : List RequestRow). IfSome (find (is_for n m) (overlay_kept o e).kept)
-    (λ s. s.kept ≡ kept_in rows n m))
-    (sym (each_put-append request_key o.requests (request_row_of (o.decided + 1) e) t.requests))
-    (kept_fits o.kept (each_put request_key o.requests t.requests) (request_row_of (o.decided + 1) e) none
-    fits.kept n m)
+    (λ s. s.kept ≡ kept_in rows (tables_over (overlay_kept o e) t).references n m)) requests
+    (subst (λ (rows : List ReferenceRow). IfSome (find (is_for n m) (overlay_kept o e).kept)
+    (λ s. s.kept ≡ kept_in (row_put request_key row over.requests) rows n m))
+    references
+    (kept_fits o.kept over.requests over.references row e.request.reference free.request free.reference none
+    fits.kept n m))
 
 -- a verdict on what was looked up leaves slots that tell what is in the tables
-pub after_fits : (o : Overlay) (t : Tables) (m : ℕ) (r : RequestFields) (v : Verdict) → Fits o t
-    → IsNewIn (found_in (tables_over o t) r) v → Fits (overlay_after o m r v) t
-after_fits o t m r (Unkept x) fits new = fits
-after_fits o t m r (Again x) fits new = fits
-after_fits o t m r (Refused x) fits new =
+after_fits : (o : Overlay) (t : Tables) (m : ℕ) (r : RequestFields) (v : Verdict) → Fits o t
+    → IsFreeNext (tables_over o t) → IsNewIn (found_in (tables_over o t) r) v → Fits (overlay_after o m r v) t
+after_fits o t m r (Unkept x) fits free new = fits
+after_fits o t m r (Again x) fits free new = fits
+after_fits o t m r (Refused x) fits free new =
     record {
       branches = fits.branches;
       floors = fits.floors;
       tellers = fits.tellers;
       accounts = fits.accounts;
-      kept = more_kept o t (refused_entry m r x) fits new;
+      kept = more_kept o t (refused_entry m r x) fits free new;
     }
-after_fits o t m r (Posted a te b) fits new = record {
+after_fits o t m r (Posted a te b) fits free new = record {
   branches = λ n. fits_changed branch_slot_key (branch_of_teller r.teller) (with_branch_changed b) (λ s. refl)
       (λ s. s.stored ≡ row_at branch_key t.branches n) (λ s h. h) o.branches n (fits.branches n);
   floors = fits.floors;
@@ -95,7 +117,7 @@ after_fits o t m r (Posted a te b) fits new = record {
       (fits.tellers n);
   accounts = λ n. fits_changed account_slot_key r.account (with_account_changed a) (λ s. refl)
       (λ s. s.stored ≡ account_balance_in t n) (λ s h. h) o.accounts n (fits.accounts n);
-  kept = more_kept o t (posted_entry m r a) fits new;
+  kept = more_kept o t (posted_entry m r a) fits free new;
 }
 
 -- ---- a record
@@ -109,10 +131,20 @@ with_is o t m (Ok r) fits covers =
     after_is o t m r (case_of (found_over o r) r) covers
     ∙ ap (λ (f : Found). tables_after (tables_over o t) m r (case_of f r)) (found_is o t r fits covers)
 
-pub with_fits : (o : Overlay) (t : Tables) (m : ℕ) (read : Result RequestFields Bad) → Fits o t
-    → CoversRead o read → Fits (overlay_with o m read) t
-with_fits o t m (Err fault) fits covers = fits
-with_fits o t m (Ok r) fits covers =
-    after_fits o t m r (case_of (found_over o r) r) fits
+-- where the next ordinal is free, the slots go on telling what is in the tables
+pub with_fits : (o : Overlay) (t : Tables) (m : ℕ) (read : Result RequestFields Bad) (count : ℕ)
+    → HasFreeOrdinals (tables_over o t) (suc count) → Fits o t → CoversRead o read
+    → Fits (overlay_with o m read) t
+with_fits o t m (Err fault) count free fits covers = fits
+with_fits o t m (Ok r) count free fits covers =
+    after_fits o t m r (case_of (found_over o r) r) fits (next_free (tables_over o t) count free)
     (subst (λ (f : Found). IsNewIn (found_in (tables_over o t) r) (case_of f r))
     (sym (found_is o t r fits covers)) (new_case_of (found_in (tables_over o t) r) r))
+
+-- and the ordinals behind it are as free as before
+pub still_free : (o : Overlay) (t : Tables) (m : ℕ) (read : Result RequestFields Bad) (count : ℕ)
+    → HasFreeOrdinals (tables_over o t) (suc count) → Fits o t → CoversRead o read
+    → HasFreeOrdinals (tables_over (overlay_with o m read) t) count
+still_free o t m read count free fits covers =
+    subst (λ (u : Tables). HasFreeOrdinals u count) (sym (with_is o t m read fits covers))
+    (free_read (tables_over o t) m read count free)

@@ -1,18 +1,20 @@
 -- Tables that have what the slots of an overlay tell: the overlay is filled from them.
-use Rattle.std.proofs.Common.{◌≡◌, ℕ, Bool, true, false, eqb, ltb, List, [], ◌∷◌, map, Option, Some, None, refl}
-use Rattle.std.proofs.Common.{sym, ap, ◌∙◌, arith}
-use Rattle.std.specs.Prelude.{◌&&◌, ◌||◌, ℤ, IsTrue, IfSome}
+use Rattle.std.proofs.Common.{◌≡◌, ℕ, suc, ◌+◌, ◌<◌, Bool, true, false, eqb, ltb, List, [], ◌∷◌, map, Option}
+use Rattle.std.proofs.Common.{Some, None, refl, sym, ap, ◌∙◌, arith}
+use Rattle.std.specs.Prelude.{◌&&◌, ◌||◌, ℤ, IsTrue, IfSome, option_and_then}
 use Rattle.std.specs.List.{find, AllByRecursion}
 use Rattle.std.specs.Option.{option_map}
 use Rattle.std.proofs.lemmas.Bool.Decides.{nat_tests}
-use Rattle.posting_rules.specs.Kept.{KeptFields}
-use Rattle.posting_rules.specs.LookUps.{account_balance_in, balance_of_account, balance_of_teller, floor_in}
-use Rattle.posting_rules.specs.LookUps.{kept_in, kept_of_row, lowest_of}
+use Rattle.posting_rules.specs.Kept.{KeptFields, kept_with}
+use Rattle.posting_rules.specs.LookUps.{balance_of_account, balance_of_teller}
+use Rattle.posting_rules.specs.LookUps.{kept_in, kept_of_row, lowest_of, text_of_reference}
 use Rattle.posting_rules.specs.Tables.{Tables, row_at, account_key, account_row_of, branch_key, floor_key}
-use Rattle.posting_rules.specs.Tables.{floor_row_of, teller_key, teller_row_of}
+use Rattle.posting_rules.specs.Tables.{floor_row_of, reference_key, reference_row_of, request_key, teller_key}
+use Rattle.posting_rules.specs.Tables.{teller_row_of}
 use Rattle.posting_rules.specs.declared.rows.AccountRow.{AccountRow}
 use Rattle.posting_rules.specs.declared.rows.BranchRow.{BranchRow}
 use Rattle.posting_rules.specs.declared.rows.FloorRow.{FloorRow}
+use Rattle.posting_rules.specs.declared.rows.ReferenceRow.{ReferenceRow}
 use Rattle.posting_rules.specs.declared.rows.RequestRow.{RequestRow}
 use Rattle.posting_rules.specs.declared.rows.TellerRow.{TellerRow}
 use Rattle.posting_batch.specs.declared.slots.AccountSlot.{AccountSlot}
@@ -21,7 +23,7 @@ use Rattle.posting_batch.specs.declared.slots.FloorSlot.{FloorSlot}
 use Rattle.posting_batch.specs.declared.slots.RequestSlot.{RequestSlot}
 use Rattle.posting_batch.specs.declared.slots.TellerSlot.{TellerSlot}
 use Rattle.posting_batch.specs.Batch.{HasRisingSlots, account_filled, branch_filled, filled, request_filled}
-use Rattle.posting_batch.specs.Batch.{floor_filled, teller_filled}
+use Rattle.posting_batch.specs.Batch.{floor_filled, teller_filled, HasFreeOrdinals}
 use Rattle.posting_batch.specs.Overlay.{Overlay}
 use Rattle.posting_batch.specs.Placed.{IsRising, number_below, request_below}
 use Rattle.posting_batch.specs.Slots.{account_slot_key, branch_slot_key, floor_slot_key, teller_slot_key}
@@ -90,6 +92,11 @@ other_number a b c is h = grind (arith, nat_tests)
 lower_number : (a b c : ℕ) → c ≡ a → ltb a b ≡ true → eqb c b ≡ false
 lower_number a b c is h = grind (arith, nat_tests)
 
+told_again : {A R : Type 0} (make : A → R) (back : R → A) → ((a : A) → back (make a) ≡ a) → (o : Option A)
+    → option_map back (option_map make o) ≡ o
+told_again make back same None = refl
+told_again make back same (Some a) = ap (λ x. Some x) (same a)
+
 if_made : {A R : Type 0} (make : A → R) (P : R → Type 0) → ((a : A) → P (make a)) → (o : Option A)
     → IfSome (option_map make o) P
 if_made make P all None = tt
@@ -130,22 +137,118 @@ pair_other a n b m h = grind (arith, nat_tests)
 pair_lower : (a n b m : ℕ) → pair_below a n b m ≡ true → (eqb a b && eqb n m) ≡ false
 pair_lower a n b m h = grind (arith, nat_tests)
 
-abbrev make_request : RequestSlot → KeptFields → RequestRow
-make_request s kept = record { ordinal = 0; teller = s.teller; number = s.number; kept = kept }
+-- a slot with a number of its own, under which its request and its reference stand
+abbrev Numbered : Type 0
+Numbered = ℕ × RequestSlot
 
-abbrev request_told : RequestSlot → Option RequestRow
-request_told s = option_map (make_request s) s.kept
+abbrev numbered : ℕ → List RequestSlot → List Numbered
+numbered n [] = []
+numbered n (s ∷ slots) = (n, s) ∷ numbered (suc n) slots
 
-requests_found : (slots : List RequestSlot) → IsRising request_below slots
-    → AllByRecursion (λ s. find (asks_for s) (rows_told request_told slots) ≡ request_told s) slots
-requests_found slots rises = all_found request_told asks_for request_below
-    (λ s. if_made (make_request s) (λ r. asks_for s r ≡ true) (λ k. both_same s.teller s.number) s.kept)
+-- the reference of what is kept, where it has one
+abbrev referring_of : Option KeptFields → Option (List ℕ)
+referring_of o = option_and_then (λ (k : KeptFields). k.reference) o
+
+abbrev make_request : ℕ → RequestSlot → KeptFields → RequestRow
+make_request n s kept = record { ordinal = n; teller = s.teller; number = s.number; decision = kept.decision }
+
+abbrev request_told : Numbered → Option RequestRow
+request_told p = option_map (make_request p.0 p.1) p.1.kept
+
+abbrev reference_told : Numbered → Option ReferenceRow
+reference_told p = option_map (reference_row_of p.0) (referring_of p.1.kept)
+
+slots_above : (s : RequestSlot) (n m : ℕ) (slots : List RequestSlot)
+    → AllByRecursion (λ x. IsTrue (request_below s x)) slots
+    → AllByRecursion (λ (p : Numbered). IsTrue (request_below s p.1)) (numbered m slots)
+slots_above s n m [] all = tt
+slots_above s n m (x ∷ slots) all = (all.0, slots_above s n (suc m) slots all.1)
+
+slots_rise : (n : ℕ) (slots : List RequestSlot) → IsRising request_below slots
+    → IsRising (λ (p q : Numbered). request_below p.1 q.1) (numbered n slots)
+slots_rise n [] rises = tt
+slots_rise n (s ∷ slots) rises =
+    (slots_above s n (suc n) slots rises.0, slots_rise (suc n) slots rises.1)
+
+lower : (n m : ℕ) → n < m → ltb n m ≡ true
+lower n m lt = grind (arith, nat_tests)
+
+numbers_above : (n m : ℕ) (slots : List RequestSlot) → n < m
+    → AllByRecursion (λ (p : Numbered). IsTrue (ltb n p.0)) (numbered m slots)
+numbers_above n m [] lt = tt
+numbers_above n m (x ∷ slots) lt = (lower n m lt, numbers_above n (suc m) slots (omega arith))
+
+numbers_rise : (n : ℕ) (slots : List RequestSlot)
+    → IsRising (λ (p q : Numbered). ltb p.0 q.0) (numbered n slots)
+numbers_rise n [] = tt
+numbers_rise n (s ∷ slots) = (numbers_above n (suc n) slots (omega arith), numbers_rise (suc n) slots)
+
+requests_found : (n : ℕ) (slots : List RequestSlot) → IsRising request_below slots
+    → AllByRecursion (λ (p : Numbered).
+    find (asks_for p.1) (rows_told request_told (numbered n slots)) ≡ request_told p) (numbered n slots)
+requests_found n slots rises = all_found request_told (λ (p : Numbered). asks_for p.1)
+    (λ (p q : Numbered). request_below p.1 q.1)
+    (λ p. if_made (make_request p.0 p.1) (λ r. asks_for p.1 r ≡ true)
+    (λ k. both_same p.1.teller p.1.number) p.1.kept)
     (λ a b lt. (
-      if_made (make_request b) (λ r. asks_for a r ≡ false)
-          (λ k. pair_other a.teller a.number b.teller b.number lt) b.kept,
-      if_made (make_request a) (λ r. asks_for b r ≡ false)
-          (λ k. pair_lower a.teller a.number b.teller b.number lt) a.kept,
-    )) slots rises
+      if_made (make_request b.0 b.1) (λ r. asks_for a.1 r ≡ false)
+          (λ k. pair_other a.1.teller a.1.number b.1.teller b.1.number lt) b.1.kept,
+      if_made (make_request a.0 a.1) (λ r. asks_for b.1 r ≡ false)
+          (λ k. pair_lower a.1.teller a.1.number b.1.teller b.1.number lt) a.1.kept,
+    )) (numbered n slots) (slots_rise n slots rises)
+
+references_found : (n : ℕ) (slots : List RequestSlot)
+    → AllByRecursion (λ (p : Numbered).
+    row_at reference_key (rows_told reference_told (numbered n slots)) p.0 ≡ reference_told p)
+    (numbered n slots)
+references_found n slots = numbered_found (λ (p : Numbered). p.0)
+    (λ p. referring_of p.1.kept) (λ p text. reference_row_of p.0 text)
+    reference_key (λ p text. refl) (numbered n slots) (numbers_rise n slots)
+
+-- what is kept of a request is found with its reference
+its_reference : (n : ℕ) (k : KeptFields) (rows : List ReferenceRow)
+    → row_at reference_key rows n ≡ option_map (reference_row_of n) k.reference
+    → option_map text_of_reference (row_at reference_key rows n) ≡ k.reference
+its_reference n k rows is =
+    ap (option_map text_of_reference) is
+    ∙ told_again (reference_row_of n) text_of_reference (λ text. refl) k.reference
+
+kept_again : (n : ℕ) (s : RequestSlot) (o : Option KeptFields) (rows : List ReferenceRow)
+    → row_at reference_key rows n ≡ option_map (reference_row_of n) (referring_of o)
+    → option_map (kept_of_row rows) (option_map (make_request n s) o) ≡ o
+kept_again n s None rows is = refl
+kept_again n s (Some k) rows is =
+    ap (λ (reference : Option (List ℕ)). Some (kept_with reference k.decision)) (its_reference n k rows is)
+
+kept_found : (n : ℕ) (slots : List RequestSlot) (requests : List RequestRow) (references : List ReferenceRow)
+    → AllByRecursion (λ (p : Numbered). find (asks_for p.1) requests ≡ request_told p) (numbered n slots)
+    → AllByRecursion (λ (p : Numbered). row_at reference_key references p.0 ≡ reference_told p)
+    (numbered n slots)
+    → AllByRecursion (λ (s : RequestSlot). kept_in requests references s.teller s.number ≡ s.kept) slots
+kept_found n [] requests references found referenced = tt
+kept_found n (s ∷ slots) requests references found referenced = (
+  ap (option_map (kept_of_row references)) found.0 ∙ kept_again n s s.kept references referenced.0,
+  kept_found (suc n) slots requests references found.1 referenced.1,
+)
+
+-- ---- and stand under ordinals that no request comes to
+
+above_told : {R : Type 0} (key : R → ℕ) (row : Numbered → Option R)
+    → ((p : Numbered) → IfSome (row p) (λ r. key r ≡ p.0)) → (n k : ℕ) (slots : List RequestSlot) → k < n
+    → row_at key (rows_told row (numbered n slots)) k ≡ None
+above_told key row own n k [] lt = refl
+above_told {R} key row own n k (s ∷ slots) lt =
+    passed (row (n, s)) (own (n, s)) ∙ above_told key row own (suc n) k slots (omega arith)
+  where
+    others : List R
+    others = rows_told row (numbered (suc n) slots)
+
+    passed : (o : Option R) → IfSome o (λ r. key r ≡ n)
+        → row_at key (with_told o others) k ≡ row_at key others k
+    passed None is = refl
+    passed (Some r) is =
+        let miss : eqb (key r) k ≡ false = other_number k n (key r) is (lower k n lt) in
+        rw miss refl
 
 -- ---- the tables
 
@@ -173,24 +276,31 @@ make_floor s z = floor_row_of s.branch z
 abbrev floor_told : FloorSlot → Option FloorRow
 floor_told s = option_map (make_floor s) s.floor
 
--- the tables that have what the slots tell, and nothing else
-abbrev pub tables_told : Overlay → Tables
-tables_told o = record {
+-- the tables that have what the slots tell, and nothing else; so many ordinals from the next on are free
+abbrev pub tables_told : ℕ → Overlay → Tables
+tables_told free o = let slots = numbered (suc (o.decided + free)) o.kept in record {
   decided = o.decided;
   branches = rows_told branch_told o.branches;
   tellers = rows_told teller_told o.tellers;
   accounts = rows_told account_told o.accounts;
   history = [];
-  requests = rows_told request_told o.kept;
+  requests = rows_told request_told slots;
   floors = rows_told floor_told o.floors;
+  references = rows_told reference_told slots;
+}
+
+pub told_free : (free : ℕ) (o : Overlay) → HasFreeOrdinals (tables_told free o) free
+told_free free o = record {
+  requests = λ k lt le. above_told request_key request_told
+      (λ p. if_made (make_request p.0 p.1) (λ r. request_key r ≡ p.0) (λ a. refl) p.1.kept)
+      (suc (o.decided + free)) k o.kept (omega arith);
+  references = λ k lt le. above_told reference_key reference_told
+      (λ p. if_made (reference_row_of p.0) (λ r. reference_key r ≡ p.0) (λ a. refl)
+      (referring_of p.1.kept))
+      (suc (o.decided + free)) k o.kept (omega arith);
 }
 
 -- ---- the overlay is filled from them
-
-told_again : {A R : Type 0} (make : A → R) (back : R → A) → ((a : A) → back (make a) ≡ a) → (o : Option A)
-    → option_map back (option_map make o) ≡ o
-told_again make back same None = refl
-told_again make back same (Some a) = ap (λ x. Some x) (same a)
 
 -- the row that a slot of a branch is filled with is that branch's
 abbrev pub IsOwn : BranchSlot → Type 0
@@ -241,10 +351,11 @@ overlay_is : (o : Overlay) (b : List BranchSlot) (f : List FloorSlot) (t : List 
     → ◌≡◌ {A = Overlay} (record o { branches = b; floors = f; tellers = t; accounts = a; kept = k }) o
 overlay_is o b f t a k eb ef et ea ek = rw (eb, ef, et, ea, ek) refl
 
-pub told_filled : (o : Overlay) → HasRisingSlots o → AllByRecursion IsOwn o.branches
-    → filled (tables_told o) o ≡ o
-told_filled o rises own =
-    let t = tables_told o in
+pub told_filled : (free : ℕ) (o : Overlay) → HasRisingSlots o → AllByRecursion IsOwn o.branches
+    → filled (tables_told free o) o ≡ o
+told_filled free o rises own =
+    let t = tables_told free o in
+    let first = suc (o.decided + free) in
     overlay_is o _ _ _ _ _
     (all_same (branch_filled t) (λ s. row_at branch_key t.branches s.branch ≡ branch_told s) IsOwn
     (λ s is its. branch_is s _ (is ∙ branch_again s s.stored its)) o.branches
@@ -273,7 +384,8 @@ told_filled o rises own =
     (numbered_found account_slot_key (λ s. s.stored) make_account account_key (λ s z. refl) o.accounts
     rises.accounts)
     (every o.accounts))
-    (all_same (request_filled t) (λ s. find (asks_for s) t.requests ≡ request_told s) (λ _. Unit {0})
-    (λ s is its. request_is s _
-    (ap (option_map kept_of_row) is ∙ told_again (make_request s) kept_of_row (λ k. refl) s.kept))
-    o.kept (requests_found o.kept rises.kept) (every o.kept))
+    (all_same (request_filled t) (λ s. kept_in t.requests t.references s.teller s.number ≡ s.kept)
+    (λ _. Unit {0}) (λ s is its. request_is s _ is) o.kept
+    (kept_found first o.kept t.requests t.references (requests_found first o.kept rises.kept)
+    (references_found first o.kept))
+    (every o.kept))

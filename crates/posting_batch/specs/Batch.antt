@@ -1,5 +1,6 @@
 -- A batch before its records are judged, and after.
-use Rattle.std.specs.Prelude.{◌≡◌, ℕ, List, [], ◌∷◌, map, None, IfSome, IsSome, Result, Ok, Err}
+use Rattle.std.specs.Prelude.{◌≡◌, ◌≤◌, ◌<◌, ℕ, ◌+◌, List, [], ◌∷◌, map, None, IfSome, IsSome, Result, Ok}
+use Rattle.std.specs.Prelude.{Err}
 use Rattle.std.specs.List.{find, AllByRecursion}
 use Rattle.std.specs.Option.{option_map}
 use Rattle.message_records.specs.declared.fault.Bad.{Bad}
@@ -10,7 +11,7 @@ use Rattle.posting_rules.specs.Numbering.{branch_of_teller, branch_of_account}
 use Rattle.posting_rules.specs.LookUps.{kept_in, account_balance_in, balance_of_teller, floor_in}
 use Rattle.posting_rules.specs.Runs.{behind, replies_to}
 use Rattle.posting_rules.specs.Tables.{Tables, AreTablesOf, row_at, branch_key, teller_key, account_key}
-use Rattle.posting_rules.specs.Tables.{history_key, request_key}
+use Rattle.posting_rules.specs.Tables.{history_key, request_key, reference_key}
 use Rattle.posting_batch.specs.declared.slots.AccountSlot.{AccountSlot}
 use Rattle.posting_batch.specs.declared.slots.TellerSlot.{TellerSlot}
 use Rattle.posting_batch.specs.declared.slots.BranchSlot.{BranchSlot}
@@ -71,6 +72,7 @@ no_slots = record {
   decided = 0;
   history = [];
   requests = [];
+  references = [];
 }
 
 -- every key that a request can touch has its slot
@@ -111,6 +113,7 @@ pub record HasNoChange (o : Overlay) : Type 0 where
   pub accounts : AllByRecursion (λ s. s.changed ≡ None) o.accounts
   pub history : o.history ≡ []
   pub requests : o.requests ≡ []
+  pub references : o.references ≡ []
 
 -- ---- it is filled
 
@@ -127,7 +130,7 @@ abbrev pub account_filled : Tables → AccountSlot → AccountSlot
 account_filled t s = record s { stored = account_balance_in t s.account }
 
 abbrev pub request_filled : Tables → RequestSlot → RequestSlot
-request_filled t s = record s { kept = kept_in t.requests s.teller s.number }
+request_filled t s = record s { kept = kept_in t.requests t.references s.teller s.number }
 
 -- each slot with what is in the tables under its key
 abbrev pub filled : Tables → Overlay → Overlay
@@ -141,6 +144,12 @@ filled t o = record o {
 }
 
 -- ---- its records are judged
+
+-- so many ordinals from the next one on have no request, and no reference
+pub record HasFreeOrdinals (t : Tables) (count : ℕ) : Type 0 where
+  pub requests : (o : ℕ) → t.decided < o → o ≤ t.decided + count → row_at request_key t.requests o ≡ None
+  pub references : (o : ℕ) → t.decided < o → o ≤ t.decided + count
+      → row_at reference_key t.references o ≡ None
 
 -- a balance is changed only where the row is there
 pub record ChangesRows (o : Overlay) (t : Tables) : Type 0 where
@@ -160,6 +169,7 @@ PutsFree key (r ∷ rs) rows = (row_at key rows (key r) ≡ None) × PutsFree ke
 pub record AddsFreeRows (o : Overlay) (t : Tables) : Type 0 where
   pub history : PutsFree history_key o.history t.history
   pub requests : PutsFree request_key o.requests t.requests
+  pub references : PutsFree reference_key o.references t.references
 
 -- the records leave these tables and are answered these replies; a balance is changed only where the row is
 pub record IsJudged (o : Overlay) (replies : List (List ℕ)) (t : Tables) (moment : ℕ)

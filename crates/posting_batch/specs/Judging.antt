@@ -1,17 +1,18 @@
 -- A record is judged by an overlay, and changes it.
-use Rattle.std.specs.Prelude.{ℕ, ◌+◌, ℤ, List, [], ◌∷◌, ◌++◌, Result, Ok, Err}
+use Rattle.std.specs.Prelude.{ℕ, ◌+◌, ℤ, List, [], ◌∷◌, ◌++◌, Option, Some, None, Result, Ok, Err}
 use Rattle.message_records.specs.declared.fault.Bad.{Bad}
 use Rattle.message_records.specs.Records.{RequestFields, ReplyFields}
 use Rattle.posting_rules.specs.declared.judgments.Found.{Found}
 use Rattle.posting_rules.specs.declared.judgments.Verdict.{Verdict}
 use Rattle.posting_rules.specs.declared.judgments.Verdict.TheVariants.{Unkept, Again, Refused, Posted}
+use Rattle.posting_rules.specs.declared.rows.ReferenceRow.{ReferenceRow}
 use Rattle.posting_rules.specs.Cases.{case_of, reply_in}
 use Rattle.posting_rules.specs.Changes.{row_changed}
 use Rattle.posting_rules.specs.Numbering.{branch_of_teller, branch_of_account}
 use Rattle.posting_rules.specs.Entries.{DecidedRequest, refused_entry, posted_entry, kept_fields}
 use Rattle.posting_rules.specs.Entries.{malformed_reply}
 use Rattle.posting_rules.specs.LookUps.{both_of}
-use Rattle.posting_rules.specs.Tables.{request_row_of, history_row_of}
+use Rattle.posting_rules.specs.Tables.{request_row_of, history_row_of, reference_row_of}
 use Rattle.posting_batch.specs.Overlay.{Overlay}
 use Rattle.posting_batch.specs.Slots.{slot_balance, kept_in_slots, slots_kept, account_slot_key}
 use Rattle.posting_batch.specs.Slots.{account_slot_balance, with_account_changed, teller_slot_key}
@@ -29,12 +30,18 @@ found_over o r = record {
   floor = slot_floor o.floors (branch_of_account r.account);
 }
 
--- a decided request is kept under the next ordinal, and counted
+-- the reference of a decided request is behind the others, where it has one
+abbrev pub reference_behind : ℕ → Option (List ℕ) → List ReferenceRow → List ReferenceRow
+reference_behind ordinal None rows = rows
+reference_behind ordinal (Some text) rows = rows ++ reference_row_of ordinal text ∷ []
+
+-- a decided request is kept under the next ordinal, posted or not, with its reference, and counted
 abbrev pub overlay_kept : Overlay → DecidedRequest → Overlay
 overlay_kept o e = record o {
   kept = slots_kept e.request.teller e.request.number (kept_fields e) o.kept;
   decided = o.decided + 1;
   requests = o.requests ++ request_row_of (o.decided + 1) e ∷ [];
+  references = reference_behind (o.decided + 1) e.request.reference o.references;
 }
 
 -- and a posting changes three balances, and has a row of history under the same ordinal (TPC-B 1.2)
@@ -49,6 +56,7 @@ overlay_posted o e teller branch = record {
   decided = o.decided + 1;
   history = o.history ++ history_row_of (o.decided + 1) e ∷ [];
   requests = o.requests ++ request_row_of (o.decided + 1) e ∷ [];
+  references = reference_behind (o.decided + 1) e.request.reference o.references;
 }
 
 -- what a verdict on a request leaves

@@ -5,10 +5,11 @@ use Rattle.posting_rules.specs.declared.rows.TellerRow.{TellerRow}
 use Rattle.posting_rules.specs.declared.rows.AccountRow.{AccountRow}
 use Rattle.posting_rules.specs.declared.rows.HistoryRow.{HistoryRow}
 use Rattle.posting_rules.specs.declared.rows.RequestRow.{RequestRow}
+use Rattle.posting_rules.specs.declared.rows.ReferenceRow.{ReferenceRow}
 use Rattle.posting_rules.specs.Changes.{row_put}
 use Rattle.posting_rules.specs.Steps.{with_branch_balance, with_teller_balance, with_account_balance}
 use Rattle.posting_rules.specs.Tables.{Tables, row_at, branch_key, teller_key, account_key, history_key}
-use Rattle.posting_rules.specs.Tables.{request_key}
+use Rattle.posting_rules.specs.Tables.{request_key, reference_key}
 use Rattle.posting_batch.specs.declared.slots.AccountSlot.{AccountSlot}
 use Rattle.posting_batch.specs.declared.slots.TellerSlot.{TellerSlot}
 use Rattle.posting_batch.specs.declared.slots.BranchSlot.{BranchSlot}
@@ -27,6 +28,8 @@ pub record Overlay : Type 0 where
   -- the rows that are new, in the order of their ordinals
   pub history : List HistoryRow
   pub requests : List RequestRow
+  -- and the references of those that have one
+  pub references : List ReferenceRow
 
 -- ---- rows of one table under slots
 
@@ -75,11 +78,14 @@ history_put rows t = record t { history = each_put history_key rows t.history }
 abbrev pub requests_put : List RequestRow → Tables → Tables
 requests_put rows t = record t { requests = each_put request_key rows t.requests }
 
+abbrev pub references_put : List ReferenceRow → Tables → Tables
+references_put rows t = record t { references = each_put reference_key rows t.references }
+
 abbrev pub decided_put : ℕ → Tables → Tables
 decided_put decided t = record t { decided = decided }
 
 -- the tables with the changed rows and the new ones put in, and the count
 abbrev pub tables_over : Overlay → Tables → Tables
 tables_over o t =
-    decided_put o.decided (requests_put o.requests (history_put o.history
-    (branches_over o.branches (tellers_over o.tellers (accounts_over o.accounts t)))))
+    decided_put o.decided (references_put o.references (requests_put o.requests (history_put o.history
+    (branches_over o.branches (tellers_over o.tellers (accounts_over o.accounts t))))))

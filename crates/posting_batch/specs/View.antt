@@ -21,6 +21,7 @@ view o = record {
   decided = o.decided;
   history = o.history.items;
   requests = o.requests.items;
+  references = o.references.items;
 }
 
 -- it is empty, and has room for what so many records come to
@@ -33,6 +34,7 @@ pub record IsForRecords (count : ℕ) (o : held.Overlay) : Type 0 where
   pub undecided : o.decided ≡ 0
   pub history : IsRoomFor count o.history
   pub requests : IsRoomFor count o.requests
+  pub references : IsRoomFor count o.references
 
 -- what was read of the records
 abbrev pub reads_of : Batch → List (Result RequestFields Bad)

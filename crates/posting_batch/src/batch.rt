@@ -7,7 +7,7 @@ ghost use Rattle.posting_rules.specs.declared.limits.TheConstants.{RECORDS_PER_B
 ghost use Rattle.posting_rules.specs.Commands.{Command};
 ghost use Rattle.posting_rules.specs.Runs.{posts};
 ghost use Rattle.posting_rules.specs.Tables.{Tables, AreTablesOf};
-ghost use Rattle.posting_batch.specs.Batch.{CoversAll, HasRisingSlots, IsJudged, IsShown};
+ghost use Rattle.posting_batch.specs.Batch.{CoversAll, HasFreeOrdinals, HasRisingSlots, IsJudged, IsShown};
 
 use crate::cover::decode_all;
 use crate::overlay::Overlay;
@@ -26,6 +26,7 @@ pub struct Batch {
     ghost room: { length reads.items ≤ vec_capacity replies },
     ghost requests: { HasRoomFor overlay.requests (length reads.items) },
     ghost history: { HasRoomFor overlay.history (length reads.items) },
+    ghost references: { HasRoomFor overlay.references (length reads.items) },
 }
 
 /// A batch whose records are judged: what is to be written, and what is to be answered then.
@@ -64,8 +65,10 @@ impl Batch {
     /// Judges the records of a batch that is filled, in order (TPC-B 1.2): each sees what the ones before it
     /// left. It takes no memory, and can't fail. The moment is that of every posting.
     pub fn judge(self, moment: Moment) -> Judged
-        // What it leaves and answers is what the records leave of the tables and are answered.
+        // What it leaves and answers is what the records leave of the tables and are answered, where each
+        // ordinal that they may come to is free there.
         ensures judged { (t : Tables) (records : List (List ℕ)) → IsFilledFrom self t records
+            → HasFreeOrdinals t (length records)
             → IsJudged (view result.overlay) result.replies.items t moment records }
         // The same of a log that the tables show.
         ensures shown { (t : Tables) (records : List (List ℕ)) → IsFilledFrom self t records

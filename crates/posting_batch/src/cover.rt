@@ -50,6 +50,7 @@ impl Overlay {
             × (self.new.kept.capacity ≡ self.old.kept.capacity) }
         ensures history { self.new.history ≡ self.old.history }
         ensures requests { self.new.requests ≡ self.old.requests }
+        ensures references { self.new.references ≡ self.old.references }
     {
         place_branch(&mut self.branches, branch_of_teller(request.teller()));
         place_branch(&mut self.branches, branch_of_account(request.account()));
@@ -85,6 +86,7 @@ impl Overlay {
         ensures covers { view result ≡ covering no_slots (Ok request.now) }
         ensures history { HasRoomFor result.history 1 }
         ensures requests { HasRoomFor result.requests 1 }
+        ensures references { HasRoomFor result.references 1 }
     {
         let mut overlay = Overlay::for_one(alloc);
         overlay.cover(request);
@@ -108,6 +110,7 @@ pub(crate) fn decode_all(
     ensures overlay { view overlay.new ≡ covering_all (view overlay.old) (map request_of records.now) }
     ensures history { overlay.new.history ≡ overlay.old.history }
     ensures requests { overlay.new.requests ≡ overlay.old.requests }
+    ensures references { overlay.new.references ≡ overlay.old.references }
 {
     for bytes in records {
         let read = decode_request(bytes);

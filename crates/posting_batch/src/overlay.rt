@@ -7,13 +7,14 @@ ghost use Rattle.posting_rules.specs.declared.limits.TheConstants.{MAX_DECIDED, 
 ghost use Rattle.posting_rules.specs.Cases.{IsProper};
 ghost use Rattle.posting_rules.specs.Entries.{posted_entry};
 ghost use Rattle.posting_rules.specs.Kept.{is_kept_with};
+ghost use Rattle.posting_batch.specs.Judging.{reference_behind};
 
 use crate::changes::{change_at, keep_at};
 use crate::search::{balance_at, kept_at, stored_floor};
 use crate::slots::{AccountSlot, BranchSlot, FloorSlot, RequestSlot, TellerSlot};
-use message_records::{Bad, Cents, Moment, Outcome, REPLY_BYTES, Request, encode_reply};
+use message_records::{Bad, Cents, Moment, Outcome, REPLY_BYTES, Reference, Request, encode_reply};
 use posting_rules::{
-    Found, HistoryRow, MAX_DECIDED, Ordinal, RequestRow, Verdict, branch_of_account,
+    Found, HistoryRow, MAX_DECIDED, Ordinal, ReferenceRow, RequestRow, Verdict, branch_of_account,
     branch_of_teller, judge, malformed_reply, reply_to,
 };
 use smallvec::SmallVec;
@@ -27,6 +28,22 @@ fn put_row<T: Drop, const N: usize>(rows: &mut SmallVec<T, N>, row: T)
     ensures capacity { rows.new.capacity ≡ rows.old.capacity }
 {
     rows.push_reserved(row);
+}
+
+// Puts the reference of a decided request behind the others, where it has one, for which there is room.
+fn put_reference<const N: usize>(
+    rows: &mut SmallVec<ReferenceRow, N>,
+    ordinal: Ordinal,
+    reference: Option<Reference>,
+)
+    requires { HasRoomFor rows.old 1 }
+    ensures items { rows.new.items ≡ reference_behind ordinal reference rows.old.items }
+    ensures len { small_vec_len rows.new ≤ small_vec_len rows.old + 1 }
+    ensures capacity { rows.new.capacity ≡ rows.old.capacity }
+{
+    if let Some(reference) = reference {
+        put_row(rows, ReferenceRow { ordinal, reference });
+    }
 }
 
 // Puts something behind the others, for which there is room.
@@ -59,6 +76,8 @@ pub struct Overlay {
     pub history: SmallVec<HistoryRow, 1>,
     /// The decided requests that are new, in the order of their ordinals.
     pub requests: SmallVec<RequestRow, 1>,
+    /// The references of those that have one, in the same order.
+    pub references: SmallVec<ReferenceRow, 1>,
     ghost few: { decided ≤ MAX_DECIDED },
 }
 
@@ -80,6 +99,7 @@ impl Overlay {
             decided: 0,
             history: SmallVec::new(alloc),
             requests: SmallVec::new(alloc),
+            references: SmallVec::new(alloc),
         }
     }
 
@@ -97,6 +117,7 @@ impl Overlay {
             decided: 0,
             history: SmallVec::with_capacity(alloc, count)?,
             requests: SmallVec::with_capacity(alloc, count)?,
+            references: SmallVec::with_capacity(alloc, count)?,
         })
     }
 
@@ -116,13 +137,17 @@ impl Overlay {
         }
     }
 
-    // Keeps a decided request under the next ordinal, for which there is room, and counts it.
+    // Keeps a decided request under the next ordinal, with its reference, for which there is room, and counts
+    // it.
     fn keep(&mut self, request: &Request, outcome: Outcome, balance: Cents)
-        requires room { HasRoomFor self.old.requests 1 }
+        requires requests { HasRoomFor self.old.requests 1 }
+        requires references { HasRoomFor self.old.references 1 }
         requires few { self.old.decided < MAX_DECIDED }
         requires kept { IsTrue (is_kept_with outcome balance) }
         ensures requests { (small_vec_len self.new.requests ≡ small_vec_len self.old.requests + 1)
             × (self.new.requests.capacity ≡ self.old.requests.capacity) }
+        ensures references { (small_vec_len self.new.references ≤ small_vec_len self.old.references + 1)
+            × (self.new.references.capacity ≡ self.old.references.capacity) }
         ensures history { self.new.history ≡ self.old.history }
         ensures overlay { view self.new
             ≡ overlay_kept (view self.old)
@@ -130,8 +155,10 @@ impl Overlay {
     {
         let ordinal = Ordinal::new(self.decided + 1).unwrap();
         let row = RequestRow::decided(ordinal, request, outcome, balance);
-        keep_at(&mut self.kept, request.teller(), request.number(), row.kept);
+        let kept = row.decision.kept_with(request.reference());
+        keep_at(&mut self.kept, request.teller(), request.number(), kept);
         put_row(&mut self.requests, row);
+        put_reference(&mut self.references, ordinal, request.reference());
         self.decided += 1;
     }
 
@@ -149,6 +176,7 @@ impl Overlay {
         ensures history { (small_vec_len self.new.history ≡ small_vec_len self.old.history + 1)
             × (self.new.history.capacity ≡ self.old.history.capacity) }
         ensures requests { self.new.requests ≡ self.old.requests }
+        ensures references { self.new.references ≡ self.old.references }
         ensures decided { self.new.decided ≡ self.old.decided }
         ensures overlay { overlay_kept (view self.new) (posted_entry moment request.now account)
             ≡ overlay_posted (view self.old) (posted_entry moment request.now account) teller branch }
@@ -169,10 +197,13 @@ impl Overlay {
         requires proper { IsProper (found_over (view self.old) request.now) verdict.now }
         requires requests { HasRoomFor self.old.requests 1 }
         requires history { HasRoomFor self.old.history 1 }
+        requires references { HasRoomFor self.old.references 1 }
         ensures requests { (small_vec_len self.new.requests ≤ small_vec_len self.old.requests + 1)
             × (self.new.requests.capacity ≡ self.old.requests.capacity) }
         ensures history { (small_vec_len self.new.history ≤ small_vec_len self.old.history + 1)
             × (self.new.history.capacity ≡ self.old.history.capacity) }
+        ensures references { (small_vec_len self.new.references ≤ small_vec_len self.old.references + 1)
+            × (self.new.references.capacity ≡ self.old.references.capacity) }
         ensures overlay { view self.new ≡ overlay_after (view self.old) moment request.now verdict.now }
     {
         match verdict {
@@ -194,10 +225,13 @@ impl Overlay {
     pub fn judge(&mut self, moment: Moment, request: &Request) -> [u8; REPLY_BYTES]
         requires requests { HasRoomFor self.old.requests 1 }
         requires history { HasRoomFor self.old.history 1 }
+        requires references { HasRoomFor self.old.references 1 }
         ensures requests { (small_vec_len self.new.requests ≤ small_vec_len self.old.requests + 1)
             × (self.new.requests.capacity ≡ self.old.requests.capacity) }
         ensures history { (small_vec_len self.new.history ≤ small_vec_len self.old.history + 1)
             × (self.new.history.capacity ≡ self.old.history.capacity) }
+        ensures references { (small_vec_len self.new.references ≤ small_vec_len self.old.references + 1)
+            × (self.new.references.capacity ≡ self.old.references.capacity) }
         ensures reply { result ≡ reply_spelling (reply_over (view self.old) (Ok request.now)) }
         ensures overlay { view self.new ≡ overlay_with (view self.old) moment (Ok request.now) }
     {
@@ -216,6 +250,7 @@ impl Overlay {
     )
         requires requests { HasRoomFor self.old.requests (length reads.now) }
         requires history { HasRoomFor self.old.history (length reads.now) }
+        requires references { HasRoomFor self.old.references (length reads.now) }
         requires replies { vec_len replies.old + length reads.now ≤ vec_capacity replies.old }
         ensures overlay { view self.new ≡ overlay_with_all (view self.old) moment reads.now }
         ensures replies { replies.new.items ≡ replies.old.items

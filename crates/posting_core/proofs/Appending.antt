@@ -14,15 +14,17 @@ use Rattle.posting_rules.specs.Cases.{case_of}
 use Rattle.posting_rules.specs.Entries.{refused_entry, posted_entry, reply_to, decided, reply}
 use Rattle.posting_rules.specs.Tables.{Tables, AreTablesOf, row_at, branch_key, teller_key, account_key}
 use Rattle.posting_rules.specs.Tables.{history_key, request_key, branch_row_of, history_row_of}
-use Rattle.posting_rules.specs.Tables.{request_row_of, HasKeys, floor_key, floor_row_of}
+use Rattle.posting_rules.specs.Tables.{request_row_of, HasKeys, floor_key, floor_row_of, reference_key}
+use Rattle.posting_rules.specs.Tables.{reference_row_of}
 use Rattle.posting_rules.specs.LookUps.{found_in, floor_in, terms_of_branch}
 use Rattle.posting_rules.specs.declared.rows.FloorRow.{FloorRow}
+use Rattle.posting_rules.specs.declared.rows.ReferenceRow.{ReferenceRow}
 use Rattle.posting_rules.specs.Changes.{new_teller, new_account}
-use Rattle.posting_rules.specs.Steps.{IsStep, AddsFloor, with_branch_balance, with_teller_balance}
-use Rattle.posting_rules.specs.Steps.{with_account_balance}
+use Rattle.posting_rules.specs.Steps.{IsStep, AddsFloor, AddsReference, with_branch_balance}
+use Rattle.posting_rules.specs.Steps.{with_teller_balance, with_account_balance}
 use Rattle.posting_rules.specs.Numbering.{branch_of_teller, first_teller, first_account}
 use Rattle.posting_core.specs.Appended.{tables_after, tables_with, tables_opened, floor_behind}
-use Rattle.posting_core.specs.Appended.{reply_in_tables}
+use Rattle.posting_core.specs.Appended.{reference_behind, reply_in_tables}
 use Rattle.posting_rules.proofs.RowChanges.{row_changes}
 use Rattle.posting_rules.proofs.Ready.{AreReady, ready_shown, no_teller, no_account}
 use Rattle.posting_rules.proofs.Looked.{terms_shown}
@@ -32,6 +34,14 @@ use Rattle.posting_core.proofs.Behind.{row_behind, rows_behind}
 use Rattle.posting_rules.specs.declared.limits.TheConstants.{MAX_ACCOUNTS}
 
 -- ---- a record
+
+-- the reference that is put behind the others
+reference_adds : (ordinal : ℕ) (reference : Option (List ℕ)) (rows : List ReferenceRow)
+    → HasKeys reference_key rows → row_at reference_key rows ordinal ≡ None
+    → AddsReference ordinal reference rows (reference_behind ordinal reference rows)
+reference_adds ordinal None rows keys free = refl
+reference_adds ordinal (Some text) rows keys free =
+    row_behind reference_key rows (reference_row_of ordinal text) keys free
 
 -- what a verdict makes of the rows is what it does to tables
 step_is : (t : Tables) (m : ℕ) (r : RequestFields) (v : Verdict) → AreReady t
@@ -46,6 +56,8 @@ step_is t m r (Refused o) ready = record {
   history = refl;
   requests = row_behind request_key t.requests
       (request_row_of (t.decided + 1) (refused_entry m r o)) ready.requests ready.next_request;
+  references = reference_adds (t.decided + 1) r.reference t.references ready.references
+      ready.next_reference;
   floors = refl;
 }
 step_is t m r (Posted a te b) ready =
@@ -61,6 +73,8 @@ step_is t m r (Posted a te b) ready =
           (history_row_of (t.decided + 1) e) ready.history ready.next_posting;
       requests = row_behind request_key t.requests
           (request_row_of (t.decided + 1) e) ready.requests ready.next_request;
+      references = reference_adds (t.decided + 1) r.reference t.references ready.references
+          ready.next_reference;
       floors = refl;
     }
 
@@ -116,5 +130,6 @@ opened_shown t log b terms closed hb hc s =
           (λ n lt. no_account t b n ready hb closed (omega arith));
       history = refl;
       requests = refl;
+      references = refl;
       floors = floor_adds b terms.floor t.floors ready.floors (ready.its_floors b closed);
     })

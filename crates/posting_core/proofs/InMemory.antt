@@ -11,6 +11,7 @@ use Rattle.posting_rules.specs.declared.rows.AccountRow.{AccountRow}
 use Rattle.posting_rules.specs.declared.rows.HistoryRow.{HistoryRow}
 use Rattle.posting_rules.specs.declared.rows.RequestRow.{RequestRow}
 use Rattle.posting_rules.specs.declared.rows.FloorRow.{FloorRow}
+use Rattle.posting_rules.specs.declared.rows.ReferenceRow.{ReferenceRow}
 use Rattle.posting_rules.specs.declared.fault.Fault.{Fault}
 use Rattle.posting_rules.specs.declared.fault.Fault.TheVariants.{Memory}
 use Rattle.posting_rules.specs.Commands.{Command, Open, Post, AreCommands, Terms}
@@ -27,8 +28,8 @@ use Rattle.posting_core.proofs.Appending.{record_shown, reply_is, opened_shown}
 use Rattle.posting_rules.proofs.Sequence.{commands_behind}
 
 pub empty_from : (bs : List BranchRow) (ts : List TellerRow) (xs : List AccountRow) (hs : List HistoryRow)
-    (rs : List RequestRow) (fs : List FloorRow) → bs ≡ [] → ts ≡ [] → xs ≡ [] → hs ≡ [] → rs ≡ []
-    → fs ≡ []
+    (rs : List RequestRow) (fs : List FloorRow) (gs : List ReferenceRow) → bs ≡ [] → ts ≡ [] → xs ≡ []
+    → hs ≡ [] → rs ≡ [] → fs ≡ [] → gs ≡ []
     → AreTablesOf (record {
       decided = length rs;
       branches = bs;
@@ -37,20 +38,23 @@ pub empty_from : (bs : List BranchRow) (ts : List TellerRow) (xs : List AccountR
       history = hs;
       requests = rs;
       floors = fs;
+      references = gs;
     }) []
-empty_from bs ts xs hs rs fs eb et ea eh er ef = rw (eb, et, ea, eh, er, ef) empty_shown
+empty_from bs ts xs hs rs fs gs eb et ea eh er ef eg = rw (eb, et, ea, eh, er, ef, eg) empty_shown
 
 -- ---- the rows after room was made for more
 
--- the tables with these rows of history and requests
-abbrev pub with_requests : Tables → List HistoryRow → List RequestRow → Tables
-with_requests t hs rs = record t { decided = length rs; history = hs; requests = rs }
+-- the tables with these rows of history, requests and references
+abbrev pub with_requests : Tables → List HistoryRow → List RequestRow → List ReferenceRow → Tables
+with_requests t hs rs gs = record t { decided = length rs; history = hs; requests = rs; references = gs }
 
-pub requests_as_before : (t : Tables) (hs : List HistoryRow) (rs : List RequestRow)
-    → t.decided ≡ length t.requests → hs ≡ t.history → rs ≡ t.requests → with_requests t hs rs ≡ t
-requests_as_before t hs rs em eh er =
-    ap (λ (x : List HistoryRow). with_requests t x rs) eh ∙ ap
-    (λ (x : List RequestRow). with_requests t t.history x) er
+pub requests_as_before : (t : Tables) (hs : List HistoryRow) (rs : List RequestRow) (gs : List ReferenceRow)
+    → t.decided ≡ length t.requests → hs ≡ t.history → rs ≡ t.requests → gs ≡ t.references
+    → with_requests t hs rs gs ≡ t
+requests_as_before t hs rs gs em eh er eg =
+    ap (λ (x : List HistoryRow). with_requests t x rs gs) eh
+    ∙ ap (λ (x : List RequestRow). with_requests t t.history x gs) er
+    ∙ ap (λ (x : List ReferenceRow). with_requests t t.history t.requests x) eg
     ∙ ap (λ (x : ℕ). let u : Tables = record t { decided = x } in u) (sym em)
 
 -- the tables with these rows of branches, tellers, accounts and floors

@@ -8,8 +8,9 @@ use Rattle.posting_rules.specs.Commands.{Terms}
 use Rattle.posting_rules.specs.Cases.{case_of, reply_in}
 use Rattle.posting_rules.specs.Entries.{DecidedRequest, refused_entry, posted_entry, malformed_reply}
 use Rattle.posting_rules.specs.Tables.{Tables, branch_key, teller_key, account_key, branch_row_of}
-use Rattle.posting_rules.specs.Tables.{request_row_of, history_row_of, floor_row_of}
+use Rattle.posting_rules.specs.Tables.{request_row_of, history_row_of, floor_row_of, reference_row_of}
 use Rattle.posting_rules.specs.declared.rows.FloorRow.{FloorRow}
+use Rattle.posting_rules.specs.declared.rows.ReferenceRow.{ReferenceRow}
 use Rattle.posting_rules.specs.LookUps.{found_in}
 use Rattle.posting_rules.specs.Steps.{with_branch_balance, with_teller_balance, with_account_balance}
 use Rattle.posting_rules.specs.Numbering.{branch_of_teller, first_teller, first_account}
@@ -22,10 +23,16 @@ rows_from row first (suc count) = rows_from row first count ++ row (first + coun
 
 -- ---- what a record does to the rows
 
+-- the reference of a decided request is behind the others, where it has one
+abbrev pub reference_behind : ℕ → Option (List ℕ) → List ReferenceRow → List ReferenceRow
+reference_behind ordinal None rows = rows
+reference_behind ordinal (Some text) rows = rows ++ reference_row_of ordinal text ∷ []
+
 abbrev pub tables_kept : Tables → DecidedRequest → Tables
 tables_kept t e = let ordinal = t.decided + 1 in record t {
   decided = ordinal;
   requests = t.requests ++ request_row_of ordinal e ∷ [];
+  references = reference_behind ordinal e.request.reference t.references;
 }
 
 abbrev pub tables_posted : Tables → DecidedRequest → ℤ → ℤ → Tables
@@ -38,6 +45,7 @@ tables_posted t e teller branch = let ordinal = t.decided + 1 in record {
   history = t.history ++ history_row_of ordinal e ∷ [];
   requests = t.requests ++ request_row_of ordinal e ∷ [];
   floors = t.floors;
+  references = reference_behind ordinal e.request.reference t.references;
 }
 
 abbrev pub tables_after : Tables → ℕ → RequestFields → Verdict → Tables
@@ -72,4 +80,5 @@ tables_opened t b terms = record {
   history = t.history;
   requests = t.requests;
   floors = floor_behind b terms.floor t.floors;
+  references = t.references;
 }

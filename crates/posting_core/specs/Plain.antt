@@ -16,6 +16,7 @@ plain_tables bank = record {
   history = bank.history.items;
   requests = bank.requests.items;
   floors = bank.floors.items;
+  references = bank.references.items;
 }
 
 -- it is never down, and what a stop leaves are its rows

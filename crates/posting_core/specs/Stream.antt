@@ -222,6 +222,14 @@ pub record Resends (r r' w w' : Option (List ℕ)) (c c' : Seen) (result : Resul
       → ShowsLog c (behind log p)
       → IfTaken result (ShowsLog c' (behind (behind log p) added))
 
+-- ---- whether the bank is down afterwards
+
+-- unless a fault says otherwise it is down only where it was before, and then it is the bank that it was
+pub record IsDownAsBefore {C : Type 0} (seen : C → Seen) (old new : C) (result : Result ℕ StreamFault)
+    : Type 0 where
+  pub up : UnlessDown result ((seen new).is_down → (seen old).is_down)
+  pub idle : (seen old).is_down → new ≡ old
+
 -- ---- what the fault of the bank says
 
 abbrev pub IfBank : StreamFault → (Fault → Type 0) → Type 0

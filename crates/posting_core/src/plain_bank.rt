@@ -9,25 +9,32 @@ ghost use Rattle.posting_rules.specs.Commands.{IsFloor};
 ghost use Rattle.posting_rules.specs.Kept.{is_kept_with};
 ghost use Rattle.posting_rules.specs.Entries.{DecidedRequest};
 ghost use Rattle.posting_rules.specs.Tables.{request_row_of};
-ghost use Rattle.posting_core.specs.Appended.{rows_from};
+ghost use Rattle.posting_core.specs.Appended.{reference_behind, rows_from};
 
 use crate::branches::{count_at, floor_at, next_at, put_floor};
-use crate::walking::{NewRow, balance_at, kept_at, put, set_balance_at};
+use crate::walking::{NewRow, balance_at, kept_at, put, put_reference, set_balance_at};
 use message_records::{
     Account, Branch, Cents, MAX_ACCOUNT, MAX_MOMENT, MAX_TELLER, Moment, Outcome, REPLY_BYTES,
     REQUEST_BYTES, Request, Teller, decode_request, encode_reply,
 };
 use posting_rules::{
     AccountRow, BranchLine, BranchRow, Counter, Fault, FloorRow, Found, HistoryRow, LAST_BRANCH,
-    MAX_ACCOUNTS, Opening, Ordinal, RequestRow, TELLERS_PER_BRANCH, TellerRow, Verdict,
-    branch_of_account, branch_of_teller, first_account, first_teller, judge, malformed_reply,
-    reply_to,
+    MAX_ACCOUNTS, Opening, Ordinal, ReferenceRow, RequestRow, TELLERS_PER_BRANCH, TellerRow,
+    Verdict, branch_of_account, branch_of_teller, first_account, first_teller, judge,
+    malformed_reply, reply_to,
 };
 use std::alloc::Global;
 
-// Keeps a decided request behind the others, for which there is room.
-fn keep(requests: &mut Vec<RequestRow>, request: &Request, outcome: Outcome, balance: Cents)
+// Keeps a decided request behind the others, with its reference, for which there is room.
+fn keep(
+    requests: &mut Vec<RequestRow>,
+    references: &mut Vec<ReferenceRow>,
+    request: &Request,
+    outcome: Outcome,
+    balance: Cents,
+)
     requires room { vec_len requests.old < vec_capacity requests.old }
+    requires references { vec_len references.old < vec_capacity references.old }
     requires few { vec_len requests.old < MAX_DECIDED }
     requires kept { IsTrue (is_kept_with outcome balance) }
     ensures items { requests.new.items ≡ requests.old.items
@@ -35,12 +42,17 @@ fn keep(requests: &mut Vec<RequestRow>, request: &Request, outcome: Outcome, bal
         (record { moment = 0; request = request.now; outcome = outcome; balance = balance }) ∷ [] }
     ensures len { vec_len requests.new ≡ vec_len requests.old + 1 }
     ensures capacity { vec_capacity requests.old ≤ vec_capacity requests.new }
+    ensures references { references.new.items
+        ≡ reference_behind (length requests.old.items + 1) request.now.reference references.old.items }
+    ensures references_len { vec_len references.new ≤ vec_len references.old + 1 }
+    ensures references_capacity { vec_capacity references.old ≤ vec_capacity references.new }
 {
     let ordinal = Ordinal::new(requests.len() as u64 + 1).unwrap();
     put(
         requests,
         RequestRow::decided(ordinal, request, outcome, balance),
     );
+    put_reference(references, ordinal, request.reference());
 }
 
 impl NewRow for TellerRow {
@@ -117,6 +129,7 @@ pub struct PlainBank {
     history: Vec<HistoryRow>,
     requests: Vec<RequestRow>,
     floors: Vec<FloorRow>,
+    references: Vec<ReferenceRow>,
     ghost few: { length requests.items ≤ MAX_DECIDED },
     ghost in_range: { All IsInRange branches.items },
     ghost at_most_zero: { All IsAtMostZero floors.items },
@@ -145,6 +158,7 @@ impl PlainBank {
             history: Vec::new(alloc),
             requests: Vec::new(alloc),
             floors: Vec::new(alloc),
+            references: Vec::new(alloc),
         }
     }
 
@@ -157,7 +171,12 @@ impl PlainBank {
         let branch = balance_at(&self.branches, branch_of_teller(request.teller()));
         Found {
             teller: teller.zip(branch),
-            kept: kept_at(&self.requests, request.teller(), request.number()),
+            kept: kept_at(
+                &self.requests,
+                &self.references,
+                request.teller(),
+                request.number(),
+            ),
             decided: self.requests.len() as u64,
             account: balance_at(&self.accounts, request.account().get()),
             floor: floor_at(&self.floors, branch_of_account(request.account())),
@@ -169,16 +188,25 @@ impl PlainBank {
         requires proper { IsProper (found_in (plain_tables self.old) request.now) verdict.now }
         requires requests { vec_len self.old.requests < vec_capacity self.old.requests }
         requires history { vec_len self.old.history < vec_capacity self.old.history }
+        requires references { vec_len self.old.references < vec_capacity self.old.references }
         ensures requests { (vec_len self.new.requests ≤ vec_len self.old.requests + 1)
             × (vec_capacity self.old.requests ≤ vec_capacity self.new.requests) }
         ensures history { (vec_len self.new.history ≤ vec_len self.old.history + 1)
             × (vec_capacity self.old.history ≤ vec_capacity self.new.history) }
+        ensures references { (vec_len self.new.references ≤ vec_len self.old.references + 1)
+            × (vec_capacity self.old.references ≤ vec_capacity self.new.references) }
         ensures tables { plain_tables self.new ≡ tables_after (plain_tables self.old) moment request.now
             verdict.now }
     {
         match verdict {
             Verdict::Unkept(_) | Verdict::Again(_) => {}
-            Verdict::Refused(outcome) => keep(&mut self.requests, request, *outcome, Cents::zero()),
+            Verdict::Refused(outcome) => keep(
+                &mut self.requests,
+                &mut self.references,
+                request,
+                *outcome,
+                Cents::zero(),
+            ),
             Verdict::Posted {
                 account,
                 teller,
@@ -193,7 +221,13 @@ impl PlainBank {
                     &mut self.history,
                     HistoryRow::posted(ordinal, moment, request),
                 );
-                keep(&mut self.requests, request, Outcome::Posted, *account);
+                keep(
+                    &mut self.requests,
+                    &mut self.references,
+                    request,
+                    Outcome::Posted,
+                    *account,
+                );
             }
         }
     }
@@ -206,10 +240,13 @@ impl PlainBank {
     ) -> [u8; REPLY_BYTES]
         requires requests { vec_len self.old.requests < vec_capacity self.old.requests }
         requires history { vec_len self.old.history < vec_capacity self.old.history }
+        requires references { vec_len self.old.references < vec_capacity self.old.references }
         ensures requests { (vec_len self.new.requests ≤ vec_len self.old.requests + 1)
             × (vec_capacity self.old.requests ≤ vec_capacity self.new.requests) }
         ensures history { (vec_len self.new.history ≤ vec_len self.old.history + 1)
             × (vec_capacity self.old.history ≤ vec_capacity self.new.history) }
+        ensures references { (vec_len self.new.references ≤ vec_len self.old.references + 1)
+            × (vec_capacity self.old.references ≤ vec_capacity self.new.references) }
         ensures reply { result ≡ reply_spelling
             (reply_in_tables (plain_tables self.old) (request_of bytes.now)) }
         ensures tables { plain_tables self.new ≡ tables_with (plain_tables self.old) moment
@@ -235,6 +272,8 @@ impl PlainBank {
     )
         requires requests { vec_len self.old.requests + length records.now ≤ vec_capacity self.old.requests }
         requires history { vec_len self.old.history + length records.now ≤ vec_capacity self.old.history }
+        requires references { vec_len self.old.references + length records.now
+            ≤ vec_capacity self.old.references }
         requires replies { vec_len replies.old + length records.now ≤ vec_capacity replies.old }
         ensures count { length replies.new.items ≡ length replies.old.items + length records.now }
         ensures commands { AreCommands (posts moment records.now) }
@@ -313,6 +352,7 @@ impl Counter for PlainBank {
     ) -> Result<[u8; REPLY_BYTES], Fault> {
         self.history.reserve(1)?;
         self.requests.reserve(1)?;
+        self.references.reserve(1)?;
         Ok(self.submit_within_capacity(moment, bytes))
     }
 
@@ -325,6 +365,7 @@ impl Counter for PlainBank {
         replies.reserve(records.len())?;
         self.history.reserve(records.len())?;
         self.requests.reserve(records.len())?;
+        self.references.reserve(records.len())?;
         self.submit_all_within_capacity(moment, records, &mut replies);
         Ok(replies)
     }

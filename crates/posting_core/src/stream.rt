@@ -6,7 +6,7 @@ ghost use Rattle.posting_rules.specs.Runs.{posts};
 ghost use Rattle.posting_core.specs.Batches.{BatchIsAnswered, BreaksOff};
 ghost use Rattle.posting_core.specs.Stream.{Streamed, OutputsReplies, SurvivesStream, Resends};
 ghost use Rattle.posting_core.specs.Stream.{StreamFaultIsOfItsEnd, StreamsAsRead};
-ghost use Rattle.posting_core.specs.Stream.{IfBank, IfTaken, IsRefusedBehind, UnlessDown};
+ghost use Rattle.posting_core.specs.Stream.{IfBank, IfTaken, IsDownAsBefore, IsRefusedBehind};
 ghost use Rattle.posting_core.specs.Told.{EndsWith, HasWriteFailed, IsFlush};
 
 use crate::clock::Clock;
@@ -79,7 +79,8 @@ fn reply_to_batch<W: Sink, K: Clock, C: Counter>(
         → W.told writer.new ≡ W.told writer.old) }
     ensures up { IfTaken result ((C.seen bank.new).is_down → ⊥) }
     ensures why { IfErr result (λ fault. IfBank fault (λ told. C.reason told bank.old bank.new)) }
-    ensures down { (C.seen bank.old).is_down → IsErrOf result (StreamFault.Bank Fault.Down) }
+    ensures down { (C.seen bank.old).is_down → IsErrOf result (StreamFault.Bank Fault.Down)
+        × (bank.new ≡ bank.old) }
     ensures honest { (C.seen bank.new).honest → (C.seen bank.old).honest }
 {
     let moment = clock.now();
@@ -130,7 +131,7 @@ pub fn post_stream<R: Source, W: Sink, K: Clock, C: Counter>(
     ensures refused { IfErr result (λ fault. IfBank fault
         (IsRefusedBehind C.seen C.reason bank.old bank.new (R.remaining reader.old)
         (R.remaining reader.new))) }
-    ensures up { UnlessDown result ((C.seen bank.new).is_down → (C.seen bank.old).is_down) }
+    ensures down { IsDownAsBefore C.seen bank.old bank.new result }
     ensures ends { StreamFaultIsOfItsEnd result (R.told reader.old) (R.told reader.new)
         (W.told writer.old) (W.told writer.new) }
 {

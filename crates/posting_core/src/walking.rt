@@ -2,12 +2,13 @@
 ghost use Rattle.std.specs.Prelude.{◌≡◌, ◌<◌, ◌≤◌, ◌+◌, ◌++◌, ◌∷◌, [], ℕ, ℤ, vec_len, vec_capacity};
 ghost use Rattle.std.specs.Option.{option_map};
 ghost use Rattle.posting_rules.specs.Tables.{account_key, row_at, teller_key};
-ghost use Rattle.posting_rules.specs.LookUps.{balance_of_account, balance_of_teller, kept_in};
+ghost use Rattle.posting_rules.specs.LookUps.{balance_of_account, balance_of_teller, kept_in, reference_in};
 ghost use Rattle.posting_rules.specs.Steps.{with_account_balance, with_teller_balance};
 ghost use Rattle.posting_rules.specs.Changes.{row_changed};
+ghost use Rattle.posting_core.specs.Appended.{reference_behind};
 
-use message_records::{Cents, Number, Teller};
-use posting_rules::{AccountRow, Kept, RequestRow, TellerRow};
+use message_records::{Cents, Number, Reference, Teller};
+use posting_rules::{AccountRow, Kept, Ordinal, ReferenceRow, RequestRow, TellerRow};
 
 /// A row that keeps a balance under a number.
 pub(crate) trait BalanceRow {
@@ -104,13 +105,29 @@ pub(crate) fn set_balance_at<R: BalanceRow>(rows: &mut [R], number: u64, balance
     }
 }
 
-/// The request that is kept under a teller and a number.
-pub(crate) fn kept_at(rows: &[RequestRow], teller: Teller, number: Number) -> Option<Kept>
-    ensures { result ≡ kept_in rows.now teller number }
+// The reference of the decided request under an ordinal.
+fn reference_at(rows: &[ReferenceRow], ordinal: Ordinal) -> Option<Reference>
+    ensures { result ≡ reference_in rows.now ordinal }
+{
+    rows.iter()
+        .find(|row| row.ordinal == ordinal)
+        .map(|row| row.reference)
+}
+
+/// The request that is kept under a teller and a number, with its reference.
+pub(crate) fn kept_at(
+    rows: &[RequestRow],
+    references: &[ReferenceRow],
+    teller: Teller,
+    number: Number,
+) -> Option<Kept>
+    ensures { result ≡ kept_in rows.now references.now teller number }
 {
     rows.iter()
         .find(|row| row.teller == teller && row.number == number)
-        .map(|row| row.kept)
+        .map(|row| row
+            .decision
+            .kept_with(reference_at(references, row.ordinal)))
 }
 
 /// Puts a row behind the others, for which there is room, so that the push takes no memory and succeeds.
@@ -121,4 +138,20 @@ pub(crate) fn put<T: Drop>(rows: &mut Vec<T>, row: T)
     ensures capacity { vec_capacity rows.old ≤ vec_capacity rows.new }
 {
     let _ = rows.push(row);
+}
+
+/// Puts the reference of a decided request behind the others, where it has one, for which there is room.
+pub(crate) fn put_reference(
+    rows: &mut Vec<ReferenceRow>,
+    ordinal: Ordinal,
+    reference: Option<Reference>,
+)
+    requires { vec_len rows.old < vec_capacity rows.old }
+    ensures items { rows.new.items ≡ reference_behind ordinal reference rows.old.items }
+    ensures len { vec_len rows.new ≤ vec_len rows.old + 1 }
+    ensures capacity { vec_capacity rows.old ≤ vec_capacity rows.new }
+{
+    if let Some(reference) = reference {
+        put(rows, ReferenceRow { ordinal, reference });
+    }
 }

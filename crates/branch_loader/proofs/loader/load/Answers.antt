@@ -1,8 +1,8 @@
 use Rattle.std.proofs.Common.{◌≡◌, ◌+◌, ◌∷◌, ◌++◌, ◌∙◌, [], take, arith, refl}
 use Rattle.std.proofs.lemmas.List.{length-take-le, take_more}
 use Rattle.std.proofs.lemmas.Result.{err_from_is_err_and}
-use Rattle.posting_rules.proofs.CounterCalls.{call_refused_behind}
-use Rattle.branch_loader.proofs.Openings.{behind-more, behind-none, behind-refused, loaded_all}
+use Rattle.posting_rules.proofs.CounterCalls.{call_idle_behind, call_refused_behind}
+use Rattle.branch_loader.proofs.Openings.{behind-idle, behind-more, behind-none, behind-refused, loaded_all}
 use Rattle.branch_loader.proofs.Rows.{plan-short}
 use Rattle.branch_loader.proofs.loader.load.Goals as goal
 
@@ -51,7 +51,19 @@ returns-in_err-opening-clause-why g c =
     rw (p.1, p.2)
     (call_refused_behind g.C.Counter.seen g.C.Counter.reason c.args.counter.now c.loop-row.counter
     c.open_branch.new.self _ c.loop-row.invariant.taken c.loop-row.invariant.honest
+    (behind-idle g.C.Counter.seen c.args.counter.now c.loop-row.counter _ _ c.loop-row.invariant)
     c.in_err-opening.field-0.0 g.C.Counter.contents _ c.in_err-opening.ensures.call)
+
+-- a counter that was down
+pub returns-in_err-opening-clause-idle : goal.returns-in_err-opening-clause-idle
+returns-in_err-opening-clause-idle g c =
+    call_idle_behind g.C.Counter.seen c.args.counter.now c.loop-row.counter
+    (behind-idle g.C.Counter.seen c.args.counter.now c.loop-row.counter _ _ c.loop-row.invariant)
+    g.C.Counter.contents g.C.Counter.reason c.open_branch.new.self _ _ c.open_branch.ensures.call
+
+pub returns-clause-idle : goal.returns-clause-idle
+returns-clause-idle g c =
+    behind-idle g.C.Counter.seen c.args.counter.now c.loop-row.counter _ _ c.loop-row.invariant
 
 pub returns-clause-done : goal.returns-clause-done
 returns-clause-done g c =

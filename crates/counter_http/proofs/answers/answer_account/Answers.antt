@@ -106,3 +106,17 @@ returns-in-Err-line_of_account-clause-why g c =
     let fails = c.fail-in-Err-line_of_account in
     why_told g.C.Counter.seen g.C.Counter.reason c.args.bank.now c.balance.new.self Memory fails.result _ _
     fails.ensures.written.2 (inr (refl, c.in-Ok-Some.ensures.call.up))
+
+-- a bank that was down
+pub returns-in-Ok-None-clause-idle : goal.returns-in-Ok-None-clause-idle
+returns-in-Ok-None-clause-idle g c down = c.balance.ensures.call.untried (c.balance.ensures.call.down down)
+
+pub returns-in-Ok-clause-idle : goal.returns-in-Ok-clause-idle
+returns-in-Ok-clause-idle g c down = c.balance.ensures.call.untried (c.balance.ensures.call.down down)
+
+pub returns-in-Err-clause-idle : goal.returns-in-Err-clause-idle
+returns-in-Err-clause-idle g c down = c.balance.ensures.call.untried (c.balance.ensures.call.down down)
+
+pub returns-in-Err-line_of_account-clause-idle : goal.returns-in-Err-line_of_account-clause-idle
+returns-in-Err-line_of_account-clause-idle g c down =
+    c.balance.ensures.call.untried (c.balance.ensures.call.down down)

@@ -61,3 +61,10 @@ returns-in-Err-clause-why g c =
     c.fail.result _ _ c.fail.ensures.written.2
     (why_first g.C.Counter.seen g.C.Counter.contents g.C.Counter.reason c.args.bank.now c.submit.new.self _ _
     c.in-Err.ensures.call)
+
+-- a bank that was down
+pub returns-in-Ok-clause-idle : goal.returns-in-Ok-clause-idle
+returns-in-Ok-clause-idle g c down = c.submit.ensures.call.untried (c.submit.ensures.call.down down)
+
+pub returns-in-Err-clause-idle : goal.returns-in-Err-clause-idle
+returns-in-Err-clause-idle g c down = c.submit.ensures.call.untried (c.submit.ensures.call.down down)

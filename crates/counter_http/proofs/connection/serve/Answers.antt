@@ -5,6 +5,7 @@ use Rattle.std.proofs.lemmas.Result.{err_from_is_err_and}
 use Rattle.posting_core.proofs.Streaming.{at_ok, nothing_read}
 use Rattle.posting_core.proofs.Telling.{made_many, made_none, made_one, other_kind, read_failed}
 use Rattle.posting_core.proofs.Through.{through_batch, through_first}
+use Rattle.posting_rules.proofs.CounterCalls.{idle_behind}
 use Rattle.counter_http.specs.declared.fault.ServeFault.TheVariants.{Write}
 use Rattle.counter_http.specs.Messages.{No_head}
 use Rattle.counter_http.specs.Next.{IsUnfinished}
@@ -78,6 +79,7 @@ reads-init g c = record {
   bound = omega arith;
   waits = record { ending = No_head; ends = λ some. absurd (some refl); told = refl; room = omega arith };
   going = going_first [] refl;
+  idle = λ down. refl;
   made = made_none _;
   through = through_first _;
 }
@@ -86,7 +88,7 @@ reads-init g c = record {
 pub returns-clause-served : goal.returns-clause-served
 returns-clause-served g c =
     end_unread g.C.Counter.seen c.args.bank.now c.reads.bank _ c.reads.invariant.going
-    (unfinished_none _ c.reads.invariant.waits)
+    (unfinished_none _ c.reads.invariant.waits) c.reads.invariant.idle
 
 -- the reader failed
 pub returns-in-Err-2-clause-served : goal.returns-in-Err-2-clause-served
@@ -96,7 +98,7 @@ returns-in-Err-2-clause-served g c =
     (nothing_read _ _ c.reads.buffer c.fill.new.buffer c.reads.filled c.in-Err.ensures.err)
     (same_place c.reads.filled c.reads.filled 0 refl refl))
     (unfinished_none _ (subst (λ (t : List ℕ). IsUnfinished t c.reads.shows_body) (sym c.in-Err.ensures.err.1)
-    c.reads.invariant.waits))
+    c.reads.invariant.waits)) c.reads.invariant.idle
 
 -- the input ended
 pub returns-in-Ok-eq0-clause-served : goal.returns-in-Ok-eq0-clause-served
@@ -109,7 +111,7 @@ returns-in-Ok-eq0-clause-served g c =
     (at_ok _ c.fill.result n c.in-Ok-eq0.is c.fill.ensures.ok)
     (same_place c.reads.filled c.reads.filled n refl none))
     (ended_at c.fill.result n c.reads.invariant.made c.fill.ensures.tells c.in-Ok-eq0.is none
-    c.fill.ensures.end) (rw empty refl)
+    c.fill.ensures.end) (rw empty refl) c.reads.invariant.idle
 
 pub returns-in-Ok-eq0-2-clause-served : goal.returns-in-Ok-eq0-2-clause-served
 returns-in-Ok-eq0-2-clause-served g c =
@@ -123,7 +125,7 @@ returns-in-Ok-eq0-2-clause-served g c =
     c.reads.invariant.waits in
     end_told g.C.Counter.seen c.args.bank.now c.reads.bank c.reads.shows_body _
     (take c.reads.filled c.fill.new.buffer)
-    short.0 short.1 c.in_ok-refuse-in-Ok-eq0-2.ensures.written refl
+    short.0 short.1 c.in_ok-refuse-in-Ok-eq0-2.ensures.written refl c.reads.invariant.idle
 
 pub returns-in_err-refuse-in-Ok-eq0-2-clause-served : goal.returns-in_err-refuse-in-Ok-eq0-2-clause-served
 returns-in_err-refuse-in-Ok-eq0-2-clause-served g c =
@@ -141,7 +143,7 @@ returns-in_err-refuse-in-Ok-eq0-2-clause-served g c =
     cc (c.in_err-refuse-in-Ok-eq0-2.ensures.fault) in
     rw (told.1, told.2, write) (end_untold g.C.Counter.seen c.args.bank.now c.reads.bank c.reads.shows_body
     w.0
-    (take c.reads.filled c.fill.new.buffer) short.0 short.1 w.1)
+    (take c.reads.filled c.fill.new.buffer) short.0 short.1 w.1 c.reads.invariant.idle)
 
 -- ---- messages
 
@@ -172,6 +174,7 @@ messages-init g c =
       fits = fits;
       bound = (from_none c.match-fill.filled c.reads.served).1;
       going = rw range_all going;
+      idle = c.reads.invariant.idle;
       through = c.reads.invariant.through;
     }
 
@@ -203,6 +206,8 @@ messages-preserved g c =
           c.if-message.false
           (range_next c.fill.new.buffer c.messages.used c.in-Message.message.length c.match-fill.filled order)
           refl a.1 c.in_ok-answer_message-in-Message.ensures.honest a.2;
+      idle = idle_behind g.C.Counter.seen c.args.bank.now c.messages.bank c.messages.invariant.idle
+          c.answer_message.new.bank c.answer_message.ensures.idle;
       through = through_batch c.messages.invariant.through c.in_ok-answer_message-in-Message.ensures.ends;
     }
 
@@ -215,7 +220,9 @@ returns-in_err-answer_message-in-Message-clause-served g c =
     let a = c.in_err-answer_message-in-Message.ensures.answers in
     rw (told.1, told.2) (end_broken g.C.Counter.seen fault c.args.bank.now c.messages.bank
     c.answer_message.new.bank a.0 _ c.in-Message.message c.messages.invariant.going c.in-Message.ensures a.1
-    c.in_err-answer_message-in-Message.ensures.honest a.2)
+    c.in_err-answer_message-in-Message.ensures.honest a.2
+    (idle_behind g.C.Counter.seen c.args.bank.now c.messages.bank c.messages.invariant.idle
+    c.answer_message.new.bank c.answer_message.ensures.idle))
 
 pub returns-then-message-clause-served : goal.returns-then-message-clause-served
 returns-then-message-clause-served g c =
@@ -223,6 +230,8 @@ returns-then-message-clause-served g c =
     end_closed g.C.Counter.seen c.args.bank.now c.messages.bank c.answer_message.new.bank a.0 _ _
     c.in-Message.message c.messages.invariant.going c.in-Message.ensures c.if-message.true refl a.1
     c.in_ok-answer_message-in-Message.ensures.honest a.2
+    (idle_behind g.C.Counter.seen c.args.bank.now c.messages.bank c.messages.invariant.idle
+    c.answer_message.new.bank c.answer_message.ensures.idle)
 
 pub returns-in_err-refuse-in-Refused-clause-served : goal.returns-in_err-refuse-in-Refused-clause-served
 returns-in_err-refuse-in-Refused-clause-served g c =
@@ -233,14 +242,14 @@ returns-in_err-refuse-in-Refused-clause-served g c =
     cc (c.in_err-refuse-in-Refused.ensures.fault) in
     let going = c.messages.invariant.going in
     rw (told.1, told.2, write) (end_untold g.C.Counter.seen c.args.bank.now c.messages.bank c.in-Refused.shows
-    w.0 _ going (hopeless_walk _ going c.in-Refused.ensures) w.1)
+    w.0 _ going (hopeless_walk _ going c.in-Refused.ensures) w.1 c.messages.invariant.idle)
 
 pub returns-in-Refused-clause-served : goal.returns-in-Refused-clause-served
 returns-in-Refused-clause-served g c =
     let w = c.in_ok-refuse-in-Refused.ensures.written in
     let going = c.messages.invariant.going in
     end_told g.C.Counter.seen c.args.bank.now c.messages.bank c.in-Refused.shows _ _ going
-    (hopeless_walk _ going c.in-Refused.ensures) w refl
+    (hopeless_walk _ going c.in-Refused.ensures) w refl c.messages.invariant.idle
 
 pub reads-preserved : goal.reads-preserved
 reads-preserved g c =
@@ -256,6 +265,7 @@ reads-preserved g c =
           c.reads.invariant.bound;
       waits = rw moved c.in-Unfinished.ensures;
       going = rw moved c.messages.invariant.going;
+      idle = c.messages.invariant.idle;
       made = made_one _ _ c.reads.invariant.made c.fill.ensures.tells refl;
       through = c.messages.invariant.through;
     }
@@ -363,7 +373,7 @@ returns-in_err-answer_message-in-Message-clause-why g c =
     let before = c.messages.invariant.going.answered in
     rw (told.1, told.2)
     (why_behind g.C.Counter.seen g.C.Counter.reason c.args.bank.now c.messages.bank c.answer_message.new.bank
-    _ before.takes before.honest c.in_err-answer_message-in-Message.field-0.0
+    _ before.takes before.honest c.messages.invariant.idle c.in_err-answer_message-in-Message.field-0.0
     c.in_err-answer_message-in-Message.ensures.why)
 
 pub returns-in_err-refuse-in-Ok-eq0-2-clause-why : goal.returns-in_err-refuse-in-Ok-eq0-2-clause-why

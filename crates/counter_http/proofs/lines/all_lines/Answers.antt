@@ -3,7 +3,7 @@ use Rattle.std.specs.Prelude.{IfSome}
 use Rattle.std.proofs.lemmas.Result.{err_from_is_err_and}
 use Rattle.posting_rules.specs.declared.counter.BranchLine.{BranchLine}
 use Rattle.posting_rules.specs.Branches.{IsNextBranch, IsLineAbove}
-use Rattle.posting_rules.proofs.CounterCalls.{call_refused_behind}
+use Rattle.posting_rules.proofs.CounterCalls.{call_idle_behind, call_refused_behind}
 use Rattle.counter_http.specs.Answers.{lines_up_to}
 use Rattle.counter_http.proofs.Listed.{asking_more, asking_refused, asking_full, next_line, all_listed}
 use Rattle.counter_http.proofs.lines.all_lines.Goals as goal
@@ -21,24 +21,21 @@ returns-in_err-line_of_branch-clause-fault g c =
     let p = err_from_is_err_and c.from_residual-in_err-line_of_branch.result
     c.from_residual-in_err-line_of_branch.ensures.1 in
     rw (p.1, p.2) (asking_full g.C.Counter.seen c.args.bank.now c.next_branch.new.self
-    (asking_more g.C.Counter.seen c.args.bank.now c.loop-body.bank c.next_branch.new.self
-    c.loop-body.invariant.asking
-    c.in_ok-line.ensures.call.done c.in_ok-line.ensures.call.up c.in_ok-line.ensures.call.honest))
+    (asking_more g.C.Counter.seen g.C.Counter.contents g.C.Counter.reason c.args.bank.now c.loop-body.bank
+    c.next_branch.new.self _ c.loop-body.invariant.asking c.in_ok-line.ensures.call))
 
 pub returns-in_err-push_str-clause-fault : goal.returns-in_err-push_str-clause-fault
 returns-in_err-push_str-clause-fault g c =
     let p = err_from_is_err_and c.from_residual-in_err-push_str.result
     c.from_residual-in_err-push_str.ensures.1 in
     rw (p.1, p.2) (asking_full g.C.Counter.seen c.args.bank.now c.next_branch.new.self
-    (asking_more g.C.Counter.seen c.args.bank.now c.loop-body.bank c.next_branch.new.self
-    c.loop-body.invariant.asking
-    c.in_ok-line.ensures.call.done c.in_ok-line.ensures.call.up c.in_ok-line.ensures.call.honest))
+    (asking_more g.C.Counter.seen g.C.Counter.contents g.C.Counter.reason c.args.bank.now c.loop-body.bank
+    c.next_branch.new.self _ c.loop-body.invariant.asking c.in_ok-line.ensures.call))
 
 pub returns-clause-done : goal.returns-clause-done
 returns-clause-done g c =
-    (asking_more g.C.Counter.seen c.args.bank.now c.loop-body.bank c.next_branch.new.self
-    c.loop-body.invariant.asking
-    c.in_ok-line.ensures.call.done c.in_ok-line.ensures.call.up c.in_ok-line.ensures.call.honest).takes
+    (asking_more g.C.Counter.seen g.C.Counter.contents g.C.Counter.reason c.args.bank.now c.loop-body.bank
+    c.next_branch.new.self _ c.loop-body.invariant.asking c.in_ok-line.ensures.call).takes
 
 pub returns-clause-lines : goal.returns-clause-lines
 returns-clause-lines g c h log s =
@@ -57,8 +54,8 @@ loop-body-preserved g c =
     c.in_ok-line.ensures.within in
     rw c.get-after.ensures.value (record {
       within = above.branch;
-      asking = asking_more g.C.Counter.seen c.args.bank.now c.loop-body.bank c.next_branch.new.self i.asking
-          c.in_ok-line.ensures.call.done c.in_ok-line.ensures.call.up c.in_ok-line.ensures.call.honest;
+      asking = asking_more g.C.Counter.seen g.C.Counter.contents g.C.Counter.reason c.args.bank.now
+          c.loop-body.bank c.next_branch.new.self _ i.asking c.in_ok-line.ensures.call;
       lines = λ h log s.
           let before = c.in_ok-line.ensures.call.honest h in
           let next : IsNextBranch log c.loop-body.after (Some c.in-Some.line) =
@@ -79,8 +76,8 @@ returns-in_err-line-clause-why g c =
     let p = err_from_is_err_and c.from_residual.result c.from_residual.ensures.1 in
     rw (p.1, p.2)
     (inl (call_refused_behind g.C.Counter.seen g.C.Counter.reason c.args.bank.now c.loop-body.bank
-    c.next_branch.new.self [] asking.takes asking.honest c.in_err-line.field-0.0 g.C.Counter.contents _
-    c.in_err-line.ensures.call))
+    c.next_branch.new.self [] asking.takes asking.honest asking.idle c.in_err-line.field-0.0
+    g.C.Counter.contents _ c.in_err-line.ensures.call))
 
 pub returns-in_err-line_of_branch-clause-why : goal.returns-in_err-line_of_branch-clause-why
 returns-in_err-line_of_branch-clause-why g c =
@@ -93,3 +90,25 @@ returns-in_err-push_str-clause-why g c =
     let p = err_from_is_err_and c.from_residual-in_err-push_str.result
     c.from_residual-in_err-push_str.ensures.1 in
     rw (p.1, p.2) (inr (refl, c.in_ok-line.ensures.call.up))
+
+-- ---- a bank that was down
+
+pub returns-in_err-line-clause-idle : goal.returns-in_err-line-clause-idle
+returns-in_err-line-clause-idle g c =
+    call_idle_behind g.C.Counter.seen c.args.bank.now c.loop-body.bank c.loop-body.invariant.asking.idle
+    g.C.Counter.contents g.C.Counter.reason c.next_branch.new.self _ _ c.next_branch.ensures.call
+
+pub returns-in_err-line_of_branch-clause-idle : goal.returns-in_err-line_of_branch-clause-idle
+returns-in_err-line_of_branch-clause-idle g c =
+    call_idle_behind g.C.Counter.seen c.args.bank.now c.loop-body.bank c.loop-body.invariant.asking.idle
+    g.C.Counter.contents g.C.Counter.reason c.next_branch.new.self _ _ c.next_branch.ensures.call
+
+pub returns-in_err-push_str-clause-idle : goal.returns-in_err-push_str-clause-idle
+returns-in_err-push_str-clause-idle g c =
+    call_idle_behind g.C.Counter.seen c.args.bank.now c.loop-body.bank c.loop-body.invariant.asking.idle
+    g.C.Counter.contents g.C.Counter.reason c.next_branch.new.self _ _ c.next_branch.ensures.call
+
+pub returns-clause-idle : goal.returns-clause-idle
+returns-clause-idle g c =
+    call_idle_behind g.C.Counter.seen c.args.bank.now c.loop-body.bank c.loop-body.invariant.asking.idle
+    g.C.Counter.contents g.C.Counter.reason c.next_branch.new.self _ _ c.next_branch.ensures.call

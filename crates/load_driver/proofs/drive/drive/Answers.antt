@@ -87,7 +87,8 @@ returns-in_err-posted-clause-why g c =
     let p = err_from_is_err_and c.from_residual.result c.from_residual.ensures.1 in
     rw (p.1, p.2)
     (inl (refused_behind g.C.Counter.seen g.C.Counter.reason c.args.counter.now c.loop-left.counter
-    c.submit_batch.new.counter _ going.takes going.honest c.in_err-posted.field-0.0
+    c.submit_batch.new.counter _ going.takes going.honest (λ down. absurd (c.requires.up down))
+    c.in_err-posted.field-0.0
     c.in_err-posted.ensures.why))
 
 pub returns-in_err-posted-clause-up : goal.returns-in_err-posted-clause-up

@@ -24,8 +24,8 @@ returns-in_err-driver-clause-drives g c =
     (ended_empty g.C.Counter.seen c.args.counter.now c.list_branches.new.counter
     (g.K.Clock.readings c.args.clock.now) c.args.seed c.args.count
     c.in_ok-plan.plan c.in_err-driver.field-0.0 c.in_err-driver.ensures.fault c.in_ok-plan.ensures.takes
-    c.in_ok-plan.ensures.honest
-    c.in_ok-plan.ensures.listed)
+    c.in_ok-plan.ensures.honest c.in_ok-plan.ensures.listed
+    (λ down. absurd (let e = c.in_ok-plan.ensures.down.1 down in cc e)))
 
 pub returns-in_err-driver-clause-none : goal.returns-in_err-driver-clause-none
 returns-in_err-driver-clause-none g c none h log s =
@@ -45,6 +45,7 @@ returns-clause-drives g c =
     c.drive.ensures.honest c.in_ok-plan.plan c.drive.result
     (rw (← c.in_ok-driver.ensures.seed) c.drive.ensures.submits)
     c.in_ok-plan.ensures.listed c.in_ok-driver.ensures.rows
+    (λ down. absurd (let e = c.in_ok-plan.ensures.down.1 down in cc e))
 
 pub returns-clause-some : goal.returns-clause-some
 returns-clause-some g c =
@@ -90,5 +91,6 @@ returns-clause-up g c = up_behind c.drive.result _ _ c.drive.ensures.up
 pub returns-clause-why : goal.returns-clause-why
 returns-clause-why g c =
     why_behind g.C.Counter.seen g.C.Counter.reason c.args.counter.now c.list_branches.new.counter
-    c.drive.new.counter c.in_ok-plan.ensures.takes c.in_ok-plan.ensures.honest c.drive.result
+    c.drive.new.counter c.in_ok-plan.ensures.takes c.in_ok-plan.ensures.honest
+    (λ down. absurd (let e = c.in_ok-plan.ensures.down.1 down in cc e)) c.drive.result
     c.drive.ensures.why

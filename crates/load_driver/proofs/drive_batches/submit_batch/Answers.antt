@@ -40,4 +40,4 @@ returns-in_err-replies-clause-why g c =
     let p = err_from_is_err_and c.from_residual.result c.from_residual.ensures.1 in
     rw (p.1, p.2)
     (call_refused_behind seen g.C.Counter.reason old old c.submit_all.new.self [] (takes_none (seen old))
-    (λ h. h) c.in_err-replies.field-0.0 g.C.Counter.contents _ c.in_err-replies.ensures.call)
+    (λ h. h) (λ down. refl) c.in_err-replies.field-0.0 g.C.Counter.contents _ c.in_err-replies.ensures.call)

@@ -5,7 +5,7 @@ use Rattle.branch_loader.specs.Plans.{Rows}
 use Rattle.posting_rules.specs.declared.fault.Fault.{Fault}
 use Rattle.posting_rules.specs.declared.fault.Fault.TheVariants.{Memory}
 use Rattle.posting_rules.specs.Counter.{Refuses}
-use Rattle.posting_rules.proofs.CounterCalls.{Takes-append, call_refused_behind}
+use Rattle.posting_rules.proofs.CounterCalls.{Takes-append, call_idle_behind, call_refused_behind}
 use Rattle.load_driver.proofs.Listed.{Listing, listing_first, listing_more, listing_all}
 use Rattle.load_driver.proofs.open_branches.list_branches.Goals as goal
 
@@ -41,6 +41,8 @@ returns-in_err-push-clause-fault g c =
       honest = λ h. h;
       takes = takes;
       refuses = record { tables = λ t h. h; down = λ d. d; left = λ remains left. (remains, left, λ t h. h) };
+      idle = call_idle_behind seen c.args.counter.now c.loop-rows.counter c.loop-rows.invariant.idle
+          g.C.Counter.contents g.C.Counter.reason c.next_branch.new.self _ _ c.next_branch.ensures.call;
     })
 
 pub returns-in_err-line-clause-fault : goal.returns-in_err-line-clause-fault
@@ -52,6 +54,9 @@ returns-in_err-line-clause-fault g c =
       honest = c.in_err-line.ensures.call.honest;
       takes = c.loop-rows.invariant.takes;
       refuses = c.in_err-line.ensures.call.fault;
+      idle = call_idle_behind g.C.Counter.seen c.args.counter.now c.loop-rows.counter
+          c.loop-rows.invariant.idle g.C.Counter.contents g.C.Counter.reason c.next_branch.new.self _ _
+          c.next_branch.ensures.call;
     })
 
 pub returns-clause-listed : goal.returns-clause-listed
@@ -96,4 +101,4 @@ returns-in_err-line-clause-why g c =
     rw (p.1, p.2)
     (inl (call_refused_behind g.C.Counter.seen g.C.Counter.reason c.args.counter.now c.loop-rows.counter
     c.next_branch.new.self [] c.loop-rows.invariant.takes c.loop-rows.invariant.honest
-    c.in_err-line.field-0.0 g.C.Counter.contents _ c.in_err-line.ensures.call))
+    c.loop-rows.invariant.idle c.in_err-line.field-0.0 g.C.Counter.contents _ c.in_err-line.ensures.call))

@@ -21,4 +21,5 @@ invariant-loop-bytes l = record {
   kept_room : HasRoomFor l.overlay.kept (length l.records - l.bytes-index);
   history : l.overlay.history ≡ l.fn.overlay.history;
   requests : l.overlay.requests ≡ l.fn.overlay.requests;
+  references : l.overlay.references ≡ l.fn.overlay.references;
 }

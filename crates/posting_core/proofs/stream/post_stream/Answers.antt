@@ -10,6 +10,7 @@ use Rattle.posting_core.specs.Batches.{Batch}
 use Rattle.posting_core.specs.Stream.{given}
 use Rattle.posting_core.specs.Told.{read_told}
 use Rattle.posting_rules.specs.declared.limits.TheConstants.{RECORDS_PER_BATCH}
+use Rattle.posting_rules.proofs.CounterCalls.{idle_behind}
 use Rattle.posting_core.proofs.Streaming.{going_first, going_filled, going_on, nothing_read}
 use Rattle.posting_core.proofs.StreamedBatches.{going_batch}
 use Rattle.posting_core.proofs.StreamEnds.{end_whole, end_in_record, end_unread, end_broken}
@@ -31,6 +32,7 @@ reads-init g c = record {
   following = following_first _ 0 refl;
   first = λ none. refl;
   up = λ down. (down, refl);
+  idle = λ down. refl;
   made = made_none _;
   through = through_first _;
 }
@@ -48,7 +50,7 @@ returns g c =
       survives = survives_of _ s.did;
       resend = resends_of _ s.did;
       refused = tt;
-      up = λ down. (c.reads.invariant.up down).0;
+      down = record { up = λ down. (c.reads.invariant.up down).0; idle = c.reads.invariant.idle };
       ends = (inr (made_many c.reads.invariant.made (omega arith)), c.reads.invariant.through);
     }
 
@@ -71,7 +73,7 @@ returns-in-Err-2 g c =
       survives = survives_of _ s.did;
       resend = resends_of _ s.did;
       refused = tt;
-      up = λ down. (c.reads.invariant.up down).0;
+      down = record { up = λ down. (c.reads.invariant.up down).0; idle = c.reads.invariant.idle };
       ends = (
         read_failed c.fill.result c.in-Err.e c.reads.invariant.made c.fill.ensures.tells c.in-Err.is
             (other_kind c.kind.result c.in-Err.e c.if-eq.ensures c.kind.ensures),
@@ -100,7 +102,7 @@ returns-in-Ok-eq0 g c =
       survives = survives_of _ s.did;
       resend = resends_of _ s.did;
       refused = tt;
-      up = λ down. (c.reads.invariant.up down).0;
+      down = record { up = λ down. (c.reads.invariant.up down).0; idle = c.reads.invariant.idle };
       ends = (ended, c.reads.invariant.through);
     }
 
@@ -126,7 +128,7 @@ returns-in-Ok-eq0-2 g c =
       survives = survives_of _ s.did;
       resend = resends_of _ s.did;
       refused = tt;
-      up = λ down. (c.reads.invariant.up down).0;
+      down = record { up = λ down. (c.reads.invariant.up down).0; idle = c.reads.invariant.idle };
       ends = (ended, c.reads.invariant.through);
     }
 
@@ -177,11 +179,15 @@ returns-in_err-reply_to_batch g c =
           (omega (arith, c.as_chunks.ensures.back_len)) (omega (arith, c.as_chunks.ensures.front_len, len))
           (omega (arith, c.as_chunks.ensures.front_len, len)) c.reads.invariant.first c.reads.invariant.up
           c.in_err-reply_to_batch.ensures.honest a.2
-          (λ down. let e = c.in_err-reply_to_batch.ensures.down down in cc e)
+          (λ down. let e = (c.in_err-reply_to_batch.ensures.down down).0 in cc e)
           c.in_err-reply_to_batch.ensures.why;
-      up = up_broken _ _ (g.C.Counter.seen c.args.bank.now) (g.C.Counter.seen c.reads.bank)
-          (g.C.Counter.seen c.reply_to_batch.new.bank) _ fault a.2 c.in_err-reply_to_batch.ensures.up
-          (λ down. (c.reads.invariant.up down).0);
+      down = record {
+        up = up_broken _ _ (g.C.Counter.seen c.args.bank.now) (g.C.Counter.seen c.reads.bank)
+            (g.C.Counter.seen c.reply_to_batch.new.bank) _ fault a.2 c.in_err-reply_to_batch.ensures.up
+            (λ down. (c.reads.invariant.up down).0);
+        idle = idle_behind g.C.Counter.seen c.args.bank.now c.reads.bank c.reads.invariant.idle
+            c.reply_to_batch.new.bank (λ down. (c.in_err-reply_to_batch.ensures.down down).1);
+      };
       ends = ends_broken _ _ _ _ _ _ _ _ _ _ fault c.reads.invariant.through a.2
           (λ e. c.in_err-reply_to_batch.ensures.unwritten (ap Err e)) c.in_err-reply_to_batch.ensures.unasked;
     })
@@ -218,6 +224,8 @@ reads-preserved g c =
             bound = omega (arith, w.as_chunks.ensures.front_len, c.reads.invariant.bound, long);
             first = λ none. absurd (omega (arith, w.as_chunks.ensures.front_len));
             up = λ down. absurd (w.in_ok-reply_to_batch.ensures.up down);
+            idle = idle_behind g.C.Counter.seen c.args.bank.now c.reads.bank c.reads.invariant.idle
+                w.reply_to_batch.new.bank (λ down. (w.in_ok-reply_to_batch.ensures.down down).1);
             made = made_one _ _ c.reads.invariant.made c.fill.ensures.tells refl;
             through = through_batch c.reads.invariant.through w.in_ok-reply_to_batch.ensures.flushed;
             done = _;
@@ -244,6 +252,7 @@ reads-preserved g c =
                 c.fill.ensures.tells gave (omega arith);
             first = c.reads.invariant.first;
             up = c.reads.invariant.up;
+            idle = c.reads.invariant.idle;
             made = made_one _ _ c.reads.invariant.made c.fill.ensures.tells refl;
             through = c.reads.invariant.through;
           })

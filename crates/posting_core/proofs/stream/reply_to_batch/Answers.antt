@@ -39,7 +39,8 @@ pub returns-in-Err-clause-why : goal.returns-in-Err-clause-why
 returns-in-Err-clause-why g c = c.in-Err.ensures.call.why
 
 pub returns-in-Err-clause-down : goal.returns-in-Err-clause-down
-returns-in-Err-clause-down g c = λ down. let e = c.in-Err.ensures.call.down down in cc e
+returns-in-Err-clause-down g c down =
+    let e = c.in-Err.ensures.call.down down in (cc e, c.in-Err.ensures.call.untried e)
 
 pub returns-clause-answers : goal.returns-clause-answers
 returns-clause-answers g c =

@@ -1,4 +1,5 @@
 use Rattle.std.proofs.Common.{◌≡◌, ◌∙◌, ◌+◌, ◌++◌, ℕ, List, Result, length, map, sym, ap, subst}
+use Rattle.std.proofs.lemmas.List.{length-map}
 use Rattle.message_records.specs.declared.fault.Bad.{Bad}
 use Rattle.message_records.specs.Reading.{request_of}
 use Rattle.message_records.specs.Records.{RequestFields}
@@ -9,22 +10,25 @@ use Rattle.posting_rules.specs.Tables.{Tables, AreTablesOf}
 use Rattle.posting_rules.proofs.Records.{all_past}
 use Rattle.posting_rules.proofs.Records as past
 use Rattle.posting_batch.specs.Batch.{ChangesRows, HasRisingSlots, AddsFreeRows, covering_all, no_slots}
-use Rattle.posting_batch.specs.Batch.{filled}
+use Rattle.posting_batch.specs.Batch.{filled, HasFreeOrdinals}
 use Rattle.posting_batch.specs.Judging.{overlay_with_all, replies_over}
 use Rattle.posting_batch.specs.Overlay.{Overlay, tables_over}
 use Rattle.posting_batch.specs.View.{view}
 use Rattle.posting_batch.proofs.Covered.{stands}
+use Rattle.posting_batch.proofs.FreeOrdinals.{free_shown}
 use Rattle.posting_batch.proofs.Idle.{all_answered, all_idle, all_rows}
 use Rattle.posting_batch.proofs.InOrder.{all_tables, all_replies, all_rising, judged}
 use Rattle.posting_batch.proofs.NewRows.{all_changes, all_adds}
 use Rattle.posting_batch.proofs.batch.Batch.judge.Goals as goal
 
 pub returns-clause-judged : goal.returns-clause-judged
-returns-clause-judged c t records is =
+returns-clause-judged c t records is free =
     let m = c.args.moment in
     let reads : List (Result RequestFields Bad) = map request_of records in
     let old = filled t (covering_all no_slots reads) in
     let it = stands t reads in
+    let over : HasFreeOrdinals (tables_over old t) (length records) =
+    subst (λ (u : Tables). HasFreeOrdinals u (length records)) (sym it.same) free in
     let after = judged m c.judge_records.ensures.overlay (c.deref.ensures.value ∙ is.reads) is.overlay in
     let told : c.judge_records.new.replies.items ≡ replies_past_all t m records =
     c.judge_records.ensures.replies
@@ -33,15 +37,16 @@ returns-clause-judged c t records is =
     ∙ ap (λ (rs : List (Result RequestFields Bad)). map reply_spelling
     (replies_over (view c.args.self.overlay) m rs)) (c.deref.ensures.value ∙ is.reads)
     ∙ ap (λ (o : Overlay). map reply_spelling (replies_over o m reads)) is.overlay
-    ∙ all_replies old t m records it.fits it.covers ∙ ap
+    ∙ all_replies old t m records over it.fits it.covers ∙ ap
     (λ (u : Tables). replies_past_all u m records) it.same in
     record {
       tables =
-          ap (λ (o : Overlay). tables_over o t) after ∙ all_tables old t m records it.fits it.covers
+          ap (λ (o : Overlay). tables_over o t) after ∙ all_tables old t m records over it.fits it.covers
           ∙ ap (λ (u : Tables). tables_past_all u m records) it.same;
       answers = told;
       changes = subst (λ (o : Overlay). ChangesRows o t) (sym after)
-          (all_changes old t m reads it.fits it.unchanged it.covers);
+          (all_changes old t m reads (subst (λ (n : ℕ). HasFreeOrdinals (tables_over old t) n)
+          (sym (length-map records request_of)) over) it.fits it.unchanged it.covers);
     }
 
 pub returns-clause-rising : goal.returns-clause-rising
@@ -65,7 +70,7 @@ returns-clause-shown c t records is log shows =
     let old = filled t (covering_all no_slots reads) in
     let it = stands t reads in
     let after = judged m c.judge_records.ensures.overlay (c.deref.ensures.value ∙ is.reads) is.overlay in
-    let so = returns-clause-judged c t records is in
+    let so = returns-clause-judged c t records is (free_shown t log (length records) shows) in
     record {
       shows = subst (λ (u : Tables). AreTablesOf u (behind log (posts m records))) (sym so.tables)
           (all_past t log m records shows);

@@ -17,4 +17,5 @@ invariant-loop-read l = record {
   replies_room : vec_len l.replies + (length l.reads - l.read-index) ≤ vec_capacity l.replies;
   requests_room : HasRoomFor l.self.requests (length l.reads - l.read-index);
   history_room : HasRoomFor l.self.history (length l.reads - l.read-index);
+  references_room : HasRoomFor l.self.references (length l.reads - l.read-index);
 }

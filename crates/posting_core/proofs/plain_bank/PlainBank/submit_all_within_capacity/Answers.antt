@@ -42,4 +42,9 @@ loop-bytes-preserved c =
         c.loop-bytes.invariant.history_room,
         c.submit_within_capacity-reply.ensures.history,
       );
+      references_room = omega (
+        arith,
+        c.loop-bytes.invariant.references_room,
+        c.submit_within_capacity-reply.ensures.references,
+      );
     }

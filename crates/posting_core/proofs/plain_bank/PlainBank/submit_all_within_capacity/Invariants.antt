@@ -19,4 +19,6 @@ invariant-loop-bytes l = record {
   replies_room : vec_len l.replies + (length l.records - l.bytes-index) ≤ vec_capacity l.replies;
   requests_room : vec_len l.self.requests + (length l.records - l.bytes-index) ≤ vec_capacity l.self.requests;
   history_room : vec_len l.self.history + (length l.records - l.bytes-index) ≤ vec_capacity l.self.history;
+  references_room : vec_len l.self.references + (length l.records - l.bytes-index)
+      ≤ vec_capacity l.self.references;
 }

@@ -8,8 +8,8 @@ use Rattle.posting_core.proofs.plain_bank.PlainBankCounter.submit.Goals as goal
 pub returns-clause-answer : goal.returns-clause-answer
 returns-clause-answer c = λ h log s.
     reply_from (plain_tables c.args.self.now) _ log c.args.bytes.now _ c.submit_within_capacity.ensures.reply
-    (requests_as_before (plain_tables c.args.self.now) _ _ refl c.reserve.ensures.items
-    c.reserve-2.ensures.items) (plain_shows c.args.self.now log s)
+    (requests_as_before (plain_tables c.args.self.now) _ _ _ refl c.reserve.ensures.items
+    c.reserve-2.ensures.items c.reserve-3.ensures.items) (plain_shows c.args.self.now log s)
 
 pub returns-clause-call : goal.returns-clause-call
 returns-clause-call c =
@@ -20,11 +20,14 @@ returns-clause-call c =
     record_from (plain_tables c.args.self.now) _
     (plain_tables c.submit_within_capacity.new.self) log c.args.moment c.args.bytes.now
     c.submit_within_capacity.ensures.tables
-    (requests_as_before (plain_tables c.args.self.now) _ _ refl c.reserve.ensures.items
-    c.reserve-2.ensures.items) s))
+    (requests_as_before (plain_tables c.args.self.now) _ _ _ refl c.reserve.ensures.items
+    c.reserve-2.ensures.items c.reserve-3.ensures.items) s))
 
 pub returns-in_err-reserve-clause-call : goal.returns-in_err-reserve-clause-call
 returns-in_err-reserve-clause-call c = spared_plain _ _ _ _ (search rules) (search rules)
 
 pub returns-in_err-reserve-2-clause-call : goal.returns-in_err-reserve-2-clause-call
 returns-in_err-reserve-2-clause-call c = spared_plain _ _ _ _ (search rules) (search rules)
+
+pub returns-in_err-reserve-3-clause-call : goal.returns-in_err-reserve-3-clause-call
+returns-in_err-reserve-3-clause-call c = spared_plain _ _ _ _ (search rules) (search rules)

@@ -8,8 +8,8 @@ use Rattle.posting_core.proofs.plain_bank.PlainBankCounter.submit_all.Goals as g
 
 pub returns-clause-call : goal.returns-clause-call
 returns-clause-call c =
-    let same = requests_as_before (plain_tables c.args.self.now) _ _ refl c.reserve-2.ensures.items
-    c.reserve-3.ensures.items in
+    let same = requests_as_before (plain_tables c.args.self.now) _ _ _ refl c.reserve-2.ensures.items
+    c.reserve-3.ensures.items c.reserve-4.ensures.items in
     answered_plain c.args.self.now c.submit_all_within_capacity.new.self
     (posts c.args.moment c.args.records.now) c.submit_all_within_capacity.new.replies
     (takes_plain c.args.self.now c.submit_all_within_capacity.new.self
@@ -26,10 +26,13 @@ returns-in_err-reserve-2-clause-call c = spared_plain _ _ _ _ (search rules) (se
 pub returns-in_err-reserve-3-clause-call : goal.returns-in_err-reserve-3-clause-call
 returns-in_err-reserve-3-clause-call c = spared_plain _ _ _ _ (search rules) (search rules)
 
+pub returns-in_err-reserve-4-clause-call : goal.returns-in_err-reserve-4-clause-call
+returns-in_err-reserve-4-clause-call c = spared_plain _ _ _ _ (search rules) (search rules)
+
 pub returns-clause-answer : goal.returns-clause-answer
 returns-clause-answer c h log s =
-    let same = requests_as_before (plain_tables c.args.self.now) _ _ refl c.reserve-2.ensures.items
-    c.reserve-3.ensures.items in
+    let same = requests_as_before (plain_tables c.args.self.now) _ _ _ refl c.reserve-2.ensures.items
+    c.reserve-3.ensures.items c.reserve-4.ensures.items in
     c.submit_all_within_capacity.ensures.replies log (subst (λ (t : Tables). AreTablesOf t log) (sym same)
     (plain_shows c.args.self.now log s))
     ∙ ap (λ (rs : List (List ℕ)). rs ++ replies_to log (posts c.args.moment c.args.records.now))
