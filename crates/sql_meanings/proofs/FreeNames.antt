@@ -1,10 +1,10 @@
 -- Where its name is free, a CREATE TABLE is understood, and only a full file refuses it.
 use Rattle.std.proofs.Common.{◌≡◌, ℕ, ◌+◌, ◌++◌, ◌==◌, ◌&&◌, not, List, [], ◌∷◌, length, Bool, true, false}
 use Rattle.std.proofs.Common.{Ok, None, Some, Option, is_some, refl, sym, ap, ◌∙◌, inl, inr, codes}
-use Rattle.std.proofs.Common.{slice_get, suc, zero}
+use Rattle.std.proofs.Common.{append-nil, slice_get, suc, zero}
 use Rattle.std.specs.Prelude.{option_and_then}
 use Rattle.std.specs.List.{position_from}
-use Rattle.std.proofs.lemmas.Bool.{cases_Bool}
+use Rattle.std.proofs.lemmas.Bool.{cases_Bool, or_parts}
 use Rattle.sqlite.specs.Change.{created, is_used, next_tree}
 use Rattle.sqlite.specs.Does.{lacks_sequence}
 use Rattle.sqlite.specs.Listing.{understood}
@@ -18,7 +18,7 @@ use Rattle.sqlite.specs.declared.error.ErrorCode.TheVariants.{SchemaTooBig}
 use Rattle.sqlite_ast.specs.declared.CreateTable.{CreateTable}
 use Rattle.sqlite_ast.specs.declared.Statement.TheVariants as written
 use Rattle.sqlite_catalog.proofs.StepLemmas.{no_table, no_index, no_view}
-use Rattle.sqlite_schema.specs.Names.{same_name}
+use Rattle.sqlite_schema.specs.Names.{index_named, same_name, table_named}
 use Rattle.sqlite_syntax.specs.declared.statement.Parsed.{Parsed}
 use Rattle.sqlite_resolve.specs.Define as define
 use Rattle.sqlite_resolve.specs.Compile.{compiled, first, planned, timed, meaning, returning, command}
@@ -99,7 +99,7 @@ and_false true = refl
 and_false false = refl
 
 -- a table that counts no rows needs none
-needs_none : (schema : Schema) (t : Table) → t.is_counted ≡ false → lacks_sequence schema ≡ false
+pub needs_none : (schema : Schema) (t : Table) → t.is_counted ≡ false → lacks_sequence schema ≡ false
     → lacks_sequence (created schema t) ≡ false
 needs_none schema t uncounted has = elim (cases_Bool (counts_rows schema)) [
   | inl some ↦
@@ -109,6 +109,29 @@ needs_none schema t uncounted has = elim (cases_Bool (counts_rows schema)) [
   | inr none ↦
       ap (λ b. b && not (is_some (sequence (created schema t)))) (counts_created schema t uncounted none)
 ]
+
+-- ---- a name that is free
+
+none_more : {X : Type 0} (p : X → Bool) (xs : List X) (x : X) (from : ℕ)
+    → is_some (position_from p from xs) ≡ false → p x ≡ false → is_some (position_from p from (xs ++ x ∷ [])) ≡ false
+none_more p [] x from none other = rw other refl
+none_more p (y ∷ xs) x from none other = elim (cases_Bool (p y)) [
+  | inl here ↦ absurd (let some = rw here at none in cc)
+  | inr not_here ↦ rw not_here (none_more p xs x (from + 1) (rw not_here at none) other)
+]
+
+-- it is free beside a table more, which has another name and no UNIQUE
+pub free_beside : (schema : Schema) (t : Table) (name : List ℕ) → t.uniques ≡ [] → same_name t.name name ≡ false
+    → is_used schema name ≡ false → is_used (created schema t) name ≡ false
+free_beside schema t name plain other free =
+    let views = or_parts _ _ free in
+    let both = or_parts _ _ views.0 in
+    let tables : is_some (table_named (created schema t) name) ≡ false =
+    none_more (λ (u : Table). same_name u.name name) schema.tables (record t { tree = next_tree schema }) 0 both.0
+    other in
+    let indexes : is_some (index_named (created schema t) name) ≡ false =
+    rw (plain, append-nil schema.indexes) both.1 in
+    rw (tables, indexes, views.1) refl
 
 -- ---- what refuses a table
 

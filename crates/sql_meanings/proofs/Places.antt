@@ -1,7 +1,6 @@
 -- The element at a place of a list.
-use Rattle.std.proofs.Common.{◌≡◌, ℕ, zero, suc, ◌<◌, length, List, [], ◌∷◌, take, slice_get, Some, refl, sym}
-use Rattle.std.proofs.Common.{ap, subst, arith}
-use Rattle.std.specs.Prelude.{fold}
+use Rattle.std.proofs.Common.{◌≡◌, ℕ, zero, suc, ◌+◌, ◌<◌, length, List, [], ◌∷◌, drop, take, slice_get, Some}
+use Rattle.std.proofs.Common.{refl, sym, ap, subst, ◌∙◌, arith}
 use Rattle.std.specs.List.{AllByRecursion}
 
 -- of the one at a place
@@ -25,10 +24,32 @@ all_more P [] n x is all one = absurd cc
 all_more P (y ∷ xs) zero x is all one = let same : y ≡ x = cc in (subst P (sym same) one, tt)
 all_more P (y ∷ xs) (suc n) x is all one = (all.0, all_more P xs n x is all.1 one)
 
--- a fold over one more
-pub fold_more : {X A : Type 0} (f : A → X → A) (xs : List X) (n : ℕ) (x : X) → slice_get xs n ≡ Some x
-    → (start : A)
-    → fold f start (take (suc n) xs) ≡ f (fold f start (take n xs)) x
-fold_more f [] n x is start = absurd cc
-fold_more f (y ∷ xs) zero x is start = let same : y ≡ x = cc in ap (f start) same
-fold_more f (y ∷ xs) (suc n) x is start = fold_more f xs n x is (f start y)
+-- behind the first so many
+pub later_at : {X : Type 0} (xs : List X) (n at : ℕ) → slice_get (drop n xs) at ≡ slice_get xs (n + at)
+later_at [] zero at = refl
+later_at [] (suc n) at = refl
+later_at (y ∷ xs) zero at = let same : at ≡ 0 + at = omega arith in ap (slice_get (y ∷ xs)) same
+later_at (y ∷ xs) (suc n) at =
+    let same : suc (n + at) ≡ suc n + at = omega arith in later_at xs n at ∙ ap (slice_get (y ∷ xs)) same
+
+-- of each behind the first so many
+pub all_later : {X : Type 0} (P : X → Type 0) (xs : List X) (n : ℕ) → AllByRecursion P xs
+    → AllByRecursion P (drop n xs)
+all_later P [] zero all = tt
+all_later P [] (suc n) all = tt
+all_later P (y ∷ xs) zero all = all
+all_later P (y ∷ xs) (suc n) all = all_later P xs n all.1
+
+-- of each of the first so many
+pub all_first : {X : Type 0} (P : X → Type 0) (xs : List X) (n : ℕ) → AllByRecursion P xs
+    → AllByRecursion P (take n xs)
+all_first P [] zero all = tt
+all_first P [] (suc n) all = tt
+all_first P (y ∷ xs) zero all = tt
+all_first P (y ∷ xs) (suc n) all = (all.0, all_first P xs n all.1)
+
+-- what follows of it
+pub all_weaker : {X : Type 0} (P Q : X → Type 0) → ((x : X) → P x → Q x) → (xs : List X) → AllByRecursion P xs
+    → AllByRecursion Q xs
+all_weaker P Q so [] all = tt
+all_weaker P Q so (y ∷ xs) all = (so y all.0, all_weaker P Q so xs all.1)

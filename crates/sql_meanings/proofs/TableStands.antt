@@ -33,6 +33,7 @@ use Rattle.std.proofs.Common.{
 }
 use Rattle.std.specs.List.{position_from}
 use Rattle.std.proofs.lemmas.List.Folds.{list_any-append}
+use Rattle.std.proofs.lemmas.Bool.{cases_Bool}
 use Rattle.sqlite.specs.Table.{Table}
 use Rattle.sqlite.specs.Schema.{Schema}
 use Rattle.sqlite.specs.Tree.{Trees}
@@ -55,7 +56,7 @@ use Rattle.sqlite_catalog.proofs.StepLemmas.{table_below, same_itself}
 use Rattle.sql_meanings.proofs.Statements.{HasTable}
 use Rattle.sql_meanings.specs.Making.{Stands}
 use Rattle.sql_meanings.proofs.Growing.{low_tree, sequenced}
-use Rattle.sql_meanings.specs.Making.{AddsTable, KeepsWhatStood, counts_rows}
+use Rattle.sql_meanings.specs.Making.{AddsTable, IsGrown, KeepsWhatStood, counts_rows}
 
 -- a table stands on as another is made
 pub stands_after : (schema : Schema) (new table : Table) → Stands schema table
@@ -190,13 +191,26 @@ counts_created schema t last none =
     list_any-append (λ (u : Table). u.is_counted) schema.tables (record t { tree = next_tree schema } ∷ [])
     ∙ rw (none, last) refl
 
--- where no table counts its rows, none is made that counts for it
-none_counted : (old after : Database) → MakesSequence old (Ok after) → counts_rows old.schema ≡ false
-    → old ≡ after
-none_counted old after h none =
-    let has : lacks_sequence old.schema ≡ false = rw none refl in
-    let same = rw has at h in
-    cc
+-- what is new once the table that counts is made, where it has to be
+grown : (old : Schema) (t : Table) (mid after : Database) → mid.schema ≡ created old t
+    → MakesSequence mid (Ok after) → IsGrown old t after.schema
+grown old t mid after is h = elim (cases_Bool (lacks_sequence mid.schema)) [
+  | inl lacks ↦
+      let made : MakesTable sequence_text mid (Ok after) = rw lacks at h in
+      inr (
+        subst (λ s. lacks_sequence s ≡ true) is lacks,
+        made.table,
+        made.defined,
+        made.is ∙ ap (λ s. created s made.table) is,
+      )
+  | inr has ↦ inl (
+    subst (λ s. lacks_sequence s ≡ false) is has,
+    ap (λ (db : Database). db.schema) (none_made mid after has h) ∙ is,
+  )
+]
+  where
+    none_made : (mid after : Database) → lacks_sequence mid.schema ≡ false → MakesSequence mid (Ok after) → after ≡ mid
+    none_made mid after has h = let same = rw has at h in cc
 
 -- CREATE TABLE of a table with no foreign key, done
 pub adds : (limit : Option ℕ) (mode : Mode) (params : Row) (old after : Database) (text : List ℕ)
@@ -221,8 +235,6 @@ adds limit mode params old after text tally t defined free h =
       keeps = then_keeps old mid after (keeps_made old mid text made) second;
       stands = second.stands new there;
       empty = second.rows new there.listed ∙ made.empty;
-      alone = λ none.
-          let grown : mid.schema ≡ created old.schema t = made.is ∙ ap (created old.schema) is in
-          ap (λ (db : Database). db.schema)
-          (sym (none_counted mid all.0 both.2 (ap counts_rows grown ∙ none) ∙ last)) ∙ grown;
+      grown = grown old.schema t mid after (made.is ∙ ap (created old.schema) is)
+          (subst (λ (db : Database). MakesSequence mid (Ok db)) last both.2);
     }

@@ -21,7 +21,7 @@ use Rattle.sql_meanings.specs.Tables.{Holds, tree_of, width_of}
 Schema-set : IsSet Schema
 Schema-set = Coded-set schema_row.the_row.coded
 
-nat_set : IsSet ℕ
+pub nat_set : IsSet ℕ
 nat_set = Coded-set coded_ℕ
 
 -- that a tree is of these rows is a proposition

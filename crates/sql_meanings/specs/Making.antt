@@ -39,12 +39,19 @@ pub record KeepsWhatStood (old after : Database) : Type 0 where
 abbrev pub counts_rows : Schema → Bool
 counts_rows schema = list_any (λ t. t.is_counted) schema.tables
 
--- the table is new and empty, and the others are kept; where no table counts its rows, nothing else is new
+-- a schema has the table more, and the one that counts for AUTOINCREMENT, where a table needs it and there is none
+abbrev pub IsGrown : Schema → Table → Schema → Type 0
+IsGrown old t new =
+    ((lacks_sequence (created old t) ≡ false) × (new ≡ created old t))
+    ⊎ (IsTrue (lacks_sequence (created old t)) × (counts : Table) × (table_defined_by sequence_text ≡ Ok counts)
+    × (new ≡ created (created old t) counts))
+
+-- the table is new and empty, and the others are kept; nothing else is new, but for the one that counts
 pub record AddsTable (old after : Database) (t : Table) : Type 0 where
   pub keeps : KeepsWhatStood old after
   pub stands : Stands after.schema (placed_at t (next_tree old.schema))
   pub empty : after.trees (next_tree old.schema) ≡ []
-  pub alone : counts_rows (created old.schema t) ≡ false → after.schema ≡ created old.schema t
+  pub grown : IsGrown old.schema t after.schema
 
 -- a table of no REAL column, short enough that any schema takes it that has its names free and room for it
 pub record IsMakeable (text : List ℕ) (t : Table) : Type 0 where

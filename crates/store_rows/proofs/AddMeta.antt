@@ -1,18 +1,27 @@
 -- The first row of meta is put in.
-use Rattle.std.proofs.Common.{inl, inr, ℕ, [], ◌∷◌, lit≤, refl, Ok, Err, Result}
-use Rattle.sqlite.specs.State.{State, ExecutesInside}
+use Rattle.std.proofs.Common.{◌≡◌, ◌⊎◌, ◌≤◌, true, sym, subst, inl, inr, ℕ, [], ◌∷◌, lit≤, refl, Ok, Err}
+use Rattle.std.proofs.Common.{Result}
+use Rattle.std.specs.Prelude.{IsSome}
+use Rattle.sqlite.specs.State.{State, ExecutesInside, KeepsCounts}
 use Rattle.sqlite.specs.declared.error.Error.{Error}
+use Rattle.sqlite.specs.declared.error.Error.TheVariants.{SqliteFailure}
+use Rattle.sqlite.specs.declared.error.ErrorCode.TheVariants.{ConstraintViolation}
+use Rattle.sqlite_schema.specs.declared.schema.Constraint.TheVariants.{Unique}
 use Rattle.sql_meanings.specs.Tables.{Holds}
 use Rattle.sqlite.specs.Effect.{Database}
+use Rattle.sql_meanings.specs.Outcomes.{GoesOn, HasWideIndex, IsInterrupted}
+use Rattle.sql_meanings.proofs.Afterwards.{fails_since}
 use Rattle.sql_meanings.proofs.Contents.{held}
 use Rattle.sql_meanings.proofs.Failures.{put_fails_as}
 use Rattle.sql_meanings.proofs.PutFailures.{refuses_insert}
 use Rattle.sql_meanings.proofs.PutRows.{puts_row}
-use Rattle.store_rows.specs.Creation.{AreEmpty, StartsBank, all_texts, new_tables, no_rows}
+use Rattle.store_rows.specs.Creation.{AreEmpty, CreatesBank, MakesWide, RefusedIn, StartsBank}
+use Rattle.store_rows.specs.Creation.{TablesAreMade, all_texts, new_tables, no_rows}
 use Rattle.store_rows.specs.Outcomes.{IsForbidden}
 use Rattle.store_rows.specs.BankTables as bank
 use Rattle.store_rows.specs.BankTables.{bank_tables}
 use Rattle.store_rows.specs.declared.texts.TheConstants.{ADD_META}
+use Rattle.store_rows.proofs.CreationSteps.{still_on}
 use Rattle.store_rows.proofs.Failing.{forbidden, key_fits}
 use Rattle.store_rows.proofs.MetaRow.{holds_one, meta_written, is_plain}
 use Rattle.store_rows.proofs.Puts.{first_row, given, puts}
@@ -43,3 +52,29 @@ starts old new (Err e) made h =
           (forbidden old.now.schema new_tables bank.meta (first_row ∷ [])
           (λ db shows. holds_one db new_tables shows)) fails
     ]
+
+-- ---- behind the tables that were made
+
+module _ (old mid new : State) (e : Error) (made : TablesAreMade all_texts old.now mid.now)
+    (going : GoesOn old mid) (counts : KeepsCounts old mid) (limit : mid.step_limit ≡ old.step_limit) where
+  -- it is refused in the database as it is now
+  refused_there : IsInterrupted mid e ⊎ ((e ≡ SqliteFailure (ConstraintViolation Unique))
+      × IsForbidden mid.now.schema bank.meta new_tables) → mid.now ≡ new.now → RefusedIn old new.now e
+  refused_there (inl met) same =
+      inr (
+        inl (met.0, subst (λ o. IsSome o) limit met.1),
+        subst (λ (db : Database). TablesAreMade all_texts old.now db) same made,
+      )
+  refused_there (inr (unique, none)) same =
+      inr (
+        inr (unique, subst (λ (db : Database). IsForbidden db.schema bank.meta new_tables) same none),
+        subst (λ (db : Database). TablesAreMade all_texts old.now db) same made,
+      )
+
+  pub starts_not : old.faults ≤ mid.faults → StartsBank mid new (Err e) → CreatesBank old new (Err e)
+  starts_not more (inl store) =
+      inl (fails_since old mid new (HasWideIndex mid.now.schema bank.meta) (MakesWide old.now)
+      (λ wide. (mid.now, made, wide)) e true going.0 counts more store)
+  starts_not more (inr (why, same)) =
+      let after = still_on old mid new going counts same in
+      inr (refused_there why (sym same.0.now_is), after.0, after.1)

@@ -13,6 +13,7 @@ use Rattle.store_rows.specs.Creation.{all_texts}
 use Rattle.store_rows.specs.BankTables as bank
 use Rattle.store_rows.specs.declared.texts.TheConstants.{MAKE_META, MAKE_BRANCH, MAKE_TELLER, MAKE_ACCOUNT}
 use Rattle.store_rows.specs.declared.texts.TheConstants.{MAKE_HISTORY, MAKE_REQUEST, MAKE_FLOOR}
+use Rattle.store_rows.specs.declared.texts.TheConstants.{MAKE_REFERENCE}
 
 -- the table that counts for AUTOINCREMENT
 pub sequence : (t : Table) × IsMakeable sequence_text t
@@ -40,6 +41,13 @@ unfolding everything listing_tests
 of_floors = creates_by _ _ (makeable MAKE_FLOOR.now bank.floor refl refl refl refl refl refl refl refl) refl _ _ _
     refl refl refl refl refl refl refl (lit≤ tt) refl
 
+-- what a decided request is referred to by
+pub of_references : CreatesOnly MAKE_REFERENCE.now bank.reference
+unfolding everything listing_tests
+of_references =
+    creates_by _ _ (makeable MAKE_REFERENCE.now bank.reference refl refl refl refl refl refl refl refl) refl
+    _ _ _ refl refl refl refl refl refl refl (lit≤ tt) refl
+
 -- what was asked
 of_records : CreatesOnly MAKE_HISTORY.now bank.history × CreatesOnly MAKE_REQUEST.now bank.request
 unfolding everything listing_tests
@@ -53,5 +61,25 @@ of_records = (
 -- each text makes its table, which counts no rows
 pub each_creates : AllByRecursion (λ it. CreatesOnly it.0 it.1 × (it.1.is_counted ≡ false)) all_texts
 each_creates =
-    let n = of_numbers in let r = of_records in
-    ((n.0, refl), ((n.1, refl), ((n.2, refl), ((n.3, refl), ((r.0, refl), ((r.1, refl), ((of_floors, refl), tt)))))))
+    let n = of_numbers in let r = of_records in (
+      (n.0, refl),
+      (
+        (n.1, refl),
+        (
+          (n.2, refl),
+          (
+            (n.3, refl),
+            (
+              (r.0, refl),
+              (
+                (r.1, refl),
+                (
+                  (of_floors, refl),
+                  ((of_references, refl), tt),
+                ),
+              ),
+            ),
+          ),
+        ),
+      ),
+    )

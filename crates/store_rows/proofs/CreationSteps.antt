@@ -4,7 +4,6 @@ use Rattle.std.proofs.Common.{Some, Ok, Err, IsTrue, refl, sym, ap, subst, ◌�
 use Rattle.std.proofs.Math.Seq.{take-length}
 use Rattle.std.specs.List.{AllByRecursion}
 use Rattle.sqlite.specs.Table.{Table}
-use Rattle.sqlite.specs.Change.{created}
 use Rattle.sqlite.specs.Effect.{Database, IsDatabase}
 use Rattle.sqlite.specs.Held.{Held, state}
 use Rattle.sqlite_trees.specs.declared.store.Store.{Ghosts}
@@ -16,16 +15,36 @@ use Rattle.sql_meanings.specs.Contents.{HoldsEach}
 use Rattle.sql_meanings.specs.Outcomes.{GoesOn, MakeFails, MakesTold}
 use Rattle.sql_meanings.proofs.Afterwards.{fails_since}
 use Rattle.sql_meanings.proofs.Makings.{holds_none, kept}
-use Rattle.sql_meanings.proofs.Places.{all_more, fold_more}
+use Rattle.sql_meanings.proofs.Places.{all_more}
 use Rattle.sql_meanings.proofs.TableStands.{then_keeps}
-use Rattle.store_rows.specs.Creation.{IsApart, TablesAreMade, MakesAll, with_first}
-use Rattle.store_rows.proofs.MadeSoFar.{Begun, IsNew, Reached, grown, keeps_itself, made_new, stay_new}
+use Rattle.store_rows.specs.Creation.{AreGrown, IsApart, TablesAreMade, MakesAll}
+use Rattle.store_rows.proofs.MadeSoFar.{Begun, IsNew, Reached, grows_alone, grows_more, keeps_itself, made_new, stay_new}
+
+-- what changed nothing leaves a transaction that went on as it was
+pub still_on : (old mid new : State) → GoesOn old mid → KeepsCounts old mid → IsUnchanged mid new
+    → GoesOn old new × KeepsCounts old new
+still_on old mid new goes counts same = (
+  (
+    record {
+      was_open = goes.0.was_open;
+      is_open = same.0.is_open;
+      now_is = refl;
+      committed_is = same.0.committed_is ∙ goes.0.committed_is;
+      mode = same.0.mode ∙ goes.0.mode;
+    },
+    same.2 ∙ goes.1,
+  ),
+  record {
+    changes = same.1.changes ∙ counts.changes;
+    last_rowid = same.1.last_rowid ∙ counts.last_rowid;
+  },
+)
 
 module _ (texts : List (List ℕ × Table)) (old mid new : State) (made : ℕ) (it : List ℕ × Table)
     (has : slice_get texts made ≡ Some it) where
   -- ---- one more
 
-  module _ (uncounted : it.1.is_counted ≡ false) (told : MakesTold mid new it.0 it.1 (Ok 0))
+  module _ (told : MakesTold mid new it.0 it.1 (Ok 0))
       (shows : StateShows mid new new.now mid.committed true)
       (more : mid.faults ≤ new.faults) where
     after_some : Reached texts old mid made → Reached texts old new (suc made)
@@ -48,14 +67,11 @@ module _ (texts : List (List ℕ × Table)) (old mid new : State) (made : ℕ) (
       new = all_more (λ x. IsNew old.now new.now x.1) texts made it has
           (stay_new old.now mid.now new.now (take made texts) told.0.keeps reached.new)
           (made_new old.now mid.now new.now it.1 reached.keeps told.0);
-      alone = λ none.
-          let before = reached.alone none in
-          let grew = grown mid.now.schema new.now.schema it.1 uncounted told.0.alone before.0 in (
-            grew.0,
-            grew.1 ∙ ap (λ s. created s it.1) before.1
-                ∙ sym (fold_more (λ s x. created s x.1) texts made it has old.now.schema),
-          );
+      grown = grows_more texts made it has old.now.schema mid.now.schema new.now.schema reached.grown told.0.grown;
     }
+
+    nothing_grown : made ≡ 0 → AreGrown (take made texts) mid.now.schema mid.now.schema
+    nothing_grown none = subst (λ n. AreGrown (take n texts) mid.now.schema mid.now.schema) (sym none) refl
 
     after_none : made ≡ 0 → Reached texts mid new (suc made)
     after_none none = record {
@@ -68,35 +84,15 @@ module _ (texts : List (List ℕ × Table)) (old mid new : State) (made : ℕ) (
       new = all_more (λ x. IsNew mid.now new.now x.1) texts made it has
           (subst (λ n. AllByRecursion (λ x. IsNew mid.now new.now x.1) (take n texts)) (sym none) tt)
           (made_new mid.now mid.now new.now it.1 (keeps_itself mid.now) told.0);
-      alone = λ nothing.
-          let grew = grown mid.now.schema new.now.schema it.1 uncounted told.0.alone nothing in (
-            grew.0,
-            grew.1 ∙ sym (fold_more (λ s x. created s x.1) texts made it has mid.now.schema
-                ∙ ap (λ n. created (with_first texts n mid.now.schema) it.1) none),
-          );
+      grown = grows_more texts made it has mid.now.schema mid.now.schema new.now.schema (nothing_grown none)
+          told.0.grown;
     }
 
   -- ---- one is refused
 
   -- the state after a refusal shows what was made before it
   still : Reached texts old mid made → IsUnchanged mid new → GoesOn old new × KeepsCounts old new
-  still reached same = (
-    (
-      record {
-        was_open = reached.shows.was_open;
-        is_open = same.0.is_open;
-        now_is = refl;
-        committed_is = same.0.committed_is ∙ reached.shows.committed_is;
-        mode = same.0.mode ∙ reached.shows.mode;
-      },
-      same.2 ∙ reached.marks,
-    ),
-    record {
-      changes = same.1.changes ∙ reached.counts.changes;
-      last_rowid = same.1.last_rowid
-          ∙ reached.counts.last_rowid;
-    },
-  )
+  still reached same = still_on old mid new (reached.shows, reached.marks) reached.counts same
 
   fails_after : (e : Error) → MakeFails mid new it.0 it.1 e → Reached texts old mid made
       → MakesAll texts old new (Err e)
@@ -109,7 +105,8 @@ module _ (texts : List (List ℕ × Table)) (old mid new : State) (made : ℕ) (
           made = made;
           next = it;
           is_next = has;
-          alone = λ none. ap (λ (d : Database). d.schema) same.0.now_is ∙ (reached.alone none).1;
+          grown = subst (λ (d : Database). AreGrown (take made texts) old.now.schema d.schema)
+              (sym same.0.now_is) reached.grown;
           refused = subst (λ (d : Database). NotMade d.schema it.0 it.1 e) (sym same.0.now_is) refused;
         },
         λ t listed. (
@@ -128,7 +125,7 @@ module _ (texts : List (List ℕ × Table)) (old mid new : State) (made : ℕ) (
       made = 0;
       next = it;
       is_next = subst (λ n. slice_get texts n ≡ Some it) none has;
-      alone = λ nothing. ap (λ (d : Database). d.schema) same.0.now_is;
+      grown = ap (λ (d : Database). d.schema) same.0.now_is;
       refused = subst (λ (d : Database). NotMade d.schema it.0 it.1 e) (sym same.0.now_is) refused;
     },
     λ t listed. (
@@ -152,15 +149,15 @@ module _ (texts : List (List ℕ × Table)) (old mid new : State) (made : ℕ) (
 module _ (texts : List (List ℕ × Table)) {S : Type 0} (g : Ghosts S) (old mid : Held S) (new : State)
     (made : ℕ) (it : List ℕ × Table) (has : slice_get texts made ≡ Some it) where
   -- one table more
-  pub one_more : it.1.is_counted ≡ false → MakesTold (state g mid) new it.0 it.1 (Ok 0)
+  pub one_more : MakesTold (state g mid) new it.0 it.1 (Ok 0)
       → StateShows (state g mid) new new.now (state g mid).committed true
       → (state g mid).faults ≤ new.faults → Begun texts g old mid made
       → Reached texts (state g old) new (suc made)
-  one_more uncounted told shows more (inl none) =
+  one_more told shows more (inl none) =
       subst (λ h. Reached texts (state g h) new (suc made)) none.1
-      (after_none texts (state g mid) (state g mid) new made it has uncounted told shows more none.0)
-  one_more uncounted told shows more (inr reached) = after_some texts (state g old) (state g mid) new made it
-      has uncounted told shows more reached
+      (after_none texts (state g mid) (state g mid) new made it has told shows more none.0)
+  one_more told shows more (inr reached) = after_some texts (state g old) (state g mid) new made it
+      has told shows more reached
 
   -- a table is refused after those before it were made
   pub then_fails : (e : Error) → IsTrue mid.in_transaction → MakeFails (state g mid) new it.0 it.1 e
@@ -193,17 +190,18 @@ all_apart old g (it ∷ its) sound all = (
 )
 
 -- they are made
-pub all_made : (texts : List (List ℕ × Table)) (old new : State) → Reached texts old new (length texts)
-    → TablesAreMade texts old.now new.now
-all_made texts old new reached =
+pub all_made : (texts : List (List ℕ × Table)) → AllByRecursion (λ it. it.1.is_counted ≡ false) texts
+    → (old new : State) → Reached texts old new (length texts) → TablesAreMade texts old.now new.now
+all_made texts uncounted old new reached =
     let all : AllByRecursion (λ it. IsNew old.now new.now it.1) texts = rw (take-length texts) at reached.new in
     record {
       empty = record {
         sound = ∣ reached.sound ∣₁;
         each = none_held old.now new.now texts reached.sound all;
       };
-      keeps = λ t h. (reached.keeps.has t h, reached.keeps.rows t h);
-      alone = λ none. (reached.alone none).1;
+      keeps = reached.keeps;
+      alone = grows_alone (take (length texts) texts) (rw (take-length texts) uncounted) old.now.schema new.now.schema
+          reached.grown;
       apart = all_apart old.now new.now texts reached.sound all;
     }
 
@@ -215,11 +213,11 @@ module _ (texts : List (List ℕ × Table)) {S : Type 0} (g : Ghosts S) (old mid
   begun_live made (inr reached) live = reached.shows.mode
 
   -- after the last they are made
-  pub ends_made : 0 < length texts → Begun texts g old mid (length texts)
+  pub ends_made : AllByRecursion (λ it. it.1.is_counted ≡ false) texts → 0 < length texts → Begun texts g old mid (length texts)
       → MakesAll texts (state g old) (state g mid) (Ok tt)
-  ends_made some (inl none) = absurd (let empty = none.0 in omega arith)
-  ends_made some (inr reached) =
-      (all_made texts (state g old) (state g mid) reached, (reached.shows, reached.marks), reached.counts)
+  ends_made uncounted some (inl none) = absurd (let empty = none.0 in omega arith)
+  ends_made uncounted some (inr reached) =
+      (all_made texts uncounted (state g old) (state g mid) reached, (reached.shows, reached.marks), reached.counts)
 
 -- a refusal commits nothing
 pub makes_leave : (texts : List (List ℕ × Table)) (old new : State) (e : Error)

@@ -3,6 +3,7 @@ use Rattle.std.proofs.Common.{◌≡◌, ◌&&◌, not, inl, inr, ℕ, zero, suc
 use Rattle.std.proofs.Common.{length, take, Bool, true, false, Some, is_ok, IsTrue, refl, ap, subst, ◌∙◌}
 use Rattle.std.proofs.Common.{arith}
 use Rattle.std.specs.Prelude.{fold}
+use Rattle.sql_meanings.proofs.Places.{all_first, all_weaker}
 use Rattle.sql_meanings.proofs.Tests.{and_both}
 use Rattle.std.specs.List.{list_any}
 use Rattle.std.proofs.lemmas.Bool.{cases_Bool}
@@ -17,10 +18,12 @@ use Rattle.sqlite.specs.declared.error.Error.{Error}
 use Rattle.sqlite_schema.specs.declared.schema.Index.{Index}
 use Rattle.sqlite_rules.specs.Lists.{Has}
 use Rattle.sqlite_tied.specs.Compute.{everything}
-use Rattle.sql_meanings.specs.Making.{NotMade, counts_rows}
+use Rattle.sql_meanings.specs.Making.{CreatesOnly, NotMade, counts_rows}
 use Rattle.sql_meanings.specs.Outcomes.{IsInterrupted, has_unique}
 use Rattle.store_rows.specs.BankTables as bank
-use Rattle.store_rows.specs.Creation.{IsEmpty, RefusedIn, all_texts, with_first}
+use Rattle.store_rows.specs.Creation.{AreGrown, IsEmpty, RefusedIn, all_texts, with_first}
+use Rattle.store_rows.proofs.CreateTexts.{each_creates}
+use Rattle.store_rows.proofs.MadeSoFar.{grows_alone}
 
 abbrev nothing : Schema
 nothing = record { tables = []; indexes = []; views = [] }
@@ -104,21 +107,25 @@ no_unique : has_unique (with_first all_texts (length all_texts) nothing) bank.me
 unfolding understood everything
 no_unique = refl
 
--- the schema of an empty file, and what is made of it
+-- the schema of an empty file, and what grows of it
 from_nothing : (old : Database) (now : Schema) (n : ℕ) → IsEmpty old
-    → (counts_rows old.schema ≡ false → now ≡ with_first all_texts n old.schema)
-    → now ≡ with_first all_texts n nothing
-from_nothing old now n empty alone = alone (ap counts_rows empty) ∙ ap (with_first all_texts n) empty
+    → AreGrown (take n all_texts) old.schema now → now ≡ with_first all_texts n nothing
+from_nothing old now n empty grown =
+    let uncounted = all_first (λ (it : List ℕ × Table). it.1.is_counted ≡ false) all_texts n
+    (all_weaker (λ (it : List ℕ × Table). CreatesOnly it.0 it.1 × (it.1.is_counted ≡ false))
+    (λ it. it.1.is_counted ≡ false) (λ it both. both.1) all_texts each_creates) in
+    grows_alone (take n all_texts) uncounted old.schema now grown (ap counts_rows empty)
+    ∙ ap (with_first all_texts n) empty
 
 -- what may be refused in an empty file: the first row, by the limit on steps
 pub refused_on_nothing : (old : State) (db : Database) (e : Error) → IsEmpty old.now → RefusedIn old db e
     → IsInterrupted old e
 refused_on_nothing old db e empty (inl (one, keeps)) =
     absurd (each_taken one.made one.next one.is_next e
-    (subst (λ s. NotMade s one.next.0 one.next.1 e) (from_nothing old.now db.schema one.made empty one.alone)
+    (subst (λ s. NotMade s one.next.0 one.next.1 e) (from_nothing old.now db.schema one.made empty one.grown)
     one.refused))
 refused_on_nothing old db e empty (inr (inl limit, made)) = limit
 refused_on_nothing old db e empty (inr (inr (unique, none), made)) =
     absurd (let bad = subst (λ s. IsTrue (has_unique s bank.meta))
-    (from_nothing old.now db.schema (length all_texts) empty made.alone) none.0 in
+    (made.alone (ap counts_rows empty) ∙ ap (with_first all_texts (length all_texts)) empty) none.0 in
     let good = no_unique in cc)

@@ -8,6 +8,7 @@ use Rattle.sql_meanings.proofs.Keyed.{Gets, IsFirst, first_key, gets_by}
 use Rattle.sql_meanings.proofs.Texts.{select_of}
 use Rattle.store_rows.specs.BankTables as bank
 use Rattle.store_rows.specs.declared.texts.TheConstants.{GET_META, GET_BRANCH, GET_TELLER, GET_ACCOUNT, GET_FLOOR}
+use Rattle.store_rows.specs.declared.texts.TheConstants.{GET_REFERENCE}
 
 -- the key of each is first
 pub record Keys : Type 0 where
@@ -16,6 +17,7 @@ pub record Keys : Type 0 where
   pub teller : IsFirst bank.teller (codes "tid")
   pub account : IsFirst bank.account (codes "aid")
   pub floor : IsFirst bank.floor (codes "bid")
+  pub reference : IsFirst bank.reference (codes "ordinal")
 
 unfoldable pub keys : Keys
 unfolding everything
@@ -25,6 +27,7 @@ keys = record {
   teller = λ _. first_key (codes "tid") refl refl refl refl;
   account = λ _. first_key (codes "aid") refl refl refl refl;
   floor = λ _. first_key (codes "bid") refl refl refl refl;
+  reference = λ _. first_key (codes "ordinal") refl refl refl refl;
 }
 
 pub record GetsRows : Type 0 where
@@ -33,6 +36,7 @@ pub record GetsRows : Type 0 where
   pub teller : Gets bank.teller GET_TELLER.now (1 ∷ []) (col 1 2 ∷ [])
   pub account : Gets bank.account GET_ACCOUNT.now (1 ∷ []) (col 1 2 ∷ [])
   pub floor : Gets bank.floor GET_FLOOR.now (0 ∷ 1 ∷ []) (col 1 0 ∷ col 1 2 ∷ [])
+  pub reference : Gets bank.reference GET_REFERENCE.now (0 ∷ 1 ∷ []) (col 1 0 ∷ col 1 2 ∷ [])
 
 pub gets : GetsRows
 unfolding everything program.program ungrouped
@@ -56,5 +60,9 @@ gets = record {
   floor = gets_by (select_of bank.floor GET_FLOOR.now 1 _ _ _ _ _ _ _ _ _ refl refl refl (lit≤ tt) refl refl refl
       refl (λ _. refl) (lit≤ tt))
       _ _ _ _ _ keys.floor refl refl refl refl refl refl (λ _ _ _ has. rw (has.low, has.found))
+      (λ _ _ _ _ has. rw (has.low, has.found));
+  reference = gets_by (select_of bank.reference GET_REFERENCE.now 1 _ _ _ _ _ _ _ _ _ refl refl refl (lit≤ tt)
+      refl refl refl refl (λ _. refl) (lit≤ tt))
+      _ _ _ _ _ keys.reference refl refl refl refl refl refl (λ _ _ _ has. rw (has.low, has.found))
       (λ _ _ _ _ has. rw (has.low, has.found));
 }

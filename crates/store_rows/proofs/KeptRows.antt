@@ -16,13 +16,13 @@ use Rattle.message_records.specs.declared.records.Outcome.TheVariants.{
   BelowFloor,
   Malformed,
 }
-use Rattle.posting_rules.specs.Kept.{KeptFields, is_kept_with, kept_from}
+use Rattle.posting_rules.specs.Kept.{DecisionFields, is_kept_with, decision_from}
 use Rattle.posting_rules.specs.declared.fault.Rule.TheVariants.{Request}
 use Rattle.posting_rules.specs.declared.rows.RequestRow.{RequestRow}
 use Rattle.store_rows.specs.declared.fault.TableFault.{TableFault}
 use Rattle.store_rows.specs.declared.fault.TableFault.TheVariants.{Sqlite, Damaged}
 use Rattle.store_rows.specs.Columns.{request_shown}
-use Rattle.store_rows.specs.Outcomes.{ReadsCents, ReadsKept, ReadsOutcome, ReadsWhole}
+use Rattle.store_rows.specs.Outcomes.{ReadsCents, ReadsDecision, ReadsOutcome, ReadsWhole}
 use Rattle.message_records.specs.declared.limits.TheConstants.{MAX_ACCOUNT, MAX_BRANCH}
 
 -- the outcome that a code is
@@ -56,52 +56,53 @@ module _ (row : Row) (account branch : ℕ) (delta : ℤ) (outcome : Outcome) (b
     (three : ReadsCents Request (column row 5) (Ok delta))
     (four : ReadsOutcome (column row 6) (Ok outcome))
     (five : ReadsCents Request (column row 7) (Ok balance)) where
-  abbrev fields : KeptFields
+  abbrev fields : DecisionFields
   fields = record { account = account; branch = branch; delta = delta; outcome = outcome; balance = balance }
 
-  same_fields : (r : RequestRow) → row ≡ request_shown r → fields ≡ r.kept
+  same_fields : (r : RequestRow) → row ≡ request_shown r → fields ≡ r.decision
   same_fields r is =
-      let a : account ≡ r.kept.account = sym (same_number _ _
-      (one (pos r.kept.account) (ap (λ x. column x 3) is))) in
-      let b : branch ≡ r.kept.branch = sym (same_number _ _
-      (two (pos r.kept.branch) (ap (λ x. column x 4) is))) in
-      let d : delta ≡ r.kept.delta = three r.kept.delta (ap (λ x. column x 5) is) in
-      let o : outcome ≡ r.kept.outcome = same_outcome _ _
-      (sym (same_number _ _ (four (pos (code_of r.kept.outcome)) (ap (λ x. column x 6) is)))) in
-      let z : balance ≡ r.kept.balance = five r.kept.balance (ap (λ x. column x 7) is) in
+      let a : account ≡ r.decision.account = sym (same_number _ _
+      (one (pos r.decision.account) (ap (λ x. column x 3) is))) in
+      let b : branch ≡ r.decision.branch = sym (same_number _ _
+      (two (pos r.decision.branch) (ap (λ x. column x 4) is))) in
+      let d : delta ≡ r.decision.delta = three r.decision.delta (ap (λ x. column x 5) is) in
+      let o : outcome ≡ r.decision.outcome = same_outcome _ _
+      (sym (same_number _ _ (four (pos (code_of r.decision.outcome)) (ap (λ x. column x 6) is)))) in
+      let z : balance ≡ r.decision.balance = five r.decision.balance (ap (λ x. column x 7) is) in
       rw (a, b, d, o, z) refl
 
   -- what belongs together is what is kept, and what doesn't can't be kept
-  pub keeps : ReadsKept row (ok_or (kept_from account branch delta outcome balance) (Damaged Request))
+  pub keeps : ReadsDecision row (ok_or (decision_from account branch delta outcome balance) (Damaged Request))
   keeps = go (is_kept_with outcome balance) refl
     where
       go : (b : Bool) → is_kept_with outcome balance ≡ b
-          → ReadsKept row (ok_or (cond b (Some fields) None) (Damaged Request))
+          → ReadsDecision row (ok_or (cond b (Some fields) None) (Damaged Request))
       go true is = λ r shown. same_fields r shown
       go false is = λ r shown. (
         refl,
-        λ kept. absurd (let e : is_kept_with r.kept.outcome r.kept.balance ≡ false =
-            subst (λ (k : KeptFields). is_kept_with k.outcome k.balance ≡ false) (same_fields r shown) is in
-            let t : is_kept_with r.kept.outcome r.kept.balance ≡ true = kept.outcome in cc),
+        λ kept. absurd (let e : is_kept_with r.decision.outcome r.decision.balance ≡ false =
+            subst (λ (d : DecisionFields). is_kept_with d.outcome d.balance ≡ false) (same_fields r shown) is
+            in
+            let t : is_kept_with r.decision.outcome r.decision.balance ≡ true = kept.outcome in cc),
       )
 
 -- ---- an amount that couldn't be read
 
 pub no_delta : (row : Row) (e : TableFault) → ReadsCents Request (column row 5) (Err e)
-    → ReadsKept row (Err e)
+    → ReadsDecision row (Err e)
 no_delta row (Sqlite e) read = absurd read
 no_delta row (Damaged broken) read = λ r is.
-    let it = read r.kept.delta (ap (λ x. column x 5) is) in (
+    let it = read r.decision.delta (ap (λ x. column x 5) is) in (
       it.0,
       λ can. let none = it.1 in let some =
           can.delta in cc,
     )
 
 pub no_balance : (row : Row) (e : TableFault) → ReadsCents Request (column row 7) (Err e)
-    → ReadsKept row (Err e)
+    → ReadsDecision row (Err e)
 no_balance row (Sqlite e) read = absurd read
 no_balance row (Damaged broken) read = λ r is.
-    let it = read r.kept.balance (ap (λ x. column x 7) is) in (
+    let it = read r.decision.balance (ap (λ x. column x 7) is) in (
       it.0,
       λ can. let none = it.1 in let some =
           can.balance in cc,

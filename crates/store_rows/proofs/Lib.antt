@@ -6,7 +6,7 @@ pub mod CreationEnds
 pub mod CreationSteps
 pub mod EmptyFile
 pub mod Failing
-pub mod Floorless
+pub mod Lacking
 pub mod FoundRows
 pub mod GetRequest
 pub mod Getting

@@ -1,10 +1,12 @@
 -- What is there of tables that are being made, each by its text: so many of them so far.
-use Rattle.std.proofs.Common.{◌≡◌, ◌≢◌, ◌⊎◌, ℕ, ◌≤◌, List, [], ◌∷◌, take, IsTrue, refl, ap, ◌∙◌, arith, true}
-use Rattle.std.proofs.Common.{false}
+use Rattle.std.proofs.Common.{◌≡◌, ◌≢◌, ◌⊎◌, ℕ, zero, suc, ◌≤◌, List, [], ◌∷◌, take, slice_get, Some, IsTrue}
+use Rattle.std.proofs.Common.{refl, ap, ◌∙◌, arith, true, false, inl, inr}
 use Rattle.std.specs.List.{AllByRecursion}
+use Rattle.std.specs.Prelude.{fold}
 use Rattle.sqlite.specs.Schema.{Schema}
 use Rattle.sqlite.specs.Table.{Table}
 use Rattle.sqlite.specs.Change.{created, next_tree}
+use Rattle.sqlite.specs.Does.{lacks_sequence}
 use Rattle.sqlite.specs.Effect.{Database, IsDatabase}
 use Rattle.sqlite_catalog.proofs.StepLemmas.{table_below}
 use Rattle.sqlite.specs.Held.{Held, state}
@@ -12,10 +14,10 @@ use Rattle.sqlite.specs.declared.transaction.Transaction.{Transaction}
 use Rattle.sqlite_trees.specs.declared.store.Store.{Ghosts}
 use Rattle.sqlite.specs.State.{State, HasCleanDisk, Survives, KeepsCounts, Shows as StateShows}
 use Rattle.sqlite_rules.specs.Lists.{Has}
-use Rattle.sql_meanings.specs.Making.{AddsTable, KeepsWhatStood, Stands, counts_rows}
+use Rattle.sql_meanings.specs.Making.{AddsTable, IsGrown, KeepsWhatStood, Stands, counts_rows}
 use Rattle.sql_meanings.specs.Tables.{placed_at}
 use Rattle.sql_meanings.proofs.TableStands.{counts_created}
-use Rattle.store_rows.specs.Creation.{with_first}
+use Rattle.store_rows.specs.Creation.{AreGrown}
 
 -- the table is new, and has no rows
 pub record IsNew (old now : Database) (t : Table) : Type 0 where
@@ -57,8 +59,7 @@ pub record Reached (texts : List (List ℕ × Table)) (old mid : State) (made : 
   pub faults : old.faults ≤ mid.faults
   pub sound : IsDatabase mid.now
   pub new : AllByRecursion (λ it. IsNew old.now mid.now it.1) (take made texts)
-  pub alone : counts_rows old.now.schema ≡ false → (counts_rows mid.now.schema ≡ false)
-      × (mid.now.schema ≡ with_first texts made old.now.schema)
+  pub grown : AreGrown (take made texts) old.now.schema mid.now.schema
 
 -- the same, or none was made and nothing has changed
 abbrev pub Begun : List (List ℕ × Table) → {S : Type 0} → Ghosts S → Held S → Held S → ℕ → Type 0
@@ -72,14 +73,36 @@ pub record Going (texts : List (List ℕ × Table)) {S : Type 0} (g : Ghosts S) 
       → Begun texts g old.conn.now mid.conn.now made
   pub survives : Survives (state g old.conn.now) (state g mid.conn.now) (λ _. ⊥)
 
--- the new schema, where no table counts its rows
-pub grown : (old new : Schema) (t : Table) → t.is_counted ≡ false
-    → (counts_rows (created old t) ≡ false → new ≡ created old t) → counts_rows old ≡ false
-    → (counts_rows new ≡ false) × (new ≡ created old t)
-grown old new t uncounted alone none =
-    let more = counts_created old t uncounted none in
-    let is = alone more in
-    (ap counts_rows is ∙ more, is)
+-- ---- the schema
+
+-- it grows by one more
+pub grows_more : (texts : List (List ℕ × Table)) (n : ℕ) (it : List ℕ × Table) → slice_get texts n ≡ Some it
+    → (old mid new : Schema) → AreGrown (take n texts) old mid → IsGrown mid it.1 new
+    → AreGrown (take (suc n) texts) old new
+grows_more [] n it is old mid new first then = absurd cc
+grows_more (x ∷ texts) zero it is old mid new first then =
+    let same : x ≡ it = cc in
+    (new, rw (same, ← first) then, refl)
+grows_more (x ∷ texts) (suc n) it is old mid new first then =
+    (first.0, first.1, grows_more texts n it is first.0 mid new first.2 then)
+
+-- it has the one table more, where none has to be made that counts
+pub grows_plainly : (old new : Schema) (t : Table) → IsGrown old t new → lacks_sequence (created old t) ≡ false
+    → new ≡ created old t
+grows_plainly old new t (inl plainly) has = plainly.1
+grows_plainly old new t (inr lacks) has = absurd (let some = lacks.0 in cc)
+
+-- or these, where no table counts its rows
+pub grows_alone : (texts : List (List ℕ × Table)) → AllByRecursion (λ it. it.1.is_counted ≡ false) texts
+    → (old new : Schema) → AreGrown texts old new → counts_rows old ≡ false
+    → new ≡ fold (λ s it. created s it.1) old texts
+grows_alone [] all old new grown none = grown
+grows_alone (it ∷ texts) all old new (mid, first, then) none =
+    let more = counts_created old it.1 all.0 none in
+    let has : lacks_sequence (created old it.1) ≡ false = rw more refl in
+    let is = grows_plainly old mid it.1 first has in
+    grows_alone texts all.1 mid new then (ap counts_rows is ∙ more)
+    ∙ ap (λ s. fold (λ s it. created s it.1) s texts) is
 
 pub keeps_itself : (a : Database) → KeepsWhatStood a a
 keeps_itself a = record { stands = λ t h. h; has = λ t h. h; rows = λ t h. refl }

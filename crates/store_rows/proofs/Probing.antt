@@ -10,9 +10,11 @@ use Rattle.sql_meanings.proofs.Texts.{IsSelect, probes_by, select_of}
 use Rattle.store_rows.specs.BankTables as bank
 use Rattle.store_rows.specs.Probes.{probe_of}
 use Rattle.store_rows.specs.declared.probes.BankTable.{BankTable}
-use Rattle.store_rows.specs.declared.probes.BankTable.TheVariants.{Meta, Branch, Teller, Account, History, Request, Floor}
+use Rattle.store_rows.specs.declared.probes.BankTable.TheVariants.{Meta, Branch, Teller, Account, History}
+use Rattle.store_rows.specs.declared.probes.BankTable.TheVariants.{Request, Floor, Reference}
 use Rattle.store_rows.specs.declared.texts.TheConstants.{PROBE_META, PROBE_BRANCH, PROBE_TELLER}
 use Rattle.store_rows.specs.declared.texts.TheConstants.{PROBE_ACCOUNT, PROBE_HISTORY, PROBE_REQUEST, PROBE_FLOOR}
+use Rattle.store_rows.specs.declared.texts.TheConstants.{PROBE_REFERENCE}
 
 is_meta : IsSelect bank.meta PROBE_META.now 0 (0 ∷ 1 ∷ 2 ∷ [])
 unfolding everything
@@ -93,6 +95,18 @@ unfolding is_floor everything listing_schema program.program ungrouped
 probes_floor = probes_by bank.floor PROBE_FLOOR.now _ is_floor (col 1 0 ∷ col 1 2 ∷ []) refl refl refl
     (λ schema p tree has. rw (has.low, has.found)) refl
 
+is_reference : IsSelect bank.reference PROBE_REFERENCE.now 0 (0 ∷ 1 ∷ [])
+unfolding everything
+is_reference = select_of bank.reference PROBE_REFERENCE.now 0 _ _ _ _ _ _ _ _ _ refl refl refl (lit≤ tt) refl
+    refl refl refl
+    (λ tree. refl) (lit≤ tt)
+
+probes_reference : ProbesAs bank.reference PROBE_REFERENCE.now
+unfolding is_reference everything listing_schema program.program ungrouped
+probes_reference = probes_by bank.reference PROBE_REFERENCE.now _ is_reference (col 1 0 ∷ col 1 2 ∷ []) refl
+    refl refl
+    (λ schema p tree has. rw (has.low, has.found)) refl
+
 -- what the probe of each table reports
 pub probes : (table : BankTable) → ProbesAs (probe_of table).1 (probe_of table).0
 probes Meta = probes_meta
@@ -102,6 +116,7 @@ probes Account = probes_account
 probes History = probes_history
 probes Request = probes_request
 probes Floor = probes_floor
+probes Reference = probes_reference
 
 -- none of the tables refers to another
 pub stands_alone : (table : BankTable) → (probe_of table).1.references ≡ []
@@ -112,3 +127,4 @@ stands_alone Account = refl
 stands_alone History = refl
 stands_alone Request = refl
 stands_alone Floor = refl
+stands_alone Reference = refl

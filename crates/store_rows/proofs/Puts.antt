@@ -1,28 +1,29 @@
 -- What each INSERT puts in.
-use Rattle.std.proofs.Common.{pos, [], ◌∷◌, lit≤, refl, List, ℕ}
+use Rattle.std.proofs.Common.{pos, [], ◌∷◌, ◌++◌, ◌≤◌, length, lit≤, refl, List, ℕ}
 use Rattle.posting_rules.specs.declared.rows.BranchRow.{BranchRow}
 use Rattle.posting_rules.specs.declared.rows.TellerRow.{TellerRow}
 use Rattle.posting_rules.specs.declared.rows.AccountRow.{AccountRow}
 use Rattle.posting_rules.specs.declared.rows.HistoryRow.{HistoryRow}
 use Rattle.posting_rules.specs.declared.rows.RequestRow.{RequestRow}
 use Rattle.posting_rules.specs.declared.rows.FloorRow.{FloorRow}
+use Rattle.posting_rules.specs.declared.rows.ReferenceRow.{ReferenceRow}
 use Rattle.sqlite.specs.Order.{Row}
 use Rattle.sqlite.specs.Table.{Table}
 use Rattle.sqlite.specs.declared.types.Value.TheVariants.{Null, Int}
 use Rattle.sqlite_tied.specs.Compute.{everything}
-use Rattle.sql_meanings.specs.Entries.{Entry, numbers}
+use Rattle.sql_meanings.specs.Entries.{Entry, numbers, texts_held}
 use Rattle.sql_meanings.proofs.PutRows.{PutsAs}
 use Rattle.sql_meanings.proofs.Texts.{puts_by}
 use Rattle.store_rows.specs.BankTables as bank
 use Rattle.store_rows.specs.View.{meta_entry, branch_entry, teller_entry, account_entry, history_entry}
-use Rattle.store_rows.specs.View.{request_entry, floor_entry}
+use Rattle.store_rows.specs.View.{request_entry, floor_entry, reference_entry}
 use Rattle.store_rows.specs.declared.metas.TheConstants.{VERSION}
 use Rattle.store_rows.specs.declared.texts.TheConstants as text
 use Rattle.store_rows.proofs.Checked.{meta_checked}
 
 -- the values that are handed in
 abbrev pub given : Entry → Row
-given e = Int e.key ∷ numbers e.values
+given e = Int e.key ∷ (numbers e.values ++ texts_held e.texts)
 
 -- with a row's values the text puts the row in
 abbrev pub Puts : Table → List ℕ → Entry → Type 0
@@ -40,6 +41,8 @@ pub record PutsEntries : Type 0 where
   pub posting : (r : HistoryRow) → Puts bank.history text.ADD_HISTORY.now (history_entry r)
   pub request : (r : RequestRow) → Puts bank.request text.ADD_REQUEST.now (request_entry r)
   pub floor : (r : FloorRow) → Puts bank.floor text.ADD_FLOOR.now (floor_entry r)
+  pub reference : (r : ReferenceRow) → length r.reference ≤ 1000
+      → Puts bank.reference text.ADD_REFERENCE.now (reference_entry r)
 
 pub puts : PutsEntries
 unfolding everything
@@ -59,4 +62,7 @@ puts = record {
       refl refl refl refl (λ _ _. refl) (lit≤ tt) refl (λ _. refl) (refl, refl) tt (λ _. refl) refl;
   floor = λ r. puts_by bank.floor text.ADD_FLOOR.now (given (floor_entry r)) (floor_entry r) 1 _ _ _ refl
       refl refl refl (λ _ _. refl) (lit≤ tt) refl (λ _. refl) (refl, refl) tt (λ _. refl) refl;
+  reference = λ r short. puts_by bank.reference text.ADD_REFERENCE.now (given (reference_entry r))
+      (reference_entry r) 1 _ _ _ refl refl refl refl (λ _ _. refl) (lit≤ tt) refl (λ _. refl) (refl, refl)
+      (short, tt) (λ _. refl) refl;
 }

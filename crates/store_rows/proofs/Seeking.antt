@@ -3,27 +3,29 @@ use Rattle.std.proofs.Common.{◌≡◌, ℕ, ℤ, pos, List, [], ◌∷◌, fin
 use Rattle.sqlite.specs.Term.{Term, col, eval_all}
 use Rattle.sqlite.specs.declared.types.Value.TheVariants.{Int}
 use Rattle.posting_rules.specs.LookUps.{balance_of_account, balance_of_teller}
-use Rattle.posting_rules.specs.Tables.{branch_key, floor_key, row_at}
+use Rattle.posting_rules.specs.Tables.{branch_key, floor_key, reference_key, row_at}
 use Rattle.sql_meanings.specs.Entries.{Entry, has_two, is_above, stored}
 use Rattle.sql_meanings.specs.Tables.{width_of}
 use Rattle.sql_meanings.proofs.Keyed.{Gets}
 use Rattle.sql_meanings.proofs.Texts.{only_reads}
-use Rattle.store_rows.specs.Columns.{balance_shown, branch_above, branch_shown, floor_shown, request_in}
-use Rattle.store_rows.specs.Forms.{balance_form, branch_form, floor_form, request_form}
+use Rattle.store_rows.specs.Columns.{balance_shown, branch_above, branch_shown, floor_shown, reference_shown}
+use Rattle.store_rows.specs.Columns.{request_in}
+use Rattle.store_rows.specs.Forms.{balance_form, branch_form, floor_form, reference_form, request_form}
 use Rattle.store_rows.specs.Holders.{balance_in, entry_under}
 use Rattle.store_rows.specs.Rules.{StoredRows, row_under, stored_lists}
-use Rattle.store_rows.specs.Stored.{balance_stored, branch_stored, floor_stored}
+use Rattle.store_rows.specs.Stored.{balance_stored, branch_stored, floor_stored, reference_stored}
 use Rattle.store_rows.specs.declared.holders.Member.TheVariants.{Account, Teller}
 use Rattle.store_rows.specs.declared.texts.TheConstants.{GET_ACCOUNT, GET_BRANCH, GET_FLOOR, GET_REQUEST, GET_TELLER}
-use Rattle.store_rows.specs.declared.texts.TheConstants.{NEXT_BRANCH}
+use Rattle.store_rows.specs.declared.texts.TheConstants.{GET_REFERENCE, NEXT_BRANCH}
 use Rattle.store_rows.proofs.TableKinds.{Kind, table_of, tells_row, tells_whole}
 use Rattle.store_rows.proofs.GetRequest as request
 use Rattle.store_rows.proofs.Getting.{gets}
 use Rattle.store_rows.proofs.NextBranch as next
-use Rattle.store_rows.proofs.StoredRows.{branch_project, floor_project, key_and_number, one_number, stored_next, stored_request}
+use Rattle.store_rows.proofs.StoredRows.{branch_project, floor_project, key_and_number, key_and_text}
+use Rattle.store_rows.proofs.StoredRows.{one_number, reference_project, stored_next, stored_request}
 use Rattle.store_rows.proofs.StoredRows.{stored_under, two_numbers}
 use Rattle.store_rows.proofs.Telling.{Seeks}
-use Rattle.store_rows.proofs.TheTables.{accounts, branches, floors, tellers}
+use Rattle.store_rows.proofs.TheTables.{accounts, branches, floors, references, tellers}
 
 -- ---- a balance under a key
 
@@ -87,6 +89,19 @@ seeks_floor k = record {
   kept = stored_under 6 (table_of floors) refl refl (λ rows. rows.floors) (λ _. refl) _ floor_project k
       (gets.floor.reads (pos k)) floor_stored
       (λ e wide. key_and_number (pos k) e.key e.values e.texts wide.0);
+}
+
+-- the reference under an ordinal
+pub seeks_reference : (k : ℕ) → Seeks GET_REFERENCE.now (Int (pos k) ∷ []) 1 reference_form
+    (λ t. row_at reference_key t.references k)
+    (λ rows. row_under rows.references k)
+seeks_reference k = record {
+  only = only_reads gets.reference.is;
+  told = λ old new t shows. tells_whole references old new t shows _ _ k (gets.reference.reads (pos k))
+      reference_shown (λ _. refl);
+  kept = stored_under 7 (table_of references) refl refl (λ rows. rows.references) (λ _. refl) _
+      reference_project k (gets.reference.reads (pos k)) reference_stored
+      (λ e wide. key_and_text (pos k) e.key e.values e.texts wide.0 wide.1);
 }
 
 -- the branch with the least number above one

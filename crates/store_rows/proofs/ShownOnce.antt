@@ -14,6 +14,7 @@ use Rattle.posting_rules.specs.declared.rows.AccountRow.{AccountRow}
 use Rattle.posting_rules.specs.declared.rows.HistoryRow.{HistoryRow}
 use Rattle.posting_rules.specs.declared.rows.RequestRow.{RequestRow}
 use Rattle.posting_rules.specs.declared.rows.FloorRow.{FloorRow}
+use Rattle.posting_rules.specs.declared.rows.ReferenceRow.{ReferenceRow}
 use Rattle.sql_meanings.specs.Entries.{Entry, numbers, texts_held, stored}
 use Rattle.sql_meanings.specs.Tables.{Holds}
 use Rattle.sql_meanings.specs.Contents.{HoldsEach}
@@ -21,7 +22,7 @@ use Rattle.sql_meanings.proofs.Trees.{same_schema}
 use Rattle.store_rows.specs.BankTables.{bank_tables}
 use Rattle.store_rows.specs.Creation.{new_tables}
 use Rattle.store_rows.specs.View.{Shows, ShowsTrees, contents, branch_entry, teller_entry, account_entry}
-use Rattle.store_rows.specs.View.{history_entry, request_entry, floor_entry}
+use Rattle.store_rows.specs.View.{history_entry, request_entry, floor_entry, reference_entry}
 use Rattle.store_rows.proofs.KeptRows.{decode, decoded}
 
 -- what can be read back is shown by one row alone, and so are lists of it
@@ -116,6 +117,9 @@ account_in e = record { account = nat_abs e.key; balance = amount e 0 }
 abbrev floor_in : Entry → FloorRow
 floor_in e = record { branch = nat_abs e.key; lowest = amount e 0 }
 
+abbrev reference_in : Entry → ReferenceRow
+reference_in e = record { ordinal = nat_abs e.key; reference = slice_index_or e.texts 0 [] }
+
 abbrev history_in : Entry → HistoryRow
 history_in e = record {
   ordinal = nat_abs e.key;
@@ -131,7 +135,7 @@ request_in e = record {
   ordinal = nat_abs e.key;
   teller = at e 0;
   number = at e 1;
-  kept = record {
+  decision = record {
     account = at e 2;
     branch = at e 3;
     delta = amount e 4;
@@ -143,21 +147,21 @@ request_in e = record {
 
 request_back : (r : RequestRow) → request_in (request_entry r) ≡ r
 request_back r = ap (λ o. let it : RequestRow = record r {
-  kept = record {
-    account = r.kept.account;
-    branch = r.kept.branch;
+  decision = record {
+    account = r.decision.account;
+    branch = r.decision.branch;
     delta =
-        r.kept.delta;
+        r.decision.delta;
     outcome = o;
-    balance = r.kept.balance;
+    balance = r.decision.balance;
   };
-} in it) (decoded r.kept.outcome)
+} in it) (decoded r.decision.outcome)
 
 -- ---- one bank
 
 -- the tables of the entries that a file holds
 tables_in : List (List Entry) → Tables
-tables_in (a ∷ b ∷ c ∷ d ∷ e ∷ f ∷ g ∷ more) = record {
+tables_in (a ∷ b ∷ c ∷ d ∷ e ∷ f ∷ g ∷ h ∷ more) = record {
   decided = decided_in a;
   branches = map branch_in b;
   tellers = map teller_in c;
@@ -165,6 +169,7 @@ tables_in (a ∷ b ∷ c ∷ d ∷ e ∷ f ∷ g ∷ more) = record {
   history = map history_in e;
   requests = map request_in f;
   floors = map floor_in g;
+  references = map reference_in h;
 }
 tables_in _ = new_tables
 
@@ -177,6 +182,7 @@ tables_back t = rw (
   all_back history_entry history_in (λ _. refl) t.history,
   all_back request_entry request_in request_back t.requests,
   all_back floor_entry floor_in (λ _. refl) t.floors,
+  all_back reference_entry reference_in (λ _. refl) t.references,
 ) refl
 
 entries_once : (db : Database) (table : Table) (xs ys : List Entry) → Holds db table xs → Holds db table ys

@@ -6,19 +6,19 @@ use Rattle.sqlite.specs.Order.{Row, column}
 use Rattle.message_records.specs.Outcomes.{code_of}
 use Rattle.message_records.specs.declared.limits.TheConstants.{MAX_ACCOUNT, MAX_BRANCH}
 use Rattle.message_records.specs.declared.records.Outcome.{Outcome}
-use Rattle.posting_rules.specs.Kept.{KeptFields, is_kept_with, kept_from}
+use Rattle.posting_rules.specs.Kept.{DecisionFields, is_kept_with, decision_from}
 use Rattle.posting_rules.specs.declared.fault.Rule.TheVariants.{Request}
 use Rattle.store_rows.specs.Columns.{number_at}
 use Rattle.store_rows.specs.Outcomes.{ReadsCents, ReadsOutcome, ReadsWhole}
 use Rattle.store_rows.specs.Rules.{RequestKeeps}
-use Rattle.store_rows.specs.Stored.{IsKept, ReadsStored, request_stored}
+use Rattle.store_rows.specs.Stored.{IsDecision, ReadsStored, request_stored}
 use Rattle.store_rows.specs.declared.fault.TableFault.{TableFault}
 use Rattle.store_rows.specs.declared.fault.TableFault.TheVariants.{Sqlite, Damaged}
 use Rattle.store_rows.proofs.KeptRows.{same_outcome}
 
 -- a code that is none breaks the rule
 pub no_outcome : (row : Row) (fault : TableFault) → ReadsOutcome (column row 6) (Err fault)
-    → ReadsStored {X = KeptFields} request_stored IsKept RequestKeeps row (Err fault)
+    → ReadsStored {X = DecisionFields} request_stored IsDecision RequestKeeps row (Err fault)
 no_outcome row (Sqlite e) read = absurd read
 no_outcome row (Damaged rule) read = λ r is kept.
     let out = read (number_at 5 r) (ap (λ x. column x 6) is) in
@@ -34,16 +34,16 @@ module _ (row : Row) (account branch : ℕ) (delta : ℤ) (outcome : Outcome) (b
     (third : ReadsCents Request (column row 5) (Ok delta))
     (fourth : ReadsOutcome (column row 6) (Ok outcome))
     (fifth : ReadsCents Request (column row 7) (Ok balance)) where
-  abbrev fields : KeptFields
+  abbrev fields : DecisionFields
   fields = record { account = account; branch = branch; delta = delta; outcome = outcome; balance = balance }
 
   -- what belongs together is what is kept, and what doesn't breaks the rule
-  pub keeps_stored : ReadsStored request_stored IsKept RequestKeeps row
-      (ok_or (kept_from account branch delta outcome balance) (Damaged Request))
+  pub keeps_stored : ReadsStored request_stored IsDecision RequestKeeps row
+      (ok_or (decision_from account branch delta outcome balance) (Damaged Request))
   keeps_stored = go (is_kept_with outcome balance) refl
     where
       go : (b : Bool) → is_kept_with outcome balance ≡ b
-          → ReadsStored request_stored IsKept RequestKeeps row
+          → ReadsStored request_stored IsDecision RequestKeeps row
           (ok_or (cond b (Some fields) None) (Damaged Request))
       go true is = λ r shown. record {
         account = first (number_at 2 r) (ap (λ x. column x 3) shown);

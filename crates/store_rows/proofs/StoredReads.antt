@@ -1,23 +1,24 @@
--- What was made of a stored row, whatever numbers it has, and which rule it breaks.
-use Rattle.std.proofs.Common.{◌≡◌, ◌≤◌, ℕ, ℤ, leb, true, inl, inr, Option, Some, None, option_map, Result, Ok}
-use Rattle.std.proofs.Common.{Err, refl, sym, subst, ap, ◌∙◌, arith}
+-- What was made of a stored row, whatever values it has, and which rule it breaks.
+use Rattle.std.proofs.Common.{◌≡◌, ◌≤◌, ℕ, ℤ, List, leb, true, inl, inr, Option, Some, None, option_map}
+use Rattle.std.proofs.Common.{Result, Ok, Err, refl, sym, subst, ap, ◌∙◌, arith}
 use Rattle.std.specs.Prelude.{nat_abs, ◌&&◌}
 use Rattle.std.proofs.lemmas.Bool.Decides.{nat_tests}
 use Rattle.sqlite.specs.Order.{Row, column}
 use Rattle.sqlite.specs.State.{State}
 use Rattle.sqlite.specs.declared.error.Error.{Error}
 use Rattle.sqlite.specs.declared.error.Error.TheVariants.{QueryReturnedNoRows}
-use Rattle.sqlite.specs.declared.types.Value.TheVariants.{Int}
+use Rattle.sqlite.specs.declared.types.Value.TheVariants.{Int, Text}
 use Rattle.message_records.specs.Ranges.{cents_within, whole_within}
+use Rattle.message_records.specs.Records.{IsReference, is_reference, reference_from}
 use Rattle.message_records.specs.declared.limits.TheConstants.{MAX_BALANCE}
 use Rattle.posting_rules.specs.declared.fault.Rule.{Rule}
-use Rattle.posting_rules.specs.declared.fault.Rule.TheVariants.{Balance}
+use Rattle.posting_rules.specs.declared.fault.Rule.TheVariants.{Balance, Reference}
 use Rattle.sql_meanings.specs.Entries.{Entry}
 use Rattle.sql_meanings.specs.Outcomes.{TellsRow}
 use Rattle.sql_meanings.proofs.OnlyShowing.{no_rows_error}
 use Rattle.store_rows.specs.Columns.{number_at}
 use Rattle.store_rows.specs.Failures.{ReadsAnswer}
-use Rattle.store_rows.specs.Outcomes.{ReadsCents, ReadsWhole}
+use Rattle.store_rows.specs.Outcomes.{ReadsCents, ReadsReference, ReadsWhole}
 use Rattle.store_rows.specs.Rules.{IsFrom}
 use Rattle.store_rows.specs.Stored.{BalanceKeeps, FindsStored, IsBalance, ReadsStored, balance_stored}
 use Rattle.store_rows.specs.declared.fault.TableFault.{TableFault}
@@ -37,6 +38,11 @@ pub cents_inside : (limit high : ℕ) (z : ℤ) → limit ≤ high → nat_abs z
     → ⊥
 cents_inside limit high z over le none = let test : leb (nat_abs z) high
     ≡ true = grind (arith, nat_tests) in let h = rw test at none in cc
+
+-- and so many printable bytes are a reference
+reference_inside : (text : List ℕ) → IsReference text → reference_from text ≡ None → ⊥
+reference_inside text is none =
+    let test : is_reference text ≡ true = rw (is.0, is.1) refl in let h = rw test at none in cc
 
 -- ---- a value that couldn't be read
 
@@ -67,6 +73,18 @@ module _ {X : Type 0} (shown : Entry → Row) (Is : X → Entry → Type 0) (Kee
       let out = read (number r) (is_number r is) in
       cents_inside limit MAX_BALANCE (number r) over (keeps r (subst (λ (x : Rule). Keeps x r) out.0 kept))
       out.1
+
+-- it is a text that is no reference
+pub unread_reference : {X : Type 0} (shown : Entry → Row) (Is : X → Entry → Type 0)
+    (Keeps : Rule → Entry → Type 0) (row : Row) (at : ℕ) (text : Entry → List ℕ)
+    → ((r : Entry) → column (shown r) at ≡ Text (text r))
+    → ((r : Entry) → Keeps Reference r → IsReference (text r))
+    → (fault : TableFault) → ReadsReference (column row at) (Err fault)
+    → ReadsStored {X = X} shown Is Keeps row (Err fault)
+unread_reference shown Is Keeps row at text shows keeps (Sqlite e) read = absurd read
+unread_reference shown Is Keeps row at text shows keeps (Damaged rule) read = λ r is kept.
+    let out = read (text r) (ap (λ x. column x at) is ∙ shows r) in
+    reference_inside (text r) (keeps r (subst (λ (x : Rule). Keeps x r) out.0 kept)) out.1
 
 -- the balance of a row of one balance
 pub reads_balance_stored : (row : Row) (r : Result ℤ TableFault) → ReadsCents Balance (column row 0) r

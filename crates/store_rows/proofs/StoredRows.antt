@@ -19,7 +19,8 @@ use Rattle.sql_meanings.proofs.ReadTables.{ReadsAs}
 use Rattle.store_rows.specs.Rules.{HoldsBank, StoredRows, row_under, stored_lists}
 use Rattle.store_rows.specs.BankTables as bank
 use Rattle.store_rows.specs.BankTables.{bank_tables}
-use Rattle.store_rows.specs.Stored.{balance_stored, branch_stored, floor_stored, request_stored}
+use Rattle.store_rows.specs.Stored.{balance_stored, branch_stored, floor_stored, reference_stored}
+use Rattle.store_rows.specs.Stored.{request_stored}
 use Rattle.store_rows.specs.declared.texts.TheConstants.{GET_REQUEST, NEXT_BRANCH}
 use Rattle.store_rows.proofs.GetRequest as request
 use Rattle.store_rows.proofs.NextBranch as next
@@ -78,6 +79,21 @@ pub key_and_number : (k key : ℤ) (values : List ℤ) (texts : List (List ℕ))
 key_and_number k key [] texts wide = absurd (omega arith)
 key_and_number k key (a ∷ []) texts wide = refl
 key_and_number k key (a ∷ b ∷ more) texts wide = absurd (omega arith)
+
+-- ---- references
+
+abbrev pub reference_project : List Term
+reference_project = col 1 0 ∷ col 1 2 ∷ []
+
+pub key_and_text : (k key : ℤ) (values : List ℤ) (texts : List (List ℕ)) → length values ≡ 0
+    → length texts ≡ 1
+    → eval_all reference_project ((Int k ∷ [])
+    ∷ stored (record { key = key; values = values; texts = texts }) ∷ [])
+    ≡ reference_stored (record { key = key; values = values; texts = texts })
+key_and_text k key [] [] wide tall = absurd (omega arith)
+key_and_text k key [] (a ∷ []) wide tall = refl
+key_and_text k key [] (a ∷ b ∷ more) wide tall = absurd (omega arith)
+key_and_text k key (a ∷ more) texts wide tall = absurd (omega arith)
 
 -- ---- branches
 

@@ -56,20 +56,20 @@ pub record Kind (R : Type 0) : Type 0 where
   pub again : (t : Tables) (rs : List R) → rows (having rs t) ≡ rs
   pub is_plain : IsPlain (uncounted table)
 
--- a table of a key and numbers, where all that computes
+-- a table of a key, numbers and texts, where all that computes
 abbrev pub kind_of : {R : Type 0} (place : ℕ) (table : Table) (key : R → ℕ) (entry : R → Entry)
     (rows : Tables → List R)
     (having : List R → Tables → Tables) → ((r : R) → (entry r).key ≡ pos (key r))
     → slice_get bank_tables place ≡ Some (uncounted table)
     → ((t : Tables) → slice_get (contents t) place ≡ Some (map entry (rows t)))
     → ((t : Tables) (rs : List R) → slice_set (contents t) place (map entry rs) ≡ contents (having rs t))
-    → ((t : Tables) (rs : List R) → rows (having rs t) ≡ rs) → (k : List ℕ) (names : List (List ℕ))
+    → ((t : Tables) (rs : List R) → rows (having rs t) ≡ rs) → (k : List ℕ) (names texts : List (List ℕ))
     → table.references ≡ []
-    → table.key ≡ Some 0 → table.computed ≡ [] → width_of table ≡ (length names, 0)
-    → length names + 0 ≤ 1999
-    → table.columns ≡ key_column k ∷ (map number_column names ++ map text_column []) → Kind R
-kind_of place table key entry rows having keyed listed has replaced again k names free at_first uncomputed
-    wide narrow columns = record {
+    → table.key ≡ Some 0 → table.computed ≡ [] → width_of table ≡ (length names, length texts)
+    → length names + length texts ≤ 1999
+    → table.columns ≡ key_column k ∷ (map number_column names ++ map text_column texts) → Kind R
+kind_of place table key entry rows having keyed listed has replaced again k names texts free at_first
+    uncomputed wide narrow columns = record {
       place = place;
       table = table;
       key = key;
@@ -87,7 +87,7 @@ kind_of place table key entry rows having keyed listed has replaced again k name
         uncomputed = uncomputed;
         key = k;
         names = names;
-        texts = [];
+        texts = texts;
         columns = columns;
         width = wide;
         narrow = narrow;

@@ -1,6 +1,6 @@
 -- What a write of the version leaves.
 use Rattle.std.proofs.Common.{◌≡◌, ℕ, ℤ, pos, Bool, nat_eq, List, [], ◌∷◌, find, is_some, Some, None, Option}
-use Rattle.std.proofs.Common.{option_map, Ok, Err, Result, lit≤, refl, sym, subst, ◌∙◌}
+use Rattle.std.proofs.Common.{option_map, Ok, Err, Result, lit≤, refl, ◌∙◌}
 use Rattle.sqlite.specs.State.{State, ExecutesInside}
 use Rattle.sqlite.specs.declared.error.Error.{Error}
 use Rattle.sqlite.specs.declared.types.Value.TheVariants.{Int}

@@ -1,13 +1,15 @@
 -- What each UPDATE of a balance and each INSERT of a row leaves of the tables.
-use Rattle.std.proofs.Common.{◌≡◌, ◌≤◌, ℕ, ℤ, pos, is_some, List, [], ◌∷◌, Some, Bool, Result, refl}
+use Rattle.std.proofs.Common.{◌≡◌, ◌≤◌, ℕ, ℤ, pos, is_some, length, List, [], ◌∷◌, Some, Bool, Result, refl}
 use Rattle.sqlite.specs.declared.error.Error.{Error}
 use Rattle.sqlite.specs.declared.transaction.Transaction.{Transaction}
 use Rattle.sqlite.specs.declared.types.Value.TheVariants.{Int}
 use Rattle.sqlite_trees.specs.declared.store.Store.{Ghosts}
 use Rattle.posting_rules.specs.Changes.{row_changed, row_put, with_account, with_account_balance, with_branch}
 use Rattle.posting_rules.specs.Changes.{with_branch_balance, with_floor}
-use Rattle.posting_rules.specs.Changes.{with_history, with_request, with_teller, with_teller_balance}
+use Rattle.posting_rules.specs.Changes.{with_history, with_reference, with_request, with_teller}
+use Rattle.posting_rules.specs.Changes.{with_teller_balance}
 use Rattle.posting_rules.specs.Tables.{Tables, row_at}
+use Rattle.posting_rules.specs.declared.rows.ReferenceRow.{ReferenceRow}
 use Rattle.sql_meanings.specs.Entries.{Entry}
 use Rattle.sql_meanings.proofs.SetRows.{ChangesAs}
 use Rattle.store_rows.specs.Calls.{AddsRow, SetsNumber}
@@ -19,7 +21,7 @@ use Rattle.store_rows.proofs.TableKinds.{Kind, table_of, tells_added, tells_writ
 use Rattle.store_rows.proofs.Puts.{Puts, given, puts as each}
 use Rattle.store_rows.proofs.Setting.{set_first, set_second, sets as numbers}
 use Rattle.store_rows.proofs.Telling.{tells_tables}
-use Rattle.store_rows.proofs.TheTables.{accounts, branches, floors, history, requests, tellers}
+use Rattle.store_rows.proofs.TheTables.{accounts, branches, floors, history, references, requests, tellers}
 
 -- a call that runs the text writes a balance so
 abbrev Sets : {R : Type 0} → Kind R → List ℕ → (ℕ → ℤ → Tables → Tables) → Type 1
@@ -30,13 +32,17 @@ Sets kind text with =
     → SetsNumber g old new (table_of kind) text (λ t. is_some (row_at kind.key (kind.rows t) k)) (with k z)
     answer
 
--- a call that runs the text puts a row in so
-abbrev PutsEach : {R : Type 0} → Kind R → List ℕ → (R → Tables → Tables) → Type 1
-PutsEach {R} kind text with =
-    (S : Type 0) (g : Ghosts S) (old new : Transaction S) (r : R) → kind.key r ≤ MAX_KEY
+-- a call that runs the text puts the row in so
+abbrev PutsOne : {R : Type 0} → Kind R → List ℕ → (R → Tables → Tables) → R → Type 1
+PutsOne kind text with r =
+    (S : Type 0) (g : Ghosts S) (old new : Transaction S) → kind.key r ≤ MAX_KEY
     → (answer : Result (Unit {0}) TableFault) → PutsRow g old new text (given (kind.entry r)) answer
     → AddsRow g old new (table_of kind) (λ t. is_some (row_at kind.key (kind.rows t) (kind.key r))) (with r)
     answer
+
+-- and so each row
+abbrev PutsEach : {R : Type 0} → Kind R → List ℕ → (R → Tables → Tables) → Type 1
+PutsEach {R} kind text with = (r : R) → PutsOne kind text with r
 
 module _ {R : Type 0} (kind : Kind R) (text : List ℕ) where
   sets : (change : ℤ → R → R) (change_entry : ℤ → Entry → Entry)
@@ -48,11 +54,15 @@ module _ {R : Type 0} (kind : Kind R) (text : List ℕ) where
       (Int z ∷ []) (change z)
       (change_entry z) (changes (pos k) z) (same z) low answer)
 
+  put : (r : R) → Puts (table_of kind) text (kind.entry r)
+      → PutsOne kind text (λ r t. kind.having (row_put kind.key r (kind.rows t)) t) r
+  put r given_so S g old new low answer =
+      tells_tables g old new (λ before after t shows h. rw h.2
+      (tells_added kind before after t shows text (given (kind.entry r)) r given_so low h.0 h.1))
+
   puts : ((r : R) → Puts (table_of kind) text (kind.entry r))
       → PutsEach kind text (λ r t. kind.having (row_put kind.key r (kind.rows t)) t)
-  puts given_so S g old new r low answer =
-      tells_tables g old new (λ before after t shows h. rw h.2
-      (tells_added kind before after t shows text (given (kind.entry r)) r (given_so r) low h.0 h.1))
+  puts given_so r = put r (given_so r)
 
 -- each text writes its balance
 pub record SetsBalances : Type 1 where
@@ -79,9 +89,11 @@ pub record PutsRows : Type 1 where
   pub posting : PutsEach history text.ADD_HISTORY.now with_history
   pub request : PutsEach requests text.ADD_REQUEST.now with_request
   pub floor : PutsEach floors text.ADD_FLOOR.now (λ r. with_floor r.branch (Some r.lowest))
+  pub reference : (r : ReferenceRow) → length r.reference ≤ 1000
+      → PutsOne references text.ADD_REFERENCE.now (λ r. with_reference r.ordinal (Some r.reference)) r
 
 pub rows_put : PutsRows
-unfolding with_branch with_teller with_account with_history with_request with_floor
+unfolding with_branch with_teller with_account with_history with_request with_floor with_reference
 rows_put = record {
   branch = puts branches text.ADD_BRANCH.now each.branch;
   teller = puts tellers text.ADD_TELLER.now each.teller;
@@ -89,4 +101,5 @@ rows_put = record {
   posting = puts history text.ADD_HISTORY.now each.posting;
   request = puts requests text.ADD_REQUEST.now each.request;
   floor = puts floors text.ADD_FLOOR.now each.floor;
+  reference = λ r short. put references text.ADD_REFERENCE.now r (each.reference r short);
 }

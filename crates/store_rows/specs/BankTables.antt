@@ -7,7 +7,7 @@ use Rattle.sqlite.specs.declared.types.Value.TheVariants.{Int}
 use Rattle.sqlite_sql.specs.declared.ops.BinaryOp.TheVariants.{Compare}
 use Rattle.sqlite_sql.specs.declared.ops.CompareOp.TheVariants.{Eq}
 use Rattle.sqlite_value.specs.Keys.{plain}
-use Rattle.sql_meanings.specs.Plain.{plain_table}
+use Rattle.sql_meanings.specs.Plain.{plain_table, text_table}
 
 -- one row, since its key must be 1
 abbrev pub meta : Table
@@ -45,6 +45,10 @@ request = record (plain_table (codes "request") (codes "ordinal")
 abbrev pub floor : Table
 floor = plain_table (codes "branch_floor") (codes "bid") (codes "lowest" ∷ [])
 
+-- the references of the decided requests that have one, by ordinal
+abbrev pub reference : Table
+reference = text_table (codes "request_reference") (codes "ordinal") [] (codes "reference" ∷ [])
+
 -- all of them; another table of the bank is one more here
 abbrev pub bank_tables : List Table
-bank_tables = meta ∷ branch ∷ teller ∷ account ∷ history ∷ request ∷ floor ∷ []
+bank_tables = meta ∷ branch ∷ teller ∷ account ∷ history ∷ request ∷ floor ∷ reference ∷ []

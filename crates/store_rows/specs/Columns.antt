@@ -2,12 +2,13 @@
 use Rattle.std.specs.Prelude.{◌&&◌, ◌==◌, ℕ, ℤ, pos, List, [], ◌∷◌, Option, find, nat_lt, option_map}
 use Rattle.std.specs.Prelude.{slice_index_or}
 use Rattle.sqlite.specs.Order.{Row}
-use Rattle.sqlite.specs.declared.types.Value.TheVariants.{Int}
+use Rattle.sqlite.specs.declared.types.Value.TheVariants.{Int, Text}
 use Rattle.message_records.specs.Outcomes.{code_of}
 use Rattle.posting_rules.specs.Tables.{Tables}
 use Rattle.posting_rules.specs.declared.rows.BranchRow.{BranchRow}
 use Rattle.posting_rules.specs.declared.rows.RequestRow.{RequestRow}
 use Rattle.posting_rules.specs.declared.rows.FloorRow.{FloorRow}
+use Rattle.posting_rules.specs.declared.rows.ReferenceRow.{ReferenceRow}
 use Rattle.store_rows.specs.declared.metas.StoredMeta.{StoredMeta}
 use Rattle.store_rows.specs.declared.metas.TheConstants.{META_ID}
 use Rattle.sql_meanings.specs.Entries.{Entry, has_key}
@@ -27,19 +28,27 @@ branch_shown r = Int (pos r.branch) ∷ Int (pos r.accounts) ∷ Int r.balance �
 -- ordinal, tid, number, aid, bid, delta, outcome, balance
 abbrev pub request_shown : RequestRow → Row
 request_shown r =
-    Int (pos r.ordinal) ∷ Int (pos r.teller) ∷ Int (pos r.number) ∷ Int (pos r.kept.account) ∷ Int
-    (pos r.kept.branch) ∷ Int r.kept.delta ∷
-    Int (pos (code_of r.kept.outcome)) ∷ Int r.kept.balance ∷ []
+    Int (pos r.ordinal) ∷ Int (pos r.teller) ∷ Int (pos r.number) ∷ Int (pos r.decision.account) ∷ Int
+    (pos r.decision.branch) ∷ Int r.decision.delta ∷
+    Int (pos (code_of r.decision.outcome)) ∷ Int r.decision.balance ∷ []
 
 -- bid, lowest
 abbrev pub floor_shown : FloorRow → Row
 floor_shown r = Int (pos r.branch) ∷ Int r.lowest ∷ []
+
+-- ordinal, reference
+abbrev pub reference_shown : ReferenceRow → Row
+reference_shown r = Int (pos r.ordinal) ∷ Text r.reference ∷ []
 
 -- ---- what is looked for
 
 -- the number at this place behind the key of a row
 abbrev pub number_at : ℕ → Entry → ℤ
 number_at place row = slice_index_or row.values place (pos 0)
+
+-- the text at this place behind the numbers of a row
+abbrev pub text_at : ℕ → Entry → List ℕ
+text_at place row = slice_index_or row.texts place []
 
 -- the numbers of a row of `meta`
 abbrev pub meta_numbers : Entry → StoredMeta

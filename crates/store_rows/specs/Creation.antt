@@ -14,7 +14,7 @@ use Rattle.sqlite.specs.declared.error.ErrorCode.TheVariants.{ConstraintViolatio
 use Rattle.sqlite_schema.specs.declared.schema.Constraint.TheVariants.{Unique}
 use Rattle.sqlite_rules.specs.Lists.{Has}
 use Rattle.posting_rules.specs.Tables.{Tables}
-use Rattle.sql_meanings.specs.Making.{KeepsTables, NotMade, SparesTables, counts_rows}
+use Rattle.sql_meanings.specs.Making.{IsGrown, KeepsTables, KeepsWhatStood, NotMade, SparesTables, counts_rows}
 use Rattle.sql_meanings.specs.Outcomes.{GoesOn, HasWideIndex, IsInterrupted, IsUndone, NamesCause, PutFails}
 use Rattle.sql_meanings.specs.Tables.{tree_of}
 use Rattle.store_rows.specs.Outcomes.{IsForbidden}
@@ -30,7 +30,7 @@ all_texts =
     (text.MAKE_META.now, bank.meta) ∷ (text.MAKE_BRANCH.now, bank.branch)
     ∷ (text.MAKE_TELLER.now, bank.teller) ∷ (text.MAKE_ACCOUNT.now, bank.account)
     ∷ (text.MAKE_HISTORY.now, bank.history) ∷ (text.MAKE_REQUEST.now, bank.request)
-    ∷ (text.MAKE_FLOOR.now, bank.floor) ∷ []
+    ∷ (text.MAKE_FLOOR.now, bank.floor) ∷ (text.MAKE_REFERENCE.now, bank.reference) ∷ []
 
 -- ---- tables that are made one after another, each by its text
 
@@ -51,21 +51,26 @@ with_first texts n schema = fold (λ s it. created s it.1) schema (take n texts)
 abbrev pub IsApart : Schema → Schema → Table → Type 0
 IsApart old new table = (t : Table) → Has old.tables t → t.tree ≢ tree_of new table.name
 
+-- one schema grows to the other as these tables are made, one after another
+abbrev pub AreGrown : List (List ℕ × Table) → Schema → Schema → Type 0
+AreGrown [] old new = new ≡ old
+AreGrown (it ∷ its) old new = (mid : Schema) × IsGrown old it.1 mid × AreGrown its mid new
+
 -- These tables are there and empty, and every table that was there is there, with its rows. Where no table
 -- counts its rows, nothing else is new.
 pub record TablesAreMade (texts : List (List ℕ × Table)) (old new : Database) : Type 0 where
   pub empty : AreEmpty texts new
-  pub keeps : KeepsTables old new
+  pub keeps : KeepsWhatStood old new
   pub alone : counts_rows old.schema ≡ false → new.schema ≡ with_first texts (length texts) old.schema
   pub apart : AllByRecursion (λ it. IsApart old.schema new.schema it.1) texts
 
--- The first so many of these tables are made, and the next is refused under the schema as it is now. Where no
--- table counts its rows, that schema has those tables more, and nothing else.
+-- The first so many of these tables are made, and the next is refused under the schema as it is now, to which
+-- that has grown by those tables.
 pub record RefusesNext (texts : List (List ℕ × Table)) (old now : Schema) (e : Error) : Type 0 where
   pub made : ℕ
   pub next : List ℕ × Table
   pub is_next : slice_get texts made ≡ Some next
-  pub alone : counts_rows old ≡ false → now ≡ with_first texts made old
+  pub grown : AreGrown (take made texts) old now
   pub refused : NotMade now next.0 next.1 e
 
 -- All were made. Or the store failed, and the transaction is rolled back; or one is refused, beside what was
@@ -88,6 +93,7 @@ new_tables = record {
   history = [];
   requests = [];
   floors = [];
+  references = [];
 }
 
 -- the first row is there, and every table but meta is as it was; or why the row can't be put in

@@ -2,11 +2,13 @@
 use Rattle.std.specs.Prelude.{◌≡◌, ◌≢◌, ◌⊎◌, ℕ, List, nat_eq, true, false, Bool, Option, Some, None, Result}
 use Rattle.std.specs.Prelude.{Ok, Err, ⊤}
 use Rattle.sqlite.specs.Order.{Row}
-use Rattle.sqlite.specs.State.{State, ExecutesInside, QueriesRowInside}
+use Rattle.sqlite.specs.Held.{Held, state}
+use Rattle.sqlite.specs.State.{State, ExecutesInside, QueriesRowInside, Survives}
 use Rattle.sqlite.specs.State.{Shows as StateShows, Fails, IsUnchanged}
 use Rattle.sqlite.specs.Steps.{FailsToCommit}
 use Rattle.sqlite.specs.declared.error.Error.{Error}
 use Rattle.sqlite.specs.declared.error.Error.TheVariants.{QueryReturnedNoRows}
+use Rattle.sqlite_trees.specs.declared.store.Store.{Ghosts}
 use Rattle.posting_rules.specs.declared.fault.Rule.{Rule}
 use Rattle.posting_rules.specs.declared.fault.Rule.TheVariants.{Account, Key, Meta, Teller}
 use Rattle.sql_meanings.specs.Outcomes.{WriteFails, is_taken_key}
@@ -27,6 +29,12 @@ pub data HasFailed (old new : State) (e : Error) : Type 0 where
       → is_taken_key e ≡ false → HasFailed old new e
   -- a commit failed, or the store did
   Committing : FailsToCommit old new e → HasFailed old new e
+
+-- a call of `sqlite` that came after others answered this error, and nothing came after it
+pub record HasFailedAtLast {S : Type 0} (g : Ghosts S) (old new : Held S) (e : Error) : Type 0 where
+  pub at : Held S
+  pub before : Survives (state g old) (state g at) (λ _. ⊥)
+  pub failed : HasFailed (state g at) (state g new) e
 
 -- the error of a fault is one with which a call of `sqlite` failed
 abbrev pub HasReason : State → State → TableFault → Type 0

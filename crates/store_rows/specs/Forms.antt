@@ -5,12 +5,16 @@ use Rattle.posting_rules.specs.declared.fault.Rule.{Rule}
 use Rattle.posting_rules.specs.declared.rows.BranchRow.{BranchRow}
 use Rattle.posting_rules.specs.declared.rows.RequestRow.{RequestRow}
 use Rattle.posting_rules.specs.declared.rows.FloorRow.{FloorRow}
+use Rattle.posting_rules.specs.declared.rows.ReferenceRow.{ReferenceRow}
 use Rattle.sql_meanings.specs.Entries.{Entry}
-use Rattle.store_rows.specs.Columns.{balance_shown, branch_shown, floor_shown, meta_numbers, meta_shown, request_shown}
-use Rattle.store_rows.specs.Outcomes.{BreaksBalance, BreaksBranch, BreaksFloor, BreaksRequest, Never}
-use Rattle.store_rows.specs.Rules.{BranchKeeps, FloorKeeps, RequestKeeps}
-use Rattle.store_rows.specs.Stored.{BalanceKeeps, IsBalance, IsBranch, IsFloorRow, IsSameRequest, balance_stored}
-use Rattle.store_rows.specs.Stored.{branch_stored, floor_stored, request_stored}
+use Rattle.store_rows.specs.Columns.{balance_shown, branch_shown, floor_shown, meta_numbers, meta_shown}
+use Rattle.store_rows.specs.Columns.{reference_shown, request_shown}
+use Rattle.store_rows.specs.Outcomes.{BreaksBalance, BreaksBranch, BreaksFloor, BreaksReference}
+use Rattle.store_rows.specs.Outcomes.{BreaksRequest, Never}
+use Rattle.store_rows.specs.Rules.{BranchKeeps, FloorKeeps, ReferenceKeeps, RequestKeeps}
+use Rattle.store_rows.specs.Stored.{BalanceKeeps, IsBalance, IsBranch, IsFloorRow, IsReferenceRow}
+use Rattle.store_rows.specs.Stored.{IsSameRequest, balance_stored, branch_stored, floor_stored}
+use Rattle.store_rows.specs.Stored.{reference_stored, request_stored}
 use Rattle.store_rows.specs.declared.metas.StoredMeta.{StoredMeta}
 
 -- how a row holds such a value
@@ -57,6 +61,15 @@ request_form = record {
   held = request_stored;
   Is = IsSameRequest;
   Keeps = RequestKeeps;
+}
+
+abbrev pub reference_form : Form ReferenceRow
+reference_form = record {
+  shown = reference_shown;
+  Breaks = BreaksReference;
+  held = reference_stored;
+  Is = IsReferenceRow;
+  Keeps = ReferenceKeeps;
 }
 
 -- any numbers are numbers of meta

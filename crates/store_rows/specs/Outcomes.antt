@@ -1,19 +1,21 @@
 -- What a call on the tables of a bank reports, and what it leaves.
-use Rattle.std.specs.Prelude.{◌≡◌, ◌≢◌, ◌⊎◌, IsTrue, ℕ, ℤ, pos, Bool, true, false, Option, Some, None, Result}
-use Rattle.std.specs.Prelude.{Ok, Err}
+use Rattle.std.specs.Prelude.{◌≡◌, ◌≢◌, ◌⊎◌, IsTrue, ℕ, ℤ, pos, Bool, true, false, List, Option, Some}
+use Rattle.std.specs.Prelude.{None, Result, Ok, Err}
 use Rattle.sqlite.specs.State.{State, IsUnchanged}
 use Rattle.sqlite.specs.Order.{Row}
 use Rattle.sqlite.specs.declared.types.Value.{Value}
-use Rattle.sqlite.specs.declared.types.Value.TheVariants.{Int}
+use Rattle.sqlite.specs.declared.types.Value.TheVariants.{Int, Text}
 use Rattle.sqlite.specs.declared.error.Error.{Error}
 use Rattle.message_records.specs.Ranges.{cents_within, whole_within}
 use Rattle.message_records.specs.Outcomes.{code_of}
+use Rattle.message_records.specs.Records.{reference_from}
 use Rattle.message_records.specs.declared.records.Outcome.{Outcome}
-use Rattle.posting_rules.specs.Kept.{KeptFields, is_kept_with}
+use Rattle.posting_rules.specs.Kept.{DecisionFields, is_kept_with}
 use Rattle.posting_rules.specs.Tables.{Tables}
 use Rattle.posting_rules.specs.declared.rows.BranchRow.{BranchRow}
 use Rattle.posting_rules.specs.declared.rows.RequestRow.{RequestRow}
 use Rattle.posting_rules.specs.declared.rows.FloorRow.{FloorRow}
+use Rattle.posting_rules.specs.declared.rows.ReferenceRow.{ReferenceRow}
 use Rattle.posting_rules.specs.declared.fault.Rule.{Rule}
 use Rattle.posting_rules.specs.declared.fault.Rule.TheVariants as rule
 use Rattle.sqlite.specs.Schema.{Schema}
@@ -49,27 +51,33 @@ BreaksBranch r broken =
     ⊎ (whole_within 0 4_294_967_295 r.accounts ≡ None)))
     ⊎ ((broken ≡ rule.Balance) × (cents_within MAX_BALANCE r.balance ≡ None))
 
--- the request is one that can be kept
-pub record CanBeKept (k : KeptFields) : Type 0 where
+-- the decision is one that can be kept
+pub record CanBeKept (k : DecisionFields) : Type 0 where
   pub account : whole_within 1 MAX_ACCOUNT k.account ≡ Some k.account
   pub branch : whole_within 1 MAX_BRANCH k.branch ≡ Some k.branch
   pub delta : cents_within MAX_BALANCE k.delta ≡ Some k.delta
   pub balance : cents_within MAX_BALANCE k.balance ≡ Some k.balance
   pub outcome : IsTrue (is_kept_with k.outcome k.balance)
 
--- the ordinal is no ordinal, or what is kept is no request that can be kept
+-- the ordinal is no ordinal, or what was decided is no decision that can be kept
 abbrev pub BreaksRequest : RequestRow → Rule → Type 0
 BreaksRequest r broken =
     ((broken ≡ rule.Value) × (whole_within 1 MAX_DECIDED r.ordinal ≡ None))
     ⊎ ((broken ≡ rule.Request)
     × ((whole_within 1 MAX_TELLER r.teller ≡ None)
-    ⊎ ((whole_within 1 MAX_NUMBER r.number ≡ None) ⊎ (¬ CanBeKept r.kept))))
+    ⊎ ((whole_within 1 MAX_NUMBER r.number ≡ None) ⊎ (¬ CanBeKept r.decision))))
 
 -- the number is outside the numbers of branches, or the floor is outside the limits
 abbrev pub BreaksFloor : FloorRow → Rule → Type 0
 BreaksFloor r broken =
     ((broken ≡ rule.Value) × (whole_within 1 MAX_BRANCH r.branch ≡ None))
     ⊎ ((broken ≡ rule.Floor) × (cents_within MAX_BALANCE r.lowest ≡ None))
+
+-- the ordinal is no ordinal, or the text is no reference
+abbrev pub BreaksReference : ReferenceRow → Rule → Type 0
+BreaksReference r broken =
+    ((broken ≡ rule.Value) × (whole_within 1 MAX_DECIDED r.ordinal ≡ None))
+    ⊎ ((broken ≡ rule.Reference) × (reference_from r.reference ≡ None))
 
 -- no rule is broken so
 abbrev pub Never : {X : Type 0} → X → Rule → Type 0
@@ -126,15 +134,22 @@ ReadsOutcome v (Err (Sqlite e)) = ⊥
 ReadsOutcome v (Err (Damaged broken)) = (z : ℤ) → v ≡ Int z → (broken ≡ rule.Request)
     × ((o : Outcome) → z ≢ pos (code_of o))
 
+-- the reference that the value is, or its text is none
+abbrev pub ReadsReference : Value → Result (List ℕ) TableFault → Type 0
+ReadsReference v (Ok read) = (text : List ℕ) → v ≡ Text text → read ≡ text
+ReadsReference v (Err (Sqlite e)) = ⊥
+ReadsReference v (Err (Damaged broken)) = (text : List ℕ) → v ≡ Text text → (broken ≡ rule.Reference)
+    × (reference_from text ≡ None)
+
 -- what a row shows, or it breaks a rule in this way
 abbrev pub ReadsRow : {X : Type 0} → (X → Row) → (X → Rule → Type 0) → Row → Result X TableFault → Type 0
 ReadsRow {X} shown Breaks row (Ok x) = (y : X) → row ≡ shown y → x ≡ y
 ReadsRow shown Breaks row (Err (Sqlite e)) = ⊥
 ReadsRow {X} shown Breaks row (Err (Damaged broken)) = (y : X) → row ≡ shown y → Breaks y broken
 
--- what a row keeps of a request, or it is no request that can be kept
-abbrev pub ReadsKept : Row → Result KeptFields TableFault → Type 0
-ReadsKept row (Ok k) = (r : RequestRow) → row ≡ request_shown r → k ≡ r.kept
-ReadsKept row (Err (Sqlite e)) = ⊥
-ReadsKept row (Err (Damaged broken)) = (r : RequestRow) → row ≡ request_shown r → (broken ≡ rule.Request)
-    × ¬ CanBeKept r.kept
+-- what a row says was decided of a request, or it is no decision that can be kept
+abbrev pub ReadsDecision : Row → Result DecisionFields TableFault → Type 0
+ReadsDecision row (Ok d) = (r : RequestRow) → row ≡ request_shown r → d ≡ r.decision
+ReadsDecision row (Err (Sqlite e)) = ⊥
+ReadsDecision row (Err (Damaged broken)) = (r : RequestRow) → row ≡ request_shown r → (broken ≡ rule.Request)
+    × ¬ CanBeKept r.decision

@@ -6,7 +6,8 @@ use Rattle.sqlite.specs.Table.{Table}
 use Rattle.sqlite_resolve.specs.declared.error.CompileError.{CompileError}
 use Rattle.store_rows.specs.BankTables as bank
 use Rattle.store_rows.specs.declared.probes.BankTable.{BankTable}
-use Rattle.store_rows.specs.declared.probes.BankTable.TheVariants.{Meta, Branch, Teller, Account, History, Request, Floor}
+use Rattle.store_rows.specs.declared.probes.BankTable.TheVariants.{Meta, Branch, Teller, Account, History}
+use Rattle.store_rows.specs.declared.probes.BankTable.TheVariants.{Request, Floor, Reference}
 use Rattle.store_rows.specs.declared.texts.TheConstants as text
 
 -- the probe of a table: its text, and the table
@@ -18,10 +19,11 @@ probe_of Account = (text.PROBE_ACCOUNT.now, bank.account)
 probe_of History = (text.PROBE_HISTORY.now, bank.history)
 probe_of Request = (text.PROBE_REQUEST.now, bank.request)
 probe_of Floor = (text.PROBE_FLOOR.now, bank.floor)
+probe_of Reference = (text.PROBE_REFERENCE.now, bank.reference)
 
 -- the tables, in their order
 abbrev pub all_tables : List BankTable
-all_tables = Meta ∷ Branch ∷ Teller ∷ Account ∷ History ∷ Request ∷ Floor ∷ []
+all_tables = Meta ∷ Branch ∷ Teller ∷ Account ∷ History ∷ Request ∷ Floor ∷ Reference ∷ []
 
 -- the probes of all of them
 abbrev pub all_probes : List (List ℕ × Table)

@@ -1,4 +1,4 @@
--- The rows of a bank's tables as a file holds them, whatever numbers they are, and the eight rules that the
+-- The rows of a bank's tables as a file holds them, whatever values they have, and the nine rules that the
 -- rows of a bank keep.
 use Rattle.std.specs.Prelude.{◌≡◌, ◌≤◌, ◌<◌, ◌≤ℤ◌, ◌+◌, ◌*◌, ℕ, ℤ, pos, nat_abs, List, [], ◌∷◌, find, Option, Some}
 use Rattle.std.specs.Prelude.{None, option_and_then, IsSome, IsTrue, ⊤}
@@ -6,6 +6,7 @@ use Rattle.std.specs.List.{AllByRecursion}
 use Rattle.sqlite.specs.Effect.{Database, IsDatabase}
 use Rattle.message_records.specs.Outcomes.{code_of}
 use Rattle.message_records.specs.Ranges.{whole_within}
+use Rattle.message_records.specs.Records.{IsReference}
 use Rattle.message_records.specs.declared.records.Outcome.{Outcome}
 use Rattle.message_records.specs.declared.limits.TheConstants.{MAX_ACCOUNT, MAX_BALANCE, MAX_BRANCH}
 use Rattle.message_records.specs.declared.limits.TheConstants.{MAX_DELTA, MAX_MOMENT, MAX_NUMBER, MAX_TELLER}
@@ -14,18 +15,18 @@ use Rattle.posting_rules.specs.Commands.{IsFloor}
 use Rattle.posting_rules.specs.Kept.{is_kept_with}
 use Rattle.posting_rules.specs.declared.fault.Rule.{Rule}
 use Rattle.posting_rules.specs.declared.fault.Rule.TheVariants.{Meta, Teller, Account, Balance, Request}
-use Rattle.posting_rules.specs.declared.fault.Rule.TheVariants.{Value, Key, Floor}
+use Rattle.posting_rules.specs.declared.fault.Rule.TheVariants.{Value, Key, Floor, Reference}
 use Rattle.posting_rules.specs.declared.limits.TheConstants.{LAST_BRANCH, MAX_DECIDED, MAX_ACCOUNTS}
 use Rattle.posting_rules.specs.declared.limits.TheConstants.{ACCOUNTS_PER_BRANCH, RECORDS_PER_BATCH, TELLERS_PER_BRANCH}
 use Rattle.sql_meanings.specs.Contents.{HoldsEach}
 use Rattle.sql_meanings.specs.Entries.{Entry, has_key}
-use Rattle.store_rows.specs.Columns.{number_at}
+use Rattle.store_rows.specs.Columns.{number_at, text_at}
 use Rattle.store_rows.specs.BankTables.{bank_tables}
 use Rattle.store_rows.specs.declared.metas.TheConstants.{META_ID}
 
 -- ---- what a file holds
 
--- the rows of each table, whatever numbers they are
+-- the rows of each table, whatever values they have
 pub record StoredRows : Type 0 where
   pub meta : List Entry
   pub branches : List Entry
@@ -34,11 +35,13 @@ pub record StoredRows : Type 0 where
   pub history : List Entry
   pub requests : List Entry
   pub floors : List Entry
+  pub references : List Entry
 
 -- in the order of `bank_tables`
 abbrev pub stored_lists : StoredRows → List (List Entry)
 stored_lists rows =
-    rows.meta ∷ rows.branches ∷ rows.tellers ∷ rows.accounts ∷ rows.history ∷ rows.requests ∷ rows.floors ∷ []
+    rows.meta ∷ rows.branches ∷ rows.tellers ∷ rows.accounts ∷ rows.history ∷ rows.requests ∷ rows.floors
+    ∷ rows.references ∷ []
 
 -- a sound database defines the tables of a bank and holds these rows by rising keys, whatever else it has
 pub record HoldsBank (db : Database) (rows : StoredRows) : Type 0 where
@@ -109,6 +112,12 @@ FloorKeeps Floor r = IsFloor (number_at 0 r)
 FloorKeeps Value r = IsFrom 1 LAST_BRANCH r.key
 FloorKeeps _ r = ⊤
 
+-- a reference: it is of so many printable bytes, and its ordinal is in its range
+abbrev pub ReferenceKeeps : Rule → Entry → Type 0
+ReferenceKeeps Reference r = IsReference (text_at 0 r)
+ReferenceKeeps Value r = IsFrom 1 MAX_DECIDED r.key
+ReferenceKeeps _ r = ⊤
+
 -- ---- rows that keep a rule
 
 -- each row does
@@ -117,6 +126,7 @@ EachKeeps rule rows =
     AllByRecursion (BranchKeeps rule) rows.branches × AllByRecursion (TellerKeeps rule) rows.tellers
     × AllByRecursion (AccountKeeps rule) rows.accounts × AllByRecursion (PostingKeeps rule) rows.history
     × AllByRecursion (RequestKeeps rule) rows.requests × AllByRecursion (FloorKeeps rule) rows.floors
+    × AllByRecursion (ReferenceKeeps rule) rows.references
 
 -- the account isn't below the floor of its branch, where it has one
 abbrev pub IsAbove : StoredRows → ℕ → Type 0
@@ -161,13 +171,15 @@ IsNext decided n = (decided < n) × (n ≤ decided + RECORDS_PER_BATCH)
 pub record AreFree (rows : StoredRows) : Type 0 where
   pub requests : (decided n : ℕ) → HasDecided rows decided → IsNext decided n → row_under rows.requests n ≡ None
   pub postings : (decided n : ℕ) → HasDecided rows decided → IsNext decided n → row_under rows.history n ≡ None
+  pub references : (decided n : ℕ) → HasDecided rows decided → IsNext decided n
+      → row_under rows.references n ≡ None
   pub tellers : (n : ℕ) → 1 ≤ n → branch_under rows (branch_of_teller n) ≡ None
       → row_under rows.tellers n ≡ None
   pub accounts : (n : ℕ) → 1 ≤ n → branch_under rows (branch_of_account n) ≡ None
       → row_under rows.accounts n ≡ None
   pub floors : (n : ℕ) → branch_under rows n ≡ None → row_under rows.floors n ≡ None
 
--- the eight rules, numbered 1 to 8 in this order
+-- the nine rules, numbered 1 to 9 in this order
 abbrev pub KeepsRule : Rule → StoredRows → Type 0
 KeepsRule Meta rows = (decided : ℕ) × HasDecided rows decided × (decided ≤ MAX_DECIDED)
 KeepsRule Teller rows = TellersFit rows
@@ -177,6 +189,7 @@ KeepsRule Request rows = EachKeeps Request rows
 KeepsRule Value rows = EachKeeps Value rows
 KeepsRule Key rows = AreFree rows
 KeepsRule Floor rows = EachKeeps Floor rows
+KeepsRule Reference rows = EachKeeps Reference rows
 
 -- ---- a file that breaks a rule
 

@@ -1,17 +1,18 @@
--- What is reported of a stored row, whatever numbers it has.
+-- What is reported of a stored row, whatever values it has.
 use Rattle.std.specs.Prelude.{◌≡◌, ◌≤◌, ℤ, pos, nat_abs, [], ◌∷◌, Option, Some, None, Result, Ok, Err, ⊤}
 use Rattle.sqlite.specs.Order.{Row}
-use Rattle.sqlite.specs.declared.types.Value.TheVariants.{Int}
+use Rattle.sqlite.specs.declared.types.Value.TheVariants.{Int, Text}
 use Rattle.message_records.specs.Outcomes.{code_of}
 use Rattle.message_records.specs.declared.limits.TheConstants.{MAX_BALANCE}
-use Rattle.posting_rules.specs.Kept.{KeptFields}
+use Rattle.posting_rules.specs.Kept.{DecisionFields}
 use Rattle.posting_rules.specs.declared.fault.Rule.{Rule}
 use Rattle.posting_rules.specs.declared.fault.Rule.TheVariants.{Balance}
 use Rattle.posting_rules.specs.declared.rows.BranchRow.{BranchRow}
 use Rattle.posting_rules.specs.declared.rows.RequestRow.{RequestRow}
 use Rattle.posting_rules.specs.declared.rows.FloorRow.{FloorRow}
+use Rattle.posting_rules.specs.declared.rows.ReferenceRow.{ReferenceRow}
 use Rattle.sql_meanings.specs.Entries.{Entry}
-use Rattle.store_rows.specs.Columns.{number_at}
+use Rattle.store_rows.specs.Columns.{number_at, text_at}
 use Rattle.store_rows.specs.declared.fault.TableFault.{TableFault}
 use Rattle.store_rows.specs.declared.fault.TableFault.TheVariants.{Sqlite, Damaged}
 
@@ -36,6 +37,10 @@ request_stored r =
 abbrev pub floor_stored : Entry → Row
 floor_stored r = Int r.key ∷ Int (number_at 0 r) ∷ []
 
+-- ordinal, reference
+abbrev pub reference_stored : Entry → Row
+reference_stored r = Int r.key ∷ Text (text_at 0 r) ∷ []
+
 -- ---- what was made of a row
 
 -- this is its balance
@@ -50,18 +55,22 @@ IsBranch b r = (r.key ≡ pos b.branch) × (number_at 0 r ≡ pos b.accounts) ×
 abbrev pub IsFloorRow : FloorRow → Entry → Type 0
 IsFloorRow f r = (r.key ≡ pos f.branch) × (number_at 0 r ≡ f.lowest)
 
--- it keeps this
-pub record IsKept (kept : KeptFields) (r : Entry) : Type 0 where
-  pub account : number_at 2 r ≡ pos kept.account
-  pub branch : number_at 3 r ≡ pos kept.branch
-  pub delta : number_at 4 r ≡ kept.delta
-  pub outcome : number_at 5 r ≡ pos (code_of kept.outcome)
-  pub balance : number_at 6 r ≡ kept.balance
+-- it is of this ordinal, with this reference
+abbrev pub IsReferenceRow : ReferenceRow → Entry → Type 0
+IsReferenceRow f r = (r.key ≡ pos f.ordinal) × (text_at 0 r ≡ f.reference)
+
+-- this was decided
+pub record IsDecision (decision : DecisionFields) (r : Entry) : Type 0 where
+  pub account : number_at 2 r ≡ pos decision.account
+  pub branch : number_at 3 r ≡ pos decision.branch
+  pub delta : number_at 4 r ≡ decision.delta
+  pub outcome : number_at 5 r ≡ pos (code_of decision.outcome)
+  pub balance : number_at 6 r ≡ decision.balance
 
 -- it is of this request
 abbrev pub IsSameRequest : RequestRow → Entry → Type 0
 IsSameRequest request r = (r.key ≡ pos request.ordinal) × (number_at 0 r ≡ pos request.teller)
-    × (number_at 1 r ≡ pos request.number) × IsKept request.kept r
+    × (number_at 1 r ≡ pos request.number) × IsDecision request.decision r
 
 -- a row of one balance: that is within the limits
 abbrev pub BalanceKeeps : Rule → Entry → Type 0

@@ -12,6 +12,7 @@ use Rattle.posting_rules.specs.declared.rows.AccountRow.{AccountRow}
 use Rattle.posting_rules.specs.declared.rows.HistoryRow.{HistoryRow}
 use Rattle.posting_rules.specs.declared.rows.RequestRow.{RequestRow}
 use Rattle.posting_rules.specs.declared.rows.FloorRow.{FloorRow}
+use Rattle.posting_rules.specs.declared.rows.ReferenceRow.{ReferenceRow}
 use Rattle.sql_meanings.specs.Entries.{Entry}
 use Rattle.sql_meanings.specs.Contents.{HoldsEach}
 use Rattle.sql_meanings.specs.Tables.{Holds}
@@ -49,14 +50,18 @@ history_entry r = record {
 abbrev pub request_entry : RequestRow → Entry
 request_entry r = record {
   key = pos r.ordinal;
-  values = pos r.teller ∷ pos r.number ∷ pos r.kept.account ∷ pos r.kept.branch ∷ r.kept.delta ∷ pos
-      (code_of r.kept.outcome) ∷ r.kept.balance ∷ [];
+  values = pos r.teller ∷ pos r.number ∷ pos r.decision.account ∷ pos r.decision.branch ∷ r.decision.delta
+      ∷ pos (code_of r.decision.outcome) ∷ r.decision.balance ∷ [];
   texts = [];
 }
 
 -- a row of `branch_floor`
 abbrev pub floor_entry : FloorRow → Entry
 floor_entry r = record { key = pos r.branch; values = r.lowest ∷ []; texts = [] }
+
+-- a row of `request_reference`
+abbrev pub reference_entry : ReferenceRow → Entry
+reference_entry r = record { key = pos r.ordinal; values = []; texts = r.reference ∷ [] }
 
 -- ---- the view
 
@@ -69,7 +74,8 @@ pub record HoldsRows (db : Database) (table : Table) (rows : List Entry) : Type 
 abbrev pub rows_of : Tables → List (List Entry)
 rows_of t =
     map branch_entry t.branches ∷ map teller_entry t.tellers ∷ map account_entry t.accounts
-    ∷ map history_entry t.history ∷ map request_entry t.requests ∷ map floor_entry t.floors ∷ []
+    ∷ map history_entry t.history ∷ map request_entry t.requests ∷ map floor_entry t.floors
+    ∷ map reference_entry t.references ∷ []
 
 -- the tables of a version: those of the version before it, and one more behind them
 abbrev pub tables_of : ℕ → List Table

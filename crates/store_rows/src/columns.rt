@@ -1,9 +1,10 @@
-//! Stored numbers as the types that they are read as.
+//! Stored numbers and texts as the types that they are read as.
 ghost use Rattle.sqlite.specs.Order.{column};
-ghost use Rattle.store_rows.specs.Outcomes.{ReadsCents, ReadsInteger, ReadsOutcome, ReadsWhole};
+ghost use Rattle.store_rows.specs.Outcomes.{ReadsCents, ReadsInteger, ReadsOutcome, ReadsReference};
+ghost use Rattle.store_rows.specs.Outcomes.{ReadsWhole};
 
 use crate::fault::TableFault;
-use message_records::{Cents, Outcome, Whole};
+use message_records::{Cents, Outcome, Reference, Whole};
 use posting_rules::Rule;
 use sqlite::Row;
 use sqlite::types::ValueRef;
@@ -68,5 +69,17 @@ pub(crate) fn outcome_at(row: &Row, at: usize) -> Result<Outcome, TableFault>
         17 => Ok(Outcome::BelowFloor),
         90 => Ok(Outcome::Malformed),
         _ => Err(TableFault::Damaged(Rule::Request)),
+    }
+}
+
+// The reference in a column. A value of another type is damage of another rule.
+pub(crate) fn reference_at(row: &Row, at: usize) -> Result<Reference, TableFault>
+    ensures reads { ReadsReference (column row.now at) result }
+{
+    match row.get_ref(at) {
+        Ok(ValueRef::Text(bytes)) => Reference::new(bytes).ok_or(TableFault::Damaged(
+            Rule::Reference,
+        )),
+        _ => Err(TableFault::Damaged(Rule::Value)),
     }
 }

@@ -1,11 +1,12 @@
 //! The tables of a bank come to be, in one transaction, beside whatever the file has.
-ghost use Rattle.std.specs.Prelude.{◌≡◌, ◌<◌, IsTrue, IfErr, IfSome, OnOk, OnErr, false, slice_get, length};
+ghost use Rattle.std.specs.Prelude.{◌≡◌, ◌<◌, IsTrue, IfErr, IfSome, OnOk, OnErr, false, drop, slice_get, length};
 ghost use Rattle.sqlite.specs.Table.{Table};
 ghost use Rattle.sqlite.specs.State.{HasCleanDisk, Survives};
 ghost use Rattle.sqlite.specs.Held.{state};
 ghost use Rattle.sql_meanings.specs.Calls.{Says, Inside};
 ghost use Rattle.sql_meanings.specs.Making.{CreatesOnly, KeepsTables};
 ghost use Rattle.sql_meanings.specs.Outcomes.{WriteKept, WritesKept, MakesTold};
+ghost use Rattle.store_rows.specs.Failures.{HasFailed, HasFailedAtLast};
 ghost use Rattle.store_rows.specs.View.{Shows};
 ghost use Rattle.store_rows.specs.Creation.{AreEmpty, all_texts, new_tables, MakesAll, StartsBank};
 ghost use Rattle.store_rows.specs.Creation.{CreatesBank, CreationFails, HasNewBank, IsAlone};
@@ -19,7 +20,7 @@ fn make_table<S: Alter>(tx: &mut Transaction<'_, S>, text: &str) -> Result<usize
     ensures { Says S.Store tx.old tx.new
         (Inside (λ old new. (table : Table) → CreatesOnly text.now table
         → MakesTold old new text.now table result))
-        (Inside (λ old new. WriteKept old new result)) }
+        (Inside (λ old new. WriteKept old new result × IfErr result (HasFailed old new))) }
 {
     tx.execute(text, &[])
 }
@@ -32,12 +33,16 @@ fn make_text(at: usize) -> &'static str
     MAKE_TABLES[at]
 }
 
-fn make_tables<S: Alter>(tx: &mut Transaction<'_, S>) -> Result<(), Error>
-    ensures { Says S.Store tx.old tx.new
-        (Inside (λ old new. MakesAll all_texts old new result))
+/// Makes the tables from this place in their order on.
+pub(crate) fn make_tables<S: Alter>(tx: &mut Transaction<'_, S>, first: usize) -> Result<(), Error>
+    requires { first < length all_texts }
+    ensures says { Says S.Store tx.old tx.new
+        (Inside (λ old new. MakesAll (drop first all_texts) old new result))
         (Inside (λ old new. WritesKept old new result)) }
+    ensures failed { HasCleanDisk (state S.Store tx.new.conn.now) → IsTrue tx.old.conn.now.in_transaction
+        → IfErr result (HasFailedAtLast S.Store tx.old.conn.now tx.new.conn.now) }
 {
-    for at in 0..MAKE_TABLES.len() {
+    for at in first..MAKE_TABLES.len() {
         make_table(tx, make_text(at))?;
     }
     Ok(())
@@ -59,7 +64,7 @@ pub fn create_tables<S: Alter>(tx: &mut Transaction<'_, S>) -> Result<(), Error>
         (Inside (λ old new. CreatesBank old new result))
         (Inside (λ old new. WritesKept old new result)) }
 {
-    make_tables(tx)?;
+    make_tables(tx, 0)?;
     add_meta(tx)?;
     Ok(())
 }

@@ -1,6 +1,7 @@
 //! The tables of a bank in `sqlite`, one statement a function, whatever else the file holds. A posting of
 //! TPC-B (clause 1.2) writes four of them: the account, the teller, the branch and the history. One more
-//! keeps the requests that were decided, with their replies, and one has a single row of the bank as a whole.
+//! keeps the requests that were decided, with their replies, another the references of those that have one, and
+//! another the floors of branches; and one has a single row of the bank as a whole.
 //!
 //! A function looks up a row, adds one or writes a number of one, inside a transaction of its caller;
 //! [`commit`] makes last what was written, and a transaction that is dropped without it is undone. The
@@ -57,6 +58,7 @@ mod laws;
 mod metas;
 mod migration;
 mod probes;
+mod references;
 mod requests;
 mod statements;
 mod texts;
@@ -70,6 +72,7 @@ pub use history::add_history;
 pub use holders::{Holder, Member, add_member, balance_of, set_balance};
 pub use laws::trees_show_law;
 pub use metas::{StoredMeta, VERSION, read_meta, set_decided, set_version};
-pub use migration::{BEFORE_FLOORS, make_floors};
+pub use migration::{EARLIEST, make_lacking};
 pub use probes::{BEHIND_META, BankTable, probe_table};
+pub use references::{add_reference, find_reference};
 pub use requests::{add_request, find_request};

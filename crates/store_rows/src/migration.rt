@@ -1,22 +1,26 @@
-//! The table that a bank of the version before floors hasn't.
-ghost use Rattle.std.specs.Prelude.{IfErr};
+//! The tables that a bank of an earlier version lacks.
+ghost use Rattle.std.specs.Prelude.{IfErr, IsTrue};
+ghost use Rattle.sqlite.specs.Held.{state};
+ghost use Rattle.sqlite.specs.State.{HasCleanDisk};
 ghost use Rattle.sql_meanings.specs.Calls.{Inside, Says};
-ghost use Rattle.sql_meanings.specs.Outcomes.{WriteKept};
-ghost use Rattle.store_rows.specs.Failures.{HasFailed};
-ghost use Rattle.store_rows.specs.Migration.{MakesFloors};
+ghost use Rattle.sql_meanings.specs.Outcomes.{WritesKept};
+ghost use Rattle.store_rows.specs.Failures.{HasFailedAtLast};
+ghost use Rattle.store_rows.specs.Migration.{IsEarlier, MakesLacking};
 
-use crate::texts::MAKE_FLOOR;
+use crate::creation::make_tables;
 use sqlite::{Alter, Error, Transaction};
 
-/// The version of the tables before branches had floors.
-pub const BEFORE_FLOORS: i64 = 1;
+/// The first version of the tables.
+pub const EARLIEST: i64 = 1;
 
-/// Makes the table of floors, beside whatever is there.
-pub fn make_floors<S: Alter>(tx: &mut Transaction<'_, S>) -> Result<(), Error>
-    ensures { Says S.Store tx.old tx.new
-        (Inside (λ old new. MakesFloors old new result))
-        (Inside (λ old new. WriteKept old new result × IfErr result (HasFailed old new))) }
+/// Makes the tables that an earlier version lacks, beside whatever is there.
+pub fn make_lacking<S: Alter>(tx: &mut Transaction<'_, S>, from: u64) -> Result<(), Error>
+    requires { IsEarlier from }
+    ensures says { Says S.Store tx.old tx.new
+        (Inside (λ old new. MakesLacking from old new result))
+        (Inside (λ old new. WritesKept old new result)) }
+    ensures failed { HasCleanDisk (state S.Store tx.new.conn.now) → IsTrue tx.old.conn.now.in_transaction
+        → IfErr result (HasFailedAtLast S.Store tx.old.conn.now tx.new.conn.now) }
 {
-    tx.execute(MAKE_FLOOR, &[])?;
-    Ok(())
+    make_tables(tx, 5 + from as usize)
 }

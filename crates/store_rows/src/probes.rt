@@ -8,8 +8,8 @@ ghost use Rattle.store_rows.specs.Calls.{Probes};
 ghost use Rattle.store_rows.specs.Probes.{probe_of};
 
 use crate::texts::{
-    PROBE_ACCOUNT, PROBE_BRANCH, PROBE_FLOOR, PROBE_HISTORY, PROBE_META, PROBE_REQUEST,
-    PROBE_TELLER,
+    PROBE_ACCOUNT, PROBE_BRANCH, PROBE_FLOOR, PROBE_HISTORY, PROBE_META, PROBE_REFERENCE,
+    PROBE_REQUEST, PROBE_TELLER,
 };
 use sqlite::{Alter, Connection, Error};
 
@@ -23,6 +23,7 @@ pub enum BankTable {
     History,
     Request,
     Floor,
+    Reference,
 }
 
 /// The tables of a bank behind `meta`, in their order.
@@ -33,6 +34,7 @@ pub const BEHIND_META: &[BankTable] = &[
     BankTable::History,
     BankTable::Request,
     BankTable::Floor,
+    BankTable::Reference,
 ];
 
 // Whether the error says that a text isn't understood.
@@ -69,6 +71,7 @@ fn probe_text(table: BankTable) -> &'static str
         BankTable::History => PROBE_HISTORY,
         BankTable::Request => PROBE_REQUEST,
         BankTable::Floor => PROBE_FLOOR,
+        BankTable::Reference => PROBE_REFERENCE,
     }
 }
 

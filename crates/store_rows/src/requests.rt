@@ -6,10 +6,10 @@ ghost use Rattle.posting_rules.specs.Changes.{with_request};
 ghost use Rattle.store_rows.specs.Calls.{AddsRow, LooksUp};
 ghost use Rattle.store_rows.specs.Columns.{request_in};
 ghost use Rattle.store_rows.specs.Forms.{request_form};
-ghost use Rattle.store_rows.specs.Outcomes.{ReadsKept};
+ghost use Rattle.store_rows.specs.Outcomes.{ReadsDecision};
 ghost use Rattle.store_rows.specs.Rules.{RequestKeeps};
 ghost use Rattle.store_rows.specs.BankTables.{request as table};
-ghost use Rattle.store_rows.specs.Stored.{IsKept, ReadsStored, request_stored};
+ghost use Rattle.store_rows.specs.Stored.{IsDecision, ReadsStored, request_stored};
 
 use crate::columns::{cents_at, outcome_at, whole_at};
 use crate::fault::TableFault;
@@ -17,20 +17,22 @@ use crate::found::{FromRow, found};
 use crate::statements::{put_in, row_under_two};
 use crate::texts::{ADD_REQUEST, GET_REQUEST};
 use message_records::{Number, Teller};
-use posting_rules::{Kept, RequestRow, Rule};
+use posting_rules::{Decision, RequestRow, Rule};
 use sqlite::{Alter, Row, Transaction, params};
 
-// What a row keeps of a request.
-fn kept_from(row: &Row) -> Result<Kept, TableFault>
-    ensures reads { ReadsKept row.now result }
-    ensures stored { ReadsStored request_stored IsKept RequestKeeps row.now result }
+// What a row says was decided of a request.
+fn decision_from(row: &Row) -> Result<Decision, TableFault>
+    ensures reads { ReadsDecision row.now result }
+    ensures stored { ReadsStored request_stored IsDecision RequestKeeps row.now result }
 {
     let account = whole_at(row, 3, Rule::Request)?;
     let branch = whole_at(row, 4, Rule::Request)?;
     let delta = cents_at(row, 5, Rule::Request)?;
     let outcome = outcome_at(row, 6)?;
     let balance = cents_at(row, 7, Rule::Request)?;
-    Kept::new(account, branch, delta, outcome, balance).ok_or(TableFault::Damaged(Rule::Request))
+    Decision::new(account, branch, delta, outcome, balance).ok_or(TableFault::Damaged(
+        Rule::Request,
+    ))
 }
 
 impl FromRow for RequestRow {
@@ -43,7 +45,7 @@ impl FromRow for RequestRow {
             ordinal: whole_at(row, 0, Rule::Value)?,
             teller: whole_at(row, 1, Rule::Request)?,
             number: whole_at(row, 2, Rule::Request)?,
-            kept: kept_from(row)?,
+            decision: decision_from(row)?,
         })
     }
 }
@@ -68,11 +70,11 @@ pub fn add_request<S: Alter>(tx: &mut Transaction<'_, S>, row: RequestRow) -> Re
     let key = row.ordinal.get() as i64;
     let teller = row.teller.get() as i64;
     let number = row.number.get() as i64;
-    let account = row.kept.account().get() as i64;
-    let branch = row.kept.branch().get() as i64;
-    let delta = row.kept.delta().get();
-    let outcome = i64::from(row.kept.outcome().code());
-    let balance = row.kept.balance().get();
+    let account = row.decision.account().get() as i64;
+    let branch = row.decision.branch().get() as i64;
+    let delta = row.decision.delta().get();
+    let outcome = i64::from(row.decision.outcome().code());
+    let balance = row.decision.balance().get();
     let values = params![
         key, teller, number, account, branch, delta, outcome, balance
     ];

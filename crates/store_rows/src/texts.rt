@@ -31,6 +31,10 @@ pub(crate) const MAKE_REQUEST: &str =
 pub(crate) const MAKE_FLOOR: &str =
     "CREATE TABLE branch_floor (bid INTEGER PRIMARY KEY, lowest INTEGER NOT NULL) STRICT";
 
+/// Makes the table `request_reference`.
+pub(crate) const MAKE_REFERENCE: &str =
+    "CREATE TABLE request_reference (ordinal INTEGER PRIMARY KEY, reference TEXT NOT NULL) STRICT";
+
 /// The texts that make the tables, in the order in which they are made.
 pub(crate) const MAKE_TABLES: &[&str] = &[
     MAKE_META,
@@ -40,6 +44,7 @@ pub(crate) const MAKE_TABLES: &[&str] = &[
     MAKE_HISTORY,
     MAKE_REQUEST,
     MAKE_FLOOR,
+    MAKE_REFERENCE,
 ];
 
 /// The row of meta.
@@ -106,6 +111,14 @@ pub(crate) const GET_FLOOR: &str = "SELECT bid, lowest FROM branch_floor WHERE b
 /// A floor more.
 pub(crate) const ADD_FLOOR: &str = "INSERT INTO branch_floor (bid, lowest) VALUES (?1, ?2)";
 
+/// The reference of a decided request.
+pub(crate) const GET_REFERENCE: &str =
+    "SELECT ordinal, reference FROM request_reference WHERE ordinal = ?1";
+
+/// A reference more.
+pub(crate) const ADD_REFERENCE: &str =
+    "INSERT INTO request_reference (ordinal, reference) VALUES (?1, ?2)";
+
 /// Names every column of `meta`.
 pub(crate) const PROBE_META: &str = "SELECT id, version, decided FROM meta";
 
@@ -127,3 +140,6 @@ pub(crate) const PROBE_REQUEST: &str =
 
 /// Names every column of `branch_floor`.
 pub(crate) const PROBE_FLOOR: &str = "SELECT bid, lowest FROM branch_floor";
+
+/// Names every column of `request_reference`.
+pub(crate) const PROBE_REFERENCE: &str = "SELECT ordinal, reference FROM request_reference";

@@ -1,5 +1,9 @@
 -- What the tables and the first row leave.
-use Rattle.std.proofs.Common.{rules}
+use Rattle.std.proofs.Common.{◌≡◌, ◌∙◌, Err, arith, rules}
+use Rattle.sqlite.specs.State.{HasCleanDisk}
+use Rattle.sqlite.specs.Held.{state}
+use Rattle.sql_meanings.proofs.Saying.{survives_both}
+use Rattle.store_rows.proofs.AddMeta.{starts_not}
 use Rattle.store_rows.proofs.creation.create_tables.Goals as goal
 
 pub returns : goal.returns
@@ -9,3 +13,21 @@ returns g c = record {
   kept = search rules;
   survives = search rules;
 }
+
+pub returns-in_err-add_meta : goal.returns-in_err-add_meta
+returns-in_err-add_meta g c =
+    let e = c.in_err-add_meta in
+    let same : c.from_residual-in_err-add_meta.result ≡ Err e.field-0.0 = search rules in
+    let one = c.in_ok-make_tables.ensures.says in
+    let two = e.ensures in
+    record {
+      same_reference = two.same_reference ∙ one.same_reference;
+      told = λ clean live.
+          let before : HasCleanDisk (state g.S.Store c.make_tables.new.tx.conn.now) = omega
+          (arith, two.survives.clean) in
+          let made = one.told before live in
+          rw same (starts_not _ _ _ e.field-0.0 made.0 made.1 made.2 one.survives.limit one.survives.counts
+          (two.told clean made.1.0.mode made.0.empty));
+      kept = search rules;
+      survives = survives_both _ _ _ one.survives two.survives;
+    }

@@ -1,15 +1,29 @@
 -- What a CREATE TABLE leaves.
-use Rattle.std.proofs.Common.{rules}
+use Rattle.std.proofs.Common.{ℕ, List, [], Ok, Err, Result, rules}
+use Rattle.std.specs.Prelude.{IfErr}
+use Rattle.sqlite.specs.State.{State, ExecutesInside}
+use Rattle.sqlite.specs.declared.error.Error.{Error}
 use Rattle.sql_meanings.proofs.MakeFailures.{makes_told}
+use Rattle.sql_meanings.proofs.Makings.{kept_inside}
+use Rattle.store_rows.specs.Failures.{Changing, HasFailed}
 use Rattle.store_rows.proofs.CreateTexts.{sequence}
 use Rattle.store_rows.proofs.creation.make_table.Goals as goal
+
+-- it is this call that failed
+failed : (old new : State) (text : List ℕ) (r : Result ℕ Error) → ExecutesInside 0 text [] old new r
+    → IfErr r (HasFailed old new)
+failed old new text (Ok count) ran = tt
+failed old new text (Err e) ran = Changing text [] ran
 
 pub returns : goal.returns
 returns g c = record {
   told = λ clean live t creates. makes_told _ _ c.args.text.now t creates sequence.0 sequence.1
       c.execute.result
       (c.execute.ensures.runs clean live);
-  kept = search rules;
+  kept = λ clean live. (
+    kept_inside _ _ c.args.text.now [] c.execute.result (c.execute.ensures.runs clean live),
+    failed _ _ c.args.text.now c.execute.result (c.execute.ensures.runs clean live),
+  );
   same_reference = search rules;
   survives = search rules;
 }

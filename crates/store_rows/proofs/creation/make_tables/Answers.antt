@@ -1,11 +1,12 @@
 -- One creation after another, and how each may fail.
-use Rattle.std.proofs.Common.{length, ◌≡◌, ℕ, List, Err, inl, inr, refl, rules, subst, ◌∙◌, arith, false}
-use Rattle.std.proofs.Common.{IsTrue, lit<}
+use Rattle.std.proofs.Common.{◌≡◌, ◌+◌, ◌-◌, ◌<◌, ◌≤◌, ℕ, List, length, length-drop, drop, slice_get, Some, Ok, Err, inl, inr}
+use Rattle.std.proofs.Common.{refl, ap, rules, subst, ◌∙◌, arith, false, IsTrue}
+use Rattle.std.specs.List.{AllByRecursion}
 use Rattle.sqlite.specs.State.{HasCleanDisk}
 use Rattle.sqlite.specs.Held.{state}
 use Rattle.sqlite.specs.Table.{Table}
 use Rattle.sql_meanings.specs.Making.{CreatesOnly}
-use Rattle.sql_meanings.proofs.Places.{each_at, some_at}
+use Rattle.sql_meanings.proofs.Places.{all_later, all_weaker, each_at, later_at, some_at}
 use Rattle.sql_meanings.proofs.Saying.{survives_both}
 use Rattle.store_rows.specs.Creation.{MakesAll, all_texts}
 use Rattle.store_rows.proofs.CreateTexts.{each_creates}
@@ -13,48 +14,74 @@ use Rattle.store_rows.proofs.CreationSteps.{begun_live, ends_made, makes_leave, 
 use Rattle.store_rows.proofs.MadeSoFar.{Reached}
 use Rattle.store_rows.proofs.creation.make_tables.Goals as goal
 
+-- the text at a place is the one behind the first so many
+text_at : (first at : ℕ) (it : List ℕ × Table) → first ≤ at → slice_get all_texts at ≡ Some it
+    → slice_get (drop first all_texts) (at - first) ≡ Some it
+text_at first at it past is =
+    let same : first + (at - first) ≡ at = omega (arith, past) in
+    later_at all_texts first (at - first) ∙ ap (slice_get all_texts) same ∙ is
+
+-- what each of them makes
+creates_at : (at : ℕ) (it : List ℕ × Table) → slice_get all_texts at ≡ Some it → CreatesOnly it.0 it.1
+creates_at at it is =
+    (each_at (λ (it : List ℕ × Table). CreatesOnly it.0 it.1 × (it.1.is_counted ≡ false)) all_texts each_creates at it
+    is).0
+
+-- none of them counts its rows
+uncounted : (first : ℕ) → AllByRecursion (λ it. it.1.is_counted ≡ false) (drop first all_texts)
+uncounted first =
+    all_later (λ (it : List ℕ × Table). it.1.is_counted ≡ false) all_texts first
+    (all_weaker (λ (it : List ℕ × Table). CreatesOnly it.0 it.1 × (it.1.is_counted ≡ false))
+    (λ it. it.1.is_counted ≡ false) (λ it both. both.1) all_texts each_creates)
+
 pub loop-at-init : goal.loop-at-init
 loop-at-init g c = record {
-  same_reference = refl;
-  begun = λ clean live. inl (refl, refl);
-  survives = search
-      rules;
+  past = omega arith;
+  going = record {
+    same_reference = refl;
+    begun = λ clean live. inl (omega arith, refl);
+    survives = search rules;
+  };
 }
 
 pub loop-at-preserved : goal.loop-at-preserved
 loop-at-preserved g c =
-    let made = c.loop-at.at in
-    let so_far = c.loop-at.invariant in
-    let next = some_at all_texts made (omega arith) in
+    let first = c.args.first in
+    let at = c.loop-at.at in
+    let past = c.loop-at.invariant.past in
+    let so_far = c.loop-at.invariant.going in
+    let next = some_at all_texts at (omega arith) in
+    let has = text_at first at next.0 past next.1 in
     let text : c.make_text.result.now ≡ next.0.0 = rw next.1 at c.make_text.ensures in
-    let facts = each_at (λ (it : List ℕ × Table). CreatesOnly it.0 it.1 × (it.1.is_counted ≡ false)) all_texts
-    each_creates made next.0 next.1 in
     let here = c.in_ok-make_table.ensures in
     record {
-      same_reference = here.same_reference ∙ so_far.same_reference;
-      begun = λ clean live.
-          let before : HasCleanDisk (state g.S.Store c.loop-at.tx.conn.now) = omega
-          (arith, here.survives.clean) in
-          let begun = so_far.begun before live in
-          let still =
-          begun_live all_texts g.S.Store c.args.tx.now.conn.now c.loop-at.tx.conn.now made begun live in
-          let told = here.told clean still next.0.1 (rw text facts.0) in
-          inr (subst (λ n. Reached all_texts (state g.S.Store c.args.tx.now.conn.now)
-          (state g.S.Store c.make_table.new.tx.conn.now) n) (omega arith)
-          (one_more all_texts g.S.Store c.args.tx.now.conn.now c.loop-at.tx.conn.now
-          (state g.S.Store c.make_table.new.tx.conn.now) made next.0 next.1
-          facts.1 told (here.kept clean still) here.survives.counts begun));
-      survives = survives_both _ _ _ so_far.survives here.survives;
+      past = omega (arith, past);
+      going = record {
+        same_reference = here.same_reference ∙ so_far.same_reference;
+        begun = λ clean live.
+            let before : HasCleanDisk (state g.S.Store c.loop-at.tx.conn.now) = omega
+            (arith, here.survives.clean) in
+            let begun = so_far.begun before live in
+            let still = begun_live (drop first all_texts) g.S.Store c.args.tx.now.conn.now c.loop-at.tx.conn.now
+            (at - first) begun live in
+            let told = here.told clean still next.0.1 (rw text (creates_at at next.0 next.1)) in
+            inr (subst (λ n. Reached (drop first all_texts) (state g.S.Store c.args.tx.now.conn.now)
+            (state g.S.Store c.make_table.new.tx.conn.now) n) (omega (arith, past))
+            (one_more (drop first all_texts) g.S.Store c.args.tx.now.conn.now c.loop-at.tx.conn.now
+            (state g.S.Store c.make_table.new.tx.conn.now) (at - first) next.0 has told
+            (here.kept clean still).0 here.survives.counts begun));
+        survives = survives_both _ _ _ so_far.survives here.survives;
+      };
     }
 
-pub returns-in_err-make_table : goal.returns-in_err-make_table
-returns-in_err-make_table g c =
-    let made = c.loop-at.at in
-    let so_far = c.loop-at.invariant in
-    let next = some_at all_texts made (omega arith) in
+pub returns-in_err-make_table-clause-says : goal.returns-in_err-make_table-clause-says
+returns-in_err-make_table-clause-says g c =
+    let first = c.args.first in
+    let at = c.loop-at.at in
+    let so_far = c.loop-at.invariant.going in
+    let next = some_at all_texts at (omega arith) in
+    let has = text_at first at next.0 c.loop-at.invariant.past next.1 in
     let text : c.make_text.result.now ≡ next.0.0 = rw next.1 at c.make_text.ensures in
-    let facts = each_at (λ (it : List ℕ × Table). CreatesOnly it.0 it.1 × (it.1.is_counted ≡ false)) all_texts
-    each_creates made next.0 next.1 in
     let e = c.in_err-make_table.field-0.0 in
     let here = c.in_err-make_table.ensures in
     let same : c.from_residual.result ≡ Err e = search rules in
@@ -62,28 +89,47 @@ returns-in_err-make_table g c =
     let mid = c.loop-at.tx.conn.now in
     let new = state g.S.Store c.make_table.new.tx.conn.now in
     let fails : HasCleanDisk new → IsTrue old.in_transaction
-    → MakesAll all_texts (state g.S.Store old) new (Err e) = λ clean live.
+    → MakesAll (drop first all_texts) (state g.S.Store old) new (Err e) = λ clean live.
     let before : HasCleanDisk (state g.S.Store mid) = omega (arith, here.survives.clean) in
     let begun = so_far.begun before live in
-    let still = begun_live all_texts g.S.Store old mid made begun live in
-    then_fails all_texts g.S.Store old mid new made next.0 next.1 e still
-    (rw text at (here.told clean still next.0.1 (rw text facts.0))) begun in
+    let still = begun_live (drop first all_texts) g.S.Store old mid (at - first) begun live in
+    then_fails (drop first all_texts) g.S.Store old mid new (at - first) next.0 has e still
+    (rw text at (here.told clean still next.0.1 (rw text (creates_at at next.0 next.1)))) begun in
     record {
       same_reference = here.same_reference ∙ so_far.same_reference;
       told = λ clean live. rw same (fails clean live);
-      kept = λ clean live. rw same (makes_leave all_texts (state g.S.Store old) new e (fails clean live));
+      kept = λ clean live. rw same (makes_leave (drop first all_texts) (state g.S.Store old) new e (fails clean live));
       survives = survives_both _ _ _ so_far.survives here.survives;
     }
 
-pub returns : goal.returns
-returns g c =
-    let all : c.loop-at.at ≡ length all_texts = omega arith in
-    let so_far = c.loop-at.invariant in
+pub returns-in_err-make_table-clause-failed : goal.returns-in_err-make_table-clause-failed
+returns-in_err-make_table-clause-failed g c clean live =
+    let first = c.args.first in
+    let at = c.loop-at.at in
+    let so_far = c.loop-at.invariant.going in
+    let e = c.in_err-make_table.field-0.0 in
+    let here = c.in_err-make_table.ensures in
+    let same : c.from_residual.result ≡ Err e = search rules in
+    let old = c.args.tx.now.conn.now in
+    let mid = c.loop-at.tx.conn.now in
+    let before : HasCleanDisk (state g.S.Store mid) = omega (arith, here.survives.clean) in
+    let still = begun_live (drop first all_texts) g.S.Store old mid (at - first) (so_far.begun before live) live in
+    rw same (record { at = mid; before = so_far.survives; failed = (here.kept clean still).1 })
+
+pub returns-clause-says : goal.returns-clause-says
+returns-clause-says g c =
+    let first = c.args.first in
+    let so_far = c.loop-at.invariant.going in
+    let all : c.loop-at.at - first ≡ length (drop first all_texts) =
+    omega (arith, length-drop first all_texts, c.loop-at.invariant.past) in
+    let some : 0 < length (drop first all_texts) = omega (arith, length-drop first all_texts, c.requires) in
+    let ends : HasCleanDisk (state g.S.Store c.loop-at.tx.conn.now) → IsTrue c.args.tx.now.conn.now.in_transaction
+    → MakesAll (drop first all_texts) (state g.S.Store c.args.tx.now.conn.now) (state g.S.Store c.loop-at.tx.conn.now)
+    (Ok tt) = λ clean live. ends_made (drop first all_texts) g.S.Store c.args.tx.now.conn.now c.loop-at.tx.conn.now
+    (uncounted first) some (rw all at (so_far.begun clean live)) in
     record {
       same_reference = so_far.same_reference;
-      told = λ clean live. ends_made all_texts g.S.Store c.args.tx.now.conn.now c.loop-at.tx.conn.now
-          (lit< tt) (rw all at (so_far.begun clean live));
-      kept = λ clean live. (ends_made all_texts g.S.Store c.args.tx.now.conn.now c.loop-at.tx.conn.now
-          (lit< tt) (rw all at (so_far.begun clean live))).1.0;
+      told = λ clean live. ends clean live;
+      kept = λ clean live. (ends clean live).1.0;
       survives = so_far.survives;
     }

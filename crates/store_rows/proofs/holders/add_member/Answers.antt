@@ -7,11 +7,11 @@ use Rattle.store_rows.proofs.holders.add_member.Goals as goal
 pub returns-in-Account : goal.returns-in-Account
 returns-in-Account g c =
     rw c.in-Account.is
-    (rows_put.account _ g.S.Store _ _ (account_row_of c.in-Account.account c.args.balance) (omega arith)
+    (rows_put.account (account_row_of c.in-Account.account c.args.balance) _ g.S.Store _ _ (omega arith)
     c.put_balance.result (rw c.get.ensures.value at c.put_balance.ensures))
 
 pub returns-in-Teller : goal.returns-in-Teller
 returns-in-Teller g c =
     rw c.in-Teller.is
-    (rows_put.teller _ g.S.Store _ _ (teller_row_of c.in-Teller.teller c.args.balance) (omega arith)
+    (rows_put.teller (teller_row_of c.in-Teller.teller c.args.balance) _ g.S.Store _ _ (omega arith)
     c.put_balance-in-Teller.result (rw c.get-in-Teller.ensures.value at c.put_balance-in-Teller.ensures))

@@ -6,7 +6,7 @@ use Rattle.store_rows.proofs.Writes.{rows_put}
 use Rattle.store_rows.proofs.requests.add_request.Goals as goal
 
 pub returns : goal.returns
-returns g c = rows_put.request _ g.S.Store _ _ c.args.row (omega arith) c.put_in.result (rw (
+returns g c = rows_put.request c.args.row _ g.S.Store _ _ (omega arith) c.put_in.result (rw (
   whole_column c.params-to_sql.ensures c.get-key.ensures.value (omega arith),
   whole_column c.params-to_sql-2.ensures c.get-teller.ensures.value (omega arith),
   whole_column c.params-to_sql-3.ensures c.get-number.ensures.value (omega arith),

@@ -6,10 +6,10 @@ use Rattle.message_records.specs.declared.limits.TheConstants.{MAX_DELTA}
 use Rattle.posting_rules.specs.declared.fault.Rule.TheVariants.{Request}
 use Rattle.store_rows.specs.Columns.{number_at}
 use Rattle.store_rows.specs.Rules.{RequestKeeps}
-use Rattle.store_rows.specs.Stored.{IsKept, request_stored}
+use Rattle.store_rows.specs.Stored.{IsDecision, request_stored}
 use Rattle.store_rows.proofs.StoredFrom.{keeps_stored, no_outcome}
 use Rattle.store_rows.proofs.StoredReads.{unread_cents, unread_whole}
-use Rattle.store_rows.proofs.requests.kept_from.Goals as goal
+use Rattle.store_rows.proofs.requests.decision_from.Goals as goal
 
 pub returns-clause-reads : goal.returns-clause-reads
 returns-clause-reads c =
@@ -43,7 +43,7 @@ pub returns-in_err-account-clause-stored : goal.returns-in_err-account-clause-st
 returns-in_err-account-clause-stored c =
     let e = c.in_err-account in
     let same : c.from_residual.result ≡ Err e.field-0.0 = search rules in
-    rw same (unread_whole request_stored IsKept RequestKeeps c.args.row.now Request 3 (number_at 2)
+    rw same (unread_whole request_stored IsDecision RequestKeeps c.args.row.now Request 3 (number_at 2)
     (λ _. refl) 1 MAX_ACCOUNT 1 MAX_ACCOUNT
     (omega arith) (omega arith) (λ r kept. kept.account) e.field-0.0 e.ensures.reads)
 
@@ -51,7 +51,7 @@ pub returns-in_err-branch-clause-stored : goal.returns-in_err-branch-clause-stor
 returns-in_err-branch-clause-stored c =
     let e = c.in_err-branch in
     let same : c.from_residual-in_err-branch.result ≡ Err e.field-0.0 = search rules in
-    rw same (unread_whole request_stored IsKept RequestKeeps c.args.row.now Request 4 (number_at 3)
+    rw same (unread_whole request_stored IsDecision RequestKeeps c.args.row.now Request 4 (number_at 3)
     (λ _. refl) 1 MAX_BRANCH 1 MAX_BRANCH
     (omega arith) (omega arith) (λ r kept. kept.branch) e.field-0.0 e.ensures.reads)
 
@@ -59,7 +59,7 @@ pub returns-in_err-delta-clause-stored : goal.returns-in_err-delta-clause-stored
 returns-in_err-delta-clause-stored c =
     let e = c.in_err-delta in
     let same : c.from_residual-in_err-delta.result ≡ Err e.field-0.0 = search rules in
-    rw same (unread_cents request_stored IsKept RequestKeeps c.args.row.now Request 5 (number_at 4)
+    rw same (unread_cents request_stored IsDecision RequestKeeps c.args.row.now Request 5 (number_at 4)
     (λ _. refl) MAX_DELTA
     (omega arith) (λ r kept. kept.delta) e.field-0.0 e.ensures.reads)
 
@@ -73,6 +73,6 @@ pub returns-in_err-balance-clause-stored : goal.returns-in_err-balance-clause-st
 returns-in_err-balance-clause-stored c =
     let e = c.in_err-balance in
     let same : c.from_residual-in_err-balance.result ≡ Err e.field-0.0 = search rules in
-    rw same (unread_cents request_stored IsKept RequestKeeps c.args.row.now Request 7 (number_at 6)
+    rw same (unread_cents request_stored IsDecision RequestKeeps c.args.row.now Request 7 (number_at 6)
     (λ _. refl) MAX_BALANCE
     (omega arith) (λ r kept. kept.balance) e.field-0.0 e.ensures.reads)

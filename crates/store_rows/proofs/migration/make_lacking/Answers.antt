@@ -1,0 +1,26 @@
+-- The tables are made, or why one isn't.
+use Rattle.std.proofs.Common.{◌≡◌, ◌+◌, ℕ, Ok, Err, Result, drop, rules}
+use Rattle.sqlite.specs.State.{State}
+use Rattle.sqlite.specs.declared.error.Error.{Error}
+use Rattle.store_rows.specs.Creation.{MakesAll}
+use Rattle.store_rows.specs.Migration.{MakesLacking, lacking}
+use Rattle.store_rows.proofs.Lacking.{lacking_made}
+use Rattle.store_rows.proofs.migration.make_lacking.Goals as goal
+
+told : (from : ℕ) (old new : State) (r : Result (Unit {0}) Error) → MakesAll (lacking from) old new r
+    → MakesLacking from old new r
+told from old new (Ok done) made = (lacking_made from old.now new.now made.0, made.1)
+told from old new (Err e) fails = fails
+
+pub returns-clause-says : goal.returns-clause-says
+returns-clause-says g c =
+    let all = c.make_tables.ensures.says in
+    record {
+      same_reference = all.same_reference;
+      told = λ clean live. told c.args.from _ _ c.make_tables.result (all.told clean live);
+      kept = λ clean live. all.kept clean live;
+      survives = all.survives;
+    }
+
+pub returns-clause-failed : goal.returns-clause-failed
+returns-clause-failed g c = c.make_tables.ensures.failed

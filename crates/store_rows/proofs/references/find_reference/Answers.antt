@@ -1,0 +1,9 @@
+-- What there is under the ordinal.
+use Rattle.store_rows.proofs.Seeking.{seeks_reference}
+use Rattle.store_rows.proofs.Telling.{looks_up}
+use Rattle.store_rows.proofs.references.find_reference.Goals as goal
+
+pub returns : goal.returns
+returns g c = looks_up g.S.Store _ _ (seeks_reference c.args.ordinal) c.row_under.result c.found.result
+    c.found.ensures.reads c.found.ensures.stored
+    (rw c.get.ensures.value at c.row_under.ensures)

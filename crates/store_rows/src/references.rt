@@ -1,0 +1,60 @@
+//! The table of references: what a decided request is referred to by.
+ghost use Rattle.std.specs.Prelude.{Some, is_some};
+ghost use Rattle.posting_rules.specs.Tables.{row_at, reference_key};
+ghost use Rattle.posting_rules.specs.Changes.{with_reference};
+ghost use Rattle.store_rows.specs.Calls.{AddsRow, LooksUp};
+ghost use Rattle.store_rows.specs.Forms.{reference_form};
+ghost use Rattle.store_rows.specs.Rules.{row_under};
+ghost use Rattle.store_rows.specs.BankTables.{reference as table};
+
+use crate::columns::{reference_at, whole_at};
+use crate::fault::TableFault;
+use crate::found::{FromRow, found};
+use crate::statements::{put_in, row_under};
+use crate::texts::{ADD_REFERENCE, GET_REFERENCE};
+use posting_rules::{Ordinal, ReferenceRow, Rule};
+use sqlite::types::ValueRef;
+use sqlite::{Alter, Row, Transaction};
+
+impl FromRow for ReferenceRow {
+    ghost use Rattle.store_rows.specs.Forms.{reference_form as form};
+
+    ghost form = { form };
+
+    fn from_row(row: &Row) -> Result<Self, TableFault> {
+        Ok(ReferenceRow {
+            ordinal: whole_at(row, 0, Rule::Value)?,
+            reference: reference_at(row, 1)?,
+        })
+    }
+}
+
+/// The reference of a decided request, if it has a row.
+pub fn find_reference<S: Alter>(
+    tx: &mut Transaction<'_, S>,
+    ordinal: Ordinal,
+) -> Result<Option<ReferenceRow>, TableFault>
+    ensures { LooksUp S.Store tx.old tx.new reference_form
+        (λ tables. row_at reference_key tables.references ordinal)
+        (λ rows. row_under rows.references ordinal) result }
+{
+    found(row_under(tx, GET_REFERENCE, ordinal.get()))
+}
+
+/// Adds a reference. `Damaged(Rule::Key)` is an ordinal that has one.
+pub fn add_reference<S: Alter>(
+    tx: &mut Transaction<'_, S>,
+    row: ReferenceRow,
+) -> Result<(), TableFault>
+    ensures { AddsRow S.Store tx.old tx.new table
+        (λ tables. is_some (row_at reference_key tables.references row.ordinal))
+        (with_reference row.ordinal (Some row.reference)) result }
+{
+    let key = row.ordinal.get() as i64;
+    let text = row.reference.text();
+    put_in(
+        tx,
+        ADD_REFERENCE,
+        &[ValueRef::Int(key), ValueRef::Text(text)],
+    )
+}
