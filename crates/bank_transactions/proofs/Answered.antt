@@ -1,5 +1,5 @@
 -- Records whose slots are filled, judged and written: a single one, and those of a batch.
-use Rattle.std.proofs.Common.{◌≡◌, ℕ, List, map, Result, Ok, Err, refl, sym, ap, subst, ◌∙◌}
+use Rattle.std.proofs.Common.{◌≡◌, ℕ, List, length, map, Result, Ok, Err, refl, sym, ap, subst, ◌∙◌}
 use Rattle.sqlite.specs.Held.{state}
 use Rattle.sqlite.specs.declared.transaction.Transaction.{Transaction}
 use Rattle.sqlite_trees.specs.declared.store.Store.{Ghosts}
@@ -16,11 +16,12 @@ use Rattle.posting_rules.proofs.Ready.{ready_sound}
 use Rattle.posting_rules.proofs.Undamaged.{undamaged}
 use Rattle.posting_batch.specs.declared.batch.Batch.{Batch}
 use Rattle.posting_batch.specs.Batch.{HasHomes, HasRisingSlots, ChangesRows, AddsFreeRows, filled, covering}
-use Rattle.posting_batch.specs.Batch.{no_slots, IsJudged, IsShown}
+use Rattle.posting_batch.specs.Batch.{no_slots, HasFreeOrdinals, IsJudged, IsShown}
 use Rattle.posting_batch.specs.Judging.{overlay_with, reply_over}
 use Rattle.posting_batch.specs.Overlay.{Overlay, tables_over}
 use Rattle.posting_batch.specs.View.{view, reads_of, IsMadeOf, IsFilledFrom}
 use Rattle.posting_batch.proofs.Covered.{stands, homes_all}
+use Rattle.posting_batch.proofs.FreeOrdinals.{free_shown}
 use Rattle.posting_batch.proofs.OneRecord.{one_adds, one_back, one_changes, one_filled, one_homes, one_judged}
 use Rattle.posting_batch.proofs.OneRecord.{one_reply, one_rising, one_tables}
 use Rattle.store_rows.specs.View as stored
@@ -62,11 +63,12 @@ sound t it = undamaged t it.0 it.1 it.2
 pub record Judging {X : Type 0} (So : Tables → Type 0) (after : Tables → Tables) (wanted : Tables → X)
     (slots filled_slots judged : Overlay) (x : X) : Type 0 where
   pub ready : (t : Tables) → So t → Ready slots t
-  pub tables : (t : Tables) → filled_slots ≡ filled t slots → tables_over judged t ≡ after t
-  pub answers : (t : Tables) → filled_slots ≡ filled t slots → x ≡ wanted t
+  pub tables : (t : Tables) → So t → filled_slots ≡ filled t slots → tables_over judged t ≡ after t
+  pub answers : (t : Tables) → So t → filled_slots ≡ filled t slots → x ≡ wanted t
   pub writes : (t : Tables) → So t → filled_slots ≡ filled t slots → Written judged t
   -- where nothing is decided, the tables are as they were
-  pub back : judged.decided ≡ filled_slots.decided → (t : Tables) → filled_slots ≡ filled t slots → after t ≡ t
+  pub back : judged.decided ≡ filled_slots.decided → (t : Tables) → So t → filled_slots ≡ filled t slots
+      → after t ≡ t
 
 module _ {S X : Type 0} {g : Ghosts S} {old mid : Transaction S} {So : Tables → Type 0}
     {after : Tables → Tables} {wanted : Tables → X} {p p' o : Overlay} {x : X}
@@ -76,13 +78,15 @@ module _ {S X : Type 0} {g : Ghosts S} {old mid : Transaction S} {So : Tables �
   filled_so = does_for first (λ t it. (so.ready t it, refl, refl))
 
   -- where the count stays, it is the one that was read
-  pub counts_none : (t : Tables) → p' ≡ filled t p → (after t).decided ≡ t.decided → o.decided ≡ p'.decided
-  counts_none t e none = ap (λ (u : Tables). u.decided) (so.tables t e) ∙ none
+  pub counts_none : (t : Tables) → So t → p' ≡ filled t p → (after t).decided ≡ t.decided
+      → o.decided ≡ p'.decided
+  counts_none t it e none = ap (λ (u : Tables). u.decided) (so.tables t it e) ∙ none
       ∙ sym (ap (λ (q : Overlay). q.decided) e)
 
   -- nothing is written, and the tables are as they were
   pub answered_idle : o.decided ≡ p'.decided → Acts g old mid So after wanted (Ok x)
-  answered_idle none = acts_read (does_so filled_so (λ t it e. (sym (so.back none t e), so.answers t e)))
+  answered_idle none =
+      acts_read (does_so filled_so (λ t it e. (sym (so.back none t it e), so.answers t it e)))
 
   abbrev Knows : Tables → Type 0
   Knows t = So t × (p' ≡ filled t p)
@@ -90,13 +94,13 @@ module _ {S X : Type 0} {g : Ghosts S} {old mid : Transaction S} {So : Tables �
   written_so : {new : Transaction S} {r : Result (Unit {0}) TableFault}
       → Does {X = Unit {0}} g mid new (Written o) (λ t. tables_over o t) (λ _. tt {0}) r
       → Does {X = Unit {0}} g mid new Knows after (λ _. tt {0}) r
-  written_so second = does_for second (λ t it. (so.writes t it.0 it.1, so.tables t it.1, refl))
+  written_so second = does_for second (λ t it. (so.writes t it.0 it.1, so.tables t it.0 it.1, refl))
 
   pub answered_written : {new : Transaction S}
       → Does {X = Unit {0}} g mid new (Written o) (λ t. tables_over o t) (λ _. tt {0}) (Ok (tt {0}))
       → Acts g old new So after wanted (Ok x)
   answered_written second =
-      acts_wrote (does_both filled_so (written_so second) (λ t it e. (it, e)) (λ t it e f. so.answers t e))
+      acts_wrote (does_both filled_so (written_so second) (λ t it e. (it, e)) (λ t it e f. so.answers t it e))
 
   pub answered_not : {new : Transaction S} {e : TableFault}
       → Does {X = Unit {0}} g mid new (Written o) (λ t. tables_over o t) (λ _. tt {0}) (Err e)
@@ -112,7 +116,8 @@ ready b records made t it =
 
 pub judging_all : (b b' : Batch) (records : List (List ℕ)) (m : ℕ) (o : Overlay) (items : List (List ℕ))
     → IsMadeOf b records → reads_of b' ≡ reads_of b
-    → ((t : Tables) (rs : List (List ℕ)) → IsFilledFrom b' t rs → IsJudged o items t m rs)
+    → ((t : Tables) (rs : List (List ℕ)) → IsFilledFrom b' t rs → HasFreeOrdinals t (length rs)
+    → IsJudged o items t m rs)
     → ((t : Tables) (rs : List (List ℕ)) → IsFilledFrom b' t rs → (log : List Command)
     → AreTablesOf t log → IsShown o items t log (posts m rs))
     → (HasRisingSlots (view b'.overlay) → HasRisingSlots o)
@@ -125,18 +130,21 @@ judging_all b b' records m o items made same judged shown rising idle =
       reads = same ∙ made.reads;
       overlay = e ∙ ap (λ (p : Overlay). filled t p) made.overlay;
     } in
+    let so : (t : Tables) → AreOfALog t → view b'.overlay ≡ filled t (view b.overlay)
+    → IsJudged o items t m records =
+    λ t it e. judged t records (is t e) (free_shown t it.0 (length records) it.2) in
     record {
       ready = ready b records made;
-      tables = λ t e. (judged t records (is t e)).tables;
-      answers = λ t e. (judged t records (is t e)).answers;
+      tables = λ t it e. (so t it e).tables;
+      answers = λ t it e. (so t it e).answers;
       writes = λ t it e. (
         sound t it,
         rising (subst HasRisingSlots (sym (is t e).overlay) (stands t (map request_of records)).rising),
-        (judged t records (is t e)).changes,
+        (so t it e).changes,
         (shown t records (is t e) it.0 it.2).adds,
       );
-      back = λ none t e.
-          sym (judged t records (is t e)).tables
+      back = λ none t it e.
+          sym (so t it e).tables
           ∙ ap (λ (p : Overlay). tables_over p t) (idle none ∙ (is t e).overlay)
           ∙ (stands t (map request_of records)).same;
     }
@@ -161,8 +169,8 @@ judging_one r m p p' o reply made told after =
     λ t e. after ∙ ap (λ (q : Overlay). overlay_with q m (Ok r)) (is t e) in
     record {
       ready = ready_one r p made;
-      tables = λ t e. ap (λ (q : Overlay). tables_over q t) (so t e) ∙ one_tables t m r;
-      answers = λ t e.
+      tables = λ t it e. ap (λ (q : Overlay). tables_over q t) (so t e) ∙ one_tables t m r;
+      answers = λ t it e.
           told ∙ ap (λ (q : Overlay). reply_spelling (reply_over q (Ok r))) (is t e) ∙ one_reply t m r;
       writes = λ t it e. (
         it.undamaged,
@@ -170,7 +178,7 @@ judging_one r m p p' o reply made told after =
         subst (λ (q : Overlay). ChangesRows q t) (sym (so t e)) (one_changes t m r),
         subst (λ (q : Overlay). AddsFreeRows q t) (sym (so t e)) (one_adds t m r (ready_sound t it)),
       );
-      back = λ none t e.
+      back = λ none t it e.
           one_back t m r (sym (ap (λ (q : Overlay). q.decided) (so t e)) ∙ none
           ∙ ap (λ (q : Overlay). q.decided) (is t e));
     }

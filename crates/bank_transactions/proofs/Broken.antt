@@ -9,7 +9,7 @@ use Rattle.message_records.specs.declared.limits.TheConstants.{MAX_ACCOUNT, MAX_
 use Rattle.posting_rules.specs.Numbering.{branch_of_account}
 use Rattle.posting_rules.specs.declared.fault.Rule.{Rule}
 use Rattle.posting_rules.specs.declared.fault.Rule.TheVariants.{Meta, Teller, Account, Balance, Request}
-use Rattle.posting_rules.specs.declared.fault.Rule.TheVariants.{Value, Key, Floor}
+use Rattle.posting_rules.specs.declared.fault.Rule.TheVariants.{Value, Key, Floor, Reference}
 use Rattle.posting_rules.specs.declared.limits.TheConstants.{LAST_BRANCH, MAX_DECIDED, MAX_ACCOUNTS}
 use Rattle.posting_rules.specs.declared.rows.BranchRow.{BranchRow}
 use Rattle.posting_rules.specs.declared.rows.FloorRow.{FloorRow}
@@ -22,9 +22,11 @@ use Rattle.store_rows.specs.Columns.{meta_in, number_at}
 use Rattle.store_rows.specs.Holders.{entry_under}
 use Rattle.store_rows.specs.Outcomes.{Finds, Never}
 use Rattle.store_rows.specs.Rules.{HoldsBank, IsBroken, KeepsRule, OfRows, StoredRows, HasDecided}
-use Rattle.store_rows.specs.Rules.{BranchKeeps, TellerKeeps, AccountKeeps, FloorKeeps, RequestKeeps, row_under}
+use Rattle.store_rows.specs.Rules.{BranchKeeps, TellerKeeps, AccountKeeps, FloorKeeps, ReferenceKeeps}
+use Rattle.store_rows.specs.Rules.{RequestKeeps, row_under}
 use Rattle.store_rows.specs.BankTables as bank
-use Rattle.store_rows.specs.Stored.{BalanceKeeps, FindsStored, IsBalance, IsBranch, IsFloorRow, IsSameRequest}
+use Rattle.store_rows.specs.Stored.{BalanceKeeps, FindsStored, IsBalance, IsBranch, IsFloorRow}
+use Rattle.store_rows.specs.Stored.{IsReferenceRow, IsSameRequest}
 use Rattle.store_rows.specs.View.{HoldsRows}
 use Rattle.store_rows.specs.declared.fault.TableFault.{TableFault}
 use Rattle.store_rows.specs.declared.fault.TableFault.TheVariants.{Sqlite, Damaged}
@@ -51,6 +53,7 @@ branch_keeps Request rows keeps p r found = tt
 branch_keeps Value rows keeps p r found = found_all (BranchKeeps Value) p rows.branches r keeps.0 found
 branch_keeps Key rows keeps p r found = tt
 branch_keeps Floor rows keeps p r found = tt
+branch_keeps Reference rows keeps p r found = tt
 
 balance_keeps : (m : Member) (rows : StoredRows) → KeepsRule Balance rows → (r : Entry)
     → entry_under m rows ≡ Some r → BalanceKeeps Balance r
@@ -69,6 +72,7 @@ member_keeps m Request rows keeps r found = tt
 member_keeps m Value rows keeps r found = tt
 member_keeps m Key rows keeps r found = tt
 member_keeps m Floor rows keeps r found = tt
+member_keeps m Reference rows keeps r found = tt
 
 request_keeps : (rule : Rule) (rows : StoredRows) → KeepsRule rule rows → (p : Entry → Bool) (r : Entry)
     → find p rows.requests ≡ Some r → RequestKeeps rule r
@@ -80,6 +84,7 @@ request_keeps Request rows keeps p r found = found_all (RequestKeeps Request) p 
 request_keeps Value rows keeps p r found = found_all (RequestKeeps Value) p rows.requests r keeps.4 found
 request_keeps Key rows keeps p r found = tt
 request_keeps Floor rows keeps p r found = tt
+request_keeps Reference rows keeps p r found = tt
 
 floor_keeps : (rule : Rule) (rows : StoredRows) → KeepsRule rule rows → (p : Entry → Bool) (r : Entry)
     → find p rows.floors ≡ Some r → FloorKeeps rule r
@@ -91,6 +96,21 @@ floor_keeps Request rows keeps p r found = tt
 floor_keeps Value rows keeps p r found = found_all (FloorKeeps Value) p rows.floors r keeps.5 found
 floor_keeps Key rows keeps p r found = tt
 floor_keeps Floor rows keeps p r found = found_all (FloorKeeps Floor) p rows.floors r keeps.5 found
+floor_keeps Reference rows keeps p r found = tt
+
+reference_keeps : (rule : Rule) (rows : StoredRows) → KeepsRule rule rows → (p : Entry → Bool) (r : Entry)
+    → find p rows.references ≡ Some r → ReferenceKeeps rule r
+reference_keeps Meta rows keeps p r found = tt
+reference_keeps Teller rows keeps p r found = tt
+reference_keeps Account rows keeps p r found = tt
+reference_keeps Balance rows keeps p r found = tt
+reference_keeps Request rows keeps p r found = tt
+reference_keeps Value rows keeps p r found =
+    found_all (ReferenceKeeps Value) p rows.references r keeps.6 found
+reference_keeps Key rows keeps p r found = tt
+reference_keeps Floor rows keeps p r found = tt
+reference_keeps Reference rows keeps p r found =
+    found_all (ReferenceKeeps Reference) p rows.references r keeps.6 found
 
 -- ---- a row that doesn't
 
@@ -155,11 +175,18 @@ request_broken db a b =
     find_broken db (λ rows. find (has_two (pos a) (pos b)) rows.requests) IsSameRequest RequestKeeps
     (λ rule rows keeps. request_keeps rule rows keeps (has_two (pos a) (pos b)))
 
+pub reference_broken : (db : Database) (n : ℕ) (fault : TableFault)
+    → OfRows (λ rows. FindsStored (row_under rows.references n) IsReferenceRow ReferenceKeeps (Err fault)) db
+    → IsOf db fault
+reference_broken db n =
+    find_broken db (λ rows. row_under rows.references n) IsReferenceRow ReferenceKeeps
+    (λ rule rows keeps. reference_keeps rule rows keeps (has_key (pos n)))
+
 -- a request whose amount is beyond the limit of requests
 pub delta_broken : (db : Database) (a b : ℕ) (row : RequestRow)
     → OfRows (λ rows. FindsStored (find (has_two (pos a) (pos b)) rows.requests) IsSameRequest RequestKeeps
     (Ok (Some row))) db
-    → (nat_abs row.kept.delta ≤ MAX_DELTA → ⊥) → IsBroken Request db
+    → (nat_abs row.decision.delta ≤ MAX_DELTA → ⊥) → IsBroken Request db
 delta_broken db a b row finds beyond = λ rows has keeps.
     let it = finds rows has in
     let request = request_keeps Request rows keeps (has_two (pos a) (pos b)) it.0 it.1 in

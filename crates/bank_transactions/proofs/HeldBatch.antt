@@ -2,7 +2,7 @@
 -- a file holds: those of a batch, and a single one.
 use Rattle.std.proofs.Common.{◌≡◌, ℕ, ℤ, Bool, eqb, List, [], ◌∷◌, map, Option, Some, None, Result, Ok, Err, refl}
 use Rattle.std.proofs.Common.{pos, true, sym, ap, subst, ◌∙◌, inl, inr, arith}
-use Rattle.std.specs.Prelude.{IfOk, IfSome, IsSome, IsTrue, is_some, option_and_then, option_map}
+use Rattle.std.specs.Prelude.{length, IfOk, IfSome, IsSome, IsTrue, is_some, option_and_then, option_map}
 use Rattle.std.specs.List.{AllByRecursion, find}
 use Rattle.std.proofs.lemmas.Bool.{eqb-true}
 use Rattle.message_records.specs.Reading.{request_of}
@@ -19,6 +19,7 @@ use Rattle.posting_batch.specs.declared.batch.Batch.{Batch}
 use Rattle.posting_batch.specs.declared.slots.BranchSlot.{BranchSlot}
 use Rattle.posting_batch.specs.declared.slots.RequestSlot.{RequestSlot}
 use Rattle.posting_batch.specs.Batch.{CoversAll, CoversRead, HasHomes, HasRisingSlots, account_filled}
+use Rattle.posting_batch.specs.Batch.{HasFreeOrdinals}
 use Rattle.posting_batch.specs.Batch.{IsJudged, branch_filled, covering, covering_all, filled, floor_filled}
 use Rattle.posting_batch.specs.Batch.{no_slots, request_filled, teller_filled}
 use Rattle.posting_batch.specs.Judging.{found_over}
@@ -31,7 +32,7 @@ use Rattle.posting_batch.proofs.KeptSlots.{both_true}
 use Rattle.posting_batch.proofs.Orders.{rising_mapped}
 use Rattle.posting_batch.proofs.Overlaid.{found_is}
 use Rattle.posting_batch.proofs.SlotsInOrder.{made_all}
-use Rattle.posting_batch.proofs.ToldTables.{IsOwn, tables_told, told_filled}
+use Rattle.posting_batch.proofs.ToldTables.{IsOwn, tables_told, told_filled, told_free}
 use Rattle.sql_meanings.specs.Entries.{Entry}
 use Rattle.sql_meanings.proofs.Changes.{found_key}
 use Rattle.sqlite.specs.Effect.{Database}
@@ -166,10 +167,11 @@ module _ (rows : StoredRows) where
               (at_key floor_slot_key (λ k s. HoldsFloor rows k s.floor) o.floors held.floors a)
               (stand.fits.floors a);
           kept =
-              told (λ s. s.kept) (λ k. HoldsKept rows r.teller r.number k) (kept_in t.requests r.teller r.number)
+              told (λ s. s.kept) (λ k. HoldsKept rows r.teller r.number k)
+              (kept_in t.requests t.references r.teller r.number)
               _ covers.kept (kept_at o.kept held.kept r.teller r.number)
               (subst (λ (u : Tables). IfSome (find (is_for r.teller r.number) o.kept)
-              (λ s. s.kept ≡ kept_in u.requests r.teller r.number)) stand.same
+              (λ s. s.kept ≡ kept_in u.requests u.references r.teller r.number)) stand.same
               (stand.fits.kept r.teller r.number));
         }
 
@@ -202,18 +204,18 @@ module _ (rows : StoredRows) where
 
 -- ---- slots that are made for records, and filled
 
-module _ (rows : StoredRows) (reads : List (Result RequestFields Bad)) (slots : Overlay)
+module _ (free : ℕ) (rows : StoredRows) (reads : List (Result RequestFields Bad)) (slots : Overlay)
     (same : emptied slots ≡ emptied (covering_all no_slots reads)) (held : AreHeld rows slots) where
-  -- tables that have what the slots tell
+  -- tables that have what the slots tell, with so many ordinals free
   abbrev its_tables : Tables
-  its_tables = tables_told slots
+  its_tables = tables_told free slots
 
   rises : HasRisingSlots slots
   rises = rising_filled slots (subst HasRisingSlots (sym same)
       (rising_emptied (covering_all no_slots reads) (made_all reads).rising))
 
   filled_so : slots ≡ filled its_tables (covering_all no_slots reads)
-  filled_so = sym (told_filled slots rises
+  filled_so = sym (told_filled free slots rises
       (each (BranchHeld rows) IsOwn (λ s it. own_row rows s.branch s.stored it) slots.branches held.branches))
       ∙ filled_over its_tables slots (covering_all no_slots reads) same
 
@@ -224,37 +226,40 @@ module _ (rows : StoredRows) (reads : List (Result RequestFields Bad)) (slots : 
 pub in_turn : (rows : StoredRows) (b b' : Batch) (records : List (List ℕ)) (m : ℕ) (o : Overlay)
     (items : List (List ℕ)) → IsMadeOf b records → reads_of b' ≡ reads_of b
     → emptied (view b'.overlay) ≡ emptied (view b.overlay) → AreHeld rows (view b'.overlay)
-    → ((t : Tables) (rs : List (List ℕ)) → IsFilledFrom b' t rs → IsJudged o items t m rs)
+    → ((t : Tables) (rs : List (List ℕ)) → IsFilledFrom b' t rs → HasFreeOrdinals t (length rs)
+    → IsJudged o items t m rs)
     → RepliesInTurn rows m records items
 in_turn rows b b' records m o items made reads same held judged =
     let its : List (Result RequestFields Bad) = map request_of records in
     let slots = view b'.overlay in
     let so = same ∙ ap emptied made.overlay in
-    let stand = they_stand rows its slots so held in
+    let free = length records in
+    let t : Tables = its_tables free rows its slots so held in
+    let stand = they_stand free rows its slots so held in
     record {
-      tables = its_tables rows its slots so held;
-      stored = has_records rows slots (its_tables rows its slots so held) its stand held records stand.covers;
+      tables = t;
+      stored = has_records rows slots t its stand held records stand.covers;
       decided = held.decided;
-      are = (judged (its_tables rows its slots so held) records (record {
+      are = (judged t records (record {
         reads = reads ∙ made.reads;
-        overlay = filled_so rows its slots so held;
-      })).answers;
+        overlay = filled_so free rows its slots so held;
+      }) (told_free free slots)).answers;
     }
 
 -- what is found for a single request is what the rows hold
 module _ (db : Database) (r : RequestFields) (slots : Overlay)
     (same : emptied slots ≡ emptied (covering no_slots (Ok r)))
     (held : OfRows (λ rows. AreHeld rows slots) db) where
-  found_so : (rows : StoredRows) → HoldsBank db rows → found_over slots r ≡ found_in (tables_told slots) r
+  found_so : (rows : StoredRows) → HoldsBank db rows → found_over slots r ≡ found_in (tables_told 0 slots) r
   found_so rows has =
-      let stand = they_stand rows (Ok r ∷ []) slots same (held rows has) in
-      found_is slots (tables_told slots) r stand.fits stand.covers.0
+      let stand = they_stand 0 rows (Ok r ∷ []) slots same (held rows has) in
+      found_is slots (tables_told 0 slots) r stand.fits stand.covers.0
       ∙ ap (λ (t : Tables). found_in t r) stand.same
 
-  has_so : (rows : StoredRows) → HoldsBank db rows → HasStored rows (tables_told slots) r
+  has_so : (rows : StoredRows) → HoldsBank db rows → HasStored rows (tables_told 0 slots) r
   has_so rows has =
-      let stand = they_stand rows (Ok r ∷ []) slots same (held rows has) in
-      has_request rows slots (tables_told slots) (Ok r ∷ []) stand (held rows has) r stand.covers.0
+      let stand = they_stand 0 rows (Ok r ∷ []) slots same (held rows has) in
+      has_request rows slots (tables_told 0 slots) (Ok r ∷ []) stand (held rows has) r stand.covers.0
 
   pub found_stored : IsStoredFound db r (found_over slots r)
   found_stored = record {

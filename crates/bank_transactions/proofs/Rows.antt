@@ -6,9 +6,10 @@ use Rattle.sqlite.specs.declared.transaction.Transaction.{Transaction}
 use Rattle.sqlite_trees.specs.declared.store.Store.{Ghosts}
 use Rattle.posting_rules.specs.declared.rows.HistoryRow.{HistoryRow}
 use Rattle.posting_rules.specs.declared.rows.RequestRow.{RequestRow}
-use Rattle.posting_rules.specs.Changes.{with_history, with_request}
+use Rattle.posting_rules.specs.declared.rows.ReferenceRow.{ReferenceRow}
+use Rattle.posting_rules.specs.Changes.{with_history, with_reference, with_request}
 use Rattle.posting_batch.specs.Batch.{PutsFree}
-use Rattle.posting_batch.specs.Overlay.{history_put, requests_put}
+use Rattle.posting_batch.specs.Overlay.{history_put, requests_put, references_put}
 use Rattle.sql_meanings.specs.Calls.{Says, Inside}
 use Rattle.store_rows.specs.Calls.{OfTables}
 use Rattle.store_rows.specs.Failures.{Puts}
@@ -56,6 +57,11 @@ posting_put row t = refl
 pub request_put : (row : RequestRow) (t : Tables) → with_request row t ≡ requests_put (row ∷ []) t
 unfolding with_request
 request_put row t = refl
+
+pub reference_put : (row : ReferenceRow) (t : Tables)
+    → with_reference row.ordinal (Some row.reference) t ≡ references_put (row ∷ []) t
+unfolding with_reference
+reference_put row t = refl
 
 -- ---- slots
 

@@ -7,22 +7,25 @@ use Rattle.std.specs.Option.{option_map}
 use Rattle.std.proofs.lemmas.Bool.{eqb-true}
 use Rattle.std.proofs.lemmas.Bool.Decides.{nat_tests}
 use Rattle.message_records.specs.Ranges.{whole_within, cents_within}
-use Rattle.message_records.specs.Records.{request_from}
+use Rattle.message_records.specs.Records.{IsReference, reference_from, request_from}
 use Rattle.posting_rules.specs.declared.rows.BranchRow.{BranchRow}
 use Rattle.posting_rules.specs.declared.rows.RequestRow.{RequestRow}
 use Rattle.posting_rules.specs.declared.rows.TellerRow.{TellerRow}
 use Rattle.posting_rules.specs.declared.rows.AccountRow.{AccountRow}
 use Rattle.posting_rules.specs.declared.rows.FloorRow.{FloorRow}
+use Rattle.posting_rules.specs.declared.rows.ReferenceRow.{ReferenceRow}
 use Rattle.posting_rules.specs.declared.fault.Rule.{Rule}
 use Rattle.posting_rules.specs.Damage.{IsUndamaged, IsSoundBranch, IsSoundTeller, IsSoundAccount}
-use Rattle.posting_rules.specs.Damage.{IsSoundFloor, IsSoundRequest}
+use Rattle.posting_rules.specs.Damage.{IsSoundFloor, IsSoundReference, IsSoundRequest}
 use Rattle.posting_rules.specs.LookUps.{account_balance_in, balance_of_account, balance_of_teller, floor_in}
 use Rattle.posting_rules.specs.Numbering.{branch_of_account}
 use Rattle.posting_rules.specs.Tables.{Tables, row_at, branch_key, teller_key, account_key, floor_key}
+use Rattle.posting_rules.specs.Tables.{reference_key}
 use Rattle.posting_rules.proofs.Keyed.{by_test, found_passes}
 use Rattle.store_rows.specs.Columns.{request_in}
 use Rattle.store_rows.specs.Holders.{balance_in}
-use Rattle.store_rows.specs.Outcomes.{Finds, BreaksBalance, BreaksBranch, BreaksFloor, BreaksRequest, CanBeKept}
+use Rattle.store_rows.specs.Outcomes.{Finds, BreaksBalance, BreaksBranch, BreaksFloor, BreaksReference}
+use Rattle.store_rows.specs.Outcomes.{BreaksRequest, CanBeKept}
 use Rattle.store_rows.specs.declared.fault.TableFault.{TableFault}
 use Rattle.store_rows.specs.declared.fault.TableFault.TheVariants.{Sqlite, Damaged}
 use Rattle.store_rows.specs.declared.holders.Member.{Member}
@@ -212,13 +215,13 @@ pub request_is : (t : Tables) (teller number : ℕ) (r : RequestRow) → IsUndam
     → request_in t teller number ≡ Some r → IsSoundRequest r
 request_is t teller number r sound e = sound.each_request r (found_within _ t.requests r e)
 
-can_be_kept : (r : RequestRow) → IsSoundRequest r → CanBeKept r.kept
+can_be_kept : (r : RequestRow) → IsSoundRequest r → CanBeKept r.decision
 can_be_kept r is = record {
-  account = within_range 1 MAX_ACCOUNT r.kept.account is.fields.account_above is.fields.account;
-  branch = within_range 1 MAX_BRANCH r.kept.branch is.fields.branch_above is.fields.branch;
-  delta = cents_inside MAX_BALANCE r.kept.delta (let le = is.fields.delta in omega arith);
-  balance = cents_inside MAX_BALANCE r.kept.balance is.balance;
-  outcome = is.kept;
+  account = within_range 1 MAX_ACCOUNT r.decision.account is.fields.account_above is.fields.account;
+  branch = within_range 1 MAX_BRANCH r.decision.branch is.fields.branch_above is.fields.branch;
+  delta = cents_inside MAX_BALANCE r.decision.delta (let le = is.fields.delta in omega arith);
+  balance = cents_inside MAX_BALANCE r.decision.balance is.balance;
+  outcome = is.decision;
 }
 
 pub request_unbroken : (t : Tables) (teller number : ℕ) (r : RequestRow) (broken : Rule) → IsUndamaged t
@@ -237,10 +240,24 @@ request_unbroken t teller number r broken sound e breaks =
     ]
 
 -- the fields of a kept request are those of a request
-pub is_a_request : (a t b n : ℕ) (z : ℤ) → nat_abs z ≤ MAX_DELTA → is_some (request_from a t b n z) ≡ false
-    → ⊥
+pub is_a_request : (a t b n : ℕ) (z : ℤ) → nat_abs z ≤ MAX_DELTA
+    → is_some (request_from a t b n z None) ≡ false → ⊥
 is_a_request a t b n z le e = let test : leb (nat_abs z) MAX_DELTA ≡ true =
     grind (arith, nat_tests) in let h = rw test at e in cc
+
+-- ---- references
+
+not_other : (text : List ℕ) → IsReference text → reference_from text ≡ None → ⊥
+not_other text is e = let h = rw (is.0, is.1) at e in cc
+
+pub reference_unbroken : (t : Tables) (n : ℕ) (r : ReferenceRow) (broken : Rule) → IsUndamaged t
+    → row_at reference_key t.references n ≡ Some r → BreaksReference r broken → ⊥
+reference_unbroken t n r broken sound e breaks =
+    let is = sound.each_reference r (found_within (λ x. nat_eq x.ordinal n) t.references r e) in
+    elim breaks [
+      | inl number ↦ not_outside 1 MAX_DECIDED r.ordinal is.ordinal_above is.ordinal number.1
+      | inr text ↦ not_other r.reference is.reference text.1
+    ]
 
 -- so what is found is never told to be damaged
 pub err_found : {X Y : Type 0} (old new before after : State) (wanted : Option X) (Breaks : X → Rule → Type 0)

@@ -12,7 +12,7 @@ use Rattle.posting_rules.specs.Damage.{IsUndamaged}
 use Rattle.posting_rules.specs.Tables.{Tables}
 use Rattle.posting_rules.specs.declared.fault.Rule.{Rule}
 use Rattle.posting_rules.specs.declared.fault.Rule.TheVariants.{Meta, Teller, Account, Balance, Request}
-use Rattle.posting_rules.specs.declared.fault.Rule.TheVariants.{Value, Key, Floor}
+use Rattle.posting_rules.specs.declared.fault.Rule.TheVariants.{Value, Key, Floor, Reference}
 use Rattle.sql_meanings.specs.Calls.{Says, Inside}
 use Rattle.store_rows.specs.Calls.{OfTables}
 use Rattle.store_rows.specs.Failures.{Changes, HasMet, IsUpdateOf, MeetsNone, Puts}
@@ -122,6 +122,7 @@ has_met old new Request text of none = absurd of
 has_met old new Value text of none = absurd of
 has_met old new Key text of none = absurd of
 has_met old new Floor text of none = absurd of
+has_met old new Reference text of none = absurd of
 
 blames_changed : {S : Type 0} (g : Ghosts S) (old new : Held S) (text : List ℕ) (r : Result Bool Error)
     (rule : Rule) → IsUpdateOf rule text

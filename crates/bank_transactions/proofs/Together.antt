@@ -14,7 +14,7 @@ use Rattle.posting_rules.proofs.Keyed.{by_test}
 use Rattle.posting_batch.specs.declared.slots.BranchSlot.{BranchSlot}
 use Rattle.posting_batch.specs.Batch.{HasRisingSlots, ChangesRows, AddsFreeRows}
 use Rattle.posting_batch.specs.Overlay.{Overlay, accounts_over, tellers_over, branches_over, history_put}
-use Rattle.posting_batch.specs.Overlay.{requests_put}
+use Rattle.posting_batch.specs.Overlay.{requests_put, references_put}
 use Rattle.posting_batch.specs.Slots.{account_slot_key, teller_slot_key, branch_slot_key}
 use Rattle.posting_batch.proofs.Orders.{rising_keys}
 use Rattle.store_rows.specs.declared.fault.TableFault.{TableFault}
@@ -22,7 +22,8 @@ use Rattle.bank_transactions.specs.Doing.{Does}
 use Rattle.bank_transactions.proofs.Chained.{does_then}
 use Rattle.bank_transactions.proofs.SoundRows.{no_branch_beyond}
 use Rattle.bank_transactions.specs.Writing.{AreBranchNumbers, MayChangeAccounts, MayChangeTellers}
-use Rattle.bank_transactions.specs.Writing.{MayAddPostings, MayAddRequests, MayChangeBranches}
+use Rattle.bank_transactions.specs.Writing.{MayAddPostings, MayAddReferences, MayAddRequests}
+use Rattle.bank_transactions.specs.Writing.{MayChangeBranches}
 
 -- ---- the numbers of branches that have a row
 
@@ -63,7 +64,8 @@ pub record Behind {A : Type 0} (o : Overlay) (before : Tables → Tables) (made 
     (May : List A → Tables → Type 0) (changes : List A) : Type 0 where
   pub may : (t : Tables) → So o t → May changes (before t)
 
--- the tables with the changes of the accounts; and of the tellers; and of the branches; and with the postings
+-- the tables with the changes of the accounts; and of the tellers; and of the branches; and with the
+-- postings; and with the requests
 abbrev pub to_accounts : Overlay → Tables → Tables
 to_accounts o t = accounts_over o.accounts t
 
@@ -75,6 +77,9 @@ to_branches o t = branches_over o.branches (to_tellers o t)
 
 abbrev pub to_postings : Overlay → Tables → Tables
 to_postings o t = history_put o.history (to_branches o t)
+
+abbrev pub to_requests : Overlay → Tables → Tables
+to_requests o t = requests_put o.requests (to_postings o t)
 
 pub accounts : (o : Overlay) → Behind o (λ t. t) accounts_over MayChangeAccounts o.accounts
 accounts o = record {
@@ -97,6 +102,9 @@ postings o = record { may = λ t so. so.3.history }
 
 pub requests : (o : Overlay) → Behind o (to_postings o) requests_put MayAddRequests o.requests
 requests o = record { may = λ t so. so.3.requests }
+
+pub references : (o : Overlay) → Behind o (to_requests o) references_put MayAddReferences o.references
+references o = record { may = λ t so. so.3.references }
 
 -- the changes of one table more are made
 pub step : {S A : Type 0} {g : Ghosts S} {a b c : Transaction S} {r : Result (Unit {0}) TableFault}

@@ -6,16 +6,16 @@ use Rattle.std.specs.List.{AllByRecursion, IsDistinct}
 use Rattle.posting_rules.specs.Changes.{row_put}
 use Rattle.posting_rules.specs.Steps.{with_branch_balance, with_teller_balance, with_account_balance}
 use Rattle.posting_rules.specs.Tables.{Tables, HasKeys, row_at, branch_key, teller_key, account_key}
-use Rattle.posting_rules.specs.Tables.{history_key, request_key}
+use Rattle.posting_rules.specs.Tables.{history_key, request_key, reference_key}
 use Rattle.posting_batch.specs.Batch.{PutsFree}
 use Rattle.posting_batch.specs.Overlay.{each_put, over, changed_to, accounts_over, tellers_over}
-use Rattle.posting_batch.specs.Overlay.{branches_over, history_put, requests_put}
+use Rattle.posting_batch.specs.Overlay.{branches_over, history_put, requests_put, references_put}
 use Rattle.posting_batch.specs.Slots.{account_slot_key, teller_slot_key, branch_slot_key}
 use Rattle.posting_batch.proofs.NewRows.{account_same, teller_same, branch_same}
 use Rattle.posting_batch.proofs.Overlaid.{each_put-append}
 use Rattle.posting_batch.proofs.Written.{not_before, over_none, over_more, over_there}
 use Rattle.bank_transactions.specs.Writing.{MayChange, MayChangeAccounts, MayChangeTellers, MayChangeBranches}
-use Rattle.bank_transactions.specs.Writing.{MayAddPostings, MayAddRequests}
+use Rattle.bank_transactions.specs.Writing.{MayAddPostings, MayAddRequests, MayAddReferences}
 
 -- No change leaves the tables as they were. Changes that may be made together may be made one after another,
 -- and come to the same.
@@ -139,4 +139,9 @@ postings_in_turn =
 pub requests_in_turn : InTurn requests_put MayAddRequests
 requests_in_turn =
     rows_in_turn request_key (λ t. t.requests) (λ t rows. record t { requests = rows })
+    (record { own = λ t. refl; held = λ t rs. refl; again = λ t rs others. refl })
+
+pub references_in_turn : InTurn references_put MayAddReferences
+references_in_turn =
+    rows_in_turn reference_key (λ t. t.references) (λ t rows. record t { references = rows })
     (record { own = λ t. refl; held = λ t rs. refl; again = λ t rs others. refl })

@@ -21,10 +21,10 @@ use Rattle.posting_rules.specs.declared.counter.Opening.{Opening}
 use Rattle.posting_rules.specs.declared.counter.Opening.TheVariants.{Opened}
 use Rattle.posting_rules.specs.declared.rows.BranchRow.{BranchRow}
 use Rattle.sql_meanings.specs.Entries.{Entry, has_two, is_above}
-use Rattle.store_rows.specs.Columns.{meta_in, number_at}
-use Rattle.store_rows.specs.Rules.{AccountFits, BranchKeeps, OfRows, RequestKeeps, StoredRows, TellerFits, branch_under}
+use Rattle.store_rows.specs.Columns.{meta_in, number_at, text_at}
+use Rattle.store_rows.specs.Rules.{AccountFits, BranchKeeps, OfRows, StoredRows, TellerFits, branch_under}
 use Rattle.store_rows.specs.Rules.{floor_under, row_under}
-use Rattle.store_rows.specs.Stored.{BalanceKeeps, FindsStored, IsBalance, IsBranch, IsKept}
+use Rattle.store_rows.specs.Stored.{BalanceKeeps, FindsStored, IsBalance, IsBranch, IsDecision}
 use Rattle.store_rows.specs.View.{Shows}
 
 -- the balance that the account's row has, none where it has no row; and it has one just where its branch's
@@ -57,18 +57,28 @@ HoldsFloor rows branch (Some lowest) =
 abbrev pub IsStoredFloor : Database → ℕ → Option ℤ → Type 0
 IsStoredFloor db branch floor = OfRows (λ rows. HoldsFloor rows branch floor) db
 
--- the row of a teller's request under its number keeps this, none where there is no such row
+-- the reference in the row under an ordinal, none where there is no such row
+abbrev pub HoldsReference : StoredRows → ℕ → Option (List ℕ) → Type 0
+HoldsReference rows ordinal None = row_under rows.references ordinal ≡ None
+HoldsReference rows ordinal (Some text) =
+    (r : Entry) × (row_under rows.references ordinal ≡ Some r) × (text_at 0 r ≡ text)
+
+-- the row of a teller's request under its number has this decision, and the row under its ordinal this
+-- reference; none where there is no row of such a request
 abbrev pub HoldsKept : StoredRows → ℕ → ℕ → Option KeptFields → Type 0
-HoldsKept rows teller number kept =
-    FindsStored (find (has_two (pos teller) (pos number)) rows.requests) IsKept RequestKeeps (Ok kept)
+HoldsKept rows teller number None = find (has_two (pos teller) (pos number)) rows.requests ≡ None
+HoldsKept rows teller number (Some kept) =
+    (r : Entry) × (find (has_two (pos teller) (pos number)) rows.requests ≡ Some r)
+    × IsDecision kept.decision r
+    × ((ordinal : ℕ) × (r.key ≡ pos ordinal) × HoldsReference rows ordinal kept.reference)
 
 -- the bank's row of `meta` counts so many decided requests
 abbrev pub HoldsDecided : StoredRows → ℕ → Type 0
 HoldsDecided rows decided =
     (version : ℤ) × (meta_in rows.meta ≡ Some (record { version = version; decided = pos decided }))
 
--- what is found for a request is what the rows of its teller, its account, the account's branch, its teller and
--- number and the bank hold
+-- what is found for a request is what the rows of its teller, its account, the account's branch, its teller
+-- and number with the ordinal there, and the bank hold
 pub record IsStoredFound (db : Database) (r : RequestFields) (found : Found) : Type 0 where
   pub teller : IsStoredTeller db r.teller found.teller
   pub account : IsStoredBalance db r.account found.account
@@ -140,8 +150,8 @@ pub record HasStored (rows : StoredRows) (t : Tables) (r : RequestFields) : Type
   pub account : HoldsAccount rows r.account (account_balance_in t r.account)
   -- the floor of its account's branch
   pub floor : HoldsFloor rows (branch_of_account r.account) (floor_in t (branch_of_account r.account))
-  -- the request that is kept under its teller and number
-  pub kept : HoldsKept rows r.teller r.number (kept_in t.requests r.teller r.number)
+  -- the request that is kept under its teller and number, with its reference
+  pub kept : HoldsKept rows r.teller r.number (kept_in t.requests t.references r.teller r.number)
 
 -- what was read is no request, or the tables have what it asks for
 abbrev pub HasRead : StoredRows → Tables → Result RequestFields Bad → Type 0

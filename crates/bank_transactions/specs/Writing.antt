@@ -5,8 +5,9 @@ use Rattle.message_records.specs.Ranges.{whole_within}
 use Rattle.message_records.specs.declared.limits.TheConstants.{MAX_BRANCH}
 use Rattle.posting_rules.specs.declared.rows.HistoryRow.{HistoryRow}
 use Rattle.posting_rules.specs.declared.rows.RequestRow.{RequestRow}
+use Rattle.posting_rules.specs.declared.rows.ReferenceRow.{ReferenceRow}
 use Rattle.posting_rules.specs.Tables.{Tables, HasKeys, row_at, branch_key, teller_key, account_key}
-use Rattle.posting_rules.specs.Tables.{history_key, request_key}
+use Rattle.posting_rules.specs.Tables.{history_key, request_key, reference_key}
 use Rattle.posting_batch.specs.declared.slots.AccountSlot.{AccountSlot}
 use Rattle.posting_batch.specs.declared.slots.TellerSlot.{TellerSlot}
 use Rattle.posting_batch.specs.declared.slots.BranchSlot.{BranchSlot}
@@ -45,3 +46,6 @@ MayAddPostings rows t = PutsFree history_key rows t.history
 
 abbrev pub MayAddRequests : List RequestRow → Tables → Type 0
 MayAddRequests rows t = PutsFree request_key rows t.requests
+
+abbrev pub MayAddReferences : List ReferenceRow → Tables → Type 0
+MayAddReferences rows t = PutsFree reference_key rows t.references

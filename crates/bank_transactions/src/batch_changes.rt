@@ -4,21 +4,22 @@ ghost use Rattle.posting_rules.specs.Damage.{IsUndamaged};
 ghost use Rattle.posting_rules.specs.Tables.{Tables};
 ghost use Rattle.posting_batch.specs.Batch.{HasRisingSlots, ChangesRows, AddsFreeRows};
 ghost use Rattle.posting_batch.specs.Overlay.{tables_over, accounts_over, tellers_over, branches_over};
-ghost use Rattle.posting_batch.specs.Overlay.{history_put, requests_put};
+ghost use Rattle.posting_batch.specs.Overlay.{history_put, requests_put, references_put};
 ghost use Rattle.posting_batch.specs.View.{view};
 ghost use Rattle.store_rows.specs.Holders.{HasRow, with_balance};
 ghost use Rattle.bank_transactions.specs.Doing.{Does};
 ghost use Rattle.bank_transactions.specs.InTurn.{InTurn, accounts_in_turn, tellers_in_turn, branches_in_turn};
-ghost use Rattle.bank_transactions.specs.InTurn.{postings_in_turn, requests_in_turn};
+ghost use Rattle.bank_transactions.specs.InTurn.{postings_in_turn, requests_in_turn, references_in_turn};
 ghost use Rattle.bank_transactions.specs.Writing.{MayChangeAccounts, MayChangeTellers, MayChangeBranches};
-ghost use Rattle.bank_transactions.specs.Writing.{MayAddPostings, MayAddRequests, by_change};
+ghost use Rattle.bank_transactions.specs.Writing.{MayAddPostings, MayAddRequests, MayAddReferences};
+ghost use Rattle.bank_transactions.specs.Writing.{by_change};
 
 use crate::{write_balance, write_decided};
 use message_records::{Branch, Cents};
 use posting_batch::{AccountSlot, BranchSlot, Overlay, TellerSlot};
-use posting_rules::{HistoryRow, RequestRow};
+use posting_rules::{HistoryRow, ReferenceRow, RequestRow};
 use sqlite::{Alter, Transaction};
-use store_rows::{Holder, TableFault, add_history, add_request};
+use store_rows::{Holder, TableFault, add_history, add_reference, add_request};
 
 /// A change of one table: a slot with what it has changed, or a row that is new.
 trait Change {
@@ -117,6 +118,18 @@ impl Change for RequestRow {
     ghost in_turn = { requests_in_turn };
 }
 
+impl Change for ReferenceRow {
+    ghost made = { references_put };
+
+    ghost May = { MayAddReferences };
+
+    fn make<S: Alter>(&self, tx: &mut Transaction<'_, S>) -> Result<(), TableFault> {
+        add_reference(tx, *self)
+    }
+
+    ghost in_turn = { references_in_turn };
+}
+
 // Makes changes, one after another.
 fn make_all<S: Alter, C: Change>(
     tx: &mut Transaction<'_, S>,
@@ -142,5 +155,6 @@ pub fn write<S: Alter>(tx: &mut Transaction<'_, S>, overlay: &Overlay) -> Result
     make_all(tx, &overlay.branches)?;
     make_all(tx, &overlay.history)?;
     make_all(tx, &overlay.requests)?;
+    make_all(tx, &overlay.references)?;
     write_decided(tx, overlay.decided)
 }

@@ -2,23 +2,25 @@
 //! they differ.
 ghost use Rattle.std.specs.Prelude.{◌≡◌, ◌≤◌, IfOk};
 ghost use Rattle.posting_rules.specs.Numbering.{branch_of_account, place_of_account};
-ghost use Rattle.posting_rules.specs.LookUps.{teller_balances_in, account_balance_in, kept_in};
+ghost use Rattle.posting_rules.specs.LookUps.{teller_balances_in, account_balance_in, kept_in, reference_in};
 ghost use Rattle.posting_rules.specs.Tables.{row_at, branch_key};
 ghost use Rattle.sqlite.specs.Held.{state};
 ghost use Rattle.sqlite.specs.State.{HasCleanDisk};
 ghost use Rattle.store_rows.specs.Rules.{branch_under, BranchKeeps, OfRows};
 ghost use Rattle.store_rows.specs.Stored.{FindsStored, IsBranch};
 ghost use Rattle.bank_transactions.specs.Doing.{Reads};
-ghost use Rattle.bank_transactions.specs.Stored.{HoldsDecided, HoldsKept, IsStoredBalance};
+ghost use Rattle.bank_transactions.specs.Stored.{HoldsDecided, HoldsKept, HoldsReference, IsStoredBalance};
 ghost use Rattle.bank_transactions.specs.Stored.{IsStoredTeller};
 
-use message_records::{Account, Branch, Cents, Number, Request, Teller};
+use message_records::{Account, Branch, Cents, Number, Reference, Request, Teller};
 use posting_rules::{
-    BranchRow, Kept, LAST_BRANCH, MAX_ACCOUNTS, MAX_DECIDED, Rule, branch_of_account,
+    BranchRow, Kept, LAST_BRANCH, MAX_ACCOUNTS, MAX_DECIDED, Ordinal, Rule, branch_of_account,
     branch_of_teller, place_of_account,
 };
 use sqlite::{Alter, Transaction};
-use store_rows::{Member, TableFault, balance_of, find_branch, find_request, read_meta};
+use store_rows::{
+    Member, TableFault, balance_of, find_branch, find_reference, find_request, read_meta,
+};
 
 /// The branch under a number, none where it isn't open.
 pub fn branch_at<S: Alter>(
@@ -81,31 +83,49 @@ pub fn open_balance<S: Alter>(
     Ok(balance)
 }
 
-/// The request that is kept under a teller and a number.
+// The reference of the decided request with this ordinal, none where it has none.
+fn reference_at<S: Alter>(
+    tx: &mut Transaction<'_, S>,
+    ordinal: Ordinal,
+) -> Result<Option<Reference>, TableFault>
+    ensures says { Reads S.Store tx.old tx.new (λ tables. reference_in tables.references ordinal) result }
+    ensures stored { IfOk result (λ reference. HasCleanDisk (state S.Store tx.new.conn.now)
+        → OfRows (λ rows. HoldsReference rows ordinal reference) (state S.Store tx.old.conn.now).now) }
+{
+    let Some(row) = find_reference(tx, ordinal)? else {
+        return Ok(None);
+    };
+    Ok(Some(row.reference))
+}
+
+/// The request that is kept under a teller and a number, with its reference.
 pub fn kept_request<S: Alter>(
     tx: &mut Transaction<'_, S>,
     teller: Teller,
     number: Number,
 ) -> Result<Option<Kept>, TableFault>
-    ensures says { Reads S.Store tx.old tx.new (λ tables. kept_in tables.requests teller number) result }
+    ensures says { Reads S.Store tx.old tx.new
+        (λ tables. kept_in tables.requests tables.references teller number) result }
     ensures stored { IfOk result (λ kept. HasCleanDisk (state S.Store tx.new.conn.now)
         → OfRows (λ rows. HoldsKept rows teller number kept) (state S.Store tx.old.conn.now).now) }
 {
     let Some(row) = find_request(tx, teller, number)? else {
         return Ok(None);
     };
-    let kept = row.kept;
+    let decision = row.decision;
     let stored = Request::new(
-        kept.account(),
+        decision.account(),
         row.teller,
-        kept.branch(),
+        decision.branch(),
         row.number,
-        kept.delta(),
+        decision.delta(),
+        None,
     );
     if stored.is_none() {
         return Err(TableFault::Damaged(Rule::Request));
     }
-    Ok(Some(kept))
+    let reference = reference_at(tx, row.ordinal)?;
+    Ok(Some(decision.kept_with(reference)))
 }
 
 /// How many requests are decided.

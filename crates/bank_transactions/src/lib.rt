@@ -31,6 +31,7 @@
 //!         Branch::new(1).unwrap(),
 //!         Number::new(1).unwrap(),
 //!         Cents::new(500).unwrap(),
+//!         None,
 //!     );
 //!     post(
 //!         alloc,

@@ -285,7 +285,8 @@ fn fill_all<S: Alter, T: Slot>(
 /// Fills an overlay: each slot with what is in the tables under its key, and how many requests are decided.
 pub fn fill<S: Alter>(tx: &mut Transaction<'_, S>, overlay: &mut Overlay) -> Result<(), TableFault>
     ensures new_rows { (overlay.new.history ≡ overlay.old.history)
-        × (overlay.new.requests ≡ overlay.old.requests) }
+        × (overlay.new.requests ≡ overlay.old.requests)
+        × (overlay.new.references ≡ overlay.old.references) }
     ensures says { ReadsWhere S.Store tx.old tx.new
         (λ tables. IsUndamaged tables × HasHomes (view overlay.old))
         (λ tables. filled tables (view overlay.old)) (handing (view overlay.new) result) }

@@ -6,6 +6,7 @@ use Rattle.posting_batch.specs.Overlay.{decided_put}
 use Rattle.posting_batch.specs.View.{view}
 use Rattle.bank_transactions.proofs.Chained.{does_none, does_then, does_err, does_for}
 use Rattle.bank_transactions.proofs.Together.{step, accounts, tellers, branches, postings, requests}
+use Rattle.bank_transactions.proofs.Together.{references}
 use Rattle.bank_transactions.proofs.batch_changes.write.Goals as goal
 
 counted : (n : ℕ) (t : Tables) → with_decided n t ≡ decided_put n t
@@ -54,6 +55,17 @@ returns-in_err-make_all-5 g c =
     let s4 = step (postings o) c.deref-4.ensures s3 c.in_ok-make_all-4.ensures in
     rw same (does_err (step (requests o) c.deref-5.ensures s4 c.in_err-make_all-5.ensures) (λ t so. so))
 
+pub returns-in_err-make_all-6 : goal.returns-in_err-make_all-6
+returns-in_err-make_all-6 g c =
+    let o = view c.args.overlay.now in
+    let same : c.from_residual-in_err-make_all-6.result ≡ Err c.in_err-make_all-6.field-0.0 = search rules in
+    let s1 = step (accounts o) c.deref.ensures (does_none (search rules)) c.in_ok-make_all.ensures in
+    let s2 = step (tellers o) c.deref-2.ensures s1 c.in_ok-make_all-2.ensures in
+    let s3 = step (branches o) c.deref-3.ensures s2 c.in_ok-make_all-3.ensures in
+    let s4 = step (postings o) c.deref-4.ensures s3 c.in_ok-make_all-4.ensures in
+    let s5 = step (requests o) c.deref-5.ensures s4 c.in_ok-make_all-5.ensures in
+    rw same (does_err (step (references o) c.deref-6.ensures s5 c.in_err-make_all-6.ensures) (λ t so. so))
+
 pub returns : goal.returns
 returns g c =
     let o = view c.args.overlay.now in
@@ -62,4 +74,5 @@ returns g c =
     let s3 = step (branches o) c.deref-3.ensures s2 c.in_ok-make_all-3.ensures in
     let s4 = step (postings o) c.deref-4.ensures s3 c.in_ok-make_all-4.ensures in
     let s5 = step (requests o) c.deref-5.ensures s4 c.in_ok-make_all-5.ensures in
-    does_for (does_then s5 c.write_decided.ensures (λ t so. tt)) (λ t so. (so, counted o.decided _, refl))
+    let s6 = step (references o) c.deref-6.ensures s5 c.in_ok-make_all-6.ensures in
+    does_for (does_then s6 c.write_decided.ensures (λ t so. tt)) (λ t so. (so, counted o.decided _, refl))

@@ -52,12 +52,12 @@ returns-clause-idle g c clean records made t shows so none =
           let before : HasCleanDisk (state g.S.Store c.fill.new.tx.conn.now) = omega
           (arith, w.in_ok-write.ensures.says.survives.clean, rw w.tx-is at clean) in
           let told = fill.says.says.told before t shows (ready c.args.batch records made t so) in
-          absurd (w.if-overlay-before.true (counts_none it first t told.0 none))
+          absurd (w.if-overlay-before.true (counts_none it first t so told.0 none))
       | else-overlay-before w ↦
           let told = fill.says.says.told (rw w.tx-is at clean) t shows
           (ready c.args.batch records made t so) in
           rw w.tx-is (record {
-            leads = it.back (omega (arith, w.if-overlay-before.false)) t told.0;
+            leads = it.back (omega (arith, w.if-overlay-before.false)) t so told.0;
             stays = told.1;
           })
     ]
