@@ -8,6 +8,7 @@ use Rattle.sqlite.specs.Effect.{Database}
 use Rattle.sqlite.specs.State.{State, HasCleanDisk, Survives}
 use Rattle.posting_rules.specs.declared.fault.Fault.{Fault}
 use Rattle.posting_rules.specs.declared.fault.Fault.TheVariants as told
+use Rattle.posting_rules.specs.declared.fault.Rule.{Rule}
 use Rattle.bank_store.specs.Walking.{Steps}
 use Rattle.bank_store.specs.Walks.{IsStill, IsUntouchedIfOpen}
 use Rattle.bank_reports.specs.Beside.{AuditRows}
@@ -71,16 +72,16 @@ module _ {R X : Type 0} (item : R → X) (HasItems : Database → List X → Typ
   )
 
   -- what a step that failed says of all of them
-  pub failed_row : (Breaks : X → Type 0) (Failed : Type 0) → Later → (items : List X)
+  pub failed_row : (Breaks : Rule → X → Type 0) (Failed : Type 0) → Later → (items : List X)
       → HasItems db items → (left : List X)
       → (fault : Fault) → Steps {R = R} item Breaks (coming items) left (Err fault)
       → (fault ≡ told.Store → Failed)
-      → SaysOf (HasBroken Breaks (all items)) Failed fault
+      → SaysOf (λ rule. HasBroken (Breaks rule) (all items)) Failed fault
   failed_row Breaks Failed late items there left told.Memory step failed = step
   failed_row Breaks Failed late items there left told.Store step failed = failed refl
   failed_row Breaks Failed late items there left told.Down step failed = tt
   failed_row Breaks Failed late items there left (told.Damaged rule) step failed =
-      (step.0, broken_row Breaks late items there step.1.0 step.1.1 step.1.2 step.1.3)
+      broken_row (Breaks rule) late items there step.0 step.1 step.2 step.3
 
 -- ---- how many there are
 

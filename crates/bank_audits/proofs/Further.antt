@@ -12,10 +12,10 @@ use Rattle.posting_rules.specs.declared.fault.Fault.{Fault}
 use Rattle.posting_rules.specs.declared.fault.Fault.TheVariants.{Memory, Store, Down, Damaged}
 use Rattle.posting_rules.specs.declared.fault.Rule.{Rule}
 use Rattle.posting_rules.specs.declared.fault.Rule.TheVariants.{Meta, Teller, Account, Balance, Request}
-use Rattle.posting_rules.specs.declared.fault.Rule.TheVariants.{Value, Key, Floor}
-use Rattle.sql_meanings.specs.Entries.{Entry}
-use Rattle.bank_walks.specs.declared.postings.StoredPosting.{StoredPosting}
-use Rattle.bank_walks.specs.Stored.{posting_entry, IsNoPosting}
+use Rattle.posting_rules.specs.declared.fault.Rule.TheVariants.{Value, Key, Floor, Reference}
+use Rattle.bank_walks.specs.declared.stated.StatedPosting.{StatedPosting}
+use Rattle.bank_walks.specs.Pairs.{Pair}
+use Rattle.bank_walks.specs.Stored.{BreaksStated, stated_pair}
 use Rattle.bank_reports.specs.Lines.{text_of}
 use Rattle.bank_reports.specs.StatementText.{posting_line, posting_lines}
 use Rattle.bank_reports.specs.Written.{AppendsPart}
@@ -24,20 +24,20 @@ use Rattle.bank_reports.proofs.Written.{same_all, same_part, then_part}
 use Rattle.bank_store.specs.Walking.{Steps}
 use Rattle.bank_audits.specs.declared.fault.ReportFault.{ReportFault}
 use Rattle.bank_audits.specs.declared.fault.ReportFault.TheVariants.{NoAccount, Write, Bank}
-use Rattle.bank_audits.specs.Postings.{sum_of, WritesLine, WritesPostings, Why}
+use Rattle.bank_audits.specs.Postings.{delta_of, sum_of, WritesLine, WritesPostings, Why}
 use Rattle.bank_audits.proofs.Lined.{lines-snoc, sum_of-snoc}
 
 -- of these rows those given are written, and those to come aren't; so many were given, and this is the
 -- balance behind them
-pub record IsFar (all coming : List Entry) (old new : Option (List ℕ)) (balance : ℤ)
+pub record IsFar (all coming : List Pair) (old new : Option (List ℕ)) (balance : ℤ)
     (count : ℕ) : Type 0 where
-  pub given : List StoredPosting
-  pub are : map posting_entry given ++ coming ≡ all
+  pub given : List StatedPosting
+  pub are : map stated_pair given ++ coming ≡ all
   pub wrote : Appends old new (text_of (posting_lines (pos 0) given))
   pub sum : balance ≡ sum_of given
   pub many : length given ≡ count
 
-pub at_first : (all coming : List Entry) (old : Option (List ℕ)) → coming ≡ all
+pub at_first : (all coming : List Pair) (old : Option (List ℕ)) → coming ≡ all
     → IsFar all coming old old (pos 0) 0
 at_first all coming old is = record { given = []; are = is; wrote = Appends-nil old; sum = refl; many = refl }
 
@@ -62,32 +62,32 @@ error_is {A} {E} e f same = ap error_in same
     error_in (Ok x) = f
     error_in (Err x) = x
 
-module _ (all : List Entry) (old : Option (List ℕ)) where
+module _ (all : List Pair) (old : Option (List ℕ)) where
   -- the text of one more
-  text_more : (given : List StoredPosting) (r : StoredPosting)
-      → text_of (posting_lines (pos 0) given) ++ posting_line r (sum_of given +ℤ r.delta)
+  text_more : (given : List StatedPosting) (r : StatedPosting)
+      → text_of (posting_lines (pos 0) given) ++ posting_line r (sum_of given +ℤ delta_of r)
       ≡ text_of (posting_lines (pos 0) (given ++ r ∷ []))
   text_more given r =
-      sym (text_of-snoc (posting_lines (pos 0) given) (posting_line r (sum_of given +ℤ r.delta)))
+      sym (text_of-snoc (posting_lines (pos 0) given) (posting_line r (sum_of given +ℤ delta_of r)))
       ∙ ap text_of (sym (lines-snoc given r))
 
-  are_more : (given : List StoredPosting) (r : StoredPosting) (coming left : List Entry) → coming
-      ≡ posting_entry r ∷ left
-      → map posting_entry given ++ coming ≡ all → map posting_entry (given ++ r ∷ []) ++ left ≡ all
+  are_more : (given : List StatedPosting) (r : StatedPosting) (coming left : List Pair) → coming
+      ≡ stated_pair r ∷ left
+      → map stated_pair given ++ coming ≡ all → map stated_pair (given ++ r ∷ []) ++ left ≡ all
   are_more given r coming left is are =
-      ap (λ l. l ++ left) (map-append posting_entry given (r ∷ []))
-      ∙ append_assoc (map posting_entry given) (posting_entry r ∷ []) left
-      ∙ ap (λ l. map posting_entry given ++ l) (sym is) ∙ are
+      ap (λ l. l ++ left) (map-append stated_pair given (r ∷ []))
+      ∙ append_assoc (map stated_pair given) (stated_pair r ∷ []) left
+      ∙ ap (λ l. map stated_pair given ++ l) (sym is) ∙ are
 
-  module _ (coming left : List Entry) (mid new : Option (List ℕ)) (balance : ℤ) (count : ℕ)
-      (r : StoredPosting)
-      (is : coming ≡ posting_entry r ∷ left) (far : IsFar all coming old mid balance count) where
+  module _ (coming left : List Pair) (mid new : Option (List ℕ)) (balance : ℤ) (count : ℕ)
+      (r : StatedPosting)
+      (is : coming ≡ stated_pair r ∷ left) (far : IsFar all coming old mid balance count) where
     -- one line more
     pub one_line : (after : ℤ) → WritesLine r balance mid new (Ok after)
         → IsFar all left old new after (count + 1)
     one_line after wrote =
-        let same : after ≡ sum_of far.given +ℤ r.delta = wrote.0
-        ∙ ap (λ (z : ℤ). z +ℤ r.delta) far.sum in
+        let same : after ≡ sum_of far.given +ℤ delta_of r = wrote.0
+        ∙ ap (λ (z : ℤ). z +ℤ delta_of r) far.sum in
         record {
           given = far.given ++ r ∷ [];
           are = are_more far.given r coming left is far.are;
@@ -106,7 +106,10 @@ module _ (all : List Entry) (old : Option (List ℕ)) where
       given = far.given;
       rest = coming;
       are = far.are;
-      why = (r, left, is, subst (λ (z : ℤ). MAX_BALANCE < nat_abs (z +ℤ r.delta)) far.sum wrote.1);
+      why = inr (inl (
+        refl,
+        (r, left, is, subst (λ (z : ℤ). MAX_BALANCE < nat_abs (z +ℤ delta_of r)) far.sum wrote.1),
+      ));
       wrote = whole_part old new _
           (subst (λ (o : Option (List ℕ)). Appends old o (text_of (posting_lines (pos 0) far.given)))
           (sym wrote.0) far.wrote);
@@ -115,6 +118,7 @@ module _ (all : List Entry) (old : Option (List ℕ)) where
     line_damaged Value wrote = absurd wrote
     line_damaged Key wrote = absurd wrote
     line_damaged Floor wrote = absurd wrote
+    line_damaged Reference wrote = absurd wrote
 
     -- a line that ended it
     pub line_err : (fault : ReportFault) → WritesLine r balance mid new (Err fault)
@@ -127,14 +131,14 @@ module _ (all : List Entry) (old : Option (List ℕ)) where
       why = tt;
       wrote = same_part old new (text_more far.given r)
           (then_part old mid new _ _ far.wrote
-          (same_part mid new (ap (λ (z : ℤ). posting_line r (z +ℤ r.delta)) far.sum) wrote));
+          (same_part mid new (ap (λ (z : ℤ). posting_line r (z +ℤ delta_of r)) far.sum) wrote));
     }
     line_err (Bank Memory) wrote = absurd wrote
     line_err (Bank Store) wrote = absurd wrote
     line_err (Bank Down) wrote = absurd wrote
     line_err (Bank (Damaged rule)) wrote = line_damaged rule wrote
 
-  module _ (coming : List Entry) (new : Option (List ℕ)) (balance : ℤ) (count : ℕ)
+  module _ (coming : List Pair) (new : Option (List ℕ)) (balance : ℤ) (count : ℕ)
       (far : IsFar all coming old new balance count) where
     so_far : (fault : ReportFault) → Why far.given coming (Err fault)
         → WritesPostings all old new (Err fault)
@@ -146,14 +150,6 @@ module _ (all : List Entry) (old : Option (List ℕ)) where
       wrote = whole_part old new _ far.wrote;
     }
 
-    -- a row that can't be read ended it
-    pub value_err : (rule : Rule) → (rule ≡ Value)
-        × ((e : Entry) × (more : List Entry) × (coming ≡ e ∷ more) × IsNoPosting e)
-        → WritesPostings all old new (Err (Bank (Damaged rule)))
-    value_err rule told =
-        subst (λ (x : Rule). WritesPostings all old new (Err (Bank (Damaged x)))) (sym told.0)
-        (so_far (Bank (Damaged Value)) (inl told.1))
-
     pub store_err : WritesPostings all old new (Err (Bank Store))
     store_err = so_far (Bank Store) tt
 
@@ -162,23 +158,23 @@ module _ (all : List Entry) (old : Option (List ℕ)) where
 
     -- there are more rows than can be
     pub worn_out : 2 ^ 64 - 1 ≤ count → WritesPostings all old new (Err (Bank (Damaged Value)))
-    worn_out many = so_far (Bank (Damaged Value)) (inr (omega (arith, many, far.many)))
+    worn_out many = so_far (Bank (Damaged Value)) (inr (inr (refl, omega (arith, many, far.many))))
 
     -- a step of the walk ended it
-    pub walk_err : (after : List Entry) (fault : Fault)
-        → Steps {R = StoredPosting} posting_entry IsNoPosting coming after (Err fault)
+    pub walk_err : (after : List Pair) (fault : Fault)
+        → Steps {R = StatedPosting} stated_pair BreaksStated coming after (Err fault)
         → WritesPostings all old new (Err (Bank fault))
     walk_err after Memory told = absurd told
     walk_err after Store told = store_err
     walk_err after Down told = down_err
-    walk_err after (Damaged rule) told = value_err rule told
+    walk_err after (Damaged rule) told = so_far (Bank (Damaged rule)) (inl told)
 
     -- the end of the walk ended it
     pub walk_end : coming ≡ [] → WritesPostings all old new (Ok tt)
     walk_end none = record { given = far.given; rest = coming; are = far.are; why = none; wrote = far.wrote }
 
 -- what ended a line is what ended the lines
-pub line_is : (row : StoredPosting) (before : ℤ) (old new : Option (List ℕ))
+pub line_is : (row : StatedPosting) (before : ℤ) (old new : Option (List ℕ))
     (r : Result (Unit {0}) ReportFault) (e f : ReportFault) → r ≡ Err e → r ≡ Err f
     → WritesLine row before old new (Err e) → WritesLine row before old new (Err f)
 line_is row before old new r e f one other wrote =

@@ -8,13 +8,11 @@ use Rattle.std.proofs.Math.IntN.{+ℤ_assoc}
 use Rattle.message_records.specs.declared.limits.TheConstants.{MAX_BALANCE}
 use Rattle.posting_rules.specs.Entries.{DecidedRequest, account_balance}
 use Rattle.posting_rules.specs.Laws.{total}
-use Rattle.bank_walks.specs.declared.postings.StoredPosting.{StoredPosting}
+use Rattle.bank_walks.specs.declared.stated.StatedPosting.{StatedPosting}
 use Rattle.bank_reports.specs.StatementText.{posting_line, posting_lines}
-use Rattle.bank_audits.specs.Behind.{is_posted_to, lines_to, posting_of, postings_to}
+use Rattle.bank_audits.specs.Behind.{is_posted_to, lines_to, postings_to, stated_of}
+use Rattle.bank_audits.specs.Postings.{delta_of, sum_of}
 use Rattle.bank_audits.proofs.LogHistory.{EachWithin}
-
-abbrev pub delta_of : StoredPosting → ℤ
-delta_of r = r.delta
 
 total-append : (xs ys : List ℤ) → total (xs ++ ys) ≡ total xs +ℤ total ys
 total-append [] ys = omega (arith, ints)
@@ -24,31 +22,27 @@ total-append (x ∷ xs) ys = ap (λ (z : ℤ). x +ℤ z) (total-append xs ys)
 total-snoc : (xs : List ℤ) (z : ℤ) → total (xs ++ z ∷ []) ≡ total xs +ℤ z
 total-snoc xs z = total-append xs (z ∷ []) ∙ ap (λ (y : ℤ). total xs +ℤ y) (omega (arith, ints))
 
--- what postings add up to
-abbrev pub sum_of : List StoredPosting → ℤ
-sum_of rs = total (map delta_of rs)
-
-pub sum_of-snoc : (rs : List StoredPosting) (r : StoredPosting) → sum_of (rs ++ r ∷ []) ≡ sum_of rs
-    +ℤ r.delta
-sum_of-snoc rs r = ap total (map-append delta_of rs (r ∷ [])) ∙ total-snoc (map delta_of rs) r.delta
+pub sum_of-snoc : (rs : List StatedPosting) (r : StatedPosting) → sum_of (rs ++ r ∷ []) ≡ sum_of rs
+    +ℤ delta_of r
+sum_of-snoc rs r = ap total (map-append delta_of rs (r ∷ [])) ∙ total-snoc (map delta_of rs) (delta_of r)
 
 -- one more line
-pub posting_lines-snoc : (before : ℤ) (rs : List StoredPosting) (r : StoredPosting)
+pub posting_lines-snoc : (before : ℤ) (rs : List StatedPosting) (r : StatedPosting)
     → posting_lines before (rs ++ r ∷ []) ≡ posting_lines before rs
-    ++ posting_line r ((before +ℤ sum_of rs) +ℤ r.delta) ∷ []
+    ++ posting_line r ((before +ℤ sum_of rs) +ℤ delta_of r) ∷ []
 posting_lines-snoc before [] r = ap (λ (z : ℤ). posting_line r z ∷ []) (omega (arith, ints))
 posting_lines-snoc before (x ∷ rs) r =
-    ap (λ l. posting_line x (before +ℤ x.delta) ∷ l)
-    (posting_lines-snoc (before +ℤ x.delta) rs r
-    ∙ ap (λ (z : ℤ). posting_lines (before +ℤ x.delta) rs ++ posting_line r (z +ℤ r.delta) ∷ [])
-    (+ℤ_assoc before x.delta (sum_of rs)))
+    ap (λ l. posting_line x (before +ℤ delta_of x) ∷ l)
+    (posting_lines-snoc (before +ℤ delta_of x) rs r
+    ∙ ap (λ (z : ℤ). posting_lines (before +ℤ delta_of x) rs ++ posting_line r (z +ℤ delta_of r) ∷ [])
+    (+ℤ_assoc before (delta_of x) (sum_of rs)))
 
 -- from an empty account on
-pub lines-snoc : (rs : List StoredPosting) (r : StoredPosting)
+pub lines-snoc : (rs : List StatedPosting) (r : StatedPosting)
     → posting_lines (pos 0) (rs ++ r ∷ []) ≡ posting_lines (pos 0) rs
-    ++ posting_line r (sum_of rs +ℤ r.delta) ∷ []
+    ++ posting_line r (sum_of rs +ℤ delta_of r) ∷ []
 lines-snoc rs r = posting_lines-snoc (pos 0) rs r
-    ∙ ap (λ (z : ℤ). posting_lines (pos 0) rs ++ posting_line r (z +ℤ r.delta) ∷ [])
+    ∙ ap (λ (z : ℤ). posting_lines (pos 0) rs ++ posting_line r (z +ℤ delta_of r) ∷ [])
     (omega (arith, ints))
 
 -- ---- behind a log
@@ -59,9 +53,9 @@ sum_is_balance a [] = refl
 sum_is_balance a (e ∷ es) = last (is_posted_to a e) (sum_is_balance a es)
   where
     last : (b : Bool) → sum_of (postings_to a es) ≡ account_balance es a
-        → sum_of (cond b (postings_to a es ++ posting_of (length es + 1) e ∷ []) (postings_to a es))
+        → sum_of (cond b (postings_to a es ++ stated_of (length es + 1) e ∷ []) (postings_to a es))
         ≡ cond b (account_balance es a +ℤ e.request.delta) (account_balance es a)
-    last true earlier = sum_of-snoc (postings_to a es) (posting_of (length es + 1) e)
+    last true earlier = sum_of-snoc (postings_to a es) (stated_of (length es + 1) e)
         ∙ ap (λ (z : ℤ). z +ℤ e.request.delta) earlier
     last false earlier = earlier
 
@@ -73,18 +67,18 @@ lines_are a (e ∷ es) = last (is_posted_to a e) refl (lines_are a es)
     last : (b : Bool) → is_posted_to a e ≡ b → posting_lines (pos 0) (postings_to a es)
         ≡ lines_to a es
         → posting_lines (pos 0)
-        (cond b (postings_to a es ++ posting_of (length es + 1) e ∷ []) (postings_to a es))
+        (cond b (postings_to a es ++ stated_of (length es + 1) e ∷ []) (postings_to a es))
         ≡ cond b (lines_to a es
-        ++ posting_line (posting_of (length es + 1) e) (account_balance (e ∷ es) a) ∷ [])
+        ++ posting_line (stated_of (length es + 1) e) (account_balance (e ∷ es) a) ∷ [])
         (lines_to a es)
     last true is earlier =
-        lines-snoc (postings_to a es) (posting_of (length es + 1) e)
+        lines-snoc (postings_to a es) (stated_of (length es + 1) e)
         ∙ ap (λ (z : ℤ). posting_lines (pos 0) (postings_to a es)
-        ++ posting_line (posting_of (length es + 1) e) (z +ℤ e.request.delta) ∷ [])
+        ++ posting_line (stated_of (length es + 1) e) (z +ℤ e.request.delta) ∷ [])
         (sum_is_balance a es)
-        ∙ ap (λ l. l ++ posting_line (posting_of (length es + 1) e)
+        ∙ ap (λ l. l ++ posting_line (stated_of (length es + 1) e)
         (account_balance es a +ℤ e.request.delta) ∷ []) earlier
-        ∙ ap (λ (z : ℤ). lines_to a es ++ posting_line (posting_of (length es + 1) e) z ∷ [])
+        ∙ ap (λ (z : ℤ). lines_to a es ++ posting_line (stated_of (length es + 1) e) z ∷ [])
         (sym (rw is refl))
     last false is earlier = earlier
 
@@ -94,13 +88,13 @@ few_postings a [] = omega arith
 few_postings a (e ∷ es) = last (is_posted_to a e) (few_postings a es)
   where
     last : (b : Bool) → length (postings_to a es) ≤ length es
-        → length (cond b (postings_to a es ++ posting_of (length es + 1) e ∷ []) (postings_to a es))
+        → length (cond b (postings_to a es ++ stated_of (length es + 1) e ∷ []) (postings_to a es))
         ≤ length (e ∷ es)
     last true earlier = omega (
       arith,
       earlier,
       length-append (postings_to a es)
-          (posting_of (length es + 1) e ∷ []),
+          (stated_of (length es + 1) e ∷ []),
     )
     last false earlier = omega (arith, earlier)
 
@@ -113,22 +107,22 @@ plus_zero : (z y : ℤ) → (z +ℤ pos 0) +ℤ y ≡ z +ℤ y
 plus_zero z y = omega (arith, ints)
 
 -- each running balance on the way through the postings is within the limit
-abbrev pub AllRunWithin : ℤ → List StoredPosting → Type 0
+abbrev pub AllRunWithin : ℤ → List StatedPosting → Type 0
 AllRunWithin before [] = Unit {0}
-AllRunWithin before (r ∷ rs) = (nat_abs (before +ℤ r.delta) ≤ MAX_BALANCE)
-    × AllRunWithin (before +ℤ r.delta) rs
+AllRunWithin before (r ∷ rs) = (nat_abs (before +ℤ delta_of r) ≤ MAX_BALANCE)
+    × AllRunWithin (before +ℤ delta_of r) rs
 
-run_more : (before : ℤ) (rs : List StoredPosting) (r : StoredPosting) → AllRunWithin before rs
-    → nat_abs ((before +ℤ sum_of rs) +ℤ r.delta) ≤ MAX_BALANCE
+run_more : (before : ℤ) (rs : List StatedPosting) (r : StatedPosting) → AllRunWithin before rs
+    → nat_abs ((before +ℤ sum_of rs) +ℤ delta_of r) ≤ MAX_BALANCE
     → AllRunWithin before (rs ++ r ∷ [])
 run_more before [] r all low =
-    let same : (before +ℤ pos 0) +ℤ r.delta ≡ before +ℤ r.delta = omega (arith, ints) in
+    let same : (before +ℤ pos 0) +ℤ delta_of r ≡ before +ℤ delta_of r = omega (arith, ints) in
     (subst (λ (z : ℤ). nat_abs z ≤ MAX_BALANCE) same low, tt)
 run_more before (x ∷ rs) r all low = (
   all.0,
-  run_more (before +ℤ x.delta) rs r all.1
-      (subst (λ (z : ℤ). nat_abs (z +ℤ r.delta) ≤ MAX_BALANCE)
-      (sym (+ℤ_assoc before x.delta (sum_of rs))) low),
+  run_more (before +ℤ delta_of x) rs r all.1
+      (subst (λ (z : ℤ). nat_abs (z +ℤ delta_of r) ≤ MAX_BALANCE)
+      (sym (+ℤ_assoc before (delta_of x) (sum_of rs))) low),
 )
 
 -- behind a log they are
@@ -139,24 +133,24 @@ runs_within a (e ∷ es) all = last (is_posted_to a e) refl (runs_within a es al
   where
     last : (b : Bool) → is_posted_to a e ≡ b → AllRunWithin (pos 0) (postings_to a es)
         → AllRunWithin (pos 0)
-        (cond b (postings_to a es ++ posting_of (length es + 1) e ∷ []) (postings_to a es))
+        (cond b (postings_to a es ++ stated_of (length es + 1) e ∷ []) (postings_to a es))
     last true is earlier =
         let now : nat_abs (account_balance es a +ℤ e.request.delta) ≤ MAX_BALANCE = rw is at all.0 in
         let same : account_balance es a ≡ pos 0 +ℤ sum_of (postings_to a es) = sym (sum_is_balance a es)
         ∙ sym (zero_plus (sum_of (postings_to a es))) in
-        run_more (pos 0) (postings_to a es) (posting_of (length es + 1) e) earlier
+        run_more (pos 0) (postings_to a es) (stated_of (length es + 1) e) earlier
         (subst (λ (z : ℤ). nat_abs (z +ℤ e.request.delta) ≤ MAX_BALANCE) same now)
     last false is earlier = earlier
 
 -- none is beyond it
-pub never_beyond : (before : ℤ) (given : List StoredPosting) (r : StoredPosting) (more : List StoredPosting)
+pub never_beyond : (before : ℤ) (given : List StatedPosting) (r : StatedPosting) (more : List StatedPosting)
     → AllRunWithin before (given ++ r ∷ more)
-    → MAX_BALANCE < nat_abs ((before +ℤ sum_of given) +ℤ r.delta) → ⊥
+    → MAX_BALANCE < nat_abs ((before +ℤ sum_of given) +ℤ delta_of r) → ⊥
 never_beyond before [] r more all high =
-    let low : nat_abs ((before +ℤ pos 0) +ℤ r.delta) ≤ MAX_BALANCE =
-    subst (λ (z : ℤ). nat_abs z ≤ MAX_BALANCE) (sym (plus_zero before r.delta)) all.0 in
+    let low : nat_abs ((before +ℤ pos 0) +ℤ delta_of r) ≤ MAX_BALANCE =
+    subst (λ (z : ℤ). nat_abs z ≤ MAX_BALANCE) (sym (plus_zero before (delta_of r))) all.0 in
     omega (arith, low, high)
 never_beyond before (x ∷ given) r more all high =
-    never_beyond (before +ℤ x.delta) given r more all.1
-    (subst (λ (z : ℤ). MAX_BALANCE < nat_abs (z +ℤ r.delta))
-    (sym (+ℤ_assoc before x.delta (sum_of given))) high)
+    never_beyond (before +ℤ delta_of x) given r more all.1
+    (subst (λ (z : ℤ). MAX_BALANCE < nat_abs (z +ℤ delta_of r))
+    (sym (+ℤ_assoc before (delta_of x) (sum_of given))) high)

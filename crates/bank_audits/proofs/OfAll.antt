@@ -7,6 +7,7 @@ use Rattle.sqlite.specs.Effect.{Database}
 use Rattle.sqlite.specs.Held.{Held}
 use Rattle.sqlite_trees.specs.declared.store.Store.{Ghosts}
 use Rattle.posting_rules.specs.declared.fault.Fault.{Fault}
+use Rattle.posting_rules.specs.declared.fault.Rule.{Rule}
 use Rattle.bank_reports.specs.Beside.{AuditRows}
 use Rattle.bank_store.specs.Seen.{connection_of, database_of}
 use Rattle.bank_store.specs.Walking.{BeginsWalk, items_to_come, lent}
@@ -29,17 +30,19 @@ module _ {S R X : Type 0} {g : Ghosts S} {key : X → ℤ} {item : R → X} {is_
   there all = subst (λ bank. HasItems (database_of g bank) all) (sym begins.same)
 
   -- at the end of the loan and behind it
-  pub told_of_all : (Breaks : X → Type 0) {Clean Later : Type 0} {last new : Held S}
+  pub told_of_all : (Breaks : Rule → X → Type 0) {Clean Later : Type 0} {last new : Held S}
       → (Clean → (all : List X) → HasItems (database_of g (lent walk)) all
-      → IfErr r (SaysOf (HasBroken Breaks (to_come all))
+      → IfErr r (SaysOf (λ rule. HasBroken (Breaks rule) (to_come all))
       (HasFailedToRead g (connection_of (lent walk)) last)))
       → last ≡ new → (Later → Clean) → Later → (all : List X) → HasItems (database_of g old) all
-      → IfErr r (SaysOf (HasBroken Breaks all) (HasFailedToRead g (connection_of old) new))
+      → IfErr r (SaysOf (λ rule. HasBroken (Breaks rule) all) (HasFailedToRead g (connection_of old) new))
   told_of_all Breaks {last = last} {new = new} told two before late all has =
-      subst (λ conn. IfErr r (SaysOf (HasBroken Breaks all) (HasFailedToRead g (connection_of old) conn))) two
-      (subst (λ bank. IfErr r (SaysOf (HasBroken Breaks all) (HasFailedToRead g (connection_of bank) last)))
+      subst (λ conn. IfErr r (SaysOf (λ rule. HasBroken (Breaks rule) all)
+      (HasFailedToRead g (connection_of old) conn))) two
+      (subst (λ bank. IfErr r (SaysOf (λ rule. HasBroken (Breaks rule) all)
+      (HasFailedToRead g (connection_of bank) last)))
       begins.same
-      (subst (λ xs. IfErr r (SaysOf (HasBroken Breaks xs)
+      (subst (λ xs. IfErr r (SaysOf (λ rule. HasBroken (Breaks rule) xs)
       (HasFailedToRead g (connection_of (lent walk)) last)))
       (begins.all all has) (told (before late) all (there all has))))
 

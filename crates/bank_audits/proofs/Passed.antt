@@ -7,6 +7,7 @@ use Rattle.sqlite.specs.Effect.{Database}
 use Rattle.sqlite.specs.State.{State, HasCleanDisk}
 use Rattle.posting_rules.specs.declared.fault.Fault.{Fault}
 use Rattle.posting_rules.specs.declared.fault.Fault.TheVariants as told
+use Rattle.posting_rules.specs.declared.fault.Rule.{Rule}
 use Rattle.sqlite.specs.Held.{Held, state}
 use Rattle.sqlite_trees.specs.declared.store.Store.{Ghosts}
 use Rattle.sql_meanings.specs.Entries.{Entry}
@@ -65,12 +66,13 @@ has_mid {old} {mid} {new} {r} f one two clean =
     subst (λ (db : Database). HasFile db f) (sym (one.still (clean_mid mid new r two clean)).0)
 
 -- what breaks the rows of a table breaks those of the file
-pub says_any : {Breaks AnyBreaks : Type 0} (Failed : Type 0) (fault : Fault) → (Breaks → AnyBreaks)
+pub says_any : {Breaks AnyBreaks : Rule → Type 0} (Failed : Type 0) (fault : Fault)
+    → ((rule : Rule) → Breaks rule → AnyBreaks rule)
     → SaysOf Breaks Failed fault → SaysOf AnyBreaks Failed fault
 says_any Failed told.Memory any says = says
 says_any Failed told.Store any says = says
 says_any Failed told.Down any says = tt
-says_any Failed (told.Damaged rule) any says = (says.0, any says.1)
+says_any Failed (told.Damaged rule) any says = any rule says
 
 -- a read that failed later has failed since before
 pub failed_later : {S : Type 0} (g : Ghosts S) (old mid new : Held S) → IsBefore (state g old) (state g mid)
@@ -82,15 +84,15 @@ failed_later g old mid new later failed = record {
 }
 
 -- so it does behind other passes
-pub says_behind : {S Breaks AnyBreaks : Type 0} (g : Ghosts S) (old mid new : Held S) (fault : Fault)
-    → (Breaks → AnyBreaks)
+pub says_behind : {S : Type 0} {Breaks AnyBreaks : Rule → Type 0} (g : Ghosts S) (old mid new : Held S)
+    (fault : Fault) → ((rule : Rule) → Breaks rule → AnyBreaks rule)
     → IsPassed (state g old) (state g mid) (Ok tt) → SaysOf Breaks (HasFailedToRead g mid new) fault
     → SaysOf AnyBreaks (HasFailedToRead g old new) fault
 says_behind g old mid new told.Memory any pass says = says
 says_behind g old mid new told.Store any pass says =
     failed_later g old mid new (comes pass.survives) says
 says_behind g old mid new told.Down any pass says = tt
-says_behind g old mid new (told.Damaged rule) any pass says = (says.0, any says.1)
+says_behind g old mid new (told.Damaged rule) any pass says = any rule says
 
 -- the connection is as that read left it
 pub failed_at_end : {S : Type 0} {g : Ghosts S} {old last new : Held S} → HasFailedToRead g old last
@@ -139,15 +141,15 @@ found_broken Breaks p (e ∷ es) h = elim (cases_Bool (p e)) [
 ]
 
 -- of broken pairs the row or the one beside it is broken
-pub pair_broken : (Breaks BreaksOther : Entry → Type 0) (os rs : List Entry)
-    → HasBroken (BreaksPair Breaks BreaksOther) (paired os rs)
-    → HasBroken Breaks rs ⊎ HasBroken BreaksOther os
-pair_broken Breaks BreaksOther os rs h =
+pub pair_broken : (Breaks BreaksOther : Rule → Entry → Type 0) (rule : Rule) (os rs : List Entry)
+    → HasBroken (BreaksPair Breaks BreaksOther rule) (paired os rs)
+    → HasBroken (Breaks rule) rs ⊎ HasBroken (BreaksOther rule) os
+pair_broken Breaks BreaksOther rule os rs h =
     let it = split_map (pair_with os) rs h.0 h.1 h.2 h.3 in
-    broken it.1 it.0 it.2 it.3 (subst (λ p. BreaksPair Breaks BreaksOther p) it.4 h.4)
+    broken it.1 it.0 it.2 it.3 (subst (λ p. BreaksPair Breaks BreaksOther rule p) it.4 h.4)
   where
     broken : (e : Entry) (front rest : List Entry) → rs ≡ front ++ e ∷ rest
-        → BreaksPair Breaks BreaksOther (pair_with os e)
-        → HasBroken Breaks rs ⊎ HasBroken BreaksOther os
+        → BreaksPair Breaks BreaksOther rule (pair_with os e)
+        → HasBroken (Breaks rule) rs ⊎ HasBroken (BreaksOther rule) os
     broken e front rest is (inl own) = inl (front, e, rest, is, own)
-    broken e front rest is (inr other) = inr (found_broken BreaksOther _ os other)
+    broken e front rest is (inr other) = inr (found_broken (BreaksOther rule) _ os other)

@@ -28,7 +28,7 @@ use Rattle.bank_audits.proofs.RisingRows.{all_as}
 
 -- ---- the row that a file's row is
 
-posting_in : Entry → StoredPosting
+pub posting_in : Entry → StoredPosting
 posting_in e = record {
   ordinal = nat_abs e.key;
   account = number_behind 0 e;
@@ -63,7 +63,7 @@ branch_in e = record {
   balance = number_behind 1 e;
 }
 
-posting_back : (r : StoredPosting) → posting_in (posting_entry r) ≡ r
+pub posting_back : (r : StoredPosting) → posting_in (posting_entry r) ≡ r
 unfolding posting_in
 posting_back r = refl
 
@@ -138,7 +138,7 @@ same_number : (m k : ℕ) → int_eq (pos m) (pos k) ≡ (m == k)
 same_number m k = grind (arith, ints)
 
 -- the file's row under a key is that of the row under it
-under : {R : Type 0} (entry : R → Entry) (ordinal : R → ℕ)
+pub under : {R : Type 0} (entry : R → Entry) (ordinal : R → ℕ)
     → ((r : R) → (entry r).key ≡ pos (ordinal r)) → (rs : List R) (o : ℕ)
     → row_under (map entry rs) (pos o) ≡ option_map entry (row_at ordinal rs o)
 under entry ordinal is [] o = refl

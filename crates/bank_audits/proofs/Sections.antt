@@ -4,8 +4,8 @@ use Rattle.std.proofs.Common.{◌∙◌, append-nil}
 use Rattle.std.specs.Prelude.{ℤ, pos}
 use Rattle.std.specs.Io.KnownBytes.{Appends}
 use Rattle.std.proofs.KnownBytes.{Appends-trans}
-use Rattle.sql_meanings.specs.Entries.{Entry}
-use Rattle.bank_walks.specs.declared.postings.StoredPosting.{StoredPosting}
+use Rattle.bank_walks.specs.declared.stated.StatedPosting.{StatedPosting}
+use Rattle.bank_walks.specs.Pairs.{Pair}
 use Rattle.bank_reports.specs.Lines.{text_of}
 use Rattle.bank_reports.specs.StatementText.{heading_line, names_line, posting_lines, closing_line}
 use Rattle.bank_reports.specs.Written.{AppendsPart}
@@ -15,8 +15,8 @@ use Rattle.bank_audits.specs.declared.fault.ReportFault.{ReportFault}
 use Rattle.bank_audits.specs.declared.fault.ReportFault.TheVariants.{Write}
 use Rattle.bank_audits.specs.Postings.{WritesPostings, WritesStatement, closing_behind, text_so_far}
 
-module _ (account : ℕ) (balance : ℤ) (all : List Entry) (old : Option (List ℕ)) where
-  later : List StoredPosting → List Entry → List ℕ
+module _ (account : ℕ) (balance : ℤ) (all : List Pair) (old : Option (List ℕ)) where
+  later : List StatedPosting → List Pair → List ℕ
   later given rest = text_of (posting_lines (pos 0) given ++ closing_behind rest balance)
 
   -- the heading failed
@@ -48,7 +48,7 @@ module _ (account : ℕ) (balance : ℤ) (all : List Entry) (old : Option (List 
 
     module _ (two : Option (List ℕ)) (names : Appends one two names_line) where
       -- a beginning of what stands behind the names
-      behind : (new : Option (List ℕ)) (given : List StoredPosting) (rest : List Entry)
+      behind : (new : Option (List ℕ)) (given : List StatedPosting) (rest : List Pair)
           → AppendsPart two new (later given rest)
           → AppendsPart old new (text_so_far account balance given rest)
       unfolding later

@@ -2,31 +2,32 @@
 use Rattle.std.proofs.Common.{◌≡◌, ◌<◌, ◌≤◌, ◌+◌, ◌++◌, ℕ, Bool, true, false, cond}
 use Rattle.std.proofs.Common.{List, [], ◌∷◌, length, map, Option, Some, None, Result, Ok, Err, refl, sym, ap}
 use Rattle.std.proofs.Common.{subst, ◌∙◌, inl, inr, arith}
-use Rattle.std.specs.Prelude.{ℤ, pos, ◌+ℤ◌, nat_abs}
+use Rattle.std.specs.Prelude.{ℤ, pos, ◌+ℤ◌, ◌-◌, ◌^◌, nat_abs, option_map, IfSome, IsSomeAnd}
 use Rattle.std.specs.List.{AllByRecursion}
 use Rattle.std.specs.Io.KnownBytes.{Appends}
 use Rattle.std.proofs.lemmas.Int.{ints}
 use Rattle.std.proofs.lemmas.List.{length-append}
+use Rattle.message_records.proofs.References.{reference_again}
+use Rattle.message_records.specs.Records.{IsReference, reference_from}
 use Rattle.message_records.specs.declared.limits.TheConstants.{MAX_BALANCE, MAX_MOMENT}
 use Rattle.posting_rules.specs.declared.limits.TheConstants.{MAX_DECIDED}
 use Rattle.posting_rules.specs.declared.fault.Rule.{Rule}
-use Rattle.posting_rules.specs.declared.fault.Rule.TheVariants.{Meta, Teller, Account, Balance, Request}
-use Rattle.posting_rules.specs.declared.fault.Rule.TheVariants.{Value, Key, Floor}
 use Rattle.posting_rules.specs.declared.fault.Fault.TheVariants.{Damaged}
 use Rattle.posting_rules.specs.Commands.{Command, AreCommands, is_account_open, opened}
 use Rattle.posting_rules.specs.Entries.{DecidedRequest, decided, account_balance, balance_behind}
 use Rattle.posting_rules.proofs.SoundEntries.{AreSound, are_sound, few_enough}
-use Rattle.sql_meanings.specs.Entries.{Entry as Stored}
+use Rattle.bank_walks.specs.Pairs.{Pair}
 use Rattle.bank_walks.specs.Reading.{IsOutside}
-use Rattle.bank_walks.specs.declared.postings.StoredPosting.{StoredPosting}
-use Rattle.bank_walks.specs.Stored.{posting_entry, IsNoPosting}
+use Rattle.bank_walks.specs.References.{BreaksReference, text_entry}
+use Rattle.bank_walks.specs.declared.stated.StatedPosting.{StatedPosting}
+use Rattle.bank_walks.specs.Stored.{BreaksStated, stated_pair}
 use Rattle.bank_reports.specs.Written.{AppendsPart}
 use Rattle.bank_reports.proofs.Written.{first_part, same_all, same_part}
 use Rattle.bank_audits.specs.declared.fault.ReportFault.{ReportFault}
 use Rattle.bank_audits.specs.declared.fault.ReportFault.TheVariants.{Bank}
-use Rattle.bank_audits.specs.Behind.{is_posted_to, posting_of, postings_to, statement_behind}
-use Rattle.bank_audits.specs.Postings.{StopsAtBalance, StopsAtValue, WhyDamaged, WritesStatement, sum_of}
-use Rattle.bank_audits.specs.Postings.{text_so_far}
+use Rattle.bank_audits.specs.Behind.{is_posted_to, postings_to, stated_of, statement_behind}
+use Rattle.bank_audits.specs.Postings.{StopsAtBalance, StopsAtRow, WhyDamaged, WritesStatement, delta_of}
+use Rattle.bank_audits.specs.Postings.{sum_of, text_so_far}
 use Rattle.bank_audits.proofs.LogHistory.{each_within}
 use Rattle.bank_audits.proofs.Lined.{AllRunWithin, few_postings, never_beyond, runs_within}
 use Rattle.bank_audits.proofs.OnLogs.{beginning, one_entry, text_begins, text_ends}
@@ -34,8 +35,9 @@ use Rattle.bank_audits.proofs.RisingRows.{all-append}
 
 -- ---- the rows can be read
 
-abbrev IsReadable : StoredPosting → Type 0
-IsReadable r = (1 ≤ r.ordinal) × (r.ordinal ≤ MAX_DECIDED) × (r.moment ≤ MAX_MOMENT)
+abbrev IsReadable : StatedPosting → Type 0
+IsReadable s = (1 ≤ s.posting.ordinal) × (s.posting.ordinal ≤ MAX_DECIDED) × (s.posting.moment ≤ MAX_MOMENT)
+    × IfSome s.reference IsReference
 
 readable : (a : ℕ) (es : List DecidedRequest) → AreSound es → AllByRecursion IsReadable (postings_to a es)
 readable a [] sound = tt
@@ -43,10 +45,10 @@ readable a (e ∷ es) sound = last (is_posted_to a e) (few_enough (e ∷ es) sou
   where
     last : (b : Bool) → length (e ∷ es) ≤ MAX_DECIDED → AllByRecursion IsReadable (postings_to a es)
         → AllByRecursion IsReadable
-        (cond b (postings_to a es ++ posting_of (length es + 1) e ∷ []) (postings_to a es))
+        (cond b (postings_to a es ++ stated_of (length es + 1) e ∷ []) (postings_to a es))
     last true few earlier =
-        all-append IsReadable (postings_to a es) (posting_of (length es + 1) e ∷ []) earlier
-        ((omega arith, omega (arith, few), sound.0.moment), tt)
+        all-append IsReadable (postings_to a es) (stated_of (length es + 1) e ∷ []) earlier
+        ((omega arith, omega (arith, few), sound.0.moment, sound.0.request.reference), tt)
     last false few earlier = earlier
 
 pub outside_none : (least most n : ℕ) → least ≤ n → n ≤ most → IsOutside least most (pos n)
@@ -54,9 +56,20 @@ pub outside_none : (least most n : ℕ) → least ≤ n → n ≤ most → IsOut
 outside_none least most n low high (inl under) = omega (arith, ints, under)
 outside_none least most n low high (inr over) = omega (arith, ints, over)
 
-not_broken : (r : StoredPosting) → IsReadable r → IsNoPosting (posting_entry r) → ⊥
-not_broken r can (inl ordinal) = outside_none 1 MAX_DECIDED r.ordinal can.0 can.1 ordinal
-not_broken r can (inr moment) = outside_none 0 MAX_MOMENT r.moment (omega arith) can.2 moment
+not_none : (text : List ℕ) → IsReference text → reference_from text ≡ None → ⊥
+not_none text is none = let it = sym (reference_again text is) ∙ none in cc
+
+is_read : (o : ℕ) (broken : Rule) (reference : Option (List ℕ)) → IfSome reference IsReference
+    → IsSomeAnd (option_map (text_entry o) reference) (BreaksReference broken) → ⊥
+is_read o broken None can broke = broke
+is_read o broken (Some text) can broke = not_none text can broke.1
+
+not_broken : (s : StatedPosting) (broken : Rule) → IsReadable s → BreaksStated broken (stated_pair s) → ⊥
+not_broken s broken can (inl own) = elim own.1 [
+  | inl ordinal ↦ outside_none 1 MAX_DECIDED s.posting.ordinal can.0 can.1 ordinal
+  | inr moment ↦ outside_none 0 MAX_MOMENT s.posting.moment (omega arith) can.2 moment
+]
+not_broken s broken can (inr beside) = is_read s.posting.ordinal broken s.reference can.3 beside
 
 pub all_behind : {X : Type 0} (P : X → Type 0) (xs ys : List X) → AllByRecursion P (xs ++ ys)
     → AllByRecursion P ys
@@ -72,50 +85,47 @@ first_head {X} x y xs ys same = ap head same
 
 -- ---- what is told of damage
 
-module _ (a : ℕ) (log : List Command) (are : AreCommands log) (given more : List StoredPosting)
+module _ (a : ℕ) (log : List Command) (are : AreCommands log) (given more : List StatedPosting)
     (is : postings_to a (decided log) ≡ given ++ more) where
-  no_value : (left : List StoredPosting) → left ≡ more → (rest : List Stored) → rest
-      ≡ map posting_entry left → StopsAtValue given rest → ⊥
-  no_value [] same rest read (inl broken) = absurd (let e = sym broken.2 ∙ read in cc)
-  no_value (r ∷ left) same rest read (inl broken) =
-      let e : broken.0 ≡ posting_entry r =
-      first_head broken.0 (posting_entry r) broken.1 (map posting_entry left) (sym broken.2 ∙ read) in
-      let all = subst (λ rs. AllByRecursion IsReadable rs) is
+  no_row : (left : List StatedPosting) → left ≡ more → (rest : List Pair) → rest ≡ map stated_pair left
+      → (broken : Rule) → StopsAtRow rest broken → ⊥
+  no_row [] same rest read broken stops = absurd (let e = sym stops.2 ∙ read in cc)
+  no_row (s ∷ left) same rest read broken stops =
+      let e : stops.0 ≡ stated_pair s =
+      first_head stops.0 (stated_pair s) stops.1 (map stated_pair left) (sym stops.2 ∙ read) in
+      let all = subst (λ ss. AllByRecursion IsReadable ss) is
       (readable a (decided log) (are_sound log are)) in
-      let behind : AllByRecursion IsReadable (r ∷ left) =
-      subst (λ rs. AllByRecursion IsReadable rs) (sym same) (all_behind IsReadable given more all) in
-      not_broken r behind.0 (subst (λ x. IsNoPosting x) e broken.3)
-  no_value left same rest read (inr many) =
+      let behind : AllByRecursion IsReadable (s ∷ left) =
+      subst (λ ss. AllByRecursion IsReadable ss) (sym same) (all_behind IsReadable given more all) in
+      not_broken s broken behind.0 (subst (λ p. BreaksStated broken p) e stops.3)
+
+  not_many : 2 ^ 64 - 1 ≤ length given → ⊥
+  not_many many =
       let few = few_postings a (decided log) in
       let fewer = few_enough (decided log) (are_sound log are) in
       let count = ap (λ l. length l) is ∙ length-append given more in
       omega (arith, many, few, fewer, count)
 
-  no_balance : (left : List StoredPosting) → left ≡ more → (rest : List Stored) → rest
-      ≡ map posting_entry left → StopsAtBalance given rest → ⊥
+  no_balance : (left : List StatedPosting) → left ≡ more → (rest : List Pair) → rest
+      ≡ map stated_pair left → StopsAtBalance given rest → ⊥
   no_balance [] same rest read broken = absurd (let e = sym broken.2 ∙ read in cc)
-  no_balance (r ∷ left) same rest read broken =
-      let e : broken.0 ≡ r =
-      one_entry broken.0 r
-      (first_head (posting_entry broken.0) (posting_entry r) broken.1 (map posting_entry left)
+  no_balance (s ∷ left) same rest read broken =
+      let e : broken.0 ≡ s =
+      one_entry broken.0 s
+      (first_head (stated_pair broken.0) (stated_pair s) broken.1 (map stated_pair left)
       (sym broken.2 ∙ read)) in
       let all = runs_within a (decided log) (each_within log a) in
       let zero : sum_of given ≡ pos 0 +ℤ sum_of given = omega (arith, ints) in
-      never_beyond (pos 0) given r left
-      (subst (λ rs. AllRunWithin (pos 0) rs) (is ∙ ap (λ l. given ++ l) (sym same)) all)
-      (subst (λ (z : ℤ). MAX_BALANCE < nat_abs (z +ℤ r.delta)) zero
-      (subst (λ (x : StoredPosting). MAX_BALANCE < nat_abs (sum_of given +ℤ x.delta)) e broken.3))
+      never_beyond (pos 0) given s left
+      (subst (λ ss. AllRunWithin (pos 0) ss) (is ∙ ap (λ l. given ++ l) (sym same)) all)
+      (subst (λ (z : ℤ). MAX_BALANCE < nat_abs (z +ℤ delta_of s)) zero
+      (subst (λ (x : StatedPosting). MAX_BALANCE < nat_abs (sum_of given +ℤ delta_of x)) e broken.3))
 
-  no_damage : (rest : List Stored) (rule : Rule) → rest ≡ map posting_entry more
+  no_damage : (rest : List Pair) (rule : Rule) → rest ≡ map stated_pair more
       → WhyDamaged given rest rule → ⊥
-  no_damage rest Meta read why = why
-  no_damage rest Teller read why = why
-  no_damage rest Account read why = why
-  no_damage rest Balance read why = no_balance more refl rest read why
-  no_damage rest Request read why = why
-  no_damage rest Value read why = no_value more refl rest read why
-  no_damage rest Key read why = why
-  no_damage rest Floor read why = why
+  no_damage rest rule read (inl row) = no_row more refl rest read rule row
+  no_damage rest rule read (inr (inl balance)) = no_balance more refl rest read balance.1
+  no_damage rest rule read (inr (inr many)) = not_many many.1
 
 -- ---- what is told of the whole
 
@@ -130,8 +140,8 @@ balance_is log a z is = by_test (is_account_open (λ b. opened log b) a) is
     by_test false same = absurd cc
 
 module _ (a : ℕ) (balance : ℤ) (log : List Command) (is : balance ≡ account_balance (decided log) a)
-    (all : List Stored)
-    (rows : all ≡ map posting_entry (postings_to a (decided log))) (old new : Option (List ℕ)) where
+    (all : List Pair)
+    (rows : all ≡ map stated_pair (postings_to a (decided log))) (old new : Option (List ℕ)) where
   -- the statement is that of the log
   pub told_whole : WritesStatement a balance all old new (Ok tt) → Appends old new (statement_behind log a)
   told_whole w =
@@ -162,8 +172,8 @@ pub record ToldOfLog (a : ℕ) (log : List Command) (old new : Option (List ℕ)
     (answer : Result (Unit {0}) ReportFault) : Type 0 where
   pub balance : ℤ
   pub is : Some balance ≡ balance_behind log a
-  pub all : List Stored
-  pub rows : all ≡ map posting_entry (postings_to a (decided log))
+  pub all : List Pair
+  pub rows : all ≡ map stated_pair (postings_to a (decided log))
   pub told : WritesStatement a balance all old new answer
   pub commands : AreCommands log
 

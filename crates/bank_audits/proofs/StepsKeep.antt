@@ -4,14 +4,13 @@ use Rattle.sqlite.specs.Table.{Table}
 use Rattle.sqlite.specs.Effect.{Database}
 use Rattle.sqlite.specs.State.{State, Survives}
 use Rattle.sqlite.proofs.StateLemmas.{survives_then}
-use Rattle.sql_meanings.specs.Entries.{Entry}
-use Rattle.bank_walks.specs.Rows.{HasStoredRows}
+use Rattle.bank_walks.specs.Pairs.{HasPairs, Pair}
 use Rattle.bank_store.specs.Walks.{IsUntouchedIfOpen, IsStill}
 
 -- a connection that sees what it saw has the same rows
-pub still_has : (old new : State) (table : Table) (rows : List Entry) → IsStill old new
-    → HasStoredRows old.now table rows → HasStoredRows new.now table rows
-still_has old new table rows still = subst (λ (d : Database). HasStoredRows d table rows) (sym still.0)
+pub still_has : (old new : State) (table other : Table) (rows : List Pair) → IsStill old new
+    → HasPairs old.now table other rows → HasPairs new.now table other rows
+still_has old new table other rows still = subst (λ (d : Database). HasPairs d table other rows) (sym still.0)
 
 -- a step more
 pub still_then : (old mid new : State) → IsStill old mid → IsStill mid new → IsStill old new

@@ -2,6 +2,7 @@
 use Rattle.std.specs.Prelude.{ℕ, pos, ◌+◌, ◌==◌, ◌&&◌, Bool, List, [], ◌∷◌, ◌++◌}
 use Rattle.std.specs.Prelude.{length, if◌then◌else◌}
 use Rattle.bank_walks.specs.declared.postings.StoredPosting.{StoredPosting}
+use Rattle.bank_walks.specs.declared.stated.StatedPosting.{StatedPosting}
 use Rattle.posting_rules.specs.Commands.{Command}
 use Rattle.posting_rules.specs.Entries.{DecidedRequest, is_posted, account_balance, decided}
 use Rattle.bank_reports.specs.Lines.{text_of}
@@ -18,16 +19,20 @@ posting_of ordinal e = record {
   moment = e.moment;
 }
 
+-- with the reference of its request
+abbrev pub stated_of : ℕ → DecidedRequest → StatedPosting
+stated_of ordinal e = record { posting = posting_of ordinal e; reference = e.request.reference }
+
 -- it was posted to this account
 abbrev pub is_posted_to : ℕ → DecidedRequest → Bool
 is_posted_to a e = is_posted e && (e.request.account == a)
 
 -- the postings to an account, the oldest first
-abbrev pub postings_to : ℕ → List DecidedRequest → List StoredPosting
+abbrev pub postings_to : ℕ → List DecidedRequest → List StatedPosting
 postings_to a [] = []
 postings_to a (e ∷ es) =
     if is_posted_to a e
-    then postings_to a es ++ posting_of (length es + 1) e ∷ []
+    then postings_to a es ++ stated_of (length es + 1) e ∷ []
     else postings_to a es
 
 -- their lines, each with the account's balance behind it
@@ -35,7 +40,7 @@ abbrev pub lines_to : ℕ → List DecidedRequest → List (List ℕ)
 lines_to a [] = []
 lines_to a (e ∷ es) =
     if is_posted_to a e
-    then lines_to a es ++ posting_line (posting_of (length es + 1) e) (account_balance (e ∷ es) a) ∷ []
+    then lines_to a es ++ posting_line (stated_of (length es + 1) e) (account_balance (e ∷ es) a) ∷ []
     else lines_to a es
 
 -- the statement of an account behind a log

@@ -8,7 +8,7 @@ use Rattle.posting_rules.specs.Tables.{Tables}
 -- if both are posted, they have different tellers or different numbers
 abbrev pub DifferIfPosted : RequestRow → RequestRow → Type 0
 DifferIfPosted a b =
-    has_balance a.kept.outcome ≡ true → has_balance b.kept.outcome ≡ true
+    has_balance a.decision.outcome ≡ true → has_balance b.decision.outcome ≡ true
     → a.teller ≡ b.teller → a.number ≡ b.number → ⊥
 
 -- no two posted requests share teller and number

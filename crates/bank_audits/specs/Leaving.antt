@@ -6,9 +6,8 @@ use Rattle.posting_rules.specs.Commands.{Command}
 use Rattle.posting_rules.specs.Counter.{Seen, LeavesOnly, StandsAt, Takes}
 use Rattle.posting_rules.specs.Tables.{AreTablesOf}
 use Rattle.posting_rules.specs.declared.fault.Fault.TheVariants.{Down, Memory, Store}
-use Rattle.sql_meanings.specs.Entries.{Entry}
-use Rattle.store_rows.specs.BankTables.{history as history_table}
-use Rattle.bank_walks.specs.Rows.{HasStoredRows}
+use Rattle.store_rows.specs.BankTables.{history as history_table, reference as reference_table}
+use Rattle.bank_walks.specs.Pairs.{HasPairs, Pair}
 use Rattle.bank_store.specs.Seen.{bank_seen, connection_of, database_of, file_of}
 use Rattle.bank_store.specs.Walks.{IsStill, IsUntouchedIfOpen}
 use Rattle.bank_store.specs.declared.bank.Bank.{Bank}
@@ -39,7 +38,7 @@ pub record TellsDown (was_down told nothing_done : Type 0) : Type 0 where
   pub tried : told → was_down
   pub idle : told → nothing_done
 
--- rows of history were read and written
+-- rows of history were read, each with its reference, and written
 pub record ReadsRows {S : Type 0} (g : Ghosts S) (old new : Bank S g)
     (told : Result (Unit {0}) ReportFault) : Type 0 where
   -- whether the account is open isn't asked, and no memory is taken
@@ -49,8 +48,8 @@ pub record ReadsRows {S : Type 0} (g : Ghosts S) (old new : Bank S g)
   pub tried : told ≡ Err (OfBank Down) → (bank_seen g old).is_down
   pub up : (bank_seen g new).is_down → (bank_seen g old).is_down
   -- the store is said to have failed where a read did
-  pub store : told ≡ Err (OfBank Store) → HasCleanDisk (file_of new) → (rows : List Entry)
-      → HasStoredRows (database_of g old) history_table rows
+  pub store : told ≡ Err (OfBank Store) → HasCleanDisk (file_of new) → (rows : List Pair)
+      → HasPairs (database_of g old) history_table reference_table rows
       → HasFailedToRead g (connection_of old) (connection_of new)
   -- where all was written, or the writer failed, the connection sees what it saw, and else it does as long as
   -- the store is open

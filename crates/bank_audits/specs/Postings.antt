@@ -9,11 +9,10 @@ use Rattle.posting_rules.specs.declared.fault.Fault.TheVariants.{Memory, Store, 
 use Rattle.posting_rules.specs.declared.fault.Rule.{Rule}
 use Rattle.posting_rules.specs.declared.fault.Rule.TheVariants.{Balance, Value}
 use Rattle.posting_rules.specs.Laws.{total}
-use Rattle.sql_meanings.specs.Entries.{Entry}
 use Rattle.bank_transactions.specs.Stored.{IsStoredBalance}
-use Rattle.bank_walks.specs.declared.postings.StoredPosting.{StoredPosting}
-use Rattle.bank_walks.specs.Stored.{posting_entry, is_of, IsNoPosting}
-use Rattle.bank_reports.specs.Audit.{delta_of}
+use Rattle.bank_walks.specs.declared.stated.StatedPosting.{StatedPosting}
+use Rattle.bank_walks.specs.Pairs.{Pair}
+use Rattle.bank_walks.specs.Stored.{BreaksStated, is_stated_of, stated_pair}
 use Rattle.bank_reports.specs.Lines.{text_of}
 use Rattle.bank_reports.specs.StatementText.{heading_line, names_line, posting_line, posting_lines}
 use Rattle.bank_reports.specs.StatementText.{closing_line}
@@ -21,40 +20,42 @@ use Rattle.bank_reports.specs.Written.{AppendsPart}
 use Rattle.bank_audits.specs.declared.fault.ReportFault.{ReportFault}
 use Rattle.bank_audits.specs.declared.fault.ReportFault.TheVariants.{NoAccount, Write, Bank}
 
+abbrev pub delta_of : StatedPosting → ℤ
+delta_of s = s.posting.delta
+
 -- what postings add up to
-abbrev pub sum_of : List StoredPosting → ℤ
+abbrev pub sum_of : List StatedPosting → ℤ
 sum_of rows = total (map delta_of rows)
 
 -- The line of a posting was written, and this is the balance behind it; or a beginning of it was; or that
 -- balance is out of its limits, and nothing was written.
-abbrev pub WritesLine : StoredPosting → ℤ → Option (List ℕ) → Option (List ℕ)
+abbrev pub WritesLine : StatedPosting → ℤ → Option (List ℕ) → Option (List ℕ)
     → Result ℤ ReportFault → Type 0
-WritesLine r before old new (Ok after) = (after ≡ before +ℤ r.delta)
-    × Appends old new (posting_line r after)
-WritesLine r before old new (Err Write) = AppendsPart old new (posting_line r (before +ℤ r.delta))
-WritesLine r before old new (Err (Bank (Damaged Balance))) = (new ≡ old)
-    × (MAX_BALANCE < nat_abs (before +ℤ r.delta))
-WritesLine r before old new (Err _) = ⊥
+WritesLine s before old new (Ok after) = (after ≡ before +ℤ delta_of s)
+    × Appends old new (posting_line s after)
+WritesLine s before old new (Err Write) = AppendsPart old new (posting_line s (before +ℤ delta_of s))
+WritesLine s before old new (Err (Bank (Damaged Balance))) = (new ≡ old)
+    × (MAX_BALANCE < nat_abs (before +ℤ delta_of s))
+WritesLine s before old new (Err _) = ⊥
 
--- the first row that wasn't given can't be read, or there are 2^64 - 1 rows
-abbrev pub StopsAtValue : List StoredPosting → List Entry → Type 0
-StopsAtValue given rest = ((e : Entry) × (more : List Entry) × (rest ≡ e ∷ more) × IsNoPosting e)
-    ⊎ (2 ^ 64 - 1 ≤ length given)
+-- the first row that wasn't given breaks the rule
+abbrev pub StopsAtRow : List Pair → Rule → Type 0
+StopsAtRow rest broken = (p : Pair) × (more : List Pair) × (rest ≡ p ∷ more) × BreaksStated broken p
 
 -- the balance behind the first row that wasn't given is out of its limits
-abbrev pub StopsAtBalance : List StoredPosting → List Entry → Type 0
+abbrev pub StopsAtBalance : List StatedPosting → List Pair → Type 0
 StopsAtBalance given rest =
-    (r : StoredPosting) × (more : List Entry) × (rest ≡ posting_entry r ∷ more)
-    × (MAX_BALANCE < nat_abs (sum_of given +ℤ r.delta))
+    (s : StatedPosting) × (more : List Pair) × (rest ≡ stated_pair s ∷ more)
+    × (MAX_BALANCE < nat_abs (sum_of given +ℤ delta_of s))
 
--- why rows are reported as damaged
-abbrev pub WhyDamaged : List StoredPosting → List Entry → Rule → Type 0
-WhyDamaged given rest Value = StopsAtValue given rest
-WhyDamaged given rest Balance = StopsAtBalance given rest
-WhyDamaged given rest _ = ⊥
+-- why rows are reported as damaged: that, or there are 2^64 - 1 rows
+abbrev pub WhyDamaged : List StatedPosting → List Pair → Rule → Type 0
+WhyDamaged given rest broken =
+    StopsAtRow rest broken ⊎ ((broken ≡ Balance) × StopsAtBalance given rest)
+    ⊎ ((broken ≡ Value) × (2 ^ 64 - 1 ≤ length given))
 
 -- why the rest wasn't given
-abbrev pub Why : List StoredPosting → List Entry → Result (Unit {0}) ReportFault → Type 0
+abbrev pub Why : List StatedPosting → List Pair → Result (Unit {0}) ReportFault → Type 0
 Why given rest (Ok done) = rest ≡ []
 Why given rest (Err NoAccount) = ⊥
 Why given rest (Err Write) = ⊤
@@ -71,40 +72,41 @@ WritesText text old new (Err e) = AppendsPart old new text
 
 -- of these rows the first were given and the rest weren't, and the lines of those that were given were
 -- written
-pub record WritesPostings (all : List Entry) (old new : Option (List ℕ))
+pub record WritesPostings (all : List Pair) (old new : Option (List ℕ))
     (result : Result (Unit {0}) ReportFault) : Type 0 where
-  pub given : List StoredPosting
-  pub rest : List Entry
-  pub are : map posting_entry given ++ rest ≡ all
+  pub given : List StatedPosting
+  pub rest : List Pair
+  pub are : map stated_pair given ++ rest ≡ all
   pub why : Why given rest result
   pub wrote : WritesText (text_of (posting_lines (pos 0) given)) old new result
 
 -- the closing line is behind the last posting
-abbrev pub closing_behind : List Entry → ℤ → List (List ℕ)
+abbrev pub closing_behind : List Pair → ℤ → List (List ℕ)
 closing_behind [] balance = closing_line balance ∷ []
-closing_behind (e ∷ rest) balance = []
+closing_behind (p ∷ rest) balance = []
 
 -- the statement so far
-abbrev pub text_so_far : ℕ → ℤ → List StoredPosting → List Entry → List ℕ
+abbrev pub text_so_far : ℕ → ℤ → List StatedPosting → List Pair → List ℕ
 text_so_far account balance given rest =
     text_of (heading_line account ∷ names_line
     ∷ (posting_lines (pos 0) given ++ closing_behind rest balance))
 
 -- the same of the whole statement
-pub record WritesStatement (account : ℕ) (balance : ℤ) (all : List Entry) (old new : Option (List ℕ))
+pub record WritesStatement (account : ℕ) (balance : ℤ) (all : List Pair) (old new : Option (List ℕ))
     (result : Result (Unit {0}) ReportFault) : Type 0 where
-  pub given : List StoredPosting
-  pub rest : List Entry
-  pub are : map posting_entry given ++ rest ≡ all
+  pub given : List StatedPosting
+  pub rest : List Pair
+  pub are : map stated_pair given ++ rest ≡ all
   pub why : Why given rest result
   pub wrote : WritesText (text_so_far account balance given rest) old new result
 
--- so the account's rows of history are written, of these, and then the balance that its own row has
-abbrev pub StatesRows : Database → ℕ → List Entry → Option (List ℕ) → Option (List ℕ)
+-- so the account's rows of history are written, of these, each with its reference, and then the balance that
+-- its own row has
+abbrev pub StatesRows : Database → ℕ → List Pair → Option (List ℕ) → Option (List ℕ)
     → Result (Unit {0}) ReportFault → Type 0
 StatesRows db account rows old new result =
     (balance : ℤ) × IsStoredBalance db account (Some balance)
-    × WritesStatement account balance (filter (is_of (Some account)) rows) old new result
+    × WritesStatement account balance (filter (is_stated_of (Some account)) rows) old new result
 
 -- all was written, or the writer failed
 abbrev pub HasWritten : Result (Unit {0}) ReportFault → Type 0

@@ -11,11 +11,10 @@ use Rattle.posting_rules.specs.declared.fault.Fault.{Fault}
 use Rattle.posting_rules.specs.declared.fault.Fault.TheVariants.{Damaged, Store}
 use Rattle.posting_rules.specs.declared.fault.Rule.{Rule}
 use Rattle.posting_core.specs.Told.{EndsWith, HasWriteFailed, IsFlush, WriteTold}
-use Rattle.sql_meanings.specs.Entries.{Entry}
-use Rattle.store_rows.specs.BankTables.{history as history_table}
-use Rattle.store_rows.specs.View.{history_entry}
+use Rattle.store_rows.specs.BankTables.{history as history_table, reference as reference_table}
+use Rattle.store_rows.specs.View.{history_entry, reference_entry}
 use Rattle.bank_transactions.specs.Stored.{IsStoredBalance}
-use Rattle.bank_walks.specs.Rows.{HasStoredRows}
+use Rattle.bank_walks.specs.Pairs.{HasPairs, Pair, paired}
 use Rattle.bank_reports.specs.Written.{AppendsPart}
 use Rattle.bank_store.specs.Down.{KeepsCause, WasBroken}
 use Rattle.bank_store.specs.Seen.{bank_seen, connection_of, database_of, file_of}
@@ -51,19 +50,21 @@ pub record States (old new : Seen) (account : ℕ) (w w' : Option (List ℕ))
 -- an account of a file was stated, whatever rows it has
 pub record StatesFile {S : Type 0} (g : Ghosts S) (old new : Bank S g) (account : ℕ) (w w' : Option (List ℕ))
     (told : Result (Unit {0}) ReportFault) : Type 0 where
-  -- of the rows of history that the file holds, the account's are written by their ordinals, all of them or,
-  -- at a fault, the first, and then the balance that its row has
-  pub rows : told ≢ Err NoAccount → (rows : List Entry)
-      → HasStoredRows (database_of g old) history_table rows
+  -- of the rows of history that the file holds, the account's are written by their ordinals, each with the
+  -- reference that is held under its ordinal, all of them or, at a fault, the first, and then the balance
+  -- that its row has
+  pub rows : told ≢ Err NoAccount → (rows : List Pair)
+      → HasPairs (database_of g old) history_table reference_table rows
       → StatesRows (database_of g old) account rows w w' told
   -- so are those of a bank's tables, be they of a log or not
   pub tables : told ≢ Err NoAccount → (t : Tables) → (bank_seen g old).tables t
-      → StatesRows (database_of g old) account (map history_entry t.history) w w' told
+      → StatesRows (database_of g old) account
+      (paired (map reference_entry t.references) (map history_entry t.history)) w w' told
   -- or the account has no row, and none is due by its branch's count
   pub absent : told ≡ Err NoAccount → IsStoredBalance (database_of g old) account None
   -- the store is said to have failed where a read of the postings did
-  pub store : told ≡ Err (OfBank Store) → (rows : List Entry)
-      → HasStoredRows (database_of g old) history_table rows
+  pub store : told ≡ Err (OfBank Store) → (rows : List Pair)
+      → HasPairs (database_of g old) history_table reference_table rows
       → HasFailedToRead g (connection_of old) (connection_of new)
   -- as long as the store is open, the file holds what it held
   pub still : IsTrue (file_of new).is_open → database_of g new ≡ database_of g old

@@ -32,7 +32,7 @@ pub(crate) fn add_rows<S: Alter, R: Summed>(
     ensures told { HasCleanDisk (lent_state S.Store walk.new) → (all : List R.WalkedRow.Item)
         → R.WalkedRow.HasItems (lent_state S.Store walk.old).now all → let coming =
         items_to_come R.WalkedRow.key R.WalkedRow.item R.WalkedRow.is_given all walk.old
-        in IfErr result (SaysOf (HasBroken R.WalkedRow.is_broken coming)
+        in IfErr result (SaysOf (λ rule. HasBroken (R.WalkedRow.Breaks rule) coming)
         (HasFailedToRead S.Store (connection_of (lent walk.old)) (connection_of (lent walk.new)))) }
     ensures frugal { result ≢ Err Memory }
     ensures tried { result ≢ Err Down }

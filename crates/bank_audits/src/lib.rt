@@ -1,7 +1,8 @@
 //! The audit of a bank in a file, and the statement of one of its accounts.
 //!
 //! [`audit`] reads every row of the bank once and returns the numbers that TPC-B clause 2 compares.
-//! [`write_statement`] writes the postings of an account by their ordinals, each with the balance behind it.
+//! [`write_statement`] writes the postings of an account by their ordinals, each with the balance behind it
+//! and the reference of its request.
 //! Both take the rows as the file has them, damaged or not, and change none. The function `first_reports` of
 //! `store_tests`, which a test runs, writes the statement of account 1 and the audit, and returns whether
 //! the books agree:
@@ -35,6 +36,7 @@
 //! | `Down` | the bank was down, and nothing was read |
 //! | `Damaged(Value)` | a number of a row is out of its column's range, so that the row can't be reported |
 //! | `Damaged(Balance)` | of a statement alone: a balance of the account is out of its limits |
+//! | `Damaged(Reference)` | of a statement alone: the reference of a posting of the account is none |
 //! | [`ReportFault::NoAccount`] | the account isn't open; nothing was written |
 //! | [`ReportFault::Write`] | the writer failed, or took no byte; a beginning of the text was written |
 //!

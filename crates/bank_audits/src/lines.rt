@@ -7,7 +7,7 @@ ghost use Rattle.bank_audits.specs.Postings.{WritesLine};
 
 use crate::fault::ReportFault;
 use bank_reports::{put, statement_line};
-use bank_walks::StoredPosting;
+use bank_walks::StatedPosting;
 use message_records::Cents;
 use posting_core::Sink;
 use posting_rules::{Fault, Rule};
@@ -23,7 +23,7 @@ fn with_delta(before: Cents, delta: i64) -> Option<Cents>
 
 /// Writes the line of a posting, and gives the running balance behind it.
 pub(crate) fn write_line<W: Sink>(
-    row: &StoredPosting,
+    row: &StatedPosting,
     before: Cents,
     writer: &mut W,
 ) -> Result<Cents, ReportFault>
@@ -31,7 +31,7 @@ pub(crate) fn write_line<W: Sink>(
     ensures more { OnOk result (HasMore (W.told writer.old) (W.told writer.new)) }
     ensures failed { result ≡ Err Write → HasWriteFailed (W.told writer.old) (W.told writer.new) }
 {
-    let Some(after) = with_delta(before, row.delta) else {
+    let Some(after) = with_delta(before, row.posting.delta) else {
         return Err(ReportFault::Bank(Fault::Damaged(Rule::Balance)));
     };
     put(writer, statement_line(row, after).as_str())?;

@@ -27,7 +27,7 @@ pub(crate) fn add_each<S: Alter, R: Summed>(
         → map R.WalkedRow.item given ≡ all)) }
     ensures told { HasCleanDisk (file_of bank.new) → (all : List R.WalkedRow.Item)
         → R.WalkedRow.HasItems (database_of S.Store bank.old) all
-        → IfErr result (SaysOf (HasBroken R.WalkedRow.is_broken all)
+        → IfErr result (SaysOf (λ rule. HasBroken (R.WalkedRow.Breaks rule) all)
         (HasFailedToRead S.Store (connection_of bank.old) (connection_of bank.new))) }
     ensures frugal { result ≢ Err Memory }
     ensures tried { result ≡ Err Down → (bank_seen S.Store bank.old).is_down }

@@ -2,12 +2,11 @@
 ghost use Rattle.std.specs.Prelude.{◌≡◌, List, Err, OnOk, Some, filter};
 ghost use Rattle.sqlite.specs.State.{HasCleanDisk};
 ghost use Rattle.posting_core.specs.Told.{HasMore, HasWriteFailed};
-ghost use Rattle.sql_meanings.specs.Entries.{Entry};
-ghost use Rattle.store_rows.specs.BankTables.{history as history_table};
-ghost use Rattle.bank_walks.specs.Rows.{HasStoredRows};
-ghost use Rattle.bank_walks.specs.Stored.{is_of, posting_entry};
+ghost use Rattle.store_rows.specs.BankTables.{history as history_table, reference as reference_table};
+ghost use Rattle.bank_walks.specs.Pairs.{HasPairs, Pair};
+ghost use Rattle.bank_walks.specs.Stored.{is_stated_of};
 ghost use Rattle.bank_store.specs.Seen.{database_of, file_of};
-ghost use Rattle.bank_store.specs.Walking.{HasToldFault, lent, lent_state, loan_of, to_come};
+ghost use Rattle.bank_store.specs.Walking.{HasToldFault, lent, lent_state, loan_of, postings_to_come};
 ghost use Rattle.bank_audits.specs.declared.fault.ReportFault.TheVariants.{Write};
 ghost use Rattle.bank_audits.specs.Leaving.{ReadsRows};
 ghost use Rattle.bank_audits.specs.Postings.{WritesPostings};
@@ -15,7 +14,7 @@ ghost use Rattle.bank_audits.specs.Postings.{WritesPostings};
 use crate::fault::ReportFault;
 use crate::lines::write_line;
 use bank_store::{Bank, Walk, history_of};
-use bank_walks::StoredPosting;
+use bank_walks::StatedPosting;
 use message_records::{Account, Cents};
 use posting_core::Sink;
 use posting_rules::{Fault, Rule};
@@ -23,14 +22,14 @@ use sqlite::Alter;
 
 // Writes the lines of the postings that a walk gives. A fault of the rows leaves the bank as it was.
 fn write_rows<S: Alter, W: Sink>(
-    walk: &mut Walk<'_, S, StoredPosting>,
+    walk: &mut Walk<'_, S, StatedPosting>,
     writer: &mut W,
 ) -> Result<(), ReportFault>
     requires fresh { HasToldFault walk.old → ⊥ }
     ensures same_reference { loan_of walk.new ≡ loan_of walk.old }
-    ensures told { HasCleanDisk (lent_state S.Store walk.new) → (rows : List Entry)
-        → HasStoredRows (lent_state S.Store walk.old).now history_table rows
-        → WritesPostings (to_come posting_entry is_of rows walk.old) (W.contents writer.old)
+    ensures told { HasCleanDisk (lent_state S.Store walk.new) → (rows : List Pair)
+        → HasPairs (lent_state S.Store walk.old).now history_table reference_table rows
+        → WritesPostings (postings_to_come rows walk.old) (W.contents writer.old)
         (W.contents writer.new) result }
     ensures reads { ReadsRows S.Store (lent walk.old) (lent walk.new) result }
     ensures more { OnOk result (HasMore (W.told writer.old) (W.told writer.new)) }
@@ -53,9 +52,9 @@ pub(crate) fn write_postings<S: Alter, W: Sink>(
     account: Account,
     writer: &mut W,
 ) -> Result<(), ReportFault>
-    ensures told { HasCleanDisk (file_of bank.new) → (rows : List Entry)
-        → HasStoredRows (database_of S.Store bank.old) history_table rows
-        → WritesPostings (filter (is_of (Some account)) rows) (W.contents writer.old)
+    ensures told { HasCleanDisk (file_of bank.new) → (rows : List Pair)
+        → HasPairs (database_of S.Store bank.old) history_table reference_table rows
+        → WritesPostings (filter (is_stated_of (Some account)) rows) (W.contents writer.old)
         (W.contents writer.new) result }
     ensures reads { ReadsRows S.Store bank.old bank.new result }
     ensures more { OnOk result (HasMore (W.told writer.old) (W.told writer.new)) }

@@ -3,10 +3,9 @@ ghost use Rattle.std.specs.Prelude.{◌≡◌, ◌≢◌, List, Err, OnOk, Some,
 ghost use Rattle.sqlite.specs.State.{HasCleanDisk};
 ghost use Rattle.posting_rules.specs.declared.fault.Fault.TheVariants.{Down, Memory};
 ghost use Rattle.posting_core.specs.Told.{EndsWith, HasWriteFailed, IsFlush};
-ghost use Rattle.sql_meanings.specs.Entries.{Entry};
-ghost use Rattle.store_rows.specs.BankTables.{history as history_table};
-ghost use Rattle.bank_walks.specs.Rows.{HasStoredRows};
-ghost use Rattle.bank_walks.specs.Stored.{is_of};
+ghost use Rattle.store_rows.specs.BankTables.{history as history_table, reference as reference_table};
+ghost use Rattle.bank_walks.specs.Pairs.{HasPairs, Pair};
+ghost use Rattle.bank_walks.specs.Stored.{is_stated_of};
 ghost use Rattle.bank_store.specs.Seen.{bank_seen, database_of, file_of};
 ghost use Rattle.bank_audits.specs.declared.fault.ReportFault.TheVariants.{Bank as OfBank, NoAccount, Write};
 ghost use Rattle.bank_audits.specs.Leaving.{ReadsRows, StandsWhileOpen, TellsDown};
@@ -29,9 +28,9 @@ fn write_lines<S: Alter, W: Sink>(
     balance: Cents,
     writer: &mut W,
 ) -> Result<(), ReportFault>
-    ensures told { HasCleanDisk (file_of bank.new) → (rows : List Entry)
-        → HasStoredRows (database_of S.Store bank.old) history_table rows
-        → WritesStatement account balance (filter (is_of (Some account)) rows) (W.contents writer.old)
+    ensures told { HasCleanDisk (file_of bank.new) → (rows : List Pair)
+        → HasPairs (database_of S.Store bank.old) history_table reference_table rows
+        → WritesStatement account balance (filter (is_stated_of (Some account)) rows) (W.contents writer.old)
         (W.contents writer.new) result }
     ensures reads { ReadsRows S.Store bank.old bank.new result }
     ensures flushed { OnOk result (EndsWith IsFlush (W.told writer.old) (W.told writer.new)) }
@@ -44,8 +43,8 @@ fn write_lines<S: Alter, W: Sink>(
     Ok(())
 }
 
-/// Writes the statement of an account: its postings by their ordinals, each with the running balance, and its
-/// balance at the end; and flushes the writer.
+/// Writes the statement of an account: its postings by their ordinals, each with the running balance and the
+/// reference of its request, and its balance at the end; and flushes the writer.
 ///
 /// # Errors
 ///

@@ -1,7 +1,8 @@
--- Two audits and a statement, worked out to the byte.
-use Rattle.std.specs.Prelude.{◌≡◌, ◌++◌, ℕ, ℤ, pos, negsuc, [], ◌∷◌, refl, codes}
+-- Two audits and two statements, worked out to the byte.
+use Rattle.std.specs.Prelude.{◌≡◌, ◌++◌, ℕ, ℤ, pos, negsuc, [], ◌∷◌, Some, None, refl, codes}
 use Rattle.std.specs.Fmt.{digits}
 use Rattle.bank_walks.specs.declared.postings.StoredPosting.{StoredPosting}
+use Rattle.bank_walks.specs.declared.stated.StatedPosting.{StatedPosting}
 use Rattle.bank_walks.specs.declared.requests.StoredRequest.{StoredRequest}
 use Rattle.bank_walks.specs.declared.tellers.StoredTeller.{StoredTeller}
 use Rattle.bank_walks.specs.declared.accounts.StoredAccount.{StoredAccount}
@@ -113,10 +114,25 @@ empty_audit : audit_text (audit_of nothing) ≡
 unfolding nothing audit_text number_line digits
 empty_audit = refl
 
-statement_of_one : statement_text 1 (deposit ∷ []) (pos 500) ≡
+-- the deposit came with this reference, and the withdrawal with none
+rent : StatedPosting
+rent = record { posting = deposit; reference = Some (codes "RENT MAY            ") }
+
+bare : StatedPosting
+bare = record { posting = withdrawal; reference = None }
+
+statement_of_one : statement_text 1 (rent ∷ []) (pos 500) ≡
     codes "STATEMENT ACCOUNT 000000000001\n"
-    ++ codes "      ordinal       moment   teller branch          delta        balance\n"
-    ++ codes "            1         1000        1      1           +500            500\n"
+    ++ codes "      ordinal       moment   teller branch          delta        balance reference\n"
+    ++ codes "            1         1000        1      1           +500            500 RENT MAY            \n"
     ++ codes "closing balance                                                      500\n"
-unfolding deposit statement_text digits
+unfolding rent deposit statement_text digits
 statement_of_one = refl
+
+statement_without : statement_text 100001 (bare ∷ []) (negsuc 699) ≡
+    codes "STATEMENT ACCOUNT 000000100001\n"
+    ++ codes "      ordinal       moment   teller branch          delta        balance reference\n"
+    ++ codes "            2         2000        1      1           -700           -700\n"
+    ++ codes "closing balance                                                     -700\n"
+unfolding bare withdrawal statement_text digits
+statement_without = refl

@@ -87,13 +87,13 @@ both a b = is_matched (option_map request_stored a) (option_map posting_stored b
 
 match_is : (a : Option RequestRow) (b : Option HistoryRow) → both a b ≡ true → Match a b
 match_is None None h = tt
-match_is (Some r) None h = λ posted. absurd (let e = rw (posted_is r.kept.outcome, posted) at h in cc)
+match_is (Some r) None h = λ posted. absurd (let e = rw (posted_is r.decision.outcome, posted) at h in cc)
 match_is None (Some x) h = absurd cc
 match_is (Some r) (Some x) h =
-    let it = one_four (int_eq (pos (code_of r.kept.outcome)) (pos 0))
-    (int_eq (pos x.account) (pos r.kept.account)) (int_eq (pos x.teller) (pos r.teller))
-    (int_eq (pos x.branch) (pos r.kept.branch)) (int_eq x.delta r.kept.delta) h in (
-      sym (posted_is r.kept.outcome) ∙ it.0,
+    let it = one_four (int_eq (pos (code_of r.decision.outcome)) (pos 0))
+    (int_eq (pos x.account) (pos r.decision.account)) (int_eq (pos x.teller) (pos r.teller))
+    (int_eq (pos x.branch) (pos r.decision.branch)) (int_eq x.delta r.decision.delta) h in (
+      sym (posted_is r.decision.outcome) ∙ it.0,
       same_pos _ _ it.1,
       same_pos _ _ it.2,
       same_pos _ _ it.3,
@@ -103,14 +103,14 @@ match_is (Some r) (Some x) h =
 is_match : (a : Option RequestRow) (b : Option HistoryRow) → Match a b → both a b ≡ true
 is_match None None m = refl
 is_match (Some r) None m =
-    elim (cases_Bool (has_balance r.kept.outcome))
-    [ inl t ↦ absurd (m t) | inr f ↦ rw (posted_is r.kept.outcome, f) refl ]
+    elim (cases_Bool (has_balance r.decision.outcome))
+    [ inl t ↦ absurd (m t) | inr f ↦ rw (posted_is r.decision.outcome, f) refl ]
 is_match None (Some x) m = absurd m
 is_match (Some r) (Some x) m =
-    all_one_four (int_eq (pos (code_of r.kept.outcome)) (pos 0)) (int_eq (pos x.account) (pos r.kept.account))
-    (int_eq (pos x.teller) (pos r.teller)) (int_eq (pos x.branch) (pos r.kept.branch))
-    (int_eq x.delta r.kept.delta)
-    (posted_is r.kept.outcome ∙ m.0) (pos_same _ _ m.1) (pos_same _ _ m.2) (pos_same _ _ m.3)
+    all_one_four (int_eq (pos (code_of r.decision.outcome)) (pos 0)) (int_eq (pos x.account) (pos r.decision.account))
+    (int_eq (pos x.teller) (pos r.teller)) (int_eq (pos x.branch) (pos r.decision.branch))
+    (int_eq x.delta r.decision.delta)
+    (posted_is r.decision.outcome ∙ m.0) (pos_same _ _ m.1) (pos_same _ _ m.2) (pos_same _ _ m.3)
     (int_same _ _ m.4)
 
 module _ (t : Tables) where

@@ -46,11 +46,11 @@ request_stored r = record {
   ordinal = r.ordinal;
   teller = pos r.teller;
   number = pos r.number;
-  account = pos r.kept.account;
-  branch = pos r.kept.branch;
-  delta = r.kept.delta;
-  outcome = pos (code_of r.kept.outcome);
-  balance = r.kept.balance;
+  account = pos r.decision.account;
+  branch = pos r.decision.branch;
+  delta = r.decision.delta;
+  outcome = pos (code_of r.decision.outcome);
+  balance = r.decision.balance;
 }
 
 abbrev pub stored : Tables → StoredTables

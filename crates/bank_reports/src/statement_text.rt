@@ -1,15 +1,17 @@
 //! The lines of a statement.
 ghost use Rattle.std.specs.Prelude.{◌≡◌, ◌≤◌, ◌+◌, ◌++◌, length};
-ghost use Rattle.bank_reports.specs.StatementText.{heading_line, names_line, posting_line, closing_line};
+ghost use Rattle.message_records.specs.declared.limits.TheConstants.{REFERENCE_BYTES};
+ghost use Rattle.bank_reports.specs.StatementText.{behind_others, heading_line, names_line, posting_line};
+ghost use Rattle.bank_reports.specs.StatementText.{closing_line};
 
-use crate::lines::{push_delta, push_filled, push_number};
+use crate::lines::{push_delta, push_filled, push_number, push_text};
 use arrayvec::ArrayString;
-use bank_walks::StoredPosting;
+use bank_walks::StatedPosting;
 use itoa::Buffer;
-use message_records::{Account, Cents};
+use message_records::{Account, Cents, Reference};
 
 /// The most that a line takes.
-pub const STATEMENT_LINE: usize = 320;
+pub const STATEMENT_LINE: usize = 341;
 
 /// A line of a statement, with its end.
 pub type StatementLine = ArrayString<STATEMENT_LINE>;
@@ -47,14 +49,32 @@ pub fn statement_names() -> StatementLine
     ensures { result.bytes ≡ names_line }
 {
     let mut line = ArrayString::new();
-    line.push_str("      ordinal       moment   teller branch          delta        balance\n");
+    line.push_str(
+        "      ordinal       moment   teller branch          delta        balance reference\n",
+    );
     line
 }
 
-/// The line of a posting, and the running balance with it.
-pub fn statement_line(row: &StoredPosting, balance: Cents) -> StatementLine
+// Appends a space and the reference, if there is one.
+fn push_reference(line: &mut StatementLine, reference: &Option<Reference>)
+    requires { length line.old.bytes + REFERENCE_BYTES + 1 ≤ STATEMENT_LINE }
+    ensures bytes { line.new.bytes ≡ line.old.bytes ++ behind_others reference.now }
+    ensures len { length line.new.bytes ≤ length line.old.bytes + REFERENCE_BYTES + 1 }
+{
+    if let Some(reference) = reference {
+        line.push_str(" ");
+        push_text(line, reference.text());
+    }
+}
+
+/// The line of a posting with the reference of its request, and the running balance with it.
+pub fn statement_line(row: &StatedPosting, balance: Cents) -> StatementLine
     ensures { result.bytes ≡ posting_line row.now balance }
 {
+    let StatedPosting {
+        posting: row,
+        reference,
+    } = row;
     let mut line = ArrayString::new();
     push_number(&mut line, ORDINAL, i128::from(row.ordinal.get()));
     line.push_str(" ");
@@ -67,6 +87,7 @@ pub fn statement_line(row: &StoredPosting, balance: Cents) -> StatementLine
     push_delta(&mut line, DELTA, row.delta);
     line.push_str(" ");
     push_number(&mut line, BALANCE, i128::from(balance.get()));
+    push_reference(&mut line, reference);
     line.push_str("\n");
     line
 }

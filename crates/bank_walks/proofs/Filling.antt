@@ -9,17 +9,17 @@ use Rattle.sqlite.proofs.Callers.{unchanged_then}
 use Rattle.sqlite.specs.declared.error.Error.{Error}
 use Rattle.sqlite.specs.declared.error.Error.TheVariants.{SqliteFailure}
 use Rattle.sqlite.specs.declared.error.ErrorCode.TheVariants.{OperationInterrupted, OutOfMemory}
+use Rattle.posting_rules.specs.declared.fault.Rule.{Rule}
 use Rattle.sql_meanings.specs.Entries.{Entry, Rise}
 use Rattle.sql_meanings.specs.Outcomes.{IsStoreError, WriteFails}
 use Rattle.sql_meanings.proofs.Afterwards.{fails_since, rolled_since}
 use Rattle.store_rows.specs.declared.fault.TableFault.{TableFault}
 use Rattle.store_rows.specs.declared.fault.TableFault.TheVariants.{Sqlite, Damaged}
 use Rattle.bank_walks.specs.Outcomes.{BreaksFirst}
-use Rattle.bank_walks.specs.Pairs.{AreJoined, BreaksPair, BreaksUnder, Pair, pair_key, pair_of, pair_with}
+use Rattle.bank_walks.specs.Pairs.{AreJoined, BreaksPair, BreaksUnder, Pair, pair_key, pair_with}
 use Rattle.bank_walks.specs.Pairs.{paired, row_under}
 use Rattle.bank_walks.specs.Rising.{RisesFrom}
 use Rattle.bank_walks.specs.Rows.{items_behind, items_from, rows_behind, rows_from}
-use Rattle.bank_walks.specs.declared.joined.Joined.{Joined}
 use Rattle.bank_walks.proofs.Joining.{pairs_behind, pairs_from}
 use Rattle.bank_walks.proofs.Rises.{from_lower, le_itself}
 use Rattle.bank_walks.proofs.Under.{from_its_key}
@@ -63,39 +63,35 @@ pub from_first : (base : List Entry) → Rise base → (from start : ℤ) (e : E
 from_first base rise from start e more is at = from_its_key from base e more rise is
     ∙ ap (λ k. rows_from k base) (sym at)
 
-module _ {R O : Type 0} (entry : R → Entry) (other : O → Entry) (others base : List Entry) (rise : Rise base)
-    (from start : ℤ) (e : Entry)
-    (more : List Entry) (is : rows_from from base ≡ e ∷ more) (at : start ≡ e.key) where
+module _ {J : Type 0} (pair : J → Pair) (others base : List Entry) (rise : Rise base) (from start : ℤ)
+    (e : Entry) (more : List Entry) (is : rows_from from base ≡ e ∷ more) (at : start ≡ e.key) where
   -- those that were joined
-  pub joined_first : (done : List (Joined R O)) (next : Option ℤ)
-      → AreJoined entry other others base start done next
-      → AreJoined entry other others base from done next
+  pub joined_first : (done : List J) (next : Option ℤ) → AreJoined pair others base start done next
+      → AreJoined pair others base from done next
   joined_first done next h = ap (paired others) (from_first base rise from start e more is at) ∙ h
 
 module _ (others base : List Entry) (from start : ℤ) (e : Entry) (more : List Entry)
     (is : rows_from from base ≡ e ∷ more)
     (at : start ≡ e.key) where
   -- the one beside the first can't be read
-  pub breaks_first : (Because : Error → Type 0) (Breaks BreaksOther : Entry → Type 0) (fault : TableFault)
+  pub breaks_first : (Because : Error → Type 0) (Breaks BreaksOther : Rule → Entry → Type 0)
+      (fault : TableFault)
       → BreaksUnder Because BreaksOther start others fault
       → BreaksFirst Because (BreaksPair Breaks BreaksOther) (paired others (rows_from from base)) fault
   breaks_first Because Breaks BreaksOther (Sqlite x) h = h
   breaks_first Because Breaks BreaksOther (Damaged broken) h = (
-    h.0,
-    (
-      pair_with others e,
-      paired others more,
-      ap (paired others) is,
-      inr (subst (λ k. IsSomeAnd (row_under others k) BreaksOther) at h.1),
-    ),
+    pair_with others e,
+    paired others more,
+    ap (paired others) is,
+    inr (subst (λ k. IsSomeAnd (row_under others k) (BreaksOther broken)) at h),
   )
 
 -- where there were none, none follow
-pub nothing_joined : {R O : Type 0} (entry : R → Entry) (other : O → Entry) (others base : List Entry)
-    (from : ℤ) (own : List R) (rest : Option ℤ) (rows : List (Joined R O))
+pub nothing_joined : {R J : Type 0} (entry : R → Entry) (pair : J → Pair) (others base : List Entry)
+    (from : ℤ) (own : List R) (rest : Option ℤ) (rows : List J)
     → own ≡ [] → rest ≡ None → rows ≡ [] → rows_from from base ≡ map entry own ++ rows_behind rest base
-    → AreJoined entry other others base from rows None
-nothing_joined entry other others base from own rest rows empty ended cleared is =
+    → AreJoined pair others base from rows None
+nothing_joined entry pair others base from own rest rows empty ended cleared is =
     rw cleared (ap (paired others)
     (is ∙ ap (λ l. map entry l ++ rows_behind rest base) empty ∙ ap (λ r. rows_behind r base) ended))
 
@@ -107,37 +103,31 @@ none_joined js (Err e) some = some
 
 -- ---- pairs that are given
 
-module _ {R O : Type 0} (entry : R → Entry) (other : O → Entry) (others rows : List Entry) (q : Entry → Bool)
-    (pairs : List Pair)
+module _ {J : Type 0} (pair : J → Pair) (others rows : List Entry) (q : Entry → Bool) (pairs : List Pair)
     (are : pairs ≡ paired others rows) (from : ℤ) where
   abbrev given : List Pair
   given = filter (λ p. q p.entry) pairs
 
   -- as far as they were joined
-  pub filled : (done : List (Joined R O)) (next : Option ℤ)
-      → AreJoined entry other others (filter q rows) from done next
-      → items_from pair_key from given ≡ map (pair_of entry other) done ++ items_behind pair_key next given
+  pub filled : (done : List J) (next : Option ℤ) → AreJoined pair others (filter q rows) from done next
+      → items_from pair_key from given ≡ map pair done ++ items_behind pair_key next given
   filled done next h =
       pairs_from others rows q pairs are from ∙ h
-      ∙ ap (λ l. map (pair_of entry other) done ++ l) (sym (pairs_behind others rows q pairs are next))
+      ∙ ap (λ l. map pair done ++ l) (sym (pairs_behind others rows q pairs are next))
 
 module _ (others rows : List Entry) (q : Entry → Bool) (pairs : List Pair) (are : pairs ≡ paired others rows)
     (from : ℤ)
-    (Because : Error → Type 0) (Breaks BreaksOther : Entry → Type 0) where
+    (Because : Error → Type 0) (Breaks BreaksOther : Rule → Entry → Type 0) where
   -- the first row can't be read
   pub breaks_own : (fault : TableFault) → BreaksFirst Because Breaks (rows_from from (filter q rows)) fault
       → BreaksFirst Because (BreaksPair Breaks BreaksOther)
       (items_from pair_key from (filter (λ p. q p.entry) pairs)) fault
   breaks_own (Sqlite e) h = h
   breaks_own (Damaged broken) h = (
-    h.0,
-    (
-      pair_with others h.1.0,
-      paired others h.1.1,
-      pairs_from others rows q pairs are from
-          ∙ ap (paired others) h.1.2,
-      inl h.1.3,
-    ),
+    pair_with others h.0,
+    paired others h.1,
+    pairs_from others rows q pairs are from ∙ ap (paired others) h.2,
+    inl h.3,
   )
 
   -- the first pair can't be read
@@ -148,7 +138,7 @@ module _ (others rows : List Entry) (q : Entry → Bool) (pairs : List Pair) (ar
       (items_from pair_key from (filter (λ p. q p.entry) pairs)) fault
   breaks_given Before then (Sqlite e) h = then e h
   breaks_given Before then (Damaged broken) h =
-      (h.0, (h.1.0, h.1.1, pairs_from others rows q pairs are from ∙ h.1.2, h.1.3))
+      (h.0, h.1, pairs_from others rows q pairs are from ∙ h.2, h.3)
 
 -- ---- two reads, one after the other
 

@@ -15,7 +15,7 @@ use Rattle.sql_meanings.proofs.EntryLists.{Above}
 use Rattle.store_rows.proofs.Lookups.{as_integer}
 use Rattle.store_rows.specs.declared.fault.TableFault.{TableFault}
 use Rattle.store_rows.specs.declared.fault.TableFault.TheVariants.{Sqlite, Damaged}
-use Rattle.bank_walks.specs.Outcomes.{BreaksFirst, IsRefusedMemory, ReadsNext, all_numbers, shown}
+use Rattle.bank_walks.specs.Outcomes.{BreaksFirst, BreaksValue, IsRefusedMemory, ReadsNext, all_numbers, shown}
 use Rattle.bank_walks.specs.Rows.{IsWide, rows_from}
 use Rattle.bank_walks.specs.declared.ahead.TheConstants.{AHEAD}
 
@@ -157,17 +157,13 @@ module _ {R : Type 0} (entry : R → Entry) (Breaks : Entry → Type 0) (width :
     -- a number of it is out of its range, and none was gathered before it
     pub gathers_none : (fault : TableFault) → done ≡ []
         → ReadsNext {R = R} width entry Breaks next row (Err fault)
-        → BreaksFirst IsRefusedMemory Breaks (rows_from from rows) fault
+        → BreaksFirst IsRefusedMemory (BreaksValue Breaks) (rows_from from rows) fault
     gathers_none (Sqlite e) none read = let it = next_is in read it.0 it.2 it.3
     gathers_none (Damaged broken) none read =
         let it = next_is in
         let broke = read it.0 it.2 it.3 (found_passes (is_from next) rows it.0 it.1) in (
-          broke.0,
-          (
-            it.0,
-            rows_from (it.0.key +ℤ pos 1) rows,
-            so_far
-                ∙ ap (λ l. map entry l ++ rows_from next rows) none ∙ first_left next rows it.0 rise it.1,
-            broke.1,
-          ),
+          it.0,
+          rows_from (it.0.key +ℤ pos 1) rows,
+          so_far ∙ ap (λ l. map entry l ++ rows_from next rows) none ∙ first_left next rows it.0 rise it.1,
+          broke,
         )

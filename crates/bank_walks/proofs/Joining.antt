@@ -2,16 +2,15 @@
 use Rattle.std.proofs.Common.{◌≡◌, ◌≤◌, ℕ, zero, suc, drop, length, ◌<ℤ◌, ◌≤ℤ◌, ◌+ℤ◌, ℤ, pos, List, [], ◌∷◌}
 use Rattle.std.proofs.Common.{◌++◌, map, filter, find, cond, Bool, true, false, Some, None, Option, int_cmp}
 use Rattle.std.proofs.Common.{refl, sym, ap, ◌∙◌, inl, inr, arith}
-use Rattle.std.specs.Prelude.{IfSome, option_map}
+use Rattle.std.specs.Prelude.{IfSome}
 use Rattle.std.specs.Ordering.{int_eq, is_ge}
 use Rattle.std.proofs.lemmas.Bool.{cases_Bool}
 use Rattle.std.proofs.lemmas.Int.{ints}
 use Rattle.sql_meanings.specs.Entries.{Entry, Rise, has_key}
 use Rattle.sql_meanings.specs.Seeks.{is_from}
-use Rattle.bank_walks.specs.Pairs.{AreJoined, ComesBefore, Pair, pair_key, pair_of, pair_with, paired}
+use Rattle.bank_walks.specs.Pairs.{AreJoined, ComesBefore, Pair, pair_key, pair_with, paired}
 use Rattle.bank_walks.specs.Pairs.{row_under}
 use Rattle.bank_walks.specs.Rows.{items_behind, items_from, rows_behind, rows_from}
-use Rattle.bank_walks.specs.declared.joined.Joined.{Joined}
 use Rattle.bank_walks.proofs.Gathering.{first_left, found_of}
 
 -- ---- the row under a key
@@ -81,37 +80,33 @@ pairs_behind others es q pairs are (Some k) = pairs_from others es q pairs are k
 
 -- ---- row by row
 
+-- a row, and this one beside it
+abbrev pub pair_beside : Entry → Option Entry → Pair
+pair_beside e beside = record { entry = e; beside = beside }
+
 same_rest : (x y : Entry) (xs ys : List Entry) → x ∷ xs ≡ y ∷ ys → xs ≡ ys
 same_rest x y xs ys e = cc
 
-module _ {R O : Type 0} (entry : R → Entry) (other : O → Entry) (others base : List Entry) (rise : Rise base)
-    (start : ℤ) where
-  abbrev SoFar : List (Joined R O) → ℤ → Type 0
-  SoFar done next = AreJoined entry other others base start done (Some next)
+module _ {J : Type 0} (pair : J → Pair) (others base : List Entry) (rise : Rise base) (start : ℤ) where
+  abbrev SoFar : List J → ℤ → Type 0
+  SoFar done next = AreJoined pair others base start done (Some next)
 
   -- one more
-  pub joins_on : (done : List (Joined R O)) (next : ℤ) (r : R) (o : Option O) (more : List Entry)
-      → SoFar done next
-      → rows_from next base ≡ entry r ∷ more → option_map other o ≡ row_under others (entry r).key
-      → (rows_from ((entry r).key +ℤ pos 1) base ≡ more)
-      × SoFar (done ++ record { stored = r; beside = o } ∷ []) ((entry r).key +ℤ pos 1)
-  joins_on done next r o more so_far is found =
-      let left = first_left next base (entry r) rise (found_of (is_from next) base (entry r) more is) in
-      let after = rows_from ((entry r).key +ℤ pos 1) base in (
-        same_rest (entry r) (entry r) after more (sym left ∙ is),
-        so_far ∙ ap (λ l. map (pair_of entry other) done ++ paired others l) left
-            ∙ ap (λ b. map (pair_of entry other) done ++ record {
-              entry = entry r;
-              beside = b;
-            } ∷ paired others after) (sym found)
+  pub joins_on : (done : List J) (next : ℤ) (j : J) (e : Entry) (more : List Entry) → SoFar done next
+      → rows_from next base ≡ e ∷ more → pair j ≡ pair_with others e
+      → (rows_from (e.key +ℤ pos 1) base ≡ more) × SoFar (done ++ j ∷ []) (e.key +ℤ pos 1)
+  joins_on done next j e more so_far is same =
+      let left = first_left next base e rise (found_of (is_from next) base e more is) in
+      let after = rows_from (e.key +ℤ pos 1) base in (
+        same_rest e e after more (sym left ∙ is),
+        so_far ∙ ap (λ l. map pair done ++ paired others l) left
+            ∙ ap (λ p. map pair done ++ p ∷ paired others after) (sym same)
             ∙ behind done (paired others after),
       )
     where
-      behind : (xs : List (Joined R O)) (ps : List Pair)
-          → map (pair_of entry other) xs ++ record { entry = entry r; beside = option_map other o } ∷ ps
-          ≡ map (pair_of entry other) (xs ++ record { stored = r; beside = o } ∷ []) ++ ps
+      behind : (xs : List J) (ps : List Pair) → map pair xs ++ pair j ∷ ps ≡ map pair (xs ++ j ∷ []) ++ ps
       behind [] ps = refl
-      behind (x ∷ xs) ps = ap (λ l. pair_of entry other x ∷ l) (behind xs ps)
+      behind (x ∷ xs) ps = ap (λ l. pair x ∷ l) (behind xs ps)
 
 -- ---- ends
 

@@ -5,6 +5,7 @@ pub mod Gathering
 pub mod Joining
 pub mod Keys
 pub mod NumbersRead
+pub mod ReferenceRead
 pub mod Rises
 pub mod Shown
 pub mod Shows

@@ -3,8 +3,8 @@ use Rattle.std.proofs.Common.{List, [], ◌∷◌, map, refl}
 use Rattle.sqlite.specs.Effect.{Database}
 use Rattle.posting_rules.specs.Tables.{Tables}
 use Rattle.store_rows.specs.BankTables as bank
-use Rattle.store_rows.specs.View.{Shows, account_entry, branch_entry, history_entry, request_entry}
-use Rattle.store_rows.specs.View.{teller_entry}
+use Rattle.store_rows.specs.View.{Shows, account_entry, branch_entry, history_entry, reference_entry}
+use Rattle.store_rows.specs.View.{request_entry, teller_entry}
 use Rattle.store_rows.proofs.TableKinds.{Kind, holds, table_of}
 use Rattle.store_rows.proofs.TheTables as the
 use Rattle.bank_walks.specs.Rows.{HasStoredRows, HaveKeys, entry_key}
@@ -37,3 +37,6 @@ module _ (db : Database) (t : Tables) (shows : Shows db t) where
 
   pub has_requests : HasStoredRows db bank.request (map request_entry t.requests)
   has_requests = has_rows the.requests
+
+  pub has_references : HasStoredRows db bank.reference (map reference_entry t.references)
+  has_references = has_rows the.references

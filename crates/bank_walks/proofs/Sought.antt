@@ -17,6 +17,7 @@ use Rattle.sql_meanings.specs.Seeks.{begins, is_from, is_of_from, next_from, nex
 use Rattle.sql_meanings.specs.Tables.{width_of}
 use Rattle.sql_meanings.proofs.ReadSeeks.{kept_all, reads_from, reads_of_from}
 use Rattle.sql_meanings.proofs.ReadTables.{ReadsAs}
+use Rattle.posting_rules.specs.declared.fault.Rule.{Rule}
 use Rattle.store_rows.specs.declared.fault.TableFault.{TableFault}
 use Rattle.store_rows.specs.declared.fault.TableFault.TheVariants.{Sqlite, Damaged}
 use Rattle.bank_walks.specs.Outcomes.{BreaksFirst, IsRefusedMemory, all_numbers, shown}
@@ -76,7 +77,7 @@ same_shown width f same (e ∷ es) all =
 -- ---- what is reported
 
 -- why a seek fails is an error of the store
-store_error : (old new : State) (e : Error) → ReadFails old new e → IsStoreError old new e
+pub store_error : (old new : State) (e : Error) → ReadFails old new e → IsStoreError old new e
 store_error old new e (inl fails) = inl fails
 store_error old new e (inr limit) = inr (inr (limit.0, limit.1), limit.2)
 
@@ -189,7 +190,7 @@ match_err P Q T (Ok x) f h = h
 match_err P Q T (Err e) f h = f e h
 
 -- memory was refused, and nothing has changed
-pub refused_memory : (old new : State) (Breaks : Entry → Type 0) (rows : List Entry) → IsUnchanged old new
+pub refused_memory : (old new : State) (Breaks : Rule → Entry → Type 0) (rows : List Entry) → IsUnchanged old new
     → (fault : TableFault)
     → BreaksFirst IsRefusedMemory Breaks rows fault → BreaksFirst (IsStoreError old new) Breaks rows fault
 refused_memory old new Breaks rows same (Sqlite e) refused = inr (inl refused, same)

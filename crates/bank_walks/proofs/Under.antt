@@ -80,21 +80,21 @@ first_under k (x ∷ xs) e more is low = elim (cases_Bool (is_from k x)) [
 -- ---- faults
 
 -- the fault of the first that can't be read
-pub broken_first : {X : Type 0} (Because : Error → Type 0) (Breaks : X → Type 0) (items : List X)
+pub broken_first : {X : Type 0} (Because : Error → Type 0) (Breaks : Rule → X → Type 0) (items : List X)
     (fault : TableFault) (broken : Rule)
     → fault ≡ Damaged broken → BreaksFirst Because Breaks items fault
     → BreaksFirst Because Breaks items (Damaged broken)
 broken_first Because Breaks items fault broken is h = subst (BreaksFirst Because Breaks items) is h
 
 -- its key can't be read
-pub key_fails : (Breaks : Entry → Type 0) (k : ℤ) (es : List Entry) (e : Entry) (fault : TableFault)
+pub key_fails : (Breaks : Rule → Entry → Type 0) (k : ℤ) (es : List Entry) (e : Entry) (fault : TableFault)
     → TellsKey e (Err fault)
     → BreaksUnder IsRefusedMemory Breaks k es fault
 key_fails Breaks k es e (Sqlite x) tells = tells
 key_fails Breaks k es e (Damaged broken) tells = absurd tells
 
 -- memory was refused, and nothing has changed
-pub refused_under : (old new : State) (Breaks : Entry → Type 0) (k : ℤ) (es : List Entry)
+pub refused_under : (old new : State) (Breaks : Rule → Entry → Type 0) (k : ℤ) (es : List Entry)
     → IsUnchanged old new → (fault : TableFault)
     → BreaksUnder IsRefusedMemory Breaks k es fault → BreaksUnder (IsStoreError old new) Breaks k es fault
 refused_under old new Breaks k es same (Sqlite e) refused = inr (inl refused, same)

@@ -4,6 +4,7 @@ pub mod Outcomes
 pub mod PairKeys
 pub mod Pairs
 pub mod Reading
+pub mod References
 pub mod Rising
 pub mod Room
 pub mod Rows

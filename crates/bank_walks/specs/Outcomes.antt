@@ -5,6 +5,7 @@ use Rattle.sqlite.specs.Order.{Row}
 use Rattle.sqlite.specs.declared.error.Error.{Error}
 use Rattle.sqlite.specs.declared.error.Error.TheVariants.{SqliteFailure}
 use Rattle.sqlite.specs.declared.error.ErrorCode.TheVariants.{OutOfMemory}
+use Rattle.posting_rules.specs.declared.fault.Rule.{Rule}
 use Rattle.posting_rules.specs.declared.fault.Rule.TheVariants as rule
 use Rattle.sql_meanings.specs.Entries.{Entry, HasWidth, numbers}
 use Rattle.sql_meanings.specs.Seeks.{is_from}
@@ -56,8 +57,13 @@ ReadsNext width entry Breaks next row (Err (Damaged broken)) =
     (e : Entry) → row ≡ numbers (all_numbers e) → HasWidth width e → is_from next e ≡ true
     → (broken ≡ rule.Value) × Breaks e
 
--- an error of the store of which this holds, or a number of the first to come is out of its range
-abbrev pub BreaksFirst : {X : Type 0} → (Error → Type 0) → (X → Type 0) → List X → TableFault → Type 0
+-- the rule that is broken where a number is out of its range
+abbrev pub BreaksValue : {X : Type 0} → (X → Type 0) → Rule → X → Type 0
+BreaksValue Breaks broken x = (broken ≡ rule.Value) × Breaks x
+
+-- an error of the store of which this holds, or the first to come breaks the rule
+abbrev pub BreaksFirst : {X : Type 0} → (Error → Type 0) → (Rule → X → Type 0) → List X → TableFault
+    → Type 0
 BreaksFirst Failed Breaks to_come (Sqlite e) = Failed e
-BreaksFirst {X} Failed Breaks to_come (Damaged broken) = (broken ≡ rule.Value)
-    × ((x : X) × (more : List X) × (to_come ≡ x ∷ more) × Breaks x)
+BreaksFirst {X} Failed Breaks to_come (Damaged broken) =
+    (x : X) × (more : List X) × (to_come ≡ x ∷ more) × Breaks broken x

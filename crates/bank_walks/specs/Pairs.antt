@@ -5,7 +5,7 @@ use Rattle.sqlite.specs.declared.error.Error.{Error}
 use Rattle.sqlite.specs.Table.{Table}
 use Rattle.sqlite.specs.Effect.{Database}
 use Rattle.sql_meanings.specs.Entries.{Entry, has_key}
-use Rattle.posting_rules.specs.declared.fault.Rule.TheVariants as rule
+use Rattle.posting_rules.specs.declared.fault.Rule.{Rule}
 use Rattle.store_rows.specs.declared.fault.TableFault.{TableFault}
 use Rattle.store_rows.specs.declared.fault.TableFault.TheVariants.{Sqlite, Damaged}
 use Rattle.bank_walks.specs.Outcomes.{IsRefusedMemory}
@@ -45,22 +45,18 @@ abbrev pub pair_of : {R O : Type 0} → (R → Entry) → (O → Entry) → Join
 pair_of entry other j = record { entry = entry j.stored; beside = option_map other j.beside }
 
 -- these are the pairs of the rows from a number on, up to those that follow
-abbrev pub AreJoined : {R O : Type 0} → (R → Entry) → (O → Entry) → List Entry → List Entry → ℤ
-    → List (Joined R O) → Option ℤ
-    → Type 0
-AreJoined entry other others rows from done rest =
-    paired others (rows_from from rows) ≡ map (pair_of entry other) done ++ paired others
-    (rows_behind rest rows)
+abbrev pub AreJoined : {J : Type 0} → (J → Pair) → List Entry → List Entry → ℤ → List J → Option ℤ → Type 0
+AreJoined pair others rows from done rest =
+    paired others (rows_from from rows) ≡ map pair done ++ paired others (rows_behind rest rows)
 
--- a number of the row, or of the one beside it, is out of its range
-abbrev pub BreaksPair : (Entry → Type 0) → (Entry → Type 0) → Pair → Type 0
-BreaksPair Breaks BreaksOther p = Breaks p.entry ⊎ IsSomeAnd p.beside BreaksOther
+-- the row breaks the rule, or the one beside it does
+abbrev pub BreaksPair : (Rule → Entry → Type 0) → (Rule → Entry → Type 0) → Rule → Pair → Type 0
+BreaksPair Breaks BreaksOther broken p = Breaks broken p.entry ⊎ IsSomeAnd p.beside (BreaksOther broken)
 
--- an error of the store of which this holds, or a number of the row under the key is out of its range
-abbrev pub BreaksUnder : (Error → Type 0) → (Entry → Type 0) → ℤ → List Entry → TableFault → Type 0
+-- an error of the store of which this holds, or the row under the key breaks the rule
+abbrev pub BreaksUnder : (Error → Type 0) → (Rule → Entry → Type 0) → ℤ → List Entry → TableFault → Type 0
 BreaksUnder Failed Breaks key others (Sqlite e) = Failed e
-BreaksUnder Failed Breaks key others (Damaged broken) = (broken ≡ rule.Value)
-    × IsSomeAnd (row_under others key) Breaks
+BreaksUnder Failed Breaks key others (Damaged broken) = IsSomeAnd (row_under others key) (Breaks broken)
 
 -- the key of a row; or memory for it was refused
 abbrev pub TellsKey : Entry → Result ℤ TableFault → Type 0

@@ -1,14 +1,18 @@
 -- The stored rows: keys, counts and moments within their ranges, and the other numbers whatever they are.
 use Rattle.std.specs.Prelude.{◌⊎◌, ℕ, pos, ℤ, [], ◌∷◌, slice_index_or, Bool, true, Option, Some, None, refl}
+use Rattle.std.specs.Prelude.{option_map}
 use Rattle.std.proofs.Common.{lit≤}
 use Rattle.message_records.specs.declared.limits.TheConstants.{MAX_MOMENT}
+use Rattle.posting_rules.specs.declared.fault.Rule.{Rule}
 use Rattle.posting_rules.specs.declared.limits.TheConstants.{LAST_BRANCH, MAX_DECIDED}
 use Rattle.sql_meanings.specs.Entries.{Entry}
 use Rattle.sql_meanings.specs.Seeks.{begins}
 use Rattle.store_rows.specs.BankTables.{account, branch, history, request, teller}
 use Rattle.bank_walks.specs.Kinds.{Kind, given_all}
+use Rattle.bank_walks.specs.Outcomes.{BreaksValue}
 use Rattle.bank_walks.specs.Pairs.{BreaksPair, Pair, pair_of}
 use Rattle.bank_walks.specs.Reading.{IsOutside}
+use Rattle.bank_walks.specs.References.{BreaksReference, text_entry}
 use Rattle.bank_walks.specs.declared.limits.TheConstants.{LAST_ACCOUNT, LAST_TELLER, MAX_COUNTED}
 use Rattle.bank_walks.specs.declared.branches.StoredBranch.{StoredBranch}
 use Rattle.bank_walks.specs.declared.tellers.StoredTeller.{StoredTeller}
@@ -16,6 +20,7 @@ use Rattle.bank_walks.specs.declared.accounts.StoredAccount.{StoredAccount}
 use Rattle.bank_walks.specs.declared.postings.StoredPosting.{StoredPosting}
 use Rattle.bank_walks.specs.declared.requests.StoredRequest.{StoredRequest}
 use Rattle.bank_walks.specs.declared.joined.Joined.{Joined}
+use Rattle.bank_walks.specs.declared.stated.StatedPosting.{StatedPosting}
 
 -- one of the numbers behind the key
 abbrev pub number_behind : ℕ → Entry → ℤ
@@ -107,12 +112,26 @@ request_kind = given_all request 8 request_entry IsNoRequest refl refl (lit≤ t
 abbrev pub asked_pair : Joined StoredRequest StoredPosting → Pair
 asked_pair = pair_of request_entry posting_entry
 
-abbrev pub IsNoAsked : Pair → Type 0
-IsNoAsked = BreaksPair IsNoRequest IsNoPosting
+abbrev pub BreaksAsked : Rule → Pair → Type 0
+BreaksAsked = BreaksPair (BreaksValue IsNoRequest) (BreaksValue IsNoPosting)
 
 -- a row of `history`, with the one of `request` under its ordinal
 abbrev pub posted_pair : Joined StoredPosting StoredRequest → Pair
 posted_pair = pair_of posting_entry request_entry
 
-abbrev pub IsNoPosted : Pair → Type 0
-IsNoPosted = BreaksPair IsNoPosting IsNoRequest
+abbrev pub BreaksPosted : Rule → Pair → Type 0
+BreaksPosted = BreaksPair (BreaksValue IsNoPosting) (BreaksValue IsNoRequest)
+
+-- a row of `history`, with the one of `request_reference` under its ordinal
+abbrev pub stated_pair : StatedPosting → Pair
+stated_pair s = record {
+  entry = posting_entry s.posting;
+  beside = option_map (text_entry s.posting.ordinal) s.reference;
+}
+
+-- the posting is one of this account, or any if none is named
+abbrev pub is_stated_of : Option ℕ → Pair → Bool
+is_stated_of of p = is_of of p.entry
+
+abbrev pub BreaksStated : Rule → Pair → Type 0
+BreaksStated = BreaksPair (BreaksValue IsNoPosting) BreaksReference

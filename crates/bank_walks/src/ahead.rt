@@ -6,7 +6,8 @@ ghost use Rattle.sqlite.specs.Held.{state};
 ghost use Rattle.sql_meanings.specs.Entries.{Entry, Rise};
 ghost use Rattle.sql_meanings.specs.Outcomes.{IsStoreError, WriteFails};
 ghost use Rattle.sql_meanings.specs.Tables.{width_of};
-ghost use Rattle.bank_walks.specs.Outcomes.{BreaksFirst, IsRefusedMemory, ReadsEntry, ReadsNext, shown};
+ghost use Rattle.bank_walks.specs.Outcomes.{BreaksFirst, BreaksValue, IsRefusedMemory, ReadsEntry, ReadsNext};
+ghost use Rattle.bank_walks.specs.Outcomes.{shown};
 ghost use Rattle.bank_walks.specs.Rising.{RisesFrom};
 ghost use Rattle.bank_walks.specs.Rows.{HasStoredRows, IsWide, entry_key, rows_behind, rows_from};
 
@@ -55,7 +56,7 @@ pub(crate) fn gather<R: StoredRow>(
         → found.now ≡ shown (take AHEAD (rows_from from all))
         → MatchResult result
         (λ rest. rows_from from all ≡ map R.StoredRow.kind.entry rows.new.items ++ rows_behind rest all)
-        (BreaksFirst IsRefusedMemory R.StoredRow.kind.Breaks (rows_from from all)) }
+        (BreaksFirst IsRefusedMemory (BreaksValue R.StoredRow.kind.Breaks) (rows_from from all)) }
     ensures ended { IfOk result (λ rest. rows.new.items ≡ [] → rest ≡ None) }
     ensures rises { IfOk result
         (λ rest. RisesFrom from (map (λ r. entry_key (R.StoredRow.kind.entry r)) rows.new.items) rest) }
@@ -96,7 +97,7 @@ pub(crate) fn read_ahead<S: Alter, R: StoredRow>(
         → let given = filter (R.StoredRow.kind.is_given of) all in MatchResult result
         (λ rest. rows_from from given ≡ map R.StoredRow.kind.entry rows.new.items ++ rows_behind rest given)
         (BreaksFirst (IsStoreError (state S.Store conn.old) (state S.Store conn.new))
-        R.StoredRow.kind.Breaks (rows_from from given)) }
+        (BreaksValue R.StoredRow.kind.Breaks) (rows_from from given)) }
     ensures ended { IfOk result (λ rest. rows.new.items ≡ [] → rest ≡ None) }
     ensures rises { IfOk result
         (λ rest. RisesFrom from (map (λ r. entry_key (R.StoredRow.kind.entry r)) rows.new.items) rest) }

@@ -7,7 +7,7 @@ ghost use Rattle.sqlite.specs.Order.{Row as StoredColumns};
 ghost use Rattle.sql_meanings.specs.Entries.{Entry, Rise, numbers};
 ghost use Rattle.sql_meanings.specs.Outcomes.{IsStoreError, WriteFails};
 ghost use Rattle.sql_meanings.specs.Tables.{width_of};
-ghost use Rattle.bank_walks.specs.Outcomes.{IsRefusedMemory, all_numbers, shown};
+ghost use Rattle.bank_walks.specs.Outcomes.{BreaksValue, IsRefusedMemory, all_numbers, shown};
 ghost use Rattle.bank_walks.specs.Pairs.{BreaksUnder, TellsKey, row_under};
 ghost use Rattle.bank_walks.specs.Rows.{HasStoredRows, IsWide, rows_behind, rows_from};
 
@@ -41,7 +41,7 @@ fn gather_beside<O: StoredRow>(
         → found.now ≡ shown (take AHEAD (rows_from from all))
         → MatchResult result
         (λ rest. rows_from from all ≡ map O.StoredRow.kind.entry rows.new.items ++ rows_behind rest all)
-        (BreaksUnder IsRefusedMemory O.StoredRow.kind.Breaks from all) }
+        (BreaksUnder IsRefusedMemory (BreaksValue O.StoredRow.kind.Breaks) from all) }
     ensures beyond { IfOk result (λ rest. IfSome rest (λ k. from <ℤ k)) }
 {
     match gather(found, from, rows) {
@@ -70,7 +70,7 @@ pub(crate) fn read_beside<S: Alter, O: StoredRow>(
         → MatchResult result
         (λ rest. rows_from from all ≡ map O.StoredRow.kind.entry rows.new.items ++ rows_behind rest all)
         (BreaksUnder (IsStoreError (state S.Store conn.old) (state S.Store conn.new))
-        O.StoredRow.kind.Breaks from all) }
+        (BreaksValue O.StoredRow.kind.Breaks) from all) }
     ensures beyond { IfOk result (λ rest. IfSome rest (λ k. from <ℤ k)) }
     ensures same { HasCleanDisk (state S.Store conn.new)
         → OnOk result (IsUnchanged (state S.Store conn.old) (state S.Store conn.new)) }

@@ -6,7 +6,7 @@ ghost use Rattle.sqlite.specs.State.{HasCleanDisk, IsUnchanged, Survives};
 ghost use Rattle.sqlite.specs.Held.{state};
 ghost use Rattle.sql_meanings.specs.Entries.{Entry, Rise};
 ghost use Rattle.sql_meanings.specs.Outcomes.{IsStoreError, WriteFails};
-ghost use Rattle.bank_walks.specs.Outcomes.{BreaksFirst};
+ghost use Rattle.bank_walks.specs.Outcomes.{BreaksFirst, BreaksValue};
 ghost use Rattle.bank_walks.specs.Pairs.{AreJoined, BreaksPair, BreaksUnder, HasPairs, ComesBefore, Pair};
 ghost use Rattle.bank_walks.specs.Pairs.{pair_key, pair_of, paired};
 ghost use Rattle.bank_walks.specs.Rising.{RisesFrom};
@@ -67,7 +67,8 @@ fn join<R: StoredRow, O: StoredRow>(
     ensures told { (base others : List Entry) → Rise base
         → rows_from start base ≡ map R.StoredRow.kind.entry own.now ++ rows_behind rest base
         → rows_from start others ≡ map O.StoredRow.kind.entry beside.now ++ rows_behind behind others
-        → AreJoined R.StoredRow.kind.entry O.StoredRow.kind.entry others base start rows.new.items result }
+        → AreJoined (pair_of R.StoredRow.kind.entry O.StoredRow.kind.entry) others base start
+        rows.new.items result }
     ensures rises { RisesFrom start
         (map (λ j. entry_key (R.StoredRow.kind.entry j.stored)) rows.new.items) result }
     ensures some { (r : R) (more : List R) → own.now ≡ r ∷ more
@@ -103,10 +104,11 @@ fn join_ahead<S: Alter, R: StoredRow, O: StoredRow>(
     ensures told { HasCleanDisk (state S.Store conn.new) → (base others : List Entry) → Rise base
         → HasStoredRows (state S.Store conn.old).now O.StoredRow.kind.table others
         → rows_from start base ≡ map R.StoredRow.kind.entry own.now ++ rows_behind rest base
-        → MatchResult result (AreJoined R.StoredRow.kind.entry O.StoredRow.kind.entry others base start
+        → MatchResult result
+        (AreJoined (pair_of R.StoredRow.kind.entry O.StoredRow.kind.entry) others base start
         rows.new.items)
         (BreaksUnder (IsStoreError (state S.Store conn.old) (state S.Store conn.new))
-        O.StoredRow.kind.Breaks start others) }
+        (BreaksValue O.StoredRow.kind.Breaks) start others) }
     ensures rises { IfOk result
         (λ rest. RisesFrom start
         (map (λ j. entry_key (R.StoredRow.kind.entry j.stored)) rows.new.items) rest) }
@@ -140,10 +142,12 @@ fn join_first<S: Alter, R: StoredRow, O: StoredRow>(
     ensures told { HasCleanDisk (state S.Store conn.new) → (base others : List Entry) → Rise base
         → HasStoredRows (state S.Store conn.old).now O.StoredRow.kind.table others
         → (from : ℤ) → rows_from from base ≡ map R.StoredRow.kind.entry own.now ++ rows_behind rest base
-        → MatchResult result (AreJoined R.StoredRow.kind.entry O.StoredRow.kind.entry others base from
+        → MatchResult result
+        (AreJoined (pair_of R.StoredRow.kind.entry O.StoredRow.kind.entry) others base from
         rows.new.items)
         (BreaksFirst (IsStoreError (state S.Store conn.old) (state S.Store conn.new))
-        (BreaksPair R.StoredRow.kind.Breaks O.StoredRow.kind.Breaks) (paired others (rows_from from base))) }
+        (BreaksPair (BreaksValue R.StoredRow.kind.Breaks) (BreaksValue O.StoredRow.kind.Breaks))
+        (paired others (rows_from from base))) }
     ensures ended { IfOk result (λ next. rows.new.items ≡ [] → next ≡ None) }
     ensures rises { (from : ℤ) → RisesFrom from (map (λ r. entry_key (R.StoredRow.kind.entry r)) own.now) rest
         → IfOk result (λ next. RisesFrom from
@@ -184,7 +188,8 @@ fn fill_joined<S: Alter, R: StoredRow, O: StoredRow>(
         rest
         given)
         (BreaksFirst (IsStoreError (state S.Store conn.old) (state S.Store conn.new))
-        (BreaksPair R.StoredRow.kind.Breaks O.StoredRow.kind.Breaks) (items_from pair_key from given)) }
+        (BreaksPair (BreaksValue R.StoredRow.kind.Breaks) (BreaksValue O.StoredRow.kind.Breaks))
+        (items_from pair_key from given)) }
     ensures ended { IfOk result (λ rest. rows.new.items ≡ [] → rest ≡ None) }
     ensures rises { IfOk result
         (λ rest. RisesFrom from (map (λ j. entry_key (R.StoredRow.kind.entry j.stored)) rows.new.items)
@@ -230,7 +235,7 @@ impl<R: Paired, O: Paired> WalkedRow for Joined<R, O> {
 
     ghost key = { pair_key };
 
-    ghost is_broken = { BreaksPair R.StoredRow.kind.Breaks O.StoredRow.kind.Breaks };
+    ghost Breaks = { BreaksPair (BreaksValue R.StoredRow.kind.Breaks) (BreaksValue O.StoredRow.kind.Breaks) };
 
     ghost is_given = { λ of p. true };
 

@@ -1,6 +1,7 @@
 //! The rows of a bank's tables one after another, by rising keys, as the file has them. A row can't be given
-//! if its key, its count of accounts or its moment is out of its range (the scaling of TPC-B). The other
-//! numbers are given whatever they are, so that an audit sees rows that no bank writes.
+//! if its key, its count of accounts or its moment is out of its range (the scaling of TPC-B), or its
+//! reference is none. The other numbers are given whatever they are, so that an audit sees rows that no bank
+//! writes.
 //!
 //! [`WalkedRow::fill`] puts the rows from a key on into room for [`AHEAD`] of them, and returns the key from
 //! which on the others follow, or none where no row was left. The function `first_accounts` of
@@ -27,8 +28,8 @@
 //! ```
 //!
 //! Read next: [`StoredRow`], a row of one table; [`Joined`], a row with the one of another table under its
-//! key; `specs/Stored`, how a file holds a row. The type `Walk` of the crate `bank_store` goes through all
-//! rows of a bank by such calls.
+//! key; [`StatedPosting`], a posting with the reference of its request; `specs/Stored`, how a file holds a
+//! row. The type `Walk` of the crate `bank_store` goes through all rows of a bank by such calls.
 #![tactic(auto)]
 
 mod accounts;
@@ -39,7 +40,9 @@ mod joined;
 mod limits;
 mod numbers;
 mod postings;
+mod references;
 mod requests;
+mod stated;
 mod statements;
 mod stored_row;
 mod tellers;
@@ -53,6 +56,7 @@ pub use joined::Joined;
 pub use limits::{LAST_ACCOUNT, LAST_TELLER, MAX_COUNTED};
 pub use postings::StoredPosting;
 pub use requests::StoredRequest;
+pub use stated::StatedPosting;
 pub use stored_row::StoredRow;
 pub use tellers::StoredTeller;
 pub use walked::WalkedRow;

@@ -1,5 +1,5 @@
-//! The statements of the walks, letter for letter. Each shows the rows that come next, by rising keys, at
-//! most `AHEAD` of them.
+//! The statements of the walks, letter for letter. Each but the last shows the rows that come next, by rising
+//! keys, at most `AHEAD` of them.
 
 /// The branches from a number on.
 pub(crate) const BRANCHES_FROM: &str =
@@ -24,3 +24,7 @@ pub(crate) const REQUESTS_FROM: &str =
 /// The postings of an account from an ordinal on.
 pub(crate) const POSTINGS_OF: &str =
     "SELECT ordinal, aid, tid, bid, delta, moment FROM history WHERE aid = ?1 AND ordinal >= ?2 ORDER BY ordinal LIMIT 64";
+
+/// The reference of the request with an ordinal.
+pub(crate) const REFERENCE_UNDER: &str =
+    "SELECT reference FROM request_reference WHERE ordinal = ?1";

@@ -4,6 +4,7 @@ ghost use Rattle.std.specs.Prelude.{IfOk, IfErr, OnOk, MatchResult};
 ghost use Rattle.sqlite.specs.State.{HasCleanDisk, IsUnchanged, Survives};
 ghost use Rattle.sqlite.specs.Held.{state};
 ghost use Rattle.sqlite.specs.Effect.{Database};
+ghost use Rattle.posting_rules.specs.declared.fault.Rule.{Rule};
 ghost use Rattle.sql_meanings.specs.Outcomes.{IsStoreError, WriteFails};
 ghost use Rattle.bank_walks.specs.Outcomes.{BreaksFirst};
 ghost use Rattle.bank_walks.specs.Rising.{RisesFrom};
@@ -24,8 +25,8 @@ pub trait WalkedRow: Copy + Default {
     ghost item: { Self → Item };
     /// By which the walk goes.
     ghost key: { Item → ℤ };
-    /// A number of it is out of its range.
-    ghost is_broken: { Item → Type 0 };
+    /// It breaks the rule, so that it can't be given.
+    ghost Breaks: { Rule → Item → Type 0 };
     /// It is one of an account's, or any if none is named.
     ghost is_given: { Option ℕ → Item → Bool };
     /// A database has these, by rising keys.
@@ -44,7 +45,7 @@ pub trait WalkedRow: Copy + Default {
             → HasItems (state S.Store conn.old).now all
             → let given = filter (is_given of) all in MatchResult result
             (λ rest. items_from key from given ≡ map item rows.new.items ++ items_behind key rest given)
-            (BreaksFirst (IsStoreError (state S.Store conn.old) (state S.Store conn.new)) is_broken
+            (BreaksFirst (IsStoreError (state S.Store conn.old) (state S.Store conn.new)) Breaks
             (items_from key from given)) }
         ensures ended { IfOk result (λ rest. rows.new.items ≡ [] → rest ≡ None) }
         ensures rises { IfOk result (λ rest. RisesFrom from (map (λ r. key (item r)) rows.new.items) rest) }
@@ -63,6 +64,7 @@ pub trait WalkedRow: Copy + Default {
 
 impl<R: StoredRow> WalkedRow for R {
     ghost use Rattle.sql_meanings.specs.Entries.{Entry};
+    ghost use Rattle.bank_walks.specs.Outcomes.{BreaksValue};
     ghost use Rattle.bank_walks.specs.Rows.{HasStoredRows, entry_key};
 
     ghost Item = { Entry };
@@ -71,7 +73,7 @@ impl<R: StoredRow> WalkedRow for R {
 
     ghost key = { entry_key };
 
-    ghost is_broken = { R.StoredRow.kind.Breaks };
+    ghost Breaks = { BreaksValue R.StoredRow.kind.Breaks };
 
     ghost is_given = { R.StoredRow.kind.is_given };
 

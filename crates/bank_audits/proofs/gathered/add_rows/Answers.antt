@@ -62,7 +62,7 @@ returns-in_err-row-clause-told g c clean all has =
     (λ all. items_to_come g.R.WalkedRow.key g.R.WalkedRow.item g.R.WalkedRow.is_given all c.rows.walk)
     c.rows.counter (λ b. b)
     c.rows.invariant.gathered
-    g.R.WalkedRow.is_broken _ before all has _ c.in_err-row.field-0.0
+    g.R.WalkedRow.Breaks _ before all has _ c.in_err-row.field-0.0
     (c.in_err-row.ensures.told late all there)
     (λ is. record {
       at = c.rows.walk.bank.now.conn;

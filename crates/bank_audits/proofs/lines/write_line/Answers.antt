@@ -10,7 +10,8 @@ use Rattle.bank_audits.proofs.lines.write_line.Goals as goal
 pub returns-in_err-put : goal.returns-in_err-put
 returns-in_err-put g c =
     let same : c.from_residual.result ≡ Err Write = search rules in
-    let delta : to_z w64 (of_z w64 c.args.row.now.delta) ≡ c.args.row.now.delta = search (rules, to_z-of_z) in
+    let delta : to_z w64 (of_z w64 c.args.row.now.posting.delta) ≡ c.args.row.now.posting.delta =
+    search (rules, to_z-of_z) in
     let after = rw delta at c.in-Some.ensures.within in
     record {
       written = rw same (same_part _ _
@@ -22,7 +23,8 @@ returns-in_err-put g c =
 
 pub returns : goal.returns
 returns g c =
-    let delta : to_z w64 (of_z w64 c.args.row.now.delta) ≡ c.args.row.now.delta = search (rules, to_z-of_z) in
+    let delta : to_z w64 (of_z w64 c.args.row.now.posting.delta) ≡ c.args.row.now.posting.delta =
+    search (rules, to_z-of_z) in
     record {
       written = (
         rw delta at c.in-Some.ensures.within,

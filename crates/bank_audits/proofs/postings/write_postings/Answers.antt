@@ -2,10 +2,9 @@
 use Rattle.std.proofs.Common.{rules, ◌≡◌, List, Err, Some, filter, refl, sym, subst}
 use Rattle.sqlite.specs.State.{HasCleanDisk}
 use Rattle.sqlite.specs.Held.{state}
-use Rattle.sql_meanings.specs.Entries.{Entry}
-use Rattle.store_rows.specs.BankTables.{history as history_table}
-use Rattle.bank_walks.specs.Rows.{HasStoredRows}
-use Rattle.bank_walks.specs.Stored.{is_of}
+use Rattle.store_rows.specs.BankTables.{history as history_table, reference as reference_table}
+use Rattle.bank_walks.specs.Pairs.{HasPairs, Pair}
+use Rattle.bank_walks.specs.Stored.{is_stated_of}
 use Rattle.bank_store.specs.Seen.{bank_seen, connection_of, database_of}
 use Rattle.bank_audits.specs.declared.fault.ReportFault.TheVariants.{Bank}
 use Rattle.bank_audits.specs.Failures.{HasFailedToRead}
@@ -23,7 +22,7 @@ returns-in_err-walk g c =
     let text = g.W.Sink.contents c.args.writer.now in
     record {
       told = λ clean rows has.
-          let all = filter (is_of (Some c.args.account)) rows in
+          let all = filter (is_stated_of (Some c.args.account)) rows in
           rw (same, was.0) (down_err all text all text _ _ (at_first all all text refl));
       more = rw same tt;
       failed = λ write. absurd (not_write _ fault same write);
@@ -44,12 +43,14 @@ returns g c =
     let begins = c.in_ok-walk.ensures.begins in
     let says = c.write_rows.ensures in
     let last = c.write_rows.new.walk.bank.now in
-    let there = λ (rows : List Entry) (has : HasStoredRows (database_of g.S.Store c.args.bank.now) history_table rows).
-    subst (λ bank. HasStoredRows (database_of g.S.Store bank) history_table rows) (sym begins.same) has in
+    let there = λ (rows : List Pair) (has : HasPairs (database_of g.S.Store c.args.bank.now) history_table
+    reference_table rows).
+    subst (λ bank. HasPairs (database_of g.S.Store bank) history_table reference_table rows) (sym begins.same) has
+    in
     record {
       told = λ clean rows has.
           let late : HasCleanDisk (state g.S.Store last.conn) = search rules in
-          subst (λ (all : List Entry). WritesPostings all (g.W.Sink.contents c.args.writer.now)
+          subst (λ (all : List Pair). WritesPostings all (g.W.Sink.contents c.args.writer.now)
           (g.W.Sink.contents c.write_rows.new.writer) c.write_rows.result)
           (begins.all rows has) (says.told late rows (there rows has));
       more = says.more;

@@ -6,7 +6,7 @@ use Rattle.sqlite.specs.Held.{state}
 use Rattle.posting_rules.specs.declared.fault.Fault.TheVariants.{Damaged, Down, Memory, Store}
 use Rattle.posting_rules.specs.declared.fault.Rule.TheVariants.{Value}
 use Rattle.posting_core.proofs.Telling.{more_more, more_none}
-use Rattle.store_rows.specs.BankTables.{history as history_table}
+use Rattle.store_rows.specs.BankTables.{history as history_table, reference as reference_table}
 use Rattle.bank_transactions.proofs.Blamed.{comes}
 use Rattle.bank_reports.proofs.Written.{later_failed}
 use Rattle.bank_audits.specs.declared.fault.ReportFault.{ReportFault}
@@ -41,7 +41,7 @@ returns-in_err-row g c =
       same_reference = c.next.ensures.bank.same_reference ∙ it.reference;
       told = λ clean rows has.
           let before = clean_before mid new quiet clean in
-          let there = still_has old mid history_table rows (it.still before) has in
+          let there = still_has old mid history_table reference_table rows (it.still before) has in
           rw same (walk_err _ _ _ _ _ _ (it.far before rows has) _ fault
           (c.in_err-row.ensures.told clean rows there));
       more = rw same tt;
@@ -54,7 +54,7 @@ returns-in_err-row g c =
             (rw (c.in_err-row.was, same_fault _ fault Down same is) refl)).0);
         store = λ is clean rows has.
             let before = clean_before mid new quiet clean in
-            let there = still_has old mid history_table rows (it.still before) has in
+            let there = still_has old mid history_table reference_table rows (it.still before) has in
             record {
               at = c.lines.walk.bank.now.conn;
               before = comes it.survives;
@@ -83,7 +83,7 @@ returns-in_default g c =
       same_reference = c.next.ensures.bank.same_reference ∙ it.reference;
       told = λ clean rows has.
           let before = clean_before mid new quiet clean in
-          let there = still_has old mid history_table rows (it.still before) has in
+          let there = still_has old mid history_table reference_table rows (it.still before) has in
           walk_end _ _ _ _ _ _ (it.far before rows has)
           (rw c.in_default.is at (c.in_ok-row.ensures.told clean rows there)).0;
       more = it.more;
@@ -119,7 +119,7 @@ returns-in_err-balance g c =
       same_reference = c.next.ensures.bank.same_reference ∙ it.reference;
       told = λ clean rows has.
           let before = clean_before mid new quiet clean in
-          let there = still_has old mid history_table rows (it.still before) has in
+          let there = still_has old mid history_table reference_table rows (it.still before) has in
           rw same (line_err _ _ _ _ _ _ _ _ c.in-Some.row
           (rw c.in-Some.is at (c.in_ok-row.ensures.told clean rows there)) (it.far before rows has) fault wrote);
       more = rw same tt;
@@ -155,7 +155,7 @@ lines-preserved g c =
       more = more_more it.more c.in_ok-balance.ensures.more;
       far = λ clean rows has.
           let before = clean_before mid new quiet clean in
-          let there = still_has old mid history_table rows (it.still before) has in
+          let there = still_has old mid history_table reference_table rows (it.still before) has in
           one_line _ _ _ _ _ _ _ _ c.in-Some.row
           (rw c.in-Some.is at (c.in_ok-row.ensures.told clean rows there))
           (it.far before rows has)

@@ -3,12 +3,10 @@ use Rattle.std.proofs.Common.{◌≡◌, List}
 use Rattle.sqlite.specs.State.{HasCleanDisk, Survives}
 use Rattle.sqlite.specs.Held.{state}
 use Rattle.posting_core.specs.Told.{HasMore}
-use Rattle.sql_meanings.specs.Entries.{Entry}
-use Rattle.store_rows.specs.BankTables.{history as history_table}
-use Rattle.bank_walks.specs.Rows.{HasStoredRows}
-use Rattle.bank_walks.specs.Stored.{is_of, posting_entry}
+use Rattle.store_rows.specs.BankTables.{history as history_table, reference as reference_table}
+use Rattle.bank_walks.specs.Pairs.{HasPairs, Pair}
 use Rattle.bank_store.specs.Walks.{IsStill}
-use Rattle.bank_store.specs.Walking.{HasToldFault, to_come}
+use Rattle.bank_store.specs.Walking.{HasToldFault, postings_to_come}
 use Rattle.bank_audits.proofs.Further.{IsFar}
 use Rattle.bank_audits.proofs.postings.write_rows.Given as goal
 
@@ -23,7 +21,7 @@ invariant-lines g l =
       fresh : HasToldFault l.walk → ⊥;
       still : HasCleanDisk now → IsStill old now;
       more : HasMore (g.W.Sink.told l.fn.writer) (g.W.Sink.told l.writer);
-      far : HasCleanDisk now → (rows : List Entry) → HasStoredRows old.now history_table rows
-          → IsFar (to_come posting_entry is_of rows l.fn.walk) (to_come posting_entry is_of rows l.walk)
+      far : HasCleanDisk now → (rows : List Pair) → HasPairs old.now history_table reference_table rows
+          → IsFar (postings_to_come rows l.fn.walk) (postings_to_come rows l.walk)
           (g.W.Sink.contents l.fn.writer) (g.W.Sink.contents l.writer) l.balance l.counter;
     }

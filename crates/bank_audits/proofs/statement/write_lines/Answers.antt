@@ -3,7 +3,7 @@ use Rattle.std.proofs.Common.{rules, ◌≡◌, Err, Some, filter, refl, sym, �
 use Rattle.posting_rules.specs.declared.fault.Fault.TheVariants.{Down, Memory, Store}
 use Rattle.posting_core.specs.Told.{IsFlush}
 use Rattle.posting_core.proofs.Telling.{more_last, more_more}
-use Rattle.bank_walks.specs.Stored.{is_of}
+use Rattle.bank_walks.specs.Stored.{is_stated_of}
 use Rattle.bank_reports.proofs.Written.{later_failed, same_all, same_part}
 use Rattle.bank_audits.specs.declared.fault.ReportFault.TheVariants.{Write}
 use Rattle.bank_audits.proofs.ReportLeaves.{not_both, not_ok, not_write}
@@ -16,7 +16,7 @@ returns-in_err-put g c =
     let same : c.from_residual.result ≡ Err Write = search rules in
     record {
       told = λ clean rows has.
-          rw same (heading_err c.args.account c.args.balance (filter (is_of (Some c.args.account)) rows) _ _
+          rw same (heading_err c.args.account c.args.balance (filter (is_stated_of (Some c.args.account)) rows) _ _
           (same_part _ _ (c.as_str.ensures.value ∙ c.statement_heading.ensures) c.in_err-put.ensures.err));
       flushed = rw same tt;
       failed = λ write. c.in_err-put.ensures.failed;
@@ -37,7 +37,7 @@ returns-in_err-put-2 g c =
     let same : c.from_residual-in_err-put-2.result ≡ Err Write = search rules in
     record {
       told = λ clean rows has.
-          rw same (names_err c.args.account c.args.balance (filter (is_of (Some c.args.account)) rows) _ _
+          rw same (names_err c.args.account c.args.balance (filter (is_stated_of (Some c.args.account)) rows) _ _
           (same_all _ _ (c.as_str.ensures.value ∙ c.statement_heading.ensures) c.in_ok-put.ensures.ok) _
           (same_part _ _ (c.as_str-2.ensures.value ∙ c.statement_names.ensures) c.in_err-put-2.ensures.err));
       flushed = rw same tt;
@@ -61,7 +61,7 @@ returns-in_err-write_postings g c =
     let says = c.in_err-write_postings.ensures in
     record {
       told = λ clean rows has.
-          rw same (postings_err c.args.account c.args.balance (filter (is_of (Some c.args.account)) rows) _ _
+          rw same (postings_err c.args.account c.args.balance (filter (is_stated_of (Some c.args.account)) rows) _ _
           (same_all _ _ (c.as_str.ensures.value ∙ c.statement_heading.ensures) c.in_ok-put.ensures.ok) _
           (same_all _ _ (c.as_str-2.ensures.value ∙ c.statement_names.ensures) c.in_ok-put-2.ensures.ok) _
           fault (says.told clean rows has));
@@ -87,7 +87,7 @@ returns-in_err-put_last g c =
     let says = c.in_ok-write_postings.ensures in
     record {
       told = λ clean rows has.
-          rw same (closing_err c.args.account c.args.balance (filter (is_of (Some c.args.account)) rows) _ _
+          rw same (closing_err c.args.account c.args.balance (filter (is_stated_of (Some c.args.account)) rows) _ _
           (same_all _ _ (c.as_str.ensures.value ∙ c.statement_heading.ensures) c.in_ok-put.ensures.ok) _
           (same_all _ _ (c.as_str-2.ensures.value ∙ c.statement_names.ensures) c.in_ok-put-2.ensures.ok) _
           (says.told clean rows has) _
@@ -114,7 +114,7 @@ returns g c =
     let says = c.in_ok-write_postings.ensures in
     record {
       told = λ clean rows has.
-          all_written c.args.account c.args.balance (filter (is_of (Some c.args.account)) rows) _ _
+          all_written c.args.account c.args.balance (filter (is_stated_of (Some c.args.account)) rows) _ _
           (same_all _ _ (c.as_str.ensures.value ∙ c.statement_heading.ensures) c.in_ok-put.ensures.ok) _
           (same_all _ _ (c.as_str-2.ensures.value ∙ c.statement_names.ensures) c.in_ok-put-2.ensures.ok) _
           (says.told clean rows has) _

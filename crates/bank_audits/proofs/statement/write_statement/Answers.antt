@@ -1,5 +1,5 @@
 -- The statement of an account of a bank that shows a log.
-use Rattle.std.proofs.Common.{rules, ◌≡◌, ◌∙◌, Bool, List, [], map, filter, Some, Err, false, true, refl}
+use Rattle.std.proofs.Common.{rules, ◌≡◌, ◌∙◌, Bool, List, [], filter, Some, Err, false, true, refl}
 use Rattle.std.proofs.Common.{sym, ap, subst, inl, inr, arith}
 use Rattle.std.specs.Prelude.{IsSome}
 use Rattle.sqlite.specs.State.{HasCleanDisk}
@@ -7,11 +7,9 @@ use Rattle.sqlite.specs.Held.{state}
 use Rattle.posting_rules.specs.declared.fault.Fault.TheVariants.{Down}
 use Rattle.posting_rules.specs.Commands.{Command}
 use Rattle.posting_rules.specs.Counter.{ShowsLog}
-use Rattle.sql_meanings.specs.Entries.{Entry}
-use Rattle.store_rows.specs.BankTables.{history as history_table}
-use Rattle.store_rows.specs.View.{history_entry}
-use Rattle.bank_walks.specs.Rows.{HasStoredRows}
-use Rattle.bank_walks.specs.Stored.{is_of}
+use Rattle.store_rows.specs.BankTables.{history as history_table, reference as reference_table}
+use Rattle.bank_walks.specs.Pairs.{HasPairs, Pair}
+use Rattle.bank_walks.specs.Stored.{is_stated_of}
 use Rattle.bank_store.specs.Down.{OfDamage, WasBroken, bank_reason}
 use Rattle.bank_store.specs.Seen.{bank_seen, database_of}
 use Rattle.bank_audits.specs.declared.fault.ReportFault.TheVariants.{Bank}
@@ -19,7 +17,7 @@ use Rattle.bank_audits.specs.Behind.{statement_behind}
 use Rattle.bank_audits.specs.Postings.{StatesRows}
 use Rattle.bank_audits.proofs.FaultsTold.{down_is_sound, unstated}
 use Rattle.bank_audits.proofs.Further.{nothing_written}
-use Rattle.bank_audits.proofs.OnLogs.{account_rows, has_history}
+use Rattle.bank_audits.proofs.OnLogs.{account_rows, has_stated, stated_rows}
 use Rattle.bank_audits.proofs.Passed.{failed_later}
 use Rattle.bank_audits.proofs.ReportLeaves.{clean_before, damaged_not_down, down_not_store, idle_takes}
 use Rattle.bank_audits.proofs.ReportLeaves.{not_both, not_missing, not_write, of_err, of_ok, reads_behind}
@@ -155,16 +153,16 @@ clean_at g c clean = omega (arith, c.write_lines.ensures.reads.survives.clean, c
 
 -- the rows are those that the file held
 rows_at : (g : Over) (c : goal.After-write_lines g)
-    → HasCleanDisk (state g.S.Store c.write_lines.new.bank.conn) → (rows : List Entry)
-    → HasStoredRows (database_of g.S.Store c.args.bank.now) history_table rows
-    → HasStoredRows (database_of g.S.Store c.balance.new.self) history_table rows
+    → HasCleanDisk (state g.S.Store c.write_lines.new.bank.conn) → (rows : List Pair)
+    → HasPairs (database_of g.S.Store c.args.bank.now) history_table reference_table rows
+    → HasPairs (database_of g.S.Store c.balance.new.self) history_table reference_table rows
 rows_at g c clean rows has =
     let same = c.in_ok-balance.ensures.still (clean_at g c clean) in
-    subst (λ db. HasStoredRows db history_table rows) (sym same) has
+    subst (λ db. HasPairs db history_table reference_table rows) (sym same) has
 
 stated : (g : Over) (c : goal.After-write_lines g)
-    → HasCleanDisk (state g.S.Store c.write_lines.new.bank.conn) → (rows : List Entry)
-    → HasStoredRows (database_of g.S.Store c.args.bank.now) history_table rows
+    → HasCleanDisk (state g.S.Store c.write_lines.new.bank.conn) → (rows : List Pair)
+    → HasPairs (database_of g.S.Store c.args.bank.now) history_table reference_table rows
     → StatesRows (database_of g.S.Store c.args.bank.now) c.args.account rows
     (g.W.Sink.contents c.args.writer.now) (g.W.Sink.contents c.write_lines.new.writer) c.write_lines.result
 stated g c clean rows has =
@@ -185,9 +183,9 @@ told_of g c clean log s =
     record {
       balance = c.in-Some.balance;
       is = same;
-      all = filter (is_of (Some c.args.account)) (map history_entry t.history);
+      all = filter (is_stated_of (Some c.args.account)) (stated_rows t);
       rows = account_rows _ t log c.args.account shown.are shown.shows;
-      told = c.write_lines.ensures.told clean (map history_entry t.history) (has_history _ t shown.are);
+      told = c.write_lines.ensures.told clean (stated_rows t) (has_stated _ t shown.are);
       commands = shown.commands;
     }
 
@@ -216,7 +214,7 @@ returns g c =
       };
       file = λ clean up. record {
         rows = λ found rows has. stated g c clean rows has;
-        tables = λ found t shown. stated g c clean (map history_entry t.history) (has_history _ t shown);
+        tables = λ found t shown. stated g c clean (stated_rows t) (has_stated _ t shown);
         absent = λ none. absurd (says.reads.found none);
         store = λ is rows has.
             failed_later g.S.Store c.args.bank.now.conn c.balance.new.self.conn c.write_lines.new.bank.conn

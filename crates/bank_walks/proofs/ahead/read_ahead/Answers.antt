@@ -6,6 +6,7 @@ use Rattle.sqlite.specs.State.{IsUnchanged}
 use Rattle.sql_meanings.specs.Outcomes.{WriteFails}
 use Rattle.sql_meanings.specs.Tables.{width_of}
 use Rattle.sql_meanings.proofs.OrderedAnswers.{rise_filter}
+use Rattle.bank_walks.specs.Outcomes.{BreaksValue}
 use Rattle.bank_walks.specs.Rows.{rows_from}
 use Rattle.bank_walks.proofs.Sought.{err_any, match_err, on_any, refused_memory, wide_filter}
 use Rattle.bank_walks.proofs.ahead.read_ahead.Goals as goal
@@ -22,7 +23,8 @@ returns-in-Ok g c =
           let is_given = g.R.StoredRow.kind.is_given c.args.of in
           let given = filter is_given rows in
           match_err _ _ _ c.gather.result
-          (refused_memory old new g.R.StoredRow.kind.Breaks (rows_from c.args.from given) (sought.same clean))
+          (refused_memory old new (BreaksValue g.R.StoredRow.kind.Breaks) (rows_from c.args.from given)
+          (sought.same clean))
           ((rw whole at (gathered.told given (rise_filter is_given rows has.holds.rows.rise)
           (wide_filter (width_of g.R.StoredRow.kind.table) is_given rows has.holds.rows.wide)))
           (c.deref.ensures.value ∙ (rw whole at (sought.told clean rows has))));

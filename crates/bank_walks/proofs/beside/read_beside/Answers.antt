@@ -5,7 +5,7 @@ use Rattle.std.proofs.lemmas.Int.{to_z-of_z}
 use Rattle.sqlite.specs.Held.{state}
 use Rattle.sqlite.specs.State.{IsUnchanged}
 use Rattle.sql_meanings.specs.Outcomes.{WriteFails}
-use Rattle.bank_walks.specs.Outcomes.{shown}
+use Rattle.bank_walks.specs.Outcomes.{BreaksValue, shown}
 use Rattle.bank_walks.specs.Rows.{rows_from}
 use Rattle.bank_walks.specs.declared.ahead.TheConstants.{AHEAD}
 use Rattle.bank_walks.proofs.Sought.{all_pass, err_any, match_err, on_any}
@@ -26,7 +26,7 @@ returns-in-Ok g c =
           let found = (rw same at (sought.told clean all has))
           ∙ ap (λ es. shown (take AHEAD (rows_from from es))) whole in
           match_err _ _ _ c.gather_beside.result
-          (refused_under old new g.O.StoredRow.kind.Breaks from all (sought.same clean))
+          (refused_under old new (BreaksValue g.O.StoredRow.kind.Breaks) from all (sought.same clean))
           ((rw same at (gathered.told all has.holds.rows.rise has.holds.rows.wide))
           (c.deref.ensures.value ∙ found));
       beyond = rw same at gathered.beyond;

@@ -6,6 +6,8 @@ use Rattle.sqlite.specs.Held.{state}
 use Rattle.sql_meanings.specs.Outcomes.{IsStoreError}
 use Rattle.sql_meanings.proofs.Saying.{survives_both}
 use Rattle.sql_meanings.proofs.OrderedAnswers.{rise_filter}
+use Rattle.bank_walks.specs.Outcomes.{BreaksValue}
+use Rattle.bank_walks.specs.Pairs.{pair_of}
 use Rattle.bank_walks.specs.Rows.{HasStoredRows}
 use Rattle.bank_walks.proofs.Filling.{breaks_given, breaks_own, clean_between, fails_both, filled, match_both}
 use Rattle.bank_walks.proofs.Filling.{store_both}
@@ -35,10 +37,12 @@ returns-in-Ok g c =
           let others = subst (λ db. HasStoredRows db g.O.StoredRow.kind.table has.others)
           (sym unchanged.0.now_is) has.has_others in
           match_both _ _ _ _ c.join_first.result
-          (filled g.R.StoredRow.kind.entry g.O.StoredRow.kind.entry has.others has.rows given all has.are from
+          (filled (pair_of g.R.StoredRow.kind.entry g.O.StoredRow.kind.entry) has.others has.rows given all
+          has.are from
           c.join_first.new.rows.items)
           (breaks_given has.others has.rows given all has.are from (IsStoreError old new)
-          g.R.StoredRow.kind.Breaks g.O.StoredRow.kind.Breaks (IsStoreError mid new)
+          (BreaksValue g.R.StoredRow.kind.Breaks) (BreaksValue g.O.StoredRow.kind.Breaks)
+          (IsStoreError mid new)
           (store_both old mid new unchanged read.survives))
           ((rw c.as_slice.ensures.value at (joined.told clean (filter given has.rows) has.others
           (rise_filter given has.rows has.has.holds.rows.rise) others from)) told);
@@ -66,7 +70,7 @@ returns-in-Err g c =
       told = λ clean all has.
           breaks_own has.others has.rows (g.R.StoredRow.kind.is_given c.args.of) all has.are c.args.from
           (IsStoreError (state g.S.Store c.args.conn.now) (state g.S.Store c.read_ahead.new.conn))
-          g.R.StoredRow.kind.Breaks g.O.StoredRow.kind.Breaks
+          (BreaksValue g.R.StoredRow.kind.Breaks) (BreaksValue g.O.StoredRow.kind.Breaks)
           c.in-Err.fault (rw whole at (read.told clean has.rows has.has));
       ended = tt;
       rises = tt;

@@ -8,7 +8,7 @@ use Rattle.bank_walks.specs.Pairs.{ComesBefore, pair_of, paired, row_under}
 use Rattle.bank_walks.specs.Rising.{RisesFrom}
 use Rattle.bank_walks.specs.Rows.{entry_key, rows_behind}
 use Rattle.bank_walks.proofs.Gathering.{behind_key}
-use Rattle.bank_walks.proofs.Joining.{beside_is, joins_on, none_left}
+use Rattle.bank_walks.proofs.Joining.{beside_is, joins_on, none_left, pair_beside}
 use Rattle.bank_walks.proofs.Rises.{one_more, rest_behind}
 use Rattle.bank_walks.proofs.joined.join.Goals as goal
 
@@ -46,14 +46,13 @@ loop-row-preserved g c =
       told = λ base others rise own_is others_are.
           let both = (rw same at (c.loop-row.invariant.told base others rise)) own_is others_are in
           rw c.push.ensures.items
-          (joins_on entry g.O.StoredRow.kind.entry others base rise start c.loop-row.rows.items next r
-          c.row_with.result
-          (map entry (drop (at + 1) c.args.own.now) ++ rows_behind c.args.rest base) both.1
+          (joins_on (pair_of entry g.O.StoredRow.kind.entry) others base rise start c.loop-row.rows.items next
+          _ (entry r) (map entry (drop (at + 1) c.args.own.now) ++ rows_behind c.args.rest base) both.1
           (both.0 ∙ ap (λ l. map entry l ++ rows_behind c.args.rest base) left)
-          (c.row_with.ensures
+          (ap (pair_beside (entry r)) (c.row_with.ensures
           ∙ sym (ap (λ k. row_under (map g.O.StoredRow.kind.entry c.args.beside.now) k) c.key-key.ensures.key)
           ∙ sym (beside_is others start (entry r).key
-          (map g.O.StoredRow.kind.entry c.args.beside.now) c.args.behind others_are above decided)));
+          (map g.O.StoredRow.kind.entry c.args.beside.now) c.args.behind others_are above decided))));
     }
 
 pub returns-then-is_beyond : goal.returns-then-is_beyond

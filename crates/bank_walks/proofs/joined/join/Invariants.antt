@@ -1,6 +1,6 @@
 use Rattle.std.proofs.Common.{◌≡◌, ◌≤ℤ◌, ◌++◌, List, map, drop, length, Some}
 use Rattle.sql_meanings.specs.Entries.{Entry, Rise}
-use Rattle.bank_walks.specs.Pairs.{AreJoined}
+use Rattle.bank_walks.specs.Pairs.{AreJoined, pair_of}
 use Rattle.bank_walks.specs.Rising.{RisesFrom}
 use Rattle.bank_walks.specs.Rows.{entry_key, rows_behind, rows_from}
 use Rattle.bank_walks.proofs.joined.join.Given as goal
@@ -19,6 +19,6 @@ invariant-loop-row g l = record {
       ≡ map g.O.StoredRow.kind.entry l.fn.beside ++ rows_behind l.fn.behind others
       → (rows_from l.next base
       ≡ map g.R.StoredRow.kind.entry (drop l.row-index l.fn.own) ++ rows_behind l.fn.rest base)
-      × AreJoined g.R.StoredRow.kind.entry g.O.StoredRow.kind.entry others base l.fn.start l.rows.items
-      (Some l.next);
+      × AreJoined (pair_of g.R.StoredRow.kind.entry g.O.StoredRow.kind.entry) others base l.fn.start
+      l.rows.items (Some l.next);
 }

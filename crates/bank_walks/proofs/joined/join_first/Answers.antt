@@ -4,6 +4,8 @@ use Rattle.sqlite.proofs.StateLemmas.{unchanged}
 use Rattle.sqlite.specs.Held.{state}
 use Rattle.store_rows.proofs.Lookups.{as_integer}
 use Rattle.sql_meanings.specs.Outcomes.{IsStoreError}
+use Rattle.bank_walks.specs.Outcomes.{BreaksValue}
+use Rattle.bank_walks.specs.Pairs.{pair_of}
 use Rattle.bank_walks.specs.Rows.{entry_key, rows_behind}
 use Rattle.bank_walks.proofs.Filling.{breaks_first, first_is, from_first, joined_first, match_both}
 use Rattle.bank_walks.proofs.Filling.{none_joined, nothing_is, nothing_joined, rises_itself, rises_too}
@@ -34,11 +36,12 @@ returns-in-Some g c =
           let behind = map entry more ++ rows_behind c.args.rest base in
           let is = told ∙ ap (λ l. map entry l ++ rows_behind c.args.rest base) first in
           match_both _ _ _ _ c.join_ahead.result
-          (joined_first entry g.O.StoredRow.kind.entry others base rise from start (entry row) behind is at
+          (joined_first (pair_of entry g.O.StoredRow.kind.entry) others base rise from start (entry row) behind
+          is at
           c.join_ahead.new.rows.items)
           (breaks_first others base from start (entry row) behind is at
           (IsStoreError (state g.S.Store c.args.conn.now) (state g.S.Store c.join_ahead.new.conn))
-          g.R.StoredRow.kind.Breaks g.O.StoredRow.kind.Breaks)
+          (BreaksValue g.R.StoredRow.kind.Breaks) (BreaksValue g.O.StoredRow.kind.Breaks))
           (c.join_ahead.ensures.told clean base others rise has
           (sym (from_first base rise from start (entry row) behind is at) ∙ told));
       ended =
@@ -60,8 +63,9 @@ returns-in-None g c =
     record {
       told = λ clean base others rise has from is.
           let none = nothing_is c.args.own.now c.in-None.ensures.value in
-          nothing_joined g.R.StoredRow.kind.entry g.O.StoredRow.kind.entry others base from c.args.own.now
-          c.args.rest c.clear.new.self.items none (c.requires.ended none) c.clear.ensures is;
+          nothing_joined g.R.StoredRow.kind.entry (pair_of g.R.StoredRow.kind.entry g.O.StoredRow.kind.entry)
+          others base from c.args.own.now c.args.rest c.clear.new.self.items none (c.requires.ended none)
+          c.clear.ensures is;
       ended = λ none. refl;
       rises = λ from rises. rw c.clear.ensures tt;
       same = λ clean is_open. unchanged old is_open;
