@@ -1,4 +1,4 @@
--- The tables of a log keep each of the eight rules.
+-- The tables of a log keep each of the nine rules.
 use Rattle.std.proofs.Common.{◌≡◌, ◌≤◌, ◌<◌, ℕ, zero, suc, ℤ, pos, Bool, true, false, List, [], ◌∷◌, map}
 use Rattle.std.proofs.Common.{Option, Some, None, option_map, refl, sym, ap, subst, ◌∙◌, arith}
 use Rattle.std.specs.Prelude.{◌&&◌, cond, ◌≤ℤ◌, nat_le, nat_eq, is_some, option_and_then}
@@ -11,21 +11,22 @@ use Rattle.posting_rules.specs.Damage.{IsUndamaged}
 use Rattle.posting_rules.specs.Entries.{decided}
 use Rattle.posting_rules.specs.LookUps.{balance_of_account, floor_in, lowest_of, terms_of_branch}
 use Rattle.posting_rules.specs.Tables.{Tables, AreTablesOf, row_at, account_key, branch_key, history_key}
-use Rattle.posting_rules.specs.Tables.{floor_key, request_key, teller_key}
+use Rattle.posting_rules.specs.Tables.{floor_key, reference_key, request_key, teller_key}
 use Rattle.posting_rules.specs.declared.fault.Rule.{Rule}
 use Rattle.posting_rules.specs.declared.fault.Rule.TheVariants.{Meta, Teller, Account, Balance, Request}
-use Rattle.posting_rules.specs.declared.fault.Rule.TheVariants.{Value, Key, Floor}
+use Rattle.posting_rules.specs.declared.fault.Rule.TheVariants.{Value, Key, Floor, Reference}
 use Rattle.posting_rules.specs.declared.rows.AccountRow.{AccountRow}
 use Rattle.posting_rules.specs.declared.rows.BranchRow.{BranchRow}
 use Rattle.posting_rules.specs.declared.rows.FloorRow.{FloorRow}
-use Rattle.posting_rules.proofs.Stepped.{history_row_past, request_row_past}
+use Rattle.posting_rules.proofs.Stepped.{history_row_past, reference_row_past, request_row_past}
 use Rattle.posting_rules.proofs.Undamaged.{undamaged}
 use Rattle.sql_meanings.specs.Entries.{Entry, has_key}
 use Rattle.store_rows.specs.Columns.{number_at}
 use Rattle.store_rows.specs.Rules.{AccountKeeps, BranchKeeps, EachKeeps, FloorKeeps, HasDecided, IsNext, IsWithinCount}
 use Rattle.store_rows.specs.Rules.{KeepsRule}
-use Rattle.store_rows.specs.Rules.{PostingKeeps, RequestKeeps, TellerKeeps, branch_under, floor_under, row_under}
-use Rattle.store_rows.specs.View.{account_entry, branch_entry, floor_entry, history_entry, request_entry, teller_entry}
+use Rattle.store_rows.specs.Rules.{PostingKeeps, ReferenceKeeps, RequestKeeps, TellerKeeps, branch_under, floor_under, row_under}
+use Rattle.store_rows.specs.View.{account_entry, branch_entry, floor_entry, history_entry, reference_entry, request_entry}
+use Rattle.store_rows.specs.View.{teller_entry}
 use Rattle.store_rows.specs.declared.metas.TheConstants.{VERSION}
 use Rattle.store_rows.proofs.RowLists.{found_by, has_row_key, taken_row_key}
 use Rattle.bank_transactions.proofs.FittingAccounts.{le_number, le_test, same_entry}
@@ -52,6 +53,7 @@ module _ (t : Tables) (sound : IsUndamaged t) where
     each_entry history_entry (PostingKeeps Balance) t.history (λ r has. tt),
     each_entry request_entry (RequestKeeps Balance) t.requests (λ r has. tt),
     each_entry floor_entry (FloorKeeps Balance) t.floors (λ r has. tt),
+    each_entry reference_entry (ReferenceKeeps Balance) t.references (λ r has. tt),
   )
 
   keeps_request : KeepsRule Request (stored_rows t)
@@ -64,13 +66,14 @@ module _ (t : Tables) (sound : IsUndamaged t) where
         (λ r has. let is = sound.each_request r has in record {
           teller = (r.teller, refl, is.fields.teller_above, is.fields.teller);
           number = (r.number, refl, is.number_above, is.number);
-          account = (r.kept.account, refl, is.fields.account_above, is.fields.account);
-          branch = (r.kept.branch, refl, is.fields.branch_above, is.fields.branch);
+          account = (r.decision.account, refl, is.fields.account_above, is.fields.account);
+          branch = (r.decision.branch, refl, is.fields.branch_above, is.fields.branch);
           delta = is.fields.delta;
-          outcome = (r.kept.outcome, refl, is.kept);
+          outcome = (r.decision.outcome, refl, is.decision);
           balance = is.balance;
         }),
     each_entry floor_entry (FloorKeeps Request) t.floors (λ r has. tt),
+    each_entry reference_entry (ReferenceKeeps Request) t.references (λ r has. tt),
   )
 
   keeps_value : KeepsRule Value (stored_rows t)
@@ -89,6 +92,8 @@ module _ (t : Tables) (sound : IsUndamaged t) where
         let is = sound.each_request r has in (r.ordinal, refl, is.ordinal_above, is.ordinal)),
     each_entry floor_entry (FloorKeeps Value) t.floors (λ r has.
         let is = sound.each_floor r has in (r.branch, refl, is.some, is.most)),
+    each_entry reference_entry (ReferenceKeeps Value) t.references (λ r has.
+        let is = sound.each_reference r has in (r.ordinal, refl, is.ordinal_above, is.ordinal)),
   )
 
   keeps_floor : KeepsRule Floor (stored_rows t)
@@ -99,6 +104,19 @@ module _ (t : Tables) (sound : IsUndamaged t) where
     each_entry history_entry (PostingKeeps Floor) t.history (λ r has. tt),
     each_entry request_entry (RequestKeeps Floor) t.requests (λ r has. tt),
     each_entry floor_entry (FloorKeeps Floor) t.floors (λ r has. (sound.each_floor r has).lowest),
+    each_entry reference_entry (ReferenceKeeps Floor) t.references (λ r has. tt),
+  )
+
+  keeps_reference : KeepsRule Reference (stored_rows t)
+  keeps_reference = (
+    each_entry branch_entry (BranchKeeps Reference) t.branches (λ r has. tt),
+    each_entry teller_entry (TellerKeeps Reference) t.tellers (λ r has. tt),
+    each_entry account_entry (AccountKeeps Reference) t.accounts (λ r has. tt),
+    each_entry history_entry (PostingKeeps Reference) t.history (λ r has. tt),
+    each_entry request_entry (RequestKeeps Reference) t.requests (λ r has. tt),
+    each_entry floor_entry (FloorKeeps Reference) t.floors (λ r has. tt),
+    each_entry reference_entry (ReferenceKeeps Reference) t.references
+        (λ r has. (sound.each_reference r has).reference),
   )
 
   -- ---- rows that belong together
@@ -289,6 +307,16 @@ module _ (t : Tables) (log : List Command) (shows : AreTablesOf t log) where
       no_row history_key history_entry (λ _. refl) t.history (suc n)
       (shows.rows.history (suc n) ∙ history_row_past (decided log) n (omega (arith, length_is, count)))
 
+  no_reference : (d n : ℕ) → HasDecided (stored_rows t) d → IsNext d n
+      → row_under (map reference_entry t.references) n ≡ None
+  no_reference d zero has next = absurd (let lt = next.0 in omega arith)
+  no_reference d (suc n) has next =
+      let lt = next.0 in
+      let count : t.decided ≡ d = same_count t.decided d has.0 has.1 in
+      let length_is = shows.rows.decided in
+      no_row reference_key reference_entry (λ _. refl) t.references (suc n)
+      (shows.rows.references (suc n) ∙ reference_row_past (decided log) n (omega (arith, length_is, count)))
+
 -- the tables of a log keep each rule
 pub keeps_all : (t : Tables) (log : List Command) → AreCommands log → AreTablesOf t log → (rule : Rule)
     → KeepsRule rule (stored_rows t)
@@ -301,8 +329,10 @@ keeps_all t log are shows Value = keeps_value t (undamaged t log are shows)
 keeps_all t log are shows Key = record {
   requests = no_request t log shows;
   postings = no_posting t log shows;
+  references = no_reference t log shows;
   tellers = no_teller t (undamaged t log are shows);
   accounts = no_account t (undamaged t log are shows);
   floors = no_floor t (undamaged t log are shows);
 }
 keeps_all t log are shows Floor = keeps_floor t (undamaged t log are shows)
+keeps_all t log are shows Reference = keeps_reference t (undamaged t log are shows)

@@ -50,7 +50,7 @@ module _ {M : Type 0} (seen : M → Seen) where
   pub before_life : (start : List Command) (first : M) (lives : List Given) → Lives seen start first lives
       → (seen first).honest → Before start first lives
   before_life start first lives (created it stands) h = stands h
-  before_life start first lives (carried_over it log stands) h = stands h
+  before_life start first lives (carried_over it from log stands) h = stands h
   before_life start first lives (released begun before it life others some lived up) h = (
     before,
     some,

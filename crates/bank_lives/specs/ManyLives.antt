@@ -1,5 +1,5 @@
 -- Any number of lives, one after another, and what is found at last.
-use Rattle.std.specs.Prelude.{◌≡◌, ◌≤◌, ℕ, nat_abs, List, [], ◌∷◌, length, take, AllPairs}
+use Rattle.std.specs.Prelude.{◌≡◌, ◌≤◌, ℕ, List, [], ◌∷◌, length, take, AllPairs}
 use Rattle.posting_rules.specs.Commands.{Command, AreCommands}
 use Rattle.posting_rules.specs.Counter.{Seen, StandsAt}
 use Rattle.posting_rules.specs.Editions.{plain}
@@ -7,7 +7,6 @@ use Rattle.posting_rules.specs.Entries.{decided}
 use Rattle.posting_rules.specs.Laws.{Differ, IsConsistent}
 use Rattle.posting_rules.specs.Runs.{behind}
 use Rattle.posting_rules.specs.Tables.{Tables, AreTablesOf}
-use Rattle.store_rows.specs.declared.migration.TheConstants.{BEFORE_FLOORS}
 use Rattle.bank_lives.specs.Lives.{Life, EndsLife}
 
 -- what one life was given, and how many of it the least beginning has that holds all that were acknowledged
@@ -27,10 +26,10 @@ pub record IsOpenedOn (last first : Seen) : Type 0 where
 pub data Lives {M : Type 0} (seen : M → Seen) : List Command → M → List Given → Type 0 where
   -- a new bank
   created : (first : M) → ((seen first).honest → StandsAt (seen first) []) → Lives seen [] first []
-  -- a bank of the version before floors that was carried over, and stands at the plain log of what it showed
-  carried_over : (first : M) (log : List Command)
-      → ((seen first).honest → StandsAt (seen first) (plain (nat_abs BEFORE_FLOORS) log))
-      → Lives seen (plain (nat_abs BEFORE_FLOORS) log) first []
+  -- a bank of an earlier version that was carried over, and stands at the plain log of what it showed
+  carried_over : (first : M) (from : ℕ) (log : List Command)
+      → ((seen first).honest → StandsAt (seen first) (plain from log))
+      → Lives seen (plain from log) first []
   -- the life before ended at this moment, with a release: it wasn't down
   released : (start : List Command) (before first : M) (life : Given) (lives : List Given)
       → Lives seen start before lives → Life seen before first life.commands life.least

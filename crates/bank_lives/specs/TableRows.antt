@@ -3,7 +3,7 @@ use Rattle.std.specs.Prelude.{[], ◌∷◌, map}
 use Rattle.posting_rules.specs.Tables.{Tables}
 use Rattle.store_rows.specs.Rules.{StoredRows}
 use Rattle.store_rows.specs.View.{meta_entry, branch_entry, teller_entry, account_entry, history_entry}
-use Rattle.store_rows.specs.View.{request_entry, floor_entry}
+use Rattle.store_rows.specs.View.{request_entry, floor_entry, reference_entry}
 use Rattle.store_rows.specs.declared.metas.TheConstants.{VERSION}
 
 -- the rows of each table
@@ -16,4 +16,5 @@ stored_rows t = record {
   history = map history_entry t.history;
   requests = map request_entry t.requests;
   floors = map floor_entry t.floors;
+  references = map reference_entry t.references;
 }

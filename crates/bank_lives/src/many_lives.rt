@@ -38,7 +38,7 @@ pub fn reopenings_law<S: Alter>(conn: &Connection<S>)
 /// **After any number of lives the bank shows a log that is, life by life, a beginning of what was given, which
 /// holds all that was acknowledged. Each request is posted once, every branch has the sum of its tellers, and
 /// accounts, tellers and the deltas of history have one sum** (TPC-B clause 2). A bank that was made begins with
-/// no command, and one that was carried over from the version before floors with the plain log of its file. Each
+/// no command, and one that was carried over from an earlier version with the plain log of its file. Each
 /// life is a run of calls, streams and reports, and ends with a release or with a stop at any store call; a
 /// reopening that was refused is a life that was given nothing.
 pub fn lives_law<S: Alter>(_bank: &Bank<S>)

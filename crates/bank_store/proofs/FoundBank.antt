@@ -12,7 +12,7 @@ use Rattle.posting_rules.specs.Damage.{IsUndamaged}
 use Rattle.posting_rules.specs.Tables.{Tables}
 use Rattle.posting_rules.specs.Tables.{AreTablesOf as Show}
 use Rattle.posting_rules.specs.declared.fault.Rule.TheVariants.{Meta, Teller, Account, Balance, Request}
-use Rattle.posting_rules.specs.declared.fault.Rule.TheVariants.{Value, Key, Floor}
+use Rattle.posting_rules.specs.declared.fault.Rule.TheVariants.{Value, Key, Floor, Reference}
 use Rattle.posting_rules.proofs.Undamaged.{undamaged}
 use Rattle.sql_meanings.proofs.Contents.{each_defined}
 use Rattle.sql_meanings.specs.Entries.{Entry, HasWidth}
@@ -143,6 +143,7 @@ module _ (old mid new : State) (stored : Option StoredMeta) (tables : IsPresent 
   looked (Err (Damaged Value)) checks = absurd checks
   looked (Err (Damaged Key)) checks = absurd checks
   looked (Err (Damaged Floor)) checks = absurd checks
+  looked (Err (Damaged Reference)) checks = absurd checks
 
 -- ---- the version comes first
 
@@ -182,6 +183,7 @@ module _ (old mid : State) (same : IsAsBefore old mid) where
   )
   misses_at (Damaged Key) misses = absurd misses
   misses_at (Damaged Floor) misses = absurd misses
+  misses_at (Damaged Reference) misses = absurd misses
 
   pub reads_at : (new : State) (fault : OpenFault) → IsReadOnly {X = Unit {0}} mid new (Err fault)
       → IsReadOnly {X = Unit {0}} old new (Err fault)
@@ -286,3 +288,4 @@ known old (Damaged Value) t log misses shows are log_shown =
     absurd (misses.1 (meta_entry VERSION t.decided ∷ []) (has_one old.now t shows))
 known old (Damaged Key) t log misses shows are log_shown = absurd misses
 known old (Damaged Floor) t log misses shows are log_shown = absurd misses
+known old (Damaged Reference) t log misses shows are log_shown = absurd misses

@@ -1,38 +1,41 @@
--- What is found of a bank of the version before floors, what is moved of it, and what is known where a log is shown.
-use Rattle.std.proofs.Common.{◌≡◌, ◌≤◌, ℕ, ℤ, pos, List, [], ◌∷◌, nat_abs, Option, Some, None, Ok, Err, Result}
-use Rattle.std.proofs.Common.{refl, sym, ap, subst, inl, inr}
+-- What is found of a bank of an earlier version, what is moved of it, and what is known where a log is shown.
+use Rattle.std.proofs.Common.{◌≡◌, ◌≤◌, ◌<◌, ◌+◌, ℕ, zero, suc, ℤ, pos, nat_abs, List, [], ◌∷◌, map, take, drop, slice_get}
+use Rattle.std.proofs.Common.{Option, Some, None, Ok, Err, Result, refl, sym, ap, subst, ◌∙◌, inl, inr, arith}
 use Rattle.std.specs.Prelude.{◌⊎◌, ◌≢◌, IfErr, OnOk}
+use Rattle.std.specs.List.{take-map}
 use Rattle.sqlite.specs.Table.{Table}
 use Rattle.sqlite.specs.Effect.{Database}
 use Rattle.sqlite.specs.State.{State}
 use Rattle.sqlite_rules.specs.Lists.{Has}
 use Rattle.posting_rules.specs.Commands.{Command, AreCommands}
-use Rattle.posting_rules.specs.Editions.{plain}
+use Rattle.posting_rules.specs.Editions.{AreTablesIn, plain}
 use Rattle.posting_rules.specs.Tables.{Tables, AreTablesOf}
 use Rattle.posting_rules.specs.declared.fault.Rule.TheVariants.{Meta, Teller, Account, Balance, Request}
-use Rattle.posting_rules.specs.declared.fault.Rule.TheVariants.{Value, Key, Floor}
+use Rattle.posting_rules.specs.declared.fault.Rule.TheVariants.{Value, Key, Floor, Reference}
 use Rattle.posting_rules.specs.declared.limits.TheConstants.{MAX_DECIDED}
 use Rattle.posting_rules.specs.declared.open_fault.OpenFault.{OpenFault}
 use Rattle.posting_rules.specs.declared.open_fault.OpenFault.TheVariants.{Store, NotBlank, Blank, Foreign, Version}
 use Rattle.posting_rules.specs.declared.open_fault.OpenFault.TheVariants.{Damaged}
-use Rattle.posting_rules.proofs.Editions.{carries_over, has_no_floors, plain_are_commands}
+use Rattle.posting_rules.proofs.Editions.{carries_over, has_no_floors, has_no_references, plain_are_commands}
 use Rattle.posting_rules.proofs.Undamaged.{undamaged}
 use Rattle.sql_meanings.proofs.Contents.{each_defined, held}
 use Rattle.sql_meanings.specs.Entries.{Entry}
 use Rattle.store_rows.specs.BankTables as bank
+use Rattle.store_rows.specs.BankTables.{bank_tables}
 use Rattle.store_rows.specs.Columns.{meta_in}
-use Rattle.store_rows.specs.Migration.{ShowsFloorless, TakesFloors}
-use Rattle.store_rows.specs.Probes.{probe_of}
-use Rattle.store_rows.specs.View.{HoldsRows, Shows, contents_of, meta_entry, tables_of}
+use Rattle.store_rows.specs.Creation.{no_rows}
+use Rattle.store_rows.specs.Migration.{IsEarlier, ShowsLess, TakesLacking, lacking}
+use Rattle.store_rows.specs.Probes.{all_tables, probe_of}
+use Rattle.store_rows.specs.View.{HoldsRows, Shows, contents_of, meta_entry, rows_of, tables_of}
 use Rattle.store_rows.specs.declared.metas.StoredMeta.{StoredMeta}
-use Rattle.store_rows.specs.declared.migration.TheConstants.{BEFORE_FLOORS}
+use Rattle.store_rows.specs.declared.metas.TheConstants.{VERSION}
 use Rattle.store_rows.specs.declared.probes.BankTable.TheVariants as table
-use Rattle.store_rows.proofs.Floorless.{floors_refused}
+use Rattle.store_rows.proofs.Lacking.{lacking_refused}
 use Rattle.bank_store.specs.Connections.{IsAsBefore, IsReadOnly}
 use Rattle.bank_store.specs.FoundBank.{BankIsFound, MetaIs, Misses}
 use Rattle.bank_store.specs.MetaRow.{ChecksCount, IsNoCount, IsOfVersion, IsOurs}
-use Rattle.bank_store.specs.Migration.{BankIsMoved, HasEarlier, IsCounted, IsEarlier, IsUnmoved, Migrates, Misplaces}
-use Rattle.bank_store.specs.Migration.{MissesEarlier}
+use Rattle.bank_store.specs.Migration.{BankIsMoved, HasEarlier, IsCounted, IsFrom, IsOfEarlier, IsUnmoved, Migrates}
+use Rattle.bank_store.specs.Migration.{Misplaces, MissesEarlier, TellsNoEarlier}
 use Rattle.bank_store.specs.Migration.{IsUncounted, MovesFound, SeeksEarlier, ShowsEarlier, earlier_probes}
 use Rattle.bank_store.specs.declared.migration.Migrated.TheVariants.{Moved}
 use Rattle.bank_store.specs.OpenFaults.{of_the_store}
@@ -44,15 +47,27 @@ use Rattle.bank_store.proofs.Probed.{as_before}
 
 -- ---- a bank of that version is looked for
 
-pub some_lacking : (db : Database) (p : Presence) → (p ≡ Whole → ⊥) → IsPresent db earlier_probes p
-    → OneOf earlier_probes (Lacks db)
-some_lacking db Absent not_so here = (probe_of table.Meta, inl refl, here.0)
-some_lacking db Partial not_so here = here.1
-some_lacking db Whole not_so here = absurd (not_so refl)
+-- `meta` comes first
+one_and : (from : ℕ) → suc (4 + from) ≡ 5 + from
+one_and from = omega arith
+
+pub meta_first : (from : ℕ) → map probe_of (table.Meta ∷ take (4 + from) (drop 1 all_tables)) ≡ earlier_probes from
+meta_first from = ap (λ n. map probe_of (take n all_tables)) (one_and from)
+
+pub meta_there : (from : ℕ) → slice_get (tables_of from) 0 ≡ Some bank.meta
+meta_there from = ap (λ n. slice_get (take n bank_tables) 0) (sym (one_and from))
+
+pub some_lacking : (from : ℕ) (db : Database) (p : Presence) → (p ≡ Whole → ⊥)
+    → IsPresent db (earlier_probes from) p → OneOf (earlier_probes from) (Lacks db)
+some_lacking from db Absent not_so here =
+    subst (λ probes. OneOf probes (Lacks db)) (meta_first from)
+    (probe_of table.Meta, inl refl, (subst (λ probes. IsPresent db probes Absent) (sym (meta_first from)) here).0)
+some_lacking from db Partial not_so here = here.1
+some_lacking from db Whole not_so here = absurd (not_so refl)
 
 -- what was read of the row, and what was said against its count
-module _ (old mid new : State) (tables : IsPresent old.now earlier_probes Whole) (first : IsAsBefore old mid)
-    (then : IsAsBefore mid new) where
+module _ (from : ℕ) (old mid new : State) (tables : IsPresent old.now (earlier_probes from) Whole)
+    (first : IsAsBefore old mid) (then : IsAsBefore mid new) where
   row_is : (stored : Option StoredMeta)
       → ((rows : List Entry) → HoldsRows mid.now bank.meta rows → stored ≡ meta_in rows)
       → (P : Option StoredMeta → Type 0) → P stored → MetaIs old P
@@ -60,101 +75,136 @@ module _ (old mid new : State) (tables : IsPresent old.now earlier_probes Whole)
       subst P (read rows (subst (λ (db : Database). HoldsRows db bank.meta rows) (sym first.now_is) has)) holds
 
   pub no_row : ((rows : List Entry) → HoldsRows mid.now bank.meta rows → None ≡ meta_in rows)
-      → SeeksEarlier old new (Err (Damaged Meta))
+      → SeeksEarlier from old new (Err (Damaged Meta))
   no_row read = ((tables, row_is None read IsUncounted (inl refl)), as_before old mid new first then)
 
   pub counted : (m : StoredMeta)
       → ((rows : List Entry) → HoldsRows mid.now bank.meta rows → Some m ≡ meta_in rows)
-      → (r : Result (Unit {0}) OpenFault) → ChecksCount m.decided r → SeeksEarlier old new r
+      → (r : Result (Unit {0}) OpenFault) → ChecksCount m.decided r → SeeksEarlier from old new r
   counted m read (Ok done) checks = (
     record { tables = tables; meta = row_is (Some m) read IsCounted (m, refl, checks) },
     as_before old mid new first then,
   )
   counted m read (Err fault) (is, outside) =
-      subst (λ (f : OpenFault). SeeksEarlier old new (Err f)) (sym is)
+      subst (λ (f : OpenFault). SeeksEarlier from old new (Err f)) (sym is)
       ((tables, row_is (Some m) read IsUncounted (inr (m, refl, outside))), as_before old mid new first then)
 
 -- ---- and moved
 
 -- what is found is moved, or why not
-pub found_moves : (old mid new : State) → HasEarlier old.now → IsAsBefore old mid
-    → (r : Result (Unit {0}) OpenFault) → OnOk r (BankIsMoved mid.now new) → IfErr r (IsUnmoved mid.now)
-    → IfErr r (λ fault. IsReadOnly {X = Unit {0}} mid new (Err fault)) → MovesFound old new r
-found_moves old mid new tables same (Ok done) moved why reads =
-    (tables, subst (λ (db : Database). BankIsMoved db new) same.now_is moved)
-found_moves old mid new tables same (Err fault) moved why reads = (
-  inr (subst (λ (db : Database). IsUnmoved db fault) same.now_is why),
+pub found_moves : (from : ℕ) (old mid new : State) → HasEarlier from old.now → IsAsBefore old mid
+    → (r : Result (Unit {0}) OpenFault) → OnOk r (BankIsMoved from mid.now new) → IfErr r (IsUnmoved from mid.now)
+    → IfErr r (λ fault. IsReadOnly {X = Unit {0}} mid new (Err fault)) → MovesFound from old new r
+found_moves from old mid new tables same (Ok done) moved why reads =
+    (tables, subst (λ (db : Database). BankIsMoved from db new) same.now_is moved)
+found_moves from old mid new tables same (Err fault) moved why reads = (
+  inr (subst (λ (db : Database). IsUnmoved from db fault) same.now_is why),
   reads_at old mid same new fault reads,
 )
 
+-- a version is told of one earlier version
+pub one_version : (told : ℤ) (from other : ℕ) → IsFrom told from → IsFrom told other → from ≡ other
+one_version told from other one two = ap nat_abs (sym one.0 ∙ two.0)
+
 -- its version was looked at first
-module _ (old mid new : State) (version : ℤ) (one : version ≡ BEFORE_FLOORS)
+module _ (from : ℕ) (old mid new : State) (version : ℤ) (is : IsFrom version from)
     (found : Misses old (Version version) × IsAsBefore old mid) where
-  pub was_earlier : IsEarlier old
-  was_earlier = subst (λ (n : ℤ). Misses old (Version n)) one found.0
+  pub was_earlier : IsOfEarlier from old
+  was_earlier = (is.1, subst (λ (n : ℤ). Misses old (Version n)) is.0 found.0)
 
-  pub moved_at : MovesFound mid new (Ok tt) → Migrates old new (Ok (Moved BEFORE_FLOORS))
-  moved_at h = (
-    was_earlier,
-    subst HasEarlier found.1.now_is h.0,
-    subst (λ (db : Database). BankIsMoved db new) found.1.now_is h.1,
-  )
+  pub moved_at : MovesFound from mid new (Ok tt) → Migrates old new (Ok (Moved version))
+  moved_at h other told =
+      subst (λ n. IsOfEarlier n old × HasEarlier n old.now × BankIsMoved n old.now new)
+      (one_version version from other is told) (
+        was_earlier,
+        subst (HasEarlier from) found.1.now_is h.0,
+        subst (λ (db : Database). BankIsMoved from db new) found.1.now_is h.1,
+      )
 
-  pub unmoved_at : (fault : OpenFault) → MovesFound mid new (Err fault) → Migrates old new (Err fault)
+  pub unmoved_at : (fault : OpenFault) → MovesFound from mid new (Err fault) → Migrates old new (Err fault)
   unmoved_at fault h = (
     inr (
+      from,
       was_earlier,
-      subst (λ (db : Database). MissesEarlier db fault ⊎ IsUnmoved db fault) found.1.now_is h.0,
+      subst (λ (db : Database). MissesEarlier from db fault ⊎ IsUnmoved from db fault) found.1.now_is h.0,
     ),
     reads_at old mid found.1 new fault h.1,
   )
 
 -- ---- where a log is shown
 
-module _ (db : Database) (log : List Command) (it : ShowsEarlier db log) where
-  -- its tables are those of the plain log
-  pub plainly : AreTablesOf it.tables (plain (nat_abs BEFORE_FLOORS) log)
-  plainly = (carries_over (nat_abs BEFORE_FLOORS) it.tables log).0 it.shows
+-- the tables that its version lacks would have no rows
+none_behind : (from : ℕ) → IsEarlier from → (t : Tables) (log : List Command) → AreTablesIn from t log
+    → drop (4 + from) (rows_of t) ≡ no_rows (lacking from)
+none_behind zero earlier t log shows = absurd (omega (arith, earlier.0))
+none_behind (suc zero) earlier t log shows =
+    rw (has_no_floors t log shows, has_no_references 1 t log earlier.0 (omega (arith, earlier.1)) shows) refl
+none_behind (suc (suc zero)) earlier t log shows =
+    rw (has_no_references 2 t log earlier.0 (omega (arith, earlier.1)) shows) refl
+none_behind (suc (suc (suc n))) earlier t log shows = absurd (omega (arith, earlier.1))
 
-  pub floorless : ShowsFloorless db it.tables
-  floorless = record { shows = it.are; none = has_no_floors it.tables log it.shows }
+module _ (from : ℕ) (db : Database) (log : List Command) (it : ShowsEarlier from db log) where
+  -- its tables are those of the plain log
+  pub plainly : AreTablesOf it.tables (plain from log)
+  plainly = (carries_over from it.tables log).0 it.shows
+
+  pub shows_less : ShowsLess from db it.tables
+  shows_less = record { shows = it.are; none = none_behind from it.earlier it.tables log it.shows }
 
   abbrev pub rows : List Entry
-  rows = meta_entry BEFORE_FLOORS it.tables.decided ∷ []
+  rows = meta_entry (pos from) it.tables.decided ∷ []
 
   has_row : HoldsRows db bank.meta rows
   has_row = record {
     sound = it.are.sound;
-    holds = held db (tables_of 1) (contents_of 1 it.tables) it.are.each 0 bank.meta rows refl refl;
+    holds = held db (tables_of from) (contents_of from it.tables) it.are.each 0 bank.meta rows (meta_there from) refl;
   }
 
-  lacks_none : (probe : List ℕ × Table) → Has earlier_probes probe → Lacks db probe → ⊥
-  lacks_none probe has lacks =
-      lacks.1 it.are.sound (each_defined db (tables_of 1) (contents_of 1 it.tables) it.are.each probe.1
-      (has_its_table earlier_probes probe has))
+  all_defined : map (λ probe. probe.1) (earlier_probes from) ≡ tables_of from
+  all_defined =
+      ap (map (λ probe. probe.1)) (sym (take-map probe_of (5 + from) all_tables))
+      ∙ sym (take-map (λ (probe : List ℕ × Table). probe.1) (5 + from) (map probe_of all_tables))
 
-module _ (old : State) (log : List Command) (it : ShowsEarlier old.now log) where
+  lacks_none : (probe : List ℕ × Table) → Has (earlier_probes from) probe → Lacks db probe → ⊥
+  lacks_none probe has lacks =
+      lacks.1 it.are.sound (each_defined db (tables_of from) (contents_of from it.tables) it.are.each probe.1
+      (subst (λ tables. Has tables probe.1) all_defined (has_its_table (earlier_probes from) probe has)))
+
+  lacks_meta : Lacks db (probe_of table.Meta) → ⊥
+  lacks_meta =
+      lacks_none (probe_of table.Meta)
+      (subst (λ probes. Has probes (probe_of table.Meta)) (meta_first from) (inl refl))
+
+module _ (from : ℕ) (old : State) (log : List Command) (it : ShowsEarlier from old.now log) where
   abbrev row : List Entry
-  row = rows old.now log it
+  row = rows from old.now log it
 
   one_row : (P : Option StoredMeta → Type 0) → MetaIs old P → P (meta_in row)
-  one_row P h = h row (has_row old.now log it)
+  one_row P h = h row (has_row from old.now log it)
 
-  is_one : IsOfVersion BEFORE_FLOORS (meta_in row)
-  is_one = (pos it.tables.decided, refl, λ same. absurd (cc))
+  is_one : IsOfVersion (pos from) (meta_in row)
+  is_one = (
+    pos it.tables.decided,
+    refl,
+    λ same. absurd (let is : from ≡ nat_abs VERSION = ap nat_abs same in omega (arith, it.earlier.1)),
+  )
+
+  -- its version is the one that is found
+  pub same_version : (other : ℕ) → IsOfEarlier other old → other ≡ from
+  same_version other was =
+      sym (ap nat_abs (ap version_in (one_row (IsOfVersion (pos other)) was.1.1).1))
 
   pub not_found : (new : State) → BankIsFound old new → ⊥
   not_found new found = is_one.2 (ap version_in (one_row IsOurs found.meta).1)
 
   -- as one of this version it is missed for its version
-  missed_as : (fault : OpenFault) → Misses old fault → fault ≢ Version BEFORE_FLOORS → fault ≡ Store
+  missed_as : (fault : OpenFault) → Misses old fault → TellsNoEarlier fault → fault ≡ Store
   missed_as Store misses other = refl
   missed_as NotBlank misses other = absurd misses
-  missed_as Blank misses other =
-      absurd (lacks_none old.now log it (probe_of table.Meta) (inl refl) misses.0)
-  missed_as Foreign misses other = absurd (misses.1 BEFORE_FLOORS row (has_row old.now log it) is_one)
+  missed_as Blank misses other = absurd (lacks_meta from old.now log it misses.0)
+  missed_as Foreign misses other = absurd (misses.1 (pos from) row (has_row from old.now log it) is_one)
   missed_as (Version n) misses other =
-      absurd (other (ap Version (sym (ap version_in (one_row (IsOfVersion n) misses.1).1))))
+      absurd (other from it.earlier (ap Version (sym (ap version_in (one_row (IsOfVersion n) misses.1).1))))
   missed_as (Damaged Meta) misses other = elim (one_row IsNoCount misses.1) [
     | inl none ↦ absurd (cc)
     | inr outside ↦ absurd (is_one.2 (ap version_in outside.1))
@@ -166,16 +216,17 @@ module _ (old : State) (log : List Command) (it : ShowsEarlier old.now log) wher
   missed_as (Damaged Value) misses other = absurd (one_row (λ _. ⊥) misses.1)
   missed_as (Damaged Key) misses other = absurd misses
   missed_as (Damaged Floor) misses other = absurd misses
+  missed_as (Damaged Reference) misses other = absurd misses
 
   within : it.tables.decided ≤ MAX_DECIDED
-  within = (undamaged it.tables (plain (nat_abs BEFORE_FLOORS) log)
-      (plain_are_commands (nat_abs BEFORE_FLOORS) log it.commands) (plainly old.now log it)).decided
+  within = (undamaged it.tables (plain from log) (plain_are_commands from log it.commands)
+      (plainly from old.now log it)).decided
 
-  not_missed : (fault : OpenFault) → MissesEarlier old.now fault → fault ≡ Store
+  not_missed : (fault : OpenFault) → MissesEarlier from old.now fault → fault ≡ Store
   not_missed Store misses = refl
   not_missed NotBlank misses = absurd misses
   not_missed Blank misses = absurd misses
-  not_missed Foreign misses = absurd (lacks_none old.now log it misses.0 misses.1 misses.2)
+  not_missed Foreign misses = absurd (lacks_none from old.now log it misses.0 misses.1 misses.2)
   not_missed (Version n) misses = absurd misses
   not_missed (Damaged Meta) misses = elim (one_row IsUncounted misses.1) [
     | inl none ↦ absurd (cc)
@@ -189,14 +240,14 @@ module _ (old : State) (log : List Command) (it : ShowsEarlier old.now log) wher
   not_missed (Damaged Value) misses = absurd (one_row (λ _. ⊥) misses.1)
   not_missed (Damaged Key) misses = absurd misses
   not_missed (Damaged Floor) misses = absurd misses
+  not_missed (Damaged Reference) misses = absurd misses
 
-  -- and its tables can be changed where the name is free
-  not_unmoved : TakesFloors old.now.schema → (fault : OpenFault) → IsUnmoved old.now fault → fault ≡ Store
+  not_unmoved : TakesLacking from old.now.schema → (fault : OpenFault) → IsUnmoved from old.now fault → fault ≡ Store
   not_unmoved takes Store why = refl
   not_unmoved takes NotBlank why = absurd why
   not_unmoved takes Blank why = absurd why
   not_unmoved takes Foreign why =
-      absurd (let own = ap of_the_store (floors_refused old.now.schema takes why.0 why.2) in
+      absurd (let own = ap of_the_store (lacking_refused from it.earlier old.now.schema takes why.0 why.2) in
       let other = why.1 in cc)
   not_unmoved takes (Version n) why = absurd why
   not_unmoved takes (Damaged Meta) why = absurd (let none = one_row (λ stored. stored ≡ None) why in cc)
@@ -207,18 +258,23 @@ module _ (old : State) (log : List Command) (it : ShowsEarlier old.now log) wher
   not_unmoved takes (Damaged Value) why = absurd why
   not_unmoved takes (Damaged Key) why = absurd why
   not_unmoved takes (Damaged Floor) why = absurd why
+  not_unmoved takes (Damaged Reference) why = absurd why
 
-  pub not_misplaced : TakesFloors old.now.schema → (fault : OpenFault) → Misplaces old fault → fault ≡ Store
+  pub not_misplaced : TakesLacking from old.now.schema → (fault : OpenFault) → Misplaces old fault → fault ≡ Store
   not_misplaced takes fault (inl misses) = missed_as fault misses.0 misses.1
-  not_misplaced takes fault (inr (was, inl misses)) = not_missed fault misses
-  not_misplaced takes fault (inr (was, inr why)) = not_unmoved takes fault why
+  not_misplaced takes fault (inr (other, was, why)) =
+      let here = subst (λ n. MissesEarlier n old.now fault ⊎ IsUnmoved n old.now fault) (same_version other was) why in
+      elim here [
+        | inl misses ↦ not_missed fault misses
+        | inr unmoved ↦ not_unmoved takes fault unmoved
+      ]
 
--- a bank of this version is none of that
+-- a bank of this version is none of an earlier one
 module _ (old : State) (t : Tables) (log : List Command) (shows : Shows old.now t) (are : AreCommands log)
     (log_shown : AreTablesOf t log) where
-  pub not_earlier : IsEarlier old → ⊥
-  not_earlier was = let is = known old (Version BEFORE_FLOORS) t log was shows are log_shown in absurd (cc)
+  pub not_earlier : (from : ℕ) → IsOfEarlier from old → ⊥
+  not_earlier from was = let is = known old (Version (pos from)) t log was.1 shows are log_shown in absurd (cc)
 
   pub ours_misplaced : (fault : OpenFault) → Misplaces old fault → fault ≡ Store
   ours_misplaced fault (inl misses) = known old fault t log misses.0 shows are log_shown
-  ours_misplaced fault (inr (was, why)) = absurd (not_earlier was)
+  ours_misplaced fault (inr (from, was, why)) = absurd (not_earlier from was)

@@ -1,5 +1,5 @@
 -- What the changed tables show, why they aren't changed, and what a transaction leaves that changes them.
-use Rattle.std.proofs.Common.{◌≡◌, [], ◌∷◌, true, false, None, Some, Option, is_some, Ok, Err, refl, ap, ◌∙◌}
+use Rattle.std.proofs.Common.{◌≡◌, ℕ, pos, [], ◌∷◌, true, false, None, Some, Option, is_some, Ok, Err, refl, ap, ◌∙◌}
 use Rattle.std.proofs.Common.{subst, inl, inr, arith}
 use Rattle.std.specs.Prelude.{IsTrue}
 use Rattle.std.proofs.lemmas.Bool.{cases_Bool}
@@ -18,44 +18,55 @@ use Rattle.posting_rules.specs.declared.fault.Rule.TheVariants.{Meta}
 use Rattle.sql_meanings.proofs.Contents.{held}
 use Rattle.store_rows.specs.BankTables.{meta}
 use Rattle.store_rows.specs.Columns.{meta_in}
-use Rattle.store_rows.specs.Failures.{HasFailed}
-use Rattle.store_rows.specs.Migration.{FloorsAreMade, MakesFloors, SetsVersion}
+use Rattle.store_rows.specs.Failures.{HasFailedAtLast}
+use Rattle.store_rows.specs.Migration.{LackingAreMade, MakesLacking, SetsVersion}
 use Rattle.store_rows.specs.View.{Shows, ShowsTrees, contents_of, meta_entry, tables_of}
 use Rattle.store_rows.specs.declared.metas.StoredMeta.{StoredMeta}
 use Rattle.store_rows.specs.declared.metas.TheConstants.{VERSION}
-use Rattle.store_rows.specs.declared.migration.TheConstants.{BEFORE_FLOORS}
-use Rattle.bank_transactions.proofs.Blamed.{failed_here}
+use Rattle.bank_transactions.proofs.Blamed.{comes, same_moment}
 use Rattle.bank_store.specs.Migration.{ChangesTables, HasMoved, IsUnmoved}
 use Rattle.bank_store.specs.OpenFaults.{of_the_store, unmoved_by}
 use Rattle.bank_store.specs.StoreFaults.{KnowsCause}
+use Rattle.bank_store.proofs.FoundEarlier.{meta_there}
 use Rattle.bank_store.proofs.Unmade.{own_error}
 
--- ---- the table of floors isn't made
+-- ---- a table isn't made
 
-pub refused_unmoved : (old new : State) (e : Error) → MakesFloors old new (Err e) → IsUnmoved old.now (unmoved_by e)
-refused_unmoved old new e why = elim (cases_Bool (of_the_store e)) [
+pub refused_unmoved : (from : ℕ) (old new : State) (e : Error) → MakesLacking from old new (Err e)
+    → IsUnmoved from old.now (unmoved_by e)
+refused_unmoved from old new e why = elim (cases_Bool (of_the_store e)) [
   | inl own ↦ rw own tt
   | inr other ↦ elim why [
     | inl fails ↦ absurd (let own : of_the_store e ≡ true = ap of_the_store fails.1 ∙ own_error fails.0 in cc)
-    | inr refused ↦ rw other (e, other, refused.0)
+    | inr refused ↦ rw other (e, other, (new.now.schema, refused.0))
   ]
 ]
 
 pub unmoved_known : {S : Type 0} (g : Ghosts S) (old new : Held S) (e : Error)
-    → (HasCleanDisk (state g new) → HasFailed (state g old) (state g new) e) → KnowsCause g old new (unmoved_by e)
+    → (HasCleanDisk (state g new) → HasFailedAtLast g old new e) → KnowsCause g old new (unmoved_by e)
 unmoved_known g old new e why = elim (cases_Bool (of_the_store e)) [
-  | inl own ↦ rw own (λ clean. (e, failed_here g old new e (why clean)))
+  | inl own ↦ rw own (λ clean.
+      let last = why clean in (
+        e,
+        record {
+          at = last.at;
+          then = new;
+          before = comes last.before;
+          failed = last.failed;
+          after = same_moment (state g new);
+        },
+      ))
   | inr other ↦ rw other tt
 ]
 
 -- ---- the version is written
 
-module _ (old mid new : State) (made : FloorsAreMade old.now mid.now) where
-  pub moved : SetsVersion VERSION mid new (Ok true) → ChangesTables old.now new.now (Ok tt)
+module _ (from : ℕ) (old mid new : State) (made : LackingAreMade from old.now mid.now) where
+  pub moved : SetsVersion VERSION mid new (Ok true) → ChangesTables from old.now new.now (Ok tt)
   moved set t was =
-      let done = set.1 BEFORE_FLOORS t (made.tables t was) in
-      let holds = held old.now (tables_of 1) (contents_of 1 t) was.shows.each 0 meta
-      (meta_entry BEFORE_FLOORS t.decided ∷ []) refl refl in
+      let done = set.1 (pos from) t (made.tables t was) in
+      let holds = held old.now (tables_of from) (contents_of from t) was.shows.each 0 meta
+      (meta_entry (pos from) t.decided ∷ []) (meta_there from) refl in
       let place = made.places meta _ refl holds in (
         record { sound = done.0.sound; each = done.0.each },
         λ u stands apart.
@@ -67,9 +78,9 @@ module _ (old mid new : State) (made : FloorsAreMade old.now mid.now) where
   none_there None h = refl
   none_there (Some x) h = absurd (cc)
 
-  pub not_there : SetsVersion VERSION mid new (Ok false) → IsUnmoved old.now (Damaged Meta)
+  pub not_there : SetsVersion VERSION mid new (Ok false) → IsUnmoved from old.now (Damaged Meta)
   not_there set rows has = none_there (meta_in rows)
-      (set.0 rows (record { sound = made.sound; holds = made.holds meta rows refl has.holds }))
+      (set.0 rows (record { sound = made.empty.sound; holds = made.holds meta rows refl has.holds }))
 
 -- ---- what is kept
 
@@ -93,7 +104,7 @@ abbrev pub MayLeave : Database → Trees → Type 0
 MayLeave last left = (t : Tables) → Shows last t → ShowsTrees left t
 
 -- the connection, the transaction as it begins and after the changes, the connection after it
-module _ {S : Type 0} (g : Ghosts S) (old begun last new : Held S)
+module _ {S : Type 0} (from : ℕ) (g : Ghosts S) (old begun last new : Held S)
     (is : begun ≡ record old { in_transaction = true }) where
   pub live : IsTrue (state g begun).in_transaction
   live = ap (λ (h : Held S). h.in_transaction) is
@@ -104,14 +115,14 @@ module _ {S : Type 0} (g : Ghosts S) (old begun last new : Held S)
   -- a stop leaves what it could leave before, or the moved bank
   pub stops : Survives (state g begun) (state g last) (λ _. ⊥)
       → Survives (state g last) (state g new) (MayLeave (state g last).now)
-      → (HasCleanDisk (state g last) → ChangesTables (state g begun).now (state g last).now (Ok tt))
-      → Survives (state g old) (state g new) (HasMoved (state g old).now)
+      → (HasCleanDisk (state g last) → ChangesTables from (state g begun).now (state g last).now (Ok tt))
+      → Survives (state g old) (state g new) (HasMoved from (state g old).now)
   stops first then changed =
-      survives_begin g old (state g new) (HasMoved (state g old).now)
-      (subst (λ (h : Held S). Survives (state g h) (state g new) (HasMoved (state g old).now)) is
+      survives_begin g old (state g new) (HasMoved from (state g old).now)
+      (subst (λ (h : Held S). Survives (state g h) (state g new) (HasMoved from (state g old).now)) is
       (survives_then (state g begun) (state g last) (state g new) (λ _. ⊥) (MayLeave (state g last).now)
-      (HasMoved (state g old).now) (λ clean left none. absurd none)
+      (HasMoved from (state g old).now) (λ clean left none. absurd none)
       (λ clean left made t was.
-      made t (from_begun (λ (db : Database). ChangesTables db (state g last).now (Ok tt))
+      made t (from_begun (λ (db : Database). ChangesTables from db (state g last).now (Ok tt))
       (changed (omega (arith, then.clean))) t was).0)
       first then))

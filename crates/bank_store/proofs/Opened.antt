@@ -1,5 +1,5 @@
 -- A connection that was just opened.
-use Rattle.std.proofs.Common.{◌≡◌, ◌∙◌, List, sym, ap, subst}
+use Rattle.std.proofs.Common.{◌≡◌, ◌∙◌, ℕ, List, sym, ap, subst}
 use Rattle.sqlite.specs.Effect.{Database, IsDatabase}
 use Rattle.sqlite.specs.Schema.{Schema}
 use Rattle.sqlite.specs.State.{State, Opens}
@@ -25,13 +25,13 @@ stands_opened s D up opens settled t log are left shown shows = record {
       (t, subst (λ (trees : Trees). ShowsTrees trees t) (sym same) left, shows);
 }
 
--- the same of a file of the version before floors
-pub stands_earlier : (s : State) → Opens s → ((db : Trees) → s.may_leave db → db ≡ s.committed.trees)
-    → IsDatabase s.now → (log : List Command) → ShowsEarlierTrees s.now.trees log → StandsEarlier s log
-stands_earlier s opens settled sound log left = record {
-  shows = subst (λ (schema : Schema). ShowsEarlier (record { schema = schema; trees = s.now.trees }) log)
+-- the same of a file of an earlier version
+pub stands_earlier : (from : ℕ) (s : State) → Opens s → ((db : Trees) → s.may_leave db → db ≡ s.committed.trees)
+    → IsDatabase s.now → (log : List Command) → ShowsEarlierTrees from s.now.trees log → StandsEarlier from s log
+stands_earlier from s opens settled sound log left = record {
+  shows = subst (λ (schema : Schema). ShowsEarlier from (record { schema = schema; trees = s.now.trees }) log)
       (same_schema s.now left.0 ∣ sound ∣₁ left.1.are.sound) left.1;
   survives = λ db may.
       let same = settled db may ∙ ap (λ (it : Database). it.trees) (sym opens.clean) in
-      subst (λ (trees : Trees). ShowsEarlierTrees trees log) (sym same) left;
+      subst (λ (trees : Trees). ShowsEarlierTrees from trees log) (sym same) left;
 }

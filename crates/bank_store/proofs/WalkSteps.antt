@@ -3,6 +3,7 @@ use Rattle.std.proofs.Common.{◌≡◌, ◌≤◌, ◌≤ℤ◌, ◌+ℤ◌, �
 use Rattle.std.proofs.Common.{map, drop, length, slice_get, Some, None, Option, Result, Ok, Err, refl, sym, ap, ◌∙◌, arith}
 use Rattle.posting_rules.specs.declared.fault.Fault.{Fault}
 use Rattle.posting_rules.specs.declared.fault.Fault.TheVariants as fault
+use Rattle.posting_rules.specs.declared.fault.Rule.{Rule}
 use Rattle.sqlite.specs.declared.error.Error.{Error}
 use Rattle.store_rows.specs.declared.fault.TableFault.{TableFault}
 use Rattle.store_rows.specs.declared.fault.TableFault.TheVariants.{Sqlite, Damaged}
@@ -16,14 +17,14 @@ use Rattle.bank_store.specs.declared.walks.Stage.{Stage}
 use Rattle.bank_store.specs.declared.walks.Stage.TheVariants.{Going, Ended, Failed}
 
 -- what is told of a fault is the walk's fault
-pub told_of : {X : Type 0} (Because : Error → Type 0) (Breaks : X → Type 0) (items : List X) (f : TableFault)
+pub told_of : {X : Type 0} (Because : Error → Type 0) (Breaks : Rule → X → Type 0) (items : List X) (f : TableFault)
     (fault : Fault) → TellsFault f fault
     → BreaksFirst Because Breaks items f → IsToldFault Because Breaks items fault
 told_of Because Breaks items (Sqlite e) fault tells broke = rw tells (e, broke)
 told_of Because Breaks items (Damaged broken) fault tells broke = rw tells broke
 
 -- the fault that is told is a step's
-pub faulty_step : {R X : Type 0} (item : R → X) (Because : Error → Type 0) (Breaks : X → Type 0)
+pub faulty_step : {R X : Type 0} (item : R → X) (Because : Error → Type 0) (Breaks : Rule → X → Type 0)
     (old new : List X) (f : Fault) → IsToldFault Because Breaks old f → Steps item Breaks old new (Err f)
 faulty_step item Because Breaks old new (fault.Damaged broken) is = is
 faulty_step item Because Breaks old new fault.Store is = tt
@@ -31,7 +32,7 @@ faulty_step item Because Breaks old new fault.Down is = absurd is
 faulty_step item Because Breaks old new fault.Memory is = is
 
 -- where the store is told of, it failed
-pub store_told : {X : Type 0} (Because : Error → Type 0) (Breaks : X → Type 0) (items : List X) (f : Fault)
+pub store_told : {X : Type 0} (Because : Error → Type 0) (Breaks : Rule → X → Type 0) (items : List X) (f : Fault)
     → IsToldFault Because Breaks items f → f ≡ fault.Store → (e : Error) × Because e
 store_told Because Breaks items f is same = subst (IsToldFault Because Breaks items) same is
 

@@ -1,5 +1,5 @@
--- A bank of the version before floors is carried over to this version, or why none is.
-use Rattle.std.specs.Prelude.{◌≡◌, ◌≢◌, ◌⊎◌, ℕ, nat_abs, List, [], ◌∷◌, map, false, Option, Some, None}
+-- A bank of an earlier version is carried over to this version, or why none is.
+use Rattle.std.specs.Prelude.{◌≡◌, ◌≢◌, ◌⊎◌, ◌+◌, ℕ, ℤ, pos, List, map, take, false, Option, Some, None}
 use Rattle.std.specs.Prelude.{Result, Ok, Err, IfOk, IfErr, OnErr, OnOk, ⊤}
 use Rattle.sqlite.specs.Effect.{Database}
 use Rattle.sqlite.specs.Held.{Held, state}
@@ -18,13 +18,11 @@ use Rattle.posting_rules.specs.declared.open_fault.OpenFault.{OpenFault}
 use Rattle.posting_rules.specs.declared.open_fault.OpenFault.TheVariants.{Store, Foreign, Version, Damaged}
 use Rattle.sql_meanings.specs.Making.{SparesStanding}
 use Rattle.store_rows.specs.BankTables.{meta}
-use Rattle.store_rows.specs.Migration.{RefusesFloors, ShowsFloorless, TakesFloors}
-use Rattle.store_rows.specs.Probes.{probe_of}
+use Rattle.store_rows.specs.Migration.{IsEarlier, RefusesLacking, ShowsLess, TakesLacking}
+use Rattle.store_rows.specs.Probes.{all_tables, probe_of}
 use Rattle.store_rows.specs.Statements.{HasOtherValue}
 use Rattle.store_rows.specs.View.{Shows, ShowsAs, ShowsTrees}
 use Rattle.store_rows.specs.declared.metas.StoredMeta.{StoredMeta}
-use Rattle.store_rows.specs.declared.migration.TheConstants.{BEFORE_FLOORS}
-use Rattle.store_rows.specs.declared.probes.BankTable.TheVariants as table
 use Rattle.bank_store.specs.Connections.{conn_seen, IsAsBefore, IsReadOnly, IsUndoneIfOpen}
 use Rattle.bank_store.specs.FoundBank.{BankIsFound, IsTakenUp, Misses, RowIs}
 use Rattle.bank_store.specs.MetaRow.{IsOutside, IsWithin}
@@ -38,32 +36,33 @@ use Rattle.bank_store.specs.declared.migration.Migrated.TheVariants.{Moved, Alre
 use Rattle.bank_store.specs.declared.presence.Presence.TheVariants.{Whole}
 use Rattle.bank_store.specs.declared.refused.Refused.{Refused}
 
--- ---- a file of the version before floors
+-- ---- a file of an earlier version
 
 -- it shows the log, as that version did
-pub record ShowsEarlier (db : Database) (log : List Command) : Type 0 where
+pub record ShowsEarlier (from : ℕ) (db : Database) (log : List Command) : Type 0 where
+  pub earlier : IsEarlier from
   pub commands : AreCommands log
   pub tables : Tables
-  pub are : ShowsAs (nat_abs BEFORE_FLOORS) db tables
-  pub shows : AreTablesIn (nat_abs BEFORE_FLOORS) tables log
+  pub are : ShowsAs from db tables
+  pub shows : AreTablesIn from tables log
 
 -- the same of bare trees
-abbrev pub ShowsEarlierTrees : Trees → List Command → Type 0
-ShowsEarlierTrees trees log = (schema : Schema) × ShowsEarlier (record { schema = schema; trees = trees }) log
+abbrev pub ShowsEarlierTrees : ℕ → Trees → List Command → Type 0
+ShowsEarlierTrees from trees log =
+    (schema : Schema) × ShowsEarlier from (record { schema = schema; trees = trees }) log
 
 -- and so does everything that a stop may leave
-pub record StandsEarlier (s : State) (log : List Command) : Type 0 where
-  pub shows : ShowsEarlier s.now log
-  pub survives : (left : Trees) → s.may_leave left → ShowsEarlierTrees left log
+pub record StandsEarlier (from : ℕ) (s : State) (log : List Command) : Type 0 where
+  pub shows : ShowsEarlier from s.now log
+  pub survives : (left : Trees) → s.may_leave left → ShowsEarlierTrees from left log
 
--- its tables: all but that of floors
-abbrev pub earlier_probes : List (List ℕ × Table)
-earlier_probes =
-    map probe_of (table.Meta ∷ table.Branch ∷ table.Teller ∷ table.Account ∷ table.History ∷ table.Request ∷ [])
+-- the probes of its tables
+abbrev pub earlier_probes : ℕ → List (List ℕ × Table)
+earlier_probes from = map probe_of (take (5 + from) all_tables)
 
--- `meta` has its version
-abbrev pub IsEarlier : State → Type 0
-IsEarlier old = Misses old (Version BEFORE_FLOORS)
+-- `meta` has this version, which is an earlier one
+abbrev pub IsOfEarlier : ℕ → State → Type 0
+IsOfEarlier from old = IsEarlier from × Misses old (Version (pos from))
 
 -- ---- the tables are changed
 
@@ -74,37 +73,37 @@ pub record IsMoved (old : Database) (new : State) (t : Tables) : Type 0 where
   pub left : (left : Trees) → new.may_leave left → ShowsTrees left t
   pub spares : SparesStanding old new.now meta.name
 
--- a bank that had no floors is one of this version, with the same rows
-abbrev pub BankIsMoved : Database → State → Type 0
-BankIsMoved old new = (t : Tables) → ShowsFloorless old t → IsMoved old new t
+-- a bank of that version is one of this version, with the same rows
+abbrev pub BankIsMoved : ℕ → Database → State → Type 0
+BankIsMoved from old new = (t : Tables) → ShowsLess from old t → IsMoved old new t
 
 -- the same of what a stop may leave
-abbrev pub HasMoved : Database → Trees → Type 0
-HasMoved old left = (t : Tables) → ShowsFloorless old t → ShowsTrees left t
+abbrev pub HasMoved : ℕ → Database → Trees → Type 0
+HasMoved from old left = (t : Tables) → ShowsLess from old t → ShowsTrees left t
 
--- Why the tables aren't changed: that of floors is refused, by an error that isn't the store's own; or `meta`
--- lacks its row; or the store failed.
-abbrev pub IsUnmoved : Database → OpenFault → Type 0
-IsUnmoved old Store = ⊤
-IsUnmoved old Foreign = (e : Error) × (of_the_store e ≡ false) × RefusesFloors old.schema e
-IsUnmoved old (Damaged Meta) = RowIs old (λ stored. stored ≡ None)
-IsUnmoved old _ = ⊥
+-- Why the tables aren't changed: one that the version lacks is refused, by an error that isn't the store's own;
+-- or `meta` lacks its row; or the store failed.
+abbrev pub IsUnmoved : ℕ → Database → OpenFault → Type 0
+IsUnmoved from old Store = ⊤
+IsUnmoved from old Foreign = (e : Error) × (of_the_store e ≡ false) × RefusesLacking from old.schema e
+IsUnmoved from old (Damaged Meta) = RowIs old (λ stored. stored ≡ None)
+IsUnmoved from old _ = ⊥
 
 -- inside a transaction
-abbrev pub ChangesTables : Database → Database → Result (Unit {0}) OpenFault → Type 0
-ChangesTables old new (Ok done) = (t : Tables) → ShowsFloorless old t
+abbrev pub ChangesTables : ℕ → Database → Database → Result (Unit {0}) OpenFault → Type 0
+ChangesTables from old new (Ok done) = (t : Tables) → ShowsLess from old t
     → Shows new t × SparesStanding old new meta.name
-ChangesTables old new (Err fault) = IsUnmoved old fault
+ChangesTables from old new (Err fault) = IsUnmoved from old fault
 
 -- What a call that changes the tables comes to: a bank is moved, or, as long as the store is open, nothing has
 -- changed. A stop leaves what it could leave before, or the moved bank.
-pub record MovesBank {S : Type 0} (g : Ghosts S) (old new : Held S) (result : Result (Unit {0}) OpenFault)
-    : Type 0 where
-  pub moved : HasCleanDisk (state g new) → OnOk result (BankIsMoved (state g old).now (state g new))
+pub record MovesBank {S : Type 0} (from : ℕ) (g : Ghosts S) (old new : Held S)
+    (result : Result (Unit {0}) OpenFault) : Type 0 where
+  pub moved : HasCleanDisk (state g new) → OnOk result (BankIsMoved from (state g old).now (state g new))
   pub undone : HasCleanDisk (state g new) → OnErr result (IsUndoneIfOpen (state g old) (state g new))
-  pub why : HasCleanDisk (state g new) → IfErr result (IsUnmoved (state g old).now)
+  pub why : HasCleanDisk (state g new) → IfErr result (IsUnmoved from (state g old).now)
   pub cause : IfErr result (KnowsCause g old new)
-  pub survives : Survives (state g old) (state g new) (HasMoved (state g old).now)
+  pub survives : Survives (state g old) (state g new) (HasMoved from (state g old).now)
   pub mode : new.in_transaction ≡ false
 
 -- ---- a bank is looked for, and carried over
@@ -114,8 +113,8 @@ abbrev pub IsCounted : Option StoredMeta → Type 0
 IsCounted stored = (m : StoredMeta) × (stored ≡ Some m) × IsWithin m.decided
 
 -- a file with that version has a bank of it
-pub record HasEarlier (db : Database) : Type 0 where
-  pub tables : IsPresent db earlier_probes Whole
+pub record HasEarlier (from : ℕ) (db : Database) : Type 0 where
+  pub tables : IsPresent db (earlier_probes from) Whole
   pub meta : RowIs db IsCounted
 
 -- the row is missing, or its count is outside its range
@@ -123,45 +122,56 @@ abbrev pub IsUncounted : Option StoredMeta → Type 0
 IsUncounted stored = (stored ≡ None) ⊎ ((m : StoredMeta) × (stored ≡ Some m) × IsOutside m.decided)
 
 -- why a file with that version has no bank of it
-abbrev pub MissesEarlier : Database → OpenFault → Type 0
-MissesEarlier old Store = ⊤
-MissesEarlier old Foreign = OneOf earlier_probes (Lacks old)
-MissesEarlier old (Damaged Meta) = IsPresent old earlier_probes Whole × RowIs old IsUncounted
-MissesEarlier old (Damaged Value) = IsPresent old earlier_probes Whole × RowIs old (λ _. ⊥) × HasOtherValue old
-MissesEarlier old _ = ⊥
+abbrev pub MissesEarlier : ℕ → Database → OpenFault → Type 0
+MissesEarlier from old Store = ⊤
+MissesEarlier from old Foreign = OneOf (earlier_probes from) (Lacks old)
+MissesEarlier from old (Damaged Meta) = IsPresent old (earlier_probes from) Whole × RowIs old IsUncounted
+MissesEarlier from old (Damaged Value) =
+    IsPresent old (earlier_probes from) Whole × RowIs old (λ _. ⊥) × HasOtherValue old
+MissesEarlier from old _ = ⊥
 
 -- it has one, and everything is as it was; or why it hasn't
-abbrev pub SeeksEarlier : State → State → Result (Unit {0}) OpenFault → Type 0
-SeeksEarlier old new (Ok done) = HasEarlier old.now × IsAsBefore old new
-SeeksEarlier old new (Err fault) = MissesEarlier old.now fault × IsReadOnly {X = Unit {0}} old new (Err fault)
+abbrev pub SeeksEarlier : ℕ → State → State → Result (Unit {0}) OpenFault → Type 0
+SeeksEarlier from old new (Ok done) = HasEarlier from old.now × IsAsBefore old new
+SeeksEarlier from old new (Err fault) =
+    MissesEarlier from old.now fault × IsReadOnly {X = Unit {0}} old new (Err fault)
 
 -- it had one, which is moved; or why not
-abbrev pub MovesFound : State → State → Result (Unit {0}) OpenFault → Type 0
-MovesFound old new (Ok done) = HasEarlier old.now × BankIsMoved old.now new
-MovesFound old new (Err fault) = (MissesEarlier old.now fault ⊎ IsUnmoved old.now fault)
+abbrev pub MovesFound : ℕ → State → State → Result (Unit {0}) OpenFault → Type 0
+MovesFound from old new (Ok done) = HasEarlier from old.now × BankIsMoved from old.now new
+MovesFound from old new (Err fault) = (MissesEarlier from old.now fault ⊎ IsUnmoved from old.now fault)
     × IsReadOnly {X = Unit {0}} old new (Err fault)
 
--- Why no bank is carried over. Without that version, as for one that is taken up; with it, since there is no
--- bank of it, or since its tables can't be changed.
-abbrev pub Misplaces : State → OpenFault → Type 0
-Misplaces old fault = (Misses old fault × (fault ≢ Version BEFORE_FLOORS))
-    ⊎ (IsEarlier old × (MissesEarlier old.now fault ⊎ IsUnmoved old.now fault))
+-- a fault that tells no earlier version
+abbrev pub TellsNoEarlier : OpenFault → Type 0
+TellsNoEarlier fault = (from : ℕ) → IsEarlier from → fault ≢ Version (pos from)
 
--- the bank was of this version, and everything is as it was; or it was of the one before floors, and is moved;
--- or why neither
+-- Why no bank is carried over. Without an earlier version, as for one that is taken up; with one, since there is
+-- no bank of it, or since its tables can't be changed.
+abbrev pub Misplaces : State → OpenFault → Type 0
+Misplaces old fault = (Misses old fault × TellsNoEarlier fault)
+    ⊎ ((from : ℕ) × IsOfEarlier from old × (MissesEarlier from old.now fault ⊎ IsUnmoved from old.now fault))
+
+-- this earlier version is the one that is told
+abbrev pub IsFrom : ℤ → ℕ → Type 0
+IsFrom told from = (told ≡ pos from) × IsEarlier from
+
+-- the bank was of this version, and everything is as it was; or it was of an earlier one, and is moved; or why
+-- neither
 abbrev pub Migrates : State → State → Result Migrated OpenFault → Type 0
 Migrates old new (Ok Already) = BankIsFound old new
-Migrates old new (Ok (Moved from)) = IsEarlier old × HasEarlier old.now × BankIsMoved old.now new
+Migrates old new (Ok (Moved told)) = (from : ℕ) → IsFrom told from
+    → IsOfEarlier from old × HasEarlier from old.now × BankIsMoved from old.now new
 Migrates old new (Err fault) = Misplaces old fault × IsReadOnly {X = Unit {0}} old new (Err fault)
 
--- a bank is moved from the version before floors
-abbrev pub IsFrom : Migrated → Type 0
-IsFrom Already = ⊤
-IsFrom (Moved from) = from ≡ BEFORE_FLOORS
+-- a bank is moved from an earlier version
+abbrev pub IsFromEarlier : Migrated → Type 0
+IsFromEarlier Already = ⊤
+IsFromEarlier (Moved told) = (from : ℕ) × IsFrom told from
 
--- what a stop may leave more: a moved bank, where one of the version before floors was
+-- what a stop may leave more: a moved bank, where one of an earlier version was
 abbrev pub HasCarriedOver : State → Trees → Type 0
-HasCarriedOver old left = IsEarlier old × HasMoved old.now left
+HasCarriedOver old left = (from : ℕ) × IsOfEarlier from old × HasMoved from old.now left
 
 -- ---- what the caller gets
 
@@ -170,35 +180,35 @@ abbrev pub state_of : {S : Type 0} (g : Ghosts S) → Result (Bank S g × Migrat
 state_of g (Ok done) = file_of done.0
 state_of g (Err refused) = state g refused.conn
 
--- What holds of a bank that was carried over: its file had a bank of the version before floors, all of whose rows
--- it has, and it stands at the plain log of whatever log that showed. It is up.
-pub record IsCarriedOver {S : Type 0} (g : Ghosts S) (conn : Held S) (bank : Bank S g) : Type 0 where
-  pub was : HasCleanDisk (file_of bank) → IsEarlier (state g conn) × HasEarlier (state g conn).now
-  pub moved : HasCleanDisk (file_of bank) → BankIsMoved (state g conn).now (file_of bank)
-  pub stands : (bank_seen g bank).honest → (log : List Command) → ShowsEarlier (state g conn).now log
-      → StandsAt (bank_seen g bank) (plain (nat_abs BEFORE_FLOORS) log)
+-- What holds of a bank that was carried over: its file had a bank of that version, all of whose rows it has, and
+-- it stands at the plain log of whatever log that showed. It is up.
+pub record IsCarriedOver {S : Type 0} (from : ℕ) (g : Ghosts S) (conn : Held S) (bank : Bank S g) : Type 0 where
+  pub was : HasCleanDisk (file_of bank) → IsOfEarlier from (state g conn) × HasEarlier from (state g conn).now
+  pub moved : HasCleanDisk (file_of bank) → BankIsMoved from (state g conn).now (file_of bank)
+  pub stands : (bank_seen g bank).honest → (log : List Command) → ShowsEarlier from (state g conn).now log
+      → StandsAt (bank_seen g bank) (plain from log)
   pub up : (bank_seen g bank).is_down → ⊥
 
--- it was carried over from this version, or was of the present one and is taken up
+-- it was carried over from this earlier version, or was of the present one and is taken up
 abbrev pub IsMigrated : {S : Type 0} (g : Ghosts S) → Held S → Bank S g × Migrated → Type 0
-IsMigrated g conn (bank, Moved from) = (from ≡ BEFORE_FLOORS) × IsCarriedOver g conn bank
+IsMigrated g conn (bank, Moved told) = (from : ℕ) × IsFrom told from × IsCarriedOver from g conn bank
 IsMigrated g conn (bank, Already) = IsTakenUp g conn bank
 
 -- What is answered where a log is shown, but for a fault of the store: of this version, that nothing was done; of
--- the version before floors, where nothing else has the name of the table of floors, that it was moved.
+-- an earlier one, where nothing else has the name of a table that it lacks, that it was moved.
 pub record KnowsAnswer {S : Type 0} (g : Ghosts S) (conn : Held S)
     (result : Result (Bank S g × Migrated) (Refused S)) : Type 0 where
   pub ours : HasCleanDisk (state_of g result) → (log : List Command) → ShowsLog (conn_seen g conn) log
       → IfOk result (λ done. done.1 ≡ Already) × IfErr result (λ refused. refused.fault ≡ Store)
-  pub earlier : HasCleanDisk (state_of g result) → (log : List Command) → ShowsEarlier (state g conn).now log
-      → TakesFloors (state g conn).now.schema
-      → IfOk result (λ done. done.1 ≡ Moved BEFORE_FLOORS) × IfErr result (λ refused. refused.fault ≡ Store)
+  pub earlier : HasCleanDisk (state_of g result) → (from : ℕ) (log : List Command)
+      → ShowsEarlier from (state g conn).now log → TakesLacking from (state g conn).now.schema
+      → IfOk result (λ done. done.1 ≡ Moved (pos from)) × IfErr result (λ refused. refused.fault ≡ Store)
 
--- What a refusal leaves where the connection stood at a log: of this version, that log; of the version before
--- floors, the log as that version, or its plain log as this one.
+-- What a refusal leaves where the connection stood at a log: of this version, that log; of an earlier one, the log
+-- as that version, or its plain log as this one.
 pub record LeavesBank {S : Type 0} (g : Ghosts S) (conn : Held S) (refused : Refused S) : Type 0 where
   pub ours : HasCleanDisk (state g refused.conn) → (log : List Command) → StandsAt (conn_seen g conn) log
       → LeavesOnly (conn_seen g refused.conn) (λ t. AreTablesOf t log)
-  pub earlier : HasCleanDisk (state g refused.conn) → (log : List Command) → StandsEarlier (state g conn) log
-      → (left : Trees) → (state g refused.conn).may_leave left → ShowsEarlierTrees left log
-      ⊎ ((t : Tables) × ShowsTrees left t × AreTablesOf t (plain (nat_abs BEFORE_FLOORS) log))
+  pub earlier : HasCleanDisk (state g refused.conn) → (from : ℕ) (log : List Command)
+      → StandsEarlier from (state g conn) log → (left : Trees) → (state g refused.conn).may_leave left
+      → ShowsEarlierTrees from left log ⊎ ((t : Tables) × ShowsTrees left t × AreTablesOf t (plain from log))

@@ -25,7 +25,7 @@ of_the_store _ = false
 abbrev pub unmade_by : Error → OpenFault
 unmade_by e = if of_the_store e then Store else NotBlank
 
--- what an error says that came while the table of floors was made
+-- what an error says that came while a table was made that an earlier version lacks
 abbrev pub unmoved_by : Error → OpenFault
 unmoved_by e = if of_the_store e then Store else Foreign
 

@@ -10,11 +10,13 @@ use Rattle.sqlite.specs.State.{State, HasCleanDisk, Survives}
 use Rattle.sqlite.specs.declared.error.Error.{Error}
 use Rattle.posting_rules.specs.declared.fault.Fault.{Fault}
 use Rattle.posting_rules.specs.declared.fault.Fault.TheVariants as told
-use Rattle.posting_rules.specs.declared.fault.Rule.TheVariants as rule
-use Rattle.sql_meanings.specs.Entries.{Entry}
+use Rattle.posting_rules.specs.declared.fault.Rule.{Rule}
 use Rattle.sql_meanings.specs.Outcomes.{IsStoreError}
+use Rattle.bank_walks.specs.Pairs.{Pair, pair_key}
 use Rattle.bank_walks.specs.Rising.{RisesFrom}
-use Rattle.bank_walks.specs.Rows.{LEAST, entry_key, items_behind}
+use Rattle.bank_walks.specs.Rows.{LEAST, items_behind}
+use Rattle.bank_walks.specs.Stored.{is_stated_of, stated_pair}
+use Rattle.bank_walks.specs.declared.stated.StatedPosting.{StatedPosting}
 use Rattle.bank_store.specs.Seen.{bank_seen, connection_of, database_of, fault_of}
 use Rattle.bank_store.specs.Walks.{IsStill, IsUntouchedIfOpen}
 use Rattle.bank_store.specs.declared.bank.Bank.{Bank}
@@ -56,10 +58,9 @@ items_to_come key item is_given items w =
     coming w.stage (map item (drop w.given w.rows.items) ++ items_behind key w.rest
     (filter (is_given w.of) items))
 
--- the same of the rows of one table
-abbrev pub to_come : {S R : Type 0} {g : Ghosts S} → (R → Entry) → (Option ℕ → Entry → Bool) → List Entry
-    → Walk S R g → List Entry
-to_come = items_to_come entry_key
+-- the same of an account's postings, each with the reference of its request
+abbrev pub postings_to_come : {S : Type 0} {g : Ghosts S} → List Pair → Walk S StatedPosting g → List Pair
+postings_to_come = items_to_come pair_key stated_pair is_stated_of
 
 -- the keys of those to come rise from a number on
 abbrev pub ComesFrom : {S R : Type 0} {g : Ghosts S} → (R → ℤ) → ℤ → Walk S R g → Type 0
@@ -97,14 +98,13 @@ pub record BeginsWalk {S R X : Type 0} (g : Ghosts S) (key : X → ℤ) (item : 
 
 -- ---- a step
 
--- The first row to come was given; or there is none; or a number of the first row to come is out of its
--- range.
-abbrev pub Steps : {R X : Type 0} → (R → X) → (X → Type 0) → List X → List X → Result (Option R) Fault
-    → Type 0
+-- The first row to come was given; or there is none; or the first row to come breaks the rule.
+abbrev pub Steps : {R X : Type 0} → (R → X) → (Rule → X → Type 0) → List X → List X
+    → Result (Option R) Fault → Type 0
 Steps item Breaks old new (Ok (Some r)) = old ≡ item r ∷ new
 Steps item Breaks old new (Ok None) = (old ≡ []) × (new ≡ [])
 Steps {R} {X} item Breaks old new (Err (told.Damaged broken)) =
-    (broken ≡ rule.Value) × ((e : X) × (more : List X) × (old ≡ e ∷ more) × Breaks e)
+    (e : X) × (more : List X) × (old ≡ e ∷ more) × Breaks broken e
 Steps item Breaks old new (Err told.Store) = ⊤
 Steps item Breaks old new (Err told.Down) = new ≡ old
 Steps item Breaks old new (Err told.Memory) = ⊥
@@ -135,11 +135,10 @@ pub record GoesOn {S R : Type 0} {g : Ghosts S} (old new : Walk S R g) (result :
 abbrev pub StoreFailed : State → State → Type 0
 StoreFailed old new = (e : Error) × IsStoreError old new e
 
--- the fault is of the store, with an error of which this holds, or a number of the first to come is out of
--- its range
-abbrev pub IsToldFault : {X : Type 0} → (Error → Type 0) → (X → Type 0) → List X → Fault → Type 0
+-- the fault is of the store, with an error of which this holds, or the first to come breaks the rule
+abbrev pub IsToldFault : {X : Type 0} → (Error → Type 0) → (Rule → X → Type 0) → List X → Fault → Type 0
 IsToldFault {X} Because Breaks old (told.Damaged broken) =
-    (broken ≡ rule.Value) × ((e : X) × (more : List X) × (old ≡ e ∷ more) × Breaks e)
+    (e : X) × (more : List X) × (old ≡ e ∷ more) × Breaks broken e
 IsToldFault Because Breaks old told.Store = (e : Error) × Because e
 IsToldFault Because Breaks old told.Down = ⊥
 IsToldFault Because Breaks old told.Memory = ⊥

@@ -178,7 +178,7 @@ impl<S: Alter> Bank<S> {
             (λ rest. items_from R.WalkedRow.key from given
             ≡ map R.WalkedRow.item rows.new.items ++ items_behind R.WalkedRow.key rest given)
             (BreaksFirst (IsStoreError (state S.Store self.old.conn) (state S.Store self.new.conn))
-            R.WalkedRow.is_broken (items_from R.WalkedRow.key from given)) }
+            R.WalkedRow.Breaks (items_from R.WalkedRow.key from given)) }
         ensures ended { IfOk result (λ rest. rows.new.items ≡ [] → rest ≡ None) }
         ensures rises { IfOk result (λ rest. RisesFrom from
             (map (λ r. R.WalkedRow.key (R.WalkedRow.item r)) rows.new.items) rest) }

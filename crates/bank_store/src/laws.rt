@@ -1,6 +1,6 @@
 //! Facts that hold without anything being done: what a value's type keeps inside, and what a connection that
 //! was just opened stands at. A caller that calls such a function has its clauses at hand.
-ghost use Rattle.std.specs.Prelude.{◌≤◌, ◌≤ℤ◌, pos, IfSome, List};
+ghost use Rattle.std.specs.Prelude.{◌≤◌, ◌≤ℤ◌, pos, IfSome, List, ℕ};
 ghost use Rattle.sqlite.specs.Held.{state};
 ghost use Rattle.sqlite.specs.State.{Opens};
 ghost use Rattle.posting_rules.specs.Commands.{Command, AreCommands, IsFloor};
@@ -41,12 +41,12 @@ pub fn opened_law<S: Alter>(conn: &Connection<S>)
     trees_show_law(conn);
 }
 
-/// The same of a bank of the version before floors: where the machine stops while it is carried over, it can be
-/// carried over again.
+/// The same of a bank of an earlier version: where the machine stops while it is carried over, it can be carried
+/// over again.
 pub fn opened_earlier_law<S: Alter>(conn: &Connection<S>)
-    ensures { Opens (state S.Store conn.now) → (log : List Command)
-        → ShowsEarlierTrees (state S.Store conn.now).now.trees log
-        → StandsEarlier (state S.Store conn.now) log }
+    ensures { Opens (state S.Store conn.now) → (from : ℕ) (log : List Command)
+        → ShowsEarlierTrees from (state S.Store conn.now).now.trees log
+        → StandsEarlier from (state S.Store conn.now) log }
 {
     // What a schema says of its connection is what this law rests on, so it is asked for.
     let _schema = conn.schema();

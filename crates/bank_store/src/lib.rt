@@ -35,6 +35,7 @@
 //!         Branch::new(1).unwrap(),
 //!         Number::new(1).unwrap(),
 //!         Cents::new(500).unwrap(),
+//!         None,
 //!     );
 //!     let record = encode_request(&request.unwrap());
 //!     let reply = bank.submit(Moment::new(1_795_442_400).unwrap(), &record)?;
@@ -66,13 +67,13 @@ mod walks;
 pub use adoption::adopt;
 pub use bank::Bank;
 pub use bank_walks::{
-    Joined, StoredAccount, StoredBranch, StoredPosting, StoredRequest, StoredTeller,
+    Joined, StatedPosting, StoredAccount, StoredBranch, StoredPosting, StoredRequest, StoredTeller,
 };
 pub use creation::create;
 pub use laws::{opened_earlier_law, opened_law};
 pub use message_records::{
-    Account, Bad, BadReply, Branch, Cents, Moment, Number, Outcome, Reply, Request, Teller,
-    decode_reply, decode_request, encode_request,
+    Account, Bad, BadReply, Branch, Cents, Moment, Number, Outcome, Reference, Reply, Request,
+    Teller, decode_reply, decode_request, encode_request,
 };
 pub use migration::{Migrated, migrate};
 pub use posting_rules::{

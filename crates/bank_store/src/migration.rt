@@ -1,13 +1,15 @@
-//! Carrying a bank of the version before floors over to this version.
-ghost use Rattle.std.specs.Prelude.{◌≡◌, IfErr, IfOk, IsTrue, Err, false};
+//! Carrying a bank of an earlier version over to this version.
+ghost use Rattle.std.specs.Prelude.{◌≡◌, ◌+◌, IfErr, IfOk, IfSome, IsTrue, Err, false, drop, take};
 ghost use Rattle.sqlite.specs.State.{HasCleanDisk, Survives};
 ghost use Rattle.sqlite.specs.Held.{state};
 ghost use Rattle.sql_meanings.specs.Calls.{Inside, Says};
 ghost use Rattle.sql_meanings.specs.Outcomes.{WritesKept};
+ghost use Rattle.store_rows.specs.Migration.{IsEarlier};
+ghost use Rattle.store_rows.specs.Probes.{all_tables};
 ghost use Rattle.bank_store.specs.Connections.{IsGivenBack, IsReadOnly};
-ghost use Rattle.bank_store.specs.Migration.{ChangesTables, HasCarriedOver, HasMoved, IsFrom, IsMigrated};
-ghost use Rattle.bank_store.specs.Migration.{KnowsAnswer, LeavesBank, Migrates, Misplaces, MovesBank, MovesFound};
-ghost use Rattle.bank_store.specs.Migration.{SeeksEarlier, state_of};
+ghost use Rattle.bank_store.specs.Migration.{ChangesTables, HasCarriedOver, HasMoved, IsFrom, IsFromEarlier};
+ghost use Rattle.bank_store.specs.Migration.{IsMigrated, KnowsAnswer, LeavesBank, Migrates, Misplaces, MovesBank};
+ghost use Rattle.bank_store.specs.Migration.{MovesFound, SeeksEarlier, TellsNoEarlier, state_of};
 ghost use Rattle.bank_store.specs.Seen.{alloc_of};
 ghost use Rattle.bank_store.specs.StoreFaults.{KnowsCause};
 
@@ -20,7 +22,7 @@ use posting_rules::{OpenFault, Rule};
 use sqlite::{Alter, Connection, Transaction};
 use std::alloc::Global;
 use store_rows::{
-    BEFORE_FLOORS, BankTable, VERSION, commit, make_floors, probe_table, set_version,
+    BEHIND_META, BankTable, EARLIEST, VERSION, commit, make_lacking, probe_table, set_version,
 };
 
 /// What was done so that a file has a bank of this version.
@@ -32,15 +34,27 @@ pub enum Migrated {
     Already,
 }
 
-// Makes the table of floors, and writes the version.
-fn change_tables<S: Alter>(tx: &mut Transaction<'_, S>) -> Result<(), OpenFault>
+// The version, if it is an earlier one.
+fn earlier(version: i64) -> Option<u64>
+    ensures some { IfSome result (IsFrom version) }
+    ensures none { result ≡ None → TellsNoEarlier (OpenFault.Version version) }
+{
+    if version < EARLIEST || version >= VERSION {
+        return None;
+    }
+    Some(version as u64)
+}
+
+// Makes the tables that the version lacks, and writes this version.
+fn change_tables<S: Alter>(tx: &mut Transaction<'_, S>, from: u64) -> Result<(), OpenFault>
+    requires { IsEarlier from }
     ensures says { Says S.Store tx.old tx.new
-        (Inside (λ old new. ChangesTables old.now new.now result))
+        (Inside (λ old new. ChangesTables from old.now new.now result))
         (Inside (λ old new. WritesKept old new result)) }
     ensures cause { IsTrue tx.old.conn.now.in_transaction
         → IfErr result (KnowsCause S.Store tx.old.conn.now tx.new.conn.now) }
 {
-    match make_floors(tx) {
+    match make_lacking(tx, from) {
         Ok(()) => {}
         Err(e) => return Err(unmoved(&e)),
     }
@@ -52,12 +66,13 @@ fn change_tables<S: Alter>(tx: &mut Transaction<'_, S>) -> Result<(), OpenFault>
 }
 
 // The same, in one transaction.
-fn move_bank<S: Alter>(conn: &mut Connection<S>) -> Result<(), OpenFault>
-    requires { conn.old.in_transaction ≡ false }
-    ensures { MovesBank S.Store conn.old conn.new result }
+fn move_bank<S: Alter>(conn: &mut Connection<S>, from: u64) -> Result<(), OpenFault>
+    requires mode { conn.old.in_transaction ≡ false }
+    requires earlier { IsEarlier from }
+    ensures { MovesBank from S.Store conn.old conn.new result }
 {
     let mut tx = begin(conn);
-    change_tables(&mut tx)?;
+    change_tables(&mut tx, from)?;
     match commit(tx) {
         Ok(()) => Ok(()),
         Err(_) => Err(OpenFault::Store),
@@ -66,15 +81,16 @@ fn move_bank<S: Alter>(conn: &mut Connection<S>) -> Result<(), OpenFault>
 
 // The same. Where the tables can't be changed the store is asked for a table once more, so that it is known to
 // be open and to have undone the transaction.
-fn move_settled<S: Alter>(conn: &mut Connection<S>) -> Result<(), OpenFault>
-    requires { conn.old.in_transaction ≡ false }
-    ensures moves { MovesBank S.Store conn.old conn.new result }
+fn move_settled<S: Alter>(conn: &mut Connection<S>, from: u64) -> Result<(), OpenFault>
+    requires mode { conn.old.in_transaction ≡ false }
+    requires earlier { IsEarlier from }
+    ensures moves { MovesBank from S.Store conn.old conn.new result }
     ensures same { HasCleanDisk (state S.Store conn.new)
         → IfErr result (λ fault. IsReadOnly {X = Unit {0}} (state S.Store conn.old) (state S.Store conn.new)
         (Err fault)) }
 {
     note_settled(conn);
-    let Err(fault) = move_bank(conn) else {
+    let Err(fault) = move_bank(conn, from) else {
         return Ok(());
     };
     let Ok(_) = probe_table(conn, BankTable::Meta) else {
@@ -83,23 +99,25 @@ fn move_settled<S: Alter>(conn: &mut Connection<S>) -> Result<(), OpenFault>
     Err(fault)
 }
 
-// Looks for the tables of a bank before floors, and then for its count of requests.
-fn find_earlier<S: Alter>(conn: &mut Connection<S>) -> Result<(), OpenFault>
-    requires { conn.old.in_transaction ≡ false }
+// The tables behind `meta` of a bank of that version.
+fn behind_meta(from: u64) -> &'static [BankTable]
+    requires { IsEarlier from }
+    ensures { result.now ≡ take (4 + from) (drop 1 all_tables) }
+{
+    &BEHIND_META[..4 + from as usize]
+}
+
+// Looks for the tables of a bank of that version, and then for its count of requests.
+fn find_earlier<S: Alter>(conn: &mut Connection<S>, from: u64) -> Result<(), OpenFault>
+    requires mode { conn.old.in_transaction ≡ false }
+    requires earlier { IsEarlier from }
     ensures told { HasCleanDisk (state S.Store conn.new)
-        → SeeksEarlier (state S.Store conn.old) (state S.Store conn.new) result }
+        → SeeksEarlier from (state S.Store conn.old) (state S.Store conn.new) result }
     ensures cause { IfErr result (KnowsCause S.Store conn.old conn.new) }
     ensures mode { conn.new.in_transaction ≡ false }
     ensures survives { Survives (state S.Store conn.old) (state S.Store conn.new) (λ _. ⊥) }
 {
-    let others = [
-        BankTable::Branch,
-        BankTable::Teller,
-        BankTable::Account,
-        BankTable::History,
-        BankTable::Request,
-    ];
-    let Presence::Whole = count_tables(conn, BankTable::Meta, &others)? else {
+    let Presence::Whole = count_tables(conn, BankTable::Meta, behind_meta(from))? else {
         return Err(OpenFault::Foreign);
     };
     match settled_meta(conn)? {
@@ -108,26 +126,27 @@ fn find_earlier<S: Alter>(conn: &mut Connection<S>) -> Result<(), OpenFault>
     }
 }
 
-// Moves the bank that a file of the version before floors has.
-fn move_found<S: Alter>(conn: &mut Connection<S>) -> Result<(), OpenFault>
-    requires { conn.old.in_transaction ≡ false }
+// Moves the bank that a file of that version has.
+fn move_found<S: Alter>(conn: &mut Connection<S>, from: u64) -> Result<(), OpenFault>
+    requires mode { conn.old.in_transaction ≡ false }
+    requires earlier { IsEarlier from }
     ensures told { HasCleanDisk (state S.Store conn.new)
-        → MovesFound (state S.Store conn.old) (state S.Store conn.new) result }
+        → MovesFound from (state S.Store conn.old) (state S.Store conn.new) result }
     ensures cause { IfErr result (KnowsCause S.Store conn.old conn.new) }
     ensures mode { conn.new.in_transaction ≡ false }
     ensures survives { Survives (state S.Store conn.old) (state S.Store conn.new)
-        (HasMoved (state S.Store conn.old).now) }
+        (HasMoved from (state S.Store conn.old).now) }
 {
-    find_earlier(conn)?;
-    move_settled(conn)
+    find_earlier(conn, from)?;
+    move_settled(conn, from)
 }
 
-// Looks for a bank of this version, and moves one of the version before floors.
+// Looks for a bank of this version, and moves one of an earlier version.
 fn find_or_move<S: Alter>(conn: &mut Connection<S>) -> Result<Migrated, OpenFault>
     requires { conn.old.in_transaction ≡ false }
     ensures told { HasCleanDisk (state S.Store conn.new)
         → Migrates (state S.Store conn.old) (state S.Store conn.new) result }
-    ensures from { IfOk result IsFrom }
+    ensures from { IfOk result IsFromEarlier }
     ensures cause { IfErr result (KnowsCause S.Store conn.old conn.new) }
     ensures mode { conn.new.in_transaction ≡ false }
     ensures survives { Survives (state S.Store conn.old) (state S.Store conn.new)
@@ -135,17 +154,21 @@ fn find_or_move<S: Alter>(conn: &mut Connection<S>) -> Result<Migrated, OpenFaul
 {
     match find_bank(conn) {
         Ok(()) => Ok(Migrated::Already),
-        Err(OpenFault::Version(version)) if version == BEFORE_FLOORS => {
-            move_found(conn)?;
-            Ok(Migrated::Moved(BEFORE_FLOORS))
-        }
+        Err(OpenFault::Version(version)) => match earlier(version) {
+            None => Err(OpenFault::Version(version)),
+            Some(from) => {
+                move_found(conn, from)?;
+                Ok(Migrated::Moved(version))
+            }
+        },
         Err(fault) => Err(fault),
     }
 }
 
 /// Makes sure that the connection's file has a bank of this version: takes up one of this version, as `adopt`
-/// does, and carries one of the version before floors over to it, in one transaction. All its rows stay, so it
-/// shows what it showed, and no branch has a floor. A stop in the call leaves the bank as it was or carried over.
+/// does, and carries one of an earlier version over to it, in one transaction. All its rows stay, so it shows what
+/// it showed, and the tables that its version lacked are empty. A stop in the call leaves the bank as it was or
+/// carried over.
 ///
 /// The connection has to be outside a transaction, as a new one is.
 ///
@@ -154,10 +177,10 @@ fn find_or_move<S: Alter>(conn: &mut Connection<S>) -> Result<Migrated, OpenFaul
 /// The connection comes back with each, outside a transaction. Each but the last says what the file has, and that
 /// it is as it was.
 ///
-/// - [`OpenFault::Version`]: `meta` is there and has a version that is neither.
+/// - [`OpenFault::Version`]: `meta` is there and has a version that is neither this one nor an earlier one.
 /// - [`OpenFault::Blank`]: none of a bank's tables is there.
-/// - [`OpenFault::Foreign`]: some of them are there, and some aren't; or the table of floors can't be made, as
-///   where something else has its name.
+/// - [`OpenFault::Foreign`]: some of the tables of its version are there, and some aren't; or one that the version
+///   lacked can't be made, as where something else has its name.
 /// - [`OpenFault::Damaged`]: the row of `meta` is missing, is out of its range or has a value of another
 ///   type.
 /// - [`OpenFault::Store`]: a call of `sqlite` failed. Nothing has changed, as long as the store is open.

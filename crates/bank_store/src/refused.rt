@@ -55,7 +55,7 @@ pub(crate) fn unmade(e: &Error) -> OpenFault
     }
 }
 
-/// The fault for an error that came while the table of floors was made: `Store` or `Foreign`.
+/// The fault for an error that came while a table was made that an earlier version lacks: `Store` or `Foreign`.
 pub(crate) fn unmoved(e: &Error) -> OpenFault
     ensures { result ≡ unmoved_by e.now }
 {

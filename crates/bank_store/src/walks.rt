@@ -16,8 +16,8 @@ use crate::bank::Bank;
 use arrayvec::ArrayVec;
 use bank_transactions::note_settled;
 use bank_walks::{
-    AHEAD, Joined, StoredAccount, StoredBranch, StoredPosting, StoredRequest, StoredTeller,
-    WalkedRow,
+    AHEAD, Joined, StatedPosting, StoredAccount, StoredBranch, StoredPosting, StoredRequest,
+    StoredTeller, WalkedRow,
 };
 use message_records::Account;
 use posting_rules::Fault;
@@ -106,7 +106,7 @@ pub(crate) fn read_outside<S: Alter, R: WalkedRow>(
         → let given = filter (R.WalkedRow.is_given of) all in MatchResult result
         (λ rest. items_from R.WalkedRow.key from given
         ≡ map R.WalkedRow.item rows.new.items ++ items_behind R.WalkedRow.key rest given)
-        (BreaksFirst (IsStoreError (state S.Store conn.old) (state S.Store conn.new)) R.WalkedRow.is_broken
+        (BreaksFirst (IsStoreError (state S.Store conn.old) (state S.Store conn.new)) R.WalkedRow.Breaks
         (items_from R.WalkedRow.key from given)) }
     ensures ended { IfOk result (λ rest. rows.new.items ≡ [] → rest ≡ None) }
     ensures rises { IfOk result (λ rest. RisesFrom from
@@ -167,7 +167,7 @@ impl<'bank, S: Alter, R: WalkedRow> Walk<'bank, S, R> {
             (λ _. items_to_come R.WalkedRow.key R.WalkedRow.item R.WalkedRow.is_given all self.new
             ≡ items_to_come R.WalkedRow.key R.WalkedRow.item R.WalkedRow.is_given all self.old)
             (IsToldFault (IsStoreError (lent_state S.Store self.old) (lent_state S.Store self.new))
-            R.WalkedRow.is_broken (items_to_come R.WalkedRow.key R.WalkedRow.item R.WalkedRow.is_given all
+            R.WalkedRow.Breaks (items_to_come R.WalkedRow.key R.WalkedRow.item R.WalkedRow.is_given all
             self.old)) }
         ensures rises { (k : ℤ) → ComesFrom (λ r. R.WalkedRow.key (R.WalkedRow.item r)) k self.old
             → OnOk result (ComesFrom (λ r. R.WalkedRow.key (R.WalkedRow.item r)) k self.new) }
@@ -202,13 +202,14 @@ impl<'bank, S: Alter, R: WalkedRow> Walk<'bank, S, R> {
     /// None of them brings the bank down, and none changes the file.
     ///
     /// - [`Fault::Store`]: a call of `sqlite` failed, for memory too.
-    /// - [`Fault::Damaged`] with `Rule::Value`: the next row has a number out of its range.
+    /// - [`Fault::Damaged`]: the next row can't be given. With `Rule::Value` a number of it is out of its
+    ///   range; with `Rule::Reference` its reference is none.
     /// - [`Fault::Down`]: this walk has ended with a fault.
     pub fn next(&mut self) -> Result<Option<R>, Fault>
         ensures bank { LeavesLent S.Store self.old self.new result }
         ensures told { HasCleanDisk (lent_state S.Store self.new) → (all : List R.WalkedRow.Item)
             → R.WalkedRow.HasItems (lent_state S.Store self.old).now all
-            → Steps R.WalkedRow.item R.WalkedRow.is_broken
+            → Steps R.WalkedRow.item R.WalkedRow.Breaks
             (items_to_come R.WalkedRow.key R.WalkedRow.item R.WalkedRow.is_given all self.old)
             (items_to_come R.WalkedRow.key R.WalkedRow.item R.WalkedRow.is_given all self.new) result }
         ensures store { HasCleanDisk (lent_state S.Store self.new) → (all : List R.WalkedRow.Item)
@@ -246,11 +247,11 @@ ghost use Rattle.bank_store.specs.contracts.bank.Bank.{the_row};
 ghost use Rattle.bank_store.specs.Walking.{BeginsWalk, loan_of};
 ghost use Rattle.bank_walks.specs.Pairs.{HasPairs, pair_key};
 ghost use Rattle.bank_walks.specs.Rows.{HasStoredRows, LEAST, entry_key};
-ghost use Rattle.bank_walks.specs.Stored.{account_entry, asked_pair, branch_entry, is_of, posted_pair};
-ghost use Rattle.bank_walks.specs.Stored.{posting_entry, teller_entry};
+ghost use Rattle.bank_walks.specs.Stored.{account_entry, asked_pair, branch_entry, is_stated_of};
+ghost use Rattle.bank_walks.specs.Stored.{posted_pair, stated_pair, teller_entry};
 ghost use Rattle.store_rows.specs.BankTables.{account as account_table, branch as branch_table};
 ghost use Rattle.store_rows.specs.BankTables.{history as history_table, request as request_table};
-ghost use Rattle.store_rows.specs.BankTables.{teller as teller_table};
+ghost use Rattle.store_rows.specs.BankTables.{reference as reference_table, teller as teller_table};
 
 // Begins a walk over the rows of a kind, those of an account where one is named. The only fault is `Down`.
 fn begin_walk<S: Alter, R: WalkedRow>(
@@ -325,7 +326,8 @@ pub fn each_account<S: Alter>(bank: &mut Bank<S>) -> Result<Walk<'_, S, StoredAc
 }
 
 /// Begins a walk over the postings of an account: its rows of `history`, in the order in which they were
-/// posted (TPC-B 1.2). Amounts are cents, moments seconds since 1970.
+/// posted (TPC-B 1.2), each with the reference of its request, if it has one. Amounts are cents, moments
+/// seconds since 1970.
 ///
 /// # Errors
 ///
@@ -333,12 +335,12 @@ pub fn each_account<S: Alter>(bank: &mut Bank<S>) -> Result<Walk<'_, S, StoredAc
 pub fn history_of<S: Alter>(
     bank: &mut Bank<S>,
     account: Account,
-) -> Result<Walk<'_, S, StoredPosting>, Fault>
+) -> Result<Walk<'_, S, StatedPosting>, Fault>
     ensures* refused { sem 𝓛 (RestsIfErr (the_row S.row S.Store) bank.entry loan_of result
         (λ last. last ≡ bank.old)) }
-    ensures begins { BeginsWalk S.Store entry_key posting_entry is_of
-        (λ db rows. HasStoredRows db history_table rows) (Some account) bank.entry.ghost_name bank.old
-        result }
+    ensures begins { BeginsWalk S.Store pair_key stated_pair is_stated_of
+        (λ db pairs. HasPairs db history_table reference_table pairs) (Some account) bank.entry.ghost_name
+        bank.old result }
 {
     begin_walk(bank, Some(account))
 }

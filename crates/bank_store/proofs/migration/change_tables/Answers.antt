@@ -1,7 +1,6 @@
 -- One statement after the other, and how each may fail.
 use Rattle.std.proofs.Common.{◌∙◌}
 use Rattle.sqlite.specs.Held.{state}
-use Rattle.sql_meanings.proofs.Makings.{kept}
 use Rattle.sql_meanings.proofs.Saying.{survives_both}
 use Rattle.bank_transactions.proofs.Blamed.{comes, failed_here, same_moment}
 use Rattle.posting_rules.specs.declared.open_fault.OpenFault.TheVariants.{Store}
@@ -11,37 +10,37 @@ use Rattle.bank_store.proofs.migration.change_tables.Goals as goal
 
 pub returns-in-Err-clause-says : goal.returns-in-Err-clause-says
 returns-in-Err-clause-says g c =
-    let here = c.in-Err.ensures in
+    let here = c.in-Err.ensures.says in
     record {
       same_reference = here.same_reference;
-      told = λ clean live. rw c.unmoved.ensures (refused_unmoved _ _ c.in-Err.e (here.told clean live));
-      kept = λ clean live. kept _ _ (here.kept clean live).0;
+      told = λ clean live. rw c.unmoved.ensures (refused_unmoved c.args.from _ _ c.in-Err.e (here.told clean live));
+      kept = λ clean live. here.kept clean live;
       survives = here.survives;
     }
 
 pub returns-in-Err-clause-cause : goal.returns-in-Err-clause-cause
 returns-in-Err-clause-cause g c live =
     let here = c.in-Err.ensures in
-    rw c.unmoved.ensures (unmoved_known g.S.Store c.args.tx.now.conn.now c.make_floors.new.tx.conn.now c.in-Err.e
-    (λ clean. (here.kept clean live).1))
+    rw c.unmoved.ensures (unmoved_known g.S.Store c.args.tx.now.conn.now c.make_lacking.new.tx.conn.now c.in-Err.e
+    (λ clean. here.failed clean live))
 
 pub returns-in-Ok-true-clause-says : goal.returns-in-Ok-true-clause-says
 returns-in-Ok-true-clause-says g c =
     let s = state g.S.Store in
     let old = c.args.tx.now.conn.now in
-    let mid = c.make_floors.new.tx.conn.now in
+    let mid = c.make_lacking.new.tx.conn.now in
     let new = c.set_version.new.tx.conn.now in
-    let one = c.in-Ok.ensures in
+    let one = c.in-Ok.ensures.says in
     let two = c.in-Ok-true.ensures in
     record {
       same_reference = two.same_reference ∙ one.same_reference;
       told = λ clean live.
           let before = still_clean two.survives clean in
-          let shows = (one.kept before live).0 in
+          let shows = one.kept before live in
           let set = two.told clean shows.mode in
-          moved (s old) (s mid) (s new) (one.told before live).0 (rw c.in-Ok-true.field-0-test at set);
+          moved c.args.from (s old) (s mid) (s new) (one.told before live).0 (rw c.in-Ok-true.field-0-test at set);
       kept = λ clean live.
-          let shows = (one.kept (still_clean two.survives clean) live).0 in
+          let shows = one.kept (still_clean two.survives clean) live in
           goes_on (s old) (s mid) (s new) shows (two.kept clean shows.mode).0;
       survives = survives_both _ _ _ one.survives two.survives;
     }
@@ -50,19 +49,19 @@ pub returns-in-Ok-false-clause-says : goal.returns-in-Ok-false-clause-says
 returns-in-Ok-false-clause-says g c =
     let s = state g.S.Store in
     let old = c.args.tx.now.conn.now in
-    let mid = c.make_floors.new.tx.conn.now in
+    let mid = c.make_lacking.new.tx.conn.now in
     let new = c.set_version.new.tx.conn.now in
-    let one = c.in-Ok.ensures in
+    let one = c.in-Ok.ensures.says in
     let two = c.in-Ok-false.ensures in
     record {
       same_reference = two.same_reference ∙ one.same_reference;
       told = λ clean live.
           let before = still_clean two.survives clean in
-          let shows = (one.kept before live).0 in
+          let shows = one.kept before live in
           let set = two.told clean shows.mode in
-          not_there (s old) (s mid) (s new) (one.told before live).0 (rw c.in-Ok-false.field-0-test at set);
+          not_there c.args.from (s old) (s mid) (s new) (one.told before live).0 (rw c.in-Ok-false.field-0-test at set);
       kept = λ clean live.
-          let shows = (one.kept (still_clean two.survives clean) live).0 in
+          let shows = one.kept (still_clean two.survives clean) live in
           commits_nothing (s old) (s new)
           (goes_on (s old) (s mid) (s new) shows (two.kept clean shows.mode).0);
       survives = survives_both _ _ _ one.survives two.survives;
@@ -71,9 +70,9 @@ returns-in-Ok-false-clause-says g c =
 pub returns-in-Err-set_version-clause-cause : goal.returns-in-Err-set_version-clause-cause
 returns-in-Err-set_version-clause-cause g c live =
     let old = c.args.tx.now.conn.now in
-    let mid = c.make_floors.new.tx.conn.now in
+    let mid = c.make_lacking.new.tx.conn.now in
     let new = c.set_version.new.tx.conn.now in
-    let one = c.in-Ok.ensures in
+    let one = c.in-Ok.ensures.says in
     let two = c.in-Err-set_version.ensures in
     let e = c.in-Err-set_version.field-0 in
     known_within g.S.Store old mid new new (comes one.survives) (λ clean. clean) (same_moment (state g.S.Store new))
@@ -81,5 +80,5 @@ returns-in-Err-set_version-clause-cause g c live =
     (λ clean. (
       e,
       failed_here g.S.Store mid new e
-          (two.kept clean (one.kept (still_clean two.survives clean) live).0.mode).1,
+          (two.kept clean (one.kept (still_clean two.survives clean) live).mode).1,
     ))

@@ -1,26 +1,40 @@
--- What is found of a bank before floors.
-use Rattle.std.proofs.Common.{◌≡◌, Err, Result, rules, sym, ◌∙◌, subst}
+-- What is found of a bank of an earlier version.
+use Rattle.std.proofs.Common.{◌≡◌, ◌+◌, ℕ, List, ◌∷◌, map, take, drop, Err, Result, rules, sym, ◌∙◌, ap, subst}
 use Rattle.sqlite.specs.Held.{state}
+use Rattle.sqlite.specs.State.{State}
 use Rattle.posting_rules.specs.declared.open_fault.OpenFault.{OpenFault}
 use Rattle.bank_transactions.proofs.Blamed.{comes, same_moment}
+use Rattle.store_rows.specs.Probes.{all_tables, probe_of}
+use Rattle.store_rows.specs.declared.probes.BankTable.{BankTable}
+use Rattle.store_rows.specs.declared.probes.BankTable.TheVariants as table
 use Rattle.bank_store.specs.Connections.{IsAsBefore}
 use Rattle.bank_store.specs.Migration.{MissesEarlier, SeeksEarlier, earlier_probes}
 use Rattle.bank_store.specs.TablePresence.{IsPresent}
 use Rattle.bank_store.specs.declared.presence.Presence.{Presence}
 use Rattle.bank_store.proofs.Causes.{known_within, still_clean}
 use Rattle.bank_store.proofs.FoundBank.{missed}
-use Rattle.bank_store.proofs.FoundEarlier.{counted, some_lacking}
+use Rattle.bank_store.proofs.FoundEarlier.{counted, meta_first, some_lacking}
 use Rattle.bank_store.proofs.migration.find_earlier.Goals as goal
+
+-- how many there are of them
+of_earlier : (from : ℕ) (others : List BankTable) (old mid : State) (p : Presence)
+    → others ≡ take (4 + from) (drop 1 all_tables)
+    → IsPresent old.now (map probe_of (table.Meta ∷ others)) p × IsAsBefore old mid
+    → IsPresent old.now (earlier_probes from) p × IsAsBefore old mid
+of_earlier from others old mid p is there =
+    subst (λ probes. IsPresent old.now probes p × IsAsBefore old mid)
+    (ap (λ others. map probe_of (table.Meta ∷ others)) is ∙ meta_first from) there
 
 pub returns-in_default : goal.returns-in_default
 returns-in_default g c =
     let there = c.in_ok-count_tables.ensures in
+    let old = state g.S.Store c.args.conn.now in
+    let new = state g.S.Store c.count_tables.new.conn in
     record {
-      told = λ clean. (
-        some_lacking (state g.S.Store c.args.conn.now).now c.in_ok-count_tables.field-0 c.in_default.not-Whole
-            (there.told clean).0,
-        (there.told clean).1,
-      );
+      told = λ clean.
+          let told = of_earlier c.args.from c.behind_meta.result.now old new c.in_ok-count_tables.field-0
+          c.behind_meta.ensures (there.told clean) in
+          (some_lacking c.args.from old.now c.in_ok-count_tables.field-0 c.in_default.not-Whole told.0, told.1);
       cause = tt;
       mode = there.mode;
       survives = there.survives;
@@ -34,10 +48,11 @@ returns-in_err-settled_meta-clause-told g c clean =
     let e = c.in_err-settled_meta in
     let is : c.from_residual-in_err-settled_meta.result ≡ Err e.field-0.0 = search rules in
     let there =
-    subst (λ (p : Presence). IsPresent old.now earlier_probes p × IsAsBefore old mid) c.in-Whole.is
-    (c.in_ok-count_tables.ensures.told (still_clean e.ensures.survives clean)) in
-    subst (λ (r : Result (Unit {0}) OpenFault). SeeksEarlier old new r) (sym is)
-    (missed old mid new there.1 (MissesEarlier old.now) tt (λ none other. (there.0, none, other)) e.field-0.0
+    subst (λ (p : Presence). IsPresent old.now (earlier_probes c.args.from) p × IsAsBefore old mid) c.in-Whole.is
+    (of_earlier c.args.from c.behind_meta.result.now old mid c.in_ok-count_tables.field-0 c.behind_meta.ensures
+    (c.in_ok-count_tables.ensures.told (still_clean e.ensures.survives clean))) in
+    subst (λ (r : Result (Unit {0}) OpenFault). SeeksEarlier c.args.from old new r) (sym is)
+    (missed old mid new there.1 (MissesEarlier c.args.from old.now) tt (λ none other. (there.0, none, other)) e.field-0.0
     e.ensures.fault (e.ensures.told clean) (e.ensures.other clean) (e.ensures.same clean))
 
 pub returns-in_err-settled_meta-clause-cause : goal.returns-in_err-settled_meta-clause-cause
@@ -55,7 +70,8 @@ returns-in-Some-clause-told g c clean =
     let new = state g.S.Store c.settled_meta.new.conn in
     let read = c.in_ok-settled_meta.ensures in
     let there =
-    subst (λ (p : Presence). IsPresent old.now earlier_probes p × IsAsBefore old mid) c.in-Whole.is
-    (c.in_ok-count_tables.ensures.told (still_clean read.survives clean)) in
-    counted old mid new there.0 there.1 (read.same clean) c.in-Some.meta
+    subst (λ (p : Presence). IsPresent old.now (earlier_probes c.args.from) p × IsAsBefore old mid) c.in-Whole.is
+    (of_earlier c.args.from c.behind_meta.result.now old mid c.in_ok-count_tables.field-0 c.behind_meta.ensures
+    (c.in_ok-count_tables.ensures.told (still_clean read.survives clean))) in
+    counted c.args.from old mid new there.0 there.1 (read.same clean) c.in-Some.meta
     (λ rows has. sym c.in-Some.is ∙ read.told clean rows has) c.check_count.result c.check_count.ensures

@@ -27,13 +27,13 @@ returns-in_err-change_tables g c =
       moved = search rules;
       undone = search rules;
       why = rw (told, ← same) (λ clean.
-          from_begun g.S.Store old at last new is (λ db. IsUnmoved db e.field-0.0)
-          (e.ensures.says.told (still_clean ended clean) (live g.S.Store old at last new is)));
+          from_begun c.args.from g.S.Store old at last new is (λ db. IsUnmoved c.args.from db e.field-0.0)
+          (e.ensures.says.told (still_clean ended clean) (live c.args.from g.S.Store old at last new is)));
       cause =
           let begun : IsBefore (s old) (s at) = rw is (begun_after g.S.Store old true) in
           rw (told, ← same)
           (known_within g.S.Store old at last new begun (still_clean ended) (comes ended) e.field-0.0
-          (e.ensures.cause (live g.S.Store old at last new is)));
+          (e.ensures.cause (live c.args.from g.S.Store old at last new is)));
       survives = search rules;
       mode = rw (← same) c.drop-tx.ensures.ended;
     }
@@ -63,8 +63,8 @@ returns-in-Err g c =
           )));
       survives =
           let changed = c.in_ok-change_tables.ensures.says in
-          subst (λ h. Survives (s old) (s h) (HasMoved (s old).now)) same
-          (stops g.S.Store old at last new is changed.survives c.in-Err.ensures.survives
-          (λ clean. changed.told clean (live g.S.Store old at last new is)));
+          subst (λ h. Survives (s old) (s h) (HasMoved c.args.from (s old).now)) same
+          (stops c.args.from g.S.Store old at last new is changed.survives c.in-Err.ensures.survives
+          (λ clean. changed.told clean (live c.args.from g.S.Store old at last new is)));
       mode = rw (← same) c.commit.ensures.ended;
     }

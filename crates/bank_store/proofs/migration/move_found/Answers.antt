@@ -15,7 +15,7 @@ returns-clause-told g c clean =
     let new = c.move_settled.new.conn in
     let here = c.move_settled.ensures in
     let found = c.in_ok-find_earlier.ensures.told (still_clean here.moves.survives clean) in
-    found_moves (s old) (s mid) (s new) found.0 found.1 c.move_settled.result (here.moves.moved clean)
+    found_moves c.args.from (s old) (s mid) (s new) found.0 found.1 c.move_settled.result (here.moves.moved clean)
     (here.moves.why clean) (here.same clean)
 
 pub returns-clause-cause : goal.returns-clause-cause

@@ -27,7 +27,7 @@ returns-in_default-probe_table-clause-moves g c =
       undone =
           λ clean.
           back (s old) (s mid) (s new) c.in_default-probe_table.field-0 c.note_settled.ensures
-          (tried.undone (still_clean asked clean)) (mode ∙ sym c.requires)
+          (tried.undone (still_clean asked clean)) (mode ∙ sym c.requires.mode)
           (c.in_default-probe_table.ensures.told clean);
       why = λ clean. tt;
       cause =
@@ -35,7 +35,7 @@ returns-in_default-probe_table-clause-moves g c =
           (probe_failed g.S.Store mid new (probe_of Meta) c.in_default-probe_table.field-0
           c.in_default-probe_table.ensures);
       survives =
-          survives_then (s old) (s mid) (s new) (HasMoved (s old).now) (λ _. ⊥) (HasMoved (s old).now)
+          survives_then (s old) (s mid) (s new) (HasMoved c.args.from (s old).now) (λ _. ⊥) (HasMoved c.args.from (s old).now)
           (λ clean trees made. made) (λ clean trees none. absurd none) tried.survives asked;
       mode = mode;
     }
@@ -64,7 +64,7 @@ returns-clause-moves g c =
           known_within g.S.Store old old mid new (same_moment (s old)) (still_clean asked) (comes asked)
           c.in-Err.fault tried.cause;
       survives =
-          survives_then (s old) (s mid) (s new) (HasMoved (s old).now) (λ _. ⊥) (HasMoved (s old).now)
+          survives_then (s old) (s mid) (s new) (HasMoved c.args.from (s old).now) (λ _. ⊥) (HasMoved c.args.from (s old).now)
           (λ clean trees made. made) (λ clean trees none. absurd none) tried.survives asked;
       mode = c.probe_table.ensures.mode tried.mode;
     }

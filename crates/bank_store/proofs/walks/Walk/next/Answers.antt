@@ -72,10 +72,10 @@ returns-in_err-refill g c =
       told =
           λ clean rows has.
           rw same
-          (faulty_step g.R.WalkedRow.item _ g.R.WalkedRow.is_broken _ _ fault (says.told clean rows has));
+          (faulty_step g.R.WalkedRow.item _ g.R.WalkedRow.Breaks _ _ fault (says.told clean rows has));
       store =
           λ clean rows has is.
-          store_told _ g.R.WalkedRow.is_broken _ fault (says.told clean rows has)
+          store_told _ g.R.WalkedRow.Breaks _ fault (says.told clean rows has)
           (same_fault _ fault _ same is);
       rises = λ k before. rw same tt;
       stage = record {

@@ -85,9 +85,9 @@ returns-in-Err g c =
       told =
           λ clean rows has.
           let given = filter (g.R.WalkedRow.is_given w.of) rows in
-          told_of _ g.R.WalkedRow.is_broken _ c.in-Err.fault c.told.result c.told.ensures
+          told_of _ g.R.WalkedRow.Breaks _ c.in-Err.fault c.told.result c.told.ensures
           (subst (λ l. BreaksFirst (IsStoreError (state g.S.Store w.bank.now.conn)
-          (state g.S.Store c.read_rows-answer.new.self.conn)) g.R.WalkedRow.is_broken l c.in-Err.fault)
+          (state g.S.Store c.read_rows-answer.new.self.conn)) g.R.WalkedRow.Breaks l c.in-Err.fault)
           (from_rest g.R.WalkedRow.key g.R.WalkedRow.item w.stage c.requires w.rows.items w.given w.rest from
           given low c.in-Some.is)
           (rw same at (c.in-Err.ensures.told clean rows has)));
