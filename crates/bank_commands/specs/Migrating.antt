@@ -1,5 +1,5 @@
 -- What the command `migrate` makes of the bank in its files, what it prints, and why no bank is migrated.
-use Rattle.std.specs.Prelude.{◌≡◌, ◌⊎◌, ℕ, nat_abs, List, Option, Result}
+use Rattle.std.specs.Prelude.{◌≡◌, ◌⊎◌, ℕ, pos, List, Option, Result}
 use Rattle.std.specs.Io.KnownBytes.{Keeps}
 use Rattle.sqlite.specs.Files.{HoldsDatabase}
 use Rattle.sqlite.specs.State.{State, HasCleanDisk, Opens}
@@ -12,8 +12,7 @@ use Rattle.posting_rules.specs.Tables.{Tables, AreTablesOf}
 use Rattle.posting_rules.specs.declared.open_fault.OpenFault.{OpenFault}
 use Rattle.store_rows.specs.View.{ShowsTrees}
 use Rattle.store_rows.specs.declared.metas.TheConstants.{VERSION}
-use Rattle.store_rows.specs.declared.migration.TheConstants.{BEFORE_FLOORS}
-use Rattle.bank_store.specs.Migration.{Misplaces, ShowsEarlierTrees}
+use Rattle.bank_store.specs.Migration.{IsFromEarlier, Misplaces, ShowsEarlierTrees}
 use Rattle.bank_store.specs.declared.migration.Migrated.{Migrated}
 use Rattle.bank_store.specs.declared.migration.Migrated.TheVariants.{Already, Moved}
 use Rattle.command_line.specs.Faults.{fault_of_opening}
@@ -26,38 +25,31 @@ use Rattle.command_line.specs.declared.status.Status.TheVariants.{Done}
 use Rattle.bank_commands.specs.InFile.{HoldsLog}
 use Rattle.bank_commands.specs.Unfound.{IsOpenedIn}
 
--- the files hold a bank of the version before floors, which shows the log as that version did
-pub record HoldsEarlier (image : Image) (log : List Command) : Type 0 where
+-- the files hold a bank of an earlier version, which shows the log as that version did
+pub record HoldsEarlier (from : ℕ) (image : Image) (log : List Command) : Type 0 where
   pub trees : Trees
   pub holds : HoldsDatabase image trees
-  pub shows : ShowsEarlierTrees trees log
-
--- that log with what its version knew: no branch has a floor
-abbrev pub without_floors : List Command → List Command
-without_floors = plain (nat_abs BEFORE_FLOORS)
-
--- a bank of the version before floors was moved, or it was of this version already
-abbrev pub IsAnswer : Migrated → Type 0
-IsAnswer migrated = (migrated ≡ Moved BEFORE_FLOORS) ⊎ (migrated ≡ Already)
+  pub shows : ShowsEarlierTrees from trees log
 
 -- ---- a bank is migrated
 
--- Over a connection that was opened: where its trees showed a log of the version before floors, the bank was
--- moved, and stands at that log without floors; where they showed one of this version, it stands at it.
+-- Over a connection that was opened: a bank of an earlier version was moved, or it was of this version already.
+-- Where its trees showed a log of an earlier version, that one was moved, and stands at the plain log; where they
+-- showed one of this version, it stands at it.
 pub record IsMigratedOver (s : State) (seen : Seen) (migrated : Migrated) : Type 0 where
-  pub answer : IsAnswer migrated
+  pub answer : IsFromEarlier migrated
   pub clean : seen.honest → HasCleanDisk s
-  pub earlier : seen.honest → Opens s → (log : List Command) → ShowsEarlierTrees s.now.trees log
-      → (migrated ≡ Moved BEFORE_FLOORS) × StandsAt seen (without_floors log)
+  pub earlier : seen.honest → Opens s → (from : ℕ) (log : List Command) → ShowsEarlierTrees from s.now.trees log
+      → (migrated ≡ Moved (pos from)) × StandsAt seen (plain from log)
   pub ours : seen.honest → Opens s → (tables : Tables) (log : List Command) → AreCommands log
       → ShowsTrees s.now.trees tables → AreTablesOf tables log
       → (migrated ≡ Already) × StandsAt seen log
 
 -- The same in files that held this.
 pub record IsMigratedFrom (image : Image) (seen : Seen) (migrated : Migrated) : Type 0 where
-  pub answer : IsAnswer migrated
-  pub earlier : seen.honest → (log : List Command) → HoldsEarlier image log
-      → (migrated ≡ Moved BEFORE_FLOORS) × StandsAt seen (without_floors log)
+  pub answer : IsFromEarlier migrated
+  pub earlier : seen.honest → (from : ℕ) (log : List Command) → HoldsEarlier from image log
+      → (migrated ≡ Moved (pos from)) × StandsAt seen (plain from log)
   pub ours : seen.honest → (log : List Command) → HoldsLog image log → (migrated ≡ Already) × StandsAt seen log
 
 abbrev pub IsMigratedIn : {C : Type 0} → (C → Seen) → Image → Migrated → Type 0
@@ -80,16 +72,16 @@ MigratesIn seen image w w' Ends =
 
 module _ {C : Type 0} (state : C → State) where
   -- No bank was migrated over a connection that began so. On a disk that was honest to the end the fault says
-  -- why, and whatever a stop leaves holds the log that was shown: as the version before floors or without
-  -- floors, or as this version.
+  -- why, and whatever a stop leaves holds the log that was shown: of an earlier version, that log as it or the
+  -- plain log as this one; of this version, that log.
   pub record IsUnmigratedOver (start : C) (fault : CommandFault) : Type 0 where
     pub opening : OpenFault
     pub is : fault ≡ fault_of_opening opening
     pub end : C
     pub misplaced : HasCleanDisk (state end) → Misplaces (state start) opening
-    pub earlier : HasCleanDisk (state end) → Opens (state start) → (log : List Command)
-        → ShowsEarlierTrees (state start).now.trees log → (left : Trees) → (state end).may_leave left
-        → ShowsEarlierTrees left log ⊎ ((t : Tables) × ShowsTrees left t × AreTablesOf t (without_floors log))
+    pub earlier : HasCleanDisk (state end) → Opens (state start) → (from : ℕ) (log : List Command)
+        → ShowsEarlierTrees from (state start).now.trees log → (left : Trees) → (state end).may_leave left
+        → ShowsEarlierTrees from left log ⊎ ((t : Tables) × ShowsTrees left t × AreTablesOf t (plain from log))
     pub ours : HasCleanDisk (state end) → Opens (state start) → (tables : Tables) (log : List Command)
         → AreCommands log → ShowsTrees (state start).now.trees tables → AreTablesOf tables log
         → (left : Trees) → (state end).may_leave left → (t : Tables) × ShowsTrees left t × AreTablesOf t log

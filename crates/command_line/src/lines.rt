@@ -62,7 +62,7 @@ pub fn print_driven<W: Sink>(count: u64, driven: Driven, output: &mut W) -> Resu
     print_line(driven_text(count, driven).as_str(), output)
 }
 
-/// Prints from which version to which a bank was carried over, as `migrated 1 to 2`.
+/// Prints from which version to which a bank was carried over, as `migrated 1 to 3`.
 pub fn print_migrated<W: Sink>(from: i64, to: i64, output: &mut W) -> Result<(), CommandFault>
     ensures prints { PrintsLine (migrated_line from to) (W.contents output.old) (W.contents output.new)
         (W.told output.old) (W.told output.new) result }
@@ -72,7 +72,7 @@ pub fn print_migrated<W: Sink>(from: i64, to: i64, output: &mut W) -> Result<(),
     print_line(migrated_text(from, to).as_str(), output)
 }
 
-/// Prints which version a bank had already, as `already version 2`.
+/// Prints which version a bank had already, as `already version 3`.
 pub fn print_already<W: Sink>(version: i64, output: &mut W) -> Result<(), CommandFault>
     ensures prints { PrintsLine (already_line version) (W.contents output.old) (W.contents output.new)
         (W.told output.old) (W.told output.new) result }
