@@ -1,7 +1,7 @@
 //! Mixed records, drawn from a seed.
 use crate::records::bytes_of;
 use anyhow::{Context, Result};
-use message_records::{Branch, REQUEST_BYTES};
+use message_records::{Branch, REFERENCE_BYTES, REQUEST_BYTES, Reference};
 use posting_core::{TELLERS_PER_BRANCH, first_account, first_teller};
 
 /// A generator of numbers, which shifts a word that isn't zero.
@@ -56,6 +56,15 @@ fn amount_by(draws: &mut Draws) -> i64 {
     }
 }
 
+// Every third request has a reference: a letter as often as it has bytes.
+fn reference_by(number: u64) -> Option<Reference> {
+    if !number.is_multiple_of(3) {
+        return None;
+    }
+    let letter = u8::try_from(number % 20).unwrap_or(0);
+    Reference::new(&[letter.wrapping_add(b'A'); REFERENCE_BYTES])
+}
+
 // A request of this number: mostly of an open teller, its branch and an open account.
 fn request_by(draws: &mut Draws, number: u64) -> Option<[u8; REQUEST_BYTES]> {
     let (before, home_count) = branch_by(draws);
@@ -74,10 +83,11 @@ fn request_by(draws: &mut Draws, number: u64) -> Option<[u8; REQUEST_BYTES]> {
         u64::from(draws.below(u32::from(count)))
     };
     let account = first_account(Branch::new(u64::from(other) + 1)?) + place;
-    bytes_of(account, teller, branch, number, amount_by(draws))
+    let reference = reference_by(number);
+    bytes_of(account, teller, branch, number, amount_by(draws), reference)
 }
 
-// An earlier record: the same, with another amount, or with a byte that is wrong.
+// An earlier record: the same, with another amount, with a byte that is wrong, or with another reference.
 fn again(draws: &mut Draws, sent: &[[u8; REQUEST_BYTES]]) -> Option<[u8; REQUEST_BYTES]> {
     let last = u32::try_from(sent.len()).unwrap_or(0);
     let mut bytes = *sent.get(draws.below(last) as usize)?;
@@ -90,6 +100,8 @@ fn again(draws: &mut Draws, sent: &[[u8; REQUEST_BYTES]]) -> Option<[u8; REQUEST
                 *place = byte;
             }
         }
+        // The first byte of a reference.
+        2 if bytes[3] == b'2' => bytes[51] = b'Z',
         _ => {}
     }
     Some(bytes)

@@ -1,7 +1,7 @@
 //! The records of a script.
 use message_records::{
-    Account, Branch, Cents, Number, REPLY_BYTES, REQUEST_BYTES, Reply, Request, Teller,
-    decode_reply, encode_request,
+    Account, Branch, Cents, Number, REFERENCE_BYTES, REPLY_BYTES, REQUEST_BYTES, Reference, Reply,
+    Request, Teller, decode_reply, encode_request,
 };
 use std::alloc::{AllocError, Global};
 
@@ -14,11 +14,11 @@ pub struct Record {
 }
 
 // The text, and spaces behind it; none where it is too long.
-fn padded(text: &str) -> Option<[u8; REQUEST_BYTES]> {
-    if text.len() > 100 {
+fn padded<const SIZE: usize>(text: &str) -> Option<[u8; SIZE]> {
+    if text.len() > SIZE {
         return None;
     }
-    let mut bytes = [b' '; 100];
+    let mut bytes = [b' '; SIZE];
     for (place, byte) in bytes.iter_mut().zip(text.as_bytes()) {
         *place = *byte;
     }
@@ -32,30 +32,42 @@ pub fn bytes_of(
     branch: u64,
     number: u64,
     delta: i64,
+    reference: Option<Reference>,
 ) -> Option<[u8; REQUEST_BYTES]> {
     let account = Account::new(account)?;
     let teller = Teller::new(teller)?;
     let branch = Branch::new(branch)?;
     let number = Number::new(number)?;
     let delta = Cents::new(delta)?;
-    let request = Request::new(account, teller, branch, number, delta)?;
+    let request = Request::new(account, teller, branch, number, delta, reference)?;
     Some(encode_request(&request))
 }
 
-// The record of a request's five numbers.
+// The reference of a text, with spaces behind it.
+fn reference_of(text: &str) -> Option<Reference> {
+    let bytes: [u8; REFERENCE_BYTES] = padded(text)?;
+    Reference::new(&bytes)
+}
+
+// The record of a request's five numbers, and of a reference behind the word `for`.
 fn bytes_of_numbers(text: &str) -> Option<[u8; REQUEST_BYTES]> {
-    let mut words = text.split(' ');
+    let (numbers, reference) = match text.split_once(" for ") {
+        Some((numbers, reference)) => (numbers, Some(reference_of(reference)?)),
+        None => (text, None),
+    };
+    let mut words = numbers.split(' ');
     let mut numbers = [0; 4];
     for number in &mut numbers {
         *number = words.next()?.parse::<u64>().ok()?;
     }
     let [account, teller, branch, number] = numbers;
     let delta = words.next()?.parse::<i64>().ok()?;
-    bytes_of(account, teller, branch, number, delta)
+    bytes_of(account, teller, branch, number, delta, reference)
 }
 
 impl Record {
-    /// The record that a text writes: its bytes, with spaces behind them, or the five numbers of a request.
+    /// The record that a text writes: its bytes, with spaces behind them, or the five numbers of a request and
+    /// its reference.
     pub fn of(text: &str) -> Option<Self> {
         let is_request = !text.starts_with("DC");
         let bytes = if is_request {

@@ -16,7 +16,7 @@ pub enum Query {
 }
 
 // How many tables a bank has.
-const TABLES: usize = 7;
+const TABLES: usize = 8;
 
 /// A sum over each table.
 pub type Sums = [i64; TABLES];
@@ -43,6 +43,7 @@ const SUMS: [&str; TABLES] = [
     "SELECT coalesce(sum(1 + 2 * ordinal + 3 * aid + 5 * tid + 7 * bid + 11 * delta + 13 * moment), 0) FROM history",
     "SELECT coalesce(sum(1 + 2 * ordinal + 3 * tid + 5 * number + 7 * aid + 11 * bid + 13 * delta + 17 * outcome + 19 * balance), 0) FROM request",
     "SELECT coalesce(sum(1 + 2 * bid + 3 * lowest), 0) FROM branch_floor",
+    "SELECT coalesce(sum(1 + 2 * ordinal + 3 * length(reference) + 5 * instr('ABCDEFGHIJKLMNOPQRSTUVWXYZ', substr(reference, 1, 1))), 0) FROM request_reference",
 ];
 
 fn sums<S: Alter>(conn: &mut Connection<S>) -> Result<Sums, Error> {

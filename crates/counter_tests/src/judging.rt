@@ -14,7 +14,7 @@ fn one_cent() -> Request {
     let branch = Branch::new(1).unwrap();
     let number = Number::new(1).unwrap();
     let delta = Cents::new(1).unwrap();
-    Request::new(account, teller, branch, number, delta).unwrap()
+    Request::new(account, teller, branch, number, delta, None).unwrap()
 }
 
 #[test]

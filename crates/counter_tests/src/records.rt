@@ -1,12 +1,14 @@
 //! The formats of records by worked examples and fault by fault, and the ends of the ranges.
 use message_records::{
     Account, Bad, BadReply, Branch, Cents, Moment, Number, Outcome, REPLY_BYTES, REQUEST_BYTES,
-    Reply, Request, Teller, decode_reply, decode_request, encode_reply, encode_request,
+    Reference, Reply, Request, Teller, decode_reply, decode_request, encode_reply, encode_request,
     one_spelling,
 };
 use std::process::Abort;
 
 const DEPOSIT: &[u8; 51] = b"DC01000000000001000000010000010000000001+0000000500";
+
+const RENT: &[u8; 71] = b"DC02000000000001000000010000010000000001+0000000500RENT MAY            ";
 
 const POSTED: &[u8; 72] =
     b"DR0100000000000001000000010000010000000001+0000000500+000000000500POSTED";
@@ -17,7 +19,7 @@ const MALFORMED: &[u8; 75] =
 // Faults field by field; those of the fillers stand in their test.
 const FAULTY_REQUESTS: [(&[u8; 51], Bad); 6] = [
     (
-        b"DC02000000000001000000010000010000000001+0000000500",
+        b"DC03000000000001000000010000010000000001+0000000500",
         Bad::Tag,
     ),
     (
@@ -95,7 +97,7 @@ fn deposit_of(delta: Cents) -> Option<Request> {
     let teller = Teller::new(1).unwrap();
     let branch = Branch::new(1).unwrap();
     let number = Number::new(1).unwrap();
-    Request::new(account, teller, branch, number, delta)
+    Request::new(account, teller, branch, number, delta, None)
 }
 
 // The request of `DEPOSIT`.
@@ -110,6 +112,46 @@ fn requests(rt: HostRuntime) {
     let bytes = record_of(&rt, DEPOSIT);
     assert_eq!(rt; decode_request(&bytes), Ok(deposit));
     assert_eq!(rt; encode_request(&deposit), bytes);
+}
+
+// The request of `RENT`.
+fn rent() -> Option<Request> {
+    let account = Account::new(1).unwrap();
+    let teller = Teller::new(1).unwrap();
+    let branch = Branch::new(1).unwrap();
+    let number = Number::new(1).unwrap();
+    let delta = Cents::new(500).unwrap();
+    let may = Reference::new(b"RENT MAY            ")?;
+    Request::new(account, teller, branch, number, delta, Some(may))
+}
+
+#[test]
+fn requests_with_a_reference(rt: HostRuntime) {
+    let rent = rent().expect(&rt, "a request");
+    let mut bytes: [u8; REQUEST_BYTES] = record_of(&rt, RENT);
+    assert_eq!(rt; decode_request(&bytes), Ok(rent));
+    assert_eq!(rt; encode_request(&rent), bytes);
+    // A reply shows the request without it.
+    let posted = Reply::new(Outcome::Posted, Some(rent), Cents::new(500));
+    belong_together(&rt, POSTED, &posted.expect(&rt, "a reply"));
+    bytes[99] = b'X';
+    assert_eq!(rt; decode_request(&bytes), Err(Bad::Filler));
+    bytes[51] = 0x7f;
+    assert_eq!(rt; decode_request(&bytes), Err(Bad::Reference));
+    bytes[50] = b' ';
+    assert_eq!(rt; decode_request(&bytes), Err(Bad::Delta));
+}
+
+// Spaces alone are a reference; a byte less, a byte more or one that isn't printable are none.
+#[test]
+fn ends_of_references(rt: HostRuntime) {
+    let text = [b' '; 21];
+    assert!(rt; Reference::new(&text[..20]).is_some());
+    assert_eq!(rt; Reference::new(&text[..19]), None);
+    assert_eq!(rt; Reference::new(&text), None);
+    assert!(rt; Reference::new(b"~~~~~~~~~~~~~~~~~~~~").is_some());
+    assert_eq!(rt; Reference::new(b"~~~~~~~~~~~~~~~~~~~\x1f"), None);
+    assert_eq!(rt; Reference::new(b"\x7f~~~~~~~~~~~~~~~~~~~"), None);
 }
 
 // The record that begins so and the reply are read and written as one another.

@@ -1,5 +1,5 @@
-//! A file of the version before floors: its bank is carried over, whole, where the machine stops at each call on a
-//! file, and not at all where something else has the name of the table of floors.
+//! Files of earlier versions: their bank is carried over, whole, where the machine stops at each call on a file, and
+//! not at all where something else has the name of a table that is made.
 use crate::files::{ALL_PASS, Image, play_on};
 use crate::stops::{made, stops_at_each};
 use crate::tasks::Task;
@@ -7,6 +7,23 @@ use bank_store::{Bank, Migrated, OpenFault, Refused, adopt, migrate};
 use sqlite::{Alter, Connection};
 use std::alloc::{Alloc, Global};
 use std::process::Abort;
+
+/// An earlier version.
+#[derive(Clone, Copy, PartialEq, Eq)]
+pub enum Version {
+    BeforeFloors,
+    BeforeReferences,
+}
+
+impl Version {
+    /// Its number in `meta`.
+    pub fn number(self) -> i64 {
+        match self {
+            Version::BeforeFloors => 1,
+            Version::BeforeReferences => 2,
+        }
+    }
+}
 
 /// The tables as they were before floors, and a bank of branch 1 with three accounts and branch 2 with two, behind
 /// the first posting and a remote one.
@@ -30,6 +47,13 @@ pub const EARLIER: &str = "BEGIN; \
     INSERT INTO request VALUES (1, 1, 1, 1, 1, 500, 0, 500), (2, 1, 2, 100001, 1, -700, 0, -700); \
     COMMIT";
 
+/// What makes that bank one of the version before references, with a floor of branch 1.
+pub const FLOORS: &str = "BEGIN; \
+    CREATE TABLE branch_floor (bid INTEGER PRIMARY KEY, lowest INTEGER NOT NULL) STRICT; \
+    INSERT INTO branch_floor VALUES (1, -1000); \
+    UPDATE meta SET version = 2; \
+    COMMIT";
+
 /// The bank is carried over, or was before, as it is wanted.
 pub fn migrated<S: Alter + Drop>(
     rt: &(impl Abort + Alloc<A = Global>),
@@ -47,57 +71,92 @@ pub fn migrated<S: Alter + Drop>(
 pub fn migrated_again<S: Alter + Drop>(
     rt: &(impl Abort + Alloc<A = Global>),
     conn: Connection<S>,
+    version: Version,
     is_answered: bool,
 ) -> Result<Bank<S>, Refused<S>> {
     assert!(rt; conn.is_autocommit());
     match adopt(rt.alloc(), conn) {
         Ok(bank) => migrated(rt, bank.release(), Migrated::Already),
         Err(Refused { fault, conn }) => {
-            assert_eq!(rt; (fault, is_answered), (OpenFault::Version(1), false));
-            migrated(rt, conn, Migrated::Moved(1))
+            let number = version.number();
+            assert_eq!(rt; (fault, is_answered), (OpenFault::Version(number), false));
+            migrated(rt, conn, Migrated::Moved(number))
         }
     }
 }
 
-fn earlier(rt: &(impl Abort + Alloc<A = Global>), beside: &str) -> Image {
-    made(rt, &[Task::MakeEarlier(beside)])
+const VERSIONS: [Version; 2] = [Version::BeforeFloors, Version::BeforeReferences];
+
+fn earlier(rt: &(impl Abort + Alloc<A = Global>), version: Version, beside: &str) -> Image {
+    made(rt, &[Task::MakeEarlier(version, beside)])
 }
 
 #[test]
 fn an_earlier_bank_is_carried_over(rt: HostRuntime) {
-    let start = earlier(&rt, "");
-    let tasks = [Task::Migrate, Task::Remigrate(true)];
-    let ended = play_on(&rt, &start.db, &start.log, ALL_PASS, &tasks);
-    assert!(rt; ended.progress.is_done);
+    for version in VERSIONS {
+        let start = earlier(&rt, version, "");
+        let tasks = [Task::Migrate(version), Task::Remigrate(version, true)];
+        let ended = play_on(&rt, &start.db, &start.log, ALL_PASS, &tasks);
+        assert!(rt; ended.progress.is_done);
+    }
+}
+
+// Stops at each call on the one file or the other. Some stops are in the migration.
+fn migration_stops(rt: &(impl Abort + Alloc<A = Global>), version: Version, stops_db: bool) {
+    let start = earlier(rt, version, "");
+    assert!(rt; stops_at_each(rt, &start, Task::Migrate(version), stops_db) > 0);
 }
 
 #[test]
-fn a_migration_stops_at_the_database_file(rt: HostRuntime) {
-    let start = earlier(&rt, "");
-    assert!(rt; stops_at_each(&rt, &start, Task::Migrate, true) > 0);
+fn a_migration_from_before_floors_stops_at_the_database_file(rt: HostRuntime) {
+    migration_stops(&rt, Version::BeforeFloors, true);
 }
 
 #[test]
-fn a_migration_stops_at_the_log(rt: HostRuntime) {
-    let start = earlier(&rt, "");
-    assert!(rt; stops_at_each(&rt, &start, Task::Migrate, false) > 0);
+fn a_migration_from_before_floors_stops_at_the_log(rt: HostRuntime) {
+    migration_stops(&rt, Version::BeforeFloors, false);
 }
 
-// Something else has the name of the table of floors.
-fn stays_as_it_is(rt: &(impl Abort + Alloc<A = Global>), beside: &str) {
-    let start = earlier(rt, beside);
-    let ended = play_on(rt, &start.db, &start.log, ALL_PASS, &[Task::MeetForeign]);
+#[test]
+fn a_migration_from_before_references_stops_at_the_database_file(rt: HostRuntime) {
+    migration_stops(&rt, Version::BeforeReferences, true);
+}
+
+#[test]
+fn a_migration_from_before_references_stops_at_the_log(rt: HostRuntime) {
+    migration_stops(&rt, Version::BeforeReferences, false);
+}
+
+// Something else has the name of a table that is made.
+fn stays_as_it_is(rt: &(impl Abort + Alloc<A = Global>), version: Version, beside: &str) {
+    let start = earlier(rt, version, beside);
+    let tasks = [Task::MeetForeign(version)];
+    let ended = play_on(rt, &start.db, &start.log, ALL_PASS, &tasks);
     assert!(rt; ended.progress.is_done);
     assert!(rt; ended.written.db.as_slice() == start.db.as_slice());
     assert!(rt; ended.written.log.as_slice() == start.log.as_slice());
 }
 
 #[test]
-fn the_name_is_taken(rt: HostRuntime) {
-    stays_as_it_is(
-        &rt,
-        "CREATE TABLE branch_floor (bid INTEGER PRIMARY KEY, lowest INTEGER NOT NULL) STRICT",
-    );
-    stays_as_it_is(&rt, "CREATE INDEX branch_floor ON history (aid)");
-    stays_as_it_is(&rt, "CREATE VIEW branch_floor AS SELECT bid FROM branch");
+fn a_name_is_taken(rt: HostRuntime) {
+    for (version, beside) in [
+        (
+            Version::BeforeFloors,
+            "CREATE TABLE branch_floor (bid INTEGER PRIMARY KEY, lowest INTEGER NOT NULL) STRICT",
+        ),
+        (
+            Version::BeforeFloors,
+            "CREATE INDEX branch_floor ON history (aid)",
+        ),
+        (
+            Version::BeforeFloors,
+            "CREATE TABLE request_reference (name TEXT)",
+        ),
+        (
+            Version::BeforeReferences,
+            "CREATE VIEW request_reference AS SELECT bid FROM branch",
+        ),
+    ] {
+        stays_as_it_is(&rt, version, beside);
+    }
 }

@@ -1,6 +1,6 @@
 //! Tests of the bank in tables that no scenario reaches: each statement of the bank's tables once, walks over
-//! rows that are beside one another, machines that stop at each call on a file, life after life, a file of the
-//! version before floors, steady runs, files that fail while a bank is read, the texts of reports, whole and cut,
+//! rows that are beside one another, machines that stop at each call on a file, life after life, files of
+//! earlier versions, steady runs, files that fail while a bank is read, the texts of reports, whole and cut,
 //! and the first programs of the libraries.
 #![tactic(auto)]
 

@@ -39,6 +39,7 @@ pub fn one_cent(account: u64, number: u64) -> Option<Request> {
         Branch::new(1).unwrap(),
         Number::new(number)?,
         Cents::new(1).unwrap(),
+        None,
     )
 }
 

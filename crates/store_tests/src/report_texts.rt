@@ -4,8 +4,8 @@ use bank_reports::{
     Audit, BranchLines, BranchSums, OrdinalSums, Sum, TellerSums, audit_of_sums, statement_closing,
     statement_heading, statement_line, statement_names, write_audit,
 };
-use bank_store::{StoredBranch, StoredPosting, StoredTeller};
-use message_records::{Account, Cents, Moment, Whole};
+use bank_store::{StatedPosting, StoredBranch, StoredPosting, StoredTeller};
+use message_records::{Account, Cents, Moment, Reference, Whole};
 use posting_core::Ordinal;
 use std::alloc::{Alloc, Global};
 use std::process::Abort;
@@ -42,8 +42,8 @@ CONSISTENT
 
 /// The statement of account 1 there.
 pub const STATEMENT: &[u8] = b"STATEMENT ACCOUNT 000000000001
-      ordinal       moment   teller branch          delta        balance
-            1         1000        1      1           +500            500
+      ordinal       moment   teller branch          delta        balance reference
+            1         1000        1      1           +500            500 RENT MAY            
 closing balance                                                      500
 ";
 
@@ -107,14 +107,17 @@ fn a_writer_that_fails_at_each_byte(rt: HostRuntime) -> Result<(), Fail> {
     Ok(())
 }
 
-fn posting() -> StoredPosting {
-    StoredPosting {
-        ordinal: Ordinal::new(1).unwrap(),
-        account: 1,
-        teller: 1,
-        branch: 1,
-        delta: 500,
-        moment: Moment::new(1000).unwrap(),
+fn posting() -> StatedPosting {
+    StatedPosting {
+        posting: StoredPosting {
+            ordinal: Ordinal::new(1).unwrap(),
+            account: 1,
+            teller: 1,
+            branch: 1,
+            delta: 500,
+            moment: Moment::new(1000).unwrap(),
+        },
+        reference: Reference::new(b"RENT MAY            "),
     }
 }
 

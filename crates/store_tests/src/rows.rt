@@ -3,15 +3,15 @@ ghost use Rattle.std.specs.Prelude.{◌≡◌};
 
 use crate::sql::{batch, number};
 use crate::tasks::Opened;
-use message_records::{Account, Branch, Cents, Moment, Number, Outcome, Teller};
-use posting_core::{BranchRow, HistoryRow, Kept, Ordinal, RequestRow, Rule};
+use message_records::{Account, Branch, Cents, Moment, Number, Outcome, Reference, Teller};
+use posting_rules::{BranchRow, Decision, HistoryRow, Ordinal, ReferenceRow, RequestRow, Rule};
 use sqlite::{Alter, Connection, Error, Transaction};
 use std::process::Abort;
 use std::test::Fail;
 use store_rows::{
     BEHIND_META, BankTable, Holder, Member, StoredMeta, TableFault, add_branch, add_history,
-    add_member, add_request, balance_of, commit, create, find_branch, find_request, next_branch,
-    probe_table, read_meta, set_balance, set_decided,
+    add_member, add_reference, add_request, balance_of, commit, create, find_branch,
+    find_reference, find_request, next_branch, probe_table, read_meta, set_balance, set_decided,
 };
 
 fn make<S: Alter>(rt: &impl Abort, conn: &mut Connection<S>) -> Result<(), Error> {
@@ -48,8 +48,8 @@ fn ordinal() -> Ordinal {
     Ordinal::new(1).unwrap()
 }
 
-fn kept() -> Kept {
-    Kept::new(
+fn decision() -> Decision {
+    Decision::new(
         account(),
         branch(),
         cents(-500),
@@ -64,7 +64,14 @@ fn request_row() -> RequestRow {
         ordinal: ordinal(),
         teller: teller(),
         number: Number::new(7).unwrap(),
-        kept: kept(),
+        decision: decision(),
+    }
+}
+
+fn reference_row() -> ReferenceRow {
+    ReferenceRow {
+        ordinal: ordinal(),
+        reference: Reference::new(b"RENT MAY            ").unwrap(),
     }
 }
 
@@ -100,7 +107,8 @@ fn keep<S: Alter>(tx: &mut Transaction<'_, S>) -> Result<(), TableFault>
             moment: Moment::new(1_000).unwrap(),
         },
     )?;
-    add_request(tx, request_row())
+    add_request(tx, request_row())?;
+    add_reference(tx, reference_row())
 }
 
 // The balances of a posting, and the count.
@@ -137,7 +145,7 @@ fn has_balances<S: Alter>(rt: &impl Abort, tx: &mut Transaction<'_, S>)
     ensures { tx.new.conn.ghost_name ≡ tx.old.conn.ghost_name }
 {
     let meta = StoredMeta {
-        version: 2,
+        version: 3,
         decided: 1,
     };
     let other = Account::new(100_002).unwrap();
@@ -161,6 +169,8 @@ fn has_rows<S: Alter>(rt: &impl Abort, tx: &mut Transaction<'_, S>)
     assert_eq!(rt; next_branch(tx, 1), Ok(Some(branch_row(-500))));
     assert_eq!(rt; next_branch(tx, 2), Ok(None));
     assert_eq!(rt; find_request(tx, teller(), number), Ok(Some(request_row())));
+    assert_eq!(rt; find_reference(tx, ordinal()), Ok(Some(reference_row())));
+    assert_eq!(rt; find_reference(tx, Ordinal::new(2).unwrap()), Ok(None));
 }
 
 fn read<S: Alter>(rt: &impl Abort, conn: &mut Connection<S>) {
@@ -189,7 +199,7 @@ fn is_made_beside<S: Alter>(rt: &impl Abort, conn: &mut Connection<S>) {
     assert_eq!(rt; batch(conn, NOTE), Ok(()));
     assert_eq!(rt; accepted(conn), Ok(0));
     assert_eq!(rt; make(rt, conn), Ok(()));
-    assert_eq!(rt; accepted(conn), Ok(7));
+    assert_eq!(rt; accepted(conn), Ok(8));
     assert_eq!(rt; number(conn, NOTES), Ok(1));
     assert!(rt; make(rt, conn).is_err());
 }

@@ -5,7 +5,7 @@ use sqlite::{Alter, Connection, Error};
 use std::process::Abort;
 
 // How many tables a bank has.
-const TABLES: usize = 7;
+const TABLES: usize = 8;
 
 /// A sum over each table, in which each row and each column has a weight of its own.
 pub type Sums = [i64; TABLES];
@@ -18,6 +18,7 @@ const TEXTS: [&str; TABLES] = [
     "SELECT coalesce(sum((1 + 2 * ordinal) * (1 + 3 * aid + 5 * tid + 7 * bid + 11 * delta)), 0) FROM history",
     "SELECT coalesce(sum((1 + 2 * ordinal) * (1 + 3 * tid + 5 * number + 7 * aid + 11 * bid + 13 * delta + 17 * outcome + 19 * balance)), 0) FROM request",
     "SELECT coalesce(sum((1 + 2 * bid) * (1 + 3 * lowest)), 0) FROM branch_floor",
+    "SELECT coalesce(sum(1 + 2 * ordinal), 0) FROM request_reference",
 ];
 
 /// The sums that are found.
@@ -51,10 +52,10 @@ pub struct Ledger {
 }
 
 impl Ledger {
-    /// A bank without branches: the one row of `meta`, of version 2.
+    /// A bank without branches: the one row of `meta`, of version 3.
     pub fn new() -> Self {
         Ledger {
-            sums: [5, 0, 0, 0, 0, 0, 0],
+            sums: [7, 0, 0, 0, 0, 0, 0, 0],
             decided: 0,
         }
     }

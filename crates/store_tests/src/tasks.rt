@@ -1,7 +1,7 @@
 //! Tasks on the bank of any store, one after another. What a task does with the bank borrows it.
 use crate::calls::{Asked, ask, ask_to_the_end};
 use crate::cases::{Case, Way};
-use crate::earlier::{EARLIER, migrated, migrated_again};
+use crate::earlier::{EARLIER, FLOORS, Version, migrated, migrated_again};
 use crate::readings::{Reading, is_consistent, read};
 use crate::reports::reports_are_cut;
 use crate::sql::batch;
@@ -43,14 +43,14 @@ pub enum Task<'a> {
     Walk(Rows),
     /// Its reports are cut.
     Report,
-    /// It is made by hand, as a bank of the version before floors, with this beside it.
-    MakeEarlier(&'a str),
+    /// It is made by hand, as a bank of an earlier version, with this beside it.
+    MakeEarlier(Version, &'a str),
     /// That bank is carried over.
-    Migrate,
+    Migrate(Version),
     /// What that left, which was answered or not, is carried over, if it wasn't, and read.
-    Remigrate(bool),
+    Remigrate(Version, bool),
     /// That bank isn't carried over, since something else has a name.
-    MeetForeign,
+    MeetForeign(Version),
 }
 
 impl<'a> Task<'a> {
@@ -59,7 +59,7 @@ impl<'a> Task<'a> {
         match self {
             Task::Create => Task::Recreate(progress.is_done),
             Task::Work(case) => Task::Again(case, progress.parts),
-            Task::Migrate => Task::Remigrate(progress.is_done),
+            Task::Migrate(version) => Task::Remigrate(version, progress.is_done),
             task => task,
         }
     }
@@ -71,15 +71,15 @@ impl<'a> Task<'a> {
     fn may_stop(self) -> bool {
         matches!(
             self,
-            Task::Create | Task::Work(_) | Task::Read(_) | Task::Limited(_) | Task::Migrate
+            Task::Create | Task::Work(_) | Task::Read(_) | Task::Limited(_) | Task::Migrate(_)
         )
     }
 
     // The fault for which there is no bank, if it isn't that the machine stopped.
     fn fault(self) -> Option<OpenFault> {
         match self {
-            Task::MakeEarlier(_) => Some(OpenFault::Version(1)),
-            Task::MeetForeign => Some(OpenFault::Foreign),
+            Task::MakeEarlier(version, _) => Some(OpenFault::Version(version.number())),
+            Task::MeetForeign(_) => Some(OpenFault::Foreign),
             _ => None,
         }
     }
@@ -126,8 +126,11 @@ fn prepare<S: Alter>(rt: &impl Abort, conn: &mut Connection<S>, task: Task) {
         Task::Again(case, parts) => is_left(rt, conn, case.states, parts),
         Task::Walk(rows) => assert_eq!(rt; put_rows(conn, rows), Ok(1)),
         Task::Limited(rows) => conn.set_step_limit(Some(rows)),
-        Task::MakeEarlier(beside) => {
+        Task::MakeEarlier(version, beside) => {
             assert_eq!(rt; batch(conn, EARLIER), Ok(()));
+            if version == Version::BeforeReferences {
+                assert_eq!(rt; batch(conn, FLOORS), Ok(()));
+            }
             assert_eq!(rt; batch(conn, beside), Ok(()));
         }
         _ => {}
@@ -173,8 +176,8 @@ fn act<S: Alter + Drop>(
     task: Task,
 ) -> Progress {
     match task {
-        Task::Create | Task::Recreate(_) | Task::Migrate => {}
-        Task::MakeEarlier(_) | Task::MeetForeign => {}
+        Task::Create | Task::Recreate(_) | Task::Migrate(_) => {}
+        Task::MakeEarlier(_, _) | Task::MeetForeign(_) => {}
         Task::Make(plan) => open_all(rt, bank, plan),
         Task::Post => ask_to_the_end(rt, bank, Asked::Postings),
         Task::Work(case) => return work_until(rt, bank, &case),
@@ -183,7 +186,7 @@ fn act<S: Alter + Drop>(
             ask_to_the_end(rt, bank, Asked::Case(&case));
         }
         Task::Read(reading) => return read(rt, bank, reading),
-        Task::Remigrate(_) => return read(rt, bank, Reading::AuditText),
+        Task::Remigrate(_, _) => return read(rt, bank, Reading::AuditText),
         Task::Limited(_) => return read(rt, bank, Reading::History),
         Task::Walk(rows) => assert_eq!(rt; walk_over(rt, bank, rows), Ok(())),
         Task::Report => reports_are_cut(rt, bank),
@@ -208,7 +211,7 @@ fn refused(rt: &impl Abort, fault: OpenFault, task: Task) -> Progress {
     assert_eq!(rt; fault, OpenFault::Store);
     assert!(rt; task.may_stop());
     Progress {
-        is_begun: task.makes() || matches!(task, Task::Migrate),
+        is_begun: task.makes() || matches!(task, Task::Migrate(_)),
         ..NOT_BEGUN
     }
 }
@@ -245,8 +248,10 @@ fn taken<S: Alter + Drop>(
     assert!(rt; conn.is_autocommit());
     match task {
         Task::Create | Task::Make(_) => create(rt.alloc(), conn),
-        Task::Migrate | Task::MeetForeign => migrated(rt, conn, Migrated::Moved(1)),
-        Task::Remigrate(is_answered) => migrated_again(rt, conn, is_answered),
+        Task::Migrate(version) | Task::MeetForeign(version) => {
+            migrated(rt, conn, Migrated::Moved(version.number()))
+        }
+        Task::Remigrate(version, is_answered) => migrated_again(rt, conn, version, is_answered),
         _ => remade(rt, adopt(rt.alloc(), conn), task),
     }
 }

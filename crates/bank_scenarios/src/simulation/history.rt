@@ -4,7 +4,8 @@ use crate::answers::is_floor;
 use crate::draws::{Draws, draw_group};
 use anyhow::{Context, Result, ensure};
 use message_records::{
-    Account, Branch, Cents, Moment, Outcome, REPLY_BYTES, REQUEST_BYTES, Reply, decode_reply,
+    Account, Branch, Cents, Moment, Outcome, REPLY_BYTES, REQUEST_BYTES, Reference, Reply,
+    decode_reply, decode_request,
 };
 use posting_core::{Counter, PlainBank};
 use std::alloc::Global;
@@ -89,8 +90,13 @@ fn plan(draws: &mut Draws) -> [Opened; 3] {
     ]
 }
 
+// What a record is referred to by.
+fn reference_in(record: &[u8; REQUEST_BYTES]) -> Option<Reference> {
+    decode_request(record).ok()?.reference()
+}
+
 // A reply to a decided request, as the tables keep it.
-fn entry_of(reply: &Reply, ordinal: i64) -> Option<Entry> {
+fn entry_of(reply: &Reply, reference: Option<Reference>, ordinal: i64) -> Option<Entry> {
     let request = reply.request()?;
     let outcome = match reply.outcome() {
         Outcome::Posted => 0,
@@ -109,6 +115,7 @@ fn entry_of(reply: &Reply, ordinal: i64) -> Option<Entry> {
         delta: request.delta().get(),
         outcome,
         balance: reply.balance().map_or(0, |balance| balance.get()),
+        reference,
     })
 }
 
@@ -183,7 +190,7 @@ impl History {
     fn post(&mut self, bank: &mut PlainBank, records: &[[u8; REQUEST_BYTES]]) -> Result<()> {
         for record in records {
             let reply = bank.submit(moment(), record)?;
-            let entry = self.decided_by(&reply);
+            let entry = self.decided_by(record, &reply);
             if let Some(entry) = &entry {
                 self.ledger.decide(entry);
             }
@@ -192,10 +199,10 @@ impl History {
         Ok(())
     }
 
-    // What a reply says that is decided, unless it is that to an earlier record.
-    fn decided_by(&self, reply: &[u8; REPLY_BYTES]) -> Option<Entry> {
+    // What a reply to a record says that is decided, unless it is that to an earlier record.
+    fn decided_by(&self, record: &[u8; REQUEST_BYTES], reply: &[u8; REPLY_BYTES]) -> Option<Entry> {
         let reply = decode_reply(reply).ok()?;
-        let entry = entry_of(&reply, self.ledger.next_ordinal())?;
+        let entry = entry_of(&reply, reference_in(record), self.ledger.next_ordinal())?;
         let is_known = self.parts.iter().any(|part| match &part.entry {
             Some(known) => known.teller == entry.teller && known.number == entry.number,
             None => false,

@@ -1,7 +1,8 @@
 //! Sums over the tables of a bank: as they are found, and as what it was given leads to them.
+use message_records::Reference;
 use sqlite::{Alter, Connection, Error};
 
-const TABLES: usize = 7;
+const TABLES: usize = 8;
 
 /// A sum over each table, in which each row and each column has a weight of its own. Moments are aside.
 pub type Sums = [i64; TABLES];
@@ -14,6 +15,7 @@ const TEXTS: [&str; TABLES] = [
     "SELECT coalesce(sum((1 + ordinal % 1009) * (1 + 3 * aid + 5 * tid + 7 * bid + 11 * delta)), 0) FROM history",
     "SELECT coalesce(sum((1 + ordinal % 1009) * (1 + 3 * tid + 5 * number + 7 * aid + 11 * bid + 13 * delta + 17 * outcome + 19 * balance)), 0) FROM request",
     "SELECT coalesce(sum((1 + bid % 1009) * (1 + 3 * lowest)), 0) FROM branch_floor",
+    "SELECT coalesce(sum((1 + ordinal % 1009) * (1 + 3 * instr('ABCDEFGHIJKLMNOPQRSTUVWXYZ', substr(reference, 1, 1)) + 5 * instr('ABCDEFGHIJKLMNOPQRSTUVWXYZ', substr(reference, 2, 1)))), 0) FROM request_reference",
 ];
 
 fn number<S: Alter>(conn: &mut Connection<S>, sql: &str) -> Result<i64, Error> {
@@ -40,6 +42,7 @@ pub struct Entry {
     pub delta: i64,
     pub outcome: i64,
     pub balance: i64,
+    pub reference: Option<Reference>,
 }
 
 impl Entry {
@@ -56,6 +59,15 @@ fn weighed(values: &[(i64, i64)]) -> i64 {
     })
 }
 
+// The place of a letter in the alphabet, from 1 on; 0 of another byte.
+fn place_of(letter: u8) -> i64 {
+    if letter.is_ascii_uppercase() {
+        i64::from(letter.wrapping_sub(b'A')).wrapping_add(1)
+    } else {
+        0
+    }
+}
+
 /// The tables of a bank, of which the sums are kept, and how many requests are decided.
 #[derive(Clone, Copy)]
 pub struct Ledger {
@@ -64,10 +76,10 @@ pub struct Ledger {
 }
 
 impl Ledger {
-    /// A bank without branches: the one row of `meta`, of version 2.
+    /// A bank without branches: the one row of `meta`, of version 3.
     pub fn new() -> Self {
         Ledger {
-            sums: [5, 0, 0, 0, 0, 0, 0],
+            sums: [7, 0, 0, 0, 0, 0, 0, 0],
             decided: 0,
         }
     }
@@ -135,5 +147,15 @@ impl Ledger {
             (19, entry.balance),
         ]);
         self.add(5, entry.ordinal, request);
+        if let Some(reference) = &entry.reference {
+            self.refer(entry.ordinal, reference);
+        }
+    }
+
+    // Adds the row of a reference, by its first two letters: all others are the second.
+    fn refer(&mut self, ordinal: i64, reference: &Reference) {
+        let text = reference.text();
+        let weight = weighed(&[(3, place_of(text[0])), (5, place_of(text[1]))]);
+        self.add(7, ordinal, weight);
     }
 }

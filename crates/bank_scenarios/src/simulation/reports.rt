@@ -50,7 +50,7 @@ fn add_heading(alloc: Global, text: &mut Vec<u8>, account: Account) -> Result<()
     let line = format!(in alloc; "STATEMENT ACCOUNT {number:012}\n")?;
     text.extend_from_slice(line.as_bytes())?;
     text.extend_from_slice(
-        b"      ordinal       moment   teller branch          delta        balance\n",
+        b"      ordinal       moment   teller branch          delta        balance reference\n",
     )
 }
 
@@ -66,10 +66,15 @@ fn add_line(
     let delta = delta.as_str();
     let [ordinal, teller, branch] = [entry.ordinal, entry.teller, entry.branch];
     let line = format!(in alloc;
-        "{ordinal:>13} {:>12} {teller:>8} {branch:>6} {delta:>14} {balance:>14}\n",
+        "{ordinal:>13} {:>12} {teller:>8} {branch:>6} {delta:>14} {balance:>14}",
         0
     )?;
-    text.extend_from_slice(line.as_bytes())
+    text.extend_from_slice(line.as_bytes())?;
+    if let Some(reference) = &entry.reference {
+        text.push(b' ')?;
+        text.extend_from_slice(reference.text())?;
+    }
+    text.extend_from_slice(b"\n")
 }
 
 /// The statement of an account, none if it isn't open.

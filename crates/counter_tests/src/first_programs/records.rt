@@ -11,7 +11,7 @@ fn first_record(rt: HostRuntime) -> Result<(), Fail> {
     let branch = Branch::new(1).unwrap();
     let number = Number::new(1).unwrap();
     let delta = Cents::new(500).unwrap();
-    let request = Request::new(account, teller, branch, number, delta).unwrap();
+    let request = Request::new(account, teller, branch, number, delta, None).unwrap();
     let mut bytes = encode_request(&request);
     let text = b"DC01000000000001000000010000010000000001+0000000500"; // and 49 spaces
     assert!(rt; bytes.starts_with(text));

@@ -6,7 +6,7 @@ pub fn first_verdict(balance: Option<Cents>) -> (Verdict, Option<Cents>) {
     let (account, teller) = (Account::new(1).unwrap(), Teller::new(1).unwrap());
     let (branch, number) = (Branch::new(1).unwrap(), Number::new(1).unwrap());
     let (zero, delta) = (Cents::zero(), Cents::new(500).unwrap());
-    let request = Request::new(account, teller, branch, number, delta).unwrap();
+    let request = Request::new(account, teller, branch, number, delta, None).unwrap();
     let found = Found {
         teller: Some((zero, zero)), // the balances of the teller and of its branch
         kept: None,

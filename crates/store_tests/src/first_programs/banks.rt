@@ -26,6 +26,7 @@ pub fn first_bank<S: Alter + Drop>(
         Branch::new(1).unwrap(),
         Number::new(1).unwrap(),
         Cents::new(500).unwrap(),
+        None,
     );
     let record = encode_request(&request.unwrap());
     let reply = bank.submit(Moment::new(1_795_442_400).unwrap(), &record)?;

@@ -20,6 +20,7 @@ pub fn first_request<S: Alter>(
         Branch::new(1).unwrap(),
         Number::new(1).unwrap(),
         Cents::new(500).unwrap(),
+        None,
     );
     post(
         alloc,
