@@ -25,7 +25,8 @@ static const char *const tables[] = {
     " aid INTEGER NOT NULL, bid INTEGER NOT NULL, delta INTEGER NOT NULL, outcome INTEGER NOT NULL,"
     " balance INTEGER NOT NULL, UNIQUE (tid, number)) STRICT",
     "CREATE TABLE branch_floor (bid INTEGER PRIMARY KEY, lowest INTEGER NOT NULL) STRICT",
-    "INSERT INTO meta VALUES (1, 2, 0)",
+    "CREATE TABLE request_reference (ordinal INTEGER PRIMARY KEY, reference TEXT NOT NULL) STRICT",
+    "INSERT INTO meta VALUES (1, 3, 0)",
 };
 
 static sqlite3 *db;

@@ -38,9 +38,10 @@ cmp <(cut -c 1-14,27- statement) <(cut -c 1-14,27- "$day/statement.txt")
 cmp audit "$day/audit.txt"
 
 echo "== A copy for the safe, of both files while no command runs, and a third branch for the next day, whose account"
-echo "   may not go below zero."
+echo "   may not go below zero. A posting has a reference, which the statement shows."
 for file in day.db day.db-wal; do
     if [ -e "$file" ]; then cp "$file" "safe-$file"; fi
 done
 "$bank" load day.db "$day/more_branches.csv"
 post next_day
+"$bank" statement day.db 200001

@@ -2,7 +2,7 @@
 """Compares the audits of the built program with sums that the C library of SQLite adds up by SQL.
 
 Each of 20 files is a bank that the program made, loaded and drove from a seed. A third of them are then set back to
-version 1 by SQL, and migrated. Half are changed by SQL, in ways that are drawn from the seed too: balances, deltas,
+version 1 or 2 by SQL, and migrated. Half are changed by SQL, in ways that are drawn from the seed too: balances, deltas,
 outcomes and ordinals, rows that are taken away and rows that are put in. The ten numbers, the lines of branches, the
 verdict and the status of `bank audit` have to be those of the SQL. It needs the built program, and stands outside the
 gate.
@@ -121,15 +121,17 @@ def make(file, plan, draw, seed):
         subprocess.run([BANK, "drive", file, "--seed", str(seed), "--count", count], check=True, stdout=subprocess.DEVNULL)
 
 
-def set_back(file):
-    """Gives a bank the tables of version 1, and migrates it."""
+def set_back(file, version):
+    """Gives a bank the tables of an earlier version, and migrates it."""
     conn = sqlite3.connect(file)
-    conn.execute("DROP TABLE branch_floor")
-    conn.execute("UPDATE meta SET version = 1")
+    if version == 1:
+        conn.execute("DROP TABLE branch_floor")
+    conn.execute("DROP TABLE request_reference")
+    conn.execute("UPDATE meta SET version = ?", (version,))
     conn.commit()
     conn.close()
     told = subprocess.run([BANK, "migrate", file], capture_output=True, text=True, check=False)
-    if (told.stdout, told.stderr, told.returncode) != ("migrated 1 to 2\n", "", 0):
+    if (told.stdout, told.stderr, told.returncode) != (f"migrated {version} to 3\n", "", 0):
         sys.exit(f"check_audit: status {told.returncode} of migrate\n{told.stderr}{told.stdout}")
 
 
@@ -145,7 +147,7 @@ def main():
             file = os.path.join(work, f"{seed}.db")
             make(file, os.path.join(work, "plan.csv"), draw, seed)
             if seed % 3 == 2:
-                set_back(file)
+                set_back(file, 1 + seed % 2)
             if seed % 2 == 1:
                 damage(file, draw)
             told = subprocess.run([BANK, "audit", file], capture_output=True, text=True, check=False)

@@ -1,7 +1,7 @@
 #!/bin/sh
 # Makes a bank in a file with the built program, and asks the C library of SQLite whether the file is sound, what it
-# holds, and whether the sums agree. It asks the same of a file of version 1 that is migrated, and whether that has the
-# rows that it had. It needs the built program and `sqlite3` on the path, and stands outside the gate.
+# holds, and whether the sums agree. It asks the same of a file of each earlier version that is migrated, and whether
+# that has the rows that it had. It needs the built program and `sqlite3` on the path, and stands outside the gate.
 set -eu
 here=$(cd "$(dirname "$0")/.." && pwd)
 bank=$here/crates/bank/out/bank
@@ -9,7 +9,6 @@ test -x "$bank" || { echo "check_file: build the program first: (cd crates/bank 
 work=$(mktemp -d)
 trap 'rm -rf "$work"' EXIT
 file=$work/bank.db
-old=$work/old.db
 # The file is sound, no branch differs from its tellers, and the three sums are one.
 is_sound() {
     verdict=$(sqlite3 "$1" \
@@ -32,6 +31,8 @@ sqlite3 "$file" "CREATE TABLE note (id INTEGER PRIMARY KEY, title TEXT); INSERT 
 "$bank" load "$file" "$here/examples/floors.csv"
 "$bank" post "$file" <"$here/examples/records" >"$work/replies"
 "$bank" post "$file" <"$here/examples/records" | cmp - "$work/replies"
+"$bank" post "$file" <"$here/examples/references" >"$work/replies"
+"$bank" post "$file" <"$here/examples/references" | cmp - "$work/replies"
 sqlite3 -header "$file" \
     "SELECT name FROM sqlite_schema WHERE type = 'table' ORDER BY name" \
     "SELECT * FROM meta" \
@@ -41,14 +42,19 @@ sqlite3 -header "$file" \
     "SELECT count(*) AS accounts, sum(balance) AS sum FROM account" \
     "SELECT * FROM history" \
     "SELECT * FROM request" \
+    "SELECT * FROM request_reference" \
     "SELECT title FROM note"
 is_sound "$file"
-cp "$here/crates/bank_trials/data/version_1.db" "$old"
-cp "$here/crates/bank_trials/data/version_1.db-wal" "$old-wal"
-rows "$old" >"$work/before"
-"$bank" migrate "$old"
-rows "$old" | cmp - "$work/before"
-test "$(sqlite3 "$old" "SELECT version FROM meta" "SELECT count(*) FROM branch_floor")" = "2
-0" || { echo "check_file: not migrated" >&2; exit 1; }
-is_sound "$old"
+# A version, and how many of its branches have a floor.
+for it in "1 0" "2 1"; do
+    old=$work/version_${it% *}.db
+    cp "$here/crates/bank_trials/data/version_${it% *}.db" "$old"
+    cp "$here/crates/bank_trials/data/version_${it% *}.db-wal" "$old-wal"
+    rows "$old" >"$work/before"
+    "$bank" migrate "$old"
+    rows "$old" | cmp - "$work/before"
+    test "$(sqlite3 -separator ' ' "$old" "SELECT version, (SELECT count(*) FROM branch_floor), (SELECT count(*) FROM request_reference) FROM meta")" = "3 ${it#* } 0" ||
+        { echo "check_file: version ${it% *} isn't migrated" >&2; exit 1; }
+    is_sound "$old"
+done
 echo "check_file: sound, and of one sum, also where it was migrated"

@@ -114,7 +114,15 @@ class Bank:
 
     @staticmethod
     def decode(record):
-        if record[:4] != b"DC01" or record[51:] != b" " * 49 or record[40] not in b"+-":
+        reference = None
+        if record[:4] == b"DC02":
+            reference = record[51:71]
+        if record[:4] not in (b"DC01", b"DC02") or record[40] not in b"+-":
+            return None
+        if reference is not None and any(not 32 <= b <= 126 for b in reference):
+            return None
+        filler = record[51:] if reference is None else record[71:]
+        if filler != b" " * len(filler):
             return None
         digits = record[4:40] + record[41:51]
         if any(not 48 <= b <= 57 for b in digits):
@@ -123,22 +131,23 @@ class Bank:
         delta = int(record[40:51])
         if not (account and teller and branch and number) or (delta == 0 and record[40] == 45):
             return None
-        return account, teller, branch, number, delta
+        return account, teller, branch, number, delta, reference
 
     def submit(self, record):
         request = self.decode(record)
         if request is None:
             return reply(90, b"MALFORMED", b"0" * 36 + b"+0000000000", 0)
-        account, teller, branch, number, delta = request
+        account, teller, branch, number, delta, reference = request
         echo = record[4:51]
         home = (teller - 1) // 10 + 1
         if home not in self.accounts:
             return reply(11, b"NO TELLER", echo, 0)
         kept = self.kept.get((teller, number))
         if kept is not None:
-            return kept[1] if kept[0] == (account, branch, delta) else reply(15, b"REUSED NUMBER", echo, 0)
+            same = kept[0] == (account, branch, delta, reference)
+            return kept[1] if same else reply(15, b"REUSED NUMBER", echo, 0)
         answer = self.decide(account, teller, branch, home, delta, echo)
-        self.kept[teller, number] = ((account, branch, delta), answer)
+        self.kept[teller, number] = ((account, branch, delta, reference), answer)
         return answer
 
     def decide(self, account, teller, branch, home, delta, echo):
@@ -233,6 +242,8 @@ def record(draw):
     delta = draw.choice([500, 500, -700, 0, 9_999_999_999, -9_999_999_999])
     sign = b"-" if delta < 0 else b"+"
     text = b"DC01%012d%08d%06d%010d%s%010d" % (account, teller, branch, number, sign, abs(delta))
+    if draw.random() < 0.3:
+        text = b"DC02" + text[4:] + draw.choice([b"RENT MAY", b"RENT JUN", b""])
     return damaged(draw, text.ljust(100), 0.1)
 
 

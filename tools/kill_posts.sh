@@ -18,7 +18,7 @@ for file in killed.db whole.db; do
     "$bank" load "$file" plan.csv >/dev/null
 done
 
-# The tellers of both branches in turn, each with its own numbers, on every account.
+# The tellers of both branches in turn, each with its own numbers, on every account. Every third has a reference.
 awk -v records="$records" 'BEGIN {
     srand(7)
     for (i = 0; i < records; i++) {
@@ -29,7 +29,9 @@ awk -v records="$records" 'BEGIN {
         amount = int(rand() * 20000) - 10000
         sign = (amount < 0) ? "-" : "+"
         if (amount < 0) amount = -amount
-        printf("DC01%012d%08d%06d%010d%s%010d%49s", account, teller, branch, int(i / 20) + 1, sign, amount, "")
+        fields = sprintf("%012d%08d%06d%010d%s%010d", account, teller, branch, int(i / 20) + 1, sign, amount)
+        if (i % 3 == 0) printf("DC02%s%-49s", fields, "RENT " i)
+        else printf("DC01%s%49s", fields, "")
     }
 }' >records
 

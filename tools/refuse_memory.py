@@ -34,12 +34,13 @@ AUDIT = b"".join(b"%-12s%20d\n" % line for line in [
 DAMAGED = AUDIT + b"branch 1 tellers -300 balance -200\nbranch 2 tellers 100 balance 0\nINCONSISTENT\n"
 # The moment of a posting is the program's own clock, so that the statement is compared without it.
 STATEMENT = (b"STATEMENT ACCOUNT 000000000001\n"
-             b"      ordinal       moment   teller branch          delta        balance\n"
+             b"      ordinal       moment   teller branch          delta        balance reference\n"
              b"            1 ------------        1      1           +500            500\n"
              b"closing balance                                                      500\n")
 TABLES = ["SELECT * FROM meta", "SELECT * FROM branch ORDER BY 1", "SELECT * FROM teller ORDER BY 1",
           "SELECT * FROM account ORDER BY 1", "SELECT ordinal, aid, tid, bid, delta FROM history ORDER BY 1",
-          "SELECT * FROM request ORDER BY 1", "SELECT * FROM branch_floor ORDER BY 1"]
+          "SELECT * FROM request ORDER BY 1", "SELECT * FROM branch_floor ORDER BY 1",
+          "SELECT * FROM request_reference ORDER BY 1"]
 
 
 def without_moments(text):
