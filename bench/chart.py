@@ -31,9 +31,9 @@ def read(path):
     return rates
 
 
-def ratio(rates, what, system):
+def ratio(rates, what, system, ours="ours"):
     """Ours over another's, round by round: the median and the range."""
-    pairs = [ours / other for ours, other in zip(rates[what, "ours"], rates[what, system])]
+    pairs = [own / other for own, other in zip(rates[what, ours], rates[what, system])]
     return f"{statistics.median(pairs):.2f} ({min(pairs):.2f} to {max(pairs):.2f})"
 
 
@@ -50,7 +50,24 @@ def table(rates):
         yield f"PostgreSQL's TPC-B script, one client: {other} a second. One a commit over it: {ratio(rates, 'one', 'postgres')}."
         pairs = [ours / other for ours, other in zip(rates["batch", "ours"], rates["one", "postgres"])]
         yield f"64 a commit over it: {statistics.median(pairs):.1f} ({min(pairs):.1f} to {max(pairs):.1f})."
+    for what, system in rates:
+        if system.startswith("postgres-"):
+            clients = system.removeprefix("postgres-")
+            other = f"{statistics.median(rates[what, system]):,.0f}"
+            yield f"By {clients} clients, with which it does best: {other}. One a commit over it: {ratio(rates, what, system)}."
     yield from growth(rates)
+    yield from beside_before(rates)
+
+
+def beside_before(rates):
+    """What stands beside the build of another tree, where one took part."""
+    cases = [(what, title) for what, title in CASES if (what, "before") in rates]
+    if cases:
+        yield ""
+        yield "| | over the tree before: median (range) | that over the C library |"
+        yield "|---|---|---|"
+    for what, title in cases:
+        yield f"| {title} | {ratio(rates, what, 'before')} | {ratio(rates, what, 'sqlite', 'before')} |"
 
 
 def growth(rates):

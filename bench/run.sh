@@ -5,7 +5,8 @@
 # Each figure goes to `measured.csv` in the folder that it was called in, from which `chart.py` makes the table and the
 # picture.
 #
-# The built program is left there too, as `post`; a later run takes it where POST names it.
+# The built program is left there too, as `post`; a later run takes it where POST names it. Where BEFORE names one of
+# another tree, it takes its turn in each round.
 #
 # It needs `rt`, a C compiler and SQLite's headers; without PostgreSQL its part is left out. TMPDIR picks the disk,
 # and /dev/shm stands for none. It stands outside the gate, and proves what it runs: what is kept in the crates here is copied first.
@@ -51,16 +52,18 @@ measure() {
     rm -f "$folder"/bench.db*
     case $system in
         ours) program=$post ;;
+        before) program=$BEFORE ;;
         *) program=$work/peer ;;
     esac
     echo "$what,$system,$("$program" "$folder/bench.db" "$@")" >>"$out"
     rm -f "$folder"/bench.db*
 }
 
-# Both systems on the same work.
-both() {
+# The systems on the same work.
+each() {
     measure "$1" ours "${@:2}"
     measure "$1" sqlite "${@:2}"
+    test -z "${BEFORE:-}" || measure "$1" before "${@:2}"
 }
 
 # A server of PostgreSQL with its own TPC-B tables, two branches of 100,000 accounts.
@@ -80,10 +83,23 @@ as_postgres() {
     (cd "$work/pg" && runuser -u postgres -- "$postgres/$1" "${@:2}") >"$work/asked" 2>&1
 }
 
-# Its TPC-B script by one client, with prepared statements.
+# Its TPC-B script by so many clients, with prepared statements: how many a second.
+tps_of() {
+    as_postgres pgbench -h "$work/pg" -p 5499 -c "$1" -j "$1" -T 5 -M prepared bank
+    sed -n 's/^tps = \([0-9]*\).*/\1/p' "$work/asked"
+}
+
+# How many clients it does best with.
+best_clients() {
+    for clients in 2 4 8 16 32; do
+        echo "$(tps_of $clients) $clients"
+    done | sort -n | tail -n 1 | cut -d ' ' -f 2
+}
+
+# By one client, and by as many as it does best with.
 ask_postgres() {
-    as_postgres pgbench -h "$work/pg" -p 5499 -c 1 -T 5 -M prepared bank
-    echo "one,postgres,$(sed -n 's/^tps = \([0-9]*\).*/\1/p' "$work/asked")" >>"$out"
+    echo "one,postgres,$(tps_of 1)" >>"$out"
+    echo "one,postgres-$clients,$(tps_of "$clients")" >>"$out"
 }
 
 test -n "${POST:-}" || build
@@ -92,18 +108,19 @@ has_postgres=
 if ls -d /usr/lib/postgresql/*/bin >"$work/asked" 2>&1; then
     start_postgres
     has_postgres=1
+    clients=$(best_clients)
 fi
 rm -f "$out"
 for _ in $(seq "$rounds"); do
-    both one "$work" 2 1000 0 "$count" 1
+    each one "$work" 2 1000 0 "$count" 1
     test -z "$has_postgres" || ask_postgres
-    both batch "$work" 2 1000 0 "$count" 64
-    both many-rows-one "$work" 2 1000 200000 "$count" 1
-    both many-rows-batch "$work" 2 1000 200000 "$count" 64
-    both large-one "$work" 10 100000 0 "$count" 1
-    both large-batch "$work" 10 100000 0 "$count" 64
-    both bare-one "$bare" 2 1000 0 "$count" 1
-    both bare-batch "$bare" 2 1000 0 "$count" 64
+    each batch "$work" 2 1000 0 "$count" 64
+    each many-rows-one "$work" 2 1000 200000 "$count" 1
+    each many-rows-batch "$work" 2 1000 200000 "$count" 64
+    each large-one "$work" 10 100000 0 "$count" 1
+    each large-batch "$work" 10 100000 0 "$count" 64
+    each bare-one "$bare" 2 1000 0 "$count" 1
+    each bare-batch "$bare" 2 1000 0 "$count" 64
 done
 for _ in 1 2 3; do
     measure few-rows ours "$bare" 2 1000 1000 "$count" 64

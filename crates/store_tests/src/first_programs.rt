@@ -24,7 +24,7 @@ use transactions::first_request;
 use walks::first_accounts;
 
 const REPORTS: &str = "STATEMENT ACCOUNT 000000000001
-      ordinal       moment   teller branch          delta        balance
+      ordinal       moment   teller branch          delta        balance reference
             1   1795442400        1      1           +500            500
 closing balance                                                      500
 branches                       1

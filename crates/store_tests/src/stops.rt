@@ -205,11 +205,12 @@ fn makes_and_works<'a>(plan: &'a [(u64, u32)], case: Case<'a>) -> [Task<'a>; 2] 
     [Task::Make(plan), Task::Work(case)]
 }
 
-// A report of a bank with two postings.
+// A report of a bank with two postings, the first with a reference.
 fn stop_in_report(rt: &(impl Abort + Alloc<A = Global>), reading: Reading) {
+    let referenced = "DC02000000000001000000010000010000000001+0000000500RENT MAY";
     let remote = "DC01000000100001000000010000010000000002-0000000700";
     let reply = "DR0100000000100001000000010000010000000002-0000000700-000000000700POSTED";
-    let records = [padded(RECORD), padded(remote)];
+    let records = [padded(referenced), padded(remote)];
     let replies = [padded(REPLY), padded(reply)];
     let case = Case {
         way: Way::OneByOne,
