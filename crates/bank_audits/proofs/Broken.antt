@@ -3,7 +3,7 @@ use Rattle.std.proofs.Common.{◌≡◌, inl, inr, List}
 use Rattle.posting_rules.specs.declared.fault.Rule.{Rule}
 use Rattle.posting_rules.specs.declared.fault.Rule.TheVariants.{Value}
 use Rattle.sql_meanings.specs.Entries.{Entry}
-use Rattle.bank_walks.specs.Outcomes.{BreaksValue}
+use Rattle.bank_walks.specs.StepOutcomes.{BreaksValue}
 use Rattle.bank_walks.specs.Pairs.{paired}
 use Rattle.bank_walks.specs.Stored.{BreaksAsked, BreaksPosted, IsNoAccount, IsNoBranch, IsNoPosting}
 use Rattle.bank_walks.specs.Stored.{IsNoRequest, IsNoTeller}

@@ -44,7 +44,7 @@
 
 mod audit;
 mod commands;
-mod files;
+mod file_connection;
 mod migration;
 mod openings;
 mod running;
@@ -54,7 +54,7 @@ mod work;
 
 pub use audit::audit_file;
 pub use commands::{drive, init, load_plan, post};
-pub use files::close;
+pub use file_connection::close;
 pub use migration::migrate_file;
 pub use openings::settled;
 pub use running::{run, words_of};

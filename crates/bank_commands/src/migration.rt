@@ -9,7 +9,7 @@ ghost use Rattle.command_line.specs.Working.{done_after};
 ghost use Rattle.bank_commands.specs.Migrating.{IsMigratedIn, IsMigratedOver, IsUnmigratedIn, IsUnmigratedOver};
 ghost use Rattle.bank_commands.specs.Migrating.{MigratesIn, migration_line};
 
-use crate::files::{close, connect, look_for};
+use crate::file_connection::{close, connect, look_for};
 use crate::openings::{fault_of, settled};
 use bank_store::{Bank, Migrated, migrate, opened_earlier_law, opened_law};
 use command_line::{CommandFault, print_already, print_migrated};

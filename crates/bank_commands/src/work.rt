@@ -11,7 +11,7 @@ ghost use Rattle.bank_commands.specs.Commands.{IsIdleIn};
 ghost use Rattle.bank_commands.specs.InFile.{BankIsMadeOver, IsTakenUp, WorksFrom};
 ghost use Rattle.bank_commands.specs.Unfound.{IsMissedOver, IsUnmadeIn, IsUnmadeOver};
 
-use crate::files::{close, connect, look_for};
+use crate::file_connection::{close, connect, look_for};
 use crate::openings::{Way, have, settled};
 use bank_store::Bank;
 use command_line::CommandFault;

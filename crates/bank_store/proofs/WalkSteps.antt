@@ -7,7 +7,7 @@ use Rattle.posting_rules.specs.declared.fault.Rule.{Rule}
 use Rattle.sqlite.specs.declared.error.Error.{Error}
 use Rattle.store_rows.specs.declared.fault.TableFault.{TableFault}
 use Rattle.store_rows.specs.declared.fault.TableFault.TheVariants.{Sqlite, Damaged}
-use Rattle.bank_walks.specs.Outcomes.{BreaksFirst}
+use Rattle.bank_walks.specs.StepOutcomes.{BreaksFirst}
 use Rattle.bank_walks.specs.Rising.{RisesFrom}
 use Rattle.bank_walks.proofs.Rises.{from_lower}
 use Rattle.bank_walks.specs.Rows.{items_behind, items_from}

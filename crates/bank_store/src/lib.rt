@@ -57,9 +57,9 @@
 
 mod adoption;
 mod bank;
-mod creation;
 mod laws;
 mod migration;
+mod new_bank;
 mod presence;
 mod refused;
 mod walks;
@@ -69,13 +69,13 @@ pub use bank::Bank;
 pub use bank_walks::{
     Joined, StatedPosting, StoredAccount, StoredBranch, StoredPosting, StoredRequest, StoredTeller,
 };
-pub use creation::create;
 pub use laws::{opened_earlier_law, opened_law};
 pub use message_records::{
     Account, Bad, BadReply, Branch, Cents, Moment, Number, Outcome, Reference, Reply, Request,
     Teller, decode_reply, decode_request, encode_request,
 };
 pub use migration::{Migrated, migrate};
+pub use new_bank::create;
 pub use posting_rules::{
     BranchLine, Counter, Fault, LAST_BRANCH, MAX_ACCOUNTS, MAX_DECIDED, OpenFault, Opening,
     Ordinal, RECORDS_PER_BATCH, Rule,

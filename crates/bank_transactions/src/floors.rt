@@ -8,7 +8,7 @@ ghost use Rattle.bank_transactions.specs.Doing.{Reads};
 ghost use Rattle.bank_transactions.specs.Floors.{falls_below};
 ghost use Rattle.bank_transactions.specs.Stored.{IsStoredBalance, IsStoredFloor};
 
-use crate::found::open_balance;
+use crate::look_ups::open_balance;
 use message_records::{Account, Branch, Cents};
 use posting_rules::{Rule, branch_of_account};
 use sqlite::{Alter, Transaction};

@@ -13,7 +13,7 @@ ghost use Rattle.bank_transactions.specs.NewRows.{tables_staffed, with_new, with
 ghost use Rattle.bank_transactions.specs.Stored.{AnswersStored, OpensByStored};
 
 use crate::floors::floor_at;
-use crate::found::branch_at;
+use crate::look_ups::branch_at;
 use message_records::{Account, Branch, Cents, Teller};
 use posting_rules::{
     BranchRow, FloorRow, LAST_BRANCH, MAX_ACCOUNTS, Opening, TELLERS_PER_BRANCH, first_account,

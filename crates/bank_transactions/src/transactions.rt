@@ -10,7 +10,7 @@ ghost use Rattle.posting_rules.specs.Sound.{AreSound};
 ghost use Rattle.bank_transactions.specs.Doing.{Consults, Ends, Transacts};
 ghost use Rattle.bank_transactions.specs.Stored.{IsStoredBalance, OpensByStored, RepliesToStored};
 
-use crate::found::open_balance;
+use crate::look_ups::open_balance;
 use crate::new_branch::open_inside;
 use crate::posting::post_inside;
 use message_records::{Account, Branch, Cents, Moment, REPLY_BYTES, Request};

@@ -10,7 +10,7 @@ use Rattle.store_rows.specs.declared.fault.TableFault.TheVariants.{Sqlite, Damag
 use Rattle.sql_meanings.specs.Tables.{width_of}
 use Rattle.bank_walks.specs.Kinds.{Kind}
 use Rattle.bank_walks.specs.Reading.{AreNumbers, NumbersFail}
-use Rattle.bank_walks.specs.Outcomes.{ReadsEntry, Stores, all_numbers, entry_of}
+use Rattle.bank_walks.specs.StepOutcomes.{ReadsEntry, Stores, all_numbers, entry_of}
 
 module _ {R : Type 0} (kind : Kind R) (row : Row) where
   -- it has as many numbers

@@ -15,7 +15,7 @@ use Rattle.sql_meanings.specs.Outcomes.{IsStoreError, WriteFails}
 use Rattle.sql_meanings.proofs.Afterwards.{fails_since, rolled_since}
 use Rattle.store_rows.specs.declared.fault.TableFault.{TableFault}
 use Rattle.store_rows.specs.declared.fault.TableFault.TheVariants.{Sqlite, Damaged}
-use Rattle.bank_walks.specs.Outcomes.{BreaksFirst}
+use Rattle.bank_walks.specs.StepOutcomes.{BreaksFirst}
 use Rattle.bank_walks.specs.Pairs.{AreJoined, BreaksPair, BreaksUnder, Pair, pair_key, pair_with}
 use Rattle.bank_walks.specs.Pairs.{paired, row_under}
 use Rattle.bank_walks.specs.Rising.{RisesFrom}

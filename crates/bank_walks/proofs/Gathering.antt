@@ -15,7 +15,7 @@ use Rattle.sql_meanings.proofs.EntryLists.{Above}
 use Rattle.store_rows.proofs.Lookups.{as_integer}
 use Rattle.store_rows.specs.declared.fault.TableFault.{TableFault}
 use Rattle.store_rows.specs.declared.fault.TableFault.TheVariants.{Sqlite, Damaged}
-use Rattle.bank_walks.specs.Outcomes.{BreaksFirst, BreaksValue, IsRefusedMemory, ReadsNext, all_numbers, shown}
+use Rattle.bank_walks.specs.StepOutcomes.{BreaksFirst, BreaksValue, IsRefusedMemory, ReadsNext, all_numbers, shown}
 use Rattle.bank_walks.specs.Rows.{IsWide, rows_from}
 use Rattle.bank_walks.specs.declared.ahead.TheConstants.{AHEAD}
 

@@ -3,7 +3,7 @@ use Rattle.std.proofs.Common.{◌≡◌, ℕ, ℤ, List, [], ◌∷◌, length, 
 use Rattle.sqlite.specs.Order.{Row}
 use Rattle.sqlite.specs.Term.{col, eval_all}
 use Rattle.sql_meanings.specs.Entries.{Entry, HasWidth, numbers, stored}
-use Rattle.bank_walks.specs.Outcomes.{all_numbers}
+use Rattle.bank_walks.specs.StepOutcomes.{all_numbers}
 
 -- one number behind the key
 pub shows_one : (params : Row) (e : Entry) → HasWidth (1, 0) e

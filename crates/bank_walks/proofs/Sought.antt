@@ -20,7 +20,7 @@ use Rattle.sql_meanings.proofs.ReadTables.{ReadsAs}
 use Rattle.posting_rules.specs.declared.fault.Rule.{Rule}
 use Rattle.store_rows.specs.declared.fault.TableFault.{TableFault}
 use Rattle.store_rows.specs.declared.fault.TableFault.TheVariants.{Sqlite, Damaged}
-use Rattle.bank_walks.specs.Outcomes.{BreaksFirst, IsRefusedMemory, all_numbers, shown}
+use Rattle.bank_walks.specs.StepOutcomes.{BreaksFirst, IsRefusedMemory, all_numbers, shown}
 use Rattle.bank_walks.specs.Rows.{HasStoredRows, IsWide, rows_from}
 use Rattle.bank_walks.specs.declared.ahead.TheConstants.{AHEAD}
 

@@ -15,7 +15,7 @@ use Rattle.sql_meanings.specs.Outcomes.{IsStoreError}
 use Rattle.sql_meanings.specs.Seeks.{is_from}
 use Rattle.store_rows.specs.declared.fault.TableFault.{TableFault}
 use Rattle.store_rows.specs.declared.fault.TableFault.TheVariants.{Sqlite, Damaged}
-use Rattle.bank_walks.specs.Outcomes.{BreaksFirst, IsRefusedMemory}
+use Rattle.bank_walks.specs.StepOutcomes.{BreaksFirst, IsRefusedMemory}
 use Rattle.bank_walks.specs.Pairs.{BreaksUnder, TellsKey, row_under}
 use Rattle.bank_walks.specs.Rising.{RisesFrom}
 use Rattle.bank_walks.specs.Rows.{rows_from}

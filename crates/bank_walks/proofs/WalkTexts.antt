@@ -33,7 +33,7 @@ use Rattle.sql_meanings.proofs.SeekTexts.{seeks_by, seeks_of_by}
 use Rattle.sql_meanings.proofs.Statements.{HasTable}
 use Rattle.sql_meanings.proofs.Texts.{IsSelect, only_reads, select_of}
 use Rattle.store_rows.specs.BankTables as bank
-use Rattle.bank_walks.specs.Outcomes.{all_numbers}
+use Rattle.bank_walks.specs.StepOutcomes.{all_numbers}
 use Rattle.bank_walks.specs.declared.ahead.TheConstants.{AHEAD}
 use Rattle.bank_walks.specs.declared.texts.TheConstants.{ACCOUNTS_FROM, BRANCHES_FROM, POSTINGS_FROM}
 use Rattle.bank_walks.specs.declared.texts.TheConstants.{POSTINGS_OF, REQUESTS_FROM, TELLERS_FROM}

@@ -1,7 +1,7 @@
 -- Rows of six and of eight numbers.
 use Rattle.std.proofs.Common.{◌≡◌, ℕ, ℤ, pos, List, [], ◌∷◌, length, get_or, refl, sym, ap, arith}
 use Rattle.sql_meanings.specs.Entries.{Entry}
-use Rattle.bank_walks.specs.Outcomes.{entry_of}
+use Rattle.bank_walks.specs.StepOutcomes.{entry_of}
 
 abbrev at : List ℤ → ℕ → ℤ
 at ns k = get_or ns k (pos 0)

@@ -1,6 +1,6 @@
 -- What the walks over the tables of a bank give.
 pub mod Kinds
-pub mod Outcomes
+pub mod StepOutcomes
 pub mod PairKeys
 pub mod Pairs
 pub mod Reading

@@ -8,7 +8,7 @@ use Rattle.sql_meanings.specs.Entries.{Entry, has_key}
 use Rattle.posting_rules.specs.declared.fault.Rule.{Rule}
 use Rattle.store_rows.specs.declared.fault.TableFault.{TableFault}
 use Rattle.store_rows.specs.declared.fault.TableFault.TheVariants.{Sqlite, Damaged}
-use Rattle.bank_walks.specs.Outcomes.{IsRefusedMemory}
+use Rattle.bank_walks.specs.StepOutcomes.{IsRefusedMemory}
 use Rattle.bank_walks.specs.Rows.{HasStoredRows, rows_behind, rows_from}
 use Rattle.bank_walks.specs.declared.joined.Joined.{Joined}
 

@@ -9,7 +9,7 @@ use Rattle.sql_meanings.specs.Entries.{Entry}
 use Rattle.sql_meanings.specs.Seeks.{begins}
 use Rattle.store_rows.specs.BankTables.{account, branch, history, request, teller}
 use Rattle.bank_walks.specs.Kinds.{Kind, given_all}
-use Rattle.bank_walks.specs.Outcomes.{BreaksValue}
+use Rattle.bank_walks.specs.StepOutcomes.{BreaksValue}
 use Rattle.bank_walks.specs.Pairs.{BreaksPair, Pair, pair_of}
 use Rattle.bank_walks.specs.Reading.{IsOutside}
 use Rattle.bank_walks.specs.References.{BreaksReference, text_entry}

@@ -6,8 +6,8 @@ ghost use Rattle.sqlite.specs.Held.{state};
 ghost use Rattle.sql_meanings.specs.Entries.{Entry, Rise};
 ghost use Rattle.sql_meanings.specs.Outcomes.{IsStoreError, WriteFails};
 ghost use Rattle.sql_meanings.specs.Tables.{width_of};
-ghost use Rattle.bank_walks.specs.Outcomes.{BreaksFirst, BreaksValue, IsRefusedMemory, ReadsEntry, ReadsNext};
-ghost use Rattle.bank_walks.specs.Outcomes.{shown};
+ghost use Rattle.bank_walks.specs.StepOutcomes.{BreaksFirst, BreaksValue, IsRefusedMemory, ReadsEntry, ReadsNext};
+ghost use Rattle.bank_walks.specs.StepOutcomes.{shown};
 ghost use Rattle.bank_walks.specs.Rising.{RisesFrom};
 ghost use Rattle.bank_walks.specs.Rows.{HasStoredRows, IsWide, entry_key, rows_behind, rows_from};
 

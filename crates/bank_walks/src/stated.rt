@@ -6,7 +6,7 @@ ghost use Rattle.sqlite.specs.Held.{state};
 ghost use Rattle.sql_meanings.specs.Entries.{Entry, Rise};
 ghost use Rattle.sql_meanings.specs.Outcomes.{IsStoreError, WriteFails};
 ghost use Rattle.store_rows.specs.BankTables.{reference as reference_table};
-ghost use Rattle.bank_walks.specs.Outcomes.{BreaksFirst};
+ghost use Rattle.bank_walks.specs.StepOutcomes.{BreaksFirst};
 ghost use Rattle.bank_walks.specs.Pairs.{AreJoined, paired};
 ghost use Rattle.bank_walks.specs.Rising.{RisesFrom};
 ghost use Rattle.bank_walks.specs.Rows.{HasStoredRows, entry_key, rows_behind, rows_from};

@@ -6,7 +6,7 @@ ghost use Rattle.sqlite.specs.Held.{state};
 ghost use Rattle.sql_meanings.specs.Entries.{Entry};
 ghost use Rattle.sql_meanings.specs.Outcomes.{IsStoreError, WriteFails};
 ghost use Rattle.bank_walks.specs.Kinds.{Kind};
-ghost use Rattle.bank_walks.specs.Outcomes.{Stores, shown};
+ghost use Rattle.bank_walks.specs.StepOutcomes.{Stores, shown};
 ghost use Rattle.bank_walks.specs.Rows.{HasStoredRows, rows_from};
 
 use crate::ahead::AHEAD;

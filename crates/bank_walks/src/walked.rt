@@ -6,7 +6,7 @@ ghost use Rattle.sqlite.specs.Held.{state};
 ghost use Rattle.sqlite.specs.Effect.{Database};
 ghost use Rattle.posting_rules.specs.declared.fault.Rule.{Rule};
 ghost use Rattle.sql_meanings.specs.Outcomes.{IsStoreError, WriteFails};
-ghost use Rattle.bank_walks.specs.Outcomes.{BreaksFirst};
+ghost use Rattle.bank_walks.specs.StepOutcomes.{BreaksFirst};
 ghost use Rattle.bank_walks.specs.Rising.{RisesFrom};
 ghost use Rattle.bank_walks.specs.Rows.{HaveKeys, items_behind, items_from};
 
@@ -64,7 +64,7 @@ pub trait WalkedRow: Copy + Default {
 
 impl<R: StoredRow> WalkedRow for R {
     ghost use Rattle.sql_meanings.specs.Entries.{Entry};
-    ghost use Rattle.bank_walks.specs.Outcomes.{BreaksValue};
+    ghost use Rattle.bank_walks.specs.StepOutcomes.{BreaksValue};
     ghost use Rattle.bank_walks.specs.Rows.{HasStoredRows, entry_key};
 
     ghost Item = { Entry };

@@ -1,7 +1,7 @@
 use Rattle.std.proofs.Common.{◌≡◌, List, ◌++◌, map, take, length, Some}
 use Rattle.sql_meanings.specs.Entries.{Entry, Rise}
 use Rattle.sql_meanings.specs.Tables.{width_of}
-use Rattle.bank_walks.specs.Outcomes.{shown}
+use Rattle.bank_walks.specs.StepOutcomes.{shown}
 use Rattle.bank_walks.specs.Rising.{RisesFrom}
 use Rattle.bank_walks.specs.Rows.{IsWide, entry_key, rows_from}
 use Rattle.bank_walks.specs.declared.ahead.TheConstants.{AHEAD}

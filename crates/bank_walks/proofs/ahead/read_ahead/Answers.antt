@@ -6,7 +6,7 @@ use Rattle.sqlite.specs.State.{IsUnchanged}
 use Rattle.sql_meanings.specs.Outcomes.{WriteFails}
 use Rattle.sql_meanings.specs.Tables.{width_of}
 use Rattle.sql_meanings.proofs.OrderedAnswers.{rise_filter}
-use Rattle.bank_walks.specs.Outcomes.{BreaksValue}
+use Rattle.bank_walks.specs.StepOutcomes.{BreaksValue}
 use Rattle.bank_walks.specs.Rows.{rows_from}
 use Rattle.bank_walks.proofs.Sought.{err_any, match_err, on_any, refused_memory, wide_filter}
 use Rattle.bank_walks.proofs.ahead.read_ahead.Goals as goal

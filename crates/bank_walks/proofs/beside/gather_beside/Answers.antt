@@ -2,7 +2,7 @@
 use Rattle.std.proofs.Common.{◌≡◌, ◌≤ℤ◌, Err, take, sym, ap, subst, ◌∙◌, rules, w64, to_z, of_z}
 use Rattle.std.specs.Prelude.{IsSomeAnd}
 use Rattle.std.proofs.lemmas.Int.{to_z-of_z}
-use Rattle.bank_walks.specs.Outcomes.{BreaksValue, IsRefusedMemory, shown}
+use Rattle.bank_walks.specs.StepOutcomes.{BreaksValue, IsRefusedMemory, shown}
 use Rattle.bank_walks.specs.Rows.{entry_key, rows_from}
 use Rattle.bank_walks.specs.declared.ahead.TheConstants.{AHEAD}
 use Rattle.bank_walks.proofs.Under.{beyond, broken_first, first_under, from_its_key, key_fails}

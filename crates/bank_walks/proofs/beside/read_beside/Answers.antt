@@ -5,7 +5,7 @@ use Rattle.std.proofs.lemmas.Int.{to_z-of_z}
 use Rattle.sqlite.specs.Held.{state}
 use Rattle.sqlite.specs.State.{IsUnchanged}
 use Rattle.sql_meanings.specs.Outcomes.{WriteFails}
-use Rattle.bank_walks.specs.Outcomes.{BreaksValue, shown}
+use Rattle.bank_walks.specs.StepOutcomes.{BreaksValue, shown}
 use Rattle.bank_walks.specs.Rows.{rows_from}
 use Rattle.bank_walks.specs.declared.ahead.TheConstants.{AHEAD}
 use Rattle.bank_walks.proofs.Sought.{all_pass, err_any, match_err, on_any}

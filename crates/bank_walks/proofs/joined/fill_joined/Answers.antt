@@ -6,7 +6,7 @@ use Rattle.sqlite.specs.Held.{state}
 use Rattle.sql_meanings.specs.Outcomes.{IsStoreError}
 use Rattle.sql_meanings.proofs.Saying.{survives_both}
 use Rattle.sql_meanings.proofs.OrderedAnswers.{rise_filter}
-use Rattle.bank_walks.specs.Outcomes.{BreaksValue}
+use Rattle.bank_walks.specs.StepOutcomes.{BreaksValue}
 use Rattle.bank_walks.specs.Pairs.{pair_of}
 use Rattle.bank_walks.specs.Rows.{HasStoredRows}
 use Rattle.bank_walks.proofs.Filling.{breaks_given, breaks_own, clean_between, fails_both, filled, match_both}

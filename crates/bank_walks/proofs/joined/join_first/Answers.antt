@@ -4,7 +4,7 @@ use Rattle.sqlite.proofs.StateLemmas.{unchanged}
 use Rattle.sqlite.specs.Held.{state}
 use Rattle.store_rows.proofs.Lookups.{as_integer}
 use Rattle.sql_meanings.specs.Outcomes.{IsStoreError}
-use Rattle.bank_walks.specs.Outcomes.{BreaksValue}
+use Rattle.bank_walks.specs.StepOutcomes.{BreaksValue}
 use Rattle.bank_walks.specs.Pairs.{pair_of}
 use Rattle.bank_walks.specs.Rows.{entry_key, rows_behind}
 use Rattle.bank_walks.proofs.Filling.{breaks_first, first_is, from_first, joined_first, match_both}

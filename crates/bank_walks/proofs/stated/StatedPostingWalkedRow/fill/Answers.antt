@@ -7,7 +7,7 @@ use Rattle.sql_meanings.specs.Outcomes.{IsStoreError}
 use Rattle.sql_meanings.proofs.Saying.{survives_both}
 use Rattle.sql_meanings.proofs.OrderedAnswers.{rise_filter}
 use Rattle.store_rows.specs.BankTables.{reference as reference_table}
-use Rattle.bank_walks.specs.Outcomes.{BreaksValue}
+use Rattle.bank_walks.specs.StepOutcomes.{BreaksValue}
 use Rattle.bank_walks.specs.References.{BreaksReference}
 use Rattle.bank_walks.specs.Rows.{HasStoredRows}
 use Rattle.bank_walks.specs.Stored.{IsNoPosting, is_of, stated_pair}

@@ -14,7 +14,7 @@ use Rattle.store_rows.specs.declared.fault.TableFault.{TableFault}
 use Rattle.bank_transactions.proofs.Broken.{branch_broken, count_broken, openable_under}
 use Rattle.bank_transactions.proofs.ReadsInTurn.{find_failed, find_tells}
 use Rattle.bank_transactions.proofs.SoundRows.{no_branch_beyond, branch_is, branch_unbroken}
-use Rattle.bank_transactions.proofs.found.branch_at.Goals as goal
+use Rattle.bank_transactions.proofs.look_ups.branch_at.Goals as goal
 
 pub returns-in_default-clause-says : goal.returns-in_default-clause-says
 returns-in_default-clause-says g c = record {

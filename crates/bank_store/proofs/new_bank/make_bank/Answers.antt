@@ -14,7 +14,7 @@ use Rattle.bank_store.specs.declared.presence.Presence.{Presence}
 use Rattle.bank_store.proofs.Causes.{unmade_as_known, unmade_within}
 use Rattle.bank_store.proofs.Probed.{as_before}
 use Rattle.bank_store.proofs.Unmade.{if_err, refused_before, some_there}
-use Rattle.bank_store.proofs.creation.make_bank.Goals as goal
+use Rattle.bank_store.proofs.new_bank.make_bank.Goals as goal
 
 on_ok : {X E : Type 0} (P : Type 0) → P → (r : Result X E) → OnOk r P
 on_ok P holds (Ok x) = holds

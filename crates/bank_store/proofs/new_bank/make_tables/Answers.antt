@@ -9,7 +9,7 @@ use Rattle.bank_store.specs.OpenFaults.{unmade_by}
 use Rattle.posting_rules.specs.declared.open_fault.OpenFault.TheVariants.{Store}
 use Rattle.bank_store.proofs.Causes.{begun_after, commit_failed, making_failed, still_clean, unmade_within}
 use Rattle.bank_store.proofs.Unmade.{refused_because}
-use Rattle.bank_store.proofs.creation.make_tables.Goals as goal
+use Rattle.bank_store.proofs.new_bank.make_tables.Goals as goal
 
 pub returns-in-Err : goal.returns-in-Err
 returns-in-Err g c =

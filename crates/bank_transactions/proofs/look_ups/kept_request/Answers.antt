@@ -19,7 +19,7 @@ use Rattle.bank_transactions.proofs.ReadsInTurn.{behind_found, find_failed, find
 use Rattle.bank_transactions.proofs.ReadsInTurn.{reads_told}
 use Rattle.bank_transactions.proofs.SoundRows.{is_a_request, request_is, request_unbroken}
 use Rattle.message_records.specs.declared.limits.TheConstants.{MAX_DELTA}
-use Rattle.bank_transactions.proofs.found.kept_request.Goals as goal
+use Rattle.bank_transactions.proofs.look_ups.kept_request.Goals as goal
 
 pub returns-in_err-row-clause-says : goal.returns-in_err-row-clause-says
 returns-in_err-row-clause-says g c =

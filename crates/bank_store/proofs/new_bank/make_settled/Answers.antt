@@ -11,7 +11,7 @@ use Rattle.posting_rules.specs.declared.open_fault.OpenFault.TheVariants.{Store}
 use Rattle.bank_store.proofs.Causes.{known_within, probe_failed, still_clean, unmade_as_known, unmade_within}
 use Rattle.bank_store.proofs.Probed.{as_before, probed}
 use Rattle.bank_store.proofs.Settled.{back}
-use Rattle.bank_store.proofs.creation.make_settled.Goals as goal
+use Rattle.bank_store.proofs.new_bank.make_settled.Goals as goal
 
 pub returns-in_default-probe_table-clause-makes : goal.returns-in_default-probe_table-clause-makes
 returns-in_default-probe_table-clause-makes g c =

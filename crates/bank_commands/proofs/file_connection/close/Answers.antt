@@ -1,6 +1,6 @@
 -- What the close copied is what the connection showed.
 use Rattle.bank_commands.proofs.BankInFiles.{closed_holds}
-use Rattle.bank_commands.proofs.files.close.Goals as goal
+use Rattle.bank_commands.proofs.file_connection.close.Goals as goal
 
 pub returns-in-Ok-clause-closed : goal.returns-in-Ok-clause-closed
 returns-in-Ok-clause-closed g c clean settled log stood image left =

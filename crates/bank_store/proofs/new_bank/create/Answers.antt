@@ -12,7 +12,7 @@ use Rattle.bank_store.specs.declared.presence.Presence.TheVariants.{Absent}
 use Rattle.bank_store.proofs.FoundBank.{no_bank}
 use Rattle.bank_store.proofs.Unmade.{not_taken}
 use Rattle.bank_store.proofs.NewBank.{stands_empty}
-use Rattle.bank_store.proofs.creation.create.Goals as goal
+use Rattle.bank_store.proofs.new_bank.create.Goals as goal
 
 pub returns-in-Ok : goal.returns-in-Ok
 returns-in-Ok g c =

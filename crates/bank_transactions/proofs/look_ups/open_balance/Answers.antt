@@ -9,7 +9,7 @@ use Rattle.bank_transactions.proofs.FittingAccounts.{fits}
 use Rattle.store_rows.specs.declared.holders.Member.TheVariants.{Account}
 use Rattle.bank_transactions.proofs.FailedBalances.{balance_failed}
 use Rattle.bank_transactions.proofs.ReadsInTurn.{behind_found}
-use Rattle.bank_transactions.proofs.found.open_balance.Goals as goal
+use Rattle.bank_transactions.proofs.look_ups.open_balance.Goals as goal
 
 pub returns-in_err-balance-clause-says : goal.returns-in_err-balance-clause-says
 returns-in_err-balance-clause-says g c =

@@ -7,7 +7,7 @@ use Rattle.store_rows.specs.Outcomes.{BreaksReference}
 use Rattle.bank_transactions.proofs.Broken.{reference_broken}
 use Rattle.bank_transactions.proofs.ReadsInTurn.{find_failed, find_tells}
 use Rattle.bank_transactions.proofs.SoundRows.{reference_unbroken}
-use Rattle.bank_transactions.proofs.found.reference_at.Goals as goal
+use Rattle.bank_transactions.proofs.look_ups.reference_at.Goals as goal
 
 pub returns-in_err-row-clause-says : goal.returns-in_err-row-clause-says
 returns-in_err-row-clause-says g c =

@@ -13,8 +13,8 @@ use Rattle.message_records.specs.declared.limits.TheConstants.{MAX_TELLER}
 use Rattle.store_rows.specs.declared.holders.Member.TheVariants as member
 use Rattle.bank_transactions.proofs.FailedBalances.{balance_failed}
 use Rattle.bank_transactions.proofs.ReadsInTurn.{behind_found, one_alone, teller_alone, teller_told}
-use Rattle.bank_transactions.proofs.found.teller_balances.Goals.{in_default-via-in-Some+in_default, in_default-via-in-None+in_default}
-use Rattle.bank_transactions.proofs.found.teller_balances.Goals as goal
+use Rattle.bank_transactions.proofs.look_ups.teller_balances.Goals.{in_default-via-in-Some+in_default, in_default-via-in-None+in_default}
+use Rattle.bank_transactions.proofs.look_ups.teller_balances.Goals as goal
 
 -- what was found of a teller, and then of the branch of its number, in a database that stayed as it was
 module _ (old mid : Database) (n number : ℕ) (is : number ≡ branch_of_teller n) (same : mid ≡ old) where

@@ -16,9 +16,9 @@ use Rattle.bank_transactions.proofs.ReadsInTurn.{read_failed}
 use Rattle.bank_transactions.proofs.SoundRows.{err_found}
 use mir.Val.{to_z, of_z}
 use mir.Syntax.{w64}
-use Rattle.bank_transactions.proofs.found.decided.Goals.{then-meta-lt0-via-then-meta-lt0}
-use Rattle.bank_transactions.proofs.found.decided.Goals.{then-meta-lt0-via-else-meta-lt0+then-meta-gt-MAX_DECIDED}
-use Rattle.bank_transactions.proofs.found.decided.Goals as goal
+use Rattle.bank_transactions.proofs.look_ups.decided.Goals.{then-meta-lt0-via-then-meta-lt0}
+use Rattle.bank_transactions.proofs.look_ups.decided.Goals.{then-meta-lt0-via-else-meta-lt0+then-meta-gt-MAX_DECIDED}
+use Rattle.bank_transactions.proofs.look_ups.decided.Goals as goal
 
 -- the row that was told is the one row of these tables
 row_is : (m : StoredMeta) (n : ℕ) → Some m ≡ meta_in (meta_entry VERSION n ∷ []) → m.decided ≡ pos n
