@@ -1,8 +1,9 @@
 #!/usr/bin/env bash
-# Refuses each allocation of `refused_again.rt.in` in turn: eight cases on the bank in memory and on a bank in tables, of which
-# one that is refused memory passes on the same value then, and one at which the store fails on the bank taken up anew. It
-# needs `rt`, proves nothing, and stands outside the gate.
-#   tools/refused_again.sh [FIRST]
+# Refuses each allocation of `refused_again.rt.in` in turn, one a run: eight cases on the bank in memory and on a bank in
+# tables, of which one that is refused memory passes on the same value then, and one at which the store fails on the bank
+# taken up anew. It adds up what was refused, by `itself` what the program needs for itself. It needs `rt` and a C
+# compiler, proves what it runs, as far as it isn't proved here, and stands outside the gate.
+#   tools/refused_again.sh
 set -eu
 here=$(cd "$(dirname "$0")/.." && pwd)
 work=$(mktemp -d)
@@ -11,33 +12,41 @@ mkdir -p "$work/crates/refused_again/src"
 cd "$work"
 git init -q
 cp "$here/HANDLES" .
-# The libraries below a program of these words in crates.txt, each once.
+# The libraries below a program of these words in crates.txt, each once, with what is kept of them.
 below() {
-    for crate in $(sed -n "s/^$1: *//p" "$here/crates.txt"); do
+    local crate
+    for crate in "$@"; do
         grep -q "^$crate:" "$here/crates.txt" || continue
         grep -q "^$crate:" crates.txt && continue
-        below "$crate"
+        below $(sed -n "s/^$crate: *//p" "$here/crates.txt")
         grep "^$crate:" "$here/crates.txt" >>crates.txt
-        (cd "$here/crates" && tar cf - --exclude=out "$crate") | tar xf - -C crates
+        cp -a "$here/crates/$crate" crates/
     done
 }
+libraries='bank_audits bank_reports bank_store branch_loader counter_http load_driver message_records posting_core'
 : >crates.txt
-for library in bank_lives bank_audits; do
-    below "$library"
-done
-grep '^bank_audits:' "$here/crates.txt" >>crates.txt
-(cd "$here/crates" && tar cf - --exclude=out bank_audits) | tar xf - -C crates
-echo "refused_again: bank_audits bank_reports bank_store branch_loader counter_http load_driver message_records posting_core sqlite sqlite_disk" >>crates.txt
+below $libraries
+echo "refused_again: $libraries sqlite sqlite_disk" >>crates.txt
 cp "$here/tools/refused_again.rt.in" crates/refused_again/src/main.rt
-cd crates/refused_again
-at=${1:-1}
-while [ -n "$at" ]; do
+cc -O1 -shared -fPIC -o refuse.so "$here/tools/refuse_memory.c"
+(cd crates/refused_again && { rt run </dev/null || test -x out/refused_again; }) >said 2>&1 || { cat said; exit 1; }
+
+# Plays all cases with this word on its standard input, and the allocation of this number refused.
+play() {
     status=0
-    said=$(rt try --seconds 300 --fail-alloc "$at.." 2>&1) || status=$?
-    echo "$said" | tail -5
-    at=$(echo "$said" | sed -n 's/.*next=\([0-9]*\).*/\1/p' | tail -1)
-    if [ "$status" != 0 ] && [ -z "$at" ]; then
-        echo "refused_again: $said"
-        exit 1
-    fi
+    said=$(echo "$1" | REFUSE_AT=$2 REFUSE_COUNT=$work/count LD_PRELOAD=$work/refuse.so crates/refused_again/out/refused_again) ||
+        status=$?
+}
+
+for kind in memory tables; do
+    play $kind 0
+    most=$(od -An -tu8 "$work/count" | tr -d ' ')
+    for ((at = 1; at <= most; at++)); do
+        play $kind "$at"
+        case "$status $said" in
+        '0 passed'*) echo "$said" ;;
+        '3 ') echo itself ;;
+        *) echo "WRONG at $at: status $status $said" ;;
+        esac
+    done | sort | uniq -c | sed "s/^ */refused_again: $kind: /"
 done
