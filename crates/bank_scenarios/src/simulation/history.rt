@@ -4,7 +4,7 @@ use crate::answers::is_floor;
 use crate::draws::{Draws, draw_group};
 use anyhow::{Context, Result, ensure};
 use message_records::{
-    Account, Branch, Cents, Moment, Outcome, REPLY_BYTES, REQUEST_BYTES, Reference, Reply,
+    Account, Branch, Cents, Moment, Outcome, REFERENCE_BYTES, REPLY_BYTES, REQUEST_BYTES, Reply,
     decode_reply, decode_request,
 };
 use posting_core::{Counter, PlainBank};
@@ -90,13 +90,18 @@ fn plan(draws: &mut Draws) -> [Opened; 3] {
     ]
 }
 
-// What a record is referred to by.
-fn reference_in(record: &[u8; REQUEST_BYTES]) -> Option<Reference> {
-    decode_request(record).ok()?.reference()
+// The bytes that a record is referred to by.
+fn reference_in(record: &[u8; REQUEST_BYTES]) -> Option<[u8; REFERENCE_BYTES]> {
+    let reference = decode_request(record).ok()?.reference()?;
+    Some(*reference.text())
 }
 
 // A reply to a decided request, as the tables keep it.
-fn entry_of(reply: &Reply, reference: Option<Reference>, ordinal: i64) -> Option<Entry> {
+fn entry_of(
+    reply: &Reply,
+    reference: Option<[u8; REFERENCE_BYTES]>,
+    ordinal: i64,
+) -> Option<Entry> {
     let request = reply.request()?;
     let outcome = match reply.outcome() {
         Outcome::Posted => 0,

@@ -1,5 +1,5 @@
 //! Sums over the tables of a bank: as they are found, and as what it was given leads to them.
-use message_records::Reference;
+use message_records::REFERENCE_BYTES;
 use sqlite::{Alter, Connection, Error};
 
 const TABLES: usize = 8;
@@ -42,7 +42,7 @@ pub struct Entry {
     pub delta: i64,
     pub outcome: i64,
     pub balance: i64,
-    pub reference: Option<Reference>,
+    pub reference: Option<[u8; REFERENCE_BYTES]>,
 }
 
 impl Entry {
@@ -153,9 +153,8 @@ impl Ledger {
     }
 
     // Adds the row of a reference, by its first two letters: all others are the second.
-    fn refer(&mut self, ordinal: i64, reference: &Reference) {
-        let text = reference.text();
-        let weight = weighed(&[(3, place_of(text[0])), (5, place_of(text[1]))]);
+    fn refer(&mut self, ordinal: i64, reference: &[u8; REFERENCE_BYTES]) {
+        let weight = weighed(&[(3, place_of(reference[0])), (5, place_of(reference[1]))]);
         self.add(7, ordinal, weight);
     }
 }

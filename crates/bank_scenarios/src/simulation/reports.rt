@@ -72,7 +72,7 @@ fn add_line(
     text.extend_from_slice(line.as_bytes())?;
     if let Some(reference) = &entry.reference {
         text.push(b' ')?;
-        text.extend_from_slice(reference.text())?;
+        text.extend_from_slice(reference)?;
     }
     text.extend_from_slice(b"\n")
 }
