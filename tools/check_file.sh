@@ -46,15 +46,15 @@ sqlite3 -header "$file" \
     "SELECT title FROM note"
 is_sound "$file"
 # A version, and how many of its branches have a floor.
-for it in "1 0" "2 1"; do
-    old=$work/version_${it% *}.db
-    cp "$here/crates/bank_trials/data/version_${it% *}.db" "$old"
-    cp "$here/crates/bank_trials/data/version_${it% *}.db-wal" "$old-wal"
+for pair in "1 0" "2 1"; do
+    old=$work/version_${pair% *}.db
+    cp "$here/crates/bank_trials/data/version_${pair% *}.db" "$old"
+    cp "$here/crates/bank_trials/data/version_${pair% *}.db-wal" "$old-wal"
     rows "$old" >"$work/before"
     "$bank" migrate "$old"
     rows "$old" | cmp - "$work/before"
-    test "$(sqlite3 -separator ' ' "$old" "SELECT version, (SELECT count(*) FROM branch_floor), (SELECT count(*) FROM request_reference) FROM meta")" = "3 ${it#* } 0" ||
-        { echo "check_file: version ${it% *} isn't migrated" >&2; exit 1; }
+    test "$(sqlite3 -separator ' ' "$old" "SELECT version, (SELECT count(*) FROM branch_floor), (SELECT count(*) FROM request_reference) FROM meta")" = "3 ${pair#* } 0" ||
+        { echo "check_file: version ${pair% *} isn't migrated" >&2; exit 1; }
     is_sound "$old"
 done
 echo "check_file: sound, and of one sum, also where it was migrated"
