@@ -7,7 +7,7 @@
 set -euo pipefail
 here=$(cd "$(dirname "$0")/.." && pwd)
 trials=${TRIALS:-$here/crates/bank_trials/out/bank_trials}
-test -x "$trials" || { echo "simulate: build the program first: (cd crates/bank_trials && rt run <stdin)" >&2; exit 2; }
+test -x "$trials" || { echo "simulate: build the program first: (cd crates/bank_trials && printf '\nruns\n' | rt run)" >&2; exit 2; }
 seed=${1:-1}
 count=${2:-1000}
 together=100
