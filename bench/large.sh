@@ -1,8 +1,8 @@
 #!/usr/bin/env bash
 # Measures the built program on banks of 1, 10, 40 and 100 branches of 100,000 accounts: how long `load` takes, how large
-# the file is, and how long opening takes (`post` of no record), each with its peak of memory; then `post` of so many
-# records (200,000 unless an argument says), and opening behind them. It needs Python and GNU time, and stands outside the
-# gate. TMPDIR picks the disk.
+# the file is, and how long opening takes (`post` of no record), each with its peak of memory; then `drive` of so many
+# records (200,000 unless an argument says), opening behind them, and `audit`. It needs GNU time, and stands outside the
+# gate. TMPDIR picks the disk, and BANK names another program.
 set -eu
 here=$(cd "$(dirname "$0")/.." && pwd)
 bank=${BANK:-$here/crates/bank/out/bank}
@@ -21,12 +21,10 @@ timed() {
 for branches in 1 10 40 100; do
     rm -f bank.db*
     { echo branch,accounts; seq -f '%.0f,100000' "$branches"; } >plan.csv
-    plan=$(seq -f '%.0f:100000' "$branches")
-    python3 "$here/tools/driver_vectors.py" 7 "$count" $plan | awk '{ printf("%-100s", $1) }' >records
     "$bank" init bank.db >said
     echo "$branches branches: load $(timed load bank.db plan.csv)"
     echo "  file $(stat -c %s bank.db) bytes, opening $(timed post bank.db </dev/null)"
-    echo "  post of $count records $(timed post bank.db <records)"
+    echo "  drive of $count records $(timed drive bank.db --seed 7 --count "$count")"
     echo "  file $(stat -c %s bank.db) bytes, opening $(timed post bank.db </dev/null)"
     echo "  audit $(timed audit bank.db): $(tail -n 1 said)"
 done
