@@ -142,4 +142,5 @@ def main():
         with_wrk(file, folder, seconds)
 
 
-main()
+if __name__ == "__main__":
+    main()
