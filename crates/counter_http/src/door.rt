@@ -5,7 +5,7 @@ ghost use Rattle.posting_core.specs.Told.{GrowsBy};
 use crate::close::end;
 use crate::queue::Queue;
 use crate::reader::TimedReader;
-use crate::waiting_limits::ONE_WRITE;
+use crate::waiting_limits::{ONE_READ, ONE_WRITE};
 use crate::writer::TimedWriter;
 use posting_core::{Sink, Source};
 use std::io;
@@ -53,6 +53,7 @@ impl<'l, T: Clock> Door for TcpDoor<'l, T> {
     fn open(&mut self) -> io::Result<(Self::Reader, Self::Writer)> {
         let (stream, _) = self.listener.accept()?;
         let _ = stream.set_nodelay(true);
+        stream.set_read_timeout(Some(Duration::from_millis(ONE_READ)))?;
         stream.set_write_timeout(Some(Duration::from_millis(ONE_WRITE)))?;
         let queue = Queue::new(self.listener);
         let writer = TimedWriter::new(stream.try_clone()?, queue, self.time);

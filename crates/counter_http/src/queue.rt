@@ -1,9 +1,10 @@
 //! Who waits: the clients at a listener, and a stream that something came on.
+use crate::waiting_limits::LOOK_AGAIN;
 use libc::net::{POLLIN, poll};
 use libc::types::pollfd;
 use std::net::TcpListener;
 use std::os::fd::{AsRawFd, RawFd};
-use std::time::Duration;
+use std::time::{Duration, Instant};
 
 /// The clients that wait at a listener for their turn.
 #[derive(Clone, Copy)]
@@ -42,6 +43,36 @@ impl Queue {
     pub fn wait_beside(self, stream: RawFd, limit: Duration) -> bool {
         let mut of_both = [asked(stream), asked(self.listener)];
         poll(&mut of_both, millis(limit)) > 0 && of_both[0].revents != 0
+    }
+}
+
+/// Whether a client waits, as it was seen last.
+#[derive(Clone, Copy)]
+pub(crate) struct Sight {
+    seen: Option<Instant>,
+    others_wait: bool,
+}
+
+impl Sight {
+    /// Of a queue that wasn't looked at.
+    pub fn none() -> Sight {
+        Sight {
+            seen: None,
+            others_wait: false,
+        }
+    }
+
+    /// Whether a client waits. The queue is looked at again where that is asked for, or is due.
+    pub fn wait_in(&mut self, queue: Queue, now: Instant, looks: bool) -> bool {
+        let is_due = match self.seen {
+            Some(seen) => now.duration_since(seen) >= Duration::from_millis(LOOK_AGAIN),
+            None => true,
+        };
+        if looks || is_due {
+            self.others_wait = queue.is_waited_in();
+            self.seen = Some(now);
+        }
+        self.others_wait
     }
 }
 

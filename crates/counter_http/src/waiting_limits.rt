@@ -48,6 +48,12 @@ pub const TURN: u64 = 20;
 /// How long a write lasts that the client's side doesn't take, before it is looked at again.
 pub(crate) const ONE_WRITE: u64 = 50;
 
+/// How long a read lasts that nothing comes for, before the limits and the other clients are looked at.
+pub(crate) const ONE_READ: u64 = 5;
+
+/// How long it is between two looks whether another client waits, while messages come.
+pub(crate) const LOOK_AGAIN: u64 = 1;
+
 impl Limit {
     /// What is left of it after so much time, and nothing once that is all.
     pub fn left(&self, taken: Duration, others_wait: bool) -> Option<Duration>
