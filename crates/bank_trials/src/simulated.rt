@@ -5,8 +5,42 @@ use sqlite::{Connection, Files, Options};
 use sqlite_disk::{Crash, Disk, Fuse, Memory};
 use std::alloc::{AllocError, Global};
 
-// A file that passes so many calls on, and fails each one behind them.
-type Fused = Fuse<Memory>;
+// A file that passes so many calls on, and fails each one behind them. That simulations are over any such file keeps
+// their proof short.
+trait Stopping: Disk + Drop {
+    // A file with these bytes.
+    fn over(alloc: Global, bytes: &[u8], calls: u64) -> Result<Self>;
+
+    // Whether it fails each call.
+    fn has_stopped(&mut self) -> bool;
+
+    // What was written, and what of it is left for certain.
+    fn left(&mut self, alloc: Global) -> Result<(Vec<u8>, Vec<u8>), AllocError>;
+}
+
+impl Stopping for Fuse<Memory> {
+    fn over(alloc: Global, bytes: &[u8], calls: u64) -> Result<Self> {
+        let mut file = Memory::new(alloc);
+        if file.may_be_used() {
+            file.write_at(0, bytes)?;
+        }
+        if file.may_be_used() {
+            file.sync()?;
+        }
+        Ok(Fuse::new(file, calls))
+    }
+
+    fn has_stopped(&mut self) -> bool {
+        !self.may_be_used() || self.len().is_err()
+    }
+
+    fn left(&mut self, alloc: Global) -> Result<(Vec<u8>, Vec<u8>), AllocError> {
+        let written = self.inner().bytes().to_vec(alloc)?;
+        self.crash();
+        let synced = self.inner().bytes().to_vec(alloc)?;
+        Ok((written, synced))
+    }
+}
 
 const SECTOR_BYTES: usize = 512;
 
@@ -36,18 +70,6 @@ fn options(simulation: &mut Simulation) -> Options {
     }
 }
 
-// A file with these bytes, which passes so many calls on.
-fn fused(alloc: Global, bytes: &[u8], calls: u64) -> Result<Fused> {
-    let mut file = Memory::new(alloc);
-    if file.may_be_used() {
-        file.write_at(0, bytes)?;
-    }
-    if file.may_be_used() {
-        file.sync()?;
-    }
-    Ok(Fuse::new(file, calls))
-}
-
 // How many calls on the database file and on its log pass.
 fn passed(simulation: &mut Simulation) -> (u64, u64) {
     if simulation.is_last() {
@@ -67,9 +89,9 @@ fn passed(simulation: &mut Simulation) -> (u64, u64) {
     }
 }
 
-fn files_of(alloc: Global, left: &Image, calls: (u64, u64)) -> Result<Files<Fused>> {
-    let log = fused(alloc, left.log.as_slice(), calls.1)?;
-    let db = fused(alloc, left.db.as_slice(), calls.0)?;
+fn files_of<F: Stopping>(alloc: Global, left: &Image, calls: (u64, u64)) -> Result<Files<F>> {
+    let log = F::over(alloc, left.log.as_slice(), calls.1)?;
+    let db = F::over(alloc, left.db.as_slice(), calls.0)?;
     Ok(Files { log, db })
 }
 
@@ -93,14 +115,12 @@ fn lived<D: Disk + Drop>(
 }
 
 // What is left of a file that stopped.
-fn left_of(
+fn left_of<F: Stopping>(
     alloc: Global,
     simulation: &mut Simulation,
-    file: &mut Fused,
+    file: &mut F,
 ) -> Result<Vec<u8>, AllocError> {
-    let written = file.inner().bytes().to_vec(alloc)?;
-    file.crash();
-    let synced = file.inner().bytes().to_vec(alloc)?;
+    let (written, synced) = file.left(alloc)?;
     match simulation.draw(4) {
         0 => Ok(written),
         1 => Ok(synced),
@@ -142,14 +162,9 @@ fn byte_left(simulation: &mut Simulation, way: u32, new: Option<u8>, old: Option
     left.unwrap_or(0)
 }
 
-// Whether a file stopped: then it fails each call.
-fn has_stopped(file: &mut Fused) -> bool {
-    !file.may_be_used() || file.len().is_err()
-}
-
 // How a life ended over these files. Its store fails only where one of them stopped.
-fn ended(end: End, files: &mut Files<Fused>) -> End {
-    let has_stopped = has_stopped(&mut files.db) || has_stopped(&mut files.log);
+fn ended<F: Stopping>(end: End, files: &mut Files<F>) -> End {
+    let has_stopped = files.db.has_stopped() || files.log.has_stopped();
     match end {
         End::Stopped if !has_stopped => End::Differs("a store fault without a stop"),
         end => end,
@@ -157,9 +172,13 @@ fn ended(end: End, files: &mut Files<Fused>) -> End {
 }
 
 // A life over what the one before it left, and what it leaves.
-fn life(alloc: Global, simulation: &mut Simulation, left: &Image) -> Result<(End, Image)> {
+fn life<F: Stopping>(
+    alloc: Global,
+    simulation: &mut Simulation,
+    left: &Image,
+) -> Result<(End, Image)> {
     let calls = passed(simulation);
-    let files = files_of(alloc, left, calls)?;
+    let files = files_of::<F>(alloc, left, calls)?;
     let (end, mut files) = lived(alloc, simulation, files);
     let end = ended(end, &mut files);
     let db = left_of(alloc, simulation, &mut files.db)?;
@@ -168,11 +187,11 @@ fn life(alloc: Global, simulation: &mut Simulation, left: &Image) -> Result<(End
 }
 
 // The lives of a seed, until all is answered and found again.
-fn play(alloc: Global, seed: u64) -> Result<Counts> {
+fn play<F: Stopping>(alloc: Global, seed: u64) -> Result<Counts> {
     let mut simulation = Simulation::new(alloc, seed)?;
     let mut left = Image::new(alloc);
     for _ in 0..100u32 {
-        let (end, behind) = life(alloc, &mut simulation, &left)?;
+        let (end, behind) = life::<F>(alloc, &mut simulation, &left)?;
         if simulation.is_done(end)? {
             return Ok(*simulation.counts());
         }
@@ -181,11 +200,11 @@ fn play(alloc: Global, seed: u64) -> Result<Counts> {
     bail!("lives that don't end")
 }
 
-fn play_each(alloc: Global, seed: u64, count: u64) -> Result<Counts> {
+fn play_each<F: Stopping>(alloc: Global, seed: u64, count: u64) -> Result<Counts> {
     let mut all = Counts::none();
     for more in 0..count {
         let seed = seed.saturating_add(more);
-        match play(alloc, seed) {
+        match play::<F>(alloc, seed) {
             Ok(counts) => all.add(&counts),
             Err(error) => bail!("seed {seed}: {error}"),
         }
@@ -198,7 +217,7 @@ pub fn simulate(rt: &HostRuntime, rest: &str) -> Result<()> {
     let (seed, count) = rest.split_once(' ').context("a seed and a count")?;
     let seed = seed.parse::<u64>().ok().context("a seed")?;
     let count = count.parse::<u64>().ok().context("a count")?;
-    let all = play_each(rt.alloc(), seed, count)?;
+    let all = play_each::<Fuse<Memory>>(rt.alloc(), seed, count)?;
     println!(rt; "  {all}")?;
     Ok(())
 }
