@@ -2,7 +2,7 @@
 # Measures the built program on banks of 1, 10, 40 and 100 branches of 100,000 accounts: how long `load` takes, how large
 # the file is, and how long opening takes (`post` of no record), each with its peak of memory; then `drive` of so many
 # records (200,000 unless an argument says), opening behind them, and `audit`. It needs GNU time, and stands outside the
-# gate. TMPDIR picks the disk, and BANK names another program.
+# gate. TMPDIR picks the disk, BANK names another program, and BRANCHES other counts of branches.
 set -eu
 here=$(cd "$(dirname "$0")/.." && pwd)
 bank=${BANK:-$here/crates/bank/out/bank}
@@ -18,7 +18,7 @@ timed() {
     cat took
 }
 
-for branches in 1 10 40 100; do
+for branches in ${BRANCHES:-1 10 40 100}; do
     rm -f bank.db*
     { echo branch,accounts; seq -f '%.0f,100000' "$branches"; } >plan.csv
     "$bank" init bank.db >said

@@ -10,7 +10,7 @@ use Rattle.sqlite_pool.specs.Stored.{reserved}
 use Rattle.sqlite_trees.specs.Tree.{Trees}
 use Rattle.sqlite_wal.specs.Recovery.{Image}
 use Rattle.bank_files.specs.Opening.{IsMadeOver, IsOpenedOn}
-use Rattle.bank_files.specs.declared.creation.TheConstants.{PAGE_BYTES}
+use Rattle.bank_files.specs.declared.new_files.TheConstants.{PAGE_BYTES}
 
 -- files that hold a database, of whatever page size, aren't blank
 is_not_blank : (image : Image) (db : Trees) → HoldsDatabase image db → ¬ IsBlankFile PAGE_BYTES image

@@ -7,7 +7,7 @@ use Rattle.sqlite_pool.specs.Opening.{IsBlankFile}
 use Rattle.sqlite_trees.specs.Tree.{Trees}
 use Rattle.sqlite_trees.specs.View.{View}
 use Rattle.sqlite_wal.specs.Recovery.{Image}
-use Rattle.bank_files.specs.declared.creation.TheConstants.{PAGE_BYTES}
+use Rattle.bank_files.specs.declared.new_files.TheConstants.{PAGE_BYTES}
 
 -- a store that was made, with no table
 pub record IsMadeEmpty (v : View) : Type 0 where

@@ -43,8 +43,8 @@
 //! open. Read next: `specs/Opening`, what an open finds. The crate `bank_commands` is a caller.
 #![tactic(auto)]
 
-mod creation;
-mod files;
+mod new_files;
+mod open_files;
 
-pub use creation::PAGE_BYTES;
-pub use files::{open, open_over};
+pub use new_files::PAGE_BYTES;
+pub use open_files::{open, open_over};

@@ -24,9 +24,9 @@
 #![tactic(auto)]
 
 mod ends;
-mod files;
 mod first_programs;
 mod script;
+mod script_files;
 mod showing;
 mod simulated;
 

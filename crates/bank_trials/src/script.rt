@@ -1,7 +1,7 @@
 //! The lines of a script.
 use crate::ends::Broken;
-use crate::files::{compare, look, put, query, run_sql, write_lines};
 use crate::first_programs;
+use crate::script_files::{compare, look, put, query, run_sql, write_lines};
 use crate::showing::tell;
 use crate::simulated::simulate;
 use anyhow::{Result, bail};

@@ -9,7 +9,7 @@ ghost use Rattle.sqlite_wal.specs.Files.{image_at};
 ghost use Rattle.sqlite_wal.specs.Reads.{AreClean, OnlyReads};
 ghost use Rattle.bank_files.specs.Opening.{IsMadeOver, IsOpenedOn};
 
-use crate::creation::{NO_MEMORY, PAGE_BYTES, are_blank, make_store};
+use crate::new_files::{NO_MEMORY, PAGE_BYTES, are_blank, make_store};
 use sqlite::{Connection, Error, ErrorCode, FileFrom, FileStore, Files, Options, Start};
 use sqlite_disk::Disk;
 use sqlite_std_file::OpenError;

@@ -3,7 +3,7 @@ use Rattle.std.proofs.Common.{ap, arith, subst, sym, ◌∙◌}
 use Rattle.sqlite.specs.Files.{IsEmpty}
 use Rattle.sqlite_store.specs.FileStore.{view}
 use Rattle.sqlite_trees.proofs.Doubt.{clean_of}
-use Rattle.bank_files.proofs.files.make_over.Goals as goal
+use Rattle.bank_files.proofs.open_files.make_over.Goals as goal
 
 pub over-requires : goal.over-requires
 over-requires g c none = (c.in_ok-store.ensures.ok (clean_of _ none)).fresh

@@ -3,7 +3,7 @@ use Rattle.std.proofs.Common.{ap, sym, ◌∙◌}
 use Rattle.std.proofs.lemmas.Result.{IfOk-weaker}
 use Rattle.sqlite.proofs.OpenLemmas.{pool_files}
 use Rattle.sqlite_wal.specs.Reads.{are_clean}
-use Rattle.bank_files.proofs.creation.make_store.Goals as goal
+use Rattle.bank_files.proofs.new_files.make_store.Goals as goal
 
 pub returns-clause-honest : goal.returns-clause-honest
 returns-clause-honest g c =

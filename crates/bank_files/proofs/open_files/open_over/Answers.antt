@@ -4,7 +4,7 @@ use Rattle.sqlite.proofs.FileLemmas.{reads_then, same_image}
 use Rattle.sqlite.specs.Files.{file_state}
 use Rattle.bank_files.proofs.FoundFiles.{both_ok, found_on, made_on}
 use Rattle.bank_files.specs.Opening.{IsOpenedOn}
-use Rattle.bank_files.proofs.files.open_over.Goals as goal
+use Rattle.bank_files.proofs.open_files.open_over.Goals as goal
 
 pub returns-then-branch-clause-opened : goal.returns-then-branch-clause-opened
 returns-then-branch-clause-opened g c =

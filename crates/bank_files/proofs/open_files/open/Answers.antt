@@ -5,7 +5,7 @@ use Rattle.sqlite.specs.Files.{file_state}
 use Rattle.sqlite_disk.specs.Events.{Event, replay}
 use Rattle.sqlite_wal.specs.Recovery.{Image}
 use Rattle.bank_files.specs.Opening.{IsOpenedOn}
-use Rattle.bank_files.proofs.files.open.Goals as goal
+use Rattle.bank_files.proofs.open_files.open.Goals as goal
 
 abbrev image : List ℕ → List ℕ → Image
 image log db = record { log = log; db = db }
