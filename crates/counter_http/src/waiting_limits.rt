@@ -49,7 +49,7 @@ pub const TURN: u64 = 20;
 pub(crate) const ONE_WRITE: u64 = 50;
 
 /// How long a read lasts that nothing comes for, before the limits and the other clients are looked at.
-pub(crate) const ONE_READ: u64 = 5;
+pub(crate) const ONE_READ: u64 = 1;
 
 /// How long it is between two looks whether another client waits, while messages come.
 pub(crate) const LOOK_AGAIN: u64 = 1;
