@@ -15,7 +15,8 @@ grep -E '^bank_files:' "$here/crates.txt" >"$work/crates.txt"
 echo 'insert_rows: bank_files sqlite sqlite_value' >>"$work/crates.txt"
 cp "$here/bench/insert_rows.rt.in" "$work/crates/insert_rows/src/main.rt"
 git -C "$work" init -q
-(cd "$work/crates/insert_rows" && { rt run || test -x out/insert_rows; }) >"$work/built" 2>&1
+(cd "$work/crates/insert_rows" && { rt run || test -x out/insert_rows; }) >"$work/built" 2>&1 ||
+    { cat "$work/built" >&2; exit 1; }
 program=$work/crates/insert_rows/out/insert_rows
 
 # The instructions of so many batches, so many rows at a time.

@@ -14,7 +14,7 @@ trait Stopping: Disk + Drop {
     // Whether it fails each call.
     fn has_stopped(&mut self) -> bool;
 
-    // What was written, and what of it is left for certain.
+    // Stops it: what was written, and what of that is left for certain.
     fn left(&mut self, alloc: Global) -> Result<(Vec<u8>, Vec<u8>), AllocError>;
 }
 
