@@ -7,7 +7,7 @@ use Rattle.message_records.specs.Reading.{request_of}
 use Rattle.message_records.specs.Records.{ReplyFields}
 use Rattle.message_records.specs.Spelling.{reply_spelling}
 use Rattle.posting_rules.specs.Commands.{Command, Open, Post, Terms, opened}
-use Rattle.posting_rules.specs.Entries.{DecidedRequest, decided, reply, reply_to, with_record}
+use Rattle.posting_rules.specs.Entries.{DecidedRequest, decided, reply, reply_given, with_record}
 use Rattle.posting_rules.specs.Resends.{Place, Skips}
 use Rattle.posting_rules.specs.Runs.{behind, posts, replies_to, ArePosts}
 use Rattle.posting_rules.proofs.Resends.{adds_nothing, posts_both}
@@ -33,8 +33,8 @@ reply_alike : (one two : List Command) (r : List ℕ)
     → zeroed (decided one) ≡ zeroed (decided two) → reply one r ≡ reply two r
 reply_alike one two r eo ed =
     sym (reply_zeroed (λ b. opened one b) (decided one) (request_of r))
-    ∙ ap (λ (o : Openings). reply_to (request_of r) o (zeroed (decided one))) eo
-    ∙ ap (λ (es : List DecidedRequest). reply_to (request_of r) (λ b. opened two b) es) ed
+    ∙ ap (λ (o : Openings). reply_given (request_of r) o (zeroed (decided one))) eo
+    ∙ ap (λ (es : List DecidedRequest). reply_given (request_of r) (λ b. opened two b) es) ed
     ∙ reply_zeroed (λ b. opened two b) (decided two) (request_of r)
 
 decided_alike : (one two : List Command) (m n : ℕ) (r : List ℕ)

@@ -8,7 +8,7 @@ use Rattle.posting_rules.specs.declared.fault.Fault.{Fault}
 use Rattle.posting_rules.specs.declared.fault.Fault.TheVariants.{Memory, Store, Down, Damaged}
 use Rattle.posting_rules.specs.Commands.{Command}
 use Rattle.posting_rules.specs.Counter.{Seen, StandsAt, LeavesOnly, ShowsBeginning, ShowsLog, Takes, Refuses}
-use Rattle.posting_rules.specs.Counter.{IsUnchanged}
+use Rattle.posting_rules.specs.Counter.{IsSeenUnchanged}
 use Rattle.posting_rules.specs.Runs.{behind, replies_to, ArePosts}
 use Rattle.posting_rules.specs.Tables.{AreTablesOf}
 use Rattle.posting_rules.proofs.Remaining.{leaves_still}
@@ -64,7 +64,7 @@ cut_is_stream old new taken refused up honest down survives = record {
 }
 
 -- nothing changed after what was taken
-unchanged_stands : (stood new : Seen) (log : List Command) → IsUnchanged stood new → StandsAt stood log
+unchanged_stands : (stood new : Seen) (log : List Command) → IsSeenUnchanged stood new → StandsAt stood log
     → StandsAt new log
 unchanged_stands stood new log same at = still stood new log at same.down
     (λ s. record {

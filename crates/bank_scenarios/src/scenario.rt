@@ -3,7 +3,7 @@ use crate::answers::{Call, make_call};
 use crate::mixed::play_run;
 use crate::steps::{Place, Step, parts_of};
 use crate::stored::Stored;
-use crate::tables::{Found, Query, Sums};
+use crate::tables::{Query, QueryAnswer, Sums};
 use anyhow::{Context, Result};
 use posting_core::PlainBank;
 use sqlite::{Alter, Connection};
@@ -100,13 +100,13 @@ impl<S: Alter + Drop> Scenario<S> {
 
     fn query(&mut self, query: Query, sql: &str) -> Result<String, AllocError> {
         match self.stored.query(query, sql) {
-            Ok(Found::Nothing) => "done".to_string(self.alloc),
-            Ok(Found::Number(number)) => number.to_string(self.alloc),
-            Ok(Found::Looked(sums)) => {
+            Ok(QueryAnswer::Nothing) => "done".to_string(self.alloc),
+            Ok(QueryAnswer::Number(number)) => number.to_string(self.alloc),
+            Ok(QueryAnswer::Looked(sums)) => {
                 self.looked = Some(sums);
                 "looked".to_string(self.alloc)
             }
-            Ok(Found::Compared(sums)) => self.compared(sums).to_string(self.alloc),
+            Ok(QueryAnswer::Compared(sums)) => self.compared(sums).to_string(self.alloc),
             Err(error) => error.to_string(self.alloc),
         }
     }

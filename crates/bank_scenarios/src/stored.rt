@@ -1,6 +1,6 @@
 //! A bank in tables, which a step takes up and the next one gives back.
 use crate::answers::{Call, make_call};
-use crate::tables::{Found, Query, run_query};
+use crate::tables::{Query, QueryAnswer, run_query};
 use bank_store::{Bank, OpenFault, Refused, adopt, create};
 use sqlite::{Alter, Connection, Error};
 use std::alloc::{AllocError, Global};
@@ -145,11 +145,11 @@ impl<S: Alter + Drop> Stored<S> {
     }
 
     /// Asks the tables, with the bank given back.
-    pub fn query(&mut self, query: Query, sql: &str) -> Result<Found, Error> {
+    pub fn query(&mut self, query: Query, sql: &str) -> Result<QueryAnswer, Error> {
         self.release();
         match &mut self.kept {
             Kept::Released(conn) => run_query(conn, query, sql),
-            _ => Ok(Found::Nothing),
+            _ => Ok(QueryAnswer::Nothing),
         }
     }
 }

@@ -23,7 +23,7 @@ pub type Sums = [i64; TABLES];
 
 /// What a query found.
 #[derive(Clone, Copy)]
-pub enum Found {
+pub enum QueryAnswer {
     Nothing,
     Number(i64),
     Looked(Sums),
@@ -59,14 +59,14 @@ pub fn run_query<S: Alter>(
     conn: &mut Connection<S>,
     query: Query,
     sql: &str,
-) -> Result<Found, Error> {
+) -> Result<QueryAnswer, Error> {
     match query {
         Query::Batch => {
             conn.execute_batch(sql)?;
-            Ok(Found::Nothing)
+            Ok(QueryAnswer::Nothing)
         }
-        Query::Number => Ok(Found::Number(number(conn, sql)?)),
-        Query::Look => Ok(Found::Looked(sums(conn)?)),
-        Query::Same => Ok(Found::Compared(sums(conn)?)),
+        Query::Number => Ok(QueryAnswer::Number(number(conn, sql)?)),
+        Query::Look => Ok(QueryAnswer::Looked(sums(conn)?)),
+        Query::Same => Ok(QueryAnswer::Compared(sums(conn)?)),
     }
 }

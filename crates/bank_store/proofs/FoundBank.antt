@@ -204,17 +204,6 @@ module _ (old mid : State) (same : IsAsBefore old mid) where
   }
   seeks_at new (Err fault) missed = (misses_at fault missed.0, reads_at new fault missed.1)
 
--- where the probe of `meta` isn't understood, it holds no rows
-pub no_rows_there : (old : State) → Lacks old.now (probe_of table.Meta) → HasNoOtherVersion old
-no_rows_there old lacks n rows has other = lacks.1 has.sound has.holds.defined
-
--- what its row says of another version
-pub no_other_read : (old : State) (stored : Option StoredMeta)
-    → ((rows : List Entry) → HoldsRows old.now bank.meta rows → stored ≡ meta_in rows)
-    → ((n : ℤ) → IsOfVersion n stored → ⊥) → HasNoOtherVersion old
-no_other_read old stored read none n rows has other =
-    none n (subst (IsOfVersion n) (sym (read rows has)) other)
-
 -- the row of `meta` has another version
 pub other_read : (old mid new : State) (m : StoredMeta) (version : ℤ) → IsReadable old.now (probe_of table.Meta)
     → IsAsBefore old mid → ((rows : List Entry) → HoldsRows mid.now bank.meta rows → Some m ≡ meta_in rows)

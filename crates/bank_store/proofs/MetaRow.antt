@@ -5,8 +5,8 @@ use Rattle.sqlite.specs.State.{State, store_error}
 use Rattle.sqlite.specs.declared.error.Error.{Error}
 use Rattle.sqlite_trees.specs.declared.error.StoreError.{StoreError}
 use Rattle.sqlite_trees.specs.declared.error.StoreError.TheVariants as cause
-use Rattle.sql_meanings.specs.Outcomes.{IsStoreError}
-use Rattle.store_rows.specs.Outcomes.{Finds, Never}
+use Rattle.sql_meanings.specs.StatementAnswers.{IsStoreError}
+use Rattle.store_rows.specs.TableAnswers.{Finds, Never}
 use Rattle.store_rows.specs.declared.fault.TableFault.{TableFault}
 use Rattle.store_rows.specs.declared.fault.TableFault.TheVariants.{Sqlite, Damaged}
 use Rattle.store_rows.specs.declared.metas.TheConstants.{VERSION}

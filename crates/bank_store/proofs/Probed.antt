@@ -11,7 +11,7 @@ use Rattle.sqlite.specs.Held.{Held, state}
 use Rattle.sqlite_trees.specs.declared.store.Store.{Ghosts}
 use Rattle.sqlite_rules.specs.Lists.{Has}
 use Rattle.sqlite_trees.proofs.ListLemmas.{all-append}
-use Rattle.sql_meanings.specs.Outcomes.{TellsProbe, TellsUnderstood}
+use Rattle.sql_meanings.specs.StatementAnswers.{TellsProbe, TellsUnderstood}
 use Rattle.store_rows.specs.Calls.{Probes}
 use Rattle.store_rows.specs.Probes.{probe_of}
 use Rattle.store_rows.specs.declared.probes.BankTable.{BankTable}

@@ -5,7 +5,7 @@ use Rattle.sqlite.specs.Table.{Table}
 use Rattle.sqlite.specs.Effect.{Database, IsDatabase}
 use Rattle.sqlite.specs.State.{State}
 use Rattle.sqlite_rules.specs.Lists.{Has}
-use Rattle.sql_meanings.specs.Outcomes.{IsThere, IsUnderstood}
+use Rattle.sql_meanings.specs.StatementAnswers.{IsThere, IsUnderstood}
 use Rattle.sql_meanings.specs.Tables.{Defines}
 use Rattle.store_rows.specs.Probes.{IsNotUnderstood}
 use Rattle.bank_store.specs.Connections.{IsAsBefore, IsUndoneIfOpen}

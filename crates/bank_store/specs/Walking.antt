@@ -11,7 +11,7 @@ use Rattle.sqlite.specs.declared.error.Error.{Error}
 use Rattle.posting_rules.specs.declared.fault.Fault.{Fault}
 use Rattle.posting_rules.specs.declared.fault.Fault.TheVariants as told
 use Rattle.posting_rules.specs.declared.fault.Rule.{Rule}
-use Rattle.sql_meanings.specs.Outcomes.{IsStoreError}
+use Rattle.sql_meanings.specs.StatementAnswers.{IsStoreError}
 use Rattle.bank_walks.specs.Pairs.{Pair, pair_key}
 use Rattle.bank_walks.specs.Rising.{RisesFrom}
 use Rattle.bank_walks.specs.Rows.{LEAST, items_behind}

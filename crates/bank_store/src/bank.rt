@@ -141,7 +141,7 @@ impl<S: Alter> Bank<S> {
 impl<S: Alter> Bank<S> {
     ghost use Rattle.std.specs.Prelude.{◌++◌, filter, is_some, map, MatchResult};
     ghost use Rattle.sqlite.specs.State.{HasCleanDisk};
-    ghost use Rattle.sql_meanings.specs.Outcomes.{IsStoreError};
+    ghost use Rattle.sql_meanings.specs.StatementAnswers.{IsStoreError};
     ghost use Rattle.bank_walks.specs.StepOutcomes.{BreaksFirst};
     ghost use Rattle.bank_walks.specs.Rising.{RisesFrom};
     ghost use Rattle.bank_walks.specs.Rows.{items_behind, items_from};

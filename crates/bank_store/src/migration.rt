@@ -3,7 +3,7 @@ ghost use Rattle.std.specs.Prelude.{◌≡◌, ◌+◌, IfErr, IfOk, IfSome, IsT
 ghost use Rattle.sqlite.specs.State.{HasCleanDisk, Survives};
 ghost use Rattle.sqlite.specs.Held.{state};
 ghost use Rattle.sql_meanings.specs.Calls.{Inside, Says};
-ghost use Rattle.sql_meanings.specs.Outcomes.{WritesKept};
+ghost use Rattle.sql_meanings.specs.StatementAnswers.{WritesKept};
 ghost use Rattle.store_rows.specs.Migration.{IsEarlier};
 ghost use Rattle.store_rows.specs.Probes.{all_tables};
 ghost use Rattle.bank_store.specs.Connections.{IsGivenBack, IsReadOnly};

@@ -20,7 +20,7 @@ use Rattle.sql_meanings.proofs.Changes.{found_all, found_key, found_passes}
 use Rattle.store_rows.specs.Calls.{OfMeta}
 use Rattle.store_rows.specs.Columns.{meta_in, number_at}
 use Rattle.store_rows.specs.Holders.{entry_under}
-use Rattle.store_rows.specs.Outcomes.{Finds, Never}
+use Rattle.store_rows.specs.TableAnswers.{Finds, Never}
 use Rattle.store_rows.specs.Rules.{HoldsBank, IsBroken, KeepsRule, OfRows, StoredRows, HasDecided}
 use Rattle.store_rows.specs.Rules.{BranchKeeps, TellerKeeps, AccountKeeps, FloorKeeps, ReferenceKeeps}
 use Rattle.store_rows.specs.Rules.{RequestKeeps, row_under}

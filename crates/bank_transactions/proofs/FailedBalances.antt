@@ -6,11 +6,11 @@ use Rattle.sqlite_trees.specs.declared.store.Store.{Ghosts}
 use Rattle.posting_rules.specs.Damage.{IsUndamaged}
 use Rattle.posting_rules.specs.Tables.{Tables}
 use Rattle.sql_meanings.specs.Calls.{Says}
-use Rattle.sql_meanings.specs.Outcomes.{WriteFails}
+use Rattle.sql_meanings.specs.StatementAnswers.{WriteFails}
 use Rattle.store_rows.specs.Calls.{OfTables}
 use Rattle.store_rows.specs.Failures.{HasReason}
 use Rattle.store_rows.specs.Holders.{balance_in, entry_under}
-use Rattle.store_rows.specs.Outcomes.{Finds, BreaksBalance}
+use Rattle.store_rows.specs.TableAnswers.{Finds, BreaksBalance}
 use Rattle.store_rows.specs.Rules.{OfRows}
 use Rattle.store_rows.specs.Stored.{BalanceKeeps, FindsStored, IsBalance}
 use Rattle.store_rows.specs.declared.fault.TableFault.{TableFault}

@@ -11,7 +11,7 @@ use Rattle.posting_rules.specs.Tables.{Tables}
 use Rattle.sql_meanings.specs.Calls.{Inside, Says}
 use Rattle.store_rows.specs.Calls.{OfTables}
 use Rattle.store_rows.specs.Failures.{Puts}
-use Rattle.store_rows.specs.Outcomes.{PutsOneRow}
+use Rattle.store_rows.specs.TableAnswers.{PutsOneRow}
 use Rattle.store_rows.specs.View.{Shows}
 use Rattle.store_rows.specs.declared.fault.TableFault.{TableFault}
 use Rattle.bank_transactions.specs.Causes.{Damage}

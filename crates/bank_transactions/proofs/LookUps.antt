@@ -129,20 +129,6 @@ fills put reads = record {
   };
 }
 
-pub fills_none : {S X A : Type 0} {g : Ghosts S} {old new : Transaction S} {Knows : Tables → Type 0}
-    {w' : Tables → A} {e : TableFault} (w : Tables → X) → Reads g old new w (Err e)
-    → ReadsWhere g old new (λ t. IsUndamaged t × Knows t) w' (Err e)
-fills_none {S} {X} {A} {g} {old} {new} {Knows} {w'} {e} w reads = record {
-  says = record {
-    same_reference = reads.same_reference;
-    told = λ clean t shows so.
-        same_fault (state g old.conn.now) (state g new.conn.now) (w t) (w' t) e
-        (reads.told clean t shows so.0);
-    kept = reads.kept;
-    survives = reads.survives;
-  };
-}
-
 -- a statement that changed nothing
 stays_of : (old new : State) → IsUnchanged old new → Stays old new
 stays_of old new same = record {

@@ -17,7 +17,7 @@ use Rattle.posting_rules.proofs.Keyed.{by_test}
 use Rattle.sqlite.specs.Effect.{Database}
 use Rattle.sql_meanings.specs.Entries.{Rise}
 use Rattle.store_rows.specs.Columns.{branch_above}
-use Rattle.store_rows.specs.Outcomes.{BreaksBranch}
+use Rattle.store_rows.specs.TableAnswers.{BreaksBranch}
 use Rattle.store_rows.specs.View.{Shows, branch_entry}
 use Rattle.bank_transactions.proofs.SoundRows.{found_within, sound_unbroken}
 

@@ -15,13 +15,13 @@ use Rattle.posting_rules.specs.declared.fault.Rule.{Rule}
 use Rattle.posting_rules.specs.declared.fault.Rule.TheVariants as broken
 use Rattle.posting_rules.specs.declared.rows.BranchRow.{BranchRow}
 use Rattle.sql_meanings.specs.Calls.{Says}
-use Rattle.sql_meanings.specs.Outcomes.{WriteFails}
+use Rattle.sql_meanings.specs.StatementAnswers.{WriteFails}
 use Rattle.sql_meanings.specs.Entries.{Entry}
 use Rattle.sql_meanings.proofs.Saying.{clean_between, says_then}
 use Rattle.store_rows.specs.Calls.{OfTables}
 use Rattle.store_rows.specs.Failures.{HasReason}
 use Rattle.store_rows.specs.Holders.{balance_in}
-use Rattle.store_rows.specs.Outcomes.{Finds}
+use Rattle.store_rows.specs.TableAnswers.{Finds}
 use Rattle.store_rows.specs.View.{Shows}
 use Rattle.store_rows.specs.declared.fault.TableFault.{TableFault}
 use Rattle.store_rows.specs.declared.fault.TableFault.TheVariants.{Sqlite, Damaged}

@@ -14,7 +14,7 @@ use Rattle.sql_meanings.specs.Calls.{Says, Inside}
 use Rattle.store_rows.specs.Calls.{OfTables}
 use Rattle.store_rows.specs.Failures.{Puts}
 use Rattle.store_rows.specs.Holders.{with_balance}
-use Rattle.store_rows.specs.Outcomes.{PutsOneRow}
+use Rattle.store_rows.specs.TableAnswers.{PutsOneRow}
 use Rattle.store_rows.specs.declared.fault.TableFault.{TableFault}
 use Rattle.store_rows.specs.declared.holders.Holder.TheVariants.{Account, Teller, Branch}
 use Rattle.bank_transactions.specs.Doing.{Does}

@@ -24,8 +24,8 @@ use Rattle.posting_rules.specs.Tables.{reference_key}
 use Rattle.posting_rules.proofs.Keyed.{by_test, found_passes}
 use Rattle.store_rows.specs.Columns.{request_in}
 use Rattle.store_rows.specs.Holders.{balance_in}
-use Rattle.store_rows.specs.Outcomes.{Finds, BreaksBalance, BreaksBranch, BreaksFloor, BreaksReference}
-use Rattle.store_rows.specs.Outcomes.{BreaksRequest, CanBeKept}
+use Rattle.store_rows.specs.TableAnswers.{Finds, BreaksBalance, BreaksBranch, BreaksFloor, BreaksReference}
+use Rattle.store_rows.specs.TableAnswers.{BreaksRequest, CanBeKept}
 use Rattle.store_rows.specs.declared.fault.TableFault.{TableFault}
 use Rattle.store_rows.specs.declared.fault.TableFault.TheVariants.{Sqlite, Damaged}
 use Rattle.store_rows.specs.declared.holders.Member.{Member}

@@ -16,7 +16,7 @@ use Rattle.posting_rules.specs.declared.fault.Rule.TheVariants.{Value, Key, Floo
 use Rattle.sql_meanings.specs.Calls.{Says, Inside}
 use Rattle.store_rows.specs.Calls.{OfTables}
 use Rattle.store_rows.specs.Failures.{Changes, HasMet, IsUpdateOf, MeetsNone, Puts}
-use Rattle.store_rows.specs.Outcomes.{PutsOneRow, SetsRow}
+use Rattle.store_rows.specs.TableAnswers.{PutsOneRow, SetsRow}
 use Rattle.store_rows.specs.View.{Shows}
 use Rattle.store_rows.specs.declared.fault.TableFault.{TableFault}
 use Rattle.store_rows.specs.declared.fault.TableFault.TheVariants.{Sqlite, Damaged}

@@ -11,7 +11,7 @@ use Rattle.sqlite.specs.declared.error.Error.TheVariants.{SqliteFailure}
 use Rattle.sqlite.specs.declared.error.ErrorCode.TheVariants.{OperationInterrupted, OutOfMemory}
 use Rattle.posting_rules.specs.declared.fault.Rule.{Rule}
 use Rattle.sql_meanings.specs.Entries.{Entry, Rise}
-use Rattle.sql_meanings.specs.Outcomes.{IsStoreError, WriteFails}
+use Rattle.sql_meanings.specs.StatementAnswers.{IsStoreError, WriteFails}
 use Rattle.sql_meanings.proofs.Afterwards.{fails_since, rolled_since}
 use Rattle.store_rows.specs.declared.fault.TableFault.{TableFault}
 use Rattle.store_rows.specs.declared.fault.TableFault.TheVariants.{Sqlite, Damaged}

@@ -14,7 +14,7 @@ use Rattle.sqlite_tied.specs.Compute.{everything}
 use Rattle.sqlite_resolve.specs.Program as program
 use Rattle.sqlite_resolve.specs.Select.{ungrouped}
 use Rattle.sql_meanings.specs.Entries.{Entry, HasWidth, has_key, listed, stored}
-use Rattle.sql_meanings.specs.Outcomes.{IsStoreError, OnlyShows, TellsRows}
+use Rattle.sql_meanings.specs.StatementAnswers.{IsStoreError, OnlyShows, TellsRows}
 use Rattle.sql_meanings.specs.Queries.{by_key}
 use Rattle.sql_meanings.proofs.Changes.{found_all, found_key}
 use Rattle.sql_meanings.proofs.Keyed.{Gets, first_key, gets_by}

@@ -6,8 +6,8 @@ use Rattle.message_records.specs.Records.{reference_from}
 use Rattle.posting_rules.specs.declared.fault.Rule.{Rule}
 use Rattle.posting_rules.specs.declared.fault.Rule.TheVariants as rule
 use Rattle.sql_meanings.specs.Entries.{Entry}
-use Rattle.sql_meanings.specs.Outcomes.{WriteFails}
-use Rattle.store_rows.specs.Outcomes.{ReadsReference}
+use Rattle.sql_meanings.specs.StatementAnswers.{WriteFails}
+use Rattle.store_rows.specs.TableAnswers.{ReadsReference}
 use Rattle.store_rows.specs.declared.fault.TableFault.{TableFault}
 use Rattle.store_rows.specs.declared.fault.TableFault.TheVariants.{Sqlite, Damaged}
 

@@ -5,7 +5,7 @@ ghost use Rattle.sqlite.specs.State.{HasCleanDisk, IsUnchanged, Survives};
 ghost use Rattle.sqlite.specs.Held.{state};
 ghost use Rattle.sqlite.specs.Order.{Row as StoredColumns};
 ghost use Rattle.sql_meanings.specs.Entries.{Entry, Rise, numbers};
-ghost use Rattle.sql_meanings.specs.Outcomes.{IsStoreError, WriteFails};
+ghost use Rattle.sql_meanings.specs.StatementAnswers.{IsStoreError, WriteFails};
 ghost use Rattle.sql_meanings.specs.Tables.{width_of};
 ghost use Rattle.bank_walks.specs.StepOutcomes.{BreaksValue, IsRefusedMemory, all_numbers, shown};
 ghost use Rattle.bank_walks.specs.Pairs.{BreaksUnder, TellsKey, row_under};

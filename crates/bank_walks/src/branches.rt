@@ -2,7 +2,7 @@
 use crate::limits::MAX_COUNTED;
 use crate::numbers::whole;
 use crate::statements::rows_shown;
-use crate::stored_row::{Found, StoredRow};
+use crate::stored_row::{RowsRead, StoredRow};
 use crate::texts::BRANCHES_FROM;
 use message_records::{Account, Whole};
 use posting_rules::LAST_BRANCH;
@@ -44,7 +44,7 @@ impl StoredRow for StoredBranch {
         })
     }
 
-    fn seek<S: Alter>(conn: &mut Connection<S>, _of: Option<Account>, from: i64) -> Found {
+    fn seek<S: Alter>(conn: &mut Connection<S>, _of: Option<Account>, from: i64) -> RowsRead {
         rows_shown(conn, BRANCHES_FROM, params![from])
     }
 

@@ -1,7 +1,7 @@
 //! The rows of `history`.
 use crate::numbers::whole;
 use crate::statements::rows_shown;
-use crate::stored_row::{Found, StoredRow};
+use crate::stored_row::{RowsRead, StoredRow};
 use crate::texts::{POSTINGS_FROM, POSTINGS_OF};
 use message_records::{Account, Moment, Whole};
 use posting_rules::Ordinal;
@@ -52,7 +52,7 @@ impl StoredRow for StoredPosting {
         })
     }
 
-    fn seek<S: Alter>(conn: &mut Connection<S>, of: Option<Account>, from: i64) -> Found {
+    fn seek<S: Alter>(conn: &mut Connection<S>, of: Option<Account>, from: i64) -> RowsRead {
         match of {
             None => rows_shown(conn, POSTINGS_FROM, params![from]),
             Some(account) => {

@@ -1,7 +1,7 @@
 //! The rows of `request`.
 use crate::numbers::whole;
 use crate::statements::rows_shown;
-use crate::stored_row::{Found, StoredRow};
+use crate::stored_row::{RowsRead, StoredRow};
 use crate::texts::REQUESTS_FROM;
 use message_records::{Account, Whole};
 use posting_rules::Ordinal;
@@ -58,7 +58,7 @@ impl StoredRow for StoredRequest {
         })
     }
 
-    fn seek<S: Alter>(conn: &mut Connection<S>, _of: Option<Account>, from: i64) -> Found {
+    fn seek<S: Alter>(conn: &mut Connection<S>, _of: Option<Account>, from: i64) -> RowsRead {
         rows_shown(conn, REQUESTS_FROM, params![from])
     }
 

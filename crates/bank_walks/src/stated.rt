@@ -4,7 +4,7 @@ ghost use Rattle.std.specs.Prelude.{MatchResult, OnOk};
 ghost use Rattle.sqlite.specs.State.{HasCleanDisk, IsUnchanged, Survives};
 ghost use Rattle.sqlite.specs.Held.{state};
 ghost use Rattle.sql_meanings.specs.Entries.{Entry, Rise};
-ghost use Rattle.sql_meanings.specs.Outcomes.{IsStoreError, WriteFails};
+ghost use Rattle.sql_meanings.specs.StatementAnswers.{IsStoreError, WriteFails};
 ghost use Rattle.store_rows.specs.BankTables.{reference as reference_table};
 ghost use Rattle.bank_walks.specs.StepOutcomes.{BreaksFirst};
 ghost use Rattle.bank_walks.specs.Pairs.{AreJoined, paired};

@@ -5,7 +5,7 @@ ghost use Rattle.sqlite.specs.Schema.{Schema};
 ghost use Rattle.sqlite.specs.State.{FailsToQuery, HasCleanDisk, IsUnchanged, Shown, Survives};
 ghost use Rattle.sqlite.specs.Held.{state};
 ghost use Rattle.sqlite.specs.Values.{bound};
-ghost use Rattle.sql_meanings.specs.Outcomes.{OnlyShows, WriteFails};
+ghost use Rattle.sql_meanings.specs.StatementAnswers.{OnlyShows, WriteFails};
 
 use sqlite::types::ValueRef;
 use sqlite::{Alter, Connection, Error, Row};

@@ -4,7 +4,7 @@ ghost use Rattle.std.specs.Prelude.{take};
 ghost use Rattle.sqlite.specs.State.{HasCleanDisk, IsUnchanged, Survives};
 ghost use Rattle.sqlite.specs.Held.{state};
 ghost use Rattle.sql_meanings.specs.Entries.{Entry};
-ghost use Rattle.sql_meanings.specs.Outcomes.{IsStoreError, WriteFails};
+ghost use Rattle.sql_meanings.specs.StatementAnswers.{IsStoreError, WriteFails};
 ghost use Rattle.bank_walks.specs.Kinds.{Kind};
 ghost use Rattle.bank_walks.specs.StepOutcomes.{Stores, shown};
 ghost use Rattle.bank_walks.specs.Rows.{HasStoredRows, rows_from};
@@ -15,7 +15,7 @@ use posting_rules::MAX_DECIDED;
 use sqlite::{Alter, Connection, Error, Row};
 
 /// The rows that a statement found.
-pub type Found = Result<Vec<Row>, Error>;
+pub type RowsRead = Result<Vec<Row>, Error>;
 
 /// A row of one table, as it is stored.
 pub trait StoredRow: Copy + Default {
@@ -32,7 +32,7 @@ pub trait StoredRow: Copy + Default {
         ensures { Stores kind.entry kind.Breaks numbers.now result };
 
     /// The rows with the least keys from one on, at most `AHEAD`.
-    fn seek<S: Alter>(conn: &mut Connection<S>, of: Option<Account>, from: i64) -> Found
+    fn seek<S: Alter>(conn: &mut Connection<S>, of: Option<Account>, from: i64) -> RowsRead
         ensures told { HasCleanDisk (state S.Store conn.new) → (rows : List Entry)
             → HasStoredRows (state S.Store conn.old).now kind.table rows
             → MatchResult result (λ found. found.items

@@ -2,7 +2,7 @@
 use crate::limits::LAST_TELLER;
 use crate::numbers::whole;
 use crate::statements::rows_shown;
-use crate::stored_row::{Found, StoredRow};
+use crate::stored_row::{RowsRead, StoredRow};
 use crate::texts::TELLERS_FROM;
 use message_records::{Account, Whole};
 use sqlite::{Alter, Connection, params};
@@ -39,7 +39,7 @@ impl StoredRow for StoredTeller {
         })
     }
 
-    fn seek<S: Alter>(conn: &mut Connection<S>, _of: Option<Account>, from: i64) -> Found {
+    fn seek<S: Alter>(conn: &mut Connection<S>, _of: Option<Account>, from: i64) -> RowsRead {
         rows_shown(conn, TELLERS_FROM, params![from])
     }
 

@@ -5,7 +5,7 @@ ghost use Rattle.sqlite.specs.State.{HasCleanDisk, IsUnchanged, Survives};
 ghost use Rattle.sqlite.specs.Held.{state};
 ghost use Rattle.sqlite.specs.Effect.{Database};
 ghost use Rattle.posting_rules.specs.declared.fault.Rule.{Rule};
-ghost use Rattle.sql_meanings.specs.Outcomes.{IsStoreError, WriteFails};
+ghost use Rattle.sql_meanings.specs.StatementAnswers.{IsStoreError, WriteFails};
 ghost use Rattle.bank_walks.specs.StepOutcomes.{BreaksFirst};
 ghost use Rattle.bank_walks.specs.Rising.{RisesFrom};
 ghost use Rattle.bank_walks.specs.Rows.{HaveKeys, items_behind, items_from};

@@ -1,18 +1,17 @@
 -- What a source of records told last.
 use Rattle.std.proofs.Common.{◌≡◌, List, [], ◌∷◌, ◌++◌, Option, Some, None, Bool, true, false, ℕ, Result, Ok}
-use Rattle.std.proofs.Common.{Err, refl, ap, subst, ◌∙◌, inl, inr}
+use Rattle.std.proofs.Common.{Err, ap, subst, ◌∙◌, inl, inr}
 use Rattle.std.specs.Prelude.{◌⊎◌, ⊤, ℤ, if◌then◌else◌}
-use Rattle.std.specs.Io.KnownBytes.{IsAtEnd}
 use Rattle.csv.specs.declared.error.Error.{Error}
 use Rattle.csv.specs.declared.error.ErrorKind.{ErrorKind}
-use Rattle.posting_core.specs.Told.{GrowsBy, EndsWith, HasMore, IsEndOfInput, ReadTold}
+use Rattle.posting_core.specs.Told.{GrowsBy, EndsWith, HasMore}
 use Rattle.posting_core.proofs.Telling.{more_last}
 use Rattle.branch_loader.specs.declared.fault.PlanFault.{PlanFault}
 use Rattle.branch_loader.specs.declared.fault.PlanFault.TheVariants.{Header, Columns, Branch, Accounts, Floor}
 use Rattle.branch_loader.specs.declared.fault.PlanFault.TheVariants.{Twice, Csv, Memory}
 use Rattle.branch_loader.specs.Records.{Fields, RecordTold, Found, Failed, WasRecord, WasFailure}
 use Rattle.branch_loader.specs.Records.{record_told}
-use Rattle.branch_loader.specs.Plans.{IsReadSo, IsToldSo, Rows, Row, names, row_of, row_of_parts, row_of_fields}
+use Rattle.branch_loader.specs.Plans.{IsToldSo, Rows, Row, names, row_of, row_of_parts, row_of_fields}
 use Rattle.branch_loader.specs.Plans.{parts_of}
 
 -- what one call told is the last that was told
@@ -94,16 +93,3 @@ row_told has_floors before fields fault a b is =
 pub not_csv : (result : Result Rows PlanFault) (a b : Option (List RecordTold)) → IsToldSo result a b
     → result ≡ Err Csv → ⊥
 not_csv result a b h is = rw is at h
-
--- the answer of a text that was read to its end
-pub read_so : (result : Result Rows PlanFault) (r' : Option (List ℕ)) (q q' : Option (List ReadTold))
-    → (result ≡ Err Csv → ⊥) → IsAtEnd r' → EndsWith IsEndOfInput q q' → IsReadSo result r' q q'
-read_so (Ok plan) r' q q' never at ended = (at, ended)
-read_so (Err Csv) r' q q' never at ended = absurd (never refl)
-read_so (Err Memory) r' q q' never at ended = tt
-read_so (Err Header) r' q q' never at ended = (at, ended)
-read_so (Err (Columns n)) r' q q' never at ended = (at, ended)
-read_so (Err (Branch n)) r' q q' never at ended = (at, ended)
-read_so (Err (Accounts n)) r' q q' never at ended = (at, ended)
-read_so (Err (Floor n)) r' q q' never at ended = (at, ended)
-read_so (Err (Twice n)) r' q q' never at ended = (at, ended)

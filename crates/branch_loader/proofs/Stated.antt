@@ -1,7 +1,6 @@
 -- What is stated, step by step.
-use Rattle.std.proofs.Common.{◌≡◌, ◌≤◌, ◌<◌, ◌+◌, ◌∷◌, ◌++◌, ◌∙◌, ℕ, List, [], Option, Some, None, Bool, true}
+use Rattle.std.proofs.Common.{◌≡◌, ◌≤◌, ◌<◌, ◌+◌, ◌∷◌, ◌++◌, ◌∙◌, ℕ, List, [], Some, None, Bool, true}
 use Rattle.std.proofs.Common.{false, Result, Ok, Err, length, refl, take, drop, get_or}
-use Rattle.std.specs.Prelude.{IfSome}
 use Rattle.std.proofs.lemmas.List.{at_drop_more, drop_all, take_all, take_more}
 use Rattle.branch_loader.specs.Plans.{IsPlan, TellsPlan, header_of, plan_of_list, plan_of_records}
 use Rattle.branch_loader.specs.Plans.{row_of_fields, row_of_listed, rows_by, Rows, Row}
@@ -59,11 +58,6 @@ pub rows_by-done : {A : Type 0} (row : Rows → A → Result Row PlanFault) (bef
     → rows_by row before [] ≡ Ok before
 unfolding rows_by
 rows_by-done row before = refl
-
--- one fact of a known value from another
-pub if_some : {A : Type 0} {P Q : A → Type 0} (o : Option A) → ((x : A) → P x → Q x) → IfSome o P → IfSome o Q
-if_some None f h = tt
-if_some (Some x) f h = f x h
 
 -- what a read of the header leaves
 pub took-header : {A : Records → Type 0} (has_floors found : Bool) (fields : Fields) (all : Records)

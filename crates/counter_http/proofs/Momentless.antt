@@ -8,7 +8,7 @@ use Rattle.message_records.specs.Spelling.{reply_spelling}
 use Rattle.posting_rules.specs.declared.limits.TheConstants.{LAST_BRANCH}
 use Rattle.posting_rules.specs.Commands.{Command, Post, opened, is_account_open, Terms}
 use Rattle.posting_rules.specs.Entries.{DecidedRequest, account_balance, branch_balance, with_record, decided}
-use Rattle.posting_rules.specs.Entries.{reply_to, reply, balance_behind}
+use Rattle.posting_rules.specs.Entries.{reply_given, reply, balance_behind}
 use Rattle.posting_rules.specs.Runs.{behind}
 use Rattle.posting_core.proofs.Timeless.{zeroed, sum_zeroed, reply_zeroed, record_zeroed}
 use Rattle.counter_http.specs.declared.routes.Route.{Route}
@@ -34,8 +34,8 @@ Opened = ℕ → Option Terms
 reply_alike : (a b : List Command) (bytes : List ℕ) → IsAlike a b → reply a bytes ≡ reply b bytes
 reply_alike a b bytes h =
     sym (reply_zeroed (λ n. opened a n) (decided a) (request_of bytes))
-    ∙ ap (λ (o : Opened). reply_to (request_of bytes) o (zeroed (decided a))) h.opens
-    ∙ ap (λ (es : List DecidedRequest). reply_to (request_of bytes) (λ n. opened b n) es) h.entries
+    ∙ ap (λ (o : Opened). reply_given (request_of bytes) o (zeroed (decided a))) h.opens
+    ∙ ap (λ (es : List DecidedRequest). reply_given (request_of bytes) (λ n. opened b n) es) h.entries
     ∙ reply_zeroed (λ n. opened b n) (decided b) (request_of bytes)
 
 balance_alike : (a b : List Command) (account : ℕ) → IsAlike a b

@@ -11,7 +11,7 @@ use Rattle.posting_rules.specs.declared.judgments.Verdict.{Verdict}
 use Rattle.posting_rules.specs.declared.judgments.Verdict.TheVariants.{Unkept, Again, Refused, Posted}
 use Rattle.posting_rules.specs.Commands.{Command, Open, Post, Terms, opened}
 use Rattle.posting_rules.specs.Cases.{case_of}
-use Rattle.posting_rules.specs.Entries.{refused_entry, posted_entry, reply_to, decided, reply}
+use Rattle.posting_rules.specs.Entries.{refused_entry, posted_entry, reply_given, decided, reply}
 use Rattle.posting_rules.specs.Tables.{Tables, AreTablesOf, row_at, branch_key, teller_key, account_key}
 use Rattle.posting_rules.specs.Tables.{history_key, request_key, branch_row_of, history_row_of}
 use Rattle.posting_rules.specs.Tables.{request_row_of, HasKeys, floor_key, floor_row_of, reference_key}
@@ -23,7 +23,7 @@ use Rattle.posting_rules.specs.Changes.{new_teller, new_account}
 use Rattle.posting_rules.specs.Steps.{IsStep, AddsFloor, AddsReference, with_branch_balance}
 use Rattle.posting_rules.specs.Steps.{with_teller_balance, with_account_balance}
 use Rattle.posting_rules.specs.Numbering.{branch_of_teller, first_teller, first_account}
-use Rattle.posting_core.specs.Appended.{tables_after, tables_with, tables_opened, floor_behind}
+use Rattle.posting_core.specs.Appended.{appended_after, appended_with, appended_opened, floor_behind}
 use Rattle.posting_core.specs.Appended.{reference_behind, reply_in_tables}
 use Rattle.posting_rules.proofs.RowChanges.{row_changes}
 use Rattle.posting_rules.proofs.Ready.{AreReady, ready_shown, no_teller, no_account}
@@ -45,7 +45,7 @@ reference_adds ordinal (Some text) rows keys free =
 
 -- what a verdict makes of the rows is what it does to tables
 step_is : (t : Tables) (m : ℕ) (r : RequestFields) (v : Verdict) → AreReady t
-    → IsStep t (tables_after t m r v) (t.decided + 1) m r v
+    → IsStep t (appended_after t m r v) (t.decided + 1) m r v
 step_is t m r (Unkept o) ready = refl
 step_is t m r (Again x) ready = refl
 step_is t m r (Refused o) ready = record {
@@ -80,13 +80,13 @@ step_is t m r (Posted a te b) ready =
 
 -- the tables after a record show the log with it
 pub record_shown : (t : Tables) (log : List Command) (m : ℕ) (bytes : List ℕ) → AreTablesOf t log
-    → AreTablesOf (tables_with t m (request_of bytes)) (Post m bytes ∷ log)
+    → AreTablesOf (appended_with t m (request_of bytes)) (Post m bytes ∷ log)
 record_shown t log m bytes s = by_read (request_of bytes) refl
   where
     by_read : (read : Result RequestFields Bad) → request_of bytes ≡ read
-        → AreTablesOf (tables_with t m read) (Post m bytes ∷ log)
-    by_read (Ok r) e = post_shown t (tables_after t m r (case_of (found_in t r) r)) log m bytes r e s
-        (subst (λ n. IsStep t (tables_after t m r (case_of (found_in t r) r)) (n + 1) m r
+        → AreTablesOf (appended_with t m read) (Post m bytes ∷ log)
+    by_read (Ok r) e = post_shown t (appended_after t m r (case_of (found_in t r) r)) log m bytes r e s
+        (subst (λ n. IsStep t (appended_after t m r (case_of (found_in t r) r)) (n + 1) m r
         (case_of (found_in t r) r))
         s.rows.decided (step_is t m r (case_of (found_in t r) r) (ready_shown t log s)))
     by_read (Err fault) e = malformed_shown t log m bytes fault e s
@@ -99,7 +99,7 @@ reply_is t log bytes s = by_read (request_of bytes) refl
     by_read : (read : Result RequestFields Bad) → request_of bytes ≡ read
         → reply_in_tables t read ≡ reply log bytes
     by_read (Ok r) e = reply_shown t log bytes r e s
-    by_read (Err fault) e = ap (λ (x : Result RequestFields Bad). reply_to x (λ b. opened log b)
+    by_read (Err fault) e = ap (λ (x : Result RequestFields Bad). reply_given x (λ b. opened log b)
         (decided log)) (sym e)
 
 -- ---- an opening
@@ -113,10 +113,10 @@ floor_adds b (Some lowest) rows keys free = row_behind floor_key rows (floor_row
 -- the tables with a branch that wasn't open show the log with its opening
 pub opened_shown : (t : Tables) (log : List Command) (b : ℕ) (terms : Terms)
     → row_at branch_key t.branches b ≡ None → 1 ≤ b → terms.accounts ≤ MAX_ACCOUNTS → AreTablesOf t log
-    → AreTablesOf (tables_opened t b terms) (Open b terms ∷ log)
+    → AreTablesOf (appended_opened t b terms) (Open b terms ∷ log)
 opened_shown t log b terms closed hb hc s =
     let ready = ready_shown t log s in
-    opening_shown t (tables_opened t b terms) log b terms
+    opening_shown t (appended_opened t b terms) log b terms
     (sym (terms_shown t (λ x. opened log x) (decided log) b s.rows)
     ∙ ap (option_map (terms_of_branch (floor_in t b))) closed) hb hc s
     (record {

@@ -18,9 +18,9 @@ use Rattle.posting_rules.specs.Commands.{Command, Open, Post, AreCommands, Terms
 use Rattle.posting_rules.specs.Entries.{reply}
 use Rattle.posting_rules.specs.Tables.{Tables, AreTablesOf, row_at, branch_key}
 use Rattle.posting_rules.specs.Runs.{behind}
-use Rattle.posting_rules.specs.Counter.{IsCounterCall, IsUnchanged, ShowsLog, StandsAt, Takes}
+use Rattle.posting_rules.specs.Counter.{IsCounterCall, IsSeenUnchanged, ShowsLog, StandsAt, Takes}
 use Rattle.posting_core.specs.declared.plain_bank.PlainBank.{PlainBank}
-use Rattle.posting_core.specs.Appended.{tables_with, tables_opened, reply_in_tables}
+use Rattle.posting_core.specs.Appended.{appended_with, appended_opened, reply_in_tables}
 use Rattle.posting_core.specs.Plain.{plain_reason, plain_tables, plain_seen}
 use Rattle.posting_rules.proofs.CounterCalls.{call_answered, call_spared}
 use Rattle.posting_rules.proofs.Empty.{empty_shown}
@@ -71,11 +71,11 @@ branches_as_before t bs ts xs fs eb et ea ef =
     ∙ ap (λ (y : List FloorRow). with_branches t t.branches t.tellers t.accounts y) ef
 
 pub record_from : (t t' new : Tables) (log : List Command) (m : ℕ) (bytes : List ℕ)
-    → new ≡ tables_with t' m (request_of bytes) → t' ≡ t → AreTablesOf t log
+    → new ≡ appended_with t' m (request_of bytes) → t' ≡ t → AreTablesOf t log
     → AreTablesOf new (Post m bytes ∷ log)
 record_from t t' new log m bytes e same s =
     subst (λ (u : Tables). AreTablesOf u (Post m bytes ∷ log))
-    (sym (e ∙ ap (λ (u : Tables). tables_with u m (request_of bytes)) same))
+    (sym (e ∙ ap (λ (u : Tables). appended_with u m (request_of bytes)) same))
     (record_shown t log m bytes s)
 
 pub reply_from : (t t' : Tables) (log : List Command) (bytes out : List ℕ)
@@ -90,12 +90,12 @@ unmapped f None e = refl
 unmapped f (Some x) e = absurd cc
 
 pub opened_from : (t t' new : Tables) (log : List Command) (b : ℕ) (terms : Terms)
-    → new ≡ tables_opened t' b terms → t' ≡ t → row_at branch_key t.branches b ≡ None → 1 ≤ b
+    → new ≡ appended_opened t' b terms → t' ≡ t → row_at branch_key t.branches b ≡ None → 1 ≤ b
     → terms.accounts ≤ MAX_ACCOUNTS → AreTablesOf t log
     → AreTablesOf new (Open b terms ∷ log)
 opened_from t t' new log b terms e same none hb hc s =
     subst (λ (u : Tables). AreTablesOf u (Open b terms ∷ log))
-    (sym (e ∙ ap (λ (u : Tables). tables_opened u b terms) same))
+    (sym (e ∙ ap (λ (u : Tables). appended_opened u b terms) same))
     (opened_shown t log b terms none hb hc s)
 
 -- ---- what the bank shows, whose rows are all that a stop leaves
@@ -146,7 +146,7 @@ answered_plain old new cs x takes =
 
 -- the rows are those that they were
 stays_plain : (old new : PlainBank) → plain_tables new ≡ plain_tables old
-    → IsUnchanged (plain_seen old) (plain_seen new)
+    → IsSeenUnchanged (plain_seen old) (plain_seen new)
 stays_plain old new same = record {
   tables = λ t is. is ∙ sym same;
   down = λ down. down;

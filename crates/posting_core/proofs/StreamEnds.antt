@@ -11,7 +11,7 @@ use Rattle.posting_core.specs.declared.stream.StreamFault.TheVariants.{Truncated
 use Rattle.posting_rules.specs.declared.limits.TheConstants.{RECORDS_PER_BATCH}
 use Rattle.posting_rules.specs.Commands.{Command}
 use Rattle.posting_rules.specs.Tables.{AreTablesOf}
-use Rattle.posting_rules.specs.Counter.{Seen, ShowsLog, StandsAt, Refuses, IsUnchanged}
+use Rattle.posting_rules.specs.Counter.{Seen, ShowsLog, StandsAt, Refuses, IsSeenUnchanged}
 use Rattle.posting_rules.specs.Runs.{behind, posts, replies_to}
 use Rattle.posting_core.specs.Clock.{IsReading, AreReadings}
 use Rattle.posting_core.specs.Batches.{Batch, IsBatch, IsRecord, joined, moments_of, records_of, posts_of, BreaksOff}
@@ -94,7 +94,7 @@ end_unread rest g few follow =
 -- ---- ends at a batch
 
 -- an unchanged bank shows what it showed
-unchanged_shows : (c c' : Seen) (log : List Command) → IsUnchanged c c' → ShowsLog c log → ShowsLog c' log
+unchanged_shows : (c c' : Seen) (log : List Command) → IsSeenUnchanged c c' → ShowsLog c log → ShowsLog c' log
 unchanged_shows c c' log u s = record {
   commands = s.commands;
   tables = s.tables;

@@ -17,7 +17,7 @@ use Rattle.posting_rules.specs.Numbering.{branch_of_teller, branch_of_account}
 use Rattle.posting_rules.specs.Cases.{case_of}
 use Rattle.posting_rules.specs.Entries.{DecidedRequest, is_posted, facts, kept, kept_fields, posted_sum}
 use Rattle.posting_rules.specs.Entries.{with_verdict}
-use Rattle.posting_rules.specs.Entries.{with_record, decided, reply_to, reply}
+use Rattle.posting_rules.specs.Entries.{with_record, decided, reply_given, reply}
 use Rattle.posting_rules.specs.Runs.{behind, posts, replies_to}
 use Rattle.posting_core.specs.Batches.{Batch, posts_in, posts_of, records_of}
 use Rattle.posting_rules.proofs.Sequence.{replies_to-append}
@@ -74,7 +74,7 @@ facts_zeroed opened es r =
 
 -- and so is the reply
 pub reply_zeroed : (opened : ℕ → Option Terms) (es : List DecidedRequest) (read : Result RequestFields Bad)
-    → reply_to read opened (zeroed es) ≡ reply_to read opened es
+    → reply_given read opened (zeroed es) ≡ reply_given read opened es
 reply_zeroed opened es (Ok r) = rw (facts_zeroed opened es r) refl
 reply_zeroed opened es (Err e) = refl
 
@@ -98,7 +98,7 @@ record_zeroed m opened es (Err e) = refl
 -- their replies, and what is decided behind them
 replies_from : (ℕ → Option Terms) → List DecidedRequest → List (List ℕ) → List (List ℕ)
 replies_from opened es [] = []
-replies_from opened es (r ∷ rs) = reply_spelling (reply_to (request_of r) opened es) ∷ replies_from opened
+replies_from opened es (r ∷ rs) = reply_spelling (reply_given (request_of r) opened es) ∷ replies_from opened
     (with_record 0 (request_of r) opened es) rs
 
 entries_behind : (ℕ → Option Terms) → List DecidedRequest → List (List ℕ) → List DecidedRequest
@@ -111,7 +111,7 @@ replies_from-append : (opened : ℕ → Option Terms) (es : List DecidedRequest)
 unfolding replies_from entries_behind
 replies_from-append opened es [] ss = refl
 replies_from-append opened es (r ∷ rs) ss =
-    ap (λ (t : List (List ℕ)). reply_spelling (reply_to (request_of r) opened es) ∷ t)
+    ap (λ (t : List (List ℕ)). reply_spelling (reply_given (request_of r) opened es) ∷ t)
     (replies_from-append opened (with_record 0 (request_of r) opened es) rs ss)
 
 -- what is open behind a log, and what is decided there but for the moments

@@ -28,15 +28,15 @@ abbrev pub reference_behind : ℕ → Option (List ℕ) → List ReferenceRow �
 reference_behind ordinal None rows = rows
 reference_behind ordinal (Some text) rows = rows ++ reference_row_of ordinal text ∷ []
 
-abbrev pub tables_kept : Tables → DecidedRequest → Tables
-tables_kept t e = let ordinal = t.decided + 1 in record t {
+abbrev pub appended_kept : Tables → DecidedRequest → Tables
+appended_kept t e = let ordinal = t.decided + 1 in record t {
   decided = ordinal;
   requests = t.requests ++ request_row_of ordinal e ∷ [];
   references = reference_behind ordinal e.request.reference t.references;
 }
 
-abbrev pub tables_posted : Tables → DecidedRequest → ℤ → ℤ → Tables
-tables_posted t e teller branch = let ordinal = t.decided + 1 in record {
+abbrev pub appended_posted : Tables → DecidedRequest → ℤ → ℤ → Tables
+appended_posted t e teller branch = let ordinal = t.decided + 1 in record {
   decided = ordinal;
   branches = row_changed branch_key (with_branch_balance branch)
       (branch_of_teller e.request.teller) t.branches;
@@ -48,11 +48,11 @@ tables_posted t e teller branch = let ordinal = t.decided + 1 in record {
   references = reference_behind ordinal e.request.reference t.references;
 }
 
-abbrev pub tables_after : Tables → ℕ → RequestFields → Verdict → Tables
-tables_after t moment r (Unkept outcome) = t
-tables_after t moment r (Again reply) = t
-tables_after t moment r (Refused outcome) = tables_kept t (refused_entry moment r outcome)
-tables_after t moment r (Posted account teller branch) = tables_posted t
+abbrev pub appended_after : Tables → ℕ → RequestFields → Verdict → Tables
+appended_after t moment r (Unkept outcome) = t
+appended_after t moment r (Again reply) = t
+appended_after t moment r (Refused outcome) = appended_kept t (refused_entry moment r outcome)
+appended_after t moment r (Posted account teller branch) = appended_posted t
     (posted_entry moment r account) teller branch
 
 -- of what was read of a record: the reply to it, and the tables after it
@@ -60,9 +60,9 @@ abbrev pub reply_in_tables : Tables → Result RequestFields Bad → ReplyFields
 reply_in_tables t (Err fault) = malformed_reply
 reply_in_tables t (Ok r) = reply_in (case_of (found_in t r) r) r
 
-abbrev pub tables_with : Tables → ℕ → Result RequestFields Bad → Tables
-tables_with t moment (Err fault) = t
-tables_with t moment (Ok r) = tables_after t moment r (case_of (found_in t r) r)
+abbrev pub appended_with : Tables → ℕ → Result RequestFields Bad → Tables
+appended_with t moment (Err fault) = t
+appended_with t moment (Ok r) = appended_after t moment r (case_of (found_in t r) r)
 
 -- ---- what an opening does to the rows
 
@@ -71,8 +71,8 @@ abbrev pub floor_behind : ℕ → Option ℤ → List FloorRow → List FloorRow
 floor_behind b None rows = rows
 floor_behind b (Some lowest) rows = rows ++ floor_row_of b lowest ∷ []
 
-abbrev pub tables_opened : Tables → ℕ → Terms → Tables
-tables_opened t b terms = record {
+abbrev pub appended_opened : Tables → ℕ → Terms → Tables
+appended_opened t b terms = record {
   decided = t.decided;
   branches = t.branches ++ branch_row_of b (pos 0) terms ∷ [];
   tellers = t.tellers ++ rows_from new_teller (first_teller b) 10;

@@ -8,7 +8,7 @@ use Rattle.posting_core.specs.declared.once.OnceFault.{OnceFault}
 use Rattle.posting_core.specs.declared.once.OnceFault.TheVariants.{Short, Read, Write, Bank}
 use Rattle.posting_rules.specs.Commands.{Command, Post}
 use Rattle.posting_rules.specs.Entries.{reply}
-use Rattle.posting_rules.specs.Counter.{Seen, ShowsLog, Takes, IsUnchanged, Refuses}
+use Rattle.posting_rules.specs.Counter.{Seen, ShowsLog, Takes, IsSeenUnchanged, Refuses}
 
 -- The reader's known bytes before and after are r and r', the writer's w and w', and the counter is seen as c
 -- and c'.
@@ -30,12 +30,12 @@ pub record EndsShort (r r' w w' : Option (List ℕ)) (c c' : Seen) : Type 0 wher
   pub read : Consumes r r' bytes
   pub ended : IsAtEnd r'
   pub written : Keeps w w'
-  pub unchanged : IsUnchanged c c'
+  pub unchanged : IsSeenUnchanged c c'
 
 -- the reader failed: nothing was submitted, and nothing written
 pub record IsUnread (w w' : Option (List ℕ)) (c c' : Seen) : Type 0 where
   pub written : Keeps w w'
-  pub unchanged : IsUnchanged c c'
+  pub unchanged : IsSeenUnchanged c c'
 
 -- the record was read and posted, and a beginning of its reply was written
 pub record IsCutOff (r r' w w' : Option (List ℕ)) (c c' : Seen) (moment : ℕ) : Type 0 where

@@ -142,7 +142,7 @@ impl PlainBank {
     ghost use Rattle.posting_rules.specs.Branches.{line_in};
     ghost use Rattle.posting_rules.specs.Commands.{Command, Post, IsCommand, AreCommands, opened_with};
     ghost use Rattle.posting_rules.specs.Runs.{behind, posts, replies_to};
-    ghost use Rattle.posting_core.specs.Appended.{tables_after, tables_with, tables_opened, reply_in_tables};
+    ghost use Rattle.posting_core.specs.Appended.{appended_after, appended_with, appended_opened, reply_in_tables};
     ghost use Rattle.posting_core.specs.Plain.{plain_tables};
 
     /// A bank with no branch. It takes no memory.
@@ -195,7 +195,7 @@ impl PlainBank {
             × (vec_capacity self.old.history ≤ vec_capacity self.new.history) }
         ensures references { (vec_len self.new.references ≤ vec_len self.old.references + 1)
             × (vec_capacity self.old.references ≤ vec_capacity self.new.references) }
-        ensures tables { plain_tables self.new ≡ tables_after (plain_tables self.old) moment request.now
+        ensures tables { plain_tables self.new ≡ appended_after (plain_tables self.old) moment request.now
             verdict.now }
     {
         match verdict {
@@ -249,7 +249,7 @@ impl PlainBank {
             × (vec_capacity self.old.references ≤ vec_capacity self.new.references) }
         ensures reply { result ≡ reply_spelling
             (reply_in_tables (plain_tables self.old) (request_of bytes.now)) }
-        ensures tables { plain_tables self.new ≡ tables_with (plain_tables self.old) moment
+        ensures tables { plain_tables self.new ≡ appended_with (plain_tables self.old) moment
             (request_of bytes.now) }
         ensures command { IsCommand (Post moment bytes.now) }
     {
@@ -299,7 +299,7 @@ impl PlainBank {
         requires accounts { vec_len self.old.accounts + count ≤ vec_capacity self.old.accounts }
         requires floors { vec_len self.old.floors < vec_capacity self.old.floors }
         ensures tables { plain_tables self.new
-            ≡ tables_opened (plain_tables self.old) branch (opened_with count floor) }
+            ≡ appended_opened (plain_tables self.old) branch (opened_with count floor) }
         ensures above { 1 ≤ branch }
     {
         let row = BranchRow {

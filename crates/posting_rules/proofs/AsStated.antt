@@ -17,7 +17,7 @@ use Rattle.posting_rules.specs.Numbering.{branch_of_teller}
 use Rattle.posting_rules.specs.Kept.{KeptFields}
 use Rattle.posting_rules.specs.Cases.{balance_shown, is_same, kept_reply, reply_in}
 use Rattle.posting_rules.specs.Entries.{DecidedRequest, kept, account_balance, teller_balance, branch_balance}
-use Rattle.posting_rules.specs.Entries.{with_verdict, with_record, decided, reply_to, reply, refused_entry}
+use Rattle.posting_rules.specs.Entries.{with_verdict, with_record, decided, reply_given, reply, refused_entry}
 use Rattle.posting_rules.specs.Entries.{posted_entry}
 use Rattle.posting_rules.specs.Stated.{IsDecided, IsPosted, StaysAbove, AddsEntry, DecidesAsStated}
 use Rattle.posting_rules.specs.Stated.{RepliesAsStated}
@@ -32,12 +32,12 @@ use Rattle.posting_rules.proofs.VerdictsStated.{posted_verdict, same_content, wr
 reply_is : (before : List Command) (bytes : List ℕ) (r : RequestFields) (v : Verdict)
     → request_of bytes ≡ Ok r → verdict before r ≡ v → reply before bytes ≡ reply_in v r
 reply_is before bytes r v read e =
-    ap (λ (x : Result RequestFields Bad). reply_to x (λ b. opened before b) (decided before)) read ∙ ap
+    ap (λ (x : Result RequestFields Bad). reply_given x (λ b. opened before b) (decided before)) read ∙ ap
     (λ (w : Verdict). reply_in w r) e
 
 pub replied : (before : List Command) (bytes : List ℕ) → RepliesAsStated before bytes
 replied before bytes = record {
-  malformed = λ fault read. ap (λ (x : Result RequestFields Bad). reply_to x (λ b. opened before b)
+  malformed = λ fault read. ap (λ (x : Result RequestFields Bad). reply_given x (λ b. opened before b)
       (decided before)) read;
   no_teller = λ r read closed. reply_is before bytes r (Unkept outcome.NoTeller) read
       (no_teller before r closed);

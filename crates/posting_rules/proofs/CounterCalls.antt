@@ -4,7 +4,7 @@ use Rattle.std.proofs.Common.{◌∙◌}
 use Rattle.posting_rules.specs.declared.fault.Fault.{Fault}
 use Rattle.posting_rules.specs.declared.fault.Fault.TheVariants.{Memory, Down}
 use Rattle.posting_rules.specs.Commands.{Command}
-use Rattle.posting_rules.specs.Counter.{Seen, HasRefused, IsCounterCall, IsUnchanged, Refuses, Takes}
+use Rattle.posting_rules.specs.Counter.{Seen, HasRefused, IsCounterCall, IsSeenUnchanged, Refuses, Takes}
 use Rattle.posting_rules.specs.Counter.{TellsDamage}
 use Rattle.posting_rules.specs.Runs.{behind}
 use Rattle.posting_rules.proofs.Sequence.{behind-append}
@@ -23,7 +23,7 @@ down_not_memory : Down ≡ Memory → ⊥
 down_not_memory is = cc
 
 -- what didn't change
-pub unchanged_seen : (seen : Seen) → IsUnchanged seen seen
+pub unchanged_seen : (seen : Seen) → IsSeenUnchanged seen seen
 unchanged_seen seen = record {
   tables = λ t there. there;
   down = λ down. down;
@@ -70,7 +70,7 @@ module _ {C K X : Type 0} (seen : C → Seen) (contents : C → K) (reason : Fau
   }
 
   -- memory was refused
-  pub call_spared : IsUnchanged (seen old) (seen new) → reason Memory old new → contents new ≡ contents old
+  pub call_spared : IsSeenUnchanged (seen old) (seen new) → reason Memory old new → contents new ≡ contents old
       → IsCounterCall {X = X} seen contents reason old new cs (Err Memory)
   call_spared unchanged why same = record {
     done = tt;

@@ -7,7 +7,7 @@ use Rattle.message_records.specs.Records.{RequestFields}
 use Rattle.message_records.specs.Reading.{request_of}
 use Rattle.message_records.specs.Spelling.{reply_spelling}
 use Rattle.posting_rules.specs.Commands.{Command, Post, AreCommands, opened}
-use Rattle.posting_rules.specs.Entries.{reply, reply_to, decided}
+use Rattle.posting_rules.specs.Entries.{reply, reply_given, decided}
 use Rattle.posting_rules.specs.Runs.{behind, posts, replies_to}
 use Rattle.posting_rules.specs.Tables.{Tables}
 use Rattle.posting_rules.specs.Tables.{AreTablesOf as Show}
@@ -46,7 +46,7 @@ past_reply t log bytes shows = by_reading (request_of bytes) refl
         → reply_read t x ≡ reply_spelling (reply log bytes)
     by_reading (Ok r) read = replies t log bytes r read shows
     by_reading (Err fault) read = ap
-        (λ (x : Result RequestFields Bad). reply_spelling (reply_to x (λ b. opened log b) (decided log)))
+        (λ (x : Result RequestFields Bad). reply_spelling (reply_given x (λ b. opened log b) (decided log)))
         (sym read)
 
 pub all_replies : (t : Tables) (log : List Command) (m : ℕ) (records : List (List ℕ)) → Show t log

@@ -18,7 +18,7 @@ use Rattle.posting_rules.specs.Numbering.{branch_of_teller}
 use Rattle.posting_rules.specs.Cases.{new_case, account_case, plus_within, is_same, reply_in, kept_reply}
 use Rattle.posting_rules.specs.Cases.{balance_shown}
 use Rattle.posting_rules.specs.Entries.{DecidedRequest, facts, kept, with_verdict, with_record, decided}
-use Rattle.posting_rules.specs.Entries.{kept_fields, reply_to, reply}
+use Rattle.posting_rules.specs.Entries.{kept_fields, reply_given, reply}
 use Rattle.posting_rules.specs.Runs.{behind, ArePosts}
 use Rattle.posting_rules.proofs.Keyed.{by_test}
 use Rattle.posting_rules.proofs.Verdicts.{by_account, by_posting}
@@ -61,11 +61,11 @@ decided_now opened es r m o z out teller_open is =
 
 -- a request whose reply was settled before it
 unchanged : (opened : ℕ → Option Terms) (es : List DecidedRequest) (r : RequestFields) (m : ℕ)
-    → IsSettled opened es r (reply_to (Ok r) opened es)
-    → IsSettled opened (with_record m (Ok r) opened es) r (reply_to (Ok r) opened es)
+    → IsSettled opened es r (reply_given (Ok r) opened es)
+    → IsSettled opened (with_record m (Ok r) opened es) r (reply_given (Ok r) opened es)
 unchanged opened es r m h =
-    subst (λ (ds : List DecidedRequest). IsSettled opened ds r (reply_to (Ok r) opened es))
-    (sym ((settled_says opened es r (reply_to (Ok r) opened es) h).1 m)) h
+    subst (λ (ds : List DecidedRequest). IsSettled opened ds r (reply_given (Ok r) opened es))
+    (sym ((settled_says opened es r (reply_given (Ok r) opened es) h).1 m)) h
 
 room_is : (f : Found) (r : RequestFields) (t b : ℤ) → leb MAX_DECIDED f.decided ≡ false
     → new_case f r t b ≡ cond (eqb r.branch (branch_of_teller r.teller))
@@ -91,7 +91,7 @@ new_settles opened es r m true account floor t b up =
 open_settles : (opened : ℕ → Option Terms) (es : List DecidedRequest) (r : RequestFields) (m : ℕ)
     → is_teller_open opened r.teller ≡ true
     → (o : Option KeptFields) → kept es r.teller r.number ≡ o
-    → IsSettled opened (with_record m (Ok r) opened es) r (reply_to (Ok r) opened es)
+    → IsSettled opened (with_record m (Ok r) opened es) r (reply_given (Ok r) opened es)
 open_settles opened es r m up (Some k) e =
     unchanged opened es r m (inr (inl (record {
       teller = up;
@@ -114,7 +114,7 @@ open_settles opened es r m up None e =
     ]
 
 settles : (opened : ℕ → Option Terms) (es : List DecidedRequest) (r : RequestFields) (m : ℕ)
-    → IsSettled opened (with_record m (Ok r) opened es) r (reply_to (Ok r) opened es)
+    → IsSettled opened (with_record m (Ok r) opened es) r (reply_given (Ok r) opened es)
 settles opened es r m =
     elim (by_test (is_teller_open opened r.teller)) [
       | inl up ↦ open_settles opened es r m up (kept es r.teller r.number) refl
@@ -130,10 +130,10 @@ settles opened es r m =
 abbrev IsReadSettled : (ℕ → Option Terms) → List DecidedRequest → Result RequestFields Bad → ReplyFields
     → Type 0
 IsReadSettled opened es (Ok r) out = IsSettled opened es r out
-IsReadSettled opened es (Err e) out = out ≡ reply_to (Err e) opened es
+IsReadSettled opened es (Err e) out = out ≡ reply_given (Err e) opened es
 
 read_settles : (opened : ℕ → Option Terms) (es : List DecidedRequest) (read : Result RequestFields Bad) (m : ℕ)
-    → IsReadSettled opened (with_record m read opened es) read (reply_to read opened es)
+    → IsReadSettled opened (with_record m read opened es) read (reply_given read opened es)
 read_settles opened es (Ok r) m = settles opened es r m
 read_settles opened es (Err e) m = refl
 
@@ -146,7 +146,7 @@ read_stays opened es (Err e) other out m h = h
 read_says : (opened : ℕ → Option Terms) (es : List DecidedRequest) (read : Result RequestFields Bad)
     (out : ReplyFields)
     → IsReadSettled opened es read out
-    → (reply_to read opened es ≡ out) × ((m : ℕ) → with_record m read opened es ≡ es)
+    → (reply_given read opened es ≡ out) × ((m : ℕ) → with_record m read opened es ≡ es)
 read_says opened es (Ok r) out h = settled_says opened es r out h
 read_says opened es (Err e) out h = (sym h, λ m. refl)
 

@@ -15,7 +15,7 @@ use Rattle.posting_rules.specs.Cases.{case_of, teller_case, known_case, new_case
 use Rattle.posting_rules.specs.Cases.{kept_reply}
 use Rattle.posting_rules.specs.Entries.{DecidedRequest, facts, kept, teller_balance, branch_balance}
 use Rattle.posting_rules.specs.Entries.{with_verdict}
-use Rattle.posting_rules.specs.Entries.{with_record, reply_to}
+use Rattle.posting_rules.specs.Entries.{with_record, reply_given}
 use Rattle.posting_rules.proofs.Keyed.{by_test}
 
 -- the verdict on a request under whose teller and number one is kept
@@ -51,7 +51,7 @@ IsSettled opened es r out = IsClosed opened r out ⊎ IsKnown opened es r out �
 -- ---- what is settled is replied so, and nothing is decided
 
 abbrev SaysSame : (ℕ → Option Terms) → List DecidedRequest → RequestFields → ReplyFields → Type 0
-SaysSame opened es r out = (reply_to (Ok r) opened es ≡ out) × ((m : ℕ) → with_record m (Ok r) opened es ≡ es)
+SaysSame opened es r out = (reply_given (Ok r) opened es ≡ out) × ((m : ℕ) → with_record m (Ok r) opened es ≡ es)
 
 by_verdict : (opened : ℕ → Option Terms) (es : List DecidedRequest) (r : RequestFields) (out : ReplyFields)
     (v : Verdict)

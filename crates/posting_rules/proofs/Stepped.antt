@@ -25,7 +25,7 @@ use Rattle.posting_rules.specs.Cases.{case_of, reply_in}
 use Rattle.posting_rules.specs.Entries.{DecidedRequest, is_posted, facts, posted_sum, teller_balance}
 use Rattle.posting_rules.specs.Entries.{branch_balance}
 use Rattle.posting_rules.specs.Entries.{account_balance, refused_entry, posted_entry, with_verdict}
-use Rattle.posting_rules.specs.Entries.{with_record, reply_to, decided, reply}
+use Rattle.posting_rules.specs.Entries.{with_record, reply_given, decided, reply}
 use Rattle.posting_rules.specs.Tables.{Tables, HasRows, HasKeys, AreTablesOf, row_at, branch_key, teller_key}
 use Rattle.posting_rules.specs.Tables.{account_key, history_key, request_key, branch_row_of, teller_row_of}
 use Rattle.posting_rules.specs.Tables.{account_row_of, history_row, history_row_of, request_row}
@@ -292,4 +292,4 @@ reply_shown t log bytes r read s =
     let found : found_in t r ≡ facts (λ b. opened log b) (decided log) r = found_shown t (λ b. opened log b)
     (decided log) r (are_new log) s.rows in
     ap (λ (f : Found). reply_in (case_of f r) r) found ∙ ap
-    (λ (x : Result RequestFields Bad). reply_to x (λ b. opened log b) (decided log)) (sym read)
+    (λ (x : Result RequestFields Bad). reply_given x (λ b. opened log b) (decided log)) (sym read)

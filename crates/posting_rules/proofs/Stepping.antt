@@ -6,7 +6,6 @@ use Rattle.std.specs.Option.{option_map}
 use Rattle.message_records.specs.Records.{RequestFields}
 use Rattle.posting_rules.specs.declared.judgments.Verdict.{Verdict}
 use Rattle.posting_rules.specs.declared.judgments.Verdict.TheVariants.{Unkept, Again, Refused, Posted}
-use Rattle.posting_rules.specs.declared.rows.RequestRow.{RequestRow}
 use Rattle.posting_rules.specs.declared.rows.FloorRow.{FloorRow}
 use Rattle.posting_rules.specs.declared.rows.ReferenceRow.{ReferenceRow}
 use Rattle.posting_rules.specs.Commands.{Command, AreCommands, Terms}
@@ -113,39 +112,6 @@ pub requests_as_before : (t : Tables) (ordinal : ℕ) (e : DecidedRequest) (tell
     → (tables_moved t ordinal e teller branch).requests ≡ t.requests
 unfolding with_history with_branch_balance with_teller_balance with_account_balance
 requests_as_before t ordinal e teller branch = refl
-
--- so that the next ordinal is as free behind them as before
-pub request_as_before : (t : Tables) (ordinal : ℕ) (e : DecidedRequest) (teller branch : ℤ) (n : ℕ)
-    → row_at request_key (tables_moved t ordinal e teller branch).requests n ≡ row_at request_key t.requests n
-request_as_before t ordinal e teller branch n =
-    ap (λ (rows : List RequestRow). row_at request_key rows n) (requests_as_before t ordinal e teller branch)
-
--- its writes leave the references too, and so does the row of the request
-pub references_as_before : (t : Tables) (ordinal : ℕ) (e : DecidedRequest) (teller branch : ℤ)
-    → (with_request (request_row_of ordinal e) (tables_moved t ordinal e teller branch)).references
-    ≡ t.references
-unfolding with_request with_history with_branch_balance with_teller_balance with_account_balance
-references_as_before t ordinal e teller branch = refl
-
--- so that the next ordinal's reference is as free behind these as before
-pub reference_as_before : (t : Tables) (ordinal : ℕ) (e : DecidedRequest) (teller branch : ℤ) (n : ℕ)
-    → row_at reference_key
-    (with_request (request_row_of ordinal e) (tables_moved t ordinal e teller branch)).references n
-    ≡ row_at reference_key t.references n
-reference_as_before t ordinal e teller branch n =
-    ap (λ (rows : List ReferenceRow). row_at reference_key rows n)
-    (references_as_before t ordinal e teller branch)
-
--- and so it is behind the row of a refused request
-pub reference_behind_request : (row : RequestRow) (t : Tables) (n : ℕ)
-    → row_at reference_key (with_request row t).references n ≡ row_at reference_key t.references n
-unfolding with_request
-reference_behind_request row t n = refl
-
--- a request without a reference adds none
-pub no_reference_more : (ordinal : ℕ) (t : Tables) → t ≡ with_reference ordinal None t
-unfolding with_reference
-no_reference_more ordinal t = refl
 
 -- ---- the rows that a posting changes
 

@@ -74,7 +74,7 @@ pub record Takes (old new : Seen) (commands : List Command) : Type 0 where
   pub stands : new.honest → (log : List Command) → StandsAt old log → StandsAt new (behind log commands)
 
 -- it changed nothing
-pub record IsUnchanged (old new : Seen) : Type 0 where
+pub record IsSeenUnchanged (old new : Seen) : Type 0 where
   pub tables : (t : Tables) → old.tables t → new.tables t
   pub down : new.is_down → old.is_down
   pub left : LeavesNoMore old new
@@ -100,7 +100,7 @@ pub record IsDamaged (old new : Seen) : Type 0 where
 
 -- what each refusal says
 abbrev pub Refuses : Fault → Seen → Seen → List Command → Type 0
-Refuses Memory old new commands = IsUnchanged old new
+Refuses Memory old new commands = IsSeenUnchanged old new
 Refuses Store old new commands = IsCutShort old new commands
 Refuses Down old new commands = WasDown old new
 Refuses (Damaged rule) old new commands = IsDamaged old new

@@ -103,13 +103,13 @@ decided (Post moment bytes ∷ log) = with_record moment (request_of bytes) (λ 
 abbrev pub malformed_reply : ReplyFields
 malformed_reply = record { outcome = outcome.Malformed; request = None; balance = None }
 
-abbrev pub reply_to : Result RequestFields Bad → (ℕ → Option Terms) → List DecidedRequest → ReplyFields
-reply_to (Err fault) opened es = malformed_reply
-reply_to (Ok r) opened es = reply_in (case_of (facts opened es r) r) r
+abbrev pub reply_given : Result RequestFields Bad → (ℕ → Option Terms) → List DecidedRequest → ReplyFields
+reply_given (Err fault) opened es = malformed_reply
+reply_given (Ok r) opened es = reply_in (case_of (facts opened es r) r) r
 
 -- the reply to a record behind a log
 abbrev pub reply : List Command → List ℕ → ReplyFields
-reply log bytes = reply_to (request_of bytes) (λ b. opened log b) (decided log)
+reply log bytes = reply_given (request_of bytes) (λ b. opened log b) (decided log)
 
 -- the balance of an open account behind a log
 abbrev pub balance_behind : List Command → ℕ → Option ℤ

@@ -7,7 +7,7 @@ use Rattle.sqlite.specs.declared.error.Error.{Error}
 use Rattle.sqlite_trees.specs.declared.error.StoreError.{StoreError}
 use Rattle.sqlite_trees.specs.declared.error.StoreError.TheVariants.{OutOfMemory, Io, Corrupt, Full, Broken}
 use Rattle.sqlite_trees.specs.declared.error.StoreError.TheVariants.{Unstorable}
-use Rattle.sql_meanings.specs.Outcomes.{IsUndone, NamesCause}
+use Rattle.sql_meanings.specs.StatementAnswers.{IsUndone, NamesCause}
 
 faults_since : (a b c : ℕ) → a ≤ b → MoreFaults b c → MoreFaults a c
 faults_since a b c more h = omega arith

@@ -6,7 +6,7 @@ use Rattle.sqlite.specs.declared.error.Error.{Error}
 use Rattle.sqlite_trees.specs.declared.error.StoreError.{StoreError}
 use Rattle.sqlite_trees.specs.declared.error.StoreError.TheVariants.{OutOfMemory, Io, Corrupt, Full, Broken}
 use Rattle.sqlite_trees.specs.declared.error.StoreError.TheVariants.{Unstorable}
-use Rattle.sql_meanings.specs.Outcomes.{PutFails, SetFails, is_taken_key}
+use Rattle.sql_meanings.specs.StatementAnswers.{PutFails, SetFails, is_taken_key}
 
 store_other : (cause : StoreError) → is_taken_key (store_error cause) ≡ false
 store_other OutOfMemory = refl

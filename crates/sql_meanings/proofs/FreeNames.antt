@@ -24,7 +24,7 @@ use Rattle.sqlite_resolve.specs.Define as define
 use Rattle.sqlite_resolve.specs.Compile.{compiled, first, planned, timed, meaning, returning, command}
 use Rattle.sqlite_resolve.specs.Compile.{create_table, creates, is_attached, is_reserved, with_command}
 use Rattle.sql_meanings.specs.Making.{NotMade, counts_rows}
-use Rattle.sql_meanings.specs.Outcomes.{IsUnderstood}
+use Rattle.sql_meanings.specs.StatementAnswers.{IsUnderstood}
 use Rattle.sql_meanings.proofs.TableStands.{counts_created}
 
 module _ (schema : Schema) (def : CreateTable) (t : Table) (defined : define.table [] def ≡ Ok t)

@@ -22,7 +22,7 @@ use Rattle.sqlite_schema.specs.Rules.{index_reals, table_reals}
 use Rattle.sqlite_rules.specs.Lists.{Has}
 use Rattle.sqlite.specs.declared.types.Value.TheVariants.{Text}
 use Rattle.sql_meanings.specs.Making.{CreatesOnly, IsMakeable, NotMade, RefusesNew}
-use Rattle.sql_meanings.specs.Outcomes.{MakeFails, MakesTold}
+use Rattle.sql_meanings.specs.StatementAnswers.{MakeFails, MakesTold}
 use Rattle.sql_meanings.proofs.Makings.{made_by}
 use Rattle.sql_meanings.proofs.NumberRows.{none_indexed}
 use Rattle.sql_meanings.proofs.Stopping.{Stops, fails_for, stops}

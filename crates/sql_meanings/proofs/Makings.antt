@@ -15,7 +15,7 @@ use Rattle.sqlite.proofs.Callers.{IsPlain, command_of, statement_of, runs_as, th
 use Rattle.sql_meanings.specs.Entries.{IsTree}
 use Rattle.sql_meanings.specs.Tables.{Holds, placed_at, tree_of, width_of}
 use Rattle.sql_meanings.specs.Making.{AddsTable, CreatesOnly, Stands}
-use Rattle.sql_meanings.specs.Outcomes.{WriteKept}
+use Rattle.sql_meanings.specs.StatementAnswers.{WriteKept}
 use Rattle.sql_meanings.proofs.Defining.{stands_defined}
 use Rattle.sql_meanings.proofs.TableStands.{adds}
 use Rattle.sql_meanings.proofs.Writing.{same_value}

@@ -23,7 +23,7 @@ use Rattle.sqlite_trees.specs.declared.error.StoreError.{StoreError}
 use Rattle.sqlite_trees.specs.declared.error.StoreError.TheVariants.{OutOfMemory, Io, Corrupt, Full, Broken}
 use Rattle.sqlite_trees.specs.declared.error.StoreError.TheVariants.{Unstorable}
 use Rattle.sql_meanings.proofs.Statements.{compiled_select}
-use Rattle.sql_meanings.specs.Outcomes.{IsOne, OnlyShows, ReadKept}
+use Rattle.sql_meanings.specs.StatementAnswers.{IsOne, OnlyShows, ReadKept}
 
 module _ (text : List ℕ) (count : ℕ) (P : Parsed) (s : written_select.Select) (parsed : first text ≡ Ok P)
     (is : P.statement ≡ written.Select s) (plain : P.formats ≡ [])

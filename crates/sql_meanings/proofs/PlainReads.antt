@@ -36,7 +36,7 @@ use Rattle.sqlite.specs.declared.error.Error.{Error}
 use Rattle.sqlite.specs.declared.error.Error.TheVariants.{QueryReturnedNoRows}
 use Rattle.sqlite.proofs.Callers.{IsPlain, command_of, reads_as, first_as}
 use Rattle.sql_meanings.proofs.Means.{Means, meant_is, plain_is, no_refusal}
-use Rattle.sql_meanings.specs.Outcomes.{ReadFails}
+use Rattle.sql_meanings.specs.StatementAnswers.{ReadFails}
 
 module _ (schema : Schema) (text : List ℕ) (params : Row) (q : Query) (names : List (List ℕ))
     (m : Means schema text (length params) (Select (record { lets = []; body = q }) names))

@@ -52,8 +52,8 @@ use Rattle.sqlite.specs.declared.error.Error.{Error}
 use Rattle.sqlite.specs.declared.error.Error.TheVariants.{SqlInputError}
 use Rattle.sqlite.specs.State.{State, Fails, IsUnchanged, IsNotRun, store_error}
 use Rattle.sqlite.specs.Effect.{Database, IsDatabase}
-use Rattle.sql_meanings.specs.Outcomes.{is_refusal, IsThere, IsUnderstood, OnlyShows, TellsProbe}
-use Rattle.sql_meanings.specs.Outcomes.{TellsUnderstood}
+use Rattle.sql_meanings.specs.StatementAnswers.{is_text_refused, IsThere, IsUnderstood, OnlyShows, TellsProbe}
+use Rattle.sql_meanings.specs.StatementAnswers.{TellsUnderstood}
 use Rattle.sql_meanings.specs.Tables.{Defines, placed_at, tree_of}
 use Rattle.sql_meanings.proofs.Steps.{standing}
 use Rattle.sqlite_trees.specs.declared.error.StoreError.{StoreError}
@@ -130,7 +130,7 @@ not_run old new text e only (inr fails) = inr fails
 
 -- what `prepare` tells, by its three answers
 module _ (old new : State) (text : List ℕ) (only : OnlyShows text 0 (understood old.now.schema text)) where
-  not_stored : (cause : StoreError) → is_refusal (store_error cause) ≡ false
+  not_stored : (cause : StoreError) → is_text_refused (store_error cause) ≡ false
   not_stored OutOfMemory = refl
   not_stored Io = refl
   not_stored Corrupt = refl
@@ -142,20 +142,20 @@ module _ (old new : State) (text : List ℕ) (only : OnlyShows text 0 (understoo
       → ((f : CompileError) × (e ≡ SqlInputError f) × (understood old.now.schema text ≡ Err f)
       × IsUnchanged old new)
       ⊎ Fails old new ⊥ e
-      → (b : Bool) → is_refusal e ≡ b → TellsUnderstood old new text (cond b (Ok false) (Err e))
+      → (b : Bool) → is_text_refused e ≡ b → TellsUnderstood old new text (cond b (Ok false) (Err e))
   by_error e (inl it) true is = ((it.0, it.2), it.3)
-  by_error e (inl it) false is = absurd (let t : is_refusal e ≡ true = ap is_refusal it.1 in cc)
+  by_error e (inl it) false is = absurd (let t : is_text_refused e ≡ true = ap is_text_refused it.1 in cc)
   by_error e (inr fails) true is = absurd
-      (let f : is_refusal e ≡ false = ap is_refusal fails.1 ∙ not_stored fails.0 in cc)
+      (let f : is_text_refused e ≡ false = ap is_text_refused fails.1 ∙ not_stored fails.0 in cc)
   by_error e (inr fails) false is = fails
 
   -- an error that refuses the text
-  pub refuses_text : (e : Error) → is_refusal e ≡ true → IsNotRun old new text [] e
+  pub refuses_text : (e : Error) → is_text_refused e ≡ true → IsNotRun old new text [] e
       → TellsUnderstood old new text (Ok false)
   refuses_text e is h = by_error e (not_run old new text e only h) true is
 
   -- an error of the store
-  pub fails_to_tell : (e : Error) → is_refusal e ≡ false → IsNotRun old new text [] e
+  pub fails_to_tell : (e : Error) → is_text_refused e ≡ false → IsNotRun old new text [] e
       → TellsUnderstood old new text (Err e)
   fails_to_tell e is h = by_error e (not_run old new text e only h) false is
 

@@ -72,7 +72,7 @@ use Rattle.sqlite_rules.specs.Lists.{Has}
 use Rattle.sqlite_rules.proofs.ListLemmas.{all_has}
 use Rattle.sqlite_rules.proofs.TableLemmas.{put_all_keeps}
 use Rattle.sql_meanings.specs.Entries.{Entry, has_key, put, stored}
-use Rattle.sql_meanings.specs.Outcomes.{Forbids, HasWideIndex, IsInterrupted, PutFails}
+use Rattle.sql_meanings.specs.StatementAnswers.{Forbids, HasWideIndex, IsInterrupted, PutFails}
 use Rattle.sql_meanings.specs.Tables.{Holds, placed_at, tree_of}
 use Rattle.sql_meanings.proofs.Means.{Means, no_refusal}
 use Rattle.sql_meanings.proofs.PutRows.{PutsAs, fresh_is, not_both, put_is}

@@ -14,7 +14,7 @@ use Rattle.sqlite_value.specs.Keys.{plain}
 use Rattle.sql_meanings.specs.Entries.{Entry, has_key, has_two, is_above, stored}
 use Rattle.sql_meanings.specs.Tables.{Holds, placed_at, tree_of}
 use Rattle.sql_meanings.specs.Queries.{by_key, by_two, next_above}
-use Rattle.sql_meanings.specs.Outcomes.{TellsRow}
+use Rattle.sql_meanings.specs.StatementAnswers.{TellsRow}
 use Rattle.sql_meanings.proofs.ReadTables.{ReadsAs, reads_row, under_overlay}
 use Rattle.sql_meanings.proofs.KeyedAnswers.{keyed_answer}
 use Rattle.sql_meanings.proofs.OrderedAnswers.{next_answer}

@@ -17,7 +17,7 @@ use Rattle.std.specs.Prelude.{IsSome}
 use Rattle.std.proofs.Common.{subst}
 use Rattle.sql_meanings.specs.Entries.{Entry, stored}
 use Rattle.sql_meanings.specs.Tables.{Defines, Holds, tree_of}
-use Rattle.sql_meanings.specs.Outcomes.{OnlyShows, ReadKept, TellsRows}
+use Rattle.sql_meanings.specs.StatementAnswers.{OnlyShows, ReadKept, TellsRows}
 use Rattle.sql_meanings.specs.Seeks.{is_from, is_of_from, next_from, next_of_from}
 use Rattle.sql_meanings.proofs.PlainReads.{fails_reading, shown_answers}
 use Rattle.sql_meanings.proofs.ReadTables.{ReadsAs, under_overlay}

@@ -37,7 +37,7 @@ use Rattle.sqlite.specs.declared.error.Error.{Error}
 use Rattle.sqlite_typing.specs.Types.{accepts_program}
 use Rattle.sql_meanings.specs.Entries.{Entry, IsTree, listed}
 use Rattle.sql_meanings.specs.Tables.{Defines, placed_at, tree_of}
-use Rattle.sql_meanings.specs.Outcomes.{TellsRow}
+use Rattle.sql_meanings.specs.StatementAnswers.{TellsRow}
 use Rattle.sql_meanings.proofs.Statements.{HasTable}
 use Rattle.sql_meanings.proofs.Means.{Means}
 use Rattle.sql_meanings.proofs.PlainReads.{first_answers, none_or_fails}

@@ -22,7 +22,7 @@ use Rattle.sqlite_rules.specs.Action.{deed_for, pairs, work_by, work_for, works}
 use Rattle.sqlite_rules.proofs.ListLemmas.{fails_has, has_found, some_from, some_has}
 use Rattle.sqlite_rules.proofs.RuleLemmas.{key_tree, parent_is_table, refers_at, refers_from}
 use Rattle.sql_meanings.specs.Making.{Stands}
-use Rattle.sql_meanings.specs.Outcomes.{is_parent}
+use Rattle.sql_meanings.specs.StatementAnswers.{is_parent}
 
 -- the table that a reference finds has its parent's name
 parent_named : (tables : List Table) (ref : Reference) (key : ParentKey) → parent_key tables ref ≡ Some key

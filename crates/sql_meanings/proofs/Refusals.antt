@@ -32,7 +32,7 @@ use Rattle.sqlite_rules.specs.Edit.{IsOversized, are_fresh, have_rowids, id_in, 
 use Rattle.sqlite_rules.specs.Edit.{taken_by}
 use Rattle.sqlite_rules.proofs.RuleLemmas.{keeps_at, keeps_from}
 use Rattle.sql_meanings.specs.Entries.{AreShort, HasWidth, Entry, stored}
-use Rattle.sql_meanings.specs.Outcomes.{Forbids, HasWideIndex, has_unique}
+use Rattle.sql_meanings.specs.StatementAnswers.{Forbids, HasWideIndex, has_unique}
 use Rattle.sql_meanings.specs.Tables.{tree_of, width_of}
 use Rattle.sql_meanings.proofs.NumberRows.{entry_fits, entry_present, entry_typed, none_indexed, none_real}
 use Rattle.sql_meanings.proofs.NumberRows.{row_fits}

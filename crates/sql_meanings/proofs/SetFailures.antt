@@ -40,7 +40,7 @@ use Rattle.sqlite_rules.specs.Action.{works}
 use Rattle.sqlite_rules.specs.Lists.{Has}
 use Rattle.sqlite_rules.proofs.ListLemmas.{all_has}
 use Rattle.sql_meanings.specs.Entries.{HasWidth, Entry, changed, has_key, listed, stored}
-use Rattle.sql_meanings.specs.Outcomes.{Forbids, HasWideIndex, IsInterrupted, SetFails, is_parent}
+use Rattle.sql_meanings.specs.StatementAnswers.{Forbids, HasWideIndex, IsInterrupted, SetFails, is_parent}
 use Rattle.sql_meanings.specs.Tables.{Holds, placed_at, tree_of, width_of}
 use Rattle.sql_meanings.specs.Queries.{by_key}
 use Rattle.sql_meanings.proofs.Changes.{found_all, found_key, taken_is}

@@ -35,7 +35,7 @@ use Rattle.sqlite_resolve.specs.Terms.{number}
 use Rattle.sqlite_resolve.specs.declared.error.CompileError.TheVariants.{NoSuchTable}
 use Rattle.sqlite_syntax.specs.declared.statement.Parsed.{Parsed}
 use Rattle.sqlite_typing.specs.Types.{accepts_program, accepts_terms}
-use Rattle.sql_meanings.specs.Outcomes.{OnlyShows}
+use Rattle.sql_meanings.specs.StatementAnswers.{OnlyShows}
 use Rattle.sql_meanings.specs.Queries.{by_key, key_is, no_limit, query}
 use Rattle.sql_meanings.specs.Tables.{placed_at, width_of}
 use Rattle.sql_meanings.proofs.ByKey.{Tests, key_at}

@@ -1,10 +1,10 @@
 -- What SQL texts mean, and what they leave in tables of whole numbers. Begin with `Entries`, `Tables` and
--- `Outcomes`.
+-- `StatementAnswers`.
 pub mod Calls
 pub mod Contents
 pub mod Entries
 pub mod Making
-pub mod Outcomes
+pub mod StatementAnswers
 pub mod Plain
 pub mod Queries
 pub mod Seeks

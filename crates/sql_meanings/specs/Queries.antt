@@ -61,7 +61,3 @@ by_two one two tree project = query (inner tree end) (two_are one two) project [
 -- the row with the least key above the parameter
 abbrev pub next_above : ℕ → List Term → Query
 next_above tree project = query (inner tree end) key_above project ascending (lit (Int (pos 1)))
-
--- all rows, by rising keys
-abbrev pub in_order : ℕ → List Term → Query
-in_order tree project = query (inner tree end) [] project ascending no_limit

@@ -9,7 +9,7 @@ use Rattle.sqlite.specs.declared.error.ErrorCode.TheVariants.{ConstraintViolatio
 use Rattle.sqlite_schema.specs.declared.schema.Constraint.TheVariants.{Unique}
 use Rattle.sql_meanings.specs.Tables.{Holds}
 use Rattle.sqlite.specs.Effect.{Database}
-use Rattle.sql_meanings.specs.Outcomes.{GoesOn, HasWideIndex, IsInterrupted}
+use Rattle.sql_meanings.specs.StatementAnswers.{GoesOn, HasWideIndex, IsInterrupted}
 use Rattle.sql_meanings.proofs.Afterwards.{fails_since}
 use Rattle.sql_meanings.proofs.Contents.{held}
 use Rattle.sql_meanings.proofs.Failures.{put_fails_as}
@@ -17,7 +17,7 @@ use Rattle.sql_meanings.proofs.PutFailures.{refuses_insert}
 use Rattle.sql_meanings.proofs.PutRows.{puts_row}
 use Rattle.store_rows.specs.Creation.{AreEmpty, CreatesBank, MakesWide, RefusedIn, StartsBank}
 use Rattle.store_rows.specs.Creation.{TablesAreMade, all_texts, new_tables, no_rows}
-use Rattle.store_rows.specs.Outcomes.{IsForbidden}
+use Rattle.store_rows.specs.TableAnswers.{IsForbidden}
 use Rattle.store_rows.specs.BankTables as bank
 use Rattle.store_rows.specs.BankTables.{bank_tables}
 use Rattle.store_rows.specs.declared.texts.TheConstants.{ADD_META}

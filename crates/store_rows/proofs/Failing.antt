@@ -15,7 +15,7 @@ use Rattle.sqlite.specs.declared.error.Error.{Error}
 use Rattle.sqlite_sql.specs.Ops.{fits_i64}
 use Rattle.posting_rules.specs.Tables.{Tables, row_at}
 use Rattle.sql_meanings.specs.Entries.{Entry, Rise, put}
-use Rattle.sql_meanings.specs.Outcomes.{Forbids, PutFails, WriteFails, is_taken_key}
+use Rattle.sql_meanings.specs.StatementAnswers.{Forbids, PutFails, WriteFails, is_taken_key}
 use Rattle.sql_meanings.specs.Tables.{Holds}
 use Rattle.sql_meanings.proofs.Changes.{found_all, found_passes}
 use Rattle.sql_meanings.proofs.Failures.{other_error, put_fails_as}
@@ -25,7 +25,7 @@ use Rattle.posting_rules.specs.declared.fault.Rule.TheVariants.{Key}
 use Rattle.store_rows.specs.declared.fault.TableFault.TheVariants.{Sqlite, Damaged}
 use Rattle.posting_rules.specs.Changes.{row_put}
 use Rattle.store_rows.specs.Failures.{Putting, Puts}
-use Rattle.store_rows.specs.Outcomes.{PutsOneRow, IsForbidden}
+use Rattle.store_rows.specs.TableAnswers.{PutsOneRow, IsForbidden}
 use Rattle.store_rows.specs.Faults.{added}
 use Rattle.store_rows.specs.View.{Shows}
 use Rattle.store_rows.proofs.RowLists.{put_rows}

@@ -5,7 +5,7 @@ use Rattle.sqlite.specs.Order.{Row, column}
 use Rattle.sqlite.specs.State.{State, IsUnchanged}
 use Rattle.sqlite.specs.declared.error.Error.{Error}
 use Rattle.sqlite.specs.declared.error.Error.TheVariants.{QueryReturnedNoRows}
-use Rattle.sql_meanings.specs.Outcomes.{IsStoreError, TellsRow}
+use Rattle.sql_meanings.specs.StatementAnswers.{IsStoreError, TellsRow}
 use Rattle.sql_meanings.proofs.OnlyShowing.{no_rows_error}
 use Rattle.posting_rules.specs.declared.fault.Rule.{Rule}
 use Rattle.posting_rules.specs.declared.fault.Rule.TheVariants.{Balance}
@@ -13,7 +13,7 @@ use Rattle.store_rows.specs.declared.fault.TableFault.{TableFault}
 use Rattle.store_rows.specs.declared.fault.TableFault.TheVariants.{Sqlite, Damaged}
 use Rattle.store_rows.specs.Columns.{balance_shown}
 use Rattle.store_rows.specs.Failures.{ReadsAnswer}
-use Rattle.store_rows.specs.Outcomes.{Finds, BreaksBalance, ReadsCents, ReadsRow}
+use Rattle.store_rows.specs.TableAnswers.{Finds, BreaksBalance, ReadsCents, ReadsRow}
 
 pub the_row : {a b : Row} → Some a ≡ Some b → b ≡ a
 the_row e = cc

@@ -19,7 +19,7 @@ use Rattle.sqlite_typing.specs.Types.{accepts_program}
 use Rattle.posting_rules.specs.Tables.{Tables, request_key}
 use Rattle.posting_rules.specs.declared.rows.RequestRow.{RequestRow}
 use Rattle.sql_meanings.specs.Entries.{has_two, stored}
-use Rattle.sql_meanings.specs.Outcomes.{OnlyShows, TellsRow}
+use Rattle.sql_meanings.specs.StatementAnswers.{OnlyShows, TellsRow}
 use Rattle.sql_meanings.specs.Plain.{number_column}
 use Rattle.sql_meanings.specs.Queries.{by_two, two_are, no_limit}
 use Rattle.sql_meanings.specs.Tables.{placed_at}

@@ -22,7 +22,7 @@ use Rattle.posting_rules.specs.declared.rows.RequestRow.{RequestRow}
 use Rattle.store_rows.specs.declared.fault.TableFault.{TableFault}
 use Rattle.store_rows.specs.declared.fault.TableFault.TheVariants.{Sqlite, Damaged}
 use Rattle.store_rows.specs.Columns.{request_shown}
-use Rattle.store_rows.specs.Outcomes.{ReadsCents, ReadsDecision, ReadsOutcome, ReadsWhole}
+use Rattle.store_rows.specs.TableAnswers.{ReadsCents, ReadsDecision, ReadsOutcome, ReadsWhole}
 use Rattle.message_records.specs.declared.limits.TheConstants.{MAX_ACCOUNT, MAX_BRANCH}
 
 -- the outcome that a code is

@@ -20,7 +20,7 @@ use Rattle.posting_rules.specs.Tables.{Tables}
 use Rattle.sql_meanings.specs.Contents.{HoldsEach, has_other_names, is_free, stand_apart}
 use Rattle.sql_meanings.specs.Entries.{Entry}
 use Rattle.sql_meanings.specs.Making.{NotMade}
-use Rattle.sql_meanings.specs.Outcomes.{IsUnderstood}
+use Rattle.sql_meanings.specs.StatementAnswers.{IsUnderstood}
 use Rattle.sql_meanings.proofs.Contents.{HoldsEach-prop}
 use Rattle.sql_meanings.proofs.FreeNames.{free_beside, free_understood, needs_none, only_full}
 use Rattle.sql_meanings.proofs.ListedTexts.{listing_tests}

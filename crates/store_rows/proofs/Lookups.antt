@@ -1,21 +1,14 @@
 -- Small facts about what was looked up.
-use Rattle.std.proofs.Common.{◌≡◌, ℕ, zero, suc, ◌<◌, ℤ, Bool, true, false, cond, nat_eq, [], ◌∷◌, length}
+use Rattle.std.proofs.Common.{◌≡◌, ℕ, ℤ, Bool, true, false, cond, nat_eq}
 use Rattle.std.proofs.Common.{refl, arith}
 use Rattle.std.proofs.Common.{◌≤◌, ap, ◌∙◌, w64, to_z, of_z, pos, ◌≤ℤ◌, FitsSigned}
 use Rattle.std.specs.Prelude.{neg_ℤ}
 use Rattle.std.proofs.lemmas.Int.{ints, to_z_pos, to_z-of_z}
-use Rattle.sqlite.specs.Order.{Row, column}
+use Rattle.sqlite.specs.Order.{column}
 use Rattle.sqlite.specs.declared.types.Value.{Value}
 use Rattle.sqlite.specs.declared.types.Value.TheVariants.{Int}
 use Rattle.message_records.specs.declared.limits.TheConstants.{MAX_BALANCE}
 use Rattle.store_rows.specs.declared.statements.TheConstants.{MAX_KEY}
-
--- a column with a number is one of the row's
-pub column_within : (row : Row) (at : ℕ) (n : ℤ) → column row at ≡ Int n → at < length row
-column_within [] zero n h = absurd cc
-column_within [] (suc at) n h = absurd cc
-column_within (v ∷ row) zero n h = omega arith
-column_within (v ∷ row) (suc at) n h = let more = column_within row at n h in omega arith
 
 -- one row was met or none
 pub one_written : (count : ℕ) (b : Bool) → count ≡ cond b 1 0 → nat_eq count 1 ≡ b

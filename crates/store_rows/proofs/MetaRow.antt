@@ -12,7 +12,7 @@ use Rattle.posting_rules.specs.Changes.{with_decided}
 use Rattle.posting_rules.specs.Tables.{Tables}
 use Rattle.sql_meanings.specs.Contents.{HoldsEach}
 use Rattle.sql_meanings.specs.Entries.{Entry, HasWidth, has_key, stored}
-use Rattle.sql_meanings.specs.Outcomes.{TellsRow}
+use Rattle.sql_meanings.specs.StatementAnswers.{TellsRow}
 use Rattle.sql_meanings.specs.Tables.{Holds}
 use Rattle.sql_meanings.proofs.Changes.{found_all}
 use Rattle.sql_meanings.proofs.Contents.{held, one_written}
@@ -22,7 +22,7 @@ use Rattle.sql_meanings.proofs.SetFailures.{refuses_update}
 use Rattle.sql_meanings.proofs.SetRows.{sets_row}
 use Rattle.sql_meanings.proofs.TableWrites.{IsPlain, Leaves, spares_standing}
 use Rattle.store_rows.specs.Columns.{meta_in, meta_numbers, meta_shown}
-use Rattle.store_rows.specs.Outcomes.{IsForbidden, SetsRow}
+use Rattle.store_rows.specs.TableAnswers.{IsForbidden, SetsRow}
 use Rattle.store_rows.specs.BankTables as bank
 use Rattle.store_rows.specs.BankTables.{bank_tables}
 use Rattle.store_rows.specs.Statements.{MeetsOne}

@@ -18,7 +18,7 @@ use Rattle.sqlite_resolve.specs.Terms.{number}
 use Rattle.sqlite_typing.specs.Types.{accepts_program}
 use Rattle.posting_rules.specs.Tables.{Tables, branch_key}
 use Rattle.sql_meanings.specs.Entries.{is_above, stored}
-use Rattle.sql_meanings.specs.Outcomes.{OnlyShows, TellsRow}
+use Rattle.sql_meanings.specs.StatementAnswers.{OnlyShows, TellsRow}
 use Rattle.sql_meanings.specs.Queries.{ascending, next_above, key_above}
 use Rattle.sql_meanings.specs.Tables.{placed_at}
 use Rattle.sql_meanings.proofs.ByKey.{key_at}

@@ -8,10 +8,10 @@ use Rattle.sqlite.specs.Listing.{understood}
 use Rattle.sqlite.specs.Order.{Row}
 use Rattle.sqlite.specs.State.{State, QueriesRow, QueriesRowInside, Begins, Shown}
 use Rattle.sqlite.specs.declared.error.Error.{Error}
-use Rattle.sql_meanings.specs.Outcomes.{OnlyShows}
+use Rattle.sql_meanings.specs.StatementAnswers.{OnlyShows}
 use Rattle.store_rows.specs.Columns.{meta_shown}
 use Rattle.store_rows.specs.Failures.{ReadsAnswer}
-use Rattle.store_rows.specs.Outcomes.{Never, ReadsRow}
+use Rattle.store_rows.specs.TableAnswers.{Never, ReadsRow}
 use Rattle.store_rows.specs.Statements.{ShowsFirst, TellsOther}
 use Rattle.store_rows.specs.declared.fault.TableFault.{TableFault}
 use Rattle.store_rows.specs.declared.fault.TableFault.TheVariants.{Sqlite, Damaged}

@@ -4,7 +4,7 @@ use Rattle.sqlite.specs.Order.{Row}
 use Rattle.sqlite.specs.State.{State, QueriesRowInside}
 use Rattle.sqlite.specs.declared.error.Error.{Error}
 use Rattle.sqlite.specs.declared.error.Error.TheVariants.{QueryReturnedNoRows}
-use Rattle.sql_meanings.specs.Outcomes.{ReadKept, WriteFails}
+use Rattle.sql_meanings.specs.StatementAnswers.{ReadKept, WriteFails}
 use Rattle.sql_meanings.proofs.OnlyShowing.{kept_none}
 use Rattle.store_rows.specs.Failures.{Asking, Asks, HasReason, Looks, ReadsAnswer}
 use Rattle.store_rows.specs.declared.fault.TableFault.{TableFault}

@@ -9,7 +9,7 @@ use Rattle.message_records.specs.declared.records.Outcome.{Outcome}
 use Rattle.posting_rules.specs.Kept.{DecisionFields, is_kept_with, decision_from}
 use Rattle.posting_rules.specs.declared.fault.Rule.TheVariants.{Request}
 use Rattle.store_rows.specs.Columns.{number_at}
-use Rattle.store_rows.specs.Outcomes.{ReadsCents, ReadsOutcome, ReadsWhole}
+use Rattle.store_rows.specs.TableAnswers.{ReadsCents, ReadsOutcome, ReadsWhole}
 use Rattle.store_rows.specs.Rules.{RequestKeeps}
 use Rattle.store_rows.specs.Stored.{IsDecision, ReadsStored, request_stored}
 use Rattle.store_rows.specs.declared.fault.TableFault.{TableFault}

@@ -14,11 +14,11 @@ use Rattle.message_records.specs.declared.limits.TheConstants.{MAX_BALANCE}
 use Rattle.posting_rules.specs.declared.fault.Rule.{Rule}
 use Rattle.posting_rules.specs.declared.fault.Rule.TheVariants.{Balance, Reference}
 use Rattle.sql_meanings.specs.Entries.{Entry}
-use Rattle.sql_meanings.specs.Outcomes.{TellsRow}
+use Rattle.sql_meanings.specs.StatementAnswers.{TellsRow}
 use Rattle.sql_meanings.proofs.OnlyShowing.{no_rows_error}
 use Rattle.store_rows.specs.Columns.{number_at}
 use Rattle.store_rows.specs.Failures.{ReadsAnswer}
-use Rattle.store_rows.specs.Outcomes.{ReadsCents, ReadsReference, ReadsWhole}
+use Rattle.store_rows.specs.TableAnswers.{ReadsCents, ReadsReference, ReadsWhole}
 use Rattle.store_rows.specs.Rules.{IsFrom}
 use Rattle.store_rows.specs.Stored.{BalanceKeeps, FindsStored, IsBalance, ReadsStored, balance_stored}
 use Rattle.store_rows.specs.declared.fault.TableFault.{TableFault}

@@ -9,7 +9,7 @@ use Rattle.sqlite.specs.Term.{Term, col, eval_all}
 use Rattle.sqlite.specs.declared.error.Error.{Error}
 use Rattle.sqlite.specs.declared.types.Value.TheVariants.{Int}
 use Rattle.sql_meanings.specs.Entries.{Entry, HasWidth, has_key, is_above, has_two, stored}
-use Rattle.sql_meanings.specs.Outcomes.{TellsRow}
+use Rattle.sql_meanings.specs.StatementAnswers.{TellsRow}
 use Rattle.sql_meanings.specs.Queries.{by_key}
 use Rattle.sql_meanings.specs.Tables.{Holds, width_of}
 use Rattle.sql_meanings.proofs.Changes.{found_all}

@@ -16,7 +16,7 @@ use Rattle.posting_rules.specs.Changes.{row_changed, row_put}
 use Rattle.posting_rules.specs.Tables.{Tables, row_at}
 use Rattle.sql_meanings.specs.Contents.{HoldsEach}
 use Rattle.sql_meanings.specs.Entries.{Entry, changed, has_key, stored}
-use Rattle.sql_meanings.specs.Outcomes.{Forbids, TellsRow}
+use Rattle.sql_meanings.specs.StatementAnswers.{Forbids, TellsRow}
 use Rattle.sql_meanings.specs.Queries.{by_key}
 use Rattle.sql_meanings.specs.Plain.{key_column, number_column, text_column}
 use Rattle.sql_meanings.specs.Tables.{Holds, width_of}
@@ -31,7 +31,7 @@ use Rattle.sql_meanings.proofs.SetRows.{ChangesAs, sets_row}
 use Rattle.sql_meanings.proofs.TableWrites.{IsPlain, Leaves, spares_standing}
 use Rattle.sql_meanings.proofs.Writing.{uncounted}
 use Rattle.store_rows.specs.Faults.{added}
-use Rattle.store_rows.specs.Outcomes.{PutsOneRow, IsForbidden, SetsRow}
+use Rattle.store_rows.specs.TableAnswers.{PutsOneRow, IsForbidden, SetsRow}
 use Rattle.store_rows.specs.BankTables.{bank_tables}
 use Rattle.store_rows.specs.Statements.{MeetsOne}
 use Rattle.store_rows.specs.View.{Shows, contents}

@@ -10,11 +10,11 @@ use Rattle.sqlite_trees.specs.declared.store.Store.{Ghosts}
 use Rattle.posting_rules.specs.Tables.{Tables}
 use Rattle.sql_meanings.specs.Calls.{Inside, Says}
 use Rattle.sql_meanings.specs.Entries.{Entry}
-use Rattle.sql_meanings.specs.Outcomes.{OnlyShows, TellsRow}
+use Rattle.sql_meanings.specs.StatementAnswers.{OnlyShows, TellsRow}
 use Rattle.store_rows.specs.Calls.{LooksUp, OfTables}
 use Rattle.store_rows.specs.Failures.{Asks, ReadsAnswer}
 use Rattle.store_rows.specs.Forms.{Form}
-use Rattle.store_rows.specs.Outcomes.{ReadsRow}
+use Rattle.store_rows.specs.TableAnswers.{ReadsRow}
 use Rattle.store_rows.specs.Rules.{HoldsBank, StoredRows}
 use Rattle.store_rows.specs.Stored.{ReadsStored}
 use Rattle.store_rows.specs.View.{Shows}

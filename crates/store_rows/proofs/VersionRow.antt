@@ -7,7 +7,7 @@ use Rattle.sqlite.specs.declared.types.Value.TheVariants.{Int}
 use Rattle.posting_rules.specs.Tables.{Tables}
 use Rattle.sql_meanings.specs.Entries.{Entry, has_key}
 use Rattle.sql_meanings.specs.Making.{SparesStanding}
-use Rattle.sql_meanings.specs.Outcomes.{Forbids, GoesOn, SetFails}
+use Rattle.sql_meanings.specs.StatementAnswers.{Forbids, GoesOn, SetFails}
 use Rattle.sql_meanings.specs.Tables.{Holds}
 use Rattle.sql_meanings.proofs.Contents.{held}
 use Rattle.sql_meanings.proofs.SetFailures.{refuses_update}

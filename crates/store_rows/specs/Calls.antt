@@ -8,11 +8,11 @@ use Rattle.sqlite.specs.declared.transaction.Transaction.{Transaction}
 use Rattle.sqlite_trees.specs.declared.store.Store.{Ghosts}
 use Rattle.posting_rules.specs.Tables.{Tables}
 use Rattle.sql_meanings.specs.Calls.{Inside, Says}
-use Rattle.sql_meanings.specs.Outcomes.{TellsProbe, TellsUnderstood}
+use Rattle.sql_meanings.specs.StatementAnswers.{TellsProbe, TellsUnderstood}
 use Rattle.sql_meanings.specs.Entries.{Entry}
 use Rattle.store_rows.specs.Failures.{Changes, Looks, Puts}
 use Rattle.store_rows.specs.Forms.{Form}
-use Rattle.store_rows.specs.Outcomes.{PutsOneRow, Finds, SetsRow}
+use Rattle.store_rows.specs.TableAnswers.{PutsOneRow, Finds, SetsRow}
 use Rattle.store_rows.specs.Rules.{OfRows, StoredRows}
 use Rattle.store_rows.specs.BankTables.{meta}
 use Rattle.store_rows.specs.Stored.{FindsStored}

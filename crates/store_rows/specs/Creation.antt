@@ -15,9 +15,9 @@ use Rattle.sqlite_schema.specs.declared.schema.Constraint.TheVariants.{Unique}
 use Rattle.sqlite_rules.specs.Lists.{Has}
 use Rattle.posting_rules.specs.Tables.{Tables}
 use Rattle.sql_meanings.specs.Making.{IsGrown, KeepsTables, KeepsWhatStood, NotMade, SparesTables, counts_rows}
-use Rattle.sql_meanings.specs.Outcomes.{GoesOn, HasWideIndex, IsInterrupted, IsUndone, NamesCause, PutFails}
+use Rattle.sql_meanings.specs.StatementAnswers.{GoesOn, HasWideIndex, IsInterrupted, IsUndone, NamesCause, PutFails}
 use Rattle.sql_meanings.specs.Tables.{tree_of}
-use Rattle.store_rows.specs.Outcomes.{IsForbidden}
+use Rattle.store_rows.specs.TableAnswers.{IsForbidden}
 use Rattle.sql_meanings.specs.Contents.{HoldsEach}
 use Rattle.sql_meanings.specs.Entries.{Entry}
 use Rattle.store_rows.specs.BankTables as bank

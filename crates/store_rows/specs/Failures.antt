@@ -11,7 +11,7 @@ use Rattle.sqlite.specs.declared.error.Error.TheVariants.{QueryReturnedNoRows}
 use Rattle.sqlite_trees.specs.declared.store.Store.{Ghosts}
 use Rattle.posting_rules.specs.declared.fault.Rule.{Rule}
 use Rattle.posting_rules.specs.declared.fault.Rule.TheVariants.{Account, Key, Meta, Teller}
-use Rattle.sql_meanings.specs.Outcomes.{WriteFails, is_taken_key}
+use Rattle.sql_meanings.specs.StatementAnswers.{WriteFails, is_taken_key}
 use Rattle.store_rows.specs.declared.texts.TheConstants.{SET_ACCOUNT, SET_BRANCH, SET_META, SET_TELLER}
 use Rattle.store_rows.specs.declared.fault.TableFault.{TableFault}
 use Rattle.store_rows.specs.declared.fault.TableFault.TheVariants.{Sqlite, Damaged}

@@ -13,7 +13,7 @@ use Rattle.posting_rules.specs.Tables.{Tables}
 use Rattle.sql_meanings.specs.Contents.{HoldsEach}
 use Rattle.sql_meanings.specs.Entries.{Entry}
 use Rattle.sql_meanings.specs.Making.{KeepsWhatStood, SparesStanding}
-use Rattle.sql_meanings.specs.Outcomes.{Forbids, GoesOn, SetFails}
+use Rattle.sql_meanings.specs.StatementAnswers.{Forbids, GoesOn, SetFails}
 use Rattle.sql_meanings.specs.Tables.{Holds, tree_of}
 use Rattle.store_rows.specs.BankTables as bank
 use Rattle.store_rows.specs.BankTables.{bank_tables}

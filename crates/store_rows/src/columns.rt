@@ -1,7 +1,7 @@
 //! Stored numbers and texts as the types that they are read as.
 ghost use Rattle.sqlite.specs.Order.{column};
-ghost use Rattle.store_rows.specs.Outcomes.{ReadsCents, ReadsInteger, ReadsOutcome, ReadsReference};
-ghost use Rattle.store_rows.specs.Outcomes.{ReadsWhole};
+ghost use Rattle.store_rows.specs.TableAnswers.{ReadsCents, ReadsInteger, ReadsOutcome, ReadsReference};
+ghost use Rattle.store_rows.specs.TableAnswers.{ReadsWhole};
 
 use crate::fault::TableFault;
 use message_records::{Cents, Outcome, Reference, Whole};

@@ -5,7 +5,7 @@ ghost use Rattle.sqlite.specs.State.{HasCleanDisk, Survives};
 ghost use Rattle.sqlite.specs.Held.{state};
 ghost use Rattle.sql_meanings.specs.Calls.{Says, Inside};
 ghost use Rattle.sql_meanings.specs.Making.{CreatesOnly, KeepsTables};
-ghost use Rattle.sql_meanings.specs.Outcomes.{WriteKept, WritesKept, MakesTold};
+ghost use Rattle.sql_meanings.specs.StatementAnswers.{WriteKept, WritesKept, MakesTold};
 ghost use Rattle.store_rows.specs.Failures.{HasFailed, HasFailedAtLast};
 ghost use Rattle.store_rows.specs.View.{Shows};
 ghost use Rattle.store_rows.specs.Creation.{AreEmpty, all_texts, new_tables, MakesAll, StartsBank};

@@ -1,7 +1,7 @@
 //! A row that was asked for, as the value that it holds.
 ghost use Rattle.store_rows.specs.Failures.{ReadsAnswer};
 ghost use Rattle.store_rows.specs.Forms.{Form};
-ghost use Rattle.store_rows.specs.Outcomes.{ReadsRow};
+ghost use Rattle.store_rows.specs.TableAnswers.{ReadsRow};
 ghost use Rattle.store_rows.specs.Stored.{ReadsStored};
 
 use crate::columns::cents_at;

@@ -3,7 +3,7 @@ ghost use Rattle.std.specs.Prelude.{IfErr, IsTrue};
 ghost use Rattle.sqlite.specs.Held.{state};
 ghost use Rattle.sqlite.specs.State.{HasCleanDisk};
 ghost use Rattle.sql_meanings.specs.Calls.{Inside, Says};
-ghost use Rattle.sql_meanings.specs.Outcomes.{WritesKept};
+ghost use Rattle.sql_meanings.specs.StatementAnswers.{WritesKept};
 ghost use Rattle.store_rows.specs.Failures.{HasFailedAtLast};
 ghost use Rattle.store_rows.specs.Migration.{IsEarlier, MakesLacking};
 

@@ -3,7 +3,7 @@ ghost use Rattle.std.specs.Prelude.{◌≡◌, false};
 ghost use Rattle.sqlite.specs.State.{HasCleanDisk, Survives};
 ghost use Rattle.sqlite.specs.Listing.{understood};
 ghost use Rattle.sqlite.specs.Held.{state};
-ghost use Rattle.sql_meanings.specs.Outcomes.{is_refusal as refuses_text, OnlyShows, TellsUnderstood};
+ghost use Rattle.sql_meanings.specs.StatementAnswers.{is_text_refused, OnlyShows, TellsUnderstood};
 ghost use Rattle.store_rows.specs.Calls.{Probes};
 ghost use Rattle.store_rows.specs.Probes.{probe_of};
 
@@ -38,8 +38,8 @@ pub const BEHIND_META: &[BankTable] = &[
 ];
 
 // Whether the error says that a text isn't understood.
-fn is_refusal(e: &Error) -> bool
-    ensures { result ≡ refuses_text e.now }
+fn refuses_text(e: &Error) -> bool
+    ensures { result ≡ is_text_refused e.now }
 {
     matches!(e, Error::SqlInputError(_))
 }
@@ -54,7 +54,7 @@ fn is_understood<S: Alter>(conn: &mut Connection<S>, text: &str) -> Result<bool,
 {
     match conn.prepare(text) {
         Ok(_) => Ok(true),
-        Err(e) if is_refusal(&e) => Ok(false),
+        Err(e) if refuses_text(&e) => Ok(false),
         Err(e) => Err(e),
     }
 }

@@ -6,7 +6,7 @@ ghost use Rattle.posting_rules.specs.Changes.{with_request};
 ghost use Rattle.store_rows.specs.Calls.{AddsRow, LooksUp};
 ghost use Rattle.store_rows.specs.Columns.{request_in};
 ghost use Rattle.store_rows.specs.Forms.{request_form};
-ghost use Rattle.store_rows.specs.Outcomes.{ReadsDecision};
+ghost use Rattle.store_rows.specs.TableAnswers.{ReadsDecision};
 ghost use Rattle.store_rows.specs.Rules.{RequestKeeps};
 ghost use Rattle.store_rows.specs.BankTables.{request as table};
 ghost use Rattle.store_rows.specs.Stored.{IsDecision, ReadsStored, request_stored};

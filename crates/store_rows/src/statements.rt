@@ -5,7 +5,7 @@ ghost use Rattle.sqlite.specs.State.{QueriesRowInside};
 ghost use Rattle.sqlite.specs.Values.{bound};
 ghost use Rattle.sqlite.specs.declared.types.Value.TheVariants.{Int};
 ghost use Rattle.sql_meanings.specs.Calls.{Says};
-ghost use Rattle.sql_meanings.specs.Outcomes.{OnlyShows};
+ghost use Rattle.sql_meanings.specs.StatementAnswers.{OnlyShows};
 ghost use Rattle.store_rows.specs.Failures.{Asks};
 ghost use Rattle.store_rows.specs.Statements.{PutsRow, RunsUnder};
 

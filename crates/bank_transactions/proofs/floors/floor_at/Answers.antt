@@ -4,7 +4,7 @@ use Rattle.std.specs.Prelude.{option_map}
 use Rattle.std.proofs.lemmas.Int.{ints}
 use Rattle.posting_rules.specs.LookUps.{lowest_of}
 use Rattle.posting_rules.specs.Tables.{row_at, floor_key}
-use Rattle.store_rows.specs.Outcomes.{BreaksFloor}
+use Rattle.store_rows.specs.TableAnswers.{BreaksFloor}
 use Rattle.bank_transactions.proofs.Broken.{above_zero_broken, floor_broken}
 use Rattle.bank_transactions.proofs.ReadsInTurn.{find_failed, find_tells}
 use Rattle.bank_transactions.proofs.SoundRows.{floor_is, floor_unbroken, no_floor_beyond}

@@ -2,7 +2,7 @@
 use Rattle.std.proofs.Common.{◌≡◌, ℕ, Option, Some, Result, Ok, Err, rules, sym, ap, subst, ◌∙◌}
 use Rattle.std.proofs.Common.{inl, inr, arith}
 use Rattle.posting_rules.specs.Tables.{row_at, branch_key}
-use Rattle.store_rows.specs.Outcomes.{BreaksBranch}
+use Rattle.store_rows.specs.TableAnswers.{BreaksBranch}
 use Rattle.std.specs.Prelude.{option_and_then}
 use Rattle.message_records.specs.Ranges.{whole_within}
 use Rattle.message_records.specs.declared.limits.TheConstants.{MAX_BRANCH}

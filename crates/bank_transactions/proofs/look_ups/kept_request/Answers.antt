@@ -10,7 +10,7 @@ use Rattle.posting_rules.specs.LookUps.{kept_of_row}
 use Rattle.posting_rules.specs.declared.rows.RequestRow.{RequestRow}
 use Rattle.sql_meanings.specs.Entries.{has_two}
 use Rattle.store_rows.specs.Columns.{request_in}
-use Rattle.store_rows.specs.Outcomes.{BreaksRequest}
+use Rattle.store_rows.specs.TableAnswers.{BreaksRequest}
 use Rattle.store_rows.specs.Rules.{HoldsBank, RequestKeeps, StoredRows}
 use Rattle.store_rows.specs.Stored.{FindsStored, IsSameRequest}
 use Rattle.bank_transactions.specs.Stored.{HoldsKept, HoldsReference}

@@ -13,7 +13,7 @@ use Rattle.posting_rules.specs.Tables.{Tables, row_at, branch_key, branch_row_of
 use Rattle.sql_meanings.specs.Calls.{Says, Inside}
 use Rattle.store_rows.specs.Calls.{OfTables}
 use Rattle.store_rows.specs.Failures.{Puts}
-use Rattle.store_rows.specs.Outcomes.{PutsOneRow}
+use Rattle.store_rows.specs.TableAnswers.{PutsOneRow}
 use Rattle.store_rows.specs.BankTables.{branch}
 use Rattle.store_rows.specs.declared.fault.TableFault.{TableFault}
 use Rattle.bank_transactions.specs.Doing.{Does}

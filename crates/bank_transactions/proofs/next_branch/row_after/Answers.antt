@@ -1,7 +1,7 @@
 -- What the row of the next branch tells.
 use Rattle.std.proofs.Common.{◌≡◌, Err, Some, rules, sym, ◌∙◌, inl, inr, arith}
 use Rattle.store_rows.specs.Columns.{branch_above}
-use Rattle.store_rows.specs.Outcomes.{BreaksBranch}
+use Rattle.store_rows.specs.TableAnswers.{BreaksBranch}
 use Rattle.bank_transactions.proofs.NextRow.{next_sound, next_unbroken}
 use Rattle.sql_meanings.specs.Entries.{is_above}
 use Rattle.std.specs.Prelude.{pos}

@@ -3,7 +3,7 @@ use Rattle.std.proofs.Common.{filter, inl, ◌∙◌, w64}
 use Rattle.std.proofs.lemmas.Int.{to_z-of_z}
 use Rattle.sqlite.specs.Held.{state}
 use Rattle.sqlite.specs.State.{IsUnchanged}
-use Rattle.sql_meanings.specs.Outcomes.{WriteFails}
+use Rattle.sql_meanings.specs.StatementAnswers.{WriteFails}
 use Rattle.sql_meanings.specs.Tables.{width_of}
 use Rattle.sql_meanings.proofs.OrderedAnswers.{rise_filter}
 use Rattle.bank_walks.specs.StepOutcomes.{BreaksValue}

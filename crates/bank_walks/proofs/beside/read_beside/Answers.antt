@@ -4,7 +4,7 @@ use Rattle.std.proofs.Common.{inl, None, ap, take, ◌∙◌, w64}
 use Rattle.std.proofs.lemmas.Int.{to_z-of_z}
 use Rattle.sqlite.specs.Held.{state}
 use Rattle.sqlite.specs.State.{IsUnchanged}
-use Rattle.sql_meanings.specs.Outcomes.{WriteFails}
+use Rattle.sql_meanings.specs.StatementAnswers.{WriteFails}
 use Rattle.bank_walks.specs.StepOutcomes.{BreaksValue, shown}
 use Rattle.bank_walks.specs.Rows.{rows_from}
 use Rattle.bank_walks.specs.declared.ahead.TheConstants.{AHEAD}

@@ -3,7 +3,7 @@ use Rattle.std.proofs.Common.{filter, sym, subst, rules, w64}
 use Rattle.std.proofs.lemmas.Int.{to_z-of_z}
 use Rattle.sqlite.proofs.Callers.{unchanged_then}
 use Rattle.sqlite.specs.Held.{state}
-use Rattle.sql_meanings.specs.Outcomes.{IsStoreError}
+use Rattle.sql_meanings.specs.StatementAnswers.{IsStoreError}
 use Rattle.sql_meanings.proofs.Saying.{survives_both}
 use Rattle.sql_meanings.proofs.OrderedAnswers.{rise_filter}
 use Rattle.bank_walks.specs.StepOutcomes.{BreaksValue}

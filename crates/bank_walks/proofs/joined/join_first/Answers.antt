@@ -3,7 +3,7 @@ use Rattle.std.proofs.Common.{◌++◌, map, drop, refl, sym, ap, ◌∙◌, rul
 use Rattle.sqlite.proofs.StateLemmas.{unchanged}
 use Rattle.sqlite.specs.Held.{state}
 use Rattle.store_rows.proofs.Lookups.{as_integer}
-use Rattle.sql_meanings.specs.Outcomes.{IsStoreError}
+use Rattle.sql_meanings.specs.StatementAnswers.{IsStoreError}
 use Rattle.bank_walks.specs.StepOutcomes.{BreaksValue}
 use Rattle.bank_walks.specs.Pairs.{pair_of}
 use Rattle.bank_walks.specs.Rows.{entry_key, rows_behind}

@@ -1,7 +1,7 @@
 -- What the row means.
 use Rattle.std.proofs.Common.{rules}
 use Rattle.store_rows.specs.Columns.{meta_in, meta_shown}
-use Rattle.store_rows.specs.Outcomes.{Never, ReadsRow}
+use Rattle.store_rows.specs.TableAnswers.{Never, ReadsRow}
 use Rattle.store_rows.proofs.FoundRows.{finds}
 use Rattle.store_rows.proofs.OtherValue.{other_told}
 use Rattle.store_rows.proofs.Reasons.{looks}

@@ -8,10 +8,10 @@ pub returns-in-Err-clause-told : goal.returns-in-Err-clause-told
 returns-in-Err-clause-told g c clean only =
     refuses_text (state g.S.Store c.args.conn.now) (state g.S.Store c.prepare.new.self) c.args.text.now only
     c.in-Err.e
-    (sym c.is_refusal.ensures ∙ c.if-is_refusal.true) (c.in-Err.ensures.err clean [])
+    (sym c.refuses_text.ensures ∙ c.if-refuses_text.true) (c.in-Err.ensures.err clean [])
 
 pub returns-clause-told : goal.returns-clause-told
 returns-clause-told g c clean only =
     fails_to_tell (state g.S.Store c.args.conn.now) (state g.S.Store c.prepare.new.self) c.args.text.now only
     c.in-Err.e
-    (sym c.is_refusal.ensures ∙ c.if-is_refusal.false) (c.in-Err.ensures.err clean [])
+    (sym c.refuses_text.ensures ∙ c.if-refuses_text.false) (c.in-Err.ensures.err clean [])

@@ -3,7 +3,7 @@ use Rattle.std.proofs.Common.{rules}
 use Rattle.sqlite.specs.State.{HasCleanDisk}
 use Rattle.sqlite.specs.Held.{state}
 use Rattle.sql_meanings.proofs.Probing.{tells_probe}
-use Rattle.sql_meanings.specs.Outcomes.{TellsUnderstood}
+use Rattle.sql_meanings.specs.StatementAnswers.{TellsUnderstood}
 use Rattle.store_rows.specs.Probes.{probe_of}
 use Rattle.store_rows.proofs.Probing.{probes, stands_alone}
 use Rattle.store_rows.proofs.probes.probe_table.Goals as goal

@@ -163,9 +163,9 @@ abbrev pub OnlyShows : List ℕ → ℕ → Result Compiled CompileError → Typ
 OnlyShows text count r = (c : Compiled) → r ≡ Ok c → IsOne text count c
 
 -- the error says that the text isn't understood
-abbrev pub is_refusal : Error → Bool
-is_refusal (SqlInputError fault) = true
-is_refusal _ = false
+abbrev pub is_text_refused : Error → Bool
+is_text_refused (SqlInputError fault) = true
+is_text_refused _ = false
 
 -- the text is understood, or it isn't, or the store failed
 abbrev pub TellsUnderstood : State → State → List ℕ → Result Bool Error → Type 0

@@ -22,7 +22,7 @@ use Rattle.sqlite.specs.Schema.{Schema}
 use Rattle.sqlite.specs.Table.{Table}
 use Rattle.sqlite.specs.Tree.{Trees}
 use Rattle.sql_meanings.specs.Making.{SparesStanding, SparesTables}
-use Rattle.sql_meanings.specs.Outcomes.{IsStoreError, GoesOn, PutFails, SetFails, has_unique}
+use Rattle.sql_meanings.specs.StatementAnswers.{IsStoreError, GoesOn, PutFails, SetFails, has_unique}
 use Rattle.store_rows.specs.declared.fault.TableFault.{TableFault}
 use Rattle.store_rows.specs.declared.fault.TableFault.TheVariants.{Sqlite, Damaged}
 use Rattle.store_rows.specs.Columns.{request_shown}
