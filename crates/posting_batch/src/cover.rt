@@ -1,9 +1,10 @@
 //! An empty slot for every key that a record can touch.
-ghost use Rattle.std.specs.Prelude.{◌≡◌, ◌≤◌, ◌+◌, ◌*◌, ◌++◌, map, length, vec_len, vec_capacity};
+ghost use Rattle.std.specs.Prelude.{◌≡◌, ◌≤◌, ◌+◌, ◌++◌, map, length, vec_len, vec_capacity};
 ghost use Rattle.std.specs.Prelude.{Ok};
-ghost use Rattle.smallvec.specs.SmallVec.{HasRoomFor, small_vec_len};
+ghost use Rattle.smallvec.specs.SmallVec.{HasRoomFor};
 ghost use Rattle.message_records.specs.Reading.{request_of};
 ghost use Rattle.posting_batch.specs.Batch.{covering, covering_all, no_slots, with_branch_slot};
+ghost use Rattle.posting_batch.specs.Room.{AddsAtMost, AddsSlots, HasRoomForSlots};
 ghost use Rattle.posting_batch.specs.View.{view};
 
 use crate::overlay::{Overlay, put};
@@ -18,8 +19,7 @@ use std::alloc::Global;
 fn place_branch<const N: usize>(slots: &mut SmallVec<BranchSlot, N>, branch: u64)
     requires { HasRoomFor slots.old 1 }
     ensures items { slots.new.items ≡ with_branch_slot branch slots.old.items }
-    ensures len { small_vec_len slots.new ≤ small_vec_len slots.old + 1 }
-    ensures capacity { slots.new.capacity ≡ slots.old.capacity }
+    ensures room { AddsAtMost 1 slots.old slots.new }
 {
     let empty = BranchSlot {
         branch,
@@ -32,22 +32,9 @@ fn place_branch<const N: usize>(slots: &mut SmallVec<BranchSlot, N>, branch: u64
 impl Overlay {
     // Places an empty slot under every key that a request can touch, for which there is room.
     fn cover(&mut self, request: &Request)
-        requires branches { HasRoomFor self.old.branches 2 }
-        requires floors { HasRoomFor self.old.floors 1 }
-        requires tellers { HasRoomFor self.old.tellers 1 }
-        requires accounts { HasRoomFor self.old.accounts 1 }
-        requires kept { HasRoomFor self.old.kept 1 }
+        requires room { HasRoomForSlots 1 self.old }
         ensures overlay { view self.new ≡ covering (view self.old) (Ok request.now) }
-        ensures branches { (small_vec_len self.new.branches ≤ small_vec_len self.old.branches + 2)
-            × (self.new.branches.capacity ≡ self.old.branches.capacity) }
-        ensures floors { (small_vec_len self.new.floors ≤ small_vec_len self.old.floors + 1)
-            × (self.new.floors.capacity ≡ self.old.floors.capacity) }
-        ensures tellers { (small_vec_len self.new.tellers ≤ small_vec_len self.old.tellers + 1)
-            × (self.new.tellers.capacity ≡ self.old.tellers.capacity) }
-        ensures accounts { (small_vec_len self.new.accounts ≤ small_vec_len self.old.accounts + 1)
-            × (self.new.accounts.capacity ≡ self.old.accounts.capacity) }
-        ensures kept { (small_vec_len self.new.kept ≤ small_vec_len self.old.kept + 1)
-            × (self.new.kept.capacity ≡ self.old.kept.capacity) }
+        ensures slots { AddsSlots self.old self.new }
         ensures history { self.new.history ≡ self.old.history }
         ensures requests { self.new.requests ≡ self.old.requests }
         ensures references { self.new.references ≡ self.old.references }
@@ -101,11 +88,7 @@ pub(crate) fn decode_all(
     overlay: &mut Overlay,
 )
     requires reads { vec_len reads.old + length records.now ≤ vec_capacity reads.old }
-    requires branches { HasRoomFor overlay.old.branches (2 * length records.now) }
-    requires floors { HasRoomFor overlay.old.floors (length records.now) }
-    requires tellers { HasRoomFor overlay.old.tellers (length records.now) }
-    requires accounts { HasRoomFor overlay.old.accounts (length records.now) }
-    requires kept { HasRoomFor overlay.old.kept (length records.now) }
+    requires room { HasRoomForSlots (length records.now) overlay.old }
     ensures reads { reads.new.items ≡ reads.old.items ++ map request_of records.now }
     ensures overlay { view overlay.new ≡ covering_all (view overlay.old) (map request_of records.now) }
     ensures history { overlay.new.history ≡ overlay.old.history }

@@ -1,8 +1,8 @@
-use Rattle.std.proofs.Common.{◌≡◌, ◌≤◌, ◌+◌, ◌-◌, ◌*◌, ◌++◌, map, drop, length, vec_len}
+use Rattle.std.proofs.Common.{◌≡◌, ◌≤◌, ◌+◌, ◌-◌, ◌++◌, map, drop, length, vec_len}
 use Rattle.std.specs.Vec.{vec_capacity}
-use Rattle.smallvec.specs.SmallVec.{HasRoomFor}
 use Rattle.message_records.specs.Reading.{request_of}
 use Rattle.posting_batch.specs.Batch.{covering_all}
+use Rattle.posting_batch.specs.Room.{HasRoomForSlots}
 use Rattle.posting_batch.specs.View.{view}
 use Rattle.posting_batch.proofs.cover.decode_all.Given as goal
 
@@ -14,11 +14,7 @@ invariant-loop-bytes l = record {
   reads : l.reads.items ++ map request_of (drop l.bytes-index l.records)
       ≡ l.fn.reads.items ++ map request_of l.records;
   reads_room : vec_len l.reads + (length l.records - l.bytes-index) ≤ vec_capacity l.reads;
-  branches_room : HasRoomFor l.overlay.branches (2 * (length l.records - l.bytes-index));
-  floors_room : HasRoomFor l.overlay.floors (length l.records - l.bytes-index);
-  tellers_room : HasRoomFor l.overlay.tellers (length l.records - l.bytes-index);
-  accounts_room : HasRoomFor l.overlay.accounts (length l.records - l.bytes-index);
-  kept_room : HasRoomFor l.overlay.kept (length l.records - l.bytes-index);
+  room : HasRoomForSlots (length l.records - l.bytes-index) l.overlay;
   history : l.overlay.history ≡ l.fn.overlay.history;
   requests : l.overlay.requests ≡ l.fn.overlay.requests;
   references : l.overlay.references ≡ l.fn.overlay.references;
