@@ -21,7 +21,7 @@ work=$(mktemp -d)
 bare=$(mktemp -d -p /dev/shm)
 trap 'rm -rf "$work" "$bare"' EXIT
 below='message_records posting_rules posting_batch posting_core branch_loader load_driver sql_meanings store_rows'
-below="$below bank_transactions bank_walks bank_store bank_files"
+below="$below bank_transactions walked_rows bank_store bank_files"
 
 # The bench as a crate of its own, above copies of those that it measures.
 build() {

@@ -23,7 +23,7 @@ below() {
         cp -a "$here/crates/$crate" crates/
     done
 }
-libraries='bank_audits bank_reports bank_store branch_loader counter_http load_driver message_records posting_core'
+libraries='bank_reports report_lines bank_store branch_loader counter_http load_driver message_records posting_core'
 : >crates.txt
 below $libraries
 echo "refused_again: $libraries sqlite sqlite_disk" >>crates.txt

@@ -8,7 +8,7 @@ trap 'rm -rf "$work"' EXIT
 mkdir -p "$work/crates/walk_and_post/src"
 cd "$work"
 git init -q
-below="message_records posting_rules posting_batch sql_meanings store_rows bank_transactions bank_walks bank_store"
+below="message_records posting_rules posting_batch sql_meanings store_rows bank_transactions walked_rows bank_store"
 for crate in $below; do
     (cd "$here/crates" && tar cf - --exclude=out "$crate") | tar xf - -C crates
     grep "^$crate:" "$here/crates.txt" >>crates.txt

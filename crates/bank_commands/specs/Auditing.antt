@@ -4,8 +4,8 @@ use Rattle.std.specs.Io.KnownBytes.{Keeps}
 use Rattle.sqlite_wal.specs.Recovery.{Image}
 use Rattle.posting_rules.specs.Counter.{Seen}
 use Rattle.posting_rules.specs.declared.fault.Fault.{Fault}
-use Rattle.bank_reports.specs.declared.audit.Audit.{Audit}
-use Rattle.bank_audits.specs.Audits.{Audits}
+use Rattle.report_lines.specs.declared.audit.Audit.{Audit}
+use Rattle.bank_reports.specs.Audits.{Audits}
 use Rattle.bank_commands.specs.InFile.{WorksIn}
 
 -- no bank was found, and nothing was printed; or the files' bank was audited

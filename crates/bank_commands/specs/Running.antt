@@ -17,7 +17,7 @@ use Rattle.command_line.specs.Faults.{fault_of_stream, status_of}
 use Rattle.command_line.specs.declared.fault.CommandFault.{CommandFault}
 use Rattle.command_line.specs.declared.status.Status.{Status}
 use Rattle.command_line.specs.declared.status.Status.TheVariants.{Done, System}
-use Rattle.bank_audits.specs.declared.fault.ReportFault.{ReportFault}
+use Rattle.bank_reports.specs.declared.fault.ReportFault.{ReportFault}
 use Rattle.bank_commands.specs.Auditing.{AuditsIn}
 use Rattle.bank_commands.specs.Commands.{DrivesIn, IsUntouched, LoadsIn, MakesIn, PostsIn, ServesIn}
 use Rattle.bank_commands.specs.Migrating.{MigratesIn}

@@ -3,9 +3,9 @@ use Rattle.std.specs.Prelude.{◌⊎◌, ℕ, List, Option, Result, Ok, Err}
 use Rattle.std.specs.Io.KnownBytes.{Keeps}
 use Rattle.sqlite_wal.specs.Recovery.{Image}
 use Rattle.posting_rules.specs.Counter.{Seen}
-use Rattle.bank_audits.specs.Statements.{States}
-use Rattle.bank_audits.specs.declared.fault.ReportFault.{ReportFault}
-use Rattle.bank_audits.specs.declared.fault.ReportFault.TheVariants as report
+use Rattle.bank_reports.specs.Statements.{States}
+use Rattle.bank_reports.specs.declared.fault.ReportFault.{ReportFault}
+use Rattle.bank_reports.specs.declared.fault.ReportFault.TheVariants as report
 use Rattle.command_line.specs.Faults.{fault_of_bank}
 use Rattle.command_line.specs.declared.fault.CommandFault.{CommandFault}
 use Rattle.command_line.specs.declared.fault.CommandFault.TheVariants as fault

@@ -3,18 +3,18 @@ ghost use Rattle.std.specs.Prelude.{◌≡◌, ◌⊎◌, Result, IfOk, IsErrAnd
 ghost use Rattle.sqlite.specs.Held.{state};
 ghost use Rattle.sqlite_wal.specs.Files.{image_at};
 ghost use Rattle.posting_rules.specs.declared.fault.Fault.{Fault};
-ghost use Rattle.bank_reports.specs.declared.audit.Audit.{Audit};
+ghost use Rattle.report_lines.specs.declared.audit.Audit.{Audit};
 ghost use Rattle.bank_store.specs.Seen.{bank_seen};
 ghost use Rattle.command_line.specs.Looking.{IsOfOpening};
 ghost use Rattle.command_line.specs.declared.status.Status.TheVariants.{Done, Inconsistent};
 ghost use Rattle.command_line.specs.Auditing.{Prints};
-ghost use Rattle.bank_audits.specs.Audits.{Audits};
+ghost use Rattle.bank_reports.specs.Audits.{Audits};
 ghost use Rattle.bank_commands.specs.Auditing.{AuditsIn};
 ghost use Rattle.bank_commands.specs.Commands.{FindsBank};
 
 use crate::openings::Way;
 use crate::work::{Work, work_in};
-use bank_audits::audit;
+use bank_reports::audit;
 use bank_store::Bank;
 use command_line::{CommandFault, Status, print_audit};
 use sqlite::{Alter, FileFrom, FileStore, Start};

@@ -3,15 +3,15 @@ ghost use Rattle.std.specs.Prelude.{◌≡◌, Result, IsErrAnd};
 ghost use Rattle.sqlite.specs.Held.{state};
 ghost use Rattle.sqlite_wal.specs.Files.{image_at};
 ghost use Rattle.bank_store.specs.Seen.{bank_seen};
-ghost use Rattle.bank_audits.specs.declared.fault.ReportFault.{ReportFault};
+ghost use Rattle.bank_reports.specs.declared.fault.ReportFault.{ReportFault};
 ghost use Rattle.command_line.specs.Looking.{IsOfOpening};
-ghost use Rattle.bank_audits.specs.Statements.{States};
+ghost use Rattle.bank_reports.specs.Statements.{States};
 ghost use Rattle.bank_commands.specs.Stating.{StatesIn, said_of_statement};
 ghost use Rattle.bank_commands.specs.Commands.{FindsBank};
 
 use crate::openings::Way;
 use crate::work::{Work, work_in};
-use bank_audits::{ReportFault, write_statement};
+use bank_reports::{ReportFault, write_statement};
 use bank_store::Bank;
 use command_line::CommandFault;
 use message_records::Account;

@@ -1,11 +1,19 @@
--- That the audit tells of the consistency condition.
-pub mod Lists
-pub mod EachOrdinal
-pub mod Telling
-pub mod OfTables
-pub mod Joined
-pub mod Written
-pub mod OneMore
-pub mod Printable
-pub mod OfRows
-pub mod Examples
+-- What the proofs of reports share.
+pub mod RisingRows
+pub mod LogHistory
+pub mod Lined
+pub mod Further
+pub mod OnLogs
+pub mod StepsKeep
+pub mod Sections
+pub mod StatementReports
+pub mod ReportLeaves
+pub mod AddedRows
+pub mod Read
+pub mod Passed
+pub mod OfAll
+pub mod Broken
+pub mod OncePosted
+pub mod LogFiles
+pub mod RoomForWalks
+pub mod FaultsTold

@@ -1,11 +1,12 @@
--- The audit of the tables of a bank, as a file has them, and the texts of reports.
-pub mod Stored
-pub mod Audit
-pub mod Consistency
-pub mod Lines
-pub mod AuditText
-pub mod StatementText
-pub mod Written
-pub mod Sums
-pub mod Beside
-pub mod Added
+-- What reports of a bank in a file write.
+pub mod Faults
+pub mod Postings
+pub mod Behind
+pub mod Files
+pub mod Adding
+pub mod Failures
+pub mod Differing
+pub mod Room
+pub mod Leaving
+pub mod Audits
+pub mod Statements

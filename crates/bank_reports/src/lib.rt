@@ -1,70 +1,60 @@
-//! What an audit of a bank and a statement of an account say, and their texts. It needs no bank: it is given
-//! the rows that a file has, damaged or not, as `bank_audits` does.
+//! The audit of a bank in a file, and the statement of one of its accounts.
 //!
-//! An [`Audit`] has the numbers that TPC-B clause 2 compares. Rows are added up one by one, tellers before
-//! branches, by [`TellerSums`], [`BranchSums`], [`Sum`] (the accounts) and [`OrdinalSums`] (requests and
-//! postings). [`audit_of_sums`] makes the audit of what was added, and [`write_audit`] writes its text. All
-//! amounts are in cents. The test `first_report` of `store_tests` audits a teller and the accounts of a file
-//! without a branch, which disagree:
+//! [`audit`] reads every row of the bank once and returns the numbers that TPC-B clause 2 compares.
+//! [`write_statement`] writes the postings of an account by their ordinals, each with the balance behind it
+//! and the reference of its request.
+//! Both take the rows as the file has them, damaged or not, and change none. The function `first_reports` of
+//! `store_tests`, which a test runs, writes the statement of account 1 and the audit, and returns whether
+//! the books agree:
 //!
 //! ```rust
-//! use bank_reports::{BranchSums, OrdinalSums, Sum, TellerSums, audit_of_sums, write_audit};
-//! use bank_walks::StoredTeller;
-//! use message_records::Whole;
+//! use bank_reports::{audit, write_audit, write_statement};
+//! use bank_store::{Account, Bank};
+//! use sqlite::Alter;
+//! use std::io::Write;
 //! use std::test::Fail;
 //!
-//! fn first_report(rt: HostRuntime) -> Result<(), Fail> {
-//!     let mut tellers = TellerSums::new(rt.alloc())?;
-//!     tellers.add(StoredTeller {
-//!         teller: Whole::new(1).unwrap(),
-//!         balance: 400,
-//!     });
-//!     let branches = BranchSums::new(rt.alloc())?;
-//!     let accounts = Sum::zero().plus(500);
-//!     let audit = audit_of_sums(&tellers, branches, accounts, OrdinalSums::none());
-//!     assert_eq!(rt; (audit.teller_sum, audit.account_sum), (400, 500));
-//!     let mut text: Vec<u8> = Vec::new(rt.alloc());
-//!     write_audit(&audit, &mut text)?;
-//!     assert!(rt; text.ends_with(b"INCONSISTENT\n"));
-//!     Ok(())
+//! pub fn first_reports<S: Alter + Drop, W: Write>(
+//!     bank: &mut Bank<S>,
+//!     output: &mut W,
+//! ) -> Result<bool, Fail> {
+//!     write_statement(bank, Account::new(1).unwrap(), output)?;
+//!     let found = audit(bank)?;
+//!     write_audit(&found, output)?;
+//!     Ok(found.is_consistent())
 //! }
 //! ```
 //!
-//! The text has ten numbers before this line, and a line for each branch that differs from its tellers.
+//! [`audit`] returns the bank's `Fault`, and [`write_statement`] a [`ReportFault`], which holds it as
+//! `Bank`:
 //!
 //! | Error | What it means |
 //! |---|---|
-//! | [`WriteFault`] | the writer failed, or took no byte; a beginning of the text was written |
-//! | `AllocError` | of [`TellerSums::new`] and [`BranchSums::new`], which alone take memory: it was refused |
+//! | `Memory` | of `audit` alone: memory was refused before the first row was read |
+//! | `Store` | a read failed: the disk did, or memory or steps were refused |
+//! | `Down` | the bank was down, and nothing was read |
+//! | `Damaged(Value)` | a number of a row is out of its column's range, so that the row can't be reported |
+//! | `Damaged(Balance)` | of a statement alone: a balance of the account is out of its limits |
+//! | `Damaged(Reference)` | of a statement alone: the reference of a posting of the account is none |
+//! | [`ReportFault::NoAccount`] | the account isn't open; nothing was written |
+//! | [`ReportFault::Write`] | the writer failed, or took no byte; a beginning of the text was written |
 //!
-//! `specs/Audit` says what the numbers of an audit are, `specs/AuditText` and `specs/StatementText` what is
-//! written, and [`audit_tells_consistency`] that an audit is consistent exactly where the tables are.
+//! A damaged bank is no error of `audit` as long as its rows can be read: `is_consistent` of its answer says
+//! so. `specs/Audits` and `specs/Statements` say what the two promise, of a bank and of any file,
+//! `specs/Files` which rows are read, and `specs/Behind` what a statement is.
 #![tactic(auto)]
 
-mod adding;
-mod audit;
-mod audit_text;
-mod branches;
-mod laws;
-mod limits;
+mod additions;
+mod audits;
+mod fault;
+mod gathered;
 mod lines;
-mod matching;
-mod ordinals;
-mod statement_text;
-mod sum;
-mod tellers;
-mod writing;
+mod passes;
+mod postings;
+mod statement;
+mod sums;
 
-pub use adding::audit_of_sums;
-pub use audit::{Audit, BranchLine, BranchLines};
-pub use branches::BranchSums;
-pub use laws::{audit_tells_consistency, rows_tell_of_tables};
-pub use limits::MAX_ROWS;
-pub use ordinals::OrdinalSums;
-pub use statement_text::{
-    STATEMENT_LINE, StatementLine, statement_closing, statement_heading, statement_line,
-    statement_names,
-};
-pub use sum::Sum;
-pub use tellers::TellerSums;
-pub use writing::{WriteFault, put, put_last, write_audit};
+pub use audits::audit;
+pub use fault::ReportFault;
+pub use report_lines::{Audit, BranchLine, BranchLines, WriteFault, write_audit};
+pub use statement::write_statement;

@@ -1,86 +1,39 @@
-//! Texts in columns, put together without memory.
-ghost use Rattle.std.specs.Prelude.{◌≡◌, ◌≤◌, ◌<◌, ◌+◌, ◌++◌, length, replicate, IsTrue};
-ghost use Rattle.std.specs.Fmt.{signed_decimal};
-ghost use Rattle.message_records.specs.Records.{is_printable};
-ghost use Rattle.bank_reports.specs.Lines.{filled_to, right_in, with_sign};
+//! The line of one posting.
+ghost use Rattle.std.specs.Prelude.{◌≡◌, ◌<◌, ◌+ℤ◌, nat_abs, Err, IfNone, IfSome, OnOk};
+ghost use Rattle.message_records.specs.declared.limits.TheConstants.{MAX_BALANCE};
+ghost use Rattle.posting_core.specs.Told.{HasMore, HasWriteFailed};
+ghost use Rattle.bank_reports.specs.declared.fault.ReportFault.TheVariants.{Write};
+ghost use Rattle.bank_reports.specs.Postings.{WritesLine};
 
-use arrayvec::ArrayString;
-use itoa::Buffer;
+use crate::fault::ReportFault;
+use message_records::Cents;
+use posting_core::Sink;
+use posting_rules::{Fault, Rule};
+use report_lines::{put, statement_line};
+use walked_rows::StatedPosting;
 
-// The length of a signed number of 128 bits.
-pub(crate) const NUMBER: usize = 40;
-
-// The same with its sign.
-const SIGNED: usize = NUMBER + 1;
-
-/// Appends a character so many times.
-pub(crate) fn push_repeated<const SIZE: usize>(
-    line: &mut ArrayString<SIZE>,
-    character: char,
-    count: usize,
-)
-    requires ascii { character < 128 }
-    requires room { length line.old.bytes + count ≤ SIZE }
-    ensures bytes { line.new.bytes ≡ line.old.bytes ++ replicate count character }
-    ensures len { length line.new.bytes ≡ length line.old.bytes + count }
+// The balance behind one more posting, none where it is out of its limits.
+fn with_delta(before: Cents, delta: i64) -> Option<Cents>
+    ensures within { IfSome result (λ after. after ≡ before +ℤ delta) }
+    ensures beyond { IfNone result (MAX_BALANCE < nat_abs (before +ℤ delta)) }
 {
-    'repeats: for _ in 0..count {
-        line.push(character);
-    }
+    let after = before.get().checked_add(delta)?;
+    Cents::new(after)
 }
 
-/// Appends a text of printable ASCII.
-pub(crate) fn push_text<const SIZE: usize>(line: &mut ArrayString<SIZE>, text: &[u8])
-    requires ascii { IsTrue (is_printable text.now) }
-    requires room { length line.old.bytes + length text.now ≤ SIZE }
-    ensures { line.new.bytes ≡ line.old.bytes ++ text.now }
+/// Writes the line of a posting, and gives the running balance behind it.
+pub(crate) fn write_line<W: Sink>(
+    row: &StatedPosting,
+    before: Cents,
+    writer: &mut W,
+) -> Result<Cents, ReportFault>
+    ensures written { WritesLine row.now before (W.contents writer.old) (W.contents writer.new) result }
+    ensures more { OnOk result (HasMore (W.told writer.old) (W.told writer.new)) }
+    ensures failed { result ≡ Err Write → HasWriteFailed (W.told writer.old) (W.told writer.new) }
 {
-    for byte in text {
-        line.push(char::from(*byte));
-    }
-}
-
-/// Appends a text, filled on the left to so many places.
-pub(crate) fn push_filled<const SIZE: usize>(
-    line: &mut ArrayString<SIZE>,
-    fill: char,
-    width: usize,
-    text: &str,
-)
-    requires ascii { fill < 128 }
-    requires room { length line.old.bytes + width + length text.now ≤ SIZE }
-    ensures bytes { line.new.bytes ≡ line.old.bytes ++ filled_to fill width text.now }
-    ensures len { length line.new.bytes ≤ length line.old.bytes + width + length text.now }
-{
-    push_repeated(line, fill, width.saturating_sub(text.len()));
-    line.push_str(text);
-}
-
-/// Appends a number right in so many places.
-pub(crate) fn push_number<const SIZE: usize>(
-    line: &mut ArrayString<SIZE>,
-    width: usize,
-    number: i128,
-)
-    requires { length line.old.bytes + width + NUMBER ≤ SIZE }
-    ensures bytes { line.new.bytes ≡ line.old.bytes ++ right_in width (signed_decimal number) }
-    ensures len { length line.new.bytes ≤ length line.old.bytes + width + NUMBER }
-{
-    let mut digits = Buffer::new();
-    push_filled(line, ' ', width, digits.format(number));
-}
-
-/// Appends an amount with its sign, plus for zero, right in so many places.
-pub(crate) fn push_delta<const SIZE: usize>(line: &mut ArrayString<SIZE>, width: usize, delta: i64)
-    requires { length line.old.bytes + width + SIGNED ≤ SIZE }
-    ensures bytes { line.new.bytes ≡ line.old.bytes ++ right_in width (with_sign delta) }
-    ensures len { length line.new.bytes ≤ length line.old.bytes + width + SIGNED }
-{
-    let mut digits = Buffer::new();
-    let mut signed = ArrayString::<SIGNED>::new();
-    if delta >= 0 {
-        signed.push_str("+");
-    }
-    signed.push_str(digits.format(delta));
-    push_filled(line, ' ', width, signed.as_str());
+    let Some(after) = with_delta(before, row.posting.delta) else {
+        return Err(ReportFault::Bank(Fault::Damaged(Rule::Balance)));
+    };
+    put(writer, statement_line(row, after).as_str())?;
+    Ok(after)
 }

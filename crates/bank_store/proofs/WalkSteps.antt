@@ -7,10 +7,10 @@ use Rattle.posting_rules.specs.declared.fault.Rule.{Rule}
 use Rattle.sqlite.specs.declared.error.Error.{Error}
 use Rattle.store_rows.specs.declared.fault.TableFault.{TableFault}
 use Rattle.store_rows.specs.declared.fault.TableFault.TheVariants.{Sqlite, Damaged}
-use Rattle.bank_walks.specs.StepOutcomes.{BreaksFirst}
-use Rattle.bank_walks.specs.Rising.{RisesFrom}
-use Rattle.bank_walks.proofs.Rises.{from_lower}
-use Rattle.bank_walks.specs.Rows.{items_behind, items_from}
+use Rattle.walked_rows.specs.StepOutcomes.{BreaksFirst}
+use Rattle.walked_rows.specs.Rising.{RisesFrom}
+use Rattle.walked_rows.proofs.Rises.{from_lower}
+use Rattle.walked_rows.specs.Rows.{items_behind, items_from}
 use Rattle.bank_store.specs.Walks.{TellsFault}
 use Rattle.bank_store.specs.Walking.{IsToldFault, Steps, coming}
 use Rattle.bank_store.specs.declared.walks.Stage.{Stage}

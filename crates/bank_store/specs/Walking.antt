@@ -12,11 +12,11 @@ use Rattle.posting_rules.specs.declared.fault.Fault.{Fault}
 use Rattle.posting_rules.specs.declared.fault.Fault.TheVariants as told
 use Rattle.posting_rules.specs.declared.fault.Rule.{Rule}
 use Rattle.sql_meanings.specs.StatementAnswers.{IsStoreError}
-use Rattle.bank_walks.specs.Pairs.{Pair, pair_key}
-use Rattle.bank_walks.specs.Rising.{RisesFrom}
-use Rattle.bank_walks.specs.Rows.{LEAST, items_behind}
-use Rattle.bank_walks.specs.Stored.{is_stated_of, stated_pair}
-use Rattle.bank_walks.specs.declared.stated.StatedPosting.{StatedPosting}
+use Rattle.walked_rows.specs.Pairs.{Pair, pair_key}
+use Rattle.walked_rows.specs.Rising.{RisesFrom}
+use Rattle.walked_rows.specs.Rows.{LEAST, items_behind}
+use Rattle.walked_rows.specs.Stored.{is_stated_of, stated_pair}
+use Rattle.walked_rows.specs.declared.stated.StatedPosting.{StatedPosting}
 use Rattle.bank_store.specs.Seen.{bank_seen, connection_of, database_of, fault_of}
 use Rattle.bank_store.specs.Walks.{IsStill, IsUntouchedIfOpen}
 use Rattle.bank_store.specs.declared.bank.Bank.{Bank}

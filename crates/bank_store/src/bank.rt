@@ -16,7 +16,6 @@ use crate::laws::{floor_law, range_law};
 use crate::walks::read_outside;
 use arrayvec::ArrayVec;
 use bank_transactions::{open_branch, post, post_all, read_balance, read_next_branch};
-use bank_walks::{AHEAD, WalkedRow};
 use message_records::{
     Account, Branch, Cents, Moment, REPLY_BYTES, REQUEST_BYTES, decode_request, encode_reply,
 };
@@ -29,6 +28,7 @@ use sqlite::{Alter, Connection, Error};
 use std::alloc::Global;
 use std::fmt;
 use store_rows::{BankTable, TableFault, probe_table};
+use walked_rows::{AHEAD, WalkedRow};
 
 /// A bank over a connection, with the calls of [`Counter`]. Each call is one transaction, which is committed
 /// before the call answers `Ok` (TPC-B clause 2). Between calls no transaction is open. Amounts are whole
@@ -142,9 +142,9 @@ impl<S: Alter> Bank<S> {
     ghost use Rattle.std.specs.Prelude.{◌++◌, filter, is_some, map, MatchResult};
     ghost use Rattle.sqlite.specs.State.{HasCleanDisk};
     ghost use Rattle.sql_meanings.specs.StatementAnswers.{IsStoreError};
-    ghost use Rattle.bank_walks.specs.StepOutcomes.{BreaksFirst};
-    ghost use Rattle.bank_walks.specs.Rising.{RisesFrom};
-    ghost use Rattle.bank_walks.specs.Rows.{items_behind, items_from};
+    ghost use Rattle.walked_rows.specs.StepOutcomes.{BreaksFirst};
+    ghost use Rattle.walked_rows.specs.Rising.{RisesFrom};
+    ghost use Rattle.walked_rows.specs.Rows.{items_behind, items_from};
     ghost use Rattle.bank_store.specs.Seen.{alloc_of};
     ghost use Rattle.bank_store.specs.Walks.{IsStill, IsUntouchedIfOpen};
 

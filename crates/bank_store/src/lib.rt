@@ -66,9 +66,6 @@ mod walks;
 
 pub use adoption::adopt;
 pub use bank::Bank;
-pub use bank_walks::{
-    Joined, StatedPosting, StoredAccount, StoredBranch, StoredPosting, StoredRequest, StoredTeller,
-};
 pub use laws::{opened_earlier_law, opened_law};
 pub use message_records::{
     Account, Bad, BadReply, Branch, Cents, Moment, Number, Outcome, Reference, Reply, Request,
@@ -81,6 +78,9 @@ pub use posting_rules::{
     Ordinal, RECORDS_PER_BATCH, Rule,
 };
 pub use refused::Refused;
+pub use walked_rows::{
+    Joined, StatedPosting, StoredAccount, StoredBranch, StoredPosting, StoredRequest, StoredTeller,
+};
 pub use walks::{
     Walk, each_account, each_branch, each_history, each_request, each_row, each_teller, history_of,
 };

@@ -7,23 +7,23 @@ ghost use Rattle.sqlite.specs.State.{HasCleanDisk, Survives};
 ghost use Rattle.sqlite.specs.Held.{state};
 ghost use Rattle.posting_rules.specs.declared.fault.Fault.TheVariants as fault;
 ghost use Rattle.sql_meanings.specs.StatementAnswers.{IsStoreError};
-ghost use Rattle.bank_walks.specs.StepOutcomes.{BreaksFirst};
-ghost use Rattle.bank_walks.specs.Rising.{RisesFrom};
-ghost use Rattle.bank_walks.specs.Rows.{items_behind, items_from};
+ghost use Rattle.walked_rows.specs.StepOutcomes.{BreaksFirst};
+ghost use Rattle.walked_rows.specs.Rising.{RisesFrom};
+ghost use Rattle.walked_rows.specs.Rows.{items_behind, items_from};
 ghost use Rattle.bank_store.specs.Walks.{IsStill, IsUntouchedIfOpen, TellsFault};
 
 use crate::bank::Bank;
 use arrayvec::ArrayVec;
 use bank_transactions::note_settled;
-use bank_walks::{
-    AHEAD, Joined, StatedPosting, StoredAccount, StoredBranch, StoredPosting, StoredRequest,
-    StoredTeller, WalkedRow,
-};
 use message_records::Account;
 use posting_rules::Fault;
 use sqlite::{Alter, Connection};
 use std::fmt;
 use store_rows::TableFault;
+use walked_rows::{
+    AHEAD, Joined, StatedPosting, StoredAccount, StoredBranch, StoredPosting, StoredRequest,
+    StoredTeller, WalkedRow,
+};
 
 // How far a walk is: on its way, behind its last row, or behind a fault.
 #[derive(Clone, Copy, Debug)]
@@ -33,7 +33,7 @@ pub(crate) enum Stage {
     Failed,
 }
 
-/// A walk over rows of a table by rising keys, up to `AHEAD` of `bank_walks` read ahead. It borrows the bank,
+/// A walk over rows of a table by rising keys, up to `AHEAD` of `walked_rows` read ahead. It borrows the bank,
 /// and may be dropped at any row. A fault of it doesn't bring the bank down.
 ///
 /// ```rust
@@ -245,10 +245,10 @@ impl<'bank, S: Alter, R: WalkedRow> Walk<'bank, S, R> {
 ghost use Rattle.std.specs.Prelude.{true, Some};
 ghost use Rattle.bank_store.specs.contracts.bank.Bank.{the_row};
 ghost use Rattle.bank_store.specs.Walking.{BeginsWalk, loan_of};
-ghost use Rattle.bank_walks.specs.Pairs.{HasPairs, pair_key};
-ghost use Rattle.bank_walks.specs.Rows.{HasStoredRows, LEAST, entry_key};
-ghost use Rattle.bank_walks.specs.Stored.{account_entry, asked_pair, branch_entry, is_stated_of};
-ghost use Rattle.bank_walks.specs.Stored.{posted_pair, stated_pair, teller_entry};
+ghost use Rattle.walked_rows.specs.Pairs.{HasPairs, pair_key};
+ghost use Rattle.walked_rows.specs.Rows.{HasStoredRows, LEAST, entry_key};
+ghost use Rattle.walked_rows.specs.Stored.{account_entry, asked_pair, branch_entry, is_stated_of};
+ghost use Rattle.walked_rows.specs.Stored.{posted_pair, stated_pair, teller_entry};
 ghost use Rattle.store_rows.specs.BankTables.{account as account_table, branch as branch_table};
 ghost use Rattle.store_rows.specs.BankTables.{history as history_table, request as request_table};
 ghost use Rattle.store_rows.specs.BankTables.{reference as reference_table, teller as teller_table};

@@ -2,10 +2,10 @@
 use Rattle.std.specs.Prelude.{◌≡◌, ℕ, List, Option, Result, Ok, Err, if◌then◌else◌}
 use Rattle.std.specs.Io.KnownBytes.{Appends, Keeps}
 use Rattle.posting_rules.specs.declared.fault.Fault.{Fault}
-use Rattle.bank_reports.specs.Audit.{is_sound}
-use Rattle.bank_reports.specs.AuditText.{audit_text}
-use Rattle.bank_reports.specs.Written.{AppendsPart}
-use Rattle.bank_reports.specs.declared.audit.Audit.{Audit}
+use Rattle.report_lines.specs.Audit.{is_sound}
+use Rattle.report_lines.specs.AuditText.{audit_text}
+use Rattle.report_lines.specs.Written.{AppendsPart}
+use Rattle.report_lines.specs.declared.audit.Audit.{Audit}
 use Rattle.command_line.specs.Faults.{fault_of_bank}
 use Rattle.command_line.specs.declared.fault.CommandFault.{CommandFault}
 use Rattle.command_line.specs.declared.fault.CommandFault.TheVariants.{Write}

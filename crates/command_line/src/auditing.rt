@@ -3,8 +3,8 @@ ghost use Rattle.std.specs.Prelude.{◌≡◌, ◌⊎◌, IfOk};
 ghost use Rattle.command_line.specs.Auditing.{Prints, status_of_audit};
 
 use crate::{CommandFault, Status};
-use bank_reports::{Audit, write_audit};
 use posting_core::Fault;
+use report_lines::{Audit, write_audit};
 use std::io::Write;
 
 /// Prints an audit, and returns how the program ends.

@@ -1,8 +1,8 @@
-//! The first program of `bank_reports`: its page shows all of this file but the head.
-use bank_reports::{BranchSums, OrdinalSums, Sum, TellerSums, audit_of_sums, write_audit};
-use bank_walks::StoredTeller;
+//! The first program of `report_lines`: its page shows all of this file but the head.
 use message_records::Whole;
+use report_lines::{BranchSums, OrdinalSums, Sum, TellerSums, audit_of_sums, write_audit};
 use std::test::Fail;
+use walked_rows::StoredTeller;
 
 #[test]
 fn first_report(rt: HostRuntime) -> Result<(), Fail> {

@@ -2,7 +2,7 @@
 use crate::reports::{audit_fault, statement_fault};
 use crate::tasks::Progress;
 use crate::walks::{Ordinals, Postings, gives_posting, next_posting};
-use bank_audits::audit;
+use bank_reports::audit;
 use bank_store::{Bank, each_history};
 use message_records::{
     Account, Branch, Cents, Moment, Number, REQUEST_BYTES, Request, Teller, encode_request,

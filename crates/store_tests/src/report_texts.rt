@@ -1,12 +1,12 @@
 //! An audit that finds damage and a statement to the byte, and a writer that fails at each byte.
 use crate::reports::audit_is_cut_to;
-use bank_reports::{
-    Audit, BranchLines, BranchSums, OrdinalSums, Sum, TellerSums, audit_of_sums, statement_closing,
-    statement_heading, statement_line, statement_names, write_audit,
-};
 use bank_store::{StatedPosting, StoredBranch, StoredPosting, StoredTeller};
 use message_records::{Account, Cents, Moment, Reference, Whole};
 use posting_core::Ordinal;
+use report_lines::{
+    Audit, BranchLines, BranchSums, OrdinalSums, Sum, TellerSums, audit_of_sums, statement_closing,
+    statement_heading, statement_line, statement_names, write_audit,
+};
 use std::alloc::{Alloc, Global};
 use std::process::Abort;
 use std::test::Fail;

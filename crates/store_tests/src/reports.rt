@@ -3,14 +3,14 @@ use crate::calls::{Asked, ask_to_the_end};
 use crate::readings::one_cent;
 use crate::report_texts::{AUDIT, STATEMENT};
 use crate::tasks::{BRANCHES, Task, play_in_memory};
-use bank_audits::{ReportFault, audit, write_statement};
-use bank_reports::{Audit, WriteFault, write_audit};
+use bank_reports::{ReportFault, audit, write_statement};
 use bank_store::Bank;
 use failing_ends::CutWriter;
 use message_records::{
     Account, Cents, Moment, Outcome, Reply, Request, encode_reply, encode_request,
 };
 use posting_core::{Counter, Fault};
+use report_lines::{Audit, WriteFault, write_audit};
 use sqlite::Alter;
 use std::alloc::{Alloc, Global};
 use std::io::ErrorKind;

@@ -2,7 +2,7 @@
 use super::asking::{End, end_of};
 use super::history::{Given, Part};
 use super::ledger::Entry;
-use bank_audits::{ReportFault, audit, write_statement};
+use bank_reports::{ReportFault, audit, write_statement};
 use bank_store::Bank;
 use message_records::Account;
 use posting_core::first_account;

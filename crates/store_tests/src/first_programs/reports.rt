@@ -1,6 +1,5 @@
-//! The first program of `bank_audits`.
-use bank_audits::{audit, write_statement};
-use bank_reports::write_audit;
+//! The first program of `bank_reports`.
+use bank_reports::{audit, write_audit, write_statement};
 use bank_store::{Account, Bank};
 use sqlite::Alter;
 use std::io::Write;

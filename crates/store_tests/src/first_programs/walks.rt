@@ -1,8 +1,8 @@
-//! The first program of `bank_walks`.
+//! The first program of `walked_rows`.
 use arrayvec::ArrayVec;
-use bank_walks::{AHEAD, StoredAccount, WalkedRow};
 use sqlite::{Alter, Connection};
 use store_rows::TableFault;
+use walked_rows::{AHEAD, StoredAccount, WalkedRow};
 
 pub fn first_accounts<S: Alter>(
     conn: &mut Connection<S>,

@@ -1,6 +1,6 @@
 -- All rows are to come, or those of the account.
 use Rattle.std.proofs.Common.{◌≡◌, ℕ, Bool, true, List, Option, Some, None, filter, refl, rules, ◌∙◌}
-use Rattle.bank_walks.proofs.Sought.{all_pass}
+use Rattle.walked_rows.proofs.Sought.{all_pass}
 use Rattle.bank_store.specs.Walking.{given_of}
 use Rattle.bank_store.proofs.walks.begin_walk.Goals as goal
 

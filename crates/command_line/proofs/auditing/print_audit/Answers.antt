@@ -2,7 +2,7 @@
 use Rattle.std.proofs.Common.{◌≡◌, ◌⊎◌, Bool, Err, false, true, ap, inl, inr, refl}
 use Rattle.std.specs.Prelude.{if◌then◌else◌}
 use Rattle.std.proofs.KnownBytes.{Keeps-refl}
-use Rattle.bank_reports.specs.Audit.{is_sound}
+use Rattle.report_lines.specs.Audit.{is_sound}
 use Rattle.command_line.specs.declared.status.Status.{Status}
 use Rattle.command_line.specs.declared.status.Status.TheVariants.{Done, Inconsistent}
 use Rattle.command_line.proofs.auditing.print_audit.Goals as goal

@@ -1,6 +1,6 @@
 -- What a step gives.
 use Rattle.std.proofs.Common.{◌≡◌, None, Err, filter, refl, sym, rules, ◌∙◌}
-use Rattle.bank_walks.specs.Rows.{items_behind}
+use Rattle.walked_rows.specs.Rows.{items_behind}
 use Rattle.bank_store.proofs.WalkSteps.{err_not_ok, failed_not_ended, faulty_step, gives_next}
 use Rattle.bank_store.proofs.WalkSteps.{none_behind_end, none_to_come, not_ended, not_failed, ok_no_err}
 use Rattle.bank_store.proofs.WalkSteps.{rises_next, same_fault, some_not_none, store_told}

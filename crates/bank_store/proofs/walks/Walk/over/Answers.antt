@@ -1,8 +1,8 @@
 -- From the least number on all are to come.
 use Rattle.std.proofs.Common.{filter}
-use Rattle.bank_walks.proofs.Keys.{all_left, keys_filter}
-use Rattle.bank_walks.proofs.Rises.{le_itself}
-use Rattle.bank_walks.specs.Rows.{LEAST}
+use Rattle.walked_rows.proofs.Keys.{all_left, keys_filter}
+use Rattle.walked_rows.proofs.Rises.{le_itself}
+use Rattle.walked_rows.specs.Rows.{LEAST}
 use Rattle.bank_store.proofs.walks.Walk.over.Goals as goal
 
 pub returns-clause-all : goal.returns-clause-all

@@ -3,7 +3,7 @@ use Rattle.std.proofs.Common.{◌≡◌, ◌≤◌, length, filter, subst, refl,
 use Rattle.std.proofs.lemmas.Int.{to_z-of_z}
 use Rattle.sqlite.specs.Held.{state}
 use Rattle.sql_meanings.specs.StatementAnswers.{IsStoreError}
-use Rattle.bank_walks.specs.StepOutcomes.{BreaksFirst}
+use Rattle.walked_rows.specs.StepOutcomes.{BreaksFirst}
 use Rattle.bank_store.proofs.WalkSteps.{from_rest, nothing_read, refilled, rises_on, told_of}
 use Rattle.bank_store.proofs.walks.Walk.refill.Goals as goal
 

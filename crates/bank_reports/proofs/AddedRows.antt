@@ -1,0 +1,144 @@
+-- Rows that were added one after another.
+use Rattle.std.proofs.Common.{◌≡◌, ◌≤◌, ◌<◌, ◌⊎◌, ◌+◌, ◌++◌, ℕ, List, [], ◌∷◌, length, map}
+use Rattle.std.proofs.Common.{Ok, Err, refl, sym, ap, ◌∙◌, append_assoc, append-nil, inl, inr, arith}
+use Rattle.std.specs.Prelude.{ℤ, pos, ◌+ℤ◌, ◌≤ℤ◌, ◌<ℤ◌}
+use Rattle.std.proofs.lemmas.Int.{ints}
+use Rattle.std.proofs.lemmas.List.{length-append, map-append}
+use Rattle.sqlite.specs.Effect.{Database}
+use Rattle.sqlite.specs.State.{State, HasCleanDisk, Survives}
+use Rattle.posting_rules.specs.declared.fault.Fault.{Fault}
+use Rattle.posting_rules.specs.declared.fault.Fault.TheVariants as told
+use Rattle.posting_rules.specs.declared.fault.Rule.{Rule}
+use Rattle.bank_store.specs.Walking.{Steps}
+use Rattle.bank_store.specs.Walks.{IsStill, IsUntouchedIfOpen}
+use Rattle.report_lines.specs.Beside.{AuditRows}
+use Rattle.report_lines.specs.declared.limits.TheConstants.{MAX_ROWS}
+use Rattle.bank_reports.specs.Adding.{AddsToSums, HasSums, IsPassed}
+use Rattle.bank_reports.specs.Failures.{SaysOf}
+use Rattle.bank_reports.specs.Files.{HasBroken}
+use Rattle.bank_reports.specs.declared.sums.Sums.{Sums}
+use Rattle.bank_reports.proofs.StepsKeep.{quiet_then, still_then, still_undone, undone_then}
+
+-- ---- the rows
+
+-- so many rows were added, which are the first of those that were to come; the rest are to come
+pub record IsGathered {R X : Type 0} (item : R → X) (HasItems : Database → List X → Type 0)
+    (with_rows : AuditRows → List R → AuditRows) (db : Database)
+    (Clean : Type 0) (old new : Sums) (all coming : List X → List X) (count : ℕ) : Type 0 where
+  pub given : List R
+  pub many : length given ≡ count
+  pub are : Clean → (items : List X) → HasItems db items → map item given ++ coming items ≡ all items
+  pub added : AddsToSums with_rows old new given
+
+module _ {R X : Type 0} (item : R → X) (HasItems : Database → List X → Type 0)
+    (with_rows : AuditRows → List R → AuditRows) (db : Database)
+    (Clean Later : Type 0) (old mid : Sums) (all coming : List X → List X) (count : ℕ)
+    (before : Later → Clean)
+    (it : IsGathered item HasItems with_rows db Clean old mid all coming count) where
+  -- one more
+  pub one_more_row : (new : Sums) (left : List X → List X) (r : R)
+      → (Later → (items : List X) → HasItems db items → coming items ≡ item r ∷ left items)
+      → ((rows : AuditRows) (given : List R) → HasSums mid (with_rows rows given)
+      → HasSums new (with_rows rows (given ++ r ∷ [])))
+      → IsGathered item HasItems with_rows db Later old new all left (count + 1)
+  one_more_row new left r step adds = record {
+    given = it.given ++ r ∷ [];
+    many = length-append it.given (r ∷ []) ∙ ap (λ n. n + 1) it.many;
+    are = λ late items has.
+        ap (λ l. l ++ left items) (map-append item it.given (r ∷ []))
+        ∙ append_assoc (map item it.given) (item r ∷ []) (left items)
+        ∙ ap (λ l. map item it.given ++ l) (sym (step late items has)) ∙ it.are (before late) items has;
+    added = λ rows none. adds rows it.given (it.added rows none);
+  }
+
+  -- none is to come
+  pub all_given : Later → (items : List X) → HasItems db items → coming items ≡ []
+      → map item it.given ≡ all items
+  all_given late items there none =
+      sym (append-nil (map item it.given)) ∙ ap (λ l. map item it.given ++ l) (sym none)
+      ∙ it.are (before late) items there
+
+  -- the first to come is broken
+  broken_row : (Breaks : X → Type 0) → Later → (items : List X) → HasItems db items
+      → (e : X) (more : List X) → coming items ≡ e ∷ more → Breaks e
+      → HasBroken Breaks (all items)
+  broken_row Breaks late items there e more is breaks = (
+    map item it.given,
+    e,
+    more,
+    sym (it.are (before late) items there)
+        ∙ ap (λ l. map item it.given ++ l) is,
+    breaks,
+  )
+
+  -- what a step that failed says of all of them
+  pub failed_row : (Breaks : Rule → X → Type 0) (Failed : Type 0) → Later → (items : List X)
+      → HasItems db items → (left : List X)
+      → (fault : Fault) → Steps {R = R} item Breaks (coming items) left (Err fault)
+      → (fault ≡ told.Store → Failed)
+      → SaysOf (λ rule. HasBroken (Breaks rule) (all items)) Failed fault
+  failed_row Breaks Failed late items there left told.Memory step failed = step
+  failed_row Breaks Failed late items there left told.Store step failed = failed refl
+  failed_row Breaks Failed late items there left told.Down step failed = tt
+  failed_row Breaks Failed late items there left (told.Damaged rule) step failed =
+      broken_row (Breaks rule) late items there step.0 step.1 step.2 step.3
+
+-- ---- how many there are
+
+-- where there are so many rows with lesser keys, all of them above 0, a row with this key is behind them
+abbrev pub IsBehind : ℕ → ℤ → Type 0
+IsBehind count key = (count ≡ 0) ⊎ (pos count <ℤ key)
+
+-- so many rows were added, with lesser keys than those to come; all keys are above 0, and there are no more
+-- than can be
+pub record IsAlong (Comes : ℤ → Type 0) (count : ℕ) : Type 0 where
+  pub next : ℤ
+  pub comes : Comes next
+  pub behind : IsBehind count next
+  pub few : count ≤ MAX_ROWS
+
+module _ (Comes Later : ℤ → Type 0) (count : ℕ) (key : ℤ) (it : IsAlong Comes count)
+    (from : it.next ≤ℤ key) (n : ℕ) (is : key ≡ pos n) (least : 1 ≤ n) where
+  below : count < n
+  below = elim it.behind [
+    | inl none ↦ omega (arith, none, least)
+    | inr above ↦ omega (arith, ints, above, from, is)
+  ]
+
+  -- there is room for one more
+  pub room_for : (most : ℕ) → n ≤ most → count < most
+  room_for most within = let low = below in omega (arith, low, within)
+
+  pub along_more : Later (key +ℤ pos 1) → n ≤ MAX_ROWS → IsAlong Later (count + 1)
+  along_more comes within =
+      let low = below in
+      record {
+        next = key +ℤ pos 1;
+        comes = comes;
+        behind = inr (omega (arith, ints, low, is));
+        few = omega (arith, low, within);
+      }
+
+-- ---- what a pass leaves
+
+module _ (old mid new : State) (survived : Survives old mid (λ _. ⊥))
+    (still : HasCleanDisk mid → IsStill old mid) (survives : Survives mid new (λ _. ⊥)) where
+  before : HasCleanDisk new → HasCleanDisk mid
+  before clean = omega (arith, survives.clean, clean)
+
+  -- a step more
+  pub passed_ok : (HasCleanDisk new → IsStill mid new) → IsPassed old new (Ok tt)
+  passed_ok same = record {
+    survives = quiet_then old mid new survived survives;
+    still = λ clean. still_then old mid new (still (before clean)) (same clean);
+    undone = λ clean. still_undone old new (still_then old mid new (still (before clean)) (same clean));
+  }
+
+  -- a step that failed
+  pub passed_err : (fault : Fault) → (HasCleanDisk new → IsUntouchedIfOpen mid new)
+      → IsPassed old new (Err fault)
+  passed_err fault undone = record {
+    survives = quiet_then old mid new survived survives;
+    still = λ clean. tt;
+    undone = λ clean. undone_then old mid new (still (before clean)) (undone clean);
+  }

@@ -1,0 +1,64 @@
+-- What is told of a bank with a fault.
+use Rattle.std.proofs.Common.{◌≡◌, ◌∙◌, refl, sym, ℕ, List, Option, Result, Err}
+use Rattle.posting_rules.specs.declared.fault.Fault.{Fault}
+use Rattle.posting_rules.specs.declared.fault.Fault.TheVariants.{Memory, Down, Damaged}
+use Rattle.posting_rules.specs.declared.fault.Rule.{Rule}
+use Rattle.posting_rules.specs.Commands.{Command}
+use Rattle.posting_rules.specs.Counter.{Seen, ShowsLog}
+use Rattle.report_lines.proofs.Written.{on_err_any}
+use Rattle.report_lines.specs.declared.audit.Audit.{Audit}
+use Rattle.bank_reports.specs.declared.fault.ReportFault.{ReportFault}
+use Rattle.bank_reports.specs.declared.fault.ReportFault.TheVariants.{Bank}
+use Rattle.bank_reports.specs.Audits.{Audits, HasAudited}
+use Rattle.bank_reports.specs.Behind.{statement_behind}
+use Rattle.bank_reports.specs.Leaving.{TakesNone}
+use Rattle.bank_reports.specs.Postings.{HasAnswered}
+use Rattle.bank_reports.specs.Statements.{States}
+use Rattle.bank_reports.proofs.Further.{error_is, nothing_written}
+use Rattle.bank_reports.proofs.ReportLeaves.{not_missing, same_fault}
+
+-- one that shows a log isn't told to be damaged
+abbrev pub NeverSound : Seen → Seen → Fault → Type 0
+NeverSound old new fault = (rule : Rule) → fault ≡ Damaged rule → new.honest → (log : List Command)
+    → ShowsLog old log → ⊥
+
+down_not_damaged : (fault : Fault) (rule : Rule) → fault ≡ Down → fault ≡ Damaged rule → ⊥
+down_not_damaged fault rule down damaged = cc
+
+memory_not_damaged : (fault : Fault) (rule : Rule) → fault ≡ Memory → fault ≡ Damaged rule → ⊥
+memory_not_damaged fault rule memory damaged = cc
+
+pub down_is_sound : (old new : Seen) → NeverSound old new Down
+down_is_sound old new rule is clean log s = down_not_damaged Down rule refl is
+
+pub memory_is_sound : (old new : Seen) → NeverSound old new Memory
+memory_is_sound old new rule is clean log s = memory_not_damaged Memory rule refl is
+
+-- ---- an audit
+
+pub unaudited : (old new : Seen) (told : Result Audit Fault) (fault : Fault) → told ≡ Err fault
+    → NeverSound old new fault → TakesNone old new (HasAudited told) → Audits old new told
+unaudited old new told fault is sound takes = record {
+  tables = λ clean t shown. rw is tt;
+  condition = λ clean t shown. rw is tt;
+  once = rw is tt;
+  above = rw is tt;
+  balanced = λ clean log s. rw is tt;
+  sound = λ rule damaged. sound rule (error_is fault (Damaged rule) (sym is ∙ damaged));
+  takes = takes;
+}
+
+-- ---- a statement of which nothing was written
+
+pub unstated : (old new : Seen) (account : ℕ) (w : Option (List ℕ)) (told : Result (Unit {0}) ReportFault)
+    (fault : Fault) → told ≡ Err (Bank fault)
+    → NeverSound old new fault → TakesNone old new (HasAnswered told) → States old new account w w told
+unstated old new account w told fault is sound takes = record {
+  text = rw is tt;
+  found = rw is tt;
+  missing = λ none. absurd (not_missing told fault is none);
+  silent = λ none. refl;
+  part = on_err_any told (λ clean log s. nothing_written w (statement_behind log account));
+  sound = λ rule damaged. sound rule (same_fault told fault (Damaged rule) is damaged);
+  takes = takes;
+}

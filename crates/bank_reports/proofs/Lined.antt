@@ -1,0 +1,156 @@
+-- The lines of a statement, over the postings that a file has and behind a log.
+use Rattle.std.proofs.Common.{◌≡◌, ◌<◌, ◌≤◌, ◌+◌, ◌++◌, ℕ, Bool, true, false, cond}
+use Rattle.std.proofs.Common.{List, [], ◌∷◌, length, map, refl, sym, ap, subst, ◌∙◌, arith}
+use Rattle.std.specs.Prelude.{ℤ, pos, ◌+ℤ◌, nat_abs}
+use Rattle.std.proofs.lemmas.Int.{ints}
+use Rattle.std.proofs.lemmas.List.{length-append, map-append}
+use Rattle.std.proofs.Math.IntN.{+ℤ_assoc}
+use Rattle.message_records.specs.declared.limits.TheConstants.{MAX_BALANCE}
+use Rattle.posting_rules.specs.Entries.{DecidedRequest, account_balance}
+use Rattle.posting_rules.specs.Laws.{total}
+use Rattle.walked_rows.specs.declared.stated.StatedPosting.{StatedPosting}
+use Rattle.report_lines.specs.StatementText.{posting_line, posting_lines}
+use Rattle.bank_reports.specs.Behind.{is_posted_to, lines_to, postings_to, stated_of}
+use Rattle.bank_reports.specs.Postings.{delta_of, sum_of}
+use Rattle.bank_reports.proofs.LogHistory.{EachWithin}
+
+total-append : (xs ys : List ℤ) → total (xs ++ ys) ≡ total xs +ℤ total ys
+total-append [] ys = omega (arith, ints)
+total-append (x ∷ xs) ys = ap (λ (z : ℤ). x +ℤ z) (total-append xs ys)
+    ∙ sym (+ℤ_assoc x (total xs) (total ys))
+
+total-snoc : (xs : List ℤ) (z : ℤ) → total (xs ++ z ∷ []) ≡ total xs +ℤ z
+total-snoc xs z = total-append xs (z ∷ []) ∙ ap (λ (y : ℤ). total xs +ℤ y) (omega (arith, ints))
+
+pub sum_of-snoc : (rs : List StatedPosting) (r : StatedPosting) → sum_of (rs ++ r ∷ []) ≡ sum_of rs
+    +ℤ delta_of r
+sum_of-snoc rs r = ap total (map-append delta_of rs (r ∷ [])) ∙ total-snoc (map delta_of rs) (delta_of r)
+
+-- one more line
+pub posting_lines-snoc : (before : ℤ) (rs : List StatedPosting) (r : StatedPosting)
+    → posting_lines before (rs ++ r ∷ []) ≡ posting_lines before rs
+    ++ posting_line r ((before +ℤ sum_of rs) +ℤ delta_of r) ∷ []
+posting_lines-snoc before [] r = ap (λ (z : ℤ). posting_line r z ∷ []) (omega (arith, ints))
+posting_lines-snoc before (x ∷ rs) r =
+    ap (λ l. posting_line x (before +ℤ delta_of x) ∷ l)
+    (posting_lines-snoc (before +ℤ delta_of x) rs r
+    ∙ ap (λ (z : ℤ). posting_lines (before +ℤ delta_of x) rs ++ posting_line r (z +ℤ delta_of r) ∷ [])
+    (+ℤ_assoc before (delta_of x) (sum_of rs)))
+
+-- from an empty account on
+pub lines-snoc : (rs : List StatedPosting) (r : StatedPosting)
+    → posting_lines (pos 0) (rs ++ r ∷ []) ≡ posting_lines (pos 0) rs
+    ++ posting_line r (sum_of rs +ℤ delta_of r) ∷ []
+lines-snoc rs r = posting_lines-snoc (pos 0) rs r
+    ∙ ap (λ (z : ℤ). posting_lines (pos 0) rs ++ posting_line r (z +ℤ delta_of r) ∷ [])
+    (omega (arith, ints))
+
+-- ---- behind a log
+
+-- what is posted to an account is its balance
+pub sum_is_balance : (a : ℕ) (es : List DecidedRequest) → sum_of (postings_to a es) ≡ account_balance es a
+sum_is_balance a [] = refl
+sum_is_balance a (e ∷ es) = last (is_posted_to a e) (sum_is_balance a es)
+  where
+    last : (b : Bool) → sum_of (postings_to a es) ≡ account_balance es a
+        → sum_of (cond b (postings_to a es ++ stated_of (length es + 1) e ∷ []) (postings_to a es))
+        ≡ cond b (account_balance es a +ℤ e.request.delta) (account_balance es a)
+    last true earlier = sum_of-snoc (postings_to a es) (stated_of (length es + 1) e)
+        ∙ ap (λ (z : ℤ). z +ℤ e.request.delta) earlier
+    last false earlier = earlier
+
+-- the running balance of a line is the account's balance behind it
+pub lines_are : (a : ℕ) (es : List DecidedRequest) → posting_lines (pos 0) (postings_to a es) ≡ lines_to a es
+lines_are a [] = refl
+lines_are a (e ∷ es) = last (is_posted_to a e) refl (lines_are a es)
+  where
+    last : (b : Bool) → is_posted_to a e ≡ b → posting_lines (pos 0) (postings_to a es)
+        ≡ lines_to a es
+        → posting_lines (pos 0)
+        (cond b (postings_to a es ++ stated_of (length es + 1) e ∷ []) (postings_to a es))
+        ≡ cond b (lines_to a es
+        ++ posting_line (stated_of (length es + 1) e) (account_balance (e ∷ es) a) ∷ [])
+        (lines_to a es)
+    last true is earlier =
+        lines-snoc (postings_to a es) (stated_of (length es + 1) e)
+        ∙ ap (λ (z : ℤ). posting_lines (pos 0) (postings_to a es)
+        ++ posting_line (stated_of (length es + 1) e) (z +ℤ e.request.delta) ∷ [])
+        (sum_is_balance a es)
+        ∙ ap (λ l. l ++ posting_line (stated_of (length es + 1) e)
+        (account_balance es a +ℤ e.request.delta) ∷ []) earlier
+        ∙ ap (λ (z : ℤ). lines_to a es ++ posting_line (stated_of (length es + 1) e) z ∷ [])
+        (sym (rw is refl))
+    last false is earlier = earlier
+
+-- so many at most
+pub few_postings : (a : ℕ) (es : List DecidedRequest) → length (postings_to a es) ≤ length es
+few_postings a [] = omega arith
+few_postings a (e ∷ es) = last (is_posted_to a e) (few_postings a es)
+  where
+    last : (b : Bool) → length (postings_to a es) ≤ length es
+        → length (cond b (postings_to a es ++ stated_of (length es + 1) e ∷ []) (postings_to a es))
+        ≤ length (e ∷ es)
+    last true earlier = omega (
+      arith,
+      earlier,
+      length-append (postings_to a es)
+          (stated_of (length es + 1) e ∷ []),
+    )
+    last false earlier = omega (arith, earlier)
+
+-- ---- running balances
+
+zero_plus : (z : ℤ) → pos 0 +ℤ z ≡ z
+zero_plus z = omega (arith, ints)
+
+plus_zero : (z y : ℤ) → (z +ℤ pos 0) +ℤ y ≡ z +ℤ y
+plus_zero z y = omega (arith, ints)
+
+-- each running balance on the way through the postings is within the limit
+abbrev pub AllRunWithin : ℤ → List StatedPosting → Type 0
+AllRunWithin before [] = Unit {0}
+AllRunWithin before (r ∷ rs) = (nat_abs (before +ℤ delta_of r) ≤ MAX_BALANCE)
+    × AllRunWithin (before +ℤ delta_of r) rs
+
+run_more : (before : ℤ) (rs : List StatedPosting) (r : StatedPosting) → AllRunWithin before rs
+    → nat_abs ((before +ℤ sum_of rs) +ℤ delta_of r) ≤ MAX_BALANCE
+    → AllRunWithin before (rs ++ r ∷ [])
+run_more before [] r all low =
+    let same : (before +ℤ pos 0) +ℤ delta_of r ≡ before +ℤ delta_of r = omega (arith, ints) in
+    (subst (λ (z : ℤ). nat_abs z ≤ MAX_BALANCE) same low, tt)
+run_more before (x ∷ rs) r all low = (
+  all.0,
+  run_more (before +ℤ delta_of x) rs r all.1
+      (subst (λ (z : ℤ). nat_abs (z +ℤ delta_of r) ≤ MAX_BALANCE)
+      (sym (+ℤ_assoc before (delta_of x) (sum_of rs))) low),
+)
+
+-- behind a log they are
+pub runs_within : (a : ℕ) (es : List DecidedRequest) → EachWithin a es
+    → AllRunWithin (pos 0) (postings_to a es)
+runs_within a [] all = tt
+runs_within a (e ∷ es) all = last (is_posted_to a e) refl (runs_within a es all.1)
+  where
+    last : (b : Bool) → is_posted_to a e ≡ b → AllRunWithin (pos 0) (postings_to a es)
+        → AllRunWithin (pos 0)
+        (cond b (postings_to a es ++ stated_of (length es + 1) e ∷ []) (postings_to a es))
+    last true is earlier =
+        let now : nat_abs (account_balance es a +ℤ e.request.delta) ≤ MAX_BALANCE = rw is at all.0 in
+        let same : account_balance es a ≡ pos 0 +ℤ sum_of (postings_to a es) = sym (sum_is_balance a es)
+        ∙ sym (zero_plus (sum_of (postings_to a es))) in
+        run_more (pos 0) (postings_to a es) (stated_of (length es + 1) e) earlier
+        (subst (λ (z : ℤ). nat_abs (z +ℤ e.request.delta) ≤ MAX_BALANCE) same now)
+    last false is earlier = earlier
+
+-- none is beyond it
+pub never_beyond : (before : ℤ) (given : List StatedPosting) (r : StatedPosting) (more : List StatedPosting)
+    → AllRunWithin before (given ++ r ∷ more)
+    → MAX_BALANCE < nat_abs ((before +ℤ sum_of given) +ℤ delta_of r) → ⊥
+never_beyond before [] r more all high =
+    let low : nat_abs ((before +ℤ pos 0) +ℤ delta_of r) ≤ MAX_BALANCE =
+    subst (λ (z : ℤ). nat_abs z ≤ MAX_BALANCE) (sym (plus_zero before (delta_of r))) all.0 in
+    omega (arith, low, high)
+never_beyond before (x ∷ given) r more all high =
+    never_beyond (before +ℤ delta_of x) given r more all.1
+    (subst (λ (z : ℤ). MAX_BALANCE < nat_abs (z +ℤ delta_of r))
+    (sym (+ℤ_assoc before (delta_of x) (sum_of given))) high)

@@ -1,0 +1,112 @@
+-- The history of a log as a list, and balances on the way to it.
+use Rattle.std.proofs.Common.{◌≡◌, ◌&&◌, ◌<◌, ◌≤◌, ◌+◌, ◌++◌, ℕ, Bool, true}
+use Rattle.std.proofs.Common.{false, cond, eqb, List, [], ◌∷◌, length, Option, Some, Result, Ok, Err}
+use Rattle.std.proofs.Common.{refl, ap, ◌∙◌, arith}
+use Rattle.std.specs.Prelude.{nat_abs, if◌then◌else◌}
+use Rattle.std.specs.List.{AllByRecursion}
+use Rattle.std.proofs.lemmas.Bool.{eqb-true}
+use Rattle.message_records.specs.declared.limits.TheConstants.{MAX_BALANCE}
+use Rattle.message_records.specs.declared.fault.Bad.{Bad}
+use Rattle.message_records.specs.Records.{RequestFields}
+use Rattle.message_records.specs.Reading.{request_of}
+use Rattle.posting_rules.specs.declared.rows.HistoryRow.{HistoryRow}
+use Rattle.posting_rules.specs.declared.judgments.Verdict.{Verdict}
+use Rattle.posting_rules.specs.declared.judgments.Verdict.TheVariants.{Unkept, Again, Refused, Posted}
+use Rattle.posting_rules.specs.Commands.{Command, Open, Post, opened, Terms}
+use Rattle.posting_rules.specs.Cases.{case_of}
+use Rattle.posting_rules.specs.Entries.{DecidedRequest, is_posted, facts, account_balance, with_verdict}
+use Rattle.posting_rules.specs.Entries.{with_record}
+use Rattle.posting_rules.specs.Entries.{decided}
+use Rattle.posting_rules.specs.Tables.{row_at, history_key, history_row, history_row_of}
+use Rattle.posting_rules.proofs.BalanceLimits.{stays_within}
+use Rattle.bank_reports.proofs.RisingRows.{Rising, all-append, all_as, find_behind, find_before, not_under}
+use Rattle.bank_reports.proofs.RisingRows.{rising_more}
+
+-- the postings of decided requests, the oldest first
+abbrev pub postings_of : List DecidedRequest → List HistoryRow
+postings_of [] = []
+postings_of (e ∷ es) = if is_posted e then postings_of es ++ history_row_of (length es + 1) e
+    ∷ [] else postings_of es
+
+ends : (es : List DecidedRequest) → AllByRecursion (λ r. history_key r ≤ length es) (postings_of es)
+ends [] = tt
+ends (e ∷ es) = last (is_posted e)
+    (all_as (λ r. history_key r ≤ length es) (λ r. history_key r ≤ length (e ∷ es))
+    (λ r low. omega (arith, low)) (postings_of es) (ends es))
+  where
+    last : (b : Bool) → AllByRecursion (λ r. history_key r ≤ length (e ∷ es)) (postings_of es)
+        → AllByRecursion (λ r. history_key r ≤ length (e ∷ es))
+        (cond b (postings_of es ++ history_row_of (length es + 1) e ∷ []) (postings_of es))
+    last true earlier = all-append (λ r. history_key r ≤ length (e ∷ es)) (postings_of es)
+        (history_row_of (length es + 1) e ∷ []) earlier (omega arith, tt)
+    last false earlier = earlier
+
+pub postings_rise : (es : List DecidedRequest) → Rising history_key (postings_of es)
+postings_rise [] = tt
+postings_rise (e ∷ es) = last (is_posted e) (postings_rise es)
+  where
+    last : (b : Bool) → Rising history_key (postings_of es)
+        → Rising history_key
+        (cond b (postings_of es ++ history_row_of (length es + 1) e ∷ []) (postings_of es))
+    last true rise = rising_more history_key (postings_of es) (history_row_of (length es + 1) e) rise
+        (all_as (λ r. history_key r ≤ length es) (λ r. history_key r < length es + 1)
+        (λ r low. omega (arith, low)) (postings_of es) (ends es))
+    last false rise = rise
+
+-- under each ordinal stands what the log has there
+pub postings_under : (es : List DecidedRequest) (o : ℕ) → row_at history_key (postings_of es) o
+    ≡ history_row es o
+postings_under [] o = refl
+postings_under (e ∷ es) o = last (is_posted e) (postings_under es o)
+  where
+    there : (b : Bool) → row_at history_key (postings_of es) o ≡ history_row es o
+        → eqb (length es + 1) o ≡ b
+        → row_at history_key (postings_of es ++ history_row_of (length es + 1) e ∷ []) o
+        ≡ cond b (Some (history_row_of o e)) (history_row es o)
+    there true earlier is =
+        find_behind (λ r. eqb (history_key r) o) (postings_of es) (history_row_of (length es + 1) e ∷ [])
+        (not_under history_key o (postings_of es)
+        (all_as (λ r. history_key r ≤ length es) (λ r. history_key r ≡ o → ⊥)
+        (λ r low same. let at = eqb-true (length es + 1) o is in omega (arith, low, same, at))
+        (postings_of es) (ends es)))
+        ∙ rw is (ap (λ (n : ℕ). Some (history_row_of n e)) (eqb-true (length es + 1) o is))
+    there false earlier is =
+        find_before (λ r. eqb (history_key r) o) (postings_of es) (history_row_of (length es + 1) e) is
+        ∙ earlier
+
+    last : (b : Bool) → row_at history_key (postings_of es) o ≡ history_row es o
+        → row_at history_key
+        (cond b (postings_of es ++ history_row_of (length es + 1) e ∷ []) (postings_of es)) o
+        ≡ cond (b && eqb (length es + 1) o) (Some (history_row_of o e)) (history_row es o)
+    last true earlier = there (eqb (length es + 1) o) earlier refl
+    last false earlier = earlier
+
+-- ---- balances
+
+-- after each of the requests the account's balance is within the limit
+abbrev pub EachWithin : ℕ → List DecidedRequest → Type 0
+EachWithin a [] = Unit {0}
+EachWithin a (e ∷ es) = (nat_abs (account_balance (e ∷ es) a) ≤ MAX_BALANCE) × EachWithin a es
+
+within_verdict : (a m : ℕ) (r : RequestFields) (v : Verdict) (es : List DecidedRequest)
+    → nat_abs (account_balance (with_verdict m r v es) a) ≤ MAX_BALANCE
+    → EachWithin a es → EachWithin a (with_verdict m r v es)
+within_verdict a m r (Unkept o) es now before = before
+within_verdict a m r (Again x) es now before = before
+within_verdict a m r (Refused o) es now before = (now, before)
+within_verdict a m r (Posted x t b) es now before = (now, before)
+
+within_record : (a m : ℕ) (read : Result RequestFields Bad) (opened : ℕ → Option Terms)
+    (es : List DecidedRequest)
+    → nat_abs (account_balance (with_record m read opened es) a) ≤ MAX_BALANCE → EachWithin a es
+    → EachWithin a (with_record m read opened es)
+within_record a m (Err fault) opened es now before = before
+within_record a m (Ok r) opened es now before =
+    within_verdict a m r (case_of (facts opened es r) r) es now before
+
+pub each_within : (log : List Command) (a : ℕ) → EachWithin a (decided log)
+each_within [] a = tt
+each_within (Open b count ∷ log) a = each_within log a
+each_within (Post m bytes ∷ log) a =
+    within_record a m (request_of bytes) (λ b. opened log b) (decided log)
+    ((stays_within (Post m bytes ∷ log)).accounts a) (each_within log a)

@@ -1,0 +1,299 @@
+-- The statement of an account of a bank that shows a log.
+use Rattle.std.proofs.Common.{◌≡◌, ◌==◌, ◌&&◌, ◌<◌, ◌≤◌, ◌+◌, ◌++◌, ℕ, Bool, true, false, cond, List, []}
+use Rattle.std.proofs.Common.{◌∷◌, length, map, filter, Option, Some, None, Less, int_cmp, refl, sym, ap, ◌∙◌}
+use Rattle.std.proofs.Common.{append_assoc, append-nil, inl, inr, arith}
+use Rattle.std.specs.Prelude.{ℤ, pos, ◌+ℤ◌, option_map}
+use Rattle.std.specs.List.{AllByRecursion}
+use Rattle.std.specs.Ordering.{int_eq}
+use Rattle.std.proofs.lemmas.Bool.{cases_Bool, eq-eqb, eqb-true}
+use Rattle.std.proofs.lemmas.Int.{ints}
+use Rattle.std.proofs.lemmas.List.{map-append}
+use Rattle.std.proofs.lemmas.List.Elements.{filter-append}
+use Rattle.std.proofs.Math.IntN.{+ℤ_assoc}
+use Rattle.sqlite.specs.Effect.{Database}
+use Rattle.posting_rules.specs.declared.rows.HistoryRow.{HistoryRow}
+use Rattle.posting_rules.specs.Commands.{Command}
+use Rattle.posting_rules.specs.Entries.{DecidedRequest, is_posted, decided, account_balance}
+use Rattle.posting_rules.specs.Tables.{Tables, AreTablesOf, history_key, history_row_of, reference_key}
+use Rattle.posting_rules.specs.Tables.{reference_row, reference_row_of, row_at}
+use Rattle.posting_rules.specs.declared.rows.ReferenceRow.{ReferenceRow}
+use Rattle.sql_meanings.specs.Entries.{Rise}
+use Rattle.sql_meanings.specs.Entries.{Entry as Stored}
+use Rattle.sql_meanings.proofs.Contents.{held}
+use Rattle.store_rows.specs.BankTables.{bank_tables}
+use Rattle.store_rows.specs.BankTables.{history as history_table, reference as reference_table}
+use Rattle.store_rows.specs.View.{contents, history_entry, reference_entry}
+use Rattle.store_rows.specs.View.{Shows}
+use Rattle.walked_rows.specs.declared.stated.StatedPosting.{StatedPosting}
+use Rattle.walked_rows.specs.Pairs.{HasPairs, Pair, paired, row_under}
+use Rattle.walked_rows.specs.References.{text_behind, text_entry}
+use Rattle.walked_rows.specs.Stored.{is_of, is_stated_of, posting_entry, stated_pair}
+use Rattle.walked_rows.proofs.Joining.{paired_filter}
+use Rattle.walked_rows.proofs.Shown.{has_history, has_references}
+use Rattle.report_lines.specs.Lines.{text_of}
+use Rattle.report_lines.specs.StatementText.{heading_line, names_line, posting_line, posting_lines}
+use Rattle.report_lines.specs.StatementText.{closing_line}
+use Rattle.report_lines.proofs.Joined.{text_of-append}
+use Rattle.bank_reports.specs.Behind.{is_posted_to, lines_to, postings_to, stated_of, statement_behind}
+use Rattle.bank_reports.specs.Postings.{delta_of, sum_of, text_so_far}
+use Rattle.bank_reports.proofs.Read.{posting_back, posting_in, under}
+use Rattle.bank_reports.proofs.RisingRows.{Rising, all-append, all_as, rising_once}
+use Rattle.bank_reports.proofs.LogHistory.{postings_of, postings_rise, postings_under}
+use Rattle.bank_reports.proofs.Lined.{lines_are}
+
+-- ---- the history of a file
+
+rising_keys : (rs : List HistoryRow) → Rise (map history_entry rs) → Rising history_key rs
+rising_keys [] rise = tt
+rising_keys (r ∷ rs) rise = (above rs rise.0, rising_keys rs rise.1)
+  where
+    above : (xs : List HistoryRow)
+        → AllByRecursion (λ (e : Stored). int_cmp (history_entry r).key e.key ≡ Less)
+        (map history_entry xs)
+        → AllByRecursion (λ x. history_key r < history_key x) xs
+    above [] all = tt
+    above (x ∷ xs) all = (less (history_key r) (history_key x) all.0, above xs all.1)
+      where
+        less : (m n : ℕ) → int_cmp (pos m) (pos n) ≡ Less → m < n
+        less m n is = grind (arith, ints)
+
+-- a file that shows a log has its postings, the oldest first
+pub history_is : (db : Database) (t : Tables) (log : List Command) → Shows db t → AreTablesOf t log
+    → t.history ≡ postings_of (decided log)
+history_is db t log in_file shows =
+    let holds = held db bank_tables (contents t) in_file.each 4 history_table (map history_entry t.history)
+    refl refl in
+    rising_once history_key t.history (postings_of (decided log)) (rising_keys t.history holds.rows.rise)
+    (postings_rise (decided log))
+    (λ o. shows.rows.history o ∙ sym (postings_under (decided log) o))
+
+-- the pairs of a bank's history, each row with the reference under its ordinal
+abbrev pub stated_rows : Tables → List Pair
+stated_rows t = paired (map reference_entry t.references) (map history_entry t.history)
+
+pub has_stated : (db : Database) (t : Tables) → Shows db t
+    → HasPairs db history_table reference_table (stated_rows t)
+has_stated db t in_file = record {
+  rows = map history_entry t.history;
+  others = map reference_entry t.references;
+  has = has_history db t in_file;
+  has_others = has_references db t in_file;
+  are = refl;
+}
+
+-- ---- those of an account
+
+mine : (a : ℕ) (e : DecidedRequest) (n : ℕ) → is_of (Some a) (history_entry (history_row_of n e))
+    ≡ (e.request.account == a)
+mine a e n = same e.request.account a
+  where
+    same : (m k : ℕ) → int_eq (pos m) (pos k) ≡ (m == k)
+    same m k = grind (arith, ints)
+
+-- how a file holds the posting
+abbrev entry_of : StatedPosting → Stored
+entry_of s = posting_entry s.posting
+
+history_of_account : (a : ℕ) (es : List DecidedRequest)
+    → filter (is_of (Some a)) (map history_entry (postings_of es)) ≡ map entry_of (postings_to a es)
+history_of_account a [] = refl
+history_of_account a (e ∷ es) = posted (is_posted e) (e.request.account == a) refl (history_of_account a es)
+  where
+    n : ℕ
+    n = length es + 1
+
+    posted : (b c : Bool) → (e.request.account == a) ≡ c
+        → filter (is_of (Some a)) (map history_entry (postings_of es))
+        ≡ map entry_of (postings_to a es)
+        → filter (is_of (Some a))
+        (map history_entry (cond b (postings_of es ++ history_row_of n e ∷ []) (postings_of es)))
+        ≡ map entry_of (cond (b && c) (postings_to a es ++ stated_of n e ∷ []) (postings_to a es))
+    posted false c is earlier = earlier
+    posted true true is earlier =
+        ap (filter (is_of (Some a))) (map-append history_entry (postings_of es) (history_row_of n e ∷ []))
+        ∙ filter-append (is_of (Some a)) (map history_entry (postings_of es))
+        (history_entry (history_row_of n e) ∷ [])
+        ∙ ap (λ b. filter (is_of (Some a)) (map history_entry (postings_of es))
+        ++ cond b (history_entry (history_row_of n e) ∷ []) []) (mine a e n ∙ is)
+        ∙ ap (λ l. l ++ history_entry (history_row_of n e) ∷ []) earlier
+        ∙ sym (map-append entry_of (postings_to a es) (stated_of n e ∷ []))
+    posted true false is earlier =
+        ap (filter (is_of (Some a))) (map-append history_entry (postings_of es) (history_row_of n e ∷ []))
+        ∙ filter-append (is_of (Some a)) (map history_entry (postings_of es))
+        (history_entry (history_row_of n e) ∷ [])
+        ∙ ap (λ b. filter (is_of (Some a)) (map history_entry (postings_of es))
+        ++ cond b (history_entry (history_row_of n e) ∷ []) []) (mine a e n ∙ is)
+        ∙ append-nil (filter (is_of (Some a)) (map history_entry (postings_of es))) ∙ earlier
+
+-- ---- their references
+
+-- the posting's ordinal is one of these requests', and its reference is that of the request
+abbrev IsReferenced : List DecidedRequest → StatedPosting → Type 0
+IsReferenced es s = (s.posting.ordinal ≤ length es)
+    × (reference_row es s.posting.ordinal ≡ option_map (reference_row_of s.posting.ordinal) s.reference)
+
+-- it is still where one more is decided
+still_referenced : (e : DecidedRequest) (es : List DecidedRequest) (s : StatedPosting) → IsReferenced es s
+    → IsReferenced (e ∷ es) s
+still_referenced e es s is = (omega (arith, is.0), rw away is.1)
+  where
+    away : (length es + 1 == s.posting.ordinal) ≡ false
+    away = elim (cases_Bool (length es + 1 == s.posting.ordinal)) [
+      | inl t ↦ absurd (let at = eqb-true (length es + 1) s.posting.ordinal t in omega (arith, at, is.0))
+      | inr f ↦ f
+    ]
+
+each_referenced : (a : ℕ) (es : List DecidedRequest) → AllByRecursion (IsReferenced es) (postings_to a es)
+each_referenced a [] = tt
+each_referenced a (e ∷ es) =
+    last (is_posted_to a e)
+    (all_as (IsReferenced es) (IsReferenced (e ∷ es)) (still_referenced e es) (postings_to a es)
+    (each_referenced a es))
+  where
+    n : ℕ
+    n = length es + 1
+
+    last : (b : Bool) → AllByRecursion (IsReferenced (e ∷ es)) (postings_to a es)
+        → AllByRecursion (IsReferenced (e ∷ es))
+        (cond b (postings_to a es ++ stated_of n e ∷ []) (postings_to a es))
+    last true earlier =
+        all-append (IsReferenced (e ∷ es)) (postings_to a es) (stated_of n e ∷ []) earlier
+        ((omega arith, rw (eq-eqb n n refl) refl), tt)
+    last false earlier = earlier
+
+-- the row of references is the posting's own
+own_text : (o : ℕ) (reference : Option (List ℕ))
+    → option_map reference_entry (option_map (reference_row_of o) reference)
+    ≡ option_map (text_entry o) reference
+own_text o None = refl
+own_text o (Some text) = refl
+
+pairs_are : (es : List DecidedRequest) (references : List ReferenceRow)
+    → ((o : ℕ) → row_at reference_key references o ≡ reference_row es o) → (ss : List StatedPosting)
+    → AllByRecursion (IsReferenced es) ss
+    → paired (map reference_entry references) (map entry_of ss) ≡ map stated_pair ss
+pairs_are es references same [] all = refl
+pairs_are es references same (s ∷ ss) all =
+    let o = s.posting.ordinal in
+    let beside : row_under (map reference_entry references) (pos o) ≡ option_map (text_entry o) s.reference =
+    under reference_entry reference_key (λ r. refl) references o
+    ∙ ap (option_map reference_entry) (same o ∙ all.0.1) ∙ own_text o s.reference in
+    rw (beside, pairs_are es references same ss all.1) refl
+
+-- ---- a beginning of them
+
+stated_in : Pair → StatedPosting
+stated_in p = record { posting = posting_in p.entry; reference = option_map text_behind p.beside }
+
+stated_back : (s : StatedPosting) → stated_in (stated_pair s) ≡ s
+unfolding stated_in
+stated_back s = go s.reference
+  where
+    go : (reference : Option (List ℕ))
+        → stated_in (stated_pair (record { posting = s.posting; reference = reference }))
+        ≡ record { posting = s.posting; reference = reference }
+    go None = ap (λ r. record { posting = r; reference = None }) (posting_back s.posting)
+    go (Some text) = ap (λ r. record { posting = r; reference = Some text }) (posting_back s.posting)
+
+pub one_entry : (x y : StatedPosting) → stated_pair x ≡ stated_pair y → x ≡ y
+one_entry x y same = sym (stated_back x) ∙ ap stated_in same ∙ stated_back y
+
+abbrev first_of : {X : Type 0} → X → List X → X
+first_of d [] = d
+first_of d (x ∷ xs) = x
+
+abbrev rest_of : {X : Type 0} → List X → List X
+rest_of [] = []
+rest_of (x ∷ xs) = xs
+
+-- rows that begin with those of some postings
+pub beginning : (given ps : List StatedPosting) (rest : List Pair) → map stated_pair given ++ rest
+    ≡ map stated_pair ps
+    → (more : List StatedPosting) × (ps ≡ given ++ more) × (rest ≡ map stated_pair more)
+beginning [] ps rest same = (ps, refl, same)
+beginning (g ∷ given) [] rest same = absurd cc
+beginning (g ∷ given) (p ∷ ps) rest same = next (beginning given ps rest (tails same))
+  where
+    tails : stated_pair g ∷ (map stated_pair given ++ rest) ≡ stated_pair p ∷ map stated_pair ps
+        → map stated_pair given ++ rest ≡ map stated_pair ps
+    tails e = ap rest_of e
+
+    heads : stated_pair g ∷ (map stated_pair given ++ rest) ≡ stated_pair p ∷ map stated_pair ps
+        → stated_pair g ≡ stated_pair p
+    heads e = ap (first_of (stated_pair g)) e
+
+    next : (more : List StatedPosting) × (ps ≡ given ++ more) × (rest ≡ map stated_pair more)
+        → (more : List StatedPosting) × (p ∷ ps ≡ g ∷ (given ++ more))
+        × (rest ≡ map stated_pair more)
+    next it = (
+      it.0,
+      ap (λ l. p ∷ l) it.1
+          ∙ ap (λ x. x ∷ (given ++ it.0)) (sym (one_entry g p (heads same))),
+      it.2,
+    )
+
+-- ---- the text
+
+text-append : (before : ℤ) (rs more : List StatedPosting)
+    → posting_lines before (rs ++ more) ≡ posting_lines before rs
+    ++ posting_lines (before +ℤ sum_of rs) more
+text-append before [] more = ap (λ (z : ℤ). posting_lines z more) (omega (arith, ints))
+text-append before (r ∷ rs) more =
+    ap (λ l. posting_line r (before +ℤ delta_of r) ∷ l)
+    (text-append (before +ℤ delta_of r) rs more
+    ∙ ap (λ (z : ℤ). posting_lines (before +ℤ delta_of r) rs ++ posting_lines z more)
+    (+ℤ_assoc before (delta_of r) (sum_of rs)))
+
+-- the statement so far is a beginning of that of the log
+pub text_begins : (a : ℕ) (log : List Command) (given more : List StatedPosting) (rest : List Pair)
+    → postings_to a (decided log) ≡ given ++ more
+    → rest ≡ map stated_pair more
+    → (behind : List ℕ) × (text_so_far a (account_balance (decided log) a) given rest ++ behind
+    ≡ statement_behind log a)
+unfolding statement_behind
+text_begins a log given [] rest is left = (
+  [],
+  append-nil _ ∙ ap (λ r. text_so_far a (account_balance (decided log) a) given r) left
+      ∙ ap (λ l. text_of (heading_line a ∷ names_line
+      ∷ (l ++ closing_line (account_balance (decided log) a) ∷ [])))
+      (ap (posting_lines (pos 0)) (sym (append-nil given) ∙ sym is) ∙ lines_are a (decided log)),
+)
+text_begins a log given (p ∷ more) rest is left =
+    let es = decided log in
+    let closing = closing_line (account_balance es a) ∷ [] in
+    let lines = posting_lines (pos 0) given in
+    let later = posting_lines (pos 0 +ℤ sum_of given) (p ∷ more) in
+    let all : lines ++ later ≡ lines_to a es = sym (text-append (pos 0) given (p ∷ more))
+    ∙ ap (posting_lines (pos 0)) (sym is) ∙ lines_are a es in (
+      text_of (later ++ closing),
+      ap (λ r. text_so_far a (account_balance es a) given r ++ text_of (later ++ closing)) left
+          ∙ ap (λ l. text_of (heading_line a ∷ names_line ∷ l) ++ text_of (later ++ closing))
+          (append-nil lines)
+          ∙ sym (text_of-append (heading_line a ∷ names_line ∷ lines) (later ++ closing))
+          ∙ ap (λ l. text_of (heading_line a ∷ names_line ∷ l))
+          (sym (append_assoc lines later closing) ∙ ap (λ l. l ++ closing) all),
+    )
+
+-- the whole statement is that of the log
+pub text_ends : (a : ℕ) (log : List Command) (given more : List StatedPosting)
+    → postings_to a (decided log) ≡ given ++ more → [] ≡ map stated_pair more
+    → text_so_far a (account_balance (decided log) a) given [] ≡ statement_behind log a
+unfolding statement_behind
+text_ends a log given [] is left =
+    ap (λ l. text_of (heading_line a ∷ names_line
+    ∷ (l ++ closing_line (account_balance (decided log) a) ∷ [])))
+    (ap (posting_lines (pos 0)) (sym (append-nil given) ∙ sym is) ∙ lines_are a (decided log))
+text_ends a log given (p ∷ more) is left = absurd cc
+
+-- the postings of an account in a file that shows a log
+pub account_rows : (db : Database) (t : Tables) (log : List Command) (a : ℕ) → Shows db t
+    → AreTablesOf t log
+    → filter (is_stated_of (Some a)) (stated_rows t) ≡ map stated_pair (postings_to a (decided log))
+account_rows db t log a in_file shows =
+    let es = decided log in
+    let others = map reference_entry t.references in
+    paired_filter others (is_of (Some a)) (map history_entry t.history)
+    ∙ ap (λ h. paired others (filter (is_of (Some a)) (map history_entry h)))
+    (history_is db t log in_file shows)
+    ∙ ap (paired others) (history_of_account a es)
+    ∙ pairs_are es t.references shows.rows.references (postings_to a es) (each_referenced a es)

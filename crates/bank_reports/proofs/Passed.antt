@@ -1,0 +1,155 @@
+-- Passes over the tables of a file, one after another.
+use Rattle.std.proofs.Common.{◌≡◌, ◌++◌, ◌⊎◌, Bool, List, [], ◌∷◌, map, find, Result}
+use Rattle.std.proofs.Common.{Ok, Err, refl, sym, ap, subst, inl, inr, arith}
+use Rattle.std.specs.Prelude.{IsSomeAnd, OnOk}
+use Rattle.std.proofs.lemmas.Bool.{cases_Bool}
+use Rattle.sqlite.specs.Effect.{Database}
+use Rattle.sqlite.specs.State.{State, HasCleanDisk}
+use Rattle.posting_rules.specs.declared.fault.Fault.{Fault}
+use Rattle.posting_rules.specs.declared.fault.Fault.TheVariants as told
+use Rattle.posting_rules.specs.declared.fault.Rule.{Rule}
+use Rattle.sqlite.specs.Held.{Held, state}
+use Rattle.sqlite_trees.specs.declared.store.Store.{Ghosts}
+use Rattle.sql_meanings.specs.Entries.{Entry}
+use Rattle.bank_transactions.specs.Causes.{IsBefore}
+use Rattle.bank_transactions.proofs.Blamed.{comes, then_moment}
+use Rattle.store_rows.specs.BankTables.{history as history_table, request as request_table}
+use Rattle.bank_store.specs.Walks.{IsStill}
+use Rattle.walked_rows.specs.Pairs.{BreaksPair, HasPairs, pair_with, paired}
+use Rattle.bank_reports.specs.Adding.{IsPassed}
+use Rattle.bank_reports.specs.Failures.{HasFailedToRead, SaysOf}
+use Rattle.bank_reports.specs.Files.{FileRows, HasBroken, HasFile}
+use Rattle.bank_reports.proofs.StepsKeep.{quiet_then, still_then, undone_then}
+use Rattle.bank_reports.proofs.Read.{first_of, rest_of}
+
+-- ---- one pass after another
+
+pub clean_mid : (mid new : State) (r : Result (Unit {0}) Fault) → IsPassed mid new r → HasCleanDisk new
+    → HasCleanDisk mid
+clean_mid mid new r pass clean = omega (arith, pass.survives.clean, clean)
+
+pub passed_then : {old mid new : State} {r : Result (Unit {0}) Fault} → IsPassed old mid (Ok tt)
+    → IsPassed mid new r → IsPassed old new r
+passed_then {old} {mid} {new} {r} a b = record {
+  survives = quiet_then old mid new a.survives b.survives;
+  still = λ clean. both r (λ c. a.still (clean_mid mid new r b c)) b.still clean;
+  undone = λ clean. undone_then old mid new (a.still (clean_mid mid new r b clean)) (b.undone clean);
+}
+  where
+    both : (r : Result (Unit {0}) Fault) → (HasCleanDisk new → IsStill old mid)
+        → (HasCleanDisk new → OnOk r (IsStill mid new)) → HasCleanDisk new → OnOk r (IsStill old new)
+    both (Ok done) x y clean = still_then old mid new (x clean) (y clean)
+    both (Err fault) x y clean = tt
+
+-- two passes and one more
+pub passed_three : {s t u v : State} {r : Result (Unit {0}) Fault} → IsPassed s t (Ok tt)
+    → IsPassed t u (Ok tt)
+    → IsPassed u v r → IsPassed s v r
+passed_three a b c = passed_then (passed_then a b) c
+
+-- three and one more
+pub passed_four : {s t u v w : State} {r : Result (Unit {0}) Fault} → IsPassed s t (Ok tt)
+    → IsPassed t u (Ok tt)
+    → IsPassed u v (Ok tt) → IsPassed v w r → IsPassed s w r
+passed_four a b c d = passed_then (passed_three a b c) d
+
+-- four and one more
+pub passed_five : {s t u v w x : State} {r : Result (Unit {0}) Fault} → IsPassed s t (Ok tt)
+    → IsPassed t u (Ok tt) → IsPassed u v (Ok tt) → IsPassed v w (Ok tt) → IsPassed w x r
+    → IsPassed s x r
+passed_five a b c d e = passed_then (passed_four a b c d) e
+
+-- the file has the rows that it had
+pub has_mid : {old mid new : State} {r : Result (Unit {0}) Fault} (f : FileRows) → IsPassed old mid (Ok tt)
+    → IsPassed mid new r → HasCleanDisk new → HasFile old.now f → HasFile mid.now f
+has_mid {old} {mid} {new} {r} f one two clean =
+    subst (λ (db : Database). HasFile db f) (sym (one.still (clean_mid mid new r two clean)).0)
+
+-- what breaks the rows of a table breaks those of the file
+pub says_any : {Breaks AnyBreaks : Rule → Type 0} (Failed : Type 0) (fault : Fault)
+    → ((rule : Rule) → Breaks rule → AnyBreaks rule)
+    → SaysOf Breaks Failed fault → SaysOf AnyBreaks Failed fault
+says_any Failed told.Memory any says = says
+says_any Failed told.Store any says = says
+says_any Failed told.Down any says = tt
+says_any Failed (told.Damaged rule) any says = any rule says
+
+-- a read that failed later has failed since before
+pub failed_later : {S : Type 0} (g : Ghosts S) (old mid new : Held S) → IsBefore (state g old) (state g mid)
+    → HasFailedToRead g mid new → HasFailedToRead g old new
+failed_later g old mid new later failed = record {
+  at = failed.at;
+  before = then_moment (state g old) (state g mid) (state g failed.at) later failed.before;
+  failed = failed.failed;
+}
+
+-- so it does behind other passes
+pub says_behind : {S : Type 0} {Breaks AnyBreaks : Rule → Type 0} (g : Ghosts S) (old mid new : Held S)
+    (fault : Fault) → ((rule : Rule) → Breaks rule → AnyBreaks rule)
+    → IsPassed (state g old) (state g mid) (Ok tt) → SaysOf Breaks (HasFailedToRead g mid new) fault
+    → SaysOf AnyBreaks (HasFailedToRead g old new) fault
+says_behind g old mid new told.Memory any pass says = says
+says_behind g old mid new told.Store any pass says =
+    failed_later g old mid new (comes pass.survives) says
+says_behind g old mid new told.Down any pass says = tt
+says_behind g old mid new (told.Damaged rule) any pass says = any rule says
+
+-- the connection is as that read left it
+pub failed_at_end : {S : Type 0} {g : Ghosts S} {old last new : Held S} → HasFailedToRead g old last
+    → last ≡ new → HasFailedToRead g old new
+failed_at_end {g = g} {old = old} failed same = subst (λ conn. HasFailedToRead g old conn) same failed
+
+-- ---- pairs
+
+module _ (db : Database) (f : FileRows) (has : HasFile db f) where
+  pub asked_in : HasPairs db request_table history_table (paired f.history f.requests)
+  asked_in = record {
+    rows = f.requests;
+    others = f.history;
+    has = has.requests;
+    has_others = has.history;
+    are = refl;
+  }
+
+  pub posted_in : HasPairs db history_table request_table (paired f.requests f.history)
+  posted_in = record {
+    rows = f.history;
+    others = f.requests;
+    has = has.history;
+    has_others = has.requests;
+    are = refl;
+  }
+
+-- what stands among images is the image of what stands there
+pub split_map : {X Y : Type 0} (f : X → Y) (xs : List X) (before : List Y) (y : Y) (more : List Y)
+    → map f xs ≡ before ++ y ∷ more
+    → (front : List X) × (x : X) × (rest : List X) × (xs ≡ front ++ x ∷ rest) × (y ≡ f x)
+split_map f [] [] y more same = absurd cc
+split_map f [] (z ∷ before) y more same = absurd cc
+split_map f (x ∷ xs) [] y more same = ([], x, xs, refl, sym (ap (first_of y) same))
+split_map f (x ∷ xs) (z ∷ before) y more same =
+    let it = split_map f xs before y more (ap rest_of same) in
+    (x ∷ it.0, it.1, it.2, ap (λ l. x ∷ l) it.3, it.4)
+
+found_broken : (Breaks : Entry → Type 0) (p : Entry → Bool) (es : List Entry)
+    → IsSomeAnd (find p es) Breaks → HasBroken Breaks es
+found_broken Breaks p [] h = absurd h
+found_broken Breaks p (e ∷ es) h = elim (cases_Bool (p e)) [
+  | inl t ↦ ([], e, es, refl, rw t at h)
+  | inr f ↦ let it = found_broken Breaks p es (rw f at h) in
+      (e ∷ it.0, it.1, it.2, ap (λ l. e ∷ l) it.3, it.4)
+]
+
+-- of broken pairs the row or the one beside it is broken
+pub pair_broken : (Breaks BreaksOther : Rule → Entry → Type 0) (rule : Rule) (os rs : List Entry)
+    → HasBroken (BreaksPair Breaks BreaksOther rule) (paired os rs)
+    → HasBroken (Breaks rule) rs ⊎ HasBroken (BreaksOther rule) os
+pair_broken Breaks BreaksOther rule os rs h =
+    let it = split_map (pair_with os) rs h.0 h.1 h.2 h.3 in
+    broken it.1 it.0 it.2 it.3 (subst (λ p. BreaksPair Breaks BreaksOther rule p) it.4 h.4)
+  where
+    broken : (e : Entry) (front rest : List Entry) → rs ≡ front ++ e ∷ rest
+        → BreaksPair Breaks BreaksOther rule (pair_with os e)
+        → HasBroken (Breaks rule) rs ⊎ HasBroken (BreaksOther rule) os
+    broken e front rest is (inl own) = inl (front, e, rest, is, own)
+    broken e front rest is (inr other) = inr (found_broken (BreaksOther rule) _ os other)

@@ -1,0 +1,197 @@
+-- What is told of a statement of a bank that shows a log.
+use Rattle.std.proofs.Common.{◌≡◌, ◌<◌, ◌≤◌, ◌+◌, ◌++◌, ℕ, Bool, true, false, cond}
+use Rattle.std.proofs.Common.{List, [], ◌∷◌, length, map, Option, Some, None, Result, Ok, Err, refl, sym, ap}
+use Rattle.std.proofs.Common.{subst, ◌∙◌, inl, inr, arith}
+use Rattle.std.specs.Prelude.{ℤ, pos, ◌+ℤ◌, ◌-◌, ◌^◌, nat_abs, option_map, IfSome, IsSomeAnd}
+use Rattle.std.specs.List.{AllByRecursion}
+use Rattle.std.specs.Io.KnownBytes.{Appends}
+use Rattle.std.proofs.lemmas.Int.{ints}
+use Rattle.std.proofs.lemmas.List.{length-append}
+use Rattle.message_records.proofs.References.{reference_again}
+use Rattle.message_records.specs.Records.{IsReference, reference_from}
+use Rattle.message_records.specs.declared.limits.TheConstants.{MAX_BALANCE, MAX_MOMENT}
+use Rattle.posting_rules.specs.declared.limits.TheConstants.{MAX_DECIDED}
+use Rattle.posting_rules.specs.declared.fault.Rule.{Rule}
+use Rattle.posting_rules.specs.declared.fault.Fault.TheVariants.{Damaged}
+use Rattle.posting_rules.specs.Commands.{Command, AreCommands, is_account_open, opened}
+use Rattle.posting_rules.specs.Entries.{DecidedRequest, decided, account_balance, balance_behind}
+use Rattle.posting_rules.proofs.SoundEntries.{AreSound, are_sound, few_enough}
+use Rattle.walked_rows.specs.Pairs.{Pair}
+use Rattle.walked_rows.specs.Reading.{IsOutside}
+use Rattle.walked_rows.specs.References.{BreaksReference, text_entry}
+use Rattle.walked_rows.specs.declared.stated.StatedPosting.{StatedPosting}
+use Rattle.walked_rows.specs.Stored.{BreaksStated, stated_pair}
+use Rattle.report_lines.specs.Written.{AppendsPart}
+use Rattle.report_lines.proofs.Written.{first_part, same_all, same_part}
+use Rattle.bank_reports.specs.declared.fault.ReportFault.{ReportFault}
+use Rattle.bank_reports.specs.declared.fault.ReportFault.TheVariants.{Bank}
+use Rattle.bank_reports.specs.Behind.{is_posted_to, postings_to, stated_of, statement_behind}
+use Rattle.bank_reports.specs.Postings.{StopsAtBalance, StopsAtRow, WhyDamaged, WritesStatement, delta_of}
+use Rattle.bank_reports.specs.Postings.{sum_of, text_so_far}
+use Rattle.bank_reports.proofs.LogHistory.{each_within}
+use Rattle.bank_reports.proofs.Lined.{AllRunWithin, few_postings, never_beyond, runs_within}
+use Rattle.bank_reports.proofs.OnLogs.{beginning, one_entry, text_begins, text_ends}
+use Rattle.bank_reports.proofs.RisingRows.{all-append}
+
+-- ---- the rows can be read
+
+abbrev IsReadable : StatedPosting → Type 0
+IsReadable s = (1 ≤ s.posting.ordinal) × (s.posting.ordinal ≤ MAX_DECIDED) × (s.posting.moment ≤ MAX_MOMENT)
+    × IfSome s.reference IsReference
+
+readable : (a : ℕ) (es : List DecidedRequest) → AreSound es → AllByRecursion IsReadable (postings_to a es)
+readable a [] sound = tt
+readable a (e ∷ es) sound = last (is_posted_to a e) (few_enough (e ∷ es) sound) (readable a es sound.2)
+  where
+    last : (b : Bool) → length (e ∷ es) ≤ MAX_DECIDED → AllByRecursion IsReadable (postings_to a es)
+        → AllByRecursion IsReadable
+        (cond b (postings_to a es ++ stated_of (length es + 1) e ∷ []) (postings_to a es))
+    last true few earlier =
+        all-append IsReadable (postings_to a es) (stated_of (length es + 1) e ∷ []) earlier
+        ((omega arith, omega (arith, few), sound.0.moment, sound.0.request.reference), tt)
+    last false few earlier = earlier
+
+pub outside_none : (least most n : ℕ) → least ≤ n → n ≤ most → IsOutside least most (pos n)
+    → ⊥
+outside_none least most n low high (inl under) = omega (arith, ints, under)
+outside_none least most n low high (inr over) = omega (arith, ints, over)
+
+not_none : (text : List ℕ) → IsReference text → reference_from text ≡ None → ⊥
+not_none text is none = let it = sym (reference_again text is) ∙ none in cc
+
+is_read : (o : ℕ) (broken : Rule) (reference : Option (List ℕ)) → IfSome reference IsReference
+    → IsSomeAnd (option_map (text_entry o) reference) (BreaksReference broken) → ⊥
+is_read o broken None can broke = broke
+is_read o broken (Some text) can broke = not_none text can broke.1
+
+not_broken : (s : StatedPosting) (broken : Rule) → IsReadable s → BreaksStated broken (stated_pair s) → ⊥
+not_broken s broken can (inl own) = elim own.1 [
+  | inl ordinal ↦ outside_none 1 MAX_DECIDED s.posting.ordinal can.0 can.1 ordinal
+  | inr moment ↦ outside_none 0 MAX_MOMENT s.posting.moment (omega arith) can.2 moment
+]
+not_broken s broken can (inr beside) = is_read s.posting.ordinal broken s.reference can.3 beside
+
+pub all_behind : {X : Type 0} (P : X → Type 0) (xs ys : List X) → AllByRecursion P (xs ++ ys)
+    → AllByRecursion P ys
+all_behind P [] ys all = all
+all_behind P (x ∷ xs) ys all = all_behind P xs ys all.1
+
+first_head : {X : Type 0} (x y : X) (xs ys : List X) → x ∷ xs ≡ y ∷ ys → x ≡ y
+first_head {X} x y xs ys same = ap head same
+  where
+    head : List X → X
+    head [] = x
+    head (z ∷ zs) = z
+
+-- ---- what is told of damage
+
+module _ (a : ℕ) (log : List Command) (are : AreCommands log) (given more : List StatedPosting)
+    (is : postings_to a (decided log) ≡ given ++ more) where
+  no_row : (left : List StatedPosting) → left ≡ more → (rest : List Pair) → rest ≡ map stated_pair left
+      → (broken : Rule) → StopsAtRow rest broken → ⊥
+  no_row [] same rest read broken stops = absurd (let e = sym stops.2 ∙ read in cc)
+  no_row (s ∷ left) same rest read broken stops =
+      let e : stops.0 ≡ stated_pair s =
+      first_head stops.0 (stated_pair s) stops.1 (map stated_pair left) (sym stops.2 ∙ read) in
+      let all = subst (λ ss. AllByRecursion IsReadable ss) is
+      (readable a (decided log) (are_sound log are)) in
+      let behind : AllByRecursion IsReadable (s ∷ left) =
+      subst (λ ss. AllByRecursion IsReadable ss) (sym same) (all_behind IsReadable given more all) in
+      not_broken s broken behind.0 (subst (λ p. BreaksStated broken p) e stops.3)
+
+  not_many : 2 ^ 64 - 1 ≤ length given → ⊥
+  not_many many =
+      let few = few_postings a (decided log) in
+      let fewer = few_enough (decided log) (are_sound log are) in
+      let count = ap (λ l. length l) is ∙ length-append given more in
+      omega (arith, many, few, fewer, count)
+
+  no_balance : (left : List StatedPosting) → left ≡ more → (rest : List Pair) → rest
+      ≡ map stated_pair left → StopsAtBalance given rest → ⊥
+  no_balance [] same rest read broken = absurd (let e = sym broken.2 ∙ read in cc)
+  no_balance (s ∷ left) same rest read broken =
+      let e : broken.0 ≡ s =
+      one_entry broken.0 s
+      (first_head (stated_pair broken.0) (stated_pair s) broken.1 (map stated_pair left)
+      (sym broken.2 ∙ read)) in
+      let all = runs_within a (decided log) (each_within log a) in
+      let zero : sum_of given ≡ pos 0 +ℤ sum_of given = omega (arith, ints) in
+      never_beyond (pos 0) given s left
+      (subst (λ ss. AllRunWithin (pos 0) ss) (is ∙ ap (λ l. given ++ l) (sym same)) all)
+      (subst (λ (z : ℤ). MAX_BALANCE < nat_abs (z +ℤ delta_of s)) zero
+      (subst (λ (x : StatedPosting). MAX_BALANCE < nat_abs (sum_of given +ℤ delta_of x)) e broken.3))
+
+  no_damage : (rest : List Pair) (rule : Rule) → rest ≡ map stated_pair more
+      → WhyDamaged given rest rule → ⊥
+  no_damage rest rule read (inl row) = no_row more refl rest read rule row
+  no_damage rest rule read (inr (inl balance)) = no_balance more refl rest read balance.1
+  no_damage rest rule read (inr (inr many)) = not_many many.1
+
+-- ---- what is told of the whole
+
+-- an open account has its balance
+pub balance_is : (log : List Command) (a : ℕ) (z : ℤ) → Some z ≡ balance_behind log a → z
+    ≡ account_balance (decided log) a
+balance_is log a z is = by_test (is_account_open (λ b. opened log b) a) is
+  where
+    by_test : (b : Bool) → Some z ≡ cond b (Some (account_balance (decided log) a)) None → z
+        ≡ account_balance (decided log) a
+    by_test true same = cc
+    by_test false same = absurd cc
+
+module _ (a : ℕ) (balance : ℤ) (log : List Command) (is : balance ≡ account_balance (decided log) a)
+    (all : List Pair)
+    (rows : all ≡ map stated_pair (postings_to a (decided log))) (old new : Option (List ℕ)) where
+  -- the statement is that of the log
+  pub told_whole : WritesStatement a balance all old new (Ok tt) → Appends old new (statement_behind log a)
+  told_whole w =
+      let b = beginning w.given (postings_to a (decided log)) w.rest (w.are ∙ rows) in
+      same_all old new
+      (ap (λ r. text_so_far a balance w.given r) w.why ∙ ap (λ (z : ℤ). text_so_far a z w.given []) is
+      ∙ text_ends a log w.given b.0 b.1 (sym w.why ∙ b.2)) w.wrote
+
+  -- at a fault a beginning of it was written
+  pub told_part : (fault : ReportFault) → WritesStatement a balance all old new (Err fault)
+      → AppendsPart old new (statement_behind log a)
+  told_part fault w =
+      let b = beginning w.given (postings_to a (decided log)) w.rest (w.are ∙ rows) in
+      let it = text_begins a log w.given b.0 w.rest b.1 b.2 in
+      same_part old new it.1
+      (first_part old new _ it.0
+      (same_part old new (ap (λ (z : ℤ). text_so_far a z w.given w.rest) is) w.wrote))
+
+  -- no damage is told
+  pub told_sound : AreCommands log → (rule : Rule)
+      → WritesStatement a balance all old new (Err (Bank (Damaged rule))) → ⊥
+  told_sound are rule w =
+      let b = beginning w.given (postings_to a (decided log)) w.rest (w.are ∙ rows) in
+      no_damage a log are w.given b.0 b.1 w.rest rule b.2 w.why
+
+-- what is told of an account where the bank shows a log
+pub record ToldOfLog (a : ℕ) (log : List Command) (old new : Option (List ℕ))
+    (answer : Result (Unit {0}) ReportFault) : Type 0 where
+  pub balance : ℤ
+  pub is : Some balance ≡ balance_behind log a
+  pub all : List Pair
+  pub rows : all ≡ map stated_pair (postings_to a (decided log))
+  pub told : WritesStatement a balance all old new answer
+  pub commands : AreCommands log
+
+module _ {a : ℕ} {log : List Command} {old new : Option (List ℕ)} {answer : Result (Unit {0}) ReportFault}
+    (it : ToldOfLog a log old new answer) where
+  as_told : (other : Result (Unit {0}) ReportFault) → answer ≡ other
+      → WritesStatement a it.balance it.all old new other
+  as_told other is = subst (λ r. WritesStatement a it.balance it.all old new r) is it.told
+
+  pub log_whole : answer ≡ Ok tt → Appends old new (statement_behind log a)
+  log_whole is =
+      told_whole a it.balance log (balance_is log a it.balance it.is) it.all it.rows old new (as_told _ is)
+
+  pub log_part : (fault : ReportFault) → answer ≡ Err fault → AppendsPart old new (statement_behind log a)
+  log_part fault is =
+      told_part a it.balance log (balance_is log a it.balance it.is) it.all it.rows old new fault (as_told _ is)
+
+  pub log_sound : (rule : Rule) → answer ≡ Err (Bank (Damaged rule)) → ⊥
+  log_sound rule is =
+      told_sound a it.balance log (balance_is log a it.balance it.is) it.all it.rows old new it.commands rule
+      (as_told _ is)

@@ -1,0 +1,182 @@
+-- One pass after another.
+use Rattle.std.proofs.Common.{rules, ◌≡◌, Err}
+use Rattle.sqlite.specs.State.{HasCleanDisk}
+use Rattle.sqlite.specs.Held.{state}
+use Rattle.walked_rows.specs.Pairs.{paired}
+use Rattle.report_lines.specs.Beside.{no_rows}
+use Rattle.bank_reports.specs.Adding.{with_accounts, with_branches, with_requests, with_tellers}
+use Rattle.bank_reports.specs.Failures.{HasFailedToRead}
+use Rattle.bank_reports.proofs.Broken.{broken_account, broken_asked, broken_branch, broken_posted}
+use Rattle.bank_reports.proofs.Broken.{broken_teller}
+use Rattle.bank_reports.proofs.Passed.{asked_in, clean_mid, has_mid, passed_five, passed_four, passed_then}
+use Rattle.bank_reports.proofs.Passed.{passed_three, posted_in, says_any, says_behind}
+use Rattle.bank_reports.proofs.Read.{read, read_is, read_sums}
+use Rattle.bank_reports.proofs.additions.add_all.Goals as goal
+
+-- ---- the rows so far
+
+pub add_each-requires : goal.add_each-requires
+add_each-requires g c = (no_rows, c.requires)
+
+pub add_each-requires-2 : goal.add_each-requires-2
+add_each-requires-2 g c =
+    let ts = c.in_ok-add_each.ensures.added in
+    (with_tellers no_rows ts.0, ts.1 no_rows c.requires)
+
+pub add_each-requires-3 : goal.add_each-requires-3
+add_each-requires-3 g c =
+    let ts = c.in_ok-add_each.ensures.added in
+    let bs = c.in_ok-add_each-2.ensures.added in
+    let one = with_tellers no_rows ts.0 in
+    (with_branches one bs.0, bs.1 one (ts.1 no_rows c.requires))
+
+pub add_each-requires-4 : goal.add_each-requires-4
+add_each-requires-4 g c =
+    let ts = c.in_ok-add_each.ensures.added in
+    let bs = c.in_ok-add_each-2.ensures.added in
+    let acs = c.in_ok-add_each-3.ensures.added in
+    let one = with_tellers no_rows ts.0 in
+    let two = with_branches one bs.0 in
+    (with_accounts two acs.0, acs.1 two (bs.1 one (ts.1 no_rows c.requires)))
+
+pub add_each-requires-5 : goal.add_each-requires-5
+add_each-requires-5 g c =
+    let ts = c.in_ok-add_each.ensures.added in
+    let bs = c.in_ok-add_each-2.ensures.added in
+    let acs = c.in_ok-add_each-3.ensures.added in
+    let rs = c.in_ok-add_each-4.ensures.added in
+    let one = with_tellers no_rows ts.0 in
+    let two = with_branches one bs.0 in
+    let three = with_accounts two acs.0 in
+    (with_requests three rs.0, rs.1 three (acs.1 two (bs.1 one (ts.1 no_rows c.requires))))
+
+-- ---- a pass that failed
+
+pub returns-in_err-add_each-clause-told : goal.returns-in_err-add_each-clause-told
+returns-in_err-add_each-clause-told g c clean f has =
+    let last = c.in_err-add_each.ensures in
+    let same : c.from_residual.result ≡ Err c.in_err-add_each.field-0.0 = search rules in
+    let late : HasCleanDisk (state g.S.Store c.add_each.new.bank.conn) = search rules in
+    rw same (says_any (HasFailedToRead g.S.Store c.args.bank.now.conn c.add_each.new.bank.conn)
+    c.in_err-add_each.field-0.0 (broken_teller f) (last.told late f.tellers has.tellers))
+
+pub returns-in_err-add_each-2-clause-told : goal.returns-in_err-add_each-2-clause-told
+returns-in_err-add_each-2-clause-told g c clean f has =
+    let last = c.in_err-add_each-2.ensures in
+    let same : c.from_residual-in_err-add_each-2.result ≡ Err c.in_err-add_each-2.field-0.0 =
+    search rules in
+    let late : HasCleanDisk (state g.S.Store c.add_each-2.new.bank.conn) = search rules in
+    let passed = c.in_ok-add_each.ensures.passed in
+    let there = has_mid f passed last.passed late has in
+    rw same (says_behind g.S.Store c.args.bank.now.conn c.add_each.new.bank.conn c.add_each-2.new.bank.conn
+    c.in_err-add_each-2.field-0.0 (broken_branch f) passed
+    (last.told late f.branches there.branches))
+
+pub returns-in_err-add_each-2-clause-passed : goal.returns-in_err-add_each-2-clause-passed
+returns-in_err-add_each-2-clause-passed g c =
+    let same : c.from_residual-in_err-add_each-2.result ≡ Err c.in_err-add_each-2.field-0.0 =
+    search rules in
+    rw same (passed_then c.in_ok-add_each.ensures.passed c.in_err-add_each-2.ensures.passed)
+
+pub returns-in_err-add_each-3-clause-told : goal.returns-in_err-add_each-3-clause-told
+returns-in_err-add_each-3-clause-told g c clean f has =
+    let last = c.in_err-add_each-3.ensures in
+    let same : c.from_residual-in_err-add_each-3.result ≡ Err c.in_err-add_each-3.field-0.0 =
+    search rules in
+    let late : HasCleanDisk (state g.S.Store c.add_each-3.new.bank.conn) = search rules in
+    let passed = passed_then c.in_ok-add_each.ensures.passed c.in_ok-add_each-2.ensures.passed in
+    let there = has_mid f passed last.passed late has in
+    rw same (says_behind g.S.Store c.args.bank.now.conn c.add_each-2.new.bank.conn c.add_each-3.new.bank.conn
+    c.in_err-add_each-3.field-0.0 (broken_account f) passed
+    (last.told late f.accounts there.accounts))
+
+pub returns-in_err-add_each-3-clause-passed : goal.returns-in_err-add_each-3-clause-passed
+returns-in_err-add_each-3-clause-passed g c =
+    let same : c.from_residual-in_err-add_each-3.result ≡ Err c.in_err-add_each-3.field-0.0 =
+    search rules in
+    rw same (passed_three c.in_ok-add_each.ensures.passed c.in_ok-add_each-2.ensures.passed
+    c.in_err-add_each-3.ensures.passed)
+
+pub returns-in_err-add_each-4-clause-told : goal.returns-in_err-add_each-4-clause-told
+returns-in_err-add_each-4-clause-told g c clean f has =
+    let last = c.in_err-add_each-4.ensures in
+    let same : c.from_residual-in_err-add_each-4.result ≡ Err c.in_err-add_each-4.field-0.0 =
+    search rules in
+    let late : HasCleanDisk (state g.S.Store c.add_each-4.new.bank.conn) = search rules in
+    let passed = passed_three c.in_ok-add_each.ensures.passed c.in_ok-add_each-2.ensures.passed
+    c.in_ok-add_each-3.ensures.passed in
+    let there = has_mid f passed last.passed late has in
+    rw same (says_behind g.S.Store c.args.bank.now.conn c.add_each-3.new.bank.conn c.add_each-4.new.bank.conn
+    c.in_err-add_each-4.field-0.0 (broken_asked f) passed
+    (last.told late (paired f.history f.requests) (asked_in _ f there)))
+
+pub returns-in_err-add_each-4-clause-passed : goal.returns-in_err-add_each-4-clause-passed
+returns-in_err-add_each-4-clause-passed g c =
+    let same : c.from_residual-in_err-add_each-4.result ≡ Err c.in_err-add_each-4.field-0.0 =
+    search rules in
+    rw same (passed_four c.in_ok-add_each.ensures.passed c.in_ok-add_each-2.ensures.passed
+    c.in_ok-add_each-3.ensures.passed c.in_err-add_each-4.ensures.passed)
+
+pub returns-in_err-add_each-5-clause-told : goal.returns-in_err-add_each-5-clause-told
+returns-in_err-add_each-5-clause-told g c clean f has =
+    let last = c.in_err-add_each-5.ensures in
+    let same : c.from_residual-in_err-add_each-5.result ≡ Err c.in_err-add_each-5.field-0.0 =
+    search rules in
+    let late : HasCleanDisk (state g.S.Store c.add_each-5.new.bank.conn) = search rules in
+    let passed = passed_four c.in_ok-add_each.ensures.passed c.in_ok-add_each-2.ensures.passed
+    c.in_ok-add_each-3.ensures.passed c.in_ok-add_each-4.ensures.passed in
+    let there = has_mid f passed last.passed late has in
+    rw same (says_behind g.S.Store c.args.bank.now.conn c.add_each-4.new.bank.conn c.add_each-5.new.bank.conn
+    c.in_err-add_each-5.field-0.0 (broken_posted f) passed
+    (last.told late (paired f.requests f.history) (posted_in _ f there)))
+
+pub returns-in_err-add_each-5-clause-passed : goal.returns-in_err-add_each-5-clause-passed
+returns-in_err-add_each-5-clause-passed g c =
+    let same : c.from_residual-in_err-add_each-5.result ≡ Err c.in_err-add_each-5.field-0.0 =
+    search rules in
+    rw same (passed_five c.in_ok-add_each.ensures.passed c.in_ok-add_each-2.ensures.passed
+    c.in_ok-add_each-3.ensures.passed c.in_ok-add_each-4.ensures.passed
+    c.in_err-add_each-5.ensures.passed)
+
+-- ---- all of them
+
+pub returns-clause-passed : goal.returns-clause-passed
+returns-clause-passed g c =
+    passed_five c.in_ok-add_each.ensures.passed c.in_ok-add_each-2.ensures.passed
+    c.in_ok-add_each-3.ensures.passed c.in_ok-add_each-4.ensures.passed
+    c.in_ok-add_each-5.ensures.passed
+
+pub returns-clause-added : goal.returns-clause-added
+returns-clause-added g c clean f has =
+    let p1 = c.in_ok-add_each.ensures.passed in
+    let p2 = passed_then p1 c.in_ok-add_each-2.ensures.passed in
+    let p3 = passed_then p2 c.in_ok-add_each-3.ensures.passed in
+    let p4 = passed_then p3 c.in_ok-add_each-4.ensures.passed in
+    let k5 : HasCleanDisk (state g.S.Store c.add_each-5.new.bank.conn) = search rules in
+    let k4 = clean_mid _ _ _ c.in_ok-add_each-5.ensures.passed k5 in
+    let k3 = clean_mid _ _ _ c.in_ok-add_each-4.ensures.passed k4 in
+    let k2 = clean_mid _ _ _ c.in_ok-add_each-3.ensures.passed k3 in
+    let k1 = clean_mid _ _ _ c.in_ok-add_each-2.ensures.passed k2 in
+    let h1 = has_mid f p1 c.in_ok-add_each-2.ensures.passed k2 has in
+    let h2 = has_mid f p2 c.in_ok-add_each-3.ensures.passed k3 has in
+    let h3 = has_mid f p3 c.in_ok-add_each-4.ensures.passed k4 has in
+    let h4 = has_mid f p4 c.in_ok-add_each-5.ensures.passed k5 has in
+    let a0 = c.in_ok-add_each.ensures.added in
+    let a1 = c.in_ok-add_each-2.ensures.added in
+    let a2 = c.in_ok-add_each-3.ensures.added in
+    let a3 = c.in_ok-add_each-4.ensures.added in
+    let a4 = c.in_ok-add_each-5.ensures.added in
+    let ts = a0.2 k1 f.tellers has.tellers in
+    let bs = a1.2 k2 f.branches h1.branches in
+    let acs = a2.2 k3 f.accounts h2.accounts in
+    let rs = a3.2 k4 (paired f.history f.requests) (asked_in _ f h3) in
+    let hs = a4.2 k5 (paired f.requests f.history) (posted_in _ f h4) in
+    let one = with_tellers no_rows a0.0 in
+    let two = with_branches one a1.0 in
+    let three = with_accounts two a2.0 in
+    let four = with_requests three a3.0 in (
+      read a0.0 a1.0 a2.0 a3.0 a4.0,
+      read_is a0.0 a1.0 a2.0 a3.0 a4.0 f ts bs acs rs hs,
+      read_sums a0.0 a1.0 a2.0 a3.0 a4.0 f ts bs acs rs hs c.add_each-5.new.sums
+          (a4.1 four (a3.1 three (a2.1 two (a1.1 one (a0.1 no_rows c.requires))))),
+    )

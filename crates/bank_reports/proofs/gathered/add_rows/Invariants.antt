@@ -1,0 +1,26 @@
+-- The rows that the walk gave were added.
+use Rattle.std.proofs.Common.{◌≡◌}
+use Rattle.sqlite.specs.State.{HasCleanDisk, Survives}
+use Rattle.sqlite.specs.Held.{state}
+use Rattle.bank_store.specs.Walks.{IsStill}
+use Rattle.bank_store.specs.Walking.{ComesFrom, HasToldFault, items_to_come}
+use Rattle.bank_reports.proofs.AddedRows.{IsAlong, IsGathered}
+use Rattle.bank_reports.proofs.gathered.add_rows.Given as goal
+
+abbrev pub invariant-rows : goal.invariant-rows
+invariant-rows g l =
+    let old = state g.S.Store l.fn.walk.bank.now.conn in
+    let now = state g.S.Store l.walk.bank.now.conn in
+    record {
+      reference : l.walk.bank.ghost_name ≡ l.fn.walk.bank.ghost_name;
+      survives : Survives old now (λ _. ⊥);
+      up : l.walk.bank.now.fault ≡ l.fn.walk.bank.now.fault;
+      fresh : HasToldFault l.walk → ⊥;
+      still : HasCleanDisk now → IsStill old now;
+      gathered : IsGathered g.R.WalkedRow.item g.R.WalkedRow.HasItems g.R.Summed.with_rows old.now
+          (HasCleanDisk now) l.fn.sums l.sums
+          (λ all. items_to_come g.R.WalkedRow.key g.R.WalkedRow.item g.R.WalkedRow.is_given all l.fn.walk)
+          (λ all. items_to_come g.R.WalkedRow.key g.R.WalkedRow.item g.R.WalkedRow.is_given all l.walk)
+          l.counter;
+      along : IsAlong (λ k. ComesFrom (λ r. g.R.WalkedRow.key (g.R.WalkedRow.item r)) k l.walk) l.counter;
+    }

@@ -1,0 +1,138 @@
+-- The heading, the names, the postings and the closing line.
+use Rattle.std.proofs.Common.{rules, ◌≡◌, Err, Some, filter, refl, sym, ◌∙◌}
+use Rattle.posting_rules.specs.declared.fault.Fault.TheVariants.{Down, Memory, Store}
+use Rattle.posting_core.specs.Told.{IsFlush}
+use Rattle.posting_core.proofs.Telling.{more_last, more_more}
+use Rattle.walked_rows.specs.Stored.{is_stated_of}
+use Rattle.report_lines.proofs.Written.{later_failed, same_all, same_part}
+use Rattle.bank_reports.specs.declared.fault.ReportFault.TheVariants.{Write}
+use Rattle.bank_reports.proofs.ReportLeaves.{not_both, not_ok, not_write}
+use Rattle.bank_reports.proofs.Sections.{all_written, closing_err, heading_err, names_err, postings_err}
+use Rattle.bank_reports.proofs.StepsKeep.{still_undone}
+use Rattle.bank_reports.proofs.statement.write_lines.Goals as goal
+
+pub returns-in_err-put : goal.returns-in_err-put
+returns-in_err-put g c =
+    let same : c.from_residual.result ≡ Err Write = search rules in
+    record {
+      told = λ clean rows has.
+          rw same (heading_err c.args.account c.args.balance (filter (is_stated_of (Some c.args.account)) rows) _ _
+          (same_part _ _ (c.as_str.ensures.value ∙ c.statement_heading.ensures) c.in_err-put.ensures.err));
+      flushed = rw same tt;
+      failed = λ write. c.in_err-put.ensures.failed;
+      reads = record {
+        found = not_both _ same;
+        frugal = λ is. not_write _ Memory is same;
+        tried = λ is. absurd (not_write _ Down is same);
+        store = λ is. absurd (not_write _ Store is same);
+        still = λ clean written. (refl, refl, refl, refl);
+        undone = λ clean. still_undone _ _ (refl, refl, refl, refl);
+        up = λ down. down;
+        survives = search rules;
+      };
+    }
+
+pub returns-in_err-put-2 : goal.returns-in_err-put-2
+returns-in_err-put-2 g c =
+    let same : c.from_residual-in_err-put-2.result ≡ Err Write = search rules in
+    record {
+      told = λ clean rows has.
+          rw same (names_err c.args.account c.args.balance (filter (is_stated_of (Some c.args.account)) rows) _ _
+          (same_all _ _ (c.as_str.ensures.value ∙ c.statement_heading.ensures) c.in_ok-put.ensures.ok) _
+          (same_part _ _ (c.as_str-2.ensures.value ∙ c.statement_names.ensures) c.in_err-put-2.ensures.err));
+      flushed = rw same tt;
+      failed = λ write. later_failed c.in_ok-put.ensures.more c.in_err-put-2.ensures.failed;
+      reads = record {
+        found = not_both _ same;
+        frugal = λ is. not_write _ Memory is same;
+        tried = λ is. absurd (not_write _ Down is same);
+        store = λ is. absurd (not_write _ Store is same);
+        still = λ clean written. (refl, refl, refl, refl);
+        undone = λ clean. still_undone _ _ (refl, refl, refl, refl);
+        up = λ down. down;
+        survives = search rules;
+      };
+    }
+
+pub returns-in_err-write_postings : goal.returns-in_err-write_postings
+returns-in_err-write_postings g c =
+    let fault = c.in_err-write_postings.field-0.0 in
+    let same : c.from_residual-in_err-write_postings.result ≡ Err fault = search rules in
+    let says = c.in_err-write_postings.ensures in
+    record {
+      told = λ clean rows has.
+          rw same (postings_err c.args.account c.args.balance (filter (is_stated_of (Some c.args.account)) rows) _ _
+          (same_all _ _ (c.as_str.ensures.value ∙ c.statement_heading.ensures) c.in_ok-put.ensures.ok) _
+          (same_all _ _ (c.as_str-2.ensures.value ∙ c.statement_names.ensures) c.in_ok-put-2.ensures.ok) _
+          fault (says.told clean rows has));
+      flushed = rw same tt;
+      failed = λ write.
+          later_failed (more_more c.in_ok-put.ensures.more c.in_ok-put-2.ensures.more)
+          (says.failed (sym same ∙ write));
+      reads = record {
+        found = λ none. says.reads.found (sym same ∙ none);
+        frugal = λ is. says.reads.frugal (sym same ∙ is);
+        tried = λ is. says.reads.tried (sym same ∙ is);
+        store = λ is. says.reads.store (sym same ∙ is);
+        still = λ clean written. says.reads.still clean (rw same at written);
+        undone = says.reads.undone;
+        up = says.reads.up;
+        survives = says.reads.survives;
+      };
+    }
+
+pub returns-in_err-put_last : goal.returns-in_err-put_last
+returns-in_err-put_last g c =
+    let same : c.from_residual-in_err-put_last.result ≡ Err Write = search rules in
+    let says = c.in_ok-write_postings.ensures in
+    record {
+      told = λ clean rows has.
+          rw same (closing_err c.args.account c.args.balance (filter (is_stated_of (Some c.args.account)) rows) _ _
+          (same_all _ _ (c.as_str.ensures.value ∙ c.statement_heading.ensures) c.in_ok-put.ensures.ok) _
+          (same_all _ _ (c.as_str-2.ensures.value ∙ c.statement_names.ensures) c.in_ok-put-2.ensures.ok) _
+          (says.told clean rows has) _
+          (same_part _ _ (c.as_str-3.ensures.value ∙ c.statement_closing.ensures)
+          c.in_err-put_last.ensures.err));
+      flushed = rw same tt;
+      failed = λ write.
+          later_failed (more_more (more_more c.in_ok-put.ensures.more c.in_ok-put-2.ensures.more) says.more)
+          c.in_err-put_last.ensures.failed;
+      reads = record {
+        found = not_both _ same;
+        frugal = λ is. not_write _ Memory is same;
+        tried = λ is. absurd (not_write _ Down is same);
+        store = λ is. absurd (not_write _ Store is same);
+        still = λ clean written. says.reads.still clean tt;
+        undone = says.reads.undone;
+        up = says.reads.up;
+        survives = says.reads.survives;
+      };
+    }
+
+pub returns : goal.returns
+returns g c =
+    let says = c.in_ok-write_postings.ensures in
+    record {
+      told = λ clean rows has.
+          all_written c.args.account c.args.balance (filter (is_stated_of (Some c.args.account)) rows) _ _
+          (same_all _ _ (c.as_str.ensures.value ∙ c.statement_heading.ensures) c.in_ok-put.ensures.ok) _
+          (same_all _ _ (c.as_str-2.ensures.value ∙ c.statement_names.ensures) c.in_ok-put-2.ensures.ok) _
+          (says.told clean rows has) _
+          (same_all _ _ (c.as_str-3.ensures.value ∙ c.statement_closing.ensures)
+          c.in_ok-put_last.ensures.ok);
+      flushed =
+          more_last IsFlush
+          (more_more (more_more c.in_ok-put.ensures.more c.in_ok-put-2.ensures.more) says.more)
+          c.in_ok-put_last.ensures.flushed;
+      failed = λ is. absurd (not_ok _ _ _ refl is);
+      reads = record {
+        found = not_ok _ _ _ refl;
+        frugal = not_ok _ _ _ refl;
+        tried = λ is. absurd (not_ok _ _ _ refl is);
+        store = λ is. absurd (not_ok _ _ _ refl is);
+        still = λ clean written. says.reads.still clean tt;
+        undone = says.reads.undone;
+        up = says.reads.up;
+        survives = says.reads.survives;
+      };
+    }

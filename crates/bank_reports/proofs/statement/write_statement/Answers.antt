@@ -1,0 +1,242 @@
+-- The statement of an account of a bank that shows a log.
+use Rattle.std.proofs.Common.{rules, ◌≡◌, ◌∙◌, Bool, List, [], filter, Some, Err, false, true, refl}
+use Rattle.std.proofs.Common.{sym, ap, subst, inl, inr, arith}
+use Rattle.std.specs.Prelude.{IsSome}
+use Rattle.sqlite.specs.State.{HasCleanDisk}
+use Rattle.sqlite.specs.Held.{state}
+use Rattle.posting_rules.specs.declared.fault.Fault.TheVariants.{Down}
+use Rattle.posting_rules.specs.Commands.{Command}
+use Rattle.posting_rules.specs.Counter.{ShowsLog}
+use Rattle.store_rows.specs.BankTables.{history as history_table, reference as reference_table}
+use Rattle.walked_rows.specs.Pairs.{HasPairs, Pair}
+use Rattle.walked_rows.specs.Stored.{is_stated_of}
+use Rattle.bank_store.specs.Down.{OfDamage, WasBroken, bank_reason}
+use Rattle.bank_store.specs.Seen.{bank_seen, database_of}
+use Rattle.bank_reports.specs.declared.fault.ReportFault.TheVariants.{Bank}
+use Rattle.bank_reports.specs.Behind.{statement_behind}
+use Rattle.bank_reports.specs.Postings.{StatesRows}
+use Rattle.bank_reports.proofs.FaultsTold.{down_is_sound, unstated}
+use Rattle.bank_reports.proofs.Further.{nothing_written}
+use Rattle.bank_reports.proofs.OnLogs.{account_rows, has_stated, stated_rows}
+use Rattle.bank_reports.proofs.Passed.{failed_later}
+use Rattle.bank_reports.proofs.ReportLeaves.{clean_before, damaged_not_down, down_not_store, idle_takes}
+use Rattle.bank_reports.proofs.ReportLeaves.{not_both, not_missing, not_write, of_err, of_ok, reads_behind}
+use Rattle.bank_reports.proofs.ReportLeaves.{refused_before, refused_down, refused_leaves, refused_sound}
+use Rattle.bank_reports.proofs.ReportLeaves.{same_fault, untouched_stands, written_of}
+use Rattle.bank_reports.proofs.StatementReports.{ToldOfLog, log_part, log_sound, log_whole}
+use Rattle.bank_reports.proofs.statement.write_statement.Given.{Over}
+use Rattle.bank_reports.proofs.statement.write_statement.Goals as goal
+
+tested_up : (tested is_down : Bool) → tested ≡ is_down → tested ≡ false → is_down ≡ true → ⊥
+tested_up tested is_down same up down = cc
+
+-- ---- a bank that was down
+
+pub returns-then-is_down : goal.returns-then-is_down
+returns-then-is_down g c =
+    let seen = bank_seen g.S.Store c.args.bank.now in
+    let was = sym c.is_down.ensures ∙ c.if-is_down.true in
+    record {
+      bank = unstated seen seen c.args.account (g.W.Sink.contents c.args.writer.now) _ Down refl
+          (down_is_sound seen seen) (idle_takes seen _);
+      file = λ clean up. absurd (up was);
+      refused = λ down. record {
+        fault = (Down, refl);
+        cause = λ is. absurd (down_not_store _ Down refl refl is);
+        broken = λ rule is. absurd (damaged_not_down _ rule is refl);
+        kept = λ rule is. absurd (damaged_not_down _ rule is refl);
+      };
+      writer = record {
+        silent = λ none. refl;
+        flushed = tt;
+        failed = λ write. absurd (not_write _ Down refl write);
+      };
+      frugal = search rules;
+      down = record { down = λ down. refl; tried = λ is. was; idle = λ is. (refl, refl) };
+      stands = λ clean up is_open log at. at;
+    }
+
+-- ---- where the balance was refused
+
+refusal : (g : Over) (c : goal.After-from_residual g)
+    → c.from_residual.result ≡ Err (Bank c.in_err-balance.field-0.0)
+refusal g c = search rules
+
+pub returns-in_err-balance : goal.returns-in_err-balance
+returns-in_err-balance g c =
+    let old = bank_seen g.S.Store c.args.bank.now in
+    let new = bank_seen g.S.Store c.balance.new.self in
+    let fault = c.in_err-balance.field-0.0 in
+    let says = c.in_err-balance.ensures in
+    let same = refusal g c in
+    let went_down = refused_down fault old new [] (λ is. says.frugal (ap Err is)) says.call.fault in
+    let was_up = λ (down : old.is_down). tested_up _ _ c.is_down.ensures c.if-is_down.false down in
+    let tried = λ (is : c.from_residual.result ≡ Err (Bank Down)).
+    refused_before fault old new [] says.call.fault (same_fault _ fault Down same is) in
+    record {
+      bank = unstated old new c.args.account (g.W.Sink.contents c.args.writer.now) _ fault same
+          (λ rule is. refused_sound fault old new [] says.call.fault rule is)
+          record {
+            done = λ answered. absurd (rw same at answered);
+            survives = λ clean log at. refused_leaves fault old new says.call.fault clean log at;
+            honest = says.call.honest;
+          };
+      file = λ clean up. absurd (up went_down);
+      refused = λ down. record {
+        fault = (fault, same);
+        cause = λ is.
+            subst (λ f. bank_reason g.S.Store f c.args.bank.now c.balance.new.self)
+            (same_fault _ _ _ same is) says.call.why;
+        broken = λ rule is.
+            subst (λ f. OfDamage f (WasBroken g.S.Store c.args.bank.now c.balance.new.self))
+            (same_fault _ _ _ same is) says.broken;
+        kept = λ rule is. says.call.kept (rw (same_fault _ _ _ same is) tt);
+      };
+      writer = record {
+        silent = λ none. refl;
+        flushed = rw same tt;
+        failed = λ write. absurd (not_write _ fault same write);
+      };
+      frugal = λ is. says.frugal (ap Err (same_fault _ _ _ same is));
+      down = record {
+        down = λ down. absurd (was_up down);
+        tried = tried;
+        idle = λ is. absurd (was_up (tried is));
+      };
+      stands = λ clean up. absurd (up went_down);
+    }
+
+-- ---- where the account isn't open
+
+pub returns-in_default : goal.returns-in_default
+returns-in_default g c =
+    let says = c.in_ok-balance.ensures in
+    record {
+      bank = record {
+        text = tt;
+        found = tt;
+        missing = λ none clean log s. sym (rw c.in_default.is at (says.answer clean log s));
+        silent = λ none. refl;
+        part = λ clean log s. nothing_written _ (statement_behind log c.args.account);
+        sound = λ rule is clean log s. not_missing _ _ is refl;
+        takes = record {
+          done = λ answered. says.call.done;
+          survives = λ clean log at. (says.call.done.stands clean log at).survives;
+          honest = says.call.honest;
+        };
+      };
+      file = λ clean up. record {
+        rows = λ found. absurd (found refl);
+        tables = λ found. absurd (found refl);
+        absent = λ none. rw c.in_default.is at (says.stored clean);
+        store = λ is. absurd (not_missing _ _ is refl);
+        still = λ is_open. says.still clean;
+      };
+      refused = λ down. absurd (says.call.up down);
+      writer = record { silent = λ none. refl; flushed = tt; failed = λ write. absurd (not_both _ write refl) };
+      frugal = λ is. not_missing _ _ is refl;
+      down = record {
+        down = λ down. absurd (tested_up _ _ c.is_down.ensures c.if-is_down.false down);
+        tried = λ is. absurd (not_missing _ _ is refl);
+        idle = λ is. absurd (not_missing _ _ is refl);
+      };
+      stands = λ clean up is_open log at. says.call.done.stands clean log at;
+    }
+
+-- ---- where the lines were begun
+
+-- the disk was clean when the balance was known
+clean_at : (g : Over) (c : goal.After-write_lines g)
+    → HasCleanDisk (state g.S.Store c.write_lines.new.bank.conn)
+    → HasCleanDisk (state g.S.Store c.balance.new.self.conn)
+clean_at g c clean = omega (arith, c.write_lines.ensures.reads.survives.clean, clean)
+
+-- the rows are those that the file held
+rows_at : (g : Over) (c : goal.After-write_lines g)
+    → HasCleanDisk (state g.S.Store c.write_lines.new.bank.conn) → (rows : List Pair)
+    → HasPairs (database_of g.S.Store c.args.bank.now) history_table reference_table rows
+    → HasPairs (database_of g.S.Store c.balance.new.self) history_table reference_table rows
+rows_at g c clean rows has =
+    let same = c.in_ok-balance.ensures.still (clean_at g c clean) in
+    subst (λ db. HasPairs db history_table reference_table rows) (sym same) has
+
+stated : (g : Over) (c : goal.After-write_lines g)
+    → HasCleanDisk (state g.S.Store c.write_lines.new.bank.conn) → (rows : List Pair)
+    → HasPairs (database_of g.S.Store c.args.bank.now) history_table reference_table rows
+    → StatesRows (database_of g.S.Store c.args.bank.now) c.args.account rows
+    (g.W.Sink.contents c.args.writer.now) (g.W.Sink.contents c.write_lines.new.writer) c.write_lines.result
+stated g c clean rows has =
+    let balance = rw c.in-Some.is at (c.in_ok-balance.ensures.stored (clean_at g c clean)) in
+    (c.in-Some.balance, balance, c.write_lines.ensures.told clean rows (rows_at g c clean rows has))
+
+-- what is told of it where the bank shows a log
+told_of : (g : Over) (c : goal.After-write_lines g)
+    → HasCleanDisk (state g.S.Store c.write_lines.new.bank.conn) → (log : List Command)
+    → ShowsLog (bank_seen g.S.Store c.args.bank.now) log
+    → ToldOfLog c.args.account log (g.W.Sink.contents c.args.writer.now)
+    (g.W.Sink.contents c.write_lines.new.writer) c.write_lines.result
+told_of g c clean log s =
+    let mid = clean_at g c clean in
+    let shown = c.in_ok-balance.ensures.call.done.shows mid log s in
+    let t = shown.tables in
+    let same = rw c.in-Some.is at (c.in_ok-balance.ensures.answer mid log s) in
+    record {
+      balance = c.in-Some.balance;
+      is = same;
+      all = filter (is_stated_of (Some c.args.account)) (stated_rows t);
+      rows = account_rows _ t log c.args.account shown.are shown.shows;
+      told = c.write_lines.ensures.told clean (stated_rows t) (has_stated _ t shown.are);
+      commands = shown.commands;
+    }
+
+pub returns : goal.returns
+returns g c =
+    let mid = state g.S.Store c.balance.new.self.conn in
+    let new = state g.S.Store c.write_lines.new.bank.conn in
+    let before = c.in_ok-balance.ensures in
+    let says = c.write_lines.ensures in
+    let down_before = λ (down : (bank_seen g.S.Store c.write_lines.new.bank).is_down).
+    before.call.up (says.reads.up down) in
+    record {
+      bank = record {
+        text = of_ok c.write_lines.result (λ is clean log s. log_whole (told_of g c clean log s) is);
+        found = of_ok c.write_lines.result (λ is clean log s.
+            subst (λ o. IsSome o) (told_of g c clean log s).is refl);
+        missing = λ none. absurd (says.reads.found none);
+        silent = λ none. absurd (says.reads.found none);
+        part = of_err c.write_lines.result
+            (λ fault is clean log s. log_part (told_of g c clean log s) fault is);
+        sound = λ rule is clean log s. log_sound (told_of g c clean log s) rule is;
+        takes = reads_behind (state g.S.Store c.args.bank.now.conn) mid new _ _ _ _ before.call.done before.call.honest
+            (λ answered clean.
+            says.reads.still clean (written_of c.write_lines.result says.reads.found answered))
+            says.reads.survives says.reads.up;
+      };
+      file = λ clean up. record {
+        rows = λ found rows has. stated g c clean rows has;
+        tables = λ found t shown. stated g c clean (stated_rows t) (has_stated _ t shown);
+        absent = λ none. absurd (says.reads.found none);
+        store = λ is rows has.
+            failed_later g.S.Store c.args.bank.now.conn c.balance.new.self.conn c.write_lines.new.bank.conn
+            before.later (says.reads.store is clean rows (rows_at g c clean rows has));
+        still = λ is_open. (says.reads.undone clean is_open).now_is ∙ before.still (clean_at g c clean);
+      };
+      refused = λ down. absurd (down_before down);
+      writer = record {
+        silent = λ none. elim none [
+          | inl missing ↦ absurd (says.reads.found missing)
+          | inr down ↦ absurd (down_before down)
+        ];
+        flushed = says.flushed;
+        failed = says.failed;
+      };
+      frugal = says.reads.frugal;
+      down = record {
+        down = λ down. absurd (tested_up _ _ c.is_down.ensures c.if-is_down.false down);
+        tried = λ is. absurd (before.call.up (says.reads.tried is));
+        idle = λ is. absurd (before.call.up (says.reads.tried is));
+      };
+      stands = λ clean up is_open log at.
+          untouched_stands mid new _ _ (says.reads.undone clean) says.reads.survives says.reads.up clean
+          is_open log (before.call.done.stands (clean_before mid new says.reads.survives clean) log at);
+    }

@@ -1,0 +1,48 @@
+-- The rows that an audit reads of a file.
+use Rattle.std.specs.Prelude.{◌≡◌, ◌⊎◌, ◌++◌, ◌∷◌, List, map}
+use Rattle.sqlite.specs.Effect.{Database}
+use Rattle.sql_meanings.specs.Entries.{Entry}
+use Rattle.store_rows.specs.BankTables.{account as account_table, branch as branch_table}
+use Rattle.store_rows.specs.BankTables.{history as history_table, request as request_table}
+use Rattle.store_rows.specs.BankTables.{teller as teller_table}
+use Rattle.walked_rows.specs.Rows.{HasStoredRows}
+use Rattle.walked_rows.specs.Stored.{account_entry, branch_entry, posting_entry, request_entry, teller_entry}
+use Rattle.walked_rows.specs.Stored.{IsNoAccount, IsNoBranch, IsNoPosting, IsNoRequest, IsNoTeller}
+use Rattle.report_lines.specs.Stored.{StoredTables}
+
+-- the rows of five tables
+pub record FileRows : Type 0 where
+  pub branches : List Entry
+  pub tellers : List Entry
+  pub accounts : List Entry
+  pub history : List Entry
+  pub requests : List Entry
+
+-- a sound database has these rows
+pub record HasFile (db : Database) (f : FileRows) : Type 0 where
+  pub branches : HasStoredRows db branch_table f.branches
+  pub tellers : HasStoredRows db teller_table f.tellers
+  pub accounts : HasStoredRows db account_table f.accounts
+  pub history : HasStoredRows db history_table f.history
+  pub requests : HasStoredRows db request_table f.requests
+
+-- the rows of stored tables
+abbrev pub rows_in : StoredTables → FileRows
+rows_in t = record {
+  branches = map branch_entry t.branches;
+  tellers = map teller_entry t.tellers;
+  accounts = map account_entry t.accounts;
+  history = map posting_entry t.history;
+  requests = map request_entry t.requests;
+}
+
+-- one of these is broken
+abbrev pub HasBroken : {X : Type 0} → (X → Type 0) → List X → Type 0
+HasBroken {X} Breaks xs = (before : List X) × (x : X) × (more : List X) × (xs ≡ before ++ x ∷ more)
+    × Breaks x
+
+-- a key, a count of accounts or a moment is out of its range
+abbrev pub HasBrokenRow : FileRows → Type 0
+HasBrokenRow f =
+    HasBroken IsNoBranch f.branches ⊎ HasBroken IsNoTeller f.tellers ⊎ HasBroken IsNoAccount f.accounts
+    ⊎ HasBroken IsNoPosting f.history ⊎ HasBroken IsNoRequest f.requests

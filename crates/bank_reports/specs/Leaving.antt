@@ -1,0 +1,59 @@
+-- What a report leaves of a bank, whatever it answers.
+use Rattle.std.specs.Prelude.{◌≡◌, ◌≢◌, List, [], Err, IsTrue, Result}
+use Rattle.sqlite.specs.State.{HasCleanDisk, Survives}
+use Rattle.sqlite_trees.specs.declared.store.Store.{Ghosts}
+use Rattle.posting_rules.specs.Commands.{Command}
+use Rattle.posting_rules.specs.Counter.{Seen, LeavesOnly, StandsAt, Takes}
+use Rattle.posting_rules.specs.Tables.{AreTablesOf}
+use Rattle.posting_rules.specs.declared.fault.Fault.TheVariants.{Down, Memory, Store}
+use Rattle.store_rows.specs.BankTables.{history as history_table, reference as reference_table}
+use Rattle.walked_rows.specs.Pairs.{HasPairs, Pair}
+use Rattle.bank_store.specs.Seen.{bank_seen, connection_of, database_of, file_of}
+use Rattle.bank_store.specs.Walks.{IsStill, IsUntouchedIfOpen}
+use Rattle.bank_store.specs.declared.bank.Bank.{Bank}
+use Rattle.bank_reports.specs.declared.fault.ReportFault.{ReportFault}
+use Rattle.bank_reports.specs.declared.fault.ReportFault.TheVariants.{Bank as OfBank, NoAccount}
+use Rattle.bank_reports.specs.Failures.{HasFailedToRead}
+use Rattle.bank_reports.specs.Postings.{HasWritten}
+
+-- it gives the bank no command
+pub record TakesNone (old new : Seen) (answered : Type 0) : Type 0 where
+  -- where the bank answered, it shows what it showed, and stands where it stood
+  pub done : answered → Takes old new []
+  -- whatever it answered, a stop leaves what shows the log
+  pub survives : new.honest → (log : List Command) → StandsAt old log
+      → LeavesOnly new (λ t. AreTablesOf t log)
+  -- a disk that is honest yet was so before
+  pub honest : new.honest → old.honest
+
+-- as long as the store is open, a bank that isn't down stands where it stood
+abbrev pub StandsWhileOpen : {S : Type 0} (g : Ghosts S) → Bank S g → Bank S g → Type 0
+StandsWhileOpen g old new =
+    (bank_seen g new).honest → ((bank_seen g new).is_down → ⊥) → IsTrue (file_of new).is_open
+    → (log : List Command) → StandsAt (bank_seen g old) log → StandsAt (bank_seen g new) log
+
+-- a bank that was down, and no other, is told to be, and nothing is done
+pub record TellsDown (was_down told nothing_done : Type 0) : Type 0 where
+  pub down : was_down → told
+  pub tried : told → was_down
+  pub idle : told → nothing_done
+
+-- rows of history were read, each with its reference, and written
+pub record ReadsRows {S : Type 0} (g : Ghosts S) (old new : Bank S g)
+    (told : Result (Unit {0}) ReportFault) : Type 0 where
+  -- whether the account is open isn't asked, and no memory is taken
+  pub found : told ≢ Err NoAccount
+  pub frugal : told ≢ Err (OfBank Memory)
+  -- Down is told of a bank that was down, and none goes down
+  pub tried : told ≡ Err (OfBank Down) → (bank_seen g old).is_down
+  pub up : (bank_seen g new).is_down → (bank_seen g old).is_down
+  -- the store is said to have failed where a read did
+  pub store : told ≡ Err (OfBank Store) → HasCleanDisk (file_of new) → (rows : List Pair)
+      → HasPairs (database_of g old) history_table reference_table rows
+      → HasFailedToRead g (connection_of old) (connection_of new)
+  -- where all was written, or the writer failed, the connection sees what it saw, and else it does as long as
+  -- the store is open
+  pub still : HasCleanDisk (file_of new) → HasWritten told → IsStill (file_of old) (file_of new)
+  pub undone : HasCleanDisk (file_of new) → IsUntouchedIfOpen (file_of old) (file_of new)
+  -- a stop leaves what it could leave before
+  pub survives : Survives (file_of old) (file_of new) (λ _. ⊥)

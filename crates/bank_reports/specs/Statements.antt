@@ -1,0 +1,92 @@
+-- What a statement says of a bank, and of any file, and what it leaves of its writer.
+use Rattle.std.specs.Prelude.{◌≡◌, ◌≢◌, ◌⊎◌, ℕ, List, map, Option, None, Result, Err}
+use Rattle.std.specs.Prelude.{IsSome, IsTrue, OnErr, OnOk}
+use Rattle.std.specs.Io.KnownBytes.{Appends}
+use Rattle.sqlite_trees.specs.declared.store.Store.{Ghosts}
+use Rattle.posting_rules.specs.Commands.{Command}
+use Rattle.posting_rules.specs.Counter.{Seen, ShowsLog}
+use Rattle.posting_rules.specs.Entries.{balance_behind}
+use Rattle.posting_rules.specs.Tables.{Tables}
+use Rattle.posting_rules.specs.declared.fault.Fault.{Fault}
+use Rattle.posting_rules.specs.declared.fault.Fault.TheVariants.{Damaged, Store}
+use Rattle.posting_rules.specs.declared.fault.Rule.{Rule}
+use Rattle.posting_core.specs.Told.{EndsWith, HasWriteFailed, IsFlush, WriteTold}
+use Rattle.store_rows.specs.BankTables.{history as history_table, reference as reference_table}
+use Rattle.store_rows.specs.View.{history_entry, reference_entry}
+use Rattle.bank_transactions.specs.Stored.{IsStoredBalance}
+use Rattle.walked_rows.specs.Pairs.{HasPairs, Pair, paired}
+use Rattle.report_lines.specs.Written.{AppendsPart}
+use Rattle.bank_store.specs.Down.{KeepsCause, WasBroken}
+use Rattle.bank_store.specs.Seen.{bank_seen, connection_of, database_of, file_of}
+use Rattle.bank_store.specs.declared.bank.Bank.{Bank}
+use Rattle.bank_reports.specs.declared.fault.ReportFault.{ReportFault}
+use Rattle.bank_reports.specs.declared.fault.ReportFault.TheVariants.{Bank as OfBank, NoAccount, Write}
+use Rattle.bank_reports.specs.Behind.{statement_behind}
+use Rattle.bank_reports.specs.Failures.{HasFailedToRead}
+use Rattle.bank_reports.specs.Leaving.{TakesNone}
+use Rattle.bank_reports.specs.Postings.{HasAnswered, StatesRows}
+
+-- an account of a bank was stated; w and w' are the known bytes of the writer before and after
+pub record States (old new : Seen) (account : ℕ) (w w' : Option (List ℕ))
+    (told : Result (Unit {0}) ReportFault) : Type 0 where
+  -- the statement behind the bank's log was written
+  pub text : OnOk told (new.honest → (log : List Command) → ShowsLog old log
+      → Appends w w' (statement_behind log account))
+  -- of an account that is open
+  pub found : OnOk told (new.honest → (log : List Command) → ShowsLog old log
+      → IsSome (balance_behind log account))
+  -- where it isn't that is told, and nothing was written
+  pub missing : told ≡ Err NoAccount → new.honest → (log : List Command) → ShowsLog old log
+      → balance_behind log account ≡ None
+  pub silent : told ≡ Err NoAccount → w' ≡ w
+  -- at a fault a beginning of it was
+  pub part : OnErr told (new.honest → (log : List Command) → ShowsLog old log
+      → AppendsPart w w' (statement_behind log account))
+  -- a bank that shows a log is never told to be damaged
+  pub sound : (rule : Rule) → told ≡ Err (OfBank (Damaged rule)) → new.honest → (log : List Command)
+      → ShowsLog old log → ⊥
+  pub takes : TakesNone old new (HasAnswered told)
+
+-- an account of a file was stated, whatever rows it has
+pub record StatesFile {S : Type 0} (g : Ghosts S) (old new : Bank S g) (account : ℕ) (w w' : Option (List ℕ))
+    (told : Result (Unit {0}) ReportFault) : Type 0 where
+  -- of the rows of history that the file holds, the account's are written by their ordinals, each with the
+  -- reference that is held under its ordinal, all of them or, at a fault, the first, and then the balance
+  -- that its row has
+  pub rows : told ≢ Err NoAccount → (rows : List Pair)
+      → HasPairs (database_of g old) history_table reference_table rows
+      → StatesRows (database_of g old) account rows w w' told
+  -- so are those of a bank's tables, be they of a log or not
+  pub tables : told ≢ Err NoAccount → (t : Tables) → (bank_seen g old).tables t
+      → StatesRows (database_of g old) account
+      (paired (map reference_entry t.references) (map history_entry t.history)) w w' told
+  -- or the account has no row, and none is due by its branch's count
+  pub absent : told ≡ Err NoAccount → IsStoredBalance (database_of g old) account None
+  -- the store is said to have failed where a read of the postings did
+  pub store : told ≡ Err (OfBank Store) → (rows : List Pair)
+      → HasPairs (database_of g old) history_table reference_table rows
+      → HasFailedToRead g (connection_of old) (connection_of new)
+  -- as long as the store is open, the file holds what it held
+  pub still : IsTrue (file_of new).is_open → database_of g new ≡ database_of g old
+
+-- the bank is down behind a statement: it refused the balance, or was down before
+pub record RefusesBalance {S : Type 0} (g : Ghosts S) (old new : Bank S g)
+    (told : Result (Unit {0}) ReportFault) : Type 0 where
+  -- a fault of the bank is told
+  pub fault : (fault : Fault) × (told ≡ Err (OfBank fault))
+  -- the store is said to have failed where the bank went down with its error
+  pub cause : told ≡ Err (OfBank Store) → KeepsCause g old new
+  -- it is told to be damaged where the rows that the file held break that rule, and it holds them yet
+  pub broken : (rule : Rule) → told ≡ Err (OfBank (Damaged rule)) → WasBroken g old new rule
+  pub kept : (rule : Rule) → told ≡ Err (OfBank (Damaged rule)) → (bank_seen g new).honest
+      → database_of g new ≡ database_of g old
+
+-- what is left of the writer, of which it is known what its calls returned
+pub record LeavesWriter {W : Type 0} (calls : W → Option (List WriteTold)) (old new : W) (refused : Type 0)
+    (told : Result (Unit {0}) ReportFault) : Type 0 where
+  -- where the account isn't open, or its balance was refused, nothing was written
+  pub silent : (told ≡ Err NoAccount) ⊎ refused → new ≡ old
+  -- after Ok all is flushed
+  pub flushed : OnOk told (EndsWith IsFlush (calls old) (calls new))
+  -- the last write or flush failed, or it was asked too often
+  pub failed : told ≡ Err Write → HasWriteFailed (calls old) (calls new)

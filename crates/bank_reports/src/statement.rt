@@ -1,0 +1,86 @@
+//! The statement of an account.
+ghost use Rattle.std.specs.Prelude.{◌≡◌, ◌≢◌, List, Err, OnOk, Some, filter};
+ghost use Rattle.sqlite.specs.State.{HasCleanDisk};
+ghost use Rattle.posting_rules.specs.declared.fault.Fault.TheVariants.{Down, Memory};
+ghost use Rattle.posting_core.specs.Told.{EndsWith, HasWriteFailed, IsFlush};
+ghost use Rattle.store_rows.specs.BankTables.{history as history_table, reference as reference_table};
+ghost use Rattle.walked_rows.specs.Pairs.{HasPairs, Pair};
+ghost use Rattle.walked_rows.specs.Stored.{is_stated_of};
+ghost use Rattle.bank_store.specs.Seen.{bank_seen, database_of, file_of};
+ghost use Rattle.bank_reports.specs.declared.fault.ReportFault.TheVariants.{Bank as OfBank, NoAccount, Write};
+ghost use Rattle.bank_reports.specs.Leaving.{ReadsRows, StandsWhileOpen, TellsDown};
+ghost use Rattle.bank_reports.specs.Postings.{WritesStatement};
+ghost use Rattle.bank_reports.specs.Statements.{LeavesWriter, RefusesBalance, States, StatesFile};
+
+use crate::fault::ReportFault;
+use crate::postings::write_postings;
+use bank_store::Bank;
+use message_records::{Account, Cents};
+use posting_core::Sink;
+use posting_rules::{Counter, Fault};
+use report_lines::{put, put_last, statement_closing, statement_heading, statement_names};
+use sqlite::Alter;
+
+// Writes the statement of an account that has this balance.
+fn write_lines<S: Alter, W: Sink>(
+    bank: &mut Bank<S>,
+    account: Account,
+    balance: Cents,
+    writer: &mut W,
+) -> Result<(), ReportFault>
+    ensures told { HasCleanDisk (file_of bank.new) → (rows : List Pair)
+        → HasPairs (database_of S.Store bank.old) history_table reference_table rows
+        → WritesStatement account balance (filter (is_stated_of (Some account)) rows) (W.contents writer.old)
+        (W.contents writer.new) result }
+    ensures reads { ReadsRows S.Store bank.old bank.new result }
+    ensures flushed { OnOk result (EndsWith IsFlush (W.told writer.old) (W.told writer.new)) }
+    ensures failed { result ≡ Err Write → HasWriteFailed (W.told writer.old) (W.told writer.new) }
+{
+    put(writer, statement_heading(account).as_str())?;
+    put(writer, statement_names().as_str())?;
+    write_postings(bank, account, writer)?;
+    put_last(writer, statement_closing(balance).as_str())?;
+    Ok(())
+}
+
+/// Writes the statement of an account: its postings by their ordinals, each with the running balance and the
+/// reference of its request, and its balance at the end; and flushes the writer.
+///
+/// # Errors
+///
+/// At each but the first a beginning of the text was written. Of the bank's faults only those of its
+/// `balance`, which is read first, bring it down; then nothing was written.
+///
+/// | Error | What happened |
+/// |---|---|
+/// | [`ReportFault::NoAccount`] | the account isn't open, and nothing was written |
+/// | [`ReportFault::Write`] | the writer failed, or took no byte |
+/// | [`ReportFault::Bank`] of `Store` | a read failed: the disk did, or memory or steps were refused |
+/// | of `Down` | the bank was down, and nothing was written |
+/// | of `Damaged` | the account's balance or a running one is out of its limits, or a row can't be read |
+pub fn write_statement<S: Alter + Drop, W: Sink>(
+    bank: &mut Bank<S>,
+    account: Account,
+    writer: &mut W,
+) -> Result<(), ReportFault>
+    ensures bank { States (bank_seen S.Store bank.old) (bank_seen S.Store bank.new) account
+        (W.contents writer.old) (W.contents writer.new) result }
+    ensures file { (bank_seen S.Store bank.new).honest → ((bank_seen S.Store bank.new).is_down → ⊥)
+        → StatesFile S.Store bank.old bank.new account (W.contents writer.old) (W.contents writer.new)
+        result }
+    ensures refused { (bank_seen S.Store bank.new).is_down
+        → RefusesBalance S.Store bank.old bank.new result }
+    ensures writer { LeavesWriter W.told writer.old writer.new (bank_seen S.Store bank.new).is_down result }
+    ensures frugal { result ≢ Err (OfBank Memory) }
+    ensures down { TellsDown (bank_seen S.Store bank.old).is_down (result ≡ Err (OfBank Down))
+        ((bank.new ≡ bank.old) × (writer.new ≡ writer.old)) }
+    ensures stands { StandsWhileOpen S.Store bank.old bank.new }
+{
+    if bank.is_down() {
+        return Err(ReportFault::Bank(Fault::Down));
+    }
+    let Some(balance) = bank.balance(account)? else {
+        return Err(ReportFault::NoAccount);
+    };
+    write_lines(bank, account, balance, writer)
+}

@@ -1,0 +1,11 @@
+-- That the audit tells of the consistency condition.
+pub mod Lists
+pub mod EachOrdinal
+pub mod Telling
+pub mod OfTables
+pub mod Joined
+pub mod Written
+pub mod OneMore
+pub mod Printable
+pub mod OfRows
+pub mod Examples

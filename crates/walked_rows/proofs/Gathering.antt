@@ -1,0 +1,169 @@
+-- What is gathered of the rows that were found.
+use Rattle.std.proofs.Common.{◌≡◌, ◌<◌, ◌≤◌, ℕ, zero, suc, ℤ, pos, ◌+ℤ◌, List, [], ◌∷◌, ◌++◌, map, filter}
+use Rattle.std.proofs.Common.{find, take, length, get_or, nat_eq, Bool, true, false, Some, Ok, Err, refl, sym}
+use Rattle.std.proofs.Common.{ap, ◌∙◌, inl, inr, int_cmp, Less, arith, append_assoc, w64, to_z, of_z}
+use Rattle.std.proofs.Common.{FitsSigned}
+use Rattle.std.specs.Ordering.{is_ge}
+use Rattle.std.proofs.lemmas.Bool.{cases_Bool}
+use Rattle.std.proofs.lemmas.Bool.Decides.{nat_tests}
+use Rattle.std.proofs.lemmas.Int.{ints, to_z-of_z}
+use Rattle.sqlite.specs.Order.{Row}
+use Rattle.sql_meanings.specs.Entries.{Entry, HasWidth, Rise, numbers}
+use Rattle.sql_meanings.specs.Seeks.{is_from}
+use Rattle.sql_meanings.proofs.Changes.{found_all, found_passes}
+use Rattle.sql_meanings.proofs.EntryLists.{Above}
+use Rattle.store_rows.proofs.Lookups.{as_integer}
+use Rattle.store_rows.specs.declared.fault.TableFault.{TableFault}
+use Rattle.store_rows.specs.declared.fault.TableFault.TheVariants.{Sqlite, Damaged}
+use Rattle.walked_rows.specs.StepOutcomes.{BreaksFirst, BreaksValue, IsRefusedMemory, ReadsNext, all_numbers, shown}
+use Rattle.walked_rows.specs.Rows.{IsWide, rows_from}
+use Rattle.walked_rows.specs.declared.ahead.TheConstants.{AHEAD}
+
+-- ---- how the rows that are yet to come grow fewer
+
+not_itself : (a : ℤ) → is_ge (int_cmp a (a +ℤ pos 1)) ≡ false
+not_itself a = grind (arith, ints)
+
+beyond : (a b : ℤ) → int_cmp a b ≡ Less → is_ge (int_cmp b (a +ℤ pos 1)) ≡ true
+beyond a b low = grind (arith, ints)
+
+still : (a b k : ℤ) → int_cmp a b ≡ Less → is_ge (int_cmp a k) ≡ true → is_ge (int_cmp b k) ≡ true
+still a b k low from = grind (arith, ints)
+
+below_both : (a b k : ℤ) → is_ge (int_cmp a k) ≡ false → is_ge (int_cmp b k) ≡ true
+    → is_ge (int_cmp a (b +ℤ pos 1)) ≡ false
+below_both a b k low from = grind (arith, ints)
+
+pub all_from : (k : ℤ) (x : Entry) (es : List Entry) → Above x es
+    → ((y : Entry) → int_cmp x.key y.key ≡ Less → is_from k y ≡ true)
+    → filter (is_from k) es ≡ es
+all_from k x [] above each = refl
+all_from k x (y ∷ ys) above each = rw (each y above.0) (ap (λ l. y ∷ l) (all_from k x ys above.1 each))
+
+-- the row that was found is the first of those to come, and behind it come those above it
+pub first_left : (k : ℤ) (es : List Entry) (e : Entry) → Rise es → find (is_from k) es ≡ Some e
+    → rows_from k es ≡ e ∷ rows_from (e.key +ℤ pos 1) es
+first_left k [] e rise some = absurd cc
+first_left k (x ∷ xs) e rise some = elim (cases_Bool (is_from k x)) [
+  | inl here ↦
+      let same : x ≡ e = let it = rw here at some in cc in
+      let left : filter (is_from k) (x ∷ xs) ≡ x ∷ xs =
+      rw here (ap (λ l. x ∷ l) (all_from k x xs rise.0 (λ y low. still x.key y.key k low here))) in
+      let right : filter (is_from (x.key +ℤ pos 1)) (x ∷ xs) ≡ xs =
+      rw (not_itself x.key) (all_from (x.key +ℤ pos 1) x xs rise.0 (λ y low. beyond x.key y.key low)) in
+      left ∙ ap (λ l. x ∷ l) (sym right) ∙ ap (λ y. y ∷ filter (is_from (y.key +ℤ pos 1)) (x ∷ xs)) same
+  | inr away ↦
+      let later : find (is_from k) xs ≡ Some e = rw away at some in
+      let low : is_from (e.key +ℤ pos 1) x ≡ false =
+      below_both x.key e.key k away (found_passes (is_from k) xs e later) in
+      rw (away, low) (first_left k xs e rise.1 later)
+]
+
+fits : (a : ℕ) → a ≤ 1_000_000_000_000 → FitsSigned w64 (pos a +ℤ pos 1)
+fits a low = omega (arith, ints)
+
+-- the number behind a key
+pub behind_key : (n : ℕ) (key : ℤ) → key ≡ pos n → n ≤ 1_000_000_000_000
+    → to_z w64 (of_z w64 (to_z w64 n +ℤ pos 1)) ≡ key +ℤ pos 1
+behind_key n key same low =
+    ap (λ z. to_z w64 (of_z w64 (z +ℤ pos 1))) (as_integer n n refl low)
+    ∙ to_z-of_z w64 (pos n +ℤ pos 1) (fits n low)
+    ∙ ap (λ z. z +ℤ pos 1) (sym same)
+
+-- a list of no length
+pub none_there : {X : Type 0} (xs : List X) → nat_eq (length xs) 0 ≡ true → xs ≡ []
+none_there [] h = refl
+none_there (x ∷ xs) h = absurd (grind (arith, nat_tests))
+
+-- something is, where they aren't empty or they are full
+pub some_there : {X : Type 0} (xs : List X) → nat_eq (length xs) 0 ≡ false → xs ≡ [] → ⊥
+some_there xs some none = let h = rw none at some in cc
+
+pub full_there : {X : Type 0} (n : ℕ) (xs : List X) → 0 < n → nat_eq (length xs) n ≡ true → xs ≡ [] → ⊥
+full_there n xs room full none = let h = rw none at full in grind (arith, nat_tests)
+
+-- no rows are shown of those that are to come where there are none
+pub no_more : (es : List Entry) (found : List Row) → length found ≤ 0 → found ≡ shown (take AHEAD es)
+    → es ≡ []
+no_more [] found low is = refl
+no_more (e ∷ es) found low is = absurd (omega (arith, ap length is))
+
+-- ---- a row of those that were found
+
+pub found_of : (p : Entry → Bool) (es : List Entry) (e : Entry) (more : List Entry) → filter p es ≡ e ∷ more
+    → find p es ≡ Some e
+found_of p [] e more is = absurd (cc)
+found_of p (x ∷ xs) e more is = elim (cases_Bool (p x)) [
+  | inl here ↦ rw here (ap Some (let it = rw here at is in cc))
+  | inr away ↦ rw away (found_of p xs e more (rw away at is))
+]
+
+first_of : (most : ℕ) (before behind : List Entry) (d : Row)
+    → length before < length (shown (take most (before ++ behind)))
+    → (e : Entry) × (more : List Entry) × (behind ≡ e ∷ more)
+    × (get_or (shown (take most (before ++ behind))) (length before) d ≡ numbers (all_numbers e))
+first_of zero before behind d low = absurd (omega arith)
+first_of (suc n) [] [] d low = absurd (omega arith)
+first_of (suc n) [] (e ∷ more) d low = (e, more, refl, refl)
+first_of (suc n) (x ∷ before) behind d low = first_of n before behind d (omega arith)
+
+module _ {R : Type 0} (entry : R → Entry) (Breaks : Entry → Type 0) (width : ℕ × ℕ) (most : ℕ)
+    (found : List Row) (from : ℤ) (rows : List Entry)
+    (rise : Rise rows) (wide : IsWide width rows) (is : found ≡ shown (take most (rows_from from rows))) where
+  -- so many were gathered, and from a number on the others follow
+  abbrev pub Gathered : List R → ℤ → Type 0
+  Gathered done next = rows_from from rows ≡ map entry done ++ rows_from next rows
+
+  as_many : (xs : List R) → length (map entry xs) ≡ length xs
+  as_many [] = refl
+  as_many (x ∷ xs) = ap suc (as_many xs)
+
+  module _ (done : List R) (next : ℤ) (row : Row) (low : length done < length found)
+      (at : row ≡ get_or found (length done) row)
+      (so_far : Gathered done next) where
+    -- the next row that was found is the next one
+    next_is : (e : Entry) × (find (is_from next) rows ≡ Some e) × (row ≡ numbers (all_numbers e))
+        × HasWidth width e
+    next_is =
+        let all : found ≡ shown (take most (map entry done ++ rows_from next rows)) =
+        is ∙ ap (λ l. shown (take most l)) so_far in
+        let count : length (map entry done) ≡ length done = as_many done in
+        let it =
+        first_of most (map entry done) (rows_from next rows) row (omega (arith, ap length all, count)) in
+        let some = found_of (is_from next) rows it.0 it.1 it.2 in (
+          it.0,
+          some,
+          at ∙ ap (λ l. get_or l (length done) row) all
+              ∙ ap (λ n. get_or (shown (take most (map entry done ++ rows_from next rows))) n row) (sym count)
+              ∙ it.3,
+          found_all (λ x. HasWidth width x) (is_from next) rows it.0 wide some,
+        )
+
+    -- it was read
+    pub gathers_on : (r : R) → ReadsNext width entry Breaks next row (Ok r)
+        → Gathered (done ++ r ∷ []) ((entry r).key +ℤ pos 1)
+    gathers_on r read =
+        let it = next_is in
+        let same : entry r ≡ it.0 = read.0 it.0 it.2 it.3 in
+        so_far ∙ ap (λ l. map entry done ++ l) (first_left next rows it.0 rise it.1)
+        ∙ ap (λ x. map entry done ++ (x ∷ rows_from (x.key +ℤ pos 1) rows)) (sym same)
+        ∙ sym (append_assoc (map entry done) (entry r ∷ []) (rows_from ((entry r).key +ℤ pos 1) rows))
+        ∙ ap (λ l. l ++ rows_from ((entry r).key +ℤ pos 1) rows) (sym (map_behind done r))
+      where
+        map_behind : (xs : List R) (x : R) → map entry (xs ++ x ∷ []) ≡ map entry xs ++ entry x ∷ []
+        map_behind [] x = refl
+        map_behind (y ∷ ys) x = ap (λ l. entry y ∷ l) (map_behind ys x)
+
+    -- a number of it is out of its range, and none was gathered before it
+    pub gathers_none : (fault : TableFault) → done ≡ []
+        → ReadsNext {R = R} width entry Breaks next row (Err fault)
+        → BreaksFirst IsRefusedMemory (BreaksValue Breaks) (rows_from from rows) fault
+    gathers_none (Sqlite e) none read = let it = next_is in read it.0 it.2 it.3
+    gathers_none (Damaged broken) none read =
+        let it = next_is in
+        let broke = read it.0 it.2 it.3 (found_passes (is_from next) rows it.0 it.1) in (
+          it.0,
+          rows_from (it.0.key +ℤ pos 1) rows,
+          so_far ∙ ap (λ l. map entry l ++ rows_from next rows) none ∙ first_left next rows it.0 rise it.1,
+          broke,
+        )

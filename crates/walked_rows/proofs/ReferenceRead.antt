@@ -1,0 +1,148 @@
+-- What the look-up of a reference tells.
+use Rattle.std.proofs.Common.{◌≡◌, ℕ, ℤ, pos, List, [], ◌∷◌, map, find, length, Some, None, Option, Ok, Err}
+use Rattle.std.proofs.Common.{Result, codes, lit≤, refl, sym, ap, subst, ◌∙◌, arith}
+use Rattle.std.specs.Prelude.{IsSomeAnd, MatchResult, option_map}
+use Rattle.sqlite.specs.Order.{Row, column}
+use Rattle.sqlite.specs.Program.{overlay}
+use Rattle.sqlite.specs.Schema.{Schema}
+use Rattle.sqlite.specs.Listing.{understood}
+use Rattle.sqlite.specs.State.{State, FailsToQuery, Shown}
+use Rattle.sqlite.specs.Term.{Term, col, eval_all}
+use Rattle.sqlite.specs.declared.error.Error.{Error}
+use Rattle.sqlite.specs.declared.types.Value.TheVariants.{Null, Int, Text}
+use Rattle.sqlite_tied.specs.Compute.{everything}
+use Rattle.sqlite_resolve.specs.Program as program
+use Rattle.sqlite_resolve.specs.Select.{ungrouped}
+use Rattle.sql_meanings.specs.Entries.{Entry, HasWidth, has_key, listed, stored}
+use Rattle.sql_meanings.specs.StatementAnswers.{IsStoreError, OnlyShows, TellsRows}
+use Rattle.sql_meanings.specs.Queries.{by_key}
+use Rattle.sql_meanings.proofs.Changes.{found_all, found_key}
+use Rattle.sql_meanings.proofs.Keyed.{Gets, first_key, gets_by}
+use Rattle.sql_meanings.proofs.KeyedAnswers.{keyed_answer}
+use Rattle.sql_meanings.proofs.ReadSeeks.{QueriesAll, reads_all}
+use Rattle.sql_meanings.proofs.ReadTables.{under_overlay}
+use Rattle.sql_meanings.proofs.Texts.{only_reads, select_of}
+use Rattle.sql_meanings.specs.Tables.{tree_of}
+use Rattle.store_rows.specs.BankTables as bank
+use Rattle.store_rows.specs.declared.fault.TableFault.{TableFault}
+use Rattle.store_rows.specs.declared.fault.TableFault.TheVariants.{Sqlite, Damaged}
+use Rattle.walked_rows.specs.Pairs.{BreaksUnder, row_under}
+use Rattle.walked_rows.specs.References.{BreaksReference, ReadsFirst, text_behind, text_entry}
+use Rattle.walked_rows.specs.Rows.{HasStoredRows}
+use Rattle.walked_rows.specs.declared.texts.TheConstants.{REFERENCE_UNDER}
+use Rattle.walked_rows.proofs.Sought.{store_error}
+
+-- ---- the statement
+
+abbrev project : List Term
+project = col 1 2 ∷ []
+
+gets : Gets bank.reference REFERENCE_UNDER.now (1 ∷ []) project
+unfolding everything program.program ungrouped
+gets = gets_by (select_of bank.reference REFERENCE_UNDER.now 1 _ _ _ _ _ _ _ _ _ refl refl refl (lit≤ tt) refl
+    refl refl refl (λ _. refl) (lit≤ tt))
+    _ _ _ _ _ (λ _. first_key (codes "ordinal") refl refl refl refl) refl refl refl refl refl refl
+    (λ _ _ _ has. rw (has.low, has.found)) (λ _ _ _ _ has. rw (has.low, has.found))
+
+-- under any schema it only shows rows
+pub only_references : (schema : Schema)
+    → OnlyShows REFERENCE_UNDER.now 1 (understood schema REFERENCE_UNDER.now)
+only_references = only_reads gets.is
+
+-- ---- a row
+
+-- what it shows of a row
+abbrev shown_of : ℤ → Entry → Row
+shown_of k e = eval_all project ((Int k ∷ []) ∷ stored e ∷ [])
+
+shows_text : (k : ℤ) (e : Entry) → HasWidth (0, 1) e → shown_of k e ≡ Text (text_behind e) ∷ []
+shows_text k e wide = go e.key e.values e.texts wide.0 wide.1
+  where
+    go : (key : ℤ) (vs : List ℤ) (ts : List (List ℕ)) → length vs ≡ 0 → length ts ≡ 1
+        → shown_of k (record { key = key; values = vs; texts = ts })
+        ≡ Text (text_behind (record { key = key; values = vs; texts = ts })) ∷ []
+    go key (v ∷ vs) ts none one = absurd (omega arith)
+    go key [] [] none one = absurd (omega arith)
+    go key [] (t ∷ []) none one = refl
+    go key [] (t ∷ u ∷ ts) none one = absurd (omega arith)
+
+is_text : (n : ℕ) (e : Entry) → HasWidth (0, 1) e → e.key ≡ pos n → text_entry n (text_behind e) ≡ e
+is_text n e wide at = go e.key e.values e.texts wide.0 wide.1 at
+  where
+    go : (key : ℤ) (vs : List ℤ) (ts : List (List ℕ)) → length vs ≡ 0 → length ts ≡ 1 → key ≡ pos n
+        → text_entry n (text_behind (record { key = key; values = vs; texts = ts }))
+        ≡ record { key = key; values = vs; texts = ts }
+    go key (v ∷ vs) ts none one is = absurd (omega arith)
+    go key [] [] none one is = absurd (omega arith)
+    go key [] (t ∷ []) none one is = ap (λ z. record { key = z; values = []; texts = t ∷ [] }) (sym is)
+    go key [] (t ∷ u ∷ ts) none one is = absurd (omega arith)
+
+-- ---- what is read of it
+
+module _ (Because : Error → Type 0) (n : ℕ) where
+  -- so it is told, where the row is this one, or none
+  abbrev Tells : Option Entry → Result (Option (List ℕ)) TableFault → Type 0
+  Tells under (Ok found) = option_map (text_entry n) found ≡ under
+  Tells under (Err (Sqlite e)) = Because e
+  Tells under (Err (Damaged broken)) = IsSomeAnd under (BreaksReference broken)
+
+  reads_row : (e : Entry) → HasWidth (0, 1) e → e.key ≡ pos n → (row : Row)
+      → column row 0 ≡ Text (text_behind e) → (r : Result (Option (List ℕ)) TableFault)
+      → ReadsFirst (row ∷ []) r → Tells (Some e) r
+  reads_row e wide at row shows (Ok (Some text)) read =
+      ap Some (ap (text_entry n) (read (text_behind e) shows) ∙ is_text n e wide at)
+  reads_row e wide at row shows (Ok None) read = absurd read
+  reads_row e wide at row shows (Err (Sqlite x)) read = absurd read
+  reads_row e wide at row shows (Err (Damaged broken)) read = read (text_behind e) shows
+
+  reads_none : (r : Result (Option (List ℕ)) TableFault) → r ≡ Ok None → Tells None r
+  reads_none r is = rw is refl
+
+  reads_of : (under : Option Entry) → ((e : Entry) → under ≡ Some e → HasWidth (0, 1) e × (e.key ≡ pos n))
+      → (found : List Row) → found ≡ map (shown_of (pos n)) (listed under)
+      → (r : Result (Option (List ℕ)) TableFault) → ReadsFirst found r → Tells under r
+  reads_of None is found are r read = reads_none r (subst (λ l. ReadsFirst l r) are read)
+  reads_of (Some e) is found are r read =
+      let both = is e refl in
+      reads_row e both.0 both.1 (shown_of (pos n) e) (ap (λ row. column row 0) (shows_text (pos n) e both.0)) r
+      (subst (λ l. ReadsFirst l r) are read)
+
+  in_words : (all : List Entry) (r : Result (Option (List ℕ)) TableFault) → Tells (row_under all (pos n)) r
+      → MatchResult r (λ found. option_map (text_entry n) found ≡ row_under all (pos n))
+      (BreaksUnder Because BreaksReference (pos n) all)
+  in_words all (Ok found) h = h
+  in_words all (Err (Sqlite e)) h = h
+  in_words all (Err (Damaged broken)) h = h
+
+-- ---- what is reported
+
+module _ (old new : State) (all : List Entry) (has : HasStoredRows old.now bank.reference all) (n : ℕ) where
+  abbrev Asked : Result (List Row) Error → Type 0
+  Asked = QueriesAll REFERENCE_UNDER.now (Int (pos n) ∷ []) old new
+
+  told : (r : Result (List Row) Error) → Asked r
+      → TellsRows old new (map (shown_of (pos n)) (listed (row_under all (pos n)))) r
+  told = reads_all old new bank.reference refl has.sound REFERENCE_UNDER.now (Int (pos n) ∷ [])
+      (λ tree. by_key tree project) (gets.reads (pos n)) has.holds.defined _
+      (λ low rows sure. keyed_answer Null (tree_of old.now.schema bank.reference.name) project
+      (overlay old.now.trees []) (pos n) [] rows all (under_overlay old.now.trees _ low has.holds.rows)
+      (sure Null))
+
+  -- the reference under the ordinal, of what was found
+  pub tells_reference : (found : List Row) → Shown REFERENCE_UNDER.now (Int (pos n) ∷ []) old new found
+      → (r : Result (Option (List ℕ)) TableFault) → ReadsFirst found r
+      → MatchResult r (λ found. option_map (text_entry n) found ≡ row_under all (pos n))
+      (BreaksUnder (IsStoreError old new) BreaksReference (pos n) all)
+  tells_reference found shown r read =
+      in_words (IsStoreError old new) n all r
+      (reads_of (IsStoreError old new) n (row_under all (pos n))
+      (λ e is. (
+        found_all (λ x. HasWidth (0, 1) x) (has_key (pos n)) all e has.holds.rows.wide is,
+        found_key (pos n) all e is,
+      ))
+      found (told (Ok found) shown).0 r read)
+
+  -- or why it wasn't found
+  pub tells_failure : (e : Error) → FailsToQuery REFERENCE_UNDER.now (Int (pos n) ∷ []) old new e
+      → IsStoreError old new e
+  tells_failure e fails = store_error old new e (told (Err e) fails)

@@ -1,0 +1,131 @@
+-- The first of the rows that were found beside others.
+use Rattle.std.proofs.Common.{◌≡◌, ◌<ℤ◌, ◌≤ℤ◌, ◌+ℤ◌, ◌<◌, ℕ, suc, ℤ, pos, List, [], ◌∷◌, map, find, drop}
+use Rattle.std.proofs.Common.{length, get_or, Err, true, false, Some, None, Option, int_cmp, refl, sym, ap}
+use Rattle.std.proofs.Common.{subst, ◌∙◌, inl, inr, arith}
+use Rattle.std.specs.Prelude.{IfSome}
+use Rattle.std.specs.Ordering.{int_eq, is_ge}
+use Rattle.std.proofs.Math.Seq.{drop-cons}
+use Rattle.std.proofs.lemmas.Bool.{cases_Bool}
+use Rattle.std.proofs.lemmas.Int.{ints}
+use Rattle.sqlite.specs.State.{State, IsUnchanged}
+use Rattle.sqlite.specs.declared.error.Error.{Error}
+use Rattle.posting_rules.specs.declared.fault.Rule.{Rule}
+use Rattle.sql_meanings.specs.Entries.{Entry, Rise, has_key}
+use Rattle.sql_meanings.specs.StatementAnswers.{IsStoreError}
+use Rattle.sql_meanings.specs.Seeks.{is_from}
+use Rattle.store_rows.specs.declared.fault.TableFault.{TableFault}
+use Rattle.store_rows.specs.declared.fault.TableFault.TheVariants.{Sqlite, Damaged}
+use Rattle.walked_rows.specs.StepOutcomes.{BreaksFirst, IsRefusedMemory}
+use Rattle.walked_rows.specs.Pairs.{BreaksUnder, TellsKey, row_under}
+use Rattle.walked_rows.specs.Rising.{RisesFrom}
+use Rattle.walked_rows.specs.Rows.{rows_from}
+use Rattle.walked_rows.proofs.Gathering.{first_left, found_of}
+
+-- ---- keys
+
+below_other : (a k : ℤ) → is_ge (int_cmp a k) ≡ false → int_eq a k ≡ false
+below_other a k low = grind (arith, ints)
+
+equal_key : (a k : ℤ) → is_ge (int_cmp a k) ≡ true → a ≤ℤ k → int_eq a k ≡ true
+equal_key a k from low = grind (arith, ints)
+
+itself : (a : ℤ) → is_ge (int_cmp a a) ≡ true
+itself a = grind (arith, ints)
+
+below_too : (a k b : ℤ) → is_ge (int_cmp a k) ≡ false → is_ge (int_cmp b k) ≡ true
+    → is_ge (int_cmp a b) ≡ false
+below_too a k b low from = grind (arith, ints)
+
+-- ---- the first of the rows from a number on
+
+-- is found from its own key on too
+found_again : (k : ℤ) (es : List Entry) (e : Entry) → find (is_from k) es ≡ Some e → is_from k e ≡ true
+    → find (is_from e.key) es ≡ Some e
+found_again k [] e some from = absurd (cc)
+found_again k (x ∷ xs) e some from = elim (cases_Bool (is_from k x)) [
+  | inl here ↦ let same : x ≡ e = let it = rw here at some in cc in
+      let at : is_from e.key x ≡ true = subst (λ (y : Entry). is_from e.key y ≡ true) (sym same)
+      (itself e.key) in
+      rw at (ap Some same)
+  | inr away ↦ rw (below_too x.key k e.key away from) (found_again k xs e (rw away at some) from)
+]
+
+passes : (k : ℤ) (es : List Entry) (e : Entry) → find (is_from k) es ≡ Some e → is_from k e ≡ true
+passes k [] e some = absurd (cc)
+passes k (x ∷ xs) e some = elim (cases_Bool (is_from k x)) [
+  | inl here ↦ let same : x ≡ e = let it = rw here at some in cc in subst (λ y. is_from k y ≡ true) same here
+  | inr away ↦ passes k xs e (rw away at some)
+]
+
+-- those from its key on are the same
+pub from_its_key : (k : ℤ) (es : List Entry) (e : Entry) (more : List Entry) → Rise es
+    → rows_from k es ≡ e ∷ more → rows_from k es ≡ rows_from e.key es
+from_its_key k es e more rise is =
+    let some = found_of (is_from k) es e more is in
+    first_left k es e rise some
+    ∙ sym (first_left e.key es e rise (found_again k es e some (passes k es e some)))
+
+-- it is under the number, unless it is above it
+pub first_under : (k : ℤ) (es : List Entry) (e : Entry) (more : List Entry) → rows_from k es ≡ e ∷ more
+    → e.key ≤ℤ k → row_under es k ≡ Some e
+first_under k [] e more is low = absurd (cc)
+first_under k (x ∷ xs) e more is low = elim (cases_Bool (is_from k x)) [
+  | inl here ↦ let same : x ≡ e = let it = rw here at is in cc in
+      let at : has_key k x ≡ true =
+      equal_key x.key k here (subst (λ (y : Entry). y.key ≤ℤ k) (sym same) low) in
+      rw at (ap Some same)
+  | inr away ↦ rw (below_other x.key k away) (first_under k xs e more (rw away at is) low)
+]
+
+-- ---- faults
+
+-- the fault of the first that can't be read
+pub broken_first : {X : Type 0} (Because : Error → Type 0) (Breaks : Rule → X → Type 0) (items : List X)
+    (fault : TableFault) (broken : Rule)
+    → fault ≡ Damaged broken → BreaksFirst Because Breaks items fault
+    → BreaksFirst Because Breaks items (Damaged broken)
+broken_first Because Breaks items fault broken is h = subst (BreaksFirst Because Breaks items) is h
+
+-- its key can't be read
+pub key_fails : (Breaks : Rule → Entry → Type 0) (k : ℤ) (es : List Entry) (e : Entry) (fault : TableFault)
+    → TellsKey e (Err fault)
+    → BreaksUnder IsRefusedMemory Breaks k es fault
+key_fails Breaks k es e (Sqlite x) tells = tells
+key_fails Breaks k es e (Damaged broken) tells = absurd tells
+
+-- memory was refused, and nothing has changed
+pub refused_under : (old new : State) (Breaks : Rule → Entry → Type 0) (k : ℤ) (es : List Entry)
+    → IsUnchanged old new → (fault : TableFault)
+    → BreaksUnder IsRefusedMemory Breaks k es fault → BreaksUnder (IsStoreError old new) Breaks k es fault
+refused_under old new Breaks k es same (Sqlite e) refused = inr (inl refused, same)
+refused_under old new Breaks k es same (Damaged broken) broke = broke
+
+-- ---- keys that rise
+
+module _ {R : Type 0} (key : R → ℤ) where
+  last_above : (from : ℤ) (rs : List R) (k : ℤ) → RisesFrom from (map key rs) (Some k) → from ≤ℤ k
+  last_above from [] k rises = rises
+  last_above from (r ∷ rs) k rises =
+      let first : from ≤ℤ key r = rises.0 in let more = last_above (key r +ℤ pos 1) rs k rises.1 in omega
+      (arith, ints)
+
+  -- the others follow above the number
+  pub beyond : (from : ℤ) (rs : List R) (rest : Option ℤ) → RisesFrom from (map key rs) rest
+      → (rs ≡ [] → rest ≡ None)
+      → IfSome rest (λ k. from <ℤ k)
+  beyond from rs None rises ended = tt
+  beyond from [] (Some k) rises ended = let none = ended refl in absurd (cc)
+  beyond from (r ∷ rs) (Some k) rises ended =
+      let first : from ≤ℤ key r = rises.0 in let more = last_above (key r +ℤ pos 1) rs k rises.1 in omega
+      (arith, ints)
+
+-- ---- row by row
+
+module _ {R : Type 0} (entry : R → Entry) (rows : List R) (i : ℕ) (r : R) (k : ℤ) (low : i < length rows)
+    (at : r ≡ get_or rows i r) where
+  drops : drop i rows ≡ r ∷ drop (suc i) rows
+  drops = drop-cons rows i r low ∙ ap (λ x. x ∷ drop (suc i) rows) (sym at)
+
+  -- it is under the key
+  pub found_at : has_key k (entry r) ≡ true → row_under (map entry (drop i rows)) k ≡ Some (entry r)
+  found_at is = ap (λ l. row_under (map entry l) k) drops ∙ rw is refl

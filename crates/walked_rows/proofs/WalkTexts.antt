@@ -1,0 +1,189 @@
+-- What the statement of each walk means of its table.
+use Rattle.std.proofs.Common.{◌≡◌, ℕ, ℤ, pos, List, [], ◌∷◌, None, Some, Ok, codes, lit≤, refl}
+use Rattle.std.proofs.Common.{true, false, slice_get}
+use Rattle.sqlite.specs.Order.{Row}
+use Rattle.sqlite.specs.Schema.{Schema}
+use Rattle.sqlite.specs.Table.{Table}
+use Rattle.sqlite.specs.Term.{Term, col, eval_all, lit}
+use Rattle.sqlite.specs.declared.types.Value.TheVariants.{Int}
+use Rattle.sqlite_ast.specs.declared.Binary.TheVariants as binary
+use Rattle.sqlite_ast.specs.declared.Expr.TheOpen.{Expr-F}
+use Rattle.sqlite_ast.specs.declared.Expr.{Expr, out-Expr}
+use Rattle.sqlite_ast.specs.declared.Sort.{Sort, out-Sort}
+use Rattle.sqlite_draft.specs.declared.join.Step.TheVariants.{Inner}
+use Rattle.sqlite_value.specs.declared.keys.Collation.TheVariants.{Binary}
+use Rattle.sqlite_schema.specs.Names.{column_named, place_of}
+use Rattle.sqlite_tied.specs.Compute.{everything}
+use Rattle.sqlite_resolve.specs.Literal.{integer}
+use Rattle.sqlite_resolve.specs.Lowering.{alone, chosen, nothing}
+use Rattle.sqlite_resolve.specs.Program as program
+use Rattle.sqlite_resolve.specs.Scope.{Name, alias_of, declared}
+use Rattle.sqlite_resolve.specs.Select.{ungrouped}
+use Rattle.sqlite_resolve.specs.Terms.{number}
+use Rattle.sqlite_typing.specs.Types.{accepts_program}
+use Rattle.sql_meanings.specs.Entries.{Entry, HasWidth, numbers, stored}
+use Rattle.sql_meanings.specs.Plain.{key_column, number_column}
+use Rattle.sql_meanings.specs.Queries.{ascending}
+use Rattle.sql_meanings.specs.Seeks.{key_from, next_from, next_of_from}
+use Rattle.sql_meanings.specs.Tables.{placed_at, width_of}
+use Rattle.sql_meanings.proofs.ByKey.{Tests, number_at}
+use Rattle.sql_meanings.proofs.ReadTables.{ReadsAs}
+use Rattle.sql_meanings.proofs.ShownColumns.{outputs_at}
+use Rattle.sql_meanings.proofs.SeekTexts.{seeks_by, seeks_of_by}
+use Rattle.sql_meanings.proofs.Statements.{HasTable}
+use Rattle.sql_meanings.proofs.Texts.{IsSelect, only_reads, select_of}
+use Rattle.store_rows.specs.BankTables as bank
+use Rattle.walked_rows.specs.StepOutcomes.{all_numbers}
+use Rattle.walked_rows.specs.declared.ahead.TheConstants.{AHEAD}
+use Rattle.walked_rows.specs.declared.texts.TheConstants.{ACCOUNTS_FROM, BRANCHES_FROM, POSTINGS_FROM}
+use Rattle.walked_rows.specs.declared.texts.TheConstants.{POSTINGS_OF, REQUESTS_FROM, TELLERS_FROM}
+use Rattle.walked_rows.proofs.Shows.{shows_five, shows_one, shows_seven, shows_two}
+use Rattle.walked_rows.proofs.Sought.{Walks}
+
+-- the key of a table, where its name and its column compute
+abbrev key_of : (table : Table) (name : Name)
+    → ((tree : ℕ) → column_named (placed_at table tree) name ≡ Some 0)
+    → slice_get table.columns 0 ≡ Some (key_column name)
+    → ((tree : ℕ) → place_of (placed_at table tree) 0 ≡ 0)
+    → ((tree : ℕ) → chosen (declared (placed_at table tree) 0 (key_column name)) nothing ≡ Binary)
+    → (tree : ℕ) → Tests (placed_at table tree) name 0
+key_of table name named there is_at by_bytes tree = record {
+  place = 0;
+  column = key_column name;
+  named = named tree;
+  there = there;
+  is_at = is_at tree;
+  by_bytes = by_bytes tree;
+}
+
+-- A SELECT by rising keys, from a number on, shows all numbers of the rows, where that computes: its words,
+-- the key of its table, and what it is as a query.
+walks_by : {table : Table} {text : List ℕ} {places : List ℕ} (is : IsSelect table text 1 places)
+    (key : Name) (project : List Term) {sort : Sort} {cap test e a b : Expr} {most : Name}
+    → is.order ≡ sort ∷ [] → is.limit ≡ Some cap → is.filter ≡ Some test
+    → out-Sort sort ≡ record { key = e; descending = false; nulls_first = None }
+    → out-Expr e ≡ Expr-F.Column None key
+    → out-Expr test ≡ Expr-F.Binary binary.Ge a b → out-Expr a ≡ Expr-F.Column None key
+    → out-Expr b ≡ Expr-F.Parameter 1
+    → out-Expr cap ≡ Expr-F.Integer most → integer false most ≡ Ok (Int (pos AHEAD))
+    → table.references ≡ [] → slice_get table.columns 0 ≡ Some (key_column key)
+    → ((tree : ℕ) → column_named (placed_at table tree) key ≡ Some 0)
+    → ((tree : ℕ) → place_of (placed_at table tree) 0 ≡ 0)
+    → ((tree : ℕ) → chosen (declared (placed_at table tree) 0 (key_column key)) nothing ≡ Binary)
+    → ((tree : ℕ) → alone (declared (placed_at table tree) 0 (key_column key)) ≡ Binary)
+    → ((tree : ℕ) → alias_of key (outputs_at (placed_at table tree) places) ≡ None)
+    → ((schema : Schema) (p tree : ℕ) → HasTable schema table.name p (placed_at table tree)
+    → program.program schema [] (ungrouped (Inner tree ∷ []) key_from
+    (outputs_at (placed_at table tree) places) false ascending (lit (Int (pos AHEAD))) (number 0))
+    ≡ Ok (record { lets = []; body = next_from AHEAD tree project }))
+    → ((k : ℤ) (schema : Schema) (p tree : ℕ) → HasTable schema table.name p (placed_at table tree)
+    → accepts_program schema [] (next_from AHEAD tree project) (Int k ∷ []) ≡ true)
+    → ((params : Row) (e : Entry) → HasWidth (width_of table) e
+    → eval_all project (params ∷ stored e ∷ []) ≡ numbers (all_numbers e))
+    → Walks table text
+walks_by {table} {text} {places} is key project {sort} {cap} {test} {e} {a} {b} {most} ordered limited
+    filtered sorts by_key above left right capped value free there named is_at by_bytes plain unnamed typed
+    accepts whole = record {
+      project = project;
+      free = free;
+      only = only_reads is;
+      reads = λ k. seeks_by table text places AHEAD project key (key_of table key named there is_at by_bytes)
+          plain unnamed is sort cap test e a b most ordered limited filtered sorts by_key above left right
+          capped value typed k (accepts k);
+      whole = λ k. whole (Int k ∷ []);
+    }
+
+is_tellers : IsSelect bank.teller TELLERS_FROM.now 1 (0 ∷ 1 ∷ [])
+unfolding everything
+is_tellers = select_of bank.teller TELLERS_FROM.now 1 _ _ _ _ _ _ _ _ _ refl refl refl (lit≤ tt) refl refl
+    refl refl (λ tree. refl) (lit≤ tt)
+
+is_branches : IsSelect bank.branch BRANCHES_FROM.now 1 (0 ∷ 1 ∷ 2 ∷ [])
+unfolding everything
+is_branches = select_of bank.branch BRANCHES_FROM.now 1 _ _ _ _ _ _ _ _ _ refl refl refl (lit≤ tt) refl refl
+    refl refl (λ tree. refl) (lit≤ tt)
+
+is_accounts : IsSelect bank.account ACCOUNTS_FROM.now 1 (0 ∷ 1 ∷ [])
+unfolding everything
+is_accounts = select_of bank.account ACCOUNTS_FROM.now 1 _ _ _ _ _ _ _ _ _ refl refl refl (lit≤ tt) refl refl
+    refl refl (λ tree. refl) (lit≤ tt)
+
+is_postings : IsSelect bank.history POSTINGS_FROM.now 1 (0 ∷ 1 ∷ 2 ∷ 3 ∷ 4 ∷ 5 ∷ [])
+unfolding everything
+is_postings = select_of bank.history POSTINGS_FROM.now 1 _ _ _ _ _ _ _ _ _ refl refl refl (lit≤ tt) refl refl
+    refl refl (λ tree. refl) (lit≤ tt)
+
+is_requests : IsSelect bank.request REQUESTS_FROM.now 1 (0 ∷ 1 ∷ 2 ∷ 3 ∷ 4 ∷ 5 ∷ 6 ∷ 7 ∷ [])
+unfolding everything
+is_requests = select_of bank.request REQUESTS_FROM.now 1 _ _ _ _ _ _ _ _ _ refl refl refl (lit≤ tt) refl refl
+    refl refl (λ tree. refl) (lit≤ tt)
+
+pub walks_tellers : Walks bank.teller TELLERS_FROM.now
+unfolding is_tellers everything program.program ungrouped
+walks_tellers = walks_by is_tellers (codes "tid") (col 1 0 ∷ col 1 2 ∷ [])
+    refl refl refl refl refl refl refl refl refl refl refl refl (λ tree. refl) (λ tree. refl) (λ tree. refl)
+    (λ tree. refl) (λ tree. refl) (λ schema p tree has. rw (has.low, has.found))
+    (λ k schema p tree has. rw (has.low, has.found)) shows_one
+
+pub walks_branches : Walks bank.branch BRANCHES_FROM.now
+unfolding is_branches everything program.program ungrouped
+walks_branches = walks_by is_branches (codes "bid") (col 1 0 ∷ col 1 2 ∷ col 1 3 ∷ [])
+    refl refl refl refl refl refl refl refl refl refl refl refl (λ tree. refl) (λ tree. refl) (λ tree. refl)
+    (λ tree. refl) (λ tree. refl) (λ schema p tree has. rw (has.low, has.found))
+    (λ k schema p tree has. rw (has.low, has.found)) shows_two
+
+pub walks_accounts : Walks bank.account ACCOUNTS_FROM.now
+unfolding is_accounts everything program.program ungrouped
+walks_accounts = walks_by is_accounts (codes "aid") (col 1 0 ∷ col 1 2 ∷ [])
+    refl refl refl refl refl refl refl refl refl refl refl refl (λ tree. refl) (λ tree. refl) (λ tree. refl)
+    (λ tree. refl) (λ tree. refl) (λ schema p tree has. rw (has.low, has.found))
+    (λ k schema p tree has. rw (has.low, has.found)) shows_one
+
+pub walks_postings : Walks bank.history POSTINGS_FROM.now
+unfolding is_postings everything program.program ungrouped
+walks_postings = walks_by is_postings (codes "ordinal")
+    (col 1 0 ∷ col 1 2 ∷ col 1 3 ∷ col 1 4 ∷ col 1 5 ∷ col 1 6 ∷ [])
+    refl refl refl refl refl refl refl refl refl refl refl refl (λ tree. refl) (λ tree. refl) (λ tree. refl)
+    (λ tree. refl) (λ tree. refl) (λ schema p tree has. rw (has.low, has.found))
+    (λ k schema p tree has. rw (has.low, has.found)) shows_five
+
+pub walks_requests : Walks bank.request REQUESTS_FROM.now
+unfolding is_requests everything program.program ungrouped
+walks_requests = walks_by is_requests (codes "ordinal")
+    (col 1 0 ∷ col 1 2 ∷ col 1 3 ∷ col 1 4 ∷ col 1 5 ∷ col 1 6 ∷ col 1 7 ∷ col 1 8 ∷ [])
+    refl refl refl refl refl refl refl refl refl refl refl refl (λ tree. refl) (λ tree. refl) (λ tree. refl)
+    (λ tree. refl) (λ tree. refl) (λ schema p tree has. rw (has.low, has.found))
+    (λ k schema p tree has. rw (has.low, has.found)) shows_seven
+
+-- the account of a posting
+account_of_history : (tree : ℕ) → Tests (placed_at bank.history tree) (codes "aid") 2
+unfolding everything
+account_of_history tree =
+    record {
+      place = 1;
+      column = number_column (codes "aid");
+      named = refl;
+      there = refl;
+      is_at = refl;
+      by_bytes = refl;
+    }
+
+pub is_postings_of : IsSelect bank.history POSTINGS_OF.now 2 (0 ∷ 1 ∷ 2 ∷ 3 ∷ 4 ∷ 5 ∷ [])
+unfolding everything
+is_postings_of = select_of bank.history POSTINGS_OF.now 2 _ _ _ _ _ _ _ _ _ refl refl refl
+    (lit≤ tt) refl refl refl refl
+    (λ tree. refl) (lit≤ tt)
+
+pub reads_postings_of : (one k : ℤ)
+    → ReadsAs bank.history POSTINGS_OF.now (Int one ∷ Int k ∷ [])
+    (λ tree. next_of_from AHEAD tree (col 1 0 ∷ col 1 2 ∷ col 1 3 ∷ col 1 4 ∷ col 1 5 ∷ col 1 6 ∷ []))
+unfolding is_postings_of account_of_history everything program.program ungrouped
+reads_postings_of one k = seeks_of_by bank.history POSTINGS_OF.now _ AHEAD
+    (col 1 0 ∷ col 1 2 ∷ col 1 3 ∷ col 1 4 ∷ col 1 5 ∷ col 1 6 ∷ []) (codes "ordinal")
+    (key_of bank.history (codes "ordinal") (λ tree. refl) refl (λ tree. refl) (λ tree. refl))
+    (λ tree. refl) (λ tree. refl)
+    (codes "aid") account_of_history is_postings_of _ _ _ _ _ _ _ _ _ _ _ refl refl refl refl refl refl refl
+    refl refl refl refl refl refl refl
+    (λ schema p tree has. number_at schema p (placed_at bank.history tree) has.listed (codes "history")
+    (outputs_at (placed_at bank.history tree) (0 ∷ 1 ∷ 2 ∷ 3 ∷ 4 ∷ 5 ∷ [])) false 1 _ refl refl)
+    (λ schema p tree has. rw (has.low, has.found)) one k (λ schema p tree has. rw (has.low, has.found))

@@ -1,0 +1,103 @@
+-- What is gathered, row by row. What is returned follows from the invariant; a search takes long to see it.
+use Rattle.std.proofs.Common.{◌<◌, ◌≤◌, ◌+◌, None, length, get_or, sym, ap, subst, ◌∙◌, arith, w64}
+use Rattle.std.proofs.Common.{to_z, lit<, refl}
+use Rattle.std.proofs.lemmas.Int.{to_z-of_z}
+use Rattle.sql_meanings.specs.Tables.{width_of}
+use Rattle.walked_rows.specs.Rows.{entry_key, rows_from}
+use Rattle.walked_rows.specs.declared.ahead.TheConstants.{AHEAD}
+use Rattle.walked_rows.proofs.Gathering.{behind_key, full_there, gathers_on, gathers_none, no_more}
+use Rattle.walked_rows.proofs.Gathering.{none_there, some_there}
+use Rattle.walked_rows.proofs.Rises.{le_from, one_more, rest_behind}
+use Rattle.walked_rows.proofs.ahead.gather.Goals as goal
+
+pub loop-row-preserved : goal.loop-row-preserved
+loop-row-preserved g c =
+    let from = c.args.from in
+    let same = to_z-of_z w64 from c.ranges.from in
+    let entry = g.R.StoredRow.kind.entry in
+    let found = c.args.found.now in
+    let items = c.loop-row.rows.items in
+    let row = c.row-item.result in
+    let next = to_z w64 c.loop-row.next-bits in
+    let count = c.loop-row.invariant.count in
+    let low = subst (λ n. n < length found) (sym count) c.loop-row-test.true in
+    let key = behind_key c.key.result (entry c.in-Ok.read).key c.key.ensures.key c.key.ensures.most in
+    let at = c.row-item.is ∙ ap (λ n. get_or found n row) (sym count) in
+    rw same record {
+      count = c.push.ensures.len ∙ ap (λ n. n + 1) count;
+      rises =
+          rw (c.push.ensures.items, key)
+          (one_more (λ r. entry_key (entry r)) from items c.in-Ok.read next
+          (rw same at c.loop-row.invariant.rises) (le_from _ _ c.in-Ok.ensures.1));
+      told = λ rows rise wide is.
+          rw (c.push.ensures.items, key)
+          (gathers_on entry g.R.StoredRow.kind.Breaks
+          (width_of g.R.StoredRow.kind.table) AHEAD found from rows rise wide is items next row low at
+          ((rw same at (c.loop-row.invariant.told rows rise wide)) is) c.in-Ok.read c.in-Ok.ensures);
+    }
+
+pub returns-then-is_full : goal.returns-then-is_full
+returns-then-is_full g c =
+    let same = to_z-of_z w64 c.args.from c.ranges.from in
+    record {
+      told = λ rows rise wide is. (rw same at (c.loop-row.invariant.told rows rise wide)) is;
+      ended = λ none. absurd (full_there AHEAD c.loop-row.rows.items (lit< tt) (sym c.if-is_full.ensures.value)
+          none);
+      rises = rw same at c.loop-row.invariant.rises;
+    }
+
+pub returns-then-is_empty : goal.returns-then-is_empty
+returns-then-is_empty g c =
+    let from = c.args.from in
+    let same = to_z-of_z w64 from c.ranges.from in
+    let found = c.args.found.now in
+    let items = c.loop-row.rows.items in
+    let row = c.row-item.result in
+    let count = c.loop-row.invariant.count in
+    let low = subst (λ n. n < length found) (sym count) c.loop-row-test.true in
+    let at = c.row-item.is ∙ ap (λ n. get_or found n row) (sym count) in
+    let none = none_there items (sym c.if-is_empty.ensures) in
+    record {
+      told = λ rows rise wide is.
+          gathers_none g.R.StoredRow.kind.entry g.R.StoredRow.kind.Breaks
+          (width_of g.R.StoredRow.kind.table) AHEAD found from rows rise wide is items
+          (to_z w64 c.loop-row.next-bits) row low at
+          ((rw same at (c.loop-row.invariant.told rows rise wide)) is) c.in-Err.fault none c.in-Err.ensures;
+      ended = tt;
+      rises = tt;
+    }
+
+pub returns-in-Err : goal.returns-in-Err
+returns-in-Err g c =
+    let same = to_z-of_z w64 c.args.from c.ranges.from in
+    record {
+      told = λ rows rise wide is. (rw same at (c.loop-row.invariant.told rows rise wide)) is;
+      ended = λ none. absurd (some_there c.loop-row.rows.items (sym c.if-is_empty.ensures) none);
+      rises = rw same at c.loop-row.invariant.rises;
+    }
+
+pub returns-then-is_empty-2 : goal.returns-then-is_empty-2
+returns-then-is_empty-2 g c =
+    let from = c.args.from in
+    let same = to_z-of_z w64 from c.ranges.from in
+    let items = c.loop-row.rows.items in
+    let none = none_there items (sym c.if-is_empty-2.ensures) in
+    let low : length c.args.found.now ≤ 0 =
+    omega (arith, c.loop-row.invariant.count, c.loop-row-test.false, ap length none) in
+    record {
+      told = λ rows rise wide is. rw none (no_more (rows_from from rows) c.args.found.now low is);
+      ended = λ nothing. refl;
+      rises =
+          rest_behind (λ r. entry_key (g.R.StoredRow.kind.entry r)) from items (to_z w64 c.loop-row.next-bits)
+          None
+          (rw same at c.loop-row.invariant.rises) tt;
+    }
+
+pub returns-else-is_empty-2 : goal.returns-else-is_empty-2
+returns-else-is_empty-2 g c =
+    let same = to_z-of_z w64 c.args.from c.ranges.from in
+    record {
+      told = λ rows rise wide is. (rw same at (c.loop-row.invariant.told rows rise wide)) is;
+      ended = λ none. absurd (some_there c.loop-row.rows.items (sym c.if-is_empty-2.ensures) none);
+      rises = rw same at c.loop-row.invariant.rises;
+    }

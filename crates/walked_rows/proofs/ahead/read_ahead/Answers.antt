@@ -1,0 +1,50 @@
+-- What is read ahead is gathered of what was found. Each clause is named: a search for them takes long.
+use Rattle.std.proofs.Common.{filter, inl, ◌∙◌, w64}
+use Rattle.std.proofs.lemmas.Int.{to_z-of_z}
+use Rattle.sqlite.specs.Held.{state}
+use Rattle.sqlite.specs.State.{IsUnchanged}
+use Rattle.sql_meanings.specs.StatementAnswers.{WriteFails}
+use Rattle.sql_meanings.specs.Tables.{width_of}
+use Rattle.sql_meanings.proofs.OrderedAnswers.{rise_filter}
+use Rattle.walked_rows.specs.StepOutcomes.{BreaksValue}
+use Rattle.walked_rows.specs.Rows.{rows_from}
+use Rattle.walked_rows.proofs.Sought.{err_any, match_err, on_any, refused_memory, wide_filter}
+use Rattle.walked_rows.proofs.ahead.read_ahead.Goals as goal
+
+pub returns-in-Ok : goal.returns-in-Ok
+returns-in-Ok g c =
+    let whole = to_z-of_z w64 c.args.from c.ranges.from in
+    let old = state g.S.Store c.args.conn.now in
+    let new = state g.S.Store c.seek.new.conn in
+    let sought = c.in-Ok.ensures in
+    let gathered = c.gather.ensures in
+    record {
+      told = λ clean rows has.
+          let is_given = g.R.StoredRow.kind.is_given c.args.of in
+          let given = filter is_given rows in
+          match_err _ _ _ c.gather.result
+          (refused_memory old new (BreaksValue g.R.StoredRow.kind.Breaks) (rows_from c.args.from given)
+          (sought.same clean))
+          ((rw whole at (gathered.told given (rise_filter is_given rows has.holds.rows.rise)
+          (wide_filter (width_of g.R.StoredRow.kind.table) is_given rows has.holds.rows.wide)))
+          (c.deref.ensures.value ∙ (rw whole at (sought.told clean rows has))));
+      ended = gathered.ended;
+      rises = rw whole at gathered.rises;
+      same = λ clean. on_any (IsUnchanged old new) c.gather.result (sought.same clean);
+      err = λ clean. err_any (WriteFails old new) c.gather.result (inl (sought.same clean));
+      mode = sought.mode;
+      survives = sought.survives;
+    }
+
+pub returns-in-Err : goal.returns-in-Err
+returns-in-Err g c =
+    let sought = c.in-Err.ensures in
+    record {
+      told = sought.told;
+      ended = tt;
+      rises = tt;
+      same = λ clean. tt;
+      err = sought.err;
+      mode = sought.mode;
+      survives = sought.survives;
+    }

@@ -1,0 +1,67 @@
+-- What is gathered beside other rows. What `gather` told is named: a search for it takes long.
+use Rattle.std.proofs.Common.{◌≡◌, ◌≤ℤ◌, Err, take, sym, ap, subst, ◌∙◌, rules, w64, to_z, of_z}
+use Rattle.std.specs.Prelude.{IsSomeAnd}
+use Rattle.std.proofs.lemmas.Int.{to_z-of_z}
+use Rattle.walked_rows.specs.StepOutcomes.{BreaksValue, IsRefusedMemory, shown}
+use Rattle.walked_rows.specs.Rows.{entry_key, rows_from}
+use Rattle.walked_rows.specs.declared.ahead.TheConstants.{AHEAD}
+use Rattle.walked_rows.proofs.Under.{beyond, broken_first, first_under, from_its_key, key_fails}
+use Rattle.walked_rows.proofs.beside.gather_beside.Goals as goal
+
+pub returns-in_err-key-in-Err-Damaged-clause-told : goal.returns-in_err-key-in-Err-Damaged-clause-told
+returns-in_err-key-in-Err-Damaged-clause-told g c all rise wide is =
+    let from = c.args.from in
+    let same = to_z-of_z w64 from c.ranges.from in
+    let broke = broken_first IsRefusedMemory (BreaksValue g.O.StoredRow.kind.Breaks) (rows_from from all) _ _
+    c.in-Err-Damaged.field-0-is ((rw same at (c.in-Err-Damaged.ensures.told all rise wide)) is) in
+    let fault = c.in_err-key-in-Err-Damaged.field-0.0 in
+    let residual : c.from_residual.result ≡ Err fault = search rules in
+    rw residual (key_fails (BreaksValue g.O.StoredRow.kind.Breaks) from all broke.0 fault
+    (c.in_err-key-in-Err-Damaged.ensures broke.0 _ (is ∙ ap (λ l. shown (take AHEAD l)) broke.2)))
+
+pub returns-then-key-from-clause-told : goal.returns-then-key-from-clause-told
+returns-then-key-from-clause-told g c all rise wide is =
+    let from = c.args.from in
+    let same = to_z-of_z w64 from c.ranges.from in
+    let broke = broken_first IsRefusedMemory (BreaksValue g.O.StoredRow.kind.Breaks) (rows_from from all) _ _
+    c.in-Err-Damaged.field-0-is ((rw same at (c.in-Err-Damaged.ensures.told all rise wide)) is) in
+    let key =
+    c.in_ok-key-in-Err-Damaged.ensures broke.0 _ (is ∙ ap (λ l. shown (take AHEAD l)) broke.2) in
+    let within : c.in_ok-key-in-Err-Damaged.key ≤ℤ from = search rules in
+    let low = subst (λ k. k ≤ℤ from) key within in
+    subst (λ o. IsSomeAnd o (BreaksValue g.O.StoredRow.kind.Breaks c.in-Err-Damaged.rule))
+    (sym (first_under from all broke.0 broke.1 broke.2 low)) broke.3
+
+pub returns-in-Ok-clause-beyond : goal.returns-in-Ok-clause-beyond
+returns-in-Ok-clause-beyond g c =
+    let same = to_z-of_z w64 c.args.from c.ranges.from in
+    beyond (λ r. entry_key (g.O.StoredRow.kind.entry r)) c.args.from c.gather.new.rows.items c.in-Ok.rest
+    (rw same at c.in-Ok.ensures.rises) c.in-Ok.ensures.ended
+
+pub returns-else-key-from-clause-told : goal.returns-else-key-from-clause-told
+returns-else-key-from-clause-told g c all rise wide is =
+    let from = c.args.from in
+    let same = to_z-of_z w64 from c.ranges.from in
+    let broke = broken_first IsRefusedMemory (BreaksValue g.O.StoredRow.kind.Breaks) (rows_from from all) _ _
+    c.in-Err-Damaged.field-0-is ((rw same at (c.in-Err-Damaged.ensures.told all rise wide)) is) in
+    let key =
+    c.in_ok-key-in-Err-Damaged.ensures broke.0 _ (is ∙ ap (λ l. shown (take AHEAD l)) broke.2) in
+    let it : rows_from from all ≡ rows_from c.in_ok-key-in-Err-Damaged.key all =
+    subst (λ k. rows_from from all ≡ rows_from k all) (sym key)
+    (from_its_key from all broke.0 broke.1 rise broke.2) in
+    let whole : to_z w64 (of_z w64 c.in_ok-key-in-Err-Damaged.key) ≡ c.in_ok-key-in-Err-Damaged.key =
+    search (rules, to_z-of_z) in
+    rw (c.clear.ensures, whole) it
+
+pub returns-else-key-from-clause-beyond : goal.returns-else-key-from-clause-beyond
+returns-else-key-from-clause-beyond g c = search rules
+
+pub returns-in-Ok-clause-told : goal.returns-in-Ok-clause-told
+returns-in-Ok-clause-told g c all rise wide is =
+    let same = to_z-of_z w64 c.args.from c.ranges.from in
+    (rw same at (c.in-Ok.ensures.told all rise wide)) is
+
+pub returns-in-Err-Sqlite-clause-told : goal.returns-in-Err-Sqlite-clause-told
+returns-in-Err-Sqlite-clause-told g c all rise wide is =
+    let same = to_z-of_z w64 c.args.from c.ranges.from in
+    (rw (same, c.in-Err-Sqlite.field-0-is) at (c.in-Err-Sqlite.ensures.told all rise wide)) is

@@ -1,0 +1,49 @@
+-- What is read beside other rows is gathered of what was found. Each clause is named: a search for them takes
+-- long.
+use Rattle.std.proofs.Common.{inl, None, ap, take, ◌∙◌, w64}
+use Rattle.std.proofs.lemmas.Int.{to_z-of_z}
+use Rattle.sqlite.specs.Held.{state}
+use Rattle.sqlite.specs.State.{IsUnchanged}
+use Rattle.sql_meanings.specs.StatementAnswers.{WriteFails}
+use Rattle.walked_rows.specs.StepOutcomes.{BreaksValue, shown}
+use Rattle.walked_rows.specs.Rows.{rows_from}
+use Rattle.walked_rows.specs.declared.ahead.TheConstants.{AHEAD}
+use Rattle.walked_rows.proofs.Sought.{all_pass, err_any, match_err, on_any}
+use Rattle.walked_rows.proofs.Under.{refused_under}
+use Rattle.walked_rows.proofs.beside.read_beside.Goals as goal
+
+pub returns-in-Ok : goal.returns-in-Ok
+returns-in-Ok g c =
+    let from = c.args.from in
+    let same = to_z-of_z w64 from c.ranges.from in
+    let old = state g.S.Store c.args.conn.now in
+    let new = state g.S.Store c.seek.new.conn in
+    let sought = c.in-Ok.ensures in
+    let gathered = c.gather_beside.ensures in
+    record {
+      told = λ clean all has.
+          let whole = all_pass (g.O.StoredRow.kind.is_given None) g.O.StoredRow.kind.all_given all in
+          let found = (rw same at (sought.told clean all has))
+          ∙ ap (λ es. shown (take AHEAD (rows_from from es))) whole in
+          match_err _ _ _ c.gather_beside.result
+          (refused_under old new (BreaksValue g.O.StoredRow.kind.Breaks) from all (sought.same clean))
+          ((rw same at (gathered.told all has.holds.rows.rise has.holds.rows.wide))
+          (c.deref.ensures.value ∙ found));
+      beyond = rw same at gathered.beyond;
+      same = λ clean. on_any (IsUnchanged old new) c.gather_beside.result (sought.same clean);
+      err = λ clean. err_any (WriteFails old new) c.gather_beside.result (inl (sought.same clean));
+      mode = sought.mode;
+      survives = sought.survives;
+    }
+
+pub returns-in-Err : goal.returns-in-Err
+returns-in-Err g c =
+    let sought = c.in-Err.ensures in
+    record {
+      told = sought.told;
+      beyond = tt;
+      same = λ clean. tt;
+      err = sought.err;
+      mode = sought.mode;
+      survives = sought.survives;
+    }

@@ -1,0 +1,38 @@
+-- What is joined with the others that were read. Each clause is named: a search for them takes long.
+use Rattle.std.proofs.Common.{subst, w64}
+use Rattle.std.proofs.lemmas.Int.{to_z-of_z}
+use Rattle.walked_rows.specs.Pairs.{ComesBefore}
+use Rattle.walked_rows.proofs.Joining.{decided_by}
+use Rattle.walked_rows.proofs.joined.join_ahead.Goals as goal
+
+pub returns-in-Ok : goal.returns-in-Ok
+returns-in-Ok g c =
+    let behind = c.in-Ok.behind in
+    let start = to_z-of_z w64 c.args.start c.ranges.start in
+    record {
+      told = λ clean base others rise has own_is.
+          (rw (start, c.as_slice.ensures.value) at (c.join.ensures.told base others rise)) own_is
+          (rw start at (c.in-Ok.ensures.told clean others has));
+      rises = rw start at c.join.ensures.rises;
+      some = λ r more is at none.
+          c.join.ensures.some r more is
+          (subst (ComesBefore behind) at
+          (decided_by behind c.args.start (rw start at c.in-Ok.ensures.beyond))) none;
+      same = c.in-Ok.ensures.same;
+      err = λ clean. tt;
+      mode = c.in-Ok.ensures.mode;
+      survives = c.in-Ok.ensures.survives;
+    }
+
+pub returns-in-Err : goal.returns-in-Err
+returns-in-Err g c =
+    let start = to_z-of_z w64 c.args.start c.ranges.start in
+    record {
+      told = λ clean base others rise has own_is. (rw start at (c.in-Err.ensures.told clean others has));
+      rises = tt;
+      some = λ r more is at. tt;
+      same = λ clean. tt;
+      err = c.in-Err.ensures.err;
+      mode = c.in-Err.ensures.mode;
+      survives = c.in-Err.ensures.survives;
+    }

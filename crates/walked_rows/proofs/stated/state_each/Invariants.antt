@@ -1,0 +1,32 @@
+-- Each posting so far has its reference, and the file is as it was.
+use Rattle.std.proofs.Common.{◌≡◌, ◌++◌, List, map, drop, length, Some, false}
+use Rattle.std.specs.Prelude.{IsTrue}
+use Rattle.sqlite.specs.Held.{state}
+use Rattle.sqlite.specs.State.{HasCleanDisk, IsUnchanged, Survives}
+use Rattle.sql_meanings.specs.Entries.{Entry, Rise}
+use Rattle.store_rows.specs.BankTables.{reference as reference_table}
+use Rattle.walked_rows.specs.Pairs.{AreJoined}
+use Rattle.walked_rows.specs.Rising.{RisesFrom}
+use Rattle.walked_rows.specs.Rows.{HasStoredRows, entry_key, rows_behind, rows_from}
+use Rattle.walked_rows.specs.Stored.{posting_entry, stated_pair}
+use Rattle.walked_rows.proofs.stated.state_each.Given as goal
+
+abbrev pub invariant-loop-posting : goal.invariant-loop-posting
+invariant-loop-posting g l =
+    let old = state g.S.Store l.fn.conn in
+    let now = state g.S.Store l.conn in
+    record {
+      count : length l.rows.items ≡ l.posting-index;
+      ahead : RisesFrom l.next (map (λ r. entry_key (posting_entry r)) (drop l.posting-index l.fn.own))
+          l.fn.rest;
+      rises : RisesFrom l.fn.from (map (λ s. entry_key (posting_entry s.posting)) l.rows.items) (Some l.next);
+      survives : Survives old now (λ _. ⊥);
+      mode : l.fn.conn.in_transaction ≡ false → l.conn.in_transaction ≡ false;
+      same : HasCleanDisk now → IsTrue old.is_open → IsUnchanged old now;
+      told : (base others : List Entry) → Rise base → HasCleanDisk now → IsTrue old.is_open
+          → HasStoredRows old.now reference_table others
+          → rows_from l.fn.from base ≡ map posting_entry l.fn.own ++ rows_behind l.fn.rest base
+          → (rows_from l.next base
+          ≡ map posting_entry (drop l.posting-index l.fn.own) ++ rows_behind l.fn.rest base)
+          × AreJoined stated_pair others base l.fn.from l.rows.items (Some l.next);
+    }

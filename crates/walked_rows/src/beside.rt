@@ -1,0 +1,99 @@
+//! The rows of a table that are beside those that were read ahead of another one.
+ghost use Rattle.std.specs.Prelude.{◌≡◌, ◌<ℤ◌, ◌++◌, ◌∷◌, List, pos, map, false, take, option_map, IfOk};
+ghost use Rattle.std.specs.Prelude.{IfErr, IfSome, OnOk, MatchResult};
+ghost use Rattle.sqlite.specs.State.{HasCleanDisk, IsUnchanged, Survives};
+ghost use Rattle.sqlite.specs.Held.{state};
+ghost use Rattle.sqlite.specs.Order.{Row as StoredColumns};
+ghost use Rattle.sql_meanings.specs.Entries.{Entry, Rise, numbers};
+ghost use Rattle.sql_meanings.specs.StatementAnswers.{IsStoreError, WriteFails};
+ghost use Rattle.sql_meanings.specs.Tables.{width_of};
+ghost use Rattle.walked_rows.specs.StepOutcomes.{BreaksValue, IsRefusedMemory, all_numbers, shown};
+ghost use Rattle.walked_rows.specs.Pairs.{BreaksUnder, TellsKey, row_under};
+ghost use Rattle.walked_rows.specs.Rows.{HasStoredRows, IsWide, rows_behind, rows_from};
+
+use crate::ahead::{AHEAD, gather};
+use crate::numbers::number_at;
+use crate::stored_row::StoredRow;
+use arrayvec::ArrayVec;
+use posting_rules::Rule;
+use sqlite::{Alter, Connection, Row};
+use store_rows::TableFault;
+
+// The key of the first of the rows that were found.
+fn first_key(found: &[Row]) -> Result<i64, TableFault>
+    ensures { (e : Entry) → (more : List StoredColumns) → found.now ≡ numbers (all_numbers e) ∷ more
+        → TellsKey e result }
+{
+    match found.first() {
+        Some(row) => number_at(row, 0),
+        None => Err(TableFault::Damaged(Rule::Value)),
+    }
+}
+
+// Puts the rows that were found in place of those in `rows`, up to one that can't be read, if it isn't under
+// the key itself, and returns the key from which on the others follow.
+fn gather_beside<O: StoredRow>(
+    found: &[Row],
+    from: i64,
+    rows: &mut ArrayVec<O, AHEAD>,
+) -> Result<Option<i64>, TableFault>
+    ensures told { (all : List Entry) → Rise all → IsWide (width_of O.StoredRow.kind.table) all
+        → found.now ≡ shown (take AHEAD (rows_from from all))
+        → MatchResult result
+        (λ rest. rows_from from all ≡ map O.StoredRow.kind.entry rows.new.items ++ rows_behind rest all)
+        (BreaksUnder IsRefusedMemory (BreaksValue O.StoredRow.kind.Breaks) from all) }
+    ensures beyond { IfOk result (λ rest. IfSome rest (λ k. from <ℤ k)) }
+{
+    match gather(found, from, rows) {
+        Ok(rest) => Ok(rest),
+        Err(TableFault::Sqlite(e)) => Err(TableFault::Sqlite(e)),
+        Err(TableFault::Damaged(rule)) => {
+            let key = first_key(found)?;
+            if key <= from {
+                return Err(TableFault::Damaged(rule));
+            }
+            rows.clear();
+            Ok(Some(key))
+        }
+    }
+}
+
+/// Puts the rows of a table with the least keys from one on in place of those in `rows`, up to one that can't
+/// be read, if it isn't under the key itself, and returns the key from which on the others follow.
+pub(crate) fn read_beside<S: Alter, O: StoredRow>(
+    conn: &mut Connection<S>,
+    from: i64,
+    rows: &mut ArrayVec<O, AHEAD>,
+) -> Result<Option<i64>, TableFault>
+    ensures told { HasCleanDisk (state S.Store conn.new) → (all : List Entry)
+        → HasStoredRows (state S.Store conn.old).now O.StoredRow.kind.table all
+        → MatchResult result
+        (λ rest. rows_from from all ≡ map O.StoredRow.kind.entry rows.new.items ++ rows_behind rest all)
+        (BreaksUnder (IsStoreError (state S.Store conn.old) (state S.Store conn.new))
+        (BreaksValue O.StoredRow.kind.Breaks) from all) }
+    ensures beyond { IfOk result (λ rest. IfSome rest (λ k. from <ℤ k)) }
+    ensures same { HasCleanDisk (state S.Store conn.new)
+        → OnOk result (IsUnchanged (state S.Store conn.old) (state S.Store conn.new)) }
+    ensures err { HasCleanDisk (state S.Store conn.new)
+        → IfErr result (λ _. WriteFails (state S.Store conn.old) (state S.Store conn.new)) }
+    ensures mode { conn.old.in_transaction ≡ false → conn.new.in_transaction ≡ false }
+    ensures survives { Survives (state S.Store conn.old) (state S.Store conn.new) (λ _. ⊥) }
+{
+    match O::seek(conn, None, from) {
+        Ok(found) => gather_beside(&found, from, rows),
+        Err(e) => Err(TableFault::Sqlite(e)),
+    }
+}
+
+/// The row under a key.
+pub(crate) fn row_with<O: StoredRow>(rows: &[O], key: u64) -> Option<O>
+    ensures { option_map O.StoredRow.kind.entry result ≡ row_under (map O.StoredRow.kind.entry rows.now)
+        (pos key) }
+{
+    for row in rows {
+        if row.key() == key {
+            return Some(*row);
+        }
+    }
+    None
+}

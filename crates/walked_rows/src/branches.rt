@@ -1,0 +1,54 @@
+//! The rows of `branch`.
+use crate::limits::MAX_COUNTED;
+use crate::numbers::whole;
+use crate::statements::rows_shown;
+use crate::stored_row::{RowsRead, StoredRow};
+use crate::texts::BRANCHES_FROM;
+use message_records::{Account, Whole};
+use posting_rules::LAST_BRANCH;
+use sqlite::{Alter, Connection, params};
+
+/// A row of `branch`: 1..=`LAST_BRANCH`, how many accounts it has, 1..=`MAX_COUNTED`, and its balance,
+/// whatever it is.
+#[derive(Clone, Copy, Debug, PartialEq, Eq)]
+pub struct StoredBranch {
+    pub branch: Whole<1, LAST_BRANCH>,
+    pub accounts: Whole<1, MAX_COUNTED>,
+    pub balance: i64,
+}
+
+impl Default for StoredBranch {
+    fn default() -> Self {
+        StoredBranch {
+            branch: Whole::new(1).unwrap(),
+            accounts: Whole::new(1).unwrap(),
+            balance: 0,
+        }
+    }
+}
+
+impl StoredRow for StoredBranch {
+    ghost use Rattle.walked_rows.specs.Stored.{branch_kind};
+
+    ghost kind = { branch_kind };
+
+    fn columns() -> usize {
+        3
+    }
+
+    fn of(numbers: &[i64]) -> Option<Self> {
+        Some(StoredBranch {
+            branch: whole(numbers[0])?,
+            accounts: whole(numbers[1])?,
+            balance: numbers[2],
+        })
+    }
+
+    fn seek<S: Alter>(conn: &mut Connection<S>, _of: Option<Account>, from: i64) -> RowsRead {
+        rows_shown(conn, BRANCHES_FROM, params![from])
+    }
+
+    fn key(&self) -> u64 {
+        self.branch.get()
+    }
+}

@@ -1,0 +1,68 @@
+//! The rows of `history`.
+use crate::numbers::whole;
+use crate::statements::rows_shown;
+use crate::stored_row::{RowsRead, StoredRow};
+use crate::texts::{POSTINGS_FROM, POSTINGS_OF};
+use message_records::{Account, Moment, Whole};
+use posting_rules::Ordinal;
+use sqlite::{Alter, Connection, params};
+
+/// A row of `history`: the ordinal of its request and its moment within their ranges, and the other numbers,
+/// whatever they are.
+#[derive(Clone, Copy, Debug, PartialEq, Eq)]
+pub struct StoredPosting {
+    pub ordinal: Ordinal,
+    pub account: i64,
+    pub teller: i64,
+    pub branch: i64,
+    pub delta: i64,
+    pub moment: Moment,
+}
+
+impl Default for StoredPosting {
+    fn default() -> Self {
+        StoredPosting {
+            ordinal: Whole::new(1).unwrap(),
+            account: 0,
+            teller: 0,
+            branch: 0,
+            delta: 0,
+            moment: Whole::new(1).unwrap(),
+        }
+    }
+}
+
+impl StoredRow for StoredPosting {
+    ghost use Rattle.walked_rows.specs.Stored.{posting_kind};
+
+    ghost kind = { posting_kind };
+
+    fn columns() -> usize {
+        6
+    }
+
+    fn of(numbers: &[i64]) -> Option<Self> {
+        Some(StoredPosting {
+            ordinal: whole(numbers[0])?,
+            account: numbers[1],
+            teller: numbers[2],
+            branch: numbers[3],
+            delta: numbers[4],
+            moment: whole(numbers[5])?,
+        })
+    }
+
+    fn seek<S: Alter>(conn: &mut Connection<S>, of: Option<Account>, from: i64) -> RowsRead {
+        match of {
+            None => rows_shown(conn, POSTINGS_FROM, params![from]),
+            Some(account) => {
+                let account = account.get() as i64;
+                rows_shown(conn, POSTINGS_OF, params![account, from])
+            }
+        }
+    }
+
+    fn key(&self) -> u64 {
+        self.ordinal.get()
+    }
+}

@@ -1,0 +1,70 @@
+//! The reference under an ordinal, if there is one.
+ghost use Rattle.std.specs.Prelude.{◌≡◌, ◌≤◌, List, pos, false, option_map, IfErr, MatchResult};
+ghost use Rattle.std.specs.Prelude.{OnOk};
+ghost use Rattle.sqlite.specs.State.{HasCleanDisk, IsUnchanged, Survives};
+ghost use Rattle.sqlite.specs.Held.{state};
+ghost use Rattle.sqlite.specs.Order.{column};
+ghost use Rattle.sql_meanings.specs.Entries.{Entry};
+ghost use Rattle.sql_meanings.specs.StatementAnswers.{IsStoreError};
+ghost use Rattle.posting_rules.specs.declared.limits.TheConstants.{MAX_DECIDED};
+ghost use Rattle.store_rows.specs.BankTables.{reference as reference_table};
+ghost use Rattle.store_rows.specs.TableAnswers.{ReadsReference};
+ghost use Rattle.walked_rows.specs.Pairs.{BreaksUnder, row_under};
+ghost use Rattle.walked_rows.specs.References.{BreaksReference, FailsToFind, ReadsFirst, text_entry};
+ghost use Rattle.walked_rows.specs.Rows.{HasStoredRows};
+
+use crate::statements::rows_shown;
+use crate::texts::REFERENCE_UNDER;
+use message_records::Reference;
+use posting_rules::Rule;
+use sqlite::types::ValueRef;
+use sqlite::{Alter, Connection, Row, params};
+use store_rows::TableFault;
+
+// The reference that a row shows alone.
+fn reference_of(row: &Row) -> Result<Reference, TableFault>
+    ensures { ReadsReference (column row.now 0) result }
+{
+    match row.get_ref(0) {
+        Ok(ValueRef::Text(text)) => {
+            Reference::new(text).ok_or(TableFault::Damaged(Rule::Reference))
+        }
+        _ => Err(TableFault::Damaged(Rule::Value)),
+    }
+}
+
+// The reference of the first of the rows that were found, if there is one.
+fn first_reference(found: &[Row]) -> Result<Option<Reference>, TableFault>
+    ensures { ReadsFirst found.now result }
+{
+    match found.first() {
+        Some(row) => Ok(Some(reference_of(row)?)),
+        None => Ok(None),
+    }
+}
+
+/// The reference under an ordinal, outside a transaction.
+pub(crate) fn reference_under<S: Alter>(
+    conn: &mut Connection<S>,
+    ordinal: u64,
+) -> Result<Option<Reference>, TableFault>
+    requires { ordinal ≤ MAX_DECIDED }
+    ensures told { HasCleanDisk (state S.Store conn.new) → (all : List Entry)
+        → HasStoredRows (state S.Store conn.old).now reference_table all
+        → MatchResult result
+        (λ found. option_map (text_entry ordinal) found ≡ row_under all (pos ordinal))
+        (BreaksUnder (IsStoreError (state S.Store conn.old) (state S.Store conn.new))
+        BreaksReference (pos ordinal) all) }
+    ensures same { HasCleanDisk (state S.Store conn.new)
+        → OnOk result (IsUnchanged (state S.Store conn.old) (state S.Store conn.new)) }
+    ensures err { HasCleanDisk (state S.Store conn.new)
+        → IfErr result (FailsToFind (state S.Store conn.old) (state S.Store conn.new)) }
+    ensures mode { conn.old.in_transaction ≡ false → conn.new.in_transaction ≡ false }
+    ensures survives { Survives (state S.Store conn.old) (state S.Store conn.new) (λ _. ⊥) }
+{
+    let key = ordinal as i64;
+    match rows_shown(conn, REFERENCE_UNDER, params![key]) {
+        Ok(found) => first_reference(&found),
+        Err(e) => Err(TableFault::Sqlite(e)),
+    }
+}

@@ -1,0 +1,68 @@
+//! The rows of `request`.
+use crate::numbers::whole;
+use crate::statements::rows_shown;
+use crate::stored_row::{RowsRead, StoredRow};
+use crate::texts::REQUESTS_FROM;
+use message_records::{Account, Whole};
+use posting_rules::Ordinal;
+use sqlite::{Alter, Connection, params};
+
+/// A row of `request`: its ordinal within the range, and the other numbers, whatever they are. The outcome is
+/// a code.
+#[derive(Clone, Copy, Debug, PartialEq, Eq)]
+pub struct StoredRequest {
+    pub ordinal: Ordinal,
+    pub teller: i64,
+    pub number: i64,
+    pub account: i64,
+    pub branch: i64,
+    pub delta: i64,
+    pub outcome: i64,
+    pub balance: i64,
+}
+
+impl Default for StoredRequest {
+    fn default() -> Self {
+        StoredRequest {
+            ordinal: Whole::new(1).unwrap(),
+            teller: 0,
+            number: 0,
+            account: 0,
+            branch: 0,
+            delta: 0,
+            outcome: 0,
+            balance: 0,
+        }
+    }
+}
+
+impl StoredRow for StoredRequest {
+    ghost use Rattle.walked_rows.specs.Stored.{request_kind};
+
+    ghost kind = { request_kind };
+
+    fn columns() -> usize {
+        8
+    }
+
+    fn of(numbers: &[i64]) -> Option<Self> {
+        Some(StoredRequest {
+            ordinal: whole(numbers[0])?,
+            teller: numbers[1],
+            number: numbers[2],
+            account: numbers[3],
+            branch: numbers[4],
+            delta: numbers[5],
+            outcome: numbers[6],
+            balance: numbers[7],
+        })
+    }
+
+    fn seek<S: Alter>(conn: &mut Connection<S>, _of: Option<Account>, from: i64) -> RowsRead {
+        rows_shown(conn, REQUESTS_FROM, params![from])
+    }
+
+    fn key(&self) -> u64 {
+        self.ordinal.get()
+    }
+}

@@ -1,0 +1,52 @@
+//! What a row of one table is, as it is stored.
+ghost use Rattle.std.specs.Prelude.{◌≡◌, ◌≤◌, pos, false, List, IfErr, MatchResult, OnOk, filter, length};
+ghost use Rattle.std.specs.Prelude.{take};
+ghost use Rattle.sqlite.specs.State.{HasCleanDisk, IsUnchanged, Survives};
+ghost use Rattle.sqlite.specs.Held.{state};
+ghost use Rattle.sql_meanings.specs.Entries.{Entry};
+ghost use Rattle.sql_meanings.specs.StatementAnswers.{IsStoreError, WriteFails};
+ghost use Rattle.walked_rows.specs.Kinds.{Kind};
+ghost use Rattle.walked_rows.specs.StepOutcomes.{Stores, shown};
+ghost use Rattle.walked_rows.specs.Rows.{HasStoredRows, rows_from};
+
+use crate::ahead::AHEAD;
+use message_records::Account;
+use posting_rules::MAX_DECIDED;
+use sqlite::{Alter, Connection, Error, Row};
+
+/// The rows that a statement found.
+pub type RowsRead = Result<Vec<Row>, Error>;
+
+/// A row of one table, as it is stored.
+pub trait StoredRow: Copy + Default {
+    /// What a walk goes by in its table.
+    ghost kind: { Kind Self };
+
+    /// How many numbers a row has.
+    fn columns() -> usize
+        ensures { result ≡ kind.columns };
+
+    /// The row that the numbers are, unless one is out of its range.
+    fn of(numbers: &[i64]) -> Option<Self>
+        requires { length numbers.now ≡ kind.columns }
+        ensures { Stores kind.entry kind.Breaks numbers.now result };
+
+    /// The rows with the least keys from one on, at most `AHEAD`.
+    fn seek<S: Alter>(conn: &mut Connection<S>, of: Option<Account>, from: i64) -> RowsRead
+        ensures told { HasCleanDisk (state S.Store conn.new) → (rows : List Entry)
+            → HasStoredRows (state S.Store conn.old).now kind.table rows
+            → MatchResult result (λ found. found.items
+            ≡ shown (take AHEAD (rows_from from (filter (kind.is_given of) rows))))
+            (IsStoreError (state S.Store conn.old) (state S.Store conn.new)) }
+        ensures same { HasCleanDisk (state S.Store conn.new)
+            → OnOk result (IsUnchanged (state S.Store conn.old) (state S.Store conn.new)) }
+        ensures err { HasCleanDisk (state S.Store conn.new)
+            → IfErr result (λ _. WriteFails (state S.Store conn.old) (state S.Store conn.new)) }
+        ensures mode { conn.old.in_transaction ≡ false → conn.new.in_transaction ≡ false }
+        ensures survives { Survives (state S.Store conn.old) (state S.Store conn.new) (λ _. ⊥) };
+
+    /// The row's key.
+    fn key(&self) -> u64
+        ensures key { (kind.entry self.now).key ≡ pos result }
+        ensures most { result ≤ MAX_DECIDED };
+}

@@ -1,0 +1,49 @@
+//! The rows of `teller`.
+use crate::limits::LAST_TELLER;
+use crate::numbers::whole;
+use crate::statements::rows_shown;
+use crate::stored_row::{RowsRead, StoredRow};
+use crate::texts::TELLERS_FROM;
+use message_records::{Account, Whole};
+use sqlite::{Alter, Connection, params};
+
+/// A row of `teller`: 1..=`LAST_TELLER`, and its balance, whatever it is.
+#[derive(Clone, Copy, Debug, PartialEq, Eq)]
+pub struct StoredTeller {
+    pub teller: Whole<1, LAST_TELLER>,
+    pub balance: i64,
+}
+
+impl Default for StoredTeller {
+    fn default() -> Self {
+        StoredTeller {
+            teller: Whole::new(1).unwrap(),
+            balance: 0,
+        }
+    }
+}
+
+impl StoredRow for StoredTeller {
+    ghost use Rattle.walked_rows.specs.Stored.{teller_kind};
+
+    ghost kind = { teller_kind };
+
+    fn columns() -> usize {
+        2
+    }
+
+    fn of(numbers: &[i64]) -> Option<Self> {
+        Some(StoredTeller {
+            teller: whole(numbers[0])?,
+            balance: numbers[1],
+        })
+    }
+
+    fn seek<S: Alter>(conn: &mut Connection<S>, _of: Option<Account>, from: i64) -> RowsRead {
+        rows_shown(conn, TELLERS_FROM, params![from])
+    }
+
+    fn key(&self) -> u64 {
+        self.teller.get()
+    }
+}
