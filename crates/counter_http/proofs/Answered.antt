@@ -2,7 +2,7 @@
 use Rattle.std.proofs.Common.{◌≡◌, ℕ, inl, inr, Bool, true, false, List, [], ◌∷◌, length, take, Option, Some}
 use Rattle.std.proofs.Common.{None, Result, Ok, Err, refl, sym, ap, subst, eqb, ◌∙◌, arith}
 use Rattle.std.proofs.lemmas.Bool.{and_parts, ne_eqb}
-use Rattle.std.specs.Prelude.{ℤ, codes, bytes_eq, IfErr, OnErr}
+use Rattle.std.specs.Prelude.{ℤ, codes, bytes_eq}
 use Rattle.std.specs.Io.KnownBytes.{Appends}
 use Rattle.std.proofs.lemmas.List.{take_all}
 use Rattle.message_records.specs.Spelling.{reply_spelling}
@@ -13,6 +13,7 @@ use Rattle.posting_rules.proofs.CounterCalls.{call_refused_behind, refused_behin
 use Rattle.posting_rules.specs.Entries.{reply, balance_behind}
 use Rattle.posting_core.specs.Clock.{IsReading, AreReadings}
 use Rattle.posting_core.specs.Stream.{IsOfCall}
+use Rattle.posting_core.specs.Told.{WriteTold}
 use Rattle.counter_http.specs.declared.fault.ServeFault.{ServeFault}
 use Rattle.counter_http.specs.declared.fault.ServeFault.TheVariants as told
 use Rattle.counter_http.specs.Answers.{octets, balance_answer, status_words}
@@ -21,51 +22,49 @@ use Rattle.counter_http.specs.Answers.{submits, answer_on, Asked, Answer, answer
 use Rattle.counter_http.specs.Answers.{shows, unavailable, is_posting}
 use Rattle.counter_http.specs.declared.routes.Route.{Route}
 use Rattle.counter_http.specs.declared.routes.Route.TheVariants.{Posting, Account, Branches}
+use Rattle.counter_http.specs.Ends.{SendsAs}
 use Rattle.counter_http.specs.Paths.{route_of, path_of}
 use Rattle.counter_http.proofs.PartsWritten.{bare_of, front_of}
 use Rattle.counter_http.specs.Turns.{commands_if, commands_for, readings_if, readings_for, IsDealtWith}
-use Rattle.counter_http.specs.Turns.{IfRefused, IsRefusedAt, IsWrittenTo, ServingBreaksOff, IsTellingOf}
+use Rattle.counter_http.specs.Turns.{IfRefused, IsRefusedAt, IsSentAs, IsTellingOf, TurnIsDealtWith}
 
 -- the bank refused a call, and that was told
-pub told_refused : {C : Type 0} (seen : C → Seen) (fault : Fault) (result : ServeFault)
-    (w w' : Option (List ℕ)) (old new : C) (a : Asked) (cs : List Command) (n : ℕ)
-    → IsRefusedAt seen old new fault cs → Appends w w' (take n (unavailable a))
-    → IsTellingOf fault result n (unavailable a)
-    → ServingBreaksOff seen result w w' old new a cs
-told_refused seen fault told.Write w w' old new a cs n refused wrote is =
-    inr (record {
-      written = take n (unavailable a);
-      wrote = wrote;
-      told = front_of n (unavailable a);
-      fault = fault;
-      refused = refused;
+pub told_refused : {C : Type 0} (seen : C → Seen) {reason : Fault → C → C → Type 0} {w w' : Option (List ℕ)}
+    {v v' : Option (List WriteTold)} (old new : C) (a : Asked) (cs : List Command) (fault : Fault)
+    (result : ServeFault)
+    → IsRefusedAt seen old new fault cs → IsOfCall seen reason old new fault
+    → ((seen old).is_down → new ≡ old)
+    → ((n : ℕ) × Appends w w' (take n (unavailable a)) × IsTellingOf fault result n (unavailable a))
+    → SendsAs (Err result) v v' → IsDealtWith seen reason w w' v v' old new a cs (Err result)
+told_refused seen old new a cs fault told.Write refused why idle t ends = record {
+  answers = inr (record {
+    written = take t.0 (unavailable a);
+    wrote = t.1;
+    told = front_of t.0 (unavailable a);
+    fault = fault;
+    refused = refused;
+  });
+  why = tt;
+  idle = idle;
+  honest = λ h. refused.honest_first (refused.honest h);
+  ends = ends;
+}
+told_refused seen {reason = reason} {w = w} {w' = w'} {v = v} {v' = v'} old new a cs fault (told.Bank f)
+    refused why idle t ends =
+    subst (λ (x : Fault). IsDealtWith seen reason w w' v v' old new a cs (Err (told.Bank x))) (sym t.2.0)
+    (record {
+      answers = record {
+        wrote = subst (λ (x : List ℕ). Appends w w' x)
+            (take_all t.0 (unavailable a) (omega (arith, t.2.1))) t.1;
+        refused = refused;
+      };
+      why = why;
+      idle = idle;
+      honest = λ h. refused.honest_first (refused.honest h);
+      ends = ends;
     })
-told_refused seen fault (told.Bank f) w w' old new a cs n refused wrote is =
-    record {
-      wrote = subst (λ (x : List ℕ). Appends w w' x) (take_all n (unavailable a) (omega (arith, is.1))) wrote;
-      refused = subst (λ (x : Fault). IsRefusedAt seen old new x cs) (sym is.0) refused;
-    }
-told_refused seen fault told.Read w w' old new a cs n refused wrote is = absurd is
-told_refused seen fault told.Memory w w' old new a cs n refused wrote is = absurd is
-
--- the fault that is told is that of the bank, or that of the writer
-pub why_told : {C : Type 0} (seen : C → Seen) (reason : Fault → C → C → Type 0) (old new : C) (fault : Fault)
-    (result : ServeFault) (n : ℕ) (text : List ℕ) → IsTellingOf fault result n text
-    → IsOfCall seen reason old new fault
-    → IfRefused result (IsOfCall seen reason old new)
-why_told seen reason old new fault told.Write n text is why = tt
-why_told seen reason old new fault (told.Bank f) n text is why =
-    subst (λ (x : Fault). IsOfCall seen reason old new x) (sym is.0) why
-why_told seen reason old new fault told.Read n text is why = tt
-why_told seen reason old new fault told.Memory n text is why = tt
-
-pub why_said : {C : Type 0} (seen : C → Seen) (reason : Fault → C → C → Type 0) (old new : C)
-    (result : Result (Unit {0}) ServeFault) → OnErr result (result ≡ Err told.Write)
-    → IfErr result (λ fault. IfRefused fault (IsOfCall seen reason old new))
-why_said seen reason old new (Ok u) err = tt
-why_said seen reason old new (Err e) err =
-    let write : e ≡ told.Write = cc err in
-    subst (λ (f : ServeFault). IfRefused f (IsOfCall seen reason old new)) (sym write) tt
+told_refused seen old new a cs fault told.Read refused why idle t ends = absurd t.2
+told_refused seen old new a cs fault told.Memory refused why idle t ends = absurd t.2
 
 -- a call of the bank was refused
 pub why_first : {C K X : Type 0} (seen : C → Seen) (contents : C → K) (reason : Fault → C → C → Type 0)
@@ -102,32 +101,48 @@ refused_first seen old new fault cs refuses honest =
     }
 
 -- the bank took the commands, and the answer was told
-pub told_answer : {C : Type 0} (seen : C → Seen) (w w' : Option (List ℕ)) (old new : C) (a : Asked)
-    (cs : List Command) (x : Answer) (result : Result (Unit {0}) ServeFault)
+pub told_answer : {C : Type 0} (seen : C → Seen) {reason : Fault → C → C → Type 0} {w w' : Option (List ℕ)}
+    {v v' : Option (List WriteTold)} (old new : C) (a : Asked) (cs : List Command) (x : Answer)
+    (result : Result (Unit {0}) ServeFault)
     → Takes (seen old) (seen new) cs → ((seen new).is_down → (seen old).is_down)
     → ((seen new).honest → (log : List Command) → ShowsLog (seen old) log → x ≡ answer_to log a)
-    → IsWrittenTo w w' (answer_text x (shows a) a.closes) result → OnErr result (result ≡ Err told.Write)
-    → IsDealtWith seen w w' old new a cs result
-told_answer seen w w' old new a cs x (Ok u) takes up is t err =
-    record {
-      written = answer_text x (shows a) a.closes;
-      wrote = subst (λ (y : List ℕ). Appends w w' y)
-          (take_all t.0 (answer_text x (shows a) a.closes) (omega (arith, t.2))) t.1;
-      up = up;
-      takes = takes;
-      answer = λ h log s. ap (λ (y : Answer). answer_text y (shows a) a.closes) (is h log s);
-    }
-told_answer seen w w' old new a cs x (Err e) takes up is t err =
-    let write : e ≡ told.Write = cc err in
-    subst (λ (f : ServeFault). ServingBreaksOff seen f w w' old new a cs) (sym write) (inl (record {
-      written = take t.0 (answer_text x (shows a) a.closes);
-      wrote = t.1;
-      up = up;
-      takes = takes;
-      answer = λ h log s. front_of t.0 (answer_text x (shows a) a.closes)
-          ∙ ap (λ (y : Answer). take (length (take t.0 (answer_text x (shows a) a.closes)))
-          (answer_text y (shows a) a.closes)) (is h log s);
-    }))
+    → ((seen new).honest → (seen old).honest) → ((seen old).is_down → new ≡ old)
+    → IsSentAs w w' v v' (answer_text x (shows a) a.closes) result
+    → IsDealtWith seen reason w w' v v' old new a cs result
+told_answer seen {w = w} {w' = w'} old new a cs x (Ok u) takes up is honest idle sent = record {
+  answers = record {
+    written = answer_text x (shows a) a.closes;
+    wrote = subst (λ (y : List ℕ). Appends w w' y)
+        (take_all sent.written.0 (answer_text x (shows a) a.closes) (omega (arith, sent.written.2)))
+        sent.written.1;
+    up = up;
+    takes = takes;
+    answer = λ h log s. ap (λ (y : Answer). answer_text y (shows a) a.closes) (is h log s);
+  };
+  why = tt;
+  idle = idle;
+  honest = honest;
+  ends = sent.ends;
+}
+told_answer seen {reason = reason} {w = w} {w' = w'} {v = v} {v' = v'} old new a cs x (Err e) takes up is
+    honest idle sent =
+    let write : e ≡ told.Write = cc sent.fault in
+    let n = sent.written.0 in
+    subst (λ (f : ServeFault). IsDealtWith seen reason w w' v v' old new a cs (Err f)) (sym write) (record {
+      answers = inl (record {
+        written = take n (answer_text x (shows a) a.closes);
+        wrote = sent.written.1;
+        up = up;
+        takes = takes;
+        answer = λ h log s. front_of n (answer_text x (shows a) a.closes)
+            ∙ ap (λ (y : Answer). take (length (take n (answer_text x (shows a) a.closes)))
+            (answer_text y (shows a) a.closes)) (is h log s);
+      });
+      why = tt;
+      idle = idle;
+      honest = honest;
+      ends = subst (λ (f : ServeFault). SendsAs (Err f) v v') write sent.ends;
+    })
 
 -- ---- a posting
 
@@ -200,34 +215,27 @@ not_as_long a t n =
     let long : eqb (length a.body) 100 ≡ false =
     ne_eqb (length a.body) 100 n in (rw (t, long) refl, λ log. rw (t, long) refl)
 
--- nothing is submitted, and the bank is left alone
-pub fixed : {C : Type 0} (seen : C → Seen) (w w' k : Option (List ℕ)) (c : C) (a : Asked) (x : Answer)
-    (result : Result (Unit {0}) ServeFault)
-    → is_posting a ≡ false × ((log : List Command) → answer_to log a ≡ x)
-    → IsWrittenTo w w' (answer_text x (shows a) a.closes) result → OnErr result (result ≡ Err told.Write)
-    → (moment : ℕ) × AreReadings k k (readings_for moment a)
-    × IsDealtWith seen w w' c c a (commands_for moment a) result
-fixed seen w w' k c a x result is t err =
-    let none : Takes (seen c) (seen c) (commands_for 0 a) =
-    subst (λ (cs : List Command). Takes (seen c) (seen c) cs) (sym (idle_commands a 0 is.0))
-    (record { shows = λ h log s. s; stands = λ h log s. s }) in (
-      0,
-      idle_readings k a 0 is.0,
-      told_answer seen w w' c c a (commands_for 0 a) x result none (λ d. d)
-          (λ h log s. sym (is.1 log)) t err,
-    )
-
 -- nothing is submitted, and the bank was asked
-pub idle : {C : Type 0} (seen : C → Seen) (w w' k : Option (List ℕ)) (old new : C) (a : Asked)
-    (result : Result (Unit {0}) ServeFault)
-    → is_posting a ≡ false → IsDealtWith seen w w' old new a [] result
-    → (moment : ℕ) × AreReadings k k (readings_for moment a)
-    × IsDealtWith seen w w' old new a (commands_for moment a) result
-idle seen w w' k old new a result is d = (
-  0,
-  idle_readings k a 0 is,
-  subst (λ (cs : List Command). IsDealtWith seen w w' old new a cs result) (sym (idle_commands a 0 is)) d,
-)
+pub idle : {C : Type 0} (seen : C → Seen) {reason : Fault → C → C → Type 0} {w w' k : Option (List ℕ)}
+    {v v' : Option (List WriteTold)} (old new : C) (a : Asked) (result : Result (Unit {0}) ServeFault)
+    → is_posting a ≡ false → IsDealtWith seen reason w w' v v' old new a [] result
+    → TurnIsDealtWith seen reason w w' v v' k k old new a result
+idle seen {reason = reason} {w = w} {w' = w'} {k = k} {v = v} {v' = v'} old new a result is d = record {
+  moment = 0;
+  clock = idle_readings k a 0 is;
+  dealt = subst (λ (cs : List Command). IsDealtWith seen reason w w' v v' old new a cs result)
+      (sym (idle_commands a 0 is)) d;
+}
+
+-- nothing is submitted, and the bank is left alone
+pub fixed : {C : Type 0} (seen : C → Seen) {reason : Fault → C → C → Type 0} {w w' k : Option (List ℕ)}
+    {v v' : Option (List WriteTold)} (c : C) (a : Asked) (x : Answer) (result : Result (Unit {0}) ServeFault)
+    → is_posting a ≡ false → ((log : List Command) → answer_to log a ≡ x)
+    → IsSentAs w w' v v' (answer_text x (shows a) a.closes) result
+    → TurnIsDealtWith seen reason w w' v v' k k c c a result
+fixed seen c a x result none is sent =
+    idle seen c c a result none (told_answer seen c c a [] x result (takes_none (seen c)) (λ d. d)
+    (λ h log s. sym (is log)) (λ h. h) (λ d. refl) sent)
 
 -- ---- an account
 

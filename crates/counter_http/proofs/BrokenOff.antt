@@ -8,8 +8,9 @@ use Rattle.posting_rules.specs.declared.fault.Fault.{Fault}
 use Rattle.posting_rules.specs.Commands.{Command}
 use Rattle.posting_rules.specs.Counter.{Seen, Takes, Refuses}
 use Rattle.posting_rules.specs.Runs.{behind}
+use Rattle.posting_rules.proofs.CounterCalls.{idle_behind}
 use Rattle.posting_core.specs.Clock.{AreReadings}
-use Rattle.posting_core.specs.Told.{ReadTold}
+use Rattle.posting_core.specs.Told.{ReadTold, WriteTold}
 use Rattle.counter_http.specs.declared.fault.ServeFault.{ServeFault}
 use Rattle.counter_http.specs.declared.fault.ServeFault.TheVariants.{Read, Write, Bank, Memory}
 use Rattle.counter_http.specs.declared.next.Whole.{Whole}
@@ -17,9 +18,9 @@ use Rattle.counter_http.specs.Ends.{HasEnded}
 use Rattle.counter_http.specs.Messages.{IsMessage}
 use Rattle.counter_http.specs.Next.{asked, IsWhole}
 use Rattle.counter_http.specs.Answers.{Asked, asked_by, answer_of, unavailable}
-use Rattle.counter_http.specs.Turns.{Turn, commands_for, readings_for, commands_in, moments_in, text_in}
-use Rattle.counter_http.specs.Turns.{commands_of, moments_of, texts_of, answers_to, TurnIsAnsweredInPart}
-use Rattle.counter_http.specs.Turns.{IsRefusedAt, ServingBreaksOff}
+use Rattle.counter_http.specs.Turns.{Turn, commands_in, moments_in, text_in, commands_of, moments_of}
+use Rattle.counter_http.specs.Turns.{texts_of, answers_to, TurnIsAnsweredInPart, IsRefusedAt}
+use Rattle.counter_http.specs.Turns.{ServingBreaksOff, TurnIsDealtWith}
 use Rattle.posting_core.specs.Batches.{joined}
 use Rattle.posting_core.proofs.Batched.{joined-append}
 use Rattle.counter_http.specs.Serving.{At_message, At_refusal, Exits, AnswersAreWritten, ServesConnection}
@@ -178,17 +179,16 @@ broken_at seen (Bank fault) old now new t all rest g is front reading honest a i
 broken_at seen Read old now new t all rest g is front reading honest a idle = absurd a
 broken_at seen Memory old now new t all rest g is front reading honest a idle = absurd a
 
-pub end_broken : {C : Type 0} (seen : C → Seen) (fault : ServeFault)
-    {r r' w w' w'' k k' k'' : Option (List ℕ)} {q q' : Option (List ReadTold)} (old now new : C) {count : ℕ}
-    (m : ℕ) (all : List ℕ)
-    (p : Whole)
-    → Going r r' w w' k k' (seen old) (seen now) all count → IsWhole all p
-    → AreReadings k' k'' (readings_for m (asked p))
-    → ((seen new).honest → (seen now).honest)
-    → ServingBreaksOff seen fault w' w'' now new (asked p) (commands_for m (asked p))
-    → ((seen old).is_down → new ≡ old) → ServesConnection seen r r' q q' w w'' k k'' old new (Err fault)
-end_broken seen fault {w' = w'} {w'' = w''} {k' = k'} {k'' = k''} old now new m all p g is reading honest a
-    idle =
-    broken_at seen fault old now new (turn_of m is) all (drop p.length all) g is.whole is.front
-    (subst (λ (x : Asked). AreReadings k' k'' (readings_for m x)) is.asks reading) honest
-    (subst (λ (x : Asked). ServingBreaksOff seen fault w' w'' now new x (commands_for m x)) is.asks a) idle
+pub end_broken : {C : Type 0} (seen : C → Seen) {reason : Fault → C → C → Type 0} (fault : ServeFault)
+    {r r' w w' w'' k k' k'' : Option (List ℕ)} {q q' : Option (List ReadTold)}
+    {v v' : Option (List WriteTold)} (old now new : C) {count : ℕ} (all : List ℕ) (p : Whole)
+    → Going r r' w w' k k' (seen old) (seen now) all count → ((seen old).is_down → now ≡ old) → IsWhole all p
+    → TurnIsDealtWith seen reason w' w'' v v' k' k'' now new (asked p) (Err fault)
+    → ServesConnection seen r r' q q' w w'' k k'' old new (Err fault)
+end_broken seen {reason = reason} fault {w' = w'} {w'' = w''} {k' = k'} {k'' = k''} {v = v} {v' = v'} old now
+    new all p g idle is dealt =
+    let d : TurnIsDealtWith seen reason w' w'' v v' k' k'' now new (asked_by is.message) (Err fault) =
+    subst (λ (x : Asked). TurnIsDealtWith seen reason w' w'' v v' k' k'' now new x (Err fault)) is.asks
+    dealt in
+    broken_at seen fault old now new (turn_of d.moment is) all (drop p.length all) g is.whole is.front d.clock
+    d.dealt.honest d.dealt.answers (idle_behind seen old now idle new d.dealt.idle)

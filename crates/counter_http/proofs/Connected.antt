@@ -7,9 +7,11 @@ use Rattle.std.specs.Io.KnownBytes.{Appends, Consumes, IsAtEnd}
 use Rattle.std.specs.declared.io.Error.{Error}
 use Rattle.std.proofs.KnownBytes.{Appends-trans, Appends-nil, Consumes-nil}
 use Rattle.std.proofs.lemmas.List.{length-take-le, length-append, take_all}
+use Rattle.posting_rules.specs.declared.fault.Fault.{Fault}
 use Rattle.posting_rules.specs.Counter.{Seen}
+use Rattle.posting_rules.proofs.CounterCalls.{idle_behind}
 use Rattle.posting_core.specs.Clock.{AreReadings}
-use Rattle.posting_core.specs.Told.{ReadTold, GrowsBy, read_told}
+use Rattle.posting_core.specs.Told.{ReadTold, WriteTold, GrowsBy, read_told}
 use Rattle.counter_http.specs.declared.fault.ServeFault.{ServeFault}
 use Rattle.counter_http.specs.declared.fault.ServeFault.TheVariants.{Read, Write, Memory}
 use Rattle.counter_http.specs.declared.next.Whole.{Whole}
@@ -17,8 +19,8 @@ use Rattle.counter_http.specs.Ends.{HasEnded}
 use Rattle.counter_http.specs.Messages.{closes, Finished, Closed, EndsWalk, Walks}
 use Rattle.counter_http.specs.Next.{asked, IsWhole, IsUnfinished, IsHopeless}
 use Rattle.counter_http.specs.Answers.{Asked, refusal}
-use Rattle.counter_http.specs.Turns.{Turn, commands_for, readings_for, text_in, commands_of, moments_of}
-use Rattle.counter_http.specs.Turns.{messages_of, texts_of, answers_to, AreAnswered, TurnIsAnswered}
+use Rattle.counter_http.specs.Turns.{Turn, text_in, commands_of, moments_of, messages_of, texts_of}
+use Rattle.counter_http.specs.Turns.{answers_to, AreAnswered, TurnIsDealtWith}
 use Rattle.posting_core.specs.Batches.{joined}
 use Rattle.posting_core.proofs.Batched.{joined-append}
 use Rattle.posting_core.proofs.Streaming.{at_ok}
@@ -101,16 +103,15 @@ end_unread seen {w' = w'} old new rest g none idle =
     idle
 
 -- the answer to a message was the last
-pub end_closed : {C : Type 0} (seen : C → Seen) {r r' w w' w'' k k' k'' : Option (List ℕ)}
-    {q q' : Option (List ReadTold)} (old now new : C)
-    {count : ℕ} (m : ℕ) (all : List ℕ) (count' : ℕ) (p : Whole)
-    → Going r r' w w' k k' (seen old) (seen now) all count → (is : IsWhole all p) → p.closes ≡ true
-    → count' ≡ count + 1
-    → AreReadings k' k'' (readings_for m (asked p)) → ((seen new).honest → (seen now).honest)
-    → TurnIsAnswered w' w'' (seen now) (seen new) (asked p) (commands_for m (asked p))
-    → ((seen old).is_down → new ≡ old) → ServesConnection seen r r' q q' w w'' k k'' old new (Ok count')
-end_closed seen {r = r} {r' = r'} {w'' = w''} old now new m all count' p g is last n reading honest a idle =
-    let t : Turn = turn_of m is in
+pub end_closed : {C : Type 0} (seen : C → Seen) {reason : Fault → C → C → Type 0}
+    {r r' w w' w'' k k' k'' : Option (List ℕ)} {q q' : Option (List ReadTold)}
+    {v v' : Option (List WriteTold)} (old now new : C) {count : ℕ} (all : List ℕ) (count' : ℕ) (p : Whole)
+    → Going r r' w w' k k' (seen old) (seen now) all count → ((seen old).is_down → now ≡ old) → IsWhole all p
+    → p.closes ≡ true → count' ≡ count + 1
+    → TurnIsDealtWith seen reason w' w'' v v' k' k'' now new (asked p) (Ok tt)
+    → ServesConnection seen r r' q q' w w'' k k'' old new (Ok count')
+end_closed seen {r = r} {r' = r'} {w'' = w''} old now new all count' p g idle is last n d =
+    let t : Turn = turn_of d.moment is in
     let ts = g.turns ++ t ∷ [] in
     let rest = drop p.length all in
     let closed : closes t.message.head ≡ true = sym (ap (λ (x : Asked). x.closes) is.asks) ∙ last in
@@ -118,7 +119,8 @@ end_closed seen {r = r} {r' = r'} {w'' = w''} old now new m all count' p g is la
     λ more. walks_behind g.turns (t ∷ []) (text_in t ++ more) Closed g.stays
     (walks_closed t more is.whole closed) in
     end_with seen old new (Ok count') ts rest [] [] (read_one_more r r' g.turns t all rest g.read is.front)
-    (answered_more g.turns (t ∷ []) g.answered (answered_one t (asked p) is.asks reading honest a))
+    (answered_more g.turns (t ∷ []) g.answered
+    (answered_one t (asked p) is.asks d.clock d.dealt.honest d.dealt.answers))
     (Appends-nil w'') (
       record {
         ending = Closed;
@@ -134,7 +136,7 @@ end_closed seen {r = r} {r' = r'} {w'' = w''} old now new m all count' p g is la
       },
       omega (arith, n, g.count_is, length-append g.turns (t ∷ [])),
       refl,
-    ) (λ text. refl) idle
+    ) (λ text. refl) (idle_behind seen old now idle new d.dealt.idle)
 
 -- ---- a 400
 

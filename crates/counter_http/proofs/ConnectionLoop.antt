@@ -1,21 +1,21 @@
 -- Where the loop over a connection stands: what was read, a message, and the buffer.
 use Rattle.std.proofs.Common.{◌≡◌, ℕ, ◌+◌, ◌<◌, ◌≤◌, ◌-◌, slice_range, drop-drop, length-drop, Bool, false}
-use Rattle.std.proofs.Common.{List, [], ◌∷◌, ◌++◌, length, take, drop, Option, refl, sym, ap, subst, ◌∙◌}
+use Rattle.std.proofs.Common.{List, [], ◌∷◌, ◌++◌, length, take, drop, Option, Ok, refl, sym, ap, subst, ◌∙◌}
 use Rattle.std.proofs.Common.{append_assoc, append-nil, arith}
 use Rattle.std.specs.List.{AllByRecursion}
 use Rattle.std.specs.Io.KnownBytes.{Consumes}
 use Rattle.std.proofs.KnownBytes.{Consumes-trans, Consumes-nil}
 use Rattle.std.proofs.lemmas.List.{length-append, length-take-le, drop-take, nil_from_length}
 use Rattle.std.proofs.lemmas.List.Concat.{flat_map-append}
+use Rattle.posting_rules.specs.declared.fault.Fault.{Fault}
 use Rattle.posting_rules.specs.Counter.{Seen}
-use Rattle.posting_core.specs.Clock.{AreReadings}
+use Rattle.posting_core.specs.Told.{WriteTold}
 use Rattle.httparse.specs.Grammar.{print_request}
 use Rattle.counter_http.specs.declared.next.Whole.{Whole}
 use Rattle.counter_http.specs.Messages.{message_text, Finished}
 use Rattle.counter_http.specs.Next.{asked, IsWhole, IsUnfinished}
 use Rattle.counter_http.specs.Answers.{Asked}
-use Rattle.counter_http.specs.Turns.{Turn, commands_for, readings_for, text_in, texts_of, AreAnswered}
-use Rattle.counter_http.specs.Turns.{TurnIsAnswered}
+use Rattle.counter_http.specs.Turns.{Turn, text_in, texts_of, AreAnswered, TurnIsDealtWith}
 use Rattle.counter_http.specs.Serving.{KeepsConnection, BeginsWithNoMessage}
 use Rattle.counter_http.proofs.Walking.{no_message, head_some}
 use Rattle.counter_http.proofs.Turning.{answered_none, answered_more, answered_one}
@@ -89,15 +89,15 @@ stays_one_more (s ∷ ts) t all one = (all.0, stays_one_more ts t all.1 one)
 abbrev pub turn_of : {all : List ℕ} {w : Whole} → ℕ → IsWhole all w → Turn
 turn_of moment is = record { message = is.message; moment = moment }
 
-pub going_message : {r r' w w' w'' k k' k'' : Option (List ℕ)} {c c' c'' : Seen} {count : ℕ} (m : ℕ)
-    (all rest : List ℕ) (count' : ℕ) (p : Whole)
-    → Going r r' w w' k k' c c' all count → (is : IsWhole all p) → p.closes ≡ false → rest ≡ drop p.length all
-    → count' ≡ count + 1
-    → AreReadings k' k'' (readings_for m (asked p)) → (c''.honest → c'.honest)
-    → TurnIsAnswered w' w'' c' c'' (asked p) (commands_for m (asked p))
-    → Going r r' w w'' k k'' c c'' rest count'
-going_message {r = r} {r' = r'} m all rest count' p g is on left n reading honest a =
-    let t : Turn = turn_of m is in record {
+pub going_message : {C : Type 0} (seen : C → Seen) {reason : Fault → C → C → Type 0}
+    {r r' w w' w'' k k' k'' : Option (List ℕ)} {v v' : Option (List WriteTold)} {c : Seen} {count : ℕ}
+    (now new : C) (all rest : List ℕ) (count' : ℕ) (p : Whole)
+    → Going r r' w w' k k' c (seen now) all count → IsWhole all p → p.closes ≡ false
+    → rest ≡ drop p.length all → count' ≡ count + 1
+    → TurnIsDealtWith seen reason w' w'' v v' k' k'' now new (asked p) (Ok tt)
+    → Going r r' w w'' k k'' c (seen new) rest count'
+going_message seen {r = r} {r' = r'} now new all rest count' p g is on left n d =
+    let t : Turn = turn_of d.moment is in record {
       turns = g.turns ++ t ∷ [];
       read = read_one_more r r' g.turns t all rest g.read
           (is.front ∙ ap (λ (x : List ℕ). text_in t ++ x) (sym left));
@@ -105,7 +105,7 @@ going_message {r = r} {r' = r'} m all rest count' p g is on left n reading hones
           (record { whole = is.whole; stays = sym (ap (λ (x : Asked). x.closes) is.asks) ∙ on });
       count_is = omega (arith, n, g.count_is, length-append g.turns (t ∷ []));
       answered = answered_more g.turns (t ∷ []) g.answered
-          (answered_one t (asked p) is.asks reading honest a);
+          (answered_one t (asked p) is.asks d.clock d.dealt.honest d.dealt.answers);
     }
 
 -- ---- the buffer

@@ -10,10 +10,14 @@ use Rattle.std.proofs.Math.Seq.{take-append-add, take-append_seam}
 use Rattle.std.proofs.lemmas.List.{length-append, length-take, take_all, take-append-drop, take-append-le}
 use Rattle.std.proofs.lemmas.List.{length-take-le}
 use Rattle.std.specs.Option.{option_map}
+use Rattle.std.specs.Result.{IsErrOf}
 use Rattle.http.specs.StatusCode.{reason_phrase, code_digits}
+use Rattle.posting_core.specs.Told.{WriteTold}
 use Rattle.counter_http.specs.Answers.{Answer, status_words, allow_line, close_line, answer_text, bare}
 use Rattle.counter_http.specs.declared.fault.ServeFault.{ServeFault}
-use Rattle.counter_http.specs.Turns.{IsWrittenTo}
+use Rattle.counter_http.specs.declared.fault.ServeFault.TheVariants.{Write}
+use Rattle.counter_http.specs.Ends.{SendsAs}
+use Rattle.counter_http.specs.Turns.{IsSentAs, IsWrittenTo}
 use Rattle.counter_http.specs.Telling.{IsWrittenOrHeld, first_lines, last_lines}
 
 pub on_ok_true : {A E : Type 0} {P : Type 0} (r : Result A E) → OnOk r P → is_ok r ≡ true → P
@@ -231,6 +235,8 @@ unfolding status_words
 bad_request = refl
 
 -- one text in place of another
-pub told_text : (w w' : Option (List ℕ)) (x y : List ℕ) (r : Result (Unit {0}) ServeFault) → x ≡ y
-    → IsWrittenTo w w' x r → IsWrittenTo w w' y r
-told_text w w' x y r e t = subst (λ (z : List ℕ). IsWrittenTo w w' z r) e t
+pub told_text : {w w' : Option (List ℕ)} {v v' : Option (List WriteTold)} {x y : List ℕ}
+    (r : Result (Unit {0}) ServeFault) → x ≡ y → IsWrittenTo w w' x r → OnErr r (IsErrOf r Write)
+    → SendsAs r v v' → IsSentAs w w' v v' y r
+told_text {w = w} {w' = w'} r e t fault ends = record
+    { written = subst (λ (z : List ℕ). IsWrittenTo w w' z r) e t; fault = fault; ends = ends }

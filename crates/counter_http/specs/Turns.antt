@@ -1,9 +1,11 @@
 -- Messages one after another: each is answered in its turn, and a record is submitted under one reading of
--- the clock. The writer's known bytes before and after are w and w', the clock's known readings k and k'.
--- What is seen of a counter is given by seen, or the counter is seen as c before and as c' after.
+-- the clock. The writer's known bytes before and after are w and w', what its calls returned v and v', the
+-- clock's known readings k and k'. What is seen of a counter is given by seen, and what a fault says of a
+-- call by reason; or the counter is seen as c before and as c' after.
 use Rattle.std.specs.Prelude.{◌≡◌, ◌⊎◌, ℕ, List, [], ◌∷◌, length, take, map, Option, Bool, true, false, ⊤}
-use Rattle.std.specs.Prelude.{Result, MatchResult, OnOk}
+use Rattle.std.specs.Prelude.{Result, MatchResult, OnOk, IfErr, OnErr}
 use Rattle.std.specs.List.{flat_map}
+use Rattle.std.specs.Result.{IsErrOf}
 use Rattle.std.specs.Io.KnownBytes.{Appends}
 use Rattle.posting_rules.specs.declared.fault.Fault.{Fault}
 use Rattle.posting_rules.specs.Commands.{Command, Post}
@@ -11,8 +13,11 @@ use Rattle.posting_rules.specs.Counter.{Seen, ShowsLog, Takes, Refuses}
 use Rattle.posting_rules.specs.Runs.{behind}
 use Rattle.posting_core.specs.Batches.{joined}
 use Rattle.posting_core.specs.Clock.{AreReadings}
+use Rattle.posting_core.specs.Stream.{IsOfCall}
+use Rattle.posting_core.specs.Told.{WriteTold}
 use Rattle.counter_http.specs.declared.fault.ServeFault.{ServeFault}
 use Rattle.counter_http.specs.declared.fault.ServeFault.TheVariants.{Read, Write, Bank, Memory}
+use Rattle.counter_http.specs.Ends.{SendsAs}
 use Rattle.counter_http.specs.Messages.{Message, message_text}
 use Rattle.counter_http.specs.Answers.{Asked, asked_by, is_posting, answer_of, unavailable}
 
@@ -148,13 +153,38 @@ IsTellingOf fault (Bank told) n text = (told ≡ fault) × (n ≡ length text)
 IsTellingOf fault Read n text = ⊥
 IsTellingOf fault Memory n text = ⊥
 
--- what became of a message that asked for something of the bank, whatever the result
-abbrev pub IsDealtWith : {C : Type 0} → (C → Seen) → (w w' : Option (List ℕ)) → (old new : C) → Asked
-    → List Command → Result (Unit {0}) ServeFault → Type 0
-IsDealtWith seen w w' old new asked commands result =
-    MatchResult result (λ _. TurnIsAnswered w w' (seen old) (seen new) asked commands)
-    (λ fault. ServingBreaksOff seen fault w w' old new asked commands)
+-- what became of a message for which the bank was given these commands, whatever the result
+pub record IsDealtWith {C : Type 0} (seen : C → Seen) (reason : Fault → C → C → Type 0)
+    (w w' : Option (List ℕ)) (v v' : Option (List WriteTold)) (old new : C) (asked : Asked)
+    (commands : List Command) (result : Result (Unit {0}) ServeFault) : Type 0 where
+  -- the bank took them and the answer was written, or as the fault says
+  pub answers : MatchResult result (λ _. TurnIsAnswered w w' (seen old) (seen new) asked commands)
+      (λ fault. ServingBreaksOff seen fault w w' old new asked commands)
+  -- a fault of the bank says why a call was refused
+  pub why : IfErr result (λ fault. IfRefused fault (IsOfCall seen reason old new))
+  -- a bank that was down is the one that it was
+  pub idle : (seen old).is_down → new ≡ old
+  pub honest : (seen new).honest → (seen old).honest
+  -- one answer was flushed, or the writer failed
+  pub ends : SendsAs result v v'
 
--- so much of a text was written, and all of it where the result is none of a fault
+-- what became of a message, whose record was submitted under one reading of the clock, if it has one
+pub record TurnIsDealtWith {C : Type 0} (seen : C → Seen) (reason : Fault → C → C → Type 0)
+    (w w' : Option (List ℕ)) (v v' : Option (List WriteTold)) (k k' : Option (List ℕ)) (old new : C)
+    (asked : Asked) (result : Result (Unit {0}) ServeFault) : Type 0 where
+  pub moment : ℕ
+  pub clock : AreReadings k k' (readings_for moment asked)
+  pub dealt : IsDealtWith seen reason w w' v v' old new asked (commands_for moment asked) result
+
+-- ---- what was written of a text
+
+-- so much of it was written, and all of it where the result is none of a fault
 abbrev pub IsWrittenTo : (w w' : Option (List ℕ)) → List ℕ → Result (Unit {0}) ServeFault → Type 0
 IsWrittenTo w w' text result = (n : ℕ) × Appends w w' (take n text) × OnOk result (n ≡ length text)
+
+-- it was written and flushed, or the writer failed
+pub record IsSentAs (w w' : Option (List ℕ)) (v v' : Option (List WriteTold)) (text : List ℕ)
+    (result : Result (Unit {0}) ServeFault) : Type 0 where
+  pub written : IsWrittenTo w w' text result
+  pub fault : OnErr result (IsErrOf result Write)
+  pub ends : SendsAs result v v'

@@ -1,9 +1,6 @@
 //! The answer to each message.
-ghost use Rattle.std.specs.Prelude.{◌≡◌, ℕ, List, take, IfErr, OnErr, true, [], Err};
-ghost use Rattle.std.specs.Result.{IsErrOf};
+ghost use Rattle.std.specs.Prelude.{◌≡◌, ℕ, List, take, true, [], Err};
 ghost use Rattle.std.specs.Io.KnownBytes.{Appends};
-ghost use Rattle.posting_core.specs.Clock.{AreReadings};
-ghost use Rattle.posting_core.specs.Stream.{IsOfCall};
 ghost use Rattle.posting_rules.specs.Commands.{Command};
 ghost use Rattle.posting_rules.specs.Entries.{balance_behind};
 ghost use Rattle.counter_http.specs.Answers.{refusal, answer_text, shows, unavailable, is_posting};
@@ -11,8 +8,7 @@ ghost use Rattle.counter_http.specs.Answers.{answer_to, balance_answer, branch_l
 ghost use Rattle.counter_http.specs.Ends.{SendsAs};
 ghost use Rattle.counter_http.specs.Next.{asked};
 ghost use Rattle.counter_http.specs.Telling.{said};
-ghost use Rattle.counter_http.specs.Turns.{commands_for, readings_for, IfRefused, IsDealtWith, IsTellingOf};
-ghost use Rattle.counter_http.specs.Turns.{IsWrittenTo};
+ghost use Rattle.counter_http.specs.Turns.{IsDealtWith, IsSentAs, IsTellingOf, TurnIsDealtWith};
 
 use crate::fault::ServeFault;
 use crate::fixed::{bad_request, not_found, unavailable};
@@ -28,10 +24,8 @@ use std::alloc::Global;
 
 /// Answers a 400, after which the connection ends.
 pub(crate) fn refuse<W: Sink>(writer: &mut W, shows_body: bool) -> Result<(), ServeFault>
-    ensures written { IsWrittenTo (W.contents writer.old) (W.contents writer.new)
-        (refusal shows_body) result }
-    ensures fault { OnErr result (IsErrOf result ServeFault.Write) }
-    ensures ends { SendsAs result (W.told writer.old) (W.told writer.new) }
+    ensures { IsSentAs (W.contents writer.old) (W.contents writer.new) (W.told writer.old)
+        (W.told writer.new) (refusal shows_body) result }
 {
     match tell(writer, &bad_request(), shows_body, true) {
         Ok(()) => Ok(()),
@@ -45,10 +39,9 @@ fn say<W: Sink>(
     response: &Response<'_>,
     writer: &mut W,
 ) -> Result<(), ServeFault>
-    ensures written { IsWrittenTo (W.contents writer.old) (W.contents writer.new)
+    ensures { IsSentAs (W.contents writer.old) (W.contents writer.new) (W.told writer.old)
+        (W.told writer.new)
         (answer_text (said response.now) (shows (asked message.now)) message.now.closes) result }
-    ensures fault { OnErr result (IsErrOf result ServeFault.Write) }
-    ensures ends { SendsAs result (W.told writer.old) (W.told writer.new) }
 {
     match tell(writer, response, !is_head(message.method), message.closes) {
         Ok(()) => Ok(()),
@@ -58,10 +51,9 @@ fn say<W: Sink>(
 
 // Answers with a text.
 fn say_text<W: Sink>(message: &Whole<'_>, text: &[u8], writer: &mut W) -> Result<(), ServeFault>
-    ensures written { IsWrittenTo (W.contents writer.old) (W.contents writer.new)
+    ensures { IsSentAs (W.contents writer.old) (W.contents writer.new) (W.told writer.old)
+        (W.told writer.new)
         (answer_text (plain text.now) (shows (asked message.now)) message.now.closes) result }
-    ensures fault { OnErr result (IsErrOf result ServeFault.Write) }
-    ensures ends { SendsAs result (W.told writer.old) (W.told writer.new) }
 {
     let response = Response {
         status: StatusCode::OK,
@@ -95,15 +87,9 @@ fn answer_posting<W: Sink, K: Clock, C: Counter>(
 ) -> Result<(), ServeFault>
     requires body { bytes.now ≡ message.now.body.now }
     requires posting { is_posting (asked message.now) ≡ true }
-    ensures answers { (moment : ℕ) × AreReadings (K.readings clock.old) (K.readings clock.new)
-        (readings_for moment (asked message.now))
-        × IsDealtWith C.seen (W.contents writer.old) (W.contents writer.new) bank.old bank.new
-        (asked message.now)
-        (commands_for moment (asked message.now)) result }
-    ensures why { IfErr result (λ fault. IfRefused fault (IsOfCall C.seen C.reason bank.old bank.new)) }
-    ensures idle { (C.seen bank.old).is_down → bank.new ≡ bank.old }
-    ensures honest { (C.seen bank.new).honest → (C.seen bank.old).honest }
-    ensures ends { SendsAs result (W.told writer.old) (W.told writer.new) }
+    ensures { TurnIsDealtWith C.seen C.reason (W.contents writer.old) (W.contents writer.new)
+        (W.told writer.old) (W.told writer.new) (K.readings clock.old) (K.readings clock.new)
+        bank.old bank.new (asked message.now) result }
 {
     let moment = clock.now();
     match bank.submit(moment, bytes) {
@@ -130,12 +116,8 @@ fn answer_account<W: Sink, C: Counter>(
 ) -> Result<(), ServeFault>
     requires { (log : List Command) → answer_to log (asked message.now)
         ≡ balance_answer account (balance_behind log account) }
-    ensures answers { IsDealtWith C.seen (W.contents writer.old) (W.contents writer.new) bank.old bank.new
-        (asked message.now) [] result }
-    ensures why { IfErr result (λ fault. IfRefused fault (IsOfCall C.seen C.reason bank.old bank.new)) }
-    ensures idle { (C.seen bank.old).is_down → bank.new ≡ bank.old }
-    ensures honest { (C.seen bank.new).honest → (C.seen bank.old).honest }
-    ensures ends { SendsAs result (W.told writer.old) (W.told writer.new) }
+    ensures { IsDealtWith C.seen C.reason (W.contents writer.old) (W.contents writer.new)
+        (W.told writer.old) (W.told writer.new) bank.old bank.new (asked message.now) [] result }
 {
     let balance = match bank.balance(account) {
         Ok(Some(balance)) => balance,
@@ -156,12 +138,8 @@ fn answer_branches<W: Sink, C: Counter>(
     bank: &mut C,
 ) -> Result<(), ServeFault>
     requires { (log : List Command) → answer_to log (asked message.now) ≡ plain (branch_lines log) }
-    ensures answers { IsDealtWith C.seen (W.contents writer.old) (W.contents writer.new) bank.old bank.new
-        (asked message.now) [] result }
-    ensures why { IfErr result (λ fault. IfRefused fault (IsOfCall C.seen C.reason bank.old bank.new)) }
-    ensures idle { (C.seen bank.old).is_down → bank.new ≡ bank.old }
-    ensures honest { (C.seen bank.new).honest → (C.seen bank.old).honest }
-    ensures ends { SendsAs result (W.told writer.old) (W.told writer.new) }
+    ensures { IsDealtWith C.seen C.reason (W.contents writer.old) (W.contents writer.new)
+        (W.told writer.old) (W.told writer.new) bank.old bank.new (asked message.now) [] result }
 {
     match all_lines(alloc, bank) {
         Ok(lines) => say_text(message, lines.as_bytes(), writer),
@@ -178,15 +156,9 @@ pub(crate) fn answer_message<W: Sink, K: Clock, C: Counter>(
     clock: &mut K,
     bank: &mut C,
 ) -> Result<(), ServeFault>
-    ensures answers { (moment : ℕ) × AreReadings (K.readings clock.old) (K.readings clock.new)
-        (readings_for moment (asked message.now))
-        × IsDealtWith C.seen (W.contents writer.old) (W.contents writer.new) bank.old bank.new
-        (asked message.now)
-        (commands_for moment (asked message.now)) result }
-    ensures why { IfErr result (λ fault. IfRefused fault (IsOfCall C.seen C.reason bank.old bank.new)) }
-    ensures idle { (C.seen bank.old).is_down → bank.new ≡ bank.old }
-    ensures honest { (C.seen bank.new).honest → (C.seen bank.old).honest }
-    ensures ends { SendsAs result (W.told writer.old) (W.told writer.new) }
+    ensures { TurnIsDealtWith C.seen C.reason (W.contents writer.old) (W.contents writer.new)
+        (W.told writer.old) (W.told writer.new) (K.readings clock.old) (K.readings clock.new)
+        bank.old bank.new (asked message.now) result }
 {
     match task_of(message, routes) {
         Task::Say(response) => say(message, &response, writer),

@@ -1,4 +1,4 @@
-use Rattle.std.proofs.Common.{ap, Bool, Ok, Err}
+use Rattle.std.proofs.Common.{ap, refl, Bool, Ok, Err}
 use Rattle.std.specs.Prelude.{not}
 use Rattle.counter_http.specs.Answers.{answer_text}
 use Rattle.counter_http.specs.Telling.{said}
@@ -6,14 +6,14 @@ use Rattle.counter_http.specs.declared.fault.ServeFault.TheVariants.{Write}
 use Rattle.counter_http.proofs.PartsWritten.{told_text}
 use Rattle.counter_http.proofs.answers.say.Goals as goal
 
-pub returns-in-Ok-clause-written : goal.returns-in-Ok-clause-written
-returns-in-Ok-clause-written g c =
-    told_text _ _ _ _ (Ok tt)
+pub returns-in-Ok : goal.returns-in-Ok
+returns-in-Ok g c =
+    told_text (Ok tt)
     (ap (λ (b : Bool). answer_text (said c.args.response.now) (not b) c.args.message.now.closes)
-    c.is_head.ensures) c.in-Ok.ensures.written
+    c.is_head.ensures) c.in-Ok.ensures.written tt c.in-Ok.ensures.ends
 
-pub returns-in-Err-clause-written : goal.returns-in-Err-clause-written
-returns-in-Err-clause-written g c =
-    told_text _ _ _ _ (Err Write)
+pub returns-in-Err : goal.returns-in-Err
+returns-in-Err g c =
+    told_text (Err Write)
     (ap (λ (b : Bool). answer_text (said c.args.response.now) (not b) c.args.message.now.closes)
-    c.is_head.ensures) c.in-Err.ensures.written
+    c.is_head.ensures) c.in-Err.ensures.written refl c.in-Err.ensures.ends

@@ -196,19 +196,19 @@ messages-preserved g c =
     let order : c.messages.used + c.in-Message.message.length ≤ c.match-fill.filled =
     message_within c.messages.used c.in-Message.message.length c.match-fill.filled _ long.1 all
     c.messages.invariant.order in
-    let a = c.in_ok-answer_message-in-Message.ensures.answers in
+    let answered = c.in_ok-answer_message-in-Message.ensures in
     record {
       order = order;
       fits = c.messages.invariant.fits;
       bound = one_more c.reads.served c.messages.served c.messages.used c.in-Message.message.length
           c.messages.invariant.bound long.0;
-      going = going_message a.0 _ _ _ c.in-Message.message c.messages.invariant.going c.in-Message.ensures
-          c.if-message.false
+      going = going_message g.C.Counter.seen c.messages.bank c.answer_message.new.bank _ _ _
+          c.in-Message.message c.messages.invariant.going c.in-Message.ensures c.if-message.false
           (range_next c.fill.new.buffer c.messages.used c.in-Message.message.length c.match-fill.filled order)
-          refl a.1 c.in_ok-answer_message-in-Message.ensures.honest a.2;
+          refl answered;
       idle = idle_behind g.C.Counter.seen c.args.bank.now c.messages.bank c.messages.invariant.idle
-          c.answer_message.new.bank c.answer_message.ensures.idle;
-      through = through_batch c.messages.invariant.through c.in_ok-answer_message-in-Message.ensures.ends;
+          c.answer_message.new.bank answered.dealt.idle;
+      through = through_batch c.messages.invariant.through answered.dealt.ends;
     }
 
 pub returns-in_err-answer_message-in-Message-clause-served :
@@ -217,21 +217,15 @@ returns-in_err-answer_message-in-Message-clause-served g c =
     let fault = c.in_err-answer_message-in-Message.field-0.0 in
     let told = err_from_is_err_and c.from_residual-in_err-answer_message-in-Message.result
     c.from_residual-in_err-answer_message-in-Message.ensures.1 in
-    let a = c.in_err-answer_message-in-Message.ensures.answers in
     rw (told.1, told.2) (end_broken g.C.Counter.seen fault c.args.bank.now c.messages.bank
-    c.answer_message.new.bank a.0 _ c.in-Message.message c.messages.invariant.going c.in-Message.ensures a.1
-    c.in_err-answer_message-in-Message.ensures.honest a.2
-    (idle_behind g.C.Counter.seen c.args.bank.now c.messages.bank c.messages.invariant.idle
-    c.answer_message.new.bank c.answer_message.ensures.idle))
+    c.answer_message.new.bank _ c.in-Message.message c.messages.invariant.going c.messages.invariant.idle
+    c.in-Message.ensures c.in_err-answer_message-in-Message.ensures)
 
 pub returns-then-message-clause-served : goal.returns-then-message-clause-served
 returns-then-message-clause-served g c =
-    let a = c.in_ok-answer_message-in-Message.ensures.answers in
-    end_closed g.C.Counter.seen c.args.bank.now c.messages.bank c.answer_message.new.bank a.0 _ _
-    c.in-Message.message c.messages.invariant.going c.in-Message.ensures c.if-message.true refl a.1
-    c.in_ok-answer_message-in-Message.ensures.honest a.2
-    (idle_behind g.C.Counter.seen c.args.bank.now c.messages.bank c.messages.invariant.idle
-    c.answer_message.new.bank c.answer_message.ensures.idle)
+    end_closed g.C.Counter.seen c.args.bank.now c.messages.bank c.answer_message.new.bank _ _
+    c.in-Message.message c.messages.invariant.going c.messages.invariant.idle c.in-Message.ensures
+    c.if-message.true refl c.in_ok-answer_message-in-Message.ensures
 
 pub returns-in_err-refuse-in-Refused-clause-served : goal.returns-in_err-refuse-in-Refused-clause-served
 returns-in_err-refuse-in-Refused-clause-served g c =
@@ -302,11 +296,11 @@ returns-in_err-answer_message-in-Message-clause-ends g c =
     let told = err_from_is_err_and c.from_residual-in_err-answer_message-in-Message.result
     c.from_residual-in_err-answer_message-in-Message.ensures.1 in
     rw (told.1, told.2) (sent_broken fault _ _ _ _ _ c.messages.invariant.through
-    c.in_err-answer_message-in-Message.ensures.ends)
+    c.in_err-answer_message-in-Message.ensures.dealt.ends)
 
 pub returns-then-message-clause-ends : goal.returns-then-message-clause-ends
 returns-then-message-clause-ends g c =
-    through_batch c.messages.invariant.through c.in_ok-answer_message-in-Message.ensures.ends
+    through_batch c.messages.invariant.through c.in_ok-answer_message-in-Message.ensures.dealt.ends
 
 pub returns-in_err-refuse-in-Refused-clause-ends : goal.returns-in_err-refuse-in-Refused-clause-ends
 returns-in_err-refuse-in-Refused-clause-ends g c =
@@ -374,7 +368,7 @@ returns-in_err-answer_message-in-Message-clause-why g c =
     rw (told.1, told.2)
     (why_behind g.C.Counter.seen g.C.Counter.reason c.args.bank.now c.messages.bank c.answer_message.new.bank
     _ before.takes before.honest c.messages.invariant.idle c.in_err-answer_message-in-Message.field-0.0
-    c.in_err-answer_message-in-Message.ensures.why)
+    c.in_err-answer_message-in-Message.ensures.dealt.why)
 
 pub returns-in_err-refuse-in-Ok-eq0-2-clause-why : goal.returns-in_err-refuse-in-Ok-eq0-2-clause-why
 returns-in_err-refuse-in-Ok-eq0-2-clause-why g c =
