@@ -1,18 +1,10 @@
 -- Room that is filled with rows and those beside them.
-use Rattle.std.proofs.Common.{◌≡◌, ◌⊎◌, ◌≤ℤ◌, ◌+ℤ◌, drop, slice_get, Ok, Err, Result, ℤ, pos, List, [], ◌∷◌}
-use Rattle.std.proofs.Common.{◌++◌, map, filter, Bool, Some, None, Option, refl, sym, ap, subst, ◌∙◌, inl}
-use Rattle.std.proofs.Common.{arith, inr}
-use Rattle.std.specs.Prelude.{IfOk, IsSome, OnOk, IsSomeAnd, MatchResult}
-use Rattle.sqlite.specs.State.{HasCleanDisk, State, IsUnchanged, Survives}
-use Rattle.sqlite.specs.State.{Shows as StateShows}
-use Rattle.sqlite.proofs.Callers.{unchanged_then}
+use Rattle.std.proofs.Common.{◌≡◌, ◌≤ℤ◌, ◌+ℤ◌, drop, slice_get, Ok, Err, Result, ℤ, pos, List, [], ◌∷◌, ◌++◌}
+use Rattle.std.proofs.Common.{map, filter, Bool, Some, None, Option, refl, sym, ap, subst, ◌∙◌, inl, inr}
+use Rattle.std.specs.Prelude.{IfOk, OnOk, IsSomeAnd}
 use Rattle.sqlite.specs.declared.error.Error.{Error}
-use Rattle.sqlite.specs.declared.error.Error.TheVariants.{SqliteFailure}
-use Rattle.sqlite.specs.declared.error.ErrorCode.TheVariants.{OperationInterrupted, OutOfMemory}
 use Rattle.posting_rules.specs.declared.fault.Rule.{Rule}
 use Rattle.sql_meanings.specs.Entries.{Entry, Rise}
-use Rattle.sql_meanings.specs.StatementAnswers.{IsStoreError, WriteFails}
-use Rattle.sql_meanings.proofs.Afterwards.{fails_since, rolled_since}
 use Rattle.store_rows.specs.declared.fault.TableFault.{TableFault}
 use Rattle.store_rows.specs.declared.fault.TableFault.TheVariants.{Sqlite, Damaged}
 use Rattle.walked_rows.specs.StepOutcomes.{BreaksFirst}
@@ -139,41 +131,3 @@ module _ (others rows : List Entry) (q : Entry → Bool) (pairs : List Pair) (ar
   breaks_given Before then (Sqlite e) h = then e h
   breaks_given Before then (Damaged broken) h =
       (h.0, h.1, pairs_from others rows q pairs are from ∙ h.2, h.3)
-
--- ---- two reads, one after the other
-
--- the disk was clean between them
-pub clean_between : (b c : State) → Survives b c (λ _. ⊥) → HasCleanDisk c → HasCleanDisk b
-clean_between b c survives clean = let more = survives.clean in omega arith
-
-module _ (a b c : State) (same : IsUnchanged a b) where
-  shows_mid : StateShows a b b.now a.committed a.in_transaction
-  shows_mid = record {
-    was_open = same.0.was_open;
-    is_open = same.0.is_open;
-    now_is = refl;
-    committed_is = same.0.committed_is;
-    mode = same.0.mode;
-  }
-
-  pub fails_both : WriteFails b c → WriteFails a c
-  fails_both (inl more) = inl (unchanged_then a b c same more)
-  fails_both (inr back) = inr (rolled_since a b c a.in_transaction shows_mid same.1 back)
-
-  pub store_both : Survives a b (λ _. ⊥) → (e : Error) → IsStoreError b c e → IsStoreError a c e
-  store_both survives e (inl fails) =
-      inl (fails_since a b c ⊥ ⊥ (λ x. x) e a.in_transaction shows_mid same.1 survives.counts fails)
-  store_both survives e (inr kept) = inr (why kept.0, unchanged_then a b c same kept.1)
-    where
-      why : ((e ≡ SqliteFailure OutOfMemory)
-          ⊎ ((e ≡ SqliteFailure OperationInterrupted) × IsSome b.step_limit))
-          → ((e ≡ SqliteFailure OutOfMemory)
-          ⊎ ((e ≡ SqliteFailure OperationInterrupted) × IsSome a.step_limit))
-      why (inl memory) = inl memory
-      why (inr steps) = inr (steps.0, subst IsSome survives.limit steps.1)
-
-pub match_both : {X E : Type 0} (P P' : X → Type 0) (Q Q' : E → Type 0) (r : Result X E)
-    → ((x : X) → P x → P' x) → ((e : E) → Q e → Q' e)
-    → MatchResult r P Q → MatchResult r P' Q'
-match_both P P' Q Q' (Ok x) f h m = f x m
-match_both P P' Q Q' (Err e) f h m = h e m

@@ -4,6 +4,7 @@ pub mod Filling
 pub mod Gathering
 pub mod Joining
 pub mod Keys
+pub mod Leaving
 pub mod NumbersRead
 pub mod ReferenceRead
 pub mod Rises

@@ -1,5 +1,5 @@
 -- What the look-up of a reference tells.
-use Rattle.std.proofs.Common.{◌≡◌, ℕ, ℤ, pos, List, [], ◌∷◌, map, find, length, Some, None, Option, Ok, Err}
+use Rattle.std.proofs.Common.{◌≡◌, ℕ, ℤ, pos, List, [], ◌∷◌, map, length, Some, None, Option, Ok, Err}
 use Rattle.std.proofs.Common.{Result, codes, lit≤, refl, sym, ap, subst, ◌∙◌, arith}
 use Rattle.std.specs.Prelude.{IsSomeAnd, MatchResult, option_map}
 use Rattle.sqlite.specs.Order.{Row, column}

@@ -1,7 +1,7 @@
 -- What the statement of a walk reports, and what it leaves.
 use Rattle.std.proofs.Common.{◌≡◌, inl, inr, zero, suc, ℕ, ℤ, List, [], ◌∷◌, map, filter, take, cond, Bool}
 use Rattle.std.proofs.Common.{true, false, length, Ok, Err, Result, refl, sym, ap, ◌∙◌}
-use Rattle.std.specs.Prelude.{IfOk, IfErr, OnOk, MatchResult}
+use Rattle.std.specs.Prelude.{MatchResult}
 use Rattle.std.proofs.lemmas.Bool.{cases_Bool}
 use Rattle.sqlite.specs.Order.{Row}
 use Rattle.sqlite.specs.Schema.{Schema}
@@ -158,30 +158,6 @@ module _ (old new : State) (text : List ℕ) (params : Row)
       [ inl fails ↦ inr fails.3 | inr same ↦ inl same ]
 
 -- ---- answers
-
-pub if_ok : {X E : Type 0} (P Q : X → Type 0) (r : Result X E) → ((x : X) → P x → Q x) → IfOk r P → IfOk r Q
-if_ok P Q (Ok x) f p = f x p
-if_ok P Q (Err e) f p = p
-
-pub if_err : {X E : Type 0} (P Q : E → Type 0) (r : Result X E) → ((e : E) → P e → Q e) → IfErr r P
-    → IfErr r Q
-if_err P Q (Ok x) f p = p
-if_err P Q (Err e) f p = f e p
-
--- what holds whatever the answer
-pub on_any : {X E : Type 0} (P : Type 0) (r : Result X E) → P → OnOk r P
-on_any P (Ok x) p = p
-on_any P (Err e) p = tt
-
-pub err_any : {X E : Type 0} (P : Type 0) (r : Result X E) → P → IfErr r (λ _. P)
-err_any P (Ok x) p = tt
-err_any P (Err e) p = p
-
--- both in one
-pub answered : {X E : Type 0} (P : X → Type 0) (Q : E → Type 0) (r : Result X E) → IfOk r P → IfErr r Q
-    → MatchResult r P Q
-answered P Q (Ok x) ok err = ok
-answered P Q (Err e) ok err = err
 
 -- an answer with a fault in other words
 pub match_err : {X E : Type 0} (P : X → Type 0) (Q T : E → Type 0) (r : Result X E) → ((e : E) → Q e → T e)

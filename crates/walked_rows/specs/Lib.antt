@@ -1,5 +1,6 @@
 -- What the walks over the tables of a bank give.
 pub mod Kinds
+pub mod Leaving
 pub mod StepOutcomes
 pub mod PairKeys
 pub mod Pairs

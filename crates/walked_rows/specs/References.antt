@@ -1,12 +1,12 @@
 -- The references of requests, each under the ordinal of its request, whatever the texts are.
 use Rattle.std.specs.Prelude.{◌≡◌, ℕ, pos, List, [], ◌∷◌, slice_index_or, Option, Some, None, Result, Ok, Err}
+use Rattle.std.specs.Prelude.{⊤}
 use Rattle.sqlite.specs.Order.{Row, column}
 use Rattle.sqlite.specs.State.{State, IsUnchanged}
 use Rattle.message_records.specs.Records.{reference_from}
 use Rattle.posting_rules.specs.declared.fault.Rule.{Rule}
 use Rattle.posting_rules.specs.declared.fault.Rule.TheVariants as rule
 use Rattle.sql_meanings.specs.Entries.{Entry}
-use Rattle.sql_meanings.specs.StatementAnswers.{WriteFails}
 use Rattle.store_rows.specs.TableAnswers.{ReadsReference}
 use Rattle.store_rows.specs.declared.fault.TableFault.{TableFault}
 use Rattle.store_rows.specs.declared.fault.TableFault.TheVariants.{Sqlite, Damaged}
@@ -30,7 +30,7 @@ ReadsFirst (row ∷ more) (Ok (Some text)) = ReadsReference (column row 0) (Ok t
 ReadsFirst (row ∷ more) (Ok None) = ⊥
 ReadsFirst (row ∷ more) (Err fault) = ReadsReference (column row 0) (Err fault)
 
--- what a fault leaves: damage everything as it was
-abbrev pub FailsToFind : State → State → TableFault → Type 0
-FailsToFind old new (Sqlite e) = WriteFails old new
-FailsToFind old new (Damaged broken) = IsUnchanged old new
+-- damage leaves everything as it was
+abbrev pub KeepsAtDamage : State → State → TableFault → Type 0
+KeepsAtDamage old new (Sqlite e) = ⊤
+KeepsAtDamage old new (Damaged broken) = IsUnchanged old new

@@ -1,11 +1,11 @@
 //! Rows that are read ahead.
-ghost use Rattle.std.specs.Prelude.{◌≡◌, [], ◌++◌, List, map, filter, take, None, false, IfOk, IfErr, OnOk};
-ghost use Rattle.std.specs.Prelude.{MatchResult};
-ghost use Rattle.sqlite.specs.State.{HasCleanDisk, IsUnchanged, Survives};
+ghost use Rattle.std.specs.Prelude.{◌≡◌, [], ◌++◌, List, map, filter, take, None, IfOk, MatchResult};
+ghost use Rattle.sqlite.specs.State.{HasCleanDisk};
 ghost use Rattle.sqlite.specs.Held.{state};
 ghost use Rattle.sql_meanings.specs.Entries.{Entry, Rise};
-ghost use Rattle.sql_meanings.specs.StatementAnswers.{IsStoreError, WriteFails};
+ghost use Rattle.sql_meanings.specs.StatementAnswers.{IsStoreError};
 ghost use Rattle.sql_meanings.specs.Tables.{width_of};
+ghost use Rattle.walked_rows.specs.Leaving.{OnlyReads};
 ghost use Rattle.walked_rows.specs.StepOutcomes.{BreaksFirst, BreaksValue, IsRefusedMemory, ReadsEntry, ReadsNext};
 ghost use Rattle.walked_rows.specs.StepOutcomes.{shown};
 ghost use Rattle.walked_rows.specs.Rising.{RisesFrom};
@@ -101,12 +101,7 @@ pub(crate) fn read_ahead<S: Alter, R: StoredRow>(
     ensures ended { IfOk result (λ rest. rows.new.items ≡ [] → rest ≡ None) }
     ensures rises { IfOk result
         (λ rest. RisesFrom from (map (λ r. entry_key (R.StoredRow.kind.entry r)) rows.new.items) rest) }
-    ensures same { HasCleanDisk (state S.Store conn.new)
-        → OnOk result (IsUnchanged (state S.Store conn.old) (state S.Store conn.new)) }
-    ensures err { HasCleanDisk (state S.Store conn.new)
-        → IfErr result (λ _. WriteFails (state S.Store conn.old) (state S.Store conn.new)) }
-    ensures mode { conn.old.in_transaction ≡ false → conn.new.in_transaction ≡ false }
-    ensures survives { Survives (state S.Store conn.old) (state S.Store conn.new) (λ _. ⊥) }
+    ensures reads { OnlyReads S.Store conn.old conn.new result }
 {
     match R::seek(conn, of, from) {
         Ok(found) => gather(&found, from, rows),

@@ -1,12 +1,13 @@
 //! The rows of a table that are beside those that were read ahead of another one.
-ghost use Rattle.std.specs.Prelude.{◌≡◌, ◌<ℤ◌, ◌++◌, ◌∷◌, List, pos, map, false, take, option_map, IfOk};
-ghost use Rattle.std.specs.Prelude.{IfErr, IfSome, OnOk, MatchResult};
-ghost use Rattle.sqlite.specs.State.{HasCleanDisk, IsUnchanged, Survives};
+ghost use Rattle.std.specs.Prelude.{◌≡◌, ◌<ℤ◌, ◌++◌, ◌∷◌, List, pos, map, take, option_map, IfOk, IfSome};
+ghost use Rattle.std.specs.Prelude.{MatchResult};
+ghost use Rattle.sqlite.specs.State.{HasCleanDisk};
 ghost use Rattle.sqlite.specs.Held.{state};
 ghost use Rattle.sqlite.specs.Order.{Row as StoredColumns};
 ghost use Rattle.sql_meanings.specs.Entries.{Entry, Rise, numbers};
-ghost use Rattle.sql_meanings.specs.StatementAnswers.{IsStoreError, WriteFails};
+ghost use Rattle.sql_meanings.specs.StatementAnswers.{IsStoreError};
 ghost use Rattle.sql_meanings.specs.Tables.{width_of};
+ghost use Rattle.walked_rows.specs.Leaving.{OnlyReads};
 ghost use Rattle.walked_rows.specs.StepOutcomes.{BreaksValue, IsRefusedMemory, all_numbers, shown};
 ghost use Rattle.walked_rows.specs.Pairs.{BreaksUnder, TellsKey, row_under};
 ghost use Rattle.walked_rows.specs.Rows.{HasStoredRows, IsWide, rows_behind, rows_from};
@@ -72,12 +73,7 @@ pub(crate) fn read_beside<S: Alter, O: StoredRow>(
         (BreaksUnder (IsStoreError (state S.Store conn.old) (state S.Store conn.new))
         (BreaksValue O.StoredRow.kind.Breaks) from all) }
     ensures beyond { IfOk result (λ rest. IfSome rest (λ k. from <ℤ k)) }
-    ensures same { HasCleanDisk (state S.Store conn.new)
-        → OnOk result (IsUnchanged (state S.Store conn.old) (state S.Store conn.new)) }
-    ensures err { HasCleanDisk (state S.Store conn.new)
-        → IfErr result (λ _. WriteFails (state S.Store conn.old) (state S.Store conn.new)) }
-    ensures mode { conn.old.in_transaction ≡ false → conn.new.in_transaction ≡ false }
-    ensures survives { Survives (state S.Store conn.old) (state S.Store conn.new) (λ _. ⊥) }
+    ensures reads { OnlyReads S.Store conn.old conn.new result }
 {
     match O::seek(conn, None, from) {
         Ok(found) => gather_beside(&found, from, rows),

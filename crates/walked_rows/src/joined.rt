@@ -1,11 +1,12 @@
 //! Rows with those beside them in another table.
-ghost use Rattle.std.specs.Prelude.{◌≡◌, ◌≤◌, ◌++◌, [], ◌∷◌, ℤ, List, filter, length, map, None, false, IfOk};
-ghost use Rattle.std.specs.Prelude.{IfErr, IsTrue, OnOk, MatchResult};
+ghost use Rattle.std.specs.Prelude.{◌≡◌, ◌≤◌, ◌++◌, [], ◌∷◌, ℤ, List, filter, length, map, None, IfOk, OnOk};
+ghost use Rattle.std.specs.Prelude.{MatchResult};
 ghost use Rattle.std.specs.Bool.{OnFalse, OnTrue};
-ghost use Rattle.sqlite.specs.State.{HasCleanDisk, IsUnchanged, Survives};
+ghost use Rattle.sqlite.specs.State.{HasCleanDisk};
 ghost use Rattle.sqlite.specs.Held.{state};
 ghost use Rattle.sql_meanings.specs.Entries.{Entry, Rise};
-ghost use Rattle.sql_meanings.specs.StatementAnswers.{IsStoreError, WriteFails};
+ghost use Rattle.sql_meanings.specs.StatementAnswers.{IsStoreError};
+ghost use Rattle.walked_rows.specs.Leaving.{OnlyReads, ReadsIfAny};
 ghost use Rattle.walked_rows.specs.StepOutcomes.{BreaksFirst, BreaksValue};
 ghost use Rattle.walked_rows.specs.Pairs.{AreJoined, BreaksPair, BreaksUnder, HasPairs, ComesBefore, Pair};
 ghost use Rattle.walked_rows.specs.Pairs.{pair_key, pair_of, paired};
@@ -114,12 +115,7 @@ fn join_ahead<S: Alter, R: StoredRow, O: StoredRow>(
         (map (λ j. entry_key (R.StoredRow.kind.entry j.stored)) rows.new.items) rest) }
     ensures some { (r : R) (more : List R) → own.now ≡ r ∷ more
         → start ≡ entry_key (R.StoredRow.kind.entry r) → OnOk result (rows.new.items ≡ [] → ⊥) }
-    ensures same { HasCleanDisk (state S.Store conn.new)
-        → OnOk result (IsUnchanged (state S.Store conn.old) (state S.Store conn.new)) }
-    ensures err { HasCleanDisk (state S.Store conn.new)
-        → IfErr result (λ _. WriteFails (state S.Store conn.old) (state S.Store conn.new)) }
-    ensures mode { conn.old.in_transaction ≡ false → conn.new.in_transaction ≡ false }
-    ensures survives { Survives (state S.Store conn.old) (state S.Store conn.new) (λ _. ⊥) }
+    ensures reads { OnlyReads S.Store conn.old conn.new result }
 {
     match read_beside::<S, O>(conn, start, beside) {
         Ok(behind) => Ok(join(own, rest, beside.as_slice(), behind, start, rows)),
@@ -152,12 +148,7 @@ fn join_first<S: Alter, R: StoredRow, O: StoredRow>(
     ensures rises { (from : ℤ) → RisesFrom from (map (λ r. entry_key (R.StoredRow.kind.entry r)) own.now) rest
         → IfOk result (λ next. RisesFrom from
         (map (λ j. entry_key (R.StoredRow.kind.entry j.stored)) rows.new.items) next) }
-    ensures same { HasCleanDisk (state S.Store conn.new) → IsTrue (state S.Store conn.old).is_open
-        → OnOk result (IsUnchanged (state S.Store conn.old) (state S.Store conn.new)) }
-    ensures err { HasCleanDisk (state S.Store conn.new)
-        → IfErr result (λ _. WriteFails (state S.Store conn.old) (state S.Store conn.new)) }
-    ensures mode { conn.old.in_transaction ≡ false → conn.new.in_transaction ≡ false }
-    ensures survives { Survives (state S.Store conn.old) (state S.Store conn.new) (λ _. ⊥) }
+    ensures reads { ReadsIfAny S.Store conn.old conn.new result }
 {
     match own.first() {
         Some(first) => {
@@ -194,12 +185,7 @@ fn fill_joined<S: Alter, R: StoredRow, O: StoredRow>(
     ensures rises { IfOk result
         (λ rest. RisesFrom from (map (λ j. entry_key (R.StoredRow.kind.entry j.stored)) rows.new.items)
         rest) }
-    ensures same { HasCleanDisk (state S.Store conn.new)
-        → OnOk result (IsUnchanged (state S.Store conn.old) (state S.Store conn.new)) }
-    ensures err { HasCleanDisk (state S.Store conn.new)
-        → IfErr result (λ _. WriteFails (state S.Store conn.old) (state S.Store conn.new)) }
-    ensures mode { conn.old.in_transaction ≡ false → conn.new.in_transaction ≡ false }
-    ensures survives { Survives (state S.Store conn.old) (state S.Store conn.new) (λ _. ⊥) }
+    ensures reads { OnlyReads S.Store conn.old conn.new result }
 {
     match read_ahead(conn, of, from, own) {
         Ok(rest) => join_first::<S, R, O>(conn, own.as_slice(), rest, beside, rows),

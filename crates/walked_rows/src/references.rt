@@ -1,7 +1,6 @@
 //! The reference under an ordinal, if there is one.
-ghost use Rattle.std.specs.Prelude.{◌≡◌, ◌≤◌, List, pos, false, option_map, IfErr, MatchResult};
-ghost use Rattle.std.specs.Prelude.{OnOk};
-ghost use Rattle.sqlite.specs.State.{HasCleanDisk, IsUnchanged, Survives};
+ghost use Rattle.std.specs.Prelude.{◌≡◌, ◌≤◌, List, pos, option_map, IfErr, MatchResult};
+ghost use Rattle.sqlite.specs.State.{HasCleanDisk};
 ghost use Rattle.sqlite.specs.Held.{state};
 ghost use Rattle.sqlite.specs.Order.{column};
 ghost use Rattle.sql_meanings.specs.Entries.{Entry};
@@ -9,8 +8,9 @@ ghost use Rattle.sql_meanings.specs.StatementAnswers.{IsStoreError};
 ghost use Rattle.posting_rules.specs.declared.limits.TheConstants.{MAX_DECIDED};
 ghost use Rattle.store_rows.specs.BankTables.{reference as reference_table};
 ghost use Rattle.store_rows.specs.TableAnswers.{ReadsReference};
+ghost use Rattle.walked_rows.specs.Leaving.{OnlyReads};
 ghost use Rattle.walked_rows.specs.Pairs.{BreaksUnder, row_under};
-ghost use Rattle.walked_rows.specs.References.{BreaksReference, FailsToFind, ReadsFirst, text_entry};
+ghost use Rattle.walked_rows.specs.References.{BreaksReference, KeepsAtDamage, ReadsFirst, text_entry};
 ghost use Rattle.walked_rows.specs.Rows.{HasStoredRows};
 
 use crate::statements::rows_shown;
@@ -55,12 +55,9 @@ pub(crate) fn reference_under<S: Alter>(
         (λ found. option_map (text_entry ordinal) found ≡ row_under all (pos ordinal))
         (BreaksUnder (IsStoreError (state S.Store conn.old) (state S.Store conn.new))
         BreaksReference (pos ordinal) all) }
-    ensures same { HasCleanDisk (state S.Store conn.new)
-        → OnOk result (IsUnchanged (state S.Store conn.old) (state S.Store conn.new)) }
-    ensures err { HasCleanDisk (state S.Store conn.new)
-        → IfErr result (FailsToFind (state S.Store conn.old) (state S.Store conn.new)) }
-    ensures mode { conn.old.in_transaction ≡ false → conn.new.in_transaction ≡ false }
-    ensures survives { Survives (state S.Store conn.old) (state S.Store conn.new) (λ _. ⊥) }
+    ensures reads { OnlyReads S.Store conn.old conn.new result }
+    ensures damage { HasCleanDisk (state S.Store conn.new)
+        → IfErr result (KeepsAtDamage (state S.Store conn.old) (state S.Store conn.new)) }
 {
     let key = ordinal as i64;
     match rows_shown(conn, REFERENCE_UNDER, params![key]) {

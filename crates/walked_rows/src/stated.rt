@@ -1,11 +1,11 @@
 //! The rows of `history`, each with the reference of its request.
-ghost use Rattle.std.specs.Prelude.{◌≡◌, ◌≤◌, ◌++◌, [], List, length, map, None, false, IfErr, IfOk, IsTrue};
-ghost use Rattle.std.specs.Prelude.{MatchResult, OnOk};
-ghost use Rattle.sqlite.specs.State.{HasCleanDisk, IsUnchanged, Survives};
+ghost use Rattle.std.specs.Prelude.{◌≡◌, ◌≤◌, ◌++◌, [], List, length, map, None, IfOk, MatchResult};
+ghost use Rattle.sqlite.specs.State.{HasCleanDisk};
 ghost use Rattle.sqlite.specs.Held.{state};
 ghost use Rattle.sql_meanings.specs.Entries.{Entry, Rise};
-ghost use Rattle.sql_meanings.specs.StatementAnswers.{IsStoreError, WriteFails};
+ghost use Rattle.sql_meanings.specs.StatementAnswers.{IsStoreError};
 ghost use Rattle.store_rows.specs.BankTables.{reference as reference_table};
+ghost use Rattle.walked_rows.specs.Leaving.{ReadsIfAny};
 ghost use Rattle.walked_rows.specs.StepOutcomes.{BreaksFirst};
 ghost use Rattle.walked_rows.specs.Pairs.{AreJoined, paired};
 ghost use Rattle.walked_rows.specs.Rising.{RisesFrom};
@@ -49,8 +49,7 @@ fn state_each<S: Alter>(
     requires few { length own.now ≤ AHEAD }
     requires ended { own.now ≡ [] → rest ≡ None }
     requires rises { RisesFrom from (map (λ r. entry_key (posting_entry r)) own.now) rest }
-    ensures told { HasCleanDisk (state S.Store conn.new) → IsTrue (state S.Store conn.old).is_open
-        → (base others : List Entry) → Rise base
+    ensures told { HasCleanDisk (state S.Store conn.new) → (base others : List Entry) → Rise base
         → HasStoredRows (state S.Store conn.old).now reference_table others
         → rows_from from base ≡ map posting_entry own.now ++ rows_behind rest base
         → MatchResult result (AreJoined stated_pair others base from rows.new.items)
@@ -59,12 +58,7 @@ fn state_each<S: Alter>(
     ensures ended { IfOk result (λ next. rows.new.items ≡ [] → next ≡ None) }
     ensures rises { IfOk result
         (λ next. RisesFrom from (map (λ s. entry_key (posting_entry s.posting)) rows.new.items) next) }
-    ensures same { HasCleanDisk (state S.Store conn.new) → IsTrue (state S.Store conn.old).is_open
-        → OnOk result (IsUnchanged (state S.Store conn.old) (state S.Store conn.new)) }
-    ensures err { HasCleanDisk (state S.Store conn.new) → IsTrue (state S.Store conn.old).is_open
-        → IfErr result (λ _. WriteFails (state S.Store conn.old) (state S.Store conn.new)) }
-    ensures mode { conn.old.in_transaction ≡ false → conn.new.in_transaction ≡ false }
-    ensures survives { Survives (state S.Store conn.old) (state S.Store conn.new) (λ _. ⊥) }
+    ensures reads { ReadsIfAny S.Store conn.old conn.new result }
 {
     rows.clear();
     let mut next = from;

@@ -1,11 +1,12 @@
 //! Statements that only show rows.
-ghost use Rattle.std.specs.Prelude.{◌≡◌, length, false, IfErr, MatchResult, OnOk};
+ghost use Rattle.std.specs.Prelude.{length, MatchResult};
 ghost use Rattle.sqlite.specs.Listing.{understood};
 ghost use Rattle.sqlite.specs.Schema.{Schema};
-ghost use Rattle.sqlite.specs.State.{FailsToQuery, HasCleanDisk, IsUnchanged, Shown, Survives};
+ghost use Rattle.sqlite.specs.State.{FailsToQuery, HasCleanDisk, Shown};
 ghost use Rattle.sqlite.specs.Held.{state};
 ghost use Rattle.sqlite.specs.Values.{bound};
-ghost use Rattle.sql_meanings.specs.StatementAnswers.{OnlyShows, WriteFails};
+ghost use Rattle.sql_meanings.specs.StatementAnswers.{OnlyShows};
+ghost use Rattle.walked_rows.specs.Leaving.{OnlyReads};
 
 use sqlite::types::ValueRef;
 use sqlite::{Alter, Connection, Error, Row};
@@ -22,12 +23,7 @@ pub(crate) fn rows_shown<S: Alter>(
         → MatchResult result (λ found. Shown text.now (bound params.now) (state S.Store conn.old)
         (state S.Store conn.new) found.items)
         (FailsToQuery text.now (bound params.now) (state S.Store conn.old) (state S.Store conn.new)) }
-    ensures same { HasCleanDisk (state S.Store conn.new)
-        → OnOk result (IsUnchanged (state S.Store conn.old) (state S.Store conn.new)) }
-    ensures err { HasCleanDisk (state S.Store conn.new)
-        → IfErr result (λ _. WriteFails (state S.Store conn.old) (state S.Store conn.new)) }
-    ensures mode { conn.old.in_transaction ≡ false → conn.new.in_transaction ≡ false }
-    ensures survives { Survives (state S.Store conn.old) (state S.Store conn.new) (λ _. ⊥) }
+    ensures reads { OnlyReads S.Store conn.old conn.new result }
 {
     conn.query_all(text, params)
 }

@@ -1,11 +1,11 @@
 //! What a row of one table is, as it is stored.
-ghost use Rattle.std.specs.Prelude.{◌≡◌, ◌≤◌, pos, false, List, IfErr, MatchResult, OnOk, filter, length};
-ghost use Rattle.std.specs.Prelude.{take};
-ghost use Rattle.sqlite.specs.State.{HasCleanDisk, IsUnchanged, Survives};
+ghost use Rattle.std.specs.Prelude.{◌≡◌, ◌≤◌, pos, List, MatchResult, filter, length, take};
+ghost use Rattle.sqlite.specs.State.{HasCleanDisk};
 ghost use Rattle.sqlite.specs.Held.{state};
 ghost use Rattle.sql_meanings.specs.Entries.{Entry};
-ghost use Rattle.sql_meanings.specs.StatementAnswers.{IsStoreError, WriteFails};
+ghost use Rattle.sql_meanings.specs.StatementAnswers.{IsStoreError};
 ghost use Rattle.walked_rows.specs.Kinds.{Kind};
+ghost use Rattle.walked_rows.specs.Leaving.{OnlyReads};
 ghost use Rattle.walked_rows.specs.StepOutcomes.{Stores, shown};
 ghost use Rattle.walked_rows.specs.Rows.{HasStoredRows, rows_from};
 
@@ -38,12 +38,7 @@ pub trait StoredRow: Copy + Default {
             → MatchResult result (λ found. found.items
             ≡ shown (take AHEAD (rows_from from (filter (kind.is_given of) rows))))
             (IsStoreError (state S.Store conn.old) (state S.Store conn.new)) }
-        ensures same { HasCleanDisk (state S.Store conn.new)
-            → OnOk result (IsUnchanged (state S.Store conn.old) (state S.Store conn.new)) }
-        ensures err { HasCleanDisk (state S.Store conn.new)
-            → IfErr result (λ _. WriteFails (state S.Store conn.old) (state S.Store conn.new)) }
-        ensures mode { conn.old.in_transaction ≡ false → conn.new.in_transaction ≡ false }
-        ensures survives { Survives (state S.Store conn.old) (state S.Store conn.new) (λ _. ⊥) };
+        ensures reads { OnlyReads S.Store conn.old conn.new result };
 
     /// The row's key.
     fn key(&self) -> u64

@@ -1,11 +1,12 @@
 //! Rows that a walk gives.
-ghost use Rattle.std.specs.Prelude.{◌≡◌, ◌++◌, [], ℕ, ℤ, Bool, Option, List, filter, map, None, false, true};
-ghost use Rattle.std.specs.Prelude.{IfOk, IfErr, OnOk, MatchResult};
-ghost use Rattle.sqlite.specs.State.{HasCleanDisk, IsUnchanged, Survives};
+ghost use Rattle.std.specs.Prelude.{◌≡◌, ◌++◌, [], ℕ, ℤ, Bool, Option, List, filter, map, None, true, IfOk};
+ghost use Rattle.std.specs.Prelude.{MatchResult};
+ghost use Rattle.sqlite.specs.State.{HasCleanDisk};
 ghost use Rattle.sqlite.specs.Held.{state};
 ghost use Rattle.sqlite.specs.Effect.{Database};
 ghost use Rattle.posting_rules.specs.declared.fault.Rule.{Rule};
-ghost use Rattle.sql_meanings.specs.StatementAnswers.{IsStoreError, WriteFails};
+ghost use Rattle.sql_meanings.specs.StatementAnswers.{IsStoreError};
+ghost use Rattle.walked_rows.specs.Leaving.{OnlyReads};
 ghost use Rattle.walked_rows.specs.StepOutcomes.{BreaksFirst};
 ghost use Rattle.walked_rows.specs.Rising.{RisesFrom};
 ghost use Rattle.walked_rows.specs.Rows.{HaveKeys, items_behind, items_from};
@@ -49,12 +50,7 @@ pub trait WalkedRow: Copy + Default {
             (items_from key from given)) }
         ensures ended { IfOk result (λ rest. rows.new.items ≡ [] → rest ≡ None) }
         ensures rises { IfOk result (λ rest. RisesFrom from (map (λ r. key (item r)) rows.new.items) rest) }
-        ensures same { HasCleanDisk (state S.Store conn.new)
-            → OnOk result (IsUnchanged (state S.Store conn.old) (state S.Store conn.new)) }
-        ensures err { HasCleanDisk (state S.Store conn.new)
-            → IfErr result (λ _. WriteFails (state S.Store conn.old) (state S.Store conn.new)) }
-        ensures mode { conn.old.in_transaction ≡ false → conn.new.in_transaction ≡ false }
-        ensures survives { Survives (state S.Store conn.old) (state S.Store conn.new) (λ _. ⊥) };
+        ensures reads { OnlyReads S.Store conn.old conn.new result };
 
     ghost have_keys: { (db : Database) (all : List Item) → HasItems db all → HaveKeys key all };
 

@@ -1,14 +1,13 @@
 -- What is read ahead is gathered of what was found. Each clause is named: a search for them takes long.
-use Rattle.std.proofs.Common.{filter, inl, ◌∙◌, w64}
+use Rattle.std.proofs.Common.{filter, ◌∙◌, w64}
 use Rattle.std.proofs.lemmas.Int.{to_z-of_z}
 use Rattle.sqlite.specs.Held.{state}
-use Rattle.sqlite.specs.State.{IsUnchanged}
-use Rattle.sql_meanings.specs.StatementAnswers.{WriteFails}
 use Rattle.sql_meanings.specs.Tables.{width_of}
 use Rattle.sql_meanings.proofs.OrderedAnswers.{rise_filter}
 use Rattle.walked_rows.specs.StepOutcomes.{BreaksValue}
 use Rattle.walked_rows.specs.Rows.{rows_from}
-use Rattle.walked_rows.proofs.Sought.{err_any, match_err, on_any, refused_memory, wide_filter}
+use Rattle.walked_rows.proofs.Leaving.{fails_too, reads_any}
+use Rattle.walked_rows.proofs.Sought.{match_err, refused_memory, wide_filter}
 use Rattle.walked_rows.proofs.ahead.read_ahead.Goals as goal
 
 pub returns-in-Ok : goal.returns-in-Ok
@@ -24,16 +23,13 @@ returns-in-Ok g c =
           let given = filter is_given rows in
           match_err _ _ _ c.gather.result
           (refused_memory old new (BreaksValue g.R.StoredRow.kind.Breaks) (rows_from c.args.from given)
-          (sought.same clean))
+          (sought.reads.same clean))
           ((rw whole at (gathered.told given (rise_filter is_given rows has.holds.rows.rise)
           (wide_filter (width_of g.R.StoredRow.kind.table) is_given rows has.holds.rows.wide)))
           (c.deref.ensures.value ∙ (rw whole at (sought.told clean rows has))));
       ended = gathered.ended;
       rises = rw whole at gathered.rises;
-      same = λ clean. on_any (IsUnchanged old new) c.gather.result (sought.same clean);
-      err = λ clean. err_any (WriteFails old new) c.gather.result (inl (sought.same clean));
-      mode = sought.mode;
-      survives = sought.survives;
+      reads = reads_any sought.reads c.gather.result;
     }
 
 pub returns-in-Err : goal.returns-in-Err
@@ -43,8 +39,5 @@ returns-in-Err g c =
       told = sought.told;
       ended = tt;
       rises = tt;
-      same = λ clean. tt;
-      err = sought.err;
-      mode = sought.mode;
-      survives = sought.survives;
+      reads = fails_too sought.reads;
     }

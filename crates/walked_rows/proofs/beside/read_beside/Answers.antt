@@ -1,14 +1,13 @@
 -- What is read beside other rows is gathered of what was found. Each clause is named: a search for them takes
 -- long.
-use Rattle.std.proofs.Common.{inl, None, ap, take, ◌∙◌, w64}
+use Rattle.std.proofs.Common.{None, ap, take, ◌∙◌, w64}
 use Rattle.std.proofs.lemmas.Int.{to_z-of_z}
 use Rattle.sqlite.specs.Held.{state}
-use Rattle.sqlite.specs.State.{IsUnchanged}
-use Rattle.sql_meanings.specs.StatementAnswers.{WriteFails}
 use Rattle.walked_rows.specs.StepOutcomes.{BreaksValue, shown}
 use Rattle.walked_rows.specs.Rows.{rows_from}
 use Rattle.walked_rows.specs.declared.ahead.TheConstants.{AHEAD}
-use Rattle.walked_rows.proofs.Sought.{all_pass, err_any, match_err, on_any}
+use Rattle.walked_rows.proofs.Leaving.{fails_too, reads_any}
+use Rattle.walked_rows.proofs.Sought.{all_pass, match_err}
 use Rattle.walked_rows.proofs.Under.{refused_under}
 use Rattle.walked_rows.proofs.beside.read_beside.Goals as goal
 
@@ -26,14 +25,12 @@ returns-in-Ok g c =
           let found = (rw same at (sought.told clean all has))
           ∙ ap (λ es. shown (take AHEAD (rows_from from es))) whole in
           match_err _ _ _ c.gather_beside.result
-          (refused_under old new (BreaksValue g.O.StoredRow.kind.Breaks) from all (sought.same clean))
+          (refused_under old new (BreaksValue g.O.StoredRow.kind.Breaks) from all
+          (sought.reads.same clean))
           ((rw same at (gathered.told all has.holds.rows.rise has.holds.rows.wide))
           (c.deref.ensures.value ∙ found));
       beyond = rw same at gathered.beyond;
-      same = λ clean. on_any (IsUnchanged old new) c.gather_beside.result (sought.same clean);
-      err = λ clean. err_any (WriteFails old new) c.gather_beside.result (inl (sought.same clean));
-      mode = sought.mode;
-      survives = sought.survives;
+      reads = reads_any sought.reads c.gather_beside.result;
     }
 
 pub returns-in-Err : goal.returns-in-Err
@@ -42,8 +39,5 @@ returns-in-Err g c =
     record {
       told = sought.told;
       beyond = tt;
-      same = λ clean. tt;
-      err = sought.err;
-      mode = sought.mode;
-      survives = sought.survives;
+      reads = fails_too sought.reads;
     }

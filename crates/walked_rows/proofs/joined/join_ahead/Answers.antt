@@ -3,6 +3,7 @@ use Rattle.std.proofs.Common.{subst, w64}
 use Rattle.std.proofs.lemmas.Int.{to_z-of_z}
 use Rattle.walked_rows.specs.Pairs.{ComesBefore}
 use Rattle.walked_rows.proofs.Joining.{decided_by}
+use Rattle.walked_rows.proofs.Leaving.{reads_any}
 use Rattle.walked_rows.proofs.joined.join_ahead.Goals as goal
 
 pub returns-in-Ok : goal.returns-in-Ok
@@ -18,10 +19,7 @@ returns-in-Ok g c =
           c.join.ensures.some r more is
           (subst (ComesBefore behind) at
           (decided_by behind c.args.start (rw start at c.in-Ok.ensures.beyond))) none;
-      same = c.in-Ok.ensures.same;
-      err = λ clean. tt;
-      mode = c.in-Ok.ensures.mode;
-      survives = c.in-Ok.ensures.survives;
+      reads = reads_any c.in-Ok.ensures.reads _;
     }
 
 pub returns-in-Err : goal.returns-in-Err
@@ -31,8 +29,5 @@ returns-in-Err g c =
       told = λ clean base others rise has own_is. (rw start at (c.in-Err.ensures.told clean others has));
       rises = tt;
       some = λ r more is at. tt;
-      same = λ clean. tt;
-      err = c.in-Err.ensures.err;
-      mode = c.in-Err.ensures.mode;
-      survives = c.in-Err.ensures.survives;
+      reads = c.in-Err.ensures.reads;
     }

@@ -1,14 +1,15 @@
 -- The others are read from where the first row is. Each clause is named: a search for them takes long.
-use Rattle.std.proofs.Common.{◌++◌, map, drop, refl, sym, ap, ◌∙◌, rules, w64, to_z}
-use Rattle.sqlite.proofs.StateLemmas.{unchanged}
+use Rattle.std.proofs.Common.{◌++◌, map, drop, inr, refl, sym, ap, ◌∙◌, rules, w64, to_z}
+use Rattle.std.proofs.lemmas.Result.{MatchResult-weaker}
 use Rattle.sqlite.specs.Held.{state}
 use Rattle.store_rows.proofs.Lookups.{as_integer}
 use Rattle.sql_meanings.specs.StatementAnswers.{IsStoreError}
 use Rattle.walked_rows.specs.StepOutcomes.{BreaksValue}
 use Rattle.walked_rows.specs.Pairs.{pair_of}
 use Rattle.walked_rows.specs.Rows.{entry_key, rows_behind}
-use Rattle.walked_rows.proofs.Filling.{breaks_first, first_is, from_first, joined_first, match_both}
+use Rattle.walked_rows.proofs.Filling.{breaks_first, first_is, from_first, joined_first}
 use Rattle.walked_rows.proofs.Filling.{none_joined, nothing_is, nothing_joined, rises_itself, rises_too}
+use Rattle.walked_rows.proofs.Leaving.{if_any}
 use Rattle.walked_rows.proofs.joined.join_first.Goals as goal
 
 pub join_ahead-requires : goal.join_ahead-requires
@@ -35,15 +36,15 @@ returns-in-Some g c =
       told = λ clean base others rise has from told.
           let behind = map entry more ++ rows_behind c.args.rest base in
           let is = told ∙ ap (λ l. map entry l ++ rows_behind c.args.rest base) first in
-          match_both _ _ _ _ c.join_ahead.result
+          MatchResult-weaker c.join_ahead.result
+          (c.join_ahead.ensures.told clean base others rise has
+          (sym (from_first base rise from start (entry row) behind is at) ∙ told))
           (joined_first (pair_of entry g.O.StoredRow.kind.entry) others base rise from start (entry row) behind
           is at
           c.join_ahead.new.rows.items)
           (breaks_first others base from start (entry row) behind is at
           (IsStoreError (state g.S.Store c.args.conn.now) (state g.S.Store c.join_ahead.new.conn))
-          (BreaksValue g.R.StoredRow.kind.Breaks) (BreaksValue g.O.StoredRow.kind.Breaks))
-          (c.join_ahead.ensures.told clean base others rise has
-          (sym (from_first base rise from start (entry row) behind is at) ∙ told));
+          (BreaksValue g.R.StoredRow.kind.Breaks) (BreaksValue g.O.StoredRow.kind.Breaks));
       ended =
           none_joined c.join_ahead.new.rows.items c.join_ahead.result
           (c.join_ahead.ensures.some row more first at);
@@ -51,15 +52,11 @@ returns-in-Some g c =
           rises_too (λ r. entry_key (entry r)) from own more row c.args.rest first rises
           (λ j. entry_key (entry j.stored)) start at c.join_ahead.new.rows.items c.join_ahead.result
           c.join_ahead.ensures.rises;
-      same = λ clean is_open. c.join_ahead.ensures.same clean;
-      err = c.join_ahead.ensures.err;
-      mode = c.join_ahead.ensures.mode;
-      survives = c.join_ahead.ensures.survives;
+      reads = if_any c.join_ahead.ensures.reads;
     }
 
 pub returns-in-None : goal.returns-in-None
 returns-in-None g c =
-    let old = state g.S.Store c.args.conn.now in
     record {
       told = λ clean base others rise has from is.
           let none = nothing_is c.args.own.now c.in-None.ensures.value in
@@ -68,8 +65,10 @@ returns-in-None g c =
           c.clear.ensures is;
       ended = λ none. refl;
       rises = λ from rises. rw c.clear.ensures tt;
-      same = λ clean is_open. unchanged old is_open;
-      err = λ clean. tt;
-      mode = λ outside. outside;
-      survives = search rules;
+      reads = record {
+        same = λ clean. inr refl;
+        err = λ clean. tt;
+        mode = λ outside. outside;
+        survives = search rules;
+      };
     }

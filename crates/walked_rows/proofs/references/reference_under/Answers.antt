@@ -1,7 +1,8 @@
 -- What is found is the row under the ordinal.
-use Rattle.std.proofs.Common.{◌≡◌, pos, refl, arith, w64, to_z}
+use Rattle.std.proofs.Common.{◌≡◌, pos, refl, w64, to_z}
 use Rattle.sqlite.specs.Held.{state}
 use Rattle.store_rows.proofs.Lookups.{as_integer}
+use Rattle.walked_rows.proofs.Leaving.{fails_too, reads_any}
 use Rattle.walked_rows.proofs.ReferenceRead.{only_references, tells_failure, tells_reference}
 use Rattle.walked_rows.proofs.references.reference_under.Goals as goal
 
@@ -15,6 +16,12 @@ returns-in-Ok-clause-told g c clean all has =
     tells_reference (state g.S.Store c.args.conn.now) (state g.S.Store c.rows_shown.new.conn) all has n
     c.in-Ok.found.items (rw (c.params-to_sql.ensures, same) at (c.in-Ok.ensures.shown clean))
     c.first_reference.result (rw c.deref.ensures.value at c.first_reference.ensures)
+
+pub returns-in-Ok-clause-reads : goal.returns-in-Ok-clause-reads
+returns-in-Ok-clause-reads g c = reads_any c.in-Ok.ensures.reads c.first_reference.result
+
+pub returns-in-Err-clause-reads : goal.returns-in-Err-clause-reads
+returns-in-Err-clause-reads g c = fails_too c.in-Err.ensures.reads
 
 pub returns-in-Err-clause-told : goal.returns-in-Err-clause-told
 returns-in-Err-clause-told g c clean all has =

@@ -3,17 +3,15 @@ use Rattle.std.proofs.Common.{◌≡◌, ◌<◌, ◌+◌, ◌++◌, ℕ, suc, p
 use Rattle.std.proofs.Common.{ap, subst, ◌∙◌, rules, arith, w64, to_z}
 use Rattle.std.proofs.Math.Seq.{drop-cons}
 use Rattle.std.proofs.lemmas.Int.{to_z-of_z}
-use Rattle.sqlite.specs.Held.{state}
-use Rattle.sqlite.proofs.Callers.{unchanged_then}
-use Rattle.sql_meanings.proofs.Saying.{survives_both}
 use Rattle.store_rows.specs.BankTables.{reference as reference_table}
 use Rattle.walked_rows.specs.Pairs.{pair_with, paired}
 use Rattle.walked_rows.specs.Rising.{RisesFrom}
 use Rattle.walked_rows.specs.Rows.{HasStoredRows, entry_key, rows_behind, rows_from}
 use Rattle.walked_rows.specs.Stored.{posting_entry, stated_pair}
-use Rattle.walked_rows.proofs.Filling.{clean_between, store_both}
 use Rattle.walked_rows.proofs.Gathering.{behind_key, none_there}
 use Rattle.walked_rows.proofs.Joining.{joins_on, none_left, pair_beside}
+use Rattle.walked_rows.proofs.Leaving.{clean_between, fails_too, if_any, kept_any, reads_any, reads_on}
+use Rattle.walked_rows.proofs.Leaving.{shows_same, store_on}
 use Rattle.walked_rows.proofs.Rises.{one_more, rest_behind}
 use Rattle.walked_rows.proofs.stated.state_each.Goals as goal
 
@@ -28,11 +26,9 @@ pub loop-posting-preserved : goal.loop-posting-preserved
 loop-posting-preserved g c =
     let from = c.args.from in
     let same = to_z-of_z w64 from c.ranges.from in
-    let old = state g.S.Store c.args.conn.now in
-    let mid = state g.S.Store c.loop-posting.conn in
-    let new = state g.S.Store c.reference_under.new.conn in
+    let mid = c.loop-posting.conn in
+    let new = c.reference_under.new.conn in
     let so_far = c.loop-posting.invariant in
-    let quiet = c.reference_under.ensures.survives in
     let r = c.posting-item.result in
     let at = c.loop-posting.posting-index in
     let own = c.args.own.now in
@@ -50,16 +46,12 @@ loop-posting-preserved g c =
           rw c.push.ensures.items
           (one_more (λ s. entry_key (posting_entry s.posting)) from c.loop-posting.rows.items _ next
           (rw same at so_far.rises) keys.0);
-      survives = survives_both _ _ _ so_far.survives quiet;
-      mode = λ outside. c.reference_under.ensures.mode (so_far.mode outside);
-      same = λ clean is_open.
-          unchanged_then old mid new (so_far.same (clean_between mid new quiet clean) is_open)
-          (c.in-Ok.ensures.same clean);
-      told = λ base others rise clean is_open has own_is.
-          let before = clean_between mid new quiet clean in
-          let both = (rw same at (so_far.told base others rise before is_open has)) own_is in
+      reads = if_any (reads_on so_far.reads (reads_any c.in-Ok.ensures.reads _));
+      told = λ base others rise clean has own_is.
+          let before = clean_between g.S.Store mid new c.in-Ok.ensures.reads.survives clean in
+          let both = (rw same at (so_far.told base others rise before has)) own_is in
           let there = subst (λ db. HasStoredRows db reference_table others)
-          (sym (so_far.same before is_open).0.now_is) has in
+          (sym (shows_same g.S.Store c.args.conn.now mid (so_far.reads.same before))) has in
           rw c.push.ensures.items
           (joins_on stated_pair others base rise from c.loop-posting.rows.items next _ (posting_entry r)
           (map posting_entry (drop (at + 1) own) ++ rows_behind c.args.rest base) both.1
@@ -69,26 +61,32 @@ loop-posting-preserved g c =
     }
 
 pub returns-in-Err-Sqlite-clause-told : goal.returns-in-Err-Sqlite-clause-told
-returns-in-Err-Sqlite-clause-told g c clean is_open base others rise has own_is =
-    let old = state g.S.Store c.args.conn.now in
-    let mid = state g.S.Store c.loop-posting.conn in
-    let new = state g.S.Store c.reference_under.new.conn in
-    let so_far = c.loop-posting.invariant in
-    let unchanged = so_far.same (clean_between mid new c.reference_under.ensures.survives clean) is_open in
-    let there = subst (λ db. HasStoredRows db reference_table others) (sym unchanged.0.now_is) has in
-    rw c.in-Err-Sqlite.e-is (store_both old mid new unchanged so_far.survives c.in-Err-Sqlite.e
-    (rw c.in-Err-Sqlite.field-0-is at (c.in-Err-Sqlite.ensures.told clean others there)))
+returns-in-Err-Sqlite-clause-told g c clean base others rise has own_is =
+    let old = c.args.conn.now in
+    let mid = c.loop-posting.conn in
+    let new = c.reference_under.new.conn in
+    let so_far = c.loop-posting.invariant.reads in
+    let last = c.in-Err-Sqlite.ensures in
+    let same = so_far.same (clean_between g.S.Store mid new last.reads.survives clean) in
+    let there = subst (λ db. HasStoredRows db reference_table others)
+    (sym (shows_same g.S.Store old mid same)) has in
+    rw c.in-Err-Sqlite.e-is (store_on g.S.Store old mid new same so_far.survives c.in-Err-Sqlite.e
+    (rw c.in-Err-Sqlite.field-0-is at (last.told clean others there)))
+
+pub returns-in-Err-Sqlite-clause-reads : goal.returns-in-Err-Sqlite-clause-reads
+returns-in-Err-Sqlite-clause-reads g c =
+    if_any (fails_too (reads_on c.loop-posting.invariant.reads c.in-Err-Sqlite.ensures.reads))
 
 pub returns-then-is_empty-clause-told : goal.returns-then-is_empty-clause-told
-returns-then-is_empty-clause-told g c clean is_open base others rise has own_is =
+returns-then-is_empty-clause-told g c clean base others rise has own_is =
     let same = to_z-of_z w64 c.args.from c.ranges.from in
-    let mid = state g.S.Store c.loop-posting.conn in
-    let new = state g.S.Store c.reference_under.new.conn in
+    let mid = c.loop-posting.conn in
+    let new = c.reference_under.new.conn in
     let so_far = c.loop-posting.invariant in
-    let before = clean_between mid new c.reference_under.ensures.survives clean in
+    let before = clean_between g.S.Store mid new c.in-Err-Damaged.ensures.reads.survives clean in
     let there = subst (λ db. HasStoredRows db reference_table others)
-    (sym (so_far.same before is_open).0.now_is) has in
-    let both = (rw same at (so_far.told base others rise before is_open has)) own_is in
+    (sym (shows_same g.S.Store c.args.conn.now mid (so_far.reads.same before))) has in
+    let both = (rw same at (so_far.told base others rise before has)) own_is in
     let r = c.posting-item.result in
     let at = c.loop-posting.posting-index in
     let low : at < length c.args.own.now = search rules in
@@ -104,11 +102,26 @@ returns-then-is_empty-clause-told g c clean is_open base others rise has own_is 
           at (c.in-Err-Damaged.ensures.told clean others there))),
     )
 
+pub returns-then-is_empty-clause-reads : goal.returns-then-is_empty-clause-reads
+returns-then-is_empty-clause-reads g c =
+    if_any (fails_too (reads_on c.loop-posting.invariant.reads c.in-Err-Damaged.ensures.reads))
+
+pub returns-in-Err-Damaged-clause-reads : goal.returns-in-Err-Damaged-clause-reads
+returns-in-Err-Damaged-clause-reads g c =
+    let last = c.in-Err-Damaged.ensures in
+    if_any (reads_on c.loop-posting.invariant.reads
+    (kept_any last.reads (λ clean. rw c.in-Err-Damaged.field-0-is at (last.damage clean)) _))
+
+pub returns-clause-reads : goal.returns-clause-reads
+returns-clause-reads g c =
+    let so_far = c.loop-posting.invariant.reads in
+    record { same = so_far.same; err = λ clean. tt; mode = so_far.mode; survives = so_far.survives }
+
 pub returns-clause-told : goal.returns-clause-told
-returns-clause-told g c clean is_open base others rise has own_is =
+returns-clause-told g c clean base others rise has own_is =
     let same = to_z-of_z w64 c.args.from c.ranges.from in
     let left = none_left c.loop-posting.posting-index c.args.own.now c.loop-posting-test.false in
-    let both = (rw same at (c.loop-posting.invariant.told base others rise clean is_open has)) own_is in
+    let both = (rw same at (c.loop-posting.invariant.told base others rise clean has)) own_is in
     both.1 ∙ ap (λ l. map stated_pair c.loop-posting.rows.items ++ paired others l)
     (both.0 ∙ ap (λ l. map posting_entry l ++ rows_behind c.args.rest base) left)
 

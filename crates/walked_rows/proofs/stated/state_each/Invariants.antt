@@ -1,10 +1,11 @@
 -- Each posting so far has its reference, and the file is as it was.
-use Rattle.std.proofs.Common.{◌≡◌, ◌++◌, List, map, drop, length, Some, false}
-use Rattle.std.specs.Prelude.{IsTrue}
+use Rattle.std.proofs.Common.{◌≡◌, ◌++◌, List, map, drop, length, Some, Ok}
 use Rattle.sqlite.specs.Held.{state}
-use Rattle.sqlite.specs.State.{HasCleanDisk, IsUnchanged, Survives}
+use Rattle.sqlite.specs.State.{HasCleanDisk}
 use Rattle.sql_meanings.specs.Entries.{Entry, Rise}
 use Rattle.store_rows.specs.BankTables.{reference as reference_table}
+use Rattle.store_rows.specs.declared.fault.TableFault.{TableFault}
+use Rattle.walked_rows.specs.Leaving.{ReadsIfAny}
 use Rattle.walked_rows.specs.Pairs.{AreJoined}
 use Rattle.walked_rows.specs.Rising.{RisesFrom}
 use Rattle.walked_rows.specs.Rows.{HasStoredRows, entry_key, rows_behind, rows_from}
@@ -20,10 +21,8 @@ invariant-loop-posting g l =
       ahead : RisesFrom l.next (map (λ r. entry_key (posting_entry r)) (drop l.posting-index l.fn.own))
           l.fn.rest;
       rises : RisesFrom l.fn.from (map (λ s. entry_key (posting_entry s.posting)) l.rows.items) (Some l.next);
-      survives : Survives old now (λ _. ⊥);
-      mode : l.fn.conn.in_transaction ≡ false → l.conn.in_transaction ≡ false;
-      same : HasCleanDisk now → IsTrue old.is_open → IsUnchanged old now;
-      told : (base others : List Entry) → Rise base → HasCleanDisk now → IsTrue old.is_open
+      reads : ReadsIfAny {E = TableFault} g.S.Store l.fn.conn l.conn (Ok l.next);
+      told : (base others : List Entry) → Rise base → HasCleanDisk now
           → HasStoredRows old.now reference_table others
           → rows_from l.fn.from base ≡ map posting_entry l.fn.own ++ rows_behind l.fn.rest base
           → (rows_from l.next base

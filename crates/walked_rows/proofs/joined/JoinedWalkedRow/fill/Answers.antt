@@ -26,8 +26,5 @@ returns g c =
           rw (same, whole) at (filled.told clean all has);
       ended = filled.ended;
       rises = rw same at filled.rises;
-      same = filled.same;
-      err = filled.err;
-      mode = filled.mode;
-      survives = filled.survives;
+      reads = filled.reads;
     }

@@ -11,8 +11,5 @@ returns g c =
       told = λ clean all has. (rw same at (read.told clean all has));
       ended = read.ended;
       rises = rw same at read.rises;
-      same = read.same;
-      err = read.err;
-      mode = read.mode;
-      survives = read.survives;
+      reads = read.reads;
     }
