@@ -16,14 +16,15 @@ use Rattle.store_rows.specs.Failures.{Committing, HasReason}
 use Rattle.store_rows.specs.declared.fault.TableFault.{TableFault}
 use Rattle.store_rows.specs.declared.fault.TableFault.TheVariants.{Sqlite, Damaged as Broken}
 use Rattle.bank_transactions.specs.Causes.{IsBefore}
-use Rattle.bank_transactions.proofs.Blamed.{failed_here, failed_within, same_moment, then_moment}
+use Rattle.bank_transactions.proofs.Blamed.{comes, failed_here, failed_within, same_moment, then_moment}
 use Rattle.store_rows.specs.declared.metas.StoredMeta.{StoredMeta}
 use Rattle.bank_store.specs.MetaRow.{ChecksMeta}
 use Rattle.bank_store.specs.OpenFaults.{of_the_store, unmade_by, unread_by}
-use Rattle.bank_store.specs.StoreFaults.{CallFailed, KnowsCause, KnowsWhyUnmade, MakingFailed}
+use Rattle.bank_store.specs.StoreFaults.{CallFailed, IsOpenCall, KnowsCause, KnowsWhyUnmade, LooksIn, MakingFailed}
 use Rattle.posting_rules.specs.declared.open_fault.OpenFault.{OpenFault}
 use Rattle.posting_rules.specs.declared.open_fault.OpenFault.TheVariants.{Store, NotBlank, Blank, Foreign, Version}
 use Rattle.posting_rules.specs.declared.open_fault.OpenFault.TheVariants.{Damaged}
+use Rattle.bank_store.proofs.Unmade.{if_err}
 
 module _ {S : Type 0} (g : Ghosts S) (old new : Held S) where
   -- a probe failed
@@ -64,12 +65,6 @@ module _ {S : Type 0} (g : Ghosts S) (old new : Held S) where
 pub still_clean : {P : Trees → Type 0} {old new : State} → Survives old new P → HasCleanDisk new
     → HasCleanDisk old
 still_clean s clean = omega (arith, s.clean)
-
--- one reading after another
-pub reads_then : (old mid new : State) → Survives old mid (λ _. ⊥) → Survives mid new (λ _. ⊥)
-    → Survives old new (λ _. ⊥)
-reads_then old mid new =
-    survives_then old mid new (λ _. ⊥) (λ _. ⊥) (λ _. ⊥) (λ clean db none. none) (λ clean db none. none)
 
 -- a transaction begins
 pub begun_after : {S : Type 0} (g : Ghosts S) (conn : Held S) (live : Bool)
@@ -133,3 +128,49 @@ module _ {S : Type 0} (g : Ghosts S) (old new : Held S) where
   checks_known stored (Err Foreign) checks = tt
   checks_known stored (Err (Version n)) checks = tt
   checks_known stored (Err (Damaged rule)) checks = tt
+
+-- ---- one call after another
+
+-- a call behind a look, and what is answered then
+module _ {S X Y : Type 0} (g : Ghosts S) (old mid new : Held S) (told : Result X OpenFault)
+    (result : Result Y OpenFault) (answers : IfErr told (KnowsCause g old new) → IfErr result (KnowsCause g old new))
+    (first : Survives (state g old) (state g mid) (λ _. ⊥)) where
+  pub call_then : (Then Commits : Trees → Type 0)
+      → (HasCleanDisk (state g new) → (left : Trees) → Then left → Commits left)
+      → IsOpenCall g mid new Then told → IsOpenCall g old new Commits result
+  call_then Then Commits commits it = record {
+    cause = answers (if_err (KnowsCause g mid new) (KnowsCause g old new)
+        (known_within g old mid new new (comes first) (λ clean. clean) (same_moment (state g new))) told it.cause);
+    mode = it.mode;
+    survives = survives_then (state g old) (state g mid) (state g new) (λ _. ⊥) Then Commits
+        (λ clean left none. absurd none) commits first it.survives;
+  }
+
+  pub looks_then : LooksIn g mid new told → LooksIn g old new result
+  looks_then = call_then (λ _. ⊥) (λ _. ⊥) (λ clean left none. none)
+
+-- a probe behind a call
+module _ {S X : Type 0} (g : Ghosts S) (old mid new : Held S) (Commits : Trees → Type 0) (told : Result X OpenFault)
+    (it : IsOpenCall g old mid Commits told) (probe : List ℕ × Table) where
+  then_asked : {Y : Type 0} (answer : Result Bool Error) (result : Result Y OpenFault)
+      → Probes g mid new probe answer → IfErr result (KnowsCause g old new) → IsOpenCall g old new Commits result
+  then_asked answer result asks cause = record {
+    cause = cause;
+    mode = asks.mode it.mode;
+    survives = survives_then (state g old) (state g mid) (state g new) Commits (λ _. ⊥) Commits
+        (λ clean left made. made) (λ clean left none. absurd none) it.survives asks.survives;
+  }
+
+  pub still_answers : (answer : Result Bool Error) → Probes g mid new probe answer → IsOpenCall g old new Commits told
+  still_answers answer asks =
+      then_asked answer told asks
+      (if_err (KnowsCause g old mid) (KnowsCause g old new)
+      (known_within g old old mid new (same_moment (state g old)) (still_clean asks.survives) (comes asks.survives))
+      told it.cause)
+
+  pub fails_then : {Y : Type 0} (e : Error) → Probes g mid new probe (Err e)
+      → IsOpenCall {X = Y} g old new Commits (Err Store)
+  fails_then e asks =
+      then_asked (Err e) (Err Store) asks
+      (known_within g old mid new new (comes it.survives) (λ clean. clean) (same_moment (state g new)) Store
+      (probe_failed g mid new probe e asks))

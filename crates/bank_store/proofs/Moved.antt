@@ -115,7 +115,8 @@ module _ {S : Type 0} (from : ℕ) (g : Ghosts S) (old begun last new : Held S)
   -- a stop leaves what it could leave before, or the moved bank
   pub stops : Survives (state g begun) (state g last) (λ _. ⊥)
       → Survives (state g last) (state g new) (MayLeave (state g last).now)
-      → (HasCleanDisk (state g last) → ChangesTables from (state g begun).now (state g last).now (Ok tt))
+      → (HasCleanDisk (state g last) → IsTrue (state g begun).in_transaction
+      → ChangesTables from (state g begun).now (state g last).now (Ok tt))
       → Survives (state g old) (state g new) (HasMoved from (state g old).now)
   stops first then changed =
       survives_begin g old (state g new) (HasMoved from (state g old).now)
@@ -124,5 +125,5 @@ module _ {S : Type 0} (from : ℕ) (g : Ghosts S) (old begun last new : Held S)
       (HasMoved from (state g old).now) (λ clean left none. absurd none)
       (λ clean left made t was.
       made t (from_begun (λ (db : Database). ChangesTables from db (state g last).now (Ok tt))
-      (changed (omega (arith, then.clean))) t was).0)
+      (changed (omega (arith, then.clean)) live) t was).0)
       first then))

@@ -1,5 +1,5 @@
 -- A bank is found over a connection, or why none is.
-use Rattle.std.specs.Prelude.{◌≡◌, ◌≤◌, ℕ, List, [], ◌∷◌, ℤ, Option, Result, Ok, Err, ⊤}
+use Rattle.std.specs.Prelude.{◌≡◌, ◌≤◌, ℕ, List, [], ◌∷◌, ℤ, Option, Result, Ok, Err, IfErr, ⊤}
 use Rattle.sqlite.specs.Effect.{Database}
 use Rattle.sqlite.specs.State.{State, HasCleanDisk}
 use Rattle.sqlite.specs.Held.{Held, state}
@@ -20,7 +20,8 @@ use Rattle.store_rows.specs.declared.metas.StoredMeta.{StoredMeta}
 use Rattle.bank_store.specs.Connections.{conn_seen, IsAsBefore, IsReadOnly}
 use Rattle.bank_store.specs.Seen.{bank_seen, file_of}
 use Rattle.bank_store.specs.declared.bank.Bank.{Bank}
-use Rattle.bank_store.specs.MetaRow.{IsOurs, IsOfVersion, IsNoCount}
+use Rattle.bank_store.specs.MetaRow.{IsNoCount, IsOfOtherType, IsOfVersion, IsOurs, TellsMeta}
+use Rattle.bank_store.specs.OpenFaults.{RowIsUnread}
 use Rattle.bank_store.specs.TablePresence.{IsPresent, IsReadable}
 use Rattle.bank_store.specs.declared.presence.Presence.TheVariants.{Absent, Partial, Whole}
 use Rattle.posting_rules.specs.declared.open_fault.OpenFault.{OpenFault}
@@ -34,6 +35,13 @@ RowIs db P = (rows : List Entry) → HoldsRows db bank.meta rows → P (meta_in 
 -- so it is in the database that is shown
 abbrev pub MetaIs : State → (Option StoredMeta → Type 0) → Type 0
 MetaIs s = RowIs s.now
+
+-- What a reading of the row of the bank tells: which row it is, and otherwise why it isn't known.
+pub record ReadsMeta {S : Type 0} (g : Ghosts S) (old new : Held S) (result : Result (Option StoredMeta) OpenFault)
+    : Type 0 where
+  pub told : HasCleanDisk (state g new) → MetaIs (state g old) (λ stored. TellsMeta stored result)
+  pub fault : IfErr result RowIsUnread
+  pub other : HasCleanDisk (state g new) → IfErr result (IsOfOtherType (state g old).now)
 
 -- its tables are there, `meta` with its one row, of our version and with a count within its range, and
 -- everything is as it was

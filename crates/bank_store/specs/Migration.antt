@@ -4,7 +4,7 @@ use Rattle.std.specs.Prelude.{Result, Ok, Err, IfOk, IfErr, OnErr, OnOk, ⊤}
 use Rattle.sqlite.specs.Effect.{Database}
 use Rattle.sqlite.specs.Held.{Held, state}
 use Rattle.sqlite.specs.Schema.{Schema}
-use Rattle.sqlite.specs.State.{State, HasCleanDisk, Survives}
+use Rattle.sqlite.specs.State.{State, HasCleanDisk}
 use Rattle.sqlite.specs.Table.{Table}
 use Rattle.sqlite.specs.Tree.{Trees}
 use Rattle.sqlite.specs.declared.error.Error.{Error}
@@ -28,7 +28,7 @@ use Rattle.bank_store.specs.FoundBank.{BankIsFound, IsTakenUp, Misses, RowIs}
 use Rattle.bank_store.specs.MetaRow.{IsOutside, IsWithin}
 use Rattle.bank_store.specs.OpenFaults.{of_the_store}
 use Rattle.bank_store.specs.Seen.{bank_seen, file_of}
-use Rattle.bank_store.specs.StoreFaults.{KnowsCause}
+use Rattle.bank_store.specs.StoreFaults.{IsOpenCall}
 use Rattle.bank_store.specs.TablePresence.{IsPresent, Lacks, OneOf}
 use Rattle.bank_store.specs.declared.bank.Bank.{Bank}
 use Rattle.bank_store.specs.declared.migration.Migrated.{Migrated}
@@ -102,9 +102,7 @@ pub record MovesBank {S : Type 0} (from : ℕ) (g : Ghosts S) (old new : Held S)
   pub moved : HasCleanDisk (state g new) → OnOk result (BankIsMoved from (state g old).now (state g new))
   pub undone : HasCleanDisk (state g new) → OnErr result (IsUndoneIfOpen (state g old) (state g new))
   pub why : HasCleanDisk (state g new) → IfErr result (IsUnmoved from (state g old).now)
-  pub cause : IfErr result (KnowsCause g old new)
-  pub survives : Survives (state g old) (state g new) (HasMoved from (state g old).now)
-  pub mode : new.in_transaction ≡ false
+  pub call : IsOpenCall g old new (HasMoved from (state g old).now) result
 
 -- ---- a bank is looked for, and carried over
 

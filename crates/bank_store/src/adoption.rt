@@ -5,16 +5,12 @@ ghost use Rattle.sqlite.specs.Held.{state};
 ghost use Rattle.posting_rules.specs.Commands.{Command};
 ghost use Rattle.posting_rules.specs.Counter.{ShowsLog, StandsAt, LeavesOnly};
 ghost use Rattle.posting_rules.specs.Tables.{AreTablesOf as Show};
-ghost use Rattle.store_rows.specs.Columns.{meta_in};
-ghost use Rattle.sql_meanings.specs.Entries.{Entry};
-ghost use Rattle.store_rows.specs.BankTables.{meta as table};
-ghost use Rattle.store_rows.specs.View.{HoldsRows};
 ghost use Rattle.bank_store.specs.Connections.{conn_seen, state_in, IsGivenBack, IsReadOnly, IsUndoneIfOpen};
-ghost use Rattle.bank_store.specs.FoundBank.{HasNoOtherVersion, IsTakenUp, LooksAtVersion, Misses, SeeksBank};
-ghost use Rattle.bank_store.specs.MetaRow.{ChecksCount, ChecksMeta, TellsMeta, IsOfOtherType};
-ghost use Rattle.bank_store.specs.OpenFaults.{RowIsUnread};
+ghost use Rattle.bank_store.specs.FoundBank.{HasNoOtherVersion, IsTakenUp, LooksAtVersion, Misses};
+ghost use Rattle.bank_store.specs.FoundBank.{ReadsMeta, SeeksBank};
+ghost use Rattle.bank_store.specs.MetaRow.{ChecksCount, ChecksMeta};
 ghost use Rattle.bank_store.specs.Seen.{alloc_of};
-ghost use Rattle.bank_store.specs.StoreFaults.{KnowsCause};
+ghost use Rattle.bank_store.specs.StoreFaults.{KnowsCause, LooksIn};
 
 use crate::bank::Bank;
 use crate::presence::{Presence, count_tables, tables_there};
@@ -29,16 +25,10 @@ use store_rows::{BankTable, StoredMeta, VERSION, probe_table, read_meta};
 // dropped.
 fn stored_meta<S: Alter>(conn: &mut Connection<S>) -> Result<Option<StoredMeta>, OpenFault>
     requires { conn.old.in_transaction ≡ false }
-    ensures told { HasCleanDisk (state S.Store conn.new) → (rows : List Entry)
-        → HoldsRows (state S.Store conn.old).now table rows → TellsMeta (meta_in rows) result }
+    ensures reads { ReadsMeta S.Store conn.old conn.new result }
     ensures undone { HasCleanDisk (state S.Store conn.new)
         → IsUndoneIfOpen (state S.Store conn.old) (state S.Store conn.new) }
-    ensures fault { IfErr result RowIsUnread }
-    ensures other { HasCleanDisk (state S.Store conn.new)
-        → IfErr result (IsOfOtherType (state S.Store conn.old).now) }
-    ensures cause { IfErr result (KnowsCause S.Store conn.old conn.new) }
-    ensures mode { conn.new.in_transaction ≡ false }
-    ensures survives { Survives (state S.Store conn.old) (state S.Store conn.new) (λ _. ⊥) }
+    ensures looks { LooksIn S.Store conn.old conn.new result }
 {
     let mut tx = begin(conn);
     match read_meta(&mut tx) {
@@ -53,16 +43,10 @@ pub(crate) fn settled_meta<S: Alter>(
     conn: &mut Connection<S>,
 ) -> Result<Option<StoredMeta>, OpenFault>
     requires { conn.old.in_transaction ≡ false }
-    ensures told { HasCleanDisk (state S.Store conn.new) → (rows : List Entry)
-        → HoldsRows (state S.Store conn.old).now table rows → TellsMeta (meta_in rows) result }
+    ensures reads { ReadsMeta S.Store conn.old conn.new result }
     ensures same { HasCleanDisk (state S.Store conn.new)
         → IsReadOnly (state S.Store conn.old) (state S.Store conn.new) result }
-    ensures fault { IfErr result RowIsUnread }
-    ensures other { HasCleanDisk (state S.Store conn.new)
-        → IfErr result (IsOfOtherType (state S.Store conn.old).now) }
-    ensures cause { IfErr result (KnowsCause S.Store conn.old conn.new) }
-    ensures mode { conn.new.in_transaction ≡ false }
-    ensures survives { Survives (state S.Store conn.old) (state S.Store conn.new) (λ _. ⊥) }
+    ensures looks { LooksIn S.Store conn.old conn.new result }
 {
     note_settled(conn);
     let meta = stored_meta(conn);
@@ -98,9 +82,7 @@ fn find_tables<S: Alter>(conn: &mut Connection<S>) -> Result<(), OpenFault>
     requires ours { HasCleanDisk (state S.Store conn.old) → HasNoOtherVersion (state S.Store conn.old) }
     ensures told { HasCleanDisk (state S.Store conn.new)
         → SeeksBank (state S.Store conn.old) (state S.Store conn.new) result }
-    ensures cause { IfErr result (KnowsCause S.Store conn.old conn.new) }
-    ensures mode { conn.new.in_transaction ≡ false }
-    ensures survives { Survives (state S.Store conn.old) (state S.Store conn.new) (λ _. ⊥) }
+    ensures looks { LooksIn S.Store conn.old conn.new result }
 {
     match tables_there(conn)? {
         Presence::Absent => Err(OpenFault::Blank),
@@ -118,9 +100,7 @@ fn refuse_other_version<S: Alter>(conn: &mut Connection<S>) -> Result<(), OpenFa
     requires { conn.old.in_transaction ≡ false }
     ensures told { HasCleanDisk (state S.Store conn.new)
         → LooksAtVersion (state S.Store conn.old) (state S.Store conn.new) result }
-    ensures cause { IfErr result (KnowsCause S.Store conn.old conn.new) }
-    ensures mode { conn.new.in_transaction ≡ false }
-    ensures survives { Survives (state S.Store conn.old) (state S.Store conn.new) (λ _. ⊥) }
+    ensures looks { LooksIn S.Store conn.old conn.new result }
 {
     let Presence::Whole = count_tables(conn, BankTable::Meta, &[])? else {
         return Ok(());
@@ -137,9 +117,7 @@ pub(crate) fn find_bank<S: Alter>(conn: &mut Connection<S>) -> Result<(), OpenFa
     requires { conn.old.in_transaction ≡ false }
     ensures told { HasCleanDisk (state S.Store conn.new)
         → SeeksBank (state S.Store conn.old) (state S.Store conn.new) result }
-    ensures cause { IfErr result (KnowsCause S.Store conn.old conn.new) }
-    ensures mode { conn.new.in_transaction ≡ false }
-    ensures survives { Survives (state S.Store conn.old) (state S.Store conn.new) (λ _. ⊥) }
+    ensures looks { LooksIn S.Store conn.old conn.new result }
 {
     refuse_other_version(conn)?;
     find_tables(conn)

@@ -11,7 +11,7 @@ ghost use Rattle.bank_store.specs.Migration.{ChangesTables, HasCarriedOver, HasM
 ghost use Rattle.bank_store.specs.Migration.{IsMigrated, KnowsAnswer, LeavesBank, Migrates, Misplaces, MovesBank};
 ghost use Rattle.bank_store.specs.Migration.{MovesFound, SeeksEarlier, TellsNoEarlier, state_of};
 ghost use Rattle.bank_store.specs.Seen.{alloc_of};
-ghost use Rattle.bank_store.specs.StoreFaults.{KnowsCause};
+ghost use Rattle.bank_store.specs.StoreFaults.{IsOpenCall, KnowsCause, LooksIn};
 
 use crate::adoption::{check_count, find_bank, settled_meta};
 use crate::bank::Bank;
@@ -113,9 +113,7 @@ fn find_earlier<S: Alter>(conn: &mut Connection<S>, from: u64) -> Result<(), Ope
     requires earlier { IsEarlier from }
     ensures told { HasCleanDisk (state S.Store conn.new)
         → SeeksEarlier from (state S.Store conn.old) (state S.Store conn.new) result }
-    ensures cause { IfErr result (KnowsCause S.Store conn.old conn.new) }
-    ensures mode { conn.new.in_transaction ≡ false }
-    ensures survives { Survives (state S.Store conn.old) (state S.Store conn.new) (λ _. ⊥) }
+    ensures looks { LooksIn S.Store conn.old conn.new result }
 {
     let Presence::Whole = count_tables(conn, BankTable::Meta, behind_meta(from))? else {
         return Err(OpenFault::Foreign);
@@ -132,10 +130,7 @@ fn move_found<S: Alter>(conn: &mut Connection<S>, from: u64) -> Result<(), OpenF
     requires earlier { IsEarlier from }
     ensures told { HasCleanDisk (state S.Store conn.new)
         → MovesFound from (state S.Store conn.old) (state S.Store conn.new) result }
-    ensures cause { IfErr result (KnowsCause S.Store conn.old conn.new) }
-    ensures mode { conn.new.in_transaction ≡ false }
-    ensures survives { Survives (state S.Store conn.old) (state S.Store conn.new)
-        (HasMoved from (state S.Store conn.old).now) }
+    ensures call { IsOpenCall S.Store conn.old conn.new (HasMoved from (state S.Store conn.old).now) result }
 {
     find_earlier(conn, from)?;
     move_settled(conn, from)
@@ -147,10 +142,7 @@ fn find_or_move<S: Alter>(conn: &mut Connection<S>) -> Result<Migrated, OpenFaul
     ensures told { HasCleanDisk (state S.Store conn.new)
         → Migrates (state S.Store conn.old) (state S.Store conn.new) result }
     ensures from { IfOk result IsFromEarlier }
-    ensures cause { IfErr result (KnowsCause S.Store conn.old conn.new) }
-    ensures mode { conn.new.in_transaction ≡ false }
-    ensures survives { Survives (state S.Store conn.old) (state S.Store conn.new)
-        (HasCarriedOver (state S.Store conn.old)) }
+    ensures call { IsOpenCall S.Store conn.old conn.new (HasCarriedOver (state S.Store conn.old)) result }
 {
     match find_bank(conn) {
         Ok(()) => Ok(Migrated::Already),

@@ -1,9 +1,9 @@
 //! Which of a bank's tables are there.
 ghost use Rattle.std.specs.Prelude.{◌≡◌, ◌∷◌, IfErr, false, map};
-ghost use Rattle.sqlite.specs.State.{HasCleanDisk, Survives};
+ghost use Rattle.sqlite.specs.State.{HasCleanDisk};
 ghost use Rattle.sqlite.specs.Held.{state};
 ghost use Rattle.store_rows.specs.Probes.{all_probes, probe_of};
-ghost use Rattle.bank_store.specs.StoreFaults.{KnowsCause};
+ghost use Rattle.bank_store.specs.StoreFaults.{LooksIn};
 ghost use Rattle.bank_store.specs.TablePresence.{joined, presence_of, TellsPresence};
 
 use bank_transactions::note_settled;
@@ -51,9 +51,7 @@ pub(crate) fn count_tables<S: Alter>(
     ensures told { HasCleanDisk (state S.Store conn.new) → TellsPresence (state S.Store conn.old)
         (state S.Store conn.new) (map probe_of (first ∷ others.now)) result }
     ensures fault { IfErr result (λ fault. fault ≡ OpenFault.Store) }
-    ensures cause { IfErr result (KnowsCause S.Store conn.old conn.new) }
-    ensures mode { conn.new.in_transaction ≡ false }
-    ensures survives { Survives (state S.Store conn.old) (state S.Store conn.new) (λ _. ⊥) }
+    ensures looks { LooksIn S.Store conn.old conn.new result }
 {
     note_settled(conn);
     let Ok(is_there) = probe_table(conn, first) else {
@@ -75,9 +73,7 @@ pub(crate) fn tables_there<S: Alter>(conn: &mut Connection<S>) -> Result<Presenc
     ensures told { HasCleanDisk (state S.Store conn.new)
         → TellsPresence (state S.Store conn.old) (state S.Store conn.new) all_probes result }
     ensures fault { IfErr result (λ fault. fault ≡ OpenFault.Store) }
-    ensures cause { IfErr result (KnowsCause S.Store conn.old conn.new) }
-    ensures mode { conn.new.in_transaction ≡ false }
-    ensures survives { Survives (state S.Store conn.old) (state S.Store conn.new) (λ _. ⊥) }
+    ensures looks { LooksIn S.Store conn.old conn.new result }
 {
     count_tables(conn, BankTable::Meta, BEHIND_META)
 }

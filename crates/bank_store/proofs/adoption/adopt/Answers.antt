@@ -18,7 +18,7 @@ returns-in-Ok g c =
     subst (λ h. HasCleanDisk (state g.S.Store h) → BankIsFound old (state g.S.Store h)) same
     c.in-Ok.ensures.told in
     let quiet : Survives old new (λ _. ⊥) =
-    subst (λ h. Survives old (state g.S.Store h) (λ _. ⊥)) same c.in-Ok.ensures.survives in
+    subst (λ h. Survives old (state g.S.Store h) (λ _. ⊥)) same c.in-Ok.ensures.looks.survives in
     let up : IsSome c.over.result.fault → ⊥ =
     λ some. (let none = c.over.ensures.up in let h = rw none at some in cc) in
     record {
@@ -42,14 +42,14 @@ returns-in-Err g c =
       found = tt;
       alloc = tt;
       missed = λ clean. (told clean).0;
-      cause = c.in-Err.ensures.cause;
+      cause = c.in-Err.ensures.looks.cause;
       back = record {
-        idle = c.in-Err.ensures.mode;
+        idle = c.in-Err.ensures.looks.mode;
         same = λ clean other. as_it_was old new fault (told clean).1 other;
         undone = λ clean. undone_if_open old new fault (told clean).1;
       };
       known = λ clean log s. known old fault s.tables log (told clean).0 s.are s.commands s.shows;
       remains = λ clean log at.
-          still_left old new ⊥ ⊥ (λ _. ⊥) _ c.in-Err.ensures.survives (λ left none. none) clean at.survives;
-      survives = c.in-Err.ensures.survives;
+          still_left old new ⊥ ⊥ (λ _. ⊥) _ c.in-Err.ensures.looks.survives (λ left none. none) clean at.survives;
+      survives = c.in-Err.ensures.looks.survives;
     }

@@ -9,8 +9,7 @@ use Rattle.bank_store.specs.TablePresence.{IsPresent}
 use Rattle.bank_store.specs.declared.presence.Presence.{Presence}
 use Rattle.posting_rules.specs.declared.open_fault.OpenFault.{OpenFault}
 use Rattle.posting_rules.specs.declared.open_fault.OpenFault.TheVariants.{Damaged}
-use Rattle.bank_transactions.proofs.Blamed.{comes, same_moment}
-use Rattle.bank_store.proofs.Causes.{checks_known, known_within, reads_then, still_clean}
+use Rattle.bank_store.proofs.Causes.{checks_known, looks_then, still_clean}
 use Rattle.bank_store.proofs.FoundBank.{looked, missed}
 use Rattle.bank_store.proofs.adoption.find_tables.Goals as goal
 
@@ -19,45 +18,42 @@ returns-in_err-tables_there g c =
     let old = state g.S.Store c.args.conn.now in
     let new = state g.S.Store c.tables_there.new.conn in
     let e = c.in_err-tables_there in
+    let seen = c.tables_there.ensures.looks in
     let is : c.from_residual.result ≡ Err e.field-0.0 = search rules in
     record {
       told =
           λ clean. subst (λ (r : Result (Unit {0}) OpenFault). SeeksBank old new r)
           (sym (is ∙ ap Err e.ensures.fault))
           (tt, e.ensures.told clean);
-      cause = rw is e.ensures.cause;
-      mode = c.tables_there.ensures.mode;
-      survives = c.tables_there.ensures.survives;
+      looks = rw is (record { cause = e.ensures.looks.cause; mode = seen.mode; survives = seen.survives });
     }
 
 pub returns-in-Absent : goal.returns-in-Absent
 returns-in-Absent g c =
     let old = state g.S.Store c.args.conn.now in
     let new = state g.S.Store c.tables_there.new.conn in
+    let seen = c.tables_there.ensures.looks in
     record {
       told =
           λ clean.
           subst (λ (p : Presence). IsPresent old.now all_probes p × IsAsBefore old new) c.in-Absent.is
           (c.in_ok-tables_there.ensures.told clean);
-      cause = tt;
-      mode = c.tables_there.ensures.mode;
-      survives = c.tables_there.ensures.survives;
+      looks = record { cause = tt; mode = seen.mode; survives = seen.survives };
     }
 
 pub returns-in-Partial : goal.returns-in-Partial
 returns-in-Partial g c =
     let old = state g.S.Store c.args.conn.now in
     let new = state g.S.Store c.tables_there.new.conn in
+    let seen = c.tables_there.ensures.looks in
     record {
       told =
           λ clean.
           let there =
           subst (λ (p : Presence). IsPresent old.now all_probes p × IsAsBefore old new) c.in-Partial.is
           (c.in_ok-tables_there.ensures.told clean) in
-          ((there.0, c.requires.ours (still_clean c.tables_there.ensures.survives clean)), there.1);
-      cause = tt;
-      mode = c.tables_there.ensures.mode;
-      survives = c.tables_there.ensures.survives;
+          ((there.0, c.requires.ours (still_clean seen.survives clean)), there.1);
+      looks = record { cause = tt; mode = seen.mode; survives = seen.survives };
     }
 
 pub returns-in_err-settled_meta-in-Whole : goal.returns-in_err-settled_meta-in-Whole
@@ -72,17 +68,13 @@ returns-in_err-settled_meta-in-Whole g c =
           λ clean.
           let there =
           subst (λ (p : Presence). IsPresent old.now all_probes p × IsAsBefore old mid) c.in-Whole.is
-          (c.in_ok-tables_there.ensures.told (still_clean e.ensures.survives clean)) in
+          (c.in_ok-tables_there.ensures.told (still_clean e.ensures.looks.survives clean)) in
           subst (λ (r : Result (Unit {0}) OpenFault). SeeksBank old new r) (sym is)
           (missed old mid new there.1 (Misses old) tt (λ none other. (there.0, none, other)) e.field-0.0
-          e.ensures.fault (e.ensures.told clean) (e.ensures.other clean) (e.ensures.same clean));
-      cause =
-          rw is (known_within g.S.Store c.args.conn.now c.tables_there.new.conn c.settled_meta.new.conn
-          c.settled_meta.new.conn (comes c.tables_there.ensures.survives)
-          (λ clean. clean)
-          (same_moment new) e.field-0.0 e.ensures.cause);
-      mode = c.settled_meta.ensures.mode;
-      survives = reads_then old mid new c.tables_there.ensures.survives c.settled_meta.ensures.survives;
+          e.ensures.reads.fault (e.ensures.reads.told clean) (e.ensures.reads.other clean) (e.ensures.same clean));
+      looks =
+          rw is (looks_then g.S.Store c.args.conn.now c.tables_there.new.conn c.settled_meta.new.conn
+          (Err e.field-0.0) (Err e.field-0.0) (λ knows. knows) c.tables_there.ensures.looks.survives e.ensures.looks);
     }
 
 pub returns-in-None : goal.returns-in-None
@@ -96,12 +88,12 @@ returns-in-None g c =
           λ clean.
           let there =
           subst (λ (p : Presence). IsPresent old.now all_probes p × IsAsBefore old mid) c.in-Whole.is
-          (c.in_ok-tables_there.ensures.told (still_clean read.survives clean)) in
-          looked old mid new None there.0 there.1 (λ rows has. sym c.in-None.is ∙ read.told clean rows has)
+          (c.in_ok-tables_there.ensures.told (still_clean read.looks.survives clean)) in
+          looked old mid new None there.0 there.1 (λ rows has. sym c.in-None.is ∙ read.reads.told clean rows has)
           (read.same clean) (Err (Damaged Meta)) (inl refl);
-      cause = tt;
-      mode = c.settled_meta.ensures.mode;
-      survives = reads_then old mid new c.tables_there.ensures.survives c.settled_meta.ensures.survives;
+      looks =
+          looks_then g.S.Store c.args.conn.now c.tables_there.new.conn c.settled_meta.new.conn c.settled_meta.result
+          (Err (Damaged Meta)) (λ _. tt) c.tables_there.ensures.looks.survives c.settled_meta.ensures.looks;
     }
 
 pub returns-in-Some : goal.returns-in-Some
@@ -116,12 +108,13 @@ returns-in-Some g c =
           λ clean.
           let there =
           subst (λ (p : Presence). IsPresent old.now all_probes p × IsAsBefore old mid) c.in-Whole.is
-          (c.in_ok-tables_there.ensures.told (still_clean read.survives clean)) in
-          looked old mid new meta there.0 there.1 (λ rows has. sym c.in-Some.is ∙ read.told clean rows has)
+          (c.in_ok-tables_there.ensures.told (still_clean read.looks.survives clean)) in
+          looked old mid new meta there.0 there.1 (λ rows has. sym c.in-Some.is ∙ read.reads.told clean rows has)
           (read.same clean) c.check_meta.result c.check_meta.ensures;
-      cause =
-          checks_known g.S.Store c.args.conn.now c.settled_meta.new.conn meta c.check_meta.result
-          c.check_meta.ensures;
-      mode = c.settled_meta.ensures.mode;
-      survives = reads_then old mid new c.tables_there.ensures.survives c.settled_meta.ensures.survives;
+      looks =
+          looks_then g.S.Store c.args.conn.now c.tables_there.new.conn c.settled_meta.new.conn c.settled_meta.result
+          c.check_meta.result
+          (λ _. checks_known g.S.Store c.args.conn.now c.settled_meta.new.conn meta c.check_meta.result
+          c.check_meta.ensures)
+          c.tables_there.ensures.looks.survives c.settled_meta.ensures.looks;
     }

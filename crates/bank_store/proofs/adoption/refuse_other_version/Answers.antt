@@ -1,5 +1,5 @@
 -- The version comes first.
-use Rattle.std.proofs.Common.{◌≡◌, map, [], ◌∷◌, rules, sym, ap, subst, ◌∙◌}
+use Rattle.std.proofs.Common.{◌≡◌, map, [], ◌∷◌, Err, rules, sym, ap, subst, ◌∙◌}
 use Rattle.sqlite.specs.Held.{state}
 use mir.Val.{to_z, of_z}
 use mir.Syntax.{w64}
@@ -11,8 +11,7 @@ use Rattle.store_rows.specs.declared.probes.BankTable.TheVariants.{Meta}
 use Rattle.bank_store.specs.declared.presence.Presence.{Presence}
 use Rattle.posting_rules.specs.declared.open_fault.OpenFault.{OpenFault}
 use Rattle.posting_rules.specs.declared.open_fault.OpenFault.TheVariants.{Store}
-use Rattle.bank_transactions.proofs.Blamed.{comes, same_moment}
-use Rattle.bank_store.proofs.Causes.{known_within, still_clean}
+use Rattle.bank_store.proofs.Causes.{looks_then, still_clean}
 use Rattle.bank_store.proofs.FoundBank.{other_read}
 use Rattle.bank_store.proofs.adoption.refuse_other_version.Goals as goal
 
@@ -25,17 +24,17 @@ returns-in-Ok-Some-clause-told g c clean =
     let m = row.meta in
     let there =
     subst (λ (p : Presence). IsPresent old.now (map probe_of (Meta ∷ [])) p × IsAsBefore old mid) c.in-Whole.is
-    (c.in_ok-count_tables.ensures.told (still_clean c.settled_meta.ensures.survives clean)) in
+    (c.in_ok-count_tables.ensures.told (still_clean c.settled_meta.ensures.looks.survives clean)) in
     let same : to_z w64 (of_z w64 m.version) ≡ m.version = search rules in
     other_read old mid new m (to_z w64 (of_z w64 m.version)) there.0.0 there.1
-    (λ rows has. sym row.field-0-is ∙ row.ensures.told clean rows has) (row.ensures.same clean) same
+    (λ rows has. sym row.field-0-is ∙ row.ensures.reads.told clean rows has) (row.ensures.same clean) same
     (λ one. c.if-meta-ne-VERSION.true (ap (of_z w64) (sym same ∙ one)))
 
-pub returns-in-Err-Store-clause-cause : goal.returns-in-Err-Store-clause-cause
-returns-in-Err-Store-clause-cause g c =
-    let mid = c.count_tables.new.conn in
+pub returns-in-Err-Store-clause-looks : goal.returns-in-Err-Store-clause-looks
+returns-in-Err-Store-clause-looks g c =
+    let old = c.args.conn.now in
     let new = c.settled_meta.new.conn in
     let failed = c.in-Err-Store in
-    known_within g.S.Store c.args.conn.now mid new new (comes c.count_tables.ensures.survives)
-    (λ clean. clean) (same_moment (state g.S.Store new)) Store
-    (subst (λ (f : OpenFault). KnowsCause g.S.Store mid new f) failed.field-0-is failed.ensures.cause)
+    looks_then g.S.Store old c.count_tables.new.conn new (Err failed.field-0) (Err Store)
+    (subst (λ (f : OpenFault). KnowsCause g.S.Store old new f) failed.field-0-is) c.count_tables.ensures.looks.survives
+    failed.ensures.looks

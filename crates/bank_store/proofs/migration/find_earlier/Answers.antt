@@ -1,17 +1,15 @@
 -- What is found of a bank of an earlier version.
-use Rattle.std.proofs.Common.{◌≡◌, ◌+◌, ℕ, List, ◌∷◌, map, take, drop, Err, Result, rules, sym, ◌∙◌, ap, subst}
+use Rattle.std.proofs.Common.{◌≡◌, ◌+◌, ℕ, List, ◌∷◌, map, take, drop, Err, rules, sym, ◌∙◌, ap, subst}
 use Rattle.sqlite.specs.Held.{state}
 use Rattle.sqlite.specs.State.{State}
-use Rattle.posting_rules.specs.declared.open_fault.OpenFault.{OpenFault}
-use Rattle.bank_transactions.proofs.Blamed.{comes, same_moment}
 use Rattle.store_rows.specs.Probes.{all_tables, probe_of}
 use Rattle.store_rows.specs.declared.probes.BankTable.{BankTable}
 use Rattle.store_rows.specs.declared.probes.BankTable.TheVariants as table
 use Rattle.bank_store.specs.Connections.{IsAsBefore}
-use Rattle.bank_store.specs.Migration.{MissesEarlier, SeeksEarlier, earlier_probes}
+use Rattle.bank_store.specs.Migration.{MissesEarlier, earlier_probes}
 use Rattle.bank_store.specs.TablePresence.{IsPresent}
 use Rattle.bank_store.specs.declared.presence.Presence.{Presence}
-use Rattle.bank_store.proofs.Causes.{known_within, still_clean}
+use Rattle.bank_store.proofs.Causes.{looks_then, still_clean}
 use Rattle.bank_store.proofs.FoundBank.{missed}
 use Rattle.bank_store.proofs.FoundEarlier.{counted, meta_first, some_lacking}
 use Rattle.bank_store.proofs.migration.find_earlier.Goals as goal
@@ -35,33 +33,29 @@ returns-in_default g c =
           let told = of_earlier c.args.from c.behind_meta.result.now old new c.in_ok-count_tables.field-0
           c.behind_meta.ensures (there.told clean) in
           (some_lacking c.args.from old.now c.in_ok-count_tables.field-0 c.in_default.not-Whole told.0, told.1);
-      cause = tt;
-      mode = there.mode;
-      survives = there.survives;
+      looks = record { cause = tt; mode = there.looks.mode; survives = there.looks.survives };
     }
 
-pub returns-in_err-settled_meta-clause-told : goal.returns-in_err-settled_meta-clause-told
-returns-in_err-settled_meta-clause-told g c clean =
+pub returns-in_err-settled_meta : goal.returns-in_err-settled_meta
+returns-in_err-settled_meta g c =
     let old = state g.S.Store c.args.conn.now in
     let mid = state g.S.Store c.count_tables.new.conn in
     let new = state g.S.Store c.settled_meta.new.conn in
     let e = c.in_err-settled_meta in
     let is : c.from_residual-in_err-settled_meta.result ≡ Err e.field-0.0 = search rules in
-    let there =
-    subst (λ (p : Presence). IsPresent old.now (earlier_probes c.args.from) p × IsAsBefore old mid) c.in-Whole.is
-    (of_earlier c.args.from c.behind_meta.result.now old mid c.in_ok-count_tables.field-0 c.behind_meta.ensures
-    (c.in_ok-count_tables.ensures.told (still_clean e.ensures.survives clean))) in
-    subst (λ (r : Result (Unit {0}) OpenFault). SeeksEarlier c.args.from old new r) (sym is)
-    (missed old mid new there.1 (MissesEarlier c.args.from old.now) tt (λ none other. (there.0, none, other)) e.field-0.0
-    e.ensures.fault (e.ensures.told clean) (e.ensures.other clean) (e.ensures.same clean))
-
-pub returns-in_err-settled_meta-clause-cause : goal.returns-in_err-settled_meta-clause-cause
-returns-in_err-settled_meta-clause-cause g c =
-    let e = c.in_err-settled_meta in
-    let is : c.from_residual-in_err-settled_meta.result ≡ Err e.field-0.0 = search rules in
-    rw is (known_within g.S.Store c.args.conn.now c.count_tables.new.conn c.settled_meta.new.conn
-    c.settled_meta.new.conn (comes c.count_tables.ensures.survives) (λ clean. clean)
-    (same_moment (state g.S.Store c.settled_meta.new.conn)) e.field-0.0 e.ensures.cause)
+    rw is (record {
+      told = λ clean.
+          let there =
+          subst (λ (p : Presence). IsPresent old.now (earlier_probes c.args.from) p × IsAsBefore old mid) c.in-Whole.is
+          (of_earlier c.args.from c.behind_meta.result.now old mid c.in_ok-count_tables.field-0 c.behind_meta.ensures
+          (c.in_ok-count_tables.ensures.told (still_clean e.ensures.looks.survives clean))) in
+          missed old mid new there.1 (MissesEarlier c.args.from old.now) tt (λ none other. (there.0, none, other))
+          e.field-0.0 e.ensures.reads.fault (e.ensures.reads.told clean) (e.ensures.reads.other clean)
+          (e.ensures.same clean);
+      looks =
+          looks_then g.S.Store c.args.conn.now c.count_tables.new.conn c.settled_meta.new.conn (Err e.field-0.0)
+          (Err e.field-0.0) (λ knows. knows) c.count_tables.ensures.looks.survives e.ensures.looks;
+    })
 
 pub returns-in-Some-clause-told : goal.returns-in-Some-clause-told
 returns-in-Some-clause-told g c clean =
@@ -72,6 +66,6 @@ returns-in-Some-clause-told g c clean =
     let there =
     subst (λ (p : Presence). IsPresent old.now (earlier_probes c.args.from) p × IsAsBefore old mid) c.in-Whole.is
     (of_earlier c.args.from c.behind_meta.result.now old mid c.in_ok-count_tables.field-0 c.behind_meta.ensures
-    (c.in_ok-count_tables.ensures.told (still_clean read.survives clean))) in
+    (c.in_ok-count_tables.ensures.told (still_clean read.looks.survives clean))) in
     counted c.args.from old mid new there.0 there.1 (read.same clean) c.in-Some.meta
-    (λ rows has. sym c.in-Some.is ∙ read.told clean rows has) c.check_count.result c.check_count.ensures
+    (λ rows has. sym c.in-Some.is ∙ read.reads.told clean rows has) c.check_count.result c.check_count.ensures

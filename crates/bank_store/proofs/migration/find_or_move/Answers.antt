@@ -1,76 +1,67 @@
 -- What is found is moved, if it has an earlier version.
-use Rattle.std.proofs.Common.{◌≡◌, ℕ, ℤ, Err, rules, subst}
+use Rattle.std.proofs.Common.{◌≡◌, ℕ, ℤ, Err, Result, rules, subst}
+use Rattle.std.specs.Prelude.{IfErr}
 use mir.Val.{to_z, of_z}
 use mir.Syntax.{w64}
-use Rattle.sqlite.specs.State.{State, HasCleanDisk, Survives}
-use Rattle.sqlite.specs.Held.{state}
-use Rattle.sqlite.proofs.StateLemmas.{survives_then}
+use Rattle.sqlite.specs.State.{HasCleanDisk, Survives}
+use Rattle.sqlite.specs.Held.{Held, state}
+use Rattle.sqlite_trees.specs.declared.store.Store.{Ghosts}
 use Rattle.posting_rules.specs.declared.open_fault.OpenFault.{OpenFault}
 use Rattle.posting_rules.specs.declared.open_fault.OpenFault.TheVariants.{Version}
-use Rattle.bank_transactions.proofs.Blamed.{comes, same_moment}
 use Rattle.bank_store.specs.FoundBank.{SeeksBank}
 use Rattle.bank_store.specs.Migration.{HasCarriedOver, HasMoved, IsFrom}
-use Rattle.bank_store.proofs.Causes.{known_within, still_clean}
+use Rattle.bank_store.specs.StoreFaults.{IsOpenCall, KnowsCause}
+use Rattle.bank_store.proofs.Causes.{call_then, still_clean}
 use Rattle.bank_store.proofs.FoundEarlier.{unmoved_at, was_earlier}
 use Rattle.bank_store.proofs.migration.find_or_move.Goals as goal
 
--- what a stop may leave of a bank that is moved behind a look at its version
-moves_on : (old mid new : State) (version : ℤ) (from : ℕ) → IsFrom version from
-    → (HasCleanDisk mid → SeeksBank old mid (Err (Version version))) → Survives old mid (λ _. ⊥)
-    → Survives mid new (HasMoved from mid.now) → Survives old new (HasCarriedOver old)
-moves_on old mid new version from is looked first then =
-    survives_then old mid new (λ _. ⊥) (HasMoved from mid.now) (HasCarriedOver old) (λ clean left none. absurd none)
+-- a bank is moved behind a look at its version
+moves_on : {S X Y : Type 0} (g : Ghosts S) (old mid new : Held S) (version : ℤ) (from : ℕ) → IsFrom version from
+    → (fault : OpenFault) → fault ≡ Version version
+    → (HasCleanDisk (state g mid) → SeeksBank (state g old) (state g mid) (Err fault))
+    → Survives (state g old) (state g mid) (λ _. ⊥) → (told : Result X OpenFault)
+    → IsOpenCall g mid new (HasMoved from (state g mid).now) told → (result : Result Y OpenFault)
+    → (IfErr told (KnowsCause g old new) → IfErr result (KnowsCause g old new))
+    → IsOpenCall g old new (HasCarriedOver (state g old)) result
+moves_on g old mid new version from is fault tells looked first told moves result answers =
+    call_then g old mid new told result answers first (HasMoved from (state g mid).now) (HasCarriedOver (state g old))
     (λ clean left moved.
-    let found = looked (still_clean then clean) in (
+    let found = subst (λ (f : OpenFault). SeeksBank (state g old) (state g mid) (Err f)) tells
+    (looked (still_clean moves.survives clean)) in (
       from,
-      was_earlier from old mid new version is found,
+      was_earlier from (state g old) (state g mid) (state g new) version is found,
       subst (λ db. HasMoved from db left) found.1.now_is moved,
     ))
-    first then
+    moves
 
-pub returns-in_err-move_found-in-Some-clause-told : goal.returns-in_err-move_found-in-Some-clause-told
-returns-in_err-move_found-in-Some-clause-told g c clean =
+pub returns-in_err-move_found-in-Some : goal.returns-in_err-move_found-in-Some
+returns-in_err-move_found-in-Some g c =
     let s = state g.S.Store in
     let old = c.args.conn.now in
     let mid = c.find_bank.new.conn in
+    let new = c.move_found.new.conn in
     let first = c.in-Err-Version in
     let same : to_z w64 (of_z w64 first.version) ≡ first.version = search rules in
     let from : IsFrom first.version c.in-Some.from = rw same at c.in-Some.ensures.some in
     let e = c.in_err-move_found-in-Some in
     let is : c.from_residual.result ≡ Err e.field-0.0 = search rules in
-    let found = first.ensures.told (still_clean e.ensures.survives clean) in
-    rw is (unmoved_at c.in-Some.from (s old) (s mid) (s c.move_found.new.conn) first.version from
-    (subst (λ (f : OpenFault). SeeksBank (s old) (s mid) (Err f)) first.field-0-is found) e.field-0.0
-    (e.ensures.told clean))
+    rw is (record {
+      told = λ clean.
+          unmoved_at c.in-Some.from (s old) (s mid) (s new) first.version from
+          (subst (λ (f : OpenFault). SeeksBank (s old) (s mid) (Err f)) first.field-0-is
+          (first.ensures.told (still_clean e.ensures.call.survives clean))) e.field-0.0 (e.ensures.told clean);
+      from = tt;
+      call =
+          moves_on g.S.Store old mid new first.version c.in-Some.from from first.field-0 first.field-0-is
+          first.ensures.told first.ensures.looks.survives (Err e.field-0.0) e.ensures.call (Err e.field-0.0)
+          (λ knows. knows);
+    })
 
-pub returns-in_err-move_found-in-Some-clause-cause : goal.returns-in_err-move_found-in-Some-clause-cause
-returns-in_err-move_found-in-Some-clause-cause g c =
-    let e = c.in_err-move_found-in-Some in
-    let is : c.from_residual.result ≡ Err e.field-0.0 = search rules in
-    rw is (known_within g.S.Store c.args.conn.now c.find_bank.new.conn c.move_found.new.conn
-    c.move_found.new.conn (comes c.find_bank.ensures.survives) (λ clean. clean)
-    (same_moment (state g.S.Store c.move_found.new.conn)) e.field-0.0 e.ensures.cause)
-
-pub returns-in_err-move_found-in-Some-clause-survives : goal.returns-in_err-move_found-in-Some-clause-survives
-returns-in_err-move_found-in-Some-clause-survives g c =
-    let s = state g.S.Store in
+pub returns-in_ok-move_found-in-Some-clause-call : goal.returns-in_ok-move_found-in-Some-clause-call
+returns-in_ok-move_found-in-Some-clause-call g c =
     let first = c.in-Err-Version in
     let same : to_z w64 (of_z w64 first.version) ≡ first.version = search rules in
     let from : IsFrom first.version c.in-Some.from = rw same at c.in-Some.ensures.some in
-    moves_on (s c.args.conn.now) (s c.find_bank.new.conn) (s c.move_found.new.conn) first.version c.in-Some.from
-    from
-    (λ clean. subst (λ (f : OpenFault). SeeksBank (s c.args.conn.now) (s c.find_bank.new.conn) (Err f)) first.field-0-is
-    (first.ensures.told clean))
-    first.ensures.survives c.in_err-move_found-in-Some.ensures.survives
-
-pub returns-in_ok-move_found-in-Some-clause-survives : goal.returns-in_ok-move_found-in-Some-clause-survives
-returns-in_ok-move_found-in-Some-clause-survives g c =
-    let s = state g.S.Store in
-    let first = c.in-Err-Version in
-    let same : to_z w64 (of_z w64 first.version) ≡ first.version = search rules in
-    let from : IsFrom first.version c.in-Some.from = rw same at c.in-Some.ensures.some in
-    moves_on (s c.args.conn.now) (s c.find_bank.new.conn) (s c.move_found.new.conn) first.version c.in-Some.from
-    from
-    (λ clean. subst (λ (f : OpenFault). SeeksBank (s c.args.conn.now) (s c.find_bank.new.conn) (Err f)) first.field-0-is
-    (first.ensures.told clean))
-    first.ensures.survives c.in_ok-move_found-in-Some.ensures.survives
+    moves_on g.S.Store c.args.conn.now c.find_bank.new.conn c.move_found.new.conn first.version c.in-Some.from from
+    first.field-0 first.field-0-is first.ensures.told first.ensures.looks.survives c.move_found.result
+    c.move_found.ensures.call _ (λ _. tt)

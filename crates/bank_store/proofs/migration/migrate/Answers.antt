@@ -16,7 +16,7 @@ returns-in-Ok-clause-migrated g c =
     (λ some. (let none = c.over.ensures.up in let h = rw none at some in cc)) c.in-Ok.migrated
     (subst (λ h. HasCleanDisk (state g.S.Store h) → Migrates old (state g.S.Store h) (Ok c.in-Ok.migrated)) same
     here.told) here.from
-    (subst (λ h. Survives old (state g.S.Store h) (HasCarriedOver old)) same here.survives)
+    (subst (λ h. Survives old (state g.S.Store h) (HasCarriedOver old)) same here.call.survives)
 
 pub returns-in-Ok-clause-known : goal.returns-in-Ok-clause-known
 returns-in-Ok-clause-known g c =
@@ -36,7 +36,7 @@ returns-in-Err-clause-back g c =
     let new = state g.S.Store c.find_or_move.new.conn in
     let told = c.in-Err.ensures.told in
     record {
-      idle = c.in-Err.ensures.mode;
+      idle = c.in-Err.ensures.call.mode;
       same = λ clean other. as_it_was old new c.in-Err.fault (told clean).1 other;
       undone = λ clean. undone_if_open old new c.in-Err.fault (told clean).1;
     }
@@ -46,4 +46,4 @@ returns-in-Err-clause-known g c =
     knows_refused g.S.Store c.args.conn _ (λ clean. (c.in-Err.ensures.told clean).0)
 
 pub returns-in-Err-clause-remains : goal.returns-in-Err-clause-remains
-returns-in-Err-clause-remains g c = leaves_bank g.S.Store c.args.conn _ c.in-Err.ensures.survives
+returns-in-Err-clause-remains g c = leaves_bank g.S.Store c.args.conn _ c.in-Err.ensures.call.survives

@@ -1,12 +1,11 @@
 -- Why the tables aren't changed, or not committed.
-use Rattle.std.proofs.Common.{◌≡◌, Err, true, rules, subst}
-use Rattle.sqlite.specs.State.{Survives}
+use Rattle.std.proofs.Common.{◌≡◌, Err, true, rules}
 use Rattle.sqlite.specs.Held.{state}
 use Rattle.bank_transactions.specs.Causes.{IsBefore}
 use Rattle.bank_transactions.proofs.Blamed.{comes, failed_here, same_moment, then_moment}
 use Rattle.posting_rules.specs.declared.open_fault.OpenFault.TheVariants.{Store}
 use Rattle.store_rows.specs.Failures.{Committing}
-use Rattle.bank_store.specs.Migration.{HasMoved, IsUnmoved}
+use Rattle.bank_store.specs.Migration.{IsUnmoved}
 use Rattle.bank_store.proofs.Causes.{begun_after, known_within, still_clean}
 use Rattle.bank_store.proofs.Moved.{from_begun, live, stops}
 use Rattle.bank_store.proofs.migration.move_bank.Goals as goal
@@ -29,13 +28,14 @@ returns-in_err-change_tables g c =
       why = rw (told, ← same) (λ clean.
           from_begun c.args.from g.S.Store old at last new is (λ db. IsUnmoved c.args.from db e.field-0.0)
           (e.ensures.says.told (still_clean ended clean) (live c.args.from g.S.Store old at last new is)));
-      cause =
-          let begun : IsBefore (s old) (s at) = rw is (begun_after g.S.Store old true) in
-          rw (told, ← same)
-          (known_within g.S.Store old at last new begun (still_clean ended) (comes ended) e.field-0.0
-          (e.ensures.cause (live c.args.from g.S.Store old at last new is)));
-      survives = search rules;
-      mode = rw (← same) c.drop-tx.ensures.ended;
+      call = record {
+        cause =
+            rw (told, ← same)
+            (known_within g.S.Store old at last new (rw is (begun_after g.S.Store old true)) (still_clean ended)
+            (comes ended) e.field-0.0 (e.ensures.cause (live c.args.from g.S.Store old at last new is)));
+        mode = rw (← same) c.drop-tx.ensures.ended;
+        survives = search rules;
+      };
     }
 
 pub returns-in-Err : goal.returns-in-Err
@@ -47,24 +47,38 @@ returns-in-Err g c =
     let new = c.commit.new.tx.0 in
     let is = c.begin-tx.ensures.begun in
     let same : new ≡ c.conn-2-1.given.0 = search rules in
+    let changed = c.in_ok-change_tables.ensures.says in
     record {
       moved = search rules;
       undone = search rules;
       why = λ clean. tt;
-      cause =
-          let begun : IsBefore (s old) (s at) = rw is (begun_after g.S.Store old true) in
-          let before = then_moment (s old) (s at) (s last) begun (comes c.in_ok-change_tables.ensures.says.survives) in
-          rw (← same)
-          (known_within g.S.Store old last new new before (λ clean. clean) (same_moment (s new)) Store
-          (λ clean. (
-            c.in-Err.field-0,
-            failed_here g.S.Store last new c.in-Err.field-0
-                (Committing (c.in-Err.ensures.cause clean)),
-          )));
-      survives =
-          let changed = c.in_ok-change_tables.ensures.says in
-          subst (λ h. Survives (s old) (s h) (HasMoved c.args.from (s old).now)) same
-          (stops c.args.from g.S.Store old at last new is changed.survives c.in-Err.ensures.survives
-          (λ clean. changed.told clean (live c.args.from g.S.Store old at last new is)));
-      mode = rw (← same) c.commit.ensures.ended;
+      call = rw (← same) (record {
+        cause =
+            let begun : IsBefore (s old) (s at) = rw is (begun_after g.S.Store old true) in
+            known_within g.S.Store old last new new (then_moment (s old) (s at) (s last) begun (comes changed.survives))
+            (λ clean. clean) (same_moment (s new)) Store (λ clean. (
+              c.in-Err.field-0,
+              failed_here g.S.Store last new c.in-Err.field-0 (Committing (c.in-Err.ensures.cause clean)),
+            ));
+        mode = c.commit.ensures.ended;
+        survives =
+            stops c.args.from g.S.Store old at last new is changed.survives c.in-Err.ensures.survives changed.told;
+      });
+    }
+
+pub returns-in-Ok : goal.returns-in-Ok
+returns-in-Ok g c =
+    let same : c.commit.new.tx.0 ≡ c.conn-2-1.given.0 = search rules in
+    let changed = c.in_ok-change_tables.ensures.says in
+    record {
+      moved = search rules;
+      undone = λ clean. tt;
+      why = λ clean. tt;
+      call = rw (← same) (record {
+        cause = tt;
+        mode = c.commit.ensures.ended;
+        survives =
+            stops c.args.from g.S.Store c.args.conn.now c.begin-tx.result.conn.now c.change_tables.new.tx.conn.now
+            c.commit.new.tx.0 c.begin-tx.ensures.begun changed.survives c.in-Ok.ensures.survives changed.told;
+      });
     }

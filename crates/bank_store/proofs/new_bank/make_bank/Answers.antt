@@ -43,14 +43,14 @@ returns-in-Absent-clause-makes g c = record {
       let there = c.in_ok-tables_there.ensures.told midway in
       if_err (λ fault. fault ≡ NotBlank → IsRefusedOnTheWay mid) (λ fault. fault ≡ NotBlank → IsTaken old)
       (λ fault refused taken. inr (refused_before old mid there.1.now_is
-      c.tables_there.ensures.survives.limit (refused taken)))
+      c.tables_there.ensures.looks.survives.limit (refused taken)))
       c.make_settled.result (c.make_settled.ensures.makes.refused clean);
   cause =
       let old = c.args.conn.now in
       let mid = c.tables_there.new.conn in
       let new = c.make_settled.new.conn in
       if_err (KnowsWhyUnmade g.S.Store mid new) (KnowsWhyUnmade g.S.Store old new)
-      (unmade_within g.S.Store old mid new new (comes c.tables_there.ensures.survives) (λ clean. clean)
+      (unmade_within g.S.Store old mid new new (comes c.tables_there.ensures.looks.survives) (λ clean. clean)
       (same_moment (state g.S.Store new)))
       c.make_settled.result c.make_settled.ensures.makes.cause;
   survives = search rules;
@@ -82,7 +82,7 @@ returns-in_err-tables_there-clause-makes g c =
       refused = search rules;
       cause =
           rw is (unmade_as_known g.S.Store c.args.conn.now c.tables_there.new.conn e.field-0.0
-          e.ensures.cause);
+          e.ensures.looks.cause);
       survives = search rules;
       mode = search rules;
     }

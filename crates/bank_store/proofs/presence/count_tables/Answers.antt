@@ -2,12 +2,10 @@
 use Rattle.std.proofs.Common.{◌≡◌, length, map, take, rules, arith, sym, subst}
 use Rattle.std.proofs.Math.Seq.{take-length}
 use Rattle.sqlite.specs.Held.{state}
-use Rattle.bank_transactions.proofs.Blamed.{comes, same_moment}
 use Rattle.bank_store.specs.Connections.{IsAsBefore}
 use Rattle.store_rows.specs.Probes.{probe_of}
 use Rattle.bank_store.specs.TablePresence.{joined, presence_of, IsPresent}
-use Rattle.posting_rules.specs.declared.open_fault.OpenFault.TheVariants.{Store}
-use Rattle.bank_store.proofs.Causes.{known_within, probe_failed, still_clean}
+use Rattle.bank_store.proofs.Causes.{fails_then, probe_failed, still_clean}
 use Rattle.bank_store.proofs.Probed.{next_probe, one_more, probed}
 use Rattle.bank_store.proofs.presence.count_tables.Goals as goal
 
@@ -19,8 +17,7 @@ loop-table-init g c =
           (probed (state g.S.Store c.args.conn.now) (state g.S.Store c.probe_table.new.conn) (probe_of c.args.first)
           c.in-Ok.is_there
           (here.told clean) (here.text clean));
-      mode = here.mode c.requires;
-      survives = here.survives;
+      looks = record { cause = tt; mode = here.mode c.requires; survives = here.survives };
     }
 
 pub loop-table-preserved : goal.loop-table-preserved
@@ -40,8 +37,7 @@ loop-table-preserved g c =
           (one_more g.S.Store old c.loop-table.conn new (probe_of c.args.first)
           (map probe_of (take at others)) _ there is
           (c.loop-table.invariant.told (still_clean here.survives clean)) here clean));
-      mode = here.mode c.loop-table.invariant.mode;
-      survives = search rules;
+      looks = record { cause = tt; mode = here.mode c.loop-table.invariant.looks.mode; survives = search rules };
     }
 
 pub returns-clause-told : goal.returns-clause-told
@@ -52,16 +48,16 @@ returns-clause-told g c clean =
     let so_far = rw all at (c.loop-table.invariant.told clean) in
     rw (take-length others) at so_far
 
-pub returns-in_default-clause-cause : goal.returns-in_default-clause-cause
-returns-in_default-clause-cause g c =
-    probe_failed g.S.Store c.args.conn.now c.probe_table.new.conn (probe_of c.args.first) c.in_default.field-0
-    c.in_default.ensures
+pub returns-in_default-clause-looks : goal.returns-in_default-clause-looks
+returns-in_default-clause-looks g c = record {
+  cause =
+      probe_failed g.S.Store c.args.conn.now c.probe_table.new.conn (probe_of c.args.first) c.in_default.field-0
+      c.in_default.ensures;
+  mode = c.in_default.ensures.mode c.requires;
+  survives = c.in_default.ensures.survives;
+}
 
-pub returns-in_default-probe_table-clause-cause : goal.returns-in_default-probe_table-clause-cause
-returns-in_default-probe_table-clause-cause g c =
-    let mid = c.loop-table.conn in
-    let new = c.probe_table-in-loop-table.new.conn in
-    known_within g.S.Store c.args.conn.now mid new new (comes c.loop-table.invariant.survives)
-    (λ clean. clean)
-    (same_moment (state g.S.Store new)) Store
-    (probe_failed g.S.Store mid new _ c.in_default-probe_table.field-0 c.in_default-probe_table.ensures)
+pub returns-in_default-probe_table-clause-looks : goal.returns-in_default-probe_table-clause-looks
+returns-in_default-probe_table-clause-looks g c =
+    fails_then g.S.Store c.args.conn.now c.loop-table.conn c.probe_table-in-loop-table.new.conn (λ _. ⊥) _
+    c.loop-table.invariant.looks _ c.in_default-probe_table.field-0 c.in_default-probe_table.ensures

@@ -1,9 +1,10 @@
 -- How many there are of those so far, and everything is as it was.
-use Rattle.std.proofs.Common.{◌≡◌, ◌∷◌, map, take, false}
-use Rattle.sqlite.specs.State.{HasCleanDisk, Survives}
+use Rattle.std.proofs.Common.{◌∷◌, map, take, Ok}
+use Rattle.sqlite.specs.State.{HasCleanDisk}
 use Rattle.sqlite.specs.Held.{state}
 use Rattle.bank_store.specs.Connections.{IsAsBefore}
 use Rattle.store_rows.specs.Probes.{probe_of}
+use Rattle.bank_store.specs.StoreFaults.{LooksIn}
 use Rattle.bank_store.specs.TablePresence.{IsPresent}
 use Rattle.bank_store.proofs.presence.count_tables.Given as goal
 
@@ -15,6 +16,5 @@ invariant-loop-table g l =
       told : HasCleanDisk new
           → IsPresent old.now (map probe_of (l.fn.first ∷ take l.table-index l.fn.others)) l.there
           × IsAsBefore old new;
-      mode : l.conn.in_transaction ≡ false;
-      survives : Survives old new (λ _. ⊥);
+      looks : LooksIn g.S.Store l.fn.conn l.conn (Ok l.there);
     }
