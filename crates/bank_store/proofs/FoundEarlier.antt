@@ -1,7 +1,7 @@
 -- What is found of a bank of an earlier version, what is moved of it, and what is known where a log is shown.
-use Rattle.std.proofs.Common.{◌≡◌, ◌≤◌, ◌<◌, ◌+◌, ℕ, zero, suc, ℤ, pos, nat_abs, List, [], ◌∷◌, map, take, drop, slice_get}
+use Rattle.std.proofs.Common.{◌≡◌, ◌≤◌, ◌+◌, ℕ, zero, suc, ℤ, pos, nat_abs, List, [], ◌∷◌, map, take, drop, slice_get}
 use Rattle.std.proofs.Common.{Option, Some, None, Ok, Err, Result, refl, sym, ap, subst, ◌∙◌, inl, inr, arith}
-use Rattle.std.specs.Prelude.{◌⊎◌, ◌≢◌, IfErr, OnOk}
+use Rattle.std.specs.Prelude.{◌⊎◌, IfErr, OnOk}
 use Rattle.std.specs.List.{take-map}
 use Rattle.sqlite.specs.Table.{Table}
 use Rattle.sqlite.specs.Effect.{Database}
@@ -73,10 +73,6 @@ module _ (from : ℕ) (old mid new : State) (tables : IsPresent old.now (earlier
       → (P : Option StoredMeta → Type 0) → P stored → MetaIs old P
   row_is stored read P holds rows has =
       subst P (read rows (subst (λ (db : Database). HoldsRows db bank.meta rows) (sym first.now_is) has)) holds
-
-  pub no_row : ((rows : List Entry) → HoldsRows mid.now bank.meta rows → None ≡ meta_in rows)
-      → SeeksEarlier from old new (Err (Damaged Meta))
-  no_row read = ((tables, row_is None read IsUncounted (inl refl)), as_before old mid new first then)
 
   pub counted : (m : StoredMeta)
       → ((rows : List Entry) → HoldsRows mid.now bank.meta rows → Some m ≡ meta_in rows)

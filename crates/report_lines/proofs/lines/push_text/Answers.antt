@@ -1,7 +1,7 @@
 -- One byte more, which is ASCII.
 use Rattle.std.proofs.Common.{◌<◌, drop, length, sym, ap, subst, arith, rules}
 use Rattle.std.proofs.lemmas.List.{length-append}
-use Rattle.report_lines.proofs.Printable.{all_behind, from_one, one_byte, one_is_ascii}
+use Rattle.report_lines.proofs.Printable.{from_one, one_byte, one_is_ascii}
 use Rattle.report_lines.proofs.lines.push_text.Goals as goal
 
 pub push-requires : goal.push-requires
