@@ -16,7 +16,6 @@ use Rattle.posting_rules.specs.declared.judgments.Found.{Found}
 use Rattle.posting_rules.specs.declared.rows.BranchRow.{BranchRow}
 use Rattle.posting_rules.proofs.Keyed.{by_test}
 use Rattle.posting_batch.specs.declared.batch.Batch.{Batch}
-use Rattle.posting_batch.specs.declared.slots.BranchSlot.{BranchSlot}
 use Rattle.posting_batch.specs.declared.slots.RequestSlot.{RequestSlot}
 use Rattle.posting_batch.specs.Batch.{CoversAll, CoversRead, HasHomes, HasRisingSlots, account_filled}
 use Rattle.posting_batch.specs.Batch.{HasFreeOrdinals}
@@ -39,11 +38,11 @@ use Rattle.sqlite.specs.Effect.{Database}
 use Rattle.sqlite.specs.Held.{Held, state}
 use Rattle.sqlite.specs.State.{HasCleanDisk}
 use Rattle.sqlite_trees.specs.declared.store.Store.{Ghosts}
-use Rattle.store_rows.specs.Rules.{BranchKeeps, HoldsBank, OfRows, StoredRows, branch_under, row_under}
-use Rattle.store_rows.specs.Stored.{BalanceKeeps, FindsStored, IsBalance, IsBranch}
+use Rattle.store_rows.specs.Rules.{HoldsBank, OfRows, StoredRows, branch_under, row_under}
+use Rattle.store_rows.specs.Stored.{BalanceKeeps, FindsStored, IsBalance}
 use Rattle.store_rows.specs.declared.fault.TableFault.{TableFault}
 use Rattle.bank_transactions.specs.Doing.{Ends}
-use Rattle.bank_transactions.specs.Filling.{AccountHeld, AreHeld, BranchHeld, HoldsBranch, RequestHeld, TellerHeld}
+use Rattle.bank_transactions.specs.Filling.{AreHeld, BranchHeld, HoldsBranch, RequestHeld}
 use Rattle.bank_transactions.specs.Filling.{emptied, emptied_account, emptied_branch, emptied_floor}
 use Rattle.bank_transactions.specs.Filling.{emptied_request, emptied_teller}
 use Rattle.bank_transactions.specs.Stored.{HasRead, HasStored, HoldsAccount, HoldsFloor, HoldsKept, HoldsTeller}

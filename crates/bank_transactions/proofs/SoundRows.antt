@@ -16,7 +16,7 @@ use Rattle.posting_rules.specs.declared.rows.FloorRow.{FloorRow}
 use Rattle.posting_rules.specs.declared.rows.ReferenceRow.{ReferenceRow}
 use Rattle.posting_rules.specs.declared.fault.Rule.{Rule}
 use Rattle.posting_rules.specs.Damage.{IsUndamaged, IsSoundBranch, IsSoundTeller, IsSoundAccount}
-use Rattle.posting_rules.specs.Damage.{IsSoundFloor, IsSoundReference, IsSoundRequest}
+use Rattle.posting_rules.specs.Damage.{IsSoundFloor, IsSoundRequest}
 use Rattle.posting_rules.specs.LookUps.{account_balance_in, balance_of_account, balance_of_teller, floor_in}
 use Rattle.posting_rules.specs.Numbering.{branch_of_account}
 use Rattle.posting_rules.specs.Tables.{Tables, row_at, branch_key, teller_key, account_key, floor_key}

@@ -1,7 +1,7 @@
 -- What a source of records told last.
-use Rattle.std.proofs.Common.{◌≡◌, List, [], ◌∷◌, ◌++◌, Option, Some, None, Bool, true, false, ℕ, Result, Ok}
-use Rattle.std.proofs.Common.{Err, ap, subst, ◌∙◌, inl, inr}
-use Rattle.std.specs.Prelude.{◌⊎◌, ⊤, ℤ, if◌then◌else◌}
+use Rattle.std.proofs.Common.{◌≡◌, List, [], ◌∷◌, Option, Some, None, Bool, true, false, ℕ, Result, Ok}
+use Rattle.std.proofs.Common.{Err, ap, subst, ◌∙◌, inl}
+use Rattle.std.specs.Prelude.{⊤, ℤ, if◌then◌else◌}
 use Rattle.csv.specs.declared.error.Error.{Error}
 use Rattle.csv.specs.declared.error.ErrorKind.{ErrorKind}
 use Rattle.posting_core.specs.Told.{GrowsBy, EndsWith, HasMore}

@@ -1,6 +1,6 @@
 -- The tables that an earlier version lacks beside a bank of it.
-use Rattle.std.proofs.Common.{◌≡◌, ◌+◌, ◌≤◌, ◌<◌, ◌&&◌, ◌++◌, ℕ, zero, suc, pos, Bool, true, false, not, List, [], ◌∷◌}
-use Rattle.std.proofs.Common.{drop, take, map, slice_get, Some, length, lit≤, refl, sym, ap, subst, ◌∙◌, inl, inr}
+use Rattle.std.proofs.Common.{◌≡◌, ◌+◌, ◌&&◌, ◌++◌, ℕ, zero, suc, pos, Bool, true, false, not, List, [], ◌∷◌}
+use Rattle.std.proofs.Common.{drop, take, map, slice_get, Some, refl, sym, ap, subst, ◌∙◌}
 use Rattle.std.proofs.Common.{arith}
 use Rattle.std.proofs.Math.Logic.{∥∥₁_elim}
 use Rattle.std.specs.List.{AllByRecursion, drop-map, list_all}
@@ -18,7 +18,6 @@ use Rattle.sqlite_schema.specs.Names.{same_name}
 use Rattle.sqlite_tied.specs.Compute.{everything}
 use Rattle.posting_rules.specs.Tables.{Tables}
 use Rattle.sql_meanings.specs.Contents.{HoldsEach, has_other_names, is_free, stand_apart}
-use Rattle.sql_meanings.specs.Entries.{Entry}
 use Rattle.sql_meanings.specs.Making.{NotMade}
 use Rattle.sql_meanings.specs.StatementAnswers.{IsUnderstood}
 use Rattle.sql_meanings.proofs.Contents.{HoldsEach-prop}
@@ -31,7 +30,7 @@ use Rattle.sql_meanings.proofs.Trees.{Holds-prop, nat_set}
 use Rattle.store_rows.specs.BankTables as bank
 use Rattle.store_rows.specs.BankTables.{bank_tables}
 use Rattle.store_rows.specs.Creation.{AreGrown, TablesAreMade, all_texts}
-use Rattle.store_rows.specs.Migration.{HoldsTables, IsEarlier, LackingAreMade, RefusesLacking, ShowsLess, TakesLacking}
+use Rattle.store_rows.specs.Migration.{IsEarlier, LackingAreMade, RefusesLacking, ShowsLess, TakesLacking}
 use Rattle.store_rows.specs.Migration.{lacking}
 use Rattle.store_rows.specs.View.{contents_of, meta_entry, rows_of, tables_of}
 use Rattle.store_rows.specs.declared.texts.TheConstants.{MAKE_FLOOR, MAKE_REFERENCE}

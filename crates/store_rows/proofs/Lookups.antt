@@ -4,7 +4,6 @@ use Rattle.std.proofs.Common.{refl, arith}
 use Rattle.std.proofs.Common.{◌≤◌, ap, ◌∙◌, w64, to_z, of_z, pos, ◌≤ℤ◌, FitsSigned}
 use Rattle.std.specs.Prelude.{neg_ℤ}
 use Rattle.std.proofs.lemmas.Int.{ints, to_z_pos, to_z-of_z}
-use Rattle.sqlite.specs.Order.{column}
 use Rattle.sqlite.specs.declared.types.Value.{Value}
 use Rattle.sqlite.specs.declared.types.Value.TheVariants.{Int}
 use Rattle.message_records.specs.declared.limits.TheConstants.{MAX_BALANCE}
