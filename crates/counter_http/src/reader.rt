@@ -10,6 +10,10 @@ use std::io::{ErrorKind, Read};
 use std::os::fd::AsRawFd;
 use std::time::{Clock, Duration, Instant};
 
+// How many bytes a read takes at most, so that what a client sends ahead is answered piece by piece, and the
+// limits and the other clients are looked at in between.
+const ONE_PIECE: usize = 512;
+
 /// Gives what its stream gives while the client keeps pace. Where it doesn't, a read fails with `TimedOut`.
 /// A read may be `Interrupted`, to be made again. After any other error each read fails. While the client is
 /// prompt and no other waits, a read of the stream is all that is asked of the system.
@@ -70,7 +74,8 @@ impl<'l, S: Read + AsRawFd + Drop, T: Clock> TimedReader<'l, S, T> {
         if !self.has_come(limit, others_wait) {
             return Err(io::Error::from(ErrorKind::Interrupted));
         }
-        let read = self.stream.read(buf);
+        let most = buf.len().min(ONE_PIECE);
+        let read = self.stream.read(&mut buf[..most]);
         self.is_slow = false;
         match read {
             Ok(count) => {
