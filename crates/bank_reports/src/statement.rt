@@ -44,7 +44,8 @@ fn write_lines<S: Alter, W: Sink>(
 }
 
 /// Writes the statement of an account: its postings by their ordinals, each with the running balance and the
-/// reference of its request, and its balance at the end; and flushes the writer.
+/// reference of its request, and the balance of its row at the end, from which the last line may differ on rows
+/// that no bank wrote; and flushes the writer.
 ///
 /// # Errors
 ///

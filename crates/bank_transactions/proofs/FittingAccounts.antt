@@ -1,6 +1,6 @@
--- An account that was looked up beside its branch fits that branch.
-use Rattle.std.proofs.Common.{◌≡◌, ◌≤ℤ◌, ℕ, ℤ, pos, true, Option, Some, None, Ok, sym, subst, arith}
-use Rattle.std.specs.Prelude.{is_some, nat_le, option_map}
+-- An account that was looked up beside its branch fits that branch, and beside its floor isn't below it.
+use Rattle.std.proofs.Common.{◌≡◌, ◌≤ℤ◌, ℕ, ℤ, pos, true, Option, Some, None, Ok, sym, ap, subst, ◌∙◌, arith}
+use Rattle.std.specs.Prelude.{false, int_lt, is_some, nat_le, option_map}
 use Rattle.std.proofs.lemmas.Int.{ints}
 use Rattle.std.proofs.lemmas.Bool.Decides.{nat_tests}
 use Rattle.posting_rules.specs.Commands.{is_within}
@@ -9,8 +9,10 @@ use Rattle.posting_rules.specs.LookUps.{terms_of_branch}
 use Rattle.posting_rules.specs.declared.rows.BranchRow.{BranchRow}
 use Rattle.sql_meanings.specs.Entries.{Entry}
 use Rattle.store_rows.specs.Columns.{number_at}
-use Rattle.store_rows.specs.Rules.{AccountFits, BranchKeeps, StoredRows, branch_under, row_under}
+use Rattle.store_rows.specs.Rules.{AccountFits, BranchKeeps, IsAbove, StoredRows, branch_under, row_under}
 use Rattle.store_rows.specs.Stored.{BalanceKeeps, FindsStored, IsBalance, IsBranch}
+use Rattle.bank_transactions.specs.Floors.{falls_below}
+use Rattle.bank_transactions.specs.Stored.{HoldsFloor}
 
 -- the test on numbers, said of the whole numbers that a row holds
 pub le_number : (a b : ℕ) → nat_le a b ≡ true → pos a ≤ℤ pos b
@@ -49,3 +51,17 @@ module _ (rows : StoredRows) (n : ℕ) where
         (has.0, has.1, subst (λ (k : ℤ). pos (place_of_account n) ≤ℤ k) (sym has.2.1) le),
     λ within. (let found = finds.1 in cc),
   )
+
+  not_below : (balance lowest : ℤ) → int_lt balance lowest ≡ false → lowest ≤ℤ balance
+  not_below balance lowest not = grind (arith, ints)
+
+  pub is_above : (balance floor : Option ℤ) → Finds balance → HoldsFloor rows (branch_of_account n) floor
+      → falls_below balance floor ≡ false → IsAbove rows n
+  is_above None floor finds holds not account its there has = absurd cc
+  is_above (Some z) None finds holds not account its there has = absurd cc
+  is_above (Some z) (Some lowest) finds holds not account its there has =
+      let first : number_at 0 account ≡ z =
+      ap (number_at 0) (same_entry _ finds.0 account finds.1 there) ∙ finds.2 in
+      let second : number_at 0 its ≡ lowest = ap (number_at 0) (same_entry _ holds.0 its holds.1 has) ∙ holds.2 in
+      subst (λ (k : ℤ). k ≤ℤ number_at 0 account) (sym second)
+      (subst (λ (k : ℤ). lowest ≤ℤ k) (sym first) (not_below z lowest not))

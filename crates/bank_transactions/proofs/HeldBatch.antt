@@ -272,6 +272,7 @@ module _ (db : Database) (r : RequestFields) (slots : Overlay)
           BalanceKeeps (Ok f.account)) (sym (found_so rows has)) (has_so rows has).account.found;
       fits = λ rows has. (has_so rows has).account.fits;
     };
+    above = λ rows has. (has_so rows has).account.above;
     floor = λ rows has. subst (λ (f : Found). HoldsFloor rows (branch_of_account r.account) f.floor)
         (sym (found_so rows has)) (has_so rows has).floor;
     kept = λ rows has. subst (λ (f : Found). HoldsKept rows r.teller r.number f.kept)

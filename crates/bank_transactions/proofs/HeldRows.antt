@@ -1,5 +1,5 @@
 -- A balance that was looked up by the row of its branch is what the rows hold, and fits them.
-use Rattle.std.proofs.Common.{◌≡◌, ℕ, ℤ, Option, Some, None, Result, Ok, Err, sym, ap, subst, ◌∙◌}
+use Rattle.std.proofs.Common.{◌≡◌, ℕ, ℤ, false, Option, Some, None, Result, Ok, Err, sym, ap, subst, ◌∙◌}
 use Rattle.std.specs.Prelude.{IfOk, is_some, option_map}
 use Rattle.sqlite.specs.Effect.{Database}
 use Rattle.posting_rules.specs.Commands.{is_within}
@@ -12,8 +12,9 @@ use Rattle.store_rows.specs.Rules.{BranchKeeps, HoldsBank, OfRows, StoredRows, T
 use Rattle.store_rows.specs.Stored.{BalanceKeeps, FindsStored, IsBalance, IsBranch}
 use Rattle.store_rows.specs.declared.fault.TableFault.{TableFault}
 use Rattle.bank_transactions.specs.Filling.{HoldsBranch}
-use Rattle.bank_transactions.specs.Stored.{HoldsAccount, HoldsTeller, HoldsTellerRow}
-use Rattle.bank_transactions.proofs.FittingAccounts.{fits}
+use Rattle.bank_transactions.specs.Floors.{falls_below}
+use Rattle.bank_transactions.specs.Stored.{HoldsAccount, HoldsFloor, HoldsTeller, HoldsTellerRow}
+use Rattle.bank_transactions.proofs.FittingAccounts.{fits, is_above}
 
 -- a value is reported where a row is stored
 some_stored : {X : Type 0} (stored : Option Entry) (Is : X → Entry → Type 0) (Keeps : Rule → Entry → Type 0)
@@ -41,14 +42,17 @@ module _ (rows : StoredRows) where
   teller_alone_held n None holds fit = record { found = holds; fits = fit }
   teller_alone_held n (Some both) holds fit = record { found = (holds.0, holds.1, holds.2); fits = fit }
 
-  -- an account has one just where its place is within the count
-  pub account_held : (n : ℕ) (balance : Option ℤ) (branch : Option BranchRow)
+  -- an account has one just where its place is within the count, and isn't below the floor
+  pub account_held : (n : ℕ) (balance floor : Option ℤ) (branch : Option BranchRow)
       → FindsStored (row_under rows.accounts n) IsBalance BalanceKeeps (Ok balance)
-      → HoldsBranch rows (branch_of_account n) branch
+      → HoldsBranch rows (branch_of_account n) branch × HoldsFloor rows (branch_of_account n) floor
       → is_some balance ≡ is_within (place_of_account n) (option_map (terms_of_branch None) branch)
-      → HoldsAccount rows n balance
-  account_held n balance branch finds has same =
-      record { found = finds; fits = fits rows n balance branch finds has same }
+      → falls_below balance floor ≡ false → HoldsAccount rows n balance
+  account_held n balance floor branch finds has same not = record {
+    found = finds;
+    fits = fits rows n balance branch finds has.0 same;
+    above = is_above rows n balance floor finds has.1 not;
+  }
 
 -- what was found after a look-up that changed nothing is so of the rows that were there before it
 pub held_before : {X : Type 0} (Clean : Type 0) (Q : StoredRows → X → Type 0) (K : StoredRows → Type 0)

@@ -13,11 +13,13 @@ use Rattle.posting_batch.specs.declared.slots.FloorSlot.{FloorSlot}
 use Rattle.posting_batch.specs.declared.slots.RequestSlot.{RequestSlot}
 use Rattle.posting_batch.specs.declared.slots.TellerSlot.{TellerSlot}
 use Rattle.posting_batch.specs.Overlay.{Overlay}
-use Rattle.posting_batch.specs.Slots.{branch_slot_key, in_slot, row_of_slot}
+use Rattle.posting_batch.specs.Slots.{branch_slot_key, floor_of_slot, floor_slot_key, in_slot, row_of_slot}
 use Rattle.posting_batch.proofs.KeptSlots.{find-map}
 use Rattle.store_rows.specs.Rules.{StoredRows}
-use Rattle.bank_transactions.specs.Filling.{BranchHeld, HoldsBranch, TellsStored, emptied, emptied_account}
+use Rattle.bank_transactions.specs.Filling.{BranchHeld, FloorHeld, HoldsBranch, TellsFloor, TellsStored, emptied}
+use Rattle.bank_transactions.specs.Filling.{emptied_account}
 use Rattle.bank_transactions.specs.Filling.{emptied_branch, emptied_floor, emptied_request, emptied_teller}
+use Rattle.bank_transactions.specs.Stored.{HoldsFloor}
 use Rattle.bank_transactions.proofs.Whole.{with_accounts, with_branches, with_count, with_floors, with_kept}
 use Rattle.bank_transactions.proofs.Whole.{with_tellers}
 
@@ -35,51 +37,68 @@ mapped : {A B : Type 0} (f : A → B) (o : Option A) → is_some (option_map f o
 mapped f None = refl
 mapped f (Some x) = refl
 
--- slots that were filled have the keys that they had
-there_still : (old new : List BranchSlot) (n : ℕ) → map emptied_branch new ≡ map emptied_branch old
-    → IsSome (row_at branch_slot_key old n) → IsSome (row_at branch_slot_key new n)
-there_still old new n same there =
-    let at = λ (slots : List BranchSlot). find-map (λ s. eqb s.branch n) emptied_branch (λ s. refl) slots in
-    let is = λ (slots : List BranchSlot).
-    sym (mapped emptied_branch (row_at branch_slot_key slots n)) ∙ sym (ap is_some (at slots)) in
-    is new ∙ ap (λ (slots : List BranchSlot). is_some (row_at branch_slot_key slots n)) same ∙ sym (is old) ∙ there
+-- slots that were filled have the keys that they had, and tell under each what the rows hold
+module _ {S X : Type 0} (key : S → ℕ) (content : S → Option X) (bare : S → S)
+    (still : (n : ℕ) (s : S) → eqb (key (bare s)) n ≡ eqb (key s) n) (P : ℕ → Option X → Type 0) where
+  abbrev Tells : List S → ℕ → Type 0
+  Tells slots n = P n (in_slot content (row_at key slots n))
 
-tells : (rows : StoredRows) (slots : List BranchSlot) (n : ℕ) → AllByRecursion (BranchHeld rows) slots
-    → IsSome (row_at branch_slot_key slots n) → TellsStored slots rows n
-tells rows slots n all there =
-    of (row_at branch_slot_key slots n) there
-    (at_key branch_slot_key (λ k s. HoldsBranch rows k s.stored) slots (rows_of slots all) n)
-  where
-    rows_of : (slots : List BranchSlot) → AllByRecursion (BranchHeld rows) slots
-        → AllByRecursion (λ s. HoldsBranch rows s.branch s.stored) slots
-    rows_of [] all = tt
-    rows_of (s ∷ slots) all = (all.0, rows_of slots all.1)
+  abbrev Each : List S → Type 0
+  Each slots = AllByRecursion (λ s. P (key s) (content s)) slots
 
-    of : (o : Option BranchSlot) → IsSome o → IfSome o (λ s. HoldsBranch rows n s.stored)
-        → HoldsBranch rows n (in_slot row_of_slot o)
-    of None there held = absurd cc
-    of (Some s) there held = held
+  there_still : (old new : List S) (n : ℕ) → map bare new ≡ map bare old → IsSome (row_at key old n)
+      → IsSome (row_at key new n)
+  there_still old new n same there =
+      let at = λ (slots : List S). find-map (λ s. eqb (key s) n) bare (still n) slots in
+      let is = λ (slots : List S). sym (mapped bare (row_at key slots n)) ∙ sym (ap is_some (at slots)) in
+      is new ∙ ap (λ (slots : List S). is_some (row_at key slots n)) same ∙ sym (is old) ∙ there
+
+  tells : (slots : List S) (n : ℕ) → Each slots → IsSome (row_at key slots n) → Tells slots n
+  tells slots n all there =
+      of (row_at key slots n) there (at_key key (λ k s. P k (content s)) slots all n)
+    where
+      of : (o : Option S) → IsSome o → IfSome o (λ s. P n (content s)) → P n (in_slot content o)
+      of None there held = absurd cc
+      of (Some s) there held = held
+
+  module _ {A : Type 0} (number : A → ℕ) where
+    tell_all : (old new : List S) (others : List A) → map bare new ≡ map bare old → Each new
+        → AllByRecursion (λ x. IsSome (row_at key old (number x))) others
+        → AllByRecursion (λ x. Tells new (number x)) others
+    tell_all old new [] same held homes = tt
+    tell_all old new (x ∷ others) same held homes = (
+      tells new (number x) held (there_still old new (number x) same homes.0),
+      tell_all old new others same held homes.1,
+    )
+
+    know_all : (old told new : List S) (others xs : List A) → told ≡ new → xs ≡ others
+        → map bare new ≡ map bare old → Each new
+        → AllByRecursion (λ x. IsSome (row_at key old (number x))) others
+        → AllByRecursion (λ x. Tells told (number x)) xs
+    know_all old told new others xs is at same held homes =
+        subst (λ (slots : List S). AllByRecursion (λ x. Tells slots (number x)) xs) (sym is)
+        (subst (λ (ys : List A). AllByRecursion (λ x. Tells new (number x)) ys) (sym at)
+        (tell_all old new others same held homes))
 
 -- so they tell the branches that other slots give
-tell_all : {A : Type 0} (branch_of : A → ℕ) (rows : StoredRows) (old new : List BranchSlot) (others : List A)
-    → map emptied_branch new ≡ map emptied_branch old → AllByRecursion (BranchHeld rows) new
-    → AllByRecursion (λ s. IsSome (row_at branch_slot_key old (branch_of s))) others
-    → AllByRecursion (λ s. TellsStored new rows (branch_of s)) others
-tell_all branch_of rows old new [] same held homes = tt
-tell_all branch_of rows old new (x ∷ others) same held homes = (
-  tells rows new (branch_of x) held (there_still old new (branch_of x) same homes.0),
-  tell_all branch_of rows old new others same held homes.1,
-)
+module _ {A : Type 0} (branch_of : A → ℕ) (rows : StoredRows) where
+  pub know_branches : (old told new : List BranchSlot) (others xs : List A) → told ≡ new → xs ≡ others
+      → map emptied_branch new ≡ map emptied_branch old → AllByRecursion (BranchHeld rows) new
+      → AllByRecursion (λ s. IsSome (row_at branch_slot_key old (branch_of s))) others
+      → AllByRecursion (λ s. TellsStored told rows (branch_of s)) xs
+  know_branches = know_all branch_slot_key row_of_slot emptied_branch (λ n s. refl) (HoldsBranch rows) branch_of
 
-pub know_all : {A : Type 0} (branch_of : A → ℕ) (rows : StoredRows) (old told new : List BranchSlot)
-    (others xs : List A) → told ≡ new → xs ≡ others → map emptied_branch new ≡ map emptied_branch old
-    → AllByRecursion (BranchHeld rows) new
-    → AllByRecursion (λ s. IsSome (row_at branch_slot_key old (branch_of s))) others
-    → AllByRecursion (λ s. TellsStored told rows (branch_of s)) xs
-know_all {A} branch_of rows old told new others xs is at same held homes =
-    subst (λ (bs : List BranchSlot). AllByRecursion (λ s. TellsStored bs rows (branch_of s)) xs) (sym is)
-    (subst (λ (ys : List A). AllByRecursion (λ s. TellsStored new rows (branch_of s)) ys) (sym at)
-    (tell_all branch_of rows old new others same held homes))
+  -- and their floors
+  pub know_floors : (old told new : List FloorSlot) (others xs : List A) → told ≡ new → xs ≡ others
+      → map emptied_floor new ≡ map emptied_floor old → AllByRecursion (FloorHeld rows) new
+      → AllByRecursion (λ s. IsSome (row_at floor_slot_key old (branch_of s))) others
+      → AllByRecursion (λ s. TellsFloor told rows (branch_of s)) xs
+  know_floors = know_all floor_slot_key floor_of_slot emptied_floor (λ n s. refl) (HoldsFloor rows) branch_of
+
+pub both_all : {A : Type 0} (P Q : A → Type 0) (xs : List A) → AllByRecursion P xs → AllByRecursion Q xs
+    → AllByRecursion (λ x. P x × Q x) xs
+both_all P Q [] one two = tt
+both_all P Q (x ∷ xs) one two = ((one.0, two.0), both_all P Q xs one.1 two.1)
 
 -- the overlay with filled slots, without what they are filled with
 pub emptied_same : (o : Overlay) (n : ℕ) (b : List BranchSlot) (f : List FloorSlot) (e : List TellerSlot)

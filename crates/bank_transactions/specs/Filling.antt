@@ -12,7 +12,7 @@ use Rattle.posting_batch.specs.declared.slots.FloorSlot.{FloorSlot}
 use Rattle.posting_batch.specs.declared.slots.RequestSlot.{RequestSlot}
 use Rattle.posting_batch.specs.declared.slots.TellerSlot.{TellerSlot}
 use Rattle.posting_batch.specs.Overlay.{Overlay}
-use Rattle.posting_batch.specs.Slots.{in_slot, row_of_slot, branch_slot_key}
+use Rattle.posting_batch.specs.Slots.{in_slot, row_of_slot, branch_slot_key, slot_floor}
 use Rattle.sql_meanings.specs.Calls.{Says}
 use Rattle.store_rows.specs.Calls.{OfTables}
 use Rattle.store_rows.specs.Rules.{BranchKeeps, StoredRows, branch_under}
@@ -105,3 +105,7 @@ pub record AreHeld (rows : StoredRows) (o : Overlay) : Type 0 where
 -- the slot under a number tells the row of that branch as it is stored
 abbrev pub TellsStored : List BranchSlot → StoredRows → ℕ → Type 0
 TellsStored slots rows n = HoldsBranch rows n (in_slot row_of_slot (row_at branch_slot_key slots n))
+
+-- the slot under a number tells the floor of that branch as it is stored
+abbrev pub TellsFloor : List FloorSlot → StoredRows → ℕ → Type 0
+TellsFloor slots rows n = HoldsFloor rows n (slot_floor slots n)

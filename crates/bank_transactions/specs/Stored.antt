@@ -22,7 +22,7 @@ use Rattle.posting_rules.specs.declared.counter.Opening.TheVariants.{Opened}
 use Rattle.posting_rules.specs.declared.rows.BranchRow.{BranchRow}
 use Rattle.sql_meanings.specs.Entries.{Entry, has_two, is_above}
 use Rattle.store_rows.specs.Columns.{meta_in, number_at, text_at}
-use Rattle.store_rows.specs.Rules.{AccountFits, BranchKeeps, OfRows, StoredRows, TellerFits, branch_under}
+use Rattle.store_rows.specs.Rules.{AccountFits, BranchKeeps, IsAbove, OfRows, StoredRows, TellerFits, branch_under}
 use Rattle.store_rows.specs.Rules.{floor_under, row_under}
 use Rattle.store_rows.specs.Stored.{BalanceKeeps, FindsStored, IsBalance, IsBranch, IsDecision}
 use Rattle.store_rows.specs.View.{Shows}
@@ -78,10 +78,11 @@ HoldsDecided rows decided =
     (version : ℤ) × (meta_in rows.meta ≡ Some (record { version = version; decided = pos decided }))
 
 -- what is found for a request is what the rows of its teller, its account, the account's branch, its teller
--- and number with the ordinal there, and the bank hold
+-- and number with the ordinal there, and the bank hold; and its account isn't below the floor there
 pub record IsStoredFound (db : Database) (r : RequestFields) (found : Found) : Type 0 where
   pub teller : IsStoredTeller db r.teller found.teller
   pub account : IsStoredBalance db r.account found.account
+  pub above : OfRows (λ rows. IsAbove rows r.account) db
   pub floor : IsStoredFloor db (branch_of_account r.account) found.floor
   pub kept : OfRows (λ rows. HoldsKept rows r.teller r.number found.kept) db
   pub decided : OfRows (λ rows. HoldsDecided rows found.decided) db
@@ -135,11 +136,12 @@ pub record HoldsTellerRow (rows : StoredRows) (teller : ℕ) (balance : Option �
   pub found : FindsStored (row_under rows.tellers teller) IsBalance BalanceKeeps (Ok balance)
   pub fits : TellerFits rows teller
 
--- the balance that an account's row has, none where it has no row; and it has one just where its branch's count
--- says so
+-- the balance that an account's row has, none where it has no row; it has one just where its branch's count says
+-- so; and it isn't below the floor of its branch
 pub record HoldsAccount (rows : StoredRows) (account : ℕ) (balance : Option ℤ) : Type 0 where
   pub found : FindsStored (row_under rows.accounts account) IsBalance BalanceKeeps (Ok balance)
   pub fits : AccountFits rows account
+  pub above : IsAbove rows account
 
 -- the tables have under the keys of a request what the rows hold there
 pub record HasStored (rows : StoredRows) (t : Tables) (r : RequestFields) : Type 0 where

@@ -6,7 +6,8 @@ ghost use Rattle.sqlite.specs.Held.{state};
 ghost use Rattle.sqlite.specs.State.{HasCleanDisk};
 ghost use Rattle.bank_transactions.specs.Doing.{Reads};
 ghost use Rattle.bank_transactions.specs.Floors.{falls_below};
-ghost use Rattle.bank_transactions.specs.Stored.{IsStoredBalance, IsStoredFloor};
+ghost use Rattle.store_rows.specs.Rules.{OfRows};
+ghost use Rattle.bank_transactions.specs.Stored.{HoldsAccount, IsStoredFloor};
 
 use crate::look_ups::open_balance;
 use message_records::{Account, Branch, Cents};
@@ -54,7 +55,7 @@ pub(crate) fn balance_and_floor<S: Alter>(
     ensures says { Reads S.Store tx.old tx.new
         (λ tables. (account_balance_in tables account, floor_in tables (branch_of_account account))) result }
     ensures stored { IfOk result (λ both. HasCleanDisk (state S.Store tx.new.conn.now)
-        → IsStoredBalance (state S.Store tx.old.conn.now).now account both.0
+        → OfRows (λ rows. HoldsAccount rows account both.0) (state S.Store tx.old.conn.now).now
         × IsStoredFloor (state S.Store tx.old.conn.now).now (branch_of_account account) both.1) }
 {
     let balance = open_balance(tx, account)?;

@@ -9,13 +9,14 @@ ghost use Rattle.posting_rules.specs.Damage.{IsUndamaged};
 ghost use Rattle.posting_rules.specs.LookUps.{account_balance_in, balance_of_teller};
 ghost use Rattle.posting_rules.specs.Tables.{Tables, row_at, teller_key};
 ghost use Rattle.posting_batch.specs.declared.slots.BranchSlot.{BranchSlot};
+ghost use Rattle.posting_batch.specs.declared.slots.FloorSlot.{FloorSlot};
 ghost use Rattle.posting_batch.specs.Batch.{HasHomes, filled};
 ghost use Rattle.posting_batch.specs.View.{view};
 ghost use Rattle.bank_transactions.specs.Doing.{Reads};
 ghost use Rattle.store_rows.specs.Rules.{OfRows, StoredRows};
 ghost use Rattle.bank_transactions.specs.Filling.{handing, HasBranch, HoldsBranch, ReadsWhere, TellsBranch};
-ghost use Rattle.bank_transactions.specs.Filling.{AreHeld, TellsStored, emptied};
-ghost use Rattle.bank_transactions.specs.Stored.{HoldsAccount, HoldsTellerRow};
+ghost use Rattle.bank_transactions.specs.Filling.{AreHeld, TellsFloor, TellsStored, emptied};
+ghost use Rattle.bank_transactions.specs.Stored.{HoldsAccount, HoldsFloor, HoldsTellerRow};
 
 use crate::floors::{balance_and_floor, floor_at, is_below};
 use crate::{branch_at, decided, kept_request, teller_balances};
@@ -42,13 +43,13 @@ trait Slot: Copy {
     /// The slot without what it is filled with.
     ghost bare: { Self → Self };
 
-    /// What the slots of branches say of that branch is what the rows hold, whatever they are.
-    ghost KnowsRow: { List BranchSlot → StoredRows → Self → Type 0 };
+    /// What the slots of branches and of floors say of that branch is what the rows hold, whatever they are.
+    ghost KnowsRow: { List BranchSlot → List FloorSlot → StoredRows → Self → Type 0 };
 
     /// The slot has what the rows hold under its key.
     ghost Held: { StoredRows → Self → Type 0 };
 
-    /// Fills it, by the slots of branches. Those of floors tell whether an account is looked at twice.
+    /// Fills it, by the slots of branches and of floors.
     fn fill<S: Alter>(
         self,
         tx: &mut Transaction<'_, S>,
@@ -60,7 +61,7 @@ trait Slot: Copy {
             (λ tables. filled_from tables self) result }
         ensures same { IfOk result (λ slot. bare slot ≡ bare self) }
         ensures stored { IfOk result (λ slot. HasCleanDisk (state S.Store tx.new.conn.now)
-            → OfRows (λ rows. KnowsRow branches.now rows self → Held rows slot)
+            → OfRows (λ rows. KnowsRow branches.now floors.now rows self → Held rows slot)
             (state S.Store tx.old.conn.now).now) };
 }
 
@@ -74,7 +75,7 @@ impl Slot for BranchSlot {
 
     ghost bare = { emptied_branch };
 
-    ghost KnowsRow = { λ _ _ _. ⊤ };
+    ghost KnowsRow = { λ _ _ _ _. ⊤ };
 
     ghost Held = { BranchHeld };
 
@@ -99,7 +100,7 @@ impl Slot for FloorSlot {
 
     ghost bare = { emptied_floor };
 
-    ghost KnowsRow = { λ _ _ _. ⊤ };
+    ghost KnowsRow = { λ _ _ _ _. ⊤ };
 
     ghost Held = { FloorHeld };
 
@@ -169,6 +170,7 @@ fn account_within<S: Alter>(
         (λ tables. account_balance_in tables account) result }
     ensures stored { IfOk result (λ balance. HasCleanDisk (state S.Store tx.new.conn.now)
         → OfRows (λ rows. HoldsBranch rows (branch_of_account account) branch
+        × HoldsFloor rows (branch_of_account account) floor
         → HoldsAccount rows account balance) (state S.Store tx.old.conn.now).now) }
 {
     let balance = balance_of(tx, Member::Account(account))?;
@@ -192,7 +194,7 @@ impl Slot for TellerSlot {
 
     ghost bare = { emptied_teller };
 
-    ghost KnowsRow = { λ slots rows slot. TellsStored slots rows (branch_of_teller slot.teller) };
+    ghost KnowsRow = { λ slots _ rows slot. TellsStored slots rows (branch_of_teller slot.teller) };
 
     ghost Held = { TellerHeld };
 
@@ -218,7 +220,8 @@ impl Slot for AccountSlot {
 
     ghost bare = { emptied_account };
 
-    ghost KnowsRow = { λ slots rows slot. TellsStored slots rows (branch_of_account slot.account) };
+    ghost KnowsRow = { λ slots floors rows slot. TellsStored slots rows (branch_of_account slot.account)
+        × TellsFloor floors rows (branch_of_account slot.account) };
 
     ghost Held = { AccountHeld };
 
@@ -246,7 +249,7 @@ impl Slot for RequestSlot {
 
     ghost bare = { emptied_request };
 
-    ghost KnowsRow = { λ _ _ _. ⊤ };
+    ghost KnowsRow = { λ _ _ _ _. ⊤ };
 
     ghost Held = { RequestHeld };
 
@@ -273,7 +276,7 @@ fn fill_all<S: Alter, T: Slot>(
         (λ tables. map (T.filled_from tables) slots.old) (handing slots.new result) }
     ensures same { OnOk result (map T.bare slots.new ≡ map T.bare slots.old) }
     ensures stored { OnOk result (HasCleanDisk (state S.Store tx.new.conn.now)
-        → OfRows (λ rows. AllByRecursion (T.KnowsRow branches.now rows) slots.old
+        → OfRows (λ rows. AllByRecursion (T.KnowsRow branches.now floors.now rows) slots.old
         → AllByRecursion (T.Held rows) slots.new) (state S.Store tx.old.conn.now).now) }
 {
     for slot in slots.iter_mut() {

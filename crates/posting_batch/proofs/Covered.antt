@@ -22,22 +22,22 @@ use Rattle.posting_batch.specs.Overlay.{tables_over}
 use Rattle.posting_batch.specs.Placed.{placed, number_below, number_same, request_below}
 use Rattle.posting_batch.specs.Slots.{is_for, account_slot_key, teller_slot_key, branch_slot_key}
 use Rattle.posting_batch.specs.Slots.{floor_slot_key}
-use Rattle.posting_batch.specs.Slots.{empty_account, empty_teller, empty_branch}
+use Rattle.posting_batch.specs.Slots.{empty_account, empty_teller, empty_branch, empty_floor}
 use Rattle.posting_batch.proofs.KeptSlots.{find-map, both_true}
 use Rattle.posting_batch.proofs.Orders.{all-placed, rising_mapped}
 use Rattle.posting_batch.proofs.Overlaid.{Fits, tables_made}
 use Rattle.posting_batch.proofs.SlotsForRecords.{has_number, keeps_number, covers_all}
 use Rattle.posting_batch.proofs.SlotsInOrder.{made_all}
 
--- ---- the branch of each teller and of each account has a slot
+-- ---- the branch of each teller and of each account has a slot, and its floor one for each account
 
-homes_kept : {S : Type 0} (branch_of : S → ℕ) (e : BranchSlot) (bs : List BranchSlot) (xs : List S)
-    → AllByRecursion (λ s. IsSome (row_at branch_slot_key bs (branch_of s))) xs
-    → AllByRecursion (λ s. IsSome (row_at branch_slot_key
-    (placed (number_below branch_slot_key) (number_same branch_slot_key) e bs) (branch_of s))) xs
-homes_kept branch_of e bs [] all = tt
-homes_kept branch_of e bs (x ∷ xs) all =
-    (keeps_number branch_slot_key e bs (branch_of x) all.0, homes_kept branch_of e bs xs all.1)
+homes_kept : {S T : Type 0} (key : T → ℕ) (branch_of : S → ℕ) (e : T) (slots : List T) (xs : List S)
+    → AllByRecursion (λ s. IsSome (row_at key slots (branch_of s))) xs
+    → AllByRecursion (λ s. IsSome (row_at key (placed (number_below key) (number_same key) e slots) (branch_of s)))
+    xs
+homes_kept key branch_of e slots [] all = tt
+homes_kept key branch_of e slots (x ∷ xs) all =
+    (keeps_number key e slots (branch_of x) all.0, homes_kept key branch_of e slots xs all.1)
 
 homes_with : (o : Overlay) (read : Result RequestFields Bad) → HasHomes o → HasHomes (covering o read)
 homes_with o (Err fault) has = has
@@ -52,14 +52,21 @@ homes_with o (Ok r) has =
           o.tellers
           (keeps_number branch_slot_key its first (branch_of_teller r.teller)
           (has_number branch_slot_key home o.branches))
-          (homes_kept (λ s. branch_of_teller s.teller) its first o.tellers
-          (homes_kept (λ s. branch_of_teller s.teller) home o.branches o.tellers has.tellers));
+          (homes_kept branch_slot_key (λ s. branch_of_teller s.teller) its first o.tellers
+          (homes_kept branch_slot_key (λ s. branch_of_teller s.teller) home o.branches o.tellers has.tellers));
       accounts = all-placed (number_below account_slot_key) (number_same account_slot_key)
           (empty_account r.account)
           (λ s. IsSome (row_at branch_slot_key (covering o (Ok r)).branches (branch_of_account s.account)))
           o.accounts (has_number branch_slot_key its first)
-          (homes_kept (λ s. branch_of_account s.account) its first o.accounts
-          (homes_kept (λ s. branch_of_account s.account) home o.branches o.accounts has.accounts));
+          (homes_kept branch_slot_key (λ s. branch_of_account s.account) its first o.accounts
+          (homes_kept branch_slot_key (λ s. branch_of_account s.account) home o.branches o.accounts
+          has.accounts));
+      floors = all-placed (number_below account_slot_key) (number_same account_slot_key)
+          (empty_account r.account)
+          (λ s. IsSome (row_at floor_slot_key (covering o (Ok r)).floors (branch_of_account s.account)))
+          o.accounts (has_number floor_slot_key (empty_floor (branch_of_account r.account)) o.floors)
+          (homes_kept floor_slot_key (λ s. branch_of_account s.account)
+          (empty_floor (branch_of_account r.account)) o.floors o.accounts has.floors);
     }
 
 homes_on : (o : Overlay) (reads : List (Result RequestFields Bad)) → HasHomes o
@@ -68,7 +75,7 @@ homes_on o [] has = has
 homes_on o (read ∷ reads) has = homes_on (covering o read) reads (homes_with o read has)
 
 pub homes_all : (reads : List (Result RequestFields Bad)) → HasHomes (covering_all no_slots reads)
-homes_all reads = homes_on no_slots reads (record { tellers = tt; accounts = tt })
+homes_all reads = homes_on no_slots reads (record { tellers = tt; accounts = tt; floors = tt })
 
 -- ---- slots that are filled
 

@@ -99,12 +99,14 @@ pub record HasRisingSlots (o : Overlay) : Type 0 where
   pub accounts : IsRising (number_below account_slot_key) o.accounts
   pub kept : IsRising request_below o.kept
 
--- the branch of each teller and of each account has a slot
+-- the branch of each teller and of each account has a slot, and its floor one for each account
 pub record HasHomes (o : Overlay) : Type 0 where
   pub tellers : AllByRecursion (λ s. IsSome (row_at branch_slot_key o.branches (branch_of_teller s.teller)))
       o.tellers
   pub accounts : AllByRecursion
       (λ s. IsSome (row_at branch_slot_key o.branches (branch_of_account s.account))) o.accounts
+  pub floors : AllByRecursion (λ s. IsSome (row_at floor_slot_key o.floors (branch_of_account s.account)))
+      o.accounts
 
 -- nothing is changed yet, and no row is new
 pub record HasNoChange (o : Overlay) : Type 0 where

@@ -167,7 +167,8 @@ posted_records [] = []
 posted_records (Open branch terms ∷ cs) = posted_records cs
 posted_records (Post moment bytes ∷ cs) = bytes ∷ posted_records cs
 
--- how many replies, written one after another, had a byte accepted when so many bytes were
+-- how many replies, written one after another, had a byte accepted when so many bytes were: a writer may take a
+-- part of one
 abbrev pub acknowledged : List (List ℕ) → ℕ → ℕ
 acknowledged [] n = 0
 acknowledged (reply ∷ replies) zero = 0

@@ -1,4 +1,5 @@
-//! The two ends of a stream: what gives bytes, and what takes them.
+//! The two ends of a stream: what gives bytes, and what takes them. Streams loop over `read` and `write`
+//! themselves, since `read_exact` and `write_all` say nothing of the bytes if they fail.
 ghost use Rattle.std.specs.Prelude.{ℕ, List, [], ◌∷◌, Option, None};
 ghost use Rattle.std.specs.Io.{ReadsAtMost, WritesAtMost};
 ghost use Rattle.std.specs.Io.KnownBytes.{Keeps, ReadConsumes, WriteAppends};

@@ -34,7 +34,8 @@ posted_sum test [] = pos 0
 posted_sum test (e ∷ es) = if (is_posted e && test e.request) then posted_sum test es +ℤ e.request.delta
     else posted_sum test es
 
--- the balance of an account, a teller and a branch: all that was posted to it (TPC-B 1.2)
+-- the balance of an account, a teller and a branch: all that was posted to it (TPC-B 1.2), and nothing that is
+-- carried along
 abbrev pub account_balance : List DecidedRequest → ℕ → ℤ
 account_balance es a = posted_sum (λ r. r.account == a) es
 

@@ -12,6 +12,7 @@ use Rattle.store_rows.specs.Stored.{BalanceKeeps, FindsStored, IsBalance}
 use Rattle.bank_transactions.specs.Floors.{falls_below}
 use Rattle.bank_transactions.specs.Stored.{IsStoredFloor}
 use Rattle.bank_transactions.proofs.Broken.{below_broken}
+use Rattle.bank_transactions.proofs.FittingAccounts.{is_above}
 use Rattle.bank_transactions.proofs.SoundRows.{not_below}
 use Rattle.bank_transactions.proofs.ReadsInTurn.{reads_both, reads_but, reads_told}
 use Rattle.posting_rules.specs.LookUps.{account_balance_in, floor_in}
@@ -87,10 +88,17 @@ pub returns-clause-stored : goal.returns-clause-stored
 returns-clause-stored g c clean =
     let before : HasCleanDisk (state g.S.Store c.open_balance.new.tx.conn.now) =
     omega (arith, c.in_ok-floor.ensures.says.survives.clean, clean) in
-    let still = (c.in_ok-balance.ensures.says.kept before).0.now in (
-      c.in_ok-balance.ensures.stored before,
-      subst (λ (k : ℕ). IsStoredFloor (state g.S.Store c.args.tx.now.conn.now).now k c.in_ok-floor.floor)
-          c.branch_of_account.ensures
-          (subst (λ (d : Database). IsStoredFloor d c.branch_of_account.result c.in_ok-floor.floor) still
-          (c.in_ok-floor.ensures.stored clean)),
+    let still = (c.in_ok-balance.ensures.says.kept before).0.now in
+    let stored = c.in_ok-balance.ensures.stored before in
+    let floor = subst (λ (k : ℕ). IsStoredFloor (state g.S.Store c.args.tx.now.conn.now).now k c.in_ok-floor.floor)
+    c.branch_of_account.ensures
+    (subst (λ (d : Database). IsStoredFloor d c.branch_of_account.result c.in_ok-floor.floor) still
+    (c.in_ok-floor.ensures.stored clean)) in (
+      λ rows has. record {
+        found = stored.found rows has;
+        fits = stored.fits rows has;
+        above = is_above rows c.args.account c.in_ok-balance.balance c.in_ok-floor.floor (stored.found rows has)
+            (floor rows has) (sym c.is_below.ensures ∙ c.if-is_below.false);
+      },
+      floor,
     )

@@ -8,7 +8,7 @@ use Rattle.sqlite.specs.Held.{state}
 use Rattle.sqlite.specs.State.{HasCleanDisk}
 use Rattle.posting_rules.specs.Numbering.{branch_of_account}
 use Rattle.bank_transactions.specs.Filling.{HoldsBranch}
-use Rattle.bank_transactions.specs.Stored.{HoldsAccount}
+use Rattle.bank_transactions.specs.Stored.{HoldsAccount, HoldsFloor}
 use Rattle.bank_transactions.proofs.HeldRows.{held_before, account_held}
 use Rattle.bank_transactions.proofs.slots.account_within.Goals as goal
 
@@ -29,7 +29,8 @@ pub returns-then-is_some-is_open-clause-stored : goal.returns-then-is_some-is_op
 returns-then-is_some-is_open-clause-stored g c =
     held_before (HasCleanDisk (state g.S.Store c.account_beside.new.tx.conn.now))
     (λ rows balance. HoldsAccount rows c.args.account balance)
-    (λ rows. HoldsBranch rows (branch_of_account c.args.account) c.args.branch) _ _ c.account_beside.result
+    (λ rows. HoldsBranch rows (branch_of_account c.args.account) c.args.branch
+    × HoldsFloor rows (branch_of_account c.args.account) c.args.floor) _ _ c.account_beside.result
     (λ clean.
     let mid : HasCleanDisk (state g.S.Store c.balance_of.new.tx.conn.now) =
     omega (arith, c.account_beside.ensures.says.survives.clean, clean) in
@@ -37,6 +38,6 @@ returns-then-is_some-is_open-clause-stored g c =
     c.account_beside.ensures.stored
 
 pub returns-clause-stored : goal.returns-clause-stored
-returns-clause-stored g c clean rows has branch =
-    account_held rows c.args.account c.in_ok-balance.balance c.args.branch
-    ((c.in_ok-balance.ensures.kept clean).1 rows has) branch (search rules)
+returns-clause-stored g c clean rows has beside =
+    account_held rows c.args.account c.in_ok-balance.balance c.args.floor c.args.branch
+    ((c.in_ok-balance.ensures.kept clean).1 rows has) beside (search rules) (search rules)

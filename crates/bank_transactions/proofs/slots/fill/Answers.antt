@@ -14,7 +14,7 @@ use Rattle.store_rows.specs.Rules.{HoldsBank}
 use Rattle.bank_transactions.specs.Filling.{AccountHeld, BranchHeld, FloorHeld, RequestHeld, TellerHeld}
 use Rattle.bank_transactions.specs.Filling.{emptied_account}
 use Rattle.bank_transactions.specs.Filling.{emptied_branch, emptied_floor, emptied_request, emptied_teller}
-use Rattle.bank_transactions.proofs.HeldSlots.{emptied_same, know_all}
+use Rattle.bank_transactions.proofs.HeldSlots.{both_all, emptied_same, know_branches, know_floors}
 use Rattle.smallvec.specs.SmallVec.{with_items}
 use Rattle.smallvec.proofs.SmallVecLemmas.{items-with_items}
 use Rattle.posting_batch.specs.View.{view}
@@ -249,22 +249,26 @@ returns-clause-stored g c clean homes rows has =
     let has4 = subst (λ (db : Database). HoldsBank db rows) (sym (four.says.says.kept clean4).0.now) has3 in
     let bs = items-with_items bv c.fill_all.new.slots b_len in
     let branches = one.stored clean1 rows has0 (nothing_asked _) in
+    let fs = items-with_items fv c.fill_all-2.new.slots f_len in
+    let floors = two.stored clean2 rows has1 (nothing_asked _) in
     let same = one.same ∙ ap (map emptied_branch) c.deref_mut.ensures.value in
     record {
       branches = subst (λ (slots : List BranchSlot). AllByRecursion (BranchHeld rows) slots) (sym bs) branches;
-      floors = subst (λ (slots : List FloorSlot). AllByRecursion (FloorHeld rows) slots)
-          (sym (items-with_items fv c.fill_all-2.new.slots f_len))
-          (two.stored clean2 rows has1 (nothing_asked _));
+      floors = subst (λ (slots : List FloorSlot). AllByRecursion (FloorHeld rows) slots) (sym fs) floors;
       tellers = subst (λ (slots : List TellerSlot). AllByRecursion (TellerHeld rows) slots)
           (sym (items-with_items tv c.fill_all-3.new.slots t_len))
           (three.stored clean3 rows has2
-          (know_all (λ s. branch_of_teller s.teller) rows o.branches _ c.fill_all.new.slots o.tellers _
+          (know_branches (λ s. branch_of_teller s.teller) rows o.branches _ c.fill_all.new.slots o.tellers _
           (c.deref.ensures ∙ bs) c.deref_mut-3.ensures.value same branches homes.tellers));
       accounts = subst (λ (slots : List AccountSlot). AllByRecursion (AccountHeld rows) slots)
           (sym (items-with_items av c.fill_all-4.new.slots a_len))
           (four.stored clean4 rows has3
-          (know_all (λ s. branch_of_account s.account) rows o.branches _ c.fill_all.new.slots o.accounts _
-          (c.deref-2.ensures ∙ bs) c.deref_mut-4.ensures.value same branches homes.accounts));
+          (both_all _ _ _
+          (know_branches (λ s. branch_of_account s.account) rows o.branches _ c.fill_all.new.slots o.accounts _
+          (c.deref-2.ensures ∙ bs) c.deref_mut-4.ensures.value same branches homes.accounts)
+          (know_floors (λ s. branch_of_account s.account) rows o.floors _ c.fill_all-2.new.slots o.accounts _
+          (c.deref-3.ensures ∙ fs) c.deref_mut-4.ensures.value
+          (two.same ∙ ap (map emptied_floor) c.deref_mut-2.ensures.value) floors homes.floors)));
       kept = subst (λ (slots : List RequestSlot). AllByRecursion (RequestHeld rows) slots)
           (sym (items-with_items kv c.fill_all-5.new.slots k_len))
           (five.stored clean rows has4 (nothing_asked _));

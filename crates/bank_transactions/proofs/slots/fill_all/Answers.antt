@@ -71,5 +71,5 @@ returns-clause-same g c =
 pub returns-clause-stored : goal.returns-clause-stored
 returns-clause-stored g c clean rows has =
     let at_end : c.loop-slot.slot-index ≡ length c.args.slots.now = omega arith in
-    all_held (g.T.Slot.KnowsRow c.args.branches.now rows) (g.T.Slot.Held rows) c.args.slots.now
+    all_held (g.T.Slot.KnowsRow c.args.branches.now c.args.floors.now rows) (g.T.Slot.Held rows) c.args.slots.now
     c.loop-slot.slots c.loop-slot.slot-index at_end (c.loop-slot.invariant.stored clean rows has)

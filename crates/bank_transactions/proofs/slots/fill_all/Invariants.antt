@@ -17,6 +17,6 @@ invariant-loop-slot g l = record {
       (filled_so_far g.T.Slot.filled_from l.fn.slots l.slot-index) (Ok l.slots);
   same : Partly (λ x y. g.T.Slot.bare y ≡ g.T.Slot.bare x) l.fn.slots l.slots l.slot-index;
   stored : HasCleanDisk (state g.S.Store l.tx.conn.now)
-      → OfRows (λ rows. Partly (λ x y. g.T.Slot.KnowsRow l.branches rows x → g.T.Slot.Held rows y) l.fn.slots
+      → OfRows (λ rows. Partly (λ x y. g.T.Slot.KnowsRow l.branches l.floors rows x → g.T.Slot.Held rows y) l.fn.slots
       l.slots l.slot-index) (state g.S.Store l.fn.tx.conn.now).now;
 }
