@@ -1,11 +1,13 @@
 -- Slots that are filled have what the rows hold, whatever rows a file holds.
-use Rattle.std.proofs.Common.{◌≡◌, ℕ, eqb, List, [], ◌∷◌, map, Option, Some, None, refl, sym, ap, subst, ◌∙◌}
+use Rattle.std.proofs.Common.{◌≡◌, ℕ, eqb, List, [], ◌∷◌, length, map, Option, Some, None, refl, sym, ap, subst, ◌∙◌}
 use Rattle.std.proofs.Common.{inl, inr}
 use Rattle.std.specs.Prelude.{IsSome, IfSome, is_some}
 use Rattle.std.specs.List.{AllByRecursion}
 use Rattle.std.specs.Option.{option_map}
 use Rattle.std.proofs.lemmas.Bool.{eqb-true}
 use Rattle.posting_rules.specs.Tables.{row_at}
+use Rattle.smallvec.specs.SmallVec.{SmallVec, with_items}
+use Rattle.smallvec.proofs.SmallVecLemmas.{items-with_items}
 use Rattle.posting_rules.proofs.Keyed.{by_test}
 use Rattle.posting_batch.specs.declared.slots.AccountSlot.{AccountSlot}
 use Rattle.posting_batch.specs.declared.slots.BranchSlot.{BranchSlot}
@@ -94,6 +96,11 @@ module _ {A : Type 0} (branch_of : A → ℕ) (rows : StoredRows) where
       → AllByRecursion (λ s. IsSome (row_at floor_slot_key old (branch_of s))) others
       → AllByRecursion (λ s. TellsFloor told rows (branch_of s)) xs
   know_floors = know_all floor_slot_key floor_of_slot emptied_floor (λ n s. refl) (HoldsFloor rows) branch_of
+
+-- slots that were filled through a slice of a vector are those that it has then
+pub put_back : {A : Type 0} (v : SmallVec A) (xs ys : List A) → xs ≡ v.items → length ys ≡ length xs
+    → (with_items v ys).items ≡ ys
+put_back v xs ys is same = items-with_items v ys (same ∙ ap length is)
 
 pub both_all : {A : Type 0} (P Q : A → Type 0) (xs : List A) → AllByRecursion P xs → AllByRecursion Q xs
     → AllByRecursion (λ x. P x × Q x) xs

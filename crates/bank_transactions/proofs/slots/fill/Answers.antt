@@ -14,9 +14,8 @@ use Rattle.store_rows.specs.Rules.{HoldsBank}
 use Rattle.bank_transactions.specs.Filling.{AccountHeld, BranchHeld, FloorHeld, RequestHeld, TellerHeld}
 use Rattle.bank_transactions.specs.Filling.{emptied_account}
 use Rattle.bank_transactions.specs.Filling.{emptied_branch, emptied_floor, emptied_request, emptied_teller}
-use Rattle.bank_transactions.proofs.HeldSlots.{both_all, emptied_same, know_branches, know_floors}
+use Rattle.bank_transactions.proofs.HeldSlots.{both_all, emptied_same, know_branches, know_floors, put_back}
 use Rattle.smallvec.specs.SmallVec.{with_items}
-use Rattle.smallvec.proofs.SmallVecLemmas.{items-with_items}
 use Rattle.posting_batch.specs.View.{view}
 use Rattle.bank_transactions.proofs.LookUps.{reads_but, reads_so}
 use Rattle.bank_transactions.proofs.Whole.{accounts_in, accounts_ready, branches_in, count_in, floors_in}
@@ -40,8 +39,8 @@ returns-in_err-fill_all-2-clause-says g c =
 pub returns-in_err-fill_all-3-clause-says : goal.returns-in_err-fill_all-3-clause-says
 returns-in_err-fill_all-3-clause-says g c =
     let same : c.from_residual-in_err-fill_all-3.result ≡ Err c.in_err-fill_all-3.field-0.0 = search rules in
-    let bs = items-with_items c.args.overlay.now.branches c.fill_all.new.slots
-    (omega (arith, c.fill_all.auto.slots, ap (λ (xs : List BranchSlot). length xs) c.deref_mut.ensures.value)) in
+    let bs = put_back c.args.overlay.now.branches _ c.fill_all.new.slots c.deref_mut.ensures.value
+    c.fill_all.auto.slots in
     let s1 = count_in {g = g.S.Store} (view c.args.overlay.now) _ c.in_ok-overlay.ensures.says in
     let s2 = branches_in s1 c.deref_mut.ensures.value c.in_ok-fill_all.ensures.says in
     let s3 = floors_in s2 c.deref_mut-2.ensures.value c.in_ok-fill_all-2.ensures.says in
@@ -51,8 +50,8 @@ returns-in_err-fill_all-3-clause-says g c =
 pub returns-in_err-fill_all-4-clause-says : goal.returns-in_err-fill_all-4-clause-says
 returns-in_err-fill_all-4-clause-says g c =
     let same : c.from_residual-in_err-fill_all-4.result ≡ Err c.in_err-fill_all-4.field-0.0 = search rules in
-    let bs = items-with_items c.args.overlay.now.branches c.fill_all.new.slots
-    (omega (arith, c.fill_all.auto.slots, ap (λ (xs : List BranchSlot). length xs) c.deref_mut.ensures.value)) in
+    let bs = put_back c.args.overlay.now.branches _ c.fill_all.new.slots c.deref_mut.ensures.value
+    c.fill_all.auto.slots in
     let s1 = count_in {g = g.S.Store} (view c.args.overlay.now) _ c.in_ok-overlay.ensures.says in
     let s2 = branches_in s1 c.deref_mut.ensures.value c.in_ok-fill_all.ensures.says in
     let s3 = floors_in s2 c.deref_mut-2.ensures.value c.in_ok-fill_all-2.ensures.says in
@@ -64,8 +63,8 @@ returns-in_err-fill_all-4-clause-says g c =
 pub returns-in_err-fill_all-5-clause-says : goal.returns-in_err-fill_all-5-clause-says
 returns-in_err-fill_all-5-clause-says g c =
     let same : c.from_residual-in_err-fill_all-5.result ≡ Err c.in_err-fill_all-5.field-0.0 = search rules in
-    let bs = items-with_items c.args.overlay.now.branches c.fill_all.new.slots
-    (omega (arith, c.fill_all.auto.slots, ap (λ (xs : List BranchSlot). length xs) c.deref_mut.ensures.value)) in
+    let bs = put_back c.args.overlay.now.branches _ c.fill_all.new.slots c.deref_mut.ensures.value
+    c.fill_all.auto.slots in
     let s1 = count_in {g = g.S.Store} (view c.args.overlay.now) _ c.in_ok-overlay.ensures.says in
     let s2 = branches_in s1 c.deref_mut.ensures.value c.in_ok-fill_all.ensures.says in
     let s3 = floors_in s2 c.deref_mut-2.ensures.value c.in_ok-fill_all-2.ensures.says in
@@ -83,37 +82,7 @@ returns-clause-says g c =
     let tv = c.args.overlay.now.tellers in
     let av = c.args.overlay.now.accounts in
     let kv = c.args.overlay.now.kept in
-    let b_len : length c.fill_all.new.slots
-    ≡ length bv.items = omega (
-      arith,
-      c.fill_all.auto.slots,
-      ap (λ (xs : List BranchSlot). length xs) c.deref_mut.ensures.value,
-    ) in
-    let f_len : length c.fill_all-2.new.slots
-    ≡ length fv.items = omega (
-      arith,
-      c.fill_all-2.auto.slots,
-      ap (λ (xs : List FloorSlot). length xs) c.deref_mut-2.ensures.value,
-    ) in
-    let t_len : length c.fill_all-3.new.slots
-    ≡ length tv.items = omega (
-      arith,
-      c.fill_all-3.auto.slots,
-      ap (λ (xs : List TellerSlot). length xs) c.deref_mut-3.ensures.value,
-    ) in
-    let a_len : length c.fill_all-4.new.slots
-    ≡ length av.items = omega (
-      arith,
-      c.fill_all-4.auto.slots,
-      ap (λ (xs : List AccountSlot). length xs) c.deref_mut-4.ensures.value,
-    ) in
-    let k_len : length c.fill_all-5.new.slots
-    ≡ length kv.items = omega (
-      arith,
-      c.fill_all-5.auto.slots,
-      ap (λ (xs : List RequestSlot). length xs) c.deref_mut-5.ensures.value,
-    ) in
-    let bs = items-with_items bv c.fill_all.new.slots b_len in
+    let bs = put_back bv _ c.fill_all.new.slots c.deref_mut.ensures.value c.fill_all.auto.slots in
     let s1 = count_in {g = g.S.Store} o _ c.in_ok-overlay.ensures.says in
     let s2 = branches_in s1 c.deref_mut.ensures.value c.in_ok-fill_all.ensures.says in
     let s3 = floors_in s2 c.deref_mut-2.ensures.value c.in_ok-fill_all-2.ensures.says in
@@ -128,9 +97,10 @@ returns-clause-says g c =
     (with_items tv c.fill_all-3.new.slots).items c.fill_all-3.new.slots
     (with_items av c.fill_all-4.new.slots).items c.fill_all-4.new.slots
     (with_items kv c.fill_all-5.new.slots).items c.fill_all-5.new.slots
-    bs (items-with_items fv c.fill_all-2.new.slots f_len) (items-with_items tv c.fill_all-3.new.slots t_len)
-    (items-with_items av c.fill_all-4.new.slots a_len)
-    (items-with_items kv c.fill_all-5.new.slots k_len) in
+    bs (put_back fv _ c.fill_all-2.new.slots c.deref_mut-2.ensures.value c.fill_all-2.auto.slots)
+    (put_back tv _ c.fill_all-3.new.slots c.deref_mut-3.ensures.value c.fill_all-3.auto.slots)
+    (put_back av _ c.fill_all-4.new.slots c.deref_mut-4.ensures.value c.fill_all-4.auto.slots)
+    (put_back kv _ c.fill_all-5.new.slots c.deref_mut-5.ensures.value c.fill_all-5.auto.slots) in
     reads_so s6 (λ t so. (so, λ e. held ∙ e))
 
 -- ---- of whatever rows a file holds
@@ -143,49 +113,19 @@ returns-clause-same g c =
     let tv = c.args.overlay.now.tellers in
     let av = c.args.overlay.now.accounts in
     let kv = c.args.overlay.now.kept in
-    let b_len : length c.fill_all.new.slots
-    ≡ length bv.items = omega (
-      arith,
-      c.fill_all.auto.slots,
-      ap (λ (xs : List BranchSlot). length xs) c.deref_mut.ensures.value,
-    ) in
-    let f_len : length c.fill_all-2.new.slots
-    ≡ length fv.items = omega (
-      arith,
-      c.fill_all-2.auto.slots,
-      ap (λ (xs : List FloorSlot). length xs) c.deref_mut-2.ensures.value,
-    ) in
-    let t_len : length c.fill_all-3.new.slots
-    ≡ length tv.items = omega (
-      arith,
-      c.fill_all-3.auto.slots,
-      ap (λ (xs : List TellerSlot). length xs) c.deref_mut-3.ensures.value,
-    ) in
-    let a_len : length c.fill_all-4.new.slots
-    ≡ length av.items = omega (
-      arith,
-      c.fill_all-4.auto.slots,
-      ap (λ (xs : List AccountSlot). length xs) c.deref_mut-4.ensures.value,
-    ) in
-    let k_len : length c.fill_all-5.new.slots
-    ≡ length kv.items = omega (
-      arith,
-      c.fill_all-5.auto.slots,
-      ap (λ (xs : List RequestSlot). length xs) c.deref_mut-5.ensures.value,
-    ) in
     emptied_same o c.in_ok-overlay.field-0
     (with_items bv c.fill_all.new.slots).items (with_items fv c.fill_all-2.new.slots).items
     (with_items tv c.fill_all-3.new.slots).items
     (with_items av c.fill_all-4.new.slots).items (with_items kv c.fill_all-5.new.slots).items
-    (ap (map emptied_branch) (items-with_items bv c.fill_all.new.slots b_len)
+    (ap (map emptied_branch) (put_back bv _ c.fill_all.new.slots c.deref_mut.ensures.value c.fill_all.auto.slots)
     ∙ c.in_ok-fill_all.ensures.same ∙ ap (map emptied_branch) c.deref_mut.ensures.value)
-    (ap (map emptied_floor) (items-with_items fv c.fill_all-2.new.slots f_len)
+    (ap (map emptied_floor) (put_back fv _ c.fill_all-2.new.slots c.deref_mut-2.ensures.value c.fill_all-2.auto.slots)
     ∙ c.in_ok-fill_all-2.ensures.same ∙ ap (map emptied_floor) c.deref_mut-2.ensures.value)
-    (ap (map emptied_teller) (items-with_items tv c.fill_all-3.new.slots t_len)
+    (ap (map emptied_teller) (put_back tv _ c.fill_all-3.new.slots c.deref_mut-3.ensures.value c.fill_all-3.auto.slots)
     ∙ c.in_ok-fill_all-3.ensures.same ∙ ap (map emptied_teller) c.deref_mut-3.ensures.value)
-    (ap (map emptied_account) (items-with_items av c.fill_all-4.new.slots a_len)
+    (ap (map emptied_account) (put_back av _ c.fill_all-4.new.slots c.deref_mut-4.ensures.value c.fill_all-4.auto.slots)
     ∙ c.in_ok-fill_all-4.ensures.same ∙ ap (map emptied_account) c.deref_mut-4.ensures.value)
-    (ap (map emptied_request) (items-with_items kv c.fill_all-5.new.slots k_len)
+    (ap (map emptied_request) (put_back kv _ c.fill_all-5.new.slots c.deref_mut-5.ensures.value c.fill_all-5.auto.slots)
     ∙ c.in_ok-fill_all-5.ensures.same ∙ ap (map emptied_request) c.deref_mut-5.ensures.value)
 
 pub returns-clause-stored : goal.returns-clause-stored
@@ -196,36 +136,6 @@ returns-clause-stored g c clean homes rows has =
     let tv = c.args.overlay.now.tellers in
     let av = c.args.overlay.now.accounts in
     let kv = c.args.overlay.now.kept in
-    let b_len : length c.fill_all.new.slots
-    ≡ length bv.items = omega (
-      arith,
-      c.fill_all.auto.slots,
-      ap (λ (xs : List BranchSlot). length xs) c.deref_mut.ensures.value,
-    ) in
-    let f_len : length c.fill_all-2.new.slots
-    ≡ length fv.items = omega (
-      arith,
-      c.fill_all-2.auto.slots,
-      ap (λ (xs : List FloorSlot). length xs) c.deref_mut-2.ensures.value,
-    ) in
-    let t_len : length c.fill_all-3.new.slots
-    ≡ length tv.items = omega (
-      arith,
-      c.fill_all-3.auto.slots,
-      ap (λ (xs : List TellerSlot). length xs) c.deref_mut-3.ensures.value,
-    ) in
-    let a_len : length c.fill_all-4.new.slots
-    ≡ length av.items = omega (
-      arith,
-      c.fill_all-4.auto.slots,
-      ap (λ (xs : List AccountSlot). length xs) c.deref_mut-4.ensures.value,
-    ) in
-    let k_len : length c.fill_all-5.new.slots
-    ≡ length kv.items = omega (
-      arith,
-      c.fill_all-5.auto.slots,
-      ap (λ (xs : List RequestSlot). length xs) c.deref_mut-5.ensures.value,
-    ) in
     let zero = c.in_ok-overlay.ensures in
     let one = c.in_ok-fill_all.ensures in
     let two = c.in_ok-fill_all-2.ensures in
@@ -247,21 +157,21 @@ returns-clause-stored g c clean homes rows has =
     let has2 = subst (λ (db : Database). HoldsBank db rows) (sym (two.says.says.kept clean2).0.now) has1 in
     let has3 = subst (λ (db : Database). HoldsBank db rows) (sym (three.says.says.kept clean3).0.now) has2 in
     let has4 = subst (λ (db : Database). HoldsBank db rows) (sym (four.says.says.kept clean4).0.now) has3 in
-    let bs = items-with_items bv c.fill_all.new.slots b_len in
+    let bs = put_back bv _ c.fill_all.new.slots c.deref_mut.ensures.value c.fill_all.auto.slots in
     let branches = one.stored clean1 rows has0 (nothing_asked _) in
-    let fs = items-with_items fv c.fill_all-2.new.slots f_len in
+    let fs = put_back fv _ c.fill_all-2.new.slots c.deref_mut-2.ensures.value c.fill_all-2.auto.slots in
     let floors = two.stored clean2 rows has1 (nothing_asked _) in
     let same = one.same ∙ ap (map emptied_branch) c.deref_mut.ensures.value in
     record {
       branches = subst (λ (slots : List BranchSlot). AllByRecursion (BranchHeld rows) slots) (sym bs) branches;
       floors = subst (λ (slots : List FloorSlot). AllByRecursion (FloorHeld rows) slots) (sym fs) floors;
       tellers = subst (λ (slots : List TellerSlot). AllByRecursion (TellerHeld rows) slots)
-          (sym (items-with_items tv c.fill_all-3.new.slots t_len))
+          (sym (put_back tv _ c.fill_all-3.new.slots c.deref_mut-3.ensures.value c.fill_all-3.auto.slots))
           (three.stored clean3 rows has2
           (know_branches (λ s. branch_of_teller s.teller) rows o.branches _ c.fill_all.new.slots o.tellers _
           (c.deref.ensures ∙ bs) c.deref_mut-3.ensures.value same branches homes.tellers));
       accounts = subst (λ (slots : List AccountSlot). AllByRecursion (AccountHeld rows) slots)
-          (sym (items-with_items av c.fill_all-4.new.slots a_len))
+          (sym (put_back av _ c.fill_all-4.new.slots c.deref_mut-4.ensures.value c.fill_all-4.auto.slots))
           (four.stored clean4 rows has3
           (both_all _ _ _
           (know_branches (λ s. branch_of_account s.account) rows o.branches _ c.fill_all.new.slots o.accounts _
@@ -270,7 +180,7 @@ returns-clause-stored g c clean homes rows has =
           (c.deref-3.ensures ∙ fs) c.deref_mut-4.ensures.value
           (two.same ∙ ap (map emptied_floor) c.deref_mut-2.ensures.value) floors homes.floors)));
       kept = subst (λ (slots : List RequestSlot). AllByRecursion (RequestHeld rows) slots)
-          (sym (items-with_items kv c.fill_all-5.new.slots k_len))
+          (sym (put_back kv _ c.fill_all-5.new.slots c.deref_mut-5.ensures.value c.fill_all-5.auto.slots))
           (five.stored clean rows has4 (nothing_asked _));
       decided = zero.stored clean0 rows has;
     }
