@@ -1,5 +1,6 @@
-//! The first program of each library of the commands, as its page shows it.
+//! The first program of each library of the commands, and of the connections of a counter, as its page shows it.
 mod commands;
+mod connections;
 mod endings;
 mod files;
 mod words;
@@ -8,6 +9,7 @@ mod work;
 use anyhow::{Result, bail};
 use command_line::Status;
 use commands::first_commands;
+use connections::first_connections;
 use endings::first_ending;
 pub use files::ask;
 use files::first_file;
@@ -25,6 +27,7 @@ pub fn play(rt: &HostRuntime, words: &str, input: &[u8], output: &mut Vec<u8>) -
         "drive" => play_drive(rt, output),
         "ending" => Ok(first_ending(output, &mut rt.stderr())),
         "commands" => play_commands(rt, files, input, output),
+        "connections" => play_connections(rt, input, output),
         _ => bail!("no such program: {name}"),
     }
 }
@@ -44,6 +47,11 @@ fn play_file(rt: &HostRuntime, file: &str) -> Result<Status> {
 
 fn play_drive(rt: &HostRuntime, output: &mut Vec<u8>) -> Result<Status> {
     first_drive(rt.alloc(), output)?;
+    Ok(Status::Done)
+}
+
+fn play_connections(rt: &HostRuntime, mut input: &[u8], output: &mut Vec<u8>) -> Result<Status> {
+    first_connections(rt, &mut input, output)?;
     Ok(Status::Done)
 }
 

@@ -1,28 +1,33 @@
 //! A counter over TCP: the connections that a bound listener takes are served over HTTP, one after another,
 //! by any counter. A client that keeps the bank waiting is given up, so that none holds up the others. The
-//! program `http_loopback` plays both ends of two connections: one client says nothing, and another sends what
-//! comes on standard input; both are served from a bank in memory, and the answers go to standard output:
+//! function `first_connections` of `bank_trials`, which its script runs, plays both ends of two connections, in
+//! one thread: one client says nothing, and another sends what an input gives; both are served from a bank in
+//! memory, and the answers go to an output:
 //!
 //! ```rust
 //! use counter_http::serve_connections;
 //! use message_records::Branch;
 //! use posting_core::{Counter, PlainBank, StoredClock};
-//! use std::io;
+//! use std::io::{self, Read, Write};
 //! use std::net::{Shutdown, TcpListener, TcpStream};
 //!
-//! fn main(rt: HostRuntime) -> Result<(), anyhow::Error> {
+//! pub fn first_connections<R: Read, W: Write>(
+//!     rt: &HostRuntime,
+//!     input: &mut R,
+//!     output: &mut W,
+//! ) -> Result<(), anyhow::Error> {
 //!     let mut bank = PlainBank::new(rt.alloc());
 //!     bank.open_branch(Branch::new(1).unwrap(), 3, None)?;
 //!     bank.open_branch(Branch::new(2).unwrap(), 2, None)?;
 //!     let mut clock = StoredClock::new(Vec::new(rt.alloc()));
-//!     let listener = TcpListener::bind(&rt, "127.0.0.1:0")?; // any port that is free
-//!     let idle = TcpStream::connect(&rt, listener.local_addr()?)?;
-//!     let client = TcpStream::connect(&rt, listener.local_addr()?)?;
-//!     io::copy(&mut rt.stdin(), &mut &client)?;
+//!     let listener = TcpListener::bind(rt, "127.0.0.1:0")?; // any port that is free
+//!     let idle = TcpStream::connect(rt, listener.local_addr()?)?;
+//!     let client = TcpStream::connect(rt, listener.local_addr()?)?;
+//!     io::copy(input, &mut &client)?;
 //!     client.shutdown(Shutdown::Write)?;
-//!     serve_connections(&rt, &listener, 2, &mut clock, &mut bank)?;
-//!     io::copy(&mut &idle, &mut rt.stdout())?; // nothing
-//!     io::copy(&mut &client, &mut rt.stdout())?;
+//!     serve_connections(rt, &listener, 2, &mut clock, &mut bank)?;
+//!     io::copy(&mut &idle, output)?; // nothing
+//!     io::copy(&mut &client, output)?;
 //!     Ok(())
 //! }
 //! ```
