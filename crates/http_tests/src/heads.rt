@@ -1,6 +1,7 @@
 //! Heads at the limits and heads that are none, each the whole input, to the byte of their answers.
 use crate::connection::{Connection, play};
 use crate::texts::{BAD, joined};
+use message_records::REQUEST_BYTES;
 use std::alloc::{Alloc, AllocError, Global};
 use std::process::Abort;
 use std::test::Fail;
@@ -49,7 +50,7 @@ const FIELDS: &[&[u8]] = &[
     b"Transfer-Encoding: chunked\r\n",
 ];
 
-const RECORD: &[u8; 100] =
+const RECORD: &[u8; REQUEST_BYTES] =
     b"DC01000000000001000000010000010000000001+0000000500                                                 ";
 
 // A whole record is behind each of these heads. It isn't posted.
