@@ -52,8 +52,8 @@ module _ (rows : StoredRows) (n : ℕ) where
     λ within. (let found = finds.1 in cc),
   )
 
-  not_below : (balance lowest : ℤ) → int_lt balance lowest ≡ false → lowest ≤ℤ balance
-  not_below balance lowest not = grind (arith, ints)
+  at_least : (balance lowest : ℤ) → int_lt balance lowest ≡ false → lowest ≤ℤ balance
+  at_least balance lowest not = grind (arith, ints)
 
   pub is_above : (balance floor : Option ℤ) → Finds balance → HoldsFloor rows (branch_of_account n) floor
       → falls_below balance floor ≡ false → IsAbove rows n
@@ -64,4 +64,4 @@ module _ (rows : StoredRows) (n : ℕ) where
       ap (number_at 0) (same_entry _ finds.0 account finds.1 there) ∙ finds.2 in
       let second : number_at 0 its ≡ lowest = ap (number_at 0) (same_entry _ holds.0 its holds.1 has) ∙ holds.2 in
       subst (λ (k : ℤ). k ≤ℤ number_at 0 account) (sym second)
-      (subst (λ (k : ℤ). lowest ≤ℤ k) (sym first) (not_below z lowest not))
+      (subst (λ (k : ℤ). lowest ≤ℤ k) (sym first) (at_least z lowest not))

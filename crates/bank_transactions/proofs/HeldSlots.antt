@@ -5,9 +5,9 @@ use Rattle.std.specs.Prelude.{IsSome, IfSome, is_some}
 use Rattle.std.specs.List.{AllByRecursion}
 use Rattle.std.specs.Option.{option_map}
 use Rattle.std.proofs.lemmas.Bool.{eqb-true}
-use Rattle.posting_rules.specs.Tables.{row_at}
 use Rattle.smallvec.specs.SmallVec.{SmallVec, with_items}
 use Rattle.smallvec.proofs.SmallVecLemmas.{items-with_items}
+use Rattle.posting_rules.specs.Tables.{row_at}
 use Rattle.posting_rules.proofs.Keyed.{by_test}
 use Rattle.posting_batch.specs.declared.slots.AccountSlot.{AccountSlot}
 use Rattle.posting_batch.specs.declared.slots.BranchSlot.{BranchSlot}
@@ -101,11 +101,6 @@ module _ {A : Type 0} (branch_of : A → ℕ) (rows : StoredRows) where
 pub put_back : {A : Type 0} (v : SmallVec A) (xs ys : List A) → xs ≡ v.items → length ys ≡ length xs
     → (with_items v ys).items ≡ ys
 put_back v xs ys is same = items-with_items v ys (same ∙ ap length is)
-
-pub both_all : {A : Type 0} (P Q : A → Type 0) (xs : List A) → AllByRecursion P xs → AllByRecursion Q xs
-    → AllByRecursion (λ x. P x × Q x) xs
-both_all P Q [] one two = tt
-both_all P Q (x ∷ xs) one two = ((one.0, two.0), both_all P Q xs one.1 two.1)
 
 -- the overlay with filled slots, without what they are filled with
 pub emptied_same : (o : Overlay) (n : ℕ) (b : List BranchSlot) (f : List FloorSlot) (e : List TellerSlot)

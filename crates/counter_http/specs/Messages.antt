@@ -5,7 +5,8 @@ use Rattle.httparse.specs.Grammar.{RequestHead, print_request, IsRequestHead}
 use Rattle.counter_http.specs.declared.limits.TheConstants.{MAX_FIELDS, MAX_HEAD}
 use Rattle.counter_http.specs.Fields.{named_values, body_length, asks_to_close}
 
--- a head that is taken: one of HTTP/1.0 or HTTP/1.1 as `httparse` defines it, within the limits
+-- a head that is taken: one of HTTP/1.0 or HTTP/1.1 as `httparse` defines it, within the limits. Empty lines before
+-- it count as part of it, and a target that isn't UTF-8 is none.
 pub record IsHead (h : RequestHead) : Type 0 where
   pub head : IsRequestHead h
   pub fields : length h.fields ≤ MAX_FIELDS

@@ -1,5 +1,5 @@
 //! The reading end of a connection that is served.
-ghost use Rattle.std.specs.Prelude.{◌≡◌};
+ghost use Rattle.std.specs.Prelude.{◌≡◌, ◌≤◌, IfOk};
 ghost use Rattle.std.specs.Io.{ReadsAtMost};
 ghost use Rattle.std.specs.Io.KnownBytes.{ReadConsumes};
 
@@ -69,6 +69,7 @@ impl<'l, S: Read + AsRawFd + Drop, T: Clock> TimedReader<'l, S, T> {
     fn read_in_time(&mut self, buf: &mut [u8]) -> io::Result<usize>
         ensures bound { ReadsAtMost result buf.new }
         ensures bytes { ReadConsumes (S.remaining self.old.stream) (S.remaining self.new.stream) result buf.new }
+        ensures piece { IfOk result (λ count. count ≤ ONE_PIECE) }
     {
         let (limit, others_wait) = self.patience(buf.len())?;
         if !self.has_come(limit, others_wait) {

@@ -29,7 +29,7 @@ use Rattle.posting_batch.proofs.Overlaid.{Fits, tables_made}
 use Rattle.posting_batch.proofs.SlotsForRecords.{has_number, keeps_number, covers_all}
 use Rattle.posting_batch.proofs.SlotsInOrder.{made_all}
 
--- ---- the branch of each teller and of each account has a slot, and its floor one for each account
+-- ---- the branch of each teller and of each account has a slot, and so has the floor of each account's branch
 
 homes_kept : {S T : Type 0} (key : T → ℕ) (branch_of : S → ℕ) (e : T) (slots : List T) (xs : List S)
     → AllByRecursion (λ s. IsSome (row_at key slots (branch_of s))) xs

@@ -99,7 +99,7 @@ pub record HasRisingSlots (o : Overlay) : Type 0 where
   pub accounts : IsRising (number_below account_slot_key) o.accounts
   pub kept : IsRising request_below o.kept
 
--- the branch of each teller and of each account has a slot, and its floor one for each account
+-- the branch of each teller and of each account has a slot, and so has the floor of each account's branch
 pub record HasHomes (o : Overlay) : Type 0 where
   pub tellers : AllByRecursion (λ s. IsSome (row_at branch_slot_key o.branches (branch_of_teller s.teller)))
       o.tellers

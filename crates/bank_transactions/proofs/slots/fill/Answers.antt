@@ -14,9 +14,10 @@ use Rattle.store_rows.specs.Rules.{HoldsBank}
 use Rattle.bank_transactions.specs.Filling.{AccountHeld, BranchHeld, FloorHeld, RequestHeld, TellerHeld}
 use Rattle.bank_transactions.specs.Filling.{emptied_account}
 use Rattle.bank_transactions.specs.Filling.{emptied_branch, emptied_floor, emptied_request, emptied_teller}
-use Rattle.bank_transactions.proofs.HeldSlots.{both_all, emptied_same, know_branches, know_floors, put_back}
+use Rattle.bank_transactions.proofs.HeldSlots.{emptied_same, know_branches, know_floors, put_back}
 use Rattle.smallvec.specs.SmallVec.{with_items}
 use Rattle.posting_batch.specs.View.{view}
+use Rattle.sqlite_trees.proofs.ListLemmas.{all_both}
 use Rattle.bank_transactions.proofs.LookUps.{reads_but, reads_so}
 use Rattle.bank_transactions.proofs.Whole.{accounts_in, accounts_ready, branches_in, count_in, floors_in}
 use Rattle.bank_transactions.proofs.Whole.{kept_in, plain}
@@ -173,7 +174,7 @@ returns-clause-stored g c clean homes rows has =
       accounts = subst (λ (slots : List AccountSlot). AllByRecursion (AccountHeld rows) slots)
           (sym (put_back av _ c.fill_all-4.new.slots c.deref_mut-4.ensures.value c.fill_all-4.auto.slots))
           (four.stored clean4 rows has3
-          (both_all _ _ _
+          (all_both _ _ _ (λ s branch floor. (branch, floor)) _
           (know_branches (λ s. branch_of_account s.account) rows o.branches _ c.fill_all.new.slots o.accounts _
           (c.deref-2.ensures ∙ bs) c.deref_mut-4.ensures.value same branches homes.accounts)
           (know_floors (λ s. branch_of_account s.account) rows o.floors _ c.fill_all-2.new.slots o.accounts _
