@@ -3,7 +3,7 @@
 #
 #     examples/day.sh [PROGRAM]
 #
-# It needs the built program (cd crates/bank && rt run -- --help), works in a folder of its own, and compares what the
+# It needs the built program (examples/set_up.sh), works in a folder of its own, and compares what the
 # program writes with the files of the day. The gate plays the same day: it is the first of the runs of
 # crates/bank_trials, whose folder data/ holds the plans, the records, and the replies and reports that have to come.
 set -eu

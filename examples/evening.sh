@@ -1,6 +1,6 @@
 #!/usr/bin/env bash
-# The evening of a bank that is served: the counter stops, both files are copied, the copy is audited, and the counter
-# starts again. Where the copy isn't consistent the counter stays closed.
+# The evening of a bank that is served: the counter stops, both files are copied, the counter starts again, and then the
+# copy is audited. Ends with status 0 if the copy is consistent; any other status is an alarm.
 #
 #     examples/evening.sh FILE FOLDER
 #
@@ -14,19 +14,24 @@ file="${1:?the bank}"
 folder="${2:?a folder for the copy}"
 copy="$folder/$(basename "$file")"
 
+alarm() {
+    echo "evening: $1" >&2
+    exit 1
+}
+
 # Both files or neither: a copy of the evening before isn't mixed with this one's.
-if [ -e "$copy" ] || [ -e "$copy-wal" ]; then
-    echo "evening: $copy is there" >&2
-    exit 1
-fi
+if [ ! -e "$file" ]; then alarm "there is no $file"; fi
+if [ -e "$copy" ] || [ -e "$copy-wal" ]; then alarm "$copy is there"; fi
 mkdir -p "$folder"
+
+# The counter starts again whatever the copying comes to.
+copied=yes
 $stop
-cp "$file" "$copy"
-if [ -e "$file-wal" ]; then cp "$file-wal" "$copy-wal"; fi
-sync "$folder"
-if "$bank" audit "$copy" | tee "$copy.audit" | tail -1 | grep -qx CONSISTENT; then
-    $start
-else
-    echo "evening: the counter stays closed: see $copy.audit" >&2
-    exit 1
-fi
+cp "$file" "$copy" || copied=no
+if [ -e "$file-wal" ]; then cp "$file-wal" "$copy-wal" || copied=no; fi
+$start
+if [ "$copied" = no ]; then alarm "$file was not copied"; fi
+
+sync "$copy" "$folder"
+"$bank" audit "$copy" >"$copy.audit" || alarm "bank audit ended with status $?: see $copy.audit"
+tail -1 "$copy.audit"

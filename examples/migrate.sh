@@ -3,13 +3,17 @@
 #
 #     examples/migrate.sh FILE [PROGRAM]
 #
-# It needs the built program (cd crates/bank && rt run -- --help), and no command may run on FILE meanwhile. The copies
+# It needs the built program (examples/set_up.sh), and no command may run on FILE meanwhile. The copies
 # are in the new folder FILE.before: to go back, put them in the place of both files.
 set -eu
 here="$(cd "$(dirname "$0")/.." && pwd)"
-file="$1"
+file="${1:?the bank}"
 bank="$(realpath "${2:-$here/crates/bank/out/bank}")"
 
+if [ ! -e "$file" ]; then
+    echo "migrate: there is no $file" >&2
+    exit 1
+fi
 mkdir "$file.before"
 for it in "$file" "$file-wal"; do
     if [ -e "$it" ]; then cp -p "$it" "$file.before"; fi

@@ -1,12 +1,13 @@
 #!/usr/bin/env python3
-"""Checks that the program on each library's page, and that of README.md, is one that the gate runs, line for line.
+"""Checks that the program on each library's page, and that of docs/USING.md, is one that the gate runs, line for line.
 
     tools/pages.py
 
-The page of a library is the `//!` lines at the head of its src/lib.rt, and of a file of src/ that has such a program. A page has one ```rust block, and the paragraph before
-it names "the test `NAME` of `CRATE`", "the function `NAME` of `CRATE`" or "the program `CRATE`". The block's lines stand
-one directly after the other in a file of that crate, from the first import to the end of the test, which is marked as one,
-of the function, which is called elsewhere in the crate, or of `main`. Blank lines, `#[test]` and indentation don't count.
+The page of a library is the `//!` lines at the head of its src/lib.rt, and of a file of src/ that has such a program.
+A page has one ```rust block, and the paragraph before it names "the test `NAME` of `CRATE`", "the function `NAME` of
+`CRATE`" or "the program `CRATE`". The block's lines stand one directly after the other in a file of that crate, from
+the first import to the end of the test, which is marked as one, of the function, which is called elsewhere in the
+crate, or of `main`. Blank lines, `#[test]` and indentation don't count.
 Prints a line for each page, and ends with status 1 if one of them differs.
 """
 import re
@@ -14,7 +15,7 @@ import sys
 from pathlib import Path
 
 CRATES = Path(__file__).resolve().parent.parent / "crates"
-README = CRATES.parent / "README.md"
+USING = CRATES.parent / "docs/USING.md"
 
 # What these have is tests, what tests and trials are made with, and lemmas: no program begins with them.
 NO_PROGRAM = {"bank_scenarios", "counter_tests", "failing_ends", "http_tests", "sql_meanings", "store_tests"}
@@ -81,7 +82,7 @@ def fault_of(page):
 
 
 def main():
-    pages = {"README.md": README.read_text().splitlines()}
+    pages = {"docs/USING.md": USING.read_text().splitlines()}
     for file in sorted(CRATES.glob("*/src/*.rt")):
         crate, page = file.parent.parent.name, page_of(file)
         if crate not in NO_PROGRAM and (file.name == "lib.rt" or "```rust" in page):

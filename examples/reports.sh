@@ -1,0 +1,52 @@
+#!/usr/bin/env bash
+# What a back office asks every day, as SQL on a copy of a bank, for the day that is named, in UTC:
+#
+#     examples/reports.sh FILE [YYYY-MM-DD] [FOLDER]
+#
+# It needs `sqlite3`. No command may run on FILE while it is copied: see examples/evening.sh, whose copy serves as FILE.
+# FOLDER gets postings.csv, all postings; without it there is none. The day is today if none is named.
+set -eu
+file="${1:?the bank, or a copy of it}"
+day="${2:-$(date -u +%F)}"
+folder="${3:-}"
+work="$(mktemp -d)"
+trap 'rm -rf "$work"' EXIT
+cp "$file" "$work/copy.db"
+if [ -e "$file-wal" ]; then cp "$file-wal" "$work/copy.db-wal"; fi
+
+ask() {
+    echo "== $1"
+    sqlite3 -header "-${3:-column}" "$work/copy.db" "$2"
+}
+
+# A posting with its time, its amount in units and hundredths, and its reference.
+sqlite3 "$work/copy.db" "
+CREATE VIEW posting AS SELECT ordinal, datetime(moment, 'unixepoch') AS time, bid AS branch, tid AS teller,
+    aid AS account, delta, printf('%+.2f', delta / 100.0) AS amount,
+    coalesce(rtrim(reference), '') AS reference
+  FROM history LEFT JOIN request_reference USING (ordinal);
+CREATE VIEW today AS SELECT * FROM posting WHERE date(time) = '$day';
+CREATE TABLE outcome (code INTEGER PRIMARY KEY, name TEXT);
+INSERT INTO outcome VALUES (12, 'WRONG BRANCH'), (13, 'NO ACCOUNT'), (14, 'OVER LIMIT'), (17, 'BELOW FLOOR');"
+
+ask "$day: totals by branch" "SELECT branch, count(*) AS postings,
+    printf('%+.2f', sum(max(delta, 0)) / 100.0) AS paid_in, printf('%+.2f', sum(min(delta, 0)) / 100.0) AS paid_out,
+    printf('%+.2f', sum(delta) / 100.0) AS net FROM today GROUP BY branch ORDER BY branch"
+
+ask "$day: postings" "SELECT ordinal, time, branch, teller, account, amount, reference FROM today ORDER BY ordinal"
+
+# The running balance is the sum of the postings so far; the last one of an account is its balance.
+ask "All statements" "SELECT account, ordinal, time, teller, amount,
+    printf('%.2f', sum(delta) OVER (PARTITION BY account ORDER BY ordinal) / 100.0) AS balance, reference
+  FROM posting ORDER BY account, ordinal"
+
+# A refusal is kept without a moment: those of a day are between two of its postings.
+ask "Refused and kept, by teller" "SELECT tid AS teller, name AS refused_as, count(*) AS times, min(ordinal) AS first,
+    max(ordinal) AS last FROM request JOIN outcome ON code = outcome GROUP BY tid, name ORDER BY tid, name"
+
+if [ -n "$folder" ]; then
+    mkdir -p "$folder"
+    ask "postings" "SELECT ordinal, time, branch, teller, account, amount, reference FROM posting ORDER BY ordinal" csv |
+        tail -n +2 >"$folder/postings.csv"
+    echo "== $(($(wc -l <"$folder/postings.csv") - 1)) postings in $folder/postings.csv"
+fi
