@@ -6,14 +6,35 @@ use Rattle.std.proofs.lemmas.List.{length-append, take_all, take_min, take-appen
 use Rattle.std.proofs.lemmas.List.Concat.{flat_map-append}
 use Rattle.std.specs.declared.io.Error.{Error}
 use Rattle.posting_core.specs.Batches.{Batch, records_in, records_of}
-use Rattle.posting_core.specs.Stream.{FollowReads, given, read_by, submitted_by}
-use Rattle.posting_core.specs.Told.{ReadTold, Gave, Failed, GrowsBy, read_told}
+use Rattle.std.specs.Io.KnownBytes.{Appends}
+use Rattle.posting_core.specs.Stream.{FollowReads, RepliesBeforeReads, given, read_by, submitted_by}
+use Rattle.posting_core.specs.Told.{Beside, ReadTold, Gave, Failed, GrowsBy, IsThrough, WriteTold, read_told}
+use Rattle.posting_rules.specs.Counter.{Seen}
+use Rattle.posting_core.proofs.Streaming.{Going}
+use Rattle.posting_core.proofs.Prompt.{prompt_first, prompt_read, prompt_written}
 use Rattle.posting_core.proofs.Telling.{adds-more, adds-none}
 
--- the batches follow the reads, which gave their records and so many bytes behind them
-pub record Following (q q' : Option (List ReadTold)) (batches : List Batch) (rest : ℕ) : Type 0 where
+-- the batches follow the reads, which gave their records and so many bytes behind them; no reply waits for the
+-- next read
+pub record Following (q q' : Option (List ReadTold)) (b b' : Option (List Beside)) (w : Option (List ℕ))
+    (t : Option (List WriteTold)) (batches : List Batch) (rest : ℕ) (written : List ℕ) : Type 0 where
   pub follow : FollowReads q q' batches
   pub total : given follow.reads ≡ 100 * length (records_of batches) + rest
+  pub prompt : RepliesBeforeReads b b' w t follow.reads written
+
+-- what is known of the sink as a read is made: it holds the replies to these batches, flushed
+pub record IsUpTo (w : Option (List ℕ)) (t : Option (List WriteTold)) (batches : List Batch) (rest : ℕ)
+    (written : List ℕ) (sink : Beside) : Type 0 where
+  pub few : rest < 100
+  pub long : length written ≡ 200 * length (records_of batches)
+  pub wrote : Appends w sink.contents written
+  pub through : IsThrough t sink.told
+
+pub up_to : {r r' w w' k k' : Option (List ℕ)} {c c' : Seen} {bs : List Batch} {left : List ℕ} {count : ℕ}
+    {written : List ℕ} {t t' : Option (List WriteTold)} (rest : ℕ)
+    → Going r r' w w' k k' c c' bs left count written → rest < 100 → IsThrough t t'
+    → IsUpTo w t bs rest written (record { contents = w'; told = t' })
+up_to rest g few through = record { few = few; long = g.long; wrote = g.wrote; through = through }
 
 -- ---- how many bytes
 
@@ -54,10 +75,18 @@ all_of bs reads m n rest all_batches all_reads total few =
     ap (λ (b : List Batch). length (records_of b)) all_batches ∙ sym count
     ∙ ap (λ (r : List ReadTold). given r / 100) (sym all_reads)
 
+-- all whole records are those of all reads
+read_so_far : (reads : List ReadTold) (count rest : ℕ) → given reads ≡ 100 * count + rest → rest < 100
+    → read_by (length reads) reads ≡ count
+read_so_far reads count rest total few =
+    let divided : given reads / 100 ≡ count = omega arith in
+    ap (λ (r : List ReadTold). given r / 100) (take_all (length reads) reads (omega arith)) ∙ divided
+
 -- ---- steps
 
-pub following_first : (q : Option (List ReadTold)) (rest : ℕ) → rest ≡ 0 → Following q q [] rest
-following_first q rest none = record {
+pub following_first : (q : Option (List ReadTold)) (b : Option (List Beside)) (w : Option (List ℕ))
+    (t : Option (List WriteTold)) (rest : ℕ) → rest ≡ 0 → Following q q b b w t [] rest []
+following_first q b w t rest none = record {
   follow = record {
     reads = [];
     made = adds-none q;
@@ -65,6 +94,7 @@ following_first q rest none = record {
     at_once = λ n. (0, sym (nothing_read n));
   };
   total = omega arith;
+  prompt = prompt_first b w t [];
 }
   where
     none_yet : (m : ℕ) → submitted_by m [] ≡ read_by 0 []
@@ -76,11 +106,15 @@ following_first q rest none = record {
         ap (λ (r : List ReadTold). given r / 100) (take_all n none (omega arith))
 
 -- one read more, and the batch that it completed, if it completed one
-following_more : {q q' q'' : Option (List ReadTold)} (bs more : List Batch) (x : ReadTold) (rest rest' : ℕ)
-    → length more ≤ 1 → Following q q' bs rest → GrowsBy q' q'' (x ∷ [])
+following_more : {q q' q'' : Option (List ReadTold)} {b b' b'' : Option (List Beside)} {w : Option (List ℕ)}
+    {t : Option (List WriteTold)} {written : List ℕ} (bs more : List Batch) (x : ReadTold) (sink : Beside)
+    (rest rest' : ℕ)
+    → length more ≤ 1 → Following q q' b b' w t bs rest written → IsUpTo w t bs rest written sink
+    → GrowsBy q' q'' (x ∷ []) → GrowsBy b' b'' (sink ∷ [])
     → rest + given (x ∷ []) ≡ 100 * length (records_of more) + rest' → rest' < 100
-    → Following q q'' (bs ++ more) rest'
-following_more {q = q} {q' = q'} {q'' = q''} bs more x rest rest' one f made got few =
+    → Following q q'' b b'' w t (bs ++ more) rest' written
+following_more {q = q} {q' = q'} {q'' = q''} {written = written} bs more x sink rest rest' one f up
+    made beside got few =
     let before = f.follow.reads in
     let reads = before ++ x ∷ [] in
     let batches = bs ++ more in
@@ -101,6 +135,8 @@ following_more {q = q} {q' = q'} {q'' = q''} bs more x rest rest' one f made got
         at_once = λ n. at_once_by n (leb_tells n (length before)) whole longer;
       };
       total = total;
+      prompt = prompt_read before written x sink (length (records_of bs)) f.prompt beside
+          (read_so_far before (length (records_of bs)) rest f.total up.few) up.long up.wrote up.through;
     }
   where
     together_by : (m : ℕ) → ((leb m (length bs) ≡ true) × (m ≤ length bs))
@@ -142,18 +178,31 @@ following_more {q = q} {q' = q'} {q'' = q''} bs more x rest rest' one f made got
     )
 
 -- a read that completed no record
-pub following_read : {q q' q'' : Option (List ReadTold)} (bs : List Batch) (x : ReadTold) (rest rest' : ℕ)
-    → Following q q' bs rest → GrowsBy q' q'' (x ∷ []) → rest + given (x ∷ []) ≡ rest' → rest' < 100
-    → Following q q'' bs rest'
-following_read {q = q} {q'' = q''} bs x rest rest' f made got few =
-    subst (λ (b : List Batch). Following q q'' b rest') (append-nil bs)
-    (following_more bs [] x rest rest' (omega arith) f made (omega arith) few)
+pub following_read : {q q' q'' : Option (List ReadTold)} {b b' b'' : Option (List Beside)} {w : Option (List ℕ)}
+    {t : Option (List WriteTold)} {written : List ℕ} (bs : List Batch) (x : ReadTold) (sink : Beside)
+    (rest rest' : ℕ) → Following q q' b b' w t bs rest written → IsUpTo w t bs rest written sink
+    → GrowsBy q' q'' (x ∷ []) → GrowsBy b' b'' (sink ∷ []) → rest + given (x ∷ []) ≡ rest' → rest' < 100
+    → Following q q'' b b'' w t bs rest' written
+following_read {q = q} {q'' = q''} {b = b} {b'' = b''} {w = w} {t = t} {written = written} bs x sink rest
+    rest' f up made beside got few =
+    subst (λ (l : List Batch). Following q q'' b b'' w t l rest' written) (append-nil bs)
+    (following_more bs [] x sink rest rest' (omega arith) f up made beside (omega arith) few)
 
 -- a read that completed a batch
-pub following_batch : {q q' q'' : Option (List ReadTold)} (bs : List Batch) (b : Batch) (x : ReadTold)
-    (rest rest' : ℕ) → Following q q' bs rest → GrowsBy q' q'' (x ∷ [])
-    → rest + given (x ∷ []) ≡ 100 * length b.records + rest' → rest' < 100
-    → Following q q'' (bs ++ b ∷ []) rest'
-following_batch bs b x rest rest' f made got few =
-    following_more bs (b ∷ []) x rest rest' (omega arith) f made
-    (got ∙ ap (λ (k : ℕ). 100 * k + rest') (sym (ap length (append-nil b.records)))) few
+pub following_batch : {q q' q'' : Option (List ReadTold)} {b b' b'' : Option (List Beside)} {w : Option (List ℕ)}
+    {t : Option (List WriteTold)} {written : List ℕ} (bs : List Batch) (one : Batch) (x : ReadTold)
+    (sink : Beside) (rest rest' : ℕ) → Following q q' b b' w t bs rest written
+    → IsUpTo w t bs rest written sink
+    → GrowsBy q' q'' (x ∷ []) → GrowsBy b' b'' (sink ∷ [])
+    → rest + given (x ∷ []) ≡ 100 * length one.records + rest' → rest' < 100
+    → Following q q'' b b'' w t (bs ++ one ∷ []) rest' written
+following_batch bs one x sink rest rest' f up made beside got few =
+    following_more bs (one ∷ []) x sink rest rest' (omega arith) f up made beside
+    (got ∙ ap (λ (k : ℕ). 100 * k + rest') (sym (ap length (append-nil one.records)))) few
+
+-- the replies to it
+pub following_wrote : {q q' : Option (List ReadTold)} {b b' : Option (List Beside)} {w : Option (List ℕ)}
+    {t : Option (List WriteTold)} {bs : List Batch} {rest : ℕ} (written more : List ℕ)
+    → Following q q' b b' w t bs rest written → Following q q' b b' w t bs rest (written ++ more)
+following_wrote written more f =
+    record { follow = f.follow; total = f.total; prompt = prompt_written written more f.prompt }

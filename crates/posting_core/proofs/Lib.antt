@@ -7,9 +7,10 @@ pub mod Transferred
 pub mod Timeless
 pub mod Batched
 pub mod Again
-pub mod Followed
+pub mod Prompt
 pub mod Stops
 pub mod Streaming
+pub mod Followed
 pub mod StreamedBatches
 pub mod StreamEnds
 pub mod Through

@@ -43,8 +43,9 @@ still_down (Damaged rule) old new cs u e = u.down
 
 pub refused_broken : {C : Type 0} (seen : C → Seen) (reason : Fault → C → C → Type 0) (old stood new : C)
     {r r' w w' k k' : Option (List ℕ)}
-    {done : List Batch} {count : ℕ} (v v' : Option (List ℕ)) (fault : StreamFault)
-    (m : ℕ) (all rest : List ℕ) (rs : List (List ℕ)) → Going r r' w w' k k' (seen old) (seen stood) done all count
+    {done : List Batch} {count : ℕ} {written : List ℕ} (v v' : Option (List ℕ)) (fault : StreamFault)
+    (m : ℕ) (all rest : List ℕ) (rs : List (List ℕ))
+    → Going r r' w w' k k' (seen old) (seen stood) done all count written
     → (all ≡ joined rs ++ rest) × AllByRecursion IsRecord rs → length rest < 100 → 1 ≤ length rs
     → length rs ≤ RECORDS_PER_BATCH
     → (count ≡ 0 → stood ≡ old) → ((seen stood).is_down → (seen old).is_down × (count ≡ 0))

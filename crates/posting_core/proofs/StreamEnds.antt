@@ -16,8 +16,10 @@ use Rattle.posting_rules.specs.Runs.{behind, posts, replies_to}
 use Rattle.posting_core.specs.Clock.{IsReading, AreReadings}
 use Rattle.posting_core.specs.Batches.{Batch, IsBatch, IsRecord, joined, moments_of, records_of, posts_of, BreaksOff}
 use Rattle.posting_core.specs.Stream.{EndsStream, FollowReads, RepliesAreWritten, IfUp, StreamsAsRead}
-use Rattle.posting_core.specs.Stream.{UnlessDown}
-use Rattle.posting_core.specs.Told.{ReadTold}
+use Rattle.posting_core.specs.Stream.{UnlessDown, read_by, submitted_by}
+use Rattle.posting_core.specs.Told.{Beside, ReadTold, WriteTold}
+use Rattle.posting_core.proofs.Followed.{Following}
+use Rattle.posting_core.proofs.Prompt.{prompt_written}
 use Rattle.posting_rules.proofs.Remaining.{leaves_still}
 use Rattle.posting_core.proofs.Stops.{refused_stop, stop_all, stop_part, written_part}
 use Rattle.posting_core.proofs.Batched.{posts_of_one_more, replies_of_one_more}
@@ -31,12 +33,26 @@ pub record FitsAll (result : Result ℕ StreamFault) : Type 1 where
   pub written : (t s : List ℕ) → t ≡ s → RepliesAreWritten result t s
   pub up : (P : Type 0) → P → UnlessDown result P
 
-end_of : {r r' w w' k k' : Option (List ℕ)} {q q' : Option (List ReadTold)} {c c' : Seen}
-    {done : List Batch} {rest : List ℕ} {count : ℕ}
-    (result : Result ℕ StreamFault) (g : Going r r' w w' k k' c c' done rest count)
+-- batches and none more follow the same reads
+abbrev follow_all : {q q' : Option (List ReadTold)} {done : List Batch} → FollowReads q q' done
+    → FollowReads q q' (done ++ [])
+follow_all {done = done} f = record {
+  reads = f.reads;
+  made = f.made;
+  together = λ m. subst (λ (bs : List Batch). (n : ℕ) × (submitted_by m bs ≡ read_by n f.reads))
+      (sym (append-nil done)) (f.together m);
+  at_once = λ n. subst (λ (bs : List Batch). (m : ℕ) × (submitted_by m bs ≡ read_by n f.reads))
+      (sym (append-nil done)) (f.at_once n);
+}
+
+end_of : {r r' w w' k k' : Option (List ℕ)} {q q' : Option (List ReadTold)} {b b' : Option (List Beside)}
+    {t : Option (List WriteTold)} {c c' : Seen} {done : List Batch} {rest : List ℕ} {count left : ℕ}
+    {written : List ℕ}
+    (result : Result ℕ StreamFault) (g : Going r r' w w' k k' c c' done rest count written)
     → FitsAll result → length rest < 100 → EndsStream result r' done [] rest
-    → FollowReads q q' done → StreamsAsRead r r' q q' w w' k k' c c' result
-end_of {r = r} {r' = r'} {k = k} {k' = k'} {q = q} {q' = q'} {c' = c'} {done = done} {rest = rest} result g fits few ends follow =
+    → Following q q' b b' w t done left written → StreamsAsRead r r' q q' b b' w w' t k k' c c' result
+end_of {r = r} {r' = r'} {k = k} {k' = k'} {c' = c'} {done = done} {rest = rest}
+    {written = written} result g fits few ends follow =
     let none : done ++ [] ≡ done = append-nil done in
     record {
       did = record {
@@ -48,11 +64,11 @@ end_of {r = r} {r' = r'} {k = k} {k' = k'} {q = q} {q' = q'} {c' = c'} {done = d
         sizes = subst (λ (bs : List Batch). AllByRecursion IsBatch bs) (sym none) g.sizes;
         few = few;
         clock = subst (λ (bs : List Batch). AreReadings k k' (moments_of bs)) (sym none) g.clock;
-        written = g.written;
+        written = written;
         wrote = g.wrote;
         ends = ends;
         honest = g.honest;
-        replies = λ h log s. fits.written g.written (joined (replies_to log (posts_of done)))
+        replies = λ h log s. fits.written written (joined (replies_to log (posts_of done)))
             (g.replies h log s);
         shows = λ h log s. fits.up (ShowsLog c' (behind log (posts_of done))) (g.takes.shows h log s);
         stands = λ h log s. fits.up (StandsAt c' (behind log (posts_of done))) (g.takes.stands h log s);
@@ -60,34 +76,38 @@ end_of {r = r} {r' = r'} {k = k} {k' = k'} {q = q} {q' = q'} {c' = c'} {done = d
             (ap posts_of none)
             (g.takes.stands h log s);
       };
-      follow = subst (λ (bs : List Batch). FollowReads q q' bs) (sym none) follow;
+      follow = follow_all follow.follow;
+      prompt = follow.prompt;
     }
 
 -- the input ended with a record
-pub end_whole : {r r' w w' k k' : Option (List ℕ)} {q q' : Option (List ReadTold)} {c c' : Seen}
-    {done : List Batch} {count : ℕ} (rest : List ℕ)
-    → Going r r' w w' k k' c c' done rest count → IsAtEnd r' → rest ≡ []
-    → FollowReads q q' done → StreamsAsRead r r' q q' w w' k k' c c' (Ok count)
+pub end_whole : {r r' w w' k k' : Option (List ℕ)} {q q' : Option (List ReadTold)}
+    {b b' : Option (List Beside)} {t : Option (List WriteTold)} {c c' : Seen}
+    {done : List Batch} {count left : ℕ} {written : List ℕ} (rest : List ℕ)
+    → Going r r' w w' k k' c c' done rest count written → IsAtEnd r' → rest ≡ []
+    → Following q q' b b' w t done left written → StreamsAsRead r r' q q' b b' w w' t k k' c c' (Ok count)
 end_whole {count = count} rest g ended none follow =
     let len = ap length none in
     end_of (Ok count) g (record { written = λ t s e. e; up = λ P p. p }) (omega arith)
     (record { ended = ended; no_rest = none; all_taken = refl; count_is = g.count_is }) follow
 
 -- it ended within one
-pub end_in_record : {r r' w w' k k' : Option (List ℕ)} {q q' : Option (List ReadTold)} {c c' : Seen}
-    {done : List Batch} {count : ℕ} (rest : List ℕ) (n : ℕ)
-    → Going r r' w w' k k' c c' done rest count → IsAtEnd r'
-    → length rest ≡ n → 1 ≤ n → n < 100 → FollowReads q q' done
-    → StreamsAsRead r r' q q' w w' k k' c c' (Err (Truncated n))
+pub end_in_record : {r r' w w' k k' : Option (List ℕ)} {q q' : Option (List ReadTold)}
+    {b b' : Option (List Beside)} {t : Option (List WriteTold)} {c c' : Seen}
+    {done : List Batch} {count left : ℕ} {written : List ℕ} (rest : List ℕ) (n : ℕ)
+    → Going r r' w w' k k' c c' done rest count written → IsAtEnd r'
+    → length rest ≡ n → 1 ≤ n → n < 100 → Following q q' b b' w t done left written
+    → StreamsAsRead r r' q q' b b' w w' t k k' c c' (Err (Truncated n))
 end_in_record rest n g ended is some few follow =
     end_of (Err (Truncated n)) g (record { written = λ t s e. e; up = λ P p. p }) (omega (arith, is))
     (record { ended = ended; some = some; rest_is = is; all_taken = refl }) follow
 
 -- the reader failed
-pub end_unread : {r r' w w' k k' : Option (List ℕ)} {q q' : Option (List ReadTold)} {c c' : Seen}
-    {done : List Batch} {count : ℕ} (rest : List ℕ)
-    → Going r r' w w' k k' c c' done rest count → length rest < 100
-    → FollowReads q q' done → StreamsAsRead r r' q q' w w' k k' c c' (Err Read)
+pub end_unread : {r r' w w' k k' : Option (List ℕ)} {q q' : Option (List ReadTold)}
+    {b b' : Option (List Beside)} {t : Option (List WriteTold)} {c c' : Seen}
+    {done : List Batch} {count left : ℕ} {written : List ℕ} (rest : List ℕ)
+    → Going r r' w w' k k' c c' done rest count written → length rest < 100
+    → Following q q' b b' w t done left written → StreamsAsRead r r' q q' b b' w w' t k k' c c' (Err Read)
 end_unread rest g few follow =
     end_of (Err Read) g (record { written = λ t s e. e; up = λ P p. p }) few refl follow
 
@@ -122,16 +142,17 @@ refused_stands (Damaged rule) c c' log cs u s = tt
 
 -- a batch broke off
 pub end_broken : (fault : StreamFault) {r r' w w' w'' k k' k'' : Option (List ℕ)}
-    {q q' : Option (List ReadTold)} {c c' c'' : Seen}
-    {done : List Batch} {count : ℕ} (m : ℕ) (all rest : List ℕ) (rs : List (List ℕ))
-    → Going r r' w w' k k' c c' done all count → (all ≡ joined rs ++ rest) × AllByRecursion IsRecord rs
+    {q q' : Option (List ReadTold)} {v v' : Option (List Beside)} {t : Option (List WriteTold)}
+    {c c' c'' : Seen} {done : List Batch} {count left : ℕ} {written : List ℕ} (m : ℕ) (all rest : List ℕ)
+    (rs : List (List ℕ))
+    → Going r r' w w' k k' c c' done all count written → (all ≡ joined rs ++ rest) × AllByRecursion IsRecord rs
     → (1 ≤ length rs) × (length rs ≤ RECORDS_PER_BATCH) → length rest < 100
     → IsReading k' k'' m → (c''.honest → c'.honest) → BreaksOff fault w' w'' c' c'' (posts m rs)
-    → FollowReads q q' (done ++ record { moment = m; records = rs } ∷ [])
-    → StreamsAsRead r r' q q' w w'' k k'' c c'' (Err fault)
+    → Following q q' v v' w t (done ++ record { moment = m; records = rs } ∷ []) left written
+    → StreamsAsRead r r' q q' v v' w w'' t k k'' c c'' (Err fault)
 end_broken Write {r = r} {r' = r'} {w = w} {w' = w'} {w'' = w''} {k = k} {k' = k'} {k'' = k''}
-    {q = q} {q' = q'} {c = c}
-    {c' = c'} {c'' = c''} {done = done} m all rest rs g cut size few reading honest a follow =
+    {c = c} {c' = c'} {c'' = c''} {done = done} {written = written} m all rest rs g cut size few reading
+    honest a follow =
     let b : Batch = record { moment = m; records = rs } in
     let bs = done ++ b ∷ [] in
     let none : (done ++ b ∷ []) ++ [] ≡ done ++ b ∷ [] = append-nil (done ++ b ∷ []) in
@@ -150,24 +171,25 @@ end_broken Write {r = r} {r' = r'} {w = w} {w' = w'} {w'' = w''} {k = k} {k' = k
         few = few;
         clock = subst (λ (x : List Batch). AreReadings k k'' (moments_of x)) (sym none)
             (clock_batch k k' k'' done b g.clock reading);
-        written = g.written ++ a.written;
-        wrote = Appends-trans w w' w'' g.written a.written g.wrote a.wrote;
+        written = written ++ a.written;
+        wrote = Appends-trans w w' w'' written a.written g.wrote a.wrote;
         ends = refl;
         honest = λ h. g.honest (honest h);
         replies = λ h log s.
-            written_part g.written a.written _ _ (g.replies (honest h) log s)
+            written_part written a.written _ _ (g.replies (honest h) log s)
             (a.replies h (behind log (posts_of done)) (g.takes.shows (honest h) log s))
-            ∙ ap (λ (x : List ℕ). take (length (g.written ++ a.written)) x)
+            ∙ ap (λ (x : List ℕ). take (length (written ++ a.written)) x)
             (sym (replies_of_one_more log done b));
         shows = λ h log s. takes.shows h log s;
         stands = λ h log s. takes.stands h log s;
         survives = λ h log s. stop_all c'' log (posts_of (bs ++ [])) (posts_of bs) (ap posts_of none)
             (takes.stands h log s);
       };
-      follow = subst (λ (x : List Batch). FollowReads q q' x) (sym none) follow;
+      follow = follow_all follow.follow;
+      prompt = prompt_written written a.written follow.prompt;
     }
 end_broken (Bank fault) {r = r} {r' = r'} {w = w} {w' = w'} {w'' = w''} {k = k} {k' = k'} {k'' = k''} {c = c}
-    {c' = c'} {c'' = c''} {done = done} m all rest rs g cut size few reading honest a follow =
+    {c' = c'} {c'' = c''} {done = done} {written = written} m all rest rs g cut size few reading honest a follow =
     let b : Batch = record { moment = m; records = rs } in
     record {
       did = record {
@@ -179,8 +201,8 @@ end_broken (Bank fault) {r = r} {r' = r'} {w = w} {w' = w'} {w'' = w''} {k = k} 
         sizes = all_more IsBatch done (b ∷ []) g.sizes (size, tt);
         few = few;
         clock = clock_batch k k' k'' done b g.clock reading;
-        written = g.written;
-        wrote = Appends-kept w w' w'' g.written g.wrote a.wrote;
+        written = written;
+        wrote = Appends-kept w w' w'' written g.wrote a.wrote;
         ends = refl;
         honest = λ h. g.honest (honest h);
         replies = λ h log s. g.replies (honest h) log s;
@@ -194,7 +216,8 @@ end_broken (Bank fault) {r = r} {r' = r'} {w = w} {w' = w'} {w'' = w''} {k = k} 
             (refused_stop fault c' c'' (behind log (posts_of done)) (posts m rs) a.refuses h
             (g.takes.stands (honest h) log s));
       };
-      follow = follow;
+      follow = follow.follow;
+      prompt = follow.prompt;
     }
 end_broken Read m all rest rs g cut size few reading honest a follow = absurd a
 end_broken (Truncated n) m all rest rs g cut size few reading honest a follow = absurd a

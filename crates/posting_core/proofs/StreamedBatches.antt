@@ -1,11 +1,11 @@
 -- A stream goes on by a batch.
-use Rattle.std.proofs.Common.{◌≡◌, ◌≤◌, ℕ, ◌+◌, List, [], ◌∷◌, ◌++◌, length, Option, sym, ap, subst, ◌∙◌}
+use Rattle.std.proofs.Common.{◌≡◌, ◌≤◌, ℕ, ◌+◌, ◌*◌, List, [], ◌∷◌, ◌++◌, length, Option, sym, ap, subst, ◌∙◌, arith}
 use Rattle.std.specs.List.{AllByRecursion}
 use Rattle.std.specs.Io.KnownBytes.{Consumes}
 use Rattle.std.proofs.KnownBytes.{Appends-trans}
-use Rattle.std.proofs.lemmas.List.{length-append, map-append}
+use Rattle.std.proofs.lemmas.List.{length-append, length-map, map-append}
 use Rattle.posting_rules.specs.declared.limits.TheConstants.{RECORDS_PER_BATCH}
-use Rattle.posting_rules.specs.Commands.{Command}
+use Rattle.posting_rules.specs.Commands.{Command, Post}
 use Rattle.posting_rules.specs.Counter.{Seen, ShowsLog, StandsAt, Takes}
 use Rattle.posting_rules.specs.Runs.{behind, posts, replies_to}
 use Rattle.posting_core.specs.Clock.{after_one, IsNextReading, IsReading, AreReadings}
@@ -68,25 +68,36 @@ clock_batch k k' k'' bs b x y =
     subst (λ (t : List ℕ). AreReadings k k'' t) (sym (map-append moment_of bs (b ∷ [])))
     (readings_more k k' k'' (moments_of bs) b.moment x y)
 
+longer_by : (bs : List Batch) (b : Batch) (before written : List ℕ)
+    → length before ≡ 200 * length (records_of bs) → length written ≡ 200 * length (posts_in b)
+    → length (before ++ written) ≡ 200 * length (records_of (bs ++ b ∷ []))
+longer_by bs b before written x y = omega (
+  arith,
+  length-append before written,
+  length-map b.records (Post b.moment),
+  ap length (records_one_more bs b) ∙ length-append (records_of bs) b.records,
+)
+
 -- a batch was answered
 pub going_batch : {r r' w w' w'' k k' k'' : Option (List ℕ)} {c c' c'' : Seen}
-    {done : List Batch} {count : ℕ} (m : ℕ)
+    {done : List Batch} {count : ℕ} {before : List ℕ} (m : ℕ)
     (all rest : List ℕ) (count' : ℕ) (rs : List (List ℕ))
-    → Going r r' w w' k k' c c' done all count → (all ≡ joined rs ++ rest) × AllByRecursion IsRecord rs
+    → Going r r' w w' k k' c c' done all count before → (all ≡ joined rs ++ rest) × AllByRecursion IsRecord rs
     → (1 ≤ length rs) × (length rs ≤ RECORDS_PER_BATCH)
     → count' ≡ count + length rs
-    → IsReading k' k'' m → (c''.honest → c'.honest) → BatchIsAnswered w' w'' c' c'' (posts m rs)
+    → IsReading k' k'' m → (c''.honest → c'.honest) → (a : BatchIsAnswered w' w'' c' c'' (posts m rs))
     → Going r r' w w'' k k'' c c'' (done ++ record { moment = m; records = rs } ∷ []) rest count'
+    (before ++ a.written)
 going_batch {r = r} {r' = r'} {w = w} {w' = w'} {w'' = w''} {k = k} {k' = k'} {k'' = k''} {c = c} {c' = c'}
-    {c'' = c''} {done = bs} m all rest count' rs g cut size n reading honest a =
+    {c'' = c''} {done = bs} {before = before} m all rest count' rs g cut size n reading honest a =
     let b : Batch = record { moment = m; records = rs } in
     record {
-      written = g.written ++ a.written;
       read = read_batch r r' bs b all rest g.read cut.0;
       whole = whole_batch bs b g.whole cut.1;
       sizes = all_more IsBatch bs (b ∷ []) g.sizes (size, tt);
       clock = clock_batch k k' k'' bs b g.clock reading;
-      wrote = Appends-trans w w' w'' g.written a.written g.wrote a.wrote;
+      wrote = Appends-trans w w' w'' before a.written g.wrote a.wrote;
+      long = longer_by bs b before a.written g.long a.long;
       count_is = n ∙ ap (λ (j : ℕ). j + length rs) g.count_is ∙ sym
           (ap length (records_one_more bs b) ∙ length-append (records_of bs) rs);
       honest = λ h. g.honest (honest h);

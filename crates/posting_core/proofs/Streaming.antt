@@ -1,11 +1,12 @@
 -- A stream of records, step by step: a read, a batch, and each way to end.
-use Rattle.std.proofs.Common.{◌≡◌, ◌⊎◌, inl, inr, ℕ, ◌+◌, ◌<◌, ◌≤◌, List, [], ◌++◌, length, take, Option}
+use Rattle.std.proofs.Common.{◌≡◌, ◌⊎◌, inl, inr, ℕ, ◌+◌, ◌*◌, ◌<◌, ◌≤◌, List, [], ◌++◌, length, take, Option}
 use Rattle.std.proofs.Common.{Result, Ok, refl, sym, ap, subst, ◌∙◌, append_assoc, append-nil, arith}
 use Rattle.std.specs.Prelude.{IfOk}
 use Rattle.std.specs.List.{AllByRecursion}
 use Rattle.std.specs.Io.KnownBytes.{Keeps, Appends, Consumes}
 use Rattle.std.proofs.KnownBytes.{Appends-nil, Consumes-trans, Consumes-nil, Consumes-kept}
 use Rattle.std.proofs.lemmas.List.{length-take-le}
+use Rattle.message_records.specs.declared.limits.TheConstants.{REPLY_BYTES}
 use Rattle.posting_core.specs.declared.stream.TheConstants.{BUFFER}
 use Rattle.posting_rules.specs.Commands.{Command}
 use Rattle.posting_rules.specs.Counter.{Seen, ShowsLog, Takes}
@@ -15,15 +16,16 @@ use Rattle.posting_core.specs.Batches.{Batch, IsBatch, IsRecord, joined, moments
 
 -- ---- where the loop stands
 
--- what the loop did so far: its batches, with what was read behind the last record and how many were answered
+-- what the loop did so far: its batches, with what was read behind the last record, how many were answered, and
+-- what was written
 pub record Going (r r' w w' k k' : Option (List ℕ)) (c c' : Seen) (done : List Batch) (rest : List ℕ)
-    (count : ℕ) : Type 0 where
-  pub written : List ℕ
+    (count : ℕ) (written : List ℕ) : Type 0 where
   pub read : Consumes r r' (joined (records_of done) ++ rest)
   pub whole : AllByRecursion IsRecord (records_of done)
   pub sizes : AllByRecursion IsBatch done
   pub clock : AreReadings k k' (moments_of done)
   pub wrote : Appends w w' written
+  pub long : length written ≡ REPLY_BYTES * length (records_of done)
   pub count_is : count ≡ length (records_of done)
   pub honest : c'.honest → c.honest
   pub takes : Takes c c' (posts_of done)
@@ -32,14 +34,14 @@ pub record Going (r r' w w' k k' : Option (List ℕ)) (c c' : Seen) (done : List
 
 -- at first nothing was done
 pub going_first : {r w k : Option (List ℕ)} {c : Seen} (rest : List ℕ) → rest ≡ []
-    → Going r r w w k k c c [] rest 0
+    → Going r r w w k k c c [] rest 0 []
 going_first {r = r} {w = w} rest e = record {
-  written = [];
   read = subst (λ (t : List ℕ). Consumes r r t) (sym e) (Consumes-nil r);
   whole = tt;
   sizes = tt;
   clock = refl;
   wrote = Appends-nil w;
+  long = refl;
   count_is = refl;
   honest = λ h. h;
   takes = record { shows = λ h log s. s; stands = λ h log s. s };
@@ -49,13 +51,13 @@ going_first {r = r} {w = w} rest e = record {
 -- ---- a read
 
 -- more bytes were read
-going_read : {r r' r'' w w' k k' : Option (List ℕ)} {c c' : Seen} {done : List Batch} {count : ℕ} (rest more all : List ℕ)
-    → Going r r' w w' k k' c c' done rest count
-    → Consumes r' r'' more → all ≡ rest ++ more → Going r r'' w w' k k' c c' done all count
+going_read : {r r' r'' w w' k k' : Option (List ℕ)} {c c' : Seen} {done : List Batch} {count : ℕ}
+    {written : List ℕ} (rest more all : List ℕ)
+    → Going r r' w w' k k' c c' done rest count written
+    → Consumes r' r'' more → all ≡ rest ++ more → Going r r'' w w' k k' c c' done all count written
 going_read {r = r} {r' = r'} {r'' = r''} {done = done} rest more all g got e =
     let before = joined (records_of done) in
     record {
-      written = g.written;
       read = subst (λ (t : List ℕ). Consumes r r'' t)
           (append_assoc before rest more ∙ ap (λ (t : List ℕ). before ++ t) (sym e))
           (Consumes-trans r r' r'' (before ++ rest) more g.read got);
@@ -63,6 +65,7 @@ going_read {r = r} {r' = r'} {r'' = r''} {done = done} rest more all g got e =
       sizes = g.sizes;
       clock = g.clock;
       wrote = g.wrote;
+      long = g.long;
       count_is = g.count_is;
       honest = g.honest;
       takes = g.takes;
@@ -70,11 +73,12 @@ going_read {r = r} {r' = r'} {r'' = r''} {done = done} rest more all g got e =
     }
 
 -- they stand behind the rest in the buffer
-pub going_filled : {r r' r'' w w' k k' : Option (List ℕ)} {c c' : Seen} {done : List Batch} {count : ℕ} (old new : List ℕ)
+pub going_filled : {r r' r'' w w' k k' : Option (List ℕ)} {c c' : Seen} {done : List Batch} {count : ℕ}
+    {written : List ℕ} (old new : List ℕ)
     (filled filled' n : ℕ)
-    → Going r r' w w' k k' c c' done (take filled old) count
+    → Going r r' w w' k k' c c' done (take filled old) count written
     → ((bytes : List ℕ) × (take (filled + n) new ≡ take filled old ++ bytes) × Consumes r' r'' bytes)
-    → filled' ≡ filled + n → Going r r'' w w' k k' c c' done (take filled' new) count
+    → filled' ≡ filled + n → Going r r'' w w' k k' c c' done (take filled' new) count written
 going_filled old new filled filled' n g got e =
     going_read (take filled old) got.0 (take filled' new) g got.2 (ap (λ (j : ℕ). take j new) e ∙ got.1)
 
@@ -90,14 +94,15 @@ nothing_read r' r'' old new filled kept =
     )
 
 -- a read that came back: it read some, or it failed and read nothing
-pub going_on : {r r' r'' w w' k k' : Option (List ℕ)} {c c' : Seen} {done : List Batch} {count : ℕ} (old new : List ℕ)
+pub going_on : {r r' r'' w w' k k' : Option (List ℕ)} {c c' : Seen} {done : List Batch} {count : ℕ}
+    {written : List ℕ} (old new : List ℕ)
     (filled filled' : ℕ)
-    → Going r r' w w' k k' c c' done (take filled old) count → filled < 100 → length new ≡ BUFFER
+    → Going r r' w w' k k' c c' done (take filled old) count written → filled < 100 → length new ≡ BUFFER
     → ((n : ℕ) × ((bytes : List ℕ) × (take (filled + n) new ≡ take filled old ++ bytes)
     × Consumes r' r'' bytes)
     × (filled + n ≤ length new) × (filled' ≡ filled + n))
     ⊎ ((Keeps r' r'' × (take filled new ≡ take filled old)) × (filled' ≡ filled))
-    → Going r r'' w w' k k' c c' done (take filled' new) count × (filled' ≤ length new)
+    → Going r r'' w w' k k' c c' done (take filled' new) count written × (filled' ≤ length new)
 going_on old new filled filled' g few long (inl (n, got, fits, is)) =
     (going_filled old new filled filled' n g got is, omega (arith, fits, is))
 going_on old new filled filled' g few long (inr (kept, is)) = (

@@ -1,5 +1,5 @@
 -- Calls of a source or a sink, one after another.
-use Rattle.std.proofs.Common.{◌≡◌, ◌≤◌, ◌+◌, ℕ, false, List, [], ◌∷◌, ◌++◌, length, Option, Some, None}
+use Rattle.std.proofs.Common.{◌≡◌, ◌≤◌, ◌+◌, ℕ, true, false, List, [], ◌∷◌, ◌++◌, length, Option, Some, None}
 use Rattle.std.proofs.Common.{Result, Ok, Err, refl, sym, ap, subst, ◌∙◌, append_assoc, append-nil, arith}
 use Rattle.std.proofs.Common.{inl, inr}
 use Rattle.std.specs.Prelude.{◌⊎◌, ◌-◌, ◌^◌, ◌≢◌}
@@ -8,10 +8,12 @@ use Rattle.std.specs.IoError.{error_kind}
 use Rattle.std.specs.declared.io.Error.{Error}
 use Rattle.std.specs.declared.io.ErrorKind.{ErrorKind}
 use Rattle.std.specs.contracts.io.ErrorKind.{the_type}
-use denote.Enum.Bare.{sameb}
+use denote.Enum.Bare.{sameb, same_true}
 use Rattle.std.specs.declared.io.ErrorKind.TheVariants.{Interrupted}
-use Rattle.posting_core.specs.Told.{GrowsBy, EndsWith, HasMore, HasReadFailed, HasWriteFailed, IsEndOfInput}
-use Rattle.posting_core.specs.Told.{IsReadFailure, IsWornOut, IsWriteFailure, ReadTold, WriteTold, read_told}
+use Rattle.std.specs.List.{AllByRecursion}
+use Rattle.posting_core.specs.Told.{GrowsBy, EndsWith, EndsWithMany, HasMore, HasReadFailed, HasWriteFailed}
+use Rattle.posting_core.specs.Told.{IsEndOfInput, IsInterrupted, IsReadFailure, IsWornOut, IsWriteFailure}
+use Rattle.posting_core.specs.Told.{ReadTold, WriteTold, read_told}
 use Rattle.posting_core.specs.Told.{write_told, flush_told, IsFlush}
 
 pub adds-more : {A : Type 0} (a b c : Option (List A)) (xs ys : List A) → GrowsBy a b xs → GrowsBy b c ys
@@ -79,20 +81,70 @@ more_last {A} P {a = a} {b = b} {c = c} h e = record {
 pub last_some : {A : Type 0} (P : A → Type 0) {a b : Option (List A)} → EndsWith P a b → HasMore a b
 last_some P e = record { calls = e.earlier ++ e.last ∷ []; made = e.made }
 
-more_many : {A : Type 0} {a b c : Option (List A)} → HasMore a b → IsWornOut b c → IsWornOut a c
-more_many {a = a} {b = b} {c = c} h w = record {
-  calls = h.calls ++ w.calls;
-  made = adds-more a b c h.calls w.calls h.made w.made;
-  many = omega (arith, length-append h.calls w.calls, w.many);
+more_many : {A : Type 0} (P : A → Type 0) {a b c : Option (List A)} → HasMore a b → EndsWithMany P b c
+    → EndsWithMany P a c
+more_many {A} P {a = a} {b = b} {c = c} h e = record {
+  earlier = h.calls ++ e.earlier;
+  last = e.last;
+  made = let all = adds-more a b c h.calls (e.earlier ++ e.last) h.made e.made in
+      subst (λ (t : List A). GrowsBy a c t) (sym (append_assoc h.calls e.earlier e.last)) all;
+  many = e.many;
+  are = e.are;
 }
 
 -- a failure behind them is one of all
-pub more_failed : {A : Type 0} (P : A → Type 0) {a b c : Option (List A)} → HasMore a b
-    → EndsWith P b c ⊎ IsWornOut b c → EndsWith P a c ⊎ IsWornOut a c
+pub more_failed : {A : Type 0} (P : A → Type 0) {Q : A → Type 0} {a b c : Option (List A)} → HasMore a b
+    → EndsWith P b c ⊎ EndsWithMany Q b c → EndsWith P a c ⊎ EndsWithMany Q a c
 more_failed P h (inl e) = inl (more_last P h e)
-more_failed P h (inr w) = inr (more_many h w)
+more_failed P {Q = Q} h (inr w) = inr (more_many Q h w)
+
+-- ---- calls of which each returned the same
+
+-- so many calls were made, and P holds of what each of them returned
+pub record HasMadeOnly {A : Type 0} (P : A → Type 0) (old new : Option (List A)) (count : ℕ) : Type 0 where
+  pub calls : List A
+  pub made : GrowsBy old new calls
+  pub count_is : length calls ≡ count
+  pub are : AllByRecursion P calls
+
+pub only_none : {A : Type 0} (P : A → Type 0) (a : Option (List A)) → HasMadeOnly P a a 0
+only_none P a = record { calls = []; made = adds-none a; count_is = refl; are = tt }
+
+all_one_more : {A : Type 0} (P : A → Type 0) (xs : List A) (x : A) → AllByRecursion P xs → P x
+    → AllByRecursion P (xs ++ x ∷ [])
+all_one_more P [] x h p = (p, tt)
+all_one_more P (y ∷ ys) x h p = (h.0, all_one_more P ys x h.1 p)
+
+pub only_one : {A : Type 0} (P : A → Type 0) {a b c : Option (List A)} {count : ℕ} (x : A) (count' : ℕ)
+    → HasMadeOnly P a b count → GrowsBy b c (x ∷ []) → P x → count' ≡ count + 1 → HasMadeOnly P a c count'
+only_one P {a = a} {b = b} {c = c} x count' h y p e = record {
+  calls = h.calls ++ x ∷ [];
+  made = adds-more a b c h.calls (x ∷ []) h.made y;
+  count_is = omega (arith, length-append h.calls (x ∷ []), h.count_is);
+  are = all_one_more P h.calls x h.are p;
+}
+
+pub only_made : {A : Type 0} {P : A → Type 0} {a b : Option (List A)} {count : ℕ} → HasMadeOnly P a b count
+    → HasMade a b count
+only_made h = record { calls = h.calls; made = h.made; count_is = h.count_is }
+
+-- as many as there can be
+pub only_many : {A : Type 0} (P : A → Type 0) {a b : Option (List A)} {count : ℕ} → HasMadeOnly P a b count
+    → 2 ^ 64 - 1 ≤ count → EndsWithMany P a b
+only_many P h le = record {
+  earlier = [];
+  last = h.calls;
+  made = h.made;
+  many = omega (arith, h.count_is);
+  are = h.are;
+}
 
 -- ---- one read, and one write
+
+-- the kind that a comparison found
+pub same_kind : (k : ErrorKind) (e : Error) → true ≡ sameb the_type k Interrupted → k ≡ error_kind e
+    → error_kind e ≡ Interrupted
+same_kind k e found is = sym is ∙ same_true the_type tt k Interrupted (sym found)
 
 -- a kind that a comparison told apart
 pub other_kind : (k : ErrorKind) (e : Error) → false ≡ sameb the_type k Interrupted → k ≡ error_kind e
@@ -121,6 +173,20 @@ pub write_failed : {a b c : Option (List WriteTold)} {count : ℕ} (bytes : List
     → GrowsBy b c (write_told bytes r ∷ []) → r ≡ Err e → error_kind e ≢ Interrupted → HasWriteFailed a c
 write_failed bytes r e h tells is kind = inl
     (made_last IsWriteFailure (write_told bytes r) h tells (rw is kind))
+
+-- a write that asks to be made again
+pub write_again : {a b c : Option (List WriteTold)} {count : ℕ} (bytes : List ℕ) (r : Result ℕ Error)
+    (e : Error) → HasMadeOnly IsInterrupted a b count → GrowsBy b c (write_told bytes r ∷ []) → r ≡ Err e
+    → error_kind e ≡ Interrupted → HasMadeOnly IsInterrupted a c (count + 1)
+write_again bytes r e h tells is kind = only_one IsInterrupted (write_told bytes r) _ h tells (rw is kind) refl
+
+-- a write that took some
+pub write_done : {a b c : Option (List WriteTold)} {count : ℕ} (bytes : List ℕ) (r : Result ℕ Error)
+    → HasMade a b count → GrowsBy b c (write_told bytes r ∷ []) → HasMore a c
+write_done {a = a} {b = b} {c = c} bytes r h tells = record {
+  calls = h.calls ++ write_told bytes r ∷ [];
+  made = adds-more a b c h.calls (write_told bytes r ∷ []) h.made tells;
+}
 
 pub flush_failed : {A : Type 0} {a b c : Option (List WriteTold)} (r : Result A Error) (e : Error)
     → HasMore a b → GrowsBy b c (flush_told r ∷ []) → r ≡ Err e

@@ -1,8 +1,8 @@
 -- Batches of records: each is submitted under one reading of the clock, and its replies are written in order.
-use Rattle.std.specs.Prelude.{◌≡◌, ◌≤◌, ℕ, List, length, map, take, Option}
+use Rattle.std.specs.Prelude.{◌≡◌, ◌≤◌, ◌*◌, ℕ, List, length, map, take, Option}
 use Rattle.std.specs.List.{flat_map}
 use Rattle.std.specs.Io.KnownBytes.{Keeps, Appends}
-use Rattle.message_records.specs.declared.limits.TheConstants.{REQUEST_BYTES}
+use Rattle.message_records.specs.declared.limits.TheConstants.{REPLY_BYTES, REQUEST_BYTES}
 use Rattle.posting_rules.specs.declared.fault.Fault.{Fault}
 use Rattle.posting_rules.specs.declared.limits.TheConstants.{RECORDS_PER_BATCH}
 use Rattle.posting_core.specs.declared.stream.StreamFault.{StreamFault}
@@ -53,6 +53,7 @@ posts_of bs = flat_map posts_in bs
 pub record BatchIsAnswered (w w' : Option (List ℕ)) (c c' : Seen) (commands : List Command) : Type 0 where
   pub written : List ℕ
   pub wrote : Appends w w' written
+  pub long : length written ≡ REPLY_BYTES * length commands
   pub takes : Takes c c' commands
   pub replies : c'.honest → (log : List Command) → ShowsLog c log → written ≡ joined (replies_to log commands)
 

@@ -1,5 +1,5 @@
 -- A stream of records: what is read, what is written, what the bank shows, and what a stop may leave.
-use Rattle.std.specs.Prelude.{◌≡◌, ◌⊎◌, ℕ, zero, suc, ◌+◌, ◌-◌, ◌*◌, ◌≤◌, ◌<◌, ◌/◌, List, [], ◌∷◌, ◌++◌, length, take, drop, ⊤}
+use Rattle.std.specs.Prelude.{◌≡◌, ◌⊎◌, ℕ, zero, suc, ◌+◌, ◌-◌, ◌*◌, ◌≤◌, ◌<◌, ◌/◌, List, [], ◌∷◌, ◌++◌, length, take, drop, get_or, ⊤}
 use Rattle.std.specs.Prelude.{Option, Result, Ok, Err}
 use Rattle.std.specs.List.{AllByRecursion}
 use Rattle.std.specs.Simd.{first_chunks}
@@ -17,7 +17,7 @@ use Rattle.posting_rules.specs.Counter.{HasRefused}
 use Rattle.posting_rules.specs.Runs.{behind, posts, replies_to, ArePosts}
 use Rattle.posting_core.specs.Clock.{AreReadings}
 use Rattle.posting_core.specs.Told.{ReadTold, Gave, Failed, WriteTold, GrowsBy, EndsWith, HasReadFailed}
-use Rattle.posting_core.specs.Told.{HasWriteFailed, IsEndOfInput, IsThrough}
+use Rattle.posting_core.specs.Told.{Beside, HasWriteFailed, HoldsFlushed, IsEndOfInput, IsThrough, unknown}
 use Rattle.posting_core.specs.Batches.{Batch, IsBatch, IsRecord, joined, moments_of, records_of, posts_of}
 use Rattle.posting_rules.specs.Entries.{reply}
 use Rattle.posting_rules.specs.Resends.{Place, Skips}
@@ -118,11 +118,24 @@ pub record FollowReads (q q' : Option (List ReadTold)) (batches : List Batch) : 
   -- wherever a read ends, some batches have the whole records of the reads so far
   pub at_once : (n : ℕ) → (m : ℕ) × (submitted_by m batches ≡ read_by n reads)
 
--- what a call did, and its batches follow its reads
-pub record StreamsAsRead (r r' : Option (List ℕ)) (q q' : Option (List ReadTold))
-    (w w' k k' : Option (List ℕ)) (c c' : Seen) (result : Result ℕ StreamFault) : Type 0 where
+-- as each read was made, the replies to all whole records that the reads before it gave were written and
+-- flushed: b and b' are the sinks that reads are known to have been made beside, t what the calls of this one had
+-- returned at first
+pub record RepliesBeforeReads (b b' : Option (List Beside)) (w : Option (List ℕ)) (t : Option (List WriteTold))
+    (reads : List ReadTold) (written : List ℕ) : Type 0 where
+  pub sinks : List Beside
+  pub made : GrowsBy b b' sinks
+  pub each : length sinks ≡ length reads
+  pub replied : (n : ℕ) → n < length reads
+      → HoldsFlushed w t written (REPLY_BYTES * read_by n reads) (get_or sinks n unknown)
+
+-- what a call did; its batches follow its reads, and no reply waits for the next read
+pub record StreamsAsRead (r r' : Option (List ℕ)) (q q' : Option (List ReadTold)) (b b' : Option (List Beside))
+    (w w' : Option (List ℕ)) (t : Option (List WriteTold)) (k k' : Option (List ℕ)) (c c' : Seen)
+    (result : Result ℕ StreamFault) : Type 0 where
   pub did : Streamed r r' w w' k k' c c' result
   pub follow : FollowReads q q' (did.taken ++ did.refused)
+  pub prompt : RepliesBeforeReads b b' w t follow.reads did.written
 
 -- ---- what is written is a function of what is read, however it was cut
 

@@ -1,7 +1,9 @@
--- What the calls of a source and of a sink returned, where it is known, and when one of them counts as
--- failed.
+-- What the calls of a source and of a sink returned, where it is known, when one of them counts as failed, and
+-- what a sink held as a source was read.
 use Rattle.std.specs.Prelude.{◌≡◌, ◌≢◌, ◌≤◌, ◌⊎◌, ◌-◌, ◌^◌, ℕ, List, [], ◌∷◌, ◌++◌, length, ⊤, Option, Some}
-use Rattle.std.specs.Prelude.{None, Result, Ok, Err}
+use Rattle.std.specs.Prelude.{None, Result, Ok, Err, take}
+use Rattle.std.specs.List.{AllByRecursion}
+use Rattle.std.specs.Io.KnownBytes.{Appends}
 use Rattle.std.specs.IoError.{error_kind}
 use Rattle.std.specs.declared.io.Error.{Error}
 use Rattle.std.specs.declared.io.ErrorKind.{ErrorKind}
@@ -62,6 +64,14 @@ pub record IsWornOut {A : Type 0} (old new : Option (List A)) : Type 0 where
   pub made : GrowsBy old new calls
   pub many : 2 ^ 64 - 1 ≤ length calls
 
+-- calls were made, and P holds of what each of the last 2^64 - 1 returned
+pub record EndsWithMany {A : Type 0} (P : A → Type 0) (old new : Option (List A)) : Type 0 where
+  pub earlier : List A
+  pub last : List A
+  pub made : GrowsBy old new (earlier ++ last)
+  pub many : 2 ^ 64 - 1 ≤ length last
+  pub are : AllByRecursion P last
+
 -- ---- a source
 
 -- an error, but one that asks for the read to be made again
@@ -92,10 +102,35 @@ IsFlush (Refused kind) = ⊥
 IsFlush Flushed = ⊤
 IsFlush Unflushed = ⊥
 
--- the last write or flush failed, or the sink was asked too often
+-- it asks for the write to be made again
+abbrev pub IsInterrupted : WriteTold → Type 0
+IsInterrupted (Took offered n) = ⊥
+IsInterrupted (Refused kind) = kind ≡ Interrupted
+IsInterrupted Flushed = ⊥
+IsInterrupted Unflushed = ⊥
+
+-- the last write or flush failed, or one write was made 2^64 - 1 times in a row and interrupted each time
 abbrev pub HasWriteFailed : Option (List WriteTold) → Option (List WriteTold) → Type 0
-HasWriteFailed old new = EndsWith IsWriteFailure old new ⊎ IsWornOut old new
+HasWriteFailed old new = EndsWith IsWriteFailure old new ⊎ EndsWithMany IsInterrupted old new
 
 -- it was asked nothing, or to flush after all else
 abbrev pub IsThrough : Option (List WriteTold) → Option (List WriteTold) → Type 0
 IsThrough old new = GrowsBy old new [] ⊎ EndsWith IsFlush old new
+
+-- ---- a source beside a sink
+
+-- what was known of a sink as a read was made beside it: the bytes that it held, and what its calls had returned
+pub record Beside : Type 0 where
+  pub contents : Option (List ℕ)
+  pub told : Option (List WriteTold)
+
+-- of a sink of which nothing is known
+abbrev pub unknown : Beside
+unknown = record { contents = None; told = None }
+
+-- since w and t the first n bytes of what was written were written, no others were, and they were flushed
+pub record HoldsFlushed (w : Option (List ℕ)) (t : Option (List WriteTold)) (written : List ℕ) (n : ℕ)
+    (sink : Beside) : Type 0 where
+  pub there : n ≤ length written
+  pub wrote : Appends w sink.contents (take n written)
+  pub through : IsThrough t sink.told

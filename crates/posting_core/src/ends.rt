@@ -3,12 +3,13 @@
 ghost use Rattle.std.specs.Prelude.{ℕ, List, [], ◌∷◌, Option, None};
 ghost use Rattle.std.specs.Io.{ReadsAtMost, WritesAtMost};
 ghost use Rattle.std.specs.Io.KnownBytes.{Keeps, ReadConsumes, WriteAppends};
-ghost use Rattle.posting_core.specs.Told.{GrowsBy, ReadTold, WriteTold, read_told, write_told, flush_told};
+ghost use Rattle.posting_core.specs.Told.{Beside, GrowsBy, ReadTold, WriteTold, read_told, write_told, flush_told};
 
 use std::io;
 use std::io::{Read, Write};
 
-/// What gives bytes. Every reader does. A type of its own may also know what its reads returned.
+/// What gives bytes. Every reader does. A type of its own may also know what its reads returned, and what a sink
+/// held as it was read.
 pub trait Source {
     /// The bytes that it will give from here on, where they are known.
     ghost remaining: { Self → Option (List ℕ) } = { λ _. None };
@@ -16,11 +17,23 @@ pub trait Source {
     /// What each read returned so far, where it is known.
     ghost told: { Self → Option (List ReadTold) } = { λ _. None };
 
+    /// What a sink held at each read that was made beside it so far, where it is known.
+    ghost beside: { Self → Option (List Beside) } = { λ _. None };
+
     /// One read into the buffer. It answers how many bytes it gave, and 0 at the end of the input.
     fn give(&mut self, buffer: &mut [u8]) -> io::Result<usize>
         ensures bound { ReadsAtMost result buffer.new }
         ensures bytes { ReadConsumes (remaining self.old) (remaining self.new) result buffer.new }
         ensures tells { GrowsBy (told self.old) (told self.new) (read_told result ∷ []) };
+
+    /// One read into the buffer, as [`Source::give`], made beside a sink. So a stream says what it has written as
+    /// it reads.
+    fn give_beside<W: Sink>(&mut self, buffer: &mut [u8], sink: &W) -> io::Result<usize>
+        ensures bound { ReadsAtMost result buffer.new }
+        ensures bytes { ReadConsumes (remaining self.old) (remaining self.new) result buffer.new }
+        ensures tells { GrowsBy (told self.old) (told self.new) (read_told result ∷ []) }
+        ensures beside { GrowsBy (beside self.old) (beside self.new)
+            (record { contents = W.contents sink.now; told = W.told sink.now } ∷ []) };
 }
 
 /// What takes bytes. Every writer does. A type of its own may also know what its writes and flushes returned.
@@ -47,6 +60,10 @@ impl<R: Read> Source for R {
     ghost remaining = { R.remaining };
 
     fn give(&mut self, buffer: &mut [u8]) -> io::Result<usize> {
+        self.read(buffer)
+    }
+
+    fn give_beside<W: Sink>(&mut self, buffer: &mut [u8], _sink: &W) -> io::Result<usize> {
         self.read(buffer)
     }
 }

@@ -50,8 +50,8 @@ impl std::error::Error for OnceFault {}
 /// - [`OnceFault::Short`]: the input ended within the record. Nothing was submitted, and nothing written.
 /// - [`OnceFault::Read`]: a read failed, or 2^64 - 1 reads were made. Nothing was submitted, and nothing
 ///   written.
-/// - [`OnceFault::Write`]: a write or the flush failed, a write took no byte, or 2^64 - 1 writes were made.
-///   The record was submitted, and a beginning of its reply was written.
+/// - [`OnceFault::Write`]: a write or the flush failed, a write took no byte, or it was interrupted 2^64 - 1
+///   times in a row. The record was submitted, and a beginning of its reply was written.
 /// - [`OnceFault::Bank`]: the counter refused the record, and its [`Fault`] says what holds of it. Nothing
 ///   was written.
 pub fn answer_once<R: Source, W: Sink, C: Counter>(

@@ -11,7 +11,7 @@ ghost use Rattle.posting_core.specs.Told.{EndsWith, HasWriteFailed, IsFlush};
 
 use crate::clock::Clock;
 use crate::ends::{Sink, Source};
-use crate::transfer::{fill, move_to_front, write_out};
+use crate::transfer::{fill_beside, move_to_front, write_out};
 use message_records::REQUEST_BYTES;
 use posting_rules::{Counter, Fault, RECORDS_PER_BATCH};
 use std::fmt;
@@ -96,15 +96,16 @@ fn reply_to_batch<W: Sink, K: Clock, C: Counter>(
 
 /// Answers a stream of records to the end of its input, and returns how many it answered. As soon as whole
 /// records were read, all of them are submitted under one reading of the clock, and their replies are written
-/// in order and flushed. An interrupted read or write is made again. Only the bank takes memory.
+/// in order and flushed, before more is read. An interrupted read or write is made again. Only the bank takes
+/// memory.
 ///
 /// # Errors
 ///
 /// - [`StreamFault::Truncated`]: the input ended within a record. The records before it were answered.
 /// - [`StreamFault::Read`]: a read failed, or 2^64 - 1 reads were made. The whole records that were read
 ///   before were answered.
-/// - [`StreamFault::Write`]: a write or a flush failed, a write took no byte, or 2^64 - 1 writes were made.
-///   What was read was submitted, and a beginning of the replies was written.
+/// - [`StreamFault::Write`]: a write or a flush failed, a write took no byte, or it was interrupted 2^64 - 1
+///   times in a row. What was read was submitted, and a beginning of the replies was written.
 /// - [`StreamFault::Bank`]: the bank refused a batch, and its [`Fault`] says what holds of that batch. The
 ///   batches before it were answered, and nothing was replied to this one.
 pub fn post_stream<R: Source, W: Sink, K: Clock, C: Counter>(
@@ -117,8 +118,9 @@ pub fn post_stream<R: Source, W: Sink, K: Clock, C: Counter>(
         (W.contents writer.new)
         (K.readings clock.old) (K.readings clock.new) (C.seen bank.old) (C.seen bank.new) result }
     ensures batches { StreamsAsRead (R.remaining reader.old) (R.remaining reader.new)
-        (R.told reader.old) (R.told reader.new) (W.contents writer.old) (W.contents writer.new)
-        (K.readings clock.old) (K.readings clock.new) (C.seen bank.old) (C.seen bank.new) result }
+        (R.told reader.old) (R.told reader.new) (R.beside reader.old) (R.beside reader.new)
+        (W.contents writer.old) (W.contents writer.new) (W.told writer.old) (K.readings clock.old)
+        (K.readings clock.new) (C.seen bank.old) (C.seen bank.new) result }
     ensures output { OutputsReplies (R.remaining reader.old) (R.remaining reader.new) (W.contents writer.old)
         (W.contents writer.new)
         (C.seen bank.old) (C.seen bank.new) result }
@@ -139,7 +141,7 @@ pub fn post_stream<R: Source, W: Sink, K: Clock, C: Counter>(
     let mut filled = 0;
     let mut count = 0;
     'reads: for _ in 0..u64::MAX {
-        match fill(reader, &mut buffer, filled) {
+        match fill_beside(reader, &mut buffer, filled, writer) {
             Ok(0) if filled == 0 => return Ok(count),
             Ok(0) => return Err(StreamFault::Truncated(filled as u8)),
             Ok(n) => filled += n,

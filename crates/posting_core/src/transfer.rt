@@ -56,6 +56,28 @@ pub fn fill<R: Source>(reader: &mut R, buffer: &mut [u8], filled: usize) -> io::
     reader.give(&mut buffer[filled..])
 }
 
+/// One read into what is left of a buffer, made beside a sink.
+pub fn fill_beside<R: Source, W: Sink>(
+    reader: &mut R,
+    buffer: &mut [u8],
+    filled: usize,
+    sink: &W,
+) -> io::Result<usize>
+    requires { filled < length buffer.old }
+    ensures fits { IfOk result (λ n. filled + n ≤ length buffer.new) }
+    ensures ok { IfOk result (λ n. (bytes : List ℕ)
+        × (take (filled + n) buffer.new ≡ take filled buffer.old ++ bytes)
+        × Consumes (R.remaining reader.old) (R.remaining reader.new) bytes) }
+    ensures end { IfOk result (λ n. n ≡ 0 → IsAtEnd (R.remaining reader.new)) }
+    ensures err { OnErr result (Keeps (R.remaining reader.old) (R.remaining reader.new)
+        × (take filled buffer.new ≡ take filled buffer.old)) }
+    ensures tells { GrowsBy (R.told reader.old) (R.told reader.new) (read_told result ∷ []) }
+    ensures beside { GrowsBy (R.beside reader.old) (R.beside reader.new)
+        (record { contents = W.contents sink.now; told = W.told sink.now } ∷ []) }
+{
+    reader.give_beside(&mut buffer[filled..], sink)
+}
+
 /// Moves what lies between the two places to the front of the buffer.
 pub fn move_to_front(buffer: &mut [u8], from: usize, to: usize)
     requires order { from ≤ to }
@@ -91,7 +113,8 @@ pub fn read_full<R: Source>(reader: &mut R, buffer: &mut [u8]) -> Result<usize, 
     Err(ReadFailed)
 }
 
-/// Writes the bytes and flushes, up to a write that fails or takes none. An interrupted write is made again.
+/// Writes the bytes and flushes, up to a write that fails or takes none. An interrupted write is made again. One
+/// that was interrupted 2^64 - 1 times in a row counts as failed.
 pub fn write_out<W: Sink>(writer: &mut W, bytes: &[u8]) -> Result<(), WriteFailed>
     ensures written { (n : ℕ) × (n ≤ length bytes.now)
         × Appends (W.contents writer.old) (W.contents writer.new) (take n bytes.now)
@@ -115,13 +138,25 @@ pub fn write_each<W: Sink>(writer: &mut W, bytes: &[u8]) -> Result<(), WriteFail
     ensures failed { OnErr result (HasWriteFailed (W.told writer.old) (W.told writer.new)) }
 {
     let mut done = 0;
+    'writes: while done < bytes.len() {
+        done += write_some(writer, &bytes[done..])?;
+    }
+    Ok(())
+}
+
+// One write. An interrupted one is made again, 2^64 - 1 times at most.
+fn write_some<W: Sink>(writer: &mut W, bytes: &[u8]) -> Result<usize, WriteFailed>
+    requires { 1 ≤ length bytes.now }
+    ensures some { IfOk result (λ n. (1 ≤ n) × (n ≤ length bytes.now)
+        × Appends (W.contents writer.old) (W.contents writer.new) (take n bytes.now)) }
+    ensures kept { OnErr result (Keeps (W.contents writer.old) (W.contents writer.new)) }
+    ensures more { OnOk result (HasMore (W.told writer.old) (W.told writer.new)) }
+    ensures failed { OnErr result (HasWriteFailed (W.told writer.old) (W.told writer.new)) }
+{
     'writes: for _ in 0..u64::MAX {
-        if done == bytes.len() {
-            return Ok(());
-        }
-        match writer.take(&bytes[done..]) {
+        match writer.take(bytes) {
             Ok(0) => return Err(WriteFailed),
-            Ok(n) => done += n,
+            Ok(n) => return Ok(n),
             Err(e) if e.kind() == ErrorKind::Interrupted => {}
             Err(_) => return Err(WriteFailed),
         }

@@ -1,7 +1,8 @@
-use Rattle.std.proofs.Common.{◌∙◌, ℕ, ap, refl, sym, take}
+use Rattle.std.proofs.Common.{◌∙◌, ℕ, ap, arith, length, refl, sym, take}
 use Rattle.std.proofs.Math.Seq.{take-length}
 use Rattle.std.proofs.KnownBytes.{Keeps-refl}
-use Rattle.std.proofs.lemmas.List.{length-take-le}
+use Rattle.std.proofs.lemmas.List.{length-map, length-take-le}
+use Rattle.posting_rules.specs.Commands.{Post}
 use Rattle.posting_rules.specs.Runs.{posts, replies_to}
 use Rattle.posting_core.specs.Batches.{joined}
 use Rattle.posting_core.proofs.stream.reply_to_batch.Goals as goal
@@ -15,6 +16,15 @@ returns-in-Ok-write_out-clause-answers g c =
       record {
         written = take w.0 bytes;
         wrote = w.2;
+        long = omega (
+          arith,
+          length-take-le w.0 bytes w.1,
+          w.3,
+          c.as_flattened.ensures.len,
+          ap length c.deref.ensures.value,
+          c.in-Ok.ensures.count,
+          length-map c.args.records.now (Post c.now-moment.result),
+        );
         takes = c.in-Ok.ensures.call.done;
         replies = λ h log s. ap (λ (n : ℕ). take n bytes) w.3 ∙ take-length bytes
             ∙ c.as_flattened.ensures.value
