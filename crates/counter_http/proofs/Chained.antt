@@ -1,167 +1,150 @@
 -- Connections behind others.
 use Rattle.std.proofs.Common.{◌≡◌, ◌<◌, ◌+◌, ℕ, List, [], ◌∷◌, ◌++◌, length, map, Option, Some, None, Result}
 use Rattle.std.proofs.Common.{Ok, Err, refl, sym, ap, subst, ◌∙◌, arith, length-append, append_assoc, append-nil}
-use Rattle.std.specs.List.{AllByRecursion}
+use Rattle.std.specs.List.{AllByRecursion, flat_map}
+use Rattle.std.specs.declared.io.ErrorKind.{ErrorKind}
+use Rattle.std.proofs.lemmas.Grind.{flat_map-append}
+use Rattle.posting_rules.specs.declared.fault.Fault.{Fault}
 use Rattle.posting_rules.specs.Counter.{Seen}
-use Rattle.posting_core.specs.Told.{GrowsBy, ReadTold, WriteTold}
-use Rattle.counter_http.specs.Ends as http_ends
-use Rattle.counter_http.specs.Outputs.{OutputsAnswers, SurvivesServing}
-use Rattle.counter_http.specs.Serving as http
+use Rattle.posting_core.specs.Told.{GrowsBy}
 use Rattle.counter_http.specs.declared.fault.ServeFault.{ServeFault}
 use Rattle.counter_http.specs.declared.fault.ServeFault.TheVariants as serve
 use Rattle.posting_rules.specs.declared.fault.Fault.TheVariants as bank
-use Rattle.counter_http.specs.Connections.{AllGoOn, AreServed, Connection, Known, ServesConnections}
-use Rattle.counter_http.specs.Connections.{ServesDoor, ServesOne, known_of, unknown}
+use Rattle.counter_http.specs.Doors.{DoorTold, Gave, Refused, Closed}
+use Rattle.counter_http.specs.Connections.{AllGoOn, AreServed, Connection, IsServed, Known, ServesConnections}
+use Rattle.counter_http.specs.Connections.{ServesDoor, ServesEnds, calls_for, known_both, known_of, unknown}
 use Rattle.counter_http.specs.declared.listen_fault.ListenFault.{ListenFault}
 use Rattle.counter_http.specs.declared.listen_fault.ListenFault.TheVariants.{Network, Bank}
 use Rattle.counter_http.specs.ListenFaults.{after_connection}
 
-pub one_served : {C : Type 0} (seen : C → Seen) (r r' w w' k k' : Option (List ℕ))
-    (q q' : Option (List ReadTold))
-    (p p' : Option (List WriteTold)) (old new : C) (result : Result ℕ ServeFault)
-    → http.ServesConnection seen r r' q q' w w' k k' old new result
-    → OutputsAnswers r r' q q' w w' (seen old) (seen new) result
-    → SurvivesServing r r' w w' (seen old) (seen new) → http_ends.ServeFaultIsOfItsEnd result q q' p p'
-    → ((seen new).honest → (seen old).honest)
-    → ServesOne seen (record { reader = r; reads = q; writer = w; writes = p }) k k' old new result
-one_served {C = C} seen r r' w w' k k' q q' p p' old new result served output stop ended honest =
-    let c : Connection C = record {
-      before = old;
-      after = new;
-      clock = k;
-      clock_after = k';
-      reader = r;
-      reader_after = r';
-      writer = w;
-      writer_after = w';
-      reads = q;
-      reads_after = q';
-      writes = p;
-      writes_after = p';
-      result = result;
-    } in
-    record {
-      connection = c;
-      known_is = refl;
-      is_served = record {
-        served = served;
-        output = output;
-        survives = stop;
-        ended = ended;
-        honest = honest;
-      };
-      clock_is = refl;
-      clock_after_is = refl;
-      before_is = refl;
-      after_is = refl;
-      result_is = refl;
-    }
-
 -- one more at the end
-pub one_more : {C : Type 0} (seen : C → Seen) (known : Known) (cs : List (Connection C)) (k k' k'' : Option (List ℕ))
-    (old mid new : C) (result : Result ℕ ServeFault)
-    → AreServed seen cs k k' old mid → (one : ServesOne seen known k' k'' mid new result)
-    → AreServed seen (cs ++ one.connection ∷ []) k k'' old new
-one_more seen known [] k k' k'' old mid new result are one =
-    (one.clock_is ∙ are.0, one.before_is ∙ are.1, one.is_served, (sym one.clock_after_is, sym one.after_is))
-one_more seen known (c ∷ cs) k k' k'' old mid new result are one =
-    (are.0, are.1, are.2, one_more seen known cs c.clock_after k' k'' c.after mid new result are.3 one)
+one_more : {C : Type 0} (seen : C → Seen) (reason : Fault → C → C → Type 0) (cs : List (Connection C))
+    (c : Connection C) (k : Option (List ℕ)) (old : C)
+    → AreServed seen reason cs k c.clock old c.before → IsServed seen reason c
+    → AreServed seen reason (cs ++ c ∷ []) k c.clock_after old c.after
+one_more seen reason [] c k old are one = (are.0, are.1, one, (refl, refl))
+one_more seen reason (d ∷ ds) c k old are one =
+    (are.0, are.1, are.2, one_more seen reason ds c d.clock_after d.after are.3 one)
 
 pub all_and_one : {X : Type 0} (P : X → Type 0) (xs : List X) (x : X) → AllByRecursion P xs → P x
     → AllByRecursion P (xs ++ x ∷ [])
 all_and_one P [] x all one = (one, tt)
 all_and_one P (y ∷ ys) x all one = (all.0, all_and_one P ys x all.1 one)
 
--- ---- what a door gave
+-- ---- what a door returned
 
-pub gave_none : {A : Type 0} (a : Option (List A)) → GrowsBy a a []
-gave_none None = tt
-gave_none (Some calls) = sym (append-nil calls)
+told_none : {A : Type 0} (a : Option (List A)) → GrowsBy a a []
+told_none None = tt
+told_none (Some calls) = sym (append-nil calls)
 
-pub gave_more : {A : Type 0} (a b c : Option (List A)) (xs ys : List A) → GrowsBy a b xs → GrowsBy b c ys
+told_more : {A : Type 0} (a b c : Option (List A)) (xs ys : List A) → GrowsBy a b xs → GrowsBy b c ys
     → GrowsBy a c (xs ++ ys)
-gave_more None b c xs ys x y = tt
-gave_more (Some before) None c xs ys x y = absurd x
-gave_more (Some before) (Some some) None xs ys x y = absurd y
-gave_more {A} (Some before) (Some some) (Some all) xs ys x y = y ∙ ap (λ (t : List A). t ++ ys) x
+told_more None b c xs ys x y = tt
+told_more (Some before) None c xs ys x y = absurd x
+told_more (Some before) (Some some) None xs ys x y = absurd y
+told_more {A} (Some before) (Some some) (Some all) xs ys x y = y ∙ ap (λ (t : List A). t ++ ys) x
     ∙ append_assoc before xs ys
 
-gave_same : {A : Type 0} (a b c : Option (List A)) (xs : List A) → GrowsBy a b xs → GrowsBy b c []
-    → GrowsBy a c xs
-gave_same {A} a b c xs x y = subst (λ (t : List A). GrowsBy a c t) (append-nil xs) (gave_more a b c xs [] x y)
+told_same : {A : Type 0} (a b : Option (List A)) (xs : List A) → GrowsBy a b xs → GrowsBy a b (xs ++ [])
+told_same {A} a b xs x = subst (λ (t : List A). GrowsBy a b t) (sym (append-nil xs)) x
+
+-- one connection more was opened and closed
+told_one : {E : Type 0} (g g1 g2 g3 : Option (List (DoorTold E))) (es : List (E × E)) (e left : E)
+    → GrowsBy g g1 (flat_map calls_for es) → GrowsBy g1 g2 (Gave e ∷ []) → GrowsBy g2 g3 (Closed left ∷ [])
+    → GrowsBy g g3 (flat_map calls_for (es ++ (e, left) ∷ []))
+told_one {E} g g1 g2 g3 es e left told opened closed =
+    subst (λ (t : List (DoorTold E)). GrowsBy g g3 t) (sym (flat_map-append calls_for es ((e, left) ∷ [])))
+    (told_more g g1 g3 (flat_map calls_for es) (Gave e ∷ Closed left ∷ []) told
+    (told_more g1 g2 g3 (Gave e ∷ []) (Closed left ∷ []) opened closed))
 
 map_more : {A B : Type 0} (f : A → B) (xs ys : List A) → map f (xs ++ ys) ≡ map f xs ++ map f ys
 map_more f [] ys = refl
 map_more f (x ∷ xs) ys = ap (λ t. f x ∷ t) (map_more f xs ys)
 
+own_one : {C E : Type 0} (known : E → Known) (cs : List (Connection C)) (c : Connection C) (es : List (E × E))
+    (e : E × E) → map known_of cs ≡ map (known_both known) es → known_of c ≡ known_both known e
+    → map known_of (cs ++ c ∷ []) ≡ map (known_both known) (es ++ e ∷ [])
+own_one known cs c es e own one = map_more known_of cs (c ∷ [])
+    ∙ ap (λ (t : List (Known × Known)). t ++ known_of c ∷ []) own
+    ∙ ap (λ (x : Known × Known). map (known_both known) es ++ x ∷ []) one
+    ∙ sym (map_more (known_both known) es (e ∷ []))
+
 -- ---- the loop
 
 -- so many were served, each by the ends that the door gave, and each lets the next one be served
-pub record Chain {C E : Type 0} (seen : C → Seen) (known : E → Known) (g g' : Option (List E))
-    (k k' : Option (List ℕ)) (old new : C) (n : ℕ) : Type 0 where
+pub record Chain {C E : Type 0} (seen : C → Seen) (reason : Fault → C → C → Type 0) (known : E → Known)
+    (g g' : Option (List (DoorTold E))) (k k' : Option (List ℕ)) (old new : C) (n : ℕ) : Type 0 where
   pub connections : List (Connection C)
-  pub are_served : AreServed seen connections k k' old new
+  pub are_served : AreServed seen reason connections k k' old new
   pub go_on : AllGoOn connections
   pub count : length connections ≡ n
-  pub given : List E
-  pub gave : GrowsBy g g' given
-  pub own : map known_of connections ≡ map known given
+  pub given : List (E × E)
+  pub own : map known_of connections ≡ map (known_both known) given
+  pub told : GrowsBy g g' (flat_map calls_for given)
 
-pub none_yet : {C E : Type 0} (seen : C → Seen) (known : E → Known) (g : Option (List E))
-    (k : Option (List ℕ)) (old : C) → Chain seen known g g k k old old 0
-none_yet seen known g k old = record {
+pub none_yet : {C E : Type 0} (seen : C → Seen) (reason : Fault → C → C → Type 0) (known : E → Known)
+    (g : Option (List (DoorTold E))) (k : Option (List ℕ)) (old : C)
+    → Chain seen reason known g g k k old old 0
+none_yet seen reason known g k old = record {
   connections = [];
   are_served = (refl, refl);
   go_on = tt;
   count = refl;
   given = [];
-  gave = gave_none g;
   own = refl;
+  told = told_none g;
 }
 
 -- one more was given, served and closed
-record HasOneMore {C E : Type 0} (seen : C → Seen) (known : E → Known) (g g' : Option (List E))
-    (k k' : Option (List ℕ)) (old new : C) (n : ℕ) (result : Result ℕ ServeFault) : Type 0 where
+record HasOneMore {C E : Type 0} (seen : C → Seen) (reason : Fault → C → C → Type 0) (known : E → Known)
+    (g g' : Option (List (DoorTold E))) (k k' : Option (List ℕ)) (old new : C) (n : ℕ)
+    (result : Result ℕ ServeFault) : Type 0 where
   pub connections : List (Connection C)
   pub last : Connection C
-  pub are_served : AreServed seen (connections ++ last ∷ []) k k' old new
+  pub are_served : AreServed seen reason (connections ++ last ∷ []) k k' old new
   pub go_on : AllGoOn connections
   pub count : length (connections ++ last ∷ []) ≡ n + 1
   pub result_is : last.result ≡ result
-  pub given : List E
-  pub gave : GrowsBy g g' given
-  pub own : map known_of (connections ++ last ∷ []) ≡ map known given
+  pub given : List (E × E)
+  pub own : map known_of (connections ++ last ∷ []) ≡ map (known_both known) given
+  pub told : GrowsBy g g' (flat_map calls_for given)
 
-with_one : {C E : Type 0} (seen : C → Seen) (known : E → Known) (g g1 g2 g3 : Option (List E))
-    (k k' k'' : Option (List ℕ)) (old mid new : C) (result : Result ℕ ServeFault) (n : ℕ) (e : E)
-    → Chain seen known g g1 k k' old mid n → GrowsBy g1 g2 (e ∷ []) → GrowsBy g2 g3 []
-    → ServesOne seen (known e) k' k'' mid new result
-    → HasOneMore seen known g g3 k k'' old new n result
-with_one {C} {E} seen known g g1 g2 g3 k k' k'' old mid new result n e chain opened closed one =
-    let last = one.connection in
+with_one : {C E : Type 0} (seen : C → Seen) (reason : Fault → C → C → Type 0) (known : E → Known)
+    (g g1 g2 g3 : Option (List (DoorTold E))) (k k' k'' : Option (List ℕ)) (old mid new : C)
+    (result : Result ℕ ServeFault) (n : ℕ) (e : E)
+    → Chain seen reason known g g1 k k' old mid n → GrowsBy g1 g2 (Gave e ∷ [])
+    → ServesEnds seen reason known g2 g3 e k' k'' mid new result
+    → HasOneMore seen reason known g g3 k k'' old new n result
+with_one {C} {E} seen reason known g g1 g2 g3 k k' k'' old mid new result n e chain opened one =
+    let last : Connection C = record {
+      before = mid;
+      after = new;
+      clock = k';
+      clock_after = k'';
+      ends = known e;
+      ends_after = known one.left;
+      result = result;
+    } in
     record {
       connections = chain.connections;
       last = last;
-      are_served = one_more seen (known e) chain.connections k k' k'' old mid new result chain.are_served one;
+      are_served = one_more seen reason chain.connections last k old chain.are_served one.served;
       go_on = chain.go_on;
       count = length-append chain.connections (last ∷ []) ∙ ap (λ m. m + 1) chain.count;
-      result_is = one.result_is;
-      given = chain.given ++ e ∷ [];
-      gave = gave_same g g2 g3 (chain.given ++ e ∷ []) (gave_more g g1 g2 chain.given (e ∷ []) chain.gave opened)
-          closed;
-      own = map_more known_of chain.connections (last ∷ [])
-          ∙ ap (λ (t : List Known). t ++ known_of last ∷ []) chain.own
-          ∙ ap (λ (x : Known). map known chain.given ++ x ∷ []) one.known_is
-          ∙ sym (map_more known chain.given (e ∷ []));
+      result_is = refl;
+      given = chain.given ++ (e, one.left) ∷ [];
+      own = own_one known chain.connections last chain.given (e, one.left) chain.own refl;
+      told = told_one g g1 g2 g3 chain.given e one.left chain.told opened one.closed;
     }
 
-pub goes_on : {C E : Type 0} (seen : C → Seen) (known : E → Known) (g g1 g2 g3 : Option (List E))
-    (k k' k'' : Option (List ℕ)) (old mid new : C) (result : Result ℕ ServeFault) (n : ℕ) (e : E)
-    → Chain seen known g g1 k k' old mid n → GrowsBy g1 g2 (e ∷ []) → GrowsBy g2 g3 []
-    → ServesOne seen (known e) k' k'' mid new result → after_connection result ≡ Ok tt
-    → Chain seen known g g3 k k'' old new (n + 1)
-goes_on {C} seen known g g1 g2 g3 k k' k'' old mid new result n e chain opened closed one on =
-    let more = with_one seen known g g1 g2 g3 k k' k'' old mid new result n e chain opened closed one in
+pub goes_on : {C E : Type 0} (seen : C → Seen) (reason : Fault → C → C → Type 0) (known : E → Known)
+    (g g1 g2 g3 : Option (List (DoorTold E))) (k k' k'' : Option (List ℕ)) (old mid new : C)
+    (result : Result ℕ ServeFault) (n : ℕ) (e : E)
+    → Chain seen reason known g g1 k k' old mid n → GrowsBy g1 g2 (Gave e ∷ [])
+    → ServesEnds seen reason known g2 g3 e k' k'' mid new result → after_connection result ≡ Ok tt
+    → Chain seen reason known g g3 k k'' old new (n + 1)
+goes_on {C} seen reason known g g1 g2 g3 k k' k'' old mid new result n e chain opened one on =
+    let more = with_one seen reason known g g1 g2 g3 k k' k'' old mid new result n e chain opened one in
     record {
       connections = more.connections ++ more.last ∷ [];
       are_served = more.are_served;
@@ -169,9 +152,27 @@ goes_on {C} seen known g g1 g2 g3 k k' k'' old mid new result n e chain opened c
           more.go_on (ap after_connection more.result_is ∙ on);
       count = more.count;
       given = more.given;
-      gave = more.gave;
       own = more.own;
+      told = more.told;
     }
+
+-- ---- how the serving ends
+
+pub none_given : {C E : Type 0} (seen : C → Seen) (reason : Fault → C → C → Type 0) (known : E → Known)
+    (g g1 g2 : Option (List (DoorTold E))) (k k' : Option (List ℕ)) (old new : C) (n all : ℕ)
+    (kind : ErrorKind)
+    → Chain seen reason known g g1 k k' old new n → n < all → GrowsBy g1 g2 (Refused kind ∷ [])
+    → ServesDoor seen reason known g g2 k k' old new all (Err Network)
+none_given seen reason known g g1 g2 k k' old new n all kind chain few refused = record {
+  connections = chain.connections;
+  are_served = chain.are_served;
+  ends = (omega (arith, chain.count), chain.go_on);
+  given = chain.given;
+  own = chain.own;
+  last = Refused kind ∷ [];
+  refused = (kind, refl);
+  told = told_more g g1 g2 (flat_map calls_for chain.given) (Refused kind ∷ []) chain.told refused;
+}
 
 never_network : (r : Result ℕ ServeFault) → after_connection r ≡ Err Network → ⊥
 never_network (Ok served) is = cc
@@ -183,16 +184,17 @@ never_network (Err (serve.Bank bank.Store)) is = cc
 never_network (Err (serve.Bank bank.Down)) is = cc
 never_network (Err (serve.Bank (bank.Damaged rule))) is = cc
 
-pub ends : {C E : Type 0} (seen : C → Seen) (known : E → Known) (g g1 g2 g3 : Option (List E))
-    (k k' k'' : Option (List ℕ)) (old mid new : C) (result : Result ℕ ServeFault) (n all : ℕ) (e : E)
-    (fault : ListenFault)
-    → Chain seen known g g1 k k' old mid n → GrowsBy g1 g2 (e ∷ []) → GrowsBy g2 g3 []
-    → ServesOne seen (known e) k' k'' mid new result → n < all → after_connection result ≡ Err fault
-    → ServesDoor seen known g g3 k k'' old new all (Err fault)
-ends seen known g g1 g2 g3 k k' k'' old mid new result n all e Network chain opened closed one few is =
+pub ends : {C E : Type 0} (seen : C → Seen) (reason : Fault → C → C → Type 0) (known : E → Known)
+    (g g1 g2 g3 : Option (List (DoorTold E))) (k k' k'' : Option (List ℕ)) (old mid new : C)
+    (result : Result ℕ ServeFault) (n all : ℕ) (e : E) (fault : ListenFault)
+    → Chain seen reason known g g1 k k' old mid n → GrowsBy g1 g2 (Gave e ∷ [])
+    → ServesEnds seen reason known g2 g3 e k' k'' mid new result → n < all
+    → after_connection result ≡ Err fault
+    → ServesDoor seen reason known g g3 k k'' old new all (Err fault)
+ends seen reason known g g1 g2 g3 k k' k'' old mid new result n all e Network chain opened one few is =
     absurd (never_network result is)
-ends seen known g g1 g2 g3 k k' k'' old mid new result n all e (Bank fault) chain opened closed one few is =
-    let more = with_one seen known g g1 g2 g3 k k' k'' old mid new result n e chain opened closed one in
+ends seen reason known g g1 g2 g3 k k' k'' old mid new result n all e (Bank fault) chain opened one few is =
+    let more = with_one seen reason known g g1 g2 g3 k k' k'' old mid new result n e chain opened one in
     record {
       connections = more.connections ++ more.last ∷ [];
       are_served = more.are_served;
@@ -205,32 +207,35 @@ ends seen known g g1 g2 g3 k k' k'' old mid new result n all e (Bank fault) chai
         ap after_connection more.result_is ∙ is,
       );
       given = more.given;
-      gave = more.gave;
       own = more.own;
+      last = [];
+      refused = refl;
+      told = told_same g g3 (flat_map calls_for more.given) more.told;
     }
 
 -- ---- at a listener, of whose streams nothing is known
 
-abbrev first : Known → List Known → Known
+abbrev first : Known → List (Known × Known) → Known
 first other [] = other
-first other (x ∷ xs) = x
+first other (x ∷ xs) = x.0
 
-abbrev rest : List Known → List Known
+abbrev rest : List (Known × Known) → List (Known × Known)
 rest [] = []
 rest (x ∷ xs) = xs
 
-all_unknown : {C E : Type 0} (cs : List (Connection C)) (es : List E)
-    → map known_of cs ≡ map (λ (e : E). unknown) es
-    → AllByRecursion (λ (c : Connection C). known_of c ≡ unknown) cs
+all_unknown : {C E : Type 0} (cs : List (Connection C)) (es : List (E × E))
+    → map known_of cs ≡ map (known_both (λ (e : E). unknown)) es
+    → AllByRecursion (λ (c : Connection C). c.ends ≡ unknown) cs
 all_unknown [] es own = tt
 all_unknown (c ∷ cs) [] own = cc own
 all_unknown (c ∷ cs) (e ∷ es) own = (ap (first unknown) own, all_unknown cs es (ap rest own))
 
-pub of_listener : {C E : Type 0} (seen : C → Seen) (g g' : Option (List E)) (k k' : Option (List ℕ))
-    (old new : C) (n : ℕ) (result : Result (Unit {0}) ListenFault)
-    → ServesDoor seen (λ (e : E). unknown) g g' k k' old new n result
-    → ServesConnections seen k k' old new n result
-of_listener seen g g' k k' old new n result served = record {
+pub of_listener : {C E : Type 0} (seen : C → Seen) (reason : Fault → C → C → Type 0)
+    (g g' : Option (List (DoorTold E))) (k k' : Option (List ℕ)) (old new : C) (n : ℕ)
+    (result : Result (Unit {0}) ListenFault)
+    → ServesDoor seen reason (λ (e : E). unknown) g g' k k' old new n result
+    → ServesConnections seen reason k k' old new n result
+of_listener seen reason g g' k k' old new n result served = record {
   connections = served.connections;
   are_served = served.are_served;
   ends = served.ends;

@@ -12,5 +12,6 @@ pub mod Serving
 pub mod Outputs
 pub mod ListenFaults
 pub mod WaitingLimits
+pub mod Doors
 pub mod Connections
 pub mod Tasks

@@ -35,9 +35,8 @@
 //! Read next: [`serve_connections`], with which faults it goes on after; [`serve_door`], the same of whatever
 //! gives connections; [`waiting_limits`], how long a client is waited for; [`serve_connection`], with the
 //! messages and the answers; `specs/Connections`, what all connections together leave.
-ghost use Rattle.std.specs.Prelude.{◌≡◌, []};
-ghost use Rattle.posting_core.specs.Told.{GrowsBy};
-ghost use Rattle.counter_http.specs.Connections.{ServesConnections, ServesDoor, ServesOne, known_ends};
+ghost use Rattle.std.specs.Prelude.{◌≡◌};
+ghost use Rattle.counter_http.specs.Connections.{ServesConnections, ServesDoor, ServesEnds, known_ends};
 ghost use Rattle.counter_http.specs.ListenFaults.{after_connection};
 
 use crate::door::{Door, TcpDoor};
@@ -53,10 +52,12 @@ use std::time;
 ///
 /// # Errors
 ///
-/// - [`ListenFault::Network`]: the listener gave no connection. Those before it were served.
-/// - [`ListenFault::Bank`]: the bank refused a call of the last connection for another cause than memory.
-///   What holds of the bank then is said by the fault; every record of which a byte of the answer was taken
-///   is kept.
+/// - [`ListenFault::Network`]: the listener gave no connection. Those before it were served. No clause says so
+///   of a listener, which keeps nothing of what it answered: it is read in the two lines of this function and
+///   in [`TcpDoor`].
+/// - [`ListenFault::Bank`]: the bank refused a call of the last connection for another cause than memory, and
+///   this is that call's fault. What holds of the bank then is said by the fault; every record of which a byte
+///   of the answer was taken is kept.
 pub fn serve_connections<R: Alloc<A = Global> + time::Clock, K: Clock, C: Counter>(
     rt: &R,
     listener: &TcpListener,
@@ -64,23 +65,22 @@ pub fn serve_connections<R: Alloc<A = Global> + time::Clock, K: Clock, C: Counte
     clock: &mut K,
     bank: &mut C,
 ) -> Result<(), ListenFault>
-    ensures { ServesConnections C.seen (K.readings clock.old)
-        (K.readings clock.new) bank.old bank.new connections
-        result }
+    ensures { ServesConnections C.seen C.reason (K.readings clock.old) (K.readings clock.new) bank.old bank.new
+        connections result }
 {
     let mut door = TcpDoor::new(listener, rt);
     serve_door(rt.alloc(), &mut door, connections, clock, bank)
 }
 
 /// Serves `connections` connections that a door gives, one after another, each by its own two ends, and closes
-/// it. Between two connections nothing happens to the bank or the clock.
+/// it before the door opens the next. Between two connections nothing happens to the bank or the clock.
 ///
 /// A connection that ends for a failed read or write, or for want of memory, isn't a fault: the next one is
 /// served. So it is where the ends of a connection give their client up.
 ///
 /// # Errors
 ///
-/// - [`ListenFault::Network`]: the door gave no connection. Those before it were served.
+/// - [`ListenFault::Network`]: the last opening of the door was refused. The connections before it were served.
 /// - [`ListenFault::Bank`]: as of [`serve_connections`].
 pub fn serve_door<D: Door, K: Clock, C: Counter>(
     alloc: Global,
@@ -89,9 +89,9 @@ pub fn serve_door<D: Door, K: Clock, C: Counter>(
     clock: &mut K,
     bank: &mut C,
 ) -> Result<(), ListenFault>
-    ensures { ServesDoor C.seen
+    ensures { ServesDoor C.seen C.reason
         (known_ends D.Reader.remaining D.Reader.told D.Writer.contents D.Writer.told)
-        (D.gave door.old) (D.gave door.new) (K.readings clock.old) (K.readings clock.new) bank.old bank.new
+        (D.told door.old) (D.told door.new) (K.readings clock.old) (K.readings clock.new) bank.old bank.new
         connections result }
 {
     'connections: for number in 0..connections {
@@ -113,10 +113,10 @@ fn serve_ends<D: Door, K: Clock, C: Counter>(
     clock: &mut K,
     bank: &mut C,
 ) -> Result<Served, ServeFault>
-    ensures served { ServesOne C.seen
-        (known_ends D.Reader.remaining D.Reader.told D.Writer.contents D.Writer.told (reader, writer))
-        (K.readings clock.old) (K.readings clock.new) bank.old bank.new result }
-    ensures closed { GrowsBy (D.gave door.old) (D.gave door.new) [] }
+    ensures { ServesEnds C.seen C.reason
+        (known_ends D.Reader.remaining D.Reader.told D.Writer.contents D.Writer.told)
+        (D.told door.old) (D.told door.new) (reader, writer) (K.readings clock.old) (K.readings clock.new)
+        bank.old bank.new result }
 {
     let mut reader = reader;
     let mut writer = writer;

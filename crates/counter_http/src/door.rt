@@ -1,6 +1,7 @@
 //! Where connections come in.
-ghost use Rattle.std.specs.Prelude.{◌∷◌, [], List, Option, None, IfOk, OnErr};
+ghost use Rattle.std.specs.Prelude.{◌∷◌, [], List, Option, None};
 ghost use Rattle.posting_core.specs.Told.{GrowsBy};
+ghost use Rattle.counter_http.specs.Doors.{DoorTold, Closed, open_told};
 
 use crate::close::end;
 use crate::queue::Queue;
@@ -12,23 +13,35 @@ use std::io;
 use std::net::{TcpListener, TcpStream};
 use std::time::{Clock, Duration, Instant};
 
-/// What gives connections, one after another, each by its two ends. A type of its own may know which.
+/// What gives connections, one after another, each by its two ends. A type of its own may know what its calls
+/// returned.
 pub trait Door {
     type Reader: Source + Drop;
 
     type Writer: Sink + Drop;
 
-    /// The connections that it gave so far, where they are known.
-    ghost gave: { Self → Option (List (Self.Reader × Self.Writer)) } = { λ _. None };
+    /// What each opening returned so far, and what each closing was given, where it is known.
+    ghost told: { Self → Option (List (DoorTold (Self.Reader × Self.Writer))) } = { λ _. None };
 
     /// The next connection.
     fn open(&mut self) -> io::Result<(Self::Reader, Self::Writer)>
-        ensures given { IfOk result (λ ends. GrowsBy (gave self.old) (gave self.new) (ends ∷ [])) }
-        ensures refused { OnErr result (GrowsBy (gave self.old) (gave self.new) []) };
+        ensures { GrowsBy (told self.old) (told self.new) (open_told result ∷ []) };
 
     /// Closes a connection that was served.
     fn close(&mut self, reader: Self::Reader, writer: Self::Writer)
-        ensures { GrowsBy (gave self.old) (gave self.new) [] };
+        ensures { GrowsBy (told self.old) (told self.new) (Closed (reader, writer) ∷ []) };
+}
+
+// The two ends of one client's stream. No clause ties a stream to its copy: it is read here that both are this
+// client's.
+fn ends_of<'l, T: Clock>(
+    stream: TcpStream,
+    queue: Queue,
+    time: &'l T,
+) -> io::Result<(TimedReader<'l, TcpStream, T>, TimedWriter<'l, TcpStream, T>)> {
+    let writer = TimedWriter::new(stream.try_clone()?, queue, time);
+    let reader = TimedReader::new(stream, queue, time, Instant::now(time)?);
+    Ok((reader, writer))
 }
 
 /// The connections of a bound listener. The system is asked to send each answer at once, and not to wait until
@@ -55,10 +68,7 @@ impl<'l, T: Clock> Door for TcpDoor<'l, T> {
         let _ = stream.set_nodelay(true);
         stream.set_read_timeout(Some(Duration::from_millis(ONE_READ)))?;
         stream.set_write_timeout(Some(Duration::from_millis(ONE_WRITE)))?;
-        let queue = Queue::new(self.listener);
-        let writer = TimedWriter::new(stream.try_clone()?, queue, self.time);
-        let reader = TimedReader::new(stream, queue, self.time, Instant::now(self.time)?);
-        Ok((reader, writer))
+        ends_of(stream, Queue::new(self.listener), self.time)
     }
 
     fn close(&mut self, reader: Self::Reader, writer: Self::Writer) {

@@ -2,4 +2,4 @@ use Rattle.counter_http.proofs.Chained.{of_listener}
 use Rattle.counter_http.proofs.connections.serve_connections.Goals as goal
 
 pub returns : goal.returns
-returns g c = of_listener g.C.Counter.seen _ _ _ _ _ _ _ _ c.serve_door.ensures
+returns g c = of_listener g.C.Counter.seen g.C.Counter.reason _ _ _ _ _ _ _ _ c.serve_door.ensures
