@@ -1,6 +1,6 @@
-"""The tellers of tools/serve_behind_nginx.sh, which makes the folder with nginx.conf, and what is killed beneath them."""
+"""The tellers of tools/serve_behind_nginx.sh, which makes the folder with nginx.conf, what is killed beneath them, and
+who is refused."""
 import base64
-import os
 import random
 import socket
 import ssl
@@ -9,42 +9,35 @@ import sys
 import threading
 import time
 
-from serve_client import BANK, make_bank, need_program, post, read_answer, record
+from serve_client import BANK, Restarted, make_bank, need_program, post, read_answer, record
 
 PLAN = [(1, 3), (2, 2)]
 ACCOUNTS = [1, 2, 3, 100001, 100002]
 # No run takes longer than this, in seconds.
 LONGEST = 300
+# What a posting has that comes from the page of this server.
+FROM_PAGE = (b"Content-Type: application/octet-stream", b"Origin: https://bank")
 
 
-class Restarted(threading.Thread):
-    """A program that is started again whenever it ends, as systemd does."""
+def signed_in(teller, word=b""):
+    """The field with a teller's password, or with another word."""
+    return b"Authorization: Basic " + base64.b64encode(b"teller%d:%s" % (teller, word or b"counter%d" % teller))
 
-    def __init__(self, words):
-        super().__init__(daemon=True)
-        self.words, self.starts, self.ends, self.process = words, 0, False, None
-        self.start()
 
-    def run(self):
-        while not self.ends:
-            self.process = subprocess.Popen(self.words, stdout=subprocess.DEVNULL, stderr=subprocess.DEVNULL,
-                                            start_new_session=True)
-            self.starts += 1
-            self.process.wait()
-            self.kill()
-            time.sleep(0.1)
+def with_fields(message, fields):
+    return message.replace(b"Host: bank\r\n", b"\r\n".join((b"Host: bank", *fields, b"")))
 
-    def kill(self):
-        """Kills the program and what it started, and nothing else: the session is its own."""
-        try:
-            os.killpg(self.process.pid, 9)
-        except ProcessLookupError:
-            pass
 
-    def stop(self):
-        self.ends = True
-        self.kill()
-        self.join(timeout=10)
+def tls_of(folder, teller=None):
+    """TLS, with the certificate of a teller if one is given."""
+    tls = ssl.create_default_context(cafile=folder + "/bank.crt")
+    if teller:
+        tls.load_cert_chain(f"{folder}/teller{teller}.crt", folder + "/teller.key")
+    return tls
+
+
+def connect(tls, port):
+    return tls.wrap_socket(socket.create_connection(("127.0.0.1", port), timeout=15), server_hostname="localhost")
 
 
 class Teller(threading.Thread):
@@ -57,28 +50,20 @@ class Teller(threading.Thread):
         branch = 1 if teller <= 10 else 2
         self.records = [record(ACCOUNTS[(teller + i) % 5], teller, branch, i + 1, draw.randint(-9999, 9999))
                         for i in range(count)]
-        self.tls = ssl.create_default_context(cafile=folder + "/bank.crt")
-        self.password = b""
-        if teller % 2:
-            self.tls.load_cert_chain(folder + "/teller.crt", folder + "/teller.key")
-        else:
-            self.password = b"Authorization: Basic " + base64.b64encode(b"teller:counter") + b"\r\n"
-
-    def connect(self):
-        plain = socket.create_connection(("127.0.0.1", self.port), timeout=15)
-        return self.tls.wrap_socket(plain, server_hostname="localhost")
+        self.tls = tls_of(folder, teller if teller % 2 else None)
+        self.fields = FROM_PAGE if teller % 2 else (signed_in(teller), *FROM_PAGE)
 
     def run(self):
         connection = None
         end = time.monotonic() + LONGEST
         for body in self.records:
-            message = post(body).replace(b"Host: bank\r\n", b"Host: bank\r\n" + self.password)
+            message = with_fields(post(body), self.fields)
             while True:
                 if time.monotonic() > end:
                     self.fault = "no answer in time"
                     return
                 try:
-                    connection = connection or self.connect()
+                    connection = connection or connect(self.tls, self.port)
                     connection.sendall(message)
                     answer = read_answer(connection, b"")
                     if answer is not None and answer[0] == 200:
@@ -96,18 +81,44 @@ class Teller(threading.Thread):
                 time.sleep(random.uniform(0.01, 0.05))
 
 
-def is_refused(folder, port):
-    """Whether one who shows neither a certificate nor a password is."""
-    tls = ssl.create_default_context(cafile=folder + "/bank.crt")
+def strangers(folder, port):
+    """What is sent by one who may not: a name, TLS, the message, and the statuses with which it is refused."""
+    nobody, certified = tls_of(folder), tls_of(folder, 1)
+    own, others = post(record(1, 2, 1, 9999, 1)), post(record(1, 4, 1, 9999, 1))
+    signed, (content, origin) = signed_in(2), FROM_PAGE
+    return [
+        ("nobody's balance", nobody, b"GET /branches HTTP/1.1\r\nHost: bank\r\n\r\n", (401,)),
+        ("nobody's posting", nobody, with_fields(own, FROM_PAGE), (401,)),
+        ("a wrong password", nobody, with_fields(own, (signed_in(2, b"counter4"), *FROM_PAGE)), (401,)),
+        ("another teller's record", nobody, with_fields(others, (signed, *FROM_PAGE)), (403,)),
+        ("a certificate of teller 1, a record of teller 2", certified, with_fields(own, FROM_PAGE), (403,)),
+        ("the same, and teller 2's name", certified, with_fields(own, (signed, *FROM_PAGE)), (403,)),
+        ("no record", nobody, with_fields(post(b"DC01"), (signed, *FROM_PAGE)), (403,)),
+        ("a form's content", nobody, with_fields(own, (signed, b"Content-Type: text/plain", origin)), (403,)),
+        ("no origin", nobody, with_fields(own, (signed, content)), (403,)),
+        ("another server's page", nobody, with_fields(own, (signed, content, b"Origin: https://bank.example")), (403,)),
+        ("a page without TLS", nobody, with_fields(own, (signed, content, b"Origin: http://bank")), (403,)),
+    ] + [
+        ("another spelling of the path", nobody,
+         with_fields(others.replace(b"/post", path), (signed, *FROM_PAGE)), (400, 403, 404))
+        for path in (b"/post/", b"//post", b"/%70ost", b"/./post", b"/post?", b"/post?x", b"/branches/../post",
+                     b"/post%00", b"/post;", b"/branches", b"http://bank/post")
+    ]
+
+
+def answer_of(tls, port, message):
+    """The status of an answer, from a server that may still be starting."""
     for _ in range(50):
         try:
-            with tls.wrap_socket(socket.create_connection(("127.0.0.1", port), timeout=15),
-                                 server_hostname="localhost") as connection:
-                connection.sendall(b"GET /branches HTTP/1.1\r\nHost: bank\r\nConnection: close\r\n\r\n")
-                return read_answer(connection, b"")[0] == 401
+            with connect(tls, port) as connection:
+                connection.sendall(message)
+                answer = read_answer(connection, b"")
+                if answer is not None and answer[0] < 500:
+                    return answer[0]
         except OSError:
-            time.sleep(0.1)
-    return False
+            pass
+        time.sleep(0.1)
+    return None
 
 
 def main():
@@ -116,10 +127,11 @@ def main():
     file = folder + "/bank.db"
     make_bank(file, PLAN)
     bank = Restarted([BANK, "serve", file, f"127.0.0.1:{back}", "--connections", "1000000"])
-    nginx = Restarted(["nginx", "-p", folder, "-c", "nginx.conf", "-g", "daemon off; user root;"])
+    nginx = Restarted(["nginx", "-p", folder, "-c", "nginx.conf", "-g", "daemon off;"])
     killed = [0, 0]
     try:
-        refused = is_refused(folder, front)
+        let_in = [name for name, tls, message, statuses in strangers(folder, front)
+                  if answer_of(tls, front, message) not in statuses]
         tellers = [Teller(folder, front, teller, count) for teller in range(1, 21)]
         for teller in tellers:
             teller.start()
@@ -148,8 +160,8 @@ def main():
           f"{sum(teller.resent for teller in tellers)} sent again: "
           + ("; ".join(faults) or ("each has its first reply" if same else "THE REPLIES DIFFER"))
           + (", each stands once, and the audit is consistent" if whole else f", THE AUDIT SAYS {told}")
-          + ("" if refused else ", A STRANGER CAME IN"))
-    sys.exit(0 if same and whole and refused and not faults else 1)
+          + (f", NOT REFUSED: {let_in}" if let_in else ""))
+    sys.exit(0 if same and whole and not let_in and not faults else 1)
 
 
 main()

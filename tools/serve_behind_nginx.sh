@@ -1,8 +1,9 @@
 #!/usr/bin/env bash
-# Starts `bank serve` and nginx in front of it, as in examples/nginx.conf, on loopback, and kills either at random while 20
-# tellers post through it and send again what got no answer: nothing is lost, nothing is posted twice, and the audit is
-# consistent. Half of the tellers show a certificate, and half a password. It needs the built program, nginx and
-# openssl, is bounded in count and time, and stands outside the gate.
+# Starts `bank serve` and nginx in front of it, as in examples/nginx.conf, on loopback, and kills either at random while
+# 20 tellers post through it and send again what got no answer: nothing is lost, nothing is posted twice, and the audit
+# is consistent. Half of the tellers show a certificate, and half a password; who posts as another teller, or not from
+# the page of this server, is refused. It needs the built program, nginx and openssl, is bounded in count and time, and
+# stands outside the gate.
 #   tools/serve_behind_nginx.sh [KILLS [RECORDS A TELLER]]
 set -eu
 here=$(cd "$(dirname "$0")" && pwd)

@@ -3,6 +3,8 @@ import os
 import socket
 import subprocess
 import sys
+import threading
+import time
 
 HERE = os.path.dirname(os.path.dirname(os.path.abspath(__file__)))
 # BANK in the environment names another program.
@@ -56,6 +58,36 @@ class Server:
         self.process.stdout.close()
         self.process.stderr.close()
         return status
+
+
+class Restarted(threading.Thread):
+    """A program that is started again whenever it ends, as systemd does."""
+
+    def __init__(self, words):
+        super().__init__(daemon=True)
+        self.words, self.starts, self.ends, self.process = words, 0, False, None
+        self.start()
+
+    def run(self):
+        while not self.ends:
+            self.process = subprocess.Popen(self.words, stdout=subprocess.DEVNULL, stderr=subprocess.DEVNULL,
+                                            start_new_session=True)
+            self.starts += 1
+            self.process.wait()
+            self.kill()
+            time.sleep(0.1)
+
+    def kill(self):
+        """Kills the program and what it started, and nothing else: the session is its own."""
+        try:
+            os.killpg(self.process.pid, 9)
+        except ProcessLookupError:
+            pass
+
+    def stop(self):
+        self.ends = True
+        self.kill()
+        self.join(timeout=10)
 
 
 def post(body, close=False):

@@ -83,15 +83,22 @@ def one_at_a_time(file, count):
 
 def wrk(name, connections, seconds, fields, words, base):
     """One run of wrk, by a teller of its own where it posts."""
+    teller = next(TELLERS) if words else 1
     all_words = ["wrk", "-t1", f"-c{connections}", f"-d{seconds}s", "--latency"]
-    for field in fields:
+    for field in fields(teller):
         all_words += ["-H", field]
-    environment = dict(os.environ, TELLER=str(next(TELLERS))) if words else None
+    environment = dict(os.environ, TELLER=str(teller)) if words else None
     path = "" if words else "/account/1"
     told_by_wrk = subprocess.run(all_words + words + [base + path], capture_output=True, text=True,
                                  timeout=seconds + 30, env=environment).stdout
     lines = [" ".join(line.split()) for line in told_by_wrk.splitlines() if any(word in line for word in TOLD)]
     print(f"wrk, {connections} {name}: " + ", ".join(lines), flush=True)
+
+
+def from_page(teller, base):
+    """The fields of a posting that comes from the page of nginx, by a teller who signed in."""
+    password = base64.b64encode(b"teller%d:counter%d" % (teller, teller)).decode()
+    return ["Authorization: Basic " + password, "Content-Type: application/octet-stream", "Origin: " + base]
 
 
 def both(name, script, connections, seconds, fields, base):
@@ -110,19 +117,19 @@ def with_wrk(file, folder, seconds):
     nginx = None
     try:
         direct = f"http://127.0.0.1:{server.port}"
-        both("with a connection a request", script, 1, seconds, ["Connection: close"], direct)
+        both("with a connection a request", script, 1, seconds, lambda _: ["Connection: close"], direct)
         for connections in (1, 20):
-            both("kept", script, connections, seconds, [], direct)
+            both("kept", script, connections, seconds, lambda _: [], direct)
         if shutil.which("nginx"):
             with socket.create_server(("127.0.0.1", 0)) as free:
                 port = free.getsockname()[1]
             subprocess.run([HERE + "/tools/nginx_folder.sh", folder, str(port), str(server.port)], check=True)
-            nginx = subprocess.Popen(["nginx", "-p", folder, "-c", "nginx.conf", "-g", "daemon off; user root;"],
+            nginx = subprocess.Popen(["nginx", "-p", folder, "-c", "nginx.conf", "-g", "daemon off;"],
                                      stderr=subprocess.DEVNULL)
             time.sleep(0.5)
-            password = "Authorization: Basic " + base64.b64encode(b"teller:counter").decode()
+            base = f"https://127.0.0.1:{port}"
             for connections in (1, 20):
-                both("kept, behind nginx", script, connections, seconds, [password], f"https://127.0.0.1:{port}")
+                both("kept, behind nginx", script, connections, seconds, lambda teller: from_page(teller, base), base)
     finally:
         if nginx:
             nginx.terminate()

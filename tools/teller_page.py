@@ -1,0 +1,497 @@
+#!/usr/bin/env python3
+"""Tries examples/teller.html in real browsers, behind nginx as in examples/nginx.conf, with the real counter: a teller
+who uses the keyboard alone enters postings while the counter, nginx and the browser are killed at random. Each is
+posted once, with the amounts and the balances that the page shows. Before that come the page's words for what is
+refused, undoing, a second tab, and another server's page that tries to post.
+    tools/teller_page.py [POSTINGS [KILLS]]    in each browser that is installed; 300 postings, and 100 kills of the
+                                               counter, 10 of nginx and 7 of the browser
+    tools/teller_page.py hashes                writes the hashes of the page's script and style into examples/nginx.conf
+    tools/teller_page.py pictures              takes docs/teller.png and docs/teller_narrow.png
+It needs the built program, nginx, openssl, and Debian's `chromium` or `firefox-esr`. It is bounded in count and time,
+uses loopback alone, and stands outside the gate."""
+import base64
+import hashlib
+import http.server
+import json
+import os
+import queue
+import random
+import re
+import shutil
+import socket
+import sqlite3
+import subprocess
+import sys
+import tempfile
+import threading
+import time
+
+from browsers import ENTER, ESCAPE, TAB, BrowserFault, Chromium, installed
+from serve_client import BANK, HERE, Restarted, make_bank, need_program, record
+
+ACCOUNTS = [1, 2, 3, 100001]
+# The least that account 3,000,001 may have is its floor; branch 31 has the tellers 301 to 310.
+PLAN = "branch,accounts,floor\n1,3,\n2,2,\n31,1,-500\n"
+# No wait in a page takes longer than this, and no run, in seconds.
+WAIT, LONGEST = 60, 900
+
+# What the page keeps of its postings, the oldest first.
+KEPT = """new Promise((yes, no) => { const ask = indexedDB.open('counter'); ask.onerror = no; ask.onsuccess = () => {
+    const all = ask.result.transaction('postings').objectStore('postings').getAll();
+    all.onsuccess = () => { ask.result.close(); yes(all.result) } } })"""
+# The lines of its list, the newest first: number, account, amount, reference, answer, balance.
+LINES = """[...document.querySelectorAll('.posting')].map(line =>
+    [...line.cells].slice(1, 7).map(cell => cell.textContent))"""
+NOTES = "['done', 'wrong', 'waiting', 'who'].map(id => document.getElementById(id).textContent)"
+ACTIVE = "[document.activeElement.id, document.activeElement.getAttribute('aria-label') || '']"
+
+
+class Failed(Exception):
+    """The page or the bank isn't as it should be."""
+
+
+def same(name, got, wanted):
+    if got != wanted:
+        raise Failed(f"{name}: wanted {wanted!r}, got {got!r}")
+
+
+def money(cents):
+    return f"{'-' if cents < 0 else ''}{abs(cents) // 100}.{abs(cents) % 100:02}"
+
+
+def holds(name, text, *parts):
+    if not all(part in text for part in parts):
+        raise Failed(f"{name}: wanted {parts!r} in {text!r}")
+
+
+def hashes():
+    """Writes the hashes of the page's script and style into nginx.conf."""
+    with open(HERE + "/examples/teller.html", encoding="utf-8") as file:
+        page = file.read()
+    path = HERE + "/examples/nginx.conf"
+    with open(path, encoding="utf-8") as file:
+        configuration = file.read()
+    for part in ("script", "style"):
+        text = re.search(f"<{part}[^>]*>(.*?)</{part}>", page, re.S)[1]
+        digest = base64.b64encode(hashlib.sha256(text.encode()).digest()).decode()
+        configuration = re.sub(f"{part}-src 'sha256-[^']*'", f"{part}-src 'sha256-{digest}'", configuration)
+    with open(path, "w", encoding="utf-8") as file:
+        file.write(configuration)
+
+
+class Place:
+    """A bank, the counter that serves it, and nginx before it, each started again when it ends."""
+
+    def __init__(self, folder):
+        self.folder, self.file = folder, folder + "/bank.db"
+        make_bank(self.file, [(1, 3)])
+        with socket.create_server(("127.0.0.1", 0)) as one, socket.create_server(("127.0.0.1", 0)) as other:
+            self.front, self.back = one.getsockname()[1], other.getsockname()[1]
+        subprocess.run([HERE + "/tools/nginx_folder.sh", folder, str(self.front), str(self.back)], check=True)
+        with open(folder + "/tellers", "a", encoding="utf-8") as tellers:
+            tellers.write("keeper \"\";\n")
+        with open(folder + "/passwords", "a", encoding="utf-8") as passwords:
+            word = subprocess.run(["openssl", "passwd", "-apr1", "counter"], check=True, stdout=subprocess.PIPE).stdout
+            passwords.write(f"keeper:{word.decode()}")
+        self.counter = self.nginx = None
+
+    def start_counter(self):
+        self.counter = Restarted([BANK, "serve", self.file, f"127.0.0.1:{self.back}", "--connections", "1000000"])
+
+    def start(self):
+        self.start_counter()
+        self.nginx = Restarted(["nginx", "-p", self.folder, "-c", "nginx.conf", "-g", "daemon off;"])
+
+    def stop(self):
+        for program in (self.nginx, self.counter):
+            if program:
+                program.stop()
+        self.counter = self.nginx = None
+
+    def address(self, who="", path="/"):
+        return f"https://{who}localhost:{self.front}{path}"
+
+    def posts(self, records):
+        """Posts records while the counter is stopped, and gives the replies."""
+        return subprocess.run([BANK, "post", self.file], input=b"".join(records), check=True,
+                              stdout=subprocess.PIPE).stdout
+
+    def copied(self):
+        """A connection to a copy of both files. No command may run on them."""
+        for end in ("", "-wal"):
+            if os.path.exists(self.file + end):
+                shutil.copy(self.file + end, self.folder + "/copy.db" + end)
+        return sqlite3.connect(self.folder + "/copy.db")
+
+
+class Page:
+    """The page in a browser, as somebody who uses it."""
+
+    def __init__(self, kind, profile, place):
+        self.kind, self.profile, self.place, self.browser, self.who = kind, profile, place, None, None
+
+    def sign_in(self, name, password):
+        """Starts the browser and signs in, as a browser does that has been told a password."""
+        self.who = (name, password)
+        self.browser = self.kind(self.profile)
+        self.load()
+
+    def load(self):
+        self.patiently(lambda: self.browser.open(self.place.address("%s:%s@" % self.who, "/branches")) or True)
+        self.patiently(lambda: self.browser.open(self.place.address())
+                       or self.browser.run("document.title.includes('Counter')"))
+        self.until("the form", "!document.getElementById('form').hidden")
+
+    def patiently(self, act):
+        """Does what may fail while nginx is down."""
+        end = time.monotonic() + WAIT
+        while True:
+            try:
+                if act():
+                    return
+            except BrowserFault:
+                if time.monotonic() > end or self.browser.process.poll() is not None:
+                    raise
+            if time.monotonic() > end:
+                raise Failed("the page doesn't load")
+            time.sleep(0.2)
+
+    def until(self, name, script, wanted=True):
+        end = time.monotonic() + WAIT
+        while (got := self.browser.run(script)) != wanted:
+            if time.monotonic() > end:
+                raise Failed(f"{name}: {got!r}, and the page says {self.browser.run(NOTES)}")
+            time.sleep(0.01)
+
+    def enter(self, account, amount, reference):
+        """Enters a posting by the keyboard, from the field that has the focus."""
+        same("the focus", self.browser.run(ACTIVE)[0], "account")
+        self.browser.keys(str(account), TAB, amount, TAB, reference, ENTER)
+
+    def listed(self, reference):
+        """Waits for a posting to be in the list, which it is when it is on the disk."""
+        self.until(f"{reference} in the list", f"{LINES}.some(line => line[3] === {json.dumps(reference)})")
+
+    def answered(self, account, amount, reference):
+        """Enters a posting, waits for its answer, and gives its line in the list and what the page says."""
+        self.enter(account, amount, reference)
+        self.listed(reference)
+        self.settled()
+        line = next(line for line in self.browser.run(LINES) if line[3] == reference)
+        return line, self.browser.run(NOTES)
+
+    def settled(self):
+        """Waits until each posting has its answer, on the disk and in the list."""
+        self.until("all answers", f"{KEPT}.then(all => all.every(it => it.answer))")
+        self.until("all answers in the list", "!document.querySelector('.posting.waits')")
+
+    def press(self, label):
+        """Goes to a button by the key Tab, and presses it."""
+        for _ in range(100):
+            if self.browser.run(ACTIVE)[1].startswith(label):
+                self.browser.keys(ENTER)
+                return
+            self.browser.keys(TAB)
+        raise Failed(f"the key Tab doesn't lead to {label}")
+
+    def fault(self, account, amount, reference, field, words):
+        """Enters what is no posting: the field gets the focus and says what is wrong. Nothing is kept."""
+        before = self.browser.run(f"{KEPT}.then(all => all.length)")
+        self.enter(account, amount, reference)
+        self.until(f"the focus at {field}", f"({ACTIVE})[0]", field)
+        holds("what the field says", self.browser.run(f"document.getElementById('{field}-fault').textContent"), words)
+        same("what is kept", self.browser.run(f"{KEPT}.then(all => all.length)"), before)
+        self.browser.run("(document.getElementById('form').reset(), document.getElementById('account').focus(), 0)")
+
+    def kill(self):
+        self.browser.kill()
+        self.browser = None
+
+
+def strangers_page(place, page):
+    """Another server's page tries to post as the teller who is signed in, with what such a page may send."""
+    class Answer(http.server.BaseHTTPRequestHandler):
+        def do_GET(self):
+            self.send_response(200)
+            self.send_header("Content-Type", "text/html")
+            self.end_headers()
+            self.wfile.write(b"<title>A stranger</title>")
+
+        def log_message(self, *_):
+            pass
+
+    body = record(1, 1, 1, 77, 7777).decode()
+    with http.server.ThreadingHTTPServer(("127.0.0.1", 0), Answer) as server:
+        threading.Thread(target=server.serve_forever, daemon=True).start()
+        page.browser.open(f"http://localhost:{server.server_port}/")
+        for more in ("mode: 'no-cors'", "mode: 'no-cors', headers: {'Content-Type': 'text/plain'}",
+                     "headers: {'Content-Type': 'application/octet-stream'}"):
+            page.browser.run(f"fetch('{place.address(path='/post')}', {{method: 'POST', credentials: 'include', body: "
+                             f"{json.dumps(body)}, {more}}}).then(got => got.type, fault => String(fault))")
+        server.shutdown()
+    with open(place.folder + "/access.log", encoding="utf-8") as log:
+        tries = [line.split('"') for line in log if f'"http://localhost:{server.server_port}/"' in line]
+    # A browser asks before it sends the third.
+    same("another server's page", [(it[1].split()[0], it[2].split()[0]) for it in tries],
+         [("POST", "403"), ("POST", "403"), ("OPTIONS", "405")])
+
+
+def words(place, page):
+    """What the page says of refusals, and all else that it does beside sending."""
+    page.sign_in("teller11", "counter11")
+    line, notes = page.answered(100001, "5", "EARLY")
+    holds("before the branch is open", line[4], "Not posted: teller 11 isn't open")
+    same("what a screen reader meets without a name", page.browser.unnamed(), [])
+    place.stop()
+    with open(place.file + ".csv", "w", encoding="utf-8") as plan:
+        plan.write(PLAN)
+    subprocess.run([BANK, "load", place.file, place.file + ".csv"], check=True, stdout=subprocess.DEVNULL)
+    # Account 100,002 comes to within 99.01 of the limit of balances.
+    place.posts(record(100002, 12, 2, i + 1, 9999999999) for i in range(100))
+    place.start()
+    page.press("Send again")
+    page.settled()
+    same("after the branch is open", page.browser.run(LINES)[0][3:], ["EARLY", "Posted", "5.00"])
+    page.kill()
+
+    page.sign_in("teller1", "counter1")
+    same("the postings of another teller", page.browser.run(LINES), [])
+    page.fault("", "5", "", "account", "Enter the account")
+    page.fault("1a", "5", "", "account", "digits alone")
+    page.fault("1", "1,234.56", "", "amount", "12.34")
+    page.fault("1", "0.00", "", "amount", "nothing to post")
+    page.fault("1", "100000000", "", "amount", "99999999.99 at most")
+    page.fault("1", "1", "MÄRZ", "reference", "Ä")
+    page.fault("1", "1", "A reference of 21 bytes", "reference", "20 characters")
+    line, notes = page.answered("0003", "0900", "WHOLE UNITS")
+    same("leading zeros", line[1:], ["3", "900.00", "WHOLE UNITS", "Posted", "900.00"])
+    holds("what is said", notes[0], "Posted: 900.00 paid in, account 3", "900.00")
+    line, notes = page.answered(4, "1,5", "NO SUCH")
+    holds("no account", line[4], "Not posted: there is no account 4")
+    holds("what is said", notes[1], "there is no account 4")
+    holds("below the floor", page.answered(3000001, "-5.01", "FLOOR")[0][4], "below the lowest balance")
+    holds("over the limit", page.answered(100002, "99999999.99", "LIMIT")[0][4], "9999999999.99")
+    reused(place, page)
+
+    # Undoing, which asks first.
+    line, _ = page.answered(2, "-12.34", "TO UNDO")
+    page.press(f"Undo: number {line[0]}")
+    page.browser.keys(ESCAPE)
+    page.until("the question is gone", "!document.querySelector('dialog').open")
+    page.browser.run("(document.getElementById('account').focus(), 0)")
+    page.press(f"Undo: number {line[0]}")
+    page.browser.keys(TAB, ENTER)
+    page.listed(f"UNDO {line[0]}")
+    page.settled()
+    newest, undone = page.browser.run(LINES)[:2]
+    same("the opposite", newest[1:], ["2", "12.34", f"UNDO {line[0]}", "Posted", "0.00"])
+    same("what was undone", undone[4], f"Posted, and undone by {newest[0]}")
+
+    page.browser.run("(document.getElementById('account').focus(), window.print = () => { "
+                     "window.slip = document.getElementById('slip').textContent }, 0)")
+    page.press(f"Slip: number {newest[0]}")
+    holds("the slip", page.browser.run("window.slip"), "Teller1", f"Number{newest[0]}", "Paid in12.34",
+          "Balance then0.00")
+
+    page.browser.run("(document.getElementById('account').focus(), 0)")
+    page.browser.keys("3", TAB, TAB, TAB, TAB, ENTER)
+    page.until("the balance", "document.getElementById('done').textContent", "Account 3 has 900.00.")
+    page.browser.run("(document.getElementById('ask-branches').focus(), 0)")
+    page.browser.keys(ENTER)
+    page.until("the branches", "document.getElementById('branch-rows').textContent.length > 0")
+    same("the branches", page.browser.run("[...document.querySelectorAll('#branch-rows tr')].map(row => "
+                                          "[...row.cells].map(cell => cell.textContent))[2]"), ["31", "1", "0.00"])
+    same("another teller's record", page.browser.run(
+        f"fetch('/post', {{method: 'POST', body: {json.dumps(record(1, 2, 1, 77, 7777).decode())}, headers: "
+        "{'Content-Type': 'application/octet-stream'}}).then(got => got.status)"), 403)
+
+    # A second tab isn't the teller's, until the first is closed.
+    before = page.browser.other_tab(place.address())
+    page.until("a second tab", "document.getElementById('who').textContent.includes('another tab')")
+    same("its form", page.browser.run("document.getElementById('form').hidden"), True)
+    page.browser.close_tab(before)
+    strangers_page(place, page)
+    page.kill()
+
+
+def reused(place, page):
+    """Numbers that the page will draw were used elsewhere."""
+    place.counter.stop()
+    now = int(time.time())
+    place.posts(record(1, 1, 1, now + i, 1) for i in range(-2, 6))
+    place.start_counter()
+    line, _ = page.answered(1, "1.50", "ELSEWHERE")
+    holds("a number that was used", line[4], "was used for another posting")
+    for _ in range(20):
+        page.press("Post with a new number")
+        page.settled()
+        line = page.browser.run(LINES)[0]
+        if line[4] == "Posted":
+            return
+    raise Failed(f"no new number is taken: {line}")
+
+
+class Killer(threading.Thread):
+    """Kills the counter and nginx one after another, each when it runs and some moments have gone by."""
+
+    def __init__(self, place):
+        super().__init__(daemon=True)
+        self.place, self.wanted, self.done = place, queue.Queue(), {"counter": 0, "nginx": 0}
+        self.start()
+
+    def run(self):
+        while True:
+            what, moments = self.wanted.get()
+            program = self.place.counter if what == "counter" else self.place.nginx
+            while program.process.poll() is not None and not program.ends:
+                time.sleep(0.01)
+            time.sleep(moments)
+            program.kill()
+            self.done[what] += 1
+            self.wanted.task_done()
+
+
+def killed(place, page, count, kills):
+    """Postings under kills of the counter, nginx and the browser. Gives what was entered, by reference, account and
+    cents, and how often each was killed."""
+    draw = random.Random()
+    after = [[] for _ in range(count)]
+    for what, times in (("counter", kills), ("nginx", kills // 10), ("browser", 7 * kills // 100)):
+        for _ in range(times):
+            after[draw.randrange(count)].append(what)
+    killer = Killer(place)
+    entered = [(f"{page.kind.name.upper()} {i}", draw.choice(ACCOUNTS), draw.choice((-1, 1)) * draw.randint(1, 99999))
+               for i in range(count)]
+    done, end = 0, time.monotonic() + LONGEST
+    page.sign_in("teller1", "counter1")
+    while done < count:
+        if time.monotonic() > end:
+            raise Failed("the run takes too long")
+        if page.browser is None:
+            page.sign_in("teller1", "counter1")
+            kept = [it["reference"] for it in page.browser.run(KEPT)]
+            lost = [it[0] for it in entered[:done] if it[0] not in kept]
+            if lost:
+                raise Failed(f"the browser forgot {lost}")
+            # One that was typed and not yet in the list may have come to the disk.
+            if entered[done][0] in kept:
+                done += 1
+                continue
+        reference, account, cents = entered[done]
+        for what in [it for it in after[done] if it != "browser"]:
+            killer.wanted.put((what, draw.uniform(0, 0.1)))
+        dies = "browser" in after[done]
+        after[done] = []
+        page.enter(account, money(cents), reference)
+        if not dies or draw.randrange(2):
+            page.listed(reference)
+            done += 1
+        if dies:
+            page.kill()
+    if page.browser is None:
+        page.sign_in("teller1", "counter1")
+    killer.wanted.join()
+    page.settled()
+    return entered, killer.done
+
+
+def check(place, page, entered):
+    """The bank has each posting once, as the page shows it, and its books agree."""
+    kept = page.browser.run(KEPT)
+    page.kill()
+    place.stop()
+    shown = {it["reference"]: it for it in kept if it["reference"]}
+    base = place.copied()
+    rows = base.execute("SELECT reference, tid, number, history.aid, history.delta, request.outcome, request.balance "
+                        "FROM request JOIN request_reference USING (ordinal) JOIN history USING (ordinal, tid)")
+    rows = rows.fetchall()
+    for reference, account, cents in entered:
+        same("the row in the bank", [row[1:] for row in rows if row[0].strip() == reference],
+             [(1, shown[reference]["number"], account, cents, 0, int(shown[reference]["answer"][53:66]))])
+    sums = [base.execute(text).fetchone()[0] for text in (
+        "SELECT sum(delta) FROM history", "SELECT sum(balance) FROM account", "SELECT sum(balance) FROM teller",
+        "SELECT sum(balance) FROM branch", "SELECT sum(delta) FROM request WHERE outcome = 0")]
+    base.close()
+    same("the sums", sums, [sums[0]] * 5)
+    # Every record that the page kept, sent once more, gets the answer that the page shows, but for what isn't kept.
+    sent = [it for it in kept if it["answer"][4:6] not in ("11", "15", "16", "90")]
+    same("the replies", place.posts(it["record"].encode() for it in sent).decode(), "".join(it["answer"] for it in sent))
+    audit = subprocess.run([BANK, "audit", place.file], stdout=subprocess.PIPE, check=False).stdout.decode()
+    same("the audit", audit.splitlines()[-1], "CONSISTENT")
+    if "replay" in subprocess.run([BANK, "help"], stdout=subprocess.PIPE, check=False).stdout.decode():
+        subprocess.run([BANK, "replay", place.file], stdout=subprocess.DEVNULL, check=True)
+
+
+def run(kind, count, kills):
+    start = time.monotonic()
+    with tempfile.TemporaryDirectory(ignore_cleanup_errors=True) as folder:
+        os.mkdir(folder + "/profile")
+        place = Place(folder)
+        page = Page(kind, folder + "/profile", place)
+        try:
+            place.start()
+            words(place, page)
+            entered, stops = killed(place, page, count, kills)
+            check(place, page, entered)
+        finally:
+            if page.browser:
+                page.kill()
+            place.stop()
+    print(f"teller_page: {kind.name}: {count} postings, {stops['counter']} kills of the counter, {stops['nginx']} of "
+          f"nginx and {7 * kills // 100} of the browser: each is posted once, and the books agree "
+          f"({time.monotonic() - start:.0f} s)", flush=True)
+
+
+def pictures():
+    """Takes the pictures of docs/, wide and narrow."""
+    with tempfile.TemporaryDirectory(ignore_cleanup_errors=True) as folder:
+        os.mkdir(folder + "/profile")
+        place = Place(folder)
+        page = Page(Chromium, folder + "/profile", place)
+        try:
+            place.start()
+            page.sign_in("teller1", "counter1")
+            for account, amount, reference in ((1, "1250", "OPENING"), (2, "310.50", "CHEQUE 4711"), (1, "-80", "CASH"),
+                                               (4, "25", "NO NAME"), (3, "19.95", "BOOK 12")):
+                page.answered(account, amount, reference)
+            page.press("Undo: number")
+            page.browser.keys(TAB, ENTER)
+            page.until("the opposite", f"({LINES})[0][3].startsWith('UNDO')")
+            page.settled()
+            place.counter.stop()
+            page.enter(1, "-120.00", "CASH")
+            page.until("the notice", "document.getElementById('waiting').textContent.length > 0")
+            page.browser.keys("2", TAB, "45.50")
+            for name, width, height in (("teller", 1000, 740), ("teller_narrow", 380, 820)):
+                page.browser.size(width, height)
+                time.sleep(0.3)
+                with open(f"{HERE}/docs/{name}.png", "wb") as file:
+                    file.write(page.browser.picture())
+        finally:
+            if page.browser:
+                page.kill()
+            place.stop()
+
+
+def main():
+    if sys.argv[1:] == ["hashes"]:
+        hashes()
+        return
+    need_program()
+    if sys.argv[1:] == ["pictures"]:
+        pictures()
+        return
+    count, kills = (int(word) for word in (sys.argv[1:] + ["300", "100"][len(sys.argv) - 1:])[:2])
+    failed = not installed()
+    if failed:
+        print("teller_page: no browser: apt-get install chromium firefox-esr")
+    for kind in installed():
+        try:
+            run(kind, count, kills)
+        except (Failed, BrowserFault) as fault:
+            print(f"teller_page: {kind.name}: {fault}", flush=True)
+            failed = True
+    sys.exit(1 if failed else 0)
+
+
+main()
