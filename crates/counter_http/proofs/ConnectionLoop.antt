@@ -30,7 +30,7 @@ pub record Going (r r' w w' k k' : Option (List ℕ)) (c c' : Seen) (rest : List
   pub count_is : count ≡ length turns
   pub answered : AreAnswered w w' k k' c c' turns
 
-pub going_first : {r w k : Option (List ℕ)} {c : Seen} (rest : List ℕ) → rest ≡ []
+unfoldable pub going_first : {r w k : Option (List ℕ)} {c : Seen} (rest : List ℕ) → rest ≡ []
     → Going r r w w k k c c rest 0
 going_first {r = r} rest e = record {
   turns = [];
@@ -41,7 +41,7 @@ going_first {r = r} rest e = record {
 }
 
 -- more bytes were read
-going_read : {r r' r'' w w' k k' : Option (List ℕ)} {c c' : Seen} {count : ℕ} (rest more all : List ℕ)
+unfoldable pub going_read : {r r' r'' w w' k k' : Option (List ℕ)} {c c' : Seen} {count : ℕ} (rest more all : List ℕ)
     → Going r r' w w' k k' c c' rest count
     → Consumes r' r'' more → all ≡ rest ++ more → Going r r'' w w' k k' c c' all count
 going_read {r = r} {r' = r'} {r'' = r''} rest more all g got e =
@@ -80,7 +80,7 @@ read_one_more r r' ts t all rest got e =
     subst (λ (x : List ℕ). Consumes r r' x)
     (ap (λ (x : List ℕ). texts_of ts ++ x) e ∙ sym (texts_one_more ts t rest)) got
 
-stays_one_more : (ts : List Turn) (t : Turn) → AllByRecursion (λ (u : Turn). KeepsConnection u.message) ts
+pub stays_one_more : (ts : List Turn) (t : Turn) → AllByRecursion (λ (u : Turn). KeepsConnection u.message) ts
     → KeepsConnection t.message → AllByRecursion (λ (u : Turn). KeepsConnection u.message) (ts ++ t ∷ [])
 stays_one_more [] t all one = (one, tt)
 stays_one_more (s ∷ ts) t all one = (all.0, stays_one_more ts t all.1 one)
@@ -89,7 +89,7 @@ stays_one_more (s ∷ ts) t all one = (all.0, stays_one_more ts t all.1 one)
 abbrev pub turn_of : {all : List ℕ} {w : Whole} → ℕ → IsWhole all w → Turn
 turn_of moment is = record { message = is.message; moment = moment }
 
-pub going_message : {C : Type 0} (seen : C → Seen) {reason : Fault → C → C → Type 0}
+unfoldable pub going_message : {C : Type 0} (seen : C → Seen) {reason : Fault → C → C → Type 0}
     {r r' w w' w'' k k' k'' : Option (List ℕ)} {v v' : Option (List WriteTold)} {c : Seen} {count : ℕ}
     (now new : C) (all rest : List ℕ) (count' : ℕ) (p : Whole)
     → Going r r' w w' k k' c (seen now) all count → IsWhole all p → p.closes ≡ false

@@ -31,11 +31,11 @@ use Rattle.counter_http.proofs.OneWalk.{walk_unique, front_unique}
 
 -- ---- messages of turns
 
-texts_are : (ts : List Turn) → texts_of ts ≡ texts_of_all (messages_of ts)
+pub texts_are : (ts : List Turn) → texts_of ts ≡ texts_of_all (messages_of ts)
 texts_are [] = refl
 texts_are (t ∷ ts) = ap (λ (x : List ℕ). text_in t ++ x) (texts_are ts)
 
-stays_all : (ts : List Turn) → AllByRecursion (λ (t : Turn). KeepsConnection t.message) ts
+pub stays_all : (ts : List Turn) → AllByRecursion (λ (t : Turn). KeepsConnection t.message) ts
     → AllByRecursion KeepsConnection (messages_of ts)
 stays_all [] all = tt
 stays_all (t ∷ ts) all = (all.0, stays_all ts all.1)

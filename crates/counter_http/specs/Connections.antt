@@ -8,10 +8,11 @@ use Rattle.std.specs.declared.io.ErrorKind.{ErrorKind}
 use Rattle.posting_rules.specs.declared.fault.Fault.{Fault}
 use Rattle.posting_rules.specs.Counter.{Seen}
 use Rattle.posting_core.specs.Stream.{IsOfCall}
-use Rattle.posting_core.specs.Told.{GrowsBy, ReadTold, WriteTold}
+use Rattle.posting_core.specs.Told.{Beside, GrowsBy, ReadTold, WriteTold}
 use Rattle.counter_http.specs.Doors.{DoorTold, Gave, Refused, Closed}
 use Rattle.counter_http.specs.Ends as ends
 use Rattle.counter_http.specs.Outputs.{OutputsAnswers, SurvivesServing}
+use Rattle.counter_http.specs.Prompt.{IsPrompt}
 use Rattle.counter_http.specs.Serving as http
 use Rattle.counter_http.specs.declared.fault.ServeFault.{ServeFault}
 use Rattle.counter_http.specs.declared.listen_fault.ListenFault.{ListenFault}
@@ -21,25 +22,26 @@ use Rattle.counter_http.specs.Turns.{IfRefused}
 
 -- ---- one connection
 
--- what is known of the two ends of a connection: the bytes of its reader and of its writer, and what the calls
--- of each answered
+-- what is known of the two ends of a connection: the bytes of its reader and of its writer, what the calls of each
+-- returned, and what the writer held as each read was made
 pub record Known : Type 0 where
   pub reader : Option (List ℕ)
   pub reads : Option (List ReadTold)
+  pub beside : Option (List Beside)
   pub writer : Option (List ℕ)
   pub writes : Option (List WriteTold)
 
 -- no clause says what a stream of the system gives or takes
 abbrev pub unknown : Known
-unknown = record { reader = None; reads = None; writer = None; writes = None }
+unknown = record { reader = None; reads = None; beside = None; writer = None; writes = None }
 
 -- of a pair of ends of any kind, whose ghosts these are
 abbrev pub known_ends : {R W : Type 0} → (R → Option (List ℕ)) → (R → Option (List ReadTold))
-    → (W → Option (List ℕ))
-    → (W → Option (List WriteTold)) → R × W → Known
-known_ends remaining reads contents writes ends = record {
+    → (R → Option (List Beside)) → (W → Option (List ℕ)) → (W → Option (List WriteTold)) → R × W → Known
+known_ends remaining reads beside contents writes ends = record {
   reader = remaining ends.0;
   reads = reads ends.0;
+  beside = beside ends.0;
   writer = contents ends.1;
   writes = writes ends.1;
 }
@@ -65,6 +67,8 @@ pub record IsServed {C : Type 0} (seen : C → Seen) (reason : Fault → C → C
       (seen c.before) (seen c.after)
   pub ended : ends.ServeFaultIsOfItsEnd c.result c.ends.reads c.ends_after.reads c.ends.writes
       c.ends_after.writes
+  pub prompt : IsPrompt c.ends.reader c.ends_after.reader c.ends.reads c.ends_after.reads c.ends.beside
+      c.ends_after.beside c.ends.writer c.ends.writes (seen c.before) (seen c.after)
   -- a fault of the bank says why a call was refused
   pub why : IfErr c.result (λ fault. IfRefused fault (IsOfCall seen reason c.before c.after))
   pub honest : (seen c.after).honest → (seen c.before).honest

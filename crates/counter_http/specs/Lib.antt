@@ -10,6 +10,7 @@ pub mod Telling
 pub mod Turns
 pub mod Serving
 pub mod Outputs
+pub mod Prompt
 pub mod ListenFaults
 pub mod WaitingLimits
 pub mod Doors

@@ -3,6 +3,7 @@ ghost use Rattle.std.specs.Prelude.{◌≡◌, ◌≤◌, ◌-◌, IfErr, length
 ghost use Rattle.posting_core.specs.Stream.{IsOfCall};
 ghost use Rattle.counter_http.specs.Ends.{ServeFaultIsOfItsEnd};
 ghost use Rattle.counter_http.specs.Outputs.{OutputsAnswers, SurvivesServing};
+ghost use Rattle.counter_http.specs.Prompt.{IsPrompt};
 ghost use Rattle.counter_http.specs.Serving.{ServesConnection};
 ghost use Rattle.counter_http.specs.Turns.{IfRefused};
 
@@ -11,7 +12,7 @@ use crate::fault::ServeFault;
 use crate::limits::BUFFER;
 use crate::next::{Next, next_message};
 use crate::routes::Routes;
-use posting_core::transfer::{fill, move_to_front};
+use posting_core::transfer::{fill_beside, move_to_front};
 use posting_core::{Clock, Counter, Sink, Source};
 use std::alloc::Global;
 use std::io::ErrorKind;
@@ -36,12 +37,15 @@ fn serve<R: Source, W: Sink, K: Clock, C: Counter>(
     ensures why { IfErr result (λ fault. IfRefused fault (IsOfCall C.seen C.reason bank.old bank.new)) }
     ensures ends { ServeFaultIsOfItsEnd result (R.told reader.old) (R.told reader.new)
         (W.told writer.old) (W.told writer.new) }
+    ensures prompt { IsPrompt (R.remaining reader.old) (R.remaining reader.new) (R.told reader.old)
+        (R.told reader.new) (R.beside reader.old) (R.beside reader.new) (W.contents writer.old)
+        (W.told writer.old) (C.seen bank.old) (C.seen bank.new) }
 {
     let mut filled = 0;
     let mut served = 0;
     let mut shows_body = true;
     'reads: for _ in 0..u64::MAX {
-        match fill(reader, buffer, filled) {
+        match fill_beside(reader, buffer, filled, writer) {
             Ok(0) if filled == 0 => return Ok(served),
             Ok(0) => {
                 refuse(writer, shows_body)?;
@@ -81,10 +85,10 @@ fn serve<R: Source, W: Sink, K: Clock, C: Counter>(
 /// Serves a connection to the end of the walk over its messages, and returns how many answers were written.
 /// As soon as whole messages were read they are answered, in their order and before anything more is read; a
 /// record is submitted under one reading of the clock. An answer of at most 512 bytes is one write, and each
-/// is flushed. An interrupted read or write is made again. `Read` and `Write` come only where a read, a write
-/// or a flush of this call failed, where a write took no byte, or where 2^64 - 1 of them were made. The
-/// buffer and the routes are made before anything is read; after that only the bank and the body of a `GET`
-/// take memory.
+/// is flushed. An interrupted read or write is made again. `Read` comes only where the last read failed, or
+/// where 2^64 - 1 reads were made; `Write` only where the last write or flush failed, where a write took no
+/// byte, or where one was interrupted 2^64 - 1 times in a row. The buffer and the routes are made before
+/// anything is read; after that only the bank and the body of a `GET` take memory.
 pub fn serve_connection<R: Source, W: Sink, K: Clock, C: Counter>(
     alloc: Global,
     reader: &mut R,
@@ -104,6 +108,9 @@ pub fn serve_connection<R: Source, W: Sink, K: Clock, C: Counter>(
         (C.seen bank.old) (C.seen bank.new) }
     ensures ends { ServeFaultIsOfItsEnd result (R.told reader.old) (R.told reader.new)
         (W.told writer.old) (W.told writer.new) }
+    ensures prompt { IsPrompt (R.remaining reader.old) (R.remaining reader.new) (R.told reader.old)
+        (R.told reader.new) (R.beside reader.old) (R.beside reader.new) (W.contents writer.old)
+        (W.told writer.old) (C.seen bank.old) (C.seen bank.new) }
     ensures why { IfErr result (λ fault. IfRefused fault (IsOfCall C.seen C.reason bank.old bank.new)) }
     ensures honest { (C.seen bank.new).honest → (C.seen bank.old).honest }
 {

@@ -90,7 +90,7 @@ pub fn serve_door<D: Door, K: Clock, C: Counter>(
     bank: &mut C,
 ) -> Result<(), ListenFault>
     ensures { ServesDoor C.seen C.reason
-        (known_ends D.Reader.remaining D.Reader.told D.Writer.contents D.Writer.told)
+        (known_ends D.Reader.remaining D.Reader.told D.Reader.beside D.Writer.contents D.Writer.told)
         (D.told door.old) (D.told door.new) (K.readings clock.old) (K.readings clock.new) bank.old bank.new
         connections result }
 {
@@ -114,7 +114,7 @@ fn serve_ends<D: Door, K: Clock, C: Counter>(
     bank: &mut C,
 ) -> Result<Served, ServeFault>
     ensures { ServesEnds C.seen C.reason
-        (known_ends D.Reader.remaining D.Reader.told D.Writer.contents D.Writer.told)
+        (known_ends D.Reader.remaining D.Reader.told D.Reader.beside D.Writer.contents D.Writer.told)
         (D.told door.old) (D.told door.new) (reader, writer) (K.readings clock.old) (K.readings clock.new)
         bank.old bank.new result }
 {

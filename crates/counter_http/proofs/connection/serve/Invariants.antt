@@ -3,19 +3,21 @@ use Rattle.counter_http.specs.declared.limits.TheConstants.{BUFFER}
 use Rattle.posting_core.specs.Told.{IsThrough}
 use Rattle.posting_core.proofs.Telling.{HasMade}
 use Rattle.counter_http.specs.Next.{IsUnfinished}
-use Rattle.counter_http.proofs.ConnectionLoop.{Going}
+use Rattle.counter_http.proofs.Prompts.{Prompted}
 use Rattle.counter_http.proofs.connection.serve.Given as goal
 
--- all whole messages that were read are answered, and the rest stands at the front of the buffer; one read
--- was made a turn, and every answer was flushed
+-- all whole messages that were read are answered, as they were when each read was made, and the rest stands at
+-- the front of the buffer; one read was made a turn, and every answer was flushed
 abbrev pub invariant-reads : goal.invariant-reads
 invariant-reads g l = record {
   few : l.filled < BUFFER;
   room : length l.buffer ≡ BUFFER;
   bound : l.served ≤ 12_289 * l.counter;
   waits : IsUnfinished (take l.filled l.buffer) l.shows_body;
-  going : Going (g.R.Source.remaining l.fn.reader) (g.R.Source.remaining l.reader)
-      (g.W.Sink.contents l.fn.writer) (g.W.Sink.contents l.writer)
+  prompted : Prompted (g.R.Source.remaining l.fn.reader) (g.R.Source.remaining l.reader)
+      (g.R.Source.told l.fn.reader) (g.R.Source.told l.reader) (g.R.Source.beside l.fn.reader)
+      (g.R.Source.beside l.reader) (g.W.Sink.contents l.fn.writer) (g.W.Sink.contents l.writer)
+      (g.W.Sink.told l.fn.writer)
       (g.K.Clock.readings l.fn.clock) (g.K.Clock.readings l.clock) (g.C.Counter.seen l.fn.bank)
       (g.C.Counter.seen l.bank) (take l.filled l.buffer) l.served;
   idle : (g.C.Counter.seen l.fn.bank).is_down → l.bank ≡ l.fn.bank;
@@ -29,8 +31,10 @@ invariant-messages g l = record {
   order : l.used ≤ l.filled;
   fits : l.filled ≤ BUFFER;
   bound : l.served ≤ l.initial.served + l.used;
-  going : Going (g.R.Source.remaining l.fn.reader) (g.R.Source.remaining l.reader)
-      (g.W.Sink.contents l.fn.writer) (g.W.Sink.contents l.writer)
+  prompted : Prompted (g.R.Source.remaining l.fn.reader) (g.R.Source.remaining l.reader)
+      (g.R.Source.told l.fn.reader) (g.R.Source.told l.reader) (g.R.Source.beside l.fn.reader)
+      (g.R.Source.beside l.reader) (g.W.Sink.contents l.fn.writer) (g.W.Sink.contents l.writer)
+      (g.W.Sink.told l.fn.writer)
       (g.K.Clock.readings l.fn.clock) (g.K.Clock.readings l.clock) (g.C.Counter.seen l.fn.bank)
       (g.C.Counter.seen l.bank) (slice_range l.buffer l.used l.filled) l.served;
   idle : (g.C.Counter.seen l.fn.bank).is_down → l.bank ≡ l.fn.bank;

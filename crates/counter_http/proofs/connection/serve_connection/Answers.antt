@@ -2,6 +2,7 @@ use Rattle.std.proofs.Common.{Err}
 use Rattle.counter_http.specs.declared.fault.ServeFault.TheVariants.{Memory}
 use Rattle.posting_core.proofs.Telling.{adds-none}
 use Rattle.counter_http.proofs.Connected.{untouched}
+use Rattle.counter_http.proofs.Prompts.{prompt_none}
 use Rattle.counter_http.proofs.Written.{output_of, survives_of}
 use Rattle.counter_http.proofs.connection.serve_connection.Goals as goal
 
@@ -23,6 +24,9 @@ returns-in_default-clause-survives g c =
 pub returns-in_default-clause-ends : goal.returns-in_default-clause-ends
 returns-in_default-clause-ends g c = (adds-none _, adds-none _)
 
+pub returns-in_default-clause-prompt : goal.returns-in_default-clause-prompt
+returns-in_default-clause-prompt g c = prompt_none
+
 -- memory for the buffer was refused
 pub returns-in_default-vec-clause-served : goal.returns-in_default-vec-clause-served
 returns-in_default-vec-clause-served g c = untouched g.C.Counter.seen c.args.bank.now
@@ -41,6 +45,9 @@ returns-in_default-vec-clause-survives g c =
 pub returns-in_default-vec-clause-ends : goal.returns-in_default-vec-clause-ends
 returns-in_default-vec-clause-ends g c = (adds-none _, adds-none _)
 
+pub returns-in_default-vec-clause-prompt : goal.returns-in_default-vec-clause-prompt
+returns-in_default-vec-clause-prompt g c = prompt_none
+
 -- messages were answered
 pub returns-clause-output : goal.returns-clause-output
 returns-clause-output g c =
@@ -56,3 +63,7 @@ returns-clause-honest g c = λ h. c.serve.ensures.served.honest_first (c.serve.e
 -- why a call was refused
 pub returns-clause-why : goal.returns-clause-why
 returns-clause-why g c = c.serve.ensures.why
+
+-- what was written as each read was made
+pub returns-clause-prompt : goal.returns-clause-prompt
+returns-clause-prompt g c = c.serve.ensures.prompt

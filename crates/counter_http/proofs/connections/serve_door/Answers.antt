@@ -25,7 +25,8 @@ returns-in_err-after g c =
     let is : c.after.result ≡ Err fault = search rules in
     let same : c.from_residual.result ≡ Err fault = search rules in
     subst (λ (r : Result (Unit {0}) ListenFault). ServesDoor g.C.Counter.seen g.C.Counter.reason
-    (known_ends g.D.Reader.Source.remaining g.D.Reader.Source.told g.D.Writer.Sink.contents g.D.Writer.Sink.told)
+    (known_ends g.D.Reader.Source.remaining g.D.Reader.Source.told g.D.Reader.Source.beside
+    g.D.Writer.Sink.contents g.D.Writer.Sink.told)
     (g.D.Door.told c.args.door.now) (g.D.Door.told served.new.door)
     (g.K.Clock.readings c.args.clock.now)
     (g.K.Clock.readings served.new.clock) c.args.bank.now served.new.bank c.args.connections r) (sym same)

@@ -10,6 +10,7 @@ returns g c =
         output = it.output;
         survives = it.survives;
         ended = it.ends;
+        prompt = it.prompt;
         why = it.why;
         honest = it.honest;
       };

@@ -1,0 +1,271 @@
+-- What was written as each read was made, read by read.
+use Rattle.std.proofs.Common.{◌≡◌, ℕ, ◌+◌, ◌<◌, ◌≤◌, List, [], ◌∷◌, ◌++◌, length, take, drop, get_or, Option}
+use Rattle.std.proofs.Common.{Result, Ok, Err, refl, sym, ap, subst, ◌∙◌, arith, inl, inr, append_assoc, append-nil}
+use Rattle.std.specs.Prelude.{◌⊎◌, false}
+use Rattle.std.specs.Io.KnownBytes.{Appends, Consumes, Keeps}
+use Rattle.std.proofs.KnownBytes.{Consumes-kept, Consumes-nil}
+use Rattle.std.specs.declared.io.Error.{Error}
+use Rattle.std.proofs.lemmas.List.{get_or_append_left, length-append, length-take-le, take-append-drop, take-append-le}
+use Rattle.std.proofs.Math.Seq.{get_or-append_seam, take-append_seam}
+use Rattle.posting_rules.specs.Commands.{Command}
+use Rattle.posting_rules.specs.Counter.{Seen}
+use Rattle.posting_core.specs.Stream.{given}
+use Rattle.posting_core.specs.Told.{Beside, Failed, Gave, GrowsBy, IsThrough, ReadTold, WriteTold, read_told, unknown}
+use Rattle.posting_core.proofs.Followed.{gave_none, gave_some}
+use Rattle.posting_core.proofs.Telling.{adds-more, adds-none}
+use Rattle.counter_http.specs.Outputs.{AnswersWhole}
+use Rattle.counter_http.specs.Prompt.{AnswersBeforeReads, HoldsAnswers, IsPrompt}
+use Rattle.counter_http.specs.Serving.{BeginsWithNoMessage}
+use Rattle.counter_http.specs.Turns.{Turn, TurnIsDealtWith, answers_to, messages_of, text_in, texts_of}
+use Rattle.counter_http.specs.Next.{asked, IsWhole}
+use Rattle.counter_http.specs.declared.next.Whole.{Whole}
+use Rattle.posting_core.specs.Batches.{joined}
+use Rattle.posting_rules.specs.declared.fault.Fault.{Fault}
+use Rattle.counter_http.proofs.ConnectionLoop.{Going, going_first, going_message, going_read, texts_one_more, turn_of}
+use Rattle.counter_http.proofs.Momentless.{momentless}
+use Rattle.counter_http.proofs.Written.{stays_all, texts_are}
+
+-- ---- what stands written
+
+whole_so_far : {r r' w w' k k' : Option (List ℕ)} {c c' : Seen} {count : ℕ} (rest : List ℕ)
+    (g : Going r r' w w' k k' c c' rest count) → BeginsWithNoMessage rest → (log : List Command)
+    → AnswersWhole log (texts_of g.turns ++ rest) (joined (answers_to log g.turns))
+whole_so_far rest g none log = record {
+  messages = messages_of g.turns;
+  rest = rest;
+  input_is = ap (λ (x : List ℕ). x ++ rest) (texts_are g.turns);
+  stays = stays_all g.turns g.stays;
+  no_more = none;
+  text_is = ap joined (momentless log g.turns);
+}
+
+-- all whole messages that were read are answered
+holds_now : {r r' w w' k k' : Option (List ℕ)} {c c' : Seen} {count : ℕ} {t t' : Option (List WriteTold)}
+    (rest : List ℕ) (g : Going r r' w w' k k' c c' rest count) → BeginsWithNoMessage rest → IsThrough t t'
+    → HoldsAnswers w t c c' (texts_of g.turns ++ rest) (record { contents = w'; told = t' })
+holds_now {w = w} {w' = w'} rest g none through = record {
+  wrote = λ h log shows. (
+    joined (answers_to log g.turns),
+    whole_so_far rest g none log,
+    subst (λ (x : List ℕ). Appends w w' x) (g.answered.answers h log shows) g.answered.wrote,
+  );
+  through = through;
+}
+
+holds_as : {w : Option (List ℕ)} {t : Option (List WriteTold)} {c c' : Seen} {input input' : List ℕ}
+    {sink sink' : Beside} → input ≡ input' → sink ≡ sink' → HoldsAnswers w t c c' input sink
+    → HoldsAnswers w t c c' input' sink'
+holds_as {w} {t} {c} {c'} {input} {input'} {sink} {sink'} one two h =
+    subst (λ (s : Beside). HoldsAnswers w t c c' input' s) two
+    (subst (λ (x : List ℕ). HoldsAnswers w t c c' x sink) one h)
+
+-- ---- one read more
+
+given-append : (xs ys : List ReadTold) → given (xs ++ ys) ≡ given xs + given ys
+given-append [] ys = omega arith
+given-append (Gave n ∷ xs) ys = let e = given-append xs ys in omega arith
+given-append (Failed kind ∷ xs) ys = given-append xs ys
+
+given_front : (n : ℕ) (xs : List ReadTold) → given (take n xs) ≤ given xs
+given_front n xs =
+    let all = ap given (take-append-drop n xs) in
+    omega (arith, all, given-append (take n xs) (drop n xs))
+
+before_or_last : (n m : ℕ) → n < m + 1 → (n < m) ⊎ (n ≡ m)
+before_or_last n m below = grind arith
+
+-- of a read that was made before
+as_before : {w : Option (List ℕ)} {t : Option (List WriteTold)} {c c' : Seen} (reads : List ReadTold)
+    (sinks : List Beside) (input bytes : List ℕ) (x : ReadTold) (sink : Beside) (n : ℕ)
+    → given reads ≡ length input → length sinks ≡ length reads → n < length reads
+    → HoldsAnswers w t c c' (take (given (take n reads)) input) (get_or sinks n unknown)
+    → HoldsAnswers w t c c' (take (given (take n (reads ++ x ∷ []))) (input ++ bytes))
+    (get_or (sinks ++ sink ∷ []) n unknown)
+as_before reads sinks input bytes x sink n long each below h =
+    let few : given (take n reads) ≤ length input = omega (arith, given_front n reads, long) in
+    let inside : n < length sinks = omega (arith, each, below) in
+    let upto : n ≤ length reads = omega (arith, below) in
+    holds_as (sym (ap (λ (ts : List ReadTold). take (given ts) (input ++ bytes))
+    (take-append-le n reads (x ∷ []) upto)
+    ∙ take-append-le (given (take n reads)) input bytes few))
+    (sym (get_or_append_left sinks (sink ∷ []) unknown n inside)) h
+
+-- of the read itself
+as_last : {w : Option (List ℕ)} {t : Option (List WriteTold)} {c c' : Seen} (reads : List ReadTold)
+    (sinks : List Beside) (input bytes : List ℕ) (x : ReadTold) (sink : Beside) (n : ℕ)
+    → given reads ≡ length input → length sinks ≡ length reads → n ≡ length reads
+    → HoldsAnswers w t c c' input sink
+    → HoldsAnswers w t c c' (take (given (take n (reads ++ x ∷ []))) (input ++ bytes))
+    (get_or (sinks ++ sink ∷ []) n unknown)
+as_last reads sinks input bytes x sink n long each is h =
+    holds_as (sym (ap (λ (m : ℕ). take (given (take m (reads ++ x ∷ []))) (input ++ bytes)) is
+    ∙ ap (λ (ts : List ReadTold). take (given ts) (input ++ bytes)) (take-append_seam reads (x ∷ []))
+    ∙ ap (λ (m : ℕ). take m (input ++ bytes)) long ∙ take-append_seam input bytes))
+    (sym (ap (λ (m : ℕ). get_or (sinks ++ sink ∷ []) m unknown) (is ∙ sym each)
+    ∙ get_or-append_seam sinks sink [] unknown)) h
+
+one_read : {q q' q'' : Option (List ReadTold)} {b b' b'' : Option (List Beside)} {w : Option (List ℕ)}
+    {t : Option (List WriteTold)} {c c' : Seen} (input bytes : List ℕ) (x : ReadTold) (sink : Beside)
+    → AnswersBeforeReads q q' b b' w t c c' input → HoldsAnswers w t c c' input sink
+    → GrowsBy q' q'' (x ∷ []) → GrowsBy b' b'' (sink ∷ []) → given (x ∷ []) ≡ length bytes
+    → AnswersBeforeReads q q'' b b'' w t c c' (input ++ bytes)
+one_read {q} {q'} {q''} {b} {b'} {b''} {w} {t} {c} {c'} input bytes x sink p holds told beside long = record {
+  reads = p.reads ++ x ∷ [];
+  made = adds-more q q' q'' p.reads (x ∷ []) p.made told;
+  long = omega (arith, given-append p.reads (x ∷ []), p.long, long, length-append input bytes);
+  sinks = p.sinks ++ sink ∷ [];
+  beside = adds-more b b' b'' p.sinks (sink ∷ []) p.beside beside;
+  each = omega (arith, length-append p.sinks (sink ∷ []), length-append p.reads (x ∷ []), p.each);
+  answered = λ n below. elim (before_or_last n (length p.reads)
+      (omega (arith, below, length-append p.reads (x ∷ [])))) [
+        | inl old ↦ as_before p.reads p.sinks input bytes x sink n p.long p.each old (p.answered n old)
+        | inr last ↦ as_last p.reads p.sinks input bytes x sink n p.long p.each last holds
+      ];
+}
+
+-- ---- where the loop stands
+
+-- what was done so far, and what stood written as each read was made
+pub record Prompted (r r' : Option (List ℕ)) (q q' : Option (List ReadTold)) (b b' : Option (List Beside))
+    (w w' : Option (List ℕ)) (t : Option (List WriteTold)) (k k' : Option (List ℕ)) (c c' : Seen)
+    (rest : List ℕ) (count : ℕ) : Type 0 where
+  pub going : Going r r' w w' k k' c c' rest count
+  pub before : AnswersBeforeReads q q' b b' w t c c' (texts_of going.turns ++ rest)
+
+pub none_read : (q : Option (List ReadTold)) (b : Option (List Beside)) {w : Option (List ℕ)}
+    {t : Option (List WriteTold)} {c c' : Seen} → AnswersBeforeReads q q b b w t c c' []
+none_read q b = record {
+  reads = [];
+  made = adds-none q;
+  long = refl;
+  sinks = [];
+  beside = adds-none b;
+  each = refl;
+  answered = λ n below. absurd (omega (arith, below));
+}
+
+-- the bank went on
+goes_to : {q q' : Option (List ReadTold)} {b b' : Option (List Beside)} {w : Option (List ℕ)}
+    {t : Option (List WriteTold)} {c c' c'' : Seen} {input input' : List ℕ} → input ≡ input'
+    → (c''.honest → c'.honest) → AnswersBeforeReads q q' b b' w t c c' input
+    → AnswersBeforeReads q q' b b' w t c c'' input'
+goes_to {q} {q'} {b} {b'} {w} {t} {c} {c'} {c''} same honest p =
+    subst (λ (x : List ℕ). AnswersBeforeReads q q' b b' w t c c'' x) same (record {
+      reads = p.reads;
+      made = p.made;
+      long = p.long;
+      sinks = p.sinks;
+      beside = p.beside;
+      each = p.each;
+      answered = λ n below. record {
+        wrote = λ h. (p.answered n below).wrote (honest h);
+        through = (p.answered n below).through;
+      };
+    })
+
+-- of all that was read so far
+pub prompt_so_far : {r r' : Option (List ℕ)} {q q' : Option (List ReadTold)} {b b' : Option (List Beside)}
+    {w w' : Option (List ℕ)} {t : Option (List WriteTold)} {k k' : Option (List ℕ)} {c c' c'' : Seen}
+    {rest : List ℕ} {count : ℕ} → (c''.honest → c'.honest)
+    → Prompted r r' q q' b b' w w' t k k' c c' rest count
+    → IsPrompt r r' q q' b b' w t c c''
+prompt_so_far {rest = rest} honest p = record {
+  input = texts_of p.going.turns ++ rest;
+  read = p.going.read;
+  before = goes_to refl honest p.before;
+}
+
+-- nothing was read
+pub prompt_none : {r : Option (List ℕ)} {q : Option (List ReadTold)} {b : Option (List Beside)}
+    {w : Option (List ℕ)} {t : Option (List WriteTold)} {c c' : Seen} → IsPrompt r r q q b b w t c c'
+prompt_none {r = r} {q = q} {b = b} = record { input = []; read = Consumes-nil r; before = none_read q b }
+
+-- ---- step by step
+
+pub prompted_first : {r : Option (List ℕ)} {q : Option (List ReadTold)} {b : Option (List Beside)}
+    {w : Option (List ℕ)} {t : Option (List WriteTold)} {k : Option (List ℕ)} {c : Seen} (rest : List ℕ)
+    → rest ≡ [] → Prompted r r q q b b w w t k k c c rest 0
+unfolding going_first
+prompted_first {q = q} {b = b} {c = c} rest none = record {
+  going = going_first rest none;
+  before = goes_to {c' = c} (sym none) (λ h. h) (none_read q b);
+}
+
+-- a read gave some bytes, or it failed and gave none
+pub record HasRead (r r' : Option (List ℕ)) (told : Result ℕ Error) (rest all : List ℕ) : Type 0 where
+  pub bytes : List ℕ
+  pub got : Consumes r r' bytes
+  pub all_is : all ≡ rest ++ bytes
+  pub long : given (read_told told ∷ []) ≡ length bytes
+
+bytes_long : (old new bytes : List ℕ) (filled n : ℕ) → take (filled + n) new ≡ take filled old ++ bytes
+    → filled + n ≤ length new → filled ≤ length old → length bytes ≡ n
+bytes_long old new bytes filled n e fits within =
+    let len = ap length e in
+    omega (
+      arith,
+      len,
+      length-append (take filled old) bytes,
+      length-take-le filled old within,
+      length-take-le (filled + n) new fits,
+    )
+
+pub has_read : {r r' : Option (List ℕ)} (old new : List ℕ) (filled filled' n : ℕ) (told : Result ℕ Error)
+    → told ≡ Ok n → filled + n ≤ length new → filled ≤ length old
+    → ((bytes : List ℕ) × (take (filled + n) new ≡ take filled old ++ bytes) × Consumes r r' bytes)
+    → filled' ≡ filled + n → HasRead r r' told (take filled old) (take filled' new)
+has_read old new filled filled' n told is fits within got place = record {
+  bytes = got.0;
+  got = got.2;
+  all_is = ap (λ (j : ℕ). take j new) place ∙ got.1;
+  long = gave_some told n is ∙ sym (bytes_long old new got.0 filled n got.1 fits within);
+}
+
+pub has_failed : {r r' : Option (List ℕ)} (old new : List ℕ) (filled filled' : ℕ) (told : Result ℕ Error)
+    (e : Error) → told ≡ Err e → (Keeps r r' × (take filled new ≡ take filled old)) → filled' ≡ filled
+    → HasRead r r' told (take filled old) (take filled' new)
+has_failed {r} {r'} old new filled filled' told e is kept place = record {
+  bytes = [];
+  got = Consumes-kept r r r' [] (Consumes-nil r) kept.0;
+  all_is = ap (λ (j : ℕ). take j new) place ∙ kept.1 ∙ sym (append-nil (take filled old));
+  long = gave_none told e is;
+}
+
+-- one read more, before which all whole messages were answered
+pub read_on : {r r' r'' : Option (List ℕ)} {q q' q'' : Option (List ReadTold)}
+    {b b' b'' : Option (List Beside)} {w w' : Option (List ℕ)} {t t' : Option (List WriteTold)}
+    {k k' : Option (List ℕ)} {c c' : Seen} {count : ℕ} (rest all : List ℕ) (told : Result ℕ Error)
+    → Prompted r r' q q' b b' w w' t k k' c c' rest count → BeginsWithNoMessage rest → IsThrough t t'
+    → HasRead r' r'' told rest all → GrowsBy q' q'' (read_told told ∷ [])
+    → GrowsBy b' b'' (record { contents = w'; told = t' } ∷ [])
+    → Prompted r r'' q q'' b b'' w w' t k k' c c' all count
+unfolding going_read
+read_on rest all told p none through read tells beside =
+    let before = texts_of p.going.turns in
+    record {
+      going = going_read rest read.bytes all p.going read.got read.all_is;
+      before = goes_to (append_assoc before rest read.bytes
+          ∙ ap (λ (x : List ℕ). before ++ x) (sym read.all_is)) (λ h. h)
+          (one_read (before ++ rest) read.bytes (read_told told) _ p.before (holds_now rest p.going none through)
+          tells beside read.long);
+    }
+
+-- a message was answered
+pub message_on : {C : Type 0} (seen : C → Seen) {reason : Fault → C → C → Type 0} {r r' : Option (List ℕ)}
+    {q q' : Option (List ReadTold)} {b b' : Option (List Beside)} {w w' w'' : Option (List ℕ)}
+    {t v v' : Option (List WriteTold)} {k k' k'' : Option (List ℕ)} {c : Seen} {count : ℕ} (now new : C)
+    (all rest : List ℕ) (count' : ℕ) (p : Whole)
+    → Prompted r r' q q' b b' w w' t k k' c (seen now) all count → IsWhole all p → p.closes ≡ false
+    → rest ≡ drop p.length all → count' ≡ count + 1
+    → TurnIsDealtWith seen reason w' w'' v v' k' k'' now new (asked p) (Ok tt)
+    → Prompted r r' q q' b b' w w'' t k k'' c (seen new) rest count'
+unfolding going_message
+message_on seen now new all rest count' p so is on left n d =
+    let turns = so.going.turns in
+    let turn : Turn = turn_of d.moment is in
+    record {
+      going = going_message seen now new all rest count' p so.going is on left n d;
+      before = goes_to (ap (λ (x : List ℕ). texts_of turns ++ x)
+          (is.front ∙ ap (λ (x : List ℕ). text_in turn ++ x) (sym left))
+          ∙ sym (texts_one_more turns turn rest)) d.dealt.honest so.before;
+    }
