@@ -43,4 +43,6 @@ mod text;
 pub use fault::PlanFault;
 pub use loader::{Loaded, load};
 pub use plan::Plan;
-pub use read::read_plan;
+pub use read::{next_record, read_plan};
+pub use records::RecordSource;
+pub use text::read_text;

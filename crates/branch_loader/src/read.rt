@@ -147,9 +147,12 @@ fn row_of_fields(
     }
 }
 
-// Takes the next record, if there is one. A failure of csv is told as want of memory: its source is a text in
-// memory, which doesn't fail.
-fn next_record<S: RecordSource>(source: &mut S, fields: &mut ByteRecord) -> Result<bool, PlanFault>
+/// Takes the next record, if there is one. A failure of csv is told as want of memory: its source is a text in
+/// memory, which doesn't fail.
+pub fn next_record<S: RecordSource>(
+    source: &mut S,
+    fields: &mut ByteRecord,
+) -> Result<bool, PlanFault>
     requires { S.is_plain source.old }
     ensures plain { OnOk result (S.is_plain source.new) }
     ensures takes { IfOk result (λ found. (rows : Records) → S.has_left source.old rows

@@ -9,7 +9,7 @@ use csv::{ByteRecord, Error, Reader};
 use std::io::Read;
 
 /// Records one after another: those that csv reads.
-pub(crate) trait RecordSource {
+pub trait RecordSource {
     /// It takes records of any length, and is between two of them.
     ghost is_plain: { Self → Type 0 };
 

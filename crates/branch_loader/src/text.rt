@@ -1,4 +1,4 @@
-//! The text of a plan.
+//! The text of a plan, or of another sheet of CSV.
 ghost use Rattle.std.specs.Prelude.{◌≡◌, ◌⊎◌, ℕ, List, IfErr, IfOk, OnOk};
 ghost use Rattle.std.specs.Io.KnownBytes.{Consumes, IsAtEnd};
 ghost use Rattle.posting_core.specs.Told.{EndsWith, HasReadFailed, IsEndOfInput};
@@ -13,7 +13,7 @@ const PART: usize = 4096;
 
 /// Reads a source to its end. An interrupted read is made again; a source that was asked 2^64 - 1 times counts
 /// as failed.
-pub(crate) fn read_text<R: Source>(alloc: Global, reader: &mut R) -> Result<Vec<u8>, PlanFault>
+pub fn read_text<R: Source>(alloc: Global, reader: &mut R) -> Result<Vec<u8>, PlanFault>
     ensures read { (bytes : List ℕ) × Consumes (R.remaining reader.old) (R.remaining reader.new) bytes
         × IfOk result (λ text. text.items ≡ bytes) }
     ensures end { OnOk result (IsAtEnd (R.remaining reader.new)) }
