@@ -1,0 +1,4 @@
+pub mod Faults
+pub mod Sheets
+pub mod Encoding
+pub mod Replies

@@ -1,0 +1,82 @@
+//! The sheet of replies.
+ghost use Rattle.std.specs.Prelude.{◌<◌, ◌-◌, ◌^◌};
+ghost use Rattle.posting_sheets.specs.Replies.{Decodes, IsLineSo, RepliesFaultIsOfItsEnd};
+
+use crate::fault::RepliesFault;
+use crate::line::line_of;
+use message_records::{REPLY_BYTES, decode_reply};
+use posting_core::transfer::fill;
+use posting_core::{Sink, Source, write_out};
+use std::alloc::Global;
+use std::io::ErrorKind;
+
+const HEADING: &[u8; 56] = b"outcome,name,account,teller,branch,number,delta,balance\n";
+
+// Writes the line of the reply that the bytes are, of which so many came before.
+fn write_line<W: Sink>(
+    alloc: Global,
+    writer: &mut W,
+    bytes: &[u8; REPLY_BYTES],
+    before: u64,
+) -> Result<(), RepliesFault>
+    requires { before < 2 ^ 64 - 1 }
+    ensures { IsLineSo bytes.now before (W.contents writer.old) (W.contents writer.new)
+        (W.told writer.old) (W.told writer.new) result }
+{
+    let reply = match decode_reply(bytes) {
+        Ok(reply) => reply,
+        Err(bad) => return Err(RepliesFault::Reply(before + 1, bad)),
+    };
+    let Ok(line) = line_of(alloc, &reply) else {
+        return Err(RepliesFault::Memory);
+    };
+    match write_out(writer, line.as_bytes()) {
+        Ok(()) => Ok(()),
+        Err(_) => Err(RepliesFault::Write),
+    }
+}
+
+/// Writes a sheet of the replies that it reads to the end of its input: a header, and a line for each reply, which is
+/// written and flushed before the next is read. It answers how many replies there were. It takes memory for a line.
+///
+/// # Errors
+///
+/// - [`RepliesFault::Truncated`]: the input ended within a reply. The lines of those before it were written.
+/// - [`RepliesFault::Reply`]: the bytes are no reply. The lines of those before it were written.
+/// - [`RepliesFault::Read`]: a read failed, or 2^64 - 1 reads were made. The lines of the whole replies that were
+///   read before were written.
+/// - [`RepliesFault::Write`]: a write or a flush failed, a write took no byte, or 2^64 - 1 writes were made. A
+///   prefix of the sheet was written.
+/// - [`RepliesFault::Memory`]: memory was refused. A prefix of the sheet was written.
+pub fn decode_replies<R: Source, W: Sink>(
+    alloc: Global,
+    reader: &mut R,
+    writer: &mut W,
+) -> Result<u64, RepliesFault>
+    ensures decodes { Decodes (R.remaining reader.old) (R.remaining reader.new)
+        (W.contents writer.old) (W.contents writer.new) result }
+    ensures ends { RepliesFaultIsOfItsEnd result (R.remaining reader.new) (R.told reader.old) (R.told reader.new)
+        (W.told writer.old) (W.told writer.new) }
+{
+    if write_out(writer, HEADING).is_err() {
+        return Err(RepliesFault::Write);
+    }
+    let mut buffer = [0u8; REPLY_BYTES];
+    let mut filled = 0;
+    let mut count = 0;
+    'reads: for _ in 0..u64::MAX {
+        match fill(reader, &mut buffer, filled) {
+            Ok(0) if filled == 0 => return Ok(count),
+            Ok(0) => return Err(RepliesFault::Truncated(filled as u8)),
+            Ok(n) => filled += n,
+            Err(e) if e.kind() == ErrorKind::Interrupted => {}
+            Err(_) => return Err(RepliesFault::Read),
+        }
+        if filled == REPLY_BYTES {
+            write_line(alloc, writer, &buffer, count)?;
+            count += 1;
+            filled = 0;
+        }
+    }
+    Err(RepliesFault::Read)
+}

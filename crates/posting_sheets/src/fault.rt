@@ -1,0 +1,117 @@
+//! Why a sheet has no more records, and why replies have no more lines.
+use message_records::BadReply;
+use std::fmt;
+
+/// What is wrong with a row: it hasn't as many fields as the header, or the first faulty one from the left.
+#[derive(Clone, Copy, Debug, PartialEq, Eq)]
+pub enum BadRow {
+    /// The row hasn't as many fields as the header.
+    Columns,
+    /// The account isn't 1 to 12 digits with a value of 1..=`MAX_ACCOUNT`.
+    Account,
+    /// The teller isn't 1 to 12 digits with a value of 1..=`MAX_TELLER`.
+    Teller,
+    /// The number isn't 1 to 12 digits with a value of 1..=`MAX_NUMBER`.
+    Number,
+    /// The delta isn't 1 to 10 digits, with a sign or without one.
+    Delta,
+    /// The branch isn't 1 to 12 digits with a value of 1..=`MAX_BRANCH`; or there is none, and the teller's isn't in
+    /// that range.
+    Branch,
+    /// The reference has more than `REFERENCE_BYTES` bytes, or one that isn't printable ASCII.
+    Reference,
+}
+
+/// The column's name, or `columns`.
+impl fmt::Display for BadRow {
+    ghost use Rattle.std.specs.Prelude.{Some};
+    ghost use Rattle.posting_sheets.specs.Faults.{row_text};
+
+    ghost output = { λ bad. Some (row_text bad) };
+
+    fn fmt<W: fmt::Write>(&self, f: &mut fmt::Formatter<W>) -> fmt::Result {
+        match self {
+            BadRow::Columns => write!(f, "columns"),
+            BadRow::Account => write!(f, "account"),
+            BadRow::Teller => write!(f, "teller"),
+            BadRow::Number => write!(f, "number"),
+            BadRow::Delta => write!(f, "delta"),
+            BadRow::Branch => write!(f, "branch"),
+            BadRow::Reference => write!(f, "reference"),
+        }
+    }
+}
+
+impl std::error::Error for BadRow {}
+
+/// Why a sheet wasn't translated to its end: its first fault. Rows count from 1 after the header. Unless an end
+/// failed or memory was refused, the records of the rows before it were written, and nothing of its own row.
+#[derive(Clone, Copy, Debug, PartialEq, Eq)]
+pub enum SheetFault {
+    /// The first record isn't the header, or there is none.
+    Header,
+    /// The row states no posting, and this is what is wrong with it.
+    Row(u64, BadRow),
+    /// The source failed. Nothing was written.
+    Read,
+    /// The sink failed, or took no byte. A prefix of the records was written.
+    Write,
+    /// Memory was refused. A prefix of the records was written.
+    Memory,
+}
+
+/// A text of a line, as `postings row 2 teller`.
+impl fmt::Display for SheetFault {
+    ghost use Rattle.std.specs.Prelude.{Some};
+    ghost use Rattle.posting_sheets.specs.Faults.{sheet_text};
+
+    ghost output = { λ fault. Some (sheet_text fault) };
+
+    fn fmt<W: fmt::Write>(&self, f: &mut fmt::Formatter<W>) -> fmt::Result {
+        match self {
+            SheetFault::Header => write!(f, "postings header"),
+            SheetFault::Row(row, bad) => write!(f, "postings row {row} {bad}"),
+            SheetFault::Read => write!(f, "read failed"),
+            SheetFault::Write => write!(f, "write failed"),
+            SheetFault::Memory => write!(f, "no memory"),
+        }
+    }
+}
+
+impl std::error::Error for SheetFault {}
+
+/// Why replies weren't translated to the end of their input. Replies count from 1. Unless the sink failed or
+/// memory was refused, the header and the lines of the replies before were written, and nothing else.
+#[derive(Clone, Copy, Debug, PartialEq, Eq)]
+pub enum RepliesFault {
+    /// The input ended so many bytes, 1..=199, into a reply.
+    Truncated(u8),
+    /// The bytes of this reply are none, and this field is the first that shows it.
+    Reply(u64, BadReply),
+    /// The source failed.
+    Read,
+    /// The sink failed, or took no byte. A prefix of the sheet was written.
+    Write,
+    /// Memory was refused. A prefix of the sheet was written.
+    Memory,
+}
+
+/// A text of a line, as `reply 2 faulty tag`.
+impl fmt::Display for RepliesFault {
+    ghost use Rattle.std.specs.Prelude.{Some};
+    ghost use Rattle.posting_sheets.specs.Faults.{replies_text};
+
+    ghost output = { λ fault. Some (replies_text fault) };
+
+    fn fmt<W: fmt::Write>(&self, f: &mut fmt::Formatter<W>) -> fmt::Result {
+        match self {
+            RepliesFault::Truncated(n) => write!(f, "the input ends {n} bytes into a reply"),
+            RepliesFault::Reply(place, bad) => write!(f, "reply {place} {bad}"),
+            RepliesFault::Read => write!(f, "read failed"),
+            RepliesFault::Write => write!(f, "write failed"),
+            RepliesFault::Memory => write!(f, "no memory"),
+        }
+    }
+}
+
+impl std::error::Error for RepliesFault {}

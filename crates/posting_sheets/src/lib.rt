@@ -1,0 +1,39 @@
+//! Postings and replies as sheets, texts of CSV, for who writes and reads them by hand. [`encode_sheet`] writes
+//! the records of the postings of a sheet, and [`decode_replies`] a sheet of the replies to them. Both read
+//! from any source, write to any sink, and touch no bank. The test `first_sheet` of `counter_tests` makes a
+//! record of a posting:
+//!
+//! ```rust
+//! use posting_sheets::encode_sheet;
+//! use std::test::Fail;
+//!
+//! fn first_sheet(rt: HostRuntime) -> Result<(), Fail> {
+//!     let mut sheet = b"account,teller,number,delta\n1,1,1,500\n".as_slice();
+//!     let mut records: Vec<u8> = Vec::new(rt.alloc());
+//!     assert_eq!(rt; encode_sheet(rt.alloc(), &mut sheet, &mut records)?, 1);
+//!     let text = b"DC01000000000001000000010000010000000001+0000000500"; // and 49 spaces
+//!     assert!(rt; records.starts_with(text));
+//!     Ok(())
+//! }
+//! ```
+//!
+//! A sheet's header is `account,teller,number,delta`; a column `branch`, a column `reference`, or the one and
+//! then the other may follow. Where a branch is left out, it is the teller's. Amounts are cents.
+//! [`SheetFault`] says why a sheet has no more records: its header, or a row, counted from 1, and which column of it is
+//! wrong ([`BadRow`]); or that an end failed, or that memory was refused. The rows before it are written.
+//! [`RepliesFault`] says the same of replies.
+//!
+//! Read next: [`encode_sheet`] and [`decode_replies`]; `specs/Sheets`, which says what a sheet states, and
+//! `specs/Replies`, what the sheet of replies is.
+#![tactic(auto)]
+
+mod decode;
+mod encode;
+mod fault;
+mod form;
+mod line;
+mod row;
+
+pub use decode::decode_replies;
+pub use encode::encode_sheet;
+pub use fault::{BadRow, RepliesFault, SheetFault};

@@ -1,0 +1,105 @@
+//! The request that a row of a sheet states.
+ghost use Rattle.std.specs.Prelude.{◌≡◌, ◌≤◌, ◌<◌, ◌^◌, nat_abs, length, IfSome};
+ghost use Rattle.csv.specs.Records.{fields_of};
+ghost use Rattle.message_records.specs.Spelling.{filled};
+ghost use Rattle.posting_sheets.specs.Sheets.{branch_of, delta_of, number_up_to, number_within, reference_of};
+ghost use Rattle.posting_sheets.specs.Sheets.{request_of_fields, request_of_row};
+
+use crate::fault::BadRow;
+use crate::form::{Form, field};
+use csv::ByteRecord;
+use message_records::{
+    Branch, Cents, MAX_DELTA, REFERENCE_BYTES, Reference, Request, Teller, Whole, read_digits,
+};
+use posting_core::branch_of_teller;
+
+// The number that 1 to so many digits write.
+fn number_up_to(digits: &[u8], most: usize) -> Option<u64>
+    requires { most ≤ 12 }
+    ensures value { result ≡ number_up_to most digits.now }
+    ensures below { IfSome result (λ n. n < 10 ^ most) }
+{
+    if digits.is_empty() || digits.len() > most {
+        return None;
+    }
+    read_digits(digits)
+}
+
+// The number from 1 on that 1 to 12 digits write.
+fn number_within<const MOST: u64>(digits: &[u8]) -> Option<Whole<1, MOST>>
+    ensures { result ≡ number_within MOST digits.now }
+{
+    Whole::new(number_up_to(digits, 12)?)
+}
+
+// The amount that 1 to 10 digits write, with a sign or without one.
+fn delta_of(text: &[u8]) -> Option<Cents>
+    ensures value { result ≡ delta_of text.now }
+    ensures limit { IfSome result (λ z. nat_abs z ≤ MAX_DELTA) }
+{
+    let (sign, digits) = text.split_first()?;
+    match sign {
+        b'-' => Cents::new(-(number_up_to(digits, 10)? as i64)),
+        b'+' => Cents::new(number_up_to(digits, 10)? as i64),
+        _ => Cents::new(number_up_to(text, 10)? as i64),
+    }
+}
+
+// The branch that a field writes, and that of the teller where it is empty.
+fn branch_of(teller: Teller, text: &[u8]) -> Option<Branch>
+    ensures { result ≡ branch_of teller text.now }
+{
+    if text.is_empty() {
+        Branch::new(branch_of_teller(teller))
+    } else {
+        number_within(text)
+    }
+}
+
+// The text, filled with spaces.
+fn filled(text: &[u8]) -> [u8; REFERENCE_BYTES]
+    requires { length text.now ≤ REFERENCE_BYTES }
+    ensures { result ≡ filled REFERENCE_BYTES text.now }
+{
+    let mut bytes = [b' '; REFERENCE_BYTES];
+    bytes[..text.len()].copy_from_slice(text);
+    bytes
+}
+
+// The reference that a field is, filled with spaces, and none where it is empty.
+fn reference_of(text: &[u8]) -> Option<Option<Reference>>
+    ensures { result ≡ reference_of text.now }
+{
+    if text.is_empty() {
+        return Some(None);
+    }
+    if text.len() > REFERENCE_BYTES {
+        return None;
+    }
+    Some(Some(Reference::new(&filled(text))?))
+}
+
+// Field by field from the left, up to the first that is wrong.
+#[tactic(auto, unfolding(crate::specs::Sheets::request_of_fields))]
+fn request_of_fields(form: Form, fields: &ByteRecord) -> Result<Request, BadRow>
+    ensures { result ≡ request_of_fields form (fields_of fields.now) }
+{
+    let account = number_within(field(fields, 0)).ok_or(BadRow::Account)?;
+    let teller = number_within(field(fields, 1)).ok_or(BadRow::Teller)?;
+    let number = number_within(field(fields, 2)).ok_or(BadRow::Number)?;
+    let delta = delta_of(field(fields, 3)).ok_or(BadRow::Delta)?;
+    let branch = branch_of(teller, field(fields, form.branch)).ok_or(BadRow::Branch)?;
+    let reference = reference_of(field(fields, form.reference)).ok_or(BadRow::Reference)?;
+    // Ten digits are within the limit.
+    Request::new(account, teller, branch, number, delta, reference).ok_or(BadRow::Delta)
+}
+
+/// The request that a row states.
+pub(crate) fn request_of_row(form: Form, fields: &ByteRecord) -> Result<Request, BadRow>
+    ensures { result ≡ request_of_row form (fields_of fields.now) }
+{
+    if fields.len() != form.columns {
+        return Err(BadRow::Columns);
+    }
+    request_of_fields(form, fields)
+}
