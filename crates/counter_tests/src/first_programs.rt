@@ -6,6 +6,7 @@ mod drives;
 mod plans;
 mod records;
 mod requests;
+mod sheets;
 mod streams;
 mod verdicts;
 

@@ -22,4 +22,6 @@ mod plans;
 #[cfg(test)]
 mod records;
 #[cfg(test)]
+mod sheets;
+#[cfg(test)]
 mod streams;

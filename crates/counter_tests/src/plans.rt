@@ -13,7 +13,12 @@ fn rows_in<R: Read + Drop>(alloc: Global, mut source: R) -> Result<usize, PlanFa
 }
 
 // Writes the source behind a byte order mark, if there is to be one, and with these line ends.
-fn write(text: &mut Vec<u8>, mark: bool, line_end: &[u8], source: &[u8]) -> Result<(), AllocError> {
+pub fn write(
+    text: &mut Vec<u8>,
+    mark: bool,
+    line_end: &[u8],
+    source: &[u8],
+) -> Result<(), AllocError> {
     if mark {
         text.extend_from_slice(b"\xEF\xBB\xBF")?;
     }
@@ -27,7 +32,7 @@ fn write(text: &mut Vec<u8>, mark: bool, line_end: &[u8], source: &[u8]) -> Resu
     Ok(())
 }
 
-const LINE_ENDS: [&[u8]; 3] = [b"\n", b"\r\n", b"\r"];
+pub const LINE_ENDS: [&[u8]; 3] = [b"\n", b"\r\n", b"\r"];
 
 // The source gives this with each line end, behind a byte order mark or with none.
 fn gives(

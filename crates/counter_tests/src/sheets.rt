@@ -1,0 +1,339 @@
+//! Sheets of postings and of replies: their faults, byte order marks and line ends, and ends that fail.
+use crate::plans::{LINE_ENDS, write};
+use failing_ends::{CutReader, CutWriter};
+use message_records::{BadReply, REPLY_BYTES, REQUEST_BYTES};
+use posting_sheets::{BadRow, RepliesFault, SheetFault, decode_replies, encode_sheet};
+use std::alloc::{Alloc, Global};
+use std::io::{ErrorKind, Read};
+use std::process::Abort;
+
+// How many records the sheet has, or its fault; and the records.
+fn encoded<R: Read>(
+    rt: &(impl Abort + Alloc<A = Global>),
+    sheet: &mut R,
+) -> (Result<u64, SheetFault>, Vec<u8>) {
+    let mut records: Vec<u8> = Vec::new(rt.alloc());
+    let end = encode_sheet(rt.alloc(), sheet, &mut records);
+    (end, records)
+}
+
+// A sheet, how many rows are written of it, and how it ends.
+const SHEETS: [(&[u8], usize, Result<u64, SheetFault>); 32] = [
+    (b"", 0, Err(SheetFault::Header)),
+    (b"account,teller,number\n", 0, Err(SheetFault::Header)),
+    (
+        b"account,teller,number,amount\n1,1,1,5\n",
+        0,
+        Err(SheetFault::Header),
+    ),
+    (
+        b"account,teller,number,delta,reference,branch\n",
+        0,
+        Err(SheetFault::Header),
+    ),
+    (
+        b"account,teller,number,delta,\n",
+        0,
+        Err(SheetFault::Header),
+    ),
+    (b"1,1,1,500\n", 0, Err(SheetFault::Header)),
+    (b"account,teller,number,delta", 0, Ok(0)),
+    (b"account,teller,number,delta,branch\n", 0, Ok(0)),
+    (b"account,teller,number,delta,reference\n", 0, Ok(0)),
+    (b"account,teller,number,delta,branch,reference\n", 0, Ok(0)),
+    (
+        b"account,teller,number,delta\n1,1,1,5\n2,1,2\n",
+        1,
+        Err(SheetFault::Row(2, BadRow::Columns)),
+    ),
+    (
+        b"account,teller,number,delta\n1,1,1,5,1\n",
+        0,
+        Err(SheetFault::Row(1, BadRow::Columns)),
+    ),
+    (
+        b"account,teller,number,delta\n1,1,1,5\n0,1,2,5\n",
+        1,
+        Err(SheetFault::Row(2, BadRow::Account)),
+    ),
+    (
+        b"account,teller,number,delta\n+1,1,1,5\n",
+        0,
+        Err(SheetFault::Row(1, BadRow::Account)),
+    ),
+    (
+        b"account,teller,number,delta\n1000000000000,1,1,5\n",
+        0,
+        Err(SheetFault::Row(1, BadRow::Account)),
+    ),
+    (
+        b"account,teller,number,delta\n1,,1,5\n",
+        0,
+        Err(SheetFault::Row(1, BadRow::Teller)),
+    ),
+    (
+        b"account,teller,number,delta\n1,100000000,1,5\n",
+        0,
+        Err(SheetFault::Row(1, BadRow::Teller)),
+    ),
+    (
+        b"account,teller,number,delta\n1,1,1,5\n1,1,x,y\n",
+        1,
+        Err(SheetFault::Row(2, BadRow::Number)),
+    ),
+    (
+        b"account,teller,number,delta\n1,1,10000000000,5\n",
+        0,
+        Err(SheetFault::Row(1, BadRow::Number)),
+    ),
+    (
+        b"account,teller,number,delta\n1,1,1,5\n1,1,2,5\n1,1,3,1.50\n",
+        2,
+        Err(SheetFault::Row(3, BadRow::Delta)),
+    ),
+    (
+        b"account,teller,number,delta\n1,1,1,-\n",
+        0,
+        Err(SheetFault::Row(1, BadRow::Delta)),
+    ),
+    (
+        b"account,teller,number,delta\n1,1,1,\n",
+        0,
+        Err(SheetFault::Row(1, BadRow::Delta)),
+    ),
+    (
+        b"account,teller,number,delta\n1,1,1,10000000000\n",
+        0,
+        Err(SheetFault::Row(1, BadRow::Delta)),
+    ),
+    (
+        b"account,teller,number,delta,branch\n1,1,1,5,0\n",
+        0,
+        Err(SheetFault::Row(1, BadRow::Branch)),
+    ),
+    (
+        b"account,teller,number,delta\n1,9999991,1,5\n",
+        0,
+        Err(SheetFault::Row(1, BadRow::Branch)),
+    ),
+    (
+        b"account,teller,number,delta,reference\n1,1,1,5,rent\n1,1,2,5,R\xC3\xA9\n",
+        1,
+        Err(SheetFault::Row(2, BadRow::Reference)),
+    ),
+    (
+        b"account,teller,number,delta,reference\n1,1,1,5,123456789012345678901\n",
+        0,
+        Err(SheetFault::Row(1, BadRow::Reference)),
+    ),
+    (
+        b"account,teller,number,delta,reference\n1,1,1,5,12345678901234567890\n",
+        1,
+        Ok(1),
+    ),
+    (
+        b"account,teller,number,delta\n\"1\",\"1\",1,+0000000005\n\n2,1,2,-9999999999\n3,1,3,-0",
+        3,
+        Ok(3),
+    ),
+    (
+        b"account,teller,number,delta,branch\n1,1,1,5,\n999999999999,99999999,9999999999,0,999999\n",
+        2,
+        Ok(2),
+    ),
+    (
+        b"account,teller,number,delta,branch,reference\n1,1,1,5,1,\"a,\"\"b\"\n1,1,2,5,,\n",
+        2,
+        Ok(2),
+    ),
+    (
+        b"account,teller,number,delta,branch,reference\n1,1,1,5,x,\xFF\n",
+        0,
+        Err(SheetFault::Row(1, BadRow::Branch)),
+    ),
+];
+
+#[test]
+fn sheets(rt: HostRuntime) {
+    for (sheet, rows, want) in &SHEETS {
+        for line_end in &LINE_ENDS {
+            let mut text = Vec::new(rt.alloc());
+            write(&mut text, *rows != 1, line_end, sheet).expect(&rt, "memory");
+            let (end, records) = encoded(&rt, &mut text.as_slice());
+            assert_eq!(rt; end, *want);
+            assert_eq!(rt; Some(records.len()), rows.checked_mul(REQUEST_BYTES));
+        }
+    }
+}
+
+const TWO_ROWS: &[u8] =
+    b"account,teller,number,delta,reference\n1,1,1,500,\n100001,1,2,-700,rent of May\n";
+
+// What the records of the two rows begin with; spaces follow in each.
+const TWO_RECORDS: [&[u8]; 2] = [
+    b"DC01000000000001000000010000010000000001+0000000500",
+    b"DC02000000100001000000010000010000000002-0000000700rent of May",
+];
+
+fn filled(rt: &(impl Abort + Alloc<A = Global>), fronts: &[&[u8]], size: usize) -> Vec<u8> {
+    let mut all = Vec::new(rt.alloc());
+    for front in fronts {
+        all.extend_from_slice(front).expect(rt, "memory");
+        for _ in front.len()..size {
+            all.push(b' ').expect(rt, "memory");
+        }
+    }
+    all
+}
+
+#[test]
+fn two_records(rt: HostRuntime) {
+    let mut sheet = TWO_ROWS;
+    let (end, records) = encoded(&rt, &mut sheet);
+    assert_eq!(rt; end, Ok(2));
+    let want = filled(&rt, &TWO_RECORDS, REQUEST_BYTES);
+    assert_eq!(rt; records.as_slice(), want.as_slice());
+}
+
+// The source fails after so many bytes: nothing is written. An interrupted read is made again.
+#[test]
+fn an_unread_sheet(rt: HostRuntime) {
+    for i in 0..TWO_ROWS.len() + 1 {
+        for (fault, want, rows) in [
+            (ErrorKind::BrokenPipe, Err(SheetFault::Read), 0),
+            (ErrorKind::Interrupted, Ok(2), 2),
+        ] {
+            let (before, behind) = TWO_ROWS.split_at(i);
+            let mut source = CutReader {
+                before,
+                fault: Some(fault),
+                behind,
+            };
+            let (end, records) = encoded(&rt, &mut source);
+            assert_eq!(rt; end, want);
+            assert_eq!(rt; records.len(), rows * REQUEST_BYTES);
+        }
+    }
+}
+
+fn cut_writer(alloc: Global, most: usize) -> CutWriter {
+    CutWriter {
+        taken: Vec::new(alloc),
+        most,
+        fault: Some(ErrorKind::StorageFull),
+        writes: 0,
+    }
+}
+
+// The sink fails after so many bytes: it has them.
+#[test]
+fn an_unwritten_sheet(rt: HostRuntime) {
+    let want = filled(&rt, &TWO_RECORDS, REQUEST_BYTES);
+    for most in 0..want.len() + 1 {
+        let mut writer = cut_writer(rt.alloc(), most);
+        let mut sheet = TWO_ROWS;
+        let end = encode_sheet(rt.alloc(), &mut sheet, &mut writer);
+        assert_eq!(rt; end, Err(SheetFault::Write));
+        assert_eq!(rt; writer.taken.as_slice(), &want[..most]);
+    }
+}
+
+// What three replies begin with; spaces follow in each.
+const REPLIES: [&[u8]; 3] = [
+    b"DR0100000000100001000000010000010000000002-0000000700-000000000700POSTED",
+    b"DR0117000000000001000000010000010000000003-9999999999+000000000000BELOW FLOOR",
+    b"DR0190000000000000000000000000000000000000+0000000000+000000000000MALFORMED",
+];
+
+const HEADING: &[u8] = b"outcome,name,account,teller,branch,number,delta,balance\n";
+
+const LINES: [&[u8]; 3] = [
+    b"0,POSTED,100001,1,1,2,-700,-700\n",
+    b"17,BELOW FLOOR,1,1,1,3,-9999999999,\n",
+    b"90,MALFORMED,,,,,,\n",
+];
+
+fn lines(rt: &(impl Abort + Alloc<A = Global>), count: usize) -> Vec<u8> {
+    let mut all = Vec::new(rt.alloc());
+    all.extend_from_slice(HEADING).expect(rt, "memory");
+    for line in LINES.iter().take(count) {
+        all.extend_from_slice(line).expect(rt, "memory");
+    }
+    all
+}
+
+fn decoded<R: Read>(
+    rt: &(impl Abort + Alloc<A = Global>),
+    replies: &mut R,
+) -> (Result<u64, RepliesFault>, Vec<u8>) {
+    let mut sheet: Vec<u8> = Vec::new(rt.alloc());
+    let end = decode_replies(rt.alloc(), replies, &mut sheet);
+    (end, sheet)
+}
+
+// The input ends, or fails, after so many bytes.
+#[test]
+fn replies_cut_off(rt: HostRuntime) {
+    let replies = filled(&rt, &REPLIES, REPLY_BYTES);
+    for i in 0..replies.len() + 1 {
+        let (count, rest) = (i / REPLY_BYTES, i % REPLY_BYTES);
+        let want = if rest == 0 {
+            Ok(count as u64)
+        } else {
+            Err(RepliesFault::Truncated((rest & 0xff) as u8))
+        };
+        for (fault, want) in [
+            (None, want),
+            (Some(ErrorKind::Other), Err(RepliesFault::Read)),
+        ] {
+            let mut source = CutReader {
+                before: &replies[..i],
+                fault,
+                behind: b"",
+            };
+            let (end, sheet) = decoded(&rt, &mut source);
+            assert_eq!(rt; end, want);
+            assert_eq!(rt; sheet.as_slice(), lines(&rt, count).as_slice());
+        }
+    }
+}
+
+// The sink fails after so many bytes: it has them.
+#[test]
+fn replies_unwritten(rt: HostRuntime) {
+    let replies = filled(&rt, &REPLIES, REPLY_BYTES);
+    let want = lines(&rt, 3);
+    for most in 0..want.len() + 1 {
+        let mut writer = cut_writer(rt.alloc(), most);
+        let end = decode_replies(rt.alloc(), &mut replies.as_slice(), &mut writer);
+        assert_eq!(rt; end, Err(RepliesFault::Write));
+        assert_eq!(rt; writer.taken.as_slice(), &want[..most]);
+    }
+}
+
+// Each byte of the second reply in turn is another one: the first line is written, and the fault names the reply.
+#[test]
+fn replies_changed(rt: HostRuntime) {
+    for i in 0..REPLY_BYTES {
+        let mut replies = filled(&rt, &REPLIES, REPLY_BYTES);
+        let at = REPLY_BYTES + i;
+        if at < replies.len() {
+            replies[at] = b'x';
+        }
+        let (end, sheet) = decoded(&rt, &mut replies.as_slice());
+        let want = match i {
+            0..4 => BadReply::Tag,
+            4..6 => BadReply::Outcome,
+            6..18 => BadReply::Account,
+            18..26 => BadReply::Teller,
+            26..32 => BadReply::Branch,
+            32..42 => BadReply::Number,
+            42..53 => BadReply::Delta,
+            53..66 => BadReply::Balance,
+            66..82 => BadReply::Name,
+            _ => BadReply::Filler,
+        };
+        assert_eq!(rt; end, Err(RepliesFault::Reply(2, want)));
+        assert_eq!(rt; sheet.as_slice(), lines(&rt, 1).as_slice());
+    }
+}
