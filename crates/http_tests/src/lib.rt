@@ -22,3 +22,5 @@ mod messages;
 mod refusals;
 #[cfg(test)]
 mod texts;
+#[cfg(test)]
+mod waiting;
