@@ -45,8 +45,8 @@ fn write_line<W: Sink>(
 /// - [`RepliesFault::Reply`]: the bytes are no reply. The lines of those before it were written.
 /// - [`RepliesFault::Read`]: a read failed, or 2^64 - 1 reads were made. The lines of the whole replies that were
 ///   read before were written.
-/// - [`RepliesFault::Write`]: a write or a flush failed, a write took no byte, or 2^64 - 1 writes were made. A
-///   prefix of the sheet was written.
+/// - [`RepliesFault::Write`]: a write or a flush failed, a write took no byte, or it was interrupted 2^64 - 1 times
+///   in a row. A prefix of the sheet was written.
 /// - [`RepliesFault::Memory`]: memory was refused. A prefix of the sheet was written.
 pub fn decode_replies<R: Source, W: Sink>(
     alloc: Global,

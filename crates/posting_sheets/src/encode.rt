@@ -76,8 +76,8 @@ fn records_of_text(alloc: Global, text: &[u8]) -> (Vec<u8>, Result<u64, SheetFau
 /// # Errors
 ///
 /// - [`SheetFault::Read`]: a read failed, or 2^64 - 1 reads were made. Nothing was written.
-/// - [`SheetFault::Write`]: a write or the flush failed, a write took no byte, or 2^64 - 1 writes were made. A
-///   prefix of the records was written.
+/// - [`SheetFault::Write`]: a write or the flush failed, a write took no byte, or it was interrupted 2^64 - 1 times
+///   in a row. A prefix of the records was written.
 /// - [`SheetFault::Memory`]: memory was refused. A prefix of the records was written.
 /// - Any other is the sheet's own. The records of the rows before it were written.
 pub fn encode_sheet<R: Source, W: Sink>(
