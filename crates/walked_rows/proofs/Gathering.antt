@@ -8,14 +8,15 @@ use Rattle.std.proofs.lemmas.Bool.{cases_Bool}
 use Rattle.std.proofs.lemmas.Bool.Decides.{nat_tests}
 use Rattle.std.proofs.lemmas.Int.{ints, to_z-of_z}
 use Rattle.sqlite.specs.Order.{Row}
-use Rattle.sql_meanings.specs.Entries.{Entry, HasWidth, Rise, numbers}
+use Rattle.posting_rules.specs.declared.fault.Rule.{Rule}
+use Rattle.sql_meanings.specs.Entries.{Entry, HasWidth, Rise}
 use Rattle.sql_meanings.specs.Seeks.{is_from}
 use Rattle.sql_meanings.proofs.Changes.{found_all, found_passes}
 use Rattle.sql_meanings.proofs.EntryLists.{Above}
 use Rattle.store_rows.proofs.Lookups.{as_integer}
 use Rattle.store_rows.specs.declared.fault.TableFault.{TableFault}
 use Rattle.store_rows.specs.declared.fault.TableFault.TheVariants.{Sqlite, Damaged}
-use Rattle.walked_rows.specs.StepOutcomes.{BreaksFirst, BreaksValue, IsRefusedMemory, ReadsNext, all_numbers, shown}
+use Rattle.walked_rows.specs.StepOutcomes.{BreaksFirst, IsRefusedMemory, ReadsNext}
 use Rattle.walked_rows.specs.Rows.{IsWide, rows_from}
 use Rattle.walked_rows.specs.declared.ahead.TheConstants.{AHEAD}
 
@@ -83,10 +84,10 @@ pub full_there : {X : Type 0} (n : ℕ) (xs : List X) → 0 < n → nat_eq (leng
 full_there n xs room full none = let h = rw none at full in grind (arith, nat_tests)
 
 -- no rows are shown of those that are to come where there are none
-pub no_more : (es : List Entry) (found : List Row) → length found ≤ 0 → found ≡ shown (take AHEAD es)
-    → es ≡ []
-no_more [] found low is = refl
-no_more (e ∷ es) found low is = absurd (omega (arith, ap length is))
+pub no_more : (shown_as : Entry → Row) (es : List Entry) (found : List Row) → length found ≤ 0
+    → found ≡ map shown_as (take AHEAD es) → es ≡ []
+no_more shown_as [] found low is = refl
+no_more shown_as (e ∷ es) found low is = absurd (omega (arith, ap length is))
 
 -- ---- a row of those that were found
 
@@ -98,18 +99,19 @@ found_of p (x ∷ xs) e more is = elim (cases_Bool (p x)) [
   | inr away ↦ rw away (found_of p xs e more (rw away at is))
 ]
 
-first_of : (most : ℕ) (before behind : List Entry) (d : Row)
-    → length before < length (shown (take most (before ++ behind)))
+first_of : (shown_as : Entry → Row) (most : ℕ) (before behind : List Entry) (d : Row)
+    → length before < length (map shown_as (take most (before ++ behind)))
     → (e : Entry) × (more : List Entry) × (behind ≡ e ∷ more)
-    × (get_or (shown (take most (before ++ behind))) (length before) d ≡ numbers (all_numbers e))
-first_of zero before behind d low = absurd (omega arith)
-first_of (suc n) [] [] d low = absurd (omega arith)
-first_of (suc n) [] (e ∷ more) d low = (e, more, refl, refl)
-first_of (suc n) (x ∷ before) behind d low = first_of n before behind d (omega arith)
+    × (get_or (map shown_as (take most (before ++ behind))) (length before) d ≡ shown_as e)
+first_of shown_as zero before behind d low = absurd (omega arith)
+first_of shown_as (suc n) [] [] d low = absurd (omega arith)
+first_of shown_as (suc n) [] (e ∷ more) d low = (e, more, refl, refl)
+first_of shown_as (suc n) (x ∷ before) behind d low = first_of shown_as n before behind d (omega arith)
 
-module _ {R : Type 0} (entry : R → Entry) (Breaks : Entry → Type 0) (width : ℕ × ℕ) (most : ℕ)
-    (found : List Row) (from : ℤ) (rows : List Entry)
-    (rise : Rise rows) (wide : IsWide width rows) (is : found ≡ shown (take most (rows_from from rows))) where
+module _ {R : Type 0} (shown_as : Entry → Row) (entry : R → Entry) (Breaks : Rule → Entry → Type 0)
+    (width : ℕ × ℕ) (most : ℕ) (found : List Row) (from : ℤ) (rows : List Entry)
+    (rise : Rise rows) (wide : IsWide width rows)
+    (is : found ≡ map shown_as (take most (rows_from from rows))) where
   -- so many were gathered, and from a number on the others follow
   abbrev pub Gathered : List R → ℤ → Type 0
   Gathered done next = rows_from from rows ≡ map entry done ++ rows_from next rows
@@ -122,25 +124,25 @@ module _ {R : Type 0} (entry : R → Entry) (Breaks : Entry → Type 0) (width :
       (at : row ≡ get_or found (length done) row)
       (so_far : Gathered done next) where
     -- the next row that was found is the next one
-    next_is : (e : Entry) × (find (is_from next) rows ≡ Some e) × (row ≡ numbers (all_numbers e))
+    next_is : (e : Entry) × (find (is_from next) rows ≡ Some e) × (row ≡ shown_as e)
         × HasWidth width e
     next_is =
-        let all : found ≡ shown (take most (map entry done ++ rows_from next rows)) =
-        is ∙ ap (λ l. shown (take most l)) so_far in
+        let all : found ≡ map shown_as (take most (map entry done ++ rows_from next rows)) =
+        is ∙ ap (λ l. map shown_as (take most l)) so_far in
         let count : length (map entry done) ≡ length done = as_many done in
         let it =
-        first_of most (map entry done) (rows_from next rows) row (omega (arith, ap length all, count)) in
+        first_of shown_as most (map entry done) (rows_from next rows) row (omega (arith, ap length all, count)) in
         let some = found_of (is_from next) rows it.0 it.1 it.2 in (
           it.0,
           some,
           at ∙ ap (λ l. get_or l (length done) row) all
-              ∙ ap (λ n. get_or (shown (take most (map entry done ++ rows_from next rows))) n row) (sym count)
+              ∙ ap (λ n. get_or (map shown_as (take most (map entry done ++ rows_from next rows))) n row) (sym count)
               ∙ it.3,
           found_all (λ x. HasWidth width x) (is_from next) rows it.0 wide some,
         )
 
     -- it was read
-    pub gathers_on : (r : R) → ReadsNext width entry Breaks next row (Ok r)
+    pub gathers_on : (r : R) → ReadsNext shown_as Breaks width entry next row (Ok r)
         → Gathered (done ++ r ∷ []) ((entry r).key +ℤ pos 1)
     gathers_on r read =
         let it = next_is in
@@ -156,8 +158,8 @@ module _ {R : Type 0} (entry : R → Entry) (Breaks : Entry → Type 0) (width :
 
     -- a number of it is out of its range, and none was gathered before it
     pub gathers_none : (fault : TableFault) → done ≡ []
-        → ReadsNext {R = R} width entry Breaks next row (Err fault)
-        → BreaksFirst IsRefusedMemory (BreaksValue Breaks) (rows_from from rows) fault
+        → ReadsNext {R = R} shown_as Breaks width entry next row (Err fault)
+        → BreaksFirst IsRefusedMemory Breaks (rows_from from rows) fault
     gathers_none (Sqlite e) none read = let it = next_is in read it.0 it.2 it.3
     gathers_none (Damaged broken) none read =
         let it = next_is in

@@ -3,6 +3,7 @@ pub mod EntriesRead
 pub mod Filling
 pub mod Gathering
 pub mod Joining
+pub mod Keeping
 pub mod Keys
 pub mod Leaving
 pub mod NumbersRead

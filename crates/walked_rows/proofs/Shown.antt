@@ -1,10 +1,12 @@
 -- What the tables hold of a bank that shows tables.
-use Rattle.std.proofs.Common.{List, [], ◌∷◌, map, refl}
+use Rattle.std.proofs.Common.{List, [], ◌∷◌, map, pos, refl}
+use Rattle.std.specs.Prelude.{nat_abs}
 use Rattle.sqlite.specs.Effect.{Database}
 use Rattle.posting_rules.specs.Tables.{Tables}
 use Rattle.store_rows.specs.BankTables as bank
-use Rattle.store_rows.specs.View.{Shows, account_entry, branch_entry, history_entry, reference_entry}
-use Rattle.store_rows.specs.View.{request_entry, teller_entry}
+use Rattle.store_rows.specs.View.{Shows, account_entry, branch_entry, floor_entry, history_entry, meta_entry}
+use Rattle.store_rows.specs.View.{reference_entry, request_entry, teller_entry}
+use Rattle.store_rows.specs.declared.metas.TheConstants.{VERSION}
 use Rattle.store_rows.proofs.TableKinds.{Kind, holds, table_of}
 use Rattle.store_rows.proofs.TheTables as the
 use Rattle.walked_rows.specs.Rows.{HasStoredRows, HaveKeys, entry_key}
@@ -40,3 +42,9 @@ module _ (db : Database) (t : Tables) (shows : Shows db t) where
 
   pub has_references : HasStoredRows db bank.reference (map reference_entry t.references)
   has_references = has_rows the.references
+
+  pub has_floors : HasStoredRows db bank.floor (map floor_entry t.floors)
+  has_floors = has_rows the.floors
+
+  pub has_meta : HasStoredRows db bank.meta (meta_entry (pos (nat_abs VERSION)) t.decided ∷ [])
+  has_meta = record { sound = shows.sound; holds = shows.each.0; least = (refl, tt) }

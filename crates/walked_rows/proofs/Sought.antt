@@ -20,7 +20,7 @@ use Rattle.sql_meanings.proofs.ReadTables.{ReadsAs}
 use Rattle.posting_rules.specs.declared.fault.Rule.{Rule}
 use Rattle.store_rows.specs.declared.fault.TableFault.{TableFault}
 use Rattle.store_rows.specs.declared.fault.TableFault.TheVariants.{Sqlite, Damaged}
-use Rattle.walked_rows.specs.StepOutcomes.{BreaksFirst, IsRefusedMemory, all_numbers, shown}
+use Rattle.walked_rows.specs.StepOutcomes.{BreaksFirst, IsRefusedMemory, all_numbers, shown, shown_row}
 use Rattle.walked_rows.specs.Rows.{HasStoredRows, IsWide, rows_from}
 use Rattle.walked_rows.specs.declared.ahead.TheConstants.{AHEAD}
 
@@ -67,12 +67,12 @@ taken f zero xs = refl
 taken f (suc n) [] = refl
 taken f (suc n) (x ∷ xs) = ap (λ l. f x ∷ l) (taken f n xs)
 
-same_shown : (width : ℕ × ℕ) (f : Entry → Row)
-    → ((e : Entry) → HasWidth width e → f e ≡ numbers (all_numbers e)) → (es : List Entry)
-    → IsWide width es → map f es ≡ shown es
-same_shown width f same [] all = refl
-same_shown width f same (e ∷ es) all =
-    rw (same e all.0) (ap (λ l. numbers (all_numbers e) ∷ l) (same_shown width f same es all.1))
+same_shown : (shown_as : Entry → Row) (width : ℕ × ℕ) (f : Entry → Row)
+    → ((e : Entry) → HasWidth width e → f e ≡ shown_as e) → (es : List Entry)
+    → IsWide width es → map f es ≡ map shown_as es
+same_shown shown_as width f same [] all = refl
+same_shown shown_as width f same (e ∷ es) all =
+    rw (same e all.0) (ap (λ l. shown_as e ∷ l) (same_shown shown_as width f same es all.1))
 
 -- ---- what is reported
 
@@ -85,22 +85,23 @@ module _ (old new : State) (table : Table) (free : table.references ≡ []) (row
     (has : HasStoredRows old.now table rows)
     (text : List ℕ) (project : List Term) {V : Type 0} (items : V → List Row) where
   -- the rows from a number on
-  pub tells_from : (k : ℤ) → ReadsAs table text (Int k ∷ []) (λ t. next_from AHEAD t project)
-      → ((e : Entry) → HasWidth (width_of table) e → eval_all project ((Int k ∷ []) ∷ stored e ∷ [])
-      ≡ numbers (all_numbers e))
+  pub tells_from : (shown_as : Entry → Row) (k : ℤ)
+      → ReadsAs table text (Int k ∷ []) (λ t. next_from AHEAD t project)
+      → ((e : Entry) → HasWidth (width_of table) e
+      → eval_all project ((Int k ∷ []) ∷ stored e ∷ []) ≡ shown_as e)
       → (r : Result V Error) → MatchResult r (λ v. Shown text (Int k ∷ []) old new (items v))
       (FailsToQuery text (Int k ∷ []) old new)
-      → MatchResult r (λ v. items v ≡ shown (take AHEAD (rows_from k (filter (λ _. true) rows))))
+      → MatchResult r (λ v. items v ≡ map shown_as (take AHEAD (rows_from k (filter (λ _. true) rows))))
       (IsStoreError old new)
-  tells_from k reads whole (Ok v) ok =
+  tells_from shown_as k reads whole (Ok v) ok =
       let told = reads_from old new table free has.sound rows has.holds text AHEAD project k reads
       (Ok (items v)) ok in
       told.0 ∙ ap (take AHEAD)
-      (same_shown (width_of table) _ whole (filter (is_from k) rows)
+      (same_shown shown_as (width_of table) _ whole (filter (is_from k) rows)
       (wide_filter _ (is_from k) rows has.holds.rows.wide))
-      ∙ taken (λ e. numbers (all_numbers e)) AHEAD (filter (is_from k) rows)
-      ∙ ap (λ es. shown (take AHEAD (rows_from k es))) (sym (all_given rows))
-  tells_from k reads whole (Err e) err =
+      ∙ taken shown_as AHEAD (filter (is_from k) rows)
+      ∙ ap (λ es. map shown_as (take AHEAD (rows_from k es))) (sym (all_given rows))
+  tells_from shown_as k reads whole (Err e) err =
       store_error old new e (reads_from old new table free has.sound rows has.holds text AHEAD project k reads
       (Err e) err)
 
@@ -118,33 +119,38 @@ module _ (old new : State) (table : Table) (free : table.references ≡ []) (row
       let told = reads_of_from old new table free has.sound rows has.holds text AHEAD project one k reads
       (Ok (items v)) ok in
       told.0 ∙ ap (take AHEAD)
-      (same_shown (width_of table) _ whole (filter (is_of_from one k) rows)
+      (same_shown shown_row (width_of table) _ whole (filter (is_of_from one k) rows)
       (wide_filter _ (is_of_from one k) rows has.holds.rows.wide))
-      ∙ taken (λ e. numbers (all_numbers e)) AHEAD (filter (is_of_from one k) rows)
+      ∙ taken shown_row AHEAD (filter (is_of_from one k) rows)
       ∙ ap (λ es. shown (take AHEAD es)) (both_given one k rows)
   tells_of_from one k reads whole (Err e) err =
       store_error old new e (reads_of_from old new table free has.sound rows has.holds text AHEAD project one
       k reads (Err e) err)
 
--- What is known of the statement of a walk: it only shows rows, and these are all numbers of the rows from a
--- number on.
-pub record Walks (table : Table) (text : List ℕ) : Type 0 where
+-- What is known of the statement of a walk: it only shows rows, and these are shown so, from a number on.
+pub record WalksAs (shown_as : Entry → Row) (table : Table) (text : List ℕ) : Type 0 where
   pub project : List Term
   pub free : table.references ≡ []
   pub only : (schema : Schema) → OnlyShows text 1 (understood schema text)
   pub reads : (k : ℤ) → ReadsAs table text (Int k ∷ []) (λ t. next_from AHEAD t project)
   pub whole : (k : ℤ) (e : Entry) → HasWidth (width_of table) e
-      → eval_all project ((Int k ∷ []) ∷ stored e ∷ []) ≡ numbers (all_numbers e)
+      → eval_all project ((Int k ∷ []) ∷ stored e ∷ []) ≡ shown_as e
+
+-- all numbers of the rows
+abbrev pub Walks : Table → List ℕ → Type 0
+Walks = WalksAs shown_row
 
 -- so it tells them
-pub tells_walk : (old new : State) {table : Table} {text : List ℕ} (walk : Walks table text)
+pub tells_walk : (old new : State) {shown_as : Entry → Row} {table : Table} {text : List ℕ}
+    (walk : WalksAs shown_as table text)
     (rows : List Entry) (has : HasStoredRows old.now table rows) {V : Type 0} (items : V → List Row) (k : ℤ)
     (r : Result V Error) → MatchResult r (λ v. Shown text (Int k ∷ []) old new (items v))
     (FailsToQuery text (Int k ∷ []) old new)
-    → MatchResult r (λ v. items v ≡ shown (take AHEAD (rows_from k (filter (λ _. true) rows))))
+    → MatchResult r (λ v. items v ≡ map shown_as (take AHEAD (rows_from k (filter (λ _. true) rows))))
     (IsStoreError old new)
-tells_walk old new {table} {text} walk rows has items k =
-    tells_from old new table walk.free rows has text walk.project items k (walk.reads k) (walk.whole k)
+tells_walk old new {shown_as} {table} {text} walk rows has items k =
+    tells_from old new table walk.free rows has text walk.project items shown_as k (walk.reads k)
+    (walk.whole k)
 
 module _ (old new : State) (text : List ℕ) (params : Row)
     (only : OnlyShows text (length params) (understood old.now.schema text)) where

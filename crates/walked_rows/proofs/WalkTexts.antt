@@ -21,7 +21,7 @@ use Rattle.sqlite_resolve.specs.Scope.{Name, alias_of, declared}
 use Rattle.sqlite_resolve.specs.Select.{ungrouped}
 use Rattle.sqlite_resolve.specs.Terms.{number}
 use Rattle.sqlite_typing.specs.Types.{accepts_program}
-use Rattle.sql_meanings.specs.Entries.{Entry, HasWidth, numbers, stored}
+use Rattle.sql_meanings.specs.Entries.{Entry, HasWidth, stored}
 use Rattle.sql_meanings.specs.Plain.{key_column, number_column}
 use Rattle.sql_meanings.specs.Queries.{ascending}
 use Rattle.sql_meanings.specs.Seeks.{key_from, next_from, next_of_from}
@@ -33,12 +33,13 @@ use Rattle.sql_meanings.proofs.SeekTexts.{seeks_by, seeks_of_by}
 use Rattle.sql_meanings.proofs.Statements.{HasTable}
 use Rattle.sql_meanings.proofs.Texts.{IsSelect, only_reads, select_of}
 use Rattle.store_rows.specs.BankTables as bank
-use Rattle.walked_rows.specs.StepOutcomes.{all_numbers}
+use Rattle.walked_rows.specs.References.{text_shown}
 use Rattle.walked_rows.specs.declared.ahead.TheConstants.{AHEAD}
-use Rattle.walked_rows.specs.declared.texts.TheConstants.{ACCOUNTS_FROM, BRANCHES_FROM, POSTINGS_FROM}
-use Rattle.walked_rows.specs.declared.texts.TheConstants.{POSTINGS_OF, REQUESTS_FROM, TELLERS_FROM}
-use Rattle.walked_rows.proofs.Shows.{shows_five, shows_one, shows_seven, shows_two}
-use Rattle.walked_rows.proofs.Sought.{Walks}
+use Rattle.walked_rows.specs.declared.texts.TheConstants.{ACCOUNTS_FROM, BRANCHES_FROM, FLOORS_FROM}
+use Rattle.walked_rows.specs.declared.texts.TheConstants.{METAS_FROM, POSTINGS_FROM, POSTINGS_OF}
+use Rattle.walked_rows.specs.declared.texts.TheConstants.{REFERENCES_FROM, REQUESTS_FROM, TELLERS_FROM}
+use Rattle.walked_rows.proofs.Shows.{shows_five, shows_one, shows_seven, shows_two, shows_text}
+use Rattle.walked_rows.proofs.Sought.{Walks, WalksAs}
 
 -- the key of a table, where its name and its column compute
 abbrev key_of : (table : Table) (name : Name)
@@ -56,9 +57,9 @@ key_of table name named there is_at by_bytes tree = record {
   by_bytes = by_bytes tree;
 }
 
--- A SELECT by rising keys, from a number on, shows all numbers of the rows, where that computes: its words,
--- the key of its table, and what it is as a query.
-walks_by : {table : Table} {text : List ℕ} {places : List ℕ} (is : IsSelect table text 1 places)
+-- A SELECT by rising keys, from a number on, shows the rows so, where that computes: its words, the key of its
+-- table, and what it is as a query.
+walks_by : {shown_as : Entry → Row} {table : Table} {text : List ℕ} {places : List ℕ} (is : IsSelect table text 1 places)
     (key : Name) (project : List Term) {sort : Sort} {cap test e a b : Expr} {most : Name}
     → is.order ≡ sort ∷ [] → is.limit ≡ Some cap → is.filter ≡ Some test
     → out-Sort sort ≡ record { key = e; descending = false; nulls_first = None }
@@ -79,9 +80,9 @@ walks_by : {table : Table} {text : List ℕ} {places : List ℕ} (is : IsSelect 
     → ((k : ℤ) (schema : Schema) (p tree : ℕ) → HasTable schema table.name p (placed_at table tree)
     → accepts_program schema [] (next_from AHEAD tree project) (Int k ∷ []) ≡ true)
     → ((params : Row) (e : Entry) → HasWidth (width_of table) e
-    → eval_all project (params ∷ stored e ∷ []) ≡ numbers (all_numbers e))
-    → Walks table text
-walks_by {table} {text} {places} is key project {sort} {cap} {test} {e} {a} {b} {most} ordered limited
+    → eval_all project (params ∷ stored e ∷ []) ≡ shown_as e)
+    → WalksAs shown_as table text
+walks_by {table = table} {text = text} {places = places} is key project {sort = sort} {cap = cap} {test = test} {e = e} {a = a} {b = b} {most = most} ordered limited
     filtered sorts by_key above left right capped value free there named is_at by_bytes plain unnamed typed
     accepts whole = record {
       project = project;
@@ -117,6 +118,21 @@ is_requests : IsSelect bank.request REQUESTS_FROM.now 1 (0 ∷ 1 ∷ 2 ∷ 3 ∷
 unfolding everything
 is_requests = select_of bank.request REQUESTS_FROM.now 1 _ _ _ _ _ _ _ _ _ refl refl refl (lit≤ tt) refl refl
     refl refl (λ tree. refl) (lit≤ tt)
+
+is_metas : IsSelect bank.meta METAS_FROM.now 1 (0 ∷ 1 ∷ 2 ∷ [])
+unfolding everything
+is_metas = select_of bank.meta METAS_FROM.now 1 _ _ _ _ _ _ _ _ _ refl refl refl (lit≤ tt) refl refl
+    refl refl (λ tree. refl) (lit≤ tt)
+
+is_floors : IsSelect bank.floor FLOORS_FROM.now 1 (0 ∷ 1 ∷ [])
+unfolding everything
+is_floors = select_of bank.floor FLOORS_FROM.now 1 _ _ _ _ _ _ _ _ _ refl refl refl (lit≤ tt) refl refl
+    refl refl (λ tree. refl) (lit≤ tt)
+
+is_references : IsSelect bank.reference REFERENCES_FROM.now 1 (0 ∷ 1 ∷ [])
+unfolding everything
+is_references = select_of bank.reference REFERENCES_FROM.now 1 _ _ _ _ _ _ _ _ _ refl refl refl (lit≤ tt) refl
+    refl refl refl (λ tree. refl) (lit≤ tt)
 
 pub walks_tellers : Walks bank.teller TELLERS_FROM.now
 unfolding is_tellers everything program.program ungrouped
@@ -154,6 +170,28 @@ walks_requests = walks_by is_requests (codes "ordinal")
     refl refl refl refl refl refl refl refl refl refl refl refl (λ tree. refl) (λ tree. refl) (λ tree. refl)
     (λ tree. refl) (λ tree. refl) (λ schema p tree has. rw (has.low, has.found))
     (λ k schema p tree has. rw (has.low, has.found)) shows_seven
+
+pub walks_metas : Walks bank.meta METAS_FROM.now
+unfolding is_metas everything program.program ungrouped
+walks_metas = walks_by is_metas (codes "id") (col 1 0 ∷ col 1 2 ∷ col 1 3 ∷ [])
+    refl refl refl refl refl refl refl refl refl refl refl refl (λ tree. refl) (λ tree. refl) (λ tree. refl)
+    (λ tree. refl) (λ tree. refl) (λ schema p tree has. rw (has.low, has.found))
+    (λ k schema p tree has. rw (has.low, has.found)) shows_two
+
+pub walks_floors : Walks bank.floor FLOORS_FROM.now
+unfolding is_floors everything program.program ungrouped
+walks_floors = walks_by is_floors (codes "bid") (col 1 0 ∷ col 1 2 ∷ [])
+    refl refl refl refl refl refl refl refl refl refl refl refl (λ tree. refl) (λ tree. refl) (λ tree. refl)
+    (λ tree. refl) (λ tree. refl) (λ schema p tree has. rw (has.low, has.found))
+    (λ k schema p tree has. rw (has.low, has.found)) shows_one
+
+-- each with its text
+pub walks_references : WalksAs text_shown bank.reference REFERENCES_FROM.now
+unfolding is_references everything program.program ungrouped
+walks_references = walks_by is_references (codes "ordinal") (col 1 0 ∷ col 1 2 ∷ [])
+    refl refl refl refl refl refl refl refl refl refl refl refl (λ tree. refl) (λ tree. refl) (λ tree. refl)
+    (λ tree. refl) (λ tree. refl) (λ schema p tree has. rw (has.low, has.found))
+    (λ k schema p tree has. rw (has.low, has.found)) shows_text
 
 -- the account of a posting
 account_of_history : (tree : ℕ) → Tests (placed_at bank.history tree) (codes "aid") 2

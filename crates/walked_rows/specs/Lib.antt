@@ -1,5 +1,7 @@
 -- What the walks over the tables of a bank give.
 pub mod Kinds
+pub mod KeptRows
+pub mod KeptKeys
 pub mod Leaving
 pub mod StepOutcomes
 pub mod PairKeys
@@ -10,3 +12,4 @@ pub mod Rising
 pub mod Room
 pub mod Rows
 pub mod Stored
+pub mod StoredBeside

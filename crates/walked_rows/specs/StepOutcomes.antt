@@ -30,36 +30,42 @@ abbrev pub Stores : {R : Type 0} → (R → Entry) → (Entry → Type 0) → Li
 Stores entry Breaks ns (Some r) = entry r ≡ entry_of ns
 Stores entry Breaks ns None = Breaks (entry_of ns)
 
--- of a row of this width: what it is; or memory was refused; or a number is out of its
--- range
-abbrev pub ReadsEntry : {R : Type 0} → ℕ × ℕ → (R → Entry) → (Entry → Type 0) → Row → Result R TableFault
-    → Type 0
-ReadsEntry width entry Breaks row (Ok r) = (e : Entry) → row ≡ numbers (all_numbers e)
-    → HasWidth width e → entry r ≡ e
-ReadsEntry width entry Breaks row (Err (Sqlite x)) =
-    (e : Entry) → row ≡ numbers (all_numbers e) → HasWidth width e → IsRefusedMemory x
-ReadsEntry width entry Breaks row (Err (Damaged broken)) =
-    (e : Entry) → row ≡ numbers (all_numbers e) → HasWidth width e → (broken ≡ rule.Value) × Breaks e
-
--- the rows as a statement shows them
-abbrev pub shown : List Entry → List Row
-shown = map (λ e. numbers (all_numbers e))
-
--- The same of a row whose key is a number or above it: the key of what was read is that number or above it.
-abbrev pub ReadsNext : {R : Type 0} → ℕ × ℕ → (R → Entry) → (Entry → Type 0) → ℤ → Row → Result R TableFault
-    → Type 0
-ReadsNext width entry Breaks next row (Ok r) =
-    ((e : Entry) → row ≡ numbers (all_numbers e) → HasWidth width e → entry r ≡ e)
-    × (is_from next (entry r) ≡ true)
-ReadsNext width entry Breaks next row (Err (Sqlite x)) =
-    (e : Entry) → row ≡ numbers (all_numbers e) → HasWidth width e → IsRefusedMemory x
-ReadsNext width entry Breaks next row (Err (Damaged broken)) =
-    (e : Entry) → row ≡ numbers (all_numbers e) → HasWidth width e → is_from next e ≡ true
-    → (broken ≡ rule.Value) × Breaks e
-
 -- the rule that is broken where a number is out of its range
 abbrev pub BreaksValue : {X : Type 0} → (X → Type 0) → Rule → X → Type 0
 BreaksValue Breaks broken x = (broken ≡ rule.Value) × Breaks x
+
+-- of a row of this width, as a statement shows it: what it is; or memory was refused; or it breaks the rule
+abbrev pub ReadsEntryAs : {R : Type 0} → (Entry → Row) → (Rule → Entry → Type 0) → ℕ × ℕ → (R → Entry) → Row
+    → Result R TableFault → Type 0
+ReadsEntryAs shown_as Breaks width entry row (Ok r) = (e : Entry) → row ≡ shown_as e
+    → HasWidth width e → entry r ≡ e
+ReadsEntryAs shown_as Breaks width entry row (Err (Sqlite x)) =
+    (e : Entry) → row ≡ shown_as e → HasWidth width e → IsRefusedMemory x
+ReadsEntryAs shown_as Breaks width entry row (Err (Damaged broken)) =
+    (e : Entry) → row ≡ shown_as e → HasWidth width e → Breaks broken e
+
+-- a row of numbers alone as a statement shows it
+abbrev pub shown_row : Entry → Row
+shown_row e = numbers (all_numbers e)
+
+-- the rows as a statement shows them
+abbrev pub shown : List Entry → List Row
+shown = map shown_row
+
+-- the same of a row of numbers, which breaks the rule where one of them is out of its range
+abbrev pub ReadsEntry : {R : Type 0} → ℕ × ℕ → (R → Entry) → (Entry → Type 0) → Row → Result R TableFault
+    → Type 0
+ReadsEntry {R} width entry Breaks = ReadsEntryAs {R = R} shown_row (BreaksValue Breaks) width entry
+
+-- The same of a row whose key is a number or above it: the key of what was read is that number or above it.
+abbrev pub ReadsNext : {R : Type 0} → (Entry → Row) → (Rule → Entry → Type 0) → ℕ × ℕ → (R → Entry) → ℤ → Row
+    → Result R TableFault → Type 0
+ReadsNext shown_as Breaks width entry next row (Ok r) =
+    ((e : Entry) → row ≡ shown_as e → HasWidth width e → entry r ≡ e) × (is_from next (entry r) ≡ true)
+ReadsNext shown_as Breaks width entry next row (Err (Sqlite x)) =
+    (e : Entry) → row ≡ shown_as e → HasWidth width e → IsRefusedMemory x
+ReadsNext shown_as Breaks width entry next row (Err (Damaged broken)) =
+    (e : Entry) → row ≡ shown_as e → HasWidth width e → is_from next e ≡ true → Breaks broken e
 
 -- an error of the store of which this holds, or the first to come breaks the rule
 abbrev pub BreaksFirst : {X : Type 0} → (Error → Type 0) → (Rule → X → Type 0) → List X → TableFault

@@ -28,16 +28,21 @@
 //! ```
 //!
 //! Read next: [`StoredRow`], a row of one table; [`Joined`], a row with the one of another table under its
-//! key; [`StatedPosting`], a posting with the reference of its request; `specs/Stored`, how a file holds a
-//! row. The type `Walk` of the crate `bank_store` goes through all rows of a bank by such calls.
+//! key; [`StatedPosting`], a posting with the reference of its request; [`KeptRequest`], a request with both;
+//! `specs/Stored`, how a file holds a row. The type `Walk` of the crate `bank_store` goes through all rows of a
+//! bank by such calls.
 #![tactic(auto)]
 
 mod accounts;
 mod ahead;
 mod beside;
 mod branches;
+mod floors;
 mod joined;
+mod kept;
 mod limits;
+mod listed;
+mod metas;
 mod numbers;
 mod postings;
 mod references;
@@ -52,8 +57,12 @@ mod walked;
 pub use accounts::StoredAccount;
 pub use ahead::AHEAD;
 pub use branches::StoredBranch;
+pub use floors::StoredFloor;
 pub use joined::Joined;
+pub use kept::KeptRequest;
 pub use limits::{LAST_ACCOUNT, LAST_TELLER, MAX_COUNTED};
+pub use listed::StoredReference;
+pub use metas::StoredMeta;
 pub use postings::StoredPosting;
 pub use requests::StoredRequest;
 pub use stated::StatedPosting;

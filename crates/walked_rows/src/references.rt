@@ -21,11 +21,11 @@ use sqlite::types::ValueRef;
 use sqlite::{Alter, Connection, Row, params};
 use store_rows::TableFault;
 
-// The reference that a row shows alone.
-fn reference_of(row: &Row) -> Result<Reference, TableFault>
-    ensures { ReadsReference (column row.now 0) result }
+/// The reference in a column.
+pub(crate) fn reference_at(row: &Row, at: usize) -> Result<Reference, TableFault>
+    ensures { ReadsReference (column row.now at) result }
 {
-    match row.get_ref(0) {
+    match row.get_ref(at) {
         Ok(ValueRef::Text(text)) => {
             Reference::new(text).ok_or(TableFault::Damaged(Rule::Reference))
         }
@@ -38,7 +38,7 @@ fn first_reference(found: &[Row]) -> Result<Option<Reference>, TableFault>
     ensures { ReadsFirst found.now result }
 {
     match found.first() {
-        Some(row) => Ok(Some(reference_of(row)?)),
+        Some(row) => Ok(Some(reference_at(row, 0)?)),
         None => Ok(None),
     }
 }

@@ -21,6 +21,18 @@ pub(crate) const POSTINGS_FROM: &str =
 pub(crate) const REQUESTS_FROM: &str =
     "SELECT ordinal, tid, number, aid, bid, delta, outcome, balance FROM request WHERE ordinal >= ?1 ORDER BY ordinal LIMIT 64";
 
+/// The rows of `meta` from a number on.
+pub(crate) const METAS_FROM: &str =
+    "SELECT id, version, decided FROM meta WHERE id >= ?1 ORDER BY id LIMIT 64";
+
+/// The floors from a branch on.
+pub(crate) const FLOORS_FROM: &str =
+    "SELECT bid, lowest FROM branch_floor WHERE bid >= ?1 ORDER BY bid LIMIT 64";
+
+/// The references from an ordinal on.
+pub(crate) const REFERENCES_FROM: &str =
+    "SELECT ordinal, reference FROM request_reference WHERE ordinal >= ?1 ORDER BY ordinal LIMIT 64";
+
 /// The postings of an account from an ordinal on.
 pub(crate) const POSTINGS_OF: &str =
     "SELECT ordinal, aid, tid, bid, delta, moment FROM history WHERE aid = ?1 AND ordinal >= ?2 ORDER BY ordinal LIMIT 64";

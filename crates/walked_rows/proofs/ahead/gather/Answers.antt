@@ -2,7 +2,6 @@
 use Rattle.std.proofs.Common.{◌<◌, ◌≤◌, ◌+◌, None, length, get_or, sym, ap, subst, ◌∙◌, arith, w64}
 use Rattle.std.proofs.Common.{to_z, lit<, refl}
 use Rattle.std.proofs.lemmas.Int.{to_z-of_z}
-use Rattle.sql_meanings.specs.Tables.{width_of}
 use Rattle.walked_rows.specs.Rows.{entry_key, rows_from}
 use Rattle.walked_rows.specs.declared.ahead.TheConstants.{AHEAD}
 use Rattle.walked_rows.proofs.Gathering.{behind_key, full_there, gathers_on, gathers_none, no_more}
@@ -14,14 +13,14 @@ pub loop-row-preserved : goal.loop-row-preserved
 loop-row-preserved g c =
     let from = c.args.from in
     let same = to_z-of_z w64 from c.ranges.from in
-    let entry = g.R.StoredRow.kind.entry in
+    let entry = g.R.ReadRow.entry in
     let found = c.args.found.now in
     let items = c.loop-row.rows.items in
     let row = c.row-item.result in
     let next = to_z w64 c.loop-row.next-bits in
     let count = c.loop-row.invariant.count in
     let low = subst (λ n. n < length found) (sym count) c.loop-row-test.true in
-    let key = behind_key c.key.result (entry c.in-Ok.read).key c.key.ensures.key c.key.ensures.most in
+    let key = behind_key c.number.result (entry c.in-Ok.read).key c.number.ensures.key c.number.ensures.most in
     let at = c.row-item.is ∙ ap (λ n. get_or found n row) (sym count) in
     rw same record {
       count = c.push.ensures.len ∙ ap (λ n. n + 1) count;
@@ -31,8 +30,7 @@ loop-row-preserved g c =
           (rw same at c.loop-row.invariant.rises) (le_from _ _ c.in-Ok.ensures.1));
       told = λ rows rise wide is.
           rw (c.push.ensures.items, key)
-          (gathers_on entry g.R.StoredRow.kind.Breaks
-          (width_of g.R.StoredRow.kind.table) AHEAD found from rows rise wide is items next row low at
+          (gathers_on g.R.ReadRow.shown_as entry g.R.ReadRow.Breaks g.R.ReadRow.width AHEAD found from rows rise wide is items next row low at
           ((rw same at (c.loop-row.invariant.told rows rise wide)) is) c.in-Ok.read c.in-Ok.ensures);
     }
 
@@ -59,8 +57,7 @@ returns-then-is_empty g c =
     let none = none_there items (sym c.if-is_empty.ensures) in
     record {
       told = λ rows rise wide is.
-          gathers_none g.R.StoredRow.kind.entry g.R.StoredRow.kind.Breaks
-          (width_of g.R.StoredRow.kind.table) AHEAD found from rows rise wide is items
+          gathers_none g.R.ReadRow.shown_as g.R.ReadRow.entry g.R.ReadRow.Breaks g.R.ReadRow.width AHEAD found from rows rise wide is items
           (to_z w64 c.loop-row.next-bits) row low at
           ((rw same at (c.loop-row.invariant.told rows rise wide)) is) c.in-Err.fault none c.in-Err.ensures;
       ended = tt;
@@ -85,10 +82,10 @@ returns-then-is_empty-2 g c =
     let low : length c.args.found.now ≤ 0 =
     omega (arith, c.loop-row.invariant.count, c.loop-row-test.false, ap length none) in
     record {
-      told = λ rows rise wide is. rw none (no_more (rows_from from rows) c.args.found.now low is);
+      told = λ rows rise wide is. rw none (no_more g.R.ReadRow.shown_as (rows_from from rows) c.args.found.now low is);
       ended = λ nothing. refl;
       rises =
-          rest_behind (λ r. entry_key (g.R.StoredRow.kind.entry r)) from items (to_z w64 c.loop-row.next-bits)
+          rest_behind (λ r. entry_key (g.R.ReadRow.entry r)) from items (to_z w64 c.loop-row.next-bits)
           None
           (rw same at c.loop-row.invariant.rises) tt;
     }

@@ -1,7 +1,5 @@
 use Rattle.std.proofs.Common.{◌≡◌, List, ◌++◌, map, take, length, Some}
 use Rattle.sql_meanings.specs.Entries.{Entry, Rise}
-use Rattle.sql_meanings.specs.Tables.{width_of}
-use Rattle.walked_rows.specs.StepOutcomes.{shown}
 use Rattle.walked_rows.specs.Rising.{RisesFrom}
 use Rattle.walked_rows.specs.Rows.{IsWide, entry_key, rows_from}
 use Rattle.walked_rows.specs.declared.ahead.TheConstants.{AHEAD}
@@ -10,8 +8,8 @@ use Rattle.walked_rows.proofs.ahead.gather.Given as goal
 abbrev pub invariant-loop-row : goal.invariant-loop-row
 invariant-loop-row g l = record {
   count : length l.rows.items ≡ l.row-index;
-  rises : RisesFrom l.fn.from (map (λ r. entry_key (g.R.StoredRow.kind.entry r)) l.rows.items) (Some l.next);
-  told : (rows : List Entry) → Rise rows → IsWide (width_of g.R.StoredRow.kind.table) rows
-      → l.fn.found ≡ shown (take AHEAD (rows_from l.fn.from rows))
-      → rows_from l.fn.from rows ≡ map g.R.StoredRow.kind.entry l.rows.items ++ rows_from l.next rows;
+  rises : RisesFrom l.fn.from (map (λ r. entry_key (g.R.ReadRow.entry r)) l.rows.items) (Some l.next);
+  told : (rows : List Entry) → Rise rows → IsWide g.R.ReadRow.width rows
+      → l.fn.found ≡ map g.R.ReadRow.shown_as (take AHEAD (rows_from l.fn.from rows))
+      → rows_from l.fn.from rows ≡ map g.R.ReadRow.entry l.rows.items ++ rows_from l.next rows;
 }

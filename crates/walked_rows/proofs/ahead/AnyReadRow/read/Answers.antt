@@ -1,7 +1,7 @@
 -- What the row is.
 use Rattle.std.proofs.Common.{◌≡◌, Err, rules}
 use Rattle.walked_rows.proofs.EntriesRead.{reads_by, reads_fails}
-use Rattle.walked_rows.proofs.ahead.read.Goals as goal
+use Rattle.walked_rows.proofs.ahead.AnyReadRow.read.Goals as goal
 
 pub returns-in_err-numbers : goal.returns-in_err-numbers
 returns-in_err-numbers g c =

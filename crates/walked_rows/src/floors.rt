@@ -1,0 +1,50 @@
+//! The rows of `branch_floor`.
+use crate::numbers::whole;
+use crate::statements::rows_shown;
+use crate::stored_row::{RowsRead, StoredRow};
+use crate::texts::FLOORS_FROM;
+use message_records::{Account, Whole};
+use posting_rules::LAST_BRANCH;
+use sqlite::{Alter, Connection, params};
+
+/// A row of `branch_floor`: 1..=`LAST_BRANCH`, and the lowest balance that the accounts of the branch may
+/// have, in cents, whatever it is.
+#[derive(Clone, Copy, Debug, PartialEq, Eq)]
+pub struct StoredFloor {
+    pub branch: Whole<1, LAST_BRANCH>,
+    pub lowest: i64,
+}
+
+impl Default for StoredFloor {
+    fn default() -> Self {
+        StoredFloor {
+            branch: Whole::new(1).unwrap(),
+            lowest: 0,
+        }
+    }
+}
+
+impl StoredRow for StoredFloor {
+    ghost use Rattle.walked_rows.specs.StoredBeside.{floor_kind};
+
+    ghost kind = { floor_kind };
+
+    fn columns() -> usize {
+        2
+    }
+
+    fn of(numbers: &[i64]) -> Option<Self> {
+        Some(StoredFloor {
+            branch: whole(numbers[0])?,
+            lowest: numbers[1],
+        })
+    }
+
+    fn seek<S: Alter>(conn: &mut Connection<S>, _of: Option<Account>, from: i64) -> RowsRead {
+        rows_shown(conn, FLOORS_FROM, params![from])
+    }
+
+    fn key(&self) -> u64 {
+        self.branch.get()
+    }
+}
