@@ -49,7 +49,7 @@
 //! connection of the bank that is down.
 //!
 //! [`Counter::submit_all`] posts up to [`RECORDS_PER_BATCH`] records in one transaction. [`each_account`] and
-//! its six neighbours walk over the rows, one `next` a row.
+//! its ten neighbours walk over the rows, one `next` a row.
 //!
 //! Read next: [`Bank`], with what holds after each fault; [`Counter`], with the five calls; [`Walk`], to read
 //! the rows. `specs/Seen` says what a bank shows, and the crate `bank_lives` what is found after a stop.
@@ -79,8 +79,10 @@ pub use posting_rules::{
 };
 pub use refused::Refused;
 pub use walked_rows::{
-    Joined, StatedPosting, StoredAccount, StoredBranch, StoredPosting, StoredRequest, StoredTeller,
+    Joined, KeptRequest, StatedPosting, StoredAccount, StoredBranch, StoredFloor, StoredMeta,
+    StoredPosting, StoredReference, StoredRequest, StoredTeller,
 };
 pub use walks::{
-    Walk, each_account, each_branch, each_history, each_request, each_row, each_teller, history_of,
+    Walk, each_account, each_branch, each_floor, each_history, each_kept, each_meta,
+    each_reference, each_request, each_row, each_teller, history_of,
 };

@@ -21,8 +21,8 @@ use sqlite::{Alter, Connection};
 use std::fmt;
 use store_rows::TableFault;
 use walked_rows::{
-    AHEAD, Joined, StatedPosting, StoredAccount, StoredBranch, StoredPosting, StoredRequest,
-    StoredTeller, WalkedRow,
+    AHEAD, Joined, KeptRequest, StatedPosting, StoredAccount, StoredBranch, StoredFloor,
+    StoredMeta, StoredPosting, StoredReference, StoredRequest, StoredTeller, WalkedRow,
 };
 
 // How far a walk is: on its way, behind its last row, or behind a fault.
@@ -252,6 +252,10 @@ ghost use Rattle.walked_rows.specs.Stored.{posted_pair, stated_pair, teller_entr
 ghost use Rattle.store_rows.specs.BankTables.{account as account_table, branch as branch_table};
 ghost use Rattle.store_rows.specs.BankTables.{history as history_table, request as request_table};
 ghost use Rattle.store_rows.specs.BankTables.{reference as reference_table, teller as teller_table};
+ghost use Rattle.store_rows.specs.BankTables.{floor as floor_table, meta as meta_table};
+ghost use Rattle.walked_rows.specs.KeptRows.{HasKept, kept_item, kept_key};
+ghost use Rattle.walked_rows.specs.References.{listed_entry};
+ghost use Rattle.walked_rows.specs.StoredBeside.{floor_entry, meta_entry};
 
 // Begins a walk over the rows of a kind, those of an account where one is named. The only fault is `Down`.
 fn begin_walk<S: Alter, R: WalkedRow>(
@@ -377,6 +381,64 @@ pub fn each_history<S: Alter>(
     ensures begins { BeginsWalk S.Store pair_key posted_pair (λ of p. true)
         (λ db pairs. HasPairs db history_table request_table pairs) None bank.entry.ghost_name bank.old
         result }
+{
+    each_row(bank)
+}
+
+/// Begins a walk over the rows of `meta`, of which a bank has one.
+///
+/// # Errors
+///
+/// [`Fault::Down`] alone: a fault brought the bank down before. Nothing was tried.
+pub fn each_meta<S: Alter>(bank: &mut Bank<S>) -> Result<Walk<'_, S, StoredMeta>, Fault>
+    ensures* refused { sem 𝓛 (RestsIfErr (the_row S.row S.Store) bank.entry loan_of result
+        (λ last. last ≡ bank.old)) }
+    ensures begins { BeginsWalk S.Store entry_key meta_entry (λ of e. true)
+        (λ db rows. HasStoredRows db meta_table rows) None bank.entry.ghost_name bank.old result }
+{
+    each_row(bank)
+}
+
+/// Begins a walk over the rows of `branch_floor`, by the branch's number: the lowest balances, in cents, that
+/// the accounts of branches may have.
+///
+/// # Errors
+///
+/// [`Fault::Down`] alone: a fault brought the bank down before. Nothing was tried.
+pub fn each_floor<S: Alter>(bank: &mut Bank<S>) -> Result<Walk<'_, S, StoredFloor>, Fault>
+    ensures* refused { sem 𝓛 (RestsIfErr (the_row S.row S.Store) bank.entry loan_of result
+        (λ last. last ≡ bank.old)) }
+    ensures begins { BeginsWalk S.Store entry_key floor_entry (λ of e. true)
+        (λ db rows. HasStoredRows db floor_table rows) None bank.entry.ghost_name bank.old result }
+{
+    each_row(bank)
+}
+
+/// Begins a walk over the rows of `request_reference`, by the ordinal of their requests.
+///
+/// # Errors
+///
+/// [`Fault::Down`] alone: a fault brought the bank down before. Nothing was tried.
+pub fn each_reference<S: Alter>(bank: &mut Bank<S>) -> Result<Walk<'_, S, StoredReference>, Fault>
+    ensures* refused { sem 𝓛 (RestsIfErr (the_row S.row S.Store) bank.entry loan_of result
+        (λ last. last ≡ bank.old)) }
+    ensures begins { BeginsWalk S.Store entry_key listed_entry (λ of e. true)
+        (λ db rows. HasStoredRows db reference_table rows) None bank.entry.ghost_name bank.old result }
+{
+    each_row(bank)
+}
+
+/// Begins a walk over the kept requests: the rows of `request` in the order in which they were decided, each
+/// with the posting and the reference of its ordinal, if there are such.
+///
+/// # Errors
+///
+/// [`Fault::Down`] alone: a fault brought the bank down before. Nothing was tried.
+pub fn each_kept<S: Alter>(bank: &mut Bank<S>) -> Result<Walk<'_, S, KeptRequest>, Fault>
+    ensures* refused { sem 𝓛 (RestsIfErr (the_row S.row S.Store) bank.entry loan_of result
+        (λ last. last ≡ bank.old)) }
+    ensures begins { BeginsWalk S.Store kept_key kept_item (λ of k. true) HasKept None bank.entry.ghost_name
+        bank.old result }
 {
     each_row(bank)
 }
