@@ -114,6 +114,8 @@ def main():
         # `rt ci` leaves it too, without the stamp by which `rt run` would know it.
         print(f"{made.relative_to(TOP)} was proved and built of these very files")
         return
+    if not shutil.which("rt"):
+        sys.exit("build: there is no `rt` on the path")
     git = TOP / ".git"
     with tempfile.TemporaryDirectory(prefix="lanes-", dir=git if git.is_dir() else None) as room:
         build(room, program)
