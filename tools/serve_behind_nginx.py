@@ -108,7 +108,8 @@ def strangers(folder, port):
 
 def answer_of(tls, port, message):
     """The status of an answer, from a server that may still be starting."""
-    for _ in range(50):
+    end = time.monotonic() + 60
+    while time.monotonic() < end:
         try:
             with connect(tls, port) as connection:
                 connection.sendall(message)

@@ -3,10 +3,11 @@
 who uses the keyboard alone enters postings while the counter, nginx and the browser are killed at random. Each is
 posted once, with the amounts and the balances that the page shows. Before that come the page's words for what is
 refused, undoing, a second tab, and another server's page that tries to post.
-    tools/teller_page.py [POSTINGS [KILLS]]    in each browser that is installed; 300 postings, and 100 kills of the
-                                               counter, 10 of nginx and 7 of the browser
-    tools/teller_page.py hashes                writes the hashes of the page's script and style into examples/nginx.conf
-    tools/teller_page.py pictures              takes docs/teller.png and docs/teller_narrow.png
+    tools/teller_page.py [POSTINGS [KILLS [BROWSER]]]
+                                     in Chromium and Firefox, as far as they are installed, or in one of them; 300
+                                     postings, and 100 kills of the counter, 10 of nginx and 7 of the browser
+    tools/teller_page.py hashes      writes the hashes of the page's script and style into examples/nginx.conf
+    tools/teller_page.py pictures    takes docs/teller.png and docs/teller_narrow.png
 It needs the built program, nginx, openssl, and Debian's `chromium` or `firefox-esr`. It is bounded in count and time,
 uses loopback alone, and stands outside the gate."""
 import base64
@@ -33,12 +34,17 @@ ACCOUNTS = [1, 2, 3, 100001]
 # The least that account 3,000,001 may have is its floor; branch 31 has the tellers 301 to 310.
 PLAN = "branch,accounts,floor\n1,3,\n2,2,\n31,1,-500\n"
 # No wait in a page takes longer than this, and no run, in seconds.
-WAIT, LONGEST = 60, 900
+WAIT, LONGEST = 60, 1800
 
 # What the page keeps of its postings, the oldest first.
 KEPT = """new Promise((yes, no) => { const ask = indexedDB.open('counter'); ask.onerror = no; ask.onsuccess = () => {
     const all = ask.result.transaction('postings').objectStore('postings').getAll();
     all.onsuccess = () => { ask.result.close(); yes(all.result) } } })"""
+# Teller 1 has used this number.
+AHEAD = """new Promise((yes, no) => { const ask = indexedDB.open('counter'); ask.onerror = no; ask.onsuccess = () => {
+    const change = ask.result.transaction('numbers', 'readwrite');
+    change.objectStore('numbers').put(%d, 1);
+    change.oncomplete = () => { ask.result.close(); yes(0) } } })"""
 # The lines of its list, the newest first: number, account, amount, reference, answer, balance.
 LINES = """[...document.querySelectorAll('.posting')].map(line =>
     [...line.cells].slice(1, 7).map(cell => cell.textContent))"""
@@ -88,11 +94,6 @@ class Place:
         with socket.create_server(("127.0.0.1", 0)) as one, socket.create_server(("127.0.0.1", 0)) as other:
             self.front, self.back = one.getsockname()[1], other.getsockname()[1]
         subprocess.run([HERE + "/tools/nginx_folder.sh", folder, str(self.front), str(self.back)], check=True)
-        with open(folder + "/tellers", "a", encoding="utf-8") as tellers:
-            tellers.write("keeper \"\";\n")
-        with open(folder + "/passwords", "a", encoding="utf-8") as passwords:
-            word = subprocess.run(["openssl", "passwd", "-apr1", "counter"], check=True, stdout=subprocess.PIPE).stdout
-            passwords.write(f"keeper:{word.decode()}")
         self.counter = self.nginx = None
 
     def start_counter(self):
@@ -246,8 +247,8 @@ def words(place, page):
     with open(place.file + ".csv", "w", encoding="utf-8") as plan:
         plan.write(PLAN)
     subprocess.run([BANK, "load", place.file, place.file + ".csv"], check=True, stdout=subprocess.DEVNULL)
-    # Account 100,002 comes to within 99.01 of the limit of balances.
-    place.posts(record(100002, 12, 2, i + 1, 9999999999) for i in range(100))
+    # Account 100,002 and branch 31 come to within 0.99 of the limit of balances.
+    place.posts(record(100002, 301, 31, i + 1, 9999999999) for i in range(100))
     place.start()
     page.press("Send again")
     page.settled()
@@ -265,7 +266,7 @@ def words(place, page):
     page.fault("1", "1", "A reference of 21 bytes", "reference", "20 characters")
     line, notes = page.answered("0003", "0900", "WHOLE UNITS")
     same("leading zeros", line[1:], ["3", "900.00", "WHOLE UNITS", "Posted", "900.00"])
-    holds("what is said", notes[0], "Posted: 900.00 paid in, account 3", "900.00")
+    holds("what is said", notes[0], "Posted: 900.00 paid in to account 3. Its balance is then 900.00.")
     line, notes = page.answered(4, "1,5", "NO SUCH")
     holds("no account", line[4], "Not posted: there is no account 4")
     holds("what is said", notes[1], "there is no account 4")
@@ -299,8 +300,8 @@ def words(place, page):
     page.browser.run("(document.getElementById('ask-branches').focus(), 0)")
     page.browser.keys(ENTER)
     page.until("the branches", "document.getElementById('branch-rows').textContent.length > 0")
-    same("the branches", page.browser.run("[...document.querySelectorAll('#branch-rows tr')].map(row => "
-                                          "[...row.cells].map(cell => cell.textContent))[2]"), ["31", "1", "0.00"])
+    same("a branch", page.browser.run("[...document.querySelectorAll('#branch-rows tr')].map(row => "
+                                      "[...row.cells].map(cell => cell.textContent))[2]"), ["31", "1", "9999999999.00"])
     same("another teller's record", page.browser.run(
         f"fetch('/post', {{method: 'POST', body: {json.dumps(record(1, 2, 1, 77, 7777).decode())}, headers: "
         "{'Content-Type': 'application/octet-stream'}}).then(got => got.status)"), 403)
@@ -315,24 +316,29 @@ def words(place, page):
 
 
 def reused(place, page):
-    """Numbers that the page will draw were used elsewhere."""
+    """The page's clock was ahead once, and the next numbers were used elsewhere."""
     place.counter.stop()
-    now = int(time.time())
-    place.posts(record(1, 1, 1, now + i, 1) for i in range(-2, 6))
+    ahead = int(time.time()) + 1000
+    place.posts(record(1, 1, 1, ahead + i, 1) for i in (1, 2))
     place.start_counter()
-    line, _ = page.answered(1, "1.50", "ELSEWHERE")
-    holds("a number that was used", line[4], "was used for another posting")
-    for _ in range(20):
+    page.browser.run(AHEAD % ahead)
+    page.load()
+    holds("a number that was used", page.answered(1, "1.50", "ELSEWHERE")[0][4], "was used for another posting")
+    for answer in (f"Not posted: number {ahead + 2} was used", "Posted"):
         page.press("Post with a new number")
         page.settled()
-        line = page.browser.run(LINES)[0]
-        if line[4] == "Posted":
-            return
-    raise Failed(f"no new number is taken: {line}")
+        holds("under a new number", page.browser.run(LINES)[0][4], answer)
+    same("the number", page.browser.run(LINES)[0][0], str(ahead + 3))
+
+
+def listens(port):
+    """Whether a program listens on a port of loopback."""
+    with open("/proc/net/tcp", encoding="ascii") as lines:
+        return any(f"0100007F:{port:04X} 00000000:0000 0A" in line for line in lines)
 
 
 class Killer(threading.Thread):
-    """Kills the counter and nginx one after another, each when it runs and some moments have gone by."""
+    """Kills the counter and nginx one after another, each when it serves and some moments have gone by."""
 
     def __init__(self, place):
         super().__init__(daemon=True)
@@ -342,8 +348,9 @@ class Killer(threading.Thread):
     def run(self):
         while True:
             what, moments = self.wanted.get()
-            program = self.place.counter if what == "counter" else self.place.nginx
-            while program.process.poll() is not None and not program.ends:
+            place = self.place
+            program, port = (place.counter, place.back) if what == "counter" else (place.nginx, place.front)
+            while not listens(port) and not program.ends:
                 time.sleep(0.01)
             time.sleep(moments)
             program.kill()
@@ -415,7 +422,8 @@ def check(place, page, entered):
     same("the sums", sums, [sums[0]] * 5)
     # Every record that the page kept, sent once more, gets the answer that the page shows, but for what isn't kept.
     sent = [it for it in kept if it["answer"][4:6] not in ("11", "15", "16", "90")]
-    same("the replies", place.posts(it["record"].encode() for it in sent).decode(), "".join(it["answer"] for it in sent))
+    again = place.posts(it["record"].encode() for it in sent).decode()
+    same("the replies", again, "".join(it["answer"] for it in sent))
     audit = subprocess.run([BANK, "audit", place.file], stdout=subprocess.PIPE, check=False).stdout.decode()
     same("the audit", audit.splitlines()[-1], "CONSISTENT")
     if "replay" in subprocess.run([BANK, "help"], stdout=subprocess.PIPE, check=False).stdout.decode():
@@ -464,6 +472,7 @@ def pictures():
             page.browser.keys("2", TAB, "45.50")
             for name, width, height in (("teller", 1000, 740), ("teller_narrow", 380, 820)):
                 page.browser.size(width, height)
+                page.browser.run("(scrollTo(0, 0), 0)")
                 time.sleep(0.3)
                 with open(f"{HERE}/docs/{name}.png", "wb") as file:
                     file.write(page.browser.picture())
@@ -481,11 +490,13 @@ def main():
     if sys.argv[1:] == ["pictures"]:
         pictures()
         return
-    count, kills = (int(word) for word in (sys.argv[1:] + ["300", "100"][len(sys.argv) - 1:])[:2])
-    failed = not installed()
+    words_given = sys.argv[1:] + ["300", "100", ""][len(sys.argv) - 1:]
+    count, kills = int(words_given[0]), int(words_given[1])
+    browsers = [kind for kind in installed() if words_given[2] in ("", kind.name)]
+    failed = not browsers
     if failed:
         print("teller_page: no browser: apt-get install chromium firefox-esr")
-    for kind in installed():
+    for kind in browsers:
         try:
             run(kind, count, kills)
         except (Failed, BrowserFault) as fault:
