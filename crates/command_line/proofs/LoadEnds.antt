@@ -1,11 +1,14 @@
 -- How the loading of a plan ends, by the call that ended it.
-use Rattle.std.proofs.Common.{◌≡◌, ◌≢◌, refl, inl, inr, ℕ, List, Option, Result, Ok, Err}
+use Rattle.std.proofs.Common.{◌≡◌, ◌≢◌, refl, inl, inr, subst, ℕ, List, Option, Result, Ok, Err}
 use Rattle.std.specs.Prelude.{IfErr, IfOk}
+use Rattle.std.specs.Result.{IsErrOf}
 use Rattle.std.specs.Io.KnownBytes.{Appends, Keeps}
 use Rattle.std.proofs.KnownBytes.{Keeps-refl}
 use Rattle.posting_rules.specs.declared.fault.Fault.{Fault}
+use Rattle.posting_rules.specs.declared.fault.Fault.TheVariants as bank
 use Rattle.posting_rules.specs.Counter.{Seen}
-use Rattle.posting_core.specs.Told.{ReadTold}
+use Rattle.posting_core.specs.Told.{HasWriteFailed, ReadTold, WriteTold}
+use Rattle.report_lines.specs.Written.{AppendsPart}
 use Rattle.branch_loader.specs.Plans.{ReadsPlan, Rows}
 use Rattle.branch_loader.specs.declared.fault.PlanFault.{PlanFault}
 use Rattle.branch_loader.specs.declared.fault.PlanFault.TheVariants.{Header, Columns, Branch, Accounts, Floor}
@@ -19,59 +22,8 @@ use Rattle.command_line.specs.declared.fault.CommandFault.{CommandFault}
 use Rattle.command_line.specs.declared.fault.CommandFault.TheVariants as fault
 use Rattle.command_line.specs.declared.fault.CommandFault.TheVariants.{Write}
 use Rattle.command_line.specs.declared.status.Status.{Status}
-use Rattle.command_line.specs.Working.{Loads, LoadsAnswer, LoadsAs, LoadsFrom, LoadsOver, ended_by_load}
-
--- ---- a plan that is read from a source
-
--- what load_from ensures
-pub record Ended {C : Type 0} (seen : C → Seen) (r r' : Option (List ℕ)) (q q' : Option (List ReadTold))
-    (w w' : Option (List ℕ)) (result : Result Loaded CommandFault) (old new : C) : Type 0 where
-  pub loads : LoadsFrom seen r r' q q' w w' (λ end. ended_by_load result ≡ end) old new
-  pub line : IfOk result (λ loaded. Appends w w' (loaded_line loaded))
-  pub silent : IfErr result (λ fault. fault ≢ Write → Keeps w w')
-
-module _ {C : Type 0} (seen : C → Seen) {r r' : Option (List ℕ)} {q q' : Option (List ReadTold)}
-    (w : Option (List ℕ)) (old : C) where
-  -- it is none
-  pub unread : (result : Result Loaded CommandFault) (fault : PlanFault) → result ≡ Err (fault_of_plan fault)
-      → ReadsPlan r r' q q' (Err fault) → Ended seen r r' q q' w w result old old
-  unread result fault same reads = rw same record {
-    loads = record { answer = Err fault; reads = reads; does = ((refl, Keeps-refl w), refl) };
-    line = tt;
-    silent = λ other. Keeps-refl w;
-  }
-
-  -- the bank refused an opening
-  pub refused : (new : C) (result : Result Loaded CommandFault) (rows : Rows) (fault : Fault)
-      → result ≡ Err (fault_of_bank fault) → ReadsPlan r r' q q' (Ok rows)
-      → LoadsAs seen rows (Err fault) old new → Ended seen r r' q q' w w result old new
-  refused new result rows fault same reads did = rw same record {
-    loads = record { answer = Ok rows; reads = reads; does = (Err fault, (refl, Keeps-refl w), did) };
-    line = tt;
-    silent = λ other. Keeps-refl w;
-  }
-
-  -- the openings were answered, but the line couldn't be printed
-  pub unprinted : (w' : Option (List ℕ)) (new : C) (result : Result Loaded CommandFault) (rows : Rows)
-      (loaded : Loaded) → result ≡ Err Write → ReadsPlan r r' q q' (Ok rows)
-      → Loads rows (seen old) (seen new) loaded → Ended seen r r' q q' w w' result old new
-  unprinted w' new result rows loaded same reads did = rw same record {
-    loads = record { answer = Ok rows; reads = reads; does = (Ok loaded, inr refl, did) };
-    line = tt;
-    silent = λ other. absurd (other refl);
-  }
-
-  -- they were, and it was printed
-  pub printed : (w' : Option (List ℕ)) (new : C) (rows : Rows) (loaded : Loaded)
-      → Appends w w' (loaded_line loaded) → ReadsPlan r r' q q' (Ok rows)
-      → Loads rows (seen old) (seen new) loaded → Ended seen r r' q q' w w' (Ok loaded) old new
-  printed w' new rows loaded line reads did = record {
-    loads = record { answer = Ok rows; reads = reads; does = (Ok loaded, inl (refl, line), did) };
-    line = line;
-    silent = tt;
-  }
-
--- ---- a plan in a file
+use Rattle.command_line.specs.Working.{IsRefusedLoad, Loads, LoadsAnswer, LoadsFrom, LoadsOver}
+use Rattle.command_line.specs.Working.{ended_by_load}
 
 -- each fault of a plan is told as one
 of_plan : (fault : PlanFault) → IsPlanFault (fault_of_plan fault)
@@ -83,6 +35,78 @@ of_plan (Floor n) = tt
 of_plan (Twice n) = tt
 of_plan Csv = tt
 of_plan Memory = tt
+
+-- no fault of a plan is one of the output, and none of a bank
+not_write : (fault : PlanFault) → fault_of_plan fault ≡ Write → ⊥
+not_write fault e = subst IsPlanFault e (of_plan fault)
+
+pub never_write : (fault : Fault) → fault_of_bank fault ≡ Write → ⊥
+never_write bank.Memory e = cc e
+never_write bank.Store e = cc e
+never_write bank.Down e = cc e
+never_write (bank.Damaged rule) e = cc e
+
+-- ---- a plan that is read from a source
+
+-- what load_from ensures
+pub record Ended {C : Type 0} (seen : C → Seen) (reason : Fault → C → C → Type 0) (r r' : Option (List ℕ))
+    (q q' : Option (List ReadTold)) (w w' : Option (List ℕ)) (t t' : Option (List WriteTold))
+    (result : Result Loaded CommandFault) (old new : C) : Type 0 where
+  pub loads : LoadsFrom seen reason r r' q q' w w' (λ end. ended_by_load result ≡ end) old new
+  pub line : IfOk result (λ loaded. Appends w w' (loaded_line loaded))
+  pub silent : IfErr result (λ fault. fault ≢ Write → Keeps w w')
+  pub unprinted : IsErrOf result Write → HasWriteFailed t t'
+
+module _ {C : Type 0} (seen : C → Seen) (reason : Fault → C → C → Type 0) {r r' : Option (List ℕ)}
+    {q q' : Option (List ReadTold)} (w : Option (List ℕ)) (t : Option (List WriteTold)) (old : C) where
+  -- it is none
+  pub unread : (result : Result Loaded CommandFault) (fault : PlanFault) → result ≡ Err (fault_of_plan fault)
+      → ReadsPlan r r' q q' (Err fault) → Ended seen reason r r' q q' w w t t result old old
+  unread result fault same reads = rw same record {
+    loads = record { answer = Err fault; reads = reads; does = ((refl, Keeps-refl w), refl) };
+    line = tt;
+    silent = λ other. Keeps-refl w;
+    unprinted = λ is. absurd (not_write fault (cc is));
+  }
+
+  -- the bank refused an opening
+  pub refused : (new : C) (result : Result Loaded CommandFault) (rows : Rows) (fault : Fault)
+      → result ≡ Err (fault_of_bank fault) → ReadsPlan r r' q q' (Ok rows)
+      → IsRefusedLoad seen reason rows fault old new
+      → Ended seen reason r r' q q' w w t t result old new
+  refused new result rows fault same reads did = rw same record {
+    loads = record { answer = Ok rows; reads = reads; does = (Err fault, (refl, Keeps-refl w), did) };
+    line = tt;
+    silent = λ other. Keeps-refl w;
+    unprinted = λ is. absurd (never_write fault (cc is));
+  }
+
+  -- the openings were answered, but a prefix of the line was printed
+  pub unprinted : (w' : Option (List ℕ)) (t' : Option (List WriteTold)) (new : C)
+      (result : Result Loaded CommandFault) (rows : Rows)
+      (loaded : Loaded) → result ≡ Err Write → ReadsPlan r r' q q' (Ok rows)
+      → Loads rows (seen old) (seen new) loaded → AppendsPart w w' (loaded_line loaded)
+      → HasWriteFailed t t' → Ended seen reason r r' q q' w w' t t' result old new
+  unprinted w' t' new result rows loaded same reads did part failed = rw same record {
+    loads = record { answer = Ok rows; reads = reads; does = (Ok loaded, inr (refl, part), did) };
+    line = tt;
+    silent = λ other. absurd (other refl);
+    unprinted = λ is. failed;
+  }
+
+  -- they were, and it was printed
+  pub printed : (w' : Option (List ℕ)) (t' : Option (List WriteTold)) (new : C) (rows : Rows) (loaded : Loaded)
+      → Appends w w' (loaded_line loaded) → ReadsPlan r r' q q' (Ok rows)
+      → Loads rows (seen old) (seen new) loaded
+      → Ended seen reason r r' q q' w w' t t' (Ok loaded) old new
+  printed w' t' new rows loaded line reads did = record {
+    loads = record { answer = Ok rows; reads = reads; does = (Ok loaded, inl (refl, line), did) };
+    line = line;
+    silent = tt;
+    unprinted = λ is. cc;
+  }
+
+-- ---- a plan in a file
 
 of_file : (told : CommandFault) → IsOfPlanFile told → IsPlanFault told
 of_file fault.Memory is = tt
@@ -101,19 +125,23 @@ of_file (fault.NoAccount n) is = absurd is
 of_file fault.Network is = absurd is
 
 -- the file wasn't opened
-pub unopened : {C : Type 0} (seen : C → Seen) (w : Option (List ℕ)) (bank : C)
+pub unopened : {C : Type 0} (seen : C → Seen) (reason : Fault → C → C → Type 0) (w : Option (List ℕ)) (bank : C)
     (result : Result Loaded CommandFault) (told : CommandFault) → result ≡ Err told → IsOfPlanFile told
-    → LoadsOver seen w w (λ end. ended_by_load result ≡ end) bank bank
-unopened seen w bank result told same is =
+    → LoadsOver seen reason w w (λ end. ended_by_load result ≡ end) bank bank
+unopened seen reason w bank result told same is =
     rw same (inl (((told, of_file told is, refl), Keeps-refl w), refl))
 
+-- no fault of its file is one of the output
+pub file_not_write : (told : CommandFault) → IsOfPlanFile told → told ≡ Write → ⊥
+file_not_write told is e = subst IsOfPlanFile e is
+
 -- what was done with a source's plan was done with a plan
-pub over : {C : Type 0} (seen : C → Seen) {r r' : Option (List ℕ)} {q q' : Option (List ReadTold)}
+pub over : {C : Type 0} (seen : C → Seen) (reason : Fault → C → C → Type 0) {r r' : Option (List ℕ)} {q q' : Option (List ReadTold)}
     {w w' : Option (List ℕ)} (Ends : Result Status CommandFault → Type 0) {old new : C}
-    → LoadsFrom seen r r' q q' w w' Ends old new → LoadsOver seen w w' Ends old new
-over {C} seen {w = w} {w' = w'} Ends {old = old} {new = new} it = by it.answer it.does
+    → LoadsFrom seen reason r r' q q' w w' Ends old new → LoadsOver seen reason w w' Ends old new
+over {C} seen reason {w = w} {w' = w'} Ends {old = old} {new = new} it = by it.answer it.does
   where
-    by : (answer : Result Rows PlanFault) → LoadsAnswer seen w w' Ends answer old new
-        → LoadsOver seen w w' Ends old new
+    by : (answer : Result Rows PlanFault) → LoadsAnswer seen reason w w' Ends answer old new
+        → LoadsOver seen reason w w' Ends old new
     by (Ok rows) d = inr (d.0, d.1, (rows, d.2))
     by (Err fault) d = inl (((fault_of_plan fault, of_plan fault, d.0.0), d.0.1), d.1)

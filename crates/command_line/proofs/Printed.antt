@@ -1,14 +1,26 @@
 -- What was printed of a drive, and of connections that were served.
-use Rattle.std.proofs.Common.{◌≢◌, inr, ℕ, List, Option, Result, Ok, Err, OnOk, IfErr}
+use Rattle.std.proofs.Common.{◌≡◌, ◌≢◌, ◌≤◌, ap, inl, inr, refl, ℕ, List, length, take, Option, Result, Ok, Err, OnOk}
+use Rattle.std.proofs.Common.{IfErr}
+use Rattle.std.specs.Prelude.{OnErr}
+use Rattle.std.specs.Result.{IsErrOf}
 use Rattle.std.specs.Io.KnownBytes.{Appends}
 use Rattle.std.specs.declared.net.socket_addr.SocketAddr.{SocketAddr}
 use Rattle.posting_rules.specs.Counter.{Seen}
+use Rattle.posting_rules.specs.declared.fault.Fault.{Fault}
+use Rattle.posting_core.specs.Told.{WriteTold}
+use Rattle.report_lines.specs.Written.{AppendsPart}
 use Rattle.load_driver.specs.Drives.{Drives}
 use Rattle.load_driver.specs.declared.drive.Driven.{Driven}
-use Rattle.command_line.specs.Lines.{driven_line, listening_line}
+use Rattle.command_line.specs.Lines.{PrintsLine, driven_line, listening_line}
 use Rattle.command_line.specs.declared.fault.CommandFault.{CommandFault}
 use Rattle.command_line.specs.declared.fault.CommandFault.TheVariants.{Write}
-use Rattle.command_line.specs.Working.{MayTellListening, TellsDriven, TellsListening}
+use Rattle.command_line.specs.Working.{DrivesOver, MayTellListening, TellsDriven, TellsListening}
+use Rattle.command_line.specs.Working.{done_after}
+
+-- a prefix of a text
+pub part_of : {old new : Option (List ℕ)} {text : List ℕ}
+    → (n : ℕ) × (n ≤ length text) × Appends old new (take n text) → AppendsPart old new text
+part_of p = record { count = p.0; within = p.1; wrote = p.2 }
 
 -- the line has the counts of the drive's replies, and each record was posted or not
 pub told_driven : {C : Type 0} (seen : C → Seen) (old new : C) (k k' : Option (List ℕ)) (seed count : ℕ)
@@ -33,3 +45,16 @@ pub may_tell : (r : Result (Unit {0}) CommandFault) (bound : SocketAddr) (old ne
     → IfErr r (λ fault. fault ≢ Write → MayTellListening old new)
 may_tell (Ok done) bound old new told = tt
 may_tell (Err fault) bound old new told = λ other. inr (bound, told other)
+
+-- ---- how a drive ends
+
+-- it was done, and its line was printed, or a prefix of it
+pub drive_printed : {C : Type 0} (seen : C → Seen) (reason : Fault → C → C → Type 0) (old new : C)
+    (k k' : Option (List ℕ)) (seed count : ℕ) (w w' : Option (List ℕ)) (t t' : Option (List WriteTold))
+    (r : Result (Unit {0}) CommandFault) (driven : Driven) → Drives seen old new k k' seed count (Ok driven)
+    → PrintsLine (driven_line count driven) w w' t t' r → OnErr r (IsErrOf r Write)
+    → DrivesOver seen reason k k' w w' seed count (λ end. done_after r ≡ end) old new
+drive_printed seen reason old new k k' seed count w w' t t' (Ok done) driven drives prints fault =
+    (Ok driven, inl (refl, prints.line), drives, tt)
+drive_printed seen reason old new k k' seed count w w' t t' (Err told) driven drives prints fault =
+    (Ok driven, inr (ap done_after fault, part_of prints.part), drives, tt)

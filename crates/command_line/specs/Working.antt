@@ -1,20 +1,22 @@
 -- What the work of a command does to its bank, and the line that it prints of it.
-use Rattle.std.specs.Prelude.{◌≡◌, ◌⊎◌, ◌+◌, ℕ, List, Option, Result, Ok, Err, length}
+use Rattle.std.specs.Prelude.{◌≡◌, ◌⊎◌, ◌+◌, ℕ, List, Option, Result, Ok, Err, IfErr, length}
 use Rattle.std.specs.Io.KnownBytes.{Appends, Keeps}
 use Rattle.std.specs.declared.net.socket_addr.SocketAddr.{SocketAddr}
 use Rattle.posting_rules.specs.declared.fault.Fault.{Fault}
 use Rattle.posting_rules.specs.Commands.{Command}
-use Rattle.posting_rules.specs.Counter.{Seen, ShowsLog, Takes}
+use Rattle.posting_rules.specs.Counter.{HasRefused, Seen, ShowsLog, Takes}
 use Rattle.branch_loader.specs.Loading.{IsRefusedAfter, answers, counted, total}
 use Rattle.branch_loader.specs.Plans.{ReadsPlan, Rows, openings}
 use Rattle.branch_loader.specs.declared.fault.PlanFault.{PlanFault}
 use Rattle.branch_loader.specs.declared.loader.Loaded.{Loaded}
-use Rattle.load_driver.specs.Drives.{Drives}
+use Rattle.load_driver.specs.Drives.{Drives, IfRefused}
 use Rattle.load_driver.specs.declared.drive.Driven.{Driven}
 use Rattle.load_driver.specs.declared.drive_fault.DriveFault.{DriveFault}
 use Rattle.counter_http.specs.Connections.{ServesConnections}
 use Rattle.counter_http.specs.declared.listen_fault.ListenFault.{ListenFault}
+use Rattle.posting_core.specs.Stream.{IsOfCall}
 use Rattle.posting_core.specs.Told.{ReadTold}
+use Rattle.report_lines.specs.Written.{AppendsPart}
 use Rattle.command_line.specs.Faults.{fault_of_bank, fault_of_drive, fault_of_plan, fault_of_serving}
 use Rattle.command_line.specs.Lines.{driven_line, listening_line, loaded_line}
 use Rattle.command_line.specs.Looking.{IsPlanFault}
@@ -30,11 +32,18 @@ pub record Loads (rows : Rows) (old new : Seen) (loaded : Loaded) : Type 0 where
   pub all : total loaded ≡ length rows
   pub counts : new.honest → (log : List Command) → ShowsLog old log → loaded ≡ counted (answers log rows)
 
--- they were taken; or some were, and the bank refused the next one
-abbrev pub LoadsAs : {C : Type 0} → (C → Seen) → Rows → Result Loaded Fault → (old new : C) → Type 0
-LoadsAs seen rows (Ok loaded) old new = Loads rows (seen old) (seen new) loaded
-LoadsAs seen rows (Err fault) old new = (answered : ℕ)
-    × IsRefusedAfter seen old new (openings rows) fault answered
+-- the bank answered some openings and refused the next one, for the reason that its fault gives
+pub record IsRefusedLoad {C : Type 0} (seen : C → Seen) (reason : Fault → C → C → Type 0) (rows : Rows)
+    (fault : Fault) (old new : C) : Type 0 where
+  pub answered : ℕ
+  pub after : IsRefusedAfter seen old new (openings rows) fault answered
+  pub why : HasRefused seen reason old new fault
+
+-- all were taken; or some were, and the bank refused the next one
+abbrev pub LoadsAs : {C : Type 0} → (C → Seen) → (reason : Fault → C → C → Type 0) → Rows
+    → Result Loaded Fault → (old new : C) → Type 0
+LoadsAs seen reason rows (Ok loaded) old new = Loads rows (seen old) (seen new) loaded
+LoadsAs seen reason rows (Err fault) old new = IsRefusedLoad seen reason rows fault old new
 
 -- ---- what is printed of the work
 
@@ -46,6 +55,10 @@ TellsDriven count old new =
 -- the line that says where the counter listens was printed
 abbrev pub TellsListening : Option (List ℕ) → Option (List ℕ) → Type 0
 TellsListening old new = (address : SocketAddr) × Appends old new (listening_line address)
+
+-- a prefix of that line was written
+abbrev pub TellsListeningInPart : Option (List ℕ) → Option (List ℕ) → Type 0
+TellsListeningInPart old new = (address : SocketAddr) × AppendsPart old new (listening_line address)
 
 -- nothing was printed but that, if anything was
 abbrev pub MayTellListening : Option (List ℕ) → Option (List ℕ) → Type 0
@@ -59,11 +72,12 @@ abbrev pub EndsInFault : (IsSo : CommandFault → Type 0) → (Ends : Result Sta
     → Type 0
 EndsInFault IsSo Ends = (fault : CommandFault) × IsSo fault × Ends (Err fault)
 
--- with a line of what it did, or with a fault where that couldn't be written
+-- with a line of what it did, or with a fault where a prefix of that line was written
 abbrev pub EndsWithLine : (Ends : Result Status CommandFault → Type 0) → (w w' : Option (List ℕ)) → Status
     → List ℕ
     → Type 0
-EndsWithLine Ends w w' status line = (Ends (Ok status) × Appends w w' line) ⊎ Ends (Err Write)
+EndsWithLine Ends w w' status line =
+    (Ends (Ok status) × Appends w w' line) ⊎ (Ends (Err Write) × AppendsPart w w' line)
 
 -- with a fault, and nothing was printed
 abbrev pub EndsSilently : (Ends : Result Status CommandFault → Type 0) → (w w' : Option (List ℕ))
@@ -106,32 +120,37 @@ abbrev pub Works : {C X : Type 0} → (Idle : Type 0) → (Tells : X → Type 0)
 Works {C} {X} Idle Tells Did old new = (Idle × (new ≡ old)) ⊎ ((told : X) × Tells told × Did told old new)
 
 -- a plan was loaded into a bank, or it couldn't be read
-abbrev pub LoadsOver : {C : Type 0} → (C → Seen) → (w w' : Option (List ℕ))
-    → (Ends : Result Status CommandFault → Type 0) → (old new : C) → Type 0
-LoadsOver seen w w' Ends = Works (EndsInFault IsPlanFault Ends × Keeps w w') (TellsLoad Ends w w')
-    (λ told old new. (rows : Rows) × LoadsAs seen rows told old new)
+abbrev pub LoadsOver : {C : Type 0} → (C → Seen) → (reason : Fault → C → C → Type 0)
+    → (w w' : Option (List ℕ)) → (Ends : Result Status CommandFault → Type 0) → (old new : C) → Type 0
+LoadsOver seen reason w w' Ends = Works (EndsInFault IsPlanFault Ends × Keeps w w') (TellsLoad Ends w w')
+    (λ told old new. (rows : Rows) × LoadsAs seen reason rows told old new)
 
 -- the plan that was answered was loaded into a bank; or it is none, and the bank was left as it was
-abbrev pub LoadsAnswer : {C : Type 0} → (C → Seen) → (w w' : Option (List ℕ))
-    → (Ends : Result Status CommandFault → Type 0) → Result Rows PlanFault → (old new : C) → Type 0
-LoadsAnswer seen w w' Ends (Ok rows) old new =
-    (told : Result Loaded Fault) × TellsLoad Ends w w' told × LoadsAs seen rows told old new
-LoadsAnswer seen w w' Ends (Err fault) old new = EndsSilently Ends w w' (fault_of_plan fault) × (new ≡ old)
+abbrev pub LoadsAnswer : {C : Type 0} → (C → Seen) → (reason : Fault → C → C → Type 0)
+    → (w w' : Option (List ℕ)) → (Ends : Result Status CommandFault → Type 0) → Result Rows PlanFault
+    → (old new : C) → Type 0
+LoadsAnswer seen reason w w' Ends (Ok rows) old new =
+    (told : Result Loaded Fault) × TellsLoad Ends w w' told × LoadsAs seen reason rows told old new
+LoadsAnswer seen reason w w' Ends (Err fault) old new = EndsSilently Ends w w' (fault_of_plan fault) × (new ≡ old)
 
 -- that of a source: its known bytes before and after are r and r', and what its reads are known to have
 -- returned q and q'
-pub record LoadsFrom {C : Type 0} (seen : C → Seen) (r r' : Option (List ℕ)) (q q' : Option (List ReadTold))
-    (w w' : Option (List ℕ)) (Ends : Result Status CommandFault → Type 0) (old new : C) : Type 0 where
+pub record LoadsFrom {C : Type 0} (seen : C → Seen) (reason : Fault → C → C → Type 0)
+    (r r' : Option (List ℕ)) (q q' : Option (List ReadTold)) (w w' : Option (List ℕ))
+    (Ends : Result Status CommandFault → Type 0) (old new : C) : Type 0 where
   pub answer : Result Rows PlanFault
   pub reads : ReadsPlan r r' q q' answer
-  pub does : LoadsAnswer seen w w' Ends answer old new
+  pub does : LoadsAnswer seen reason w w' Ends answer old new
 
--- so many records of a seed were submitted to a bank, or as many as it took
-abbrev pub DrivesOver : {C : Type 0} → (C → Seen) → (k k' w w' : Option (List ℕ)) → (seed count : ℕ)
-    → (Ends : Result Status CommandFault → Type 0) → (old new : C) → Type 0
-DrivesOver seen k k' w w' seed count Ends old new =
+-- so many records of a seed were submitted to a bank, or as many as it took; it refused a call for the reason
+-- that its fault gives
+abbrev pub DrivesOver : {C : Type 0} → (C → Seen) → (reason : Fault → C → C → Type 0)
+    → (k k' w w' : Option (List ℕ)) → (seed count : ℕ) → (Ends : Result Status CommandFault → Type 0)
+    → (old new : C) → Type 0
+DrivesOver seen reason k k' w w' seed count Ends old new =
     (told : Result Driven DriveFault) × TellsDrive Ends w w' count told
     × Drives seen old new k k' seed count told
+    × IfErr told (λ fault. IfRefused fault (IsOfCall seen reason old new))
 
 -- the address can't be had, or the line that says it can't be written
 abbrev pub IsOfListening : CommandFault → Type 0
@@ -139,8 +158,9 @@ IsOfListening fault = (fault ≡ Network) ⊎ (fault ≡ Write)
 
 -- so many connections were served by a bank, or as many as it and the network let; or the counter doesn't
 -- listen
-abbrev pub ServesOver : {C : Type 0} → (C → Seen) → (k k' : Option (List ℕ)) → (count : ℕ)
-    → (Ends : Result Status CommandFault → Type 0) → (old new : C) → Type 0
-ServesOver seen k k' count Ends =
+abbrev pub ServesOver : {C : Type 0} → (C → Seen) → (reason : Fault → C → C → Type 0)
+    → (k k' : Option (List ℕ)) → (count : ℕ) → (Ends : Result Status CommandFault → Type 0) → (old new : C)
+    → Type 0
+ServesOver seen reason k k' count Ends =
     Works (EndsInFault IsOfListening Ends × (k' ≡ k)) (TellsServing Ends)
-    (λ told old new. ServesConnections seen k k' old new count told)
+    (λ told old new. ServesConnections seen reason k k' old new count told)

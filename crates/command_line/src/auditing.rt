@@ -1,18 +1,21 @@
 //! How an audit ends.
 ghost use Rattle.std.specs.Prelude.{◌≡◌, ◌⊎◌, IfOk};
+ghost use Rattle.std.specs.Result.{IsErrOf};
+ghost use Rattle.posting_core.specs.Told.{HasWriteFailed};
 ghost use Rattle.command_line.specs.Auditing.{Prints, status_of_audit};
 
 use crate::{CommandFault, Status};
-use posting_core::Fault;
+use posting_core::{Fault, Sink};
 use report_lines::{Audit, write_audit};
-use std::io::Write;
 
 /// Prints an audit, and returns how the program ends.
-pub fn print_audit<W: Write>(
+pub fn print_audit<W: Sink>(
     told: Result<Audit, Fault>,
     output: &mut W,
 ) -> Result<Status, CommandFault>
     ensures prints { Prints told (W.contents output.old) (W.contents output.new) result }
+    ensures unprinted { IsErrOf result CommandFault.Write
+        → HasWriteFailed (W.told output.old) (W.told output.new) }
     ensures ends { IfOk result (λ status. (status ≡ Status.Done) ⊎ (status ≡ Status.Inconsistent)) }
 {
     let found = match told {

@@ -25,18 +25,19 @@
 //! `specs/Working`, what the work does to its bank and what it prints. The crate `bank_commands` is a
 //! caller.
 ghost use Rattle.std.specs.Prelude.{◌≡◌, ◌≢◌, ◌≤◌, IfErr, OnOk};
+ghost use Rattle.std.specs.Result.{IsErrOf};
 ghost use Rattle.std.specs.Io.KnownBytes.{Keeps};
+ghost use Rattle.posting_core.specs.Told.{HasWriteFailed};
 ghost use Rattle.command_line.specs.Working.{DrivesOver, TellsDriven, done_after};
 
 use crate::{CommandFault, print_driven};
 use load_driver::{MAX_DRIVEN, drive_records};
-use posting_core::{Clock, Counter};
+use posting_core::{Clock, Counter, Sink};
 use std::alloc::Global;
-use std::io::Write;
 
 /// Posts the first `count` records of a seed over the open branches of a bank, and prints how many were
 /// posted.
-pub fn drive_into<C: Counter, W: Write, K: Clock>(
+pub fn drive_into<C: Counter, W: Sink, K: Clock>(
     alloc: Global,
     bank: &mut C,
     seed: u64,
@@ -46,12 +47,14 @@ pub fn drive_into<C: Counter, W: Write, K: Clock>(
 ) -> Result<(), CommandFault>
     requires some { 1 ≤ count }
     requires few { count ≤ MAX_DRIVEN }
-    ensures drives { DrivesOver C.seen (K.readings clock.old) (K.readings clock.new)
+    ensures drives { DrivesOver C.seen C.reason (K.readings clock.old) (K.readings clock.new)
         (W.contents output.old) (W.contents output.new) seed count
         (λ end. done_after result ≡ end) bank.old bank.new }
     ensures line { OnOk result (TellsDriven count (W.contents output.old) (W.contents output.new)) }
     ensures silent { IfErr result
         (λ fault. fault ≢ CommandFault.Write → Keeps (W.contents output.old) (W.contents output.new)) }
+    ensures unprinted { IsErrOf result CommandFault.Write
+        → HasWriteFailed (W.told output.old) (W.told output.new) }
 {
     let driven = drive_records(alloc, bank, clock, seed, count)?;
     print_driven(count, driven, output)

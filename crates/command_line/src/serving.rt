@@ -1,17 +1,20 @@
 //! What `serve` does with a bank.
 ghost use Rattle.std.specs.Prelude.{◌≡◌, ◌≢◌, IfErr, OnOk};
+ghost use Rattle.std.specs.Result.{IsErrOf};
 ghost use Rattle.std.specs.Io.KnownBytes.{Appends};
 ghost use Rattle.command_line.specs.Lines.{listening_line};
-ghost use Rattle.command_line.specs.Working.{MayTellListening, ServesOver, TellsListening, done_after};
+ghost use Rattle.command_line.specs.Working.{MayTellListening, ServesOver, TellsListening};
+ghost use Rattle.command_line.specs.Working.{TellsListeningInPart, done_after};
+ghost use Rattle.posting_core.specs.Told.{HasWriteFailed};
+ghost use Rattle.report_lines.specs.Written.{AppendsPart};
 
 use crate::{CommandFault, ListeningLine, print_listening};
 use counter_http::serve_connections;
-use posting_core::{Clock, Counter};
-use std::io::Write;
+use posting_core::{Clock, Counter, Sink};
 use std::net::TcpListener;
 
 /// Binds the address, prints where it listens, and serves so many connections by a bank.
-pub fn listen<C: Counter, W: Write, K: Clock>(
+pub fn listen<C: Counter, W: Sink, K: Clock>(
     rt: &HostRuntime,
     address: &str,
     connections: u64,
@@ -22,7 +25,11 @@ pub fn listen<C: Counter, W: Write, K: Clock>(
     ensures line { OnOk result (TellsListening (W.contents output.old) (W.contents output.new)) }
     ensures silent { IfErr result (λ fault. fault ≢ CommandFault.Write
         → MayTellListening (W.contents output.old) (W.contents output.new)) }
-    ensures serves { ServesOver C.seen (K.readings clock.old) (K.readings clock.new) connections
+    ensures part { IsErrOf result CommandFault.Write
+        → TellsListeningInPart (W.contents output.old) (W.contents output.new) }
+    ensures unprinted { IsErrOf result CommandFault.Write
+        → HasWriteFailed (W.told output.old) (W.told output.new) }
+    ensures serves { ServesOver C.seen C.reason (K.readings clock.old) (K.readings clock.new) connections
         (λ end. done_after result ≡ end) bank.old bank.new }
 {
     let (listener, line) = bind(rt, address)?;
@@ -47,7 +54,7 @@ fn bind(rt: &HostRuntime, address: &str) -> Result<(TcpListener, ListeningLine),
 }
 
 // Prints where a bound listener listens, and serves so many of its connections by a bank.
-fn serve_at<C: Counter, W: Write, K: Clock>(
+fn serve_at<C: Counter, W: Sink, K: Clock>(
     rt: &HostRuntime,
     listener: &TcpListener,
     line: &ListeningLine,
@@ -60,7 +67,11 @@ fn serve_at<C: Counter, W: Write, K: Clock>(
         (Appends (W.contents output.old) (W.contents output.new) (listening_line line.now)) }
     ensures told { IfErr result (λ fault. fault ≢ CommandFault.Write
         → Appends (W.contents output.old) (W.contents output.new) (listening_line line.now)) }
-    ensures serves { ServesOver C.seen (K.readings clock.old) (K.readings clock.new) connections
+    ensures part { IsErrOf result CommandFault.Write
+        → AppendsPart (W.contents output.old) (W.contents output.new) (listening_line line.now) }
+    ensures unprinted { IsErrOf result CommandFault.Write
+        → HasWriteFailed (W.told output.old) (W.told output.new) }
+    ensures serves { ServesOver C.seen C.reason (K.readings clock.old) (K.readings clock.new) connections
         (λ end. done_after result ≡ end) bank.old bank.new }
 {
     print_listening(line, output)?;

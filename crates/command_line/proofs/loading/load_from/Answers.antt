@@ -4,24 +4,28 @@ use Rattle.command_line.specs.Faults.{fault_of_bank, fault_of_plan}
 use Rattle.command_line.specs.declared.fault.CommandFault.TheVariants.{Write}
 use Rattle.command_line.specs.Working.{Loads}
 use Rattle.command_line.proofs.LoadEnds.{printed, refused, unprinted, unread}
+use Rattle.command_line.proofs.Printed.{part_of}
 use Rattle.command_line.proofs.loading.load_from.Goals as goal
 
 pub returns-in_err-plan : goal.returns-in_err-plan
 returns-in_err-plan g c =
     let fault = c.in_err-plan.field-0.0 in
     let same : c.from_residual.result ≡ Err (fault_of_plan fault) = search rules in
-    let it = unread g.C.Counter.seen (g.W.Write.contents c.args.output.now) c.args.bank.now _ fault same
+    let it = unread g.C.Counter.seen g.C.Counter.reason (g.W.Sink.contents c.args.output.now)
+    (g.W.Sink.told c.args.output.now) c.args.bank.now _ fault same
     c.in_err-plan.ensures in
-    record { loads = it.loads; line = it.line; silent = it.silent }
+    record { loads = it.loads; line = it.line; silent = it.silent; unprinted = it.unprinted }
 
 pub returns-in_err-loaded : goal.returns-in_err-loaded
 returns-in_err-loaded g c =
     let fault = c.in_err-loaded.field-0.0 in
     let told = c.in_err-loaded.ensures.fault in
     let same : c.from_residual-in_err-loaded.result ≡ Err (fault_of_bank fault) = search rules in
-    let it = refused g.C.Counter.seen (g.W.Write.contents c.args.output.now) c.args.bank.now
-    c.load.new.counter _ _ fault same c.in_ok-plan.ensures (told.0, told.1) in
-    record { loads = it.loads; line = it.line; silent = it.silent }
+    let it = refused g.C.Counter.seen g.C.Counter.reason (g.W.Sink.contents c.args.output.now)
+    (g.W.Sink.told c.args.output.now) c.args.bank.now
+    c.load.new.counter _ _ fault same c.in_ok-plan.ensures
+    (record { answered = told.0; after = told.1; why = c.in_err-loaded.ensures.why }) in
+    record { loads = it.loads; line = it.line; silent = it.silent; unprinted = it.unprinted }
 
 pub returns-in_err-print_loaded : goal.returns-in_err-print_loaded
 returns-in_err-print_loaded g c =
@@ -30,9 +34,12 @@ returns-in_err-print_loaded g c =
     let did : Loads c.in_ok-plan.plan (g.C.Counter.seen c.args.bank.now)
     (g.C.Counter.seen c.load.new.counter) c.in_ok-loaded.loaded =
     record { takes = says.done.takes; all = says.all; counts = says.counts } in
-    let it = unprinted g.C.Counter.seen (g.W.Write.contents c.args.output.now) c.args.bank.now
-    (g.W.Write.contents c.print_loaded.new.output) c.load.new.counter _ _ _ same c.in_ok-plan.ensures did in
-    record { loads = it.loads; line = it.line; silent = it.silent }
+    let it = unprinted g.C.Counter.seen g.C.Counter.reason (g.W.Sink.contents c.args.output.now)
+    (g.W.Sink.told c.args.output.now) c.args.bank.now
+    (g.W.Sink.contents c.print_loaded.new.output) (g.W.Sink.told c.print_loaded.new.output) c.load.new.counter
+    _ _ _ same c.in_ok-plan.ensures did (part_of c.in_err-print_loaded.ensures.prints.part)
+    c.in_err-print_loaded.ensures.failed in
+    record { loads = it.loads; line = it.line; silent = it.silent; unprinted = it.unprinted }
 
 pub returns : goal.returns
 returns g c =
@@ -40,7 +47,8 @@ returns g c =
     let did : Loads c.in_ok-plan.plan (g.C.Counter.seen c.args.bank.now)
     (g.C.Counter.seen c.load.new.counter) c.in_ok-loaded.loaded =
     record { takes = says.done.takes; all = says.all; counts = says.counts } in
-    let it = printed g.C.Counter.seen (g.W.Write.contents c.args.output.now) c.args.bank.now
-    (g.W.Write.contents c.print_loaded.new.output) c.load.new.counter _ _
-    c.in_ok-print_loaded.ensures.prints.line c.in_ok-plan.ensures did in
-    record { loads = it.loads; line = it.line; silent = it.silent }
+    let it = printed g.C.Counter.seen g.C.Counter.reason (g.W.Sink.contents c.args.output.now)
+    (g.W.Sink.told c.args.output.now) c.args.bank.now
+    (g.W.Sink.contents c.print_loaded.new.output) (g.W.Sink.told c.print_loaded.new.output) c.load.new.counter
+    _ _ c.in_ok-print_loaded.ensures.prints.line c.in_ok-plan.ensures did in
+    record { loads = it.loads; line = it.line; silent = it.silent; unprinted = it.unprinted }
