@@ -45,6 +45,7 @@ pub mod Selects
 pub mod SetFailures
 pub mod SetRows
 pub mod ShownColumns
+pub mod Sparing
 pub mod TableStands
 pub mod Statements
 pub mod StayHeld

@@ -8,4 +8,5 @@ pub mod StatementAnswers
 pub mod Plain
 pub mod Queries
 pub mod Seeks
+pub mod Sparing
 pub mod Tables
