@@ -23,6 +23,7 @@ pub mod RowLists
 pub mod Seeking
 pub mod Setting
 pub mod ShownOnce
+pub mod SparedTexts
 pub mod StoredFrom
 pub mod StoredReads
 pub mod StoredRows

@@ -60,13 +60,15 @@ module _ {S : Type 0} (g : Ghosts S) (old new : Transaction S) where
         survives = says.survives;
       }
 
-  -- a write reports what its statement leaves
-  pub tells_tables : {Ran Kept : State → State → Type 0} {Told : State → State → Tables → Type 0}
+  -- a write reports what its statement leaves, of its tables and of the others
+  pub tells_tables : {Ran Kept Spared : State → State → Type 0} {Told : State → State → Tables → Type 0}
       → ((before after : State) (t : Tables) → Shows before.now t → Ran before after → Told before after t)
-      → Says g old new (Inside Ran) Kept → Says g old new (Inside (OfTables Told)) Kept
-  tells_tables tells says = record {
+      → ((before after : State) → Ran before after → Spared before after)
+      → Says g old new (Inside Ran) (Inside Kept)
+      → Says g old new (Inside (OfTables Told)) (Inside (λ before after. Kept before after × Spared before after))
+  tells_tables tells spares says = record {
     same_reference = says.same_reference;
     told = λ clean live t shows. tells _ _ t shows (says.told clean live);
-    kept = says.kept;
+    kept = λ clean live. (says.kept clean live, spares _ _ (says.told clean live));
     survives = says.survives;
   }

@@ -20,6 +20,7 @@ use Rattle.store_rows.specs.declared.texts.TheConstants as text
 use Rattle.store_rows.proofs.TableKinds.{Kind, table_of, tells_added, tells_write}
 use Rattle.store_rows.proofs.Puts.{Puts, given, puts as each}
 use Rattle.store_rows.proofs.Setting.{set_first, set_second, sets as numbers}
+use Rattle.store_rows.proofs.SparedTexts.{Spares, spared_met, spared_put, spares}
 use Rattle.store_rows.proofs.Telling.{tells_tables}
 use Rattle.store_rows.proofs.TheTables.{accounts, branches, floors, history, references, requests, tellers}
 
@@ -48,21 +49,23 @@ module _ {R : Type 0} (kind : Kind R) (text : List ℕ) where
   sets : (change : ℤ → R → R) (change_entry : ℤ → Entry → Entry)
       → ((k z : ℤ) → ChangesAs (table_of kind) text k (Int z ∷ []) (change_entry z))
       → ((z : ℤ) (r : R) → change_entry z (kind.entry r) ≡ kind.entry (change z r))
-      → Sets kind text (λ k z t. kind.having (row_changed kind.key (change z) k (kind.rows t)) t)
-  sets change change_entry changes same S g old new k low z answer =
+      → Spares text → Sets kind text (λ k z t. kind.having (row_changed kind.key (change z) k (kind.rows t)) t)
+  sets change change_entry changes same spared S g old new k low z answer =
       tells_tables g old new (λ before after t shows. tells_write kind before after t shows text k
       (Int z ∷ []) (change z)
       (change_entry z) (changes (pos k) z) (same z) low answer)
+      (λ before after. spared_met text spared before after _ answer)
 
-  put : (r : R) → Puts (table_of kind) text (kind.entry r)
+  put : (r : R) → Puts (table_of kind) text (kind.entry r) → Spares text
       → PutsOne kind text (λ r t. kind.having (row_put kind.key r (kind.rows t)) t) r
-  put r given_so S g old new low answer =
+  put r given_so spared S g old new low answer =
       tells_tables g old new (λ before after t shows h. rw h.2
       (tells_added kind before after t shows text (given (kind.entry r)) r given_so low h.0 h.1))
+      (λ before after. spared_put text spared before after _ answer)
 
-  puts : ((r : R) → Puts (table_of kind) text (kind.entry r))
+  puts : ((r : R) → Puts (table_of kind) text (kind.entry r)) → Spares text
       → PutsEach kind text (λ r t. kind.having (row_put kind.key r (kind.rows t)) t)
-  puts given_so r = put r (given_so r)
+  puts given_so spared r = put r (given_so r) spared
 
 -- each text writes its balance
 pub record SetsBalances : Type 1 where
@@ -74,11 +77,11 @@ pub balances_set : SetsBalances
 unfolding with_branch_balance with_teller_balance with_account_balance
 balances_set = record {
   branch = sets branches text.SET_BRANCH.now (λ z r. record r { balance = z }) set_second numbers.branch
-      (λ _ _. refl);
+      (λ _ _. refl) spares.set_branch;
   teller = sets tellers text.SET_TELLER.now (λ z r. record r { balance = z }) set_first numbers.teller
-      (λ _ _. refl);
+      (λ _ _. refl) spares.set_teller;
   account = sets accounts text.SET_ACCOUNT.now (λ z r. record r { balance = z }) set_first numbers.account
-      (λ _ _. refl);
+      (λ _ _. refl) spares.set_account;
 }
 
 -- each text puts its row in
@@ -95,11 +98,12 @@ pub record PutsRows : Type 1 where
 pub rows_put : PutsRows
 unfolding with_branch with_teller with_account with_history with_request with_floor with_reference
 rows_put = record {
-  branch = puts branches text.ADD_BRANCH.now each.branch;
-  teller = puts tellers text.ADD_TELLER.now each.teller;
-  account = puts accounts text.ADD_ACCOUNT.now each.account;
-  posting = puts history text.ADD_HISTORY.now each.posting;
-  request = puts requests text.ADD_REQUEST.now each.request;
-  floor = puts floors text.ADD_FLOOR.now each.floor;
-  reference = λ r short. put references text.ADD_REFERENCE.now r (each.reference r short);
+  branch = puts branches text.ADD_BRANCH.now each.branch spares.add_branch;
+  teller = puts tellers text.ADD_TELLER.now each.teller spares.add_teller;
+  account = puts accounts text.ADD_ACCOUNT.now each.account spares.add_account;
+  posting = puts history text.ADD_HISTORY.now each.posting spares.add_posting;
+  request = puts requests text.ADD_REQUEST.now each.request spares.add_request;
+  floor = puts floors text.ADD_FLOOR.now each.floor spares.add_floor;
+  reference = λ r short. put references text.ADD_REFERENCE.now r (each.reference r short)
+      spares.add_reference;
 }

@@ -14,6 +14,7 @@ use Rattle.store_rows.specs.Failures.{Changes, Looks, Puts}
 use Rattle.store_rows.specs.Forms.{Form}
 use Rattle.store_rows.specs.TableAnswers.{PutsOneRow, Finds, SetsRow}
 use Rattle.store_rows.specs.Rules.{OfRows, StoredRows}
+use Rattle.store_rows.specs.Sparing.{SparesIfOk}
 use Rattle.store_rows.specs.BankTables.{meta}
 use Rattle.store_rows.specs.Stored.{FindsStored}
 use Rattle.store_rows.specs.View.{HoldsRows, Shows}
@@ -37,22 +38,23 @@ LooksUp g old new form wanted stored result =
     × OfRows (λ rows. FindsStored (stored rows) form.Is form.Keeps result) old.now)
 
 -- By this text a number of a row of the table is written, if there is such a row, and the tables are these
--- after it.
+-- after it. The tables of other products are as they were, whatever rows there are.
 abbrev pub SetsNumber : {S : Type 0} → Ghosts S → Transaction S → Transaction S → Table → List ℕ
     → (Tables → Bool)
     → (Tables → Tables) → Result Bool Error → Type 0
 SetsNumber g old new table text there after result =
     Says g old new (Inside
     (OfTables (λ old new tables. SetsRow old new table (there tables) (after tables) result)))
-    (Inside (λ old new. Changes text old new result))
+    (Inside (λ old new. Changes text old new result × SparesIfOk old new result))
 
--- A row of the table is put in, unless its key is taken, and the tables are these after it.
+-- A row of the table is put in, unless its key is taken, and the tables are these after it. The tables of other
+-- products are as they were, whatever rows there are.
 abbrev pub AddsRow : {S : Type 0} → Ghosts S → Transaction S → Transaction S → Table → (Tables → Bool)
     → (Tables → Tables) → Result (Unit {0}) TableFault → Type 0
 AddsRow g old new table taken after result =
     Says g old new (Inside
     (OfTables (λ old new tables. PutsOneRow old new table (taken tables) (after tables) result)))
-    (Inside (λ old new. Puts old new result))
+    (Inside (λ old new. Puts old new result × SparesIfOk old new result))
 
 -- Whether the probe of a table is understood, on an honest disk, and so what is there of the table. Only a
 -- fault shuts the store, and a stop leaves nothing new.

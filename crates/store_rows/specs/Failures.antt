@@ -5,7 +5,6 @@ use Rattle.sqlite.specs.Order.{Row}
 use Rattle.sqlite.specs.Held.{Held, state}
 use Rattle.sqlite.specs.State.{State, ExecutesInside, QueriesRowInside, Survives}
 use Rattle.sqlite.specs.State.{Shows as StateShows, Fails, IsUnchanged}
-use Rattle.sqlite.specs.Steps.{FailsToCommit}
 use Rattle.sqlite.specs.declared.error.Error.{Error}
 use Rattle.sqlite.specs.declared.error.Error.TheVariants.{QueryReturnedNoRows}
 use Rattle.sqlite_trees.specs.declared.store.Store.{Ghosts}
@@ -27,8 +26,8 @@ pub data HasFailed (old new : State) (e : Error) : Type 0 where
   -- a row couldn't be put in: that its key is taken is no failure
   Putting : (text : List ℕ) (params : Row) → ExecutesInside 0 text params old new (Err e)
       → is_taken_key e ≡ false → HasFailed old new e
-  -- a commit failed, or the store did
-  Committing : FailsToCommit old new e → HasFailed old new e
+  -- the store failed, as it was to commit or was asked what it has: that no transaction goes on is no failure
+  Committing : Fails old new ⊥ e → HasFailed old new e
 
 -- a call of `sqlite` that came after others answered this error, and nothing came after it
 pub record HasFailedAtLast {S : Type 0} (g : Ghosts S) (old new : Held S) (e : Error) : Type 0 where

@@ -29,8 +29,8 @@ pub fn commit<S: Alter>(tx: Transaction<'_, S>) -> Result<(), Error>
     ensures cause { HasCleanDisk (state S.Store tx.exit.0.now)
         → IfErr result (FailsToCommit (state S.Store tx.entry.conn.now) (state S.Store tx.exit.0.now)) }
     ensures survives { Survives (state S.Store tx.entry.conn.now) (state S.Store tx.exit.0.now)
-        (λ left. (tables : Tables) → Shows (state S.Store tx.entry.conn.now).now tables
-        → ShowsTrees left tables) }
+        (λ left. (left ≡ (state S.Store tx.entry.conn.now).now.trees)
+        × ((tables : Tables) → Shows (state S.Store tx.entry.conn.now).now tables → ShowsTrees left tables)) }
 {
     tx.commit()
 }

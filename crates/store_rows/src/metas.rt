@@ -1,7 +1,8 @@
 //! The table of the bank as a whole: one row.
-ghost use Rattle.std.specs.Prelude.{◌≡◌, ◌≤◌, ◌∷◌, [], pos, true, option_map, IfOk, IfErr};
+ghost use Rattle.std.specs.Prelude.{◌≡◌, ◌≤◌, ◌∷◌, [], pos, true, option_map, IfOk, IfErr, OnOk};
 ghost use Rattle.posting_rules.specs.Changes.{with_decided};
 ghost use Rattle.sql_meanings.specs.Calls.{Inside, Says};
+ghost use Rattle.sql_meanings.specs.Sparing.{SparesAllBut};
 ghost use Rattle.sql_meanings.specs.StatementAnswers.{TellsRow};
 ghost use Rattle.store_rows.specs.Calls.{OfMeta, SetsNumber};
 ghost use Rattle.sqlite.specs.Held.{state};
@@ -85,7 +86,8 @@ pub fn set_decided<S: Alter>(tx: &mut Transaction<'_, S>, decided: u64) -> Resul
 pub fn set_version<S: Alter>(tx: &mut Transaction<'_, S>, version: i64) -> Result<bool, Error>
     ensures { Says S.Store tx.old tx.new
         (Inside (λ old new. SetsVersion version old new result))
-        (Inside (λ old new. Changes SET_VERSION.now old new result)) }
+        (Inside (λ old new. Changes SET_VERSION.now old new result
+        × OnOk result (SparesAllBut (table.name ∷ []) old.now new.now))) }
 {
     write_under(tx, SET_VERSION, META_ID, version)
 }

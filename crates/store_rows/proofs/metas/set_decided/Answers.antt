@@ -2,6 +2,7 @@
 use Rattle.std.proofs.Common.{refl, rules, arith}
 use Rattle.store_rows.proofs.Lookups.{as_integer}
 use Rattle.store_rows.proofs.MetaRow.{tells_decided}
+use Rattle.store_rows.proofs.SparedTexts.{spared_met, spares}
 use Rattle.store_rows.proofs.metas.set_decided.Goals as goal
 
 pub returns : goal.returns
@@ -9,7 +10,10 @@ returns g c = record {
   told = λ clean live t shows. tells_decided _ _ t shows c.args.decided c.write_under.result
       (rw (as_integer c.args.decided c.args.decided refl (omega arith)) at
       (c.write_under.ensures.told clean live));
-  kept = search rules;
+  kept = λ clean live. (
+    c.write_under.ensures.kept clean live,
+    spared_met _ spares.set_meta _ _ _ c.write_under.result (c.write_under.ensures.told clean live),
+  );
   same_reference = search rules;
   survives = search rules;
 }

@@ -1,6 +1,7 @@
 -- What the write leaves.
 use Rattle.std.proofs.Common.{rules, w64}
 use Rattle.std.proofs.lemmas.Int.{to_z-of_z}
+use Rattle.store_rows.proofs.SparedTexts.{version_spared}
 use Rattle.store_rows.proofs.VersionRow.{tells_version}
 use Rattle.store_rows.proofs.metas.set_version.Goals as goal
 
@@ -8,7 +9,10 @@ pub returns : goal.returns
 returns g c = record {
   told = λ clean live. tells_version _ _ c.args.version c.write_under.result
       (rw (to_z-of_z w64 c.args.version c.ranges.version) at (c.write_under.ensures.told clean live));
-  kept = search rules;
+  kept = λ clean live. (
+    c.write_under.ensures.kept clean live,
+    version_spared _ _ _ c.write_under.result (c.write_under.ensures.told clean live),
+  );
   same_reference = search rules;
   survives = search rules;
 }
