@@ -1,6 +1,8 @@
 -- Why a part of a call failed, and what its damage says.
-use Rattle.std.proofs.Common.{Ok, Err, Result, refl, ◌∙◌, arith}
-use Rattle.sqlite.specs.State.{State, Survives}
+use Rattle.std.proofs.Common.{Ok, Err, Result, refl, ◌∙◌, arith, inl, inr}
+use Rattle.std.specs.Prelude.{IsTrue}
+use Rattle.sqlite.specs.State.{State, Fails, Survives}
+use Rattle.sqlite.specs.Steps.{FailsToCommit}
 use Rattle.sqlite.specs.Held.{Held, state}
 use Rattle.sqlite.specs.Tree.{Trees}
 use Rattle.sqlite.specs.declared.error.Error.{Error}
@@ -22,6 +24,12 @@ same_moment s = record { faults = omega arith; limit = refl }
 pub then_moment : (old mid new : State) → IsBefore old mid → IsBefore mid new → IsBefore old new
 then_moment old mid new one two =
     record { faults = let a = one.faults in let b = two.faults in omega arith; limit = two.limit ∙ one.limit }
+
+-- a transaction that goes on is kept from its commit by the store alone
+pub commit_fails : (last new : State) (e : Error) → IsTrue last.in_transaction → FailsToCommit last new e
+    → Fails last new ⊥ e
+commit_fails last new e live (inl fails) = fails
+commit_fails last new e live (inr late) = absurd (let none = late.1 in let goes = live in cc)
 
 -- the failing call is the whole part
 pub failed_here : {S : Type 0} (g : Ghosts S) (old new : Held S) (e : Error)

@@ -8,6 +8,8 @@ use Rattle.sqlite_trees.specs.declared.store.Store.{Ghosts}
 use Rattle.posting_rules.specs.Tables.{Tables}
 use Rattle.posting_rules.specs.declared.fault.Rule.{Rule}
 use Rattle.sql_meanings.proofs.Saying.{says_then}
+use Rattle.sql_meanings.proofs.Sparing.{spares_itself, spares_then}
+use Rattle.store_rows.specs.Sparing.{bank_names}
 use Rattle.store_rows.specs.View.{Shows}
 use Rattle.store_rows.specs.declared.fault.TableFault.{TableFault}
 use Rattle.store_rows.specs.declared.fault.TableFault.TheVariants.{Sqlite, Damaged}
@@ -30,6 +32,7 @@ keeps_then old mid new (Ok x) on then = record {
   opened = λ h. on.opened (then.opened h);
   committed = then.committed ∙ on.committed;
   mode = then.mode ∙ on.mode;
+  spares = spares_then bank_names old.now mid.now new.now on.spares then.spares;
 }
 keeps_then old mid new (Err e) on then = record {
   was_open = λ h. on.opened (then.was_open h);
@@ -54,7 +57,10 @@ does_none stays = record {
   says = record {
     same_reference = refl;
     told = λ clean live t shows so. (refl, shows);
-    kept = λ clean live. (record { opened = λ h. h; committed = refl; mode = refl }, tt);
+    kept = λ clean live. (
+      record { opened = λ h. h; committed = refl; mode = refl; spares = spares_itself bank_names _ },
+      tt,
+    );
     survives = stays;
   };
 }

@@ -11,6 +11,7 @@ use Rattle.posting_rules.specs.Tables.{Tables}
 use Rattle.sql_meanings.specs.Calls.{Inside, Says}
 use Rattle.store_rows.specs.Calls.{OfTables}
 use Rattle.store_rows.specs.Failures.{Puts}
+use Rattle.store_rows.specs.Sparing.{SparesIfOk}
 use Rattle.store_rows.specs.TableAnswers.{PutsOneRow}
 use Rattle.store_rows.specs.View.{Shows}
 use Rattle.store_rows.specs.declared.fault.TableFault.{TableFault}
@@ -38,7 +39,7 @@ leaves_err = record { shown = tt }
 pub leaves_add : {S : Type 0} (g : Ghosts S) (old new : Transaction S) (table : Table) (taken : Tables → Bool)
     (more : Tables → Tables) (r : Result (Unit {0}) TableFault)
     → Says g old new (Inside (OfTables (λ before now t. PutsOneRow before now table (taken t) (more t) r)))
-    (Inside (λ before now. Puts before now r))
+    (Inside (λ before now. Puts before now r × SparesIfOk before now r))
     → Leaves g old new more r
 leaves_add g old new table taken more (Ok done) says =
     record { shown = λ clean live t shows. (says.told clean live t shows).1 }

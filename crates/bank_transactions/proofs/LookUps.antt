@@ -9,6 +9,8 @@ use Rattle.sql_meanings.specs.Calls.{Says}
 use Rattle.posting_rules.specs.Damage.{IsUndamaged}
 use Rattle.sql_meanings.proofs.Saying.{says_then}
 use Rattle.posting_rules.specs.Tables.{Tables}
+use Rattle.sql_meanings.proofs.Sparing.{spares_itself}
+use Rattle.store_rows.specs.Sparing.{bank_names}
 use Rattle.store_rows.specs.View.{Shows}
 use Rattle.store_rows.specs.declared.fault.TableFault.{TableFault}
 use Rattle.store_rows.specs.declared.fault.TableFault.TheVariants.{Sqlite, Damaged}
@@ -17,7 +19,7 @@ use Rattle.bank_transactions.specs.Causes.{IsFirstBroken}
 use Rattle.bank_transactions.specs.Doing.{DoesBy, ChangesNothing, IsLookedUp, Reads, Stays}
 use Rattle.bank_transactions.proofs.Blamed.{blames_after, comes}
 use Rattle.bank_transactions.proofs.Statements.{looked, look_keeps}
-use Rattle.bank_transactions.proofs.ReadsInTurn.{stays_then}
+use Rattle.bank_transactions.proofs.ReadsInTurn.{stays, stays_then}
 use Rattle.bank_transactions.specs.Filling.{ReadsWhere}
 
 looks_then : {X : Type 0} (old mid new : State) (r : Result X TableFault) → Stays old mid
@@ -41,6 +43,13 @@ same_fault : {X Y : Type 0} (old new : State) (x : X) (y : Y) (e : TableFault) �
 same_fault old new x y (Sqlite e) told = tt
 same_fault old new x y (Damaged rule) told = told
 
+-- nothing was done
+stays_itself : (s : State) → Stays s s
+stays_itself s = record {
+  goes_on = record { opened = λ h. h; committed = refl; mode = refl; spares = spares_itself bank_names s.now };
+  now = refl;
+}
+
 -- nothing yet
 pub reads_none : {S X : Type 0} {g : Ghosts S} {tx : Transaction S} {So : Tables → Type 0} {w : Tables → X}
     {x : X}
@@ -50,9 +59,9 @@ reads_none stays is = record {
   says = record {
     same_reference = refl;
     told = λ clean t shows so.
-        (is t so, record { goes_on = record { opened = λ h. h; committed = refl; mode = refl }; now = refl });
+        (is t so, stays_itself _);
     kept = λ clean.
-        (record { goes_on = record { opened = λ h. h; committed = refl; mode = refl }; now = refl }, tt);
+        (stays_itself _, tt);
     survives = stays;
   };
 }
@@ -129,13 +138,6 @@ fills put reads = record {
   };
 }
 
--- a statement that changed nothing
-stays_of : (old new : State) → IsUnchanged old new → Stays old new
-stays_of old new same = record {
-  goes_on = record { opened = λ h. same.0.was_open; committed = same.0.committed_is; mode = same.0.mode };
-  now = same.0.now_is;
-}
-
 -- after a statement that changed nothing all is looked up again
 pub looks_again : {S X : Type 0} {g : Ghosts S} {old mid new : Transaction S} {So : Tables → Type 0}
     {Told Rows : State → State → Type 0} {w : Tables → X} {r : Result X TableFault}
@@ -148,10 +150,10 @@ looks_again {S} {X} {g} {old} {mid} {new} {So} {Told} {Rows} {w} {r} one two sou
     record {
       says = says_then g old mid new one two
           (λ told same told' t shows so.
-          looked_then a b c (w t) r (stays_of a b same.0)
+          looked_then a b c (w t) r (stays a b same.0)
           (told' t (subst (λ (db : Database). Shows db t) (sym same.0.0.now_is) shows) (sound t so)))
           (λ same kept'. (
-            looks_then a b c r (stays_of a b same.0) kept'.0,
+            looks_then a b c r (stays a b same.0) kept'.0,
             blames_after (IsFirstBroken g) g old.conn.now mid.conn.now new.conn.now r
                 (λ rule. subst (IsBroken rule) same.0.0.now_is) (comes one.survives) kept'.1,
           ));

@@ -18,6 +18,8 @@ use Rattle.sql_meanings.specs.Calls.{Says}
 use Rattle.sql_meanings.specs.StatementAnswers.{WriteFails}
 use Rattle.sql_meanings.specs.Entries.{Entry}
 use Rattle.sql_meanings.proofs.Saying.{clean_between, says_then}
+use Rattle.sql_meanings.proofs.Sparing.{spares_same, spares_then}
+use Rattle.store_rows.specs.Sparing.{bank_names}
 use Rattle.store_rows.specs.Calls.{OfTables}
 use Rattle.store_rows.specs.Failures.{HasReason}
 use Rattle.store_rows.specs.Holders.{balance_in}
@@ -103,7 +105,12 @@ find_failed {S} {Y} {g} {old} {new} {So} {Rows} wanted Breaks fault unbroken of 
 -- what is unchanged stays as it is
 pub stays : (old new : State) → IsUnchanged old new → Stays old new
 stays old new same = record {
-  goes_on = record { opened = λ h. same.0.was_open; committed = same.0.committed_is; mode = same.0.mode };
+  goes_on = record {
+    opened = λ h. same.0.was_open;
+    committed = same.0.committed_is;
+    mode = same.0.mode;
+    spares = spares_same bank_names old.now new.now same.0.now_is;
+  };
   now = same.0.now_is;
 }
 
@@ -130,6 +137,7 @@ stays_then old mid new one two = record {
     opened = λ h. one.goes_on.opened (two.goes_on.opened h);
     committed = two.goes_on.committed ∙ one.goes_on.committed;
     mode = two.goes_on.mode ∙ one.goes_on.mode;
+    spares = spares_then bank_names old.now mid.now new.now one.goes_on.spares two.goes_on.spares;
   };
   now = two.now ∙ one.now;
 }

@@ -14,6 +14,7 @@ use Rattle.sql_meanings.specs.Calls.{Says, Inside}
 use Rattle.store_rows.specs.Calls.{OfTables}
 use Rattle.store_rows.specs.Failures.{Puts}
 use Rattle.store_rows.specs.Holders.{with_balance}
+use Rattle.store_rows.specs.Sparing.{SparesIfOk}
 use Rattle.store_rows.specs.TableAnswers.{PutsOneRow}
 use Rattle.store_rows.specs.declared.fault.TableFault.{TableFault}
 use Rattle.store_rows.specs.declared.holders.Holder.TheVariants.{Account, Teller, Branch}
@@ -43,7 +44,7 @@ pub row_added : {S R : Type 0} {g : Ghosts S} {old new : Transaction S} {r : Res
     → ((t : Tables) → put row t ≡ made (row ∷ []) t)
     → Says g old new (Inside (OfTables (λ before now t.
     PutsOneRow before now table (is_some (row_at key (rows t) (key row))) (put row t) r)))
-    (Inside (λ before now. Puts before now r))
+    (Inside (λ before now. Puts before now r × SparesIfOk before now r))
     → Does g old new (λ t. PutsFree key (row ∷ []) (rows t)) (made (row ∷ [])) (λ _. tt) r
 row_added {S} {R} {g} {old} {new} {r} table key rows put made row is says =
     does_for (does_add {So = λ t. PutsFree key (row ∷ []) (rows t)} g old new table

@@ -16,6 +16,7 @@ use Rattle.posting_rules.specs.declared.fault.Rule.TheVariants.{Value, Key, Floo
 use Rattle.sql_meanings.specs.Calls.{Says, Inside}
 use Rattle.store_rows.specs.Calls.{OfTables}
 use Rattle.store_rows.specs.Failures.{Changes, HasMet, IsUpdateOf, MeetsNone, Puts}
+use Rattle.store_rows.specs.Sparing.{SparesIfOk}
 use Rattle.store_rows.specs.TableAnswers.{PutsOneRow, SetsRow}
 use Rattle.store_rows.specs.View.{Shows}
 use Rattle.store_rows.specs.declared.fault.TableFault.{TableFault}
@@ -57,12 +58,16 @@ does_read g old new w r reads = record {
 
 -- a row that is put in, as long as the transaction goes on
 write_keeps : (old new : State) (r : Result (Unit {0}) TableFault) → IsTrue old.in_transaction
-    → Puts old new r → CommitsNothing old new r
-write_keeps old new (Ok done) live kept =
-    record { opened = λ h. kept.was_open; committed = kept.committed_is; mode = kept.mode ∙ sym live }
-write_keeps old new (Err e) live (inl same, why) =
+    → Puts old new r → SparesIfOk old new r → CommitsNothing old new r
+write_keeps old new (Ok done) live kept spared = record {
+  opened = λ h. kept.was_open;
+  committed = kept.committed_is;
+  mode = kept.mode ∙ sym live;
+  spares = spared;
+}
+write_keeps old new (Err e) live (inl same, why) spared =
     record { was_open = λ h. same.0.was_open; committed = λ h. same.0.committed_is }
-write_keeps old new (Err e) live (inr undone, why) =
+write_keeps old new (Err e) live (inr undone, why) spared =
     record { was_open = undone.was_open; committed = λ h. (undone.undone h).1 }
 
 added : (old new : State) (table : Table) (taken : Bool) (after : Tables) (r : Result (Unit {0}) TableFault)
@@ -77,7 +82,7 @@ pub does_add : {S : Type 0} {So : Tables → Type 0} (g : Ghosts S) (old new : T
     (taken : Tables → Bool) (more : Tables → Tables)
     (r : Result (Unit {0}) TableFault)
     → Says g old new (Inside (OfTables (λ before now t. PutsOneRow before now table (taken t) (more t) r)))
-    (Inside (λ before now. Puts before now r))
+    (Inside (λ before now. Puts before now r × SparesIfOk before now r))
     → ((t : Tables) → So t → taken t ≡ false) → Does g old new So more (λ _. tt) r
 does_add g old new table taken more r says free = record {
   says = record {
@@ -88,8 +93,8 @@ does_add g old new table taken more r says free = record {
     kept = λ clean live. let it =
         says.kept clean live in (
           write_keeps (state g old.conn.now)
-              (state g new.conn.now) r live it,
-          blames_put g old.conn.now new.conn.now r it,
+              (state g new.conn.now) r live it.0 it.1,
+          blames_put g old.conn.now new.conn.now r it.0,
         );
     survives = says.survives;
   };
@@ -105,12 +110,12 @@ written old new table there after (Ok false) rule is writes = let no = writes.0 
 written old new table there after (Err e) rule is writes = tt
 
 written_keeps : (old new : State) (text : List ℕ) (r : Result Bool Error) (rule : Rule)
-    → IsTrue old.in_transaction → Changes text old new r
+    → IsTrue old.in_transaction → Changes text old new r → SparesIfOk old new r
     → CommitsNothing old new (expected r rule)
-written_keeps old new text (Ok true) rule live kept = write_keeps old new (Ok tt) live kept.0
-written_keeps old new text (Ok false) rule live kept =
+written_keeps old new text (Ok true) rule live kept spared = write_keeps old new (Ok tt) live kept.0 spared
+written_keeps old new text (Ok false) rule live kept spared =
     record { was_open = λ h. kept.0.was_open; committed = λ h. kept.0.committed_is }
-written_keeps old new text (Err e) rule live kept = write_keeps old new (Err (Sqlite e)) live kept
+written_keeps old new text (Err e) rule live kept spared = write_keeps old new (Err (Sqlite e)) live kept tt
 
 has_met : (old new : State) (rule : Rule) (text : List ℕ) → IsUpdateOf rule text → MeetsNone text old new
     → HasMet old new rule
@@ -138,7 +143,7 @@ pub does_write : {S : Type 0} {So : Tables → Type 0} (g : Ghosts S) (old new :
     (answer : Result Bool Error) (rule : Rule) (r : Result (Unit {0}) TableFault) (text : List ℕ)
     → IsUpdateOf rule text → r ≡ expected answer rule
     → Says g old new (Inside (OfTables (λ before now t. SetsRow before now table (there t) (after t) answer)))
-    (Inside (λ before now. Changes text before now answer))
+    (Inside (λ before now. Changes text before now answer × SparesIfOk before now answer))
     → ((t : Tables) → So t → IsTrue (there t)) → Does g old new So after (λ _. tt) r
 does_write {S} {So} g old new table there after answer rule r text of is says so =
     subst (λ (x : Result (Unit {0}) TableFault). Does g old new So after (λ _. tt) x) (sym is) (record {
@@ -149,8 +154,8 @@ does_write {S} {So} g old new table there after answer rule r text of is says so
             (so t it) (says.told clean live t shows);
         kept = λ clean live.
             let it = says.kept clean live in (
-              written_keeps (state g old.conn.now) (state g new.conn.now) text answer rule live it,
-              blames_changed g old.conn.now new.conn.now text answer rule of it,
+              written_keeps (state g old.conn.now) (state g new.conn.now) text answer rule live it.0 it.1,
+              blames_changed g old.conn.now new.conn.now text answer rule of it.0,
             );
         survives = says.survives;
       };

@@ -1,6 +1,6 @@
 -- A transaction from its beginning to its end: what it tells, what a stop may leave of it, and why it failed.
 use Rattle.std.proofs.Common.{◌≡◌, Result, Ok, Err, refl, sym, subst, arith, inl, inr, ◌∙◌}
-use Rattle.std.specs.Prelude.{true, IfOk, IsTrue}
+use Rattle.std.specs.Prelude.{true, IfOk, IsTrue, OnOk}
 use Rattle.sqlite.specs.State.{State, HasCleanDisk, IsRolledBack, KeepsCommit, Survives}
 use Rattle.sqlite.specs.Held.{Held, state}
 use Rattle.sqlite.specs.Tree.{Trees}
@@ -10,6 +10,7 @@ use Rattle.sqlite.proofs.Callers.{survives_begin}
 use Rattle.sqlite.proofs.StateLemmas.{survives_then}
 use Rattle.posting_rules.specs.Tables.{Tables}
 use Rattle.posting_rules.specs.Sound.{AreSound}
+use Rattle.store_rows.specs.Sparing.{SparesOthers}
 use Rattle.store_rows.specs.View.{Shows, ShowsTrees}
 use Rattle.store_rows.specs.Failures.{Committing}
 use Rattle.store_rows.specs.declared.fault.TableFault.{TableFault}
@@ -17,8 +18,9 @@ use Rattle.store_rows.specs.declared.fault.TableFault.TheVariants.{Sqlite, Damag
 use Rattle.bank_transactions.specs.Causes.{Blames, Damage, IsBefore, IsFirstBroken}
 use Rattle.bank_transactions.specs.Doing.{Acts, LeavesAndAnswers, Completes, DoesBy, Ends, EndsBy}
 use Rattle.bank_transactions.specs.Doing.{CommitsNothing, MayLeaveAfter, MayCommit, Reads, Undoes, Consults}
-use Rattle.bank_transactions.specs.Doing.{Transacts, TransactsBy}
-use Rattle.bank_transactions.proofs.Blamed.{Widens, comes, fault_within, met_within, same_moment, then_moment}
+use Rattle.bank_transactions.specs.Doing.{LeavesOthers, SparesTheirs, Transacts, TransactsBy}
+use Rattle.bank_transactions.proofs.Blamed.{Widens, comes, commit_fails, fault_within}
+use Rattle.bank_transactions.proofs.Blamed.{met_within, same_moment, then_moment}
 use Rattle.bank_transactions.proofs.Chained.{does_for}
 use Rattle.bank_transactions.proofs.Statements.{does_read}
 
@@ -67,26 +69,41 @@ undoes {X} old last new (Err fault) result settled kept ends =
 left_by : {X : Type 0} (last : State) (after : Tables) (wanted : X) (answer : Result X TableFault)
     (left : Trees)
     → LeavesAndAnswers last after wanted answer → MayCommit last answer left → ShowsTrees left after
-left_by last after wanted (Ok x) left told made = made after told.1
+left_by last after wanted (Ok x) left told made = made.1 after told.1
 left_by last after wanted (Err fault) left told made = absurd made
+
+-- an answer leaves the tables of other products
+spared_now : {X : Type 0} (old last new : State) (answer result : Result X TableFault)
+    → IfOk result (λ x. answer ≡ Ok x) → CommitsNothing old last answer → EndsBy last new answer result
+    → OnOk result (SparesOthers old.now new.now)
+spared_now old last new (Ok x) (Ok y) given kept ends = subst (SparesOthers old.now) (sym ends.0) kept.spares
+spared_now old last new (Err e) (Ok y) given kept ends = absurd (let is = given in cc)
+spared_now old last new answer (Err e) given kept ends = tt
+
+-- and so does what its commit may leave
+spared_left : {X : Type 0} (old last : State) (answer : Result X TableFault) (left : Trees)
+    → CommitsNothing old last answer → MayCommit last answer left → LeavesOthers old.now left
+spared_left old last (Ok x) left kept made = (last.now, made.0, kept.spares)
+spared_left old last (Err e) left kept made = absurd made
 
 blamed : {S X : Type 0} (Met : Damage S) (g : Ghosts S) (old start last new : Held S)
     (answer result : Result X TableFault)
     → IsBefore (state g old) (state g start) → IsBefore (state g start) (state g last)
     → IsBefore (state g last) (state g new)
+    → IsTrue (state g start).in_transaction → CommitsNothing (state g start) (state g last) answer
     → Widens Met old start last new → Blames Met g start last answer
     → EndsBy (state g last) (state g new) answer result
     → Blames Met g old new result
-blamed Met g old start last new (Ok x) (Ok y) first then end wide it ends = tt
-blamed Met g old start last new (Ok x) (Err (Sqlite e)) first then end wide it ends = record {
+blamed Met g old start last new (Ok x) (Ok y) first then end live kept wide it ends = tt
+blamed Met g old start last new (Ok x) (Err (Sqlite e)) first then end live kept wide it ends = record {
   at = last;
   then = new;
   before = then_moment (state g old) (state g start) (state g last) first then;
-  failed = Committing ends;
+  failed = Committing (commit_fails (state g last) (state g new) e (kept.mode ∙ live) ends);
   after = same_moment (state g new);
 }
-blamed Met g old start last new (Ok x) (Err (Damaged rule)) first then end wide it ends = absurd ends
-blamed {S} {X} Met g old start last new (Err fault) result first then end wide it ends =
+blamed Met g old start last new (Ok x) (Err (Damaged rule)) first then end live kept wide it ends = absurd ends
+blamed {S} {X} Met g old start last new (Err fault) result first then end live kept wide it ends =
     subst (λ (r : Result X TableFault). Blames Met g old new r) (sym ends.0)
     (fault_within Met g old start last new fault wide first end it)
 
@@ -135,6 +152,20 @@ module _ {S X : Type 0} {Met : Damage S} {So : Tables → Type 0} {after : Table
       (told_so (clean_before clean) t shows so) made)
       does.says.survives ends.survives))
 
+  theirs_so : SparesTheirs g old new result
+  theirs_so = record {
+    now = λ clean. spared_now (state g start) (state g last.conn.now) (state g new) answer result ends.given
+        (kept_so (clean_before clean)).0 (ends.told clean);
+    left = survives_begin g old (state g new) (LeavesOthers (state g old).now)
+        (subst (λ (h : Held S). Survives (state g h) (state g new) (LeavesOthers (state g old).now)) is
+        (survives_then (state g begun.conn.now) (state g last.conn.now) (state g new) (λ _. ⊥)
+        (MayCommit (state g last.conn.now) answer) (LeavesOthers (state g old).now)
+        (λ clean left none. absurd none)
+        (λ clean left made. spared_left (state g start) (state g last.conn.now) answer left
+        (kept_so (clean_before clean)).0 made)
+        does.says.survives ends.survives));
+  }
+
   transacted : Widens Met old start last.conn.now new → TransactsBy Met g old new So after w result
   transacted wide = record {
     told = λ clean t shows so.
@@ -145,9 +176,10 @@ module _ {S X : Type 0} {Met : Damage S} {So : Tables → Type 0} {after : Table
         (kept_so (clean_before clean)).0 (ends.told clean);
     survives = stop_so;
     cause = λ clean.
-        blamed Met g old start last.conn.now new answer result from_start within (comes ends.survives) wide
-        (kept_so (clean_before clean)).1 (ends.told clean);
+        blamed Met g old start last.conn.now new answer result from_start within (comes ends.survives) refl
+        (kept_so (clean_before clean)).0 wide (kept_so (clean_before clean)).1 (ends.told clean);
     mode = ends.mode;
+    spares = theirs_so;
   }
 
 -- of parts that read and then write

@@ -1,5 +1,6 @@
 -- What the parts of a call do to the tables, and what a whole transaction does.
 use Rattle.std.specs.Prelude.{◌≡◌, IsTrue, Bool, true, false, Result, Ok, Err, IfOk, OnOk, ⊤}
+use Rattle.sqlite.specs.Effect.{Database}
 use Rattle.sqlite.specs.Tree.{Trees}
 use Rattle.sqlite.specs.State.{State, KeepsCommit, HasCleanDisk, IsRolledBack, Survives}
 use Rattle.sqlite.specs.Steps.{FailsToCommit}
@@ -12,16 +13,18 @@ use Rattle.posting_rules.specs.Tables.{Tables}
 use Rattle.posting_rules.specs.declared.fault.Rule.{Rule}
 use Rattle.sql_meanings.specs.Calls.{Says, Inside}
 use Rattle.store_rows.specs.Calls.{OfTables}
+use Rattle.store_rows.specs.Sparing.{SparesOthers}
 use Rattle.store_rows.specs.View.{Shows, ShowsTrees}
 use Rattle.store_rows.specs.declared.fault.TableFault.{TableFault}
 use Rattle.store_rows.specs.declared.fault.TableFault.TheVariants.{Sqlite, Damaged}
 use Rattle.bank_transactions.specs.Causes.{HasMetBetween, Damage, IsFirstBroken, IsBrokenOrMet, Blames}
 
--- the transaction goes on, and nothing is committed
+-- the transaction goes on, nothing is committed, and the tables of other products are as they were
 pub record GoesOnUncommitted (old new : State) : Type 0 where
   pub opened : IsTrue new.is_open → IsTrue old.is_open
   pub committed : new.committed ≡ old.committed
   pub mode : new.in_transaction ≡ old.in_transaction
+  pub spares : SparesOthers old.now new.now
 
 -- it shows what it showed
 pub record Stays (old new : State) : Type 0 where
@@ -102,7 +105,8 @@ Acts g = DoesBy (IsBrokenOrMet g) g
 
 -- what a commit may leave, where there is an answer to commit
 abbrev pub MayCommit : {X : Type 0} → State → Result X TableFault → Trees → Type 0
-MayCommit last (Ok x) left = (tables : Tables) → Shows last.now tables → ShowsTrees left tables
+MayCommit last (Ok x) left = (left ≡ last.now.trees)
+    × ((tables : Tables) → Shows last.now tables → ShowsTrees left tables)
 MayCommit last (Err fault) left = ⊥
 
 -- an answer is committed, and a stop leaves its tables; or its commit fails; after a fault all is rolled back
@@ -143,9 +147,20 @@ abbrev pub MayLeaveAfter : State → (Tables → Type 0) → (Tables → Tables)
 MayLeaveAfter old So after left = (tables : Tables) → Shows old.now tables → So tables
     → ShowsTrees left (after tables)
 
+-- what a stop may leave has the tables of other products as the database had them
+abbrev pub LeavesOthers : Database → Trees → Type 0
+LeavesOthers old left = (after : Database) × (left ≡ after.trees) × SparesOthers old after
+
+-- Whatever rows the file holds: after `Ok` the tables of other products are as they were, and a stop leaves what
+-- it could leave before, or them as they were.
+pub record SparesTheirs {S X : Type 0} (g : Ghosts S) (old new : Held S) (result : Result X TableFault)
+    : Type 0 where
+  pub now : HasCleanDisk (state g new) → OnOk result (SparesOthers (state g old).now (state g new).now)
+  pub left : Survives (state g old) (state g new) (LeavesOthers (state g old).now)
+
 -- Tables that are so become these, and the answer is this one. Damage undoes all. A stop leaves what it could
 -- leave before, or what the transaction leaves. An error of `sqlite` is one with which a call of it failed,
--- and damage says this. No transaction goes on.
+-- and damage says this. No transaction goes on. The tables of other products are spared.
 pub record TransactsBy {S X : Type 0} (Met : Damage S) (g : Ghosts S) (old new : Held S)
     (So : Tables → Type 0) (after : Tables → Tables)
     (wanted : Tables → X) (result : Result X TableFault) : Type 0 where
@@ -155,6 +170,7 @@ pub record TransactsBy {S X : Type 0} (Met : Damage S) (g : Ghosts S) (old new :
   pub survives : Survives (state g old) (state g new) (MayLeaveAfter (state g old) So after)
   pub cause : HasCleanDisk (state g new) → Blames Met g old new result
   pub mode : new.in_transaction ≡ false
+  pub spares : SparesTheirs g old new result
 
 -- damage is of the rows that the file held as the transaction began, or a statement met it as it wrote
 abbrev pub Transacts : {S X : Type 0} → Ghosts S → Held S → Held S → (Tables → Type 0) → (Tables → Tables)

@@ -13,6 +13,7 @@ use Rattle.posting_rules.specs.Tables.{Tables, row_at, branch_key, branch_row_of
 use Rattle.sql_meanings.specs.Calls.{Says, Inside}
 use Rattle.store_rows.specs.Calls.{OfTables}
 use Rattle.store_rows.specs.Failures.{Puts}
+use Rattle.store_rows.specs.Sparing.{SparesIfOk}
 use Rattle.store_rows.specs.TableAnswers.{PutsOneRow}
 use Rattle.store_rows.specs.BankTables.{branch}
 use Rattle.store_rows.specs.declared.fault.TableFault.{TableFault}
@@ -43,7 +44,7 @@ module _ (b count : ℕ) where
         → Says g x y (Inside (OfTables (λ before now t.
         PutsOneRow before now branch (is_some (row_at branch_key t.branches b))
         (with_branch (row balance) t) r)))
-        (Inside (λ before now. Puts before now r))
+        (Inside (λ before now. Puts before now r × SparesIfOk before now r))
         → Does g x y IsNew branched (λ _. tt) r
     put {r} balance zero says = does_for
         (does_add {So = IsNew} g x y branch (λ t. is_some (row_at branch_key t.branches b))
@@ -112,7 +113,7 @@ module _ (b count : ℕ) {S : Type 0} {g : Ghosts S} {x y : Transaction S} where
       → Says g x y (Inside (OfTables (λ before now t.
       PutsOneRow before now branch (is_some (row_at branch_key t.branches b))
       (with_branch (row b count balance) t) r)))
-      (Inside (λ before now. Puts before now r))
+      (Inside (λ before now. Puts before now r × SparesIfOk before now r))
       → Leaves g x y (branched b count) r
   left {r} balance zero says = leaves_for
       (leaves_add g x y branch (λ t. is_some (row_at branch_key t.branches b))
