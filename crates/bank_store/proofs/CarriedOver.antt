@@ -22,7 +22,7 @@ use Rattle.bank_store.proofs.TakenUp.{still_left, taken_up}
 stands_plain : (from : ℕ) (old new : State) (D : Type 0) (log : List Command) → (D → ⊥)
     → ShowsEarlier from old.now log → BankIsMoved from old.now new → StandsAt (seen_in new D) (plain from log)
 stands_plain from old new D log up it moved =
-    let now = moved it.tables (shows_less from old.now log it) in
+    let now = moved.0 it.tables (shows_less from old.now log it) in
     record {
       shows = record {
         commands = plain_are_commands from log it.commands;
@@ -91,8 +91,9 @@ module _ {S : Type 0} (g : Ghosts S) (conn : Held S) (refused : Refused S) where
       | inl before ↦ inl (it.survives left before)
       | inr carried ↦ inr (
         it.shows.tables,
-        subst (λ n. HasMoved n (state g conn).now left) (same_version from (state g conn) log it.shows carried.0 carried.1)
-            carried.2 it.shows.tables (shows_less from (state g conn).now log it.shows),
+        (subst (λ n. HasMoved n (state g conn).now left)
+            (same_version from (state g conn) log it.shows carried.0 carried.1) carried.2).0 it.shows.tables
+            (shows_less from (state g conn).now log it.shows),
         plainly from (state g conn).now log it.shows,
       )
     ];

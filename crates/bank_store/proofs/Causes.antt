@@ -1,6 +1,6 @@
 -- Why the store is told to have failed, as a bank is looked for or made.
 use Rattle.std.proofs.Common.{refl, Bool, Option, Ok, Err, Result, List, ℕ, inl, inr, arith}
-use Rattle.std.specs.Prelude.{IfErr}
+use Rattle.std.specs.Prelude.{IfErr, IsTrue}
 use Rattle.std.proofs.lemmas.Bool.{cases_Bool}
 use Rattle.sqlite.specs.Table.{Table}
 use Rattle.sqlite.specs.Tree.{Trees}
@@ -16,7 +16,7 @@ use Rattle.store_rows.specs.Failures.{Committing, HasReason}
 use Rattle.store_rows.specs.declared.fault.TableFault.{TableFault}
 use Rattle.store_rows.specs.declared.fault.TableFault.TheVariants.{Sqlite, Damaged as Broken}
 use Rattle.bank_transactions.specs.Causes.{IsBefore}
-use Rattle.bank_transactions.proofs.Blamed.{comes, failed_here, failed_within, same_moment, then_moment}
+use Rattle.bank_transactions.proofs.Blamed.{comes, commit_fails, failed_here, failed_within, same_moment, then_moment}
 use Rattle.store_rows.specs.declared.metas.StoredMeta.{StoredMeta}
 use Rattle.bank_store.specs.MetaRow.{ChecksMeta}
 use Rattle.bank_store.specs.OpenFaults.{of_the_store, unmade_by, unread_by}
@@ -30,7 +30,7 @@ module _ {S : Type 0} (g : Ghosts S) (old new : Held S) where
   -- a probe failed
   pub probe_failed : (probe : List ℕ × Table) (e : Error) → Probes g old new probe (Err e)
       → KnowsCause g old new Store
-  probe_failed probe e told = λ clean. (e, failed_here g old new e (Committing (inl (told.told clean))))
+  probe_failed probe e told = λ clean. (e, failed_here g old new e (Committing (told.told clean)))
 
   -- a row wasn't read
   pub read_failed : (fault : TableFault)
@@ -39,10 +39,14 @@ module _ {S : Type 0} (g : Ghosts S) (old new : Held S) where
   read_failed (Sqlite e) why = λ clean. (e, failed_here g old new e (why clean))
   read_failed (Broken rule) why = tt
 
-  -- a commit failed
-  pub commit_failed : (e : Error) → (HasCleanDisk (state g new) → FailsToCommit (state g old) (state g new) e)
+  -- the commit of a transaction that goes on failed
+  pub commit_failed : (e : Error) → (HasCleanDisk (state g new) → IsTrue (state g old).in_transaction)
+      → (HasCleanDisk (state g new) → FailsToCommit (state g old) (state g new) e)
       → KnowsWhyUnmade g old new Store
-  commit_failed e why = λ clean. inl (e, failed_here g old new e (Committing (why clean)))
+  commit_failed e live why = λ clean. inl (
+    e,
+    failed_here g old new e (Committing (commit_fails (state g old) (state g new) e (live clean) (why clean))),
+  )
 
   -- a statement that makes the tables failed
   pub making_failed : (e : Error)

@@ -226,7 +226,7 @@ module _ {S X : Type 0} {So : Tables → Type 0} {after : Tables → Tables} {wa
         at = mid;
         then = new;
         before = comes does.survives;
-        failed = Committing (inl (went.1.2 clean));
+        failed = Committing (went.1.2 clean);
         after = same_moment (state g new);
       })
 

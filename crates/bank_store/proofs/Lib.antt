@@ -11,6 +11,7 @@ pub mod Refusing
 pub mod Moved
 pub mod NewBank
 pub mod Opened
+pub mod OtherTables
 pub mod Settled
 pub mod TakenUp
 pub mod Unmade

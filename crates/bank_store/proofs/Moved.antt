@@ -1,6 +1,6 @@
 -- What the changed tables show, why they aren't changed, and what a transaction leaves that changes them.
 use Rattle.std.proofs.Common.{◌≡◌, ℕ, pos, [], ◌∷◌, true, false, None, Some, Option, is_some, Ok, Err, refl, ap, ◌∙◌}
-use Rattle.std.proofs.Common.{subst, inl, inr, arith}
+use Rattle.std.proofs.Common.{subst, sym, inl, inr, arith}
 use Rattle.std.specs.Prelude.{IsTrue}
 use Rattle.std.proofs.lemmas.Bool.{cases_Bool}
 use Rattle.sqlite.specs.Effect.{Database}
@@ -15,16 +15,19 @@ use Rattle.sqlite_trees.specs.declared.store.Store.{Ghosts}
 use Rattle.posting_rules.specs.Tables.{Tables}
 use Rattle.posting_rules.specs.declared.open_fault.OpenFault.TheVariants.{Damaged}
 use Rattle.posting_rules.specs.declared.fault.Rule.TheVariants.{Meta}
+use Rattle.sql_meanings.specs.Making.{SparesStanding, Stands}
+use Rattle.sql_meanings.specs.Sparing.{SparesAllBut}
+use Rattle.sql_meanings.specs.Tables.{tree_of}
 use Rattle.sql_meanings.proofs.Contents.{held}
 use Rattle.store_rows.specs.BankTables.{meta}
 use Rattle.store_rows.specs.Columns.{meta_in}
 use Rattle.store_rows.specs.Failures.{HasFailedAtLast}
-use Rattle.store_rows.specs.Migration.{LackingAreMade, MakesLacking, SetsVersion}
+use Rattle.store_rows.specs.Migration.{LackingAreMade, MakesLacking, SetsVersion, ShowsLess}
 use Rattle.store_rows.specs.View.{Shows, ShowsTrees, contents_of, meta_entry, tables_of}
 use Rattle.store_rows.specs.declared.metas.StoredMeta.{StoredMeta}
 use Rattle.store_rows.specs.declared.metas.TheConstants.{VERSION}
 use Rattle.bank_transactions.proofs.Blamed.{comes, same_moment}
-use Rattle.bank_store.specs.Migration.{ChangesTables, HasMoved, IsUnmoved}
+use Rattle.bank_store.specs.Migration.{BankIsMoved, ChangesTables, HasMoved, IsUnmoved, KeepsRows}
 use Rattle.bank_store.specs.OpenFaults.{of_the_store, unmoved_by}
 use Rattle.bank_store.specs.StoreFaults.{KnowsCause}
 use Rattle.bank_store.proofs.FoundEarlier.{meta_there}
@@ -62,8 +65,9 @@ unmoved_known g old new e why = elim (cases_Bool (of_the_store e)) [
 -- ---- the version is written
 
 module _ (from : ℕ) (old mid new : State) (made : LackingAreMade from old.now mid.now) where
-  pub moved : SetsVersion VERSION mid new (Ok true) → ChangesTables from old.now new.now (Ok tt)
-  moved set t was =
+  moved_tables : SetsVersion VERSION mid new (Ok true) → (t : Tables) → ShowsLess from old.now t
+      → Shows new.now t × SparesStanding old.now new.now meta.name
+  moved_tables set t was =
       let done = set.1 (pos from) t (made.tables t was) in
       let holds = held old.now (tables_of from) (contents_of from t) was.shows.each 0 meta
       (meta_entry (pos from) t.decided ∷ []) (meta_there from) refl in
@@ -73,6 +77,19 @@ module _ (from : ℕ) (old mid new : State) (made : LackingAreMade from old.now 
             let then = done.2 u (made.keeps.stands u stands) (λ same. apart (same ∙ place)) in
             (then.0, then.1 ∙ made.keeps.rows u stands.listed),
       )
+
+  -- whatever the rows
+  moved_rows : SparesAllBut (meta.name ∷ []) mid.now new.now → KeepsRows old.now new.now
+  moved_rows spares u stands apart =
+      let stood = made.keeps.stands u stands in (
+        subst (λ s. Stands s u) (sym spares.schema) stood,
+        spares.rows u stood ((λ same. apart (same ∙ ap (λ s. tree_of s meta.name) (sym spares.schema))), tt)
+            ∙ made.keeps.rows u stands.listed,
+      )
+
+  pub moved : SetsVersion VERSION mid new (Ok true) → SparesAllBut (meta.name ∷ []) mid.now new.now
+      → ChangesTables from old.now new.now (Ok tt)
+  moved set spares = (moved_tables set, moved_rows spares)
 
   none_there : (o : Option StoredMeta) → false ≡ is_some o → o ≡ None
   none_there None h = refl
@@ -101,7 +118,7 @@ commits_nothing old new shows = record { was_open = λ _. shows.was_open; commit
 
 -- what a commit may leave of these tables
 abbrev pub MayLeave : Database → Trees → Type 0
-MayLeave last left = (t : Tables) → Shows last t → ShowsTrees left t
+MayLeave last left = (left ≡ last.trees) × ((t : Tables) → Shows last t → ShowsTrees left t)
 
 -- the connection, the transaction as it begins and after the changes, the connection after it
 module _ {S : Type 0} (from : ℕ) (g : Ghosts S) (old begun last new : Held S)
@@ -111,6 +128,12 @@ module _ {S : Type 0} (from : ℕ) (g : Ghosts S) (old begun last new : Held S)
 
   pub from_begun : (P : Database → Type 0) → P (state g begun).now → P (state g old).now
   from_begun P = subst (λ (h : Held S). P (state g h).now) is
+
+  changed_at : (HasCleanDisk (state g last) → IsTrue (state g begun).in_transaction
+      → ChangesTables from (state g begun).now (state g last).now (Ok tt)) → HasCleanDisk (state g last)
+      → ChangesTables from (state g old).now (state g last).now (Ok tt)
+  changed_at changed clean =
+      from_begun (λ (db : Database). ChangesTables from db (state g last).now (Ok tt)) (changed clean live)
 
   -- a stop leaves what it could leave before, or the moved bank
   pub stops : Survives (state g begun) (state g last) (λ _. ⊥)
@@ -123,7 +146,23 @@ module _ {S : Type 0} (from : ℕ) (g : Ghosts S) (old begun last new : Held S)
       (subst (λ (h : Held S). Survives (state g h) (state g new) (HasMoved from (state g old).now)) is
       (survives_then (state g begun) (state g last) (state g new) (λ _. ⊥) (MayLeave (state g last).now)
       (HasMoved from (state g old).now) (λ clean left none. absurd none)
-      (λ clean left made t was.
-      made t (from_begun (λ (db : Database). ChangesTables from db (state g last).now (Ok tt))
-      (changed (omega (arith, then.clean)) live) t was).0)
+      (λ clean left made.
+      let it = changed_at changed (omega (arith, then.clean)) in
+      ((λ t was. made.1 t (it.0 t was).0), ((state g last).now, made.0, it.1)))
       first then))
+
+  -- the bank is moved once it is committed
+  pub bank_moved : (HasCleanDisk (state g last) → IsTrue (state g begun).in_transaction
+      → ChangesTables from (state g begun).now (state g last).now (Ok tt)) → HasCleanDisk (state g last)
+      → ((t : Tables) → Shows (state g last).now t → Shows (state g new).now t)
+      → ((t : Tables) → Shows (state g last).now t → (left : Trees) → (state g new).may_leave left → ShowsTrees left t)
+      → (state g new).now ≡ (state g last).now → BankIsMoved from (state g old).now (state g new)
+  bank_moved changed clean shown left same =
+      let it = changed_at changed clean in (
+        λ t was. record {
+          shows = shown t (it.0 t was).0;
+          left = left t (it.0 t was).0;
+          spares = subst (λ (db : Database). SparesStanding (state g old).now db meta.name) (sym same) (it.0 t was).1;
+        },
+        subst (KeepsRows (state g old).now) (sym same) it.1,
+      )

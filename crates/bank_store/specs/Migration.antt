@@ -16,7 +16,8 @@ use Rattle.posting_rules.specs.Tables.{Tables, AreTablesOf}
 use Rattle.posting_rules.specs.declared.fault.Rule.TheVariants.{Meta, Value}
 use Rattle.posting_rules.specs.declared.open_fault.OpenFault.{OpenFault}
 use Rattle.posting_rules.specs.declared.open_fault.OpenFault.TheVariants.{Store, Foreign, Version, Damaged}
-use Rattle.sql_meanings.specs.Making.{SparesStanding}
+use Rattle.sql_meanings.specs.Making.{SparesStanding, Stands}
+use Rattle.sql_meanings.specs.Tables.{tree_of}
 use Rattle.store_rows.specs.BankTables.{meta}
 use Rattle.store_rows.specs.Migration.{IsEarlier, RefusesLacking, ShowsLess, TakesLacking}
 use Rattle.store_rows.specs.Probes.{all_tables, probe_of}
@@ -73,13 +74,23 @@ pub record IsMoved (old : Database) (new : State) (t : Tables) : Type 0 where
   pub left : (left : Trees) → new.may_leave left → ShowsTrees left t
   pub spares : SparesStanding old new.now meta.name
 
--- a bank of that version is one of this version, with the same rows
+-- Whatever rows the file holds: every table of it that has its tree to itself and no foreign key, but the one that
+-- `meta` names, is there with the rows that it had.
+abbrev pub KeepsRows : Database → Database → Type 0
+KeepsRows old new = (t : Table) → Stands old.schema t → t.tree ≢ tree_of new.schema meta.name
+    → Stands new.schema t × (new.trees t.tree ≡ old.trees t.tree)
+
+-- the same of bare trees
+abbrev pub LeavesRows : Database → Trees → Type 0
+LeavesRows old left = (after : Database) × (left ≡ after.trees) × KeepsRows old after
+
+-- a bank of that version is one of this version, with the same rows; and so are the tables of any file
 abbrev pub BankIsMoved : ℕ → Database → State → Type 0
-BankIsMoved from old new = (t : Tables) → ShowsLess from old t → IsMoved old new t
+BankIsMoved from old new = ((t : Tables) → ShowsLess from old t → IsMoved old new t) × KeepsRows old new.now
 
 -- the same of what a stop may leave
 abbrev pub HasMoved : ℕ → Database → Trees → Type 0
-HasMoved from old left = (t : Tables) → ShowsLess from old t → ShowsTrees left t
+HasMoved from old left = ((t : Tables) → ShowsLess from old t → ShowsTrees left t) × LeavesRows old left
 
 -- Why the tables aren't changed: one that the version lacks is refused, by an error that isn't the store's own;
 -- or `meta` lacks its row; or the store failed.
@@ -91,8 +102,8 @@ IsUnmoved from old _ = ⊥
 
 -- inside a transaction
 abbrev pub ChangesTables : ℕ → Database → Database → Result (Unit {0}) OpenFault → Type 0
-ChangesTables from old new (Ok done) = (t : Tables) → ShowsLess from old t
-    → Shows new t × SparesStanding old new meta.name
+ChangesTables from old new (Ok done) =
+    ((t : Tables) → ShowsLess from old t → Shows new t × SparesStanding old new meta.name) × KeepsRows old new
 ChangesTables from old new (Err fault) = IsUnmoved from old fault
 
 -- What a call that changes the tables comes to: a bank is moved, or, as long as the store is open, nothing has

@@ -211,7 +211,8 @@ impl<S: Alter + Drop> Counter for Bank<S> {
     ghost use Rattle.bank_transactions.specs.Stored.{IsStoredBalance, IsStoredNext, OpensByStored};
     ghost use Rattle.bank_transactions.specs.Stored.{RepliesToAllStored, RepliesToStored};
     ghost use Rattle.bank_transactions.specs.Batches.{DecidesNone};
-    ghost use Rattle.bank_store.specs.Down.{AnswersBy, IsBankCall, OfDamage, WasBroken, bank_reason};
+    ghost use Rattle.bank_store.specs.Down.{AnswersBy, IsBankCall, OfDamage, SparesOtherTables, WasBroken};
+    ghost use Rattle.bank_store.specs.Down.{bank_reason};
     ghost use Rattle.bank_store.specs.NoneOrAll.{LeavesNoneOrAll, IsIdle};
     ghost use Rattle.bank_store.specs.Seen.{bank_seen, database_of, file_of};
     ghost use Rattle.sqlite.specs.Effect.{Database};
@@ -240,6 +241,7 @@ impl<S: Alter + Drop> Counter for Bank<S> {
         // Whatever rows the file holds.
         ensures stored { IfOk result (λ out. (bank_seen S.Store self.new).honest → (r : RequestFields)
             → request_of bytes.now ≡ Ok r → RepliesToStored (database_of S.Store self.old) r out) }
+        ensures spares { SparesOtherTables S.Store self.old self.new result }
     {
         range_law(moment);
         self.up()?;
@@ -275,6 +277,7 @@ impl<S: Alter + Drop> Counter for Bank<S> {
         // Whatever rows the file holds.
         ensures stored { IfOk result (λ replies. (bank_seen S.Store self.new).honest
             → RepliesToAllStored (database_of S.Store self.old) moment records.now replies.items) }
+        ensures spares { SparesOtherTables S.Store self.old self.new result }
     {
         range_law(moment);
         self.up()?;
@@ -303,6 +306,7 @@ impl<S: Alter + Drop> Counter for Bank<S> {
         ensures stored { IfOk result (λ opening. (bank_seen S.Store self.new).honest
             → OpensByStored (database_of S.Store self.old) (database_of S.Store self.new) branch
             (opened_with count floor) opening) }
+        ensures spares { SparesOtherTables S.Store self.old self.new result }
     {
         range_law(branch);
         floor_law(&floor);

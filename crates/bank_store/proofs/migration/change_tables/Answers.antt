@@ -38,10 +38,11 @@ returns-in-Ok-true-clause-says g c =
           let before = still_clean two.survives clean in
           let shows = one.kept before live in
           let set = two.told clean shows.mode in
-          moved c.args.from (s old) (s mid) (s new) (one.told before live).0 (rw c.in-Ok-true.field-0-test at set);
+          moved c.args.from (s old) (s mid) (s new) (one.told before live).0 (rw c.in-Ok-true.field-0-test at set)
+          (two.kept clean shows.mode).1;
       kept = λ clean live.
           let shows = one.kept (still_clean two.survives clean) live in
-          goes_on (s old) (s mid) (s new) shows (two.kept clean shows.mode).0;
+          goes_on (s old) (s mid) (s new) shows (two.kept clean shows.mode).0.0;
       survives = survives_both _ _ _ one.survives two.survives;
     }
 
@@ -63,7 +64,7 @@ returns-in-Ok-false-clause-says g c =
       kept = λ clean live.
           let shows = one.kept (still_clean two.survives clean) live in
           commits_nothing (s old) (s new)
-          (goes_on (s old) (s mid) (s new) shows (two.kept clean shows.mode).0);
+          (goes_on (s old) (s mid) (s new) shows (two.kept clean shows.mode).0.0);
       survives = survives_both _ _ _ one.survives two.survives;
     }
 
@@ -80,5 +81,5 @@ returns-in-Err-set_version-clause-cause g c live =
     (λ clean. (
       e,
       failed_here g.S.Store mid new e
-          (two.kept clean (one.kept (still_clean two.survives clean) live).mode).1,
+          (two.kept clean (one.kept (still_clean two.survives clean) live).mode).0.1,
     ))

@@ -2,12 +2,12 @@
 use Rattle.std.proofs.Common.{◌≡◌, Err, true, rules}
 use Rattle.sqlite.specs.Held.{state}
 use Rattle.bank_transactions.specs.Causes.{IsBefore}
-use Rattle.bank_transactions.proofs.Blamed.{comes, failed_here, same_moment, then_moment}
+use Rattle.bank_transactions.proofs.Blamed.{comes, commit_fails, failed_here, same_moment, then_moment}
 use Rattle.posting_rules.specs.declared.open_fault.OpenFault.TheVariants.{Store}
 use Rattle.store_rows.specs.Failures.{Committing}
 use Rattle.bank_store.specs.Migration.{IsUnmoved}
 use Rattle.bank_store.proofs.Causes.{begun_after, known_within, still_clean}
-use Rattle.bank_store.proofs.Moved.{from_begun, live, stops}
+use Rattle.bank_store.proofs.Moved.{bank_moved, from_begun, live, stops}
 use Rattle.bank_store.proofs.migration.move_bank.Goals as goal
 
 pub returns-in_err-change_tables : goal.returns-in_err-change_tables
@@ -58,7 +58,11 @@ returns-in-Err g c =
             known_within g.S.Store old last new new (then_moment (s old) (s at) (s last) begun (comes changed.survives))
             (λ clean. clean) (same_moment (s new)) Store (λ clean. (
               c.in-Err.field-0,
-              failed_here g.S.Store last new c.in-Err.field-0 (Committing (c.in-Err.ensures.cause clean)),
+              failed_here g.S.Store last new c.in-Err.field-0 (Committing (commit_fails (s last) (s new)
+                  c.in-Err.field-0
+                  (changed.kept (still_clean c.commit.ensures.survives clean)
+                  (live c.args.from g.S.Store old at last new is)).mode
+                  (c.in-Err.ensures.cause clean))),
             ));
         mode = c.commit.ensures.ended;
         survives =
@@ -71,7 +75,12 @@ returns-in-Ok g c =
     let same : c.commit.new.tx.0 ≡ c.conn-2-1.given.0 = search rules in
     let changed = c.in_ok-change_tables.ensures.says in
     record {
-      moved = search rules;
+      moved = rw (← same) (λ clean.
+          bank_moved c.args.from g.S.Store c.args.conn.now c.begin-tx.result.conn.now
+          c.change_tables.new.tx.conn.now c.commit.new.tx.0 c.begin-tx.ensures.begun changed.told
+          (still_clean c.commit.ensures.survives clean)
+          (λ t shows. (c.in-Ok.ensures.ok clean t shows).0) (λ t shows. c.in-Ok.ensures.alone clean t shows)
+          (c.in-Ok.ensures.same clean));
       undone = λ clean. tt;
       why = λ clean. tt;
       call = rw (← same) (record {

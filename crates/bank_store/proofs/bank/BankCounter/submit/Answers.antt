@@ -12,6 +12,7 @@ use Rattle.posting_rules.proofs.Calls.{posts, replies}
 use Rattle.posting_rules.proofs.Stepping.{sound_tables}
 use Rattle.bank_store.proofs.Causes.{still_clean}
 use Rattle.bank_store.proofs.Countered.{takes}
+use Rattle.bank_store.proofs.OtherTables.{spares_down, spares_untouched}
 use Rattle.bank_store.proofs.Refusing.{answered_call, refused_call, transaction_refused, untried_call, Refusal}
 use Rattle.bank_transactions.specs.Causes.{IsBrokenOrMet}
 use Rattle.bank_store.proofs.bank.BankCounter.submit.Given.{Over}
@@ -59,6 +60,7 @@ returns-in-Ok-post g c =
       stored = λ clean r is.
           subst (λ (q : RequestFields). RepliesToStored (database_of g.S.Store c.args.self.now) q c.in-Ok-post.reply)
           (same_request (sym read ∙ is)) (c.in-Ok-post.ensures.stored clean);
+      spares = record { now = says.spares.now; left = says.spares.left };
     }
 
 pub returns-in-Err : goal.returns-in-Err
@@ -70,6 +72,8 @@ returns-in-Err g c =
           c.in_ok-up.ensures.up;
       frugal = λ same. no.frugal (let it = same in cc);
       stored = tt;
+      spares = spares_down g.S.Store c.args.self.now c.go_down.new.self c.post.new.conn _ c.go_down.result
+          c.in-Err.ensures.transacts.spares c.go_down.ensures.survives;
     }
 
 pub returns-in_err-up-clause-call : goal.returns-in_err-up-clause-call
@@ -77,3 +81,6 @@ returns-in_err-up-clause-call g c =
     let p = err_from_is_err_and c.from_residual.result c.from_residual.ensures.1 in
     untried_call g.S.Store c.args.self.now _ c.from_residual.result p.0 p.1
     (p.2 ∙ c.in_err-up.ensures.down.0) c.in_err-up.ensures.down.1
+
+pub returns-in_err-up-clause-spares : goal.returns-in_err-up-clause-spares
+returns-in_err-up-clause-spares g c = spares_untouched g.S.Store c.args.self.now c.from_residual.result
