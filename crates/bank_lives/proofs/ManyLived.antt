@@ -1,5 +1,5 @@
 -- What is found after any number of lives.
-use Rattle.std.proofs.Common.{◌≤◌, ℕ, List, [], ◌∷◌, length, take, refl, arith, inl, inr}
+use Rattle.std.proofs.Common.{◌≤◌, ℕ, List, [], ◌∷◌, ◌++◌, length, take, refl, sym, subst, arith, inl, inr}
 use Rattle.std.proofs.Math.Seq.{take-length}
 use Rattle.posting_rules.specs.Commands.{Command}
 use Rattle.posting_rules.specs.Counter.{Seen, StandsAt, LeavesOnly, ShowsBeginning}
@@ -7,7 +7,7 @@ use Rattle.posting_rules.specs.Runs.{behind}
 use Rattle.posting_rules.proofs.Remaining.{leaves_weaker}
 use Rattle.bank_lives.specs.Lives.{EndsLife, Life}
 use Rattle.bank_lives.specs.ManyLives.{Given, IsOpenedOn, Keeps, Lives, ShowsKept, created, carried_over, released}
-use Rattle.bank_lives.specs.ManyLives.{stopped}
+use Rattle.bank_lives.specs.ManyLives.{found, stopped, unopened}
 use Rattle.bank_lives.proofs.Lived.{end_leaves, life_given, life_honest, life_lives}
 
 -- the beginning of what was given that is found
@@ -39,6 +39,13 @@ begins_left last first log given least opened left =
       stands = opened.stands it.0 (behind log (take it.2.count given)) it.2.are it.1 it.2.shows;
     }
 
+-- what lives lead to from a log that others led to is what all of them lead to
+pub keeps_on : (start middle log : List Command) (earlier later : List Given) → Keeps start middle earlier
+    → Keeps middle log later → Keeps start log (later ++ earlier)
+keeps_on start middle log earlier [] first then = subst (λ (l : List Command). Keeps start l earlier) (sym then) first
+keeps_on start middle log earlier (life ∷ later) first (before, kept, count, least, most, is) =
+    (before, keeps_on start middle before earlier later first kept, count, least, most, is)
+
 module _ {M : Type 0} (seen : M → Seen) where
   -- where a life begins: the first of all at its log, any other by the one before it
   abbrev pub Before : List Command → M → List Given → Type 0
@@ -51,6 +58,9 @@ module _ {M : Type 0} (seen : M → Seen) where
       → (seen first).honest → Before start first lives
   before_life start first lives (created it stands) h = stands h
   before_life start first lives (carried_over it from log stands) h = stands h
+  before_life start first lives (found it log stands) h = stands h
+  before_life start first lives (unopened begun it others some) h =
+      (it, some, h, λ log stood. begins_whole (seen it) log [] 0 (omega arith) stood)
   before_life start first lives (released begun before it life others some lived up) h = (
     before,
     some,

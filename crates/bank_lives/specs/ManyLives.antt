@@ -21,6 +21,10 @@ pub record IsOpenedOn (last first : Seen) : Type 0 where
   pub stands : (t : Tables) (log : List Command) → AreCommands log → last.found remains t → AreTablesOf t log
       → StandsAt first log
 
+-- a life that was given nothing
+abbrev pub given_nothing : Given
+given_nothing = record { commands = []; least = 0 }
+
 -- The log that the first life began at, the moment at which a life begins, and what the lives before it were
 -- given, the last of them first.
 pub data Lives {M : Type 0} (seen : M → Seen) : List Command → M → List Given → Type 0 where
@@ -30,6 +34,12 @@ pub data Lives {M : Type 0} (seen : M → Seen) : List Command → M → List Gi
   carried_over : (first : M) (from : ℕ) (log : List Command)
       → ((seen first).honest → StandsAt (seen first) (plain from log))
       → Lives seen (plain from log) first []
+  -- a bank that was found standing at a log, as `reopen` says of one over the files of another store
+  found : (first : M) (log : List Command) → ((seen first).honest → StandsAt (seen first) log)
+      → Lives seen log first []
+  -- before this moment the files couldn't be opened, which is a life that was given nothing
+  unopened : (start : List Command) (first : M) (lives : List Given) → Lives seen start first lives
+      → Lives seen start first (given_nothing ∷ lives)
   -- the life before ended at this moment, with a release: it wasn't down
   released : (start : List Command) (before first : M) (life : Given) (lives : List Given)
       → Lives seen start before lives → Life seen before first life.commands life.least

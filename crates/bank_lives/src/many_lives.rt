@@ -38,13 +38,18 @@ pub fn reopenings_law<S: Alter>(conn: &Connection<S>)
 /// **After any number of lives the bank shows a log that is, life by life, a beginning of what was given, which
 /// holds all that was acknowledged. Each request is posted once, every branch has the sum of its tellers, and
 /// accounts, tellers and the deltas of history have one sum** (TPC-B clause 2). A bank that was made begins with
-/// no command, and one that was carried over from an earlier version with the plain log of its file. Each
+/// no command, one that was carried over from an earlier version with the plain log of its file, and one that
+/// [`reopen`](crate::reopen) found over the files of another store with the log at which it stands (`on`). Each
 /// life is a run of calls, streams and reports, and ends with a release or with a stop at any store call; a
-/// reopening that was refused is a life that was given nothing.
+/// reopening that was refused, or files that couldn't be opened, are a life that was given nothing.
 pub fn lives_law<S: Alter>(_bank: &Bank<S>)
     ensures found { (start : List Command) (first : Moment S.Store) (lives : List Given)
         → Lives (seen_at S.Store) start first lives
         → (seen_at S.Store first).honest → IsKept (seen_at S.Store first) start lives }
+    // So it goes on from a log that other lives led to, as over the files of another store.
+    ensures on { (start middle : List Command) (first : Moment S.Store) (earlier later : List Given)
+        → Keeps start middle earlier → Lives (seen_at S.Store) middle first later
+        → (seen_at S.Store first).honest → IsKept (seen_at S.Store first) start (later ++ earlier) }
     // Wherever the last life is stopped, all that may be left shows such a log.
     ensures left { (start : List Command) (lives : List Given) (life : Given) (first now last : Moment S.Store)
         → Lives (seen_at S.Store) start first lives

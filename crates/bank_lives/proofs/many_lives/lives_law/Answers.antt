@@ -5,7 +5,7 @@ use Rattle.posting_rules.specs.Laws.{IsConsistent}
 use Rattle.posting_rules.specs.Tables.{Tables}
 use Rattle.store_rows.proofs.ShownOnce.{one_bank}
 use Rattle.bank_lives.specs.Moments.{held_at, seen_at}
-use Rattle.bank_lives.proofs.ManyLived.{kept, left_of}
+use Rattle.bank_lives.proofs.ManyLived.{keeps_on, kept, left_of}
 use Rattle.bank_lives.proofs.many_lives.lives_law.Goals as goal
 
 pub returns-clause-found : goal.returns-clause-found
@@ -21,6 +21,17 @@ returns-clause-found g c start first lives some h =
           (one_bank (state g.S.Store (held_at first)).now.trees shows.tables other
           ((held_at first).schema, shows.are) ((held_at first).schema, shown))
           (c.tables_are_consistent.ensures shows.tables it.0 shows.shows);
+    }
+
+pub returns-clause-on : goal.returns-clause-on
+returns-clause-on g c start middle first earlier later led some h =
+    let it = returns-clause-found g c middle first later some h in
+    record {
+      log = it.log;
+      keeps = keeps_on start middle it.log earlier later led it.keeps;
+      stands = it.stands;
+      once = it.once;
+      sums = it.sums;
     }
 
 pub returns-clause-left : goal.returns-clause-left
