@@ -1,12 +1,14 @@
 -- Connections behind others.
-use Rattle.std.proofs.Common.{◌≡◌, ◌<◌, ◌+◌, ℕ, List, [], ◌∷◌, ◌++◌, length, map, Option, Some, None, Result}
-use Rattle.std.proofs.Common.{Ok, Err, refl, sym, ap, subst, ◌∙◌, arith, length-append, append_assoc, append-nil}
+use Rattle.std.proofs.Common.{◌≡◌, ◌<◌, ◌+◌, ℕ, List, [], ◌∷◌, ◌++◌, length, map, Option, Result}
+use Rattle.std.proofs.Common.{Ok, Err, refl, sym, ap, subst, ◌∙◌, arith, length-append, append-nil}
 use Rattle.std.specs.List.{AllByRecursion, flat_map}
 use Rattle.std.specs.declared.io.ErrorKind.{ErrorKind}
-use Rattle.std.proofs.lemmas.Grind.{flat_map-append}
+use Rattle.std.proofs.lemmas.List.{map-append}
+use Rattle.std.proofs.lemmas.List.Concat.{flat_map-append}
 use Rattle.posting_rules.specs.declared.fault.Fault.{Fault}
 use Rattle.posting_rules.specs.Counter.{Seen}
 use Rattle.posting_core.specs.Told.{GrowsBy}
+use Rattle.posting_core.proofs.Telling.{adds-more, adds-none}
 use Rattle.counter_http.specs.declared.fault.ServeFault.{ServeFault}
 use Rattle.counter_http.specs.declared.fault.ServeFault.TheVariants as serve
 use Rattle.posting_rules.specs.declared.fault.Fault.TheVariants as bank
@@ -33,18 +35,6 @@ all_and_one P (y ∷ ys) x all one = (all.0, all_and_one P ys x all.1 one)
 
 -- ---- what a door returned
 
-told_none : {A : Type 0} (a : Option (List A)) → GrowsBy a a []
-told_none None = tt
-told_none (Some calls) = sym (append-nil calls)
-
-told_more : {A : Type 0} (a b c : Option (List A)) (xs ys : List A) → GrowsBy a b xs → GrowsBy b c ys
-    → GrowsBy a c (xs ++ ys)
-told_more None b c xs ys x y = tt
-told_more (Some before) None c xs ys x y = absurd x
-told_more (Some before) (Some some) None xs ys x y = absurd y
-told_more {A} (Some before) (Some some) (Some all) xs ys x y = y ∙ ap (λ (t : List A). t ++ ys) x
-    ∙ append_assoc before xs ys
-
 told_same : {A : Type 0} (a b : Option (List A)) (xs : List A) → GrowsBy a b xs → GrowsBy a b (xs ++ [])
 told_same {A} a b xs x = subst (λ (t : List A). GrowsBy a b t) (sym (append-nil xs)) x
 
@@ -54,20 +44,16 @@ told_one : {E : Type 0} (g g1 g2 g3 : Option (List (DoorTold E))) (es : List (E 
     → GrowsBy g g3 (flat_map calls_for (es ++ (e, left) ∷ []))
 told_one {E} g g1 g2 g3 es e left told opened closed =
     subst (λ (t : List (DoorTold E)). GrowsBy g g3 t) (sym (flat_map-append calls_for es ((e, left) ∷ [])))
-    (told_more g g1 g3 (flat_map calls_for es) (Gave e ∷ Closed left ∷ []) told
-    (told_more g1 g2 g3 (Gave e ∷ []) (Closed left ∷ []) opened closed))
-
-map_more : {A B : Type 0} (f : A → B) (xs ys : List A) → map f (xs ++ ys) ≡ map f xs ++ map f ys
-map_more f [] ys = refl
-map_more f (x ∷ xs) ys = ap (λ t. f x ∷ t) (map_more f xs ys)
+    (adds-more g g1 g3 (flat_map calls_for es) (Gave e ∷ Closed left ∷ []) told
+    (adds-more g1 g2 g3 (Gave e ∷ []) (Closed left ∷ []) opened closed))
 
 own_one : {C E : Type 0} (known : E → Known) (cs : List (Connection C)) (c : Connection C) (es : List (E × E))
     (e : E × E) → map known_of cs ≡ map (known_both known) es → known_of c ≡ known_both known e
     → map known_of (cs ++ c ∷ []) ≡ map (known_both known) (es ++ e ∷ [])
-own_one known cs c es e own one = map_more known_of cs (c ∷ [])
+own_one known cs c es e own one = map-append known_of cs (c ∷ [])
     ∙ ap (λ (t : List (Known × Known)). t ++ known_of c ∷ []) own
     ∙ ap (λ (x : Known × Known). map (known_both known) es ++ x ∷ []) one
-    ∙ sym (map_more (known_both known) es (e ∷ []))
+    ∙ sym (map-append (known_both known) es (e ∷ []))
 
 -- ---- the loop
 
@@ -92,7 +78,7 @@ none_yet seen reason known g k old = record {
   count = refl;
   given = [];
   own = refl;
-  told = told_none g;
+  told = adds-none g;
 }
 
 -- one more was given, served and closed
@@ -171,7 +157,7 @@ none_given seen reason known g g1 g2 k k' old new n all kind chain few refused =
   own = chain.own;
   last = Refused kind ∷ [];
   refused = (kind, refl);
-  told = told_more g g1 g2 (flat_map calls_for chain.given) (Refused kind ∷ []) chain.told refused;
+  told = adds-more g g1 g2 (flat_map calls_for chain.given) (Refused kind ∷ []) chain.told refused;
 }
 
 never_network : (r : Result ℕ ServeFault) → after_connection r ≡ Err Network → ⊥
