@@ -60,7 +60,7 @@ pub enum SheetFault {
     Memory,
 }
 
-/// A text of a line, as `postings row 2 teller`.
+/// A text of a line: the row, and the column or `columns`.
 impl fmt::Display for SheetFault {
     ghost use Rattle.std.specs.Prelude.{Some};
     ghost use Rattle.posting_sheets.specs.Faults.{sheet_text};
