@@ -1,14 +1,11 @@
 -- How a run ends where its words are no command.
-use Rattle.std.proofs.Common.{◌≡◌, ◌≢◌, ◌⊎◌, ◌∙◌, subst, sym, refl, inl, inr, ℕ, List, Option, Result, Ok, Err}
-use Rattle.std.proofs.Common.{Bool, false, true}
-use Rattle.std.specs.Prelude.{IfOk, if◌then◌else◌}
+use Rattle.std.proofs.Common.{◌≡◌, ◌≢◌, ◌⊎◌, ◌∙◌, subst, sym, refl, inl, inr, ℕ, List, Option}
 use Rattle.std.specs.Io.KnownBytes.{Keeps}
 use Rattle.clap.specs.Words.{IsAmong, Text, fault_of}
 use Rattle.clap.specs.declared.error.kind.ErrorKind.{ErrorKind}
 use Rattle.clap.specs.declared.error.kind.ErrorKind.TheVariants.{DisplayHelp, DisplayVersion, OutOfMemory}
-use Rattle.command_line.specs.declared.fault.CommandFault.{CommandFault}
 use Rattle.command_line.specs.declared.status.Status.{Status}
-use Rattle.command_line.specs.declared.status.Status.TheVariants.{Differs, Done, Inconsistent, Input, System}
+use Rattle.command_line.specs.declared.status.Status.TheVariants.{Done, Input, System}
 use Rattle.command_line.specs.declared.status.Status.TheVariants.{Usage}
 use Rattle.command_line.specs.Lines.{IsHelpOrVersion, IsShown}
 use Rattle.command_line.specs.CommandLine.{bank_app}
@@ -55,25 +52,6 @@ system_is_not_usage status is other = let bad : System ≡ Usage = sym is ∙ ot
 
 pub input_is_not_usage : (status : Status) → status ≡ Input → status ≢ Usage
 input_is_not_usage status is other = let bad : Input ≡ Usage = sym is ∙ other in cc
-
--- a command that did its work doesn't end it so either
-pub done_is_not_usage : (result : Result Status CommandFault) → result ≡ Ok Done → result ≢ Ok Usage
-done_is_not_usage result is other = cc
-
-pub fault_is_not_usage : (result : Result Status CommandFault) (fault : CommandFault) → result ≡ Err fault
-    → result ≢ Ok Usage
-fault_is_not_usage result fault is other = cc
-
-pub loaded_is_not_usage : (differs : Bool) (status : Status) → status ≡ if differs then Differs else Done
-    → (let result : Result Status CommandFault = Ok status in result) ≢ Ok Usage
-loaded_is_not_usage true status is other = cc
-loaded_is_not_usage false status is other = cc
-
-pub audited_is_not_usage : (result : Result Status CommandFault)
-    → IfOk result (λ status. (status ≡ Done) ⊎ (status ≡ Inconsistent)) → result ≢ Ok Usage
-audited_is_not_usage (Ok status) (inl is) other = cc
-audited_is_not_usage (Ok status) (inr is) other = cc
-audited_is_not_usage (Err fault) is other = cc
 
 -- where only memory was in the way, help wasn't asked for
 pub memory_is_no_request : (kind : ErrorKind) → kind ≡ OutOfMemory → IsHelpOrVersion kind → ⊥

@@ -1,7 +1,2 @@
-pub mod BankInFiles
-pub mod Migrations
-pub mod InFiles
-pub mod Refusals
-pub mod Worked
-pub mod Ended
 pub mod Endings
+pub mod Told

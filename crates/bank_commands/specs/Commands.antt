@@ -1,98 +1,177 @@
--- What a command did to the bank of its files; r and r' are the known bytes of the input before and after, w
--- and w' those of the output, k and k' the clock's known readings.
-use Rattle.std.specs.Prelude.{◌≡◌, ◌⊎◌, ℕ, List, Option, Result, Ok, Err, IsErrAnd}
-use Rattle.std.specs.Io.KnownBytes.{Keeps}
-use Rattle.sqlite.specs.State.{State}
-use Rattle.sqlite_wal.specs.Recovery.{Image}
-use Rattle.posting_rules.specs.Counter.{Seen}
-use Rattle.posting_core.specs.Stream.{Streamed, OutputsReplies, SurvivesStream, Resends}
+-- What each command does over the connection conn, which it hands back as back, and how it ends: told is the status
+-- or the fault. r and r' are the known bytes of its input before and after, w and w' those of its output, k and k' the
+-- clock's known readings; what the calls of its ends are known to have returned is q and q' of the input, and t and
+-- t' of the output; beside which sinks the input is known to have been read is b and b'.
+use Rattle.std.specs.Prelude.{◌≡◌, ◌≢◌, ℕ, List, Option, Result, Ok, Err, IfErr, IfOk, OnOk}
+use Rattle.std.specs.Io.KnownBytes.{Appends, IsAtEnd, Keeps}
+use Rattle.sqlite.specs.Held.{Held}
+use Rattle.sqlite_trees.specs.declared.store.Store.{Ghosts}
+use Rattle.posting_rules.specs.declared.fault.Fault.{Fault}
+use Rattle.posting_rules.specs.declared.fault.Fault.TheVariants.{Memory}
+use Rattle.posting_core.specs.Stream.{IfBank, IsRefusedBehind, OutputsReplies, Resends, StreamFaultIsOfItsEnd}
+use Rattle.posting_core.specs.Stream.{StreamsAsRead, SurvivesStream}
+use Rattle.posting_core.specs.Told.{Beside, EndsWith, HasWriteFailed, IsFlush, ReadTold, WriteTold}
 use Rattle.posting_core.specs.declared.stream.StreamFault.{StreamFault}
-use Rattle.command_line.specs.Faults.{fault_of_stream}
-use Rattle.command_line.specs.Looking.{IsOfOpening}
+use Rattle.branch_loader.specs.declared.loader.Loaded.{Loaded}
+use Rattle.report_lines.specs.Written.{AppendsPart}
+use Rattle.report_lines.specs.declared.audit.Audit.{Audit}
+use Rattle.bank_store.specs.Down.{bank_reason}
+use Rattle.bank_store.specs.Seen.{bank_seen, fault_of}
+use Rattle.bank_store.specs.declared.bank.Bank.{Bank}
+use Rattle.bank_store.specs.declared.migration.Migrated.{Migrated}
+use Rattle.bank_store.specs.declared.migration.Migrated.TheVariants.{Already, Moved}
+use Rattle.bank_reports.specs.Audits.{Audits, AuditsFile}
+use Rattle.bank_reports.specs.Leaving.{StandsWhileOpen}
+use Rattle.bank_reports.specs.Statements.{RefusesBalance, States, StatesFile}
+use Rattle.bank_reports.specs.declared.fault.ReportFault.{ReportFault}
+use Rattle.bank_reports.specs.declared.fault.ReportFault.TheVariants as report
+use Rattle.store_rows.specs.declared.metas.TheConstants.{VERSION}
+use Rattle.command_line.specs.Auditing.{Prints}
+use Rattle.command_line.specs.Faults.{IsOfFile, fault_of_bank, fault_of_stream}
+use Rattle.command_line.specs.Lines.{already_line, created_line, loaded_line, migrated_line}
+use Rattle.command_line.specs.Statuses.{status_of_loaded}
+use Rattle.command_line.specs.Working.{DrivesOver, LoadsOver, MayTellListening, ServesOver, TellsDriven}
+use Rattle.command_line.specs.Working.{TellsListening}
 use Rattle.command_line.specs.declared.fault.CommandFault.{CommandFault}
+use Rattle.command_line.specs.declared.fault.CommandFault.TheVariants as faults
 use Rattle.command_line.specs.declared.status.Status.{Status}
-use Rattle.bank_commands.specs.InFile.{IsFoundIn, IsNewIn, WorksFrom, WorksIn}
-use Rattle.bank_commands.specs.Unfound.{IsUnfoundIn}
-use Rattle.command_line.specs.Working.{DrivesOver, EndsInFault, LoadsOver, ServesOver}
+use Rattle.command_line.specs.declared.status.Status.TheVariants.{Done}
+use Rattle.bank_commands.specs.Over.{FindsOver, IsMadeOver, IsMigratedOver, IsUnmadeOver, IsUnmovedOver, RunsOver}
 
--- a new bank was made there
-abbrev pub MakesIn : {C : Type 0} → (C → Seen) → Image → Type 0
-MakesIn {C} seen image = (made : C) × IsNewIn image (seen made)
+-- ---- a bank is made, or carried over
 
--- no bank was found in the files, and the fault says why; or one was
-abbrev pub FindsBank : {C H X : Type 0} → (C → Seen) → (H → State) → Image → Result X CommandFault → Type 0
-FindsBank {C} seen state image result =
-    IsErrAnd result (IsUnfoundIn state image) ⊎ ((found : C) × IsFoundIn image (seen found))
+-- the line was printed; or a beginning of it, where it couldn't be written
+abbrev pub TellsLine : (w w' : Option (List ℕ)) → List ℕ → Result Status CommandFault → Type 0
+TellsLine w w' line (Ok status) = (status ≡ Done) × Appends w w' line
+TellsLine w w' line (Err fault) = (fault ≡ faults.Write) × AppendsPart w w' line
 
--- no bank was found in the files, and Unfound holds; or P holds of the bank that was, as it was found and as
--- it was left
-abbrev pub RunsIn : {C : Type 0} → (C → Seen) → Image → (Unfound : Type 0) → (P : C → C → Type 0) → Type 0
-RunsIn seen image Unfound P = Unfound ⊎ WorksIn seen image P
+-- a bank was made, and nothing was done with it
+abbrev pub Inits : {S : Type 0} (g : Ghosts S) → (conn back : Held S) → (w w' : Option (List ℕ))
+    → Result Status CommandFault → Type 0
+Inits g conn back w w' told = RunsOver g (IsUnmadeOver g conn) back told (w' ≡ w)
+    (λ old new. IsMadeOver g conn old × (new ≡ old) × TellsLine w w' created_line told)
 
--- the same, of a bank that was made there
-abbrev pub RunsInNew : {C : Type 0} → (C → Seen) → Image → (Unmade : Type 0) → (P : C → C → Type 0) → Type 0
-RunsInNew seen image Unmade P = Unmade ⊎ WorksFrom seen (IsNewIn image) P
+-- the line that says what was done
+abbrev pub migration_line : Migrated → List ℕ
+migration_line (Moved from) = migrated_line from VERSION
+migration_line Already = already_line VERSION
 
--- a plan's openings were taken, or the first of them, and the line that was printed has the counts of their
--- answers
-abbrev pub LoadsIn : {C : Type 0} → (C → Seen) → Image → (w w' : Option (List ℕ))
-    → (Ends : Result Status CommandFault → Type 0) → Type 0
-LoadsIn seen image w w' Ends =
-    RunsIn seen image (EndsInFault IsOfOpening Ends × Keeps w w') (LoadsOver seen w w' Ends)
+-- a bank was carried over, or was of this version already, and nothing was done with it
+abbrev pub Migrates : {S : Type 0} (g : Ghosts S) → (conn back : Held S) → (w w' : Option (List ℕ))
+    → Result Status CommandFault → Type 0
+Migrates g conn back w w' told = RunsOver g (IsUnmovedOver g conn) back told (w' ≡ w)
+    (λ old new. (migrated : Migrated) × IsMigratedOver g conn migrated old × (new ≡ old)
+    × TellsLine w w' (migration_line migrated) told)
 
--- so many records of a seed were taken, or the first of them, and the line that was printed has the counts
--- of their replies
-abbrev pub DrivesIn : {C : Type 0} → (C → Seen) → Image → (k k' w w' : Option (List ℕ)) → (seed count : ℕ)
-    → (Ends : Result Status CommandFault → Type 0) → Type 0
-DrivesIn seen image k k' w w' seed count Ends =
-    RunsIn seen image (EndsInFault IsOfOpening Ends × Keeps w w' × (k' ≡ k))
-    (DrivesOver seen k k' w w' seed count Ends)
+-- ---- records and branches are added
 
--- so many connections were served by the bank, or as many as it and the network let
-abbrev pub ServesIn : {C : Type 0} → (C → Seen) → Image → (k k' : Option (List ℕ)) → (count : ℕ)
-    → (Ends : Result Status CommandFault → Type 0) → Type 0
-ServesIn seen image k k' count Ends =
-    RunsIn seen image (EndsInFault IsOfOpening Ends × (k' ≡ k)) (ServesOver seen k k' count Ends)
+abbrev pub Loads : {S : Type 0} (g : Ghosts S) → (conn back : Held S) → (w w' : Option (List ℕ))
+    → Result Status CommandFault → Type 0
+Loads g conn back w w' told =
+    FindsOver g conn back told (w' ≡ w) (LoadsOver (bank_seen g) (bank_reason g) w w' (λ end. told ≡ end))
 
--- what the work of a command reads, writes and asks
-pub record Ends (R W K : Type 0) : Type 0 where
-  pub input : R
-  pub output : W
-  pub clock : K
+-- how a stream ends the command
+abbrev pub ended_by : Result ℕ StreamFault → Result Status CommandFault
+ended_by (Ok count) = Ok Done
+ended_by (Err fault) = Err (fault_of_stream fault)
 
-abbrev pub ends : {R W K : Type 0} → R → W → K → Ends R W K
-ends input output clock = record { input = input; output = output; clock = clock }
+-- what a stream did to the bank and to its ends
+pub record PostsTo {S : Type 0} (g : Ghosts S) (r r' : Option (List ℕ)) (q q' : Option (List ReadTold))
+    (b b' : Option (List Beside)) (w w' : Option (List ℕ)) (t t' : Option (List WriteTold)) (k k' : Option (List ℕ))
+    (streamed : Result ℕ StreamFault) (old new : Bank S g) : Type 0 where
+  pub batches : StreamsAsRead r r' q q' b b' w w' t k k' (bank_seen g old) (bank_seen g new) streamed
+  pub output : OutputsReplies r r' w w' (bank_seen g old) (bank_seen g new) streamed
+  pub survives : SurvivesStream r r' w w' (bank_seen g old) (bank_seen g new)
+  pub resend : Resends r r' w w' (bank_seen g old) (bank_seen g new) streamed
+  pub refused : IfErr streamed
+      (λ fault. IfBank fault (IsRefusedBehind (bank_seen g) (bank_reason g) old new r r'))
+  pub ends : StreamFaultIsOfItsEnd streamed q q' t t'
 
--- it ended at such a fault, and they are as they were
-abbrev pub IsIdleIn : {X R W K : Type 0} → Result X CommandFault → (CommandFault → Type 0)
-    → (before after : Ends R W K) → Type 0
-IsIdleIn result IsSo before after = IsErrAnd result IsSo × (after ≡ before)
+abbrev pub Posts : {S : Type 0} (g : Ghosts S) → (conn back : Held S) → (r r' : Option (List ℕ))
+    → (q q' : Option (List ReadTold)) → (b b' : Option (List Beside)) → (w w' : Option (List ℕ))
+    → (t t' : Option (List WriteTold))
+    → (k k' : Option (List ℕ)) → Result Status CommandFault → Type 0
+Posts g conn back r r' q q' b b' w w' t t' k k' told =
+    FindsOver g conn back told ((r' ≡ r) × (w' ≡ w) × (k' ≡ k))
+    (λ old new. (streamed : Result ℕ StreamFault) × (told ≡ ended_by streamed)
+    × PostsTo g r r' q q' b b' w w' t t' k k' streamed old new)
 
--- ---- posting
+abbrev pub DrivesBank : {S : Type 0} (g : Ghosts S) → (conn back : Held S) → (w w' k k' : Option (List ℕ))
+    → (seed count : ℕ) → Result Status CommandFault → Type 0
+DrivesBank g conn back w w' k k' seed count told =
+    FindsOver g conn back told ((w' ≡ w) × (k' ≡ k))
+    (DrivesOver (bank_seen g) (bank_reason g) k k' w w' seed count (λ end. told ≡ end))
 
--- what a command says of a stream
-abbrev pub said_of : Result ℕ StreamFault → Result ℕ CommandFault
-said_of (Ok count) = Ok count
-said_of (Err fault) = Err (fault_of_stream fault)
+abbrev pub Serves : {S : Type 0} (g : Ghosts S) → (conn back : Held S) → (w w' k k' : Option (List ℕ))
+    → (count : ℕ) → Result Status CommandFault → Type 0
+Serves g conn back w w' k k' count told =
+    FindsOver g conn back told ((w' ≡ w) × (k' ≡ k))
+    (ServesOver (bank_seen g) (bank_reason g) k k' count (λ end. told ≡ end))
 
--- nothing was read or written
-pub record IsUntouched (r r' w w' k k' : Option (List ℕ)) : Type 0 where
-  pub read : r' ≡ r
-  pub wrote : Keeps w w'
-  pub clock : k' ≡ k
+-- ---- reports
 
--- The input was posted to a bank: which replies were written, what the bank shows, what a stop leaves of it,
--- and what becomes of records that come again.
-pub record PostsTo {C : Type 0} (seen : C → Seen) (r r' w w' k k' : Option (List ℕ))
-    (told : Result ℕ StreamFault) (old new : C) : Type 0 where
-  pub stream : Streamed r r' w w' k k' (seen old) (seen new) told
-  pub output : OutputsReplies r r' w w' (seen old) (seen new) told
-  pub survives : SurvivesStream r r' w w' (seen old) (seen new)
-  pub resend : Resends r r' w w' (seen old) (seen new) told
+-- a bank was audited, and so was its file, whatever rows that has
+pub record AuditsBank {S : Type 0} (g : Ghosts S) (found : Result Audit Fault) (old new : Bank S g)
+    : Type 0 where
+  pub bank : Audits (bank_seen g old) (bank_seen g new) found
+  pub file : (bank_seen g new).honest → AuditsFile g old new found
+  pub memory : found ≡ Err Memory → new ≡ old
+  pub up : fault_of new ≡ fault_of old
+  pub stands : StandsWhileOpen g old new
 
--- no bank was found, and nothing was read or written; or the input was posted to the bank of the files
-abbrev pub PostsIn : {C : Type 0} → (C → Seen) → Image → (r r' w w' k k' : Option (List ℕ)) → (None : Type 0)
-    → (Says : Result ℕ StreamFault → Type 0) → Type 0
-PostsIn seen image r r' w w' k k' None Says =
-    (None × IsUntouched r r' w w' k k')
-    ⊎ ((told : Result ℕ StreamFault) × Says told × WorksIn seen image (PostsTo seen r r' w w' k k' told))
+abbrev pub AuditsOver : {S : Type 0} (g : Ghosts S) → (conn back : Held S) → (w w' : Option (List ℕ))
+    → Result Status CommandFault → Type 0
+AuditsOver g conn back w w' told =
+    FindsOver g conn back told (w' ≡ w)
+    (λ old new. (found : Result Audit Fault) × Prints found w w' told × AuditsBank g found old new)
+
+-- how a statement of this account ends the command
+abbrev pub stated_by : ℕ → Result (Unit {0}) ReportFault → Result Status CommandFault
+stated_by account (Ok done) = Ok Done
+stated_by account (Err report.NoAccount) = Err (faults.NoAccount account)
+stated_by account (Err report.Write) = Err faults.Write
+stated_by account (Err (report.Bank cause)) = Err (fault_of_bank cause)
+
+-- an account of a bank was stated, and of its file, whatever rows that has
+pub record StatesBank {S : Type 0} (g : Ghosts S) (account : ℕ) (w w' : Option (List ℕ))
+    (t t' : Option (List WriteTold)) (stated : Result (Unit {0}) ReportFault) (old new : Bank S g)
+    : Type 0 where
+  pub bank : States (bank_seen g old) (bank_seen g new) account w w' stated
+  pub file : (bank_seen g new).honest → ((bank_seen g new).is_down → ⊥)
+      → StatesFile g old new account w w' stated
+  pub refused : (bank_seen g new).is_down → RefusesBalance g old new stated
+  pub flushed : OnOk stated (EndsWith IsFlush t t')
+  pub failed : stated ≡ Err report.Write → HasWriteFailed t t'
+  pub frugal : stated ≢ Err (report.Bank Memory)
+  pub stands : StandsWhileOpen g old new
+
+abbrev pub StatesOver : {S : Type 0} (g : Ghosts S) → (conn back : Held S) → ℕ → (w w' : Option (List ℕ))
+    → (t t' : Option (List WriteTold)) → Result Status CommandFault → Type 0
+StatesOver g conn back account w w' t t' told =
+    FindsOver g conn back told (w' ≡ w)
+    (λ old new. (stated : Result (Unit {0}) ReportFault) × (told ≡ stated_by account stated)
+    × StatesBank g account w w' t t' stated old new)
+
+-- ---- how a command ends and what it prints, whatever bank is there
+
+-- Line holds at Ok, and Before at a fault that isn't the output's
+abbrev pub PrintsLast : (Line : Status → Type 0) → (Before : Type 0) → Result Status CommandFault → Type 0
+PrintsLast Line Before (Ok status) = Line status
+PrintsLast Line Before (Err fault) = fault ≢ faults.Write → Before
+
+abbrev pub PrintsLoad : (w w' : Option (List ℕ)) → Result Status CommandFault → Type 0
+PrintsLoad w w' told = PrintsLast
+    (λ status. (loaded : Loaded) × (status ≡ status_of_loaded loaded) × Appends w w' (loaded_line loaded))
+    (Keeps w w') told
+
+abbrev pub PrintsDrive : (w w' : Option (List ℕ)) → ℕ → Result Status CommandFault → Type 0
+PrintsDrive w w' count told = PrintsLast (λ status. (status ≡ Done) × TellsDriven count w w') (Keeps w w') told
+
+abbrev pub PrintsServe : (w w' : Option (List ℕ)) → Result Status CommandFault → Type 0
+PrintsServe w w' told =
+    PrintsLast (λ status. (status ≡ Done) × TellsListening w w') (MayTellListening w w') told
+
+-- all input was read, or none where there was no bank
+abbrev pub EndsPost : (r r' w w' : Option (List ℕ)) → Result Status CommandFault → Type 0
+EndsPost r r' w w' told = IfOk told (λ status. (status ≡ Done) × IsAtEnd r')
+    × IfErr told (λ fault. IsOfFile fault → (r' ≡ r) × (w' ≡ w))

@@ -1,7 +1,3 @@
-pub mod InFile
-pub mod Unfound
+pub mod Over
 pub mod Commands
-pub mod Stating
-pub mod Auditing
-pub mod Migrating
 pub mod Running

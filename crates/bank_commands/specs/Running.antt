@@ -1,65 +1,67 @@
--- How a run of the program ends, and what it prints and does, by its words.
-use Rattle.std.specs.Prelude.{◌≡◌, ◌≢◌, ◌⊎◌, ℕ, List, [], Option, Result, Ok, Err, IfOk, OnOk, IsErrAnd}
-use Rattle.std.specs.Io.KnownBytes.{Appends}
+-- What a command does over a connection, by its words; how a run of the program ends, and what it prints. r and r'
+-- are the known bytes of the input before and after, w and w' those of the output, k and k' the clock's known
+-- readings.
+use Rattle.std.specs.Prelude.{◌≡◌, ◌≢◌, ◌⊎◌, ℕ, List, [], Option, None, Result, Ok, Err, IfOk}
+use Rattle.std.specs.Io.KnownBytes.{Keeps}
 use Rattle.clap.specs.Words.{IsAmong, Text, fault_of}
 use Rattle.clap.specs.declared.error.kind.ErrorKind.{ErrorKind}
-use Rattle.sqlite_wal.specs.Recovery.{Image}
-use Rattle.posting_rules.specs.Counter.{Seen}
-use Rattle.posting_core.specs.declared.stream.StreamFault.{StreamFault}
+use Rattle.sqlite.specs.Held.{Held}
+use Rattle.sqlite_trees.specs.declared.store.Store.{Ghosts}
+use Rattle.posting_rules.specs.declared.fault.Fault.{Fault}
+use Rattle.report_lines.specs.declared.audit.Audit.{Audit}
+use Rattle.bank_store.specs.declared.migration.Migrated.{Migrated}
+use Rattle.command_line.specs.Auditing.{Prints}
 use Rattle.command_line.specs.CommandLine.{bank_app}
-use Rattle.command_line.specs.Words.{IsSpelledBy}
-use Rattle.command_line.specs.declared.reading.Command.{Command}
-use Rattle.command_line.specs.declared.reading.Command.TheVariants.{Audit, Drive, Init, Load, Migrate, Post}
-use Rattle.command_line.specs.declared.reading.Command.TheVariants.{Serve, Statement}
+use Rattle.command_line.specs.Faults.{status_of}
 use Rattle.command_line.specs.Lines.{IsHelpOrVersion, created_line}
-use Rattle.command_line.specs.Looking.{IsOfOpening}
-use Rattle.command_line.specs.Faults.{fault_of_stream, status_of}
+use Rattle.command_line.specs.Words.{IsSpelledBy}
 use Rattle.command_line.specs.declared.fault.CommandFault.{CommandFault}
+use Rattle.command_line.specs.declared.reading.Command.{Command}
+use Rattle.command_line.specs.declared.reading.Command.TheVariants as commands
 use Rattle.command_line.specs.declared.status.Status.{Status}
 use Rattle.command_line.specs.declared.status.Status.TheVariants.{Done, System}
-use Rattle.bank_reports.specs.declared.fault.ReportFault.{ReportFault}
-use Rattle.bank_commands.specs.Auditing.{AuditsIn}
-use Rattle.bank_commands.specs.Commands.{DrivesIn, IsUntouched, LoadsIn, MakesIn, PostsIn, ServesIn}
-use Rattle.bank_commands.specs.Migrating.{MigratesIn}
-use Rattle.bank_commands.specs.Stating.{StatesIn, said_of_statement}
-use Rattle.command_line.specs.Auditing.{Prints}
-use Rattle.command_line.specs.Working.{TellsListening, done_after}
+use Rattle.bank_commands.specs.Commands.{AuditsOver, DrivesBank, EndsPost, Inits, Loads, Migrates, Posts, Serves}
+use Rattle.bank_commands.specs.Commands.{PrintsDrive, PrintsLoad, PrintsServe, StatesOver, TellsLine, migration_line}
 
 -- clap takes the words for no command, and not for a call for help either
 pub record AreRefused (words : List Text) : Type 0 where
   pub some : fault_of bank_app words ≢ []
   pub no_request : (kind : ErrorKind) → IsAmong kind (fault_of bank_app words) → IsHelpOrVersion kind → ⊥
 
--- ---- what a command did to the bank in its files, what it printed, and how it ended; r and r' are the known
--- bytes of the input before and after, w and w' those of the output, k and k' the clock's known readings
+-- ---- what a command does with the connection conn, which it hands back as back
 
--- how a stream ends the command
-abbrev pub ended_by : Result ℕ StreamFault → Result Status CommandFault
-ended_by (Ok count) = Ok Done
-ended_by (Err fault) = Err (fault_of_stream fault)
+abbrev pub DoesOver : {S : Type 0} (g : Ghosts S) → (conn back : Held S) → (r r' w w' k k' : Option (List ℕ))
+    → Command → Result Status CommandFault → Type 0
+DoesOver g conn back r r' w w' k k' (commands.Init file) told = Inits g conn back w w' told
+DoesOver g conn back r r' w w' k k' (commands.Load file plan) told = Loads g conn back w w' told
+DoesOver g conn back r r' w w' k k' (commands.Post file) told =
+    Posts g conn back r r' None None None None w w' None None k k' told
+DoesOver g conn back r r' w w' k k' (commands.Drive file seed count) told =
+    DrivesBank g conn back w w' k k' seed count told
+DoesOver g conn back r r' w w' k k' (commands.Audit file) told = AuditsOver g conn back w w' told
+DoesOver g conn back r r' w w' k k' (commands.Statement file account) told =
+    StatesOver g conn back account w w' None None told
+DoesOver g conn back r r' w w' k k' (commands.Serve file address connections) told =
+    Serves g conn back w w' k k' connections told
+DoesOver g conn back r r' w w' k k' (commands.Migrate file) told = Migrates g conn back w w' told
 
--- how a statement of this account ends it
-abbrev pub stated_by : ℕ → Result (Unit {0}) ReportFault → Result Status CommandFault
-stated_by account told = done_after (said_of_statement account told)
+-- ---- how it ends and what it prints, whatever bank is there; the text of `post` and `statement` is the bank's
 
-abbrev pub DoesCommand : {C : Type 0} → (C → Seen) → Image → (r r' w w' k k' : Option (List ℕ)) → Command
-    → Result Status CommandFault → Type 0
-DoesCommand seen image r r' w w' k k' (Init file) result =
-    IfOk result (λ status. (status ≡ Done) × MakesIn seen image × Appends w w' created_line)
-DoesCommand seen image r r' w w' k k' (Load file plan) result =
-    LoadsIn seen image w w' (λ end. result ≡ end)
-DoesCommand seen image r r' w w' k k' (Post file) result =
-    PostsIn seen image r r' w w' k k' (IsErrAnd result IsOfOpening) (λ told. result ≡ ended_by told)
-DoesCommand seen image r r' w w' k k' (Drive file seed count) result =
-    DrivesIn seen image k k' w w' seed count (λ end. result ≡ end)
-DoesCommand seen image r r' w w' k k' (Audit file) result =
-    AuditsIn seen image w w' (IsErrAnd result IsOfOpening) (λ told. Prints told w w' result)
-DoesCommand seen image r r' w w' k k' (Statement file account) result =
-    StatesIn seen image account w w' (IsErrAnd result IsOfOpening) (λ told. result ≡ stated_by account told)
-DoesCommand seen image r r' w w' k k' (Serve file address connections) result =
-    ServesIn seen image k k' connections (λ end. result ≡ end) × OnOk result (TellsListening w w')
-DoesCommand seen image r r' w w' k k' (Migrate file) result =
-    MigratesIn seen image w w' (λ end. result ≡ end)
+-- it told a fault and printed nothing; or else Said holds
+abbrev pub PrintsNone : (w w' : Option (List ℕ)) → Result Status CommandFault → (Said : Type 0) → Type 0
+PrintsNone w w' told Said = (((fault : CommandFault) × (told ≡ Err fault)) × Keeps w w') ⊎ Said
+
+abbrev pub Tells : Command → (r r' w w' : Option (List ℕ)) → Result Status CommandFault → Type 0
+Tells (commands.Init file) r r' w w' told = PrintsNone w w' told (TellsLine w w' created_line told)
+Tells (commands.Load file plan) r r' w w' told = PrintsLoad w w' told
+Tells (commands.Post file) r r' w w' told = EndsPost r r' w w' told
+Tells (commands.Drive file seed count) r r' w w' told = PrintsDrive w w' count told
+Tells (commands.Audit file) r r' w w' told =
+    PrintsNone w w' told ((found : Result Audit Fault) × Prints found w w' told)
+Tells (commands.Statement file account) r r' w w' told = IfOk told (λ status. status ≡ Done)
+Tells (commands.Serve file address connections) r r' w w' told = PrintsServe w w' told
+Tells (commands.Migrate file) r r' w w' told =
+    PrintsNone w w' told ((migrated : Migrated) × TellsLine w w' (migration_line migrated) told)
 
 -- ---- a run
 
@@ -68,18 +70,15 @@ abbrev pub status_after : Result Status CommandFault → Status
 status_after (Ok status) = status
 status_after (Err fault) = status_of fault
 
--- the words spell a command, which was done, and the program ends as it did
-pub record DoesSpelled {C : Type 0} (seen : C → Seen) (image : Image) (words : List Text)
-    (r r' w w' k k' : Option (List ℕ)) (status : Status) : Type 0 where
+-- the words spell a command, which ended so and printed this, and so does the program
+pub record RunsSpelled (words : List Text) (r r' w w' : Option (List ℕ)) (status : Status) : Type 0 where
   pub command : Command
   pub spelled : IsSpelledBy words command
-  pub result : Result Status CommandFault
-  pub does : DoesCommand seen image r r' w w' k k' command result
-  pub ends : status ≡ status_after result
+  pub told : Result Status CommandFault
+  pub tells : Tells command r r' w w' told
+  pub ends : status ≡ status_after told
 
--- or there was no memory to read them, and nothing was done
-abbrev pub Runs : {C : Type 0} → (C → Seen) → Image → List Text → (r r' w w' k k' : Option (List ℕ))
-    → Status → Type 0
-Runs seen image words r r' w w' k k' status =
-    DoesSpelled seen image words r r' w w' k k' status
-    ⊎ ((status ≡ System) × IsUntouched r r' w w' k k')
+-- or there was no memory to read them, and nothing was read, printed or asked
+abbrev pub Runs : List Text → (r r' w w' k k' : Option (List ℕ)) → Status → Type 0
+Runs words r r' w w' k k' status =
+    RunsSpelled words r r' w w' status ⊎ ((status ≡ System) × (r' ≡ r) × Keeps w w' × (k' ≡ k))

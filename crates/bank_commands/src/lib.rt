@@ -1,62 +1,65 @@
-//! The commands of the program over a bank in a file: [`init`] makes it, [`load_plan`] opens its branches,
-//! [`post`] posts to it, [`drive`] posts what the driver draws, [`serve`] posts what comes over HTTP,
-//! [`audit_file`] says whether the books agree (TPC-B clause 2), [`statement`] writes the postings of an account,
-//! and [`migrate_file`] carries over a bank of an older version. Each but [`init`] finds the bank in its file, and
-//! each closes the file after its work.
+//! The commands of the program, each a function from a connection to a connection, over any store: [`init_over`]
+//! makes a bank, [`load_over`] opens its branches, [`post_over`] posts to it, [`drive_over`] posts what the driver
+//! draws, [`serve_over`] posts what comes over HTTP, [`audit_over`] says whether the books agree (TPC-B clause 2),
+//! [`statement_over`] writes the postings of an account, and [`migrate_over`] carries over a bank of an older version.
+//! Each but `init_over` finds the bank that is there. Each hands the connection back, also where there is no bank.
 //!
 //! The function `first_commands` of `bank_trials`, which its script runs, makes a bank, opens the branches of
 //! a plan and posts the records of an input:
 //!
 //! ```rust
-//! use bank_commands::{init, load_plan, post};
-//! use command_line::CommandFault;
-//! use posting_core::{Clock, Count};
-//! use sqlite::Unknown;
+//! ghost use Rattle.std.specs.Prelude.{◌≡◌, false};
+//!
+//! use bank_commands::{Ended, init_over, load_over, post_over};
+//! use posting_core::Clock;
+//! use sqlite::{Alter, Connection};
 //! use std::io::{Read, Write};
 //!
-//! pub fn first_commands<R: Read, W: Write, K: Clock>(
+//! pub fn first_commands<S: Alter + Drop, R: Read, W: Write, K: Clock>(
 //!     rt: &HostRuntime,
-//!     file: &str,
+//!     conn: Connection<S>,
 //!     plan: &str,
 //!     input: &mut R,
 //!     output: &mut W,
 //!     clock: &mut K,
-//! ) -> Result<Count, CommandFault> {
-//!     init(rt, Unknown, file, output)?;
-//!     load_plan(rt, Unknown, file, plan, output)?;
-//!     post(rt, Unknown, file, input, output, clock)
+//! ) -> Ended<S>
+//!     requires { conn.in_transaction ≡ false }
+//! {
+//!     let made = init_over(rt.alloc(), conn, output);
+//!     let loaded = load_over(rt, made.conn, plan, output);
+//!     post_over(rt.alloc(), loaded.conn, input, output, clock)
 //! }
 //! ```
 //!
 //! For a record of 500 cents to account 1 the output is `created`, `opened 2 already 0 differs 0` and a
 //! reply with the balance 500 and the outcome `POSTED`. A fault is a `CommandFault` of `command_line`.
 //!
+//! `bank_files` opens a connection to files, and `conn.close()` closes it. [`run`] is the whole program: it finds a
+//! command in the words of the command line, looks for the command's file, opens it, does the command and closes it.
+//! `src/files`, 66 lines that are to be read, has the looking, the opening and the closing; no clause reaches them.
+//!
 //! `rt` is what `main` is given. `Unknown` is all that a program knows of what its files hold, and supposes
 //! that a torn write leaves each byte old or new; `Wary` of `sqlite` in its place doesn't suppose it, and
-//! syncs twice a commit. Who has a bank in a file for anything else opens the file with `bank_files`, and lets go
-//! of the bank with [`settled`] and [`close`]; where that gives no files back there is nothing to do, as what was
-//! committed is kept and the next open finds it.
+//! syncs twice a commit.
 //!
-//! Read next: `specs/Commands`, what each command does to the bank of its file; `specs/InFile`, which bank is
-//! found there, by what the files held; the crate `command_line`, what it does with any bank; [`run`], which calls
+//! Read next: `specs/Over`, what becomes of the connection; `specs/Commands`, what each command does to the bank that
+//! it finds there; the crate `command_line`, what it does with any bank; [`command_over`] and [`run`], which call
 //! them by the words of the command line.
 #![tactic(auto)]
 
-mod audit;
+mod command;
 mod commands;
-mod file_connection;
+mod ended;
+mod files;
 mod migration;
-mod openings;
+mod reports;
 mod running;
-mod server;
-mod stating;
-mod work;
+mod serving;
 
-pub use audit::audit_file;
-pub use commands::{drive, init, load_plan, post};
-pub use file_connection::close;
-pub use migration::migrate_file;
-pub use openings::settled;
+pub use command::command_over;
+pub use commands::{drive_over, init_over, load_over, post_over};
+pub use ended::Ended;
+pub use migration::migrate_over;
+pub use reports::{audit_over, statement_over};
 pub use running::{run, words_of};
-pub use server::serve;
-pub use stating::statement;
+pub use serving::serve_over;

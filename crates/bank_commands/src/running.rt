@@ -33,22 +33,19 @@
 //! }
 //! ```
 //!
-//! Read next: the contract of [`run`], and `specs/Running`, a case for what each command does and prints, and
-//! how a run ends. The crate `bank_trials` plays a script of such runs.
-ghost use Rattle.std.specs.Prelude.{◌≡◌, ◌≢◌, ◌⊎◌, [], map, Ok};
+//! Read next: the contract of [`run`], and `specs/Running`, how each command ends and what it prints. The crate
+//! `bank_trials` plays a script of such runs.
+ghost use Rattle.std.specs.Prelude.{◌≡◌, ◌≢◌, ◌⊎◌, [], map};
 ghost use Rattle.std.specs.Io.KnownBytes.{Keeps};
-ghost use Rattle.sqlite_wal.specs.Files.{image_at};
-ghost use Rattle.bank_store.specs.Seen.{bank_seen};
 ghost use Rattle.clap.specs.Words.{fault_of};
 ghost use Rattle.command_line.specs.CommandLine.{bank_app};
-ghost use Rattle.command_line.specs.Words.{AreInRange, AsksForHelp, IsSpelled};
-ghost use Rattle.bank_commands.specs.Running.{AreRefused, DoesCommand, Runs};
+ghost use Rattle.command_line.specs.Words.{AsksForHelp, IsSpelled};
+ghost use Rattle.bank_commands.specs.Running.{AreRefused, Runs};
 
-use crate::{audit_file, drive, init, load_plan, migrate_file, post, serve, statement};
-use command_line::{Command, CommandFault, Status, explain, read_words, tell};
+use crate::files::command_in;
+use command_line::{Status, explain, read_words, tell};
 use posting_core::Clock;
-use sqlite::{FileFrom, FileStore, Start};
-use sqlite_trees::store::Store;
+use sqlite::Start;
 use std::convert::AsStr;
 use std::io::{Read, Write};
 use std::rt::Env;
@@ -78,10 +75,10 @@ pub fn run<S: Start, T: AsStr, R: Read, W: Write, E: Write, K: Clock>(
     ensures help { AsksForHelp (map T.text words.entry.now)
         → (result ≡ Status.Done) ⊎ (result ≡ Status.System) }
     ensures taken { IsSpelled (map T.text words.entry.now) → result ≢ Status.Usage }
-    // Words that spell a command, of those that the program has, have it done.
+    // Words that spell a command, of those that the program has, have it done; what it does is said of its connection,
+    // by `command_over`.
     ensures runs { IsSpelled (map T.text words.entry.now)
-        → Runs (bank_seen ⟦<FileStore<FileFrom<S>> as Store>⟧) (image_at S.Start)
-        (map T.text words.entry.now) (R.remaining input.old) (R.remaining input.new)
+        → Runs (map T.text words.entry.now) (R.remaining input.old) (R.remaining input.new)
         (W.contents output.old) (W.contents output.new) (K.readings clock.old) (K.readings clock.new)
         result }
 {
@@ -89,60 +86,8 @@ pub fn run<S: Start, T: AsStr, R: Read, W: Write, E: Write, K: Clock>(
         Ok(command) => command,
         Err(error) => return explain(&error, output, faults),
     };
-    match perform(rt, start, command, input, output, clock) {
+    match command_in(rt, start, &command, input, output, clock) {
         Ok(status) => status,
         Err(fault) => tell(fault, faults),
-    }
-}
-
-// Does the command, and tells how it went.
-fn perform<S: Start, R: Read, W: Write, K: Clock>(
-    rt: &HostRuntime,
-    start: S,
-    command: Command<'_>,
-    input: &mut R,
-    output: &mut W,
-    clock: &mut K,
-) -> Result<Status, CommandFault>
-    requires { AreInRange command }
-    ensures taken { result ≢ Ok Status.Usage }
-    ensures does { DoesCommand (bank_seen ⟦<FileStore<FileFrom<S>> as Store>⟧) (image_at S.Start)
-        (R.remaining input.old) (R.remaining input.new) (W.contents output.old) (W.contents output.new)
-        (K.readings clock.old) (K.readings clock.new) command.entry result }
-{
-    match command {
-        Command::Init { file } => {
-            init(rt, start, file, output)?;
-            Ok(Status::Done)
-        }
-        Command::Load { file, plan } => {
-            let loaded = load_plan(rt, start, file, plan, output)?;
-            Ok(Status::from(loaded))
-        }
-        Command::Post { file } => {
-            post(rt, start, file, input, output, clock)?;
-            Ok(Status::Done)
-        }
-        Command::Drive { file, seed, count } => {
-            drive(rt, start, file, seed, count, output, clock)?;
-            Ok(Status::Done)
-        }
-        Command::Audit { file } => audit_file(rt, start, file, output),
-        Command::Statement { file, account } => {
-            statement(rt, start, file, account, output)?;
-            Ok(Status::Done)
-        }
-        Command::Serve {
-            file,
-            address,
-            connections,
-        } => {
-            serve(rt, start, file, address, connections, output, clock)?;
-            Ok(Status::Done)
-        }
-        Command::Migrate { file } => {
-            migrate_file(rt, start, file, output)?;
-            Ok(Status::Done)
-        }
     }
 }

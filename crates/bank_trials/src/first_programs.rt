@@ -7,6 +7,7 @@ mod words;
 mod work;
 
 use anyhow::{Result, bail};
+use bank_commands::Ended;
 use command_line::Status;
 use commands::first_commands;
 use connections::first_connections;
@@ -14,6 +15,7 @@ use endings::first_ending;
 pub use files::ask;
 use files::first_file;
 use posting_core::StoredClock;
+use sqlite::Connection;
 use words::first_words;
 use work::first_drive;
 
@@ -57,13 +59,13 @@ fn play_connections(rt: &HostRuntime, mut input: &[u8], output: &mut Vec<u8>) ->
 
 fn play_commands(
     rt: &HostRuntime,
-    files: &str,
+    plan: &str,
     mut input: &[u8],
     output: &mut Vec<u8>,
 ) -> Result<Status> {
-    let (file, plan) = files.split_once(' ').unwrap_or((files, ""));
+    let conn = Connection::open_in_memory(rt.alloc())?;
     let mut clock = StoredClock::new(Vec::new(rt.alloc()));
-    let count = first_commands(rt, file, plan, &mut input, output, &mut clock)?;
-    println!(rt; "  {count}")?;
-    Ok(Status::Done)
+    let Ended { told, conn } = first_commands(rt, conn, plan, &mut input, output, &mut clock);
+    drop(conn);
+    Ok(told?)
 }

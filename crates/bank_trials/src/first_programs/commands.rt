@@ -1,19 +1,22 @@
 //! The first program of `bank_commands`.
-use bank_commands::{init, load_plan, post};
-use command_line::CommandFault;
-use posting_core::{Clock, Count};
-use sqlite::Unknown;
+ghost use Rattle.std.specs.Prelude.{◌≡◌, false};
+
+use bank_commands::{Ended, init_over, load_over, post_over};
+use posting_core::Clock;
+use sqlite::{Alter, Connection};
 use std::io::{Read, Write};
 
-pub fn first_commands<R: Read, W: Write, K: Clock>(
+pub fn first_commands<S: Alter + Drop, R: Read, W: Write, K: Clock>(
     rt: &HostRuntime,
-    file: &str,
+    conn: Connection<S>,
     plan: &str,
     input: &mut R,
     output: &mut W,
     clock: &mut K,
-) -> Result<Count, CommandFault> {
-    init(rt, Unknown, file, output)?;
-    load_plan(rt, Unknown, file, plan, output)?;
-    post(rt, Unknown, file, input, output, clock)
+) -> Ended<S>
+    requires { conn.in_transaction ≡ false }
+{
+    let made = init_over(rt.alloc(), conn, output);
+    let loaded = load_over(rt, made.conn, plan, output);
+    post_over(rt.alloc(), loaded.conn, input, output, clock)
 }

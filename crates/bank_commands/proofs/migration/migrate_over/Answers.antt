@@ -1,16 +1,42 @@
--- Where the connection was opened it stands at what its trees show, as either version.
-use Rattle.std.proofs.Common.{arith}
-use Rattle.bank_commands.proofs.Migrations.{migrated_over, unmigrated_over}
+-- What `migrate` says, and what was printed after it.
+use Rattle.std.proofs.Common.{inl, inr, refl}
+use Rattle.bank_commands.proofs.Told.{line_told, refused_over}
 use Rattle.bank_commands.proofs.migration.migrate_over.Goals as goal
 
-pub returns-in-Ok-clause-migrated : goal.returns-in-Ok-clause-migrated
-returns-in-Ok-clause-migrated g c =
-    let it = c.in-Ok.ensures in
-    migrated_over g.S.Store c.args.conn c.opened_law.ensures c.opened_earlier_law.ensures c.in-Ok.done.0
-    c.in-Ok.done.1 it.migrated it.known (λ honest. omega (arith, it.survives.clean))
-
-pub returns-in-Err-clause-unmigrated : goal.returns-in-Err-clause-unmigrated
-returns-in-Err-clause-unmigrated g c =
+pub returns-in-Err : goal.returns-in-Err
+returns-in-Err g c =
     let it = c.in-Err.ensures in
-    unmigrated_over g.S.Store c.args.conn c.opened_law.ensures c.opened_earlier_law.ensures c.in-Err.refused
-    c.fault_of.result c.fault_of.ensures.is it.misplaced it.remains
+    record {
+      migrates = inl (
+        refused_over _ c.in-Err.refused c.refuse.result.conn c.refuse.result.told c.refuse.ensures.told
+            c.refuse.ensures.conn record {
+              misplaced = it.misplaced;
+              cause = it.cause;
+              known = it.known;
+              back = it.back;
+              remains = it.remains;
+              survives = it.survives;
+            },
+        refl,
+      );
+      idle = rw c.refuse.ensures.conn it.back.idle;
+    }
+
+pub returns : goal.returns
+returns g c =
+    let it = c.in-Ok.ensures in
+    let line = c.print_answer.ensures in
+    record {
+      migrates = inr record {
+        first = c.in-Ok.done.0;
+        last = c.in-Ok.done.0;
+        did = (
+          c.in-Ok.done.1,
+          record { is = it.migrated; survives = it.survives },
+          refl,
+          rw c.done-told.ensures (line_told _ _ _ c.print_answer.result line.prints.line line.prints.part line.fault),
+        );
+        conn = c.release.ensures.same;
+      };
+      idle = c.release.ensures.idle;
+    }

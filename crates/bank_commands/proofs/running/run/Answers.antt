@@ -1,6 +1,6 @@
-use Rattle.std.proofs.Common.{◌∙◌, ap, inl, inr, map, refl, sym, Ok, Err}
+use Rattle.std.proofs.Common.{◌∙◌, inl, inr, map, refl, sym, Ok, Err}
 use Rattle.clap.specs.Words.{kind_of}
-use Rattle.bank_commands.proofs.Ended.{status_is_not_usage}
+use Rattle.bank_commands.proofs.Told.{status_is_not_usage, told_is_not_usage}
 use Rattle.bank_commands.proofs.Endings.{help_ends, memory_ends, memory_is_no_request, mistake_ends}
 use Rattle.bank_commands.proofs.Endings.{mistake_keeps, not_asked, system_is_not_usage}
 use Rattle.bank_commands.proofs.running.run.Goals as goal
@@ -26,50 +26,48 @@ returns-in-Err g c =
           let memory = says.spelled spelled in
           inr (
             memory_ends kind c.explain.result memory shown.status,
-            record {
-              read = refl;
-              wrote = mistake_keeps kind _ _ (memory_is_no_request kind memory) shown.silent;
-              clock = refl;
-            },
+            refl,
+            mistake_keeps kind _ _ (memory_is_no_request kind memory) shown.silent,
+            refl,
           );
     }
 
 -- ---- a command that did its work, and one that didn't: words that clap takes aren't refused, and ask for no
 -- help
 
-pub returns-in-Ok-perform : goal.returns-in-Ok-perform
-returns-in-Ok-perform g c =
+pub returns-in-Ok-command_in : goal.returns-in-Ok-command_in
+returns-in-Ok-command_in g c =
     let says = c.in-Ok.ensures in
-    let did = c.in-Ok-perform.ensures in
+    let did = c.in-Ok-command_in.ensures in
     record {
       refused = λ refused. absurd (refused.some says.fault);
       silent = λ refused. absurd (refused.some says.fault);
       unread = λ some. absurd (some says.fault);
       help = λ asks. absurd (says.help asks);
-      taken = λ spelled other. did.taken (ap Ok other);
+      taken = λ spelled. told_is_not_usage c.in-Ok.command _ _ _ _ c.in-Ok-command_in.status did;
       runs = λ spelled. inl record {
         command = c.in-Ok.command;
         spelled = says.spelled spelled;
-        result = Ok c.in-Ok-perform.status;
-        does = did.does;
+        told = Ok c.in-Ok-command_in.status;
+        tells = did;
         ends = refl;
       };
     }
 
-pub returns-in-Err-perform : goal.returns-in-Err-perform
-returns-in-Err-perform g c =
+pub returns-in-Err-command_in : goal.returns-in-Err-command_in
+returns-in-Err-command_in g c =
     let says = c.in-Ok.ensures in
     record {
       refused = λ refused. absurd (refused.some says.fault);
       silent = λ refused. absurd (refused.some says.fault);
       unread = λ some. absurd (some says.fault);
       help = λ asks. absurd (says.help asks);
-      taken = λ spelled other. status_is_not_usage c.in-Err-perform.fault (sym c.tell.ensures ∙ other);
+      taken = λ spelled other. status_is_not_usage c.in-Err-command_in.fault (sym c.tell.ensures ∙ other);
       runs = λ spelled. inl record {
         command = c.in-Ok.command;
         spelled = says.spelled spelled;
-        result = Err c.in-Err-perform.fault;
-        does = c.in-Err-perform.ensures.does;
+        told = Err c.in-Err-command_in.fault;
+        tells = c.in-Err-command_in.ensures;
         ends = c.tell.ensures;
       };
     }

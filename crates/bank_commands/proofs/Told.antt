@@ -1,0 +1,189 @@
+-- How a command ends over a connection, and what is said of it whatever bank is there.
+use Rattle.std.proofs.Common.{◌≡◌, ◌≢◌, ◌⊎◌, ◌∙◌, ◌≤◌, inl, inr, refl, subst, sym, ℕ, List, Option, Result, Ok, Err}
+use Rattle.std.proofs.Common.{Bool, false, true, None, OnErr, OnOk, IsErrOf, length, take}
+use Rattle.std.specs.Prelude.{IfErr, IfOk, IsErrAnd, if◌then◌else◌}
+use Rattle.std.specs.Io.KnownBytes.{Appends, Keeps}
+use Rattle.std.proofs.KnownBytes.{Keeps-refl}
+use Rattle.std.proofs.lemmas.Result.{err_from_is_err_and}
+use Rattle.sqlite.specs.Held.{Held}
+use Rattle.sqlite_trees.specs.declared.store.Store.{Ghosts}
+use Rattle.posting_rules.specs.declared.fault.Fault.{Fault}
+use Rattle.posting_rules.specs.Counter.{Seen}
+use Rattle.posting_rules.specs.declared.fault.Fault.TheVariants as bank
+use Rattle.posting_core.specs.Stream.{Streamed}
+use Rattle.posting_core.specs.declared.stream.StreamFault.{StreamFault}
+use Rattle.posting_core.specs.declared.stream.StreamFault.TheVariants as stream
+use Rattle.branch_loader.specs.declared.loader.Loaded.{Loaded}
+use Rattle.report_lines.specs.declared.audit.Audit.{Audit}
+use Rattle.bank_reports.specs.declared.fault.ReportFault.{ReportFault}
+use Rattle.bank_reports.specs.declared.fault.ReportFault.TheVariants as report
+use Rattle.bank_store.specs.declared.bank.Bank.{Bank}
+use Rattle.bank_store.specs.declared.refused.Refused.{Refused}
+use Rattle.command_line.specs.Auditing.{Prints}
+use Rattle.command_line.specs.Faults.{IsOfFile, fault_of_opening, fault_of_stream, status_of}
+use Rattle.command_line.specs.declared.fault.CommandFault.{CommandFault}
+use Rattle.command_line.specs.declared.fault.CommandFault.TheVariants as fault
+use Rattle.command_line.specs.declared.reading.Command.{Command}
+use Rattle.command_line.specs.declared.reading.Command.TheVariants as commands
+use Rattle.command_line.specs.declared.status.Status.{Status}
+use Rattle.command_line.specs.declared.status.Status.TheVariants.{Differs, Done, Inconsistent, Input, System, Usage}
+use Rattle.command_line.specs.Lines.{loaded_line}
+use Rattle.command_line.specs.Working.{MayTellListening, TellsDriven, TellsListening, done_after, ended_by_load}
+use Rattle.bank_commands.specs.Commands.{EndsPost, PrintsDrive, PrintsLoad, PrintsServe, StatesOver, TellsLine}
+use Rattle.bank_commands.specs.Commands.{ended_by, stated_by}
+use Rattle.bank_commands.specs.Over.{IsRefusedOver, RunsOver}
+use Rattle.bank_commands.specs.Running.{PrintsNone, Tells}
+use Rattle.bank_commands.proofs.Endings.{input_is_not_usage, system_is_not_usage}
+
+-- ---- over a connection
+
+pub refused_over : {S : Type 0} (Why : Refused S → Type 0) (refused : Refused S) (back : Held S)
+    (told : Result Status CommandFault) → told ≡ Err (fault_of_opening refused.fault) → back ≡ refused.conn
+    → Why refused → IsErrAnd told (IsRefusedOver Why back)
+refused_over Why refused back told is same why = rw is record {
+  refused = refused;
+  conn = same;
+  reason = refl;
+  why = why;
+}
+
+-- a line that was printed last, or a part of it
+pub line_told : (w w' : Option (List ℕ)) (line : List ℕ) (printed : Result (Unit {0}) CommandFault)
+    → OnOk printed (Appends w w' line)
+    → OnErr printed ((n : ℕ) × (n ≤ length line) × Appends w w' (take n line))
+    → OnErr printed (IsErrOf printed fault.Write) → TellsLine w w' line (done_after printed)
+line_told w w' line (Ok done) appends part is = (refl, appends)
+line_told w w' line (Err f) appends part is = (cc, record { count = part.0; within = part.1; wrote = part.2 })
+
+pub prints_load : (w w' : Option (List ℕ)) (told : Result Loaded CommandFault)
+    → IfOk told (λ loaded. Appends w w' (loaded_line loaded))
+    → IfErr told (λ f. f ≢ fault.Write → Keeps w w') → PrintsLoad w w' (ended_by_load told)
+prints_load w w' (Ok loaded) line silent = (loaded, refl, line)
+prints_load w w' (Err f) line silent = silent
+
+pub prints_drive : (w w' : Option (List ℕ)) (count : ℕ) (told : Result (Unit {0}) CommandFault)
+    → OnOk told (TellsDriven count w w') → IfErr told (λ f. f ≢ fault.Write → Keeps w w')
+    → PrintsDrive w w' count (done_after told)
+prints_drive w w' count (Ok done) line silent = (refl, line)
+prints_drive w w' count (Err f) line silent = silent
+
+pub prints_serve : (w w' : Option (List ℕ)) (told : Result (Unit {0}) CommandFault)
+    → OnOk told (TellsListening w w') → IfErr told (λ f. f ≢ fault.Write → MayTellListening w w')
+    → PrintsServe w w' (done_after told)
+prints_serve w w' (Ok done) line silent = (refl, line)
+prints_serve w w' (Err f) line silent = silent
+
+-- a stream never ends with a fault of a file
+not_of_file : {Q : Type 0} (f : StreamFault) → IsOfFile (fault_of_stream f) → Q
+not_of_file (stream.Truncated count) so = absurd so
+not_of_file stream.Read so = absurd so
+not_of_file stream.Write so = absurd so
+not_of_file (stream.Bank bank.Memory) so = absurd so
+not_of_file (stream.Bank bank.Store) so = absurd so
+not_of_file (stream.Bank bank.Down) so = absurd so
+not_of_file (stream.Bank (bank.Damaged rule)) so = absurd so
+
+pub ends_post : (r r' w w' k k' : Option (List ℕ)) {old new : Seen} (streamed : Result ℕ StreamFault)
+    → Streamed r r' w w' k k' old new streamed → EndsPost r r' w w' (ended_by streamed)
+ends_post r r' w w' k k' (Ok count) it = ((refl, it.ends.ended), tt)
+ends_post r r' w w' k k' (Err f) it = (tt, λ so. not_of_file f so)
+
+-- where nothing was printed unless a bank was had
+pub prints_none : {S : Type 0} {g : Ghosts S} (Why : Refused S → Type 0) (Did : Bank S g → Bank S g → Type 0)
+    {back : Held S} {Said : Type 0} (w w' : Option (List ℕ)) (told : Result Status CommandFault)
+    → RunsOver g Why back told (w' ≡ w) Did → ((old new : Bank S g) → Did old new → Said)
+    → PrintsNone w w' told Said
+prints_none Why Did w w' told (inl none) said =
+    let f = err_from_is_err_and told none.0 in
+    inl ((f.0, f.1), subst (λ (x : Option (List ℕ)). Keeps w x) (sym none.1) (Keeps-refl w))
+prints_none Why Did w w' told (inr works) said = inr (said works.first works.last works.did)
+
+stated_done : (account : ℕ) (stated : Result (Unit {0}) ReportFault)
+    → IfOk (stated_by account stated) (λ status. status ≡ Done)
+stated_done account (Ok done) = refl
+stated_done account (Err report.NoAccount) = tt
+stated_done account (Err report.Write) = tt
+stated_done account (Err (report.Bank cause)) = tt
+
+pub states_done : {S : Type 0} (g : Ghosts S) (conn back : Held S) (account : ℕ) (w w' : Option (List ℕ))
+    (told : Result Status CommandFault) → StatesOver g conn back account w w' None None told
+    → IfOk told (λ status. status ≡ Done)
+states_done g conn back account w w' told (inl none) = rw (err_from_is_err_and told none.0).1 tt
+states_done g conn back account w w' told (inr works) =
+    rw works.did.1.1 (stated_done account works.did.1.0)
+
+-- ---- where the command wasn't begun
+
+pub tells_idle : (c : Command) (f : CommandFault) (r w : Option (List ℕ)) → Tells c r r w w (Err f)
+tells_idle (commands.Init file) f r w = inl ((f, refl), Keeps-refl w)
+tells_idle (commands.Load file plan) f r w = λ _. Keeps-refl w
+tells_idle (commands.Post file) f r w = (tt, λ _. (refl, refl))
+tells_idle (commands.Drive file seed count) f r w = λ _. Keeps-refl w
+tells_idle (commands.Audit file) f r w = inl ((f, refl), Keeps-refl w)
+tells_idle (commands.Statement file account) f r w = tt
+tells_idle (commands.Serve file address connections) f r w = λ _. inl (Keeps-refl w)
+tells_idle (commands.Migrate file) f r w = inl ((f, refl), Keeps-refl w)
+
+-- ---- no command ends the program as a mistake in the words
+
+fault_ends : (f : CommandFault) → (status_of f ≡ System) ⊎ (status_of f ≡ Input)
+fault_ends fault.Store = inl refl
+fault_ends fault.Memory = inl refl
+fault_ends (fault.Damaged rule) = inl refl
+fault_ends fault.Read = inl refl
+fault_ends fault.Write = inl refl
+fault_ends (fault.Truncated count) = inr refl
+fault_ends (fault.Plan plan) = inr refl
+fault_ends fault.AlreadyBank = inr refl
+fault_ends fault.NoBank = inr refl
+fault_ends fault.Foreign = inr refl
+fault_ends (fault.Version version) = inr refl
+fault_ends fault.NoBranches = inr refl
+fault_ends (fault.NoAccount account) = inr refl
+fault_ends fault.Network = inl refl
+
+pub status_is_not_usage : (f : CommandFault) → status_of f ≢ Usage
+status_is_not_usage f other = elim (fault_ends f) [
+  | inl system ↦ system_is_not_usage (status_of f) system other
+  | inr input ↦ input_is_not_usage (status_of f) input other
+]
+
+done_is_not_usage : (status : Status) → status ≡ Done → status ≢ Usage
+done_is_not_usage status is other = let bad : Done ≡ Usage = sym is ∙ other in cc
+
+one_of_two : (is_first : Bool) (first second status : Status) → first ≢ Usage → second ≢ Usage
+    → status ≡ if is_first then first else second → status ≢ Usage
+one_of_two true first second status free free' is other = free (sym is ∙ other)
+one_of_two false first second status free free' is other = free' (sym is ∙ other)
+
+differs_is_not_usage : Differs ≢ Usage
+differs_is_not_usage bad = cc
+
+inconsistent_is_not_usage : Inconsistent ≢ Usage
+inconsistent_is_not_usage bad = cc
+
+not_a_fault : {Q : Type 0} (status : Status) (f : CommandFault)
+    → (let told : Result Status CommandFault = Ok status in told) ≡ Err f → Q
+not_a_fault status f bad = cc
+
+audited_is_not_usage : (found : Result Audit Fault) (w w' : Option (List ℕ)) (status : Status)
+    → Prints found w w' (Ok status) → status ≢ Usage
+audited_is_not_usage (Ok found) w w' status printed =
+    one_of_two _ Done Inconsistent status (done_is_not_usage Done refl) inconsistent_is_not_usage printed.0
+audited_is_not_usage (Err cause) w w' status printed = not_a_fault status _ printed.0
+
+pub told_is_not_usage : (c : Command) (r r' w w' : Option (List ℕ)) (status : Status)
+    → Tells c r r' w w' (Ok status) → status ≢ Usage
+told_is_not_usage (commands.Init file) r r' w w' status (inl none) = not_a_fault status _ none.0.1
+told_is_not_usage (commands.Init file) r r' w w' status (inr told) = done_is_not_usage status told.0
+told_is_not_usage (commands.Load file plan) r r' w w' status told =
+    one_of_two _ Differs Done status differs_is_not_usage (done_is_not_usage Done refl) told.1
+told_is_not_usage (commands.Post file) r r' w w' status told = done_is_not_usage status told.0.0
+told_is_not_usage (commands.Drive file seed count) r r' w w' status told = done_is_not_usage status told.0
+told_is_not_usage (commands.Audit file) r r' w w' status (inl none) = not_a_fault status _ none.0.1
+told_is_not_usage (commands.Audit file) r r' w w' status (inr told) =
+    audited_is_not_usage told.0 w w' status told.1
+told_is_not_usage (commands.Statement file account) r r' w w' status told = done_is_not_usage status told
+told_is_not_usage (commands.Serve file address connections) r r' w w' status told = done_is_not_usage status told.0
+told_is_not_usage (commands.Migrate file) r r' w w' status (inl none) = not_a_fault status _ none.0.1
+told_is_not_usage (commands.Migrate file) r r' w w' status (inr told) = done_is_not_usage status told.1.0

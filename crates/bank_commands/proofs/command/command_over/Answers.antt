@@ -1,0 +1,59 @@
+-- What each command did is what was asked for.
+use Rattle.bank_commands.proofs.Told.{prints_none, states_done}
+use Rattle.bank_commands.proofs.command.command_over.Goals as goal
+
+pub returns-in-Init : goal.returns-in-Init
+returns-in-Init g c =
+    let it = c.init_over.ensures in
+    rw c.in-Init.is record {
+      does = it.inits;
+      tells = prints_none _ _ _ _ c.init_over.result.told it.inits (λ _ _ did. did.2);
+      idle = it.idle;
+    }
+
+pub returns-in-Load : goal.returns-in-Load
+returns-in-Load g c =
+    let it = c.load_over.ensures in
+    rw c.in-Load.is record { does = it.loads; tells = it.prints; idle = it.idle }
+
+pub returns-in-Post : goal.returns-in-Post
+returns-in-Post g c =
+    let it = c.post_over.ensures in
+    rw c.in-Post.is record { does = it.posts; tells = it.ends; idle = it.idle }
+
+pub returns-in-Drive : goal.returns-in-Drive
+returns-in-Drive g c =
+    let it = c.drive_over.ensures in
+    rw c.in-Drive.is record { does = it.drives; tells = it.prints; idle = it.idle }
+
+pub returns-in-Audit : goal.returns-in-Audit
+returns-in-Audit g c =
+    let it = c.audit_over.ensures in
+    rw c.in-Audit.is record {
+      does = it.audits;
+      tells = prints_none _ _ _ _ c.audit_over.result.told it.audits (λ _ _ did. (did.1.0, did.1.1));
+      idle = it.idle;
+    }
+
+pub returns-in-Statement : goal.returns-in-Statement
+returns-in-Statement g c =
+    let it = c.statement_over.ensures in
+    rw c.in-Statement.is record {
+      does = it.states;
+      tells = states_done _ _ _ _ _ _ c.statement_over.result.told it.states;
+      idle = it.idle;
+    }
+
+pub returns-in-Serve : goal.returns-in-Serve
+returns-in-Serve g c =
+    let it = c.serve_over.ensures in
+    rw c.in-Serve.is record { does = it.serves; tells = it.prints; idle = it.idle }
+
+pub returns-in-Migrate : goal.returns-in-Migrate
+returns-in-Migrate g c =
+    let it = c.migrate_over.ensures in
+    rw c.in-Migrate.is record {
+      does = it.migrates;
+      tells = prints_none _ _ _ _ c.migrate_over.result.told it.migrates (λ _ _ did. (did.0, did.3));
+      idle = it.idle;
+    }

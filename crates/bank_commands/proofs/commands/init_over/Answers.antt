@@ -1,0 +1,41 @@
+-- What `create` says, and what was printed after it.
+use Rattle.std.proofs.Common.{inl, inr, refl}
+use Rattle.bank_commands.proofs.Told.{line_told, refused_over}
+use Rattle.bank_commands.proofs.commands.init_over.Goals as goal
+
+pub returns-in-Err : goal.returns-in-Err
+returns-in-Err g c =
+    let it = c.in-Err.ensures in
+    record {
+      inits = inl (
+        refused_over _ c.in-Err.refused c.refuse.result.conn c.refuse.result.told c.refuse.ensures.told
+            c.refuse.ensures.conn record {
+              fault = it.fault;
+              taken = it.refused;
+              cause = it.cause;
+              empty = it.empty;
+              back = it.back;
+              survives = it.survives;
+            },
+        refl,
+      );
+      idle = rw c.refuse.ensures.conn it.back.idle;
+    }
+
+pub returns : goal.returns
+returns g c =
+    let it = c.in-Ok.ensures in
+    let line = c.print_created.ensures in
+    record {
+      inits = inr record {
+        first = c.in-Ok.bank;
+        last = c.in-Ok.bank;
+        did = (
+          record { made = it.made; survives = it.survives },
+          refl,
+          rw c.done-told.ensures (line_told _ _ _ c.print_created.result line.prints.line line.prints.part line.fault),
+        );
+        conn = c.release.ensures.same;
+      };
+      idle = c.release.ensures.idle;
+    }

@@ -1,0 +1,31 @@
+-- The bank that was found is the one that was audited.
+use Rattle.std.proofs.Common.{inl, inr, refl}
+use Rattle.bank_commands.proofs.reports.audit_over.Goals as goal
+
+pub returns-in-Err : goal.returns-in-Err
+returns-in-Err g c =
+    let it = c.in-Err.ensures in
+    record {
+      audits = inl (it.missed, refl);
+      idle = it.idle;
+    }
+
+pub returns : goal.returns
+returns g c =
+    let it = c.audit.ensures in
+    record {
+      audits = inr record {
+        first = c.in-Ok.bank;
+        last = c.audit.new.bank;
+        did = (
+          c.in-Ok.ensures.found,
+          (
+            c.audit.result,
+            c.print_audit-told.ensures.prints,
+            record { bank = it.bank; file = it.file; memory = it.memory; up = it.up; stands = it.stands },
+          ),
+        );
+        conn = c.release.ensures.same;
+      };
+      idle = c.release.ensures.idle;
+    }

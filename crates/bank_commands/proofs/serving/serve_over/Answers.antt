@@ -1,0 +1,29 @@
+-- The bank that was found is the one that connections were served by.
+use Rattle.std.proofs.Common.{inl, inr, refl}
+use Rattle.std.proofs.KnownBytes.{Keeps-refl}
+use Rattle.std.proofs.lemmas.Result.{err_from_is_err_and}
+use Rattle.bank_commands.proofs.Told.{prints_serve}
+use Rattle.bank_commands.proofs.serving.serve_over.Goals as goal
+
+pub returns-in-Err : goal.returns-in-Err
+returns-in-Err g c =
+    let it = c.in-Err.ensures in
+    record {
+      serves = inl (it.missed, (refl, refl));
+      prints = rw (err_from_is_err_and c.in-Err.ended.told it.missed).1 (λ _. inl (Keeps-refl _));
+      idle = it.idle;
+    }
+
+pub returns : goal.returns
+returns g c =
+    let it = c.listen.ensures in
+    record {
+      serves = inr record {
+        first = c.in-Ok.bank;
+        last = c.listen.new.bank;
+        did = (c.in-Ok.ensures.found, rw c.done-told.ensures it.serves);
+        conn = c.release.ensures.same;
+      };
+      prints = rw c.done-told.ensures (prints_serve _ _ c.listen.result it.line it.silent);
+      idle = c.release.ensures.idle;
+    }

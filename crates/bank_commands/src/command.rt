@@ -1,0 +1,65 @@
+//! A command over a connection, by its words.
+ghost use Rattle.std.specs.Prelude.{◌≡◌, false};
+ghost use Rattle.command_line.specs.Words.{AreInRange};
+ghost use Rattle.bank_commands.specs.Running.{DoesOver, Tells};
+
+use crate::ended::Ended;
+use crate::{
+    audit_over, drive_over, init_over, load_over, migrate_over, post_over, serve_over,
+    statement_over,
+};
+use command_line::Command;
+use posting_core::Clock;
+use sqlite::{Alter, Connection};
+use sqlite_trees::store::Store;
+use std::io::{Read, Write};
+
+/// Does the command with the bank of a connection, whatever the command's file is, and hands the connection back.
+pub fn command_over<S: Alter + Drop, R: Read, W: Write, K: Clock>(
+    rt: &HostRuntime,
+    conn: Connection<S>,
+    command: &Command<'_>,
+    input: &mut R,
+    output: &mut W,
+    clock: &mut K,
+) -> Ended<S>
+    requires mode { conn.in_transaction ≡ false }
+    requires range { AreInRange command.now }
+    ensures does { DoesOver S.Store conn result.conn (R.remaining input.old) (R.remaining input.new)
+        (W.contents output.old) (W.contents output.new) (K.readings clock.old) (K.readings clock.new)
+        command.now result.told }
+    ensures tells { Tells command.now (R.remaining input.old) (R.remaining input.new)
+        (W.contents output.old) (W.contents output.new) result.told }
+    ensures idle { result.conn.in_transaction ≡ false }
+{
+    match *command {
+        Command::Init { .. } => init_over(rt.alloc(), conn, output),
+        Command::Load { plan, .. } => load_over(rt, conn, plan, output),
+        Command::Post { .. } => post_over(rt.alloc(), conn, input, output, clock),
+        Command::Drive { seed, count, .. } => {
+            drive_over(rt.alloc(), conn, seed, count, output, clock)
+        }
+        Command::Audit { .. } => audit_over(rt.alloc(), conn, output),
+        Command::Statement { account, .. } => statement_over(rt.alloc(), conn, account, output),
+        Command::Serve {
+            address,
+            connections,
+            ..
+        } => serve_over(rt, conn, address, connections, output, clock),
+        Command::Migrate { .. } => migrate_over(rt.alloc(), conn, output),
+    }
+}
+
+/// The file of a command, and whether the command finds a bank there, rather than making one.
+pub(crate) fn file_of<'a>(command: &Command<'a>) -> (&'a str, bool) {
+    match *command {
+        Command::Init { file } => (file, false),
+        Command::Load { file, .. }
+        | Command::Post { file }
+        | Command::Drive { file, .. }
+        | Command::Audit { file }
+        | Command::Statement { file, .. }
+        | Command::Serve { file, .. }
+        | Command::Migrate { file } => (file, true),
+    }
+}

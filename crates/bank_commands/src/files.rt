@@ -1,0 +1,66 @@
+//! A command over the files of a bank: they are looked for and opened, and closed after it. **This file is to be
+//! read**: no clause ties a connection to the path that it was opened at, and a closed file is nothing that a clause
+//! can name, so that the contract says only how a command ends and what it prints. All that is done with the bank is
+//! done by [`command_over`], which is given the connection and hands it back.
+ghost use Rattle.command_line.specs.Words.{AreInRange};
+ghost use Rattle.bank_commands.specs.Running.{Tells};
+
+use crate::command::{command_over, file_of};
+use crate::ended::Ended;
+use bank_files::open;
+use command_line::{Command, CommandFault, Status};
+use posting_core::Clock;
+use sqlite::Start;
+use std::fs;
+use std::io::{Read, Write};
+
+/// Does the command with the bank of its file, which is looked for where the command is to find one there.
+pub(crate) fn command_in<S: Start, R: Read, W: Write, K: Clock>(
+    rt: &HostRuntime,
+    start: S,
+    command: &Command<'_>,
+    input: &mut R,
+    output: &mut W,
+    clock: &mut K,
+) -> Result<Status, CommandFault>
+    requires { AreInRange command.now }
+    ensures { Tells command.now (R.remaining input.old) (R.remaining input.new) (W.contents output.old)
+        (W.contents output.new) result }
+{
+    let (file, finds_bank) = file_of(command);
+    if finds_bank {
+        look_for(rt, file)?;
+    }
+    let Ok(conn) = open(rt, file, start) else {
+        return Err(CommandFault::Store);
+    };
+    let Ended { told, conn } = command_over(rt, conn, command, input, output, clock);
+    // What was committed is kept even if this fails, so that no fault is reported.
+    if let Err((_, store)) = conn.close_files() {
+        drop(store.close());
+    }
+    told
+}
+
+// Looks whether a bank can be in the file: it holds more than a byte, or there is a log beside it that holds
+// something. An open would make a database of any other.
+fn look_for(rt: &HostRuntime, file: &str) -> Result<(), CommandFault> {
+    if length_of(rt, file)? > 1 {
+        return Ok(());
+    }
+    let Ok(log) = format!(in rt.alloc(); "{file}-wal") else {
+        return Err(CommandFault::Memory);
+    };
+    if length_of(rt, log.as_str())? > 0 {
+        return Ok(());
+    }
+    Err(CommandFault::NoBank)
+}
+
+// The length of a file that is there.
+fn length_of(rt: &HostRuntime, path: &str) -> Result<u64, CommandFault> {
+    match fs::metadata(rt, path) {
+        Ok(found) => Ok(found.len()),
+        Err(error) => Err(CommandFault::of_look(&error)),
+    }
+}

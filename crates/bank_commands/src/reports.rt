@@ -1,0 +1,70 @@
+//! The commands that audit a bank, and that write the statement of an account.
+ghost use Rattle.std.specs.Prelude.{◌≡◌, false};
+ghost use Rattle.bank_commands.specs.Commands.{AuditsOver, StatesOver, stated_by};
+
+use crate::ended::{Ended, find};
+use bank_reports::{ReportFault, audit, write_statement};
+use command_line::{CommandFault, Status, print_audit};
+use message_records::Account;
+use posting_core::Sink;
+use sqlite::{Alter, Connection};
+use sqlite_trees::store::Store;
+use std::alloc::Global;
+use std::io::Write;
+
+/// Audits the bank that is found, and prints what was found in it.
+pub fn audit_over<S: Alter + Drop, W: Write>(
+    alloc: Global,
+    conn: Connection<S>,
+    output: &mut W,
+) -> Ended<S>
+    requires { conn.in_transaction ≡ false }
+    ensures audits { AuditsOver S.Store conn result.conn (W.contents output.old) (W.contents output.new)
+        result.told }
+    ensures idle { result.conn.in_transaction ≡ false }
+{
+    let mut bank = match find(alloc, conn) {
+        Ok(bank) => bank,
+        Err(ended) => return ended,
+    };
+    let told = print_audit(audit(&mut bank), output);
+    Ended {
+        told,
+        conn: bank.release(),
+    }
+}
+
+/// Writes the statement of an account of the bank that is found.
+pub fn statement_over<S: Alter + Drop, W: Sink>(
+    alloc: Global,
+    conn: Connection<S>,
+    account: Account,
+    output: &mut W,
+) -> Ended<S>
+    requires { conn.in_transaction ≡ false }
+    ensures states { StatesOver S.Store conn result.conn account (W.contents output.old)
+        (W.contents output.new) (W.told output.old) (W.told output.new) result.told }
+    ensures idle { result.conn.in_transaction ≡ false }
+{
+    let mut bank = match find(alloc, conn) {
+        Ok(bank) => bank,
+        Err(ended) => return ended,
+    };
+    let told = stated(account, write_statement(&mut bank, account, output));
+    Ended {
+        told,
+        conn: bank.release(),
+    }
+}
+
+// How the program ends after a statement.
+fn stated(account: Account, told: Result<(), ReportFault>) -> Result<Status, CommandFault>
+    ensures { result ≡ stated_by account told }
+{
+    match told {
+        Ok(()) => Ok(Status::Done),
+        Err(ReportFault::NoAccount) => Err(CommandFault::NoAccount(account)),
+        Err(ReportFault::Write) => Err(CommandFault::Write),
+        Err(ReportFault::Bank(fault)) => Err(CommandFault::from(fault)),
+    }
+}

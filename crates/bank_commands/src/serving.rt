@@ -1,0 +1,38 @@
+//! The command that serves the counter over HTTP.
+ghost use Rattle.std.specs.Prelude.{◌≡◌, false};
+ghost use Rattle.bank_commands.specs.Commands.{PrintsServe, Serves};
+
+use crate::commands::done;
+use crate::ended::{Ended, find};
+use command_line::listen;
+use posting_core::Clock;
+use sqlite::{Alter, Connection};
+use sqlite_trees::store::Store;
+use std::io::Write;
+
+/// Binds the address, prints where it listens, and serves so many connections by the bank that is found, one after
+/// another.
+pub fn serve_over<S: Alter + Drop, W: Write, K: Clock>(
+    rt: &HostRuntime,
+    conn: Connection<S>,
+    address: &str,
+    connections: u64,
+    output: &mut W,
+    clock: &mut K,
+) -> Ended<S>
+    requires { conn.in_transaction ≡ false }
+    ensures serves { Serves S.Store conn result.conn (W.contents output.old) (W.contents output.new)
+        (K.readings clock.old) (K.readings clock.new) connections result.told }
+    ensures prints { PrintsServe (W.contents output.old) (W.contents output.new) result.told }
+    ensures idle { result.conn.in_transaction ≡ false }
+{
+    let mut bank = match find(rt.alloc(), conn) {
+        Ok(bank) => bank,
+        Err(ended) => return ended,
+    };
+    let told = done(listen(rt, address, connections, &mut bank, output, clock));
+    Ended {
+        told,
+        conn: bank.release(),
+    }
+}
