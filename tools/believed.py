@@ -1,0 +1,291 @@
+#!/usr/bin/env python3
+"""Lists the definitions that a reader has to believe, for each of README's claims.
+
+    tools/believed.py              prints docs/BELIEVE.md
+    tools/believed.py --check      ends with status 1 unless docs/BELIEVE.md is what it prints
+    tools/believed.py CRATE NAME [CLAUSE..]      the list of one function's contract
+
+From the names of a function's clauses it walks through `specs/` until only names of the kit are left. A definition counts
+with its comment; a file is named with the first line of its head.
+"""
+import re
+import sys
+from pathlib import Path
+
+TOP = Path(__file__).resolve().parent.parent
+CRATES = TOP / "crates"
+PAGE = TOP / "docs" / "BELIEVE.md"
+
+# The promise, what a user of the library calls, and all that README claims: crate, function and clauses (none: all).
+PROMISE = [("bank_lives", "reopen", ["found", "kept"])]
+CALLS = PROMISE + [
+    ("bank_lives", "lives_law", []),
+    ("bank_store", "submit", []),
+    ("bank_store", "submit_all", []),
+    ("bank_store", "open_branch", []),
+]
+CLAIMS = CALLS + [
+    ("bank_lives", "sender_law", []),
+    ("posting_rules", "each_request_once", []),
+    ("posting_rules", "cases_are_as_stated", []),
+    ("posting_core", "post_stream", ["survives", "resend"]),
+    ("posting_rules", "tables_are_consistent", []),
+    ("posting_rules", "accounts_stay_above", []),
+    ("bank_store", "balance", []),
+    ("bank_store", "next_branch", []),
+    ("bank_reports", "audit", ["file"]),
+    ("bank_commands", "command_over", []),
+    ("bank_commands", "run", []),
+]
+
+WORD = re.compile(r"[^\W\d][\w'?!]*(?:\.[\w'?!]+)*|[◌∥⟦]\S*", re.UNICODE)
+HEAD = re.compile(r"^(\s*)(?:(?:abbrev|unfoldable|record|data|pub|instance|opaque)\s+)+([^\s:({]+)")
+USE = re.compile(r"(?:ghost )?(?:pub )?use\s+([\w.]+?)(?:\.\{([^}]*)\}|\s+as\s+(\w+))?\s*(?:;|$)", re.MULTILINE)
+
+
+def without_comments(text, mark):
+    return "\n".join(line.split(mark)[0] if mark in line else line for line in text.splitlines())
+
+
+class Names:
+    """What a file's names stand for, by its imports: the module and the name there, or a module alone."""
+
+    def __init__(self, text):
+        self.own, self.modules = {}, {}
+        for path, names, alias in USE.findall(text):
+            if alias:
+                self.modules[alias] = path
+            for name in filter(None, (it.strip() for it in names.split(","))):
+                there, _, here = name.partition(" as ")
+                self.own[(here or there).strip()] = (path, there.strip())
+
+    def of(self, word):
+        """The places that a word may name."""
+        head, *rest = word.split(".")
+        if word in self.own:
+            return [self.own[word]]
+        if head in self.modules and rest:
+            return [(self.modules[head], rest[0])]
+        return [self.own[head]] if head in self.own else []
+
+
+class Definition:
+    def __init__(self, module, name, start):
+        self.module, self.name, self.start, self.lines, self.words = module, name, start, 0, set()
+
+
+class Module:
+    """A file of specs/: its definitions by name, each with its lines and the words that it uses."""
+
+    def __init__(self, path):
+        self.path, text = path, path.read_text()
+        self.names, self.definitions, self.place = Names(text), {}, {}
+        self.about = next((l[3:] for l in text.splitlines() if l.startswith("-- ")), "")
+        outer, current, comment, blank = "", None, 0, 0
+        for number, line in enumerate(text.splitlines()):
+            bare = line.split("--")[0].rstrip()
+            if not bare:
+                comment = comment + 1 if line.strip() else 0
+                continue
+            if re.match(r"(pub )?use ", bare) or bare.startswith("module "):
+                outer, current, comment = (bare if bare.startswith("module ") else outer), None, 0
+                continue
+            indent = len(bare) - len(bare.lstrip())
+            found = HEAD.match(bare)
+            deep = 2 if outer else 0
+            if found and (indent == 0 or indent == deep) and not (current and current.holds and indent > current.indent):
+                name = found.group(2)
+                current = self.definitions.setdefault(name, Definition(self, name, number))
+                current.holds, current.indent = bare.endswith("where"), indent
+                current.is_data = bare.lstrip().removeprefix("pub ").startswith("data ")
+                current.lines += comment
+                current.words |= set(WORD.findall(outer))
+            elif current is None:
+                continue
+            elif indent <= current.indent and not bare.lstrip().startswith((current.name + " ", current.name + "(", "(", "{", "}")):
+                name = bare.split()[0]
+                current = self.definitions.get(name, current)
+            current.lines += 1
+            current.words |= set(WORD.findall(bare))
+            if current.holds:
+                inner = re.match(r"\s+(?:pub )?([A-Z]\w*)\s*:", bare)  # a constructor
+                if inner and current.is_data:
+                    self.place[inner.group(1)] = current.name
+            comment = 0
+
+
+MODULES, RUST = {}, {}
+OURS = {it.name for it in CRATES.iterdir() if (it / "src").is_dir()}
+
+
+def module_at(path):
+    parts = path.split(".")
+    if len(parts) < 4 or parts[0] != "Rattle" or parts[1] not in OURS or parts[2] != "specs" or parts[3] == "declared":
+        return None
+    file = CRATES / parts[1] / "specs" / ("/".join(parts[3:]) + ".antt")
+    if path not in MODULES:
+        MODULES[path] = Module(file) if file.exists() else None
+    return MODULES[path]
+
+
+def is_ours(path):
+    parts = path.split(".")
+    return len(parts) > 1 and parts[1] in OURS
+
+
+def clauses_of(crate, function, wanted):
+    """The text of the clauses of a function, and the names of its file."""
+    for file in sorted((CRATES / crate / "src").rglob("*.rt")):
+        text = without_comments(file.read_text(), "//")
+        for found in re.finditer(rf"^( *)(?:pub )?(?:const )?fn {function}\b.*?(?=^\1\{{|^\1}}|;$)", text, re.MULTILINE | re.DOTALL):
+            head = found.group(0)
+            if found.group(1) and not re.search(r"ensures", head):
+                continue
+            parts = re.split(r"\b(ensures|requires)\b", head)[1:]
+            said = [(kind, body) for kind, body in zip(parts[::2], parts[1::2])]
+            chosen = [b for k, b in said if not wanted or k == "requires" or b.split("{")[0].strip() in wanted]
+            if any(k == "ensures" for k, _ in said):
+                impl = text[: found.start()].rfind("\nimpl")
+                return "\n".join(b[b.find("{") :] for b in chosen), Names(text), file
+    sys.exit(f"no contract of {function} in {crate}")
+
+
+def closure(contracts):
+    """The definitions that these contracts need, the names of Rust types and constants, and those of the kit."""
+    todo, seen, rust, kit = [], {}, set(), set()
+
+    def take(words, names, home):
+        for word in words:
+            places = names.of(word)
+            head = word.split(".")[0]
+            if not places and home:
+                if head in home.definitions:
+                    places = [(None, head)]
+                elif head in home.place:
+                    places = [(None, home.place[head])]
+            for path, name in places:
+                where = home if path is None else module_at(path)
+                if where is None:
+                    if ".specs.declared." in path and is_ours(path):
+                        rust.add((path.split(".")[1], path.split(".specs.declared.")[1].split(".TheVariants")[0]
+                                  + ("." + name if "TheVariants" not in path and not path.endswith("." + name) else "")))
+                    elif not is_ours(path):
+                        kit.add((path, name))
+                    continue
+                found = where.definitions.get(name) or where.definitions.get(where.place.get(name, ""))
+                if found is None:
+                    again = where.names.of(name)  # a name that the file gives again
+                    if again:
+                        take([name], where.names, None)
+                    continue
+                if id(found) not in seen:
+                    seen[id(found)] = found
+                    todo.append(found)
+
+    for crate, function, wanted in contracts:
+        text, names, _ = clauses_of(crate, function, wanted)
+        take(WORD.findall(text), names, None)
+    while todo:
+        it = todo.pop()
+        take(it.words, it.module.names, it.module)
+    return list(seen.values()), rust, kit
+
+
+def order_of_crates():
+    lines = (TOP / "crates.txt").read_text().splitlines()
+    return [it.split(":")[0].split()[0] for it in lines if it and not it.startswith("#")]
+
+
+def counts(contracts):
+    found, rust, kit = closure(contracts)
+    files = {it.module.path for it in found}
+    return found, rust, kit, (
+        f"{len(found)} definitions, {sum(it.lines for it in found):,} lines in {len(files)} files of "
+        f"{len({it.relative_to(CRATES).parts[0] for it in files})} crates"
+    )
+
+
+def depth_of(path, below=()):
+    """How many files of its own crate a file of specs/ stands on, one on another."""
+    names = next(it.names for it in MODULES.values() if it and it.path == path)
+    paths = {it for it, _ in names.own.values()} | set(names.modules.values())
+    under = {it.path for it in map(module_at, paths) if it and it.path.parts[:-1] == path.parts[:-1]} - {path, *below}
+    return 1 + max((depth_of(it, (*below, path)) for it in under), default=0)
+
+
+def listed(found):
+    """The files in reading order, each with its definitions."""
+    by_file = {}
+    for it in found:
+        by_file.setdefault(it.module.path, []).append(it)
+    out, order = [], order_of_crates()
+    for path in sorted(by_file, key=lambda it: (order.index(it.relative_to(CRATES).parts[0]), depth_of(it), it.name)):
+        its = sorted(by_file[path], key=lambda it: it.start)
+        whole = sum(it.lines for it in its)
+        crate, name = path.relative_to(CRATES).parts[0], "/".join(path.relative_to(CRATES).parts[2:])[:-5]
+        out.append((crate, name, path, whole, its))
+    return out
+
+
+def page():
+    promise, rust, kit, said = counts(PROMISE)
+    calls, _, _, said_calls = counts(CALLS)
+    claims, _, _, said_claims = counts(CLAIMS)
+    own = {id(it) for it in promise}
+    more = {id(it) for it in calls} - own
+    text = [
+        "# What must be believed",
+        "",
+        "A proof shows that the code keeps its contracts. That a contract says what it should is for a reader to see. This page is",
+        "what `tools/believed.py` prints, and `.ci/run` fails where it isn't: for each contract below, all definitions of `specs/`",
+        "that its clauses need, down to the kit's own names.",
+        "",
+        "| For | Definitions |",
+        "|---|---|",
+        f"| README's promise: `reopen` (`found`, `kept`) | {said}; {len(rust)} Rust types and constants, {len(kit)} names of the kit |",
+        f"| with `lives_law`, `submit`, `submit_all`, `open_branch` | {said_calls} |",
+        f"| all ten claims of README | {said_claims} |",
+        "",
+        "In reading order. The lines count each definition with its comment.",
+        "",
+        "## For the promise",
+        "",
+        *table(promise),
+        "## For the calls of a counter, too",
+        "",
+        *table([it for it in calls if id(it) in more]),
+        "## For the other claims, too",
+        "",
+        *table([it for it in claims if id(it) not in own | more]),
+    ]
+    return "\n".join(text)
+
+
+def table(found):
+    rows, crate_before = [], None
+    for crate, name, path, lines, its in listed(found):
+        if crate != crate_before:
+            rows += ["", f"**`{crate}`**", ""] if crate_before else [f"**`{crate}`**", ""]
+            crate_before = crate
+        about = its[0].module.about.rstrip(".,:;")
+        names = ", ".join(f"`{it.name}`" for it in its)
+        rows.append(f"- `specs/{name}`, {lines} lines ({about}): {names}")
+    return rows + [""]
+
+
+def main():
+    if sys.argv[1:] == ["--check"]:
+        if not PAGE.exists() or PAGE.read_text() != page():
+            sys.exit("docs/BELIEVE.md isn't what tools/believed.py prints")
+        print("docs/BELIEVE.md: as tools/believed.py prints it")
+    elif len(sys.argv) > 2:
+        found, rust, kit, said = counts([(sys.argv[1], sys.argv[2], sys.argv[3:])])
+        print("\n".join(table(found)), said, sep="\n")
+        print(len(rust), "Rust:", sorted(rust))
+        print(len(kit), "kit")
+    else:
+        print(page(), end="")
+
+
+if __name__ == "__main__":
+    main()
