@@ -34,7 +34,7 @@ ACCOUNTS = [1, 2, 3, 100001]
 # The least that account 3,000,001 may have is its floor; branch 31 has the tellers 301 to 310.
 PLAN = "branch,accounts,floor\n1,3,\n2,2,\n31,1,-500\n"
 # No wait in a page takes longer than this, and no run, in seconds.
-WAIT, LONGEST = 60, 1800
+WAIT, LONGEST = 120, 1800
 
 # What the page keeps of its postings, the oldest first.
 KEPT = """new Promise((yes, no) => { const ask = indexedDB.open('counter'); ask.onerror = no; ask.onsuccess = () => {
@@ -385,7 +385,12 @@ def killed(place, page, count, kills):
                 done += 1
                 continue
         reference, account, cents = entered[done]
-        for what in [it for it in after[done] if it != "browser"]:
+        stops = [it for it in after[done] if it != "browser"]
+        if stops:
+            # What was killed before has to be up again, and the page has to have caught up.
+            killer.wanted.join()
+            page.until("a few that wait", f"{KEPT}.then(all => all.filter(it => !it.answer).length < 5)")
+        for what in stops:
             killer.wanted.put((what, draw.uniform(0, 0.1)))
         dies = "browser" in after[done]
         after[done] = []
