@@ -16,3 +16,6 @@ pub mod Settled
 pub mod TakenUp
 pub mod Unmade
 pub mod WalkSteps
+pub mod ReadsLeave
+pub mod RoomForWalks
+pub mod StepsKeep

@@ -12,3 +12,5 @@ pub mod Seen
 pub mod NoneOrAll
 pub mod Walking
 pub mod Walks
+pub mod Leaving
+pub mod Room

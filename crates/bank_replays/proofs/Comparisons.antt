@@ -1,0 +1,90 @@
+-- Comparisons, one after another.
+use Rattle.std.proofs.Common.{◌≡◌, List, [], ◌∷◌, Option, Some, None, Ok, Err, Result, refl, sym, ap, subst, ◌∙◌}
+use Rattle.std.specs.Prelude.{IsSome}
+use Rattle.sqlite.specs.Effect.{Database}
+use Rattle.sqlite_trees.specs.declared.store.Store.{Ghosts}
+use Rattle.posting_rules.specs.declared.fault.Fault.{Fault}
+use Rattle.posting_rules.specs.declared.fault.Fault.TheVariants.{Down, Memory}
+use Rattle.posting_rules.specs.declared.fault.Rule.{Rule}
+use Rattle.bank_store.specs.Walking.{Steps}
+use Rattle.bank_store.specs.Seen.{database_of}
+use Rattle.bank_store.specs.declared.bank.Bank.{Bank}
+use Rattle.bank_replays.specs.Comparing.{Both, Compares}
+use Rattle.bank_replays.specs.declared.difference.Difference.{Difference}
+use Rattle.bank_replays.proofs.Read.{clean_before, read_then}
+
+module _ {S T : Type 0} {g : Ghosts S} {h : Ghosts T} {One Other : Database → Database → Type 0} where
+  -- a fault, or a difference, in the first ends it
+  pub compared_first : {old new : Bank S g} {due due' : Bank T h} {r : Result (Option Difference) Fault}
+      → Compares g h old new due due' One r → (r ≡ Ok None → ⊥) → Compares g h old new due due' Other r
+  compared_first it ended = record {
+    bank = it.bank;
+    due = it.due;
+    same = λ clean clean_due is. absurd (ended is);
+    tried = it.tried;
+  }
+
+  -- no difference in the first
+  pub compared_both : {old mid new : Bank S g} {due due' due'' : Bank T h} {r : Result (Option Difference) Fault}
+      → Compares g h old mid due due' One (Ok None) → Compares g h mid new due' due'' Other r
+      → Compares g h old new due due'' (Both One Other) r
+  compared_both {old} {mid} {new} {due} {due'} {due''} {r} one two = record {
+    bank = read_then one.bank two.bank;
+    due = read_then one.due two.due;
+    same = λ clean clean_due is.
+        let before = clean_before two.bank clean in
+        let before_due = clean_before two.due clean_due in (
+          one.same before before_due refl,
+          subst (λ (d : Database). Other d (database_of h due)) (one.bank.still before).0
+              (subst (λ (d : Database). Other (database_of g mid) d) (one.due.still before_due).0
+              (two.same clean clean_due is)),
+        );
+    tried = λ is. subst (λ fault. IsSome fault) one.bank.up (two.tried is);
+  }
+
+  -- what is the same in one way is so in another
+  pub compared_as : {old new : Bank S g} {due due' : Bank T h} {r : Result (Option Difference) Fault}
+      → ((db other : Database) → One db other → Other db other) → Compares g h old new due due' One r
+      → Compares g h old new due due' Other r
+  compared_as then it = record {
+    bank = it.bank;
+    due = it.due;
+    same = λ clean clean_due is. then _ _ (it.same clean clean_due is);
+    tried = it.tried;
+  }
+
+-- ---- a step of two walks
+
+module _ {R X : Type 0} (item : R → X) (Breaks : Rule → X → Type 0) (old new old' new' : List X)
+    (stands due : Option R) (one : Steps item Breaks old new (Ok stands))
+    (two : Steps item Breaks old' new' (Ok due)) where
+  -- both gave the same row
+  pub same_step : (a b : R) → stands ≡ Some a → due ≡ Some b → item a ≡ item b → new ≡ new' → old ≡ old'
+  same_step a b is is' same rest =
+      let first : old ≡ item a ∷ new = subst (λ o. Steps item Breaks old new (Ok o)) is one in
+      let second : old' ≡ item b ∷ new' = subst (λ o. Steps item Breaks old' new' (Ok o)) is' two in
+      first ∙ ap (λ x. x ∷ new) same ∙ ap (λ l. item b ∷ l) rest ∙ sym second
+
+  -- both have ended
+  pub same_end : stands ≡ None → due ≡ None → old ≡ old'
+  same_end is is' =
+      let first : (old ≡ []) × (new ≡ []) = subst (λ o. Steps item Breaks old new (Ok o)) is one in
+      let second : (old' ≡ []) × (new' ≡ []) = subst (λ o. Steps item Breaks old' new' (Ok o)) is' two in
+      first.0 ∙ sym second.0
+
+-- ---- answers
+
+pub not_none : {X E : Type 0} (r : Result (Option X) E) (e : E) → r ≡ Err e → r ≡ Ok None → ⊥
+not_none r e is none = cc
+
+pub some_not_none : {X E : Type 0} (x : X) (r : Result (Option X) E) → r ≡ Ok (Some x) → r ≡ Ok None → ⊥
+some_not_none x r is none = cc
+
+pub ok_not_err : {X E : Type 0} (x : X) (r : Result X E) (e : E) → r ≡ Ok x → r ≡ Err e → ⊥
+ok_not_err x r e is error = cc
+
+pub memory_not_down : {X : Type 0} (r : Result X Fault) → r ≡ Err Memory → r ≡ Err Down → ⊥
+memory_not_down r is down = cc
+
+pub error_is : {X : Type 0} {r : Result X Fault} (e f : Fault) → r ≡ Err e → r ≡ Err f → e ≡ f
+error_is e f is other = cc

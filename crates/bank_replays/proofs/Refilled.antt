@@ -1,0 +1,17 @@
+-- A bank that is given commands shows a log after them, if it did before.
+use Rattle.std.proofs.Common.{List}
+use Rattle.posting_rules.specs.Commands.{Command}
+use Rattle.posting_rules.specs.Counter.{Seen, ShowsLog, StandsAt, Takes}
+use Rattle.posting_rules.specs.Runs.{behind}
+
+abbrev pub SeenSome : Seen → Type 0
+SeenSome seen = seen.honest → (log : List Command) × ShowsLog seen log
+
+pub shows_more : (old new : Seen) (commands : List Command) → Takes old new commands
+    → (new.honest → old.honest) → SeenSome old → SeenSome new
+shows_more old new commands takes before some honest =
+    let it = some (before honest) in
+    (behind it.0 commands, takes.shows honest it.0 it.1)
+
+pub shows_at_first : (seen : Seen) (log : List Command) → (seen.honest → StandsAt seen log) → SeenSome seen
+shows_at_first seen log stands honest = (log, (stands honest).shows)

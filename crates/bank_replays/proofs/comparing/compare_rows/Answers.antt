@@ -1,0 +1,123 @@
+-- Two rows more, and what ends the two walks.
+use Rattle.std.proofs.Common.{◌≡◌, Err, refl, sym, ap, subst, ◌∙◌}
+use Rattle.std.proofs.lemmas.Result.{err_from_is_err_and}
+use Rattle.posting_rules.specs.declared.fault.Fault.TheVariants.{Memory}
+use Rattle.bank_replays.proofs.Comparisons.{error_is, memory_not_down, not_none, ok_not_err, same_end, same_step}
+use Rattle.bank_replays.proofs.Comparisons.{some_not_none}
+use Rattle.bank_replays.proofs.Read.{clean_before, none_read, read_any, read_fails, read_then, step_reads}
+use Rattle.bank_replays.proofs.comparing.compare_rows.Goals as goal
+
+pub rows-init : goal.rows-init
+rows-init g c = record {
+  reference = refl;
+  reference_due = refl;
+  bank = none_read _ _;
+  due = none_read _ _;
+  fresh = c.requires.fresh;
+  same = λ clean clean_due all others has has_due is. is;
+}
+
+-- the first walk failed
+pub returns-in_err-stands : goal.returns-in_err-stands
+returns-in_err-stands g c =
+    let it = c.rows.invariant in
+    let fault = c.in_err-stands.field-0.0 in
+    let p = err_from_is_err_and c.from_residual.result c.from_residual.ensures.1 in
+    let same : c.from_residual.result ≡ Err fault = p.1 ∙ ap Err p.2 in
+    record {
+      same_reference = c.next.ensures.bank.same_reference ∙ it.reference;
+      same_reference_due = it.reference_due;
+      bank = rw same (read_fails fault (read_then it.bank (step_reads c.next.ensures.bank)));
+      due = read_any it.due _;
+      same = λ clean clean_due none. absurd (not_none _ fault same none);
+      tried = λ is.
+          it.fresh (c.next.ensures.stage.down.1 (c.in_err-stands.was ∙ ap Err (error_is fault _ same is))).0;
+    }
+
+-- the second walk failed
+pub returns-in_default : goal.returns-in_default
+returns-in_default g c =
+    let it = c.rows.invariant in
+    record {
+      same_reference = c.next.ensures.bank.same_reference ∙ it.reference;
+      same_reference_due = c.next-in-rows.ensures.bank.same_reference ∙ it.reference_due;
+      bank = read_any (read_then it.bank (step_reads c.in_ok-stands.ensures.bank)) _;
+      due = read_fails Memory (read_then it.due (step_reads c.next-in-rows.ensures.bank));
+      same = λ clean clean_due none. absurd (not_none _ Memory refl none);
+      tried = memory_not_down _ refl;
+    }
+
+-- both ended
+pub returns-in-Ended : goal.returns-in-Ended
+returns-in-Ended g c =
+    let it = c.rows.invariant in
+    let one = step_reads c.in_ok-stands.ensures.bank in
+    let two = step_reads c.in-Ok.ensures.bank in
+    let ended = rw c.in-Ended.is at c.compare_next.ensures in
+    record {
+      same_reference = c.next.ensures.bank.same_reference ∙ it.reference;
+      same_reference_due = c.next-in-rows.ensures.bank.same_reference ∙ it.reference_due;
+      bank = read_any (read_then it.bank one) _;
+      due = read_any (read_then it.due two) _;
+      same = λ clean clean_due none all others has has_due.
+          let before = clean_before one clean in
+          let before_due = clean_before two clean_due in
+          it.same before before_due all others has has_due
+          (same_end g.R.WalkedRow.item g.R.WalkedRow.Breaks _ _ _ _ _ _
+          (c.in_ok-stands.ensures.told clean all
+          (subst (λ db. g.R.WalkedRow.HasItems db all) (sym (it.bank.still before).0) has))
+          (c.in-Ok.ensures.told clean_due others
+          (subst (λ db. g.R.WalkedRow.HasItems db others) (sym (it.due.still before_due).0) has_due))
+          ended.0 ended.1);
+      tried = ok_not_err _ _ _ refl;
+    }
+
+-- they differ
+pub returns-in-Differs : goal.returns-in-Differs
+returns-in-Differs g c =
+    let it = c.rows.invariant in
+    record {
+      same_reference = c.next.ensures.bank.same_reference ∙ it.reference;
+      same_reference_due = c.next-in-rows.ensures.bank.same_reference ∙ it.reference_due;
+      bank = read_any (read_then it.bank (step_reads c.in_ok-stands.ensures.bank)) _;
+      due = read_any (read_then it.due (step_reads c.in-Ok.ensures.bank)) _;
+      same = λ clean clean_due none. absurd (some_not_none _ _ refl none);
+      tried = ok_not_err _ _ _ refl;
+    }
+
+-- there would be no room
+pub returns : goal.returns
+returns g c =
+    let it = c.rows.invariant in
+    record {
+      same_reference = it.reference;
+      same_reference_due = it.reference_due;
+      bank = read_any it.bank _;
+      due = read_any it.due _;
+      same = λ clean clean_due none. absurd (not_none _ Memory refl none);
+      tried = memory_not_down _ refl;
+    }
+
+pub rows-preserved : goal.rows-preserved
+rows-preserved g c =
+    let it = c.rows.invariant in
+    let one = step_reads c.in_ok-stands.ensures.bank in
+    let two = step_reads c.in-Ok.ensures.bank in
+    let set = rw c.in-Same.is at c.compare_next.ensures in
+    record {
+      reference = c.next.ensures.bank.same_reference ∙ it.reference;
+      reference_due = c.next-in-rows.ensures.bank.same_reference ∙ it.reference_due;
+      bank = read_any (read_then it.bank one) _;
+      due = read_any (read_then it.due two) _;
+      fresh = c.in_ok-stands.ensures.stage.going;
+      same = λ clean clean_due all others has has_due rest.
+          let before = clean_before one clean in
+          let before_due = clean_before two clean_due in
+          it.same before before_due all others has has_due
+          (same_step g.R.WalkedRow.item g.R.WalkedRow.Breaks _ _ _ _ _ _
+          (c.in_ok-stands.ensures.told clean all
+          (subst (λ db. g.R.WalkedRow.HasItems db all) (sym (it.bank.still before).0) has))
+          (c.in-Ok.ensures.told clean_due others
+          (subst (λ db. g.R.WalkedRow.HasItems db others) (sym (it.due.still before_due).0) has_due))
+          set.0 set.1 set.2 set.3 set.4 rest);
+    }

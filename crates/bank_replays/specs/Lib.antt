@@ -1,0 +1,9 @@
+-- What a replay of a bank in a file says.
+pub mod Reading
+pub mod FileTables
+pub mod Refilling
+pub mod Stepping
+pub mod Handing
+pub mod Comparing
+pub mod Replays
+pub mod Came

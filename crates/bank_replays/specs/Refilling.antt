@@ -1,0 +1,11 @@
+-- A second bank, of which it isn't asked what it was given.
+use Rattle.sqlite_trees.specs.declared.store.Store.{Ghosts}
+use Rattle.posting_rules.specs.Commands.{Command}
+use Rattle.posting_rules.specs.Counter.{ShowsLog}
+use Rattle.std.specs.Prelude.{List}
+use Rattle.bank_store.specs.Seen.{bank_seen}
+use Rattle.bank_store.specs.declared.bank.Bank.{Bank}
+
+-- where its disk is honest, its tables are those of a log
+abbrev pub ShowsSome : {S : Type 0} (g : Ghosts S) → Bank S g → Type 0
+ShowsSome g bank = (bank_seen g bank).honest → (log : List Command) × ShowsLog (bank_seen g bank) log

@@ -1,0 +1,115 @@
+//! The rows of two banks, side by side.
+ghost use Rattle.std.specs.Prelude.{◌≡◌, ◌≢◌, List, None, Ok, Err};
+ghost use Rattle.sqlite.specs.State.{HasCleanDisk};
+ghost use Rattle.posting_rules.specs.declared.fault.Fault.TheVariants.{Down};
+ghost use Rattle.bank_store.specs.Walking.{HasToldFault, items_to_come, lent, lent_state, loan_of};
+ghost use Rattle.bank_replays.specs.Comparing.{Both, Compares, SameRows};
+ghost use Rattle.bank_replays.specs.FileTables.{SameTables};
+ghost use Rattle.bank_replays.specs.Reading.{ReadsBank};
+
+use crate::compared::{Compared, Step, compare_next};
+use crate::difference::Difference;
+use bank_store::{Bank, Walk, each_row};
+use posting_rules::Fault;
+use sqlite::Alter;
+use walked_rows::{
+    StoredAccount, StoredBranch, StoredFloor, StoredMeta, StoredPosting, StoredReference,
+    StoredRequest, StoredTeller,
+};
+
+// Compares the rows that two walks give, up to the first difference.
+fn compare_rows<S: Alter, T: Alter, R: Compared>(
+    stood: &mut Walk<'_, S, R>,
+    due: &mut Walk<'_, T, R>,
+) -> Result<Option<Difference>, Fault>
+    requires fresh { HasToldFault stood.old → ⊥ }
+    ensures same_reference { loan_of stood.new ≡ loan_of stood.old }
+    ensures same_reference_due { loan_of due.new ≡ loan_of due.old }
+    ensures bank { ReadsBank S.Store (lent stood.old) (lent stood.new) result }
+    ensures due { ReadsBank T.Store (lent due.old) (lent due.new) result }
+    ensures same { HasCleanDisk (lent_state S.Store stood.new) → HasCleanDisk (lent_state T.Store due.new)
+        → result ≡ Ok None → (all others : List R.WalkedRow.Item)
+        → R.WalkedRow.HasItems (lent_state S.Store stood.old).now all
+        → R.WalkedRow.HasItems (lent_state T.Store due.old).now others
+        → items_to_come R.WalkedRow.key R.WalkedRow.item R.WalkedRow.is_given all stood.old
+        ≡ items_to_come R.WalkedRow.key R.WalkedRow.item R.WalkedRow.is_given others due.old }
+    ensures tried { result ≢ Err Down }
+{
+    'rows: for _ in 0..u64::MAX {
+        let stands = stood.next()?;
+        let Ok(rules) = due.next() else {
+            return Err(Fault::Memory);
+        };
+        match compare_next(stands, rules) {
+            Step::Same => {}
+            Step::Ended => return Ok(None),
+            Step::Differs(difference) => return Ok(Some(difference)),
+        }
+    }
+    // There would be no room for so many rows.
+    Err(Fault::Memory)
+}
+
+/// Compares the rows of a kind in two banks, up to the first difference.
+fn compare<S: Alter, T: Alter, R: Compared>(
+    bank: &mut Bank<S>,
+    due: &mut Bank<T>,
+) -> Result<Option<Difference>, Fault>
+    ensures { Compares S.Store T.Store bank.old bank.new due.old due.new (SameRows R.WalkedRow.HasItems)
+        result }
+{
+    let mut stood = each_row::<S, R>(bank)?;
+    let Ok(mut rules) = each_row::<T, R>(due) else {
+        return Err(Fault::Memory);
+    };
+    compare_rows(&mut stood, &mut rules)
+}
+
+// The same of two kinds, one after the other.
+fn compare_two<S: Alter, T: Alter, A: Compared, B: Compared>(
+    bank: &mut Bank<S>,
+    due: &mut Bank<T>,
+) -> Result<Option<Difference>, Fault>
+    ensures { Compares S.Store T.Store bank.old bank.new due.old due.new
+        (Both (SameRows A.WalkedRow.HasItems) (SameRows B.WalkedRow.HasItems)) result }
+{
+    match compare::<S, T, A>(bank, due) {
+        Ok(None) => compare::<S, T, B>(bank, due),
+        Ok(Some(difference)) => Ok(Some(difference)),
+        Err(fault) => Err(fault),
+    }
+}
+
+// The same of four.
+fn compare_four<S: Alter, T: Alter, A: Compared, B: Compared, C: Compared, D: Compared>(
+    bank: &mut Bank<S>,
+    due: &mut Bank<T>,
+) -> Result<Option<Difference>, Fault>
+    ensures { Compares S.Store T.Store bank.old bank.new due.old due.new
+        (Both (Both (SameRows A.WalkedRow.HasItems) (SameRows B.WalkedRow.HasItems))
+        (Both (SameRows C.WalkedRow.HasItems) (SameRows D.WalkedRow.HasItems))) result }
+{
+    match compare_two::<S, T, A, B>(bank, due) {
+        Ok(None) => compare_two::<S, T, C, D>(bank, due),
+        Ok(Some(difference)) => Ok(Some(difference)),
+        Err(fault) => Err(fault),
+    }
+}
+
+/// Compares the rows of all eight tables of two banks, up to the first difference.
+pub(crate) fn compare_all<S: Alter, T: Alter>(
+    bank: &mut Bank<S>,
+    due: &mut Bank<T>,
+) -> Result<Option<Difference>, Fault>
+    ensures { Compares S.Store T.Store bank.old bank.new due.old due.new SameTables result }
+{
+    match compare_four::<S, T, StoredMeta, StoredBranch, StoredFloor, StoredRequest>(bank, due) {
+        Ok(None) => {
+            compare_four::<S, T, StoredReference, StoredPosting, StoredAccount, StoredTeller>(
+                bank, due,
+            )
+        }
+        Ok(Some(difference)) => Ok(Some(difference)),
+        Err(fault) => Err(fault),
+    }
+}

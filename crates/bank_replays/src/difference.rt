@@ -1,0 +1,34 @@
+//! What a replay says: where the rows of two banks differ.
+use walked_rows::{
+    StoredAccount, StoredBranch, StoredFloor, StoredMeta, StoredPosting, StoredReference,
+    StoredRequest, StoredTeller,
+};
+
+/// The row that stands under a key, and the one that the rules give; none where there is no such row.
+#[derive(Clone, Copy, Debug, PartialEq, Eq)]
+pub struct Sides<R> {
+    pub stands: Option<R>,
+    pub due: Option<R>,
+}
+
+/// The first difference of a bank from what the rules give, by its table and its key.
+#[derive(Clone, Copy, Debug, PartialEq, Eq)]
+pub enum Difference {
+    Meta(Sides<StoredMeta>),
+    Branch(Sides<StoredBranch>),
+    Teller(Sides<StoredTeller>),
+    Account(Sides<StoredAccount>),
+    Posting(Sides<StoredPosting>),
+    Request(Sides<StoredRequest>),
+    Floor(Sides<StoredFloor>),
+    Reference(Sides<StoredReference>),
+}
+
+/// What a replay says of a bank.
+#[derive(Clone, Copy, Debug, PartialEq, Eq)]
+pub enum Replay {
+    /// Its tables are what the rules give.
+    Agrees,
+    /// They aren't. This is the first difference.
+    Differs(Difference),
+}

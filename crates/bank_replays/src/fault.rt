@@ -1,0 +1,34 @@
+//! Why what is written of a bank ends early.
+ghost use Rattle.std.specs.Prelude.{◌≡◌};
+ghost use Rattle.bank_replays.specs.declared.fault.ReplayFault.TheVariants.{Bank};
+
+use posting_rules::Fault;
+use std::fmt;
+
+/// Why not all was written of a bank.
+#[derive(Clone, Copy, Debug, PartialEq, Eq)]
+pub enum ReplayFault {
+    /// The writer failed, or took no byte.
+    Write,
+    /// The bank refused a read.
+    Bank(Fault),
+}
+
+impl fmt::Display for ReplayFault {
+    fn fmt<W: fmt::Write>(&self, f: &mut fmt::Formatter<W>) -> fmt::Result {
+        match self {
+            ReplayFault::Write => write!(f, "write failed"),
+            ReplayFault::Bank(fault) => write!(f, "{fault}"),
+        }
+    }
+}
+
+impl std::error::Error for ReplayFault {}
+
+impl From<Fault> for ReplayFault {
+    ghost from_gives = { λ fault report. report ≡ Bank fault };
+
+    fn from(fault: Fault) -> ReplayFault {
+        ReplayFault::Bank(fault)
+    }
+}

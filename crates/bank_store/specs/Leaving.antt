@@ -1,0 +1,24 @@
+-- What reads leave of a bank, whatever they answered.
+use Rattle.std.specs.Prelude.{List, [], IsTrue}
+use Rattle.sqlite_trees.specs.declared.store.Store.{Ghosts}
+use Rattle.posting_rules.specs.Commands.{Command}
+use Rattle.posting_rules.specs.Counter.{Seen, LeavesOnly, StandsAt, Takes}
+use Rattle.posting_rules.specs.Tables.{AreTablesOf}
+use Rattle.bank_store.specs.Seen.{bank_seen, file_of}
+use Rattle.bank_store.specs.declared.bank.Bank.{Bank}
+
+-- the bank was given no command
+pub record TakesNone (old new : Seen) (answered : Type 0) : Type 0 where
+  -- where it was answered, the bank shows what it showed, and stands where it stood
+  pub done : answered → Takes old new []
+  -- whatever was answered, a stop leaves what shows the log
+  pub survives : new.honest → (log : List Command) → StandsAt old log
+      → LeavesOnly new (λ t. AreTablesOf t log)
+  -- a disk that is honest yet was so before
+  pub honest : new.honest → old.honest
+
+-- as long as the store is open, a bank that isn't down stands where it stood
+abbrev pub StandsWhileOpen : {S : Type 0} (g : Ghosts S) → Bank S g → Bank S g → Type 0
+StandsWhileOpen g old new =
+    (bank_seen g new).honest → ((bank_seen g new).is_down → ⊥) → IsTrue (file_of new).is_open
+    → (log : List Command) → StandsAt (bank_seen g old) log → StandsAt (bank_seen g new) log
