@@ -2,6 +2,7 @@
 mod banks;
 mod batches;
 mod lives;
+mod replays;
 mod reports;
 mod rows;
 mod transactions;
@@ -14,6 +15,7 @@ use banks::first_bank;
 use batches::first_batch;
 use lives::next_life;
 use message_records::{Cents, Outcome, REPLY_BYTES, Reply};
+use replays::first_replay;
 use reports::first_reports;
 use rows::first_branch;
 use sqlite::{Alter, Connection};
@@ -99,6 +101,7 @@ fn over_books<S: Alter + Drop>(
         (is_consistent, output.as_slice()),
         (true, REPORTS.as_bytes())
     );
+    assert!(rt; first_replay(bank)?);
     Ok(())
 }
 
