@@ -1,5 +1,5 @@
 -- How a command ends over a connection, and what is said of it whatever bank is there.
-use Rattle.std.proofs.Common.{◌≡◌, ◌≢◌, ◌⊎◌, ◌∙◌, ◌≤◌, inl, inr, refl, subst, sym, ℕ, List, Option, Result, Ok, Err}
+use Rattle.std.proofs.Common.{◌≡◌, ◌≢◌, ◌⊎◌, ◌∙◌, ◌≤◌, ap, inl, inr, refl, subst, sym, ℕ, List, Option, Result, Ok, Err}
 use Rattle.std.proofs.Common.{Bool, false, true, None, OnErr, OnOk, IsErrOf, length, take}
 use Rattle.std.specs.Prelude.{IfErr, IfOk, IsErrAnd, if◌then◌else◌}
 use Rattle.std.specs.Io.KnownBytes.{Appends, Keeps}
@@ -27,8 +27,13 @@ use Rattle.command_line.specs.declared.reading.Command.{Command}
 use Rattle.command_line.specs.declared.reading.Command.TheVariants as commands
 use Rattle.command_line.specs.declared.status.Status.{Status}
 use Rattle.command_line.specs.declared.status.Status.TheVariants.{Differs, Done, Inconsistent, Input, System, Usage}
-use Rattle.command_line.specs.Lines.{loaded_line}
-use Rattle.command_line.specs.Working.{MayTellListening, TellsDriven, TellsListening, done_after, ended_by_load}
+use Rattle.load_driver.specs.Drives.{Drives}
+use Rattle.load_driver.specs.declared.drive.Driven.{Driven}
+use Rattle.load_driver.specs.declared.drive_fault.DriveFault.{DriveFault}
+use Rattle.command_line.specs.Lines.{driven_line, loaded_line}
+use Rattle.command_line.specs.Statuses.{status_of_loaded}
+use Rattle.command_line.specs.Working.{DrivesOver, LoadsOver, MayTellListening, TellsDrive, TellsListening}
+use Rattle.command_line.specs.Working.{TellsListeningInPart, TellsLoad, done_after, ended_by_load}
 use Rattle.bank_commands.specs.Commands.{EndsPost, PrintsDrive, PrintsLoad, PrintsServe, StatesOver, TellsLine}
 use Rattle.bank_commands.specs.Commands.{ended_by, stated_by}
 use Rattle.bank_commands.specs.Over.{IsRefusedOver, RunsOver}
@@ -55,23 +60,62 @@ pub line_told : (w w' : Option (List ℕ)) (line : List ℕ) (printed : Result (
 line_told w w' line (Ok done) appends part is = (refl, appends)
 line_told w w' line (Err f) appends part is = (cc, record { count = part.0; within = part.1; wrote = part.2 })
 
-pub prints_load : (w w' : Option (List ℕ)) (told : Result Loaded CommandFault)
-    → IfOk told (λ loaded. Appends w w' (loaded_line loaded))
-    → IfErr told (λ f. f ≢ fault.Write → Keeps w w') → PrintsLoad w w' (ended_by_load told)
-prints_load w w' (Ok loaded) line silent = (loaded, refl, line)
-prints_load w w' (Err f) line silent = silent
+-- the line of a load, of a drive, and of serving
+module _ (w w' : Option (List ℕ)) (told : Result Status CommandFault) where
+  tells_load : (answer : Result Loaded Fault) → TellsLoad (λ end. told ≡ end) w w' answer → PrintsLoad w w' told
+  tells_load (Ok loaded) (inl done) = rw done.0 (loaded_line loaded, (loaded, refl, refl), done.1)
+  tells_load (Ok loaded) (inr part) =
+      rw part.0 (inr (refl, status_of_loaded loaded, loaded_line loaded, (loaded, refl, refl), part.1))
+  tells_load (Err f) silent = rw silent.0 (inl silent.1)
 
-pub prints_drive : (w w' : Option (List ℕ)) (count : ℕ) (told : Result (Unit {0}) CommandFault)
-    → OnOk told (TellsDriven count w w') → IfErr told (λ f. f ≢ fault.Write → Keeps w w')
-    → PrintsDrive w w' count (done_after told)
-prints_drive w w' count (Ok done) line silent = (refl, line)
-prints_drive w w' count (Err f) line silent = silent
+  pub prints_load : {C : Type 0} (seen : C → Seen) (reason : Fault → C → C → Type 0) (old new : C)
+      → LoadsOver seen reason w w' (λ end. told ≡ end) old new → PrintsLoad w w' told
+  prints_load seen reason old new (inl idle) = rw idle.0.0.2 (inl idle.0.1)
+  prints_load seen reason old new (inr it) = tells_load it.0 it.1
+
+  tells_drive : {C : Type 0} (seen : C → Seen) (old new : C) (k k' : Option (List ℕ)) (seed count : ℕ)
+      (answer : Result Driven DriveFault) → TellsDrive (λ end. told ≡ end) w w' count answer
+      → Drives seen old new k k' seed count answer → PrintsDrive w w' count told
+  tells_drive seen old new k k' seed count (Ok driven) (inl done) did =
+      rw done.0 (driven_line count driven, (driven, refl, refl, did.submits.ends.total), done.1)
+  tells_drive seen old new k k' seed count (Ok driven) (inr part) did = rw part.0 (inr (
+    refl,
+    Done,
+    driven_line count driven,
+    (driven, refl, refl, did.submits.ends.total),
+    part.1,
+  ))
+  tells_drive seen old new k k' seed count (Err f) silent did = rw silent.0 (inl silent.1)
+
+  pub prints_drive : {C : Type 0} (seen : C → Seen) (reason : Fault → C → C → Type 0) (old new : C)
+      (k k' : Option (List ℕ)) (seed count : ℕ)
+      → DrivesOver seen reason k k' w w' seed count (λ end. told ≡ end) old new → PrintsDrive w w' count told
+  prints_drive seen reason old new k k' seed count it = tells_drive seen old new k k' seed count it.0 it.1 it.2
+
+is_write : (f : CommandFault) → (f ≡ fault.Write) ⊎ (f ≢ fault.Write)
+is_write fault.Write = inl refl
+is_write fault.Store = inr (λ bad. cc)
+is_write fault.Memory = inr (λ bad. cc)
+is_write (fault.Damaged rule) = inr (λ bad. cc)
+is_write fault.Read = inr (λ bad. cc)
+is_write (fault.Truncated count) = inr (λ bad. cc)
+is_write (fault.Plan plan) = inr (λ bad. cc)
+is_write fault.AlreadyBank = inr (λ bad. cc)
+is_write fault.NoBank = inr (λ bad. cc)
+is_write fault.Foreign = inr (λ bad. cc)
+is_write (fault.Version version) = inr (λ bad. cc)
+is_write fault.NoBranches = inr (λ bad. cc)
+is_write (fault.NoAccount account) = inr (λ bad. cc)
+is_write fault.Network = inr (λ bad. cc)
 
 pub prints_serve : (w w' : Option (List ℕ)) (told : Result (Unit {0}) CommandFault)
     → OnOk told (TellsListening w w') → IfErr told (λ f. f ≢ fault.Write → MayTellListening w w')
-    → PrintsServe w w' (done_after told)
-prints_serve w w' (Ok done) line silent = (refl, line)
-prints_serve w w' (Err f) line silent = silent
+    → (IsErrOf told fault.Write → TellsListeningInPart w w') → PrintsServe w w' (done_after told)
+prints_serve w w' (Ok done) line silent part = (refl, line)
+prints_serve w w' (Err f) line silent part = elim (is_write f) [
+  | inl is ↦ inr (is, part (ap Err is))
+  | inr other ↦ inl (silent other)
+]
 
 -- a stream never ends with a fault of a file
 not_of_file : {Q : Type 0} (f : StreamFault) → IsOfFile (fault_of_stream f) → Q
@@ -116,12 +160,12 @@ states_done g conn back account w w' told (inr works) =
 
 pub tells_idle : (c : Command) (f : CommandFault) (r w : Option (List ℕ)) → Tells c r r w w (Err f)
 tells_idle (commands.Init file) f r w = inl ((f, refl), Keeps-refl w)
-tells_idle (commands.Load file plan) f r w = λ _. Keeps-refl w
+tells_idle (commands.Load file plan) f r w = inl (Keeps-refl w)
 tells_idle (commands.Post file) f r w = (tt, λ _. (refl, refl))
-tells_idle (commands.Drive file seed count) f r w = λ _. Keeps-refl w
+tells_idle (commands.Drive file seed count) f r w = inl (Keeps-refl w)
 tells_idle (commands.Audit file) f r w = inl ((f, refl), Keeps-refl w)
 tells_idle (commands.Statement file account) f r w = tt
-tells_idle (commands.Serve file address connections) f r w = λ _. inl (Keeps-refl w)
+tells_idle (commands.Serve file address connections) f r w = inl (inl (Keeps-refl w))
 tells_idle (commands.Migrate file) f r w = inl ((f, refl), Keeps-refl w)
 
 -- ---- no command ends the program as a mistake in the words
@@ -177,9 +221,9 @@ pub told_is_not_usage : (c : Command) (r r' w w' : Option (List ℕ)) (status : 
 told_is_not_usage (commands.Init file) r r' w w' status (inl none) = not_a_fault status _ none.0.1
 told_is_not_usage (commands.Init file) r r' w w' status (inr told) = done_is_not_usage status told.0
 told_is_not_usage (commands.Load file plan) r r' w w' status told =
-    one_of_two _ Differs Done status differs_is_not_usage (done_is_not_usage Done refl) told.1
+    one_of_two _ Differs Done status differs_is_not_usage (done_is_not_usage Done refl) told.1.1
 told_is_not_usage (commands.Post file) r r' w w' status told = done_is_not_usage status told.0.0
-told_is_not_usage (commands.Drive file seed count) r r' w w' status told = done_is_not_usage status told.0
+told_is_not_usage (commands.Drive file seed count) r r' w w' status told = done_is_not_usage status told.1.1
 told_is_not_usage (commands.Audit file) r r' w w' status (inl none) = not_a_fault status _ none.0.1
 told_is_not_usage (commands.Audit file) r r' w w' status (inr told) =
     audited_is_not_usage told.0 w w' status told.1

@@ -2,7 +2,7 @@
 -- or the fault. r and r' are the known bytes of its input before and after, w and w' those of its output, k and k' the
 -- clock's known readings; what the calls of its ends are known to have returned is q and q' of the input, and t and
 -- t' of the output; beside which sinks the input is known to have been read is b and b'.
-use Rattle.std.specs.Prelude.{◌≡◌, ◌≢◌, ℕ, List, Option, Result, Ok, Err, IfErr, IfOk, OnOk}
+use Rattle.std.specs.Prelude.{◌≡◌, ◌≢◌, ◌⊎◌, ◌+◌, ℕ, List, Option, Result, Ok, Err, IfErr, IfOk, OnOk}
 use Rattle.std.specs.Io.KnownBytes.{Appends, IsAtEnd, Keeps}
 use Rattle.sqlite.specs.Held.{Held}
 use Rattle.sqlite_trees.specs.declared.store.Store.{Ghosts}
@@ -13,6 +13,7 @@ use Rattle.posting_core.specs.Stream.{StreamsAsRead, SurvivesStream}
 use Rattle.posting_core.specs.Told.{Beside, EndsWith, HasWriteFailed, IsFlush, ReadTold, WriteTold}
 use Rattle.posting_core.specs.declared.stream.StreamFault.{StreamFault}
 use Rattle.branch_loader.specs.declared.loader.Loaded.{Loaded}
+use Rattle.load_driver.specs.declared.drive.Driven.{Driven}
 use Rattle.report_lines.specs.Written.{AppendsPart}
 use Rattle.report_lines.specs.declared.audit.Audit.{Audit}
 use Rattle.bank_store.specs.Down.{bank_reason}
@@ -28,10 +29,10 @@ use Rattle.bank_reports.specs.declared.fault.ReportFault.TheVariants as report
 use Rattle.store_rows.specs.declared.metas.TheConstants.{VERSION}
 use Rattle.command_line.specs.Auditing.{Prints}
 use Rattle.command_line.specs.Faults.{IsOfFile, fault_of_bank, fault_of_stream}
-use Rattle.command_line.specs.Lines.{already_line, created_line, loaded_line, migrated_line}
+use Rattle.command_line.specs.Lines.{already_line, created_line, driven_line, loaded_line, migrated_line}
 use Rattle.command_line.specs.Statuses.{status_of_loaded}
-use Rattle.command_line.specs.Working.{DrivesOver, LoadsOver, MayTellListening, ServesOver, TellsDriven}
-use Rattle.command_line.specs.Working.{TellsListening}
+use Rattle.command_line.specs.Working.{DrivesOver, LoadsOver, MayTellListening, ServesOver, TellsListening}
+use Rattle.command_line.specs.Working.{TellsListeningInPart}
 use Rattle.command_line.specs.declared.fault.CommandFault.{CommandFault}
 use Rattle.command_line.specs.declared.fault.CommandFault.TheVariants as faults
 use Rattle.command_line.specs.declared.status.Status.{Status}
@@ -154,22 +155,26 @@ StatesOver g conn back account w w' t t' told =
 
 -- ---- how a command ends and what it prints, whatever bank is there
 
--- Line holds at Ok, and Before at a fault that isn't the output's
-abbrev pub PrintsLast : (Line : Status → Type 0) → (Before : Type 0) → Result Status CommandFault → Type 0
-PrintsLast Line Before (Ok status) = Line status
-PrintsLast Line Before (Err fault) = fault ≢ faults.Write → Before
+-- at Ok a line of those that it has, and at a fault nothing, or a prefix of one where it couldn't be written
+abbrev pub PrintsOne : (w w' : Option (List ℕ)) → (Line : Status → List ℕ → Type 0) → Result Status CommandFault
+    → Type 0
+PrintsOne w w' Line (Ok status) = (text : List ℕ) × Line status text × Appends w w' text
+PrintsOne w w' Line (Err fault) = Keeps w w'
+    ⊎ ((fault ≡ faults.Write) × (status : Status) × (text : List ℕ) × Line status text × AppendsPart w w' text)
 
 abbrev pub PrintsLoad : (w w' : Option (List ℕ)) → Result Status CommandFault → Type 0
-PrintsLoad w w' told = PrintsLast
-    (λ status. (loaded : Loaded) × (status ≡ status_of_loaded loaded) × Appends w w' (loaded_line loaded))
-    (Keeps w w') told
+PrintsLoad w w' told = PrintsOne w w'
+    (λ status text. (loaded : Loaded) × (status ≡ status_of_loaded loaded) × (text ≡ loaded_line loaded)) told
 
 abbrev pub PrintsDrive : (w w' : Option (List ℕ)) → ℕ → Result Status CommandFault → Type 0
-PrintsDrive w w' count told = PrintsLast (λ status. (status ≡ Done) × TellsDriven count w w') (Keeps w w') told
+PrintsDrive w w' count told = PrintsOne w w'
+    (λ status text. (driven : Driven) × (status ≡ Done) × (text ≡ driven_line count driven)
+    × (driven.posted + driven.refused ≡ count)) told
 
+-- where it listens, before it serves
 abbrev pub PrintsServe : (w w' : Option (List ℕ)) → Result Status CommandFault → Type 0
-PrintsServe w w' told =
-    PrintsLast (λ status. (status ≡ Done) × TellsListening w w') (MayTellListening w w') told
+PrintsServe w w' (Ok status) = (status ≡ Done) × TellsListening w w'
+PrintsServe w w' (Err fault) = MayTellListening w w' ⊎ ((fault ≡ faults.Write) × TellsListeningInPart w w')
 
 -- all input was read, or none where there was no bank
 abbrev pub EndsPost : (r r' w w' : Option (List ℕ)) → Result Status CommandFault → Type 0

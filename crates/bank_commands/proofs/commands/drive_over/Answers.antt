@@ -2,6 +2,8 @@
 use Rattle.std.proofs.Common.{inl, inr, refl}
 use Rattle.std.proofs.KnownBytes.{Keeps-refl}
 use Rattle.std.proofs.lemmas.Result.{err_from_is_err_and}
+use Rattle.bank_store.specs.Down.{bank_reason}
+use Rattle.bank_store.specs.Seen.{bank_seen}
 use Rattle.bank_commands.proofs.Told.{prints_drive}
 use Rattle.bank_commands.proofs.commands.drive_over.Goals as goal
 
@@ -10,7 +12,7 @@ returns-in-Err g c =
     let it = c.in-Err.ensures in
     record {
       drives = inl (it.missed, (refl, refl));
-      prints = rw (err_from_is_err_and c.in-Err.ended.told it.missed).1 (λ _. Keeps-refl _);
+      prints = rw (err_from_is_err_and c.in-Err.ended.told it.missed).1 (inl (Keeps-refl _));
       idle = it.idle;
     }
 
@@ -24,6 +26,8 @@ returns g c =
         did = (c.in-Ok.ensures.found, rw c.done-told.ensures it.drives);
         conn = c.release.ensures.same;
       };
-      prints = rw c.done-told.ensures (prints_drive _ _ _ c.drive_into.result it.line it.silent);
+      prints = prints_drive _ _ c.done-told.result (bank_seen g.S.Store) (bank_reason g.S.Store) c.in-Ok.bank
+          c.drive_into.new.bank (g.K.Clock.readings c.args.clock.now) (g.K.Clock.readings c.drive_into.new.clock)
+          c.args.seed c.args.count (rw c.done-told.ensures it.drives);
       idle = c.release.ensures.idle;
     }

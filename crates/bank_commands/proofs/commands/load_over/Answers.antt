@@ -2,6 +2,8 @@
 use Rattle.std.proofs.Common.{inl, inr, refl}
 use Rattle.std.proofs.KnownBytes.{Keeps-refl}
 use Rattle.std.proofs.lemmas.Result.{err_from_is_err_and}
+use Rattle.bank_store.specs.Down.{bank_reason}
+use Rattle.bank_store.specs.Seen.{bank_seen}
 use Rattle.bank_commands.proofs.Told.{prints_load}
 use Rattle.bank_commands.proofs.commands.load_over.Goals as goal
 
@@ -10,7 +12,7 @@ returns-in-Err g c =
     let it = c.in-Err.ensures in
     record {
       loads = inl (it.missed, refl);
-      prints = rw (err_from_is_err_and c.in-Err.ended.told it.missed).1 (λ _. Keeps-refl _);
+      prints = rw (err_from_is_err_and c.in-Err.ended.told it.missed).1 (inl (Keeps-refl _));
       idle = it.idle;
     }
 
@@ -24,6 +26,7 @@ returns g c =
         did = (c.in-Ok.ensures.found, rw c.loaded-told.ensures it.loads);
         conn = c.release.ensures.same;
       };
-      prints = rw c.loaded-told.ensures (prints_load _ _ c.load_into.result it.line it.silent);
+      prints = prints_load _ _ c.loaded-told.result (bank_seen g.S.Store) (bank_reason g.S.Store) c.in-Ok.bank
+          c.load_into.new.bank (rw c.loaded-told.ensures it.loads);
       idle = c.release.ensures.idle;
     }

@@ -10,7 +10,7 @@ returns-in-Err g c =
     let it = c.in-Err.ensures in
     record {
       serves = inl (it.missed, (refl, refl));
-      prints = rw (err_from_is_err_and c.in-Err.ended.told it.missed).1 (λ _. inl (Keeps-refl _));
+      prints = rw (err_from_is_err_and c.in-Err.ended.told it.missed).1 (inl (inl (Keeps-refl _)));
       idle = it.idle;
     }
 
@@ -24,6 +24,6 @@ returns g c =
         did = (c.in-Ok.ensures.found, rw c.done-told.ensures it.serves);
         conn = c.release.ensures.same;
       };
-      prints = rw c.done-told.ensures (prints_serve _ _ c.listen.result it.line it.silent);
+      prints = rw c.done-told.ensures (prints_serve _ _ c.listen.result it.line it.silent it.part);
       idle = c.release.ensures.idle;
     }
