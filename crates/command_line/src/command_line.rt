@@ -90,7 +90,7 @@ fn init_command<'a>(alloc: Global) -> Result<Command<'a>, AllocError>
         "init",
         texts::INIT,
         texts::INIT_AT_LENGTH,
-        texts::INIT_EXAMPLE,
+        texts::INIT_DETAILS,
     )?;
     Ok(init.after_help(texts::INIT_EXAMPLE))
 }
@@ -156,7 +156,7 @@ fn statement_command<'a>(alloc: Global) -> Result<Command<'a>, AllocError>
         "statement",
         texts::STATEMENT,
         texts::STATEMENT_AT_LENGTH,
-        texts::STATEMENT_EXAMPLE,
+        texts::STATEMENT_DETAILS,
     )?;
     let account = required_argument(alloc, "account", "ACCOUNT", texts::ACCOUNT).value_parser(
         ValueParser::unsigned(1, MAX_ACCOUNT),
