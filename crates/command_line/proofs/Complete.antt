@@ -24,7 +24,7 @@ use Rattle.load_driver.specs.declared.drive.TheConstants.{MAX_DRIVEN}
 use Rattle.message_records.specs.declared.limits.TheConstants.{MAX_ACCOUNT}
 use Rattle.command_line.specs.declared.limits.TheConstants.{MAX_CONNECTIONS}
 use Rattle.command_line.specs.CommandLine.{MAX_SEED, bank_app}
-use Rattle.command_line.specs.Words.{HasNumber, HasText, IsComplete}
+use Rattle.command_line.specs.Words.{HasNumber, HasText, IsComplete, IsCompleteOnFile}
 use Rattle.command_line.proofs.Levels.{IsPlainLeaf, has_command, has_first, level_passes, value_of}
 use Rattle.command_line.proofs.Rows.{HasValue}
 use Rattle.command_line.proofs.Shapes.{drive_is_plain, file_and_account, file_and_address, file_and_numbers}
@@ -69,9 +69,16 @@ has_number s words id least most leaf none is parser =
 abbrev Completes : Shape → Type 0
 Completes s = (words : List Text) → HasNoFault s words → IsComplete (rows_at s words)
 
+-- one on a file has them
+abbrev CompletesOnFile : Shape → Type 0
+CompletesOnFile s = (words : List Text) → HasNoFault s words → IsCompleteOnFile (rows_at s words)
+
+on_file : (s : Shape) → CompletesOnFile s → Completes s
+on_file s complete words none = inr (inr (complete words none))
+
 file_completes : (name : Text)
     → (name ≡ codes "init") ⊎ (name ≡ codes "post") ⊎ (name ≡ codes "audit") ⊎ (name ≡ codes "migrate")
-    → Completes (one_file name)
+    → CompletesOnFile (one_file name)
 file_completes name (inl is) words none =
     (has_text (one_file name) words (codes "file") (one_is_plain name) none (refl, refl), inl is)
 file_completes name (inr (inl is)) words none =
@@ -83,14 +90,14 @@ file_completes name (inr (inr (inr is))) words none = (
   inr (inr (inr (inl is))),
 )
 
-load_completes : Completes two_files
+load_completes : CompletesOnFile two_files
 load_completes words none =
     let s = two_files in (
       has_text s words (codes "file") load_is_plain none (refl, refl),
       inr (inr (inr (inr (inl (refl, has_text s words (codes "plan") load_is_plain none (refl, refl)))))),
     )
 
-drive_completes : Completes file_and_numbers
+drive_completes : CompletesOnFile file_and_numbers
 drive_completes words none =
     let s = file_and_numbers in (
       has_text s words (codes "file") drive_is_plain none (refl, refl),
@@ -101,7 +108,7 @@ drive_completes words none =
       )))))),
     )
 
-statement_completes : Completes file_and_account
+statement_completes : CompletesOnFile file_and_account
 statement_completes words none =
     let s = file_and_account in (
       has_text s words (codes "file") statement_is_plain none (refl, refl),
@@ -111,7 +118,7 @@ statement_completes words none =
       ))))))),
     )
 
-serve_completes : Completes file_and_address
+serve_completes : CompletesOnFile file_and_address
 serve_completes words none =
     let s = file_and_address in (
       has_text s words (codes "file") serve_is_plain none (refl, refl),
@@ -161,22 +168,28 @@ is_help name other answers = go (bytes_eq (codes "help") name) refl answers
 each_completes : (name : Text) → bytes_eq name (codes "help") ≡ false
     → HoldsOfEach (CompletesAt name) (built bank_app).subs
 each_completes name other = (
-  λ named. file_completes (codes "init") (inl refl),
+  λ named. on_file (one_file (codes "init")) (file_completes (codes "init") (inl refl)),
   (
-    λ named. load_completes,
+    λ named. on_file two_files load_completes,
     (
-      λ named. file_completes (codes "post") (inr (inl refl)),
+      λ named. on_file (one_file (codes "post")) (file_completes (codes "post") (inr (inl refl))),
       (
-        λ named. drive_completes,
+        λ named. on_file file_and_numbers drive_completes,
         (
-          λ named. file_completes (codes "audit") (inr (inr (inl refl))),
+          λ named. on_file (one_file (codes "audit")) (file_completes (codes "audit") (inr (inr (inl refl)))),
           (
-            λ named. statement_completes,
+            λ named. on_file file_and_account statement_completes,
             (
-              λ named. serve_completes,
+              λ named. on_file file_and_address serve_completes,
               (
-                λ named. file_completes (codes "migrate") (inr (inr (inr refl))),
-                (λ named. absurd (is_help name other named), tt),
+                λ named. on_file (one_file (codes "migrate")) (file_completes (codes "migrate") (inr (inr (inr refl)))),
+                (
+                  λ named words none. inl refl,
+                  (
+                    λ named words none. inr (inl refl),
+                    (λ named. absurd (is_help name other named), tt),
+                  ),
+                ),
               ),
             ),
           ),

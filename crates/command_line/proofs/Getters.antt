@@ -20,7 +20,8 @@ use Rattle.message_records.specs.Ranges.{whole_within}
 use Rattle.load_driver.proofs.Listed.{within}
 use Rattle.message_records.specs.declared.limits.TheConstants.{MAX_ACCOUNT}
 use Rattle.command_line.specs.declared.limits.TheConstants.{MAX_CONNECTIONS}
-use Rattle.command_line.specs.Words.{AreInRange, HasNumber, HasText, IsCommandOf, IsComplete, IsNumber}
+use Rattle.command_line.specs.Words.{AreInRange, HasNumber, HasText, IsCommandOf, IsComplete, IsCompleteOnFile}
+use Rattle.command_line.specs.Words.{IsNumber}
 use Rattle.command_line.specs.Words.{IsNumberIn, IsText}
 use Rattle.command_line.specs.declared.reading.Command.TheVariants.{Drive, Serve}
 
@@ -80,7 +81,7 @@ apart {s = s} {t = t} same other =
     cc
 
 -- a complete `load` has its plan
-pub plan_of_load : (p : Text × List Row) → p.0 ≡ codes "load" → IsComplete p
+pub plan_of_load : (p : Text × List Row) → p.0 ≡ codes "load" → IsCompleteOnFile p
     → HasText (codes "plan") p.1
 plan_of_load p name complete = elim complete.1 [
   | inl init ↦ absurd (apart (sym init ∙ name) refl)
@@ -94,7 +95,7 @@ plan_of_load p name complete = elim complete.1 [
 ]
 
 -- a complete `drive` has its numbers
-pub numbers_of_drive : (p : Text × List Row) → p.0 ≡ codes "drive" → IsComplete p
+pub numbers_of_drive : (p : Text × List Row) → p.0 ≡ codes "drive" → IsCompleteOnFile p
     → HasNumber (codes "seed") 0 MAX_SEED p.1 × HasNumber (codes "count") 1 MAX_DRIVEN p.1
 numbers_of_drive p name complete = elim complete.1 [
   | inl init ↦ absurd (apart (sym init ∙ name) refl)
@@ -108,7 +109,7 @@ numbers_of_drive p name complete = elim complete.1 [
 ]
 
 -- a complete `statement` has the number of an account
-pub account_of_statement : (p : Text × List Row) → p.0 ≡ codes "statement" → IsComplete p
+pub account_of_statement : (p : Text × List Row) → p.0 ≡ codes "statement" → IsCompleteOnFile p
     → HasNumber (codes "account") 1 MAX_ACCOUNT p.1
 account_of_statement p name complete = elim complete.1 [
   | inl init ↦ absurd (apart (sym init ∙ name) refl)
@@ -122,7 +123,7 @@ account_of_statement p name complete = elim complete.1 [
 ]
 
 -- a complete `serve` has its address and its number
-pub values_of_serve : (p : Text × List Row) → p.0 ≡ codes "serve" → IsComplete p
+pub values_of_serve : (p : Text × List Row) → p.0 ≡ codes "serve" → IsCompleteOnFile p
     → HasText (codes "address") p.1 × HasNumber (codes "connections") 1 MAX_CONNECTIONS p.1
 values_of_serve p name complete = elim complete.1 [
   | inl init ↦ absurd (apart (sym init ∙ name) refl)
@@ -177,7 +178,7 @@ IsReadFor id rows n = (least most : ℕ) → HasNumber id least most rows → Is
 
 -- a complete `drive`, of which file and numbers were read, is that command, with its numbers in their ranges
 pub drive_read : (p : Text × List Row) (file : Bor Text) (seed count : ℕ) → p.0 ≡ codes "drive"
-    → IsComplete p
+    → IsCompleteOnFile p
     → IsText (codes "file") p.1 file.now → IsReadFor (codes "seed") p.1 seed
     → IsReadFor (codes "count") p.1 count
     → IsCommandOf p (Drive file seed count) × AreInRange (Drive file seed count)
@@ -189,7 +190,7 @@ drive_read p file seed count name complete is_file seed_read count_read =
 
 -- and so is a complete `serve`
 pub serve_read : (p : Text × List Row) (file address : Bor Text) (connections : ℕ) → p.0 ≡ codes "serve"
-    → IsComplete p
+    → IsCompleteOnFile p
     → IsText (codes "file") p.1 file.now → IsText (codes "address") p.1 address.now
     → IsReadFor (codes "connections") p.1 connections
     → IsCommandOf p (Serve file address connections) × AreInRange (Serve file address connections)

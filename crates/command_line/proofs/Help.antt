@@ -50,6 +50,14 @@ at_migrate : (program : Text)
 unfolding clap_on_literals
 at_migrate program = refl
 
+at_encode : (program : Text) → fault_of bank_app (program ∷ codes "encode" ∷ codes "--help" ∷ []) ≡ help_alone
+unfolding clap_on_literals
+at_encode program = refl
+
+at_decode : (program : Text) → fault_of bank_app (program ∷ codes "decode" ∷ codes "--help" ∷ []) ≡ help_alone
+unfolding clap_on_literals
+at_decode program = refl
+
 asked : (words : List Text) → AsksForHelp words → fault_of bank_app words ≡ help_alone
 asked words (inl bank) = ap (fault_of bank_app) bank.2 ∙ at_bank bank.0 bank.1
 asked words (inr (inl init)) = ap (fault_of bank_app) init.1 ∙ at_init init.0
@@ -61,8 +69,12 @@ asked words (inr (inr (inr (inr (inr (inr (inl statement))))))) = ap (fault_of b
     ∙ at_statement statement.0
 asked words (inr (inr (inr (inr (inr (inr (inr (inl serve)))))))) = ap (fault_of bank_app) serve.1
     ∙ at_serve serve.0
-asked words (inr (inr (inr (inr (inr (inr (inr (inr migrate)))))))) = ap (fault_of bank_app) migrate.1
+asked words (inr (inr (inr (inr (inr (inr (inr (inr (inl migrate))))))))) = ap (fault_of bank_app) migrate.1
     ∙ at_migrate migrate.0
+asked words (inr (inr (inr (inr (inr (inr (inr (inr (inr (inl encode)))))))))) = ap (fault_of bank_app) encode.1
+    ∙ at_encode encode.0
+asked words (inr (inr (inr (inr (inr (inr (inr (inr (inr (inr decode)))))))))) = ap (fault_of bank_app) decode.1
+    ∙ at_decode decode.0
 
 helped : {T : Type 0} (r : Result T Error) (kinds : Kinds) → kinds ≡ help_alone → FailsBy kinds r
     → IsErrAnd r IsHelp

@@ -31,6 +31,10 @@ file_and_account = leaf_of statement_app.top
 abbrev pub file_and_address : Shape
 file_and_address = leaf_of serve_app.top
 
+-- `encode` or `decode`, as built
+abbrev pub alone : Text → Shape
+alone name = leaf_of (new_app name).top
+
 -- Clap reads words that begin with the command's name as that command, with the rows of its arguments; and it
 -- takes them where they pass there.
 pub record IsReadAs (s : Shape) (name : Text) (words : List Text) : Type 0 where
@@ -39,6 +43,14 @@ pub record IsReadAs (s : Shape) (name : Text) (words : List Text) : Type 0 where
       → takes bank_app (program ∷ name ∷ words) ≡ (level_passes s [] nothing_held words false && true)
 
 -- ---- their arguments are plain
+
+pub alone_is_plain : (name : Text) → IsPlainLeaf (alone name)
+alone_is_plain name = record {
+  plain = ((inr refl, refl, refl), tt);
+  no_help = refl;
+  no_subcommand = refl;
+  negates = refl;
+}
 
 pub one_is_plain : (name : Text) → IsPlainLeaf (one_file name)
 one_is_plain name = record {

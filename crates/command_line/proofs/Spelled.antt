@@ -10,22 +10,23 @@ use Rattle.clap.specs.Words.{kind_of}
 use Rattle.clap.specs.declared.error.Error.{Error}
 use Rattle.clap.specs.declared.error.kind.ErrorKind.TheVariants.{OutOfMemory}
 use Rattle.command_line.specs.declared.reading.Command.{Command}
-use Rattle.command_line.specs.declared.reading.Command.TheVariants.{Audit, Drive, Init, Load, Migrate, Post}
-use Rattle.command_line.specs.declared.reading.Command.TheVariants.{Serve, Statement}
+use Rattle.command_line.specs.declared.reading.Command.TheVariants.{Audit, Decode, Drive, Encode, Init, Load}
+use Rattle.command_line.specs.declared.reading.Command.TheVariants.{Migrate, Post, Serve, Statement}
 use Rattle.message_records.specs.declared.limits.TheConstants.{MAX_ACCOUNT}
 use Rattle.command_line.specs.CommandLine.{bank_app}
-use Rattle.command_line.specs.Words.{IsCommandOf, IsReadFrom, IsSpelled, IsSpelledBy, IsText}
+use Rattle.command_line.specs.Words.{IsCommandOf, IsReadFrom, IsSpelled, IsSpelledBy, IsSpelledOnFile}
+use Rattle.command_line.specs.Words.{IsText}
 use Rattle.command_line.specs.Words.{IsWantOfMemory, begins_with_dash, number_of}
 use Rattle.command_line.proofs.Getters.{apart}
-use Rattle.command_line.proofs.Shapes.{IsReadAs, file_and_account, file_and_address, file_and_numbers, one_file}
-use Rattle.command_line.proofs.Shapes.{two_files}
-use Rattle.command_line.proofs.SpelledFiles.{audit_read, init_read, load_goes, load_read, migrate_read}
-use Rattle.command_line.proofs.SpelledFiles.{one_goes, post_read, two_held}
+use Rattle.command_line.proofs.Shapes.{IsReadAs, alone, file_and_account, file_and_address, file_and_numbers}
+use Rattle.command_line.proofs.Shapes.{one_file, two_files}
+use Rattle.command_line.proofs.SpelledFiles.{audit_read, decode_read, encode_read, init_read, load_goes, load_read}
+use Rattle.command_line.proofs.SpelledFiles.{migrate_read, one_goes, post_read, two_held}
 use Rattle.command_line.proofs.SpelledNumbers.{drive_goes, drive_passes, drive_read, drive_words}
 use Rattle.command_line.proofs.SpelledNumbers.{serve_goes, serve_passes, serve_read, serve_words}
 use Rattle.command_line.proofs.SpelledNumbers.{statement_goes, statement_passes, statement_read}
 use Rattle.command_line.proofs.SpelledNumbers.{with_address, with_seed}
-use Rattle.command_line.proofs.Valued.{before, file_held, given, no_dash, rows_to, taken_to}
+use Rattle.command_line.proofs.Valued.{before, file_held, given, no_dash, rows_to, stops, taken_to}
 
 -- ---- the command that is told
 
@@ -38,13 +39,50 @@ text_told : (id : Text) (rows : List Row) (text told : Text) → first_of id row
     → text ≡ told
 text_told id rows text told first is = same_text text told (sym first ∙ is)
 
+-- the command's name
+abbrev word_of : Command → Text
+word_of (Init f) = codes "init"
+word_of (Load f p) = codes "load"
+word_of (Post f) = codes "post"
+word_of (Drive f s n) = codes "drive"
+word_of (Audit f) = codes "audit"
+word_of (Statement f n) = codes "statement"
+word_of (Serve f a n) = codes "serve"
+word_of (Migrate f) = codes "migrate"
+word_of Encode = codes "encode"
+word_of Decode = codes "decode"
+
+named : (p : Text × List Row) (command : Command) → IsCommandOf p command → p.0 ≡ word_of command
+named p (Init f) told = told.0
+named p (Load f q) told = told.0
+named p (Post f) told = told.0
+named p (Drive f s n) told = told.0
+named p (Audit f) told = told.0
+named p (Statement f n) told = told.0
+named p (Serve f a n) told = told.0
+named p (Migrate f) told = told.0
+named p Encode told = told
+named p Decode told = told
+
+encode_told : (rows : List Row) (words : List Text) (command : Command)
+    → drop 1 words ≡ codes "encode" ∷ [] → IsCommandOf (codes "encode", rows) command
+    → IsSpelledBy words command
+encode_told rows words Encode are told = are
+encode_told rows words other are told = absurd (apart (named (codes "encode", rows) other told) refl)
+
+decode_told : (rows : List Row) (words : List Text) (command : Command)
+    → drop 1 words ≡ codes "decode" ∷ [] → IsCommandOf (codes "decode", rows) command
+    → IsSpelledBy words command
+decode_told rows words Decode are told = are
+decode_told rows words other are told = absurd (apart (named (codes "decode", rows) other told) refl)
+
 init_told : (rows : List Row) (file : Text) (words : List Text) (command : Command)
     → IsText (codes "file") rows file → drop 1 words ≡ codes "init" ∷ file ∷ []
     → IsCommandOf (codes "init", rows) command
     → IsSpelledBy words command
 init_told rows file words (Init f) first are told =
     rw (← text_told (codes "file") rows file f.now first told.1) are
-init_told rows file words other first are told = absurd (apart told.0 refl)
+init_told rows file words other first are told = absurd (apart (named (codes "init", rows) other told) refl)
 
 post_told : (rows : List Row) (file : Text) (words : List Text) (command : Command)
     → IsText (codes "file") rows file → drop 1 words ≡ codes "post" ∷ file ∷ []
@@ -52,7 +90,7 @@ post_told : (rows : List Row) (file : Text) (words : List Text) (command : Comma
     → IsSpelledBy words command
 post_told rows file words (Post f) first are told =
     rw (← text_told (codes "file") rows file f.now first told.1) are
-post_told rows file words other first are told = absurd (apart told.0 refl)
+post_told rows file words other first are told = absurd (apart (named (codes "post", rows) other told) refl)
 
 audit_told : (rows : List Row) (file : Text) (words : List Text) (command : Command)
     → IsText (codes "file") rows file → drop 1 words ≡ codes "audit" ∷ file ∷ []
@@ -60,7 +98,7 @@ audit_told : (rows : List Row) (file : Text) (words : List Text) (command : Comm
     → IsSpelledBy words command
 audit_told rows file words (Audit f) first are told =
     rw (← text_told (codes "file") rows file f.now first told.1) are
-audit_told rows file words other first are told = absurd (apart told.0 refl)
+audit_told rows file words other first are told = absurd (apart (named (codes "audit", rows) other told) refl)
 
 load_told : (rows : List Row) (file plan : Text) (words : List Text) (command : Command)
     → IsText (codes "file") rows file → IsText (codes "plan") rows plan
@@ -71,7 +109,8 @@ load_told rows file plan words (Load f p) first second are told =
     are ∙ ap₂ (λ (s t : Text). codes "load" ∷ s ∷ t ∷ [])
     (text_told (codes "file") rows file f.now first told.1)
     (text_told (codes "plan") rows plan p.now second told.2)
-load_told rows file plan words other first second are told = absurd (apart told.0 refl)
+load_told rows file plan words other first second are told =
+    absurd (apart (named (codes "load", rows) other told) refl)
 
 drive_told : (rows : List Row) (file seed count : Text) (words : List Text) (command : Command)
     → IsText (codes "file") rows file
@@ -84,7 +123,8 @@ drive_told rows file seed count words (Drive f s n) first second third are told 
     let seed_is : s ≡ number_of seed = rw second at told.2 in
     let count_is : n ≡ number_of count = rw third at told.3 in
     (seed, count, are ∙ ap (λ (t : Text). codes "drive" ∷ drive_words t seed count) same, seed_is, count_is)
-drive_told rows file seed count words other first second third are told = absurd (apart told.0 refl)
+drive_told rows file seed count words other first second third are told =
+    absurd (apart (named (codes "drive", rows) other told) refl)
 
 statement_told : (rows : List Row) (file account : Text) (words : List Text) (command : Command)
     → IsText (codes "file") rows file → one_of (codes "account") rows ≡ Some account
@@ -95,7 +135,8 @@ statement_told rows file account words (Statement f n) first second are told =
     let same = text_told (codes "file") rows file f.now first told.1 in
     let account_is : n ≡ number_of account = rw second at told.2 in
     (account, are ∙ ap (λ (t : Text). codes "statement" ∷ t ∷ account ∷ []) same, account_is)
-statement_told rows file account words other first second are told = absurd (apart told.0 refl)
+statement_told rows file account words other first second are told =
+    absurd (apart (named (codes "statement", rows) other told) refl)
 
 serve_told : (rows : List Row) (file address connections : Text) (words : List Text) (command : Command)
     → IsText (codes "file") rows file → IsText (codes "address") rows address
@@ -111,7 +152,8 @@ serve_told rows file address connections words (Serve f a n) first second third 
       are ∙ ap₂ (λ (s t : Text). codes "serve" ∷ serve_words s t connections) same at,
       number,
     )
-serve_told rows file address connections words other first second third are told = absurd (apart told.0 refl)
+serve_told rows file address connections words other first second third are told =
+    absurd (apart (named (codes "serve", rows) other told) refl)
 
 migrate_told : (rows : List Row) (file : Text) (words : List Text) (command : Command)
     → IsText (codes "file") rows file → drop 1 words ≡ codes "migrate" ∷ file ∷ []
@@ -119,7 +161,8 @@ migrate_told : (rows : List Row) (file : Text) (words : List Text) (command : Co
     → IsSpelledBy words command
 migrate_told rows file words (Migrate f) first are told =
     rw (← text_told (codes "file") rows file f.now first told.1) are
-migrate_told rows file words other first are told = absurd (apart told.0 refl)
+migrate_told rows file words other first are told =
+    absurd (apart (named (codes "migrate", rows) other told) refl)
 
 -- ---- one file
 
@@ -148,51 +191,62 @@ module _ (s : Shape) (name : Text) (own : List Text) (is : IsReadAs s name own) 
   read_as command read = rw (ap (subcommand_of bank_app) are ∙ is.rows program) at read
 
 -- clap takes such words
-spelled_taken : (words : List Text) → IsSpelled words → takes bank_app words ≡ true
-spelled_taken words (inl s) =
+taken_on_file : (words : List Text) → IsSpelledOnFile words → takes bank_app words ≡ true
+taken_on_file words (inl s) =
     taken_as (one_file (codes "init")) (codes "init") _ (init_read s.1) words s.0 s.3
     (one_passes (codes "init") s.1 s.2)
-spelled_taken words (inr (inl s)) =
+taken_on_file words (inr (inl s)) =
     taken_as two_files (codes "load") _ (load_read s.1 s.2) words s.0 s.5
     (taken_to two_files (s.1 ∷ s.2 ∷ []) (two_held (codes "plan") s.1 s.2) (load_goes s.1 s.2 s.3 s.4) refl)
-spelled_taken words (inr (inr (inl s))) =
+taken_on_file words (inr (inr (inl s))) =
     taken_as (one_file (codes "post")) (codes "post") _ (post_read s.1) words s.0 s.3
     (one_passes (codes "post") s.1 s.2)
-spelled_taken words (inr (inr (inr (inl s)))) =
+taken_on_file words (inr (inr (inr (inl s)))) =
     taken_as file_and_numbers (codes "drive") _ (drive_read s.1 s.2 s.3) words s.0 s.7
     (drive_passes s.1 s.2 s.3 s.4 s.5 s.6)
-spelled_taken words (inr (inr (inr (inr (inl s))))) =
+taken_on_file words (inr (inr (inr (inr (inl s))))) =
     taken_as (one_file (codes "audit")) (codes "audit") _ (audit_read s.1) words s.0 s.3
     (one_passes (codes "audit") s.1 s.2)
-spelled_taken words (inr (inr (inr (inr (inr (inl s)))))) =
+taken_on_file words (inr (inr (inr (inr (inr (inl s)))))) =
     taken_as file_and_account (codes "statement") _ (statement_read s.1 s.2) words s.0 s.5
     (statement_passes s.1 s.2 s.3 s.4)
-spelled_taken words (inr (inr (inr (inr (inr (inr (inl s))))))) =
+taken_on_file words (inr (inr (inr (inr (inr (inr (inl s))))))) =
     taken_as file_and_address (codes "serve") _ (serve_read s.1 s.2 s.3) words s.0 s.7
     (serve_passes s.1 s.2 s.3 s.4 s.5 s.6)
-spelled_taken words (inr (inr (inr (inr (inr (inr (inr s))))))) =
+taken_on_file words (inr (inr (inr (inr (inr (inr (inr s))))))) =
     taken_as (one_file (codes "migrate")) (codes "migrate") _ (migrate_read s.1) words s.0 s.3
     (one_passes (codes "migrate") s.1 s.2)
 
+alone_passes : (name : Text) → level_passes (alone name) [] nothing_held [] false ≡ true
+alone_passes name =
+    taken_to (alone name) [] (before nothing_held 1) (stops (alone name) (before nothing_held 1)) refl
+
+spelled_taken : (words : List Text) → IsSpelled words → takes bank_app words ≡ true
+spelled_taken words (inl s) =
+    taken_as (alone (codes "encode")) (codes "encode") [] encode_read words s.0 s.1 (alone_passes (codes "encode"))
+spelled_taken words (inr (inl s)) =
+    taken_as (alone (codes "decode")) (codes "decode") [] decode_read words s.0 s.1 (alone_passes (codes "decode"))
+spelled_taken words (inr (inr s)) = taken_on_file words s
+
 -- words that spell a command tell that command
-pub spelled_at_ok : (words : List Text) (command : Command) → IsReadFrom words command → IsSpelled words
+on_file_at_ok : (words : List Text) (command : Command) → IsReadFrom words command → IsSpelledOnFile words
     → IsSpelledBy words command
-spelled_at_ok words command read (inl s) =
+on_file_at_ok words command read (inl s) =
     init_told (rows_after (one_file (codes "init")).rules [] (s.1 ∷ [])) s.1 words command
     (one_first (codes "init") s.1 s.2) (ap (drop 1) s.3)
     (read_as (one_file (codes "init")) (codes "init") _ (init_read s.1) words s.0 s.3 command read)
-spelled_at_ok words command read (inr (inl s)) =
+on_file_at_ok words command read (inr (inl s)) =
     let rows = rows_after two_files.rules [] (s.1 ∷ s.2 ∷ []) in
     let end = rows_to two_files (s.1 ∷ s.2 ∷ []) (two_held (codes "plan") s.1 s.2)
     (load_goes s.1 s.2 s.3 s.4) in
     load_told rows s.1 s.2 words command
     (ap (first_of (codes "file")) end) (ap (first_of (codes "plan")) end) (ap (drop 1) s.5)
     (read_as two_files (codes "load") _ (load_read s.1 s.2) words s.0 s.5 command read)
-spelled_at_ok words command read (inr (inr (inl s))) =
+on_file_at_ok words command read (inr (inr (inl s))) =
     post_told (rows_after (one_file (codes "post")).rules [] (s.1 ∷ [])) s.1 words command
     (one_first (codes "post") s.1 s.2) (ap (drop 1) s.3)
     (read_as (one_file (codes "post")) (codes "post") _ (post_read s.1) words s.0 s.3 command read)
-spelled_at_ok words command read (inr (inr (inr (inl s)))) =
+on_file_at_ok words command read (inr (inr (inr (inl s)))) =
     let rows = rows_after file_and_numbers.rules [] (drive_words s.1 s.2 s.3) in
     let end = rows_to file_and_numbers (drive_words s.1 s.2 s.3)
     (given 2 (with_seed s.1 s.2) (codes "count") s.3)
@@ -201,18 +255,18 @@ spelled_at_ok words command read (inr (inr (inr (inl s)))) =
     (ap (first_of (codes "file")) end) (ap (one_of (codes "seed")) end) (ap (one_of (codes "count")) end)
     (ap (drop 1) s.7)
     (read_as file_and_numbers (codes "drive") _ (drive_read s.1 s.2 s.3) words s.0 s.7 command read)
-spelled_at_ok words command read (inr (inr (inr (inr (inl s))))) =
+on_file_at_ok words command read (inr (inr (inr (inr (inl s))))) =
     audit_told (rows_after (one_file (codes "audit")).rules [] (s.1 ∷ [])) s.1 words command
     (one_first (codes "audit") s.1 s.2) (ap (drop 1) s.3)
     (read_as (one_file (codes "audit")) (codes "audit") _ (audit_read s.1) words s.0 s.3 command read)
-spelled_at_ok words command read (inr (inr (inr (inr (inr (inl s)))))) =
+on_file_at_ok words command read (inr (inr (inr (inr (inr (inl s)))))) =
     let rows = rows_after file_and_account.rules [] (s.1 ∷ s.2 ∷ []) in
     let end = rows_to file_and_account (s.1 ∷ s.2 ∷ []) (two_held (codes "account") s.1 s.2)
     (statement_goes s.1 s.2 s.3 (no_dash 1 MAX_ACCOUNT s.2 s.4)) in
     statement_told rows s.1 s.2 words command
     (ap (first_of (codes "file")) end) (ap (one_of (codes "account")) end) (ap (drop 1) s.5)
     (read_as file_and_account (codes "statement") _ (statement_read s.1 s.2) words s.0 s.5 command read)
-spelled_at_ok words command read (inr (inr (inr (inr (inr (inr (inl s))))))) =
+on_file_at_ok words command read (inr (inr (inr (inr (inr (inr (inl s))))))) =
     let rows = rows_after file_and_address.rules [] (serve_words s.1 s.2 s.3) in
     let end = rows_to file_and_address (serve_words s.1 s.2 s.3)
     (given 3 (with_address s.1 s.2) (codes "connections") s.3) (serve_goes s.1 s.2 s.3 s.4 s.5 s.6) in
@@ -220,10 +274,20 @@ spelled_at_ok words command read (inr (inr (inr (inr (inr (inr (inl s))))))) =
     (ap (first_of (codes "file")) end) (ap (first_of (codes "address")) end)
     (ap (one_of (codes "connections")) end) (ap (drop 1) s.7)
     (read_as file_and_address (codes "serve") _ (serve_read s.1 s.2 s.3) words s.0 s.7 command read)
-spelled_at_ok words command read (inr (inr (inr (inr (inr (inr (inr s))))))) =
+on_file_at_ok words command read (inr (inr (inr (inr (inr (inr (inr s))))))) =
     migrate_told (rows_after (one_file (codes "migrate")).rules [] (s.1 ∷ [])) s.1 words command
     (one_first (codes "migrate") s.1 s.2) (ap (drop 1) s.3)
     (read_as (one_file (codes "migrate")) (codes "migrate") _ (migrate_read s.1) words s.0 s.3 command read)
+
+pub spelled_at_ok : (words : List Text) (command : Command) → IsReadFrom words command → IsSpelled words
+    → IsSpelledBy words command
+spelled_at_ok words command read (inl s) =
+    encode_told (rows_after (alone (codes "encode")).rules [] []) words command (ap (drop 1) s.1)
+    (read_as (alone (codes "encode")) (codes "encode") [] encode_read words s.0 s.1 command read)
+spelled_at_ok words command read (inr (inl s)) =
+    decode_told (rows_after (alone (codes "decode")).rules [] []) words command (ap (drop 1) s.1)
+    (read_as (alone (codes "decode")) (codes "decode") [] decode_read words s.0 s.1 command read)
+spelled_at_ok words command read (inr (inr s)) = on_file_at_ok words command read s
 
 -- and only want of memory is in the way
 pub spelled_at_err : (r : Result Command Error) (error : Error) (words : List Text)

@@ -1,10 +1,21 @@
--- What clap reads in the words of a command with files alone: `init`, `post`, `audit`, `migrate` and `load`.
+-- What clap reads in the words of a command with files alone: `init`, `post`, `audit`, `migrate` and `load`; and in
+-- those of one with none: `encode` and `decode`.
 use Rattle.std.proofs.Common.{◌≡◌, false, refl, [], ◌∷◌, Some, codes}
 use Rattle.clap.specs.Walk.{Text, Walk, nothing_held}
 use Rattle.clap.proofs.OnLiterals.{clap_on_literals}
 use Rattle.command_line.specs.Words.{begins_with_dash}
-use Rattle.command_line.proofs.Shapes.{IsReadAs, one_file, two_files}
+use Rattle.command_line.proofs.Shapes.{IsReadAs, alone, one_file, two_files}
 use Rattle.command_line.proofs.Valued.{Goes, before, file_held, row_with, stops, value_goes}
+
+-- ---- none
+
+pub encode_read : IsReadAs (alone (codes "encode")) (codes "encode") []
+unfolding clap_on_literals
+encode_read = record { rows = λ program. refl; taken = λ program. refl }
+
+pub decode_read : IsReadAs (alone (codes "decode")) (codes "decode") []
+unfolding clap_on_literals
+decode_read = record { rows = λ program. refl; taken = λ program. refl }
 
 -- ---- one file
 

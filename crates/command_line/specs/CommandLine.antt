@@ -87,6 +87,13 @@ serve_app =
 abbrev pub migrate_app : App
 migrate_app = with_rule (new_app (codes "migrate")) file_rule
 
+-- `encode` and `decode`, which take no argument
+abbrev pub encode_app : App
+encode_app = new_app (codes "encode")
+
+abbrev pub decode_app : App
+decode_app = new_app (codes "decode")
+
 -- `bank` before it has its commands: it wants one, and shows its help where no word follows its name
 abbrev pub bank_alone : App
 bank_alone = let bank = new_app (codes "bank") in record bank {
@@ -100,7 +107,7 @@ bank_alone = let bank = new_app (codes "bank") in record bank {
 -- the commands of `bank`, in the order of its help
 abbrev pub bank_commands : List App
 bank_commands = init_app ∷ load_app ∷ post_app ∷ drive_app ∷ audit_app ∷ statement_app ∷ serve_app
-    ∷ migrate_app ∷ []
+    ∷ migrate_app ∷ encode_app ∷ decode_app ∷ []
 
 -- the command line `bank` with these commands
 abbrev pub with_commands : App → List App → App

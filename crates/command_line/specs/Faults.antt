@@ -6,9 +6,15 @@ use Rattle.posting_rules.specs.declared.fault.Fault.{Fault}
 use Rattle.posting_rules.specs.declared.fault.Fault.TheVariants as bank
 use Rattle.posting_core.specs.declared.stream.StreamFault.{StreamFault}
 use Rattle.posting_core.specs.declared.stream.StreamFault.TheVariants as stream
+use Rattle.message_records.specs.Faults.{fault_text as reply_text}
 use Rattle.branch_loader.specs.Faults.{plan_text}
 use Rattle.branch_loader.specs.declared.fault.PlanFault.{PlanFault}
 use Rattle.branch_loader.specs.declared.fault.PlanFault.TheVariants as plan
+use Rattle.posting_sheets.specs.Faults.{sheet_text}
+use Rattle.posting_sheets.specs.declared.fault.RepliesFault.{RepliesFault}
+use Rattle.posting_sheets.specs.declared.fault.RepliesFault.TheVariants as replies
+use Rattle.posting_sheets.specs.declared.fault.SheetFault.{SheetFault}
+use Rattle.posting_sheets.specs.declared.fault.SheetFault.TheVariants as sheet
 use Rattle.load_driver.specs.declared.drive_fault.DriveFault.{DriveFault}
 use Rattle.load_driver.specs.declared.drive_fault.DriveFault.TheVariants as drive
 use Rattle.counter_http.specs.declared.listen_fault.ListenFault.{ListenFault}
@@ -29,6 +35,8 @@ status_of fault.Read = System
 status_of fault.Write = System
 status_of (fault.Truncated count) = Input
 status_of (fault.Plan plan) = Input
+status_of (fault.Postings sheet) = Input
+status_of (fault.Reply place bad) = Input
 status_of fault.AlreadyBank = Input
 status_of fault.NoBank = Input
 status_of fault.Foreign = Input
@@ -37,7 +45,7 @@ status_of fault.NoBranches = Input
 status_of (fault.NoAccount account) = Input
 status_of fault.Network = System
 
--- the text of a fault; that of a plan's fault is its own
+-- the text of a fault; that of a plan's, of a sheet's and of a reply's fault is its own
 abbrev pub fault_text : CommandFault → List ℕ
 fault_text fault.Store = codes "store fault"
 fault_text fault.Memory = codes "no memory"
@@ -46,6 +54,8 @@ fault_text fault.Read = codes "read failed"
 fault_text fault.Write = codes "write failed"
 fault_text (fault.Truncated count) = codes "truncated " ++ decimal count ++ codes " bytes"
 fault_text (fault.Plan plan) = plan_text plan
+fault_text (fault.Postings sheet) = sheet_text sheet
+fault_text (fault.Reply place bad) = codes "reply " ++ decimal place ++ codes " " ++ reply_text bad
 fault_text fault.AlreadyBank = codes "already a bank"
 fault_text fault.NoBank = codes "no bank"
 fault_text fault.Foreign = codes "foreign tables"
@@ -81,6 +91,21 @@ fault_of_stream (stream.Truncated count) = fault.Truncated count
 fault_of_stream stream.Read = fault.Read
 fault_of_stream stream.Write = fault.Write
 fault_of_stream (stream.Bank cause) = fault_of_bank cause
+
+-- why a sheet of postings ended before its last row
+abbrev pub fault_of_sheet : SheetFault → CommandFault
+fault_of_sheet sheet.Read = fault.Read
+fault_of_sheet sheet.Write = fault.Write
+fault_of_sheet sheet.Memory = fault.Memory
+fault_of_sheet other = fault.Postings other
+
+-- why replies ended before their input did, or within one
+abbrev pub fault_of_replies : RepliesFault → CommandFault
+fault_of_replies (replies.Truncated count) = fault.Truncated count
+fault_of_replies (replies.Reply place bad) = fault.Reply place bad
+fault_of_replies replies.Read = fault.Read
+fault_of_replies replies.Write = fault.Write
+fault_of_replies replies.Memory = fault.Memory
 
 -- why a drive ended before its last record
 abbrev pub fault_of_drive : DriveFault → CommandFault

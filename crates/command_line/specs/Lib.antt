@@ -6,3 +6,4 @@ pub mod Lines
 pub mod Looking
 pub mod Working
 pub mod Auditing
+pub mod Translating

@@ -10,8 +10,8 @@ use Rattle.message_records.specs.declared.limits.TheConstants.{MAX_ACCOUNT}
 use Rattle.command_line.specs.CommandLine.{MAX_SEED, bank_app}
 use Rattle.command_line.specs.declared.limits.TheConstants.{MAX_CONNECTIONS}
 use Rattle.command_line.specs.declared.reading.Command.{Command}
-use Rattle.command_line.specs.declared.reading.Command.TheVariants.{Audit, Drive, Init, Load, Migrate, Post}
-use Rattle.command_line.specs.declared.reading.Command.TheVariants.{Serve, Statement}
+use Rattle.command_line.specs.declared.reading.Command.TheVariants.{Audit, Decode, Drive, Encode, Init, Load}
+use Rattle.command_line.specs.declared.reading.Command.TheVariants.{Migrate, Post, Serve, Statement}
 
 -- the number that a text of digits spells; a plus may come before them
 abbrev pub number_of : Text → ℕ
@@ -59,6 +59,8 @@ IsCommandOf p (Serve file address connections) = (p.0 ≡ codes "serve") × IsTe
     × IsText (codes "address") p.1 address.now
     × IsNumber (codes "connections") p.1 connections
 IsCommandOf p (Migrate file) = (p.0 ≡ codes "migrate") × IsText (codes "file") p.1 file.now
+IsCommandOf p Encode = p.0 ≡ codes "encode"
+IsCommandOf p Decode = p.0 ≡ codes "decode"
 
 -- the command's numbers are in their ranges
 abbrev pub AreInRange : Command → Type 0
@@ -71,9 +73,9 @@ AreInRange _ = ⊤
 abbrev pub IsReadFrom : List Text → Command → Type 0
 IsReadFrom words command = IsSomeAnd (subcommand_of bank_app words) (λ p. IsCommandOf p command)
 
--- the name is that of a command, and each of its arguments has a value
-abbrev pub IsComplete : Text × List Row → Type 0
-IsComplete p = HasText (codes "file") p.1
+-- the name is that of a command on a file, and each of its arguments has a value
+abbrev pub IsCompleteOnFile : Text × List Row → Type 0
+IsCompleteOnFile p = HasText (codes "file") p.1
     × ((p.0 ≡ codes "init") ⊎ (p.0 ≡ codes "post") ⊎ (p.0 ≡ codes "audit") ⊎ (p.0 ≡ codes "migrate")
     ⊎ ((p.0 ≡ codes "load") × HasText (codes "plan") p.1)
     ⊎ ((p.0 ≡ codes "drive") × HasNumber (codes "seed") 0 MAX_SEED p.1
@@ -81,6 +83,10 @@ IsComplete p = HasText (codes "file") p.1
     ⊎ ((p.0 ≡ codes "statement") × HasNumber (codes "account") 1 MAX_ACCOUNT p.1)
     ⊎ ((p.0 ≡ codes "serve") × HasText (codes "address") p.1
     × HasNumber (codes "connections") 1 MAX_CONNECTIONS p.1))
+
+-- the name is that of a command, and each of its arguments has a value
+abbrev pub IsComplete : Text × List Row → Type 0
+IsComplete p = (p.0 ≡ codes "encode") ⊎ (p.0 ≡ codes "decode") ⊎ IsCompleteOnFile p
 
 -- ---- words that spell a command
 
@@ -135,10 +141,24 @@ AskToServe words = (program : Text) × (file : Text) × (address : Text) × (con
 abbrev pub AskToMigrate : List Text → Type 0
 AskToMigrate words = AskWithFile (codes "migrate") words
 
--- the words spell a command: its name, its files, of which none begins with a dash, and its numbers
-abbrev pub IsSpelled : List Text → Type 0
-IsSpelled words = AskToInit words ⊎ AskToLoad words ⊎ AskToPost words ⊎ AskToDrive words ⊎ AskToAudit words
+-- the words are one, behind the program's name
+abbrev pub AskAlone : Text → List Text → Type 0
+AskAlone name words = (program : Text) × (words ≡ program ∷ name ∷ [])
+
+abbrev pub AskToEncode : List Text → Type 0
+AskToEncode words = AskAlone (codes "encode") words
+
+abbrev pub AskToDecode : List Text → Type 0
+AskToDecode words = AskAlone (codes "decode") words
+
+-- the words spell a command on a file: its name, its files, of which none begins with a dash, and its numbers
+abbrev pub IsSpelledOnFile : List Text → Type 0
+IsSpelledOnFile words = AskToInit words ⊎ AskToLoad words ⊎ AskToPost words ⊎ AskToDrive words ⊎ AskToAudit words
     ⊎ AskForStatement words ⊎ AskToServe words ⊎ AskToMigrate words
+
+-- the words spell a command
+abbrev pub IsSpelled : List Text → Type 0
+IsSpelled words = AskToEncode words ⊎ AskToDecode words ⊎ IsSpelledOnFile words
 
 -- the words after the program's name are the command's own
 abbrev pub IsSpelledBy : List Text → Command → Type 0
@@ -155,6 +175,8 @@ IsSpelledBy words (Serve file address connections) = (n : Text)
     × (drop 1 words ≡ codes "serve" ∷ file.now ∷ address.now ∷ codes "--connections" ∷ n ∷ [])
     × (connections ≡ number_of n)
 IsSpelledBy words (Migrate file) = drop 1 words ≡ codes "migrate" ∷ file.now ∷ []
+IsSpelledBy words Encode = drop 1 words ≡ codes "encode" ∷ []
+IsSpelledBy words Decode = drop 1 words ≡ codes "decode" ∷ []
 
 -- memory ran out
 abbrev pub IsWantOfMemory : Error → Type 0
@@ -177,6 +199,8 @@ AsksForHelp words = ((program : Text) × (rest : List Text) × (words ≡ progra
     ⊎ AsksForHelpOn (codes "statement") words
     ⊎ AsksForHelpOn (codes "serve") words
     ⊎ AsksForHelpOn (codes "migrate") words
+    ⊎ AsksForHelpOn (codes "encode") words
+    ⊎ AsksForHelpOn (codes "decode") words
 
 -- the error is the help, or memory ran out
 abbrev pub IsHelp : Error → Type 0

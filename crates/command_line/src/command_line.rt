@@ -2,7 +2,8 @@
 ghost use Rattle.std.specs.Prelude.{◌≡◌, IfOk, false};
 ghost use Rattle.clap.specs.Words.{App, Rule, app_of, new_app, rule_of, with_rule, with_subcommand};
 ghost use Rattle.command_line.specs.CommandLine.{IsApp, audit_app, bank_alone, bank_app, drive_app, file_rule};
-ghost use Rattle.command_line.specs.CommandLine.{init_app, load_app, migrate_app, number_rule, post_app};
+ghost use Rattle.command_line.specs.CommandLine.{decode_app, encode_app, init_app, load_app, migrate_app};
+ghost use Rattle.command_line.specs.CommandLine.{number_rule, post_app};
 ghost use Rattle.command_line.specs.CommandLine.{required_rule, serve_app, statement_app};
 
 use crate::limits::MAX_CONNECTIONS;
@@ -24,7 +25,9 @@ pub fn bank_command<'a>(alloc: Global) -> Result<Command<'a>, AllocError>
     let bank = with_command(bank, audit_command(alloc));
     let bank = with_command(bank, statement_command(alloc));
     let bank = with_command(bank, serve_command(alloc));
-    with_command(bank, migrate_command(alloc))
+    let bank = with_command(bank, migrate_command(alloc));
+    let bank = with_command(bank, encode_command(alloc));
+    with_command(bank, decode_command(alloc))
 }
 
 // The command line with one more command, where both could be made. No caller has to let go of one where
@@ -195,6 +198,48 @@ fn migrate_command<'a>(alloc: Global) -> Result<Command<'a>, AllocError>
         texts::MIGRATE,
         texts::MIGRATE_AT_LENGTH,
         texts::MIGRATE_DETAILS,
+    )
+}
+
+// A command of this name with its three texts, which takes no argument.
+fn command_alone<'a>(
+    alloc: Global,
+    name: &'a str,
+    about: &'a str,
+    at_length: &'a str,
+    details: &'a str,
+) -> Result<Command<'a>, AllocError>
+    ensures { IfOk result (IsApp (new_app name.now)) }
+{
+    Ok(
+        Command::new(alloc, name)
+            .about(about)
+            .long_about(at_length)
+            .after_long_help(details),
+    )
+}
+
+fn encode_command<'a>(alloc: Global) -> Result<Command<'a>, AllocError>
+    ensures { IfOk result (IsApp encode_app) }
+{
+    command_alone(
+        alloc,
+        "encode",
+        texts::ENCODE,
+        texts::ENCODE_AT_LENGTH,
+        texts::ENCODE_DETAILS,
+    )
+}
+
+fn decode_command<'a>(alloc: Global) -> Result<Command<'a>, AllocError>
+    ensures { IfOk result (IsApp decode_app) }
+{
+    command_alone(
+        alloc,
+        "decode",
+        texts::DECODE,
+        texts::DECODE_AT_LENGTH,
+        texts::DECODE_DETAILS,
     )
 }
 

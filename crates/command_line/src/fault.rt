@@ -3,14 +3,16 @@ ghost use Rattle.std.specs.Prelude.{◌≡◌};
 ghost use Rattle.std.specs.IoError.{error_kind};
 ghost use Rattle.command_line.specs.Looking.{IsOfLook, IsOfPlanFile, fault_of_look, fault_of_plan_file};
 ghost use Rattle.command_line.specs.Faults.{fault_of_bank, fault_of_drive, fault_of_opening, fault_of_plan};
-ghost use Rattle.command_line.specs.Faults.{fault_of_serving, fault_of_stream, status_of};
+ghost use Rattle.command_line.specs.Faults.{fault_of_replies, fault_of_serving, fault_of_sheet, fault_of_stream};
+ghost use Rattle.command_line.specs.Faults.{status_of};
 
 use crate::status::Status;
 use branch_loader::PlanFault;
 use counter_http::ListenFault;
 use load_driver::DriveFault;
-use message_records::Account;
+use message_records::{Account, BadReply};
 use posting_core::{Fault, OpenFault, Rule, StreamFault};
+use posting_sheets::{RepliesFault, SheetFault};
 use std::fmt;
 use std::io::{self, ErrorKind};
 
@@ -29,11 +31,16 @@ pub enum CommandFault {
     Read,
     /// Status 3. Standard output failed. Records that were read were submitted.
     Write,
-    /// Status 4. Standard input ended so many bytes, 1..=99, into a record. The records before it were
-    /// answered.
+    /// Status 4. Standard input ended so many bytes into a record, or into a reply. Those before it were answered, or
+    /// written.
     Truncated(u8),
     /// Status 4. The plan is no table of branches and accounts, or can't be read. No branch was opened.
     Plan(PlanFault),
+    /// Status 4. The sheet of postings is none, or a row of it. The records of the rows before it were written.
+    Postings(SheetFault),
+    /// Status 4. The bytes are no reply, which is counted from 1, and this field is the first that shows it. The
+    /// lines of those before it were written.
+    Reply(u64, BadReply),
     /// Status 4. `init` was given a file that has a bank.
     AlreadyBank,
     /// Status 4. There is no such file, or it has no bank.
@@ -88,6 +95,8 @@ impl CommandFault {
             | CommandFault::Network => Status::System,
             CommandFault::Truncated(_)
             | CommandFault::Plan(_)
+            | CommandFault::Postings(_)
+            | CommandFault::Reply(_, _)
             | CommandFault::AlreadyBank
             | CommandFault::NoBank
             | CommandFault::Foreign
@@ -116,6 +125,8 @@ impl fmt::Display for CommandFault {
             CommandFault::Write => write!(f, "write failed"),
             CommandFault::Truncated(count) => write!(f, "truncated {count} bytes"),
             CommandFault::Plan(fault) => write!(f, "{fault}"),
+            CommandFault::Postings(fault) => write!(f, "{fault}"),
+            CommandFault::Reply(place, bad) => write!(f, "reply {place} {bad}"),
             CommandFault::AlreadyBank => write!(f, "already a bank"),
             CommandFault::NoBank => write!(f, "no bank"),
             CommandFault::Foreign => write!(f, "foreign tables"),
@@ -180,6 +191,35 @@ impl From<StreamFault> for CommandFault {
             StreamFault::Read => CommandFault::Read,
             StreamFault::Write => CommandFault::Write,
             StreamFault::Bank(fault) => CommandFault::from(fault),
+        }
+    }
+}
+
+/// Why `encode` ended before its sheet did.
+impl From<SheetFault> for CommandFault {
+    ghost from_gives = { λ sheet fault. fault ≡ fault_of_sheet sheet };
+
+    fn from(fault: SheetFault) -> CommandFault {
+        match fault {
+            SheetFault::Read => CommandFault::Read,
+            SheetFault::Write => CommandFault::Write,
+            SheetFault::Memory => CommandFault::Memory,
+            fault => CommandFault::Postings(fault),
+        }
+    }
+}
+
+/// Why `decode` ended before its input did, or within a reply.
+impl From<RepliesFault> for CommandFault {
+    ghost from_gives = { λ replies fault. fault ≡ fault_of_replies replies };
+
+    fn from(fault: RepliesFault) -> CommandFault {
+        match fault {
+            RepliesFault::Truncated(count) => CommandFault::Truncated(count),
+            RepliesFault::Reply(place, bad) => CommandFault::Reply(place, bad),
+            RepliesFault::Read => CommandFault::Read,
+            RepliesFault::Write => CommandFault::Write,
+            RepliesFault::Memory => CommandFault::Memory,
         }
     }
 }

@@ -34,6 +34,7 @@ mod reading;
 mod serving;
 mod status;
 mod texts;
+mod translating;
 
 pub use auditing::print_audit;
 pub use driving::drive_into;
@@ -47,3 +48,4 @@ pub use loading::{load_from, load_into};
 pub use reading::{Command, read_words};
 pub use serving::listen;
 pub use status::Status;
+pub use translating::{translate_replies, translate_sheet};

@@ -4,8 +4,8 @@ ghost use Rattle.clap.specs.Words.{FailsBy, fault_of, found_of, kind_of, rows_of
 ghost use Rattle.clap.specs.Words.{subcommand_rows_of, takes};
 ghost use Rattle.command_line.specs.CommandLine.{bank_app};
 ghost use Rattle.command_line.specs.Words.{AreInRange, AsksForHelp, HasNumber, HasSomeNumber, HasText};
-ghost use Rattle.command_line.specs.Words.{IsCommandOf, IsComplete, IsHelp, IsNumberIn, IsReadFrom, IsSpelled};
-ghost use Rattle.command_line.specs.Words.{IsSpelledBy, IsText, IsWantOfMemory};
+ghost use Rattle.command_line.specs.Words.{IsCommandOf, IsComplete, IsCompleteOnFile, IsHelp, IsNumberIn};
+ghost use Rattle.command_line.specs.Words.{IsReadFrom, IsSpelled, IsSpelledBy, IsText, IsWantOfMemory};
 
 use crate::command_line::bank_command;
 use clap::ArgMatches;
@@ -55,6 +55,10 @@ pub enum Command<'a> {
     Migrate {
         file: &'a str,
     },
+    /// Make records of the sheet of postings of standard input.
+    Encode,
+    /// Make a sheet of the replies of standard input.
+    Decode,
 }
 
 /// Reads the words of the command line, of which the first is the program's own name. The command is
@@ -92,6 +96,19 @@ fn matches_of<'a, S: AsStr>(alloc: Global, words: &'a [S]) -> Result<ArgMatches<
 // The command that a subcommand's name and values tell.
 fn command_of<'a>(name: &str, values: &ArgMatches<'a>) -> Command<'a>
     requires { IsComplete (name.now, rows_of (found_of values.now)) }
+    ensures command { IsCommandOf (name.now, rows_of (found_of values.now)) result }
+    ensures ranges { AreInRange result }
+{
+    match name {
+        "encode" => Command::Encode,
+        "decode" => Command::Decode,
+        _ => command_on_file(name, values),
+    }
+}
+
+// The command on a file that a subcommand's name and values tell.
+fn command_on_file<'a>(name: &str, values: &ArgMatches<'a>) -> Command<'a>
+    requires { IsCompleteOnFile (name.now, rows_of (found_of values.now)) }
     ensures command { IsCommandOf (name.now, rows_of (found_of values.now)) result }
     ensures ranges { AreInRange result }
 {

@@ -1,6 +1,6 @@
 -- Each command is added in its turn.
-use Rattle.command_line.specs.CommandLine.{audit_app, bank_alone, drive_app, init_app, load_app, migrate_app}
-use Rattle.command_line.specs.CommandLine.{post_app, serve_app, statement_app}
+use Rattle.command_line.specs.CommandLine.{audit_app, bank_alone, decode_app, drive_app, encode_app, init_app}
+use Rattle.command_line.specs.CommandLine.{load_app, migrate_app, post_app, serve_app, statement_app}
 use Rattle.command_line.proofs.command_line.bank_command.Goals as goal
 
 pub returns : goal.returns
@@ -12,4 +12,6 @@ returns c =
     let audit = c.with_command-bank-5.ensures _ audit_app drive c.audit_command.ensures in
     let statement = c.with_command-bank-6.ensures _ statement_app audit c.statement_command.ensures in
     let serve = c.with_command-bank-7.ensures _ serve_app statement c.serve_command.ensures in
-    c.with_command.ensures _ migrate_app serve c.migrate_command.ensures
+    let migrate = c.with_command-bank-8.ensures _ migrate_app serve c.migrate_command.ensures in
+    let encode = c.with_command-bank-9.ensures _ encode_app migrate c.encode_command.ensures in
+    c.with_command.ensures _ decode_app encode c.decode_command.ensures

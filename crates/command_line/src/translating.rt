@@ -1,0 +1,38 @@
+//! What `encode` and `decode` do, which need no bank.
+ghost use Rattle.command_line.specs.Translating.{DecodesReplies, EncodesSheet};
+
+use crate::fault::CommandFault;
+use crate::status::Status;
+use posting_core::{Sink, Source};
+use posting_sheets::{decode_replies, encode_sheet};
+use std::alloc::Global;
+
+/// Reads a sheet of postings, and writes their records.
+pub fn translate_sheet<R: Source, W: Sink>(
+    alloc: Global,
+    input: &mut R,
+    output: &mut W,
+) -> Result<Status, CommandFault>
+    ensures { EncodesSheet (R.remaining input.old) (R.remaining input.new)
+        (W.contents output.old) (W.contents output.new) result }
+{
+    match encode_sheet(alloc, input, output) {
+        Ok(_) => Ok(Status::Done),
+        Err(fault) => Err(CommandFault::from(fault)),
+    }
+}
+
+/// Reads replies, and writes a sheet of them.
+pub fn translate_replies<R: Source, W: Sink>(
+    alloc: Global,
+    input: &mut R,
+    output: &mut W,
+) -> Result<Status, CommandFault>
+    ensures { DecodesReplies (R.remaining input.old) (R.remaining input.new)
+        (W.contents output.old) (W.contents output.new) result }
+{
+    match decode_replies(alloc, input, output) {
+        Ok(_) => Ok(Status::Done),
+        Err(fault) => Err(CommandFault::from(fault)),
+    }
+}
