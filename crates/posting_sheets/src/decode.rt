@@ -36,8 +36,8 @@ fn write_line<W: Sink>(
     }
 }
 
-/// Writes a sheet of the replies that it reads to the end of its input: a header, and a line for each reply, which is
-/// written and flushed before the next is read. It answers how many replies there were. It takes memory for a line.
+/// Writes a sheet of the replies that it reads to the end of its input: a header, and a line for each reply. It answers
+/// how many replies there were. It takes memory for a line.
 ///
 /// # Errors
 ///
