@@ -1,0 +1,151 @@
+#!/usr/bin/env python3
+"""Makes records of drawn sheets by `bank encode`, posts them, and makes sheets of the replies by `bank decode`.
+
+100,000 postings are drawn from a seed and written as CSV by Python's own writer: with each header, with line feeds
+or carriage returns, behind a byte order mark or with none, with quotes about every field or about those that need
+them. The records have to be those that this script spells; the sheet of the replies has to have the fields that this
+script cuts out of the replies' bytes. Then one field of a sheet in turn is made wrong at a drawn row: the records of
+the rows before it are written, the fault names row and column, and the status is 4. Last, the replies are cut at a
+drawn byte. It needs the built program, and stands outside the gate.
+
+    tools/sheet_rounds.py [POSTINGS]
+"""
+import csv
+import io
+import os
+import random
+import subprocess
+import sys
+import tempfile
+
+HERE = os.path.dirname(os.path.dirname(os.path.abspath(__file__)))
+BANK = os.path.join(HERE, "crates", "bank", "out", "bank")
+
+COLUMNS = ["account", "teller", "number", "delta"]
+HEADERS = [COLUMNS, COLUMNS + ["branch"], COLUMNS + ["reference"], COLUMNS + ["branch", "reference"]]
+REPLY_COLUMNS = ["outcome", "name", "account", "teller", "branch", "number", "delta", "balance"]
+BRANCHES, ACCOUNTS = 20, 1000
+
+# Fields that no column takes, and some that one column doesn't.
+WRONG = {
+    "account": ["", "0", "-1", "+1", " 1", "1.0", "1000000000000", "x"],
+    "teller": ["", "0", "100000000", "1e3"],
+    "number": ["", "0", "10000000000", "0x1"],
+    "delta": ["", "+", "-", "--1", "1.50", "10000000000", "-10000000000", "1 "],
+    "branch": ["0", "1000000", "-", "b"],
+    "reference": ["123456789012345678901", "caf\u00e9", "a\tb", "two\nlines"],
+}
+
+
+def run(words, data, status):
+    done = subprocess.run([BANK, *words], input=data, capture_output=True)
+    if done.returncode != status:
+        sys.exit(f"bank {' '.join(words)}: status {done.returncode}, not {status}: {done.stderr!r}")
+    return done.stdout, done.stderr
+
+
+def spelled(row):
+    delta = int(row["delta"])
+    branch = int(row.get("branch") or (int(row["teller"]) - 1) // 10 + 1)
+    fields = "%012d%08d%06d%010d%s%010d" % (int(row["account"]), int(row["teller"]), branch, int(row["number"]),
+                                           "-" if delta < 0 else "+", abs(delta))
+    reference = row.get("reference", "")
+    text = "DC02" + fields + reference.ljust(20) if reference else "DC01" + fields
+    return text.ljust(100).encode()
+
+
+def drawn(draw, count, header):
+    rows = []
+    for i in range(count):
+        teller = draw.randint(1, 10 * BRANCHES + 1)
+        row = {
+            "account": draw.randint(1, ACCOUNTS + 1) + 100_000 * draw.randint(0, BRANCHES - 1),
+            "teller": teller,
+            "number": draw.choice([i + 1, draw.randint(1, 9_999_999_999)]),
+            "delta": draw.choice(["%d", "%+d", "%05d"]) % draw.randint(-999_999, 999_999),
+        }
+        if "branch" in header:
+            row["branch"] = draw.choice(["", (teller - 1) // 10 + 1, draw.randint(1, 999_999)])
+        if "reference" in header:
+            row["reference"] = draw.choice(["", "rent", 'a "quoted", one', " ", "~" * 20])
+        rows.append({name: str(row[name]) for name in header})
+    return rows
+
+
+def sheet(header, rows, mark, line_end, quoting):
+    text = io.StringIO(newline="")
+    writer = csv.DictWriter(text, header, lineterminator=line_end, quoting=quoting)
+    writer.writeheader()
+    writer.writerows(rows)
+    return (b"\xef\xbb\xbf" if mark else b"") + text.getvalue().encode()
+
+
+def cut(reply):
+    """The fields of a reply, by its bytes."""
+    text = reply.decode()
+    outcome, name = int(text[4:6]), text[66:82].rstrip()
+    if outcome == 90:
+        return [str(outcome), name] + [""] * 6
+    fields = [text[6:18], text[18:26], text[26:32], text[32:42], text[42:53]]
+    balance = str(int(text[53:66])) if outcome == 0 else ""
+    return [str(outcome), name] + [str(int(field)) for field in fields] + [balance]
+
+
+def decoded(replies):
+    text, _ = run(["decode"], b"".join(replies), 0)
+    lines = list(csv.reader(io.StringIO(text.decode(), newline="")))
+    if lines != [REPLY_COLUMNS] + [cut(reply) for reply in replies]:
+        sys.exit("a sheet of replies differs")
+
+
+def rounds(draw, count, folder):
+    bank = os.path.join(folder, "rounds.db")
+    plan = os.path.join(folder, "plan.csv")
+    with open(plan, "w") as file:
+        file.write("branch,accounts\n" + "".join(f"{b},{ACCOUNTS}\n" for b in range(1, BRANCHES + 1)))
+    run(["init", bank], b"", 0)
+    run(["load", bank, plan], b"", 0)
+    for i in range(16):
+        header = HEADERS[i % 4]
+        rows = drawn(draw, count // 16, header)
+        quoting = csv.QUOTE_ALL if i % 8 >= 4 else csv.QUOTE_MINIMAL
+        text = sheet(header, rows, i % 3 == 0, "\r\n" if i % 2 else "\n", quoting)
+        records, _ = run(["encode"], text, 0)
+        if records != b"".join(spelled(row) for row in rows):
+            sys.exit(f"the records of sheet {i} differ")
+        replies, _ = run(["post", bank], records + b"?" * 100, 0)
+        replies = [replies[at:at + 200] for at in range(0, len(replies), 200)]
+        if len(replies) != len(rows) + 1:
+            sys.exit(f"the replies to sheet {i} aren't so many")
+        decoded(replies)
+        names_each_fault(draw, header, rows[:50])
+        at = draw.randint(1, 199)
+        text, told = run(["decode"], replies[0] + replies[1][:at], 4)
+        if told != b"bank: truncated %d bytes\n" % at or text.count(b"\n") != 2:
+            sys.exit(f"a reply cut at {at}: {told!r}")
+    run(["audit", bank], b"", 0)
+
+
+def names_each_fault(draw, header, rows):
+    for name in header:
+        for wrong in WRONG[name]:
+            at = draw.randrange(len(rows))
+            broken = [dict(row) for row in rows]
+            broken[at][name] = wrong
+            text, told = run(["encode"], sheet(header, broken, False, "\n", csv.QUOTE_MINIMAL), 4)
+            if told.decode() != f"bank: postings row {at + 1} {name}\n":
+                sys.exit(f"{name} {wrong!r}: {told!r}")
+            if text != b"".join(spelled(row) for row in rows[:at]):
+                sys.exit(f"{name} {wrong!r}: the records before it differ")
+
+
+def main():
+    count = int(sys.argv[1]) if len(sys.argv) > 1 else 100_000
+    if not os.path.exists(BANK):
+        sys.exit(f"{BANK} isn't built")
+    with tempfile.TemporaryDirectory() as folder:
+        rounds(random.Random(56), count, folder)
+    print(f"{count} postings there and back")
+
+
+main()
