@@ -14,6 +14,8 @@ use Rattle.posting_core.specs.Stream.{Streamed}
 use Rattle.posting_core.specs.declared.stream.StreamFault.{StreamFault}
 use Rattle.posting_core.specs.declared.stream.StreamFault.TheVariants as stream
 use Rattle.branch_loader.specs.declared.loader.Loaded.{Loaded}
+use Rattle.posting_sheets.specs.declared.fault.RepliesFault.{RepliesFault}
+use Rattle.posting_sheets.specs.declared.fault.SheetFault.{SheetFault}
 use Rattle.report_lines.specs.declared.audit.Audit.{Audit}
 use Rattle.bank_reports.specs.declared.fault.ReportFault.{ReportFault}
 use Rattle.bank_reports.specs.declared.fault.ReportFault.TheVariants as report
@@ -32,6 +34,7 @@ use Rattle.load_driver.specs.declared.drive.Driven.{Driven}
 use Rattle.load_driver.specs.declared.drive_fault.DriveFault.{DriveFault}
 use Rattle.command_line.specs.Lines.{driven_line, loaded_line}
 use Rattle.command_line.specs.Statuses.{status_of_loaded}
+use Rattle.command_line.specs.Translating.{ended_by_replies, ended_by_sheet}
 use Rattle.command_line.specs.Working.{DrivesOver, LoadsOver, MayTellListening, TellsDrive, TellsListening}
 use Rattle.command_line.specs.Working.{TellsListeningInPart, TellsLoad, done_after, ended_by_load}
 use Rattle.bank_commands.specs.Commands.{EndsPost, PrintsDrive, PrintsLoad, PrintsServe, StatesOver, TellsLine}
@@ -158,15 +161,23 @@ states_done g conn back account w w' told (inr works) =
 
 -- ---- where the command wasn't begun
 
-pub tells_idle : (c : Command) (f : CommandFault) (r w : Option (List ℕ)) → Tells c r r w w (Err f)
-tells_idle (commands.Init file) f r w = inl ((f, refl), Keeps-refl w)
-tells_idle (commands.Load file plan) f r w = inl (Keeps-refl w)
-tells_idle (commands.Post file) f r w = (tt, λ _. (refl, refl))
-tells_idle (commands.Drive file seed count) f r w = inl (Keeps-refl w)
-tells_idle (commands.Audit file) f r w = inl ((f, refl), Keeps-refl w)
-tells_idle (commands.Statement file account) f r w = tt
-tells_idle (commands.Serve file address connections) f r w = inl (inl (Keeps-refl w))
-tells_idle (commands.Migrate file) f r w = inl ((f, refl), Keeps-refl w)
+-- the command has a file
+abbrev pub HasFile : Command → Type 0
+HasFile commands.Encode = ⊥
+HasFile commands.Decode = ⊥
+HasFile _ = ⊤
+
+pub tells_idle : (c : Command) (f : CommandFault) (r w : Option (List ℕ)) → HasFile c → Tells c r r w w (Err f)
+tells_idle (commands.Init file) f r w has = inl ((f, refl), Keeps-refl w)
+tells_idle (commands.Load file plan) f r w has = inl (Keeps-refl w)
+tells_idle (commands.Post file) f r w has = (tt, λ _. (refl, refl))
+tells_idle (commands.Drive file seed count) f r w has = inl (Keeps-refl w)
+tells_idle (commands.Audit file) f r w has = inl ((f, refl), Keeps-refl w)
+tells_idle (commands.Statement file account) f r w has = tt
+tells_idle (commands.Serve file address connections) f r w has = inl (inl (Keeps-refl w))
+tells_idle (commands.Migrate file) f r w has = inl ((f, refl), Keeps-refl w)
+tells_idle commands.Encode f r w has = absurd has
+tells_idle commands.Decode f r w has = absurd has
 
 -- ---- no command ends the program as a mistake in the words
 
@@ -178,6 +189,8 @@ fault_ends fault.Read = inl refl
 fault_ends fault.Write = inl refl
 fault_ends (fault.Truncated count) = inr refl
 fault_ends (fault.Plan plan) = inr refl
+fault_ends (fault.Postings sheet) = inr refl
+fault_ends (fault.Reply place bad) = inr refl
 fault_ends fault.AlreadyBank = inr refl
 fault_ends fault.NoBank = inr refl
 fault_ends fault.Foreign = inr refl
@@ -216,6 +229,16 @@ audited_is_not_usage (Ok found) w w' status printed =
     one_of_two _ Done Inconsistent status (done_is_not_usage Done refl) inconsistent_is_not_usage printed.0
 audited_is_not_usage (Err cause) w w' status printed = not_a_fault status _ printed.0
 
+encoded_is_not_usage : (end : Result ℕ SheetFault) (status : Status)
+    → (let told : Result Status CommandFault = Ok status in told) ≡ ended_by_sheet end → status ≢ Usage
+encoded_is_not_usage (Ok count) status is = done_is_not_usage status cc
+encoded_is_not_usage (Err f) status is = not_a_fault status _ is
+
+decoded_is_not_usage : (end : Result ℕ RepliesFault) (status : Status)
+    → (let told : Result Status CommandFault = Ok status in told) ≡ ended_by_replies end → status ≢ Usage
+decoded_is_not_usage (Ok count) status is = done_is_not_usage status cc
+decoded_is_not_usage (Err f) status is = not_a_fault status _ is
+
 pub told_is_not_usage : (c : Command) (r r' w w' : Option (List ℕ)) (status : Status)
     → Tells c r r' w w' (Ok status) → status ≢ Usage
 told_is_not_usage (commands.Init file) r r' w w' status (inl none) = not_a_fault status _ none.0.1
@@ -231,3 +254,5 @@ told_is_not_usage (commands.Statement file account) r r' w w' status told = done
 told_is_not_usage (commands.Serve file address connections) r r' w w' status told = done_is_not_usage status told.0
 told_is_not_usage (commands.Migrate file) r r' w w' status (inl none) = not_a_fault status _ none.0.1
 told_is_not_usage (commands.Migrate file) r r' w w' status (inr told) = done_is_not_usage status told.1.0
+told_is_not_usage commands.Encode r r' w w' status told = encoded_is_not_usage told.0 status told.2
+told_is_not_usage commands.Decode r r' w w' status told = decoded_is_not_usage told.0 status told.2

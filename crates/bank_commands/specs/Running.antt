@@ -14,6 +14,7 @@ use Rattle.command_line.specs.Auditing.{Prints}
 use Rattle.command_line.specs.CommandLine.{bank_app}
 use Rattle.command_line.specs.Faults.{status_of}
 use Rattle.command_line.specs.Lines.{IsHelpOrVersion, created_line}
+use Rattle.command_line.specs.Translating.{DecodesReplies, EncodesSheet}
 use Rattle.command_line.specs.Words.{IsSpelledBy}
 use Rattle.command_line.specs.declared.fault.CommandFault.{CommandFault}
 use Rattle.command_line.specs.declared.reading.Command.{Command}
@@ -44,6 +45,8 @@ DoesOver g conn back r r' w w' k k' (commands.Statement file account) told =
 DoesOver g conn back r r' w w' k k' (commands.Serve file address connections) told =
     Serves g conn back w w' k k' connections told
 DoesOver g conn back r r' w w' k k' (commands.Migrate file) told = Migrates g conn back w w' told
+DoesOver g conn back r r' w w' k k' commands.Encode told = (back ≡ conn) × EncodesSheet r r' w w' told
+DoesOver g conn back r r' w w' k k' commands.Decode told = (back ≡ conn) × DecodesReplies r r' w w' told
 
 -- ---- how it ends and what it prints, whatever bank is there; the text of `post` and `statement` is the bank's
 
@@ -62,6 +65,8 @@ Tells (commands.Statement file account) r r' w w' told = IfOk told (λ status. s
 Tells (commands.Serve file address connections) r r' w w' told = PrintsServe w w' told
 Tells (commands.Migrate file) r r' w w' told =
     PrintsNone w w' told ((migrated : Migrated) × TellsLine w w' (migration_line migrated) told)
+Tells commands.Encode r r' w w' told = EncodesSheet r r' w w' told
+Tells commands.Decode r r' w w' told = DecodesReplies r r' w w' told
 
 -- ---- a run
 

@@ -8,13 +8,14 @@ use crate::{
     audit_over, drive_over, init_over, load_over, migrate_over, post_over, serve_over,
     statement_over,
 };
-use command_line::Command;
+use command_line::{Command, translate_replies, translate_sheet};
 use posting_core::Clock;
 use sqlite::{Alter, Connection};
 use sqlite_trees::store::Store;
 use std::io::{Read, Write};
 
-/// Does the command with the bank of a connection, whatever the command's file is, and hands the connection back.
+/// Does the command with the bank of a connection, whatever the command's file is, and hands the connection back. A
+/// command that needs no bank hands it back as it was given.
 pub fn command_over<S: Alter + Drop, R: Read, W: Write, K: Clock>(
     rt: &HostRuntime,
     conn: Connection<S>,
@@ -47,19 +48,13 @@ pub fn command_over<S: Alter + Drop, R: Read, W: Write, K: Clock>(
             ..
         } => serve_over(rt, conn, address, connections, output, clock),
         Command::Migrate { .. } => migrate_over(rt.alloc(), conn, output),
-    }
-}
-
-/// The file of a command, and whether the command finds a bank there, rather than making one.
-pub(crate) fn file_of<'a>(command: &Command<'a>) -> (&'a str, bool) {
-    match *command {
-        Command::Init { file } => (file, false),
-        Command::Load { file, .. }
-        | Command::Post { file }
-        | Command::Drive { file, .. }
-        | Command::Audit { file }
-        | Command::Statement { file, .. }
-        | Command::Serve { file, .. }
-        | Command::Migrate { file } => (file, true),
+        Command::Encode => Ended {
+            told: translate_sheet(rt.alloc(), input, output),
+            conn,
+        },
+        Command::Decode => Ended {
+            told: translate_replies(rt.alloc(), input, output),
+            conn,
+        },
     }
 }

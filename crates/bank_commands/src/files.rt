@@ -5,16 +5,17 @@
 ghost use Rattle.command_line.specs.Words.{AreInRange};
 ghost use Rattle.bank_commands.specs.Running.{Tells};
 
-use crate::command::{command_over, file_of};
+use crate::command::command_over;
 use crate::ended::Ended;
 use bank_files::open;
-use command_line::{Command, CommandFault, Status};
+use command_line::{Command, CommandFault, Status, translate_replies, translate_sheet};
 use posting_core::Clock;
 use sqlite::Start;
 use std::fs;
 use std::io::{Read, Write};
 
-/// Does the command with the bank of its file, which is looked for where the command is to find one there.
+/// Does the command with the bank of its file, which is looked for where the command is to find one there. A command
+/// without a file is done before any is looked for.
 pub(crate) fn command_in<S: Start, R: Read, W: Write, K: Clock>(
     rt: &HostRuntime,
     start: S,
@@ -27,7 +28,18 @@ pub(crate) fn command_in<S: Start, R: Read, W: Write, K: Clock>(
     ensures { Tells command.now (R.remaining input.old) (R.remaining input.new) (W.contents output.old)
         (W.contents output.new) result }
 {
-    let (file, finds_bank) = file_of(command);
+    let (file, finds_bank) = match *command {
+        Command::Encode => return translate_sheet(rt.alloc(), input, output),
+        Command::Decode => return translate_replies(rt.alloc(), input, output),
+        Command::Init { file } => (file, false),
+        Command::Load { file, .. }
+        | Command::Post { file }
+        | Command::Drive { file, .. }
+        | Command::Audit { file }
+        | Command::Statement { file, .. }
+        | Command::Serve { file, .. }
+        | Command::Migrate { file } => (file, true),
+    };
     if finds_bank {
         look_for(rt, file)?;
     }

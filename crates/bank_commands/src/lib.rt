@@ -3,6 +3,8 @@
 //! draws, [`serve_over`] posts what comes over HTTP, [`audit_over`] says whether the books agree (TPC-B clause 2),
 //! [`statement_over`] writes the postings of an account, and [`migrate_over`] carries over a bank of an older version.
 //! Each but `init_over` finds the bank that is there. Each hands the connection back, also where there is no bank.
+//! `encode` and `decode` have no function here: they need no bank, and are `translate_sheet` and `translate_replies` of
+//! `command_line`.
 //!
 //! The function `first_commands` of `bank_trials`, which its script runs, makes a bank, opens the branches of
 //! a plan and posts the records of an input:
@@ -36,7 +38,7 @@
 //!
 //! `bank_files` opens a connection to files, and `conn.close()` closes it. [`run`] is the whole program: it finds a
 //! command in the words of the command line, looks for the command's file, opens it, does the command and closes it.
-//! `src/files`, 66 lines that are to be read, has the looking, the opening and the closing; no clause reaches them.
+//! `src/files`, 78 lines that are to be read, has the looking, the opening and the closing; no clause reaches them.
 //!
 //! `rt` is what `main` is given. `Unknown` is all that a program knows of what its files hold, and supposes
 //! that a torn write leaves each byte old or new; `Wary` of `sqlite` in its place doesn't suppose it, and

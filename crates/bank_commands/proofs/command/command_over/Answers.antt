@@ -57,3 +57,15 @@ returns-in-Migrate g c =
       tells = prints_none _ _ _ _ c.migrate_over.result.told it.migrates (λ _ _ did. (did.0, did.3));
       idle = it.idle;
     }
+
+-- ---- a command that needs no bank
+
+pub returns-in-Encode : goal.returns-in-Encode
+returns-in-Encode g c =
+    let it = c.translate_sheet.ensures in
+    rw c.in-Encode.is record { does = (refl, it); tells = it; idle = c.requires.mode }
+
+pub returns-in-Decode : goal.returns-in-Decode
+returns-in-Decode g c =
+    let it = c.translate_replies.ensures in
+    rw c.in-Decode.is record { does = (refl, it); tells = it; idle = c.requires.mode }
