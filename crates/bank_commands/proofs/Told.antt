@@ -110,6 +110,8 @@ is_write (fault.Version version) = inr (λ bad. cc)
 is_write fault.NoBranches = inr (λ bad. cc)
 is_write (fault.NoAccount account) = inr (λ bad. cc)
 is_write fault.Network = inr (λ bad. cc)
+is_write (fault.Postings sheet) = inr (λ bad. cc)
+is_write (fault.Reply place field) = inr (λ bad. cc)
 
 pub prints_serve : (w w' : Option (List ℕ)) (told : Result (Unit {0}) CommandFault)
     → OnOk told (TellsListening w w') → IfErr told (λ f. f ≢ fault.Write → MayTellListening w w')
