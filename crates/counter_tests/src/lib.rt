@@ -1,6 +1,6 @@
 //! Tests of what no scenario of a bank reaches: records and plans, fault by fault, the records that are drawn
-//! and driven, one record alone, streams over ends and banks that fail, clocks, the verdict of a full bank, and the laws; and the
-//! first programs of the crates' pages.
+//! and driven, one record alone, streams over ends and banks that fail, a client that waits for its answers,
+//! clocks, the verdict of a full bank, and the laws; and the first programs of the crates' pages.
 #![tactic(auto)]
 
 #[cfg(test)]
@@ -25,3 +25,5 @@ mod records;
 mod sheets;
 #[cfg(test)]
 mod streams;
+#[cfg(test)]
+mod waiting;
