@@ -1,4 +1,5 @@
 -- How a command ends over a connection, and what is said of it whatever bank is there.
+use Rattle.std.specs.Prelude.{⊤}
 use Rattle.std.proofs.Common.{◌≡◌, ◌≢◌, ◌⊎◌, ◌∙◌, ◌≤◌, ap, inl, inr, refl, subst, sym, ℕ, List, Option, Result, Ok, Err}
 use Rattle.std.proofs.Common.{Bool, false, true, None, OnErr, OnOk, IsErrOf, length, take}
 use Rattle.std.specs.Prelude.{IfErr, IfOk, IsErrAnd, if◌then◌else◌}

@@ -1,4 +1,5 @@
 -- What each command did is what was asked for.
+use Rattle.std.proofs.Common.{refl}
 use Rattle.bank_commands.proofs.Told.{prints_none, states_done}
 use Rattle.bank_commands.proofs.command.command_over.Goals as goal
 
