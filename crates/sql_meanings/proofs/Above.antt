@@ -1,58 +1,20 @@
 -- The next rows above a key, or from it on, under any schema.
-use Rattle.std.proofs.Common.{◌≡◌, ℕ, suc, ◌-◌, List, [], ◌∷◌, map, Ok, Some, None, Option, refl, true, false}
-use Rattle.std.proofs.Common.{nat_lt, ap, ◌∙◌}
-use Rattle.sqlite_value.specs.declared.keys.Collation.{Collation}
+use Rattle.sql_meanings.specs.Names.{◌≡◌, ℕ, ◌-◌, List, [], ◌∷◌, map, Ok, Some, None, Option, true, false, Collation}
+use Rattle.sql_meanings.specs.Names.{Program, Select, Term, lit, col, op2, Value, Schema, Table, Expr, out-Expr}
+use Rattle.sql_meanings.specs.Names.{Expr-F, Core, out-Core, Shown, Sort, out-Sort, out-Source, Parsed, Draft, Inner}
+use Rattle.sql_meanings.specs.Names.{Output, Carried, integer, nothing, alone, chosen, begin, finish, spend, Name}
+use Rattle.sql_meanings.specs.Names.{Context, declared, alias_of, number, conjuncts, compared, affinity_of, converted}
+use Rattle.sql_meanings.specs.Names.{may_be_text, ungrouped, named, paging, constant_or, lower, lower_to, node}
+use Rattle.sql_meanings.specs.Names.{opened, passes, operation, both, wanted_truth, tests_truth, tests_alias, combine}
+use Rattle.sql_meanings.specs.Names.{viewing, single, source, sources, whole, with, level, query_to, query, compiled}
+use Rattle.sql_meanings.specs.Names.{first, with_command}
+use Rattle.sql_meanings.proofs.Names.{suc, refl, nat_lt, ap, ◌∙◌}
 use Rattle.sqlite_value.specs.declared.keys.Collation.TheVariants.{Binary}
-use Rattle.sqlite_sql.specs.declared.ops.BinaryOp.TheVariants as by
 use Rattle.sqlite_sql.specs.declared.ops.CompareOp.{CompareOp}
-use Rattle.sqlite_sql.specs.declared.ops.CompareOp.TheVariants as compare
-use Rattle.sqlite_schema.specs.declared.program.Program.{Program}
 use Rattle.sqlite_schema.specs.declared.program.Table.{Table as Let}
-use Rattle.sqlite_schema.specs.declared.command.Command.TheVariants.{Select}
-use Rattle.sqlite.specs.Term.{Term, lit, col, op2}
-use Rattle.sqlite.specs.declared.types.Value.{Value}
-use Rattle.sqlite.specs.Schema.{Schema}
-use Rattle.sqlite.specs.Table.{Table}
-use Rattle.sqlite_ast.specs.declared.Expr.{Expr, out-Expr}
-use Rattle.sqlite_ast.specs.declared.Expr.TheOpen.{Expr-F}
 use Rattle.sqlite_ast.specs.declared.Binary.{Binary as Operator}
-use Rattle.sqlite_ast.specs.declared.Binary.TheVariants as binary
-use Rattle.sqlite_ast.specs.declared.Statement.TheVariants as written
-use Rattle.sqlite_ast.specs.declared.Select as written_select
-use Rattle.sqlite_ast.specs.declared.Core.{Core, out-Core}
-use Rattle.sqlite_ast.specs.declared.Shown.{Shown}
-use Rattle.sqlite_ast.specs.declared.Sort.{Sort, out-Sort}
-use Rattle.sqlite_ast.specs.declared.Origin.TheVariants as origin
-use Rattle.sqlite_ast.specs.declared.Source.{Source as From, out-Source}
-use Rattle.sqlite_syntax.specs.declared.statement.Parsed.{Parsed}
-use Rattle.sqlite_draft.specs.declared.query.Draft.{Draft}
-use Rattle.sqlite_draft.specs.declared.join.Step.TheVariants.{Inner}
-use Rattle.sqlite_resolve.specs.declared.compare.Affinity.TheVariants as affinity
-use Rattle.sqlite_resolve.specs.declared.scope.Output.{Output}
-use Rattle.sqlite_resolve.specs.declared.state.Carried.{Carried}
-use Rattle.sqlite_resolve.specs.Literal.{integer}
-use Rattle.sqlite_resolve.specs.Lowering.{nothing, alone, chosen, begin, finish, spend}
-use Rattle.sqlite_resolve.specs.Scope.{Name, Context, declared, alias_of}
-use Rattle.sqlite_resolve.specs.Terms.{number, conjuncts}
-use Rattle.sqlite_resolve.specs.Compare.{compared, affinity_of, converted, may_be_text}
-use Rattle.sqlite_resolve.specs.Select.{ungrouped, named, paging, constant, constant_or, stepless, outermost}
-use Rattle.sqlite_resolve.specs.Expr.{
-  lower,
-  lower_to,
-  node,
-  opened,
-  passes,
-  operation,
-  both,
-  wanted_truth,
-  tests_truth,
-  tests_alias,
-  combine,
-}
-use Rattle.sqlite_resolve.specs.Program.{viewing, single, source, sources, whole, with, level, query_to}
-use Rattle.sqlite_resolve.specs.Program.{query}
-use Rattle.sqlite_resolve.specs.Program as prog
-use Rattle.sqlite_resolve.specs.Compile.{compiled, first, with_command}
+use Rattle.sqlite_ast.specs.declared.Source.{Source as From}
+use Rattle.sqlite_resolve.specs.Select.{constant, stepless, outermost}
 use Rattle.sql_meanings.proofs.Columns.{over_one, column_is}
 use Rattle.sql_meanings.proofs.Expressions.{st, lower_column, lower_parameter}
 use Rattle.sql_meanings.proofs.Statements.{HasTable, compiled_select}
@@ -60,6 +22,14 @@ use Rattle.sql_meanings.proofs.ByKey.{Tests, parameter_at}
 use Rattle.sql_meanings.proofs.OneTable.{IsPartOf, IsSelectOf, one_table, parts_are, read_is}
 use Rattle.sql_meanings.proofs.ShownColumns.{ShowsColumns, HasRoom, spent, last_of}
 use Rattle.sql_meanings.proofs.Selects.{one_test, one_order, outputs_are_all}
+use Rattle.sqlite_sql.specs.declared.ops.BinaryOp.TheVariants as by
+use Rattle.sqlite_sql.specs.declared.ops.CompareOp.TheVariants as compare
+use Rattle.sqlite_ast.specs.declared.Binary.TheVariants as binary
+use Rattle.sqlite_ast.specs.declared.Statement.TheVariants as written
+use Rattle.sqlite_ast.specs.declared.Select as written_select
+use Rattle.sqlite_ast.specs.declared.Origin.TheVariants as origin
+use Rattle.sqlite_resolve.specs.declared.compare.Affinity.TheVariants as affinity
+use Rattle.sqlite_resolve.specs.Program as prog
 
 lower_integer : (cx : Context) (e : Expr) (text : List ℕ) (v : Value) (d next budget : ℕ) (l : Carried)
     → out-Expr e ≡ Expr-F.Integer text → integer false text ≡ Ok v → nat_lt 1 budget ≡ true

@@ -1,38 +1,14 @@
 -- Whatever refers to a table with no foreign key of its own, an edit leaves in it what the edit says.
-use Rattle.std.proofs.Common.{◌≡◌, ◌≢◌, ℕ, suc, zero, ◌+◌, ◌==◌, List, [], ◌∷◌, length, Ok, Result, Some}
-use Rattle.std.proofs.Common.{None, Option, refl, nat_lt, ◌&&◌, ap, sym, subst, ◌∙◌, inl, inr, ◌⊎◌}
-use Rattle.std.specs.Prelude.{ℤ}
-use Rattle.std.specs.List.{filter_map, flat_map, cons_option, list_any}
-use Rattle.std.proofs.lemmas.Bool.{cases_Bool}
-use Rattle.sqlite.specs.Schema.{Schema}
-use Rattle.sqlite.specs.Table.{Table}
-use Rattle.sqlite.specs.Tree.{Trees}
+use Rattle.sql_meanings.specs.Names.{◌≡◌, ◌≢◌, ℕ, ◌+◌, ◌==◌, List, [], ◌∷◌, length, Ok, Result, Some, None, Option}
+use Rattle.sql_meanings.specs.Names.{◌&&◌, ◌⊎◌, ℤ, filter_map, flat_map, list_any, Schema, Table, Trees, Keys}
+use Rattle.sql_meanings.specs.Names.{Reference, ParentKey, parent_key, Deed, Has, taken_by, work_by, work_for, works}
+use Rattle.sql_meanings.specs.Names.{pairs, deed_for, Leads, Writes}
+use Rattle.sql_meanings.proofs.Names.{suc, zero, refl, nat_lt, ap, sym, subst, ◌∙◌, inl, inr, cases_Bool, all_has}
+use Rattle.sql_meanings.proofs.Names.{has_either, has_left, has_right}
+use Rattle.std.specs.List.{cons_option}
 use Rattle.sqlite_value.specs.Order.{Row}
-use Rattle.sqlite_schema.specs.declared.schema.Keys.{Keys}
-use Rattle.sqlite_schema.specs.declared.schema.Reference.{Reference}
-use Rattle.sqlite_schema.specs.Rules.{ParentKey, parent_key}
-use Rattle.sqlite_rules.specs.declared.action.Deed.{Deed}
-use Rattle.sqlite_rules.specs.Lists.{Has}
-use Rattle.sqlite_rules.specs.Edit.{Edit, Applies, edited, taken_by}
-use Rattle.sqlite_rules.specs.Action.{
-  Work,
-  work_by,
-  work_for,
-  works,
-  pairs,
-  deed_for,
-  loses,
-  Leads,
-  Acts,
-  ActsOn,
-  Goes,
-  Writes,
-  refuses,
-  max_depth,
-  action_edit,
-  End,
-}
-use Rattle.sqlite_rules.proofs.ListLemmas.{all_has, has_either, has_left, has_right}
+use Rattle.sqlite_rules.specs.Edit.{Edit, Applies, edited}
+use Rattle.sqlite_rules.specs.Action.{Work, loses, Acts, ActsOn, Goes, refuses, max_depth, action_edit, End}
 use Rattle.sql_meanings.specs.Making.{Stands}
 
 ok_same : {B E : Type 0} {a b : B} → ◌≡◌ {A = Result B E} (Ok a) (Ok b) → a ≡ b

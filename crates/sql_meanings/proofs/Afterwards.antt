@@ -1,12 +1,9 @@
 -- What a failure says of the states before it and after it.
-use Rattle.std.proofs.Common.{ℕ, ◌≤◌, Bool, IsTrue, ◌∙◌, arith}
+use Rattle.sql_meanings.specs.Names.{ℕ, ◌≤◌, Bool, IsTrue, State, Fails, HasCause, IsRolledBack, KeepsCounts, Error}
+use Rattle.sql_meanings.specs.Names.{StoreError, OutOfMemory, Io, Corrupt, Full, Broken, Unstorable}
+use Rattle.sql_meanings.proofs.Names.{◌∙◌, arith}
 use Rattle.sqlite.specs.Disk.{MoreFaults}
-use Rattle.sqlite.specs.State.{State, Fails, HasCause, IsRolledBack, KeepsCounts}
 use Rattle.sqlite.specs.State.{Shows as StateShows}
-use Rattle.sqlite.specs.declared.error.Error.{Error}
-use Rattle.sqlite_trees.specs.declared.error.StoreError.{StoreError}
-use Rattle.sqlite_trees.specs.declared.error.StoreError.TheVariants.{OutOfMemory, Io, Corrupt, Full, Broken}
-use Rattle.sqlite_trees.specs.declared.error.StoreError.TheVariants.{Unstorable}
 use Rattle.sql_meanings.specs.StatementAnswers.{IsUndone, NamesCause}
 
 faults_since : (a b c : ℕ) → a ≤ b → MoreFaults b c → MoreFaults a c

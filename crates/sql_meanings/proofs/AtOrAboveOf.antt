@@ -1,40 +1,13 @@
 -- The next rows from a key on among those with a number in a column, under any schema.
-use Rattle.std.proofs.Common.{Bool, ◌≡◌, ℕ, suc, ◌-◌, List, [], ◌∷◌, map, Ok, Some, None, true, false, nat_lt}
-use Rattle.std.proofs.Common.{ap, ◌∙◌}
+use Rattle.sql_meanings.specs.Names.{Bool, ◌≡◌, ℕ, ◌-◌, List, [], ◌∷◌, map, Ok, Some, None, true, false, Program}
+use Rattle.sql_meanings.specs.Names.{Select, lit, col, op2, Value, Schema, Table, Expr, out-Expr, Expr-F, Core, Shown}
+use Rattle.sql_meanings.specs.Names.{Sort, out-Sort, Parsed, Inner, Output, Carried, integer, nothing, alone, Name}
+use Rattle.sql_meanings.specs.Names.{declared, alias_of, number, conjuncts, affinity_of, ungrouped, lower_to, both}
+use Rattle.sql_meanings.specs.Names.{viewing, single, source, sources, whole, with, level, query_to, query, compiled}
+use Rattle.sql_meanings.specs.Names.{first, with_command}
+use Rattle.sql_meanings.proofs.Names.{suc, nat_lt, ap, ◌∙◌}
 use Rattle.sqlite_value.specs.declared.keys.Collation.TheVariants.{Binary}
-use Rattle.sqlite_sql.specs.declared.ops.BinaryOp.TheVariants as by
-use Rattle.sqlite_sql.specs.declared.ops.CompareOp.TheVariants as compare
-use Rattle.sqlite_schema.specs.declared.program.Program.{Program}
-use Rattle.sqlite_schema.specs.declared.command.Command.TheVariants.{Select}
-use Rattle.sqlite.specs.Term.{lit, col, op2}
-use Rattle.sqlite.specs.declared.types.Value.{Value}
-use Rattle.sqlite.specs.Schema.{Schema}
-use Rattle.sqlite.specs.Table.{Table}
-use Rattle.sqlite_ast.specs.declared.Expr.{Expr, out-Expr}
-use Rattle.sqlite_ast.specs.declared.Expr.TheOpen.{Expr-F}
-use Rattle.sqlite_ast.specs.declared.Binary.TheVariants as binary
-use Rattle.sqlite_ast.specs.declared.Statement.TheVariants as written
-use Rattle.sqlite_ast.specs.declared.Select as written_select
-use Rattle.sqlite_ast.specs.declared.Core.{Core}
-use Rattle.sqlite_ast.specs.declared.Shown.{Shown}
-use Rattle.sqlite_ast.specs.declared.Sort.{Sort, out-Sort}
 use Rattle.sqlite_ast.specs.declared.Source.{Source as From}
-use Rattle.sqlite_syntax.specs.declared.statement.Parsed.{Parsed}
-use Rattle.sqlite_draft.specs.declared.join.Step.TheVariants.{Inner}
-use Rattle.sqlite_resolve.specs.declared.compare.Affinity.TheVariants as affinity
-use Rattle.sqlite_resolve.specs.declared.scope.Output.{Output}
-use Rattle.sqlite_resolve.specs.declared.state.Carried.{Carried}
-use Rattle.sqlite_resolve.specs.Literal.{integer}
-use Rattle.sqlite_resolve.specs.Lowering.{nothing, alone}
-use Rattle.sqlite_resolve.specs.Scope.{Name, declared, alias_of}
-use Rattle.sqlite_resolve.specs.Terms.{number, conjuncts}
-use Rattle.sqlite_resolve.specs.Compare.{affinity_of}
-use Rattle.sqlite_resolve.specs.Select.{ungrouped}
-use Rattle.sqlite_resolve.specs.Expr.{lower_to, both}
-use Rattle.sqlite_resolve.specs.Program.{viewing, single, source, sources, whole, with, level, query_to}
-use Rattle.sqlite_resolve.specs.Program.{query}
-use Rattle.sqlite_resolve.specs.Program as prog
-use Rattle.sqlite_resolve.specs.Compile.{compiled, first, with_command}
 use Rattle.sql_meanings.proofs.Columns.{over_one, column_is}
 use Rattle.sql_meanings.proofs.Expressions.{st, lower_column, lower_parameter, lower_and}
 use Rattle.sql_meanings.proofs.Statements.{HasTable, compiled_select}
@@ -43,6 +16,13 @@ use Rattle.sql_meanings.proofs.OneTable.{IsPartOf, IsSelectOf, one_table, parts_
 use Rattle.sql_meanings.proofs.ShownColumns.{ShowsColumns, HasRoom, spent, last_of}
 use Rattle.sql_meanings.proofs.Selects.{one_test, one_order, outputs_are_all}
 use Rattle.sql_meanings.proofs.Above.{Onwards, compared_start, constant_is, lower_start, paged_is}
+use Rattle.sqlite_sql.specs.declared.ops.BinaryOp.TheVariants as by
+use Rattle.sqlite_sql.specs.declared.ops.CompareOp.TheVariants as compare
+use Rattle.sqlite_ast.specs.declared.Binary.TheVariants as binary
+use Rattle.sqlite_ast.specs.declared.Statement.TheVariants as written
+use Rattle.sqlite_ast.specs.declared.Select as written_select
+use Rattle.sqlite_resolve.specs.declared.compare.Affinity.TheVariants as affinity
+use Rattle.sqlite_resolve.specs.Program as prog
 
 module _ (schema : Schema) (p : ℕ) (table : Table) (name : Name) (shown : List Output) (may : Bool)
     (has : HasTable schema name p table) where

@@ -1,56 +1,22 @@
 -- The test of a column against a parameter, and an UPDATE by it.
-use Rattle.std.proofs.Common.{
-  ◌≡◌,
-  ℕ,
-  suc,
-  ◌-◌,
-  ◌==◌,
-  List,
-  [],
-  ◌∷◌,
-  Ok,
-  Some,
-  None,
-  slice_get,
-  refl,
-  Bool,
-  true,
-  false,
-  cond,
-  nat_lt,
-  ◌∙◌,
-}
+use Rattle.sql_meanings.specs.Names.{◌≡◌, ℕ, ◌-◌, ◌==◌, List, [], ◌∷◌, Ok, Some, None, slice_get, Bool, true, false}
+use Rattle.sql_meanings.specs.Names.{cond, Compare, Eq, column_named, place_of, Column, Program, Term, col, op2}
+use Rattle.sql_meanings.specs.Names.{Schema, Table, Expr, out-Expr, Expr-F, Parsed, Inner, Output, Carried, nothing}
+use Rattle.sql_meanings.specs.Names.{chosen, Name, Context, declared, compared, affinity_of, converted, may_be_text}
+use Rattle.sql_meanings.specs.Names.{lower_to, compiled, first, with_command}
+use Rattle.sql_meanings.proofs.Names.{suc, refl, nat_lt, ◌∙◌}
 use Rattle.sqlite_value.specs.declared.keys.Collation.TheVariants.{Binary}
-use Rattle.sqlite_sql.specs.declared.ops.BinaryOp.TheVariants.{Compare}
-use Rattle.sqlite_sql.specs.declared.ops.CompareOp.TheVariants.{Eq}
-use Rattle.sqlite_schema.specs.Names.{column_named, place_of}
-use Rattle.sqlite_schema.specs.declared.schema.Column.{Column}
-use Rattle.sqlite_schema.specs.declared.program.Program.{Program}
 use Rattle.sqlite_schema.specs.declared.command.Command.TheVariants.{Update}
-use Rattle.sqlite.specs.Term.{Term, col, op2}
-use Rattle.sqlite.specs.Schema.{Schema}
-use Rattle.sqlite.specs.Table.{Table}
-use Rattle.sqlite_ast.specs.declared.Expr.{Expr, out-Expr}
-use Rattle.sqlite_ast.specs.declared.Expr.TheOpen.{Expr-F}
-use Rattle.sqlite_ast.specs.declared.Binary.TheVariants as binary
-use Rattle.sqlite_ast.specs.declared.Statement.TheVariants as written
-use Rattle.sqlite_syntax.specs.declared.statement.Parsed.{Parsed}
-use Rattle.sqlite_draft.specs.declared.join.Step.TheVariants.{Inner}
 use Rattle.sqlite_resolve.specs.declared.compare.Affinity.{Affinity}
-use Rattle.sqlite_resolve.specs.declared.compare.Affinity.TheVariants as affinity
-use Rattle.sqlite_resolve.specs.declared.scope.Output.{Output}
-use Rattle.sqlite_resolve.specs.declared.state.Carried.{Carried}
-use Rattle.sqlite_resolve.specs.Lowering.{nothing, chosen}
-use Rattle.sqlite_resolve.specs.Scope.{Name, Context, declared}
-use Rattle.sqlite_resolve.specs.Write as w
-use Rattle.sqlite_resolve.specs.Compare.{compared, affinity_of, of_column, of_declared, converted}
-use Rattle.sqlite_resolve.specs.Compare.{may_be_text}
-use Rattle.sqlite_resolve.specs.Expr.{lower_to}
-use Rattle.sqlite_resolve.specs.Program as prog
-use Rattle.sqlite_resolve.specs.Compile.{compiled, first, with_command}
+use Rattle.sqlite_resolve.specs.Compare.{of_column, of_declared}
 use Rattle.sql_meanings.proofs.Columns.{over_one, column_is}
 use Rattle.sql_meanings.proofs.Expressions.{st, lower_parameter, lower_column, lower_equal}
 use Rattle.sql_meanings.proofs.Statements.{HasTable, updates}
+use Rattle.sqlite_ast.specs.declared.Binary.TheVariants as binary
+use Rattle.sqlite_ast.specs.declared.Statement.TheVariants as written
+use Rattle.sqlite_resolve.specs.declared.compare.Affinity.TheVariants as affinity
+use Rattle.sqlite_resolve.specs.Write as w
+use Rattle.sqlite_resolve.specs.Program as prog
 
 -- a column of numbers is compared with a parameter as it is
 pub compared_is : (cx : Context) (at m : ℕ) → affinity_of cx (col 1 at) ≡ affinity.Numeric

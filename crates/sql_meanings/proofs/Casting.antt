@@ -1,12 +1,8 @@
 -- A row of a key, whole numbers and texts is stored as it is.
-use Rattle.std.proofs.Common.{◌≡◌, ◌≤◌, ◌⊎◌, inl, inr, ℕ, ℤ, List, [], ◌∷◌, ◌++◌, map, length, refl, ap}
-use Rattle.std.proofs.Common.{arith}
-use Rattle.sqlite.specs.declared.types.Value.{Value}
-use Rattle.sqlite.specs.declared.types.Value.TheVariants.{Null, Int, Text}
-use Rattle.sqlite.specs.Order.{Row}
-use Rattle.sqlite.specs.Table.{Table}
-use Rattle.sqlite_rules.specs.Cast.{cast, cast_all, cast_row}
-use Rattle.sqlite_schema.specs.declared.schema.Column.{Column}
+use Rattle.sql_meanings.specs.Names.{◌≡◌, ◌≤◌, ◌⊎◌, ℕ, ℤ, List, [], ◌∷◌, ◌++◌, map, length, Value, Null, Int, Text}
+use Rattle.sql_meanings.specs.Names.{Row, Table, cast_row, Column}
+use Rattle.sql_meanings.proofs.Names.{inl, inr, refl, ap, arith}
+use Rattle.sqlite_rules.specs.Cast.{cast, cast_all}
 use Rattle.sql_meanings.specs.Entries.{Entry, numbers, texts_held, stored, AreShort}
 use Rattle.sql_meanings.specs.Plain.{key_column, number_column, text_column}
 use Rattle.sql_meanings.proofs.EntryLists.{cast_int, cast_null}

@@ -1,14 +1,9 @@
 -- The row under a key is changed, or a row is put in: what is found after it, and that keys rise on.
-use Rattle.std.proofs.Common.{◌≡◌, ◌||◌, ℕ, ℤ, List, [], ◌∷◌, map, find, is_some, cond, Bool, true, false}
-use Rattle.std.proofs.Common.{Some, None, refl, sym, ap, subst, ◌∙◌, Less, Equal, Greater, Ordering, int_cmp}
-use Rattle.std.specs.Ordering.{int_eq, match_ordering}
-use Rattle.std.specs.List.{AllByRecursion}
-use Rattle.std.proofs.lemmas.Int.{ints}
-use Rattle.std.proofs.Common.{arith}
+use Rattle.sql_meanings.specs.Names.{◌≡◌, ◌||◌, ℕ, ℤ, List, [], ◌∷◌, map, find, is_some, cond, Bool, true, false}
+use Rattle.sql_meanings.specs.Names.{Some, None, int_eq, match_ordering, AllByRecursion, Row, is_taken}
+use Rattle.sql_meanings.proofs.Names.{refl, sym, ap, subst, ◌∙◌, Less, Equal, Greater, Ordering, int_cmp, ints, arith}
+use Rattle.sql_meanings.proofs.Names.{value_cmp-Int}
 use Rattle.std.proofs.lemmas.Bool.Decides.{Decides-int_eq}
-use Rattle.sqlite_value.proofs.OrderLemmas.{value_cmp-Int}
-use Rattle.sqlite.specs.Order.{Row}
-use Rattle.sqlite_rules.specs.Edit.{is_taken}
 use Rattle.sql_meanings.specs.Entries.{HasWidth, Entry, IsTree, Rise, changed, has_key, put, stored}
 use Rattle.sql_meanings.proofs.EntryLists.{Above, rise_put}
 

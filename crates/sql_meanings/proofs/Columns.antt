@@ -1,27 +1,9 @@
 -- Columns of one table, as a statement over that table alone names them.
-use Rattle.std.proofs.Common.{◌≡◌, ℕ, List, [], ◌∷◌, Ok, Some, None, slice_get, Bool, true}
-use Rattle.sqlite_schema.specs.Names.{column_named, place_of}
-use Rattle.sqlite_schema.specs.declared.schema.Column.{Column}
-use Rattle.sqlite.specs.Term.{col}
-use Rattle.sqlite.specs.Schema.{Schema}
-use Rattle.sqlite.specs.Table.{Table}
+use Rattle.sql_meanings.specs.Names.{◌≡◌, ℕ, List, [], ◌∷◌, Ok, Some, None, slice_get, Bool, true, column_named}
+use Rattle.sql_meanings.specs.Names.{place_of, Column, col, Schema, Table, Output, Name, Context, column, declared}
 use Rattle.sqlite_resolve.specs.declared.state.State.{State}
 use Rattle.sqlite_resolve.specs.declared.scope.Bound.{Bound}
-use Rattle.sqlite_resolve.specs.declared.scope.Output.{Output}
-use Rattle.sqlite_resolve.specs.Scope.{
-  Name,
-  Context,
-  column,
-  find,
-  term_of,
-  column_at,
-  in_level,
-  only,
-  hit,
-  column_in,
-  declared,
-  is_among,
-}
+use Rattle.sqlite_resolve.specs.Scope.{find, term_of, column_at, in_level, only, hit, column_in, is_among}
 use Rattle.sqlite_resolve.specs.declared.scope.Found.TheVariants as found
 
 -- one table, in slot 1

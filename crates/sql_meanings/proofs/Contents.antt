@@ -1,12 +1,9 @@
 -- Tables side by side: what is held of each, and what a write of one leaves.
-use Rattle.std.proofs.Common.{◌≡◌, ◌≢◌, ◌==◌, ◌&&◌, not, inl, inr, ℕ, zero, suc, List, [], ◌∷◌, length}
-use Rattle.std.proofs.Common.{slice_get, slice_set, Some, true, refl, sym, subst, arith}
-use Rattle.std.specs.Str.{bytes_eq}
+use Rattle.sql_meanings.specs.Names.{◌≡◌, ◌≢◌, ◌==◌, ◌&&◌, not, ℕ, List, [], ◌∷◌, length, slice_get, Some, true}
+use Rattle.sql_meanings.specs.Names.{bytes_eq, State, Table, Database, Has}
+use Rattle.sql_meanings.proofs.Names.{inl, inr, zero, suc, refl, sym, subst, arith}
+use Rattle.std.proofs.Common.{slice_set}
 use Rattle.std.proofs.lemmas.Slice.Eq.{bytes_eq-Decides}
-use Rattle.sqlite.specs.State.{State}
-use Rattle.sqlite.specs.Table.{Table}
-use Rattle.sqlite.specs.Effect.{Database}
-use Rattle.sqlite_rules.specs.Lists.{Has}
 use Rattle.sql_meanings.specs.Contents.{HoldsEach, has_other_names, is_free, stand_apart}
 use Rattle.sql_meanings.specs.Entries.{Entry}
 use Rattle.sql_meanings.specs.Tables.{Defines, Holds}

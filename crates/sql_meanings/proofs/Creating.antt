@@ -1,59 +1,18 @@
 -- CREATE TABLE under any schema.
-use Rattle.std.proofs.Common.{
-  ◌≡◌,
-  ℕ,
-  ◌==◌,
-  ◌&&◌,
-  not,
-  if◌then◌else◌,
-  List,
-  [],
-  length,
-  Ok,
-  Err,
-  None,
-  is_some,
-  refl,
-  Bool,
-  true,
-  false,
-  sym,
-  subst,
-  ◌∙◌,
-  inl,
-  inr,
-  ◌⊎◌,
-}
+use Rattle.sql_meanings.specs.Names.{◌≡◌, ℕ, ◌==◌, ◌&&◌, not, if◌then◌else◌, List, [], length, Ok, Err, None, is_some}
+use Rattle.sql_meanings.specs.Names.{Bool, true, false, ◌⊎◌, table_named, index_named, view_named, Schema, Table}
+use Rattle.sql_meanings.specs.Names.{Parsed, CompileError, Compiled, Checked, and_then, Name, compiled, first}
+use Rattle.sql_meanings.specs.Names.{planned, timed, meaning, returning, command, create_table, creates, is_attached}
+use Rattle.sql_meanings.specs.Names.{is_reserved, with_command, understood}
+use Rattle.sql_meanings.proofs.Names.{refl, sym, subst, ◌∙◌, inl, inr}
 use Rattle.std.specs.Option.{option_or}
-use Rattle.sqlite_schema.specs.Names.{table_named, index_named, view_named}
-use Rattle.sqlite.specs.Schema.{Schema}
-use Rattle.sqlite.specs.Table.{Table}
 use Rattle.sqlite.specs.Command.TheVariants.{CreateTable as MakeTable, Nothing}
 use Rattle.sqlite_ast.specs.declared.CreateTable.{CreateTable}
-use Rattle.sqlite_ast.specs.declared.Statement.TheVariants as written
-use Rattle.sqlite_syntax.specs.declared.statement.Parsed.{Parsed}
-use Rattle.sqlite_resolve.specs.declared.error.CompileError.{CompileError}
 use Rattle.sqlite_resolve.specs.declared.error.CompileError.TheVariants.{Unsupported, Misuse, Exists}
-use Rattle.sqlite_resolve.specs.declared.compiled.Compiled.{Compiled}
-use Rattle.sqlite_resolve.specs.Lowering.{Checked, and_then}
-use Rattle.sqlite_resolve.specs.Scope.{Name}
-use Rattle.sqlite_resolve.specs.Define as define
-use Rattle.sqlite_resolve.specs.Compile.{
-  compiled,
-  first,
-  planned,
-  timed,
-  meaning,
-  returning,
-  command,
-  create_table,
-  creates,
-  is_attached,
-  is_reserved,
-  with_command,
-}
-use Rattle.sqlite.specs.Listing.{understood, misses_table}
+use Rattle.sqlite.specs.Listing.{misses_table}
 use Rattle.sql_meanings.specs.Making.{IsCreation}
+use Rattle.sqlite_ast.specs.declared.Statement.TheVariants as written
+use Rattle.sqlite_resolve.specs.Define as define
 
 -- it is made, or refused as a name that is taken
 abbrev pub Outcome : {A : Type 0} → A → Checked A → Type 0

@@ -1,22 +1,16 @@
 -- 'A schema defines a table' is a proposition, and the same as that the table stands.
-use Rattle.std.proofs.Common.{◌≡◌, ℕ, [], Some, None, Option, slice_get, sym, ap, ◌∙◌}
-use Rattle.std.specs.Prelude.{option_and_then}
+use Rattle.sql_meanings.specs.Names.{◌≡◌, ℕ, [], Some, None, Option, slice_get, option_and_then, AllByRecursion-prop}
+use Rattle.sql_meanings.specs.Names.{table_named, Schema, Table, Trees, IsSound, Has}
+use Rattle.sql_meanings.proofs.Names.{sym, ap, ◌∙◌, all_has}
 use Rattle.std.specs.Coded.{coded_option}
-use base.Stored.{Coded-set}
-use mathlib.Core.HLevel.{Π_prop}
-use Rattle.sqlite_trees.specs.Props.{AllByRecursion-prop}
-use Rattle.sqlite_schema.specs.contracts.schema.Table as table_row
-use Rattle.sqlite_schema.specs.Names.{table_named}
-use Rattle.sqlite.specs.Schema.{Schema}
-use Rattle.sqlite.specs.Table.{Table}
-use Rattle.sqlite.specs.Tree.{Trees}
-use Rattle.sqlite_catalog.specs.Listing.{IsSound}
 use Rattle.sqlite_catalog.proofs.AlterLemmas.{place_has}
-use Rattle.sqlite_rules.specs.Lists.{Has}
-use Rattle.sqlite_rules.proofs.ListLemmas.{all_has, all_from}
+use Rattle.sqlite_rules.proofs.ListLemmas.{all_from}
 use Rattle.sql_meanings.specs.Making.{Stands}
 use Rattle.sql_meanings.proofs.TableStands.{has_table}
 use Rattle.sql_meanings.specs.Tables.{Defines, table_of, tree_of}
+use base.Stored.{Coded-set}
+use mathlib.Core.HLevel.{Π_prop}
+use Rattle.sqlite_schema.specs.contracts.schema.Table as table_row
 
 Table-set : IsSet Table
 Table-set = Coded-set table_row.the_row.coded

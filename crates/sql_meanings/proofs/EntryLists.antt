@@ -1,44 +1,11 @@
 -- The rows of a tree and their entries.
-use Rattle.std.proofs.Common.{
-  ◌≡◌,
-  ℕ,
-  ℤ,
-  List,
-  [],
-  ◌∷◌,
-  map,
-  filter,
-  find,
-  cond,
-  Bool,
-  true,
-  false,
-  not,
-  None,
-  Some,
-  inl,
-  inr,
-  refl,
-  ap,
-  ◌∙◌,
-  Less,
-  Equal,
-  Greater,
-  Ordering,
-  int_cmp,
-  arith,
-}
-use Rattle.std.specs.Ordering.{is_eq, int_eq, match_ordering}
-use Rattle.std.proofs.lemmas.Int.{ints}
-use Rattle.std.proofs.lemmas.Bool.{cases_Bool}
-use Rattle.std.specs.List.{AllByRecursion}
-use Rattle.sqlite.specs.declared.types.Value.TheVariants.{Null, Int, Text}
-use Rattle.sqlite.specs.Tree.{has_rowid, put_row, without_rowid}
-use Rattle.sqlite_sql.specs.Ops.{is_true, from_truth, binary, unary}
-use Rattle.sqlite_sql.specs.declared.ops.BinaryOp.TheVariants.{Compare}
-use Rattle.sqlite_sql.specs.declared.ops.CompareOp.TheVariants.{Eq}
-use Rattle.sqlite.specs.Collation.TheVariants.{Binary}
-use Rattle.sqlite_value.proofs.OrderLemmas.{value_cmp-Int}
+use Rattle.sql_meanings.specs.Names.{◌≡◌, ℕ, ℤ, List, [], ◌∷◌, map, filter, find, cond, Bool, true, false, not, None}
+use Rattle.sql_meanings.specs.Names.{Some, is_eq, int_eq, match_ordering, AllByRecursion, Null, Int, Text, put_row}
+use Rattle.sql_meanings.specs.Names.{without_rowid, is_true, from_truth, binary, Compare, Eq, Binary}
+use Rattle.sql_meanings.proofs.Names.{inl, inr, refl, ap, ◌∙◌, Less, Equal, Greater, Ordering, int_cmp, arith, ints}
+use Rattle.sql_meanings.proofs.Names.{cases_Bool, value_cmp-Int}
+use Rattle.sqlite.specs.Tree.{has_rowid}
+use Rattle.sqlite_sql.specs.Ops.{unary}
 use Rattle.sqlite_value.specs.Order.{value_cmp}
 use Rattle.sqlite_trees.proofs.ListLemmas.{filter-map}
 use Rattle.sqlite_schema.specs.declared.schema.Kind.TheVariants.{Integer}

@@ -1,18 +1,13 @@
 -- Expressions over one table, under any schema.
-use Rattle.std.proofs.Common.{◌≡◌, ℕ, suc, ◌-◌, [], Ok, None, true, nat_lt}
-use Rattle.sqlite.specs.Term.{Term, col, op2}
-use Rattle.sqlite_ast.specs.declared.Expr.{Expr, out-Expr}
-use Rattle.sqlite_ast.specs.declared.Expr.TheOpen.{Expr-F}
+use Rattle.sql_meanings.specs.Names.{◌≡◌, ℕ, ◌-◌, [], Ok, None, true, Term, col, op2, Expr, out-Expr, Expr-F, Carried}
+use Rattle.sql_meanings.specs.Names.{nothing, begin, finish, spend, chosen, Name, Context, column, compared, lower_to}
+use Rattle.sql_meanings.specs.Names.{node, opened, passes, operation, both, wanted_truth, tests_truth, tests_alias}
+use Rattle.sql_meanings.specs.Names.{combine}
+use Rattle.sql_meanings.proofs.Names.{suc, nat_lt}
+use Rattle.sqlite_resolve.specs.declared.state.State.{State}
 use Rattle.sqlite_ast.specs.declared.Binary.TheVariants as binary
 use Rattle.sqlite_sql.specs.declared.ops.BinaryOp.TheVariants as by
 use Rattle.sqlite_sql.specs.declared.ops.CompareOp.TheVariants as compare
-use Rattle.sqlite_resolve.specs.declared.state.State.{State}
-use Rattle.sqlite_resolve.specs.declared.state.Carried.{Carried}
-use Rattle.sqlite_resolve.specs.Lowering.{nothing, begin, finish, spend, chosen}
-use Rattle.sqlite_resolve.specs.Scope.{Name, Context, column}
-use Rattle.sqlite_resolve.specs.Compare.{compared}
-use Rattle.sqlite_resolve.specs.Expr.{lower_to, node, opened, passes, operation, both, wanted_truth}
-use Rattle.sqlite_resolve.specs.Expr.{tests_truth, tests_alias, combine}
 
 -- between two expressions of a query with no subquery
 abbrev pub st : ℕ → ℕ → Carried → State

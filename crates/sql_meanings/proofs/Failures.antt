@@ -1,11 +1,7 @@
 -- What the ways to fail have in common.
-use Rattle.std.proofs.Common.{◌≡◌, inl, inr, false, refl, ap, ◌∙◌}
-use Rattle.sqlite.specs.Table.{Table}
-use Rattle.sqlite.specs.State.{State, store_error}
-use Rattle.sqlite.specs.declared.error.Error.{Error}
-use Rattle.sqlite_trees.specs.declared.error.StoreError.{StoreError}
-use Rattle.sqlite_trees.specs.declared.error.StoreError.TheVariants.{OutOfMemory, Io, Corrupt, Full, Broken}
-use Rattle.sqlite_trees.specs.declared.error.StoreError.TheVariants.{Unstorable}
+use Rattle.sql_meanings.specs.Names.{◌≡◌, false, Table, State, store_error, Error, StoreError, OutOfMemory, Io}
+use Rattle.sql_meanings.specs.Names.{Corrupt, Full, Broken, Unstorable}
+use Rattle.sql_meanings.proofs.Names.{inl, inr, refl, ap, ◌∙◌}
 use Rattle.sql_meanings.specs.StatementAnswers.{PutFails, SetFails, is_taken_key}
 
 store_other : (cause : StoreError) → is_taken_key (store_error cause) ≡ false

@@ -1,31 +1,19 @@
 -- Where its name is free, a CREATE TABLE is understood, and only a full file refuses it.
-use Rattle.std.proofs.Common.{◌≡◌, ℕ, ◌+◌, ◌++◌, ◌==◌, ◌&&◌, not, List, [], ◌∷◌, length, Bool, true, false}
-use Rattle.std.proofs.Common.{Ok, None, Some, Option, is_some, refl, sym, ap, ◌∙◌, inl, inr, codes}
-use Rattle.std.proofs.Common.{append-nil, slice_get, suc, zero}
-use Rattle.std.specs.Prelude.{option_and_then}
-use Rattle.std.specs.List.{position_from}
-use Rattle.std.proofs.lemmas.Bool.{cases_Bool, or_parts}
-use Rattle.sqlite.specs.Change.{created, is_used, next_tree}
-use Rattle.sqlite.specs.Does.{lacks_sequence}
-use Rattle.sqlite.specs.Listing.{understood}
-use Rattle.sqlite.specs.Rows.{sequence}
-use Rattle.sqlite.specs.Schema.{Schema}
-use Rattle.sqlite.specs.Table.{Table}
+use Rattle.sql_meanings.specs.Names.{◌≡◌, ℕ, ◌+◌, ◌++◌, ◌==◌, ◌&&◌, not, List, [], ◌∷◌, length, Bool, true, false, Ok}
+use Rattle.sql_meanings.specs.Names.{None, Some, Option, is_some, codes, slice_get, option_and_then, position_from}
+use Rattle.sql_meanings.specs.Names.{created, is_used, next_tree, lacks_sequence, understood, sequence, Schema, Table}
+use Rattle.sql_meanings.specs.Names.{Error, SqliteFailure, SchemaTooBig, index_named, same_name, table_named, Parsed}
+use Rattle.sql_meanings.specs.Names.{compiled, first, planned, timed, meaning, returning, command, create_table}
+use Rattle.sql_meanings.specs.Names.{creates, is_attached, is_reserved, with_command}
+use Rattle.sql_meanings.proofs.Names.{refl, sym, ap, ◌∙◌, inl, inr, append-nil, suc, zero, cases_Bool, or_parts}
 use Rattle.sqlite.specs.Command.TheVariants.{CreateTable as MakeTable}
-use Rattle.sqlite.specs.declared.error.Error.{Error}
-use Rattle.sqlite.specs.declared.error.Error.TheVariants.{SqliteFailure}
-use Rattle.sqlite.specs.declared.error.ErrorCode.TheVariants.{SchemaTooBig}
 use Rattle.sqlite_ast.specs.declared.CreateTable.{CreateTable}
-use Rattle.sqlite_ast.specs.declared.Statement.TheVariants as written
 use Rattle.sqlite_catalog.proofs.StepLemmas.{no_table, no_index, no_view}
-use Rattle.sqlite_schema.specs.Names.{index_named, same_name, table_named}
-use Rattle.sqlite_syntax.specs.declared.statement.Parsed.{Parsed}
-use Rattle.sqlite_resolve.specs.Define as define
-use Rattle.sqlite_resolve.specs.Compile.{compiled, first, planned, timed, meaning, returning, command}
-use Rattle.sqlite_resolve.specs.Compile.{create_table, creates, is_attached, is_reserved, with_command}
 use Rattle.sql_meanings.specs.Making.{NotMade, counts_rows}
 use Rattle.sql_meanings.specs.StatementAnswers.{IsUnderstood}
 use Rattle.sql_meanings.proofs.TableStands.{counts_created}
+use Rattle.sqlite_ast.specs.declared.Statement.TheVariants as written
+use Rattle.sqlite_resolve.specs.Define as define
 
 module _ (schema : Schema) (def : CreateTable) (t : Table) (defined : define.table [] def ≡ Ok t)
     (stamped : (length t.computed == length t.stamps.places && not def.resolves) ≡ true)

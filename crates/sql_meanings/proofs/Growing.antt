@@ -1,14 +1,9 @@
 -- How a schema grows: its trees are numbered low, and the table of AUTOINCREMENT may come first.
-use Rattle.std.proofs.Common.{◌≡◌, ◌<◌, List, [], ◌∷◌, Ok, sym, subst, inl, inr, ◌⊎◌}
+use Rattle.sql_meanings.specs.Names.{◌≡◌, ◌<◌, List, [], ◌∷◌, Ok, ◌⊎◌, Schema, Table, Trees, Has, IsSound, Database}
+use Rattle.sql_meanings.specs.Names.{MakesTable, MakesSequence, lacks_sequence, sequence_text}
+use Rattle.sql_meanings.proofs.Names.{sym, subst, inl, inr, cases_Bool}
 use Rattle.std.specs.List.{AllZip}
-use Rattle.std.proofs.lemmas.Bool.{cases_Bool}
-use Rattle.sqlite.specs.Schema.{Schema}
-use Rattle.sqlite.specs.Table.{Table}
-use Rattle.sqlite.specs.Tree.{Trees}
-use Rattle.sqlite_rules.specs.Lists.{Has}
-use Rattle.sqlite_catalog.specs.Listing.{IsSound, IsTableRow}
-use Rattle.sqlite.specs.Effect.{Database}
-use Rattle.sqlite.specs.Does.{MakesTable, MakesSequence, lacks_sequence, sequence_text}
+use Rattle.sqlite_catalog.specs.Listing.{IsTableRow}
 
 zipped : {X Y : Type 0} (R : X → Y → Type 0) (xs : List X) (ys : List Y) (y : Y) → AllZip R xs ys → Has ys y
     → (x : X) × R x y

@@ -1,28 +1,9 @@
 -- What a text means that reads or writes the row under its key, by what is computed of the text alone.
-use Rattle.std.proofs.Common.{◌≡◌, ◌≤◌, ℕ, ℤ, true, false, List, [], ◌∷◌, length, refl, slice_get, Ok, Some}
-use Rattle.std.proofs.Common.{None}
-use Rattle.sqlite.specs.Schema.{Schema}
-use Rattle.sqlite.specs.Table.{Table}
-use Rattle.sqlite.specs.Term.{Term, col, op2, eval_all}
-use Rattle.sqlite.specs.declared.types.Value.TheVariants.{Int}
-use Rattle.sqlite_ast.specs.declared.Binary.TheVariants as binary
-use Rattle.sqlite_ast.specs.declared.Expr.{Expr, out-Expr}
-use Rattle.sqlite_ast.specs.declared.Expr.TheOpen.{Expr-F}
-use Rattle.sqlite_ast.specs.declared.Statement.TheVariants as written
-use Rattle.sqlite_draft.specs.declared.join.Step.TheVariants.{Inner}
-use Rattle.sqlite_resolve.specs.Compile.{first}
-use Rattle.sqlite_resolve.specs.Lowering.{chosen, nothing}
-use Rattle.sqlite_resolve.specs.Program as program
-use Rattle.sqlite_resolve.specs.Scope.{declared}
-use Rattle.sqlite_resolve.specs.Select.{ungrouped}
-use Rattle.sqlite_resolve.specs.Terms.{number}
-use Rattle.sqlite_resolve.specs.Write as write
-use Rattle.sqlite_schema.specs.Names.{column_named, place_of}
-use Rattle.sqlite_schema.specs.Rules.{passes_checks}
-use Rattle.sqlite_sql.specs.declared.ops.BinaryOp.TheVariants.{Compare}
-use Rattle.sqlite_sql.specs.declared.ops.CompareOp.TheVariants.{Eq}
-use Rattle.sqlite_syntax.specs.declared.statement.Parsed.{Parsed}
-use Rattle.sqlite_typing.specs.Types.{accepts_program}
+use Rattle.sql_meanings.specs.Names.{◌≡◌, ◌≤◌, ℕ, ℤ, true, false, List, [], ◌∷◌, length, slice_get, Ok, Some, None}
+use Rattle.sql_meanings.specs.Names.{Schema, Table, Term, col, op2, eval_all, Int, Expr, out-Expr, Expr-F, Inner}
+use Rattle.sql_meanings.specs.Names.{first, chosen, nothing, declared, ungrouped, number, column_named, place_of}
+use Rattle.sql_meanings.specs.Names.{passes_checks, Compare, Eq, Parsed, accepts_program}
+use Rattle.sql_meanings.proofs.Names.{refl}
 use Rattle.sqlite_value.specs.declared.keys.Collation.TheVariants.{Binary}
 use Rattle.sql_meanings.specs.Entries.{HasWidth, Entry, stored}
 use Rattle.sql_meanings.specs.Plain.{key_column}
@@ -35,6 +16,10 @@ use Rattle.sql_meanings.proofs.SetRows.{ChangesAs}
 use Rattle.sql_meanings.proofs.ShownColumns.{outputs_at}
 use Rattle.sql_meanings.proofs.Statements.{HasTable}
 use Rattle.sql_meanings.proofs.Texts.{IsSelect, reads_by}
+use Rattle.sqlite_ast.specs.declared.Binary.TheVariants as binary
+use Rattle.sqlite_ast.specs.declared.Statement.TheVariants as written
+use Rattle.sqlite_resolve.specs.Program as program
+use Rattle.sqlite_resolve.specs.Write as write
 
 -- the key of the table stands first
 abbrev pub IsFirst : Table → List ℕ → Type 0

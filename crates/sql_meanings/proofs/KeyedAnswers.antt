@@ -1,42 +1,11 @@
 -- What a keyed SELECT answers.
-use Rattle.std.proofs.Common.{
-  ◌≡◌,
-  ℕ,
-  ℤ,
-  List,
-  [],
-  ◌∷◌,
-  ◌++◌,
-  length,
-  map,
-  filter,
-  find,
-  cond,
-  ◌&&◌,
-  Bool,
-  true,
-  false,
-  Some,
-  None,
-  Option,
-  refl,
-  sym,
-  ap,
-  subst,
-  ◌∙◌,
-  arith,
-}
-use Rattle.std.specs.List.{flat_map}
+use Rattle.sql_meanings.specs.Names.{◌≡◌, ℕ, ℤ, List, [], ◌∷◌, ◌++◌, length, map, filter, find, cond, ◌&&◌, Bool}
+use Rattle.sql_meanings.specs.Names.{true, false, Some, None, Option, flat_map, Value, Int, Row, Term, Env, eval_all}
+use Rattle.sql_meanings.specs.Names.{holds, col, IsAnswerAs, matches_as, inner, end, output, Trees}
+use Rattle.sql_meanings.proofs.Names.{refl, sym, ap, subst, ◌∙◌, arith, length_permutation, map-map}
 use Rattle.std.specs.List.Sorted.{IsPermutation}
-use Rattle.std.proofs.lemmas.List.Sorted.{length_permutation}
-use Rattle.sqlite.specs.declared.types.Value.{Value}
-use Rattle.sqlite.specs.declared.types.Value.TheVariants.{Int}
-use Rattle.sqlite.specs.Order.{Row}
-use Rattle.sqlite.specs.Term.{Term, Env, eval_all, holds, col}
-use Rattle.sqlite.specs.Query.{IsAnswerAs, matches_as, inner, end, output, Output}
-use Rattle.sqlite.specs.Tree.{Trees}
+use Rattle.sqlite.specs.Query.{Output}
 use Rattle.sqlite.proofs.Callers.{one_permutation}
-use Rattle.sqlite_trees.proofs.ListLemmas.{map-map}
 use Rattle.sql_meanings.proofs.EntryLists.{int_equals, one_filter}
 use Rattle.sql_meanings.specs.Entries.{listed, Entry, IsTree, has_key, stored}
 use Rattle.sql_meanings.specs.Queries.{no_limit, is, query}

@@ -1,4 +1,5 @@
 -- What SQL texts mean under any schema, and what they leave.
+pub mod Names
 pub mod Above
 pub mod Actions
 pub mod Afterwards
@@ -44,6 +45,7 @@ pub mod SeekTexts
 pub mod Selects
 pub mod SetFailures
 pub mod SetRows
+pub mod SeveralRows
 pub mod ShownColumns
 pub mod Sparing
 pub mod TableStands

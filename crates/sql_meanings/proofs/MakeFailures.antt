@@ -1,26 +1,17 @@
 -- Why a CREATE TABLE inside a transaction fails, and what it tells.
-use Rattle.std.proofs.Common.{◌≡◌, ◌⊎◌, inl, inr, ℕ, ◌+◌, ◌*◌, ◌^◌, ◌==◌, true, false, codes, ◌≤◌, List, []}
-use Rattle.std.proofs.Common.{length, None, Some, Option, Ok, Err, Result, IsTrue, refl, sym, ap, subst, ◌∙◌}
-use Rattle.std.proofs.Common.{arith}
-use Rattle.std.proofs.lemmas.Bool.{cases_Bool}
-use Rattle.sqlite.specs.Table.{Table}
-use Rattle.sqlite.specs.Change.{automatics, created, is_used, next_tree}
-use Rattle.sqlite.specs.Command.TheVariants.{CreateTable}
-use Rattle.sqlite.specs.Compile.{table_defined_by}
-use Rattle.sqlite.specs.Does.{Does, MakesSequence, MakesTable, lacks_sequence, no_rows, sequence_text}
-use Rattle.sqlite.specs.Effect.{Database, alter_error}
-use Rattle.sqlite.specs.Rows.{Gives, Then}
-use Rattle.sqlite.specs.State.{State, ExecutesInside, IsNoStatement, mode_of}
-use Rattle.sqlite.specs.declared.error.Error.{Error}
-use Rattle.sqlite_catalog.specs.Calls.{IsBadName, RefusesTable}
-use Rattle.sqlite_catalog.specs.Listing.{is_fit, is_formed}
+use Rattle.sql_meanings.specs.Names.{◌≡◌, ◌⊎◌, ℕ, ◌+◌, ◌^◌, ◌==◌, true, false, codes, ◌≤◌, List, [], length, None}
+use Rattle.sql_meanings.specs.Names.{Some, Option, Ok, Err, Result, IsTrue, Table, automatics, created, is_used}
+use Rattle.sql_meanings.specs.Names.{next_tree, CreateTable, table_defined_by, Does, MakesSequence, MakesTable}
+use Rattle.sql_meanings.specs.Names.{lacks_sequence, no_rows, sequence_text, Database, Gives, Then, State}
+use Rattle.sql_meanings.specs.Names.{ExecutesInside, IsNoStatement, mode_of, Error, IsBadName, is_fit, is_formed}
+use Rattle.sql_meanings.specs.Names.{Index, index_reals, table_reals, Has, Text}
+use Rattle.sql_meanings.proofs.Names.{inl, inr, refl, sym, ap, subst, ◌∙◌, arith, cases_Bool}
+use Rattle.std.proofs.Common.{◌*◌}
+use Rattle.sqlite.specs.Effect.{alter_error}
+use Rattle.sqlite_catalog.specs.Calls.{RefusesTable}
 use Rattle.sqlite_catalog.specs.declared.error.Refusal.{Refusal}
-use Rattle.sqlite_catalog.specs.declared.error.Refusal.TheVariants.{Invalid, NameTaken, BadName, TooBig}
-use Rattle.sqlite_catalog.specs.declared.error.Refusal.TheVariants.{BadKey, BadText, Violates}
-use Rattle.sqlite_schema.specs.declared.schema.Index.{Index}
-use Rattle.sqlite_schema.specs.Rules.{index_reals, table_reals}
-use Rattle.sqlite_rules.specs.Lists.{Has}
-use Rattle.sqlite.specs.declared.types.Value.TheVariants.{Text}
+use Rattle.sqlite_catalog.specs.declared.error.Refusal.TheVariants.{Invalid, NameTaken, BadName, TooBig, BadKey}
+use Rattle.sqlite_catalog.specs.declared.error.Refusal.TheVariants.{BadText, Violates}
 use Rattle.sql_meanings.specs.Making.{CreatesOnly, IsMakeable, NotMade, RefusesNew}
 use Rattle.sql_meanings.specs.StatementAnswers.{MakeFails, MakesTold}
 use Rattle.sql_meanings.proofs.Makings.{made_by}

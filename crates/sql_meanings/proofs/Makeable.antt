@@ -1,26 +1,19 @@
 -- That a text makes a table under any schema that takes it, by what is computed of the text.
-use Rattle.std.proofs.Common.{◌≡◌, ◌+◌, ◌*◌, ◌^◌, ◌≤◌, ◌==◌, ◌&&◌, not, nat_lt, List, [], ℕ, Bool, true}
-use Rattle.std.proofs.Common.{false, length, codes, Ok, None, inl, inr, refl, arith}
-use Rattle.std.specs.Prelude.{IsUtf8, slice_range}
-use Rattle.std.specs.List.{list_all}
+use Rattle.sql_meanings.specs.Names.{◌≡◌, ◌+◌, ◌^◌, ◌≤◌, ◌==◌, ◌&&◌, not, List, [], ℕ, Bool, true, false, length}
+use Rattle.sql_meanings.specs.Names.{codes, Ok, None, IsUtf8, slice_range, list_all, table_defined_by, Table, Text}
+use Rattle.sql_meanings.specs.Names.{IsBadName, is_fit, is_formed, first, with_command, table_reals, Parsed}
+use Rattle.sql_meanings.proofs.Names.{nat_lt, inl, inr, refl, arith}
+use Rattle.std.proofs.Common.{◌*◌}
 use Rattle.std.proofs.lemmas.Str.{IsUtf8-from_ascii}
 use Rattle.std.proofs.lemmas.Str.Ascii.{IsAscii-from_all}
 use Rattle.std.proofs.lemmas.List.Sums.{AllPass-from_list_all}
 use Rattle.sqlite.specs.Change.{is_reserved}
 use Rattle.sqlite.specs.Command.TheVariants.{CreateTable as MakeTable}
-use Rattle.sqlite.specs.Compile.{table_defined_by}
-use Rattle.sqlite.specs.Table.{Table}
-use Rattle.sqlite.specs.declared.types.Value.TheVariants.{Text}
 use Rattle.sqlite_ast.specs.declared.CreateTable.{CreateTable}
-use Rattle.sqlite_ast.specs.declared.Statement.TheVariants as written
-use Rattle.sqlite_catalog.specs.Calls.{IsBadName}
-use Rattle.sqlite_catalog.specs.Listing.{is_fit, is_formed}
-use Rattle.sqlite_resolve.specs.Compile.{first, with_command}
-use Rattle.sqlite_resolve.specs.Define as define
-use Rattle.sqlite_schema.specs.Rules.{table_reals}
-use Rattle.sqlite_syntax.specs.declared.statement.Parsed.{Parsed}
 use Rattle.sql_meanings.specs.Making.{CreatesOnly, IsMakeable}
 use Rattle.sql_meanings.proofs.Creating.{compiled_create, known, told}
+use Rattle.sqlite_ast.specs.declared.Statement.TheVariants as written
+use Rattle.sqlite_resolve.specs.Define as define
 
 abbrev is_ascii : List ℕ → Bool
 is_ascii = list_all (λ b. nat_lt b 128)

@@ -1,17 +1,10 @@
 -- A CREATE TABLE inside a transaction, done: the table is there and empty, and what stood stands on.
-use Rattle.std.proofs.Common.{◌≡◌, ◌⊎◌, inl, inr, ℕ, List, [], None, Ok, Err, Result, refl, sym, ap, subst}
-use Rattle.std.proofs.Common.{◌∙◌, false, unwrap_or}
-use Rattle.sqlite.specs.Table.{Table}
-use Rattle.sqlite.specs.Order.{Row}
-use Rattle.sqlite.specs.Command.TheVariants.{CreateTable}
-use Rattle.sqlite.specs.Effect.{Database, IsDatabase}
-use Rattle.sqlite.specs.Listing.{understood}
-use Rattle.sqlite.specs.Does.{Does, MakesSequence, MakesTable, Tally, no_rows}
-use Rattle.sqlite.specs.Rows.{Gives, Then}
-use Rattle.sqlite.specs.State.{State, ExecutesIn, Executes, ExecutesInside, KeepsCommit, IsUnchanged}
-use Rattle.sqlite.specs.State.{IsRolledBack, KeepsCounts, mode_of}
-use Rattle.sqlite.specs.declared.error.Error.{Error}
-use Rattle.sqlite.proofs.Callers.{IsPlain, command_of, statement_of, runs_as, through}
+use Rattle.sql_meanings.specs.Names.{◌≡◌, ◌⊎◌, ℕ, List, [], None, Ok, Err, Result, false, unwrap_or, Table, Row}
+use Rattle.sql_meanings.specs.Names.{CreateTable, Database, IsDatabase, understood, Does, MakesSequence, MakesTable}
+use Rattle.sql_meanings.specs.Names.{Tally, no_rows, Gives, Then, State, ExecutesIn, Executes, ExecutesInside}
+use Rattle.sql_meanings.specs.Names.{KeepsCommit, IsUnchanged, IsRolledBack, KeepsCounts, mode_of, Error}
+use Rattle.sql_meanings.proofs.Names.{inl, inr, refl, sym, ap, subst, ◌∙◌, IsPlain, command_of, runs_as, through}
+use Rattle.sqlite.proofs.Callers.{statement_of}
 use Rattle.sql_meanings.specs.Entries.{IsTree}
 use Rattle.sql_meanings.specs.Tables.{Holds, placed_at, tree_of, width_of}
 use Rattle.sql_meanings.specs.Making.{AddsTable, CreatesOnly, Stands}

@@ -1,16 +1,8 @@
 -- What a text means under a schema, as a caller's proof takes it.
-use Rattle.std.proofs.Common.{◌≡◌, inl, inr, ℕ, List, [], length, ◌≤◌, None, Ok, Err, Result, sym, ap, subst}
-use Rattle.std.proofs.Common.{◌∙◌, false}
-use Rattle.sqlite.specs.Schema.{Schema}
-use Rattle.sqlite.specs.Order.{Row}
-use Rattle.sqlite.specs.Command.{Command}
-use Rattle.sqlite.specs.Listing.{understood, reads_listing}
-use Rattle.sqlite.specs.State.{State, IsNoStatement}
-use Rattle.sqlite.specs.declared.error.Error.{Error}
-use Rattle.sqlite_resolve.specs.declared.compiled.Compiled.{Compiled}
-use Rattle.sqlite_resolve.specs.declared.error.CompileError.{CompileError}
-use Rattle.sqlite_resolve.specs.Compile.{compiled}
-use Rattle.sqlite.proofs.Callers.{IsPlain, command_of}
+use Rattle.sql_meanings.specs.Names.{◌≡◌, ℕ, List, [], length, ◌≤◌, None, Ok, Err, Result, false, Schema, Row}
+use Rattle.sql_meanings.specs.Names.{Command, understood, reads_listing, State, IsNoStatement, Error, Compiled}
+use Rattle.sql_meanings.specs.Names.{CompileError, compiled}
+use Rattle.sql_meanings.proofs.Names.{inl, inr, sym, ap, subst, ◌∙◌, IsPlain, command_of}
 
 -- one statement, with so many parameters, that is this command
 pub record Means (schema : Schema) (text : List ℕ) (count : ℕ) (command : Command) : Type 0 where

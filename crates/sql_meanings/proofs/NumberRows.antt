@@ -1,30 +1,24 @@
 -- A row of a key and whole numbers keeps the rules that its table has of each row alone, and can be stored.
-use Rattle.std.proofs.Common.{◌≡◌, ◌⊎◌, inl, inr, ℕ, zero, suc, ◌+◌, ◌<◌, ◌≤◌, ◌==◌, ℤ, pos, negsuc, List, []}
-use Rattle.std.proofs.Common.{◌∷◌, ◌++◌, ◌||◌, not, Bool, false, map, length, length-append, drop, All, true}
-use Rattle.std.proofs.Common.{false, Some, refl, sym, ap}
-use Rattle.std.proofs.Common.{subst, ◌∙◌, arith, add-one}
+use Rattle.sql_meanings.specs.Names.{◌≡◌, ◌⊎◌, ℕ, ◌+◌, ◌<◌, ◌≤◌, ◌==◌, ℤ, pos, negsuc, List, [], ◌∷◌, ◌++◌, ◌||◌, not}
+use Rattle.sql_meanings.specs.Names.{Bool, false, map, length, true, Some, AllByRecursion, Value, Null, Int, Text}
+use Rattle.sql_meanings.specs.Names.{Row, Table, IsStorable, IsStorableRow, entry_of, kind_code, index_reals}
+use Rattle.sql_meanings.specs.Names.{table_reals, Column}
+use Rattle.sql_meanings.proofs.Names.{inl, inr, zero, suc, length-append, drop, refl, sym, ap, subst, ◌∙◌, arith}
+use Rattle.sql_meanings.proofs.Names.{length-map}
+use Rattle.std.proofs.Common.{All, add-one}
 use Rattle.std.specs.Float.{NotNan}
-use lib.Ieee.{is_nan}
-use Rattle.std.specs.List.{AllByRecursion}
-use Rattle.std.proofs.lemmas.List.{length-map}
 use Rattle.std.proofs.lemmas.List.Elements.{All-from_recursion}
 use Rattle.std.proofs.lemmas.List.Sums.{sum_by-le}
 use Rattle.std.proofs.lemmas.Nat.Bits.{bit_at-zero}
-use Rattle.sqlite.specs.declared.types.Value.{Value}
-use Rattle.sqlite.specs.declared.types.Value.TheVariants.{Null, Int, Text}
-use Rattle.sqlite.specs.Order.{Row, column}
-use Rattle.sqlite.specs.Table.{Table}
+use Rattle.sqlite.specs.Order.{column}
 use Rattle.sqlite_value.specs.Order.{number, bytes}
 use Rattle.sqlite_trees.proofs.ListLemmas.{all-append}
-use Rattle.sqlite_trees.specs.View.{IsStorable, IsStorableRow}
-use Rattle.sqlite_sql.specs.Catalog.{entry_of}
 use Rattle.sqlite_sql.specs.Ops.{is_null}
-use Rattle.sqlite_schema.specs.Rules.{kind_code, suits, are_typed, are_present, index_reals, real_bits}
-use Rattle.sqlite_schema.specs.Rules.{table_reals}
+use Rattle.sqlite_schema.specs.Rules.{suits, are_typed, are_present, real_bits}
 use Rattle.sql_meanings.specs.Entries.{Entry, AreShort, numbers, texts_held, stored}
 use Rattle.sql_meanings.specs.Plain.{key_column}
-use Rattle.sqlite_schema.specs.declared.schema.Column.{Column}
 use Rattle.sql_meanings.proofs.Casting.{AreFor, IsFor}
+use lib.Ieee.{is_nan}
 
 -- the first of what is left
 drop_head : (n : ℕ) (row : Row) (v : Value) (vs : Row) → drop n row ≡ v ∷ vs

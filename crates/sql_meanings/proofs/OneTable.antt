@@ -1,40 +1,24 @@
 -- SELECT over one table, under any schema that has it.
-use Rattle.std.proofs.Common.{◌≡◌, ℕ, suc, List, [], ◌∷◌, map, Ok, None, Option, true, false}
-use Rattle.sqlite_value.specs.declared.keys.Collation.{Collation}
-use Rattle.sqlite_value.specs.declared.keys.Key.{Key}
-use Rattle.sqlite_schema.specs.declared.program.Program.{Program}
+use Rattle.sql_meanings.specs.Names.{◌≡◌, ℕ, List, [], ◌∷◌, map, Ok, None, Option, true, false, Collation, Key}
+use Rattle.sql_meanings.specs.Names.{Program, Select, Term, Schema, Table, Expr, Core, out-Core, Shown, Sort}
+use Rattle.sql_meanings.specs.Names.{out-Source, Draft, Inner, Output, Carried, nothing, take_slot, Name, number}
+use Rattle.sql_meanings.specs.Names.{table_in, bound, bounds, outputs, tests, body, sorts, parts, ungrouped, named}
+use Rattle.sql_meanings.specs.Names.{paging, constant_or, lower, viewing, single, source, sources, whole, with, level}
+use Rattle.sql_meanings.specs.Names.{query_to, query, program, read}
+use Rattle.sql_meanings.proofs.Names.{suc}
 use Rattle.sqlite_schema.specs.declared.program.Table.{Table as Let}
-use Rattle.sqlite_schema.specs.declared.command.Command.TheVariants.{Select}
-use Rattle.sqlite.specs.Term.{Term}
-use Rattle.sqlite.specs.Schema.{Schema}
-use Rattle.sqlite.specs.Table.{Table}
-use Rattle.sqlite_ast.specs.declared.Expr.{Expr}
-use Rattle.sqlite_ast.specs.declared.Select as written_select
 use Rattle.sqlite_ast.specs.declared.Select.{out-Select}
-use Rattle.sqlite_ast.specs.declared.Core.{Core, out-Core}
-use Rattle.sqlite_ast.specs.declared.Shown.{Shown}
-use Rattle.sqlite_ast.specs.declared.Sort.{Sort}
-use Rattle.sqlite_ast.specs.declared.Origin.TheVariants as origin
-use Rattle.sqlite_ast.specs.declared.Source.{Source as From, out-Source}
-use Rattle.sqlite_draft.specs.declared.query.Draft.{Draft}
-use Rattle.sqlite_draft.specs.declared.join.Step.TheVariants.{Inner}
-use Rattle.sqlite_resolve.specs.declared.scope.Output.{Output}
-use Rattle.sqlite_resolve.specs.declared.state.Carried.{Carried}
-use Rattle.sqlite_resolve.specs.Lowering.{nothing, take_slot}
-use Rattle.sqlite_resolve.specs.Scope.{Name}
-use Rattle.sqlite_resolve.specs.Terms.{number}
-use Rattle.sqlite_resolve.specs.Body.{table_in, bound, bounds, outputs, shared, joins, join, inner_join}
-use Rattle.sqlite_resolve.specs.Body.{tests, result, matching, body}
-use Rattle.sqlite_resolve.specs.Order.{sorts, keys}
-use Rattle.sqlite_resolve.specs.Select.{parts, having, assembled, ungrouped, named, paging, constant_or}
-use Rattle.sqlite_resolve.specs.Expr.{lower}
-use Rattle.sqlite_resolve.specs.Program.{viewing, single, source, sources, alone, whole, with, level}
-use Rattle.sqlite_resolve.specs.Program.{query_to, query, program}
-use Rattle.sqlite_resolve.specs.Compile.{read}
+use Rattle.sqlite_ast.specs.declared.Source.{Source as From}
+use Rattle.sqlite_resolve.specs.Body.{shared, joins, join, inner_join, result, matching}
+use Rattle.sqlite_resolve.specs.Order.{keys}
+use Rattle.sqlite_resolve.specs.Select.{having, assembled}
+use Rattle.sqlite_resolve.specs.Program.{alone}
 use Rattle.sql_meanings.specs.Queries.{no_limit}
 use Rattle.sql_meanings.proofs.Columns.{bound_to, over_one}
 use Rattle.sql_meanings.proofs.Expressions.{st}
 use Rattle.sql_meanings.proofs.Statements.{HasTable}
+use Rattle.sqlite_ast.specs.declared.Select as written_select
+use Rattle.sqlite_ast.specs.declared.Origin.TheVariants as origin
 
 -- a SELECT of one part, in this order and with this limit, if there is one
 abbrev pub IsSelectOf : written_select.Select → Core → List Sort → Option Expr → Type 0

@@ -1,29 +1,16 @@
 -- A SELECT shows rows and writes nothing, whatever the schema makes of it.
-use Rattle.std.proofs.Common.{◌≡◌, inl, inr, ℕ, List, [], length, ◌≤◌, Ok, Err, Result, refl, sym, subst, ◌∙◌}
-use Rattle.std.proofs.Common.{Bool, true, false, cond}
-use Rattle.sqlite.specs.Schema.{Schema}
-use Rattle.sqlite.specs.Order.{Row}
-use Rattle.sqlite.specs.Command.{Command}
-use Rattle.sqlite_ast.specs.declared.Statement.TheVariants as written
-use Rattle.sqlite_ast.specs.declared.Select as written_select
-use Rattle.sqlite_syntax.specs.declared.statement.Parsed.{Parsed}
-use Rattle.sqlite_resolve.specs.declared.compiled.Compiled.{Compiled}
-use Rattle.sqlite_resolve.specs.declared.error.CompileError.{CompileError}
-use Rattle.sqlite_resolve.specs.Lowering.{Checked}
-use Rattle.sqlite_resolve.specs.Compile.{compiled, first, planned, timed, meaning, returning, command, shows}
-use Rattle.sqlite_resolve.specs.Compile.{read}
-use Rattle.sqlite.specs.Listing.{understood, listing_schema, reads_listing, if_select, is_select}
-use Rattle.sqlite_resolve.specs.declared.error.CompileError.TheVariants.{NoSuchTable}
-use Rattle.sqlite.specs.State.{State, IsUnchanged, QueriesRow, QueriesRowInside, FailsToQuery, IsNotRun}
+use Rattle.sql_meanings.specs.Names.{◌≡◌, ℕ, List, [], length, ◌≤◌, Ok, Err, Result, Bool, true, false, cond, Schema}
+use Rattle.sql_meanings.specs.Names.{Row, Command, Parsed, Compiled, CompileError, Checked, compiled, first, planned}
+use Rattle.sql_meanings.specs.Names.{timed, meaning, returning, command, shows, read, understood, listing_schema}
+use Rattle.sql_meanings.specs.Names.{reads_listing, if_select, is_select, NoSuchTable, State, IsUnchanged, QueriesRow}
+use Rattle.sql_meanings.specs.Names.{QueriesRowInside, FailsToQuery, IsNotRun, Error, QueryReturnedNoRows}
+use Rattle.sql_meanings.specs.Names.{store_error, StoreError, OutOfMemory, Io, Corrupt, Full, Broken, Unstorable}
+use Rattle.sql_meanings.proofs.Names.{inl, inr, refl, sym, subst, ◌∙◌}
 use Rattle.sqlite.specs.State.{Shown}
-use Rattle.sqlite.specs.declared.error.Error.{Error}
-use Rattle.sqlite.specs.declared.error.Error.TheVariants.{QueryReturnedNoRows}
-use Rattle.sqlite.specs.State.{store_error}
-use Rattle.sqlite_trees.specs.declared.error.StoreError.{StoreError}
-use Rattle.sqlite_trees.specs.declared.error.StoreError.TheVariants.{OutOfMemory, Io, Corrupt, Full, Broken}
-use Rattle.sqlite_trees.specs.declared.error.StoreError.TheVariants.{Unstorable}
 use Rattle.sql_meanings.proofs.Statements.{compiled_select}
 use Rattle.sql_meanings.specs.StatementAnswers.{IsOne, OnlyShows, ReadKept}
+use Rattle.sqlite_ast.specs.declared.Statement.TheVariants as written
+use Rattle.sqlite_ast.specs.declared.Select as written_select
 
 module _ (text : List ℕ) (count : ℕ) (P : Parsed) (s : written_select.Select) (parsed : first text ≡ Ok P)
     (is : P.statement ≡ written.Select s) (plain : P.formats ≡ [])

@@ -1,46 +1,15 @@
 -- What a query of one table with ORDER BY its key answers.
-use Rattle.std.proofs.Common.{
-  ◌≡◌,
-  ◌&&◌,
-  ℕ,
-  ℤ,
-  pos,
-  List,
-  [],
-  ◌∷◌,
-  take,
-  map,
-  filter,
-  find,
-  cond,
-  Bool,
-  true,
-  false,
-  Some,
-  refl,
-  ap,
-  subst,
-  ◌∙◌,
-  Less,
-  int_cmp,
-  IsPermutation,
-}
-use Rattle.std.specs.List.{AllByRecursion, flat_map, list_all}
-use Rattle.std.specs.Ordering.{is_gt}
-use Rattle.sqlite.specs.declared.types.Value.{Value}
-use Rattle.sqlite.specs.declared.types.Value.TheVariants.{Int}
-use Rattle.sqlite.specs.Order.{Row, value_cmp}
-use Rattle.sqlite_value.proofs.OrderLemmas.{value_cmp-Int}
-use Rattle.sqlite.specs.Collation.TheVariants.{Binary}
-use Rattle.sqlite_sql.specs.Ops.{is_true, from_truth, binary}
-use Rattle.sqlite_sql.specs.declared.ops.BinaryOp.TheVariants.{Compare}
-use Rattle.sqlite_sql.specs.declared.ops.CompareOp.TheVariants.{Gt}
-use Rattle.sqlite.specs.Tree.{Trees, IsAscending}
-use Rattle.sqlite.specs.Term.{Term, Env, eval, eval_all, holds, lit, col}
-use Rattle.sqlite.specs.Query.{Query, Join, IsAnswerAs, matches_as, page, inner, end, output, output_cmp}
-use Rattle.sqlite.specs.Query.{Output}
+use Rattle.sql_meanings.specs.Names.{◌≡◌, ◌&&◌, ℕ, ℤ, pos, List, [], ◌∷◌, map, filter, find, cond, Bool, true, false}
+use Rattle.sql_meanings.specs.Names.{Some, AllByRecursion, flat_map, list_all, is_gt, Value, Int, Row, Binary}
+use Rattle.sql_meanings.specs.Names.{is_true, from_truth, binary, Compare, Gt, Trees, IsAscending, Term, Env}
+use Rattle.sql_meanings.specs.Names.{eval_all, holds, lit, col, Query, Join, IsAnswerAs, matches_as, page, inner, end}
+use Rattle.sql_meanings.specs.Names.{output}
+use Rattle.sql_meanings.proofs.Names.{take, refl, ap, subst, ◌∙◌, Less, int_cmp, IsPermutation, value_cmp-Int}
+use Rattle.sql_meanings.proofs.Names.{map-map}
+use Rattle.sqlite.specs.Order.{value_cmp}
+use Rattle.sqlite.specs.Term.{eval}
+use Rattle.sqlite.specs.Query.{output_cmp, Output}
 use Rattle.sqlite_sql.proofs.QueryLemmas.{output_cmp_total}
-use Rattle.sqlite_trees.proofs.ListLemmas.{map-map}
 use Rattle.sql_meanings.specs.Entries.{Entry, IsTree, Rise, is_above, listed, stored}
 use Rattle.sql_meanings.specs.Queries.{ascending, above, key_above, query}
 use Rattle.sql_meanings.proofs.EntryLists.{Above}

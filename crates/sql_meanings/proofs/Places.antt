@@ -1,7 +1,6 @@
 -- The element at a place of a list.
-use Rattle.std.proofs.Common.{◌≡◌, ℕ, zero, suc, ◌+◌, ◌<◌, length, List, [], ◌∷◌, drop, take, slice_get, Some}
-use Rattle.std.proofs.Common.{refl, sym, ap, subst, ◌∙◌, arith}
-use Rattle.std.specs.List.{AllByRecursion}
+use Rattle.sql_meanings.specs.Names.{◌≡◌, ℕ, ◌+◌, ◌<◌, length, List, [], ◌∷◌, slice_get, Some, AllByRecursion}
+use Rattle.sql_meanings.proofs.Names.{zero, suc, drop, take, refl, sym, ap, subst, ◌∙◌, arith}
 
 -- of the one at a place
 pub each_at : {X : Type 0} (P : X → Type 0) (xs : List X) → AllByRecursion P xs → (n : ℕ) (x : X)

@@ -1,40 +1,16 @@
 -- What a caller knows after a plain SELECT, whose text is known to be understood.
-use Rattle.std.proofs.Common.{
-  ◌≡◌,
-  ◌⊎◌,
-  inl,
-  inr,
-  ℕ,
-  List,
-  [],
-  ◌∷◌,
-  append-nil,
-  length,
-  None,
-  Ok,
-  Err,
-  sym,
-  ap,
-  subst,
-  subst₂,
-  ◌∙◌,
-  true,
-  false,
-}
-use Rattle.sqlite.specs.Schema.{Schema}
-use Rattle.sqlite.specs.Order.{Row}
-use Rattle.sqlite.specs.Query.{Query, IsSureAnswer, has_no_fold}
-use Rattle.sqlite.specs.Program.{overlay}
+use Rattle.sql_meanings.specs.Names.{◌≡◌, ◌⊎◌, ℕ, List, [], ◌∷◌, length, None, Ok, Err, true, false, Schema, Row}
+use Rattle.sql_meanings.specs.Names.{Query, IsSureAnswer, has_no_fold, overlay, understood, reads_listing, State}
+use Rattle.sql_meanings.specs.Names.{IsUnchanged, IsNotRun, QueriesRow, QueriesRowInside, FailsToQuery}
+use Rattle.sql_meanings.specs.Names.{accepts_program, Error, QueryReturnedNoRows}
+use Rattle.sql_meanings.proofs.Names.{inl, inr, append-nil, sym, ap, subst, ◌∙◌, no_fold_overflows, IsPlain}
+use Rattle.sql_meanings.proofs.Names.{command_of}
+use Rattle.std.proofs.Common.{subst₂}
 use Rattle.sqlite.specs.Command.TheVariants.{Select}
 use Rattle.sqlite.specs.Effect.{RefusesToRead}
-use Rattle.sqlite.specs.Listing.{understood, reads_listing, IsSourceOf}
-use Rattle.sqlite.specs.State.{State, IsUnchanged, IsNotRun, Shown, QueriesRow, QueriesRowInside}
-use Rattle.sqlite.specs.State.{FailsToQuery}
-use Rattle.sqlite_typing.specs.Types.{accepts_program}
-use Rattle.sqlite_sql.proofs.QueryLemmas.{no_fold_overflows}
-use Rattle.sqlite.specs.declared.error.Error.{Error}
-use Rattle.sqlite.specs.declared.error.Error.TheVariants.{QueryReturnedNoRows}
-use Rattle.sqlite.proofs.Callers.{IsPlain, command_of, reads_as, first_as}
+use Rattle.sqlite.specs.Listing.{IsSourceOf}
+use Rattle.sqlite.specs.State.{Shown}
+use Rattle.sqlite.proofs.Callers.{reads_as, first_as}
 use Rattle.sql_meanings.proofs.Means.{Means, meant_is, plain_is, no_refusal}
 use Rattle.sql_meanings.specs.StatementAnswers.{ReadFails}
 

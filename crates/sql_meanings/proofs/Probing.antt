@@ -1,68 +1,28 @@
 -- What a probe tells.
-use Rattle.std.proofs.Common.{
-  ◌≡◌,
-  ℕ,
-  suc,
-  List,
-  [],
-  ◌∷◌,
-  Ok,
-  Err,
-  Some,
-  None,
-  Option,
-  Result,
-  refl,
-  Bool,
-  true,
-  false,
-  cond,
-  ap,
-  sym,
-  ◌∙◌,
-  inl,
-  inr,
-  ◌⊎◌,
-}
-use Rattle.sqlite.specs.Schema.{Schema}
-use Rattle.sqlite.specs.Table.{Table}
-use Rattle.sqlite.specs.Term.{Term}
-use Rattle.sqlite_schema.specs.Names.{table_named, view_named}
-use Rattle.sqlite_ast.specs.declared.Select as written_select
-use Rattle.sqlite_ast.specs.declared.Core.{Core, out-Core}
-use Rattle.sqlite_ast.specs.declared.Sort.{Sort}
-use Rattle.sqlite_ast.specs.declared.Origin.TheVariants as origin
-use Rattle.sqlite_ast.specs.declared.Source.{Source as From, out-Source}
-use Rattle.sqlite_ast.specs.declared.Statement.TheVariants as written
-use Rattle.sqlite_syntax.specs.declared.statement.Parsed.{Parsed}
+use Rattle.sql_meanings.specs.Names.{◌≡◌, ℕ, List, [], ◌∷◌, Ok, Err, Some, None, Option, Result, Bool, true, false}
+use Rattle.sql_meanings.specs.Names.{cond, ◌⊎◌, Schema, Table, Term, table_named, view_named, Core, out-Core, Sort}
+use Rattle.sql_meanings.specs.Names.{out-Source, Parsed, CompileError, NoSuchTable, Carried, nothing, take_slot, Name}
+use Rattle.sql_meanings.specs.Names.{number, table_in, bound, bounds, body, parts, named, paging, constant_or}
+use Rattle.sql_meanings.specs.Names.{viewing, single, source, sources, whole, with, level, query_to, query, compiled}
+use Rattle.sql_meanings.specs.Names.{first, planned, timed, meaning, returning, command, read, understood}
+use Rattle.sql_meanings.specs.Names.{listing_schema, Error, SqlInputError, State, Fails, IsUnchanged, IsNotRun}
+use Rattle.sql_meanings.specs.Names.{store_error, Database, IsDatabase, StoreError, OutOfMemory, Io, Corrupt, Full}
+use Rattle.sql_meanings.specs.Names.{Broken, Unstorable}
+use Rattle.sql_meanings.proofs.Names.{suc, refl, ap, sym, ◌∙◌, inl, inr}
+use Rattle.sqlite_ast.specs.declared.Source.{Source as From}
 use Rattle.sqlite_schema.specs.declared.program.Table.{Table as Let}
-use Rattle.sqlite_resolve.specs.declared.error.CompileError.{CompileError}
-use Rattle.sqlite_resolve.specs.declared.error.CompileError.TheVariants.{NoSuchTable}
-use Rattle.sqlite_resolve.specs.declared.state.Carried.{Carried}
-use Rattle.sqlite_resolve.specs.Lowering.{nothing, take_slot}
-use Rattle.sqlite_resolve.specs.Scope.{Name}
-use Rattle.sqlite_resolve.specs.Terms.{number}
-use Rattle.sqlite_resolve.specs.Body.{table_in, bound, bounds, body}
-use Rattle.sqlite_resolve.specs.Select.{parts, named, paging, constant_or}
-use Rattle.sqlite_resolve.specs.Program.{viewing, single, source, sources, alone, whole, with, level}
-use Rattle.sqlite_resolve.specs.Program.{query_to, query}
-use Rattle.sqlite_resolve.specs.Compile.{compiled, first, planned, timed, meaning, returning, command, read}
-use Rattle.sqlite.specs.Listing.{understood, listing_schema}
-use Rattle.sqlite.specs.declared.error.Error.{Error}
-use Rattle.sqlite.specs.declared.error.Error.TheVariants.{SqlInputError}
-use Rattle.sqlite.specs.State.{State, Fails, IsUnchanged, IsNotRun, store_error}
-use Rattle.sqlite.specs.Effect.{Database, IsDatabase}
+use Rattle.sqlite_resolve.specs.Program.{alone}
 use Rattle.sql_meanings.specs.StatementAnswers.{is_text_refused, IsThere, IsUnderstood, OnlyShows, TellsProbe}
 use Rattle.sql_meanings.specs.StatementAnswers.{TellsUnderstood}
 use Rattle.sql_meanings.specs.Tables.{Defines, placed_at, tree_of}
 use Rattle.sql_meanings.proofs.Steps.{standing}
-use Rattle.sqlite_trees.specs.declared.error.StoreError.{StoreError}
-use Rattle.sqlite_trees.specs.declared.error.StoreError.TheVariants.{OutOfMemory, Io, Corrupt, Full, Broken}
-use Rattle.sqlite_trees.specs.declared.error.StoreError.TheVariants.{Unstorable}
 use Rattle.sql_meanings.proofs.Expressions.{st}
 use Rattle.sql_meanings.proofs.OneTable.{IsSelectOf}
 use Rattle.sql_meanings.proofs.Statements.{HasTable}
 use Rattle.sql_meanings.specs.Queries.{no_limit}
+use Rattle.sqlite_ast.specs.declared.Select as written_select
+use Rattle.sqlite_ast.specs.declared.Origin.TheVariants as origin
+use Rattle.sqlite_ast.specs.declared.Statement.TheVariants as written
 
 -- a schema with no table and no view of the name refuses it
 module _ (schema : Schema) (name : Name) (no_table : table_named schema name ≡ None)

@@ -1,94 +1,37 @@
--- Why a row can't be put in.
-use Rattle.std.proofs.Common.{
-  ◌≡◌,
-  ◌⊎◌,
-  inl,
-  inr,
-  ℕ,
-  ◌/◌,
-  List,
-  [],
-  ◌∷◌,
-  map,
-  find,
-  length,
-  true,
-  false,
-  None,
-  Some,
-  Option,
-  is_some,
-  Ok,
-  Err,
-  fold,
-  refl,
-  sym,
-  ap,
-  subst,
-  ◌∙◌,
-}
-use Rattle.std.specs.List.{AllByRecursion}
-use Rattle.std.proofs.Math.Logic.{∥∥₁_elim}
-use Rattle.sqlite.specs.Order.{Row}
-use Rattle.sqlite.specs.Schema.{Schema}
-use Rattle.sqlite.specs.Tree.{Trees}
-use Rattle.sqlite.specs.Table.{Table}
-use Rattle.sqlite.specs.Edit.{Edit, edit_of, edited}
-use Rattle.sqlite.specs.Source.TheVariants.{Values}
-use Rattle.sqlite.specs.Command.{Command}
-use Rattle.sqlite.specs.Command.TheVariants.{Insert}
-use Rattle.sqlite.specs.Does.{Does, Concludes, Returns, Tested}
-use Rattle.sqlite.specs.Effect.{IsDatabase, value_rows}
-use Rattle.sqlite.specs.Rows.{
-  Part,
-  Gives,
-  Sourced,
-  Edited,
-  Task,
-  Then,
-  Counter,
-  Counts,
-  Inserts,
-  Written,
-  count_of,
-  higher,
-  last_id,
-  stamped,
-}
-use Rattle.sqlite.specs.State.{State, ExecutesInside, IsUnchanged, mode_of, text_of}
-use Rattle.sqlite.specs.declared.error.Error.{Error}
-use Rattle.sqlite.specs.declared.error.Error.TheVariants.{SqliteFailure}
-use Rattle.sqlite.specs.declared.error.ErrorCode.TheVariants as code
-use Rattle.sqlite.specs.Rowids.TheVariants.{Chosen}
-use Rattle.sqlite_resolve.specs.declared.compiled.Compiled.{Compiled}
-use Rattle.sqlite_schema.specs.declared.command.Source.TheVariants as from
-use Rattle.sqlite_sql.specs.Ops.{fits_i64}
-use Rattle.sqlite_schema.specs.declared.schema.Constraint.TheVariants.{ForeignKey, Unique}
-use Rattle.sqlite_schema.specs.declared.schema.Among.TheVariants.{All}
-use Rattle.sqlite_schema.specs.declared.schema.Keys.TheVariants.{Enforced}
-use Rattle.sqlite_schema.specs.Rules.{Refers}
-use Rattle.sqlite_rules.specs.Edit.{are_fresh, left_by, numbered as with_rowids}
-use Rattle.sqlite_rules.specs.Lists.{Has}
-use Rattle.sqlite_rules.proofs.ListLemmas.{all_has}
+-- Why rows can't be put in.
+use Rattle.sql_meanings.specs.Names.{◌≡◌, ◌⊎◌, ℕ, List, [], ◌∷◌, map, find, length, true, false, None, Some, Option}
+use Rattle.sql_meanings.specs.Names.{is_some, Ok, Err, AllByRecursion, Row, Schema, Trees, Table, Edit, edit_of}
+use Rattle.sql_meanings.specs.Names.{edited, Values, Command, Insert, Does, Concludes, Returns, Tested, IsDatabase}
+use Rattle.sql_meanings.specs.Names.{value_rows, Part, Gives, Edited, Task, Then, Counts, Written, count_of, stamped}
+use Rattle.sql_meanings.specs.Names.{State, ExecutesInside, IsUnchanged, mode_of, text_of, Error, SqliteFailure}
+use Rattle.sql_meanings.specs.Names.{Chosen, Compiled, fits_i64, ForeignKey, Unique, All, Enforced, Refers, are_fresh}
+use Rattle.sql_meanings.specs.Names.{left_by, Has}
+use Rattle.sql_meanings.proofs.Names.{inl, inr, ◌/◌, refl, sym, ap, subst, ◌∙◌, ∥∥₁_elim, all_has}
+use Rattle.std.proofs.Common.{fold}
+use Rattle.sqlite.specs.Rows.{Sourced, Counter, Inserts, higher, last_id}
 use Rattle.sqlite_rules.proofs.TableLemmas.{put_all_keeps}
 use Rattle.sql_meanings.specs.Entries.{Entry, has_key, put, stored}
+use Rattle.sql_meanings.specs.SeveralRows.{meets_key, put_each}
 use Rattle.sql_meanings.specs.StatementAnswers.{Forbids, HasWideIndex, IsInterrupted, PutFails}
 use Rattle.sql_meanings.specs.Tables.{Holds, placed_at, tree_of}
 use Rattle.sql_meanings.proofs.Means.{Means, no_refusal}
-use Rattle.sql_meanings.proofs.PutRows.{PutsAs, fresh_is, not_both, put_is}
+use Rattle.sql_meanings.proofs.PutRows.{PutsAs, PutsEachAs, news_are, put_are, puts_one, taken_are}
+use Rattle.sql_meanings.proofs.SeveralRows.{IsKey, fit_at, or_nothing}
 use Rattle.sql_meanings.proofs.Referring.{asks_none, refers_after}
 use Rattle.sql_meanings.proofs.Refusals.{EditStops, IsFit, edit_stops, forbids}
 use Rattle.sql_meanings.proofs.Steps.{Standing, standing}
 use Rattle.sql_meanings.proofs.Stopping.{Stops, fails_for, stops}
-use Rattle.sql_meanings.proofs.TableWrites.{IsPlain, cast_is, plain_at}
+use Rattle.sql_meanings.proofs.TableWrites.{IsPlain, plain_at}
 use Rattle.sql_meanings.proofs.PuttingIn.{key_taken, never, none_in, put_in_applies, stopped}
 use Rattle.sql_meanings.proofs.Writing.{same_value, uncounted, went}
+use Rattle.sqlite.specs.declared.error.ErrorCode.TheVariants as code
+use Rattle.sqlite_schema.specs.declared.command.Source.TheVariants as from
 
 module _ (old new : State) (t : Table) (is : IsPlain (uncounted t)) (sound : ∥ IsDatabase old.now ∥₁)
     (es : List Entry)
     (holds : Holds old.now (uncounted t) es)
-    (text : List ℕ) (params : Row) (e : Entry) (puts : PutsAs (uncounted t) text params e)
-    (low : fits_i64 e.key ≡ true) where
+    (text : List ℕ) (params : Row) (news : List Entry) (puts : PutsEachAs (uncounted t) text params news)
+    (low : AllByRecursion IsKey news) where
   abbrev table : Table
   table = uncounted t
 
@@ -121,21 +64,19 @@ module _ (old new : State) (t : Table) (is : IsPlain (uncounted t)) (sound : ∥
 
   -- the edit by them
   record Given (rows : List Row) : Type 0 where
-    pub news : (put_by rows).news ≡ map stored (e ∷ [])
-    pub after : edited db (put_by rows) ≡ map stored (put e es)
-    pub taken : are_fresh (left_by db (put_by rows)) (put_by rows).news ≡ false
-        → is_some (find (has_key e.key) es) ≡ true
+    pub news_are : (put_by rows).news ≡ map stored news
+    pub after : edited db (put_by rows) ≡ map stored (put_each news es)
+    pub taken : are_fresh (left_by db (put_by rows)) (put_by rows).news ≡ false → meets_key news es ≡ true
 
   given : (rows : List Row) → rows ≡ source → Given rows
   given rows are = subst Given (sym (are ∙ puts.gives tree)) (record {
-    news = ap (λ row. with_rowids Chosen (db tree) (row ∷ []))
-        (cast_is here is_plain e puts.wide puts.short);
-    after = put_is old new t is sound es holds text params e puts;
-    taken = λ h. not_both _ (sym (fresh_is old new t is sound es holds text params e puts) ∙ h);
+    news_are = news_are old new t is sound es holds text params news puts;
+    after = put_are old new t is sound es holds text params news puts;
+    taken = taken_are old new t is sound es holds text params news puts;
   })
 
-  fits : AllByRecursion (IsFit here) (e ∷ [])
-  fits = (record { wide = puts.wide; short = puts.short; low = low; checked = puts.passes }, tt)
+  fits : AllByRecursion (IsFit here) news
+  fits = fit_at table tree news puts.are low
 
   -- ---- how each part may stop
 
@@ -144,8 +85,8 @@ module _ (old new : State) (t : Table) (is : IsPlain (uncounted t)) (sound : ∥
   PutStops None = HasWideIndex schema table
   PutStops (Some error) =
       IsInterrupted old error
-      ⊎ (((error ≡ key_taken) × (is_some (find (has_key e.key) es) ≡ true))
-      ⊎ ((error ≡ SqliteFailure (code.ConstraintViolation Unique)) × Forbids schema table (put e es)))
+      ⊎ (((error ≡ key_taken) × (meets_key news es ≡ true))
+      ⊎ ((error ≡ SqliteFailure (code.ConstraintViolation Unique)) × Forbids schema table (put_each news es)))
 
   sourced : (stop : Option Error)
       → Sourced old.step_limit old.now (stamped here params) (from.Values puts.terms puts.width) (Err stop)
@@ -156,11 +97,11 @@ module _ (old new : State) (t : Table) (is : IsPlain (uncounted t)) (sound : ∥
 
   edit_is : (rows : List Row) (it : Given rows) (stop : Option Error)
       → Edited schema Enforced db (put_by rows) (Err stop) → PutStops stop
-  edit_is rows it stop h = go stop (edit_stops schema db (put_by rows) is_plain (e ∷ []) it.news fits ⊥
+  edit_is rows it stop h = go stop (edit_stops schema db (put_by rows) is_plain news it.news_are fits ⊥
       (inl (none_in schema Enforced tree (put_by rows).news schema.tables))
       (asks_none schema (put_by rows) is.free refl) refl stop h)
     where
-      go : (stop : Option Error) → EditStops schema db (put_by rows) is_plain (e ∷ []) it.news fits ⊥
+      go : (stop : Option Error) → EditStops schema db (put_by rows) is_plain news it.news_are fits ⊥
           (inl (none_in schema Enforced tree (put_by rows).news schema.tables))
           (asks_none schema (put_by rows) is.free refl) refl stop
           → PutStops stop
@@ -255,8 +196,8 @@ module _ (old new : State) (t : Table) (is : IsPlain (uncounted t)) (sound : ∥
   -- the key is taken, or why else the row can't be put in
   abbrev pub Refuses : Error → Type 0
   Refuses error =
-      ((error ≡ key_taken) × (is_some (find (has_key e.key) es) ≡ true) × IsUnchanged old new)
-      ⊎ PutFails old new table (Forbids schema table (put e es)) error
+      ((error ≡ key_taken) × (meets_key news es ≡ true) × IsUnchanged old new)
+      ⊎ PutFails old new table (Forbids schema table (put_each news es)) error
 
   told : (sql : List ℕ) (error : Error) → Stops old new sql command params error → Refuses error
   told sql error (inl (does, same)) = elim (put_stops sql (Some error) does) [
@@ -268,8 +209,8 @@ module _ (old new : State) (t : Table) (is : IsPlain (uncounted t)) (sound : ∥
       (inl (fails_for old new error _ (HasWideIndex schema table) (put_stops sql None) fails))
 
   -- why it can't
-  pub refuses_insert : (error : Error) → ExecutesInside 0 text params old new (Err error) → Refuses error
-  refuses_insert error h = elim (stops old new text params command refl error
+  pub refuses_rows : (error : Error) → ExecutesInside 0 text params old new (Err error) → Refuses error
+  refuses_rows error h = elim (stops old new text params command refl error
       (λ c is. let same : means.found ≡ c = same_value (sym means.is ∙ is) in
       subst (λ (c : Compiled). (c.command ≡ command) × (c.returning ≡ None) × (c.formats ≡ [])) same
       (means.meant, means.bare, means.timeless)) h) [
@@ -277,4 +218,19 @@ module _ (old new : State) (t : Table) (is : IsPlain (uncounted t)) (sound : ∥
         | inr (inl fails) ↦ inr (inl
             (fails_for old new error ⊥ (HasWideIndex schema table) (λ x. absurd x) fails))
         | inr (inr (c, is, how)) ↦ told (text_of text c) error how
+      ]
+
+module _ (old new : State) (t : Table) (is : IsPlain (uncounted t)) (sound : ∥ IsDatabase old.now ∥₁)
+    (es : List Entry)
+    (holds : Holds old.now (uncounted t) es)
+    (text : List ℕ) (params : Row) (e : Entry) (puts : PutsAs (uncounted t) text params e)
+    (low : fits_i64 e.key ≡ true) where
+  -- why one row can't
+  pub refuses_insert : (error : Error) → ExecutesInside 0 text params old new (Err error)
+      → ((error ≡ key_taken) × (is_some (find (has_key e.key) es) ≡ true) × IsUnchanged old new)
+      ⊎ PutFails old new (uncounted t) (Forbids old.now.schema (uncounted t) (put e es)) error
+  refuses_insert error h = elim (refuses_rows old new t is sound es holds text params (e ∷ []) (puts_one puts)
+      (low, tt) error h) [
+        | inl taken ↦ inl (taken.0, sym (or_nothing _) ∙ taken.1, taken.2)
+        | inr fails ↦ inr fails
       ]

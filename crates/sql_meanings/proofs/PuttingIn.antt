@@ -1,52 +1,11 @@
 -- Rows that are only put in set nothing off; and in which of its parts a statement stops.
-use Rattle.std.proofs.Common.{
-  ◌≡◌,
-  ◌⊎◌,
-  inl,
-  inr,
-  ℕ,
-  zero,
-  suc,
-  ◌==◌,
-  List,
-  [],
-  ◌∷◌,
-  length,
-  length-append,
-  Bool,
-  true,
-  false,
-  ◌&&◌,
-  Some,
-  None,
-  Option,
-  Ok,
-  Err,
-  Result,
-  refl,
-  sym,
-  ap,
-  subst,
-  arith,
-}
-use Rattle.std.specs.List.{flat_map, filter_map}
-use Rattle.sqlite.specs.Order.{Row}
-use Rattle.sqlite.specs.Table.{Table}
-use Rattle.sqlite.specs.Schema.{Schema}
-use Rattle.sqlite.specs.Tree.{Trees}
-use Rattle.sqlite.specs.Edit.{Edit, Applies}
-use Rattle.sqlite.specs.Rows.{Part, Then}
-use Rattle.sqlite.specs.declared.error.Error.{Error}
-use Rattle.sqlite.specs.declared.error.Error.TheVariants.{SqliteFailure}
+use Rattle.sql_meanings.specs.Names.{◌≡◌, ◌⊎◌, ℕ, ◌==◌, List, [], ◌∷◌, length, Bool, true, false, ◌&&◌, Some, None}
+use Rattle.sql_meanings.specs.Names.{Option, Ok, Err, Result, flat_map, filter_map, Row, Table, Schema, Trees, Edit}
+use Rattle.sql_meanings.specs.Names.{Part, Then, Error, SqliteFailure, Keys, PrimaryKey, Reference, ParentKey}
+use Rattle.sql_meanings.specs.Names.{parent_key, Deed, Refusal, work_by, work_for, deed_for, Leads, Writes}
+use Rattle.sql_meanings.proofs.Names.{inl, inr, zero, suc, length-append, refl, sym, ap, subst, arith, one_step}
+use Rattle.sqlite.specs.Edit.{Applies}
 use Rattle.sqlite.specs.declared.error.ErrorCode.TheVariants as code
-use Rattle.sqlite.proofs.Callers.{one_step}
-use Rattle.sqlite_schema.specs.declared.schema.Keys.{Keys}
-use Rattle.sqlite_schema.specs.declared.schema.Constraint.TheVariants.{PrimaryKey}
-use Rattle.sqlite_schema.specs.declared.schema.Reference.{Reference}
-use Rattle.sqlite_schema.specs.Rules.{ParentKey, parent_key}
-use Rattle.sqlite_rules.specs.declared.action.Deed.{Deed}
-use Rattle.sqlite_rules.specs.declared.error.Refusal.{Refusal}
-use Rattle.sqlite_rules.specs.Action.{work_by, work_for, deed_for, Leads, Writes}
 
 -- the error that names the primary key
 abbrev pub key_taken : Error

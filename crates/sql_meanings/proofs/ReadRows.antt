@@ -1,16 +1,8 @@
 -- The look-ups of a table that a database holds: by its key, by two columns, and of the next key.
-use Rattle.std.proofs.Common.{◌≡◌, ℕ, ℤ, List, [], ◌∷◌, find, get_or, slice_get, Some, option_map, Result}
-use Rattle.std.proofs.Math.Logic.{∥∥₁_elim}
-use mathlib.Core.Bool.{Bool-set}
-use Rattle.sqlite.specs.Order.{Row}
-use Rattle.sqlite.specs.declared.types.Value.TheVariants.{Null, Int}
-use Rattle.sqlite.specs.Program.{overlay}
-use Rattle.sqlite.specs.Table.{Table}
-use Rattle.sqlite.specs.Term.{Term, eval_all}
-use Rattle.sqlite.specs.Effect.{IsDatabase}
-use Rattle.sqlite.specs.State.{State, QueriesRowInside}
-use Rattle.sqlite.specs.declared.error.Error.{Error}
-use Rattle.sqlite_value.specs.Keys.{plain}
+use Rattle.sql_meanings.specs.Names.{◌≡◌, ℕ, ℤ, List, [], ◌∷◌, find, slice_get, Some, option_map, Result, Row, Null}
+use Rattle.sql_meanings.specs.Names.{Int, overlay, Table, Term, eval_all, IsDatabase, State, QueriesRowInside, Error}
+use Rattle.sql_meanings.specs.Names.{plain}
+use Rattle.sql_meanings.proofs.Names.{get_or, ∥∥₁_elim}
 use Rattle.sql_meanings.specs.Entries.{Entry, has_key, has_two, is_above, stored}
 use Rattle.sql_meanings.specs.Tables.{Holds, placed_at, tree_of}
 use Rattle.sql_meanings.specs.Queries.{by_key, by_two, next_above}
@@ -20,6 +12,7 @@ use Rattle.sql_meanings.proofs.KeyedAnswers.{keyed_answer}
 use Rattle.sql_meanings.proofs.OrderedAnswers.{next_answer}
 use Rattle.sql_meanings.proofs.TwoColumns.{Clear, clear, two_answer}
 use Rattle.sql_meanings.proofs.Steps.{standing}
+use mathlib.Core.Bool.{Bool-set}
 
 module _ (old new : State) (table : Table) (free : table.references ≡ []) (sound : ∥ IsDatabase old.now ∥₁)
     (es : List Entry)

@@ -1,20 +1,10 @@
 -- What a seek tells of a table that a database holds.
-use Rattle.std.proofs.Common.{◌≡◌, inl, inr, ℕ, ℤ, ◌^◌, List, [], ◌∷◌, map, filter, Ok, Err, Result, false}
-use Rattle.std.proofs.Common.{refl, nat_le, length}
-use Rattle.sqlite.specs.Order.{Row}
-use Rattle.sqlite.specs.declared.types.Value.TheVariants.{Null, Int}
-use Rattle.sqlite.specs.Program.{overlay}
-use Rattle.sqlite.specs.Query.{Query, IsSureAnswer, page}
-use Rattle.sqlite.specs.Table.{Table}
-use Rattle.sqlite.specs.Tree.{Trees}
-use Rattle.sqlite.specs.Listing.{understood}
-use Rattle.sqlite.specs.Term.{Term, eval_all}
-use Rattle.sqlite.specs.Effect.{IsDatabase}
-use Rattle.sqlite.specs.State.{State, CommitsShowing, FailsToQuery, IsNotRun, Shown, Survives}
-use Rattle.sqlite.specs.declared.error.Error.{Error}
+use Rattle.sql_meanings.specs.Names.{◌≡◌, ℕ, ℤ, ◌^◌, List, [], ◌∷◌, map, filter, Ok, Err, Result, false, length, Row}
+use Rattle.sql_meanings.specs.Names.{Null, Int, overlay, Query, IsSureAnswer, page, Table, Trees, understood, Term}
+use Rattle.sql_meanings.specs.Names.{eval_all, IsDatabase, State, FailsToQuery, IsNotRun, Survives, Error, IsSome}
+use Rattle.sql_meanings.proofs.Names.{inl, inr, refl, nat_le, subst}
+use Rattle.sqlite.specs.State.{CommitsShowing, Shown}
 use Rattle.sqlite.proofs.StateLemmas.{survives_weaker}
-use Rattle.std.specs.Prelude.{IsSome}
-use Rattle.std.proofs.Common.{subst}
 use Rattle.sql_meanings.specs.Entries.{Entry, stored}
 use Rattle.sql_meanings.specs.Tables.{Defines, Holds, tree_of}
 use Rattle.sql_meanings.specs.StatementAnswers.{OnlyShows, ReadKept, TellsRows}

@@ -1,40 +1,9 @@
 -- What a SELECT inside a transaction tells of a table that a database holds.
-use Rattle.std.proofs.Common.{
-  ◌≡◌,
-  inl,
-  inr,
-  ℕ,
-  ◌^◌,
-  List,
-  [],
-  ◌∷◌,
-  map,
-  length,
-  None,
-  Some,
-  Option,
-  option_map,
-  Ok,
-  Err,
-  Result,
-  refl,
-  sym,
-  subst,
-  true,
-  false,
-  nat_le,
-}
-use Rattle.sqlite.specs.Order.{Row}
-use Rattle.sqlite.specs.Query.{Query, IsSureAnswer, has_no_fold}
-use Rattle.sqlite.specs.Program.{overlay}
+use Rattle.sql_meanings.specs.Names.{◌≡◌, ℕ, ◌^◌, List, [], ◌∷◌, map, length, None, Some, Option, option_map, Ok, Err}
+use Rattle.sql_meanings.specs.Names.{Result, true, false, Row, Query, IsSureAnswer, has_no_fold, overlay, Schema}
+use Rattle.sql_meanings.specs.Names.{Table, Trees, IsDatabase, State, QueriesRowInside, Error, accepts_program}
+use Rattle.sql_meanings.proofs.Names.{inl, inr, refl, sym, subst, nat_le}
 use Rattle.sqlite.specs.Command.TheVariants.{Select}
-use Rattle.sqlite.specs.Schema.{Schema}
-use Rattle.sqlite.specs.Table.{Table}
-use Rattle.sqlite.specs.Tree.{Trees}
-use Rattle.sqlite.specs.Effect.{IsDatabase}
-use Rattle.sqlite.specs.State.{State, QueriesRowInside}
-use Rattle.sqlite.specs.declared.error.Error.{Error}
-use Rattle.sqlite_typing.specs.Types.{accepts_program}
 use Rattle.sql_meanings.specs.Entries.{Entry, IsTree, listed}
 use Rattle.sql_meanings.specs.Tables.{Defines, placed_at, tree_of}
 use Rattle.sql_meanings.specs.StatementAnswers.{TellsRow}

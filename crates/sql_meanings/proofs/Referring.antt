@@ -1,24 +1,13 @@
 -- A foreign key that names no table's row is set off by no edit of it, and is kept by it.
-use Rattle.std.proofs.Common.{◌≡◌, ◌≢◌, ◌⊎◌, inl, inr, ℕ, ◌==◌, List, [], ◌∷◌, ◌||◌, ◌&&◌, not, nat_lt, Bool}
-use Rattle.std.proofs.Common.{true, false, Some, None, Option, refl, sym, ap, subst, ◌∙◌, find, length, arith}
-use Rattle.std.specs.Prelude.{option_and_then}
-use Rattle.std.specs.List.{filter_map, flat_map, list_all}
-use Rattle.std.proofs.lemmas.Bool.{cases_Bool, or_parts, not-false}
-use Rattle.sqlite.specs.Schema.{Schema}
-use Rattle.sqlite.specs.Table.{Table}
-use Rattle.sqlite.specs.Tree.{Trees}
-use Rattle.sqlite.specs.Order.{Row}
-use Rattle.sqlite_schema.specs.declared.schema.Among.TheVariants.{All}
-use Rattle.sqlite_schema.specs.declared.schema.Keys.{Keys}
-use Rattle.sqlite_schema.specs.declared.schema.Keys.TheVariants.{Enforced}
-use Rattle.sqlite_schema.specs.declared.schema.Reference.{Reference}
-use Rattle.sqlite_schema.specs.Names.{same_name}
-use Rattle.sqlite_schema.specs.Rules.{ParentKey, Refers, has_null, has_parent, is_held, is_key_if_to, key_in}
-use Rattle.sqlite_schema.specs.Rules.{key_places, parent_key}
-use Rattle.sqlite_rules.specs.declared.action.Deed.{Deed}
-use Rattle.sqlite_rules.specs.Lists.{Has}
-use Rattle.sqlite_rules.specs.Edit.{Edit, is_referred}
-use Rattle.sqlite_rules.specs.Action.{deed_for, pairs, work_by, work_for, works}
+use Rattle.sql_meanings.specs.Names.{◌≡◌, ◌≢◌, ◌⊎◌, ℕ, ◌==◌, List, [], ◌∷◌, ◌||◌, ◌&&◌, not, Bool, true, false, Some}
+use Rattle.sql_meanings.specs.Names.{None, Option, find, length, option_and_then, filter_map, flat_map, list_all}
+use Rattle.sql_meanings.specs.Names.{Schema, Table, Trees, Row, All, Keys, Enforced, Reference, same_name, ParentKey}
+use Rattle.sql_meanings.specs.Names.{Refers, parent_key, Deed, Has, is_referred, deed_for, pairs, work_by, work_for}
+use Rattle.sql_meanings.specs.Names.{works}
+use Rattle.sql_meanings.proofs.Names.{inl, inr, nat_lt, refl, sym, ap, subst, ◌∙◌, arith, cases_Bool, or_parts}
+use Rattle.std.proofs.lemmas.Bool.{not-false}
+use Rattle.sqlite_schema.specs.Rules.{has_null, has_parent, is_held, is_key_if_to, key_in, key_places}
+use Rattle.sqlite_rules.specs.Edit.{Edit}
 use Rattle.sqlite_rules.proofs.ListLemmas.{fails_has, has_found, some_from, some_has}
 use Rattle.sqlite_rules.proofs.RuleLemmas.{key_tree, parent_is_table, refers_at, refers_from}
 use Rattle.sql_meanings.specs.Making.{Stands}

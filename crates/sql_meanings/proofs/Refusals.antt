@@ -1,43 +1,27 @@
 -- Why a write of rows of whole numbers is refused, or can't be stored.
-use Rattle.std.proofs.Common.{◌≡◌, ◌⊎◌, inl, inr, ℕ, ◌==◌, ◌&&◌, not, List, [], ◌∷◌, map, length, Bool, true}
-use Rattle.std.proofs.Common.{false, Some, None, Option, option_map, Err, refl, sym, ap, subst, ◌∙◌, arith}
-use Rattle.std.specs.List.{AllByRecursion, list_all, list_any}
-use Rattle.std.proofs.lemmas.Bool.{cases_Bool, cases_lt}
-use Rattle.std.proofs.Math.Logic.{∥∥₁_elim}
-use Rattle.sqlite.specs.Order.{Row}
-use Rattle.sqlite.specs.Schema.{Schema}
-use Rattle.sqlite.specs.Table.{Table}
-use Rattle.sqlite.specs.Tree.{Trees}
-use Rattle.sqlite.specs.Edit.{Edit, IsRefused, edited}
-use Rattle.sqlite.specs.Effect.{IsDatabase, edit_error}
-use Rattle.sqlite.specs.Rows.{Edited}
-use Rattle.sqlite.specs.declared.error.Error.{Error}
-use Rattle.sqlite.specs.declared.error.Error.TheVariants.{SqliteFailure}
-use Rattle.sqlite.specs.declared.error.ErrorCode.TheVariants as code
-use Rattle.sqlite_sql.specs.Ops.{fits_i64}
-use Rattle.sqlite_sql.specs.Catalog.{entry_of}
+use Rattle.sql_meanings.specs.Names.{◌≡◌, ◌⊎◌, ℕ, ◌==◌, ◌&&◌, not, List, [], ◌∷◌, map, length, Bool, true, false}
+use Rattle.sql_meanings.specs.Names.{Some, None, Option, option_map, Err, AllByRecursion, list_all, list_any, Row}
+use Rattle.sql_meanings.specs.Names.{Schema, Table, Trees, Edit, edited, IsDatabase, edit_error, Edited, Error}
+use Rattle.sql_meanings.specs.Names.{SqliteFailure, fits_i64, entry_of, IsStorable, IsStorableRow, clashes}
+use Rattle.sql_meanings.specs.Names.{index_reals, passes_checks, table_reals, Index, PrimaryKey, Unique, ForeignKey}
+use Rattle.sql_meanings.specs.Names.{Enforced, Refusal, Violates, Has, Writes, works, are_fresh, is_referred, left_by}
+use Rattle.sql_meanings.specs.Names.{taken_by}
+use Rattle.sql_meanings.proofs.Names.{inl, inr, refl, sym, ap, subst, ◌∙◌, arith, cases_Bool, ∥∥₁_elim}
+use Rattle.std.proofs.lemmas.Bool.{cases_lt}
+use Rattle.sqlite.specs.Edit.{IsRefused}
 use Rattle.sqlite_trees.specs.Tree.{rowid, with_tree}
-use Rattle.sqlite_trees.specs.View.{IsStorable, IsStorableRow}
-use Rattle.sqlite_schema.specs.Rules.{Keeps, clashes, guards, index_reals, passes, passes_checks, table_reals}
-use Rattle.sqlite_schema.specs.declared.schema.Index.{Index}
-use Rattle.sqlite_schema.specs.declared.schema.Constraint.TheVariants.{Datatype, NotNull, Check, PrimaryKey}
-use Rattle.sqlite_schema.specs.declared.schema.Constraint.TheVariants.{Unique, ForeignKey}
-use Rattle.sqlite_schema.specs.declared.schema.Keys.TheVariants.{Enforced}
-use Rattle.sqlite_rules.specs.declared.error.Refusal.{Refusal}
-use Rattle.sqlite_rules.specs.declared.error.Refusal.TheVariants.{Violates, Mismatch, NoRowid, BadReference}
-use Rattle.sqlite_rules.specs.declared.error.Refusal.TheVariants.{TooDeep}
-use Rattle.sqlite_rules.specs.Lists.{Has}
-use Rattle.sqlite_rules.specs.Action.{Writes, works}
-use Rattle.sqlite_rules.specs.Edit.{IsOversized, are_fresh, have_rowids, id_in, is_referred, left_by}
-use Rattle.sqlite_rules.specs.Edit.{taken_by}
+use Rattle.sqlite_schema.specs.Rules.{Keeps, guards, passes}
+use Rattle.sqlite_schema.specs.declared.schema.Constraint.TheVariants.{Datatype, NotNull, Check}
+use Rattle.sqlite_rules.specs.declared.error.Refusal.TheVariants.{Mismatch, NoRowid, BadReference, TooDeep}
+use Rattle.sqlite_rules.specs.Edit.{IsOversized, have_rowids, id_in}
 use Rattle.sqlite_rules.proofs.RuleLemmas.{keeps_at, keeps_from}
 use Rattle.sql_meanings.specs.Entries.{AreShort, HasWidth, Entry, stored}
 use Rattle.sql_meanings.specs.StatementAnswers.{Forbids, HasWideIndex, has_unique}
 use Rattle.sql_meanings.specs.Tables.{tree_of, width_of}
-use Rattle.sql_meanings.proofs.NumberRows.{entry_fits, entry_present, entry_typed, none_indexed, none_real}
-use Rattle.sql_meanings.proofs.NumberRows.{row_fits}
+use Rattle.sql_meanings.proofs.NumberRows.{entry_fits, entry_present, entry_typed, none_indexed, none_real, row_fits}
 use Rattle.sql_meanings.proofs.TableWrites.{fits_columns, IsPlain}
 use Rattle.sql_meanings.proofs.PuttingIn.{key_taken, no_end}
+use Rattle.sqlite.specs.declared.error.ErrorCode.TheVariants as code
 
 -- the row has as many numbers as the table, its key is one that a file can hold, and it passes the CHECKs
 pub record IsFit (table : Table) (x : Entry) : Type 0 where

@@ -1,37 +1,12 @@
 -- A list that rises strictly is the only sorted order of its elements.
-use Rattle.std.proofs.Common.{
-  ◌≡◌,
-  ◌⊎◌,
-  inl,
-  inr,
-  List,
-  [],
-  ◌∷◌,
-  length,
-  filter,
-  Bool,
-  true,
-  false,
-  cond,
-  refl,
-  ap,
-  subst,
-  ◌∙◌,
-  arith,
-  Ordering,
-  Less,
-  Equal,
-  Greater,
-  is_lt,
-  is_gt,
-  is_eq,
-  IsPermutation,
-}
-use Rattle.std.specs.List.{AllByRecursion}
+use Rattle.sql_meanings.specs.Names.{◌≡◌, ◌⊎◌, List, [], ◌∷◌, length, filter, Bool, true, false, cond, AllByRecursion}
+use Rattle.sql_meanings.specs.Names.{IsAscending}
+use Rattle.sql_meanings.proofs.Names.{inl, inr, refl, ap, subst, ◌∙◌, arith, Ordering, Less, Equal, Greater}
+use Rattle.sql_meanings.proofs.Names.{IsPermutation, length_permutation}
+use Rattle.std.proofs.Common.{is_lt, is_gt, is_eq}
 use Rattle.std.specs.Cmp.{IsTotalOrder}
 use Rattle.std.specs.Ordering.{ordering_reverse}
-use Rattle.std.proofs.lemmas.List.Sorted.{length_permutation, IsPermutation-sym}
-use Rattle.sqlite.specs.Tree.{IsAscending}
+use Rattle.std.proofs.lemmas.List.Sorted.{IsPermutation-sym}
 use Rattle.sqlite_trees.proofs.ListLemmas.{all-permutation, filter_all, all_weaker, IsPermutation-filter}
 use Rattle.sqlite_exec.proofs.PartitionLemmas.{ascending_from_sorted}
 use Rattle.std.specs.List.Sorted.{IsSorted}

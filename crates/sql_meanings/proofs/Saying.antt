@@ -1,10 +1,7 @@
 -- What two calls say, one after the other.
-use Rattle.std.proofs.Common.{◌∙◌, arith}
-use Rattle.sqlite.specs.State.{State, HasCleanDisk, Survives}
-use Rattle.sqlite.specs.Held.{state}
-use Rattle.sqlite.specs.declared.transaction.Transaction.{Transaction}
+use Rattle.sql_meanings.specs.Names.{State, HasCleanDisk, Survives, state, Transaction, Ghosts}
+use Rattle.sql_meanings.proofs.Names.{◌∙◌, arith}
 use Rattle.sqlite.proofs.StateLemmas.{survives_then}
-use Rattle.sqlite_trees.specs.declared.store.Store.{Ghosts}
 use Rattle.sql_meanings.specs.Calls.{Says}
 
 -- neither leaves anything new at a stop

@@ -1,19 +1,9 @@
 -- What a query of one table answers that asks for the next rows from a key on.
-use Rattle.std.proofs.Common.{◌≡◌, ◌&&◌, ℕ, ℤ, List, [], ◌∷◌, map, filter, Bool, true, false, Some, refl, ap}
-use Rattle.std.proofs.Common.{◌∙◌, int_cmp}
-use Rattle.std.specs.List.{flat_map, list_all}
-use Rattle.std.specs.Ordering.{is_ge, int_eq}
-use Rattle.sqlite.specs.declared.types.Value.{Value}
-use Rattle.sqlite.specs.declared.types.Value.TheVariants.{Int}
-use Rattle.sqlite.specs.Order.{Row}
-use Rattle.sqlite_value.proofs.OrderLemmas.{value_cmp-Int}
-use Rattle.sqlite.specs.Collation.TheVariants.{Binary}
-use Rattle.sqlite_sql.specs.Ops.{is_true, from_truth, binary}
-use Rattle.sqlite_sql.specs.declared.ops.BinaryOp.TheVariants.{Compare}
-use Rattle.sqlite_sql.specs.declared.ops.CompareOp.TheVariants.{Ge}
-use Rattle.sqlite.specs.Tree.{Trees}
-use Rattle.sqlite.specs.Term.{Term, Env, eval_all, holds}
-use Rattle.sqlite.specs.Query.{IsAnswerAs, matches_as, page, inner, end}
+use Rattle.sql_meanings.specs.Names.{◌≡◌, ◌&&◌, ℕ, ℤ, List, [], ◌∷◌, map, filter, Bool, true, false, Some, flat_map}
+use Rattle.sql_meanings.specs.Names.{list_all, is_ge, int_eq, Value, Int, Row, Binary, is_true, from_truth, binary}
+use Rattle.sql_meanings.specs.Names.{Compare, Ge, Trees, Term, Env, eval_all, holds, IsAnswerAs, matches_as, page}
+use Rattle.sql_meanings.specs.Names.{inner, end}
+use Rattle.sql_meanings.proofs.Names.{refl, ap, ◌∙◌, int_cmp, value_cmp-Int}
 use Rattle.sql_meanings.specs.Entries.{Entry, IsTree, stored}
 use Rattle.sql_meanings.specs.Seeks.{is_from, is_of_from, key_from, next_from, next_of_from, of_from}
 use Rattle.sql_meanings.proofs.EntryLists.{int_equals, text_apart}

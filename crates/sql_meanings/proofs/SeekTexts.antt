@@ -1,24 +1,9 @@
 -- What the texts of seeks mean of a table in whatever schema, by what is computed of the text alone.
-use Rattle.std.proofs.Common.{◌≡◌, ℕ, ℤ, pos, List, [], ◌∷◌, map, Ok, Some, None, refl, true, false, arith}
-use Rattle.sqlite.specs.declared.types.Value.TheVariants.{Int}
-use Rattle.sqlite.specs.Collation.TheVariants.{Binary}
-use Rattle.sqlite.specs.Schema.{Schema}
-use Rattle.sqlite.specs.Table.{Table}
-use Rattle.sqlite.specs.Term.{Term, col, lit}
-use Rattle.sqlite_ast.specs.declared.Binary.TheVariants as binary
-use Rattle.sqlite_ast.specs.declared.Expr.TheOpen.{Expr-F}
-use Rattle.sqlite_ast.specs.declared.Expr.{Expr, out-Expr}
-use Rattle.sqlite_ast.specs.declared.Sort.{Sort, out-Sort}
-use Rattle.sqlite_draft.specs.declared.join.Step.TheVariants.{Inner}
-use Rattle.sqlite_resolve.specs.Literal.{integer}
-use Rattle.sqlite_resolve.specs.Lowering.{alone}
-use Rattle.sqlite_resolve.specs.Program as prog
-use Rattle.sqlite_resolve.specs.Compare.{affinity_of}
-use Rattle.sqlite_resolve.specs.declared.compare.Affinity.TheVariants as affinity
-use Rattle.sqlite_resolve.specs.Scope.{Name, alias_of, declared}
-use Rattle.sqlite_resolve.specs.Select.{ungrouped}
-use Rattle.sqlite_resolve.specs.Terms.{number}
-use Rattle.sqlite_typing.specs.Types.{accepts_program}
+use Rattle.sql_meanings.specs.Names.{◌≡◌, ℕ, ℤ, pos, List, [], ◌∷◌, map, Ok, Some, None, true, false, Int, Binary}
+use Rattle.sql_meanings.specs.Names.{Schema, Table, Term, col, lit, Expr-F, Expr, out-Expr, Sort, out-Sort, Inner}
+use Rattle.sql_meanings.specs.Names.{integer, alone, affinity_of, Name, alias_of, declared, ungrouped, number}
+use Rattle.sql_meanings.specs.Names.{accepts_program}
+use Rattle.sql_meanings.proofs.Names.{refl, arith}
 use Rattle.sql_meanings.specs.Queries.{ascending}
 use Rattle.sql_meanings.specs.Seeks.{key_from, next_from, next_of_from, of_from}
 use Rattle.sql_meanings.specs.Tables.{placed_at}
@@ -31,6 +16,9 @@ use Rattle.sql_meanings.proofs.ReadTables.{ReadsAs}
 use Rattle.sql_meanings.proofs.ShownColumns.{has_room, outputs_at, shows_named}
 use Rattle.sql_meanings.proofs.Statements.{HasTable}
 use Rattle.sql_meanings.proofs.Texts.{IsSelect, left_over, many}
+use Rattle.sqlite_ast.specs.declared.Binary.TheVariants as binary
+use Rattle.sqlite_resolve.specs.Program as prog
+use Rattle.sqlite_resolve.specs.declared.compare.Affinity.TheVariants as affinity
 
 module _ (table : Table) (text : List ℕ) (places : List ℕ) (most : ℕ) (terms : List Term) (key : Name)
     (keys : (tree : ℕ) → Tests (placed_at table tree) key 0)

@@ -1,40 +1,12 @@
 -- Whole SELECTs over one table, and those of the bank.
-use Rattle.std.proofs.Common.{◌≡◌, ℕ, ◌-◌, List, [], ◌∷◌, map, Ok, Some, None, Option, slice_get, refl, true}
-use Rattle.std.proofs.Common.{false, nat_lt, ap}
+use Rattle.sql_meanings.specs.Names.{◌≡◌, ℕ, ◌-◌, List, [], ◌∷◌, map, Ok, Some, None, Option, slice_get, true, false}
+use Rattle.sql_meanings.specs.Names.{Key, Compare, Eq, Program, Select, Term, col, op2, Schema, Table, Expr, out-Expr}
+use Rattle.sql_meanings.specs.Names.{Expr-F, Core, Shown, Sort, out-Sort, Parsed, Inner, Output, Carried, nothing}
+use Rattle.sql_meanings.specs.Names.{alone, Name, Context, alias_of, tests, outputs, sorts, number, conjuncts}
+use Rattle.sql_meanings.specs.Names.{affinity_of, ungrouped, lower, compiled, first, with_command}
+use Rattle.sql_meanings.proofs.Names.{refl, nat_lt, ap}
 use Rattle.sqlite_value.specs.declared.keys.Collation.TheVariants.{Binary}
-use Rattle.sqlite_value.specs.declared.keys.Key.{Key}
-use Rattle.sqlite_sql.specs.declared.ops.BinaryOp.TheVariants.{Compare}
-use Rattle.sqlite_sql.specs.declared.ops.CompareOp.TheVariants.{Eq}
-use Rattle.sqlite_schema.specs.declared.program.Program.{Program}
-use Rattle.sqlite_schema.specs.declared.command.Command.TheVariants.{Select}
-use Rattle.sqlite.specs.Term.{Term, col, op2}
-use Rattle.sqlite.specs.Schema.{Schema}
-use Rattle.sqlite.specs.Table.{Table}
-use Rattle.sqlite_ast.specs.declared.Expr.{Expr, out-Expr}
-use Rattle.sqlite_ast.specs.declared.Expr.TheOpen.{Expr-F}
-use Rattle.sqlite_ast.specs.declared.Binary.TheVariants as binary
-use Rattle.sqlite_ast.specs.declared.Statement.TheVariants as written
-use Rattle.sqlite_ast.specs.declared.Select as written_select
-use Rattle.sqlite_ast.specs.declared.Core.{Core}
-use Rattle.sqlite_ast.specs.declared.Shown.{Shown}
-use Rattle.sqlite_ast.specs.declared.Sort.{Sort, out-Sort}
 use Rattle.sqlite_ast.specs.declared.Source.{Source as From}
-use Rattle.sqlite_syntax.specs.declared.statement.Parsed.{Parsed}
-use Rattle.sqlite_draft.specs.declared.join.Step.TheVariants.{Inner}
-use Rattle.sqlite_resolve.specs.declared.compare.Affinity.TheVariants as affinity
-use Rattle.sqlite_resolve.specs.declared.scope.Output.{Output}
-use Rattle.sqlite_resolve.specs.declared.state.Carried.{Carried}
-use Rattle.sqlite_resolve.specs.Lowering.{nothing, alone}
-use Rattle.sqlite_resolve.specs.Scope.{Name, Context, alias_of}
-use Rattle.sqlite_resolve.specs.Body.{tests, outputs}
-use Rattle.sqlite_resolve.specs.Order as order
-use Rattle.sqlite_resolve.specs.Order.{sorts}
-use Rattle.sqlite_resolve.specs.Terms.{number, conjuncts}
-use Rattle.sqlite_resolve.specs.Compare.{affinity_of}
-use Rattle.sqlite_resolve.specs.Select.{ungrouped}
-use Rattle.sqlite_resolve.specs.Expr.{lower}
-use Rattle.sqlite_resolve.specs.Program as prog
-use Rattle.sqlite_resolve.specs.Compile.{compiled, first, with_command}
 use Rattle.sql_meanings.proofs.Columns.{bound_to, over_one}
 use Rattle.sql_meanings.proofs.Expressions.{st, lower_and}
 use Rattle.sql_meanings.proofs.Statements.{HasTable, compiled_select}
@@ -42,6 +14,12 @@ use Rattle.sql_meanings.proofs.ByKey.{Tests, key_test}
 use Rattle.sql_meanings.specs.Queries.{no_limit}
 use Rattle.sql_meanings.proofs.OneTable.{IsPartOf, IsSelectOf, one_table, parts_are, query_is, read_is}
 use Rattle.sql_meanings.proofs.ShownColumns.{ShowsColumns, HasRoom, spent, last_of, outputs_are}
+use Rattle.sqlite_ast.specs.declared.Binary.TheVariants as binary
+use Rattle.sqlite_ast.specs.declared.Statement.TheVariants as written
+use Rattle.sqlite_ast.specs.declared.Select as written_select
+use Rattle.sqlite_resolve.specs.declared.compare.Affinity.TheVariants as affinity
+use Rattle.sqlite_resolve.specs.Order as order
+use Rattle.sqlite_resolve.specs.Program as prog
 
 -- no WHERE
 pub no_test : (cx : Context) (budget : ℕ) (l : Carried)

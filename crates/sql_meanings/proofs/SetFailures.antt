@@ -1,44 +1,15 @@
 -- Why one column of a row can't be written.
-use Rattle.std.proofs.Common.{◌≡◌, ◌⊎◌, inl, inr, ℕ, ℤ, List, [], ◌∷◌, map, find, length, not, ◌&&◌, true}
-use Rattle.std.proofs.Common.{false, None, Some, Option, Ok, Err, IsTrue, refl, sym, ap, subst, ◌∙◌}
-use Rattle.std.specs.List.{AllByRecursion}
-use Rattle.std.proofs.lemmas.Bool.{cases_Bool}
-use Rattle.std.proofs.Math.Logic.{∥∥₁_elim}
-use Rattle.sqlite.specs.declared.types.Value.TheVariants.{Null, Int}
-use Rattle.sqlite.specs.Order.{Row}
-use Rattle.sqlite.specs.Program.{overlay}
-use Rattle.sqlite.specs.Schema.{Schema}
-use Rattle.sqlite.specs.Term.{eval_all}
-use Rattle.sqlite.specs.Tree.{Trees, without_rowid}
-use Rattle.sqlite.specs.Table.{Table}
-use Rattle.sqlite.specs.Edit.{Edit, edit_of, edited}
-use Rattle.sqlite.specs.Command.{Command}
-use Rattle.sqlite.specs.Command.TheVariants.{Update}
-use Rattle.sqlite.specs.Does.{Does, Concludes, Returns, Tested}
-use Rattle.sqlite.specs.Effect.{Answers, IsDatabase, edit_error}
-use Rattle.sqlite.specs.Rows.{Gives, Queried, Edited, Task, Then, Updates, Written}
-use Rattle.sqlite.specs.State.{State, ExecutesInside, mode_of, text_of}
-use Rattle.sqlite.specs.declared.error.Error.{Error}
-use Rattle.sqlite.specs.declared.error.Error.TheVariants.{SqliteFailure}
-use Rattle.sqlite.specs.declared.error.ErrorCode.TheVariants as code
-use Rattle.sqlite.proofs.Callers.{one_step}
-use Rattle.sqlite_sql.specs.Ops.{fits_i64}
-use Rattle.sqlite_sql.proofs.QueryLemmas.{no_fold_overflows}
-use Rattle.sqlite_schema.specs.declared.program.Program.{Program}
-use Rattle.sqlite_resolve.specs.declared.compiled.Compiled.{Compiled}
-use Rattle.sqlite_schema.specs.declared.schema.Constraint.TheVariants.{ForeignKey, Unique}
-use Rattle.sqlite_schema.specs.declared.schema.Among.TheVariants.{All}
-use Rattle.sqlite_schema.specs.declared.schema.Keys.TheVariants.{Enforced}
-use Rattle.sqlite_schema.specs.Rules.{Refers}
-use Rattle.sqlite_rules.specs.declared.error.Refusal.{Refusal}
-use Rattle.sqlite_rules.specs.declared.error.Refusal.TheVariants.{Violates}
-use Rattle.sqlite.specs.Rowids.TheVariants.{Given}
-use Rattle.sqlite_rules.specs.Cast.{cast_row}
-use Rattle.sqlite_rules.specs.Calls.{ids_of}
-use Rattle.sqlite_rules.specs.Edit.{are_fresh, is_taken, left_by, taken_by}
-use Rattle.sqlite_rules.specs.Action.{works}
-use Rattle.sqlite_rules.specs.Lists.{Has}
-use Rattle.sqlite_rules.proofs.ListLemmas.{all_has}
+use Rattle.sql_meanings.specs.Names.{◌≡◌, ◌⊎◌, ℕ, ℤ, List, [], ◌∷◌, map, find, length, not, ◌&&◌, true, false, None}
+use Rattle.sql_meanings.specs.Names.{Some, Option, Ok, Err, IsTrue, AllByRecursion, Null, Int, Row, overlay, Schema}
+use Rattle.sql_meanings.specs.Names.{eval_all, Trees, without_rowid, Table, Edit, edit_of, edited, Command, Update}
+use Rattle.sql_meanings.specs.Names.{Does, Concludes, Returns, Tested, Answers, IsDatabase, edit_error, Gives, Edited}
+use Rattle.sql_meanings.specs.Names.{Task, Then, Written, State, ExecutesInside, mode_of, text_of, Error}
+use Rattle.sql_meanings.specs.Names.{SqliteFailure, fits_i64, Program, Compiled, ForeignKey, Unique, All, Enforced}
+use Rattle.sql_meanings.specs.Names.{Refers, Refusal, Violates, Given, cast_row, ids_of, are_fresh, is_taken, left_by}
+use Rattle.sql_meanings.specs.Names.{taken_by, works, Has}
+use Rattle.sql_meanings.proofs.Names.{inl, inr, refl, sym, ap, subst, ◌∙◌, cases_Bool, ∥∥₁_elim, one_step}
+use Rattle.sql_meanings.proofs.Names.{no_fold_overflows, all_has}
+use Rattle.sqlite.specs.Rows.{Queried, Updates}
 use Rattle.sql_meanings.specs.Entries.{HasWidth, Entry, changed, has_key, listed, stored}
 use Rattle.sql_meanings.specs.StatementAnswers.{Forbids, HasWideIndex, IsInterrupted, SetFails, is_parent}
 use Rattle.sql_meanings.specs.Tables.{Holds, placed_at, tree_of, width_of}
@@ -56,6 +27,7 @@ use Rattle.sql_meanings.proofs.Stopping.{Stops, fails_for, fails_split, stops}
 use Rattle.sql_meanings.proofs.TableWrites.{IsPlain, cast_is, none_short, plain_at}
 use Rattle.sql_meanings.proofs.PuttingIn.{never, stopped}
 use Rattle.sql_meanings.proofs.Writing.{same_value, went}
+use Rattle.sqlite.specs.declared.error.ErrorCode.TheVariants as code
 
 module _ (old new : State) (table : Table) (is : IsPlain table) (sound : ∥ IsDatabase old.now ∥₁)
     (es : List Entry)

@@ -1,44 +1,9 @@
 -- One column is written under a key.
-use Rattle.std.proofs.Common.{
-  ◌≡◌,
-  ℕ,
-  ℤ,
-  List,
-  [],
-  ◌∷◌,
-  map,
-  find,
-  length,
-  None,
-  Some,
-  Option,
-  is_some,
-  Ok,
-  refl,
-  sym,
-  ap,
-  subst,
-  ◌∙◌,
-  Bool,
-  cond,
-  true,
-  false,
-}
-use Rattle.sqlite.specs.declared.types.Value.TheVariants.{Null, Int}
-use Rattle.sqlite.specs.Order.{Row}
-use Rattle.sqlite.specs.Program.{overlay}
-use Rattle.sqlite.specs.Schema.{Schema}
-use Rattle.sqlite.specs.Tree.{Trees, put_row, without_rowid}
-use Rattle.sqlite.specs.Table.{Table}
-use Rattle.sqlite.specs.Term.{Term, eval_all}
-use Rattle.sqlite.specs.Edit.{Edit, edit_of, edited}
-use Rattle.sqlite_rules.specs.Calls.{ids_of}
-use Rattle.sqlite_schema.specs.Rules.{passes_checks}
-use Rattle.sqlite_typing.specs.Types.{accepts_program}
-use Rattle.sqlite.specs.Rowids.TheVariants.{Given}
-use Rattle.sqlite.specs.Command.TheVariants.{Update}
-use Rattle.sqlite.specs.Effect.{IsDatabase}
-use Rattle.sqlite.specs.State.{State, Executes}
+use Rattle.sql_meanings.specs.Names.{◌≡◌, ℕ, ℤ, List, [], ◌∷◌, map, find, length, None, Some, Option, is_some, Ok}
+use Rattle.sql_meanings.specs.Names.{Bool, cond, true, false, Null, Int, Row, overlay, Schema, Trees, put_row}
+use Rattle.sql_meanings.specs.Names.{without_rowid, Table, Term, eval_all, Edit, edit_of, edited, ids_of}
+use Rattle.sql_meanings.specs.Names.{passes_checks, accepts_program, Given, Update, IsDatabase, State, Executes}
+use Rattle.sql_meanings.proofs.Names.{refl, sym, ap, subst, ◌∙◌}
 use Rattle.sql_meanings.specs.Entries.{HasWidth, Entry, IsTree, changed, has_key, listed, put, stored}
 use Rattle.sql_meanings.specs.Tables.{Holds, placed_at, tree_of, width_of, texts_of}
 use Rattle.sql_meanings.specs.Queries.{by_key}

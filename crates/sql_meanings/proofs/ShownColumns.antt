@@ -1,51 +1,17 @@
 -- The columns that a SELECT shows, and its order.
-use Rattle.std.proofs.Common.{
-  ◌≡◌,
-  ℕ,
-  ◌-◌,
-  ◌<◌,
-  List,
-  [],
-  ◌∷◌,
-  ◌++◌,
-  append_assoc,
-  append-nil,
-  length,
-  map,
-  Option,
-  option_map,
-  unwrap_or,
-  refl,
-  arith,
-  Ok,
-  Some,
-  None,
-  slice_get,
-  Bool,
-  true,
-  false,
-  nat_lt,
-  ◌∙◌,
-}
-use Rattle.sqlite_schema.specs.Names.{column_named, place_of}
-use Rattle.sqlite_schema.specs.declared.schema.Column.{Column}
-use Rattle.sqlite.specs.Term.{col}
-use Rattle.sqlite.specs.Schema.{Schema}
-use Rattle.sqlite.specs.Table.{Table}
-use Rattle.sqlite_ast.specs.declared.Expr.{Expr, out-Expr}
-use Rattle.sqlite_ast.specs.declared.Expr.TheOpen.{Expr-F, Shown-F}
-use Rattle.sqlite_ast.specs.declared.Shown.{Shown, out-Shown}
-use Rattle.sqlite_resolve.specs.declared.scope.Output.{Output}
-use Rattle.sqlite_resolve.specs.declared.state.Carried.{Carried}
-use Rattle.sqlite_resolve.specs.Lowering.{nothing}
-use Rattle.sqlite_resolve.specs.Scope.{Name, declared}
+use Rattle.sql_meanings.specs.Names.{◌≡◌, ℕ, ◌-◌, ◌<◌, List, [], ◌∷◌, ◌++◌, length, map, Option, option_map}
+use Rattle.sql_meanings.specs.Names.{unwrap_or, Ok, Some, None, slice_get, Bool, true, false, column_named, place_of}
+use Rattle.sql_meanings.specs.Names.{Column, col, Schema, Table, Expr, out-Expr, Expr-F, Shown, out-Shown, Output}
+use Rattle.sql_meanings.specs.Names.{Carried, nothing, Name, declared, outputs, lower}
+use Rattle.sql_meanings.proofs.Names.{append-nil, refl, arith, nat_lt, ◌∙◌}
+use Rattle.std.proofs.Common.{append_assoc}
+use Rattle.sqlite_ast.specs.declared.Expr.TheOpen.{Shown-F}
 use Rattle.sqlite_ast.specs.Layer.{Layer, ShownLayer}
-use Rattle.sqlite_resolve.specs.Body as body
-use Rattle.sqlite_resolve.specs.Body.{outputs, outputs_from, shown, heading, is_column}
-use Rattle.sqlite_resolve.specs.Expr.{lower}
+use Rattle.sqlite_resolve.specs.Body.{outputs_from, shown, heading, is_column}
 use Rattle.sql_meanings.specs.Plain.{key_column}
 use Rattle.sql_meanings.proofs.Columns.{bound_to, over_one, found_is, column_is}
 use Rattle.sql_meanings.proofs.Expressions.{st, lower_column}
+use Rattle.sqlite_resolve.specs.Body as body
 
 -- a column as it is shown
 abbrev pub output_of : Table → ℕ → Column → Output

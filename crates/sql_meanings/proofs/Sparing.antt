@@ -1,50 +1,30 @@
 -- An INSERT of values or an UPDATE leaves every table but its own, whatever the schema makes of it.
-use Rattle.std.proofs.Common.{◌≡◌, ◌≢◌, inl, inr, ℕ, ◌+◌, List, [], ◌∷◌, false, Some, None, Option}
-use Rattle.std.proofs.Common.{Ok, Err, slice_get, refl, sym, ap, subst, ◌∙◌, ◌++◌}
-use Rattle.std.specs.Prelude.{ℤ, if◌then◌else◌}
-use Rattle.std.specs.List.{AllByRecursion}
-use Rattle.std.proofs.lemmas.Bool.{cases_Bool}
-use Rattle.sqlite_ast.specs.declared.Conflict.TheVariants as conflict
-use Rattle.sqlite_ast.specs.declared.Expr.{Expr}
-use Rattle.sqlite_ast.specs.declared.Rows.{Rows}
-use Rattle.sqlite_ast.specs.declared.Statement.TheVariants as written
-use Rattle.sqlite_syntax.specs.declared.statement.Parsed.{Parsed}
-use Rattle.sqlite_schema.specs.Names.{table_named}
-use Rattle.sqlite_schema.specs.declared.program.Program.{Program}
-use Rattle.sqlite_schema.specs.declared.schema.Keys.{Keys}
-use Rattle.sqlite.specs.Command.{Command}
-use Rattle.sqlite.specs.Command.TheVariants.{Insert, Update}
-use Rattle.sqlite.specs.Does.{Does, Tally}
-use Rattle.sqlite.specs.Effect.{Database}
-use Rattle.sqlite.specs.Edit.{Edit}
-use Rattle.sqlite.specs.Listing.{if_select, is_select, listing_schema, reads_listing, understood}
+use Rattle.sql_meanings.specs.Names.{◌≡◌, ◌≢◌, ℕ, ◌+◌, List, [], ◌∷◌, false, Some, None, Option, Ok, Err, slice_get}
+use Rattle.sql_meanings.specs.Names.{◌++◌, ℤ, if◌then◌else◌, AllByRecursion, Expr, Rows, Parsed, table_named, Program}
+use Rattle.sql_meanings.specs.Names.{Keys, Command, Insert, Update, Does, Tally, Database, Edit, if_select, is_select}
+use Rattle.sql_meanings.specs.Names.{listing_schema, reads_listing, understood, Mode, Row, Counts, Task, Written}
+use Rattle.sql_meanings.specs.Names.{count_of, sequence, Schema, State, Executes, ExecutesIn, mode_of, shows_rows}
+use Rattle.sql_meanings.specs.Names.{text_of, Table, Trees, command, compiled, first, insert, insert_or_abort}
+use Rattle.sql_meanings.specs.Names.{meaning, planned, returning, formats_of, new_rows, shows, small, timed, update}
+use Rattle.sql_meanings.specs.Names.{program, Checked, and_then, Name, Compiled, CompileError, Writes, taken_by}
+use Rattle.sql_meanings.proofs.Names.{inl, inr, refl, sym, ap, subst, ◌∙◌, cases_Bool}
 use Rattle.sqlite_schema.specs.declared.command.Returning.{Returning}
-use Rattle.sqlite.specs.declared.run.Mode.{Mode}
-use Rattle.sqlite.specs.Order.{Row}
-use Rattle.sqlite.specs.Rows.{Counts, CountsIn, Task, Written, count_of, counting, sequence}
+use Rattle.sqlite.specs.Rows.{CountsIn, counting}
 use Rattle.std.specs.Ordering.{int_cmp, is_lt}
-use Rattle.sqlite.specs.Schema.{Schema}
 use Rattle.sqlite.specs.Source.{Source}
-use Rattle.sqlite.specs.State.{State, Executes, ExecutesIn, Runs, Writes as WritesNow, mode_of, shows_rows, text_of}
+use Rattle.sqlite.specs.State.{Runs, Writes as WritesNow}
 use Rattle.sqlite.specs.Clock.{timed as with_time}
-use Rattle.sqlite.specs.Table.{Table}
-use Rattle.sqlite.specs.Tree.{Trees}
-use Rattle.sqlite_resolve.specs.Compile.{command, compiled, first, insert, insert_or_abort, meaning, planned, returning}
-use Rattle.sqlite_resolve.specs.Compile.{formats_of, new_rows, on_table, shows, small, target, timed, update}
+use Rattle.sqlite_resolve.specs.Compile.{on_table, target}
 use Rattle.sqlite_resolve.specs.Body.{table_at}
-use Rattle.sqlite_resolve.specs.Program.{program}
 use Rattle.sqlite_resolve.specs.Write.{updated}
-use Rattle.sqlite_resolve.specs.Lowering.{Checked, and_then, or_else}
-use Rattle.sqlite_resolve.specs.Scope.{Name}
-use Rattle.sqlite_resolve.specs.declared.compiled.Compiled.{Compiled}
-use Rattle.sqlite_resolve.specs.declared.error.CompileError.{CompileError}
-use Rattle.sqlite_rules.specs.Action.{Writes}
-use Rattle.sqlite_rules.specs.Edit.{taken_by}
+use Rattle.sqlite_resolve.specs.Lowering.{or_else}
 use Rattle.sql_meanings.specs.Making.{Stands}
 use Rattle.sql_meanings.specs.Tables.{tree_of}
 use Rattle.sql_meanings.proofs.Actions.{apart_from, good_works, settles}
 use Rattle.sql_meanings.proofs.Writing.{same_value, went}
 use Rattle.sql_meanings.specs.Sparing.{IsNot, SparesAllBut, sequence_name}
+use Rattle.sqlite_ast.specs.declared.Conflict.TheVariants as conflict
+use Rattle.sqlite_ast.specs.declared.Statement.TheVariants as written
 
 -- ---- an edit
 

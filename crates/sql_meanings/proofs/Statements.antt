@@ -1,51 +1,21 @@
 -- Statements over one table, under any schema that has it.
-use Rattle.std.proofs.Common.{◌≡◌, ℕ, ◌+◌, ◌^◌, ◌==◌, List, [], ◌∷◌, find, Ok, Some, None, Option, slice_get}
-use Rattle.std.proofs.Common.{false, nat_le, ◌∙◌}
-use Rattle.sqlite_schema.specs.Names.{table_named}
-use Rattle.sqlite_schema.specs.declared.program.Program.{Program}
+use Rattle.sql_meanings.specs.Names.{◌≡◌, ℕ, ◌+◌, ◌^◌, ◌==◌, List, [], ◌∷◌, find, Ok, Some, None, Option, slice_get}
+use Rattle.sql_meanings.specs.Names.{false, table_named, Program, Term, col, Schema, Table, Expr, Rows, Parsed, Draft}
+use Rattle.sql_meanings.specs.Names.{Inner, Carried, nothing, Name, conjuncts, tests, lower, compiled, first, planned}
+use Rattle.sql_meanings.specs.Names.{timed, meaning, returning, command, shows, insert_or_abort, insert, update, read}
+use Rattle.sql_meanings.specs.Names.{new_rows, formats_of, small, with_command}
+use Rattle.sql_meanings.proofs.Names.{nat_le, ◌∙◌}
 use Rattle.sqlite_schema.specs.declared.command.Command.{Command}
 use Rattle.sqlite_schema.specs.declared.command.Command.TheVariants.{Insert, Update}
 use Rattle.sqlite_schema.specs.declared.command.Source.{Source}
-use Rattle.sqlite.specs.Term.{Term, col}
-use Rattle.sqlite.specs.Schema.{Schema}
-use Rattle.sqlite.specs.Table.{Table}
-use Rattle.sqlite_ast.specs.declared.Expr.{Expr}
-use Rattle.sqlite_ast.specs.declared.Rows.{Rows}
+use Rattle.sqlite_resolve.specs.Reach.{any_scans}
+use Rattle.sql_meanings.proofs.Columns.{over_one}
+use Rattle.sql_meanings.proofs.Expressions.{st}
 use Rattle.sqlite_ast.specs.declared.Conflict.TheVariants as conflict
 use Rattle.sqlite_ast.specs.declared.Statement.TheVariants as written
 use Rattle.sqlite_ast.specs.declared.Select as written_select
-use Rattle.sqlite_syntax.specs.declared.statement.Parsed.{Parsed}
-use Rattle.sqlite_draft.specs.declared.query.Draft.{Draft}
-use Rattle.sqlite_draft.specs.declared.join.Step.TheVariants.{Inner}
-use Rattle.sqlite_resolve.specs.declared.state.Carried.{Carried}
-use Rattle.sqlite_resolve.specs.Lowering.{nothing}
-use Rattle.sqlite_resolve.specs.Scope.{Name}
-use Rattle.sqlite_resolve.specs.Terms.{conjuncts}
-use Rattle.sqlite_resolve.specs.Reach.{any_scans}
-use Rattle.sqlite_resolve.specs.Body.{tests}
-use Rattle.sqlite_resolve.specs.Expr.{lower}
 use Rattle.sqlite_resolve.specs.Program as prog
 use Rattle.sqlite_resolve.specs.Write as w
-use Rattle.sqlite_resolve.specs.Compile.{
-  compiled,
-  first,
-  planned,
-  timed,
-  meaning,
-  returning,
-  command,
-  shows,
-  insert_or_abort,
-  insert,
-  update,
-  read,
-  new_rows,
-  formats_of,
-  small,
-  with_command,
-}
-use Rattle.sql_meanings.proofs.Columns.{over_one}
-use Rattle.sql_meanings.proofs.Expressions.{st}
 
 -- the six facts that a statement takes of a table
 pub record HasTable (schema : Schema) (name : Name) (p : ℕ) (table : Table) : Type 0 where

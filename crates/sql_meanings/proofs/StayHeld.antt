@@ -1,7 +1,6 @@
 -- Tables that are held stay held while others are made.
-use Rattle.std.proofs.Common.{◌≡◌, ◌++◌, ◌&&◌, List, [], ◌∷◌, true, sym, ap, subst, ◌∙◌}
-use Rattle.sqlite.specs.Table.{Table}
-use Rattle.sqlite.specs.Effect.{Database, IsDatabase}
+use Rattle.sql_meanings.specs.Names.{◌≡◌, ◌++◌, ◌&&◌, List, [], ◌∷◌, true, Table, Database, IsDatabase}
+use Rattle.sql_meanings.proofs.Names.{sym, ap, subst, ◌∙◌}
 use Rattle.sql_meanings.specs.Contents.{HoldsEach, has_other_names, is_free, stand_apart}
 use Rattle.sql_meanings.specs.Entries.{Entry, IsTree}
 use Rattle.sql_meanings.specs.Making.{KeepsWhatStood}

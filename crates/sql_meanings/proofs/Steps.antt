@@ -1,16 +1,8 @@
 -- What a statement takes of a table that is defined, and what a step on one table leaves of the others.
-use Rattle.std.proofs.Common.{◌≡◌, ◌≢◌, ℕ, ◌^◌, List, [], Some, None, Option, slice_get, nat_le, refl, sym}
-use Rattle.std.proofs.Common.{ap, subst, ◌∙◌, false}
-use Rattle.std.proofs.Math.Logic.{∥∥₁_elim}
-use Rattle.std.specs.Prelude.{option_and_then}
+use Rattle.sql_meanings.specs.Names.{◌≡◌, ◌≢◌, ℕ, ◌^◌, List, [], Some, None, Option, slice_get, false}
+use Rattle.sql_meanings.specs.Names.{option_and_then, table_named, Schema, Table, Row, Database, IsDatabase}
+use Rattle.sql_meanings.proofs.Names.{nat_le, refl, sym, ap, subst, ◌∙◌, ∥∥₁_elim, all_has}
 use Rattle.std.specs.Coded.{coded_bool}
-use base.Stored.{Coded-set}
-use Rattle.sqlite_schema.specs.Names.{table_named}
-use Rattle.sqlite.specs.Schema.{Schema}
-use Rattle.sqlite.specs.Table.{Table}
-use Rattle.sqlite.specs.Order.{Row}
-use Rattle.sqlite.specs.Effect.{Database, IsDatabase}
-use Rattle.sqlite_rules.proofs.ListLemmas.{all_has}
 use Rattle.sql_meanings.proofs.Statements.{HasTable}
 use Rattle.sql_meanings.specs.Making.{Stands}
 use Rattle.sql_meanings.proofs.Defining.{defined_stands}
@@ -18,6 +10,7 @@ use Rattle.sql_meanings.proofs.Growing.{low_tree}
 use Rattle.sql_meanings.proofs.TableStands.{found_apart, high_not}
 use Rattle.sql_meanings.specs.Entries.{Entry, IsTree}
 use Rattle.sql_meanings.specs.Tables.{Defines, Holds, placed_at, tree_of, width_of}
+use base.Stored.{Coded-set}
 
 -- the place of the table in the schema
 pub record Standing (schema : Schema) (table : Table) : Type 0 where

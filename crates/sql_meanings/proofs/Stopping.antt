@@ -1,23 +1,14 @@
 -- The error of a write inside a transaction: the text is no statement, the command tells it, or the store
 -- failed.
-use Rattle.std.proofs.Common.{◌≡◌, ◌⊎◌, inl, inr, ℕ, List, [], None, Some, Ok, Err, Bool, ◌&&◌, ◌||◌, true}
-use Rattle.std.proofs.Common.{false, append-nil, refl, ap, subst, ◌∙◌}
-use Rattle.std.specs.Prelude.{⊤}
-use Rattle.sqlite.specs.Order.{Row}
-use Rattle.sqlite.specs.Command.{Command}
-use Rattle.sqlite.specs.Command.TheVariants.{Insert, Update, CreateTable}
+use Rattle.sql_meanings.specs.Names.{◌≡◌, ◌⊎◌, ℕ, List, [], None, Some, Ok, Err, Bool, ◌&&◌, ◌||◌, true, false, ⊤}
+use Rattle.sql_meanings.specs.Names.{Row, Command, Insert, Update, CreateTable, understood, Does, State, mode_of}
+use Rattle.sql_meanings.specs.Names.{ExecutesIn, ExecutesInside, IsNoStatement, IsNotRun, IsUnchanged, Fails}
+use Rattle.sql_meanings.specs.Names.{HasCause, shows_rows, text_of, Error, Compiled, StoreError, OutOfMemory, Io}
+use Rattle.sql_meanings.specs.Names.{Corrupt, Full, Broken, Unstorable}
+use Rattle.sql_meanings.proofs.Names.{inl, inr, append-nil, refl, ap, subst, ◌∙◌}
 use Rattle.sqlite.specs.Clock.{timed}
-use Rattle.sqlite.specs.Listing.{understood}
-use Rattle.sqlite.specs.Does.{Does}
 use Rattle.sqlite.specs.Effect.{is_query}
-use Rattle.sqlite.specs.State.{State, mode_of, ExecutesIn, ExecutesInside, EndsScope, Escapes, IsMisplaced}
-use Rattle.sqlite.specs.State.{IsNoStatement, IsNotRun, IsUnchanged, Fails, HasCause, RunsCommand, is_pragma}
-use Rattle.sqlite.specs.State.{shows_rows, text_of}
-use Rattle.sqlite.specs.declared.error.Error.{Error}
-use Rattle.sqlite_resolve.specs.declared.compiled.Compiled.{Compiled}
-use Rattle.sqlite_trees.specs.declared.error.StoreError.{StoreError}
-use Rattle.sqlite_trees.specs.declared.error.StoreError.TheVariants.{OutOfMemory, Io, Corrupt, Full, Broken}
-use Rattle.sqlite_trees.specs.declared.error.StoreError.TheVariants.{Unstorable}
+use Rattle.sqlite.specs.State.{EndsScope, Escapes, IsMisplaced, RunsCommand, is_pragma}
 
 -- the command puts rows in, changes rows or makes a table
 abbrev pub is_write : Command → Bool

@@ -1,62 +1,20 @@
 -- A table that stands in any schema, and what a CREATE TABLE keeps and adds.
-use Rattle.std.proofs.Common.{
-  ◌≡◌,
-  ◌⊎◌,
-  inl,
-  inr,
-  ℕ,
-  suc,
-  ◌+◌,
-  ◌^◌,
-  ◌<◌,
-  ◌==◌,
-  List,
-  [],
-  ◌∷◌,
-  find,
-  slice_get,
-  Bool,
-  true,
-  false,
-  Some,
-  None,
-  Option,
-  Ok,
-  Result,
-  refl,
-  sym,
-  ap,
-  subst,
-  ◌∙◌,
-  nat_le,
-  arith,
-}
-use Rattle.std.specs.List.{position_from}
+use Rattle.sql_meanings.specs.Names.{◌≡◌, ◌⊎◌, ℕ, ◌+◌, ◌^◌, ◌<◌, ◌==◌, List, [], ◌∷◌, find, slice_get, Bool, true}
+use Rattle.sql_meanings.specs.Names.{false, Some, None, Option, Ok, Result, position_from, Table, Schema, Trees}
+use Rattle.sql_meanings.specs.Names.{Database, Tally, Does, MakesTable, MakesSequence, lacks_sequence, no_rows}
+use Rattle.sql_meanings.specs.Names.{sequence_text, Then, Gives, CreateTable, table_defined_by, Mode, same_name, Has}
+use Rattle.sql_meanings.specs.Names.{IsSound}
+use Rattle.sql_meanings.proofs.Names.{inl, inr, suc, refl, sym, ap, subst, ◌∙◌, nat_le, arith, cases_Bool, through}
+use Rattle.sql_meanings.proofs.Names.{all_has, has_either, has_left, has_right}
 use Rattle.std.proofs.lemmas.List.Folds.{list_any-append}
-use Rattle.std.proofs.lemmas.Bool.{cases_Bool}
-use Rattle.sqlite.specs.Table.{Table}
-use Rattle.sqlite.specs.Schema.{Schema}
-use Rattle.sqlite.specs.Tree.{Trees}
-use Rattle.sqlite.specs.Effect.{Database}
-use Rattle.sqlite.specs.Does.{Tally, Does, MakesTable, MakesSequence, lacks_sequence, no_rows, sequence_text}
-use Rattle.sqlite.specs.Rows.{Then, Gives}
-use Rattle.sqlite.proofs.Callers.{through}
 use Rattle.sqlite_catalog.specs.Calls.{CreatesTable}
-use Rattle.sqlite.specs.Command.TheVariants.{CreateTable}
-use Rattle.sqlite.specs.Compile.{table_defined_by}
-use Rattle.sqlite.specs.declared.run.Mode.{Mode}
 use Rattle.sqlite_value.specs.Order.{Row}
-use Rattle.sqlite_schema.specs.Names.{same_name}
 use Rattle.sqlite_trees.specs.Tree.{IsAscending}
-use Rattle.sqlite_rules.specs.Lists.{Has}
-use Rattle.sqlite_rules.proofs.ListLemmas.{all_has, has_either, has_left, has_right}
-use Rattle.sqlite_catalog.specs.Listing.{IsSound}
 use Rattle.sqlite_catalog.specs.Change.{created, next_tree}
 use Rattle.sqlite_catalog.proofs.StepLemmas.{table_below, same_itself}
 use Rattle.sql_meanings.proofs.Statements.{HasTable}
-use Rattle.sql_meanings.specs.Making.{Stands}
+use Rattle.sql_meanings.specs.Making.{Stands, AddsTable, IsGrown, KeepsWhatStood, counts_rows}
 use Rattle.sql_meanings.proofs.Growing.{low_tree, sequenced}
-use Rattle.sql_meanings.specs.Making.{AddsTable, IsGrown, KeepsWhatStood, counts_rows}
 
 -- a table stands on as another is made
 pub stands_after : (schema : Schema) (new table : Table) → Stands schema table

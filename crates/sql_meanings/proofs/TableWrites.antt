@@ -1,13 +1,8 @@
 -- What a write of one table leaves.
-use Rattle.std.proofs.Common.{◌≡◌, ◌≤◌, ◌+◌, ◌++◌, length, ℕ, Some, List, [], ◌∷◌, map, sym, ap, subst, ◌∙◌}
-use Rattle.std.proofs.Common.{arith}
-use Rattle.sqlite.specs.Order.{Row}
-use Rattle.sqlite.specs.Table.{Table}
-use Rattle.sqlite.specs.Edit.{Edit, edited}
-use Rattle.sqlite.specs.Effect.{IsDatabase}
-use Rattle.sqlite.specs.State.{State}
+use Rattle.sql_meanings.specs.Names.{◌≡◌, ◌≤◌, ◌+◌, ◌++◌, length, ℕ, Some, List, [], ◌∷◌, map, Row, Table, Edit}
+use Rattle.sql_meanings.specs.Names.{edited, IsDatabase, State, cast_row}
+use Rattle.sql_meanings.proofs.Names.{sym, ap, subst, ◌∙◌, arith}
 use Rattle.sql_meanings.specs.Entries.{Entry, IsTree, HasWidth, AreShort, numbers, texts_held, stored}
-use Rattle.sqlite_rules.specs.Cast.{cast_row}
 use Rattle.sql_meanings.proofs.Casting.{AreFor, all_for, cast_stored}
 use Rattle.sql_meanings.specs.Making.{SparesStanding, Stands}
 use Rattle.sql_meanings.specs.Tables.{placed_at, tree_of, width_of, texts_of}

@@ -1,15 +1,11 @@
 -- What a SELECT with any test answers of one table: the rows that pass it, in some order. No order of the
 -- keys is asked for.
-use Rattle.std.proofs.Common.{◌≡◌, ℕ, List, [], ◌∷◌, ◌++◌, map, filter, cond, Bool, true, false, refl, sym}
-use Rattle.std.proofs.Common.{ap, subst, ◌∙◌, IsPermutation}
-use Rattle.std.specs.List.{flat_map, list_all}
+use Rattle.sql_meanings.specs.Names.{◌≡◌, ℕ, List, [], ◌∷◌, ◌++◌, map, filter, cond, Bool, true, false, flat_map}
+use Rattle.sql_meanings.specs.Names.{list_all, Value, Row, Trees, Term, Env, eval_all, holds, IsAnswerAs, matches_as}
+use Rattle.sql_meanings.specs.Names.{inner, end, output}
+use Rattle.sql_meanings.proofs.Names.{refl, sym, ap, subst, ◌∙◌, IsPermutation, map-map}
 use Rattle.std.proofs.lemmas.List.Sorted.{IsPermutation-map}
-use Rattle.sqlite.specs.declared.types.Value.{Value}
-use Rattle.sqlite.specs.Order.{Row}
-use Rattle.sqlite.specs.Tree.{Trees}
-use Rattle.sqlite.specs.Term.{Term, Env, eval_all, holds}
-use Rattle.sqlite.specs.Query.{IsAnswerAs, matches_as, inner, end, output, Output}
-use Rattle.sqlite_trees.proofs.ListLemmas.{map-map}
+use Rattle.sqlite.specs.Query.{Output}
 use Rattle.sql_meanings.specs.Entries.{Entry, stored}
 use Rattle.sql_meanings.specs.Queries.{no_limit, query}
 

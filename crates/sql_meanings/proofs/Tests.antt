@@ -1,5 +1,6 @@
 -- Two tests that hold together.
-use Rattle.std.proofs.Common.{◌≡◌, ◌&&◌, Bool, true, false, refl}
+use Rattle.sql_meanings.specs.Names.{◌≡◌, ◌&&◌, Bool, true, false}
+use Rattle.sql_meanings.proofs.Names.{refl}
 
 -- each of them holds
 pub and_both : (a b : Bool) → (a && b) ≡ true → (a ≡ true) × (b ≡ true)

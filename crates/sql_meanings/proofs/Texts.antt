@@ -1,40 +1,14 @@
 -- What a text means of a table in whatever schema, by what is computed of the text alone.
-use Rattle.std.proofs.Common.{◌≡◌, ◌≤◌, ◌<◌, ℕ, ℤ, List, [], ◌∷◌, length, map, Ok, Err, Some, None, Option}
-use Rattle.std.proofs.Common.{refl, true, false, ap, arith, zero, suc, ◌+◌, ◌/◌}
-use Rattle.std.proofs.lemmas.List.{length-map}
-use Rattle.sqlite.specs.Listing.{listing_schema, understood}
-use Rattle.sqlite.specs.Query.{inner, end}
-use Rattle.sqlite.specs.Effect.{value_rows}
-use Rattle.sqlite.specs.Order.{Row}
-use Rattle.sqlite.specs.Rows.{stamped}
-use Rattle.sqlite.specs.Source.TheVariants.{Values}
-use Rattle.sqlite_schema.specs.Rules.{passes_checks}
-use Rattle.sqlite_ast.specs.declared.Conflict.TheVariants as conflict
-use Rattle.sqlite_ast.specs.declared.Rows.{Rows}
+use Rattle.sql_meanings.specs.Names.{◌≡◌, ◌≤◌, ◌<◌, ℕ, ℤ, List, [], ◌∷◌, length, map, Ok, Err, Some, None, Option}
+use Rattle.sql_meanings.specs.Names.{true, false, ◌+◌, ◌++◌, AllByRecursion, listing_schema, understood, inner, end}
+use Rattle.sql_meanings.specs.Names.{value_rows, Row, stamped, Values, passes_checks, Rows, Schema, Table, Term, col}
+use Rattle.sql_meanings.specs.Names.{lit, Null, Int, Core, Expr, out-Expr, Expr-F, Shown, out-Shown, Sort, Inner}
+use Rattle.sql_meanings.specs.Names.{compiled, first, new_rows, small, Name, ungrouped, number, NoSuchTable, Parsed}
+use Rattle.sql_meanings.specs.Names.{accepts_program, accepts_terms}
+use Rattle.sql_meanings.proofs.Names.{refl, ap, arith, zero, suc, ◌/◌, length-map}
 use Rattle.sql_meanings.specs.Entries.{AreShort, HasWidth, Entry, stored}
-use Rattle.sql_meanings.proofs.PutRows.{PutsAs}
-use Rattle.sqlite.specs.Schema.{Schema}
-use Rattle.sqlite.specs.Table.{Table}
-use Rattle.sqlite.specs.Term.{Term, col, lit}
-use Rattle.sqlite.specs.declared.types.Value.TheVariants.{Null, Int}
-use Rattle.sqlite_ast.specs.declared.Binary.TheVariants as binary
-use Rattle.sqlite_ast.specs.declared.Core.{Core}
-use Rattle.sqlite_ast.specs.declared.Expr.{Expr, out-Expr}
-use Rattle.sqlite_ast.specs.declared.Expr.TheOpen.{Expr-F}
-use Rattle.sqlite_ast.specs.declared.Select as written_select
-use Rattle.sqlite_ast.specs.declared.Shown.{Shown, out-Shown}
-use Rattle.sqlite_ast.specs.declared.Sort.{Sort}
+use Rattle.sql_meanings.proofs.PutRows.{PutsAs, PutsEachAs}
 use Rattle.sqlite_ast.specs.declared.Source.{Source as From}
-use Rattle.sqlite_ast.specs.declared.Statement.TheVariants as written
-use Rattle.sqlite_draft.specs.declared.join.Step.TheVariants.{Inner}
-use Rattle.sqlite_resolve.specs.Compile.{compiled, first, new_rows, small}
-use Rattle.sqlite_resolve.specs.Program as prog
-use Rattle.sqlite_resolve.specs.Scope.{Name}
-use Rattle.sqlite_resolve.specs.Select.{ungrouped}
-use Rattle.sqlite_resolve.specs.Terms.{number}
-use Rattle.sqlite_resolve.specs.declared.error.CompileError.TheVariants.{NoSuchTable}
-use Rattle.sqlite_syntax.specs.declared.statement.Parsed.{Parsed}
-use Rattle.sqlite_typing.specs.Types.{accepts_program, accepts_terms}
 use Rattle.sql_meanings.specs.StatementAnswers.{OnlyShows}
 use Rattle.sql_meanings.specs.Queries.{by_key, key_is, no_limit, query}
 use Rattle.sql_meanings.specs.Tables.{placed_at, width_of}
@@ -45,9 +19,15 @@ use Rattle.sql_meanings.proofs.OnlyShowing.{only_understood}
 use Rattle.sql_meanings.proofs.Probing.{ProbesAs, refuses_query, understood_missing}
 use Rattle.sql_meanings.proofs.ReadTables.{ReadsAs}
 use Rattle.sql_meanings.proofs.Selects.{select_all, select_by_key}
-use Rattle.sql_meanings.proofs.ShownColumns.{has_room, is_left, output_named, outputs_at, shown_name}
-use Rattle.sql_meanings.proofs.ShownColumns.{shows_named, spent}
+use Rattle.sql_meanings.proofs.ShownColumns.{has_room, is_left, output_named, outputs_at, shown_name, shows_named}
+use Rattle.sql_meanings.proofs.ShownColumns.{spent}
+use Rattle.sql_meanings.proofs.SeveralRows.{IsRowOf}
 use Rattle.sql_meanings.proofs.Statements.{HasTable, inserts}
+use Rattle.sqlite_ast.specs.declared.Conflict.TheVariants as conflict
+use Rattle.sqlite_ast.specs.declared.Binary.TheVariants as binary
+use Rattle.sqlite_ast.specs.declared.Select as written_select
+use Rattle.sqlite_ast.specs.declared.Statement.TheVariants as written
+use Rattle.sqlite_resolve.specs.Program as prog
 
 -- a SELECT as it is written: it shows the columns at these places of one table
 pub record IsSelect (table : Table) (text : List ℕ) (count : ℕ) (places : List ℕ) : Type 0 where
@@ -221,4 +201,36 @@ puts_by table text params new count P columns rows parsed is plain untimed made 
       short = short;
       accepts = accepts;
       passes = passes;
+    }
+
+-- so many rows, each a key and behind it so many numbers, from this parameter on
+abbrev pub each_terms : ℕ → ℕ → ℕ → List Term
+each_terms count first zero = []
+each_terms count first (suc rows) =
+    col 0 first ∷ lit Null ∷ (parameters (suc first) count ++ each_terms count (first + (count + 1)) rows)
+
+-- INSERT INTO table (columns) VALUES (?1, ..), (..), ..
+pub puts_each_by : (table : Table) (text : List ℕ) (params : Row) (news : List Entry) (terms : List Term)
+    (width : ℕ) (P : Parsed) (columns : List Name) (rows : Rows)
+    → first text ≡ Ok P → P.statement ≡ written.Insert conflict.Abort table.name columns rows [] []
+    → P.formats ≡ []
+    → table.stamps.formats ≡ []
+    → ((schema : Schema) (tree : ℕ)
+    → new_rows schema (placed_at table tree) (small P.names + 0) columns rows ≡ Ok (Values terms width))
+    → length text ≤ P.tail → length params ≡ length P.names
+    → ((tree : ℕ) → value_rows (stamped (placed_at table tree) params) width (length terms / width) terms
+    ≡ map stored news)
+    → AllByRecursion (IsRowOf table) news
+    → ((tree : ℕ) → accepts_terms terms (stamped (placed_at table tree) params) ≡ true)
+    → PutsEachAs table text params news
+puts_each_by table text params news terms width P columns rows parsed is plain untimed made whole counted gives
+    are accepts = record {
+      terms = terms;
+      width = width;
+      means = λ schema p tree has. means schema text (length params) _ _
+          (inserts schema table.name p (placed_at table tree) has text P columns rows (Values terms width) parsed
+          is plain untimed (made schema tree)) refl whole counted refl refl;
+      gives = gives;
+      are = are;
+      accepts = accepts;
     }

@@ -1,22 +1,16 @@
 -- Trees tell their schema, and what a database holds of a table is a proposition.
-use Rattle.std.specs.List.{AllByRecursion}
-use Rattle.std.proofs.Common.{length, ◌≡◌, ℕ, List, Less}
-use Rattle.std.proofs.Math.Logic.{∥∥₁_elim}
+use Rattle.sql_meanings.specs.Names.{AllByRecursion, length, ◌≡◌, ℕ, List, AllByRecursion-prop, Schema, Table, Row}
+use Rattle.sql_meanings.specs.Names.{Trees, Database, IsDatabase, IsSound}
+use Rattle.sql_meanings.proofs.Names.{Less, ∥∥₁_elim}
 use Rattle.std.specs.Coded.{coded_ℕ}
-use base.Stored.{Coded-set}
-use Rattle.sqlite_trees.specs.Props.{rows_set, IsAscending-prop, AllByRecursion-prop, Ordering-set}
-use Rattle.sqlite_schema.specs.contracts.schema.Schema as schema_row
-use Rattle.sqlite.specs.Schema.{Schema}
-use Rattle.sqlite.specs.Table.{Table}
-use Rattle.sqlite.specs.Order.{Row}
-use Rattle.sqlite.specs.Tree.{Trees}
-use Rattle.sqlite.specs.Effect.{Database, IsDatabase}
+use Rattle.sqlite_trees.specs.Props.{rows_set, IsAscending-prop, Ordering-set}
 use Rattle.sqlite_trees.specs.Objects.{catalog_tree}
-use Rattle.sqlite_catalog.specs.Listing.{IsSound}
 use Rattle.sqlite_catalog.proofs.ReadLemmas.{lists_once}
 use Rattle.sql_meanings.proofs.Defining.{Defines-prop}
 use Rattle.sql_meanings.specs.Entries.{HasWidth, Entry, IsTree, Rise}
 use Rattle.sql_meanings.specs.Tables.{Holds, tree_of, width_of}
+use base.Stored.{Coded-set}
+use Rattle.sqlite_schema.specs.contracts.schema.Schema as schema_row
 
 Schema-set : IsSet Schema
 Schema-set = Coded-set schema_row.the_row.coded

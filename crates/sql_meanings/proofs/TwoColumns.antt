@@ -1,57 +1,16 @@
 -- Where two columns behind the key are UNIQUE together, one row at most has two given numbers there.
-use Rattle.std.proofs.Common.{
-  ◌≡◌,
-  ◌⊎◌,
-  inl,
-  inr,
-  ℕ,
-  ℤ,
-  List,
-  [],
-  ◌∷◌,
-  map,
-  filter,
-  find,
-  Some,
-  refl,
-  sym,
-  ap,
-  subst,
-  ◌∙◌,
-  Bool,
-  cond,
-  slice_get,
-  get_or,
-  ◌&&◌,
-  ◌||◌,
-  true,
-  false,
-  arith,
-  true≢false,
-  int_cmp,
-  Less,
-}
-use Rattle.std.specs.List.{list_any, list_all}
-use Rattle.std.specs.Ordering.{int_eq, is_eq, is_ne}
+use Rattle.sql_meanings.specs.Names.{◌≡◌, ◌⊎◌, ℕ, ℤ, List, [], ◌∷◌, map, filter, find, Some, Bool, cond, slice_get}
+use Rattle.sql_meanings.specs.Names.{◌&&◌, ◌||◌, true, false, list_any, list_all, int_eq, is_eq, Value, Int, plain}
+use Rattle.sql_meanings.specs.Names.{Binary, is_true, from_truth, binary, Compare, clashes, Row, IsAnswerAs, inner}
+use Rattle.sql_meanings.specs.Names.{end, Trees, Table, Schema, Term, eval_all, holds, IsSound, Has}
+use Rattle.sql_meanings.proofs.Names.{inl, inr, refl, sym, ap, subst, ◌∙◌, get_or, arith, int_cmp, Less, ints}
+use Rattle.sql_meanings.proofs.Names.{value_cmp-Int}
+use Rattle.std.proofs.Common.{true≢false}
+use Rattle.std.specs.Ordering.{is_ne}
 use Rattle.std.specs.List.Sorted.{IsPermutation}
-use Rattle.std.proofs.lemmas.Int.{ints}
-use Rattle.sqlite.specs.declared.types.Value.{Value}
-use Rattle.sqlite.specs.declared.types.Value.TheVariants.{Int}
-use Rattle.sqlite_value.proofs.OrderLemmas.{value_cmp-Int}
-use Rattle.sqlite_value.specs.Keys.{plain, first_key}
-use Rattle.sqlite.specs.Collation.TheVariants.{Binary}
-use Rattle.sqlite_sql.specs.Ops.{is_true, from_truth, binary}
-use Rattle.sqlite_sql.specs.declared.ops.BinaryOp.TheVariants.{Compare}
+use Rattle.sqlite_value.specs.Keys.{first_key}
 use Rattle.sqlite_sql.specs.declared.ops.CompareOp.TheVariants.{Ne}
-use Rattle.sqlite_schema.specs.Rules.{clashes, agree, differ}
-use Rattle.sqlite.specs.Order.{Row}
-use Rattle.sqlite.specs.Query.{IsAnswerAs, inner, end}
-use Rattle.sqlite.specs.Tree.{Trees}
-use Rattle.sqlite.specs.Table.{Table}
-use Rattle.sqlite.specs.Schema.{Schema}
-use Rattle.sqlite.specs.Term.{Term, eval_all, holds}
-use Rattle.sqlite_catalog.specs.Listing.{IsSound}
-use Rattle.sqlite_rules.specs.Lists.{Has}
+use Rattle.sqlite_schema.specs.Rules.{agree, differ}
 use Rattle.sqlite_catalog.proofs.AlterLemmas.{keys_are_unique}
 use Rattle.sql_meanings.specs.Entries.{Entry, IsTree, Rise, begins_with, has_two, listed, stored}
 use Rattle.sql_meanings.specs.Queries.{no_limit, query, two_are}

@@ -1,48 +1,10 @@
 -- What an INSERT of given values and an UPDATE leave, in any table that stands, whatever else the schema has.
-use Rattle.std.proofs.Common.{
-  ◌≡◌,
-  ◌⊎◌,
-  inl,
-  inr,
-  ℕ,
-  ◌/◌,
-  List,
-  [],
-  length,
-  true,
-  false,
-  Some,
-  Ok,
-  Err,
-  Result,
-  slice_get,
-  unwrap_or,
-  refl,
-  sym,
-  ap,
-  subst,
-  ◌∙◌,
-}
-use Rattle.sqlite.specs.Order.{Row}
-use Rattle.sqlite.specs.Term.{Term}
-use Rattle.sqlite.specs.Table.{Table}
-use Rattle.sqlite.specs.Schema.{Schema}
-use Rattle.sqlite.specs.Tree.{Trees}
-use Rattle.sqlite.specs.Source.TheVariants.{Values}
-use Rattle.sqlite.specs.Command.TheVariants.{Insert, Update}
-use Rattle.sqlite_schema.specs.declared.program.Program.{Program}
-use Rattle.sqlite_schema.specs.declared.schema.Keys.{Keys}
-use Rattle.sqlite_schema.specs.declared.schema.Keys.TheVariants.{Enforced}
-use Rattle.sqlite.specs.Rowids.TheVariants.{Chosen, Given}
-use Rattle.sqlite.specs.Edit.{Edit, edit_of}
-use Rattle.sqlite_rules.specs.Edit.{are_fresh, left_by}
-use Rattle.sqlite_rules.specs.Calls.{ids_of}
-use Rattle.sqlite_rules.specs.Action.{Writes}
-use Rattle.sqlite.specs.Does.{Tally}
-use Rattle.sqlite.specs.Rows.{Written, stamped}
-use Rattle.sqlite.specs.Effect.{Database, IsDatabase, Answers, value_rows}
-use Rattle.sqlite.specs.State.{State, Executes}
-use Rattle.sqlite.proofs.Callers.{runs_as}
+use Rattle.sql_meanings.specs.Names.{◌≡◌, ◌⊎◌, ℕ, List, [], length, true, false, Some, Ok, Err, Result, slice_get}
+use Rattle.sql_meanings.specs.Names.{unwrap_or, Row, Term, Table, Schema, Trees, Values, Insert, Update, Program}
+use Rattle.sql_meanings.specs.Names.{Keys, Enforced, Chosen, Given, Edit, edit_of, are_fresh, left_by, ids_of, Writes}
+use Rattle.sql_meanings.specs.Names.{Tally, Written, stamped, Database, IsDatabase, Answers, value_rows, State}
+use Rattle.sql_meanings.specs.Names.{Executes}
+use Rattle.sql_meanings.proofs.Names.{inl, inr, ◌/◌, refl, sym, ap, subst, ◌∙◌, runs_as}
 use Rattle.sql_meanings.specs.Making.{Stands}
 use Rattle.sql_meanings.proofs.Actions.{Leaves, writes_leave}
 use Rattle.sql_meanings.proofs.Means.{Means, meant_is, plain_is}

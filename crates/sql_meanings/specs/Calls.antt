@@ -1,9 +1,5 @@
 -- What each call inside a transaction says.
-use Rattle.std.specs.Prelude.{◌≡◌, IsTrue}
-use Rattle.sqlite.specs.State.{State, HasCleanDisk, Survives}
-use Rattle.sqlite.specs.Held.{state}
-use Rattle.sqlite.specs.declared.transaction.Transaction.{Transaction}
-use Rattle.sqlite_trees.specs.declared.store.Store.{Ghosts}
+use Rattle.sql_meanings.specs.Names.{◌≡◌, IsTrue, State, HasCleanDisk, Survives, state, Transaction, Ghosts}
 
 -- The connection is the same. On an honest disk: what it says of the rows, and what holds whatever the rows.
 -- Only a fault shuts the store, and a stop leaves nothing new.

@@ -1,9 +1,6 @@
 -- Tables side by side in one database, each with its rows.
-use Rattle.std.specs.Prelude.{◌&&◌, ◌==◌, not, Bool, true, List, [], ◌∷◌, length}
-use Rattle.std.specs.List.{list_all}
-use Rattle.std.specs.Str.{bytes_eq}
-use Rattle.sqlite.specs.Table.{Table}
-use Rattle.sqlite.specs.Effect.{Database}
+use Rattle.sql_meanings.specs.Names.{◌&&◌, ◌==◌, not, Bool, true, List, [], ◌∷◌, length, list_all, bytes_eq, Table}
+use Rattle.sql_meanings.specs.Names.{Database}
 use Rattle.sql_meanings.specs.Entries.{Entry}
 use Rattle.sql_meanings.specs.Tables.{Holds}
 

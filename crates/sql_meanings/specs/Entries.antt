@@ -1,13 +1,9 @@
 -- Rows of whole numbers and texts under rising keys.
-use Rattle.std.specs.Prelude.{◌≡◌, ◌≤◌, ◌&&◌, ◌++◌, ℕ, ℤ, Bool, false, List, [], ◌∷◌, length, map, Option}
-use Rattle.std.specs.Prelude.{Some, None}
-use Rattle.std.specs.Prelude.{cond}
-use Rattle.std.specs.Ordering.{int_cmp, int_eq, is_gt, match_ordering}
+use Rattle.sql_meanings.specs.Names.{◌≡◌, ◌≤◌, ◌&&◌, ◌++◌, ℕ, ℤ, Bool, false, List, [], ◌∷◌, length, map, Option}
+use Rattle.sql_meanings.specs.Names.{Some, None, cond, int_eq, is_gt, match_ordering, AllByRecursion, Null, Int, Text}
+use Rattle.sql_meanings.specs.Names.{Row, IsAscending}
+use Rattle.std.specs.Ordering.{int_cmp}
 use Rattle.std.specs.declared.cmp.Ordering.TheVariants.{Less}
-use Rattle.std.specs.List.{AllByRecursion}
-use Rattle.sqlite.specs.declared.types.Value.TheVariants.{Null, Int, Text}
-use Rattle.sqlite.specs.Order.{Row}
-use Rattle.sqlite.specs.Tree.{IsAscending}
 
 -- a row: its key, its other numbers and behind them its texts, each in the order of the columns
 pub record Entry : Type 0 where

@@ -1,5 +1,6 @@
 -- What SQL texts mean, and what they leave in tables of whole numbers. Begin with `Entries`, `Tables` and
 -- `StatementAnswers`.
+pub mod Names
 pub mod Calls
 pub mod Contents
 pub mod Entries
@@ -8,5 +9,6 @@ pub mod StatementAnswers
 pub mod Plain
 pub mod Queries
 pub mod Seeks
+pub mod SeveralRows
 pub mod Sparing
 pub mod Tables

@@ -1,26 +1,12 @@
 -- How a table comes to be, and what is kept beside it.
-use Rattle.std.specs.Prelude.{◌≡◌, ◌≢◌, ◌⊎◌, ◌+◌, ◌*◌, ◌^◌, ◌<◌, ◌≤◌, ◌==◌, IsTrue, IsUtf8, List, ℕ, [], Bool}
-use Rattle.std.specs.Prelude.{true, false, codes, length, Ok, Err, None, slice_range}
-use Rattle.std.specs.List.{list_any}
-use Rattle.sqlite.specs.Schema.{Schema}
-use Rattle.sqlite.specs.Table.{Table}
-use Rattle.sqlite.specs.Command.TheVariants.{CreateTable}
-use Rattle.sqlite.specs.Change.{automatics, created, is_used, next_tree}
-use Rattle.sqlite.specs.Does.{lacks_sequence, sequence_text}
-use Rattle.sqlite.specs.Effect.{Database}
-use Rattle.sqlite.specs.declared.error.Error.{Error}
-use Rattle.sqlite.specs.declared.error.Error.TheVariants.{SqliteFailure, SqlInputError}
-use Rattle.sqlite.specs.declared.error.ErrorCode.TheVariants.{NameTaken, SchemaTooBig}
-use Rattle.sqlite.specs.declared.types.Value.TheVariants.{Text}
-use Rattle.sqlite.specs.Listing.{understood}
-use Rattle.sqlite.specs.Compile.{table_defined_by}
-use Rattle.sqlite_resolve.specs.declared.compiled.Compiled.{Compiled}
-use Rattle.sqlite_resolve.specs.declared.error.CompileError.{CompileError}
-use Rattle.sqlite_catalog.specs.Calls.{IsBadName}
-use Rattle.sqlite_catalog.specs.Listing.{is_fit, is_formed}
-use Rattle.sqlite_schema.specs.declared.schema.Index.{Index}
-use Rattle.sqlite_schema.specs.Rules.{table_reals}
-use Rattle.sqlite_rules.specs.Lists.{Has}
+use Rattle.sql_meanings.specs.Names.{◌≡◌, ◌≢◌, ◌⊎◌, ◌+◌, ◌^◌, ◌<◌, ◌≤◌, ◌==◌, IsTrue, IsUtf8, List, ℕ, [], Bool, true}
+use Rattle.sql_meanings.specs.Names.{false, codes, length, Ok, Err, None, slice_range, list_any, Schema, Table}
+use Rattle.sql_meanings.specs.Names.{CreateTable, automatics, created, is_used, next_tree, lacks_sequence}
+use Rattle.sql_meanings.specs.Names.{sequence_text, Database, Error, SqliteFailure, SqlInputError, SchemaTooBig, Text}
+use Rattle.sql_meanings.specs.Names.{understood, table_defined_by, Compiled, CompileError, IsBadName, is_fit}
+use Rattle.sql_meanings.specs.Names.{is_formed, Index, table_reals, Has}
+use Rattle.std.specs.Prelude.{◌*◌}
+use Rattle.sqlite.specs.declared.error.ErrorCode.TheVariants.{NameTaken}
 use Rattle.sql_meanings.specs.Tables.{placed_at, tree_of}
 
 -- a table of the schema that has its tree to itself, and no foreign key

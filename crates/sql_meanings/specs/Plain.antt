@@ -1,10 +1,6 @@
 -- STRICT tables of a key, whole numbers and texts.
-use Rattle.std.specs.Prelude.{ℕ, true, false, List, [], ◌∷◌, ◌++◌, Some, map}
-use Rattle.sqlite.specs.Collation.TheVariants.{Binary}
+use Rattle.sql_meanings.specs.Names.{ℕ, true, false, List, [], ◌∷◌, ◌++◌, Some, map, Binary, Table, Null, Column}
 use Rattle.sqlite.specs.Kind.TheVariants.{Integer, Text}
-use Rattle.sqlite.specs.Table.{Table}
-use Rattle.sqlite.specs.declared.types.Value.TheVariants.{Null}
-use Rattle.sqlite_schema.specs.declared.schema.Column.{Column}
 
 -- the column of an INTEGER PRIMARY KEY
 abbrev pub key_column : List ℕ → Column

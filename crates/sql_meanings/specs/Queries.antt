@@ -1,12 +1,6 @@
 -- The queries that the texts mean, over one table in any tree.
-use Rattle.std.specs.Prelude.{ℕ, List, [], ◌∷◌, pos, negsuc, None, false}
-use Rattle.sqlite.specs.declared.types.Value.TheVariants.{Int}
-use Rattle.sqlite.specs.Term.{Term, lit, col, op2}
-use Rattle.sqlite.specs.Query.{Query, Join, inner, end}
-use Rattle.sqlite.specs.Collation.TheVariants.{Binary}
-use Rattle.sqlite_sql.specs.declared.ops.BinaryOp.TheVariants.{Compare}
-use Rattle.sqlite_sql.specs.declared.ops.CompareOp.TheVariants.{Eq, Gt}
-use Rattle.sqlite_value.specs.declared.keys.Key.{Key}
+use Rattle.sql_meanings.specs.Names.{ℕ, List, [], ◌∷◌, pos, negsuc, None, false, Int, Term, lit, col, op2, Query}
+use Rattle.sql_meanings.specs.Names.{Join, inner, end, Binary, Compare, Eq, Gt, Key}
 
 -- the two are equal
 abbrev pub is : Term → Term → Term

@@ -1,13 +1,8 @@
 -- The queries of the rows that come next, by rising keys, from a number on: of all rows, or of those with a
 -- number behind their keys.
-use Rattle.std.specs.Prelude.{ℕ, ℤ, Bool, false, ◌&&◌, List, [], ◌∷◌, pos}
-use Rattle.std.specs.Ordering.{int_cmp, int_eq, is_ge}
-use Rattle.sqlite.specs.declared.types.Value.TheVariants.{Int}
-use Rattle.sqlite.specs.Term.{Term, lit, col, op2}
-use Rattle.sqlite.specs.Query.{Query, inner, end}
-use Rattle.sqlite.specs.Collation.TheVariants.{Binary}
-use Rattle.sqlite_sql.specs.declared.ops.BinaryOp.TheVariants.{Compare}
-use Rattle.sqlite_sql.specs.declared.ops.CompareOp.TheVariants.{Ge}
+use Rattle.sql_meanings.specs.Names.{ℕ, ℤ, Bool, false, ◌&&◌, List, [], ◌∷◌, pos, int_eq, is_ge, Int, Term, lit, col}
+use Rattle.sql_meanings.specs.Names.{op2, Query, inner, end, Binary, Compare, Ge}
+use Rattle.std.specs.Ordering.{int_cmp}
 use Rattle.sql_meanings.specs.Entries.{Entry}
 use Rattle.sql_meanings.specs.Queries.{ascending, is, query}
 

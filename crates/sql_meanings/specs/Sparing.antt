@@ -1,9 +1,5 @@
 -- What a statement leaves of the tables that it doesn't name, whatever file it runs on.
-use Rattle.std.specs.Prelude.{◌≡◌, ◌≢◌, ℕ, List, codes}
-use Rattle.std.specs.List.{AllByRecursion}
-use Rattle.sqlite.specs.Effect.{Database}
-use Rattle.sqlite.specs.Schema.{Schema}
-use Rattle.sqlite.specs.Table.{Table}
+use Rattle.sql_meanings.specs.Names.{◌≡◌, ◌≢◌, ℕ, List, codes, AllByRecursion, Database, Schema, Table}
 use Rattle.sql_meanings.specs.Making.{Stands}
 use Rattle.sql_meanings.specs.Tables.{tree_of}
 

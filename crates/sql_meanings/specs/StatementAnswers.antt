@@ -1,28 +1,12 @@
 -- What a statement inside a transaction answers, why it may fail, and what it leaves.
-use Rattle.std.specs.Prelude.{◌≡◌, ◌≢◌, ◌⊎◌, ◌≤◌, ◌<◌, ◌==◌, ◌&&◌, IsSome, IsTrue, ℕ, List, [], length, map}
-use Rattle.std.specs.Prelude.{Bool, true, false, Option, Some, None, Result, Ok, Err, ⊤}
-use Rattle.std.specs.List.{list_any}
-use Rattle.sqlite.specs.Order.{Row}
-use Rattle.sqlite.specs.Table.{Table}
-use Rattle.sqlite.specs.Schema.{Schema}
-use Rattle.sqlite.specs.Tree.{Trees}
-use Rattle.sqlite.specs.Effect.{IsDatabase, edit_error}
-use Rattle.sqlite.specs.Listing.{understood}
-use Rattle.sqlite_trees.specs.declared.error.StoreError.{StoreError}
-use Rattle.sqlite_schema.specs.Names.{same_name, table_named, view_named}
-use Rattle.sqlite_schema.specs.declared.schema.Index.{Index}
-use Rattle.sqlite_schema.specs.declared.schema.Constraint.TheVariants.{PrimaryKey, Unique}
-use Rattle.sqlite_rules.specs.Lists.{Has}
-use Rattle.sqlite_rules.specs.declared.error.Refusal.{Refusal}
-use Rattle.sqlite_resolve.specs.declared.compiled.Compiled.{Compiled}
-use Rattle.sqlite_resolve.specs.declared.error.CompileError.{CompileError}
-use Rattle.sqlite.specs.State.{State, Fails, IsUnchanged, IsRolledBack, KeepsCommit, KeepsCounts, HasCause}
-use Rattle.sqlite.specs.State.{store_error}
+use Rattle.sql_meanings.specs.Names.{◌≡◌, ◌≢◌, ◌⊎◌, ◌≤◌, ◌<◌, ◌==◌, ◌&&◌, IsSome, IsTrue, ℕ, List, [], length, map}
+use Rattle.sql_meanings.specs.Names.{Bool, true, false, Option, Some, None, Result, Ok, Err, ⊤, list_any, Row, Table}
+use Rattle.sql_meanings.specs.Names.{Schema, Trees, IsDatabase, edit_error, understood, StoreError, same_name}
+use Rattle.sql_meanings.specs.Names.{table_named, view_named, Index, PrimaryKey, Unique, Has, Refusal, Compiled}
+use Rattle.sql_meanings.specs.Names.{CompileError, State, Fails, IsUnchanged, IsRolledBack, KeepsCommit, KeepsCounts}
+use Rattle.sql_meanings.specs.Names.{HasCause, store_error, Error, SqliteFailure, SqlInputError, QueryReturnedNoRows}
 use Rattle.sqlite.specs.State.{Shows as StateShows}
-use Rattle.sqlite.specs.declared.error.Error.{Error}
-use Rattle.sqlite.specs.declared.error.Error.TheVariants.{SqliteFailure, SqlInputError, QueryReturnedNoRows}
-use Rattle.sqlite.specs.declared.error.ErrorCode.TheVariants.{OutOfMemory, OperationInterrupted}
-use Rattle.sqlite.specs.declared.error.ErrorCode.TheVariants.{ConstraintViolation}
+use Rattle.sqlite.specs.declared.error.ErrorCode.TheVariants.{OutOfMemory, OperationInterrupted, ConstraintViolation}
 use Rattle.sql_meanings.specs.Entries.{Entry, stored}
 use Rattle.sql_meanings.specs.Making.{AddsTable, NotMade}
 use Rattle.sql_meanings.specs.Tables.{Defines, tree_of}

@@ -1,12 +1,7 @@
 -- A table that a schema defines, and the rows that a database holds of it.
-use Rattle.std.specs.Prelude.{◌≡◌, ◌==◌, ℕ, ◌-◌, List, length, filter, Option, Some, slice_get, option_map}
-use Rattle.std.specs.Prelude.{option_and_then, unwrap_or}
-use Rattle.std.specs.List.{AllByRecursion}
-use Rattle.sqlite_schema.specs.Rules.{kind_code}
-use Rattle.sqlite.specs.Schema.{Schema}
-use Rattle.sqlite.specs.Table.{Table}
-use Rattle.sqlite.specs.Effect.{Database}
-use Rattle.sqlite_schema.specs.Names.{table_named}
+use Rattle.sql_meanings.specs.Names.{◌≡◌, ◌==◌, ℕ, ◌-◌, List, length, filter, Option, Some, slice_get, option_map}
+use Rattle.sql_meanings.specs.Names.{option_and_then, unwrap_or, AllByRecursion, kind_code, Schema, Table, Database}
+use Rattle.sql_meanings.specs.Names.{table_named}
 use Rattle.sql_meanings.specs.Entries.{Entry, IsTree}
 
 -- the table that the name finds
