@@ -8,3 +8,4 @@ pub mod Batches
 pub mod Stream
 pub mod Readings
 pub mod Again
+pub mod Sparing

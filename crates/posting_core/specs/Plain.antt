@@ -34,3 +34,7 @@ plain_seen bank = record {
 abbrev pub plain_reason : Fault → PlainBank → PlainBank → Type 0
 plain_reason Memory old new = ⊤
 plain_reason _ old new = ⊥
+
+-- it keeps nothing beside the bank
+abbrev pub plain_spares : PlainBank → PlainBank → Type 0
+plain_spares old new = ⊤

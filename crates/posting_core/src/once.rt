@@ -2,6 +2,7 @@
 ghost use Rattle.std.specs.Prelude.{OnOk, IfErr};
 ghost use Rattle.std.specs.Result.{IsErrOf};
 ghost use Rattle.posting_core.specs.Once.{RecordIsAnswered, LeavesAfterFault, IfRefused};
+ghost use Rattle.posting_core.specs.Sparing.{IsSpared};
 ghost use Rattle.posting_core.specs.Told.{EndsWith, HasReadFailed, HasWriteFailed, IsEndOfInput, IsFlush};
 
 use crate::ends::{Sink, Source};
@@ -74,7 +75,7 @@ pub fn answer_once<R: Source, W: Sink, C: Counter>(
     ensures unwritten { IsErrOf result OnceFault.Write
         → HasWriteFailed (W.told writer.old) (W.told writer.new) }
     ensures flushed { OnOk result (EndsWith IsFlush (W.told writer.old) (W.told writer.new)) }
-    ensures honest { (C.seen bank.new).honest → (C.seen bank.old).honest }
+    ensures spared { IsSpared C.seen C.spares bank.old bank.new }
 {
     let mut record = [0u8; REQUEST_BYTES];
     match read_full(reader, &mut record) {

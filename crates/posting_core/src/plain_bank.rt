@@ -333,7 +333,7 @@ impl Counter for PlainBank {
     ghost use Rattle.posting_rules.specs.Entries.{balance_behind};
     ghost use Rattle.posting_rules.specs.Tables.{Tables};
     ghost use Rattle.posting_rules.specs.Counter.{Answers, IsCounterCall};
-    ghost use Rattle.posting_core.specs.Plain.{plain_reason, plain_seen, plain_tables};
+    ghost use Rattle.posting_core.specs.Plain.{plain_reason, plain_seen, plain_spares, plain_tables};
 
     ghost seen = { plain_seen };
 
@@ -343,7 +343,13 @@ impl Counter for PlainBank {
 
     ghost reason = { plain_reason };
 
+    ghost spares = { plain_spares };
+
     ghost leaves_something = { λ bank _. ∣ (plain_tables bank, refl) ∣₁ };
+
+    ghost spares_itself = { λ bank. tt };
+
+    ghost spares_then = { λ old mid new one two. tt };
 
     fn submit(
         &mut self,

@@ -4,7 +4,7 @@ ghost use Rattle.std.specs.Result.{IsErrOf};
 ghost use Rattle.posting_core.specs.Clock.{IsReading};
 ghost use Rattle.posting_rules.specs.Runs.{posts};
 ghost use Rattle.posting_core.specs.Batches.{BatchIsAnswered, BreaksOff};
-ghost use Rattle.posting_core.specs.Stream.{Streamed, OutputsReplies, SurvivesStream, Resends};
+ghost use Rattle.posting_core.specs.Stream.{OutputsReplies, SurvivesStream, Resends};
 ghost use Rattle.posting_core.specs.Stream.{StreamFaultIsOfItsEnd, StreamsAsRead};
 ghost use Rattle.posting_core.specs.Stream.{IfBank, IfTaken, IsDownAsBefore, IsRefusedBehind};
 ghost use Rattle.posting_core.specs.Told.{EndsWith, HasWriteFailed, IsFlush};
@@ -82,6 +82,7 @@ fn reply_to_batch<W: Sink, K: Clock, C: Counter>(
     ensures down { (C.seen bank.old).is_down → IsErrOf result (StreamFault.Bank Fault.Down)
         × (bank.new ≡ bank.old) }
     ensures honest { (C.seen bank.new).honest → (C.seen bank.old).honest }
+    ensures spares { C.spares bank.old bank.new }
 {
     let moment = clock.now();
     let replies = match bank.submit_all(moment, records) {
@@ -114,9 +115,6 @@ pub fn post_stream<R: Source, W: Sink, K: Clock, C: Counter>(
     clock: &mut K,
     bank: &mut C,
 ) -> Result<Count, StreamFault>
-    ensures stream { Streamed (R.remaining reader.old) (R.remaining reader.new) (W.contents writer.old)
-        (W.contents writer.new)
-        (K.readings clock.old) (K.readings clock.new) (C.seen bank.old) (C.seen bank.new) result }
     ensures batches { StreamsAsRead (R.remaining reader.old) (R.remaining reader.new)
         (R.told reader.old) (R.told reader.new) (R.beside reader.old) (R.beside reader.new)
         (W.contents writer.old) (W.contents writer.new) (W.told writer.old) (K.readings clock.old)
@@ -136,6 +134,7 @@ pub fn post_stream<R: Source, W: Sink, K: Clock, C: Counter>(
     ensures down { IsDownAsBefore C.seen bank.old bank.new result }
     ensures ends { StreamFaultIsOfItsEnd result (R.told reader.old) (R.told reader.new)
         (W.told writer.old) (W.told writer.new) }
+    ensures spares { C.spares bank.old bank.new }
 {
     let mut buffer = [0u8; BUFFER];
     let mut filled = 0;

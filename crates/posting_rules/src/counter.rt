@@ -44,6 +44,7 @@ pub struct BranchLine {
 /// each. After `Memory` nothing has changed, and the counter can be used. After `Store`, `Down` and `Damaged`
 /// it is down, and every later call answers `Down` and changes nothing. After `Store` what is found is what
 /// stood before, with a beginning of the call's commands behind it; after `Damaged` no row has changed.
+/// Whatever a call answers, what no call touches is as it was (`spares`).
 pub trait Counter {
     /// Its tables, whether it is down, what a stop at this moment may leave, and whether the disk is honest.
     ghost seen: { Self → Seen };
@@ -58,6 +59,10 @@ pub trait Counter {
     /// the store failed, or which rule the rows break.
     ghost reason: { Told → Self → Self → Type 0 };
 
+    /// What no call of it touches is as it was, from the counter before to the counter after: of a bank in a
+    /// file, the tables of other products.
+    ghost spares: { Self → Self → Type 0 };
+
     /// Submits the bytes of a record, and answers those of its reply (TPC-B 1.2). Bytes that are
     /// no request get the reply `Malformed`.
     fn submit(
@@ -68,7 +73,8 @@ pub trait Counter {
         ensures answer { Answers (seen self.old) (seen self.new) result
             (λ log out. out ≡ reply_spelling (reply log bytes.now)) }
         ensures call { IsCounterCall seen contents reason self.old self.new (Post moment bytes.now ∷ [])
-            result };
+            result }
+        ensures spares { spares self.old self.new };
 
     /// Submits 1 to `RECORDS_PER_BATCH` records at one moment, and answers their replies in order, as if each
     /// record were submitted after the one before it. After a fault no reply is handed out.
@@ -82,7 +88,8 @@ pub trait Counter {
         ensures count { IfOk result (λ replies. length replies.items ≡ length records.now) }
         ensures answer { Answers (seen self.old) (seen self.new) result
             (λ log replies. replies.items ≡ replies_to log (posts moment records.now)) }
-        ensures call { IsCounterCall seen contents reason self.old self.new (posts moment records.now) result };
+        ensures call { IsCounterCall seen contents reason self.old self.new (posts moment records.now) result }
+        ensures spares { spares self.old self.new };
 
     /// Opens a branch of 1 to `LAST_BRANCH`, its tellers, and 1 to `MAX_ACCOUNTS` accounts, all with a
     /// balance of zero. With a floor, which is zero at most, no posting takes one of its accounts below that.
@@ -100,7 +107,8 @@ pub trait Counter {
         ensures answer { Answers (seen self.old) (seen self.new) result
             (λ log opening. opening ≡ opening_behind log branch (opened_with count floor)) }
         ensures call { IsCounterCall seen contents reason self.old self.new
-            (Open branch (opened_with count floor) ∷ []) result };
+            (Open branch (opened_with count floor) ∷ []) result }
+        ensures spares { spares self.old self.new };
 
     /// The balance of an account in cents; none where it isn't open. It changes nothing.
     fn balance(&mut self, account: Account) -> Result<Option<Cents>, Fault>
@@ -108,7 +116,8 @@ pub trait Counter {
             (λ log balance. balance ≡ balance_behind log account) }
         ensures call { IsCounterCall seen contents reason self.old self.new [] result }
         ensures tables { OnOk result ((seen self.new).honest → (t : Tables) → (seen self.old).tables t
-            → (seen self.new).tables t) };
+            → (seen self.new).tables t) }
+        ensures spares { spares self.old self.new };
 
     /// The open branch with the least number above this one; none where no such branch is open. It changes
     /// nothing. Whatever the tables hold, a branch that it answers is above this one, and its number, its count
@@ -119,8 +128,14 @@ pub trait Counter {
         ensures within { IfOk result (λ line. IfSome line (IsLineAbove after)) }
         ensures call { IsCounterCall seen contents reason self.old self.new [] result }
         ensures tables { OnOk result ((seen self.new).honest → (t : Tables) → (seen self.old).tables t
-            → (seen self.new).tables t) };
+            → (seen self.new).tables t) }
+        ensures spares { spares self.old self.new };
 
     // What is said of everything that a stop may leave is said of something.
     ghost leaves_something: { (counter : Self) → LeavesSomething (seen counter) };
+
+    // So it is where nothing was called, and behind two calls.
+    ghost spares_itself: { (counter : Self) → spares counter counter };
+
+    ghost spares_then: { (old mid new : Self) → spares old mid → spares mid new → spares old new };
 }

@@ -70,3 +70,25 @@ returns-in-Err-write_out-clause-fault g c =
 
 pub returns-in-Err-write_out-clause-unwritten : goal.returns-in-Err-write_out-clause-unwritten
 returns-in-Err-write_out-clause-unwritten g c = λ _. c.in-Err-write_out.ensures.failed
+
+-- ---- what no call of the counter touches
+
+pub returns-in-Ok-clause-spared : goal.returns-in-Ok-clause-spared
+returns-in-Ok-clause-spared g c =
+    record { honest = λ h. h; others = g.met.C.Counter.spares_itself c.args.bank.now }
+
+pub returns-in-Err-clause-spared : goal.returns-in-Err-clause-spared
+returns-in-Err-clause-spared g c =
+    record { honest = λ h. h; others = g.met.C.Counter.spares_itself c.args.bank.now }
+
+pub returns-in-Err-submit-clause-spared : goal.returns-in-Err-submit-clause-spared
+returns-in-Err-submit-clause-spared g c =
+    record { honest = c.in-Err-submit.ensures.call.honest; others = c.in-Err-submit.ensures.spares }
+
+pub returns-in-Ok-write_out-clause-spared : goal.returns-in-Ok-write_out-clause-spared
+returns-in-Ok-write_out-clause-spared g c =
+    record { honest = c.in-Ok-submit.ensures.call.honest; others = c.in-Ok-submit.ensures.spares }
+
+pub returns-in-Err-write_out-clause-spared : goal.returns-in-Err-write_out-clause-spared
+returns-in-Err-write_out-clause-spared g c =
+    record { honest = c.in-Ok-submit.ensures.call.honest; others = c.in-Ok-submit.ensures.spares }

@@ -34,6 +34,7 @@ reads-init g c = record {
   first = λ none. refl;
   up = λ down. (down, refl);
   idle = λ down. refl;
+  spares = g.met.C.Counter.spares_itself c.args.bank.now;
   made = made_none _;
   through = through_first _;
 }
@@ -45,13 +46,13 @@ returns g c =
     (few_left c.reads.filled c.reads.buffer c.reads.invariant.few c.reads.invariant.room)
     c.reads.invariant.following in
     record {
-      stream = s.did;
       batches = s;
       output = output_of _ s.did;
       survives = survives_of _ s.did;
       resend = resends_of _ s.did;
       refused = tt;
       down = record { up = λ down. (c.reads.invariant.up down).0; idle = c.reads.invariant.idle };
+      spares = c.reads.invariant.spares;
       ends = (inr (made_many c.reads.invariant.made (omega arith)), c.reads.invariant.through);
     }
 
@@ -71,13 +72,13 @@ returns-in-Err-2 g c =
     c.fill_beside.ensures.tells c.fill_beside.ensures.beside
     (omega (arith, gave_none c.fill_beside.result c.in-Err.e c.in-Err.is)) c.reads.invariant.few) in
     record {
-      stream = s.did;
       batches = s;
       output = output_of _ s.did;
       survives = survives_of _ s.did;
       resend = resends_of _ s.did;
       refused = tt;
       down = record { up = λ down. (c.reads.invariant.up down).0; idle = c.reads.invariant.idle };
+      spares = c.reads.invariant.spares;
       ends = (
         read_failed c.fill_beside.result c.in-Err.e c.reads.invariant.made c.fill_beside.ensures.tells c.in-Err.is
             (other_kind c.kind.result c.in-Err.e c.if-eq.ensures c.kind.ensures),
@@ -104,13 +105,13 @@ returns-in-Ok-eq0 g c =
     c.fill_beside.ensures.tells c.fill_beside.ensures.beside
     (omega (arith, gave_some c.fill_beside.result n c.in-Ok-eq0.is)) c.reads.invariant.few) in
     record {
-      stream = s.did;
       batches = s;
       output = output_of _ s.did;
       survives = survives_of _ s.did;
       resend = resends_of _ s.did;
       refused = tt;
       down = record { up = λ down. (c.reads.invariant.up down).0; idle = c.reads.invariant.idle };
+      spares = c.reads.invariant.spares;
       ends = (ended, c.reads.invariant.through);
     }
 
@@ -134,13 +135,13 @@ returns-in-Ok-eq0-2 g c =
     c.fill_beside.ensures.tells c.fill_beside.ensures.beside
     (omega (arith, gave_some c.fill_beside.result n c.in-Ok-eq0.is)) c.reads.invariant.few) in
     record {
-      stream = s.did;
       batches = s;
       output = output_of _ s.did;
       survives = survives_of _ s.did;
       resend = resends_of _ s.did;
       refused = tt;
       down = record { up = λ down. (c.reads.invariant.up down).0; idle = c.reads.invariant.idle };
+      spares = c.reads.invariant.spares;
       ends = (ended, c.reads.invariant.through);
     }
 
@@ -183,7 +184,6 @@ returns-in_err-reply_to_batch g c =
     (gave ∙ omega (arith, c.as_chunks.ensures.front_len, c.as_chunks.ensures.back_len, len))
     (omega (arith, c.as_chunks.ensures.back_len))) in
     rw (told.1, told.2) (record {
-      stream = s.did;
       batches = s;
       output = output_of _ s.did;
       survives = survives_of _ s.did;
@@ -202,6 +202,8 @@ returns-in_err-reply_to_batch g c =
         idle = idle_behind g.C.Counter.seen c.args.bank.now c.reads.bank c.reads.invariant.idle
             c.reply_to_batch.new.bank (λ down. (c.in_err-reply_to_batch.ensures.down down).1);
       };
+      spares = g.met.C.Counter.spares_then c.args.bank.now c.reads.bank c.reply_to_batch.new.bank
+          c.reads.invariant.spares c.in_err-reply_to_batch.ensures.spares;
       ends = ends_broken _ _ _ _ _ _ _ _ _ _ fault c.reads.invariant.through a.2
           (λ e. c.in_err-reply_to_batch.ensures.unwritten (ap Err e)) c.in_err-reply_to_batch.ensures.unasked;
     })
@@ -240,6 +242,8 @@ reads-preserved g c =
             up = λ down. absurd (w.in_ok-reply_to_batch.ensures.up down);
             idle = idle_behind g.C.Counter.seen c.args.bank.now c.reads.bank c.reads.invariant.idle
                 w.reply_to_batch.new.bank (λ down. (w.in_ok-reply_to_batch.ensures.down down).1);
+            spares = g.met.C.Counter.spares_then c.args.bank.now c.reads.bank w.reply_to_batch.new.bank
+                c.reads.invariant.spares w.in_ok-reply_to_batch.ensures.spares;
             made = made_one _ _ c.reads.invariant.made c.fill_beside.ensures.tells refl;
             through = through_batch c.reads.invariant.through w.in_ok-reply_to_batch.ensures.flushed;
             done = _;
@@ -272,6 +276,7 @@ reads-preserved g c =
             first = c.reads.invariant.first;
             up = c.reads.invariant.up;
             idle = c.reads.invariant.idle;
+            spares = c.reads.invariant.spares;
             made = made_one _ _ c.reads.invariant.made c.fill_beside.ensures.tells refl;
             through = c.reads.invariant.through;
           })

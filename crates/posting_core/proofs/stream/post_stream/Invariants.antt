@@ -27,6 +27,7 @@ invariant-reads g l = record {
   first : l.count ≡ 0 → l.bank ≡ l.fn.bank;
   up : (g.C.Counter.seen l.bank).is_down → (g.C.Counter.seen l.fn.bank).is_down × (l.count ≡ 0);
   idle : (g.C.Counter.seen l.fn.bank).is_down → l.bank ≡ l.fn.bank;
+  spares : g.C.Counter.spares l.fn.bank l.bank;
   made : HasMade (g.R.Source.told l.fn.reader) (g.R.Source.told l.reader) l.counter;
   through : IsThrough (g.W.Sink.told l.fn.writer) (g.W.Sink.told l.writer);
 }
