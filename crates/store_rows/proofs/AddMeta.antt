@@ -24,7 +24,8 @@ use Rattle.store_rows.specs.declared.texts.TheConstants.{ADD_META}
 use Rattle.store_rows.proofs.CreationSteps.{still_on}
 use Rattle.store_rows.proofs.Failing.{forbidden, key_fits}
 use Rattle.store_rows.proofs.MetaRow.{holds_one, meta_written, is_plain}
-use Rattle.store_rows.proofs.Puts.{first_row, given, puts}
+use Rattle.store_rows.specs.SeveralRows.{given}
+use Rattle.store_rows.proofs.Puts.{first_row, puts}
 
 none_yet : (db : Database) → AreEmpty all_texts db → Holds db bank.meta []
 none_yet db empty = held db bank_tables (no_rows all_texts) empty.each 0 bank.meta [] refl refl

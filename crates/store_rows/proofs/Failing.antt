@@ -1,7 +1,7 @@
 -- What a refusal of rows says of the tables of a bank.
 use Rattle.std.proofs.Common.{◌≡◌, ℕ, ◌≤◌, ◌==◌, pos, List, [], ◌∷◌, map, is_some, nat_lt, inl, inr, Bool}
 use Rattle.std.proofs.Common.{true, false, Some, None, Option, Less, int_cmp, refl, subst, ◌∙◌, sym, arith}
-use Rattle.std.proofs.Common.{◌⊎◌, Result, Ok, Err, cond}
+use Rattle.std.proofs.Common.{◌⊎◌, ℤ, Result, Ok, Err, cond}
 use Rattle.std.specs.List.{AllByRecursion}
 use Rattle.std.proofs.lemmas.Bool.{cases_Bool, false_from_ne_true}
 use Rattle.std.proofs.lemmas.Int.{ints}
@@ -12,6 +12,8 @@ use Rattle.sqlite.specs.Effect.{Database}
 use Rattle.sqlite.specs.Order.{Row}
 use Rattle.sqlite.specs.State.{State, ExecutesInside, IsUnchanged}
 use Rattle.sqlite.specs.declared.error.Error.{Error}
+use Rattle.sqlite.specs.declared.types.Value.TheVariants.{Int}
+use Rattle.sqlite_rules.specs.Lists.{Has}
 use Rattle.sqlite_sql.specs.Ops.{fits_i64}
 use Rattle.posting_rules.specs.Tables.{Tables, row_at}
 use Rattle.sql_meanings.specs.Entries.{Entry, Rise, put}
@@ -24,7 +26,7 @@ use Rattle.sql_meanings.proofs.PuttingIn.{key_taken}
 use Rattle.posting_rules.specs.declared.fault.Rule.TheVariants.{Key}
 use Rattle.store_rows.specs.declared.fault.TableFault.TheVariants.{Sqlite, Damaged}
 use Rattle.posting_rules.specs.Changes.{row_put}
-use Rattle.store_rows.specs.Failures.{Putting, Puts}
+use Rattle.store_rows.specs.Failures.{Putting, Puts, inserts}
 use Rattle.store_rows.specs.TableAnswers.{PutsOneRow, IsForbidden}
 use Rattle.store_rows.specs.Faults.{added}
 use Rattle.store_rows.specs.View.{Shows}
@@ -126,15 +128,18 @@ adds_err old new table there taken P after e same then (inr fails) =
 
 -- whatever the rows, what an INSERT leaves
 pub puts_added : (old new : State) (text : List ℕ) (params : Row) (answer : Result ℕ Error)
-    → ExecutesInside 0 text params old new answer
-    → Puts old new (added answer)
-puts_added old new text params (Ok count) h = h.1
-puts_added old new text params (Err e) h = go (is_taken_key e) refl
+    → ExecutesInside 0 text params old new answer → (key : ℤ) (rest : Row) → params ≡ Int key ∷ rest
+    → Has inserts text → Puts old new (added answer)
+puts_added old new text params (Ok count) h key rest is among = h.1
+puts_added old new text params (Err e) h key rest is among = go (is_taken_key e) refl
   where
     fails : WriteFails old new
     fails = kept_inside old new text params (Err e) h
 
     go : (b : Bool) → is_taken_key e ≡ b
         → Puts {X = Unit {0}} old new (cond b (Err (Damaged Key)) (Err (Sqlite e)))
-    go true taken = (fails, (text, params, e, h, taken))
+    go true taken = (
+      fails,
+      (text, key, rest, e, among, subst (λ values. ExecutesInside 0 text values old new (Err e)) is h, taken),
+    )
     go false free = (fails, Putting text params h free)

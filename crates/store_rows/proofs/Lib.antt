@@ -22,6 +22,9 @@ pub mod Reasons
 pub mod RowLists
 pub mod Seeking
 pub mod Setting
+pub mod SeveralRows
+pub mod SeveralTexts
+pub mod SeveralWrites
 pub mod ShownOnce
 pub mod SparedTexts
 pub mod StoredFrom

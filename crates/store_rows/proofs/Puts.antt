@@ -1,5 +1,5 @@
 -- What each INSERT puts in.
-use Rattle.std.proofs.Common.{pos, [], ◌∷◌, ◌++◌, ◌≤◌, length, lit≤, refl, List, ℕ}
+use Rattle.std.proofs.Common.{pos, [], ◌∷◌, ◌≤◌, length, lit≤, refl, List, ℕ}
 use Rattle.posting_rules.specs.declared.rows.BranchRow.{BranchRow}
 use Rattle.posting_rules.specs.declared.rows.TellerRow.{TellerRow}
 use Rattle.posting_rules.specs.declared.rows.AccountRow.{AccountRow}
@@ -7,23 +7,19 @@ use Rattle.posting_rules.specs.declared.rows.HistoryRow.{HistoryRow}
 use Rattle.posting_rules.specs.declared.rows.RequestRow.{RequestRow}
 use Rattle.posting_rules.specs.declared.rows.FloorRow.{FloorRow}
 use Rattle.posting_rules.specs.declared.rows.ReferenceRow.{ReferenceRow}
-use Rattle.sqlite.specs.Order.{Row}
 use Rattle.sqlite.specs.Table.{Table}
 use Rattle.sqlite.specs.declared.types.Value.TheVariants.{Null, Int}
 use Rattle.sqlite_tied.specs.Compute.{everything}
-use Rattle.sql_meanings.specs.Entries.{Entry, numbers, texts_held}
+use Rattle.sql_meanings.specs.Entries.{Entry}
 use Rattle.sql_meanings.proofs.PutRows.{PutsAs}
 use Rattle.sql_meanings.proofs.Texts.{puts_by}
 use Rattle.store_rows.specs.BankTables as bank
+use Rattle.store_rows.specs.SeveralRows.{given}
 use Rattle.store_rows.specs.View.{meta_entry, branch_entry, teller_entry, account_entry, history_entry}
 use Rattle.store_rows.specs.View.{request_entry, floor_entry, reference_entry}
 use Rattle.store_rows.specs.declared.metas.TheConstants.{VERSION}
 use Rattle.store_rows.specs.declared.texts.TheConstants as text
 use Rattle.store_rows.proofs.Checked.{meta_checked}
-
--- the values that are handed in
-abbrev pub given : Entry → Row
-given e = Int e.key ∷ (numbers e.values ++ texts_held e.texts)
 
 -- with a row's values the text puts the row in
 abbrev pub Puts : Table → List ℕ → Entry → Type 0

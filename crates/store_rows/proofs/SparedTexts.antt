@@ -94,6 +94,8 @@ pub record SparesByTexts : Type 1 where
   pub add_account : Spares text.ADD_ACCOUNT.now
   pub add_posting : Spares text.ADD_HISTORY.now
   pub add_request : Spares text.ADD_REQUEST.now
+  pub add_eight_postings : Spares text.ADD_EIGHT_POSTINGS.now
+  pub add_eight_requests : Spares text.ADD_EIGHT_REQUESTS.now
   pub add_floor : Spares text.ADD_FLOOR.now
   pub add_reference : Spares text.ADD_REFERENCE.now
 
@@ -137,6 +139,14 @@ is_add_request : IsInsertInto text.ADD_REQUEST.now bank.request.name
 unfolding everything
 is_add_request = insert_of text.ADD_REQUEST.now bank.request.name _ _ _ refl refl
 
+is_add_eight_postings : IsInsertInto text.ADD_EIGHT_POSTINGS.now bank.history.name
+unfolding everything
+is_add_eight_postings = insert_of text.ADD_EIGHT_POSTINGS.now bank.history.name _ _ _ refl refl
+
+is_add_eight_requests : IsInsertInto text.ADD_EIGHT_REQUESTS.now bank.request.name
+unfolding everything
+is_add_eight_requests = insert_of text.ADD_EIGHT_REQUESTS.now bank.request.name _ _ _ refl refl
+
 is_add_floor : IsInsertInto text.ADD_FLOOR.now bank.floor.name
 unfolding everything
 is_add_floor = insert_of text.ADD_FLOOR.now bank.floor.name _ _ _ refl refl
@@ -156,6 +166,8 @@ spares = record {
   add_account = put_by text.ADD_ACCOUNT.now bank.account.name account is_add_account;
   add_posting = put_by text.ADD_HISTORY.now bank.history.name history is_add_posting;
   add_request = put_by text.ADD_REQUEST.now bank.request.name request is_add_request;
+  add_eight_postings = put_by text.ADD_EIGHT_POSTINGS.now bank.history.name history is_add_eight_postings;
+  add_eight_requests = put_by text.ADD_EIGHT_REQUESTS.now bank.request.name request is_add_eight_requests;
   add_floor = put_by text.ADD_FLOOR.now bank.floor.name floor is_add_floor;
   add_reference = put_by text.ADD_REFERENCE.now bank.reference.name reference is_add_reference;
 }

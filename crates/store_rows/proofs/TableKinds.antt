@@ -121,7 +121,7 @@ module _ {R : Type 0} (kind : Kind R) where
         (holds old.now t shows) left bank_tables (contents t) refl shows.each kind.place kind.listed);
   }
 
-  shows_rows : (t : Tables) (rs : List R) (db : Database) → Shows db (kind.having rs t)
+  pub shows_rows : (t : Tables) (rs : List R) (db : Database) → Shows db (kind.having rs t)
       → Holds db table (map kind.entry rs)
   shows_rows t rs db shows = subst (λ x. Holds db table (map kind.entry x)) (kind.again t rs)
       (holds db (kind.having rs t) shows)

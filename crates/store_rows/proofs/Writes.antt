@@ -1,8 +1,10 @@
 -- What each UPDATE of a balance and each INSERT of a row leaves of the tables.
 use Rattle.std.proofs.Common.{◌≡◌, ◌≤◌, ℕ, ℤ, pos, is_some, length, List, [], ◌∷◌, Some, Bool, Result, refl}
+use Rattle.std.proofs.Common.{inl, inr}
 use Rattle.sqlite.specs.declared.error.Error.{Error}
 use Rattle.sqlite.specs.declared.transaction.Transaction.{Transaction}
 use Rattle.sqlite.specs.declared.types.Value.TheVariants.{Int}
+use Rattle.sqlite_rules.specs.Lists.{Has}
 use Rattle.sqlite_trees.specs.declared.store.Store.{Ghosts}
 use Rattle.posting_rules.specs.Changes.{row_changed, row_put, with_account, with_account_balance, with_branch}
 use Rattle.posting_rules.specs.Changes.{with_branch_balance, with_floor}
@@ -10,15 +12,18 @@ use Rattle.posting_rules.specs.Changes.{with_history, with_reference, with_reque
 use Rattle.posting_rules.specs.Changes.{with_teller_balance}
 use Rattle.posting_rules.specs.Tables.{Tables, row_at}
 use Rattle.posting_rules.specs.declared.rows.ReferenceRow.{ReferenceRow}
+use Rattle.sql_meanings.specs.Calls.{Inside, Says}
 use Rattle.sql_meanings.specs.Entries.{Entry}
 use Rattle.sql_meanings.proofs.SetRows.{ChangesAs}
 use Rattle.store_rows.specs.Calls.{AddsRow, SetsNumber}
-use Rattle.store_rows.specs.Statements.{PutsRow, RunsUnder}
+use Rattle.store_rows.specs.Failures.{Puts as PutIsKept, inserts}
+use Rattle.store_rows.specs.SeveralRows.{given}
+use Rattle.store_rows.specs.Statements.{PutsIn, PutsRow, RunsUnder}
 use Rattle.store_rows.specs.declared.fault.TableFault.{TableFault}
 use Rattle.store_rows.specs.declared.statements.TheConstants.{MAX_KEY}
 use Rattle.store_rows.specs.declared.texts.TheConstants as text
 use Rattle.store_rows.proofs.TableKinds.{Kind, table_of, tells_added, tells_write}
-use Rattle.store_rows.proofs.Puts.{Puts, given, puts as each}
+use Rattle.store_rows.proofs.Puts.{Puts, puts as each}
 use Rattle.store_rows.proofs.Setting.{set_first, set_second, sets as numbers}
 use Rattle.store_rows.proofs.SparedTexts.{Spares, spared_met, spared_put, spares}
 use Rattle.store_rows.proofs.Telling.{tells_tables}
@@ -56,16 +61,29 @@ module _ {R : Type 0} (kind : Kind R) (text : List ℕ) where
       (change_entry z) (changes (pos k) z) (same z) low answer)
       (λ before after. spared_met text spared before after _ answer)
 
-  put : (r : R) → Puts (table_of kind) text (kind.entry r) → Spares text
+  -- the text is one that puts a row in, under its key
+  by_insert : (r : R) → Has inserts text → (S : Type 0) (g : Ghosts S) (old new : Transaction S)
+      (answer : Result (Unit {0}) TableFault) → PutsRow g old new text (given (kind.entry r)) answer
+      → Says g old new (Inside (λ before after. PutsIn text (given (kind.entry r)) before after answer))
+      (Inside (λ before after. PutIsKept before after answer))
+  by_insert r among S g old new answer says = record {
+    same_reference = says.same_reference;
+    told = says.told;
+    kept = λ clean live. says.kept clean live (kind.entry r).key _ refl among;
+    survives = says.survives;
+  }
+
+  put : (r : R) → Puts (table_of kind) text (kind.entry r) → Spares text → Has inserts text
       → PutsOne kind text (λ r t. kind.having (row_put kind.key r (kind.rows t)) t) r
-  put r given_so spared S g old new low answer =
+  put r given_so spared among S g old new low answer says =
       tells_tables g old new (λ before after t shows h. rw h.2
       (tells_added kind before after t shows text (given (kind.entry r)) r given_so low h.0 h.1))
       (λ before after. spared_put text spared before after _ answer)
+      (by_insert r among S g old new answer says)
 
-  puts : ((r : R) → Puts (table_of kind) text (kind.entry r)) → Spares text
+  puts : ((r : R) → Puts (table_of kind) text (kind.entry r)) → Spares text → Has inserts text
       → PutsEach kind text (λ r t. kind.having (row_put kind.key r (kind.rows t)) t)
-  puts given_so spared r = put r (given_so r) spared
+  puts given_so spared among r = put r (given_so r) spared among
 
 -- each text writes its balance
 pub record SetsBalances : Type 1 where
@@ -98,12 +116,12 @@ pub record PutsRows : Type 1 where
 pub rows_put : PutsRows
 unfolding with_branch with_teller with_account with_history with_request with_floor with_reference
 rows_put = record {
-  branch = puts branches text.ADD_BRANCH.now each.branch spares.add_branch;
-  teller = puts tellers text.ADD_TELLER.now each.teller spares.add_teller;
-  account = puts accounts text.ADD_ACCOUNT.now each.account spares.add_account;
-  posting = puts history text.ADD_HISTORY.now each.posting spares.add_posting;
-  request = puts requests text.ADD_REQUEST.now each.request spares.add_request;
-  floor = puts floors text.ADD_FLOOR.now each.floor spares.add_floor;
+  branch = puts branches text.ADD_BRANCH.now each.branch spares.add_branch (inl refl);
+  teller = puts tellers text.ADD_TELLER.now each.teller spares.add_teller (inr (inl refl));
+  account = puts accounts text.ADD_ACCOUNT.now each.account spares.add_account (inr (inr (inl refl)));
+  posting = puts history text.ADD_HISTORY.now each.posting spares.add_posting (inr (inr (inr (inr (inl refl)))));
+  request = puts requests text.ADD_REQUEST.now each.request spares.add_request (inr (inr (inr (inr (inr (inl refl))))));
+  floor = puts floors text.ADD_FLOOR.now each.floor spares.add_floor (inr (inr (inr (inl refl))));
   reference = λ r short. put references text.ADD_REFERENCE.now r (each.reference r short)
-      spares.add_reference;
+      spares.add_reference (inr (inr (inr (inr (inr (inr (inl refl)))))));
 }

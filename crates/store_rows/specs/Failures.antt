@@ -1,17 +1,22 @@
 -- A call of `sqlite` that failed, and the error with which it did.
-use Rattle.std.specs.Prelude.{◌≡◌, ◌≢◌, ◌⊎◌, ℕ, List, nat_eq, true, false, Bool, Option, Some, None, Result}
-use Rattle.std.specs.Prelude.{Ok, Err, ⊤}
+use Rattle.std.specs.Prelude.{◌≡◌, ◌≢◌, ◌⊎◌, ℕ, ℤ, List, [], ◌∷◌, nat_eq, true, false, Bool, Option, Some, None}
+use Rattle.std.specs.Prelude.{Result, Ok, Err, ⊤}
 use Rattle.sqlite.specs.Order.{Row}
 use Rattle.sqlite.specs.Held.{Held, state}
 use Rattle.sqlite.specs.State.{State, ExecutesInside, QueriesRowInside, Survives}
 use Rattle.sqlite.specs.State.{Shows as StateShows, Fails, IsUnchanged}
 use Rattle.sqlite.specs.declared.error.Error.{Error}
 use Rattle.sqlite.specs.declared.error.Error.TheVariants.{QueryReturnedNoRows}
+use Rattle.sqlite.specs.declared.types.Value.TheVariants.{Int}
+use Rattle.sqlite_rules.specs.Lists.{Has}
 use Rattle.sqlite_trees.specs.declared.store.Store.{Ghosts}
 use Rattle.posting_rules.specs.declared.fault.Rule.{Rule}
 use Rattle.posting_rules.specs.declared.fault.Rule.TheVariants.{Account, Key, Meta, Teller}
 use Rattle.sql_meanings.specs.StatementAnswers.{WriteFails, is_taken_key}
-use Rattle.store_rows.specs.declared.texts.TheConstants.{SET_ACCOUNT, SET_BRANCH, SET_META, SET_TELLER}
+use Rattle.store_rows.specs.declared.texts.TheConstants.{ADD_ACCOUNT, ADD_BRANCH, ADD_EIGHT_POSTINGS}
+use Rattle.store_rows.specs.declared.texts.TheConstants.{ADD_EIGHT_REQUESTS, ADD_FLOOR, ADD_HISTORY, ADD_REFERENCE}
+use Rattle.store_rows.specs.declared.texts.TheConstants.{ADD_REQUEST, ADD_TELLER, SET_ACCOUNT, SET_BRANCH}
+use Rattle.store_rows.specs.declared.texts.TheConstants.{SET_META, SET_TELLER}
 use Rattle.store_rows.specs.declared.fault.TableFault.{TableFault}
 use Rattle.store_rows.specs.declared.fault.TableFault.TheVariants.{Sqlite, Damaged}
 
@@ -42,10 +47,16 @@ HasReason old new (Damaged rule) = ⊤
 
 -- ---- damage that a statement meets as it writes
 
--- a row was to be put in, and its key is taken
+-- the texts by which calls put rows in
+abbrev pub inserts : List (List ℕ)
+inserts =
+    ADD_BRANCH.now ∷ ADD_TELLER.now ∷ ADD_ACCOUNT.now ∷ ADD_FLOOR.now ∷ ADD_HISTORY.now ∷ ADD_REQUEST.now
+    ∷ ADD_REFERENCE.now ∷ ADD_EIGHT_POSTINGS.now ∷ ADD_EIGHT_REQUESTS.now ∷ []
+
+-- by one of them a row was to be put in under a key, which is taken; or eight, of which one has a key that is taken
 abbrev pub TakesKey : State → State → Type 0
-TakesKey old new = (text : List ℕ) × (params : Row) × (e : Error)
-    × ExecutesInside 0 text params old new (Err e) × (is_taken_key e ≡ true)
+TakesKey old new = (text : List ℕ) × (key : ℤ) × (rest : Row) × (e : Error) × Has inserts text
+    × ExecutesInside 0 text (Int key ∷ rest) old new (Err e) × (is_taken_key e ≡ true)
 
 -- the text was to change one row, and did not
 abbrev pub MeetsNone : List ℕ → State → State → Type 0
@@ -103,7 +114,7 @@ Changes text old new (Ok there) = StateShows old new new.now old.committed true
     × (there ≡ false → MeetsNone text old new)
 Changes text old new (Err e) = WriteFails old new × HasFailed old new e
 
--- the same of a row that is put in
+-- the same of a row that is put in by one of the texts
 abbrev pub Puts : {X : Type 0} → State → State → Result X TableFault → Type 0
 Puts old new (Ok done) = StateShows old new new.now old.committed true
 Puts old new (Err fault) = WriteFails old new × HasPutReason old new fault

@@ -197,6 +197,8 @@ KeepsRule Reference rows = EachKeeps Reference rows
 abbrev pub OfRows : (StoredRows → Type 0) → Database → Type 0
 OfRows P db = (rows : StoredRows) → HoldsBank db rows → P rows
 
--- the rows that the file holds don't keep the rule
+-- The rows that the file holds don't keep the rule. No reading breaks rule 7, which is of the keys of new rows: that
+-- one is taken is met by the INSERT of its row alone (`HasMet`).
 abbrev pub IsBroken : Rule → Database → Type 0
+IsBroken Key db = OfRows (λ _. ⊥) db
 IsBroken rule db = OfRows (λ rows. ¬ KeepsRule rule rows) db

@@ -10,9 +10,10 @@ use Rattle.sqlite.specs.declared.transaction.Transaction.{Transaction}
 use Rattle.sqlite.specs.declared.types.Value.TheVariants.{Int}
 use Rattle.sqlite_trees.specs.declared.store.Store.{Ghosts}
 use Rattle.sqlite_resolve.specs.declared.compiled.Compiled.{Compiled}
+use Rattle.sqlite_rules.specs.Lists.{Has}
 use Rattle.sql_meanings.specs.Calls.{Inside, Says}
 use Rattle.store_rows.specs.Columns.{meta_shown}
-use Rattle.store_rows.specs.Failures.{Changes, Puts}
+use Rattle.store_rows.specs.Failures.{Changes, Puts, inserts}
 use Rattle.store_rows.specs.Faults.{added}
 use Rattle.store_rows.specs.declared.fault.TableFault.{TableFault}
 use Rattle.store_rows.specs.declared.fault.TableFault.TheVariants.{Sqlite, Damaged}
@@ -39,13 +40,13 @@ abbrev pub PutsIn : List ℕ → Row → State → State → Result (Unit {0}) T
 PutsIn text params old new r = (answer : Result ℕ Error) × ExecutesInside 0 text params old new answer
     × (r ≡ added answer)
 
--- The text was run with these values. Whatever it was, the transaction goes on, or an error leaves it as it
--- was.
+-- The text was run with these values. Where it is one that puts a row in, under a key, the transaction goes on, or
+-- an error leaves it as it was.
 abbrev pub PutsRow : {S : Type 0} → Ghosts S → Transaction S → Transaction S → List ℕ → Row
     → Result (Unit {0}) TableFault → Type 0
 PutsRow g old new text values result =
     Says g old new (Inside (λ old new. PutsIn text values old new result))
-    (Inside (λ old new. Puts old new result))
+    (Inside (λ old new. (key : ℤ) (rest : Row) → values ≡ Int key ∷ rest → Has inserts text → Puts old new result))
 
 -- run on this database with these values, the text shows this row first
 abbrev pub ShowsFirst : List ℕ → Row → Database → Row → Type 0

@@ -1,20 +1,25 @@
 //! The table of postings.
-ghost use Rattle.std.specs.Prelude.{is_some};
+ghost use Rattle.std.specs.Prelude.{◌≡◌, ◌≤◌, is_some};
+ghost use Rattle.sqlite.specs.Values.{bound};
 ghost use Rattle.posting_rules.specs.Tables.{row_at, history_key};
 ghost use Rattle.posting_rules.specs.Changes.{with_history};
 ghost use Rattle.store_rows.specs.Calls.{AddsRow};
 ghost use Rattle.store_rows.specs.BankTables.{history as table};
+ghost use Rattle.store_rows.specs.SeveralRows.{AddsRows, given};
+ghost use Rattle.store_rows.specs.View.{history_entry};
+ghost use Rattle.store_rows.specs.declared.statements.TheConstants.{MAX_KEY};
 
 use crate::fault::TableFault;
 use crate::statements::put_in;
-use crate::texts::ADD_HISTORY;
+use crate::texts::{ADD_EIGHT_POSTINGS, ADD_HISTORY};
 use posting_rules::HistoryRow;
-use sqlite::{Alter, Transaction, params};
+use sqlite::types::ValueRef;
+use sqlite::{Alter, Transaction};
 
-/// Adds a posting. `Damaged(Rule::Key)` is an ordinal that is taken.
-pub fn add_history<S: Alter>(tx: &mut Transaction<'_, S>, row: HistoryRow) -> Result<(), TableFault>
-    ensures { AddsRow S.Store tx.old tx.new table
-        (λ tables. is_some (row_at history_key tables.history row.ordinal)) (with_history row) result }
+// The values of a posting's row.
+fn values_of<'a>(row: &HistoryRow) -> [ValueRef<'a>; 6]
+    ensures values { bound result ≡ given (history_entry row.now) }
+    ensures low { row.now.ordinal ≤ MAX_KEY }
 {
     let key = row.ordinal.get() as i64;
     let account = row.account.get() as i64;
@@ -22,9 +27,42 @@ pub fn add_history<S: Alter>(tx: &mut Transaction<'_, S>, row: HistoryRow) -> Re
     let branch = row.branch.get() as i64;
     let delta = row.delta.get();
     let moment = row.moment.get() as i64;
-    put_in(
-        tx,
-        ADD_HISTORY,
-        params![key, account, teller, branch, delta, moment],
-    )
+    [
+        ValueRef::Int(key),
+        ValueRef::Int(account),
+        ValueRef::Int(teller),
+        ValueRef::Int(branch),
+        ValueRef::Int(delta),
+        ValueRef::Int(moment),
+    ]
+}
+
+/// Adds a posting. `Damaged(Rule::Key)` is an ordinal that is taken.
+pub fn add_history<S: Alter>(tx: &mut Transaction<'_, S>, row: HistoryRow) -> Result<(), TableFault>
+    ensures { AddsRow S.Store tx.old tx.new table
+        (λ tables. is_some (row_at history_key tables.history row.ordinal)) (with_history row) result }
+{
+    put_in(tx, ADD_HISTORY, &values_of(&row))
+}
+
+/// Adds eight postings, one after another. `Damaged(Rule::Key)` is an ordinal of theirs that is taken by then.
+pub fn add_eight_postings<S: Alter>(
+    tx: &mut Transaction<'_, S>,
+    rows: &[HistoryRow; 8],
+) -> Result<(), TableFault>
+    ensures { AddsRows S.Store tx.old tx.new table
+        (λ row tables. is_some (row_at history_key tables.history row.ordinal)) with_history rows.now result }
+{
+    let [a, b, c, d, e, f, g, h] = rows;
+    let values = [
+        values_of(a),
+        values_of(b),
+        values_of(c),
+        values_of(d),
+        values_of(e),
+        values_of(f),
+        values_of(g),
+        values_of(h),
+    ];
+    put_in(tx, ADD_EIGHT_POSTINGS, values.as_flattened())
 }

@@ -37,7 +37,8 @@
 //! ```
 //!
 //! [`balance_of`] reads the balance of a [`Member`], which is a teller or an account, and [`add_member`] adds
-//! its row. [`set_balance`] writes that of a [`Holder`], which may be a branch too.
+//! its row. [`set_balance`] writes that of a [`Holder`], which may be a branch too. [`add_eight_postings`] and
+//! [`add_eight_requests`] add eight rows, one after another, or none of them.
 //!
 //! A [`TableFault`] says why a call failed: `Sqlite` that a call of `sqlite` did, with its error, and
 //! `Damaged` which rule a stored row breaks. Read next: `specs/BankTables`, the tables with their columns;
@@ -68,11 +69,11 @@ pub use commits::commit;
 pub use creation::{create, create_tables};
 pub use fault::TableFault;
 pub use floors::{add_floor, find_floor};
-pub use history::add_history;
+pub use history::{add_eight_postings, add_history};
 pub use holders::{Holder, Member, add_member, balance_of, set_balance};
 pub use laws::trees_show_law;
 pub use metas::{StoredMeta, VERSION, read_meta, set_decided, set_version};
 pub use migration::{EARLIEST, make_lacking};
 pub use probes::{BEHIND_META, BankTable, probe_table};
 pub use references::{add_reference, find_reference};
-pub use requests::{add_request, find_request};
+pub use requests::{add_eight_requests, add_request, find_request};

@@ -1,5 +1,6 @@
 //! The table of decided requests.
-ghost use Rattle.std.specs.Prelude.{pos, find, is_some};
+ghost use Rattle.std.specs.Prelude.{◌≡◌, ◌≤◌, pos, find, is_some};
+ghost use Rattle.sqlite.specs.Values.{bound};
 ghost use Rattle.sql_meanings.specs.Entries.{has_two};
 ghost use Rattle.posting_rules.specs.Tables.{row_at, request_key};
 ghost use Rattle.posting_rules.specs.Changes.{with_request};
@@ -9,16 +10,20 @@ ghost use Rattle.store_rows.specs.Forms.{request_form};
 ghost use Rattle.store_rows.specs.TableAnswers.{ReadsDecision};
 ghost use Rattle.store_rows.specs.Rules.{RequestKeeps};
 ghost use Rattle.store_rows.specs.BankTables.{request as table};
+ghost use Rattle.store_rows.specs.SeveralRows.{AddsRows, given};
+ghost use Rattle.store_rows.specs.View.{request_entry};
+ghost use Rattle.store_rows.specs.declared.statements.TheConstants.{MAX_KEY};
 ghost use Rattle.store_rows.specs.Stored.{IsDecision, ReadsStored, request_stored};
 
 use crate::columns::{cents_at, outcome_at, whole_at};
 use crate::fault::TableFault;
 use crate::found::{FromRow, found};
 use crate::statements::{put_in, row_under_two};
-use crate::texts::{ADD_REQUEST, GET_REQUEST};
+use crate::texts::{ADD_EIGHT_REQUESTS, ADD_REQUEST, GET_REQUEST};
 use message_records::{Number, Teller};
 use posting_rules::{Decision, RequestRow, Rule};
-use sqlite::{Alter, Row, Transaction, params};
+use sqlite::types::ValueRef;
+use sqlite::{Alter, Row, Transaction};
 
 // What a row says was decided of a request.
 fn decision_from(row: &Row) -> Result<Decision, TableFault>
@@ -62,10 +67,10 @@ pub fn find_request<S: Alter>(
     found(row_under_two(tx, GET_REQUEST, teller.get(), number.get()))
 }
 
-/// Adds a decided request. `Damaged(Rule::Key)` is an ordinal that is taken.
-pub fn add_request<S: Alter>(tx: &mut Transaction<'_, S>, row: RequestRow) -> Result<(), TableFault>
-    ensures { AddsRow S.Store tx.old tx.new table
-        (λ tables. is_some (row_at request_key tables.requests row.ordinal)) (with_request row) result }
+// The values of a decided request's row.
+fn values_of<'a>(row: &RequestRow) -> [ValueRef<'a>; 8]
+    ensures values { bound result ≡ given (request_entry row.now) }
+    ensures low { row.now.ordinal ≤ MAX_KEY }
 {
     let key = row.ordinal.get() as i64;
     let teller = row.teller.get() as i64;
@@ -75,8 +80,45 @@ pub fn add_request<S: Alter>(tx: &mut Transaction<'_, S>, row: RequestRow) -> Re
     let delta = row.decision.delta().get();
     let outcome = i64::from(row.decision.outcome().code());
     let balance = row.decision.balance().get();
-    let values = params![
-        key, teller, number, account, branch, delta, outcome, balance
+    [
+        ValueRef::Int(key),
+        ValueRef::Int(teller),
+        ValueRef::Int(number),
+        ValueRef::Int(account),
+        ValueRef::Int(branch),
+        ValueRef::Int(delta),
+        ValueRef::Int(outcome),
+        ValueRef::Int(balance),
+    ]
+}
+
+/// Adds a decided request. `Damaged(Rule::Key)` is an ordinal that is taken.
+pub fn add_request<S: Alter>(tx: &mut Transaction<'_, S>, row: RequestRow) -> Result<(), TableFault>
+    ensures { AddsRow S.Store tx.old tx.new table
+        (λ tables. is_some (row_at request_key tables.requests row.ordinal)) (with_request row) result }
+{
+    put_in(tx, ADD_REQUEST, &values_of(&row))
+}
+
+/// Adds eight decided requests, one after another. `Damaged(Rule::Key)` is an ordinal of theirs that is taken by
+/// then.
+pub fn add_eight_requests<S: Alter>(
+    tx: &mut Transaction<'_, S>,
+    rows: &[RequestRow; 8],
+) -> Result<(), TableFault>
+    ensures { AddsRows S.Store tx.old tx.new table
+        (λ row tables. is_some (row_at request_key tables.requests row.ordinal)) with_request rows.now result }
+{
+    let [a, b, c, d, e, f, g, h] = rows;
+    let values = [
+        values_of(a),
+        values_of(b),
+        values_of(c),
+        values_of(d),
+        values_of(e),
+        values_of(f),
+        values_of(g),
+        values_of(h),
     ];
-    put_in(tx, ADD_REQUEST, values)
+    put_in(tx, ADD_EIGHT_REQUESTS, values.as_flattened())
 }

@@ -95,10 +95,25 @@ pub(crate) const ADD_ACCOUNT: &str = "INSERT INTO account (aid, balance) VALUES 
 pub(crate) const ADD_HISTORY: &str =
     "INSERT INTO history (ordinal, aid, tid, bid, delta, moment) VALUES (?1, ?2, ?3, ?4, ?5, ?6)";
 
+/// Eight postings more.
+pub(crate) const ADD_EIGHT_POSTINGS: &str =
+    "INSERT INTO history (ordinal, aid, tid, bid, delta, moment) \
+     VALUES (?1, ?2, ?3, ?4, ?5, ?6), (?7, ?8, ?9, ?10, ?11, ?12), (?13, ?14, ?15, ?16, ?17, ?18), \
+     (?19, ?20, ?21, ?22, ?23, ?24), (?25, ?26, ?27, ?28, ?29, ?30), (?31, ?32, ?33, ?34, ?35, ?36), \
+     (?37, ?38, ?39, ?40, ?41, ?42), (?43, ?44, ?45, ?46, ?47, ?48)";
+
 /// A decided request more.
 pub(crate) const ADD_REQUEST: &str =
     "INSERT INTO request (ordinal, tid, number, aid, bid, delta, outcome, balance) \
      VALUES (?1, ?2, ?3, ?4, ?5, ?6, ?7, ?8)";
+
+/// Eight decided requests more.
+pub(crate) const ADD_EIGHT_REQUESTS: &str =
+    "INSERT INTO request (ordinal, tid, number, aid, bid, delta, outcome, balance) \
+     VALUES (?1, ?2, ?3, ?4, ?5, ?6, ?7, ?8), (?9, ?10, ?11, ?12, ?13, ?14, ?15, ?16), \
+     (?17, ?18, ?19, ?20, ?21, ?22, ?23, ?24), (?25, ?26, ?27, ?28, ?29, ?30, ?31, ?32), \
+     (?33, ?34, ?35, ?36, ?37, ?38, ?39, ?40), (?41, ?42, ?43, ?44, ?45, ?46, ?47, ?48), \
+     (?49, ?50, ?51, ?52, ?53, ?54, ?55, ?56), (?57, ?58, ?59, ?60, ?61, ?62, ?63, ?64)";
 
 /// The request of a teller under a number.
 pub(crate) const GET_REQUEST: &str =

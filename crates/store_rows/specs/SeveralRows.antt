@@ -1,0 +1,31 @@
+-- Rows that are put in one after another, by one statement.
+use Rattle.std.specs.Prelude.{◌||◌, ◌++◌, Bool, false, List, [], ◌∷◌, Result}
+use Rattle.sqlite.specs.Order.{Row}
+use Rattle.sqlite.specs.Table.{Table}
+use Rattle.sqlite.specs.declared.transaction.Transaction.{Transaction}
+use Rattle.sqlite.specs.declared.types.Value.TheVariants.{Int}
+use Rattle.sqlite_trees.specs.declared.store.Store.{Ghosts}
+use Rattle.posting_rules.specs.Tables.{Tables}
+use Rattle.sql_meanings.specs.Entries.{Entry, numbers, texts_held}
+use Rattle.store_rows.specs.Calls.{AddsRow}
+use Rattle.store_rows.specs.declared.fault.TableFault.{TableFault}
+
+-- the values by which a row is handed in
+abbrev pub given : Entry → Row
+given e = Int e.key ∷ (numbers e.values ++ texts_held e.texts)
+
+-- the tables with each of the rows, one after another
+abbrev pub with_each : {R : Type 0} → (R → Tables → Tables) → List R → Tables → Tables
+with_each with [] t = t
+with_each with (r ∷ rows) t = with_each with rows (with r t)
+
+-- the key of one of them is taken by then
+abbrev pub meets_key : {R : Type 0} → (R → Tables → Tables) → (R → Tables → Bool) → List R → Tables → Bool
+meets_key with taken [] t = false
+meets_key with taken (r ∷ rows) t = taken r t || meets_key with taken rows (with r t)
+
+-- The rows are put in one after another, unless the key of one is taken by then. Of an error none is put in.
+abbrev pub AddsRows : {S R : Type 0} → Ghosts S → Transaction S → Transaction S → Table → (R → Tables → Bool)
+    → (R → Tables → Tables) → List R → Result (Unit {0}) TableFault → Type 0
+AddsRows g old new table taken with rows result =
+    AddsRow g old new table (meets_key with taken rows) (with_each with rows) result
