@@ -7,6 +7,7 @@ pub mod Keeping
 pub mod Keys
 pub mod Leaving
 pub mod NumbersRead
+pub mod OnlyMeta
 pub mod ReferenceRead
 pub mod Rises
 pub mod Shown

@@ -33,6 +33,7 @@ use Rattle.sql_meanings.proofs.SeekTexts.{seeks_by, seeks_of_by}
 use Rattle.sql_meanings.proofs.Statements.{HasTable}
 use Rattle.sql_meanings.proofs.Texts.{IsSelect, only_reads, select_of}
 use Rattle.store_rows.specs.BankTables as bank
+use Rattle.walked_rows.specs.OnlyMeta.{meta_with}
 use Rattle.walked_rows.specs.References.{text_shown}
 use Rattle.walked_rows.specs.declared.ahead.TheConstants.{AHEAD}
 use Rattle.walked_rows.specs.declared.texts.TheConstants.{ACCOUNTS_FROM, BRANCHES_FROM, FLOORS_FROM}
@@ -119,9 +120,10 @@ unfolding everything
 is_requests = select_of bank.request REQUESTS_FROM.now 1 _ _ _ _ _ _ _ _ _ refl refl refl (lit≤ tt) refl refl
     refl refl (λ tree. refl) (lit≤ tt)
 
-is_metas : IsSelect bank.meta METAS_FROM.now 1 (0 ∷ 1 ∷ 2 ∷ [])
+-- whatever CHECK it has
+is_metas : (checks : List Term) → IsSelect (meta_with checks) METAS_FROM.now 1 (0 ∷ 1 ∷ 2 ∷ [])
 unfolding everything
-is_metas = select_of bank.meta METAS_FROM.now 1 _ _ _ _ _ _ _ _ _ refl refl refl (lit≤ tt) refl refl
+is_metas checks = select_of (meta_with checks) METAS_FROM.now 1 _ _ _ _ _ _ _ _ _ refl refl refl (lit≤ tt) refl refl
     refl refl (λ tree. refl) (lit≤ tt)
 
 is_floors : IsSelect bank.floor FLOORS_FROM.now 1 (0 ∷ 1 ∷ [])
@@ -171,9 +173,9 @@ walks_requests = walks_by is_requests (codes "ordinal")
     (λ tree. refl) (λ tree. refl) (λ schema p tree has. rw (has.low, has.found))
     (λ k schema p tree has. rw (has.low, has.found)) shows_seven
 
-pub walks_metas : Walks bank.meta METAS_FROM.now
+pub walks_metas : (checks : List Term) → Walks (meta_with checks) METAS_FROM.now
 unfolding is_metas everything program.program ungrouped
-walks_metas = walks_by is_metas (codes "id") (col 1 0 ∷ col 1 2 ∷ col 1 3 ∷ [])
+walks_metas checks = walks_by (is_metas checks) (codes "id") (col 1 0 ∷ col 1 2 ∷ col 1 3 ∷ [])
     refl refl refl refl refl refl refl refl refl refl refl refl (λ tree. refl) (λ tree. refl) (λ tree. refl)
     (λ tree. refl) (λ tree. refl) (λ schema p tree has. rw (has.low, has.found))
     (λ k schema p tree has. rw (has.low, has.found)) shows_two

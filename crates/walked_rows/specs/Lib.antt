@@ -3,6 +3,7 @@ pub mod Kinds
 pub mod KeptRows
 pub mod KeptKeys
 pub mod Leaving
+pub mod OnlyMeta
 pub mod StepOutcomes
 pub mod PairKeys
 pub mod Pairs

@@ -35,6 +35,7 @@
 
 mod accounts;
 mod ahead;
+mod alone;
 mod beside;
 mod branches;
 mod floors;
@@ -56,6 +57,7 @@ mod walked;
 
 pub use accounts::StoredAccount;
 pub use ahead::AHEAD;
+pub use alone::only_meta;
 pub use branches::StoredBranch;
 pub use floors::StoredFloor;
 pub use joined::Joined;
