@@ -114,39 +114,54 @@ reference_keeps Reference rows keeps p r found =
 
 -- ---- a row that doesn't
 
+-- the rows don't keep the rule, which isn't that of the keys of new rows
+by_rule : (rule : Rule) (db : Database) → (rule ≡ Key → OfRows (λ _. ⊥) db)
+    → OfRows (λ rows. ¬ KeepsRule rule rows) db → IsBroken rule db
+by_rule Meta db other broken = broken
+by_rule Teller db other broken = broken
+by_rule Account db other broken = broken
+by_rule Balance db other broken = broken
+by_rule Request db other broken = broken
+by_rule Value db other broken = broken
+by_rule Key db other broken = other refl
+by_rule Floor db other broken = broken
+by_rule Reference db other broken = broken
+
 find_broken : {X : Type 0} (db : Database) (stored : StoredRows → Option Entry) (Is : X → Entry → Type 0)
-    (RowKeeps : Rule → Entry → Type 0)
+    (RowKeeps : Rule → Entry → Type 0) → ((r : Entry) → RowKeeps Key r)
     → ((rule : Rule) (rows : StoredRows) → KeepsRule rule rows → (r : Entry) → stored rows ≡ Some r
     → RowKeeps rule r) → (fault : TableFault)
     → OfRows (λ rows. FindsStored {X = X} (stored rows) Is RowKeeps (Err fault)) db → IsOf db fault
-find_broken db stored Is RowKeeps all (Sqlite e) finds = tt
-find_broken db stored Is RowKeeps all (Damaged rule) finds = λ rows has keeps.
-    let it = finds rows has in it.2 (all rule rows keeps it.0 it.1)
+find_broken db stored Is RowKeeps free all (Sqlite e) finds = tt
+find_broken db stored Is RowKeeps free all (Damaged rule) finds =
+    by_rule rule db
+    (λ is rows has. let it = finds rows has in it.2 (subst (λ r. RowKeeps r it.0) (sym is) (free it.0)))
+    (λ rows has keeps. let it = finds rows has in it.2 (all rule rows keeps it.0 it.1))
 
 pub branch_broken : (db : Database) (n : ℕ) (fault : TableFault)
     → OfRows (λ rows. FindsStored (row_under rows.branches n) IsBranch BranchKeeps (Err fault)) db
     → IsOf db fault
 branch_broken db n =
-    find_broken db (λ rows. row_under rows.branches n) IsBranch BranchKeeps
+    find_broken db (λ rows. row_under rows.branches n) IsBranch BranchKeeps (λ r. tt)
     (λ rule rows keeps. branch_keeps rule rows keeps (has_key (pos n)))
 
 pub next_broken : (db : Database) (n : ℕ) (fault : TableFault)
     → OfRows (λ rows. FindsStored (find (is_above (pos n)) rows.branches) IsBranch BranchKeeps (Err fault)) db
     → IsOf db fault
 next_broken db n =
-    find_broken db (λ rows. find (is_above (pos n)) rows.branches) IsBranch BranchKeeps
+    find_broken db (λ rows. find (is_above (pos n)) rows.branches) IsBranch BranchKeeps (λ r. tt)
     (λ rule rows keeps. branch_keeps rule rows keeps (is_above (pos n)))
 
 pub member_broken : (db : Database) (m : Member) (fault : TableFault)
     → OfRows (λ rows. FindsStored (entry_under m rows) IsBalance BalanceKeeps (Err fault)) db
     → IsOf db fault
-member_broken db m = find_broken db (entry_under m) IsBalance BalanceKeeps (member_keeps m)
+member_broken db m = find_broken db (entry_under m) IsBalance BalanceKeeps (λ r. tt) (member_keeps m)
 
 pub floor_broken : (db : Database) (n : ℕ) (fault : TableFault)
     → OfRows (λ rows. FindsStored (row_under rows.floors n) IsFloorRow FloorKeeps (Err fault)) db
     → IsOf db fault
 floor_broken db n =
-    find_broken db (λ rows. row_under rows.floors n) IsFloorRow FloorKeeps
+    find_broken db (λ rows. row_under rows.floors n) IsFloorRow FloorKeeps (λ r. tt)
     (λ rule rows keeps. floor_keeps rule rows keeps (has_key (pos n)))
 
 -- a floor above zero
@@ -172,14 +187,14 @@ pub request_broken : (db : Database) (a b : ℕ) (fault : TableFault)
     → OfRows (λ rows. FindsStored (find (has_two (pos a) (pos b)) rows.requests) IsSameRequest RequestKeeps
     (Err fault)) db → IsOf db fault
 request_broken db a b =
-    find_broken db (λ rows. find (has_two (pos a) (pos b)) rows.requests) IsSameRequest RequestKeeps
+    find_broken db (λ rows. find (has_two (pos a) (pos b)) rows.requests) IsSameRequest RequestKeeps (λ r. tt)
     (λ rule rows keeps. request_keeps rule rows keeps (has_two (pos a) (pos b)))
 
 pub reference_broken : (db : Database) (n : ℕ) (fault : TableFault)
     → OfRows (λ rows. FindsStored (row_under rows.references n) IsReferenceRow ReferenceKeeps (Err fault)) db
     → IsOf db fault
 reference_broken db n =
-    find_broken db (λ rows. row_under rows.references n) IsReferenceRow ReferenceKeeps
+    find_broken db (λ rows. row_under rows.references n) IsReferenceRow ReferenceKeeps (λ r. tt)
     (λ rule rows keeps. reference_keeps rule rows keeps (has_key (pos n)))
 
 -- a request whose amount is beyond the limit of requests
@@ -256,8 +271,11 @@ pub never_broken : (old new : State) (fault : TableFault)
     → OfMeta (λ before now rows. Finds before now (meta_in rows) Never (Err fault)) old new
     → IsOf old.now fault
 never_broken old new (Sqlite e) told = tt
-never_broken old new (Damaged rule) told = λ rows has keeps.
-    let it = told rows.meta (meta_rows old.now rows has) in it.0.2
+never_broken old new (Damaged rule) told =
+    by_rule rule old.now (λ is rows has. never rows has) (λ rows has keeps. never rows has)
+  where
+    never : (rows : StoredRows) → HoldsBank old.now rows → ⊥
+    never rows has = (told rows.meta (meta_rows old.now rows has)).0.2
 
 decided_is : (rows : StoredRows) (decided : ℕ) → HasDecided rows decided → (m : Option StoredMeta) → m
     ≡ meta_in rows.meta

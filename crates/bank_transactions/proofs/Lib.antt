@@ -13,6 +13,7 @@ pub mod ReadsInTurn
 pub mod SoundRows
 pub mod Statements
 pub mod Transacted
+pub mod Undone
 pub mod Both
 pub mod LookUps
 pub mod Loops

@@ -2,7 +2,7 @@
 use Rattle.std.proofs.Common.{◌≡◌, ℕ, zero, suc, ◌+◌, ◌<◌, List, [], ◌∷◌, ◌++◌, map, length, take, drop, set}
 use Rattle.std.proofs.Common.{get_or, Ok, Result, refl, sym, ap, subst, ◌∙◌, arith}
 use Rattle.std.specs.List.{AllByRecursion}
-use Rattle.std.proofs.lemmas.List.{take_more, take-append-drop}
+use Rattle.std.proofs.lemmas.List.{append-nil, append_assoc, take_more, take-append-drop}
 use Rattle.std.proofs.Math.Seq.{drop-cons}
 use Rattle.std.proofs.lemmas.List.Edits.{map_over_more}
 use Rattle.sqlite.specs.declared.transaction.Transaction.{Transaction}
@@ -12,6 +12,7 @@ use Rattle.store_rows.specs.declared.fault.TableFault.{TableFault}
 use Rattle.bank_transactions.specs.Doing.{Does}
 use Rattle.bank_transactions.proofs.Chained.{does_then, does_for}
 use Rattle.bank_transactions.specs.Filling.{ReadsWhere}
+use Rattle.bank_transactions.specs.InParts.{InParts}
 use Rattle.bank_transactions.specs.InTurn.{InTurn}
 use Rattle.bank_transactions.proofs.LookUps.{reads_both}
 
@@ -92,3 +93,48 @@ make_more {S} {A} {g} {old} {mid} {new} {r} made May law xs i x lt is before one
     (subst (λ (ys : List A). May ys t) (split_at xs i x lt) may) in
     does_for (does_then before next (λ t may. (so t may).0))
     (λ t may. (may, (so t may).1 ∙ ap (λ (ys : List A). made ys t) (sym (take_more xs i x lt)), refl))
+
+-- ---- rows are put in, several at a time
+
+-- rows before others are put in: these rows, and those that are left
+pub record Stands {S A : Type 0} (g : Ghosts S) (old now : Transaction S) (made : List A → Tables → Tables)
+    (May : List A → Tables → Type 0) (rows left : List A) : Type 0 where
+  pub front : List A
+  pub are : rows ≡ front ++ left
+  pub so_far : Does {X = Unit {0}} g old now (May rows) (made front) (λ _. tt {0}) (Ok (tt {0}))
+
+-- some more of them
+pub some_more : {S A : Type 0} {g : Ghosts S} {old mid new : Transaction S} {r : Result (Unit {0}) TableFault}
+    {made : List A → Tables → Tables} {May : List A → Tables → Type 0} {rows left : List A}
+    (law : InParts made May) (stands : Stands g old mid made May rows left) (some rest : List A)
+    → left ≡ some ++ rest → Does {X = Unit {0}} g mid new (May some) (made some) (λ _. tt {0}) r
+    → Does {X = Unit {0}} g old new (May rows) (made (stands.front ++ some)) (λ _. tt {0}) r
+some_more {S} {A} {g} {old} {mid} {new} {r} {made} {May} {rows} {left} law stands some rest parts next =
+    let all : rows ≡ stands.front ++ (some ++ rest) = stands.are ∙ ap (λ (l : List A). stands.front ++ l) parts in
+    let so : (t : Tables) → May rows t → May some (made stands.front t)
+    × (made some (made stands.front t) ≡ made (stands.front ++ some) t) =
+    λ t may. law.next stands.front some rest t (subst (λ (l : List A). May l t) all may) in
+    does_for (does_then stands.so_far next (λ t may. (so t may).0)) (λ t may. (may, (so t may).1, refl))
+
+-- they stand so too
+pub stands_more : {S A : Type 0} {g : Ghosts S} {old mid new : Transaction S}
+    {made : List A → Tables → Tables} {May : List A → Tables → Type 0} {rows left : List A}
+    (law : InParts made May) (stands : Stands g old mid made May rows left) (some rest : List A)
+    → left ≡ some ++ rest
+    → Does {X = Unit {0}} g mid new (May some) (made some) (λ _. tt {0}) (Ok (tt {0}))
+    → Stands g old new made May rows rest
+stands_more {S} {A} law stands some rest parts next = record {
+  front = stands.front ++ some;
+  are = stands.are ∙ ap (λ (l : List A). stands.front ++ l) parts ∙ sym (append_assoc stands.front some rest);
+  so_far = some_more law stands some rest parts next;
+}
+
+-- the rest of them
+pub all_more : {S A : Type 0} {g : Ghosts S} {old mid new : Transaction S} {r : Result (Unit {0}) TableFault}
+    {made : List A → Tables → Tables} {May : List A → Tables → Type 0} {rows left : List A}
+    (law : InParts made May) → Stands g old mid made May rows left
+    → Does {X = Unit {0}} g mid new (May left) (made left) (λ _. tt {0}) r
+    → Does {X = Unit {0}} g old new (May rows) (made rows) (λ _. tt {0}) r
+all_more {S} {A} {made = made} {rows = rows} {left = left} law stands last =
+    does_for (some_more law stands left [] (sym (append-nil left)) last)
+    (λ t may. (may, ap (λ (l : List A). made l t) (sym stands.are), refl))

@@ -1,5 +1,6 @@
 -- What one slot writes.
-use Rattle.std.proofs.Common.{◌≡◌, ℕ, List, [], ◌∷◌, Option, Result, Some, None, refl, sym, ap}
+use Rattle.std.proofs.Common.{◌≡◌, ℕ, List, [], ◌∷◌, Option, Result, Some, None, false, refl, sym, ap}
+use Rattle.std.proofs.Common.{subst, ◌∙◌}
 use Rattle.std.specs.Prelude.{ℤ, is_some}
 use Rattle.sqlite.specs.Table.{Table}
 use Rattle.sqlite.specs.declared.transaction.Transaction.{Transaction}
@@ -9,11 +10,13 @@ use Rattle.posting_rules.specs.declared.rows.RequestRow.{RequestRow}
 use Rattle.posting_rules.specs.declared.rows.ReferenceRow.{ReferenceRow}
 use Rattle.posting_rules.specs.Changes.{with_history, with_reference, with_request}
 use Rattle.posting_batch.specs.Batch.{PutsFree}
-use Rattle.posting_batch.specs.Overlay.{history_put, requests_put, references_put}
+use Rattle.posting_batch.specs.Overlay.{each_put, history_put, requests_put, references_put}
 use Rattle.sql_meanings.specs.Calls.{Says, Inside}
+use Rattle.store_rows.specs.BankTables as bank
 use Rattle.store_rows.specs.Calls.{OfTables}
 use Rattle.store_rows.specs.Failures.{Puts}
 use Rattle.store_rows.specs.Holders.{with_balance}
+use Rattle.store_rows.specs.SeveralRows.{AddsRows, meets_key, with_each}
 use Rattle.store_rows.specs.Sparing.{SparesIfOk}
 use Rattle.store_rows.specs.TableAnswers.{PutsOneRow}
 use Rattle.store_rows.specs.declared.fault.TableFault.{TableFault}
@@ -21,10 +24,11 @@ use Rattle.store_rows.specs.declared.holders.Holder.TheVariants.{Account, Teller
 use Rattle.bank_transactions.specs.Doing.{Does}
 use Rattle.bank_transactions.proofs.Chained.{does_for}
 use Rattle.bank_transactions.proofs.Statements.{does_add}
-use Rattle.posting_rules.specs.Changes.{row_changed, with_branch_balance, with_teller_balance}
+use Rattle.posting_rules.specs.Changes.{row_changed, row_put, with_branch_balance, with_teller_balance}
 use Rattle.posting_rules.specs.Changes.{with_account_balance}
 use Rattle.posting_rules.specs.Steps as steps
 use Rattle.posting_rules.specs.Tables.{Tables, row_at, branch_key, teller_key, account_key}
+use Rattle.posting_rules.specs.Tables.{history_key, request_key}
 use Rattle.posting_batch.specs.declared.slots.AccountSlot.{AccountSlot}
 use Rattle.posting_batch.specs.declared.slots.TellerSlot.{TellerSlot}
 use Rattle.posting_batch.specs.declared.slots.BranchSlot.{BranchSlot}
@@ -32,7 +36,8 @@ use Rattle.posting_batch.specs.Overlay.{changed_to, over, accounts_over, tellers
 use Rattle.posting_batch.specs.Slots.{account_slot_key, teller_slot_key, branch_slot_key}
 use Rattle.posting_batch.proofs.NewRows.{account_same, teller_same, branch_same}
 use Rattle.posting_batch.proofs.Written.{over_changed, over_unchanged}
-use Rattle.bank_transactions.specs.Writing.{by_change}
+use Rattle.bank_transactions.specs.InTurn.{ArePlaced}
+use Rattle.bank_transactions.specs.Writing.{MayAddPostings, MayAddRequests, by_change}
 
 -- ---- new rows
 
@@ -50,6 +55,59 @@ row_added {S} {R} {g} {old} {new} {r} table key rows put made row is says =
     does_for (does_add {So = λ t. PutsFree key (row ∷ []) (rows t)} g old new table
     (λ t. is_some (row_at key (rows t) (key row))) (put row) r says (λ t free. ap is_some free.0))
     (λ t free. (free, is t, refl))
+
+-- ---- several new rows
+
+module _ {R : Type 0} (key : R → ℕ) (rows : Tables → List R) (with_rows : Tables → List R → Tables)
+    (placed : ArePlaced rows with_rows) where
+  abbrev with_row : R → Tables → Tables
+  with_row r t = with_rows t (row_put key r (rows t))
+
+  -- rows with free keys meet no key
+  none_met : (news : List R) (t : Tables) → PutsFree key news (rows t)
+      → meets_key with_row (λ r t. is_some (row_at key (rows t) (key r))) news t ≡ false
+  none_met [] t free = refl
+  none_met (r ∷ news) t free = rw free.0 (none_met news (with_row r t)
+      (subst (λ (rs : List R). PutsFree key news rs) (sym (placed.held t (row_put key r (rows t)))) free.1))
+
+  -- the tables with them one after another
+  each_is : (news : List R) (t : Tables) → with_each with_row news t ≡ with_rows t (each_put key news (rows t))
+  each_is [] t = placed.own t
+  each_is (r ∷ news) t =
+      let more = row_put key r (rows t) in
+      each_is news (with_rows t more) ∙ placed.again t more (each_put key news (rows (with_rows t more)))
+      ∙ ap (λ (rs : List R). with_rows t (each_put key news rs)) (placed.held t more)
+
+  -- rows are put in under keys that are free
+  pub rows_added : {S : Type 0} {g : Ghosts S} {old new : Transaction S} {r : Result (Unit {0}) TableFault}
+      (table : Table) (news : List R)
+      → AddsRows g old new table (λ r t. is_some (row_at key (rows t) (key r))) with_row news r
+      → Does g old new (λ t. PutsFree key news (rows t)) (λ t. with_rows t (each_put key news (rows t))) (λ _. tt) r
+  rows_added {S} {g} {old} {new} {r} table news says =
+      does_for (does_add {So = λ t. PutsFree key news (rows t)} g old new table
+      (meets_key with_row (λ r t. is_some (row_at key (rows t) (key r))) news) (with_each with_row news) r says
+      (none_met news))
+      (λ t free. (free, each_is news t, refl))
+
+pub postings_added : {S : Type 0} {g : Ghosts S} {old new : Transaction S} {r : Result (Unit {0}) TableFault}
+    (news : List HistoryRow)
+    → AddsRows g old new bank.history (λ r t. is_some (row_at history_key t.history r.ordinal)) with_history news r
+    → Does g old new (MayAddPostings news) (history_put news) (λ _. tt) r
+unfolding with_history
+postings_added news says =
+    rows_added history_key (λ t. t.history) (λ t rows. record t { history = rows })
+    (record { own = λ t. refl; held = λ t rs. refl; again = λ t rs others. refl }) bank.history news says
+
+pub requests_added : {S : Type 0} {g : Ghosts S} {old new : Transaction S} {r : Result (Unit {0}) TableFault}
+    (news : List RequestRow)
+    → AddsRows g old new bank.request (λ r t. is_some (row_at request_key t.requests r.ordinal)) with_request news r
+    → Does g old new (MayAddRequests news) (requests_put news) (λ _. tt) r
+unfolding with_request
+requests_added news says =
+    rows_added request_key (λ t. t.requests) (λ t rows. record t { requests = rows })
+    (record { own = λ t. refl; held = λ t rs. refl; again = λ t rs others. refl }) bank.request news says
+
+-- ---- one new row
 
 pub posting_put : (row : HistoryRow) (t : Tables) → with_history row t ≡ history_put (row ∷ []) t
 unfolding with_history

@@ -1,11 +1,13 @@
 -- A bank in the tables of a SQLite file: what each transaction does to them.
 pub mod Causes
 pub mod Doing
+pub mod Undone
 pub mod NewRows
 pub mod NextBranch
 pub mod Stored
 pub mod Filling
 pub mod Floors
 pub mod Writing
+pub mod InParts
 pub mod InTurn
 pub mod Batches

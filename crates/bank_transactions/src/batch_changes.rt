@@ -1,5 +1,6 @@
 //! What a batch has changed is written, each row once.
-ghost use Rattle.std.specs.Prelude.{[], ◌∷◌, List, IfSome};
+ghost use Rattle.std.specs.Mem.{type_size};
+ghost use Rattle.std.specs.Prelude.{◌*◌, ◌^◌, ◌<◌, [], ◌∷◌, List, IfSome};
 ghost use Rattle.posting_rules.specs.Damage.{IsUndamaged};
 ghost use Rattle.posting_rules.specs.Tables.{Tables};
 ghost use Rattle.posting_batch.specs.Batch.{HasRisingSlots, ChangesRows, AddsFreeRows};
@@ -10,6 +11,7 @@ ghost use Rattle.store_rows.specs.Holders.{HasRow, with_balance};
 ghost use Rattle.bank_transactions.specs.Doing.{Does};
 ghost use Rattle.bank_transactions.specs.InTurn.{InTurn, accounts_in_turn, tellers_in_turn, branches_in_turn};
 ghost use Rattle.bank_transactions.specs.InTurn.{postings_in_turn, requests_in_turn, references_in_turn};
+ghost use Rattle.bank_transactions.specs.InParts.{InParts, postings_in_parts, requests_in_parts};
 ghost use Rattle.bank_transactions.specs.Writing.{MayChangeAccounts, MayChangeTellers, MayChangeBranches};
 ghost use Rattle.bank_transactions.specs.Writing.{MayAddPostings, MayAddRequests, MayAddReferences};
 ghost use Rattle.bank_transactions.specs.Writing.{by_change};
@@ -19,7 +21,10 @@ use message_records::{Branch, Cents};
 use posting_batch::{AccountSlot, BranchSlot, Overlay, TellerSlot};
 use posting_rules::{HistoryRow, ReferenceRow, RequestRow};
 use sqlite::{Alter, Transaction};
-use store_rows::{Holder, TableFault, add_history, add_reference, add_request};
+use store_rows::{
+    Holder, TableFault, add_eight_postings, add_eight_requests, add_history, add_reference,
+    add_request,
+};
 
 /// A change of one table: a slot with what it has changed, or a row that is new.
 trait Change {
@@ -35,6 +40,16 @@ trait Change {
 
     /// They may be made one after another, and come to the same.
     ghost in_turn: { InTurn made May };
+}
+
+/// A row that is new, one of many: eight are put in by one statement.
+trait NewRow: Change {
+    /// Puts eight in.
+    fn make_eight<S: Alter>(tx: &mut Transaction<'_, S>, rows: &[Self; 8]) -> Result<(), TableFault>
+        ensures { Does S.Store tx.old tx.new (Self.May rows.now) (Self.made rows.now) (λ _. tt) result };
+
+    /// They may be put in several at a time, and come to the same.
+    ghost in_parts: { InParts Self.made Self.May };
 }
 
 // Writes the balance that a holder's row is to have, where a posting changes it.
@@ -106,6 +121,17 @@ impl Change for HistoryRow {
     ghost in_turn = { postings_in_turn };
 }
 
+impl NewRow for HistoryRow {
+    fn make_eight<S: Alter>(
+        tx: &mut Transaction<'_, S>,
+        rows: &[HistoryRow; 8],
+    ) -> Result<(), TableFault> {
+        add_eight_postings(tx, rows)
+    }
+
+    ghost in_parts = { postings_in_parts };
+}
+
 impl Change for RequestRow {
     ghost made = { requests_put };
 
@@ -116,6 +142,17 @@ impl Change for RequestRow {
     }
 
     ghost in_turn = { requests_in_turn };
+}
+
+impl NewRow for RequestRow {
+    fn make_eight<S: Alter>(
+        tx: &mut Transaction<'_, S>,
+        rows: &[RequestRow; 8],
+    ) -> Result<(), TableFault> {
+        add_eight_requests(tx, rows)
+    }
+
+    ghost in_parts = { requests_in_parts };
 }
 
 impl Change for ReferenceRow {
@@ -143,6 +180,19 @@ fn make_all<S: Alter, C: Change>(
     Ok(())
 }
 
+// Puts rows in, eight by one statement, and the rest one by one.
+fn make_rows<S: Alter, R: NewRow>(tx: &mut Transaction<'_, S>, rows: &[R]) -> Result<(), TableFault>
+    requires { 8 * type_size R.row < 2 ^ 63 }
+    ensures { Does S.Store tx.old tx.new (R.May rows.now) (R.made rows.now) (λ _. tt) result }
+{
+    let mut left = rows;
+    while let Some((eight, rest)) = left.split_first_chunk::<8>() {
+        R::make_eight(tx, eight)?;
+        left = rest;
+    }
+    make_all(tx, left)
+}
+
 /// Writes what a batch has changed, each row once, and how many requests are decided.
 pub fn write<S: Alter>(tx: &mut Transaction<'_, S>, overlay: &Overlay) -> Result<(), TableFault>
     ensures { Does S.Store tx.old tx.new
@@ -153,8 +203,8 @@ pub fn write<S: Alter>(tx: &mut Transaction<'_, S>, overlay: &Overlay) -> Result
     make_all(tx, &overlay.accounts)?;
     make_all(tx, &overlay.tellers)?;
     make_all(tx, &overlay.branches)?;
-    make_all(tx, &overlay.history)?;
-    make_all(tx, &overlay.requests)?;
+    make_rows(tx, &overlay.history)?;
+    make_rows(tx, &overlay.requests)?;
     make_all(tx, &overlay.references)?;
     write_decided(tx, overlay.decided)
 }

@@ -44,6 +44,7 @@ ghost use Rattle.store_rows.specs.View.{Shows};
 ghost use Rattle.bank_transactions.specs.Doing.{Acts, Transacts};
 ghost use Rattle.bank_transactions.specs.Batches.{items_of, DecidesNone, WritesNothing, KeepsOnly};
 ghost use Rattle.bank_transactions.specs.Stored.{RepliesToAllStored};
+ghost use Rattle.bank_transactions.specs.Undone.{UndoesFaults};
 
 use crate::batch_changes::write;
 use crate::slots::fill;
@@ -103,6 +104,8 @@ pub fn post_all<S: Alter>(
     ensures stored { IfOk result (λ replies. HasCleanDisk (state S.Store conn.new)
         → (records : List (List ℕ)) → IsMadeOf batch records
         → RepliesToAllStored (state S.Store conn.old).now moment records replies.items) }
+    ensures undone { (records : List (List ℕ)) → IsMadeOf batch records
+        → UndoesFaults S.Store conn.old conn.new (items_of result) }
 {
     let mut tx = begin(conn);
     let replies = answer_batch(&mut tx, moment, batch);

@@ -8,6 +8,7 @@ ghost use Rattle.store_rows.specs.Columns.{branch_above};
 ghost use Rattle.bank_transactions.specs.Doing.{Consults, Reads};
 ghost use Rattle.bank_transactions.specs.Stored.{IsStoredNext, IsStoredRow};
 ghost use Rattle.bank_transactions.specs.NextBranch.{line_above};
+ghost use Rattle.bank_transactions.specs.Undone.{UndoesFaults};
 
 use crate::floors::floor_at;
 use crate::transactions::{begin, finish};
@@ -79,6 +80,7 @@ pub fn read_next_branch<S: Alter>(
         → IsStoredNext (state S.Store conn.old).now after next) }
     ensures still { OnOk result (HasCleanDisk (state S.Store conn.new)
         → (state S.Store conn.new).now ≡ (state S.Store conn.old).now) }
+    ensures undone { UndoesFaults S.Store conn.old conn.new result }
 {
     let mut tx = begin(conn);
     let next = branch_after(&mut tx, after);

@@ -9,6 +9,7 @@ ghost use Rattle.posting_rules.specs.LookUps.{account_balance_in, terms_in};
 ghost use Rattle.posting_rules.specs.Sound.{AreSound};
 ghost use Rattle.bank_transactions.specs.Doing.{Consults, Ends, Transacts};
 ghost use Rattle.bank_transactions.specs.Stored.{IsStoredBalance, OpensByStored, RepliesToStored};
+ghost use Rattle.bank_transactions.specs.Undone.{UndoesFaults};
 
 use crate::look_ups::open_balance;
 use crate::new_branch::open_inside;
@@ -72,7 +73,9 @@ pub fn finish<S: Alter, X: Drop>(
 /// - `TableFault::Sqlite`: a call of `sqlite` failed with this error. Nothing of the request is kept, unless
 ///   it was the commit that failed: then a stop may show later that it was.
 /// - `TableFault::Damaged`: the rows that were looked up break this rule, or a statement met that they do as
-///   it wrote. Everything is as it was, as long as the store is open.
+///   it wrote.
+///
+/// After each of them everything is as it was, as long as the store is open.
 pub fn post<S: Alter>(
     alloc: Global,
     conn: &mut Connection<S>,
@@ -85,6 +88,7 @@ pub fn post<S: Alter>(
     // Whatever rows the file holds.
     ensures stored { IfOk result (λ reply. HasCleanDisk (state S.Store conn.new)
         → RepliesToStored (state S.Store conn.old).now request.now reply) }
+    ensures undone { UndoesFaults S.Store conn.old conn.new result }
 {
     let mut tx = begin(conn);
     let reply = post_inside(alloc, &mut tx, moment, request);
@@ -113,6 +117,7 @@ pub fn open_branch<S: Alter>(
     ensures stored { IfOk result (λ opening. HasCleanDisk (state S.Store conn.new)
         → OpensByStored (state S.Store conn.old).now (state S.Store conn.new).now branch
         (opened_with count floor) opening) }
+    ensures undone { UndoesFaults S.Store conn.old conn.new result }
 {
     let mut tx = begin(conn);
     let opening = open_inside(&mut tx, branch, count, floor);
@@ -136,6 +141,7 @@ pub fn read_balance<S: Alter>(
         → IsStoredBalance (state S.Store conn.old).now account balance) }
     ensures still { OnOk result (HasCleanDisk (state S.Store conn.new)
         → (state S.Store conn.new).now ≡ (state S.Store conn.old).now) }
+    ensures undone { UndoesFaults S.Store conn.old conn.new result }
 {
     let mut tx = begin(conn);
     let balance = open_balance(&mut tx, account);

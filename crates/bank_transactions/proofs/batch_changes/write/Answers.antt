@@ -36,6 +36,25 @@ returns-in_err-make_all-3 g c =
     let s2 = step (tellers o) c.deref-2.ensures s1 c.in_ok-make_all-2.ensures in
     rw same (does_err (step (branches o) c.deref-3.ensures s2 c.in_err-make_all-3.ensures) (λ t so. so))
 
+pub returns-in_err-make_rows : goal.returns-in_err-make_rows
+returns-in_err-make_rows g c =
+    let o = view c.args.overlay.now in
+    let same : c.from_residual-in_err-make_rows.result ≡ Err c.in_err-make_rows.field-0.0 = search rules in
+    let s1 = step (accounts o) c.deref.ensures (does_none (search rules)) c.in_ok-make_all.ensures in
+    let s2 = step (tellers o) c.deref-2.ensures s1 c.in_ok-make_all-2.ensures in
+    let s3 = step (branches o) c.deref-3.ensures s2 c.in_ok-make_all-3.ensures in
+    rw same (does_err (step (postings o) c.deref-4.ensures s3 c.in_err-make_rows.ensures) (λ t so. so))
+
+pub returns-in_err-make_rows-2 : goal.returns-in_err-make_rows-2
+returns-in_err-make_rows-2 g c =
+    let o = view c.args.overlay.now in
+    let same : c.from_residual-in_err-make_rows-2.result ≡ Err c.in_err-make_rows-2.field-0.0 = search rules in
+    let s1 = step (accounts o) c.deref.ensures (does_none (search rules)) c.in_ok-make_all.ensures in
+    let s2 = step (tellers o) c.deref-2.ensures s1 c.in_ok-make_all-2.ensures in
+    let s3 = step (branches o) c.deref-3.ensures s2 c.in_ok-make_all-3.ensures in
+    let s4 = step (postings o) c.deref-4.ensures s3 c.in_ok-make_rows.ensures in
+    rw same (does_err (step (requests o) c.deref-5.ensures s4 c.in_err-make_rows-2.ensures) (λ t so. so))
+
 pub returns-in_err-make_all-4 : goal.returns-in_err-make_all-4
 returns-in_err-make_all-4 g c =
     let o = view c.args.overlay.now in
@@ -43,28 +62,9 @@ returns-in_err-make_all-4 g c =
     let s1 = step (accounts o) c.deref.ensures (does_none (search rules)) c.in_ok-make_all.ensures in
     let s2 = step (tellers o) c.deref-2.ensures s1 c.in_ok-make_all-2.ensures in
     let s3 = step (branches o) c.deref-3.ensures s2 c.in_ok-make_all-3.ensures in
-    rw same (does_err (step (postings o) c.deref-4.ensures s3 c.in_err-make_all-4.ensures) (λ t so. so))
-
-pub returns-in_err-make_all-5 : goal.returns-in_err-make_all-5
-returns-in_err-make_all-5 g c =
-    let o = view c.args.overlay.now in
-    let same : c.from_residual-in_err-make_all-5.result ≡ Err c.in_err-make_all-5.field-0.0 = search rules in
-    let s1 = step (accounts o) c.deref.ensures (does_none (search rules)) c.in_ok-make_all.ensures in
-    let s2 = step (tellers o) c.deref-2.ensures s1 c.in_ok-make_all-2.ensures in
-    let s3 = step (branches o) c.deref-3.ensures s2 c.in_ok-make_all-3.ensures in
-    let s4 = step (postings o) c.deref-4.ensures s3 c.in_ok-make_all-4.ensures in
-    rw same (does_err (step (requests o) c.deref-5.ensures s4 c.in_err-make_all-5.ensures) (λ t so. so))
-
-pub returns-in_err-make_all-6 : goal.returns-in_err-make_all-6
-returns-in_err-make_all-6 g c =
-    let o = view c.args.overlay.now in
-    let same : c.from_residual-in_err-make_all-6.result ≡ Err c.in_err-make_all-6.field-0.0 = search rules in
-    let s1 = step (accounts o) c.deref.ensures (does_none (search rules)) c.in_ok-make_all.ensures in
-    let s2 = step (tellers o) c.deref-2.ensures s1 c.in_ok-make_all-2.ensures in
-    let s3 = step (branches o) c.deref-3.ensures s2 c.in_ok-make_all-3.ensures in
-    let s4 = step (postings o) c.deref-4.ensures s3 c.in_ok-make_all-4.ensures in
-    let s5 = step (requests o) c.deref-5.ensures s4 c.in_ok-make_all-5.ensures in
-    rw same (does_err (step (references o) c.deref-6.ensures s5 c.in_err-make_all-6.ensures) (λ t so. so))
+    let s4 = step (postings o) c.deref-4.ensures s3 c.in_ok-make_rows.ensures in
+    let s5 = step (requests o) c.deref-5.ensures s4 c.in_ok-make_rows-2.ensures in
+    rw same (does_err (step (references o) c.deref-6.ensures s5 c.in_err-make_all-4.ensures) (λ t so. so))
 
 pub returns : goal.returns
 returns g c =
@@ -72,7 +72,7 @@ returns g c =
     let s1 = step (accounts o) c.deref.ensures (does_none (search rules)) c.in_ok-make_all.ensures in
     let s2 = step (tellers o) c.deref-2.ensures s1 c.in_ok-make_all-2.ensures in
     let s3 = step (branches o) c.deref-3.ensures s2 c.in_ok-make_all-3.ensures in
-    let s4 = step (postings o) c.deref-4.ensures s3 c.in_ok-make_all-4.ensures in
-    let s5 = step (requests o) c.deref-5.ensures s4 c.in_ok-make_all-5.ensures in
-    let s6 = step (references o) c.deref-6.ensures s5 c.in_ok-make_all-6.ensures in
+    let s4 = step (postings o) c.deref-4.ensures s3 c.in_ok-make_rows.ensures in
+    let s5 = step (requests o) c.deref-5.ensures s4 c.in_ok-make_rows-2.ensures in
+    let s6 = step (references o) c.deref-6.ensures s5 c.in_ok-make_all-4.ensures in
     does_for (does_then s6 c.write_decided.ensures (λ t so. tt)) (λ t so. (so, counted o.decided _, refl))

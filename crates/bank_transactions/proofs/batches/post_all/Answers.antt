@@ -4,6 +4,7 @@ use Rattle.posting_batch.specs.View.{IsMadeOf}
 use Rattle.bank_transactions.specs.Stored.{RepliesToAllStored}
 use Rattle.bank_transactions.proofs.HeldBatch.{stored_after}
 use Rattle.bank_transactions.proofs.Transacted.{of_given, transacts}
+use Rattle.bank_transactions.proofs.Undone.{undoes}
 use Rattle.bank_transactions.proofs.Idle.{ends_items, idle_after}
 use Rattle.bank_transactions.proofs.batches.post_all.Goals as goal
 
@@ -35,3 +36,9 @@ returns-clause-stored g c =
     c.answer_batch-replies.result c.finish.result c.begin-tx.ensures.begun c.finish.ensures
     (λ records made. let does = c.answer_batch-replies.ensures.says records made in search rules)
     c.answer_batch-replies.ensures.stored
+
+pub returns-clause-undone : goal.returns-clause-undone
+returns-clause-undone g c records made =
+    undoes g.S.Store c.args.conn.now c.begin-tx.result c.answer_batch-replies.new.tx c.finish.new.tx.0
+    c.conn-1.given.0 c.begin-tx.ensures.begun c.begin-tx.ensures.settled (c.answer_batch-replies.ensures.says records made)
+    (ends_items g.S.Store _ _ c.answer_batch-replies.result c.finish.result c.finish.ensures) (search rules)

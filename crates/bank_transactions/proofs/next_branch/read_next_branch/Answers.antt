@@ -1,6 +1,8 @@
 -- The transaction has one part, which reads.
 use Rattle.std.proofs.Common.{rules}
+use Rattle.bank_transactions.specs.NextBranch.{line_above}
 use Rattle.bank_transactions.proofs.Transacted.{consults, of_given}
+use Rattle.bank_transactions.proofs.Undone.{undoes_reads}
 use Rattle.bank_transactions.proofs.next_branch.read_next_branch.Goals as goal
 
 pub returns-clause-says : goal.returns-clause-says
@@ -13,3 +15,8 @@ pub returns-clause-within : goal.returns-clause-within
 returns-clause-within g c =
     of_given _ c.branch_after-next.result c.finish.result c.finish.ensures.given
     c.branch_after-next.ensures.within
+
+pub returns-clause-undone : goal.returns-clause-undone
+returns-clause-undone g c =
+    undoes_reads g.S.Store (λ tables. line_above tables c.args.after) c.args.conn.now c.begin-tx.result c.branch_after-next.new.tx c.finish.new.tx.0
+    c.conn-1.given.0 c.begin-tx.ensures.begun c.begin-tx.ensures.settled c.branch_after-next.ensures.says c.finish.ensures (search rules)

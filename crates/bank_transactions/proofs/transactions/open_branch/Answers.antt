@@ -1,6 +1,7 @@
 -- The parts of the transaction are one, which reads and then writes.
 use Rattle.std.proofs.Common.{rules}
 use Rattle.bank_transactions.proofs.Transacted.{transacts}
+use Rattle.bank_transactions.proofs.Undone.{undoes}
 use Rattle.bank_transactions.specs.Stored.{OpensByStored}
 use Rattle.posting_rules.specs.Commands.{opened_with}
 use Rattle.bank_transactions.proofs.Left.{opens_after}
@@ -20,3 +21,8 @@ returns-clause-stored g c =
     c.conn-1.given.0 c.open_inside-opening.result c.finish.result c.begin-tx.ensures.begun c.finish.ensures
     (let does = c.open_inside-opening.ensures.acts in search rules)
     c.open_inside-opening.ensures.stored
+
+pub returns-clause-undone : goal.returns-clause-undone
+returns-clause-undone g c =
+    undoes g.S.Store c.args.conn.now c.begin-tx.result c.open_inside-opening.new.tx c.finish.new.tx.0
+    c.conn-1.given.0 c.begin-tx.ensures.begun c.begin-tx.ensures.settled c.open_inside-opening.ensures.acts c.finish.ensures (search rules)

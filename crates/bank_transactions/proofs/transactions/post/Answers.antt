@@ -1,6 +1,7 @@
 -- The parts of the transaction are one, which reads and then writes.
 use Rattle.std.proofs.Common.{rules}
 use Rattle.bank_transactions.proofs.Transacted.{transacts}
+use Rattle.bank_transactions.proofs.Undone.{undoes}
 use Rattle.bank_transactions.proofs.transactions.post.Goals as goal
 
 pub returns-clause-transacts : goal.returns-clause-transacts
@@ -8,3 +9,8 @@ returns-clause-transacts g c =
     transacts g.S.Store c.args.conn.now c.begin-tx.result c.post_inside-reply.new.tx c.finish.new.tx.0 _
     c.begin-tx.ensures.begun
     c.begin-tx.ensures.settled c.post_inside-reply.ensures.acts c.finish.ensures (search rules)
+
+pub returns-clause-undone : goal.returns-clause-undone
+returns-clause-undone g c =
+    undoes g.S.Store c.args.conn.now c.begin-tx.result c.post_inside-reply.new.tx c.finish.new.tx.0
+    c.conn-1.given.0 c.begin-tx.ensures.begun c.begin-tx.ensures.settled c.post_inside-reply.ensures.acts c.finish.ensures (search rules)

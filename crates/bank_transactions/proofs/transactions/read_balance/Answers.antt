@@ -1,6 +1,8 @@
 -- The transaction has one part, which reads.
 use Rattle.std.proofs.Common.{rules}
+use Rattle.posting_rules.specs.LookUps.{account_balance_in}
 use Rattle.bank_transactions.proofs.Transacted.{consults}
+use Rattle.bank_transactions.proofs.Undone.{undoes_reads}
 use Rattle.bank_transactions.proofs.transactions.read_balance.Goals as goal
 
 pub returns-clause-says : goal.returns-clause-says
@@ -8,3 +10,8 @@ returns-clause-says g c =
     consults g.S.Store c.args.conn.now c.begin-tx.result c.open_balance-balance.new.tx c.finish.new.tx.0 _
     c.begin-tx.ensures.begun
     c.begin-tx.ensures.settled c.open_balance-balance.ensures.says c.finish.ensures (search rules)
+
+pub returns-clause-undone : goal.returns-clause-undone
+returns-clause-undone g c =
+    undoes_reads g.S.Store (λ tables. account_balance_in tables c.args.account) c.args.conn.now c.begin-tx.result c.open_balance-balance.new.tx c.finish.new.tx.0
+    c.conn-1.given.0 c.begin-tx.ensures.begun c.begin-tx.ensures.settled c.open_balance-balance.ensures.says c.finish.ensures (search rules)

@@ -1,0 +1,10 @@
+-- The rows before those that are left are put in.
+use Rattle.std.proofs.Common.{length}
+use Rattle.bank_transactions.proofs.Loops.{Stands}
+use Rattle.bank_transactions.proofs.batch_changes.make_rows.Given as goal
+
+abbrev pub invariant-loop-eight : goal.invariant-loop-eight
+invariant-loop-eight g l = Stands g.S.Store l.fn.tx l.tx g.R.Change.made g.R.Change.May l.fn.rows l.left
+
+abbrev pub decreases-loop-eight : goal.decreases-loop-eight
+decreases-loop-eight g l = length l.left
