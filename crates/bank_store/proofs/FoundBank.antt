@@ -1,5 +1,5 @@
 -- What is found of a bank, and that nothing is missed where a log is shown.
-use Rattle.std.proofs.Common.{◌≡◌, ◌≤◌, ℕ, ℤ, pos, List, [], ◌∷◌, length, map, Option, Some, None, Ok, Err}
+use Rattle.std.proofs.Common.{◌≡◌, ◌≤◌, ℕ, ℤ, pos, List, [], ◌∷◌, map, Option, Some, None, Ok, Err}
 use Rattle.std.proofs.Common.{Result, refl, sym, ap, subst, ◌∙◌, inl, inr, arith}
 use Rattle.std.specs.Prelude.{◌⊎◌, ◌≢◌, ◌<ℤ◌}
 use Rattle.std.proofs.lemmas.Int.{ints}
@@ -15,7 +15,7 @@ use Rattle.posting_rules.specs.declared.fault.Rule.TheVariants.{Meta, Teller, Ac
 use Rattle.posting_rules.specs.declared.fault.Rule.TheVariants.{Value, Key, Floor, Reference}
 use Rattle.posting_rules.proofs.Undamaged.{undamaged}
 use Rattle.sql_meanings.proofs.Contents.{each_defined}
-use Rattle.sql_meanings.specs.Entries.{Entry, HasWidth}
+use Rattle.sql_meanings.specs.Entries.{Entry}
 use Rattle.store_rows.specs.Columns.{meta_in}
 use Rattle.store_rows.specs.Probes.{all_probes, probe_of}
 use Rattle.store_rows.specs.declared.probes.BankTable.TheVariants as table
@@ -25,8 +25,9 @@ use Rattle.store_rows.specs.Statements.{HasOtherValue}
 use Rattle.store_rows.specs.View.{HoldsRows, Shows, contents, meta_entry}
 use Rattle.store_rows.specs.declared.metas.StoredMeta.{StoredMeta}
 use Rattle.bank_store.specs.Connections.{IsAsBefore, IsReadOnly}
-use Rattle.bank_store.specs.FoundBank.{HasNoOtherVersion, MetaIs, Misses, SeeksBank}
+use Rattle.bank_store.specs.FoundBank.{HasNoOtherVersion, MetaIs, Misses, SeeksBank, SeeksTables, TablesAreFound}
 use Rattle.bank_store.specs.MetaRow.{IsOurs, IsOfVersion, IsNoCount, ChecksMeta, TellsMeta, IsOfOtherType}
+use Rattle.bank_store.specs.MetaRow.{ChecksOnly, HasOnlyRow, LacksOnlyRow}
 use Rattle.bank_store.specs.OpenFaults.{RowIsUnread}
 use Rattle.bank_store.specs.TablePresence.{Lacks, IsPresent, IsReadable}
 use Rattle.bank_store.specs.declared.presence.Presence.{Presence}
@@ -34,9 +35,9 @@ use Rattle.bank_store.specs.declared.presence.Presence.TheVariants.{Absent, Part
 use Rattle.posting_rules.specs.declared.open_fault.OpenFault.{OpenFault}
 use Rattle.posting_rules.specs.declared.open_fault.OpenFault.TheVariants.{Store, NotBlank, Blank, Foreign, Version}
 use Rattle.posting_rules.specs.declared.open_fault.OpenFault.TheVariants.{Damaged}
-use Rattle.store_rows.proofs.Checked.{one_at_most}
 use Rattle.store_rows.proofs.MetaRow.{has_one}
 use Rattle.store_rows.specs.declared.metas.TheConstants.{VERSION}
+use Rattle.walked_rows.proofs.Shown.{has_meta}
 use Rattle.bank_store.proofs.MetaRow.{other_version}
 use Rattle.bank_store.proofs.Probed.{as_before}
 use Rattle.posting_rules.specs.declared.limits.TheConstants.{MAX_DECIDED}
@@ -50,42 +51,6 @@ version_in (Some m) = m.version
 abbrev pub decided_in : Option StoredMeta → ℤ
 decided_in None = pos 0
 decided_in (Some m) = m.decided
-
-two_are : (a b : ℤ) (d : ℕ) → a ≡ VERSION → b ≡ pos d
-    → (let it : Entry = record { key = pos 1; values = a ∷ b ∷ []; texts = [] } in it) ≡ meta_entry VERSION d
-two_are a b d version decided = rw (version, decided) refl
-
-whole_row : (values : List ℤ) (texts : List (List ℕ)) (d : ℕ) → length values ≡ 2 → length texts ≡ 0
-    → meta_in (record { key = pos 1; values = values; texts = texts } ∷ [])
-    ≡ Some (record { version = VERSION; decided = pos d })
-    → (let it : Entry = record { key = pos 1; values = values; texts = texts } in it) ≡ meta_entry VERSION d
-whole_row [] texts d wide none told = absurd (omega arith)
-whole_row (a ∷ []) texts d wide none told = absurd (omega arith)
-whole_row (a ∷ b ∷ []) [] d wide none told = two_are a b d (ap version_in told) (ap decided_in told)
-whole_row (a ∷ b ∷ []) (t ∷ texts) d wide none told = absurd (omega arith)
-whole_row (a ∷ b ∷ c ∷ more) texts d wide none told = absurd (omega arith)
-
-one_row : (e : Entry) (d : ℕ) → e.key ≡ pos 1 → HasWidth (2, 0) e
-    → meta_in (e ∷ []) ≡ Some (record { version = VERSION; decided = pos d }) → e ≡ meta_entry VERSION d
-one_row e d is wide told =
-    ap (λ (k : ℤ). let it : Entry = record e { key = k } in it) is
-    ∙ whole_row e.values e.texts d wide.0 wide.1 (subst
-    (λ (k : ℤ). meta_in (record e { key = k } ∷ []) ≡ Some (record { version = VERSION; decided = pos d })) is
-    told)
-
--- where it is ours, it is the one row of `meta`
-one_of_ours : (db : Database) (rows : List Entry) → HoldsRows db bank.meta rows → IsOurs (meta_in rows)
-    → (decided : ℕ) × (rows ≡ meta_entry VERSION decided ∷ []) × (decided ≤ MAX_DECIDED)
-one_of_ours db rows has ours = elim (one_at_most db rows has) [
-  | inl none ↦ absurd (let told = rw none at ours.1 in cc)
-  | inr one ↦
-      let e = one.0 in
-      let wide : HasWidth (2, 0) e = (subst (HoldsRows db bank.meta) one.1 has).holds.rows.wide.0 in
-      let told =
-      subst (λ (rs : List Entry). meta_in rs ≡ Some (record { version = VERSION; decided = pos ours.0 }))
-      one.1 ours.1 in
-      (ours.0, one.1 ∙ ap (λ (r : Entry). r ∷ []) (one_row e ours.0 one.2 wide told), ours.2)
-]
 
 -- the row wasn't read: `Missed` says why there is no bank
 module _ (old mid new : State) (first : IsAsBefore old mid) (Missed : OpenFault → Type 0) (at_store : Missed Store)
@@ -123,19 +88,14 @@ module _ (old mid new : State) (stored : Option StoredMeta) (tables : IsPresent 
   same : IsAsBefore old new
   same = as_before old mid new first then
 
-  pub looked : (r : Result (Unit {0}) OpenFault) → ChecksMeta stored r → SeeksBank old new r
-  looked (Ok done) checks = record {
-    tables = tables;
-    meta = row_is IsOurs checks;
-    one = λ rows has. one_of_ours old.now rows has (row_is IsOurs checks rows has);
-    same = same;
-  }
+  pub looked : (r : Result (Unit {0}) OpenFault) → ChecksMeta stored r → SeeksTables old new r
+  looked (Ok done) checks = record { tables = tables; meta = row_is IsOurs checks; same = same }
   looked (Err Store) checks = absurd checks
   looked (Err NotBlank) checks = absurd checks
   looked (Err Blank) checks = absurd checks
   looked (Err Foreign) checks = absurd checks
   looked (Err (Version n)) checks = ((tables.0, row_is (IsOfVersion n) checks), same)
-  looked (Err (Damaged Meta)) checks = ((tables, row_is IsNoCount checks), same)
+  looked (Err (Damaged Meta)) checks = ((tables, inl (row_is IsNoCount checks)), same)
   looked (Err (Damaged Teller)) checks = absurd checks
   looked (Err (Damaged Account)) checks = absurd checks
   looked (Err (Damaged Balance)) checks = absurd checks
@@ -144,6 +104,22 @@ module _ (old mid new : State) (stored : Option StoredMeta) (tables : IsPresent 
   looked (Err (Damaged Key)) checks = absurd checks
   looked (Err (Damaged Floor)) checks = absurd checks
   looked (Err (Damaged Reference)) checks = absurd checks
+
+-- what was found of the tables, and whether the row of the bank is the only one
+module _ (old mid new : State) (there : TablesAreFound old mid) where
+  pub only_checked : (r : Result (Unit {0}) OpenFault) → ChecksOnly VERSION mid new r → SeeksBank old new r
+  only_checked (Ok done) (one, same) = record {
+    there = record { tables = there.tables; meta = there.meta; same = as_before old mid new there.same same };
+    one = subst (HasOnlyRow VERSION) there.same.now_is one;
+  }
+  only_checked (Err fault) (inl (is, undone)) =
+      subst (λ (f : OpenFault). SeeksBank old new (Err f)) (sym is)
+      (tt, λ still. as_before old mid new there.same (undone still))
+  only_checked (Err fault) (inr (is, lacks, same)) =
+      subst (λ (f : OpenFault). SeeksBank old new (Err f)) (sym is) (
+        (there.tables, inr (there.meta, subst (LacksOnlyRow VERSION) there.same.now_is lacks)),
+        as_before old mid new there.same same,
+      )
 
 -- ---- the version comes first
 
@@ -171,7 +147,13 @@ module _ (old mid : State) (same : IsAsBefore old mid) where
     subst (λ (db : Database). IsReadable db (probe_of table.Meta)) same.now_is misses.0,
     meta_at (IsOfVersion n) misses.1,
   )
-  misses_at (Damaged Meta) misses = (present_at Whole misses.0, meta_at IsNoCount misses.1)
+  misses_at (Damaged Meta) misses = (
+    present_at Whole misses.0,
+    elim misses.1 [
+      | inl none ↦ inl (meta_at IsNoCount none)
+      | inr (ours, lacks) ↦ inr (meta_at IsOurs ours, subst (LacksOnlyRow VERSION) same.now_is lacks)
+    ],
+  )
   misses_at (Damaged Teller) misses = absurd misses
   misses_at (Damaged Account) misses = absurd misses
   misses_at (Damaged Balance) misses = absurd misses
@@ -195,14 +177,15 @@ module _ (old mid : State) (same : IsAsBefore old mid) where
   reads_at new (Damaged rule) reads = as_before old mid new same reads
 
   -- what is found then was there before
-  pub seeks_at : (new : State) (r : Result (Unit {0}) OpenFault) → SeeksBank mid new r → SeeksBank old new r
-  seeks_at new (Ok done) found = record {
+  pub found_at : (new : State) → TablesAreFound mid new → TablesAreFound old new
+  found_at new found = record {
     tables = present_at Whole found.tables;
     meta = meta_at IsOurs found.meta;
-    one = λ rows has. found.one rows (subst (λ (db : Database). HoldsRows db bank.meta rows) (sym same.now_is) has);
     same = as_before old mid new same found.same;
   }
-  seeks_at new (Err fault) missed = (misses_at fault missed.0, reads_at new fault missed.1)
+
+  pub missed_at : (new : State) (fault : OpenFault) → SeeksTables mid new (Err fault) → SeeksBank old new (Err fault)
+  missed_at new fault missed = (misses_at fault missed.0, reads_at new fault missed.1)
 
 -- the row of `meta` has another version
 pub other_read : (old mid new : State) (m : StoredMeta) (version : ℤ) → IsReadable old.now (probe_of table.Meta)
@@ -267,8 +250,13 @@ known old (Version n) t log misses shows are log_shown =
     absurd (not_other _ n (holds t (undamaged t log are log_shown))
     (misses.1 (meta_entry VERSION t.decided ∷ []) (has_one old.now t shows)))
 known old (Damaged Meta) t log misses shows are log_shown =
-    absurd (not_missing _ (holds t (undamaged t log are log_shown))
-    (misses.1 (meta_entry VERSION t.decided ∷ []) (has_one old.now t shows)))
+    let sound = undamaged t log are log_shown in
+    let rows = meta_entry VERSION t.decided ∷ [] in
+    elim misses.1 [
+      | inl none ↦ absurd (not_missing _ (holds t sound) (none rows (has_one old.now t shows)))
+      | inr (ours, lacks) ↦ absurd (lacks bank.meta.checks rows (has_meta old.now t shows)
+          (t.decided, refl, sound.decided))
+    ]
 known old (Damaged Teller) t log misses shows are log_shown = absurd misses
 known old (Damaged Account) t log misses shows are log_shown = absurd misses
 known old (Damaged Balance) t log misses shows are log_shown = absurd misses

@@ -33,8 +33,11 @@ use Rattle.store_rows.specs.declared.probes.BankTable.TheVariants as table
 use Rattle.store_rows.proofs.Lacking.{lacking_refused}
 use Rattle.bank_store.specs.Connections.{IsAsBefore, IsReadOnly}
 use Rattle.bank_store.specs.FoundBank.{BankIsFound, MetaIs, Misses}
-use Rattle.bank_store.specs.MetaRow.{ChecksCount, IsNoCount, IsOfVersion, IsOurs}
-use Rattle.bank_store.specs.Migration.{BankIsMoved, HasEarlier, IsCounted, IsFrom, IsOfEarlier, IsUnmoved, Migrates}
+use Rattle.walked_rows.specs.Rows.{HasStoredRows}
+use Rattle.bank_store.specs.MetaRow.{ChecksCount, ChecksOnly, HasOnlyRow, IsNoCount, IsOfVersion, IsOurs}
+use Rattle.bank_store.specs.MetaRow.{LacksOnlyRow}
+use Rattle.bank_store.specs.Migration.{BankIsMoved, HasEarlier, HasEarlierTables, IsCounted, IsFrom, IsOfEarlier}
+use Rattle.bank_store.specs.Migration.{IsUnmoved, Migrates}
 use Rattle.bank_store.specs.Migration.{Misplaces, MissesEarlier, TellsNoEarlier}
 use Rattle.bank_store.specs.Migration.{IsUncounted, MovesFound, SeeksEarlier, ShowsEarlier, earlier_probes}
 use Rattle.bank_store.specs.declared.migration.Migrated.TheVariants.{Moved}
@@ -83,7 +86,25 @@ module _ (from : ℕ) (old mid new : State) (tables : IsPresent old.now (earlier
   )
   counted m read (Err fault) (is, outside) =
       subst (λ (f : OpenFault). SeeksEarlier from old new (Err f)) (sym is)
-      ((tables, row_is (Some m) read IsUncounted (inr (m, refl, outside))), as_before old mid new first then)
+      ((tables, inl (row_is (Some m) read IsUncounted (inr (m, refl, outside)))), as_before old mid new first then)
+
+-- the row of the bank isn't the only one, or that isn't known
+pub not_only : (from : ℕ) (old mid new : State) → HasEarlierTables from old.now → IsAsBefore old mid
+    → (fault : OpenFault) → ChecksOnly (pos from) mid new (Err fault) → MovesFound from old new (Err fault)
+not_only from old mid new there first fault (inl (is, undone)) =
+    subst (λ (f : OpenFault). MovesFound from old new (Err f)) (sym is)
+    (inl tt, λ still. as_before old mid new first (undone still))
+not_only from old mid new there first fault (inr (is, lacks, same)) =
+    subst (λ (f : OpenFault). MovesFound from old new (Err f)) (sym is) (
+      inl (there.tables, inr (subst (LacksOnlyRow (pos from)) first.now_is lacks)),
+      as_before old mid new first same,
+    )
+
+-- it is
+pub with_only : (from : ℕ) (old mid : State) → HasEarlierTables from old.now → IsAsBefore old mid
+    → HasOnlyRow (pos from) mid.now → HasEarlier from old.now
+with_only from old mid there first one =
+    record { there = there; one = subst (HasOnlyRow (pos from)) first.now_is one }
 
 -- ---- and moved
 
@@ -171,6 +192,9 @@ module _ (from : ℕ) (db : Database) (log : List Command) (it : ShowsEarlier fr
       lacks_none (probe_of table.Meta)
       (subst (λ probes. Has probes (probe_of table.Meta)) (meta_first from) (inl refl))
 
+  has_stored : HasStoredRows db bank.meta rows
+  has_stored = record { sound = it.are.sound; holds = has_row.holds; least = (refl, tt) }
+
 module _ (from : ℕ) (old : State) (log : List Command) (it : ShowsEarlier from old.now log) where
   abbrev row : List Entry
   row = rows from old.now log it
@@ -191,7 +215,7 @@ module _ (from : ℕ) (old : State) (log : List Command) (it : ShowsEarlier from
       sym (ap nat_abs (ap version_in (one_row (IsOfVersion (pos other)) was.1.1).1))
 
   pub not_found : (new : State) → BankIsFound old new → ⊥
-  not_found new found = is_one.2 (ap version_in (one_row IsOurs found.meta).1)
+  not_found new found = is_one.2 (ap version_in (one_row IsOurs found.there.meta).1)
 
   -- as one of this version it is missed for its version
   missed_as : (fault : OpenFault) → Misses old fault → TellsNoEarlier fault → fault ≡ Store
@@ -201,9 +225,12 @@ module _ (from : ℕ) (old : State) (log : List Command) (it : ShowsEarlier from
   missed_as Foreign misses other = absurd (misses.1 (pos from) row (has_row from old.now log it) is_one)
   missed_as (Version n) misses other =
       absurd (other from it.earlier (ap Version (sym (ap version_in (one_row (IsOfVersion n) misses.1).1))))
-  missed_as (Damaged Meta) misses other = elim (one_row IsNoCount misses.1) [
-    | inl none ↦ absurd (cc)
-    | inr outside ↦ absurd (is_one.2 (ap version_in outside.1))
+  missed_as (Damaged Meta) misses other = elim misses.1 [
+    | inl uncounted ↦ elim (one_row IsNoCount uncounted) [
+      | inl none ↦ absurd (cc)
+      | inr outside ↦ absurd (is_one.2 (ap version_in outside.1))
+    ]
+    | inr (ours, lacks) ↦ absurd (is_one.2 (ap version_in (one_row IsOurs ours).1))
   ]
   missed_as (Damaged Teller) misses other = absurd misses
   missed_as (Damaged Account) misses other = absurd misses
@@ -224,10 +251,14 @@ module _ (from : ℕ) (old : State) (log : List Command) (it : ShowsEarlier from
   not_missed Blank misses = absurd misses
   not_missed Foreign misses = absurd (lacks_none from old.now log it misses.0 misses.1 misses.2)
   not_missed (Version n) misses = absurd misses
-  not_missed (Damaged Meta) misses = elim (one_row IsUncounted misses.1) [
-    | inl none ↦ absurd (cc)
-    | inr outside ↦ absurd (not_outside outside.0.decided it.tables.decided MAX_DECIDED
-        (sym (ap decided_in outside.1)) within outside.2)
+  not_missed (Damaged Meta) misses = elim misses.1 [
+    | inl uncounted ↦ elim (one_row IsUncounted uncounted) [
+      | inl none ↦ absurd (cc)
+      | inr outside ↦ absurd (not_outside outside.0.decided it.tables.decided MAX_DECIDED
+          (sym (ap decided_in outside.1)) within outside.2)
+    ]
+    | inr lacks ↦ absurd (lacks bank.meta.checks row (has_stored from old.now log it)
+        (it.tables.decided, refl, within))
   ]
   not_missed (Damaged Teller) misses = absurd misses
   not_missed (Damaged Account) misses = absurd misses

@@ -10,6 +10,7 @@ pub mod MetaRow
 pub mod Refusing
 pub mod Moved
 pub mod NewBank
+pub mod OnlyRow
 pub mod Opened
 pub mod OtherTables
 pub mod Settled

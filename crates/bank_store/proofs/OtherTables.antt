@@ -1,51 +1,64 @@
 -- What a call leaves of the tables of other products.
-use Rattle.std.proofs.Common.{Result, Ok, Err, refl, arith, inl}
-use Rattle.sqlite.specs.State.{State, Survives}
+use Rattle.std.proofs.Common.{◌∙◌, Bool, true, false, Option, Ok, Err, refl, arith, inl, inr}
+use Rattle.std.specs.Prelude.{IsSome}
+use Rattle.sqlite.specs.State.{State, HasCleanDisk, Survives}
 use Rattle.sqlite.specs.Held.{Held, state}
-use Rattle.sqlite.specs.Tree.{Trees}
+use Rattle.sqlite.specs.Table.{Table}
 use Rattle.sqlite.proofs.StateLemmas.{survives_then}
 use Rattle.sqlite_trees.specs.declared.store.Store.{Ghosts}
 use Rattle.posting_rules.specs.declared.fault.Fault.{Fault}
-use Rattle.sql_meanings.proofs.Sparing.{spares_itself}
-use Rattle.std.specs.Prelude.{OnOk}
-use Rattle.store_rows.specs.Sparing.{SparesOthers, bank_names}
+use Rattle.sql_meanings.specs.StatementAnswers.{TellsProbe}
+use Rattle.sql_meanings.proofs.Sparing.{spares_same}
+use Rattle.store_rows.specs.Sparing.{bank_names}
 use Rattle.store_rows.specs.declared.fault.TableFault.{TableFault}
+use Rattle.store_rows.specs.declared.fault.TableFault.TheVariants.{Sqlite, Damaged}
 use Rattle.bank_transactions.specs.Doing.{LeavesOthers, SparesTheirs}
-use Rattle.bank_store.specs.Down.{SparesOtherTables}
-use Rattle.bank_store.specs.Seen.{connection_of, database_of}
+use Rattle.bank_transactions.specs.Undone.{UndoesFaults}
+use Rattle.bank_store.specs.Connections.{IsAsBefore}
+use Rattle.bank_store.specs.Down.{GoesDown}
+use Rattle.bank_store.specs.Seen.{bank_seen, connection_of, database_of, fault_of, file_of}
+use Rattle.bank_store.specs.Sparing.{SparesOtherTables}
+use Rattle.bank_store.specs.Walks.{IsUntouchedIfOpen}
 use Rattle.bank_store.specs.declared.bank.Bank.{Bank}
-
--- nothing was done
-survives_itself : (s : State) (P : Trees → Type 0) → Survives s s P
-survives_itself s P = record {
-  clean = omega arith;
-  shield = λ h. h;
-  counts = omega arith;
-  limit = refl;
-  closes = λ clean was. inl was;
-  crash = λ clean left may. inl may;
-}
+use Rattle.bank_store.specs.SparedTables.{spared_itself}
 
 -- a call that tried nothing, or read nothing of the file
-pub spares_untouched : {S X : Type 0} (g : Ghosts S) (bank : Bank S g) (result : Result X Fault)
-    → SparesOtherTables g bank bank result
-spares_untouched {S} {X} g bank result = record {
-  now = λ clean. same result;
-  left = survives_itself (state g (connection_of bank)) (LeavesOthers (database_of g bank));
-}
-  where
-    same : (r : Result X Fault) → OnOk r (SparesOthers (database_of g bank) (database_of g bank))
-    same (Ok x) = spares_itself bank_names (database_of g bank)
-    same (Err e) = tt
+pub spares_untouched : {S : Type 0} (g : Ghosts S) (bank : Bank S g) → SparesOtherTables g bank bank
+spares_untouched g bank = spared_itself (λ b. (bank_seen g b).is_down) file_of bank
+
+-- a call that was answered
+pub spares_done : {S X : Type 0} (g : Ghosts S) (old new : Bank S g) (x : X) → ((bank_seen g old).is_down → ⊥)
+    → SparesTheirs g (connection_of old) (connection_of new) (Ok x) → SparesOtherTables g old new
+spares_done g old new x up spares =
+    record { untried = λ down. absurd (up down); now = λ clean shown. spares.now clean; left = spares.left }
+
+-- a bank that goes down keeps what brought it down
+kept_down : (old new : State) (e : TableFault) (kept : Option TableFault) (told : Fault)
+    → GoesDown old new e kept told → IsSome kept
+kept_down old new (Sqlite e) kept told went = rw went.0 refl
+kept_down old new (Damaged rule) kept told (inl went) = rw went.0 refl
+kept_down old new (Damaged rule) kept told (inr went) = rw went.1.1 refl
 
 -- a call that a fault brought down
-pub spares_down : {S X Y : Type 0} (g : Ghosts S) (old new : Bank S g) (mid : Held S) (r : Result X TableFault)
-    (told : Fault) → SparesTheirs g (connection_of old) mid r
-    → Survives (state g mid) (state g (connection_of new)) (λ _. ⊥)
-    → SparesOtherTables {X = Y} g old new (Err told)
-spares_down g old new mid r told spares quiet = record {
-  now = λ clean. tt;
-  left = survives_then (state g (connection_of old)) (state g mid) (state g (connection_of new))
+pub spares_down : {S X : Type 0} (g : Ghosts S) (old new : Bank S g) (mid : Held S) (e : TableFault) (told : Fault)
+    → ((bank_seen g old).is_down → ⊥) → SparesTheirs {X = X} g (connection_of old) mid (Err e)
+    → UndoesFaults {X = X} g (connection_of old) mid (Err e)
+    → GoesDown (state g mid) (file_of new) e (fault_of new) told
+    → (HasCleanDisk (file_of new) → IsUntouchedIfOpen (state g mid) (file_of new))
+    → Survives (state g mid) (file_of new) (λ _. ⊥) → SparesOtherTables g old new
+spares_down g old new mid e told up spares undone went quiet none = record {
+  untried = λ down. absurd (up down);
+  now = λ clean shown.
+      let same = quiet clean (shown (kept_down (state g mid) (file_of new) e (fault_of new) told went)) in
+      spares_same bank_names (database_of g old) (database_of g new)
+      (same.now_is ∙ (undone (omega (arith, none.clean, clean)) same.was_open).1);
+  left = survives_then (file_of old) (state g mid) (file_of new)
       (LeavesOthers (database_of g old)) (λ _. ⊥) (LeavesOthers (database_of g old))
-      (λ clean db h. h) (λ clean db none. absurd none) spares.left quiet;
+      (λ clean db h. h) (λ clean db left. absurd left) spares.left none;
 }
+
+-- a probe that was answered changed nothing
+pub probe_unchanged : (old new : State) (table : Table) (there : Bool) → TellsProbe old new table (Ok there)
+    → IsAsBefore old new
+probe_unchanged old new table true told = told.1.0
+probe_unchanged old new table false told = told.1.0

@@ -40,9 +40,11 @@ pub taken_up : {S : Type 0} (g : Ghosts S) (conn : Held S) (bank : Bank S g) (Mo
     → ((bank_seen g bank).is_down → ⊥) → IsTakenUp g conn bank
 taken_up g conn bank More found survives no_more up = record {
   found = found;
-  shows = λ clean log. still_shown (state g conn) (file_of bank) ⊥ (bank_seen g bank).is_down log (found clean).same;
+  shows = λ clean log.
+      still_shown (state g conn) (file_of bank) ⊥ (bank_seen g bank).is_down log (found clean).there.same;
   stands = λ clean log at. record {
-    shows = still_shown (state g conn) (file_of bank) ⊥ (bank_seen g bank).is_down log (found clean).same at.shows;
+    shows =
+        still_shown (state g conn) (file_of bank) ⊥ (bank_seen g bank).is_down log (found clean).there.same at.shows;
     up = up;
     survives = still_left (state g conn) (file_of bank) ⊥ (bank_seen g bank).is_down More _ survives
         (no_more log at.shows) clean at.survives;

@@ -1,6 +1,6 @@
 -- How a bank goes down, the error that it keeps, and what every call of it promises.
-use Rattle.std.specs.Prelude.{◌≡◌, ◌⊎◌, List, Option, Some, None, IsSome, OnOk, Result, ⊤}
-use Rattle.sqlite.specs.State.{State, Fails, HasCleanDisk, IsUnchanged, Survives}
+use Rattle.std.specs.Prelude.{◌≡◌, ◌⊎◌, List, Option, Some, None, IsSome, Result, ⊤}
+use Rattle.sqlite.specs.State.{State, Fails, HasCleanDisk, IsUnchanged}
 use Rattle.sqlite.specs.declared.error.Error.{Error}
 use Rattle.sqlite_trees.specs.declared.store.Store.{Ghosts}
 use Rattle.posting_rules.specs.Commands.{Command}
@@ -11,9 +11,7 @@ use Rattle.posting_rules.specs.declared.fault.Rule.{Rule}
 use Rattle.store_rows.specs.declared.fault.TableFault.{TableFault}
 use Rattle.store_rows.specs.declared.fault.TableFault.TheVariants.{Sqlite, Damaged}
 use Rattle.store_rows.specs.Rules.{IsBroken}
-use Rattle.store_rows.specs.Sparing.{SparesOthers}
 use Rattle.bank_transactions.specs.Causes.{HasFailedBetween, IsBrokenOrMet}
-use Rattle.bank_transactions.specs.Doing.{LeavesOthers}
 use Rattle.bank_store.specs.Seen.{bank_seen, cause_of, connection_of, database_of, file_of}
 use Rattle.bank_store.specs.declared.bank.Bank.{Bank}
 
@@ -68,13 +66,6 @@ abbrev pub IsBankCall : {S X : Type 0} (g : Ghosts S) → Bank S g → Bank S g 
     → Type 0
 IsBankCall g old new commands result =
     IsCounterCall (bank_seen g) (database_of g) (bank_reason g) old new commands result
-
--- What a call that writes leaves of the tables of other products, whatever rows the file holds: after `Ok` they
--- are as they were, and a stop leaves what it could leave before, or them as they were.
-pub record SparesOtherTables {S X : Type 0} (g : Ghosts S) (old new : Bank S g) (result : Result X Fault)
-    : Type 0 where
-  pub now : HasCleanDisk (file_of new) → OnOk result (SparesOthers (database_of g old) (database_of g new))
-  pub left : Survives (file_of old) (file_of new) (LeavesOthers (database_of g old))
 
 -- the answer is one of whatever log the bank showed
 abbrev pub AnswersBy : {S X : Type 0} (g : Ghosts S) → Bank S g → Bank S g → Result X Fault

@@ -1,5 +1,5 @@
 -- A bank is found over a connection, or why none is.
-use Rattle.std.specs.Prelude.{◌≡◌, ◌≤◌, ℕ, List, [], ◌∷◌, ℤ, Option, Result, Ok, Err, IfErr, ⊤}
+use Rattle.std.specs.Prelude.{◌⊎◌, List, ℤ, Option, Result, Ok, Err, IfErr, ⊤}
 use Rattle.sqlite.specs.Effect.{Database}
 use Rattle.sqlite.specs.State.{State, HasCleanDisk}
 use Rattle.sqlite.specs.Held.{Held, state}
@@ -7,20 +7,20 @@ use Rattle.sqlite_trees.specs.declared.store.Store.{Ghosts}
 use Rattle.posting_rules.specs.Commands.{Command}
 use Rattle.posting_rules.specs.Counter.{ShowsLog, StandsAt}
 use Rattle.posting_rules.specs.declared.fault.Rule.TheVariants.{Meta, Value}
-use Rattle.posting_rules.specs.declared.limits.TheConstants.{MAX_DECIDED}
 use Rattle.sql_meanings.specs.Entries.{Entry}
 use Rattle.store_rows.specs.Columns.{meta_in}
 use Rattle.store_rows.specs.Probes.{all_probes, probe_of}
 use Rattle.store_rows.specs.declared.probes.BankTable.TheVariants as table
 use Rattle.store_rows.specs.BankTables as bank
 use Rattle.store_rows.specs.Statements.{HasOtherValue}
-use Rattle.store_rows.specs.View.{HoldsRows, meta_entry}
+use Rattle.store_rows.specs.View.{HoldsRows}
 use Rattle.store_rows.specs.declared.metas.TheConstants.{VERSION}
 use Rattle.store_rows.specs.declared.metas.StoredMeta.{StoredMeta}
 use Rattle.bank_store.specs.Connections.{conn_seen, IsAsBefore, IsReadOnly}
 use Rattle.bank_store.specs.Seen.{bank_seen, file_of}
 use Rattle.bank_store.specs.declared.bank.Bank.{Bank}
-use Rattle.bank_store.specs.MetaRow.{IsNoCount, IsOfOtherType, IsOfVersion, IsOurs, TellsMeta}
+use Rattle.bank_store.specs.MetaRow.{HasOnlyRow, IsNoCount, IsOfOtherType, IsOfVersion, IsOurs, LacksOnlyRow}
+use Rattle.bank_store.specs.MetaRow.{TellsMeta}
 use Rattle.bank_store.specs.OpenFaults.{RowIsUnread}
 use Rattle.bank_store.specs.TablePresence.{IsPresent, IsReadable}
 use Rattle.bank_store.specs.declared.presence.Presence.TheVariants.{Absent, Partial, Whole}
@@ -43,18 +43,26 @@ pub record ReadsMeta {S : Type 0} (g : Ghosts S) (old new : Held S) (result : Re
   pub fault : IfErr result RowIsUnread
   pub other : HasCleanDisk (state g new) → IfErr result (IsOfOtherType (state g old).now)
 
--- its tables are there, `meta` with its one row, of our version and with a count within its range, and
--- everything is as it was
-pub record BankIsFound (old new : State) : Type 0 where
+-- its tables are there, the row of the bank is of our version and has a count within its range, and everything is
+-- as it was
+pub record TablesAreFound (old new : State) : Type 0 where
   pub tables : IsPresent old.now all_probes Whole
   pub meta : MetaIs old IsOurs
-  pub one : (rows : List Entry) → HoldsRows old.now bank.meta rows
-      → (decided : ℕ) × (rows ≡ meta_entry VERSION decided ∷ []) × (decided ≤ MAX_DECIDED)
   pub same : IsAsBefore old new
+
+-- the same, and that row is the only one of `meta`, whatever CHECK that has
+pub record BankIsFound (old new : State) : Type 0 where
+  pub there : TablesAreFound old new
+  pub one : HasOnlyRow VERSION old.now
 
 -- `meta` has no other version than ours
 abbrev pub HasNoOtherVersion : State → Type 0
 HasNoOtherVersion old = (n : ℤ) → MetaIs old (λ stored. IsOfVersion n stored → ⊥)
+
+-- `meta` breaks its rule: the row of the bank is missing, or its count is outside its range; or it is ours, and not
+-- the only row
+abbrev pub BreaksMeta : State → Type 0
+BreaksMeta old = MetaIs old IsNoCount ⊎ (MetaIs old IsOurs × LacksOnlyRow VERSION old.now)
 
 -- why no bank is found: another version comes before missing tables
 abbrev pub Misses : State → OpenFault → Type 0
@@ -63,7 +71,7 @@ Misses old NotBlank = ⊥
 Misses old Blank = IsPresent old.now all_probes Absent
 Misses old Foreign = IsPresent old.now all_probes Partial × HasNoOtherVersion old
 Misses old (Version n) = IsReadable old.now (probe_of table.Meta) × MetaIs old (IsOfVersion n)
-Misses old (Damaged Meta) = IsPresent old.now all_probes Whole × MetaIs old IsNoCount
+Misses old (Damaged Meta) = IsPresent old.now all_probes Whole × BreaksMeta old
 Misses old (Damaged Value) = IsPresent old.now all_probes Whole × MetaIs old (λ _. ⊥) × HasOtherValue old.now
 Misses old (Damaged _) = ⊥
 
@@ -76,6 +84,11 @@ pub record IsTakenUp {S : Type 0} (g : Ghosts S) (conn : Held S) (bank : Bank S 
   pub stands : (bank_seen g bank).honest → (log : List Command) → StandsAt (conn_seen g conn) log
       → StandsAt (bank_seen g bank) log
   pub up : (bank_seen g bank).is_down → ⊥
+
+-- its tables are found, or why there is no bank
+abbrev pub SeeksTables : State → State → Result (Unit {0}) OpenFault → Type 0
+SeeksTables old new (Ok done) = TablesAreFound old new
+SeeksTables old new (Err fault) = Misses old fault × IsReadOnly {X = Unit {0}} old new (Err fault)
 
 -- a bank is found, or why it isn't
 abbrev pub SeeksBank : State → State → Result (Unit {0}) OpenFault → Type 0

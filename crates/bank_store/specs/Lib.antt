@@ -14,3 +14,5 @@ pub mod Walking
 pub mod Walks
 pub mod Leaving
 pub mod Room
+pub mod Sparing
+pub mod SparedTables

@@ -1,11 +1,19 @@
 -- The row of the bank in `meta`, and what is said against it.
-use Rattle.std.specs.Prelude.{◌≡◌, ◌≢◌, ◌⊎◌, ◌≤◌, ◌<ℤ◌, ℕ, ℤ, pos, Option, Some, None, Result, Ok, Err, ⊤}
+use Rattle.std.specs.Prelude.{◌≡◌, ◌≢◌, ◌⊎◌, ◌≤◌, ◌<ℤ◌, ℕ, ℤ, pos, List, [], ◌∷◌, Option, Some, None, Result, Ok}
+use Rattle.std.specs.Prelude.{Err, ⊤}
 use Rattle.sqlite.specs.Effect.{Database}
+use Rattle.sqlite.specs.State.{State}
+use Rattle.sqlite.specs.Term.{Term}
 use Rattle.posting_rules.specs.declared.fault.Rule.TheVariants.{Meta, Value}
 use Rattle.posting_rules.specs.declared.limits.TheConstants.{MAX_DECIDED}
+use Rattle.sql_meanings.specs.Entries.{Entry}
 use Rattle.store_rows.specs.Statements.{HasOtherValue}
+use Rattle.store_rows.specs.View.{meta_entry}
 use Rattle.store_rows.specs.declared.metas.TheConstants.{VERSION}
 use Rattle.store_rows.specs.declared.metas.StoredMeta.{StoredMeta}
+use Rattle.walked_rows.specs.OnlyMeta.{meta_with}
+use Rattle.walked_rows.specs.Rows.{HasStoredRows}
+use Rattle.bank_store.specs.Connections.{IsAsBefore, IsUndoneIfOpen}
 use Rattle.posting_rules.specs.declared.open_fault.OpenFault.{OpenFault}
 use Rattle.posting_rules.specs.declared.open_fault.OpenFault.TheVariants.{Store, Version, Damaged}
 
@@ -56,3 +64,28 @@ abbrev pub TellsMeta : Option StoredMeta → Result (Option StoredMeta) OpenFaul
 TellsMeta wanted (Ok found) = found ≡ wanted
 TellsMeta wanted (Err Store) = ⊤
 TellsMeta wanted (Err _) = ⊥
+
+-- ---- the other rows of `meta`
+
+-- these rows are that of the bank alone, with this version and a count within its range
+abbrev pub IsOnly : ℤ → List Entry → Type 0
+IsOnly version rows = (decided : ℕ) × (rows ≡ meta_entry version decided ∷ []) × (decided ≤ MAX_DECIDED)
+
+-- whatever CHECK `meta` has, and whatever rows the database holds of it, this holds of them
+abbrev pub OfAnyMeta : Database → (List Entry → Type 0) → Type 0
+OfAnyMeta db P = (checks : List Term) (rows : List Entry) → HasStoredRows db (meta_with checks) rows → P rows
+
+-- they are so
+abbrev pub HasOnlyRow : ℤ → Database → Type 0
+HasOnlyRow version db = OfAnyMeta db (IsOnly version)
+
+-- or they aren't: another row is there, or the only one is another
+abbrev pub LacksOnlyRow : ℤ → Database → Type 0
+LacksOnlyRow version db = OfAnyMeta db (λ rows. ¬ IsOnly version rows)
+
+-- which of both, and everything is as it was; or the store failed
+abbrev pub ChecksOnly : ℤ → State → State → Result (Unit {0}) OpenFault → Type 0
+ChecksOnly version old new (Ok done) = HasOnlyRow version old.now × IsAsBefore old new
+ChecksOnly version old new (Err fault) =
+    ((fault ≡ Store) × IsUndoneIfOpen old new)
+    ⊎ ((fault ≡ Damaged Meta) × LacksOnlyRow version old.now × IsAsBefore old new)

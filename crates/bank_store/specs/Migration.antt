@@ -26,7 +26,7 @@ use Rattle.store_rows.specs.View.{Shows, ShowsAs, ShowsTrees}
 use Rattle.store_rows.specs.declared.metas.StoredMeta.{StoredMeta}
 use Rattle.bank_store.specs.Connections.{conn_seen, IsAsBefore, IsReadOnly, IsUndoneIfOpen}
 use Rattle.bank_store.specs.FoundBank.{BankIsFound, IsTakenUp, Misses, RowIs}
-use Rattle.bank_store.specs.MetaRow.{IsOutside, IsWithin}
+use Rattle.bank_store.specs.MetaRow.{HasOnlyRow, IsOutside, IsWithin, LacksOnlyRow}
 use Rattle.bank_store.specs.OpenFaults.{of_the_store}
 use Rattle.bank_store.specs.Seen.{bank_seen, file_of}
 use Rattle.bank_store.specs.StoreFaults.{IsOpenCall}
@@ -121,10 +121,15 @@ pub record MovesBank {S : Type 0} (from : ℕ) (g : Ghosts S) (old new : Held S)
 abbrev pub IsCounted : Option StoredMeta → Type 0
 IsCounted stored = (m : StoredMeta) × (stored ≡ Some m) × IsWithin m.decided
 
--- a file with that version has a bank of it
-pub record HasEarlier (from : ℕ) (db : Database) : Type 0 where
+-- a file with that version has its tables, and the row of the bank has a count within its range
+pub record HasEarlierTables (from : ℕ) (db : Database) : Type 0 where
   pub tables : IsPresent db (earlier_probes from) Whole
   pub meta : RowIs db IsCounted
+
+-- it has a bank of it: the same, and that row is the only one of `meta`, whatever CHECK that has
+pub record HasEarlier (from : ℕ) (db : Database) : Type 0 where
+  pub there : HasEarlierTables from db
+  pub one : HasOnlyRow (pos from) db
 
 -- the row is missing, or its count is outside its range
 abbrev pub IsUncounted : Option StoredMeta → Type 0
@@ -134,14 +139,15 @@ IsUncounted stored = (stored ≡ None) ⊎ ((m : StoredMeta) × (stored ≡ Some
 abbrev pub MissesEarlier : ℕ → Database → OpenFault → Type 0
 MissesEarlier from old Store = ⊤
 MissesEarlier from old Foreign = OneOf (earlier_probes from) (Lacks old)
-MissesEarlier from old (Damaged Meta) = IsPresent old (earlier_probes from) Whole × RowIs old IsUncounted
+MissesEarlier from old (Damaged Meta) =
+    IsPresent old (earlier_probes from) Whole × (RowIs old IsUncounted ⊎ LacksOnlyRow (pos from) old)
 MissesEarlier from old (Damaged Value) =
     IsPresent old (earlier_probes from) Whole × RowIs old (λ _. ⊥) × HasOtherValue old
 MissesEarlier from old _ = ⊥
 
--- it has one, and everything is as it was; or why it hasn't
+-- it has its tables, and everything is as it was; or why it has no bank
 abbrev pub SeeksEarlier : ℕ → State → State → Result (Unit {0}) OpenFault → Type 0
-SeeksEarlier from old new (Ok done) = HasEarlier from old.now × IsAsBefore old new
+SeeksEarlier from old new (Ok done) = HasEarlierTables from old.now × IsAsBefore old new
 SeeksEarlier from old new (Err fault) =
     MissesEarlier from old.now fault × IsReadOnly {X = Unit {0}} old new (Err fault)
 

@@ -7,8 +7,8 @@ ghost use Rattle.posting_rules.specs.Counter.{ShowsLog, StandsAt, LeavesOnly};
 ghost use Rattle.posting_rules.specs.Tables.{AreTablesOf as Show};
 ghost use Rattle.bank_store.specs.Connections.{conn_seen, state_in, IsGivenBack, IsReadOnly, IsUndoneIfOpen};
 ghost use Rattle.bank_store.specs.FoundBank.{HasNoOtherVersion, IsTakenUp, LooksAtVersion, Misses};
-ghost use Rattle.bank_store.specs.FoundBank.{ReadsMeta, SeeksBank};
-ghost use Rattle.bank_store.specs.MetaRow.{ChecksCount, ChecksMeta};
+ghost use Rattle.bank_store.specs.FoundBank.{ReadsMeta, SeeksBank, SeeksTables};
+ghost use Rattle.bank_store.specs.MetaRow.{ChecksCount, ChecksMeta, ChecksOnly};
 ghost use Rattle.bank_store.specs.Seen.{alloc_of};
 ghost use Rattle.bank_store.specs.StoreFaults.{KnowsCause, LooksIn};
 
@@ -20,6 +20,7 @@ use posting_rules::{MAX_DECIDED, OpenFault, Rule};
 use sqlite::{Alter, Connection};
 use std::alloc::Global;
 use store_rows::{BankTable, StoredMeta, VERSION, probe_table, read_meta};
+use walked_rows::only_meta;
 
 // The row of the bank, if there is one, whatever its numbers. Nothing is written, so the transaction is
 // dropped.
@@ -76,12 +77,33 @@ fn check_meta(meta: &StoredMeta) -> Result<(), OpenFault>
     check_count(meta)
 }
 
+/// Whether the row of the bank is the only row of `meta`, whatever CHECK that has, and is of this version, with a
+/// count within its range.
+pub(crate) fn check_only<S: Alter>(conn: &mut Connection<S>, version: i64) -> Result<(), OpenFault>
+    requires { conn.old.in_transaction ≡ false }
+    ensures told { HasCleanDisk (state S.Store conn.new)
+        → ChecksOnly version (state S.Store conn.old) (state S.Store conn.new) result }
+    ensures looks { LooksIn S.Store conn.old conn.new result }
+{
+    note_settled(conn);
+    let Ok(only) = only_meta(conn) else {
+        return Err(OpenFault::Store);
+    };
+    let Some(meta) = only else {
+        return Err(OpenFault::Damaged(Rule::Meta));
+    };
+    if meta.version != version {
+        return Err(OpenFault::Damaged(Rule::Meta));
+    }
+    check_count(&meta)
+}
+
 // Looks for the tables of a bank, and then for the row of `meta`.
 fn find_tables<S: Alter>(conn: &mut Connection<S>) -> Result<(), OpenFault>
     requires mode { conn.old.in_transaction ≡ false }
     requires ours { HasCleanDisk (state S.Store conn.old) → HasNoOtherVersion (state S.Store conn.old) }
     ensures told { HasCleanDisk (state S.Store conn.new)
-        → SeeksBank (state S.Store conn.old) (state S.Store conn.new) result }
+        → SeeksTables (state S.Store conn.old) (state S.Store conn.new) result }
     ensures looks { LooksIn S.Store conn.old conn.new result }
 {
     match tables_there(conn)? {
@@ -120,7 +142,8 @@ pub(crate) fn find_bank<S: Alter>(conn: &mut Connection<S>) -> Result<(), OpenFa
     ensures looks { LooksIn S.Store conn.old conn.new result }
 {
     refuse_other_version(conn)?;
-    find_tables(conn)
+    find_tables(conn)?;
+    check_only(conn, VERSION)
 }
 
 /// Takes up the bank that the connection's file has. It reads the row of `meta`, whose version comes first,
@@ -137,8 +160,8 @@ pub(crate) fn find_bank<S: Alter>(conn: &mut Connection<S>) -> Result<(), OpenFa
 /// - [`OpenFault::Version`]: `meta` is there and has another version, whatever other tables there are.
 /// - [`OpenFault::Blank`]: none of a bank's tables is there.
 /// - [`OpenFault::Foreign`]: some of them are there, and some aren't.
-/// - [`OpenFault::Damaged`]: the row of `meta` is missing, is out of its range or has a value of another
-///   type.
+/// - [`OpenFault::Damaged`]: the row of `meta` is missing, is out of its range, has a value of another type or
+///   isn't the only one.
 /// - [`OpenFault::Store`]: a call of `sqlite` failed. Nothing has changed, as long as the store is open. It
 ///   is the only fault if the file has a bank of this version.
 pub fn adopt<S: Alter>(alloc: Global, mut conn: Connection<S>) -> Result<Bank<S>, Refused<S>>

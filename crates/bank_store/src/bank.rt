@@ -15,7 +15,9 @@ ghost use Rattle.posting_rules.specs.Tables.{Tables};
 use crate::laws::{floor_law, range_law};
 use crate::walks::read_outside;
 use arrayvec::ArrayVec;
-use bank_transactions::{open_branch, post, post_all, read_balance, read_next_branch};
+use bank_transactions::{
+    note_settled, open_branch, post, post_all, read_balance, read_next_branch,
+};
 use message_records::{
     Account, Branch, Cents, Moment, REPLY_BYTES, REQUEST_BYTES, decode_request, encode_reply,
 };
@@ -59,6 +61,8 @@ impl<S: Alter> Bank<S> {
     ghost use Rattle.bank_store.specs.Connections.{conn_seen};
     ghost use Rattle.bank_store.specs.Down.{GoesDown};
     ghost use Rattle.bank_store.specs.Seen.{bank_seen, cause_of, connection_of};
+    ghost use Rattle.bank_store.specs.Walks.{IsUntouchedIfOpen};
+    ghost use Rattle.sqlite.specs.State.{HasCleanDisk};
 
     // The bank over a connection whose tables were made or checked.
     pub(crate) fn over(alloc: Global, conn: Connection<S>) -> Self
@@ -120,7 +124,10 @@ impl<S: Alter> Bank<S> {
         ensures down { GoesDown (state S.Store self.old.conn) (state S.Store self.new.conn) fault
             self.new.fault result }
         ensures survives { Survives (state S.Store self.old.conn) (state S.Store self.new.conn) (λ _. ⊥) }
+        ensures undone { HasCleanDisk (state S.Store self.new.conn)
+            → IsUntouchedIfOpen (state S.Store self.old.conn) (state S.Store self.new.conn) }
     {
+        note_settled(&self.conn);
         let TableFault::Damaged(rule) = fault else {
             self.fault = Some(fault);
             return Fault::Store;
@@ -211,10 +218,12 @@ impl<S: Alter + Drop> Counter for Bank<S> {
     ghost use Rattle.bank_transactions.specs.Stored.{IsStoredBalance, IsStoredNext, OpensByStored};
     ghost use Rattle.bank_transactions.specs.Stored.{RepliesToAllStored, RepliesToStored};
     ghost use Rattle.bank_transactions.specs.Batches.{DecidesNone};
-    ghost use Rattle.bank_store.specs.Down.{AnswersBy, IsBankCall, OfDamage, SparesOtherTables, WasBroken};
+    ghost use Rattle.bank_store.specs.Down.{AnswersBy, IsBankCall, OfDamage, WasBroken};
     ghost use Rattle.bank_store.specs.Down.{bank_reason};
     ghost use Rattle.bank_store.specs.NoneOrAll.{LeavesNoneOrAll, IsIdle};
     ghost use Rattle.bank_store.specs.Seen.{bank_seen, database_of, file_of};
+    ghost use Rattle.bank_store.specs.Sparing.{SparesOtherTables};
+    ghost use Rattle.bank_store.specs.SparedTables.{some_or_none, spared_itself, spared_then};
     ghost use Rattle.sqlite.specs.Effect.{Database};
     ghost use Rattle.posting_rules.specs.Sound.{AreOfALog};
 
@@ -226,8 +235,14 @@ impl<S: Alter + Drop> Counter for Bank<S> {
 
     ghost reason = { λ fault old new. bank_reason S.Store fault old new };
 
+    ghost spares = { λ old new. SparesOtherTables S.Store old new };
+
     // What a crash of the store leaves.
     ghost leaves_something = { λ bank honest. S.Store.survives bank.conn.store honest };
+
+    ghost spares_itself = { λ bank. spared_itself _ _ bank };
+
+    ghost spares_then = { λ old mid new. spared_then _ _ (λ bank. some_or_none bank.fault) old mid new };
 
     fn submit(
         &mut self,
@@ -241,7 +256,7 @@ impl<S: Alter + Drop> Counter for Bank<S> {
         // Whatever rows the file holds.
         ensures stored { IfOk result (λ out. (bank_seen S.Store self.new).honest → (r : RequestFields)
             → request_of bytes.now ≡ Ok r → RepliesToStored (database_of S.Store self.old) r out) }
-        ensures spares { SparesOtherTables S.Store self.old self.new result }
+        ensures spares { SparesOtherTables S.Store self.old self.new }
     {
         range_law(moment);
         self.up()?;
@@ -277,7 +292,7 @@ impl<S: Alter + Drop> Counter for Bank<S> {
         // Whatever rows the file holds.
         ensures stored { IfOk result (λ replies. (bank_seen S.Store self.new).honest
             → RepliesToAllStored (database_of S.Store self.old) moment records.now replies.items) }
-        ensures spares { SparesOtherTables S.Store self.old self.new result }
+        ensures spares { SparesOtherTables S.Store self.old self.new }
     {
         range_law(moment);
         self.up()?;
@@ -306,7 +321,7 @@ impl<S: Alter + Drop> Counter for Bank<S> {
         ensures stored { IfOk result (λ opening. (bank_seen S.Store self.new).honest
             → OpensByStored (database_of S.Store self.old) (database_of S.Store self.new) branch
             (opened_with count floor) opening) }
-        ensures spares { SparesOtherTables S.Store self.old self.new result }
+        ensures spares { SparesOtherTables S.Store self.old self.new }
     {
         range_law(branch);
         floor_law(&floor);
@@ -330,6 +345,7 @@ impl<S: Alter + Drop> Counter for Bank<S> {
         ensures later { OnOk result (IsBefore (file_of self.old) (file_of self.new)) }
         // It writes nothing, so that the rows which the file held break the rule.
         ensures broken { IfErr result (λ fault. OfDamage fault (WasBroken S.Store self.old self.new)) }
+        ensures spares { SparesOtherTables S.Store self.old self.new }
     {
         self.up()?;
         match read_balance(&mut self.conn, account) {
@@ -350,6 +366,7 @@ impl<S: Alter + Drop> Counter for Bank<S> {
         ensures still { OnOk result ((bank_seen S.Store self.new).honest
             → database_of S.Store self.new ≡ database_of S.Store self.old) }
         ensures broken { IfErr result (λ fault. OfDamage fault (WasBroken S.Store self.old self.new)) }
+        ensures spares { SparesOtherTables S.Store self.old self.new }
     {
         self.up()?;
         match read_next_branch(&mut self.conn, after) {

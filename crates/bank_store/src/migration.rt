@@ -13,7 +13,7 @@ ghost use Rattle.bank_store.specs.Migration.{MovesFound, SeeksEarlier, TellsNoEa
 ghost use Rattle.bank_store.specs.Seen.{alloc_of};
 ghost use Rattle.bank_store.specs.StoreFaults.{IsOpenCall, KnowsCause, LooksIn};
 
-use crate::adoption::{check_count, find_bank, settled_meta};
+use crate::adoption::{check_count, check_only, find_bank, settled_meta};
 use crate::bank::Bank;
 use crate::presence::{Presence, count_tables};
 use crate::refused::{Refused, unmoved};
@@ -133,6 +133,7 @@ fn move_found<S: Alter>(conn: &mut Connection<S>, from: u64) -> Result<(), OpenF
     ensures call { IsOpenCall S.Store conn.old conn.new (HasMoved from (state S.Store conn.old).now) result }
 {
     find_earlier(conn, from)?;
+    check_only(conn, from as i64)?;
     move_settled(conn, from)
 }
 
@@ -173,8 +174,8 @@ fn find_or_move<S: Alter>(conn: &mut Connection<S>) -> Result<Migrated, OpenFaul
 /// - [`OpenFault::Blank`]: none of a bank's tables is there.
 /// - [`OpenFault::Foreign`]: some of the tables of its version are there, and some aren't; or one that the version
 ///   lacked can't be made, as where something else has its name.
-/// - [`OpenFault::Damaged`]: the row of `meta` is missing, is out of its range or has a value of another
-///   type.
+/// - [`OpenFault::Damaged`]: the row of `meta` is missing, is out of its range, has a value of another type or
+///   isn't the only one.
 /// - [`OpenFault::Store`]: a call of `sqlite` failed. Nothing has changed, as long as the store is open.
 pub fn migrate<S: Alter>(
     alloc: Global,

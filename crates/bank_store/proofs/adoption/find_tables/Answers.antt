@@ -4,7 +4,7 @@ use Rattle.sqlite.specs.Held.{state}
 use Rattle.store_rows.specs.Probes.{all_probes}
 use Rattle.posting_rules.specs.declared.fault.Rule.TheVariants.{Meta}
 use Rattle.bank_store.specs.Connections.{IsAsBefore}
-use Rattle.bank_store.specs.FoundBank.{Misses, SeeksBank}
+use Rattle.bank_store.specs.FoundBank.{Misses, SeeksTables}
 use Rattle.bank_store.specs.TablePresence.{IsPresent}
 use Rattle.bank_store.specs.declared.presence.Presence.{Presence}
 use Rattle.posting_rules.specs.declared.open_fault.OpenFault.{OpenFault}
@@ -22,7 +22,7 @@ returns-in_err-tables_there g c =
     let is : c.from_residual.result ≡ Err e.field-0.0 = search rules in
     record {
       told =
-          λ clean. subst (λ (r : Result (Unit {0}) OpenFault). SeeksBank old new r)
+          λ clean. subst (λ (r : Result (Unit {0}) OpenFault). SeeksTables old new r)
           (sym (is ∙ ap Err e.ensures.fault))
           (tt, e.ensures.told clean);
       looks = rw is (record { cause = e.ensures.looks.cause; mode = seen.mode; survives = seen.survives });
@@ -69,7 +69,7 @@ returns-in_err-settled_meta-in-Whole g c =
           let there =
           subst (λ (p : Presence). IsPresent old.now all_probes p × IsAsBefore old mid) c.in-Whole.is
           (c.in_ok-tables_there.ensures.told (still_clean e.ensures.looks.survives clean)) in
-          subst (λ (r : Result (Unit {0}) OpenFault). SeeksBank old new r) (sym is)
+          subst (λ (r : Result (Unit {0}) OpenFault). SeeksTables old new r) (sym is)
           (missed old mid new there.1 (Misses old) tt (λ none other. (there.0, none, other)) e.field-0.0
           e.ensures.reads.fault (e.ensures.reads.told clean) (e.ensures.reads.other clean) (e.ensures.same clean));
       looks =

@@ -7,6 +7,7 @@ use Rattle.posting_rules.proofs.Looked.{balance_shown}
 use Rattle.posting_rules.proofs.Stepping.{sound_tables}
 use Rattle.bank_store.proofs.Countered.{takes}
 use Rattle.bank_store.proofs.Causes.{still_clean}
+use Rattle.bank_store.proofs.OtherTables.{spares_done, spares_down, spares_untouched}
 use Rattle.bank_store.proofs.Refusing.{answered_call, consult_refused, refused_call, untried_call, Refusal}
 use Rattle.bank_transactions.specs.Causes.{IsFirstBroken}
 use Rattle.bank_transactions.proofs.Blamed.{comes}
@@ -55,3 +56,18 @@ returns-in_err-up-clause-call g c =
     let p = err_from_is_err_and c.from_residual.result c.from_residual.ensures.1 in
     untried_call g.S.Store c.args.self.now [] c.from_residual.result p.0 p.1
     (p.2 ∙ c.in_err-up.ensures.down.0) c.in_err-up.ensures.down.1
+
+-- ---- the tables of other products
+
+pub returns-in-Ok-clause-spares : goal.returns-in-Ok-clause-spares
+returns-in-Ok-clause-spares g c =
+    spares_done g.S.Store c.args.self.now _ _ c.in_ok-up.ensures.up c.in-Ok.ensures.says.spares
+
+pub returns-in-Err-clause-spares : goal.returns-in-Err-clause-spares
+returns-in-Err-clause-spares g c =
+    spares_down g.S.Store c.args.self.now c.go_down.new.self c.read_balance.new.conn c.in-Err.fault
+    c.go_down.result c.in_ok-up.ensures.up c.in-Err.ensures.says.spares c.in-Err.ensures.undone c.go_down.ensures.down
+    c.go_down.ensures.undone c.go_down.ensures.survives
+
+pub returns-in_err-up-clause-spares : goal.returns-in_err-up-clause-spares
+returns-in_err-up-clause-spares g c = spares_untouched g.S.Store c.args.self.now

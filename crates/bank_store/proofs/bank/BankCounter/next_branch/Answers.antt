@@ -8,6 +8,7 @@ use Rattle.posting_rules.proofs.Stepping.{sound_tables}
 use Rattle.store_rows.specs.Columns.{branch_above}
 use Rattle.bank_store.proofs.Causes.{still_clean}
 use Rattle.bank_store.proofs.Countered.{takes}
+use Rattle.bank_store.proofs.OtherTables.{spares_done, spares_down, spares_untouched}
 use Rattle.bank_store.proofs.Refusing.{answered_call, consult_refused, refused_call, untried_call, Refusal}
 use Rattle.bank_transactions.specs.NextBranch.{line_above}
 use Rattle.bank_transactions.proofs.NextRow.{next_is}
@@ -43,6 +44,7 @@ returns-in-Ok g c =
       still = c.in-Ok.ensures.still;
       frugal = λ same. (let it = same in cc);
       broken = tt;
+      spares = spares_done g.S.Store c.args.self.now _ _ c.in_ok-up.ensures.up says.spares;
     }
 
 pub returns-in-Err : goal.returns-in-Err
@@ -57,6 +59,10 @@ returns-in-Err g c =
       stored = tt;
       still = tt;
       broken = no.broken;
+      spares = spares_down g.S.Store c.args.self.now c.go_down.new.self c.read_next_branch.new.conn
+          c.in-Err.fault c.go_down.result c.in_ok-up.ensures.up c.in-Err.ensures.says.spares
+          c.in-Err.ensures.undone
+          c.go_down.ensures.down c.go_down.ensures.undone c.go_down.ensures.survives;
     }
 
 pub returns-in_err-up-clause-call : goal.returns-in_err-up-clause-call
@@ -64,3 +70,6 @@ returns-in_err-up-clause-call g c =
     let p = err_from_is_err_and c.from_residual.result c.from_residual.ensures.1 in
     untried_call g.S.Store c.args.self.now [] c.from_residual.result p.0 p.1
     (p.2 ∙ c.in_err-up.ensures.down.0) c.in_err-up.ensures.down.1
+
+pub returns-in_err-up-clause-spares : goal.returns-in_err-up-clause-spares
+returns-in_err-up-clause-spares g c = spares_untouched g.S.Store c.args.self.now

@@ -7,7 +7,7 @@ use Rattle.posting_rules.proofs.Calls.{opens, answers}
 use Rattle.posting_rules.proofs.Stepping.{sound_tables}
 use Rattle.bank_store.proofs.Causes.{still_clean}
 use Rattle.bank_store.proofs.Countered.{takes}
-use Rattle.bank_store.proofs.OtherTables.{spares_down, spares_untouched}
+use Rattle.bank_store.proofs.OtherTables.{spares_done, spares_down, spares_untouched}
 use Rattle.bank_store.proofs.Refusing.{answered_call, refused_call, transaction_refused, untried_call, Refusal}
 use Rattle.bank_transactions.specs.Causes.{IsBrokenOrMet}
 use Rattle.bank_store.proofs.bank.BankCounter.open_branch.Given.{Over}
@@ -50,7 +50,7 @@ returns-in-Ok g c =
           c.in_ok-up.ensures.up says) (still_clean says.survives);
       frugal = λ same. (let it = same in cc);
       stored = c.in-Ok.ensures.stored;
-      spares = record { now = says.spares.now; left = says.spares.left };
+      spares = spares_done g.S.Store c.args.self.now _ _ c.in_ok-up.ensures.up says.spares;
     }
 
 pub returns-in-Err : goal.returns-in-Err
@@ -62,8 +62,10 @@ returns-in-Err g c =
           c.in_ok-up.ensures.up;
       frugal = λ same. no.frugal (let it = same in cc);
       stored = tt;
-      spares = spares_down g.S.Store c.args.self.now c.go_down.new.self c.open_branch.new.conn _ c.go_down.result
-          c.in-Err.ensures.transacts.spares c.go_down.ensures.survives;
+      spares = spares_down g.S.Store c.args.self.now c.go_down.new.self c.open_branch.new.conn c.in-Err.fault
+          c.go_down.result c.in_ok-up.ensures.up c.in-Err.ensures.transacts.spares
+          c.in-Err.ensures.undone
+          c.go_down.ensures.down c.go_down.ensures.undone c.go_down.ensures.survives;
     }
 
 pub returns-in_err-up-clause-call : goal.returns-in_err-up-clause-call
@@ -73,4 +75,4 @@ returns-in_err-up-clause-call g c =
     (p.2 ∙ c.in_err-up.ensures.down.0) c.in_err-up.ensures.down.1
 
 pub returns-in_err-up-clause-spares : goal.returns-in_err-up-clause-spares
-returns-in_err-up-clause-spares g c = spares_untouched g.S.Store c.args.self.now c.from_residual.result
+returns-in_err-up-clause-spares g c = spares_untouched g.S.Store c.args.self.now

@@ -10,7 +10,7 @@ use Rattle.posting_rules.specs.Sound.{AreOfALog}
 use Rattle.posting_rules.proofs.Records.{all_replies, are_posts, posts_all}
 use Rattle.bank_store.proofs.Causes.{still_clean}
 use Rattle.bank_store.proofs.Countered.{HoldsOfLogs, none_or_all, none_or_all_down, takes}
-use Rattle.bank_store.proofs.OtherTables.{spares_down, spares_untouched}
+use Rattle.bank_store.proofs.OtherTables.{spares_done, spares_down, spares_untouched}
 use Rattle.bank_store.proofs.Refusing.{answered_call, refused_call, spared_call, transaction_refused}
 use Rattle.bank_store.proofs.Refusing.{untried_call, Refusal}
 use Rattle.bank_transactions.specs.Causes.{IsBrokenOrMet}
@@ -62,7 +62,7 @@ returns-in-Ok g c =
             still = it.same;
           };
       stored = λ clean. c.in-Ok.ensures.stored clean rs made;
-      spares = record { now = says.spares.now; left = says.spares.left };
+      spares = spares_done g.S.Store c.args.self.now _ _ c.in_ok-up.ensures.up says.spares;
     }
 
 pub returns-in-Err : goal.returns-in-Err
@@ -82,8 +82,10 @@ returns-in-Err g c =
           c.go_down.ensures.survives;
       idle = tt;
       stored = tt;
-      spares = spares_down g.S.Store c.args.self.now c.go_down.new.self c.post_all.new.conn _ c.go_down.result
-          (c.in-Err.ensures.says rs c.in_ok-batch.ensures.made).spares c.go_down.ensures.survives;
+      spares = spares_down g.S.Store c.args.self.now c.go_down.new.self c.post_all.new.conn c.in-Err.fault
+          c.go_down.result c.in_ok-up.ensures.up (c.in-Err.ensures.says rs c.in_ok-batch.ensures.made).spares
+          (c.in-Err.ensures.undone rs c.in_ok-batch.ensures.made)
+          c.go_down.ensures.down c.go_down.ensures.undone c.go_down.ensures.survives;
     }
 
 pub returns-in_err-up-clause-call : goal.returns-in_err-up-clause-call
@@ -99,8 +101,7 @@ returns-in_err-batch-clause-call g c =
     c.in_ok-up.ensures.up
 
 pub returns-in_err-up-clause-spares : goal.returns-in_err-up-clause-spares
-returns-in_err-up-clause-spares g c = spares_untouched g.S.Store c.args.self.now c.from_residual.result
+returns-in_err-up-clause-spares g c = spares_untouched g.S.Store c.args.self.now
 
 pub returns-in_err-batch-clause-spares : goal.returns-in_err-batch-clause-spares
-returns-in_err-batch-clause-spares g c =
-    spares_untouched g.S.Store c.args.self.now c.from_residual-in_err-batch.result
+returns-in_err-batch-clause-spares g c = spares_untouched g.S.Store c.args.self.now
