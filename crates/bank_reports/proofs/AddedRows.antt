@@ -17,7 +17,7 @@ use Rattle.bank_reports.specs.Adding.{AddsToSums, HasSums, IsPassed}
 use Rattle.bank_reports.specs.Failures.{SaysOf}
 use Rattle.bank_reports.specs.Files.{HasBroken}
 use Rattle.bank_reports.specs.declared.sums.Sums.{Sums}
-use Rattle.bank_reports.proofs.StepsKeep.{quiet_then, still_then, still_undone, undone_then}
+use Rattle.bank_store.proofs.StepsKeep.{quiet_then, still_then, still_undone, undone_then}
 
 -- ---- the rows
 

@@ -11,11 +11,11 @@ use Rattle.bank_reports.specs.declared.fault.ReportFault.{ReportFault}
 use Rattle.bank_reports.specs.declared.fault.ReportFault.TheVariants.{Bank}
 use Rattle.bank_reports.specs.Audits.{Audits, HasAudited}
 use Rattle.bank_reports.specs.Behind.{statement_behind}
-use Rattle.bank_reports.specs.Leaving.{TakesNone}
+use Rattle.bank_store.specs.Leaving.{TakesNone}
 use Rattle.bank_reports.specs.Postings.{HasAnswered}
 use Rattle.bank_reports.specs.Statements.{States}
 use Rattle.bank_reports.proofs.Further.{error_is, nothing_written}
-use Rattle.bank_reports.proofs.ReportLeaves.{not_missing, same_fault}
+use Rattle.bank_reports.proofs.ReportEnds.{not_missing, same_fault}
 
 -- one that shows a log isn't told to be damaged
 abbrev pub NeverSound : Seen → Seen → Fault → Type 0

@@ -4,10 +4,9 @@ pub mod LogHistory
 pub mod Lined
 pub mod Further
 pub mod OnLogs
-pub mod StepsKeep
 pub mod Sections
 pub mod StatementReports
-pub mod ReportLeaves
+pub mod ReportEnds
 pub mod AddedRows
 pub mod Read
 pub mod Passed
@@ -15,5 +14,5 @@ pub mod OfAll
 pub mod Broken
 pub mod OncePosted
 pub mod LogFiles
-pub mod RoomForWalks
+pub mod Spared
 pub mod FaultsTold

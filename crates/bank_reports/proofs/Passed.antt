@@ -19,7 +19,7 @@ use Rattle.walked_rows.specs.Pairs.{BreaksPair, HasPairs, pair_with, paired}
 use Rattle.bank_reports.specs.Adding.{IsPassed}
 use Rattle.bank_reports.specs.Failures.{HasFailedToRead, SaysOf}
 use Rattle.bank_reports.specs.Files.{FileRows, HasBroken, HasFile}
-use Rattle.bank_reports.proofs.StepsKeep.{quiet_then, still_then, undone_then}
+use Rattle.bank_store.proofs.StepsKeep.{quiet_then, still_then, undone_then}
 use Rattle.bank_reports.proofs.Read.{first_of, rest_of}
 
 -- ---- one pass after another

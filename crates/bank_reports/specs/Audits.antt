@@ -22,7 +22,7 @@ use Rattle.bank_store.specs.declared.bank.Bank.{Bank}
 use Rattle.bank_reports.specs.Differing.{EachPostedOnce}
 use Rattle.bank_reports.specs.Failures.{HasFailedToRead}
 use Rattle.bank_reports.specs.Files.{FileRows, HasBrokenRow, HasFile, rows_in}
-use Rattle.bank_reports.specs.Leaving.{TakesNone}
+use Rattle.bank_store.specs.Leaving.{TakesNone}
 
 -- the bank returned no fault
 abbrev pub HasAudited : Result Audit Fault → Type 0

@@ -1,10 +1,7 @@
 -- What a report leaves of a bank, whatever it answers.
-use Rattle.std.specs.Prelude.{◌≡◌, ◌≢◌, List, [], Err, IsTrue, Result}
+use Rattle.std.specs.Prelude.{◌≡◌, ◌≢◌, List, Err, Result}
 use Rattle.sqlite.specs.State.{HasCleanDisk, Survives}
 use Rattle.sqlite_trees.specs.declared.store.Store.{Ghosts}
-use Rattle.posting_rules.specs.Commands.{Command}
-use Rattle.posting_rules.specs.Counter.{Seen, LeavesOnly, StandsAt, Takes}
-use Rattle.posting_rules.specs.Tables.{AreTablesOf}
 use Rattle.posting_rules.specs.declared.fault.Fault.TheVariants.{Down, Memory, Store}
 use Rattle.store_rows.specs.BankTables.{history as history_table, reference as reference_table}
 use Rattle.walked_rows.specs.Pairs.{HasPairs, Pair}
@@ -15,22 +12,6 @@ use Rattle.bank_reports.specs.declared.fault.ReportFault.{ReportFault}
 use Rattle.bank_reports.specs.declared.fault.ReportFault.TheVariants.{Bank as OfBank, NoAccount}
 use Rattle.bank_reports.specs.Failures.{HasFailedToRead}
 use Rattle.bank_reports.specs.Postings.{HasWritten}
-
--- it gives the bank no command
-pub record TakesNone (old new : Seen) (answered : Type 0) : Type 0 where
-  -- where the bank answered, it shows what it showed, and stands where it stood
-  pub done : answered → Takes old new []
-  -- whatever it answered, a stop leaves what shows the log
-  pub survives : new.honest → (log : List Command) → StandsAt old log
-      → LeavesOnly new (λ t. AreTablesOf t log)
-  -- a disk that is honest yet was so before
-  pub honest : new.honest → old.honest
-
--- as long as the store is open, a bank that isn't down stands where it stood
-abbrev pub StandsWhileOpen : {S : Type 0} (g : Ghosts S) → Bank S g → Bank S g → Type 0
-StandsWhileOpen g old new =
-    (bank_seen g new).honest → ((bank_seen g new).is_down → ⊥) → IsTrue (file_of new).is_open
-    → (log : List Command) → StandsAt (bank_seen g old) log → StandsAt (bank_seen g new) log
 
 -- a bank that was down, and no other, is told to be, and nothing is done
 pub record TellsDown (was_down told nothing_done : Type 0) : Type 0 where

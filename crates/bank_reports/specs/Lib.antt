@@ -6,7 +6,6 @@ pub mod Files
 pub mod Adding
 pub mod Failures
 pub mod Differing
-pub mod Room
 pub mod Leaving
 pub mod Audits
 pub mod Statements

@@ -23,7 +23,7 @@ use Rattle.bank_reports.specs.declared.fault.ReportFault.{ReportFault}
 use Rattle.bank_reports.specs.declared.fault.ReportFault.TheVariants.{Bank as OfBank, NoAccount, Write}
 use Rattle.bank_reports.specs.Behind.{statement_behind}
 use Rattle.bank_reports.specs.Failures.{HasFailedToRead}
-use Rattle.bank_reports.specs.Leaving.{TakesNone}
+use Rattle.bank_store.specs.Leaving.{TakesNone}
 use Rattle.bank_reports.specs.Postings.{HasAnswered, StatesRows}
 
 -- an account of a bank was stated; w and w' are the known bytes of the writer before and after

@@ -1,9 +1,11 @@
 //! The audit of a bank.
 ghost use Rattle.std.specs.Prelude.{◌≡◌, Err};
 ghost use Rattle.posting_rules.specs.declared.fault.Fault.TheVariants.{Down, Memory};
-ghost use Rattle.bank_store.specs.Seen.{bank_seen, fault_of};
+ghost use Rattle.bank_store.specs.Seen.{bank_seen, connection_of, fault_of};
+ghost use Rattle.bank_store.specs.Sparing.{SparesWhileOpen};
 ghost use Rattle.bank_reports.specs.Audits.{Audits, AuditsFile};
-ghost use Rattle.bank_reports.specs.Leaving.{StandsWhileOpen, TellsDown};
+ghost use Rattle.bank_reports.specs.Leaving.{TellsDown};
+ghost use Rattle.bank_store.specs.Leaving.{StandsWhileOpen};
 
 use crate::additions::add_all;
 use crate::sums::Sums;
@@ -33,6 +35,7 @@ pub fn audit<S: Alter>(bank: &mut Bank<S>) -> Result<Audit, Fault>
         (bank.new ≡ bank.old) }
     ensures up { fault_of bank.new ≡ fault_of bank.old }
     ensures stands { StandsWhileOpen S.Store bank.old bank.new }
+    ensures spares { SparesWhileOpen S.Store (connection_of bank.old) (connection_of bank.new) }
 {
     if bank.is_down() {
         return Err(Fault::Down);

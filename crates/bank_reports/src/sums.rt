@@ -3,7 +3,7 @@ ghost use Rattle.std.specs.Prelude.{◌≡◌, ◌≤◌, ◌<◌, ◌++◌, ◌
 ghost use Rattle.std.specs.Prelude.{length, pos};
 ghost use Rattle.report_lines.specs.Beside.{AuditRows, audit_of_rows, no_rows};
 ghost use Rattle.bank_reports.specs.Adding.{HasSums};
-ghost use Rattle.bank_reports.specs.Room.{TakesFewBytes};
+ghost use Rattle.bank_store.specs.Room.{TakesFewBytes};
 
 use report_lines::{Audit, BranchSums, MAX_ROWS, OrdinalSums, Sum, TellerSums, audit_of_sums};
 use std::alloc::{AllocError, Global};

@@ -21,7 +21,9 @@ use Rattle.bank_reports.proofs.Further.{error_is}
 use Rattle.bank_reports.proofs.LogFiles.{balanced, has_file, has_ordinals, not_damaged, tells_in_file}
 use Rattle.bank_reports.proofs.OncePosted.{posted_once}
 use Rattle.bank_reports.proofs.Read.{one_file}
-use Rattle.bank_reports.proofs.ReportLeaves.{idle_takes, not_ok, reads_take_none, untouched_stands}
+use Rattle.bank_reports.proofs.ReportEnds.{not_ok}
+use Rattle.bank_store.proofs.ReadsLeave.{idle_takes, reads_take_none, untouched_stands}
+use Rattle.bank_reports.proofs.Spared.{idle_spares, read_spares}
 use Rattle.bank_reports.proofs.audits.audit.Given.{Over}
 use Rattle.bank_reports.proofs.audits.audit.Goals as goal
 
@@ -59,6 +61,7 @@ returns-then-is_down g c =
       };
       up = refl;
       stands = λ clean up is_open log at. at;
+      spares = idle_spares g.S.Store c.args.bank.now.conn;
     }
 
 -- ---- where there was no memory for the sums
@@ -84,6 +87,7 @@ returns-in_err-sums g c =
       };
       up = refl;
       stands = λ clean up is_open log at. at;
+      spares = idle_spares g.S.Store c.args.bank.now.conn;
     }
 
 -- ---- where a pass ended it
@@ -126,6 +130,8 @@ returns-in_err-add_all g c =
       up = says.up;
       stands = λ clean standing is_open log at.
           untouched_stands old new _ _ (says.passed.undone clean) says.passed.survives up clean is_open log at;
+      spares = read_spares g.S.Store c.args.bank.now.conn c.args.bank.now.conn c.add_all.new.bank.conn
+          (idle_spares g.S.Store c.args.bank.now.conn) says.passed.undone says.passed.survives;
     }
 
 -- ---- where all was added up
@@ -180,4 +186,6 @@ returns g c =
       up = says.up;
       stands = λ clean standing is_open log at.
           untouched_stands old new _ _ (says.passed.undone clean) says.passed.survives up clean is_open log at;
+      spares = read_spares g.S.Store c.args.bank.now.conn c.args.bank.now.conn c.add_all.new.bank.conn
+          (idle_spares g.S.Store c.args.bank.now.conn) says.passed.undone says.passed.survives;
     }

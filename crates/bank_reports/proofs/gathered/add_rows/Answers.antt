@@ -7,9 +7,9 @@ use Rattle.bank_store.specs.Walking.{ComesFrom, items_to_come}
 use Rattle.walked_rows.specs.Rows.{LEAST}
 use Rattle.bank_reports.proofs.AddedRows.{all_given, along_more, failed_row, one_more_row}
 use Rattle.bank_reports.proofs.AddedRows.{passed_err, passed_ok, room_for}
-use Rattle.bank_reports.proofs.StepsKeep.{still_then, quiet_then}
+use Rattle.bank_store.proofs.StepsKeep.{still_then, quiet_then}
 use Rattle.bank_reports.proofs.Further.{error_is}
-use Rattle.bank_reports.proofs.ReportLeaves.{not_ok}
+use Rattle.bank_reports.proofs.ReportEnds.{not_ok}
 use Rattle.bank_reports.proofs.gathered.add_rows.Given.{Over}
 use Rattle.bank_reports.proofs.gathered.add_rows.Goals as goal
 

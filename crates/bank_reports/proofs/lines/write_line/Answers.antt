@@ -4,7 +4,7 @@ use Rattle.std.proofs.lemmas.Int.{to_z-of_z}
 use Rattle.report_lines.specs.StatementText.{posting_line}
 use Rattle.report_lines.proofs.Written.{same_all, same_part}
 use Rattle.bank_reports.specs.declared.fault.ReportFault.TheVariants.{Write}
-use Rattle.bank_reports.proofs.ReportLeaves.{not_ok}
+use Rattle.bank_reports.proofs.ReportEnds.{not_ok}
 use Rattle.bank_reports.proofs.lines.write_line.Goals as goal
 
 pub returns-in_err-put : goal.returns-in_err-put

@@ -1,7 +1,7 @@
 -- There is room for the walk, and what was told of its rows to come is told of all rows of the bank.
 use Rattle.std.proofs.Common.{rules}
 use Rattle.bank_reports.proofs.OfAll.{added_of_all, told_of_all}
-use Rattle.bank_reports.proofs.RoomForWalks.{walk_fits}
+use Rattle.bank_store.proofs.RoomForWalks.{walk_fits}
 use Rattle.bank_reports.proofs.passes.add_each.Goals as goal
 
 -- ---- there is room for the walk

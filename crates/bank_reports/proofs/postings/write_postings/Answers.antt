@@ -11,7 +11,7 @@ use Rattle.bank_reports.specs.Failures.{HasFailedToRead}
 use Rattle.bank_reports.specs.Postings.{WritesPostings}
 use Rattle.bank_reports.proofs.Further.{at_first, down_err}
 use Rattle.bank_reports.proofs.Passed.{failed_at_end}
-use Rattle.bank_reports.proofs.ReportLeaves.{down_not_memory, down_not_store, not_missing, not_write}
+use Rattle.bank_reports.proofs.ReportEnds.{down_not_memory, down_not_store, not_missing, not_write}
 use Rattle.bank_reports.proofs.postings.write_postings.Goals as goal
 
 pub returns-in_err-walk : goal.returns-in_err-walk

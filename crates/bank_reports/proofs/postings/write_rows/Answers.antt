@@ -12,9 +12,10 @@ use Rattle.report_lines.proofs.Written.{later_failed}
 use Rattle.bank_reports.specs.declared.fault.ReportFault.{ReportFault}
 use Rattle.bank_reports.specs.declared.fault.ReportFault.TheVariants.{Bank, NoAccount, Write}
 use Rattle.bank_reports.proofs.Further.{at_first, error_is, line_err, line_is, one_line, walk_end, walk_err, worn_out}
-use Rattle.bank_reports.proofs.ReportLeaves.{clean_before, damaged_not_down, damaged_not_memory, damaged_not_store}
-use Rattle.bank_reports.proofs.ReportLeaves.{not_missing, not_ok, not_write, same_fault}
-use Rattle.bank_reports.proofs.StepsKeep.{quiet_then, still_has, still_then, still_undone, undone_then}
+use Rattle.bank_reports.proofs.ReportEnds.{damaged_not_down, damaged_not_memory, damaged_not_store}
+use Rattle.bank_store.proofs.ReadsLeave.{clean_before}
+use Rattle.bank_reports.proofs.ReportEnds.{not_missing, not_ok, not_write, same_fault}
+use Rattle.bank_store.proofs.StepsKeep.{quiet_then, still_has, still_then, still_undone, undone_then}
 use Rattle.bank_reports.proofs.postings.write_rows.Goals as goal
 
 pub lines-init : goal.lines-init

@@ -19,11 +19,15 @@ use Rattle.bank_reports.proofs.FaultsTold.{down_is_sound, unstated}
 use Rattle.bank_reports.proofs.Further.{nothing_written}
 use Rattle.bank_reports.proofs.OnLogs.{account_rows, has_stated, stated_rows}
 use Rattle.bank_reports.proofs.Passed.{failed_later}
-use Rattle.bank_reports.proofs.ReportLeaves.{clean_before, damaged_not_down, down_not_store, idle_takes}
-use Rattle.bank_reports.proofs.ReportLeaves.{not_both, not_missing, not_write, of_err, of_ok, reads_behind}
-use Rattle.bank_reports.proofs.ReportLeaves.{refused_before, refused_down, refused_leaves, refused_sound}
-use Rattle.bank_reports.proofs.ReportLeaves.{same_fault, untouched_stands, written_of}
+use Rattle.bank_reports.proofs.ReportEnds.{damaged_not_down, down_not_store}
+use Rattle.bank_store.proofs.ReadsLeave.{clean_before, idle_takes}
+use Rattle.bank_reports.proofs.ReportEnds.{not_both, not_missing, not_write, of_err, of_ok}
+use Rattle.bank_store.proofs.ReadsLeave.{reads_behind}
+use Rattle.bank_reports.proofs.ReportEnds.{refused_before, refused_down, refused_leaves, refused_sound}
+use Rattle.bank_reports.proofs.ReportEnds.{same_fault, written_of}
+use Rattle.bank_store.proofs.ReadsLeave.{untouched_stands}
 use Rattle.bank_reports.proofs.StatementReports.{ToldOfLog, log_part, log_sound, log_whole}
+use Rattle.bank_reports.proofs.Spared.{call_spares, idle_spares, read_spares}
 use Rattle.bank_reports.proofs.statement.write_statement.Given.{Over}
 use Rattle.bank_reports.proofs.statement.write_statement.Goals as goal
 
@@ -54,6 +58,7 @@ returns-then-is_down g c =
       frugal = search rules;
       down = record { down = λ down. refl; tried = λ is. was; idle = λ is. (refl, refl) };
       stands = λ clean up is_open log at. at;
+      spares = idle_spares g.S.Store c.args.bank.now.conn;
     }
 
 -- ---- where the balance was refused
@@ -104,6 +109,7 @@ returns-in_err-balance g c =
         idle = λ is. absurd (was_up (tried is));
       };
       stands = λ clean up. absurd (up went_down);
+      spares = call_spares g.S.Store c.args.bank.now c.balance.new.self says.spares;
     }
 
 -- ---- where the account isn't open
@@ -141,6 +147,7 @@ returns-in_default g c =
         idle = λ is. absurd (not_missing _ _ is refl);
       };
       stands = λ clean up is_open log at. says.call.done.stands clean log at;
+      spares = call_spares g.S.Store c.args.bank.now c.balance.new.self says.spares;
     }
 
 -- ---- where the lines were begun
@@ -239,4 +246,7 @@ returns g c =
       stands = λ clean up is_open log at.
           untouched_stands mid new _ _ (says.reads.undone clean) says.reads.survives says.reads.up clean
           is_open log (before.call.done.stands (clean_before mid new says.reads.survives clean) log at);
+      spares = read_spares g.S.Store c.args.bank.now.conn c.balance.new.self.conn c.write_lines.new.bank.conn
+          (call_spares g.S.Store c.args.bank.now c.balance.new.self before.spares) says.reads.undone
+          says.reads.survives;
     }
