@@ -3,6 +3,7 @@ ghost use Rattle.std.specs.Prelude.{◌≡◌, ◌≢◌, ◌+◌, ◌≤◌, �
 ghost use Rattle.std.specs.Result.{IsErrOf};
 ghost use Rattle.posting_rules.specs.Commands.{Command};
 ghost use Rattle.posting_rules.specs.Counter.{HasRefused, ShowsLog};
+ghost use Rattle.posting_core.specs.Sparing.{IsSpared};
 ghost use Rattle.branch_loader.specs.Plans.{openings};
 
 use crate::plan::Plan;
@@ -60,7 +61,7 @@ pub fn load<C: Counter>(plan: &Plan, counter: &mut C) -> Result<Loaded, Fault>
     ensures down { IsErrOf result Fault.Down ↔ ((C.seen counter.old).is_down × (plan.now ≢ [])) }
     ensures idle { (C.seen counter.old).is_down → counter.new ≡ counter.old }
 
-    ensures honest { (C.seen counter.new).honest → (C.seen counter.old).honest }
+    ensures spared { IsSpared C.seen C.spares counter.old counter.new }
 {
     let mut loaded = Loaded {
         opened: 0,

@@ -87,9 +87,10 @@ fn answer_posting<W: Sink, K: Clock, C: Counter>(
 ) -> Result<(), ServeFault>
     requires body { bytes.now ≡ message.now.body.now }
     requires posting { is_posting (asked message.now) ≡ true }
-    ensures { TurnIsDealtWith C.seen C.reason (W.contents writer.old) (W.contents writer.new)
+    ensures answers { TurnIsDealtWith C.seen C.reason (W.contents writer.old) (W.contents writer.new)
         (W.told writer.old) (W.told writer.new) (K.readings clock.old) (K.readings clock.new)
         bank.old bank.new (asked message.now) result }
+    ensures spares { C.spares bank.old bank.new }
 {
     let moment = clock.now();
     match bank.submit(moment, bytes) {
@@ -116,8 +117,9 @@ fn answer_account<W: Sink, C: Counter>(
 ) -> Result<(), ServeFault>
     requires { (log : List Command) → answer_to log (asked message.now)
         ≡ balance_answer account (balance_behind log account) }
-    ensures { IsDealtWith C.seen C.reason (W.contents writer.old) (W.contents writer.new)
+    ensures answers { IsDealtWith C.seen C.reason (W.contents writer.old) (W.contents writer.new)
         (W.told writer.old) (W.told writer.new) bank.old bank.new (asked message.now) [] result }
+    ensures spares { C.spares bank.old bank.new }
 {
     let balance = match bank.balance(account) {
         Ok(Some(balance)) => balance,
@@ -138,8 +140,9 @@ fn answer_branches<W: Sink, C: Counter>(
     bank: &mut C,
 ) -> Result<(), ServeFault>
     requires { (log : List Command) → answer_to log (asked message.now) ≡ plain (branch_lines log) }
-    ensures { IsDealtWith C.seen C.reason (W.contents writer.old) (W.contents writer.new)
+    ensures answers { IsDealtWith C.seen C.reason (W.contents writer.old) (W.contents writer.new)
         (W.told writer.old) (W.told writer.new) bank.old bank.new (asked message.now) [] result }
+    ensures spares { C.spares bank.old bank.new }
 {
     match all_lines(alloc, bank) {
         Ok(lines) => say_text(message, lines.as_bytes(), writer),
@@ -156,9 +159,10 @@ pub(crate) fn answer_message<W: Sink, K: Clock, C: Counter>(
     clock: &mut K,
     bank: &mut C,
 ) -> Result<(), ServeFault>
-    ensures { TurnIsDealtWith C.seen C.reason (W.contents writer.old) (W.contents writer.new)
+    ensures answers { TurnIsDealtWith C.seen C.reason (W.contents writer.old) (W.contents writer.new)
         (W.told writer.old) (W.told writer.new) (K.readings clock.old) (K.readings clock.new)
         bank.old bank.new (asked message.now) result }
+    ensures spares { C.spares bank.old bank.new }
 {
     match task_of(message, routes) {
         Task::Say(response) => say(message, &response, writer),

@@ -40,6 +40,7 @@ fn serve<R: Source, W: Sink, K: Clock, C: Counter>(
     ensures prompt { IsPrompt (R.remaining reader.old) (R.remaining reader.new) (R.told reader.old)
         (R.told reader.new) (R.beside reader.old) (R.beside reader.new) (W.contents writer.old)
         (W.told writer.old) (C.seen bank.old) (C.seen bank.new) }
+    ensures spares { C.spares bank.old bank.new }
 {
     let mut filled = 0;
     let mut served = 0;
@@ -113,6 +114,7 @@ pub fn serve_connection<R: Source, W: Sink, K: Clock, C: Counter>(
         (W.told writer.old) (C.seen bank.old) (C.seen bank.new) }
     ensures why { IfErr result (λ fault. IfRefused fault (IsOfCall C.seen C.reason bank.old bank.new)) }
     ensures honest { (C.seen bank.new).honest → (C.seen bank.old).honest }
+    ensures spares { C.spares bank.old bank.new }
 {
     let Ok(routes) = Routes::new(alloc) else {
         return Err(ServeFault::Memory);

@@ -65,8 +65,9 @@ pub fn serve_connections<R: Alloc<A = Global> + time::Clock, K: Clock, C: Counte
     clock: &mut K,
     bank: &mut C,
 ) -> Result<(), ListenFault>
-    ensures { ServesConnections C.seen C.reason (K.readings clock.old) (K.readings clock.new) bank.old bank.new
-        connections result }
+    ensures serves { ServesConnections C.seen C.reason (K.readings clock.old) (K.readings clock.new) bank.old
+        bank.new connections result }
+    ensures spares { C.spares bank.old bank.new }
 {
     let mut door = TcpDoor::new(listener, rt);
     serve_door(rt.alloc(), &mut door, connections, clock, bank)
@@ -89,10 +90,11 @@ pub fn serve_door<D: Door, K: Clock, C: Counter>(
     clock: &mut K,
     bank: &mut C,
 ) -> Result<(), ListenFault>
-    ensures { ServesDoor C.seen C.reason
+    ensures serves { ServesDoor C.seen C.reason
         (known_ends D.Reader.remaining D.Reader.told D.Reader.beside D.Writer.contents D.Writer.told)
         (D.told door.old) (D.told door.new) (K.readings clock.old) (K.readings clock.new) bank.old bank.new
         connections result }
+    ensures spares { C.spares bank.old bank.new }
 {
     'connections: for number in 0..connections {
         let Ok((reader, writer)) = door.open() else {
@@ -113,10 +115,11 @@ fn serve_ends<D: Door, K: Clock, C: Counter>(
     clock: &mut K,
     bank: &mut C,
 ) -> Result<Served, ServeFault>
-    ensures { ServesEnds C.seen C.reason
+    ensures serves { ServesEnds C.seen C.reason
         (known_ends D.Reader.remaining D.Reader.told D.Reader.beside D.Writer.contents D.Writer.told)
         (D.told door.old) (D.told door.new) (reader, writer) (K.readings clock.old) (K.readings clock.new)
         bank.old bank.new result }
+    ensures spares { C.spares bank.old bank.new }
 {
     let mut reader = reader;
     let mut writer = writer;

@@ -44,6 +44,7 @@ pub(crate) fn all_lines<C: Counter>(alloc: Global, bank: &mut C) -> Result<Strin
     ensures fault { IfErr result (λ fault. IsRefusedAt C.seen bank.old bank.new fault []) }
     ensures idle { (C.seen bank.old).is_down → bank.new ≡ bank.old }
     ensures honest { (C.seen bank.new).honest → (C.seen bank.old).honest }
+    ensures spares { C.spares bank.old bank.new }
 {
     let mut body = String::new(alloc);
     let mut after = 0;

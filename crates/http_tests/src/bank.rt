@@ -37,7 +37,13 @@ impl Counter for FullBank {
 
     ghost reason = { λ fault old new. ⊤ };
 
+    ghost spares = { λ old new. ⊤ };
+
     ghost leaves_something = { λ b _. ∣ (plain_tables b.bank, refl) ∣₁ };
+
+    ghost spares_itself = { λ b. tt };
+
+    ghost spares_then = { λ old mid new one two. tt };
 
     fn submit(
         &mut self,

@@ -72,6 +72,7 @@ fn drive<C: Counter, K: Clock>(
     requires up { (C.seen counter.old).is_down → ⊥ }
     ensures submits { Submits C.seen counter.old counter.new (K.readings clock.old) (K.readings clock.new)
         driver.old.rows driver.old.seed count result }
+    ensures spares { C.spares counter.old counter.new }
     ensures some { IfErr result (λ fault. fault ≡ DriveFault.NoBranches → ⊥) }
     ensures tried { IsErrOf result (DriveFault.Bank Fault.Down) → ⊥ }
     ensures up { UnlessDown result ((C.seen counter.new).is_down → ⊥) }
@@ -131,7 +132,7 @@ pub fn drive_records<C: Counter, K: Clock>(
     ensures why { IfErr result (λ fault. IfRefused fault
         (IsOfCall C.seen C.reason counter.old counter.new)) }
     ensures down { IsErrOf result (DriveFault.Bank Fault.Down) ↔ (C.seen counter.old).is_down }
-    ensures honest { (C.seen counter.new).honest → (C.seen counter.old).honest }
+    ensures spares { C.spares counter.old counter.new }
 {
     let plan = list_branches(alloc, counter)?;
     let mut driver = driver_of(alloc, &plan, seed)?;

@@ -58,6 +58,7 @@ pub(crate) fn submit_batch<C: Counter, K: Clock>(
     ensures up { OnOk result ((C.seen counter.new).is_down → ⊥) }
     ensures why { IfErr result (HasRefused C.seen C.reason counter.old counter.new) }
     ensures honest { (C.seen counter.new).honest → (C.seen counter.old).honest }
+    ensures spares { C.spares counter.old counter.new }
 {
     draw_batch(driver, batch);
     let moment = clock.now();

@@ -24,6 +24,7 @@ pub(crate) fn list_branches<C: Counter>(alloc: Global, counter: &mut C) -> Resul
     ensures why { IfErr result (IsOfCall C.seen C.reason counter.old counter.new) }
     ensures down { IsErrOf result Fault.Down ↔ (C.seen counter.old).is_down }
     ensures honest { (C.seen counter.new).honest → (C.seen counter.old).honest }
+    ensures spares { C.spares counter.old counter.new }
 {
     let mut rows = Vec::new(alloc);
     let mut after = 0;

@@ -7,14 +7,17 @@ use Rattle.branch_loader.proofs.Rows.{plan-short}
 use Rattle.branch_loader.proofs.loader.load.Goals as goal
 
 pub loop-row-init : goal.loop-row-init
-loop-row-init g c = behind-none g.C.Counter.seen c.args.counter.now
+loop-row-init g c = record {
+  behind = behind-none g.C.Counter.seen c.args.counter.now;
+  spares = g.met.C.Counter.spares_itself c.args.counter.now;
+}
 
 pub with_answer-loaded-requires : goal.with_answer-loaded-requires
 with_answer-loaded-requires g c =
     let rows = c.rows-row-items.result.now in
     let short = plan-short rows c.rows-row-items.ensures.plan in
     let front = length-take-le c.loop-row.row-index rows (omega arith) in
-    let sum = c.loop-row.invariant.sum in
+    let sum = c.loop-row.invariant.behind.sum in
     omega arith
 
 pub loop-row-preserved : goal.loop-row-preserved
@@ -24,13 +27,16 @@ loop-row-preserved g c =
     let p = c.row-item.result in
     let more : take (i + 1) rows ≡ take i rows ++ p ∷ [] = take_more rows i p (omega arith) ∙ rw
     (← c.row-item.is) refl in
-    rw (more, c.with_answer-loaded.ensures)
-    (behind-more g.C.Counter.seen c.args.counter.now c.loop-row.counter c.open_branch.new.self (take i rows)
-    p c.loop-row.loaded
-    c.in_ok-opening.opening c.loop-row.invariant c.in_ok-opening.ensures.call.done
-    c.in_ok-opening.ensures.answer
-    (λ down. cc (c.in_ok-opening.ensures.call.down down)) c.in_ok-opening.ensures.call.up
-    c.in_ok-opening.ensures.call.honest)
+    record {
+      behind = rw (more, c.with_answer-loaded.ensures)
+          (behind-more g.C.Counter.seen c.args.counter.now c.loop-row.counter c.open_branch.new.self
+          (take i rows) p c.loop-row.loaded c.in_ok-opening.opening c.loop-row.invariant.behind
+          c.in_ok-opening.ensures.call.done c.in_ok-opening.ensures.answer
+          (λ down. cc (c.in_ok-opening.ensures.call.down down)) c.in_ok-opening.ensures.call.up
+          c.in_ok-opening.ensures.call.honest);
+      spares = g.met.C.Counter.spares_then c.args.counter.now c.loop-row.counter c.open_branch.new.self
+          c.loop-row.invariant.spares c.in_ok-opening.ensures.spares;
+    }
 
 pub returns-in_err-opening-clause-fault : goal.returns-in_err-opening-clause-fault
 returns-in_err-opening-clause-fault g c =
@@ -38,7 +44,7 @@ returns-in_err-opening-clause-fault g c =
     let refused =
     behind-refused g.C.Counter.seen c.args.counter.now c.loop-row.counter c.open_branch.new.self rows
     c.loop-row.row-index
-    c.row-item.result c.loop-row.loaded c.in_err-opening.field-0.0 c.loop-row.invariant
+    c.row-item.result c.loop-row.loaded c.in_err-opening.field-0.0 c.loop-row.invariant.behind
     (omega arith) c.row-item.is
     c.in_err-opening.ensures.call.fault c.in_err-opening.ensures.call.honest
     (λ down. let e = c.in_err-opening.ensures.call.down down in cc e) in
@@ -50,23 +56,35 @@ returns-in_err-opening-clause-why g c =
     let p = err_from_is_err_and c.from_residual.result c.from_residual.ensures.1 in
     rw (p.1, p.2)
     (call_refused_behind g.C.Counter.seen g.C.Counter.reason c.args.counter.now c.loop-row.counter
-    c.open_branch.new.self _ c.loop-row.invariant.taken c.loop-row.invariant.honest
-    (behind-idle g.C.Counter.seen c.args.counter.now c.loop-row.counter _ _ c.loop-row.invariant)
+    c.open_branch.new.self _ c.loop-row.invariant.behind.taken c.loop-row.invariant.behind.honest
+    (behind-idle g.C.Counter.seen c.args.counter.now c.loop-row.counter _ _ c.loop-row.invariant.behind)
     c.in_err-opening.field-0.0 g.C.Counter.contents _ c.in_err-opening.ensures.call)
 
 -- a counter that was down
 pub returns-in_err-opening-clause-idle : goal.returns-in_err-opening-clause-idle
 returns-in_err-opening-clause-idle g c =
     call_idle_behind g.C.Counter.seen c.args.counter.now c.loop-row.counter
-    (behind-idle g.C.Counter.seen c.args.counter.now c.loop-row.counter _ _ c.loop-row.invariant)
+    (behind-idle g.C.Counter.seen c.args.counter.now c.loop-row.counter _ _ c.loop-row.invariant.behind)
     g.C.Counter.contents g.C.Counter.reason c.open_branch.new.self _ _ c.open_branch.ensures.call
 
 pub returns-clause-idle : goal.returns-clause-idle
 returns-clause-idle g c =
-    behind-idle g.C.Counter.seen c.args.counter.now c.loop-row.counter _ _ c.loop-row.invariant
+    behind-idle g.C.Counter.seen c.args.counter.now c.loop-row.counter _ _ c.loop-row.invariant.behind
 
 pub returns-clause-done : goal.returns-clause-done
 returns-clause-done g c =
     loaded_all g.C.Counter.seen c.args.counter.now c.loop-row.counter c.rows-row-items.result.now
     c.args.plan.now c.loop-row.row-index c.loop-row.loaded
-    c.loop-row.invariant c.loop-row-test.false c.rows-row-items.ensures.rows
+    c.loop-row.invariant.behind c.loop-row-test.false c.rows-row-items.ensures.rows
+
+-- what no call of the counter touches
+pub returns-in_err-opening-clause-spared : goal.returns-in_err-opening-clause-spared
+returns-in_err-opening-clause-spared g c = record {
+  honest = λ h. c.loop-row.invariant.behind.honest (c.in_err-opening.ensures.call.honest h);
+  others = g.met.C.Counter.spares_then c.args.counter.now c.loop-row.counter c.open_branch.new.self
+      c.loop-row.invariant.spares c.in_err-opening.ensures.spares;
+}
+
+pub returns-clause-spared : goal.returns-clause-spared
+returns-clause-spared g c =
+    record { honest = c.loop-row.invariant.behind.honest; others = c.loop-row.invariant.spares }

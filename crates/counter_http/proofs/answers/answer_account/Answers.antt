@@ -8,8 +8,8 @@ use Rattle.counter_http.proofs.Answered.{told_answer, account_told, told_refused
 use Rattle.counter_http.proofs.answers.answer_account.Goals as goal
 
 -- it isn't open
-pub returns-in-Ok-None : goal.returns-in-Ok-None
-returns-in-Ok-None g c =
+pub returns-in-Ok-None-clause-answers : goal.returns-in-Ok-None-clause-answers
+returns-in-Ok-None-clause-answers g c =
     let a = asked c.args.message.now in
     let call = c.in-Ok-None.ensures.call in
     told_answer g.C.Counter.seen c.args.bank.now c.balance.new.self a [] (said c.not_found.result)
@@ -19,8 +19,8 @@ returns-in-Ok-None g c =
     call.honest (λ down. call.untried (call.down down)) c.say.ensures
 
 -- it has this balance
-pub returns-in-Ok : goal.returns-in-Ok
-returns-in-Ok g c =
+pub returns-in-Ok-clause-answers : goal.returns-in-Ok-clause-answers
+returns-in-Ok-clause-answers g c =
     let a = asked c.args.message.now in
     let call = c.in-Ok-Some.ensures.call in
     told_answer g.C.Counter.seen c.args.bank.now c.balance.new.self a [] (plain c.as_bytes.result.now)
@@ -31,8 +31,8 @@ returns-in-Ok g c =
     call.honest (λ down. call.untried (call.down down)) c.say_text.ensures
 
 -- the bank refused the call
-pub returns-in-Err : goal.returns-in-Err
-returns-in-Err g c =
+pub returns-in-Err-clause-answers : goal.returns-in-Err-clause-answers
+returns-in-Err-clause-answers g c =
     let seen = g.C.Counter.seen in
     let old = c.args.bank.now in
     let new = c.balance.new.self in
@@ -43,8 +43,8 @@ returns-in-Err g c =
     (λ down. call.untried (call.down down)) c.fail.ensures.written c.fail.ensures.ends
 
 -- memory was refused behind it
-pub returns-in-Err-line_of_account : goal.returns-in-Err-line_of_account
-returns-in-Err-line_of_account g c =
+pub returns-in-Err-line_of_account-clause-answers : goal.returns-in-Err-line_of_account-clause-answers
+returns-in-Err-line_of_account-clause-answers g c =
     let seen = g.C.Counter.seen in
     let new = c.balance.new.self in
     let call = c.in-Ok-Some.ensures.call in

@@ -7,8 +7,8 @@ use Rattle.counter_http.proofs.Answered.{told_answer, told_refused, refused_firs
 use Rattle.counter_http.proofs.Answered.{posting_answer, takes_posting, refuses_posting, why_first}
 use Rattle.counter_http.proofs.answers.answer_posting.Goals as goal
 
-pub returns-in-Ok : goal.returns-in-Ok
-returns-in-Ok g c =
+pub returns-in-Ok-clause-answers : goal.returns-in-Ok-clause-answers
+returns-in-Ok-clause-answers g c =
     let a = asked c.args.message.now in
     let m = c.now-moment.result in
     let seen = g.C.Counter.seen in
@@ -27,8 +27,8 @@ returns-in-Ok g c =
           (λ down. call.untried (call.down down)) c.say.ensures;
     }
 
-pub returns-in-Err : goal.returns-in-Err
-returns-in-Err g c =
+pub returns-in-Err-clause-answers : goal.returns-in-Err-clause-answers
+returns-in-Err-clause-answers g c =
     let a = asked c.args.message.now in
     let m = c.now-moment.result in
     let seen = g.C.Counter.seen in

@@ -81,6 +81,7 @@ reads-init g c = record {
   waits = record { ending = No_head; ends = λ some. absurd (some refl); told = refl; room = omega arith };
   prompted = prompted_first [] refl;
   idle = λ down. refl;
+  spares = g.met.C.Counter.spares_itself c.args.bank.now;
   made = made_none _;
   through = through_first _;
 }
@@ -178,6 +179,7 @@ messages-init g c =
       bound = (from_none c.match-fill_beside.filled c.reads.served).1;
       prompted = rw range_all prompted;
       idle = c.reads.invariant.idle;
+      spares = c.reads.invariant.spares;
       through = c.reads.invariant.through;
     }
 
@@ -199,7 +201,7 @@ messages-preserved g c =
     let order : c.messages.used + c.in-Message.message.length ≤ c.match-fill_beside.filled =
     message_within c.messages.used c.in-Message.message.length c.match-fill_beside.filled _ long.1 all
     c.messages.invariant.order in
-    let answered = c.in_ok-answer_message-in-Message.ensures in
+    let answered = c.in_ok-answer_message-in-Message.ensures.answers in
     record {
       order = order;
       fits = c.messages.invariant.fits;
@@ -212,6 +214,8 @@ messages-preserved g c =
           refl answered;
       idle = idle_behind g.C.Counter.seen c.args.bank.now c.messages.bank c.messages.invariant.idle
           c.answer_message.new.bank answered.dealt.idle;
+      spares = g.met.C.Counter.spares_then c.args.bank.now c.messages.bank c.answer_message.new.bank
+          c.messages.invariant.spares c.in_ok-answer_message-in-Message.ensures.spares;
       through = through_batch c.messages.invariant.through answered.dealt.ends;
     }
 
@@ -223,13 +227,13 @@ returns-in_err-answer_message-in-Message-clause-served g c =
     c.from_residual-in_err-answer_message-in-Message.ensures.1 in
     rw (told.1, told.2) (end_broken g.C.Counter.seen fault c.args.bank.now c.messages.bank
     c.answer_message.new.bank _ c.in-Message.message c.messages.invariant.prompted.going c.messages.invariant.idle
-    c.in-Message.ensures c.in_err-answer_message-in-Message.ensures)
+    c.in-Message.ensures c.in_err-answer_message-in-Message.ensures.answers)
 
 pub returns-then-message-clause-served : goal.returns-then-message-clause-served
 returns-then-message-clause-served g c =
     end_closed g.C.Counter.seen c.args.bank.now c.messages.bank c.answer_message.new.bank _ _
     c.in-Message.message c.messages.invariant.prompted.going c.messages.invariant.idle c.in-Message.ensures
-    c.if-message.true refl c.in_ok-answer_message-in-Message.ensures
+    c.if-message.true refl c.in_ok-answer_message-in-Message.ensures.answers
 
 pub returns-in_err-refuse-in-Refused-clause-served : goal.returns-in_err-refuse-in-Refused-clause-served
 returns-in_err-refuse-in-Refused-clause-served g c =
@@ -264,6 +268,7 @@ reads-preserved g c =
       waits = rw moved c.in-Unfinished.ensures;
       prompted = rw moved c.messages.invariant.prompted;
       idle = c.messages.invariant.idle;
+      spares = c.messages.invariant.spares;
       made = made_one _ _ c.reads.invariant.made c.fill_beside.ensures.tells refl;
       through = c.messages.invariant.through;
     }
@@ -300,11 +305,11 @@ returns-in_err-answer_message-in-Message-clause-ends g c =
     let told = err_from_is_err_and c.from_residual-in_err-answer_message-in-Message.result
     c.from_residual-in_err-answer_message-in-Message.ensures.1 in
     rw (told.1, told.2) (sent_broken fault _ _ _ _ _ c.messages.invariant.through
-    c.in_err-answer_message-in-Message.ensures.dealt.ends)
+    c.in_err-answer_message-in-Message.ensures.answers.dealt.ends)
 
 pub returns-then-message-clause-ends : goal.returns-then-message-clause-ends
 returns-then-message-clause-ends g c =
-    through_batch c.messages.invariant.through c.in_ok-answer_message-in-Message.ensures.dealt.ends
+    through_batch c.messages.invariant.through c.in_ok-answer_message-in-Message.ensures.answers.dealt.ends
 
 pub returns-in_err-refuse-in-Refused-clause-ends : goal.returns-in_err-refuse-in-Refused-clause-ends
 returns-in_err-refuse-in-Refused-clause-ends g c =
@@ -376,11 +381,11 @@ returns-in_err-refuse-in-Ok-eq0-2-clause-prompt g c =
 pub returns-in_err-answer_message-in-Message-clause-prompt :
     goal.returns-in_err-answer_message-in-Message-clause-prompt
 returns-in_err-answer_message-in-Message-clause-prompt g c =
-    prompt_so_far c.in_err-answer_message-in-Message.ensures.dealt.honest c.messages.invariant.prompted
+    prompt_so_far c.in_err-answer_message-in-Message.ensures.answers.dealt.honest c.messages.invariant.prompted
 
 pub returns-then-message-clause-prompt : goal.returns-then-message-clause-prompt
 returns-then-message-clause-prompt g c =
-    prompt_so_far c.in_ok-answer_message-in-Message.ensures.dealt.honest c.messages.invariant.prompted
+    prompt_so_far c.in_ok-answer_message-in-Message.ensures.answers.dealt.honest c.messages.invariant.prompted
 
 pub returns-in_err-refuse-in-Refused-clause-prompt : goal.returns-in_err-refuse-in-Refused-clause-prompt
 returns-in_err-refuse-in-Refused-clause-prompt g c = prompt_so_far (λ h. h) c.messages.invariant.prompted
@@ -443,7 +448,7 @@ returns-in_err-answer_message-in-Message-clause-why g c =
     rw (told.1, told.2)
     (why_behind g.C.Counter.seen g.C.Counter.reason c.args.bank.now c.messages.bank c.answer_message.new.bank
     _ before.takes before.honest c.messages.invariant.idle c.in_err-answer_message-in-Message.field-0.0
-    c.in_err-answer_message-in-Message.ensures.dealt.why)
+    c.in_err-answer_message-in-Message.ensures.answers.dealt.why)
 
 pub returns-in_err-refuse-in-Ok-eq0-2-clause-why : goal.returns-in_err-refuse-in-Ok-eq0-2-clause-why
 returns-in_err-refuse-in-Ok-eq0-2-clause-why g c =
@@ -459,3 +464,16 @@ returns-in_err-refuse-in-Refused-clause-why g c =
     let write : c.in_err-refuse-in-Refused.field-0.0 ≡ Write =
     cc (c.in_err-refuse-in-Refused.ensures.fault) in
     rw (told.1, told.2, write) tt
+
+-- ---- what no call of the bank touches
+
+pub returns-in_err-answer_message-in-Message-clause-spares :
+    goal.returns-in_err-answer_message-in-Message-clause-spares
+returns-in_err-answer_message-in-Message-clause-spares g c =
+    g.met.C.Counter.spares_then c.args.bank.now c.messages.bank c.answer_message.new.bank
+    c.messages.invariant.spares c.in_err-answer_message-in-Message.ensures.spares
+
+pub returns-then-message-clause-spares : goal.returns-then-message-clause-spares
+returns-then-message-clause-spares g c =
+    g.met.C.Counter.spares_then c.args.bank.now c.messages.bank c.answer_message.new.bank
+    c.messages.invariant.spares c.in_ok-answer_message-in-Message.ensures.spares

@@ -21,6 +21,7 @@ invariant-reads g l = record {
       (g.K.Clock.readings l.fn.clock) (g.K.Clock.readings l.clock) (g.C.Counter.seen l.fn.bank)
       (g.C.Counter.seen l.bank) (take l.filled l.buffer) l.served;
   idle : (g.C.Counter.seen l.fn.bank).is_down → l.bank ≡ l.fn.bank;
+  spares : g.C.Counter.spares l.fn.bank l.bank;
   made : HasMade (g.R.Source.told l.fn.reader) (g.R.Source.told l.reader) l.counter;
   through : IsThrough (g.W.Sink.told l.fn.writer) (g.W.Sink.told l.writer);
 }
@@ -38,6 +39,7 @@ invariant-messages g l = record {
       (g.K.Clock.readings l.fn.clock) (g.K.Clock.readings l.clock) (g.C.Counter.seen l.fn.bank)
       (g.C.Counter.seen l.bank) (slice_range l.buffer l.used l.filled) l.served;
   idle : (g.C.Counter.seen l.fn.bank).is_down → l.bank ≡ l.fn.bank;
+  spares : g.C.Counter.spares l.fn.bank l.bank;
   through : IsThrough (g.W.Sink.told l.fn.writer) (g.W.Sink.told l.writer);
 }
 

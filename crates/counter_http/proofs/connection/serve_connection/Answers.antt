@@ -67,3 +67,10 @@ returns-clause-why g c = c.serve.ensures.why
 -- what was written as each read was made
 pub returns-clause-prompt : goal.returns-clause-prompt
 returns-clause-prompt g c = c.serve.ensures.prompt
+
+-- what no call of the bank touches
+pub returns-in_default-clause-spares : goal.returns-in_default-clause-spares
+returns-in_default-clause-spares g c = g.met.C.Counter.spares_itself c.args.bank.now
+
+pub returns-in_default-vec-clause-spares : goal.returns-in_default-vec-clause-spares
+returns-in_default-vec-clause-spares g c = g.met.C.Counter.spares_itself c.args.bank.now

@@ -6,20 +6,26 @@ use Rattle.counter_http.proofs.Chained.{ends, goes_on, none_given, none_yet}
 use Rattle.counter_http.proofs.connections.serve_door.Goals as goal
 
 pub connections-init : goal.connections-init
-connections-init g c = none_yet g.C.Counter.seen g.C.Counter.reason _ (g.D.Door.told c.args.door.now)
-    (g.K.Clock.readings c.args.clock.now) c.args.bank.now
+connections-init g c = record {
+  chain = none_yet g.C.Counter.seen g.C.Counter.reason _ (g.D.Door.told c.args.door.now)
+      (g.K.Clock.readings c.args.clock.now) c.args.bank.now;
+  spares = g.met.C.Counter.spares_itself c.args.bank.now;
+}
 
 pub connections-preserved : goal.connections-preserved
 connections-preserved g c =
     let served = c.serve_ends-served in
     let on : c.after.result ≡ Ok tt = search rules in
-    goes_on g.C.Counter.seen g.C.Counter.reason _ _ _ _ _ _ _ _ _ _ _ served.result c.connections.number
-    (c.in-Ok.reader, c.in-Ok.writer)
-    c.connections.invariant c.in-Ok.ensures served.ensures
-    (sym c.after.ensures ∙ on)
+    record {
+      chain = goes_on g.C.Counter.seen g.C.Counter.reason _ _ _ _ _ _ _ _ _ _ _ served.result
+          c.connections.number (c.in-Ok.reader, c.in-Ok.writer) c.connections.invariant.chain c.in-Ok.ensures
+          served.ensures.serves (sym c.after.ensures ∙ on);
+      spares = g.met.C.Counter.spares_then c.args.bank.now c.connections.bank served.new.bank
+          c.connections.invariant.spares served.ensures.spares;
+    }
 
-pub returns-in_err-after : goal.returns-in_err-after
-returns-in_err-after g c =
+pub returns-in_err-after-clause-serves : goal.returns-in_err-after-clause-serves
+returns-in_err-after-clause-serves g c =
     let served = c.serve_ends-served in
     let fault = c.in_err-after.field-0.0 in
     let is : c.after.result ≡ Err fault = search rules in
@@ -32,11 +38,18 @@ returns-in_err-after g c =
     (g.K.Clock.readings served.new.clock) c.args.bank.now served.new.bank c.args.connections r) (sym same)
     (ends g.C.Counter.seen g.C.Counter.reason _ _ _ _ _ _ _ _ _ _ _ served.result c.connections.number
     c.args.connections (c.in-Ok.reader, c.in-Ok.writer) fault
-    c.connections.invariant c.in-Ok.ensures served.ensures
+    c.connections.invariant.chain c.in-Ok.ensures served.ensures.serves
     c.connections-test.true (sym c.after.ensures ∙ is))
 
 -- the door was refused an opening
-pub returns-in_default : goal.returns-in_default
-returns-in_default g c =
+pub returns-in_default-clause-serves : goal.returns-in_default-clause-serves
+returns-in_default-clause-serves g c =
     none_given g.C.Counter.seen g.C.Counter.reason _ _ _ _ _ _ _ _ c.connections.number c.args.connections
-    (error_kind c.in_default.field-0) c.connections.invariant c.connections-test.true c.in_default.ensures
+    (error_kind c.in_default.field-0) c.connections.invariant.chain c.connections-test.true
+    c.in_default.ensures
+
+-- what no call of the bank touches
+pub returns-in_err-after-clause-spares : goal.returns-in_err-after-clause-spares
+returns-in_err-after-clause-spares g c =
+    g.met.C.Counter.spares_then c.args.bank.now c.connections.bank c.serve_ends-served.new.bank
+    c.connections.invariant.spares c.serve_ends-served.ensures.spares

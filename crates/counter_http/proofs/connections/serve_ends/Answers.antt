@@ -1,7 +1,7 @@
 use Rattle.counter_http.proofs.connections.serve_ends.Goals as goal
 
-pub returns : goal.returns
-returns g c =
+pub returns-clause-serves : goal.returns-clause-serves
+returns-clause-serves g c =
     let it = c.serve_connection-served.ensures in
     record {
       left = (c.serve_connection-served.new.reader, c.serve_connection-served.new.writer);

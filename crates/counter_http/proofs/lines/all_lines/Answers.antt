@@ -56,6 +56,8 @@ loop-body-preserved g c =
       within = above.branch;
       asking = asking_more g.C.Counter.seen g.C.Counter.contents g.C.Counter.reason c.args.bank.now
           c.loop-body.bank c.next_branch.new.self _ i.asking c.in_ok-line.ensures.call;
+      spares = g.met.C.Counter.spares_then c.args.bank.now c.loop-body.bank c.next_branch.new.self i.spares
+          c.in_ok-line.ensures.spares;
       lines = λ h log s.
           let before = c.in_ok-line.ensures.call.honest h in
           let next : IsNextBranch log c.loop-body.after (Some c.in-Some.line) =
@@ -112,3 +114,25 @@ pub returns-clause-idle : goal.returns-clause-idle
 returns-clause-idle g c =
     call_idle_behind g.C.Counter.seen c.args.bank.now c.loop-body.bank c.loop-body.invariant.asking.idle
     g.C.Counter.contents g.C.Counter.reason c.next_branch.new.self _ _ c.next_branch.ensures.call
+
+-- ---- what no call of the bank touches
+
+pub returns-in_err-line-clause-spares : goal.returns-in_err-line-clause-spares
+returns-in_err-line-clause-spares g c =
+    g.met.C.Counter.spares_then c.args.bank.now c.loop-body.bank c.next_branch.new.self
+    c.loop-body.invariant.spares c.in_err-line.ensures.spares
+
+pub returns-in_err-line_of_branch-clause-spares : goal.returns-in_err-line_of_branch-clause-spares
+returns-in_err-line_of_branch-clause-spares g c =
+    g.met.C.Counter.spares_then c.args.bank.now c.loop-body.bank c.next_branch.new.self
+    c.loop-body.invariant.spares c.in_ok-line.ensures.spares
+
+pub returns-in_err-push_str-clause-spares : goal.returns-in_err-push_str-clause-spares
+returns-in_err-push_str-clause-spares g c =
+    g.met.C.Counter.spares_then c.args.bank.now c.loop-body.bank c.next_branch.new.self
+    c.loop-body.invariant.spares c.in_ok-line.ensures.spares
+
+pub returns-clause-spares : goal.returns-clause-spares
+returns-clause-spares g c =
+    g.met.C.Counter.spares_then c.args.bank.now c.loop-body.bank c.next_branch.new.self
+    c.loop-body.invariant.spares c.in_ok-line.ensures.spares

@@ -12,6 +12,7 @@ abbrev pub invariant-loop-body : goal.invariant-loop-body
 invariant-loop-body g l = record {
   within : l.after ≤ LAST_BRANCH;
   asking : Asking g.C.Counter.seen l.fn.bank l.bank;
+  spares : g.C.Counter.spares l.fn.bank l.bank;
   lines : (g.C.Counter.seen l.bank).honest → (log : List Command) → ShowsLog (g.C.Counter.seen l.fn.bank) log
       → string_bytes l.body ≡ lines_up_to log l.after;
 }

@@ -13,6 +13,7 @@ loop-left-init g c = record {
   going = going_first g.C.Counter.seen c.args.counter.now (g.K.Clock.readings c.args.clock.now)
       c.args.driver.now c.args.count
       c.requires.first c.requires.up;
+  spares = g.met.C.Counter.spares_itself c.args.counter.now;
 }
 
 -- a batch was refused
@@ -71,6 +72,8 @@ loop-left-preserved g c =
           c.in_ok-posted.ensures.honest c.in_ok-posted.posted c.submit_batch.new.driver _ goes_on refl refl
           part.full a.2
           (omega (arith, a.2.few, most, part.long)) c.in_ok-posted.ensures.up;
+      spares = g.met.C.Counter.spares_then c.args.counter.now c.loop-left.counter c.submit_batch.new.counter
+          c.loop-left.invariant.spares c.in_ok-posted.ensures.spares;
     }
 
 pub returns-clause-submits : goal.returns-clause-submits
@@ -100,3 +103,9 @@ returns-in_err-posted-clause-up g c =
 
 pub returns-clause-up : goal.returns-clause-up
 returns-clause-up g c = c.loop-left.invariant.going.up
+
+-- what no call of the counter touches
+pub returns-in_err-posted-clause-spares : goal.returns-in_err-posted-clause-spares
+returns-in_err-posted-clause-spares g c =
+    g.met.C.Counter.spares_then c.args.counter.now c.loop-left.counter c.submit_batch.new.counter
+    c.loop-left.invariant.spares c.in_err-posted.ensures.spares

@@ -8,6 +8,7 @@ invariant-loop-left g l = record {
   going : Going g.C.Counter.seen l.fn.counter l.counter (g.K.Clock.readings l.fn.clock)
       (g.K.Clock.readings l.clock)
       l.fn.driver l.driver l.count l.left l.driven;
+  spares : g.C.Counter.spares l.fn.counter l.counter;
 }
 
 abbrev pub decreases-loop-left : goal.decreases-loop-left

@@ -94,3 +94,9 @@ returns-clause-why g c =
     c.drive.new.counter c.in_ok-plan.ensures.takes c.in_ok-plan.ensures.honest
     (λ down. absurd (let e = c.in_ok-plan.ensures.down.1 down in cc e)) c.drive.result
     c.drive.ensures.why
+
+-- what no call of the counter touches
+pub returns-clause-spares : goal.returns-clause-spares
+returns-clause-spares g c =
+    g.met.C.Counter.spares_then c.args.counter.now c.list_branches.new.counter c.drive.new.counter
+    c.in_ok-plan.ensures.spares c.drive.ensures.spares
