@@ -1,5 +1,5 @@
 -- What is told of the rows that are to come of a bank that was lent is told of all its rows.
-use Rattle.std.proofs.Common.{◌≡◌, ℕ, ℤ, Bool, Option, None, List, Result, Ok, Err, sym, subst, ◌∙◌}
+use Rattle.std.proofs.Common.{◌≡◌, ℕ, ℤ, Bool, Option, None, List, Result, Ok, Err, take, sym, ap, subst, ◌∙◌}
 use Rattle.std.specs.Borrow.{GName}
 use Rattle.sqlite.specs.Effect.{Database}
 use Rattle.sqlite_trees.specs.declared.store.Store.{Ghosts}
@@ -8,7 +8,7 @@ use Rattle.bank_store.specs.Walking.{BeginsWalk, items_to_come, lent}
 use Rattle.bank_store.specs.declared.bank.Bank.{Bank}
 use Rattle.bank_store.specs.declared.walks.Walk.{Walk}
 use Rattle.bank_replays.specs.Comparing.{SameRows}
-use Rattle.bank_replays.specs.Handing.{HandsOn}
+use Rattle.bank_replays.specs.Handing.{HandsSome}
 use Rattle.bank_replays.specs.declared.fault.ReplayFault.{ReplayFault}
 
 -- the bank as it was before, and the walk that it was lent to
@@ -18,13 +18,18 @@ module _ {S R X : Type 0} {g : Ghosts S} {key : X → ℤ} {item : R → X} {is_
   there : (all : List X) → HasItems (database_of g old) all → HasItems (database_of g (lent walk)) all
   there all = subst (λ bank. HasItems (database_of g bank) all) (sym begins.same)
 
-  pub hands_of_all : (Took Part : List R → Type 0) {Clean Later : Type 0} (r : Result (Unit {0}) ReplayFault)
-      → HandsOn item Took Part Clean (HasItems (database_of g (lent walk)))
-      (λ all. items_to_come key item is_given all walk) r → (Later → Clean)
-      → HandsOn item Took Part Later (HasItems (database_of g old)) (λ all. all) r
-  hands_of_all Took Part (Ok done) it before =
-      (it.0, it.1, λ late all has. it.2 (before late) all (there all has) ∙ begins.all all has)
-  hands_of_all Took Part (Err fault) it before = (
+  pub hands_of_all : (Took : List R → Type 0) (Part : List R → ReplayFault → Type 0) {Clean Later : Type 0}
+      (most : ℕ) (r : Result ℕ ReplayFault)
+      → HandsSome item Took Part Clean (HasItems (database_of g (lent walk)))
+      (λ all. items_to_come key item is_given all walk) most r → (Later → Clean)
+      → HandsSome item Took Part Later (HasItems (database_of g old)) (λ all. all) most r
+  hands_of_all Took Part most (Ok count) it before = (
+    it.0,
+    it.1,
+    it.2,
+    λ late all has. it.3 (before late) all (there all has) ∙ ap (take most) (begins.all all has),
+  )
+  hands_of_all Took Part most (Err fault) it before = (
     it.0,
     it.1,
     λ late all has.

@@ -7,3 +7,12 @@ pub mod Begun
 pub mod Hands
 pub mod Refilled
 pub mod SameNumbers
+pub mod Chained
+pub mod Wrote
+pub mod LogRows
+pub mod Digested
+pub mod InMemory
+pub mod Leaves
+pub mod Exported
+pub mod ExportedLog
+pub mod Planned

@@ -7,3 +7,7 @@ pub mod Handing
 pub mod Comparing
 pub mod Replays
 pub mod Came
+pub mod Requests
+pub mod Digests
+pub mod Writing
+pub mod Beginnings

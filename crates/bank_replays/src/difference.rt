@@ -1,4 +1,5 @@
 //! What a replay says: where the rows of two banks differ.
+use crate::chain::Digest;
 use walked_rows::{
     StoredAccount, StoredBranch, StoredFloor, StoredMeta, StoredPosting, StoredReference,
     StoredRequest, StoredTeller,
@@ -27,8 +28,8 @@ pub enum Difference {
 /// What a replay says of a bank.
 #[derive(Clone, Copy, Debug, PartialEq, Eq)]
 pub enum Replay {
-    /// Its tables are what the rules give.
-    Agrees,
+    /// Its tables are what the rules give, and it keeps requests with this digest.
+    Agrees(Digest),
     /// They aren't. This is the first difference.
     Differs(Difference),
 }

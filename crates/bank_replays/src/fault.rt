@@ -1,8 +1,9 @@
 //! Why what is written of a bank ends early.
 ghost use Rattle.std.specs.Prelude.{◌≡◌};
-ghost use Rattle.bank_replays.specs.declared.fault.ReplayFault.TheVariants.{Bank};
+ghost use Rattle.bank_replays.specs.declared.fault.ReplayFault.TheVariants.{Bank, Write};
 
 use posting_rules::Fault;
+use report_lines::WriteFault;
 use std::fmt;
 
 /// Why not all was written of a bank.
@@ -30,5 +31,21 @@ impl From<Fault> for ReplayFault {
 
     fn from(fault: Fault) -> ReplayFault {
         ReplayFault::Bank(fault)
+    }
+}
+
+impl From<WriteFault> for ReplayFault {
+    ghost from_gives = { λ _ report. report ≡ Write };
+
+    fn from(_: WriteFault) -> ReplayFault {
+        ReplayFault::Write
+    }
+}
+
+/// The fault of a bank that is read, where nothing is written.
+pub(crate) fn told(fault: ReplayFault) -> Fault {
+    match fault {
+        ReplayFault::Bank(fault) => fault,
+        ReplayFault::Write => Fault::Memory,
     }
 }

@@ -1,11 +1,12 @@
 //! Rows of a bank that are handed on one by one.
-ghost use Rattle.std.specs.Prelude.{◌≡◌, ◌++◌, ◌∷◌, [], List, OnErr, OnOk};
+ghost use Rattle.std.specs.Prelude.{◌≡◌, ◌++◌, ◌∷◌, [], List, IfErr, OnOk};
 ghost use Rattle.sqlite.specs.State.{HasCleanDisk};
 ghost use Rattle.bank_store.specs.Room.{TakesFewBytes};
 ghost use Rattle.bank_store.specs.Seen.{database_of, file_of};
 ghost use Rattle.bank_store.specs.Walking.{HasToldFault, items_to_come, lent, lent_state, loan_of};
-ghost use Rattle.bank_replays.specs.Handing.{HandsOn};
+ghost use Rattle.bank_replays.specs.Handing.{HandsAll, HandsSome};
 ghost use Rattle.bank_replays.specs.Reading.{ReadsBank};
+ghost use Rattle.bank_replays.specs.declared.fault.ReplayFault.TheVariants.{Bank as OfBank};
 
 use crate::fault::ReplayFault;
 use bank_store::{Bank, Walk, each_row};
@@ -21,60 +22,90 @@ pub(crate) trait Handed: WalkedRow {
     ghost few_bytes: { TakesFewBytes Self.row };
 }
 
-/// What takes rows of a kind, one by one.
-pub(crate) trait Takes<R: WalkedRow> {
-    /// From the one to the other it was given these rows, in this order.
-    ghost Took: { Self → Self → List R → Type 0 };
+/// A way in which rows of a kind are handed, one by one, to what takes them.
+pub(crate) trait Hands<R: WalkedRow, V> {
+    ghost use Rattle.bank_replays.specs.declared.fault.ReplayFault.{ReplayFault};
+    ghost use Rattle.posting_rules.specs.declared.fault.Fault.{Fault};
 
-    /// From the one to the other it was given these, and refused the next, or there was a fault.
-    ghost Part: { Self → Self → List R → Type 0 };
+    /// From the one to the other it took these rows, in this order.
+    ghost Took: { Self → V → V → List R → Type 0 };
 
-    /// Takes one row more.
-    fn take(&mut self, row: R) -> Result<(), ReplayFault>
-        ensures took { (first : _) (rows : List R) → Took first self.old rows
-            → OnOk result (Took first self.new (rows ++ row ∷ [])) }
-        ensures part { (first : _) (rows : List R) → Took first self.old rows
-            → OnErr result (Part first self.new rows) };
+    /// From the one to the other it took these but for the last, at which this fault came; or all of them, and
+    /// the fault came behind them.
+    ghost Part: { Self → V → V → List R → ReplayFault → Type 0 };
 
-    ghost none_yet: { (taker : Self) → Took taker taker [] };
+    /// Hands on one row more.
+    fn hand(&self, row: R, taker: &mut V) -> Result<(), ReplayFault>
+        ensures took { (first : V) (rows : List R) → Took self.now first taker.old rows
+            → OnOk result (Took self.now first taker.new (rows ++ row ∷ [])) }
+        ensures part { (first : V) (rows : List R) → Took self.now first taker.old rows
+            → IfErr result (λ fault. Part self.now first taker.new (rows ++ row ∷ []) fault) };
 
-    ghost in_part: { (first last : Self) (rows : List R) → Took first last rows → Part first last rows };
+    ghost none_yet: { (way : Self) (taker : V) → Took way taker taker [] };
+
+    ghost in_part: { (way : Self) (first last : V) (rows : List R) (fault : Fault) → Took way first last rows
+        → Part way first last rows (OfBank fault) };
 }
 
-// Hands on the rows that a walk gives.
-fn hand_rows<S: Alter, R: Handed, V: Takes<R>>(
+// Hands on the rows that a walk gives, so many at most, and returns how many they were.
+fn hand_rows<S: Alter, R: Handed, V, P: Hands<R, V>>(
     walk: &mut Walk<'_, S, R>,
+    most: u64,
+    way: &P,
     taker: &mut V,
-) -> Result<(), ReplayFault>
+) -> Result<u64, ReplayFault>
     requires fresh { HasToldFault walk.old → ⊥ }
     ensures same_reference { loan_of walk.new ≡ loan_of walk.old }
     ensures bank { ReadsBank S.Store (lent walk.old) (lent walk.new) result }
-    ensures hands { HandsOn R.WalkedRow.item (V.Took taker.old taker.new) (V.Part taker.old taker.new)
+    ensures hands { HandsSome R.WalkedRow.item (P.Took way.now taker.old taker.new)
+        (P.Part way.now taker.old taker.new)
         (HasCleanDisk (lent_state S.Store walk.new)) (R.WalkedRow.HasItems (lent_state S.Store walk.old).now)
-        (λ all. items_to_come R.WalkedRow.key R.WalkedRow.item R.WalkedRow.is_given all walk.old) result }
+        (λ all. items_to_come R.WalkedRow.key R.WalkedRow.item R.WalkedRow.is_given all walk.old) most result }
 {
-    'rows: for _ in 0..u64::MAX {
+    'rows: for i in 0..most {
         let Some(row) = walk.next()? else {
-            return Ok(());
+            return Ok(i);
         };
-        taker.take(row)?;
+        way.hand(row, taker)?;
     }
-    // There would be no room for so many rows.
-    Err(ReplayFault::Bank(Fault::Memory))
+    Ok(most)
+}
+
+/// Hands on the first rows of a kind that a bank has, so many at most, and returns how many they were. A fault
+/// leaves the bank as it was.
+pub(crate) fn hand_first<S: Alter, R: Handed, V, P: Hands<R, V>>(
+    bank: &mut Bank<S>,
+    most: u64,
+    way: &P,
+    taker: &mut V,
+) -> Result<u64, ReplayFault>
+    ensures bank { ReadsBank S.Store bank.old bank.new result }
+    ensures hands { HandsSome R.WalkedRow.item (P.Took way.now taker.old taker.new)
+        (P.Part way.now taker.old taker.new)
+        (HasCleanDisk (file_of bank.new)) (R.WalkedRow.HasItems (database_of S.Store bank.old)) (λ all. all)
+        most result }
+{
+    let mut walk = each_row::<S, R>(bank)?;
+    hand_rows(&mut walk, most, way, taker)
 }
 
 /// Hands on all rows of a kind that a bank has. A fault leaves the bank as it was.
-pub(crate) fn hand_all<S: Alter, R: Handed, V: Takes<R>>(
+pub(crate) fn hand_all<S: Alter, R: Handed, V, P: Hands<R, V>>(
     bank: &mut Bank<S>,
+    way: &P,
     taker: &mut V,
 ) -> Result<(), ReplayFault>
     ensures bank { ReadsBank S.Store bank.old bank.new result }
-    ensures hands { HandsOn R.WalkedRow.item (V.Took taker.old taker.new) (V.Part taker.old taker.new)
-        (HasCleanDisk (file_of bank.new)) (R.WalkedRow.HasItems (database_of S.Store bank.old)) (λ all. all)
-        result }
+    ensures hands { HandsAll R.WalkedRow.item (P.Took way.now taker.old taker.new)
+        (P.Part way.now taker.old taker.new)
+        (HasCleanDisk (file_of bank.new)) (R.WalkedRow.HasItems (database_of S.Store bank.old)) result }
 {
-    let mut walk = each_row::<S, R>(bank)?;
-    hand_rows(&mut walk, taker)
+    let count = hand_first::<S, R, V, P>(bank, u64::MAX, way, taker)?;
+    if count == u64::MAX {
+        // There would be no room for so many rows.
+        return Err(ReplayFault::Bank(Fault::Memory));
+    }
+    Ok(())
 }
 
 impl Handed for StoredMeta {

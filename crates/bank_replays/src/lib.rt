@@ -7,13 +7,16 @@
 //! agrees:
 //!
 //! ```rust
-//! use bank_replays::{Replay, replay};
+//! use bank_replays::{Replay, Unwatched, replay};
 //! use bank_store::Bank;
 //! use sqlite::Alter;
 //! use std::test::Fail;
 //!
 //! pub fn first_replay<S: Alter>(bank: &mut Bank<S>) -> Result<bool, Fail> {
-//!     Ok(replay(bank)? == Replay::Agrees)
+//!     match replay(bank, Unwatched)? {
+//!         Replay::Agrees(_) => Ok(true),
+//!         Replay::Differs(_) => Ok(false),
+//!     }
 //! }
 //! ```
 //!
@@ -21,19 +24,38 @@
 //! with the same rows shows that log too. So a file that agrees is never a wrong one. That a bank's own file
 //! agrees is tested, and not proved.
 //!
+//! [`Replay::Agrees`] has the [`Digest`] of the requests, in which a changed moment, a changed reference, a cut-off
+//! end and a rewritten past show, none of which a replay can see by itself. [`digest`] gives that of the first
+//! requests of any file, to be compared with one that was written down. [`export`] writes the kept requests as the
+//! records that they came as, and [`write_plan`] the open branches as a plan, so that another bank can be given
+//! both. A [`Difference`] is shown as a line, as `account 2 stands 0 due -100`.
+//!
 //! The file is to define the tables as a bank's are defined: this isn't asked, and `agrees` of [`replay`] takes
 //! it as its premise (`HasTables` of `specs/FileTables`).
 #![tactic(auto)]
 
+mod chain;
 mod compared;
 mod comparing;
 mod difference;
+mod digests;
+mod exports;
 mod fault;
 mod handed;
+mod plan;
+mod ram;
 mod refill;
 mod replays;
 mod requests;
+mod shown;
+mod watch;
+mod writes;
 
+pub use chain::Digest;
 pub use difference::{Difference, Replay, Sides};
+pub use digests::digest;
+pub use exports::export;
 pub use fault::ReplayFault;
+pub use plan::write_plan;
 pub use replays::replay;
+pub use watch::{Unwatched, Watch};

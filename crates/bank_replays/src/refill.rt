@@ -4,8 +4,9 @@ ghost use Rattle.std.specs.Prelude.{◌≤◌, ◌<◌, ◌≡◌, [], IfOk, OnO
 ghost use Rattle.bank_replays.specs.Refilling.{ShowsSome};
 
 use crate::fault::ReplayFault;
-use crate::handed::{Takes, hand_all};
+use crate::handed::Hands;
 use crate::requests::request_of;
+use crate::watch::Watch;
 use arrayvec::ArrayVec;
 use bank_store::Bank;
 use message_records::{Branch, Cents, Moment, Outcome, REQUEST_BYTES, encode_request};
@@ -18,6 +19,9 @@ use std::alloc::{AllocError, Global};
 use walked_rows::{KeptRequest, StoredBranch, StoredFloor};
 
 const NO_MEMORY: ReplayFault = ReplayFault::Bank(Fault::Memory);
+
+/// Rows are given to a second bank.
+pub(crate) struct Filling;
 
 // What a branch is yet to be opened with: no account where it isn't to be opened.
 #[derive(Clone, Copy, Debug, PartialEq, Eq)]
@@ -69,19 +73,20 @@ fn post_batch<T: Alter + Drop>(
     Ok(())
 }
 
-/// A second bank, with the records that are yet to be posted to it.
+/// A second bank, with the records that are yet to be posted to it, and who is told how far it is.
 #[derive(Drop)]
-pub(crate) struct Refill<T: Alter> {
+pub(crate) struct Refill<T: Alter, W> {
     bank: Bank<T>,
     // By the branch's number.
     planned: Vec<Planned>,
     moment: Moment,
     batch: ArrayVec<[u8; REQUEST_BYTES], RECORDS_PER_BATCH>,
+    watch: W,
 }
 
-impl<T: Alter + Drop> Refill<T> {
+impl<T: Alter + Drop, W: Watch + Drop> Refill<T, W> {
     // Nothing was given yet.
-    pub(crate) fn over(alloc: Global, bank: Bank<T>) -> Result<Refill<T>, AllocError>
+    pub(crate) fn over(alloc: Global, bank: Bank<T>, watch: W) -> Result<Refill<T, W>, AllocError>
         ensures { IfOk result (λ refill. refill.bank ≡ bank) }
     {
         let none = Planned {
@@ -94,6 +99,7 @@ impl<T: Alter + Drop> Refill<T> {
             planned,
             moment: Moment::new(0).unwrap(),
             batch: ArrayVec::new(),
+            watch,
         })
     }
 
@@ -147,6 +153,18 @@ impl<T: Alter + Drop> Refill<T> {
         Ok(())
     }
 
+    // Tells that this request is reached.
+    fn reach(&mut self, row: &KeptRequest)
+        ensures { ShowsSome T.Store self.old.bank → ShowsSome T.Store self.new.bank }
+    {
+        self.watch.reached(row.request.ordinal.get());
+    }
+
+    // Tells that no more is to come.
+    pub(crate) fn end(&mut self) {
+        self.watch.ended();
+    }
+
     // The bank.
     pub(crate) fn into_bank(self) -> Bank<T>
         ensures { result ≡ self.bank }
@@ -156,39 +174,41 @@ impl<T: Alter + Drop> Refill<T> {
             planned: _,
             moment: _,
             batch: _,
+            mut watch,
         } = self;
+        watch.ended();
         bank
     }
 }
 
-impl<T: Alter + Drop> Takes<StoredBranch> for Refill<T> {
-    ghost Took = { λ first last rows. ShowsSome T.Store first.bank → ShowsSome T.Store last.bank };
+impl<T: Alter + Drop, W: Watch + Drop> Hands<StoredBranch, Refill<T, W>> for Filling {
+    ghost Took = { λ way first last rows. ShowsSome T.Store first.bank → ShowsSome T.Store last.bank };
 
-    ghost Part = { λ first last rows. ⊤ };
+    ghost Part = { λ way first last rows fault. ⊤ };
 
-    ghost none_yet = { λ refill some. some };
+    ghost none_yet = { λ way refill some. some };
 
-    ghost in_part = { λ first last rows took. tt };
+    ghost in_part = { λ way first last rows fault took. tt };
 
-    fn take(&mut self, row: StoredBranch) -> Result<(), ReplayFault> {
-        if let Some(planned) = self.planned.get_mut(row.branch.get() as usize) {
+    fn hand(&self, row: StoredBranch, refill: &mut Refill<T, W>) -> Result<(), ReplayFault> {
+        if let Some(planned) = refill.planned.get_mut(row.branch.get() as usize) {
             planned.accounts = row.accounts.get() as u32;
         }
         Ok(())
     }
 }
 
-impl<T: Alter + Drop> Takes<StoredFloor> for Refill<T> {
-    ghost Took = { λ first last rows. ShowsSome T.Store first.bank → ShowsSome T.Store last.bank };
+impl<T: Alter + Drop, W: Watch + Drop> Hands<StoredFloor, Refill<T, W>> for Filling {
+    ghost Took = { λ way first last rows. ShowsSome T.Store first.bank → ShowsSome T.Store last.bank };
 
-    ghost Part = { λ first last rows. ⊤ };
+    ghost Part = { λ way first last rows fault. ⊤ };
 
-    ghost none_yet = { λ refill some. some };
+    ghost none_yet = { λ way refill some. some };
 
-    ghost in_part = { λ first last rows took. tt };
+    ghost in_part = { λ way first last rows fault took. tt };
 
-    fn take(&mut self, row: StoredFloor) -> Result<(), ReplayFault> {
-        if let Some(planned) = self.planned.get_mut(row.branch.get() as usize) {
+    fn hand(&self, row: StoredFloor, refill: &mut Refill<T, W>) -> Result<(), ReplayFault> {
+        if let Some(planned) = refill.planned.get_mut(row.branch.get() as usize) {
             planned.floor = Cents::new(row.lowest);
         }
         Ok(())
@@ -201,30 +221,31 @@ fn had_account(outcome: i64) -> bool {
         && outcome != i64::from(Outcome::NoAccount.code())
 }
 
-impl<T: Alter + Drop> Takes<KeptRequest> for Refill<T> {
-    ghost Took = { λ first last rows. ShowsSome T.Store first.bank → ShowsSome T.Store last.bank };
+impl<T: Alter + Drop, W: Watch + Drop> Hands<KeptRequest, Refill<T, W>> for Filling {
+    ghost Took = { λ way first last rows. ShowsSome T.Store first.bank → ShowsSome T.Store last.bank };
 
-    ghost Part = { λ first last rows. ⊤ };
+    ghost Part = { λ way first last rows fault. ⊤ };
 
-    ghost none_yet = { λ refill some. some };
+    ghost none_yet = { λ way refill some. some };
 
-    ghost in_part = { λ first last rows took. tt };
+    ghost in_part = { λ way first last rows fault took. tt };
 
     // A request that wasn't posted comes at the moment before it: no row has one of its own.
-    fn take(&mut self, row: KeptRequest) -> Result<(), ReplayFault> {
+    fn hand(&self, row: KeptRequest, refill: &mut Refill<T, W>) -> Result<(), ReplayFault> {
+        refill.reach(&row);
         let Some(request) = request_of(&row) else {
             return Ok(());
         };
-        self.open(branch_of_teller(request.teller()))?;
+        refill.open(branch_of_teller(request.teller()))?;
         if had_account(row.request.outcome) {
-            self.open(branch_of_account(request.account()))?;
+            refill.open(branch_of_account(request.account()))?;
         }
         let moment = match row.posting {
             Some(posting) => posting.moment,
-            None => self.moment,
+            None => refill.moment,
         };
-        self.make_room(moment)?;
-        self.batch.push(encode_request(&request));
+        refill.make_room(moment)?;
+        refill.batch.push(encode_request(&request));
         Ok(())
     }
 }

@@ -1,84 +1,117 @@
 //! The replay of a bank.
-ghost use Rattle.std.specs.Prelude.{◌≡◌, ◌≢◌, List, None, Ok, Err, IfOk, OnOk};
-ghost use Rattle.sqlite.specs.Held.{state};
+ghost use Rattle.std.specs.Prelude.{◌≡◌, List, Err, IfOk, OnOk};
+ghost use Rattle.sqlite.specs.Files.{over_files};
+ghost use Rattle.sqlite.specs.Held.{IsNew, state};
 ghost use Rattle.sqlite.specs.State.{HasCleanDisk};
-ghost use Rattle.sqlite.specs.Steps.{over_memory};
 ghost use Rattle.posting_rules.specs.Commands.{Command};
 ghost use Rattle.posting_rules.specs.Counter.{ShowsLog};
 ghost use Rattle.posting_rules.specs.declared.fault.Fault.TheVariants.{Down};
-ghost use Rattle.bank_store.specs.Seen.{bank_seen, database_of, fault_of, file_of};
+ghost use Rattle.walked_rows.specs.KeptRows.{HasKept, KeptItem};
+ghost use Rattle.bank_store.specs.Seen.{bank_seen, connection_of, database_of, fault_of, file_of};
+ghost use Rattle.bank_store.specs.Sparing.{SparesWhileOpen};
 ghost use Rattle.bank_store.specs.Leaving.{StandsWhileOpen, TakesNone};
+ghost use Rattle.bank_replays.specs.Digests.{IsDigestIn, IsDigestOf, answered_behind};
 ghost use Rattle.bank_replays.specs.FileTables.{FileTables, HasTables};
 ghost use Rattle.bank_replays.specs.Reading.{ReadsBank};
 ghost use Rattle.bank_replays.specs.Refilling.{ShowsSome};
-ghost use Rattle.bank_replays.specs.Replays.{HasReplayed, OnAgrees};
+ghost use Rattle.bank_replays.specs.Replays.{HasAnswered, OnAgrees};
 
 use crate::comparing::compare_all;
-use crate::difference::{Difference, Replay};
-use crate::fault::ReplayFault;
+use crate::difference::Replay;
+use crate::digests::digest_all;
+use crate::fault::{ReplayFault, told};
 use crate::handed::hand_all;
-use crate::refill::Refill;
+use crate::ram::Ram;
+use crate::refill::{Filling, Refill};
+use crate::watch::Watch;
 use bank_store::{Bank, Refused, create};
 use posting_rules::Fault;
-use sqlite::{Alter, Connection, MemStore};
+use sqlite::{Alter, Connection, FileStore, Files, Options};
 use std::alloc::Global;
 use walked_rows::{KeptRequest, StoredBranch, StoredFloor};
 
-// The fault of a bank that is read.
-fn told(fault: ReplayFault) -> Fault {
-    match fault {
-        ReplayFault::Bank(fault) => fault,
-        ReplayFault::Write => Fault::Memory,
-    }
-}
-
 // Fills a second bank with what the rows of a bank say.
-fn fill<S: Alter, T: Alter + Drop>(
+fn fill<S: Alter, T: Alter + Drop, W: Watch + Drop>(
     bank: &mut Bank<S>,
-    refill: &mut Refill<T>,
+    refill: &mut Refill<T, W>,
 ) -> Result<(), ReplayFault>
     ensures bank { ReadsBank S.Store bank.old bank.new result }
     ensures shows { ShowsSome T.Store refill.old.bank → OnOk result (ShowsSome T.Store refill.new.bank) }
 {
-    hand_all::<S, StoredBranch, Refill<T>>(bank, refill)?;
-    hand_all::<S, StoredFloor, Refill<T>>(bank, refill)?;
-    hand_all::<S, KeptRequest, Refill<T>>(bank, refill)?;
+    hand_all::<S, StoredBranch, Refill<T, W>, Filling>(bank, &Filling, refill)?;
+    hand_all::<S, StoredFloor, Refill<T, W>, Filling>(bank, &Filling, refill)?;
+    hand_all::<S, KeptRequest, Refill<T, W>, Filling>(bank, &Filling, refill)?;
     refill.finish()
 }
 
 // The second bank, once it is filled.
-fn refilled<S: Alter, T: Alter + Drop>(bank: &mut Bank<S>, due: Bank<T>) -> Result<Bank<T>, Fault>
+fn refilled<S: Alter, T: Alter + Drop, W: Watch + Drop>(
+    bank: &mut Bank<S>,
+    due: Bank<T>,
+    watch: W,
+) -> Result<Bank<T>, Fault>
     ensures bank { ReadsBank S.Store bank.old bank.new result }
     ensures shows { IfOk result (λ filled. ShowsSome T.Store due → ShowsSome T.Store filled) }
 {
-    let mut refill = Refill::over(bank.alloc(), due)?;
+    let mut refill = Refill::over(bank.alloc(), due, watch)?;
     match fill(bank, &mut refill) {
         Ok(()) => Ok(refill.into_bank()),
-        Err(fault) => Err(told(fault)),
+        Err(fault) => {
+            refill.end();
+            Err(told(fault))
+        }
     }
 }
 
-// Replays a bank beside a second one, whose store is never in doubt, and returns the first difference.
-fn replay_beside<S: Alter, T: Alter + Drop>(
+// Replays a bank beside a second one, whose store is never in doubt.
+fn replay_beside<S: Alter, T: Alter + Drop, W: Watch + Drop>(
     bank: &mut Bank<S>,
     due: Bank<T>,
-) -> Result<Option<Difference>, Fault>
+    watch: W,
+) -> Result<Replay, Fault>
     requires clean { (c : _) → HasCleanDisk (state T.Store c) }
     requires shows { ShowsSome T.Store due }
     ensures bank { ReadsBank S.Store bank.old bank.new result }
     ensures agrees { HasCleanDisk (file_of bank.new) → (f : FileTables)
-        → HasTables (database_of S.Store bank.old) f → result ≡ Ok None
-        → (log : List Command) × ShowsLog (bank_seen S.Store bank.old) log }
+        → HasTables (database_of S.Store bank.old) f
+        → OnAgrees result (λ d. (log : List Command) × ShowsLog (bank_seen S.Store bank.old) log) }
+    ensures digest { HasCleanDisk (file_of bank.new) → (all : List KeptItem)
+        → HasKept (database_of S.Store bank.old) all → OnAgrees result (IsDigestIn all) }
 {
-    let mut due = refilled(bank, due)?;
-    compare_all(bank, &mut due)
+    let mut due = refilled(bank, due, watch)?;
+    if let Some(difference) = compare_all(bank, &mut due)? {
+        return Ok(Replay::Differs(difference));
+    }
+    Ok(Replay::Agrees(digest_all(bank)?))
+}
+
+// How the second bank is held. Its files lie in memory, so that its log is copied back early.
+const HELD: Options = Options {
+    cache_pages: 4_000,
+    spill_pages: 1_000,
+    checkpoint_frames: 1_000,
+    seed: 0,
+};
+
+// A database with no table, in pages in memory.
+fn memory_pages(alloc: Global) -> Result<Connection<FileStore<Ram>>, Fault>
+    ensures { IfOk result IsNew }
+{
+    let files = Files {
+        log: Ram::new(alloc),
+        db: Ram::new(alloc),
+    };
+    match Connection::open_files(alloc, files, HELD) {
+        Ok(conn) => Ok(conn),
+        Err((_error, _left)) => Err(Fault::Memory),
+    }
 }
 
 // A new bank in memory.
-fn memory_bank(alloc: Global) -> Result<Bank<MemStore>, Fault>
-    ensures { IfOk result (λ bank. ShowsSome over_memory bank) }
+fn memory_bank(alloc: Global) -> Result<Bank<FileStore<Ram>>, Fault>
+    ensures { IfOk result (λ bank. ShowsSome over_files bank) }
 {
-    match create(alloc, Connection::open_in_memory(alloc)?) {
+    match create(alloc, memory_pages(alloc)?) {
         Ok(bank) => Ok(bank),
         Err(
             Refused {
@@ -90,7 +123,7 @@ fn memory_bank(alloc: Global) -> Result<Bank<MemStore>, Fault>
 }
 
 /// Replays a bank: a second bank is made in memory and given what the file's rows say, and all tables of the
-/// two are compared.
+/// two are compared. Where they agree, the requests are digested. `watch` is told how far it is.
 ///
 /// # Errors
 ///
@@ -102,21 +135,23 @@ fn memory_bank(alloc: Global) -> Result<Bank<MemStore>, Fault>
 /// | [`Fault::Store`] | a read failed: the disk did, or memory or steps were refused |
 /// | [`Fault::Down`] | the bank was down, and nothing was read |
 /// | [`Fault::Damaged`] | a row can't be read: a number of it is out of its column's range, or a reference is none |
-pub fn replay<S: Alter>(bank: &mut Bank<S>) -> Result<Replay, Fault>
+pub fn replay<S: Alter, W: Watch + Drop>(bank: &mut Bank<S>, watch: W) -> Result<Replay, Fault>
     ensures agrees { (bank_seen S.Store bank.new).honest → (f : FileTables)
         → HasTables (database_of S.Store bank.old) f
-        → OnAgrees result ((log : List Command) × ShowsLog (bank_seen S.Store bank.old) log) }
-    ensures bank { TakesNone (bank_seen S.Store bank.old) (bank_seen S.Store bank.new) (HasReplayed result) }
+        → OnAgrees result (λ d. (log : List Command) × ShowsLog (bank_seen S.Store bank.old) log) }
+    ensures digest { (bank_seen S.Store bank.new).honest → (all : List KeptItem)
+        → HasKept (database_of S.Store bank.old) all → OnAgrees result (IsDigestIn all) }
+    ensures log { (bank_seen S.Store bank.new).honest → (log : List Command)
+        → ShowsLog (bank_seen S.Store bank.old) log → OnAgrees result (IsDigestOf (answered_behind log)) }
+    ensures bank { TakesNone (bank_seen S.Store bank.old) (bank_seen S.Store bank.new) (HasAnswered result) }
     ensures down { (bank_seen S.Store bank.old).is_down → (result ≡ Err Down) × (bank.new ≡ bank.old) }
     ensures up { fault_of bank.new ≡ fault_of bank.old }
     ensures stands { StandsWhileOpen S.Store bank.old bank.new }
+    ensures spares { SparesWhileOpen S.Store (connection_of bank.old) (connection_of bank.new) }
 {
     if bank.is_down() {
         return Err(Fault::Down);
     }
     let due = memory_bank(bank.alloc())?;
-    match replay_beside(bank, due)? {
-        None => Ok(Replay::Agrees),
-        Some(difference) => Ok(Replay::Differs(difference)),
-    }
+    replay_beside(bank, due, watch)
 }

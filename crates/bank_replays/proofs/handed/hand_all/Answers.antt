@@ -1,19 +1,33 @@
--- There is room for the walk, and what was told of its rows to come is told of all rows of the bank.
-use Rattle.std.proofs.Common.{rules}
-use Rattle.bank_store.proofs.RoomForWalks.{walk_fits}
-use Rattle.bank_replays.proofs.Begun.{hands_of_all}
+-- Fewer rows than the most are all.
+use Rattle.std.proofs.Common.{rules, ◌≡◌, ◌-◌, ◌^◌, Err}
+use Rattle.posting_rules.specs.declared.fault.Fault.TheVariants.{Memory}
+use Rattle.bank_replays.specs.declared.fault.ReplayFault.TheVariants.{Bank}
+use Rattle.bank_replays.proofs.Hands.{all_handed, part_handed}
+use Rattle.bank_replays.proofs.Read.{read_any, read_fails}
 use Rattle.bank_replays.proofs.handed.hand_all.Goals as goal
 
-pub each_row-requires : goal.each_row-requires
-each_row-requires g c = walk_fits g.row.R g.met.R.Handed.few_bytes
+pub returns-in_err-count : goal.returns-in_err-count
+returns-in_err-count g c =
+    let fault = c.in_err-count.field-0.0 in
+    let same : c.from_residual.result ≡ Err fault = search rules in
+    record {
+      bank = rw same (read_fails fault c.in_err-count.ensures.bank);
+      hands = rw same c.in_err-count.ensures.hands;
+    }
 
-pub hand_rows-requires : goal.hand_rows-requires
-hand_rows-requires g c = (walk_fits g.row.R g.met.R.Handed.few_bytes, c.in_ok-walk.ensures.begins.fresh)
+pub returns-then-count : goal.returns-then-count
+returns-then-count g c =
+    let it = c.in_ok-count.ensures.hands in
+    record {
+      bank = read_any c.in_ok-count.ensures.bank _;
+      hands = part_handed _ _ (g.P.Hands.Part c.args.way.now c.args.taker.now c.hand_first.new.taker) _ _
+          (2 ^ 64 - 1) _ it (Bank Memory)
+          (g.met.P.Hands.in_part c.args.way.now c.args.taker.now c.hand_first.new.taker it.0 Memory it.1);
+    }
 
-pub drop-walk-requires : goal.drop-walk-requires
-drop-walk-requires g c = walk_fits g.row.R g.met.R.Handed.few_bytes
-
-pub returns-clause-hands : goal.returns-clause-hands
-returns-clause-hands g c =
-    hands_of_all c.in_ok-walk.ensures.begins (g.V.Takes.Took c.args.taker.now c.hand_rows.new.taker)
-    (g.V.Takes.Part c.args.taker.now c.hand_rows.new.taker) c.hand_rows.result c.hand_rows.ensures.hands (λ late. search rules)
+pub returns : goal.returns
+returns g c = record {
+  bank = read_any c.in_ok-count.ensures.bank _;
+  hands = all_handed _ _ (g.P.Hands.Part c.args.way.now c.args.taker.now c.hand_first.new.taker) _ _ _ _
+      c.in_ok-count.ensures.hands c.if-count.false;
+}

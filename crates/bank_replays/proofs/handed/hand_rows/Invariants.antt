@@ -13,9 +13,9 @@ invariant-rows g l = record {
   reference : l.walk.bank.ghost_name ≡ l.fn.walk.bank.ghost_name;
   bank : ReadsBank {X = Unit {0}} {E = ReplayFault} g.S.Store l.fn.walk.bank.now l.walk.bank.now (Ok tt);
   fresh : HasToldFault l.walk → ⊥;
-  handed : IsHanded g.R.WalkedRow.item (g.V.Takes.Took l.fn.taker l.taker)
+  handed : IsHanded g.R.WalkedRow.item (g.P.Hands.Took l.way l.fn.taker l.taker)
       (HasCleanDisk (state g.S.Store l.walk.bank.now.conn))
       (g.R.WalkedRow.HasItems (state g.S.Store l.fn.walk.bank.now.conn).now)
       (λ all. items_to_come g.R.WalkedRow.key g.R.WalkedRow.item g.R.WalkedRow.is_given all l.fn.walk)
-      (λ all. items_to_come g.R.WalkedRow.key g.R.WalkedRow.item g.R.WalkedRow.is_given all l.walk);
+      (λ all. items_to_come g.R.WalkedRow.key g.R.WalkedRow.item g.R.WalkedRow.is_given all l.walk) l.i;
 }

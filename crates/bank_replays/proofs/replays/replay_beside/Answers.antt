@@ -1,10 +1,11 @@
--- Where no difference was found, the file has the rows of the log that the second bank shows.
-use Rattle.std.proofs.Common.{rules, ◌≡◌, Err, subst}
+-- Where no difference was found, the file has the rows of the log that the second bank shows, and its requests are
+-- digested.
+use Rattle.std.proofs.Common.{rules, ◌≡◌, Err, refl, sym, subst}
 use Rattle.sqlite.specs.Effect.{Database}
 use Rattle.bank_store.specs.Seen.{connection_of, file_of}
+use Rattle.walked_rows.specs.KeptRows.{HasKept}
 use Rattle.bank_replays.specs.FileTables.{SameTables}
-use Rattle.bank_replays.proofs.Comparisons.{not_none}
-use Rattle.bank_replays.proofs.Read.{clean_before, read_fails, read_then}
+use Rattle.bank_replays.proofs.Read.{clean_before, read_any, read_fails, read_then}
 use Rattle.bank_replays.proofs.Tables.{same_log}
 use Rattle.bank_replays.proofs.replays.replay_beside.Goals as goal
 
@@ -13,20 +14,56 @@ returns-in_err-due g c =
     let same : c.from_residual.result ≡ Err c.in_err-due.field-0.0 = search rules in
     record {
       bank = rw same (read_fails c.in_err-due.field-0.0 c.in_err-due.ensures.bank);
-      agrees = λ clean f has none. absurd (not_none _ _ same none);
+      agrees = λ clean f has. rw same tt;
+      digest = λ clean all has. rw same tt;
+    }
+
+pub returns-in_err-difference : goal.returns-in_err-difference
+returns-in_err-difference g c =
+    let fault = c.in_err-difference.field-0.0 in
+    let same : c.from_residual-in_err-difference.result ≡ Err fault = search rules in
+    record {
+      bank = rw same (read_fails fault (read_then c.in_ok-due.ensures.bank c.in_err-difference.ensures.bank));
+      agrees = λ clean f has. rw same tt;
+      digest = λ clean all has. rw same tt;
+    }
+
+pub returns-in-Some : goal.returns-in-Some
+returns-in-Some g c = record {
+  bank = read_any (read_then c.in_ok-due.ensures.bank c.in_ok-difference.ensures.bank) _;
+  agrees = λ clean f has. tt;
+  digest = λ clean all has. tt;
+}
+
+pub returns-in_err-digest_all : goal.returns-in_err-digest_all
+returns-in_err-digest_all g c =
+    let fault = c.in_err-digest_all.field-0.0 in
+    let same : c.from_residual-in_err-digest_all.result ≡ Err fault = search rules in
+    record {
+      bank = rw same (read_fails fault
+          (read_then (read_then c.in_ok-due.ensures.bank c.in_ok-difference.ensures.bank)
+          c.in_err-digest_all.ensures.bank));
+      agrees = λ clean f has. rw same tt;
+      digest = λ clean all has. rw same tt;
     }
 
 pub returns : goal.returns
 returns g c =
-    let compared = c.compare_all.ensures in
     let filled = c.in_ok-due.ensures in
+    let compared = c.in_ok-difference.ensures in
+    let digested = c.in_ok-digest_all.ensures in
+    let both = read_then filled.bank compared.bank in
     record {
-      bank = read_then filled.bank compared.bank;
-      agrees = λ clean f has is.
-          let before = clean_before compared.bank clean in
+      bank = read_any (read_then both digested.bank) _;
+      agrees = λ clean f has.
+          let before = clean_before digested.bank clean in
+          let earlier = clean_before compared.bank before in
           let due = file_of c.in_ok-due.due in
-          let same = subst (λ (d : Database). SameTables d due.now) (filled.bank.still before).0
-          (compared.same clean (c.requires.clean (connection_of c.compare_all.new.due)) is) in
+          let same = subst (λ (d : Database). SameTables d due.now) (filled.bank.still earlier).0
+          (compared.same before (c.requires.clean (connection_of c.compare_all.new.due)) (rw c.in_default.is refl)) in
           let it = filled.shows c.requires.shows (c.requires.clean (connection_of c.in_ok-due.due)) in
           (it.0, same_log (file_of c.args.bank.now) due _ _ f has same it.0 it.1);
+      digest = λ clean all has.
+          digested.rows clean all
+          (subst (λ (d : Database). HasKept d all) (sym (both.still (clean_before digested.bank clean)).0) has);
     }

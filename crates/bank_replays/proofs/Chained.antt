@@ -1,0 +1,158 @@
+-- The digest of requests, one request more, and what is read of a kept row.
+use Rattle.std.proofs.Common.{◌≡◌, ◌+◌, ◌++◌, ℕ, ℤ, pos, List, [], ◌∷◌, map, Option, Some, None, replicate}
+use Rattle.std.proofs.Common.{refl, sym, ap, subst, ◌∙◌, arith}
+use Rattle.std.specs.Prelude.{nat_abs, option_map, unwrap_or}
+use Rattle.std.specs.List.{AllByRecursion}
+use Rattle.std.proofs.lemmas.List.{length-append, length-map, map-append}
+use Rattle.message_records.specs.declared.records.Outcome.{Outcome}
+use Rattle.message_records.specs.declared.records.Outcome.TheVariants.{Posted, NoTeller, WrongBranch}
+use Rattle.message_records.specs.declared.records.Outcome.TheVariants.{NoAccount, BelowFloor, OverLimit}
+use Rattle.message_records.specs.declared.records.Outcome.TheVariants.{ReusedNumber, Full, Malformed}
+use Rattle.message_records.specs.Outcomes.{code_of}
+use Rattle.message_records.specs.Reading.{outcome_with}
+use Rattle.message_records.specs.Records.{ReplyFields, RequestFields, unreferenced}
+use Rattle.posting_rules.specs.Cases.{balance_shown}
+use Rattle.walked_rows.specs.KeptRows.{KeptItem, kept_item}
+use Rattle.walked_rows.specs.References.{text_behind, text_entry}
+use Rattle.walked_rows.specs.Stored.{posting_entry}
+use Rattle.walked_rows.specs.declared.kept.KeptRequest.{KeptRequest}
+use Rattle.walked_rows.specs.declared.postings.StoredPosting.{StoredPosting}
+use Rattle.bank_replays.specs.Came.{CameAs, GotReply, moment_of}
+use Rattle.bank_replays.specs.Digests.{GoesOnBy, IsDigestIn, chained, digest_from}
+use Rattle.bank_replays.specs.Requests.{Answered, IsRequestRow, answered_in, moment_under, outcome_in, reply_in}
+use Rattle.bank_replays.specs.Requests.{request_in}
+use Rattle.bank_replays.specs.declared.chain.Digest.{Digest}
+
+-- ---- what is read of a row
+
+text_back : (o : ℕ) (reference : Option (List ℕ))
+    → option_map text_behind (option_map (text_entry o) reference) ≡ reference
+text_back o None = refl
+text_back o (Some text) = refl
+
+pub request_same : (a a' t t' b b' n n' : ℕ) (d d' : ℤ) (f f' : Option (List ℕ))
+    → a ≡ a' → t ≡ t' → b ≡ b' → n ≡ n' → d ≡ d' → f ≡ f'
+    → (let it : RequestFields = record {
+      account = a;
+      teller = t;
+      branch = b;
+      number = n;
+      delta = d;
+      reference = f;
+    } in it) ≡ record { account = a'; teller = t'; branch = b'; number = n'; delta = d'; reference = f' }
+request_same a a' t t' b b' n n' d d' f f' h0 h1 h2 h3 h4 h5 = cc
+
+pub reply_same : (o o' : Outcome) (r r' : Option RequestFields) (b b' : Option ℤ) → o ≡ o' → r ≡ r' → b ≡ b'
+    → (let it : ReplyFields = record { outcome = o; request = r; balance = b } in it)
+    ≡ record { outcome = o'; request = r'; balance = b' }
+reply_same o o' r r' b b' h0 h1 h2 = cc
+
+pub answered_same : (r r' : RequestFields) (y y' : ReplyFields) (m m' : ℕ) → r ≡ r' → y ≡ y' → m ≡ m'
+    → (let it : Answered = record { request = r; reply = y; moment = m } in it)
+    ≡ record { request = r'; reply = y'; moment = m' }
+answered_same r r' y y' m m' h0 h1 h2 = cc
+
+number_back : (z : ℤ) (n : ℕ) → z ≡ pos n → n ≡ nat_abs z
+number_back z n is = sym (ap nat_abs is)
+
+pub code_back : (o : Outcome) → outcome_with (code_of o) ≡ Some o
+code_back Posted = refl
+code_back NoTeller = refl
+code_back WrongBranch = refl
+code_back NoAccount = refl
+code_back BelowFloor = refl
+code_back OverLimit = refl
+code_back ReusedNumber = refl
+code_back Full = refl
+code_back Malformed = refl
+
+module _ (row : KeptRequest) (r : RequestFields) (came : CameAs row r) where
+  -- the request
+  pub request_is : r ≡ request_in (kept_item row)
+  request_is =
+      request_same r.account (nat_abs row.request.account) r.teller (nat_abs row.request.teller)
+      r.branch (nat_abs row.request.branch) r.number (nat_abs row.request.number) r.delta row.request.delta
+      r.reference (option_map text_behind (option_map (text_entry row.request.ordinal) row.reference))
+      (number_back row.request.account r.account came.account)
+      (number_back row.request.teller r.teller came.teller)
+      (number_back row.request.branch r.branch came.branch)
+      (number_back row.request.number r.number came.number)
+      (sym came.delta)
+      (sym came.reference ∙ sym (text_back row.request.ordinal row.reference))
+
+  pub row_is : IsRequestRow (kept_item row)
+  row_is = record {
+    account = came.account ∙ ap pos (number_back row.request.account r.account came.account);
+    teller = came.teller ∙ ap pos (number_back row.request.teller r.teller came.teller);
+    branch = came.branch ∙ ap pos (number_back row.request.branch r.branch came.branch);
+    number = came.number ∙ ap pos (number_back row.request.number r.number came.number);
+  }
+
+  module _ (y : ReplyFields) (got : GotReply row r y) where
+    outcome_is : y.outcome ≡ outcome_in (kept_item row)
+    outcome_is =
+        sym (ap (λ (z : ℤ). unwrap_or (outcome_with (nat_abs z)) Malformed) got.outcome
+        ∙ ap (λ (o : Option Outcome). unwrap_or o Malformed) (code_back y.outcome))
+
+    -- and its reply
+    pub reply_is : y ≡ reply_in (kept_item row)
+    reply_is =
+        reply_same y.outcome (outcome_in (kept_item row)) y.request (Some (unreferenced (request_in (kept_item row))))
+        y.balance (balance_shown (outcome_in (kept_item row)) row.request.balance)
+        outcome_is
+        (got.request ∙ ap (λ (f : RequestFields). Some (unreferenced f)) request_is)
+        (got.balance ∙ ap (λ (o : Outcome). balance_shown o row.request.balance) outcome_is)
+
+moment_back : (posting : Option StoredPosting) → moment_of posting ≡ moment_under (option_map posting_entry posting)
+moment_back None = refl
+moment_back (Some p) = refl
+
+-- a row with its moment
+pub answered_is : (row : KeptRequest) (r : RequestFields) (y : ReplyFields) (m : ℕ) → CameAs row r → GotReply row r y
+    → m ≡ moment_of row.posting
+    → (let it : Answered = record { request = r; reply = y; moment = m } in it) ≡ answered_in (kept_item row)
+answered_is row r y m came got is =
+    answered_same r (request_in (kept_item row)) y (reply_in (kept_item row)) m
+    (moment_under (option_map posting_entry row.posting)) (request_is row r came) (reply_is row r came y got)
+    (is ∙ moment_back row.posting)
+
+-- ---- the digest
+
+digest_more : (before : List ℕ) (xs : List Answered) (a : Answered)
+    → digest_from before (xs ++ a ∷ []) ≡ chained (digest_from before xs) a
+digest_more before [] a = refl
+digest_more before (x ∷ xs) a = digest_more (chained before x) xs a
+
+all_more : {X : Type 0} (P : X → Type 0) (xs : List X) (x : X) → AllByRecursion P xs → P x
+    → AllByRecursion P (xs ++ x ∷ [])
+all_more P [] x all p = (p, tt)
+all_more P (y ∷ ys) x all p = (all.0, all_more P ys x all.1 p)
+
+-- one row more
+pub one_more : (first mid last : Digest) (rows : List KeptRequest) (row : KeptRequest)
+    → GoesOnBy first mid (map kept_item rows) → last.requests ≡ mid.requests + 1
+    → last.sha256 ≡ chained mid.sha256 (answered_in (kept_item row)) → IsRequestRow (kept_item row)
+    → GoesOnBy first last (map kept_item (rows ++ row ∷ []))
+one_more first mid last rows row it count sha is =
+    subst (GoesOnBy first last) (sym (map-append kept_item rows (row ∷ []))) (record {
+      requests = omega (arith, count, it.requests, length-append items (kept_item row ∷ []));
+      sha256 = sha ∙ ap (λ (s : List ℕ). chained s (answered_in (kept_item row))) it.sha256
+          ∙ sym (digest_more first.sha256 (map answered_in items) (answered_in (kept_item row)))
+          ∙ ap (digest_from first.sha256) (sym (map-append answered_in items (kept_item row ∷ [])));
+      each = all_more IsRequestRow items (kept_item row) it.each is;
+    })
+  where
+    items : List KeptItem
+    items = map kept_item rows
+
+-- what went on from none is the digest of all
+pub digest_is : (first last : Digest) (items all : List KeptItem) → first.requests ≡ 0
+    → first.sha256 ≡ replicate 32 0 → GoesOnBy first last items → items ≡ all → IsDigestIn all last
+digest_is first last items all none zeros it is =
+    subst (λ (l : List KeptItem). IsDigestIn l last) is (
+      (
+        omega (arith, none, it.requests, length-map items answered_in),
+        it.sha256 ∙ ap (λ (s : List ℕ). digest_from s (map answered_in items)) zeros,
+      ),
+      it.each,
+    )

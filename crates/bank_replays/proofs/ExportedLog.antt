@@ -1,0 +1,91 @@
+-- The records of the kept rows of a log are those of its requests.
+use Rattle.std.proofs.Common.{◌≡◌, ◌<◌, ◌≤◌, ◌+◌, ◌++◌, ℕ, true, false, List, [], ◌∷◌, length, map, drop, Option}
+use Rattle.std.proofs.Common.{Result, refl, sym, ap, subst, ◌∙◌, append-nil, inl, inr, arith}
+use Rattle.std.specs.Prelude.{int_lt, pos}
+use Rattle.std.specs.List.{flat_map}
+use Rattle.std.proofs.lemmas.Bool.{cases_Bool}
+use Rattle.std.proofs.lemmas.Int.{ints}
+use Rattle.std.proofs.lemmas.List.{drop-append-le, drop_all, length-append, map-append}
+use Rattle.std.proofs.lemmas.List.Concat.{flat_map-append}
+use Rattle.sqlite.specs.Effect.{Database}
+use Rattle.message_records.specs.Spelling.{request_spelling}
+use Rattle.posting_rules.specs.Commands.{Command}
+use Rattle.posting_rules.specs.Entries.{DecidedRequest, decided}
+use Rattle.posting_rules.specs.Tables.{AreTablesOf, Tables, request_row_of}
+use Rattle.posting_rules.specs.declared.rows.RequestRow.{RequestRow}
+use Rattle.sql_meanings.specs.Entries.{Entry}
+use Rattle.store_rows.specs.View.{Shows}
+use Rattle.walked_rows.specs.KeptRows.{KeptItem}
+use Rattle.bank_replays.specs.Digests.{answered_behind, answered_of, each_answered}
+use Rattle.bank_replays.specs.Requests.{Answered}
+use Rattle.bank_replays.specs.Writing.{WritesText, is_behind, records_behind, records_of}
+use Rattle.bank_replays.specs.declared.fault.ReplayFault.{ReplayFault}
+use Rattle.bank_replays.proofs.Exported.{no_record, one_record, records-append}
+use Rattle.bank_replays.proofs.LogRows.{Stand, item_of, kept_is, kept_of, last_answered, postings, references}
+use Rattle.bank_replays.proofs.LogRows.{requests_of}
+use Rattle.bank_replays.proofs.LogRows.{stand_earlier, stand_in}
+
+-- the record of a request
+abbrev spelled : Answered → List ℕ
+spelled a = request_spelling a.request
+
+answered_length : (es : List DecidedRequest) → length (each_answered es) ≡ length es
+answered_length [] = refl
+answered_length (e ∷ es) =
+    let earlier = answered_length es in
+    omega (arith, earlier, length-append (each_answered es) (answered_of e ∷ []))
+
+above : (m n : ℕ) → int_lt (pos m) (pos n) ≡ true → m < n
+above m n is = grind (arith, ints)
+
+not_above : (m n : ℕ) → int_lt (pos m) (pos n) ≡ false → n ≤ m
+not_above m n is = grind (arith, ints)
+
+module _ (P Q : List Entry) (after : ℕ) where
+  records_are : (es : List DecidedRequest) → Stand P Q es
+      → records_behind after (map (item_of P Q) (requests_of es)) ≡ records_of after (each_answered es)
+  records_are [] stand = ap (flat_map spelled) (sym (drop_all after [] (omega arith)))
+  records_are (e ∷ es) stand =
+      ap (records_behind after) (map-append (item_of P Q) (requests_of es) (r ∷ []))
+      ∙ records-append after (map (item_of P Q) (requests_of es)) (k ∷ [])
+      ∙ ap (λ (t : List ℕ). t ++ records_behind after (k ∷ [])) (records_are es (stand_earlier P Q e es stand))
+      ∙ last
+    where
+      r : RequestRow
+      r = request_row_of (length es + 1) e
+
+      k : KeptItem
+      k = item_of P Q r
+
+      last : records_of after (each_answered es) ++ records_behind after (k ∷ [])
+          ≡ records_of after (each_answered es ++ answered_of e ∷ [])
+      last = elim (cases_Bool (is_behind after k)) [
+        | inl t ↦
+            let low : after < length es + 1 = above after (length es + 1) t in
+            ap (λ (x : List ℕ). records_of after (each_answered es) ++ x)
+            (one_record after k t ∙ ap spelled (last_answered P Q e es stand)
+            ∙ sym (append-nil (spelled (answered_of e))))
+            ∙ sym (flat_map-append spelled (drop after (each_answered es)) (answered_of e ∷ []))
+            ∙ ap (flat_map spelled) (sym (drop-append-le after (each_answered es) (answered_of e ∷ [])
+            (omega (arith, low, answered_length es))))
+        | inr f ↦
+            let high : length es + 1 ≤ after = not_above after (length es + 1) f in
+            ap (λ (x : List ℕ). records_of after (each_answered es) ++ x) (no_record after k f)
+            ∙ append-nil (records_of after (each_answered es))
+            ∙ ap (flat_map spelled) (drop_all after (each_answered es) (omega (arith, high, answered_length es))
+            ∙ sym (drop_all after (each_answered es ++ answered_of e ∷ [])
+            (omega (arith, high, answered_length es, length-append (each_answered es) (answered_of e ∷ [])))))
+      ]
+
+module _ (db : Database) (t : Tables) (log : List Command) (in_file : Shows db t) (shows : AreTablesOf t log)
+    (after : ℕ) where
+  records_log : records_behind after (kept_of db t log in_file shows) ≡ records_of after (answered_behind log)
+  records_log =
+      ap (records_behind after) (kept_is db t log in_file shows)
+      ∙ records_are (postings db t log in_file shows) (references db t log in_file shows) after (decided log)
+      (stand_in db t log in_file shows)
+
+  pub writes_log : (old new : Option (List ℕ)) (result : Result (Unit {0}) ReplayFault)
+      → WritesText (records_behind after (kept_of db t log in_file shows)) old new result
+      → WritesText (records_of after (answered_behind log)) old new result
+  writes_log old new result = subst (λ (text : List ℕ). WritesText text old new result) records_log

@@ -1,0 +1,83 @@
+-- The digest, or none where there are fewer, and what a log makes of it.
+use Rattle.std.proofs.Common.{rules, ◌≡◌, Bool, Ok, Err, Option, Some, None, false, true, refl}
+use Rattle.posting_rules.specs.declared.fault.Fault.{Fault}
+use Rattle.bank_store.specs.Seen.{bank_seen, database_of}
+use Rattle.bank_store.proofs.ReadsLeave.{idle_takes}
+use Rattle.bank_replays.proofs.Digested.{digests_log, rows_enough, rows_fewer}
+use Rattle.bank_reports.proofs.Spared.{idle_spares}
+use Rattle.bank_replays.proofs.Leaves.{read_spares, read_stands, read_takes}
+use Rattle.bank_replays.proofs.LogRows.{has_kept, kept_answered, kept_of}
+use Rattle.bank_replays.proofs.Read.{read_any, read_fails}
+use Rattle.bank_replays.specs.declared.chain.Digest.{Digest}
+use Rattle.bank_replays.proofs.digests.digest.Goals as goal
+
+tested_up : (tested is_down : Bool) → tested ≡ is_down → tested ≡ false → is_down ≡ true → ⊥
+tested_up tested is_down same up down = cc
+
+pub returns-then-is_down : goal.returns-then-is_down
+returns-then-is_down g c = record {
+  rows = λ clean all has. tt;
+  log = λ clean log shows. tt;
+  bank = idle_takes (bank_seen g.S.Store c.args.bank.now) _;
+  down = λ down. (refl, refl);
+  up = refl;
+  stands = λ clean up is_open log at. at;
+  spares = idle_spares g.S.Store c.args.bank.now.conn;
+}
+
+pub returns-in_err-digest : goal.returns-in_err-digest
+returns-in_err-digest g c =
+    let fault = c.in_err-digest.field-0.0 in
+    let same : c.from_residual.result ≡ Err fault = search rules in
+    let reads = c.in_err-digest.ensures.bank in
+    record {
+      rows = λ clean all has. rw same tt;
+      log = λ clean log shows. rw same tt;
+      bank = rw same (read_takes {X = Option Digest} (Err fault) (read_fails fault reads));
+      down = λ down. absurd (tested_up _ _ c.is_down.ensures c.if-is_down.false down);
+      up = reads.up;
+      stands = read_stands _ reads;
+      spares = read_spares _ reads;
+    }
+
+pub returns-then-digest-count : goal.returns-then-digest-count
+returns-then-digest-count g c =
+    let reads = c.in_ok-digest.ensures.bank in
+    let db = database_of g.S.Store c.args.bank.now in
+    record {
+      rows = λ clean all has.
+          rows_fewer c.args.count all c.in_ok-digest.digest (c.in_ok-digest.ensures.rows clean all has)
+          c.if-digest-count.true;
+      log = λ clean log shows.
+          let all = kept_of db shows.tables log shows.are shows.shows in
+          digests_log c.args.count all _ (kept_answered db shows.tables log shows.are shows.shows) (Ok None)
+          (rows_fewer c.args.count all c.in_ok-digest.digest
+          (c.in_ok-digest.ensures.rows clean all (has_kept db shows.tables log shows.are shows.shows))
+          c.if-digest-count.true);
+      bank = read_takes {X = Option Digest} {E = Fault} (Ok None) (read_any reads (Ok None));
+      down = λ down. absurd (tested_up _ _ c.is_down.ensures c.if-is_down.false down);
+      up = reads.up;
+      stands = read_stands _ reads;
+      spares = read_spares _ reads;
+    }
+
+pub returns : goal.returns
+returns g c =
+    let reads = c.in_ok-digest.ensures.bank in
+    let db = database_of g.S.Store c.args.bank.now in
+    let digest = c.in_ok-digest.digest in
+    record {
+      rows = λ clean all has.
+          let is = c.in_ok-digest.ensures.rows clean all has in
+          (rows_enough c.args.count all digest is c.if-digest-count.false, is);
+      log = λ clean log shows.
+          let all = kept_of db shows.tables log shows.are shows.shows in
+          let is = c.in_ok-digest.ensures.rows clean all (has_kept db shows.tables log shows.are shows.shows) in
+          digests_log c.args.count all _ (kept_answered db shows.tables log shows.are shows.shows) (Ok (Some digest))
+          (rows_enough c.args.count all digest is c.if-digest-count.false, is);
+      bank = read_takes {X = Option Digest} {E = Fault} (Ok (Some digest)) (read_any reads (Ok (Some digest)));
+      down = λ down. absurd (tested_up _ _ c.is_down.ensures c.if-is_down.false down);
+      up = reads.up;
+      stands = read_stands _ reads;
+      spares = read_spares _ reads;
+    }

@@ -1,0 +1,12 @@
+-- The records of a log's requests.
+use Rattle.bank_store.specs.Seen.{database_of}
+use Rattle.bank_replays.proofs.ExportedLog.{writes_log}
+use Rattle.bank_replays.proofs.LogRows.{has_kept, kept_of}
+use Rattle.bank_replays.proofs.exports.export.Goals as goal
+
+pub returns-clause-log : goal.returns-clause-log
+returns-clause-log g c clean log shows =
+    let db = database_of g.S.Store c.args.bank.now in
+    writes_log db shows.tables log shows.are shows.shows c.args.after _ _ _
+    (c.export_records.ensures.rows clean (kept_of db shows.tables log shows.are shows.shows)
+    (has_kept db shows.tables log shows.are shows.shows))

@@ -1,0 +1,77 @@
+-- The digest of requests in order, each with its reply and its moment.
+use Rattle.std.specs.Prelude.{◌≡◌, ◌≤◌, ◌<◌, ◌+◌, ◌++◌, ℕ, List, [], ◌∷◌, length, map, replicate, take, ⊤}
+use Rattle.std.specs.Prelude.{Option, Some, None, Result, Ok, Err, if◌then◌else◌}
+use Rattle.std.specs.Int.{to_be_bytes, w64}
+use Rattle.std.specs.List.{AllByRecursion}
+use Rattle.sha2.specs.Sha256.{sha256}
+use Rattle.message_records.specs.Spelling.{reply_spelling, request_spelling}
+use Rattle.posting_rules.specs.Cases.{kept_reply}
+use Rattle.posting_rules.specs.Commands.{Command}
+use Rattle.posting_rules.specs.Entries.{DecidedRequest, decided, is_posted, kept_fields}
+use Rattle.posting_rules.specs.declared.fault.Fault.{Fault}
+use Rattle.walked_rows.specs.KeptRows.{KeptItem}
+use Rattle.bank_replays.specs.Requests.{Answered, IsRequestRow, answered_in}
+use Rattle.bank_replays.specs.declared.chain.Digest.{Digest}
+
+-- the digest behind one request more: SHA-256 of the one before it, the record, the reply and the moment
+abbrev pub chained : List ℕ → Answered → List ℕ
+chained before a =
+    sha256 (before ++ (request_spelling a.request ++ (reply_spelling a.reply ++ to_be_bytes w64 a.moment)))
+
+-- the digest behind some, the first of them first
+abbrev pub digest_from : List ℕ → List Answered → List ℕ
+digest_from before [] = before
+digest_from before (a ∷ more) = digest_from (chained before a) more
+
+-- the digest of requests, which begins with 32 zeros
+abbrev pub digest_of : List Answered → List ℕ
+digest_of = digest_from (replicate 32 0)
+
+-- ---- of a log
+
+-- a decided request with the reply that it got, and the moment of its posting, zero where it wasn't posted
+abbrev pub answered_of : DecidedRequest → Answered
+answered_of e = record {
+  request = e.request;
+  reply = kept_reply (kept_fields e) e.request;
+  moment = if is_posted e then e.moment else 0;
+}
+
+-- decided requests, of which the newest comes first, the oldest first
+abbrev pub each_answered : List DecidedRequest → List Answered
+each_answered [] = []
+each_answered (e ∷ es) = each_answered es ++ answered_of e ∷ []
+
+-- the requests of a log
+abbrev pub answered_behind : List Command → List Answered
+answered_behind log = each_answered (decided log)
+
+-- so many, with this digest
+abbrev pub IsDigestOf : List Answered → Digest → Type 0
+IsDigestOf requests d = (d.requests ≡ length requests) × (d.sha256 ≡ digest_of requests)
+
+-- ---- of a file
+
+-- the digest of kept rows, each of which is a request's
+abbrev pub IsDigestIn : List KeptItem → Digest → Type 0
+IsDigestIn items d = IsDigestOf (map answered_in items) d × AllByRecursion IsRequestRow items
+
+-- the digest went on, from the one to the other, by these rows
+pub record GoesOnBy (first last : Digest) (items : List KeptItem) : Type 0 where
+  pub requests : last.requests ≡ length items + first.requests
+  pub sha256 : last.sha256 ≡ digest_from first.sha256 (map answered_in items)
+  pub each : AllByRecursion IsRequestRow items
+
+-- ---- what is answered
+
+-- the digest of the first so many of these requests, unless there are fewer
+abbrev pub DigestsFirst : ℕ → List Answered → Result (Option Digest) Fault → Type 0
+DigestsFirst count requests (Ok (Some d)) = (count ≤ length requests) × IsDigestOf (take count requests) d
+DigestsFirst count requests (Ok None) = length requests < count
+DigestsFirst count requests (Err fault) = ⊤
+
+-- the same of kept rows
+abbrev pub DigestsRows : ℕ → List KeptItem → Result (Option Digest) Fault → Type 0
+DigestsRows count all (Ok (Some d)) = (count ≤ length all) × IsDigestIn (take count all) d
+DigestsRows count all (Ok None) = length all < count
+DigestsRows count all (Err fault) = ⊤

@@ -1,0 +1,54 @@
+-- The request in a kept row, the reply that it got, and when it was posted.
+use Rattle.std.specs.Prelude.{◌≡◌, ℕ, pos, nat_abs, Option, Some, None, option_map}
+use Rattle.std.specs.Prelude.{unwrap_or}
+use Rattle.message_records.specs.declared.records.Outcome.{Outcome}
+use Rattle.message_records.specs.declared.records.Outcome.TheVariants.{Malformed}
+use Rattle.message_records.specs.Reading.{outcome_with}
+use Rattle.message_records.specs.Records.{ReplyFields, RequestFields, unreferenced}
+use Rattle.posting_rules.specs.Cases.{balance_shown}
+use Rattle.sql_meanings.specs.Entries.{Entry}
+use Rattle.walked_rows.specs.KeptRows.{KeptItem}
+use Rattle.walked_rows.specs.References.{text_behind}
+use Rattle.walked_rows.specs.Stored.{number_behind}
+
+-- a request as it came, the reply that it got, and the moment of its posting, zero where it wasn't posted
+pub record Answered : Type 0 where
+  pub request : RequestFields
+  pub reply : ReplyFields
+  pub moment : ℕ
+
+-- ---- in a kept row: the numbers of `request`, the reference and the row of `history` under its ordinal
+
+abbrev pub request_in : KeptItem → RequestFields
+request_in k = record {
+  account = nat_abs (number_behind 2 k.entry);
+  teller = nat_abs (number_behind 0 k.entry);
+  branch = nat_abs (number_behind 3 k.entry);
+  number = nat_abs (number_behind 1 k.entry);
+  delta = number_behind 4 k.entry;
+  reference = option_map text_behind k.reference;
+}
+
+abbrev pub outcome_in : KeptItem → Outcome
+outcome_in k = unwrap_or (outcome_with (nat_abs (number_behind 5 k.entry))) Malformed
+
+abbrev pub reply_in : KeptItem → ReplyFields
+reply_in k = record {
+  outcome = outcome_in k;
+  request = Some (unreferenced (request_in k));
+  balance = balance_shown (outcome_in k) (number_behind 6 k.entry);
+}
+
+abbrev pub moment_under : Option Entry → ℕ
+moment_under None = 0
+moment_under (Some posting) = nat_abs (number_behind 4 posting)
+
+abbrev pub answered_in : KeptItem → Answered
+answered_in k = record { request = request_in k; reply = reply_in k; moment = moment_under k.posting }
+
+-- no number of the row is below zero that is none in a request, and its outcome is one
+pub record IsRequestRow (k : KeptItem) : Type 0 where
+  pub account : number_behind 2 k.entry ≡ pos (request_in k).account
+  pub teller : number_behind 0 k.entry ≡ pos (request_in k).teller
+  pub branch : number_behind 3 k.entry ≡ pos (request_in k).branch
+  pub number : number_behind 1 k.entry ≡ pos (request_in k).number

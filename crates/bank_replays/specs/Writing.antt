@@ -1,0 +1,96 @@
+-- What is written of a bank: its requests as records, and its branches as a plan.
+use Rattle.std.specs.Prelude.{◌≡◌, ◌++◌, ℕ, ℤ, pos, Bool, List, [], ◌∷◌, drop, filter, map, codes}
+use Rattle.std.specs.Prelude.{Option, Some, None, Result, Ok, Err, OnErr, OnOk, int_lt, option_map}
+use Rattle.std.specs.Fmt.{signed_decimal}
+use Rattle.std.specs.List.{flat_map}
+use Rattle.std.specs.Io.KnownBytes.{Appends}
+use Rattle.message_records.specs.Spelling.{request_spelling}
+use Rattle.posting_core.specs.Told.{EndsWith, HasMore, HasWriteFailed, IsFlush, WriteTold}
+use Rattle.report_lines.specs.Lines.{text_of}
+use Rattle.report_lines.specs.Written.{AppendsPart}
+use Rattle.sql_meanings.specs.Entries.{Entry}
+use Rattle.walked_rows.specs.KeptRows.{KeptItem, kept_key}
+use Rattle.walked_rows.specs.Pairs.{row_under}
+use Rattle.walked_rows.specs.Stored.{number_behind}
+use Rattle.walked_rows.specs.declared.floors.StoredFloor.{StoredFloor}
+use Rattle.bank_replays.specs.Requests.{Answered, request_in}
+use Rattle.bank_replays.specs.declared.fault.ReplayFault.{ReplayFault}
+use Rattle.bank_replays.specs.declared.fault.ReplayFault.TheVariants.{Write}
+
+-- all of a text was written, or at a fault a beginning of it
+abbrev pub WritesText : List ℕ → Option (List ℕ) → Option (List ℕ) → Result (Unit {0}) ReplayFault → Type 0
+WritesText text old new (Ok done) = Appends old new text
+WritesText text old new (Err fault) = AppendsPart old new text
+
+-- Bytes were written, and calls of the writer were made; or a beginning of them was, and its last call failed, or
+-- it was asked too often.
+pub record Puts (bytes : List ℕ) (old new : Option (List ℕ)) (t t' : Option (List WriteTold))
+    (result : Result (Unit {0}) ReplayFault) : Type 0 where
+  pub text : WritesText bytes old new result
+  pub more : OnOk result (HasMore t t')
+  pub failed : OnErr result (HasWriteFailed t t')
+
+-- a text was written, and calls of the writer were made
+abbrev pub Wrote : List ℕ → Option (List ℕ) → Option (List ℕ) → Option (List WriteTold)
+    → Option (List WriteTold) → Type 0
+Wrote text old new t t' = Appends old new text × HasMore t t'
+
+-- a beginning of it was, and where the writer is said to have failed it did
+abbrev pub WrotePart : List ℕ → Option (List ℕ) → Option (List ℕ) → Option (List WriteTold)
+    → Option (List WriteTold) → ReplayFault → Type 0
+WrotePart text old new t t' fault = AppendsPart old new text × (fault ≡ Write → HasWriteFailed t t')
+
+-- what is left of the writer, by what its calls returned: after Ok all is flushed, and where it is said to have
+-- failed its last call did, or it was asked too often
+pub record LeavesWriter (old new : Option (List WriteTold)) (result : Result (Unit {0}) ReplayFault) : Type 0 where
+  pub flushed : OnOk result (EndsWith IsFlush old new)
+  pub failed : result ≡ Err Write → HasWriteFailed old new
+
+-- ---- requests
+
+-- the row's ordinal is above this one
+abbrev pub is_behind : ℕ → KeptItem → Bool
+is_behind after k = int_lt (pos after) (kept_key k)
+
+-- the records of the kept rows behind an ordinal, one after another
+abbrev pub records_behind : ℕ → List KeptItem → List ℕ
+records_behind after items = flat_map (λ k. request_spelling (request_in k)) (filter (is_behind after) items)
+
+-- the records of all but the first so many requests
+abbrev pub records_of : ℕ → List Answered → List ℕ
+records_of after requests = flat_map (λ a. request_spelling a.request) (drop after requests)
+
+-- ---- branches
+
+-- the branch that a row of floors is of, and the floor
+abbrev pub branch_of : StoredFloor → ℕ
+branch_of f = f.branch
+
+abbrev pub lowest_of : StoredFloor → ℤ
+lowest_of f = f.lowest
+
+-- a floor in digits, and nothing where there is none
+abbrev pub text_of_floor : Option ℤ → List ℕ
+text_of_floor None = []
+text_of_floor (Some lowest) = signed_decimal lowest
+
+-- the line of a branch with such a text: its number, how many accounts it has, and the text
+abbrev pub line_with : Entry → List ℕ → List ℕ
+line_with e floor =
+    signed_decimal e.key ++ (44 ∷ (signed_decimal (number_behind 0 e) ++ (44 ∷ (floor ++ (10 ∷ [])))))
+
+-- and with the floor that a row has under its number
+abbrev pub plan_line : List Entry → Entry → List ℕ
+plan_line floors e = line_with e (text_of_floor (option_map (number_behind 0) (row_under floors e.key)))
+
+-- the lines of branches
+abbrev pub plan_lines : List Entry → List Entry → List ℕ
+plan_lines floors branches = text_of (map (plan_line floors) branches)
+
+-- the first line
+abbrev pub plan_names : List ℕ
+plan_names = codes "branch,accounts,floor\n"
+
+-- the plan that rows of `branch` and of `branch_floor` are
+abbrev pub plan_text : List Entry → List Entry → List ℕ
+plan_text floors branches = plan_names ++ plan_lines floors branches

@@ -1,0 +1,80 @@
+//! The digest of the kept requests.
+ghost use Rattle.std.specs.Prelude.{◌≡◌, List, Err, IfOk, take};
+ghost use Rattle.sqlite.specs.State.{HasCleanDisk};
+ghost use Rattle.posting_rules.specs.Commands.{Command};
+ghost use Rattle.posting_rules.specs.Counter.{ShowsLog};
+ghost use Rattle.posting_rules.specs.declared.fault.Fault.TheVariants.{Down};
+ghost use Rattle.walked_rows.specs.KeptRows.{HasKept, KeptItem};
+ghost use Rattle.bank_store.specs.Leaving.{StandsWhileOpen, TakesNone};
+ghost use Rattle.bank_store.specs.Seen.{bank_seen, connection_of, database_of, fault_of, file_of};
+ghost use Rattle.bank_store.specs.Sparing.{SparesWhileOpen};
+ghost use Rattle.bank_replays.specs.Digests.{DigestsFirst, DigestsRows, IsDigestIn, answered_behind};
+ghost use Rattle.bank_replays.specs.Reading.{ReadsBank};
+ghost use Rattle.bank_replays.specs.Replays.{HasAnswered};
+
+use crate::chain::{Chaining, Digest};
+use crate::fault::told;
+use crate::handed::{hand_all, hand_first};
+use bank_store::Bank;
+use posting_rules::{Counter, Fault};
+use sqlite::Alter;
+use walked_rows::KeptRequest;
+
+/// The digest of all kept requests. A fault leaves the bank as it was.
+pub(crate) fn digest_all<S: Alter>(bank: &mut Bank<S>) -> Result<Digest, Fault>
+    ensures bank { ReadsBank S.Store bank.old bank.new result }
+    ensures rows { HasCleanDisk (file_of bank.new) → (all : List KeptItem)
+        → HasKept (database_of S.Store bank.old) all → IfOk result (IsDigestIn all) }
+{
+    let mut digest = Digest::none();
+    match hand_all::<S, KeptRequest, Digest, Chaining>(bank, &Chaining, &mut digest) {
+        Ok(()) => Ok(digest),
+        Err(fault) => Err(told(fault)),
+    }
+}
+
+// The digest of the first so many, or of all if there are fewer.
+fn digest_first<S: Alter>(bank: &mut Bank<S>, count: u64) -> Result<Digest, Fault>
+    ensures bank { ReadsBank S.Store bank.old bank.new result }
+    ensures rows { HasCleanDisk (file_of bank.new) → (all : List KeptItem)
+        → HasKept (database_of S.Store bank.old) all → IfOk result (IsDigestIn (take count all)) }
+{
+    let mut digest = Digest::none();
+    match hand_first::<S, KeptRequest, Digest, Chaining>(bank, count, &Chaining, &mut digest) {
+        Ok(_) => Ok(digest),
+        Err(fault) => Err(told(fault)),
+    }
+}
+
+/// The digest of the first so many kept requests, by their ordinals; none where there are fewer.
+///
+/// # Errors
+///
+/// None of them brings the bank down, and none changes the file.
+///
+/// | Error | What happened |
+/// |---|---|
+/// | [`Fault::Store`] | a read failed: the disk did, or memory or steps were refused |
+/// | [`Fault::Down`] | the bank was down, and nothing was read |
+/// | [`Fault::Damaged`] | a row can't be read, or with `Rule::Request` it is that of no request |
+/// | [`Fault::Memory`] | there would be no room for so many requests |
+pub fn digest<S: Alter>(bank: &mut Bank<S>, count: u64) -> Result<Option<Digest>, Fault>
+    ensures rows { (bank_seen S.Store bank.new).honest → (all : List KeptItem)
+        → HasKept (database_of S.Store bank.old) all → DigestsRows count all result }
+    ensures log { (bank_seen S.Store bank.new).honest → (log : List Command)
+        → ShowsLog (bank_seen S.Store bank.old) log → DigestsFirst count (answered_behind log) result }
+    ensures bank { TakesNone (bank_seen S.Store bank.old) (bank_seen S.Store bank.new) (HasAnswered result) }
+    ensures down { (bank_seen S.Store bank.old).is_down → (result ≡ Err Down) × (bank.new ≡ bank.old) }
+    ensures up { fault_of bank.new ≡ fault_of bank.old }
+    ensures stands { StandsWhileOpen S.Store bank.old bank.new }
+    ensures spares { SparesWhileOpen S.Store (connection_of bank.old) (connection_of bank.new) }
+{
+    if bank.is_down() {
+        return Err(Fault::Down);
+    }
+    let digest = digest_first(bank, count)?;
+    if digest.requests < count {
+        return Ok(None);
+    }
+    Ok(Some(digest))
+}

@@ -1,0 +1,124 @@
+//! The kept requests as records.
+ghost use Rattle.std.specs.Prelude.{◌≡◌, List, Err, map};
+ghost use Rattle.sqlite.specs.State.{HasCleanDisk};
+ghost use Rattle.posting_rules.specs.Commands.{Command};
+ghost use Rattle.posting_rules.specs.Counter.{ShowsLog};
+ghost use Rattle.posting_rules.specs.declared.fault.Fault.TheVariants.{Down};
+ghost use Rattle.walked_rows.specs.KeptRows.{HasKept, KeptItem, kept_item};
+ghost use Rattle.bank_store.specs.Leaving.{StandsWhileOpen, TakesNone};
+ghost use Rattle.bank_store.specs.Seen.{bank_seen, connection_of, database_of, fault_of, file_of};
+ghost use Rattle.bank_store.specs.Sparing.{SparesWhileOpen};
+ghost use Rattle.bank_replays.specs.Digests.{answered_behind};
+ghost use Rattle.bank_replays.specs.Reading.{ReadsBank};
+ghost use Rattle.bank_replays.specs.Replays.{HasAnswered};
+ghost use Rattle.bank_replays.specs.Writing.{LeavesWriter, Wrote, WrotePart, WritesText, is_behind};
+ghost use Rattle.bank_replays.specs.Writing.{records_behind, records_of};
+ghost use Rattle.bank_replays.specs.declared.fault.ReplayFault.TheVariants.{Bank as OfBank};
+
+use crate::chain::NO_REQUEST;
+use crate::fault::ReplayFault;
+use crate::handed::{Hands, hand_all};
+use crate::requests::request_of;
+use crate::writes::put_bytes;
+use bank_store::Bank;
+use message_records::encode_request;
+use posting_core::Sink;
+use posting_rules::{Counter, Fault};
+use report_lines::put_last;
+use sqlite::Alter;
+use walked_rows::KeptRequest;
+
+// Whether a row's ordinal is above this one.
+fn is_behind(row: &KeptRequest, after: u64) -> bool
+    ensures { result ≡ is_behind after (kept_item row.now) }
+{
+    row.request.ordinal.get() > after
+}
+
+/// Requests behind an ordinal are written as records.
+#[derive(Drop)]
+pub(crate) struct Behind {
+    after: u64,
+}
+
+impl<W: Sink> Hands<KeptRequest, W> for Behind {
+    ghost use Rattle.bank_replays.specs.Beginnings.{all_part, wrote_none};
+
+    ghost Took = { λ way first last rows. Wrote (records_behind way.after (map kept_item rows))
+        (W.contents first) (W.contents last) (W.told first) (W.told last) };
+
+    ghost Part = { λ way first last rows fault. WrotePart (records_behind way.after (map kept_item rows))
+        (W.contents first) (W.contents last) (W.told first) (W.told last) fault };
+
+    ghost none_yet = { λ way writer. wrote_none (W.contents writer) (W.told writer) };
+
+    ghost in_part = { λ way first last rows fault took. all_part (W.contents first) (W.contents last) _ took fault };
+
+    fn hand(&self, row: KeptRequest, writer: &mut W) -> Result<(), ReplayFault> {
+        if !is_behind(&row, self.after) {
+            return Ok(());
+        }
+        let Some(request) = request_of(&row) else {
+            return Err(NO_REQUEST);
+        };
+        let record = encode_request(&request);
+        put_bytes(writer, record.as_slice())
+    }
+}
+
+// Writes the records of the kept requests behind an ordinal.
+fn export_records<S: Alter, W: Sink>(
+    bank: &mut Bank<S>,
+    after: u64,
+    writer: &mut W,
+) -> Result<(), ReplayFault>
+    ensures bank { ReadsBank S.Store bank.old bank.new result }
+    ensures rows { HasCleanDisk (file_of bank.new) → (all : List KeptItem)
+        → HasKept (database_of S.Store bank.old) all
+        → WritesText (records_behind after all) (W.contents writer.old) (W.contents writer.new) result }
+    ensures writer { LeavesWriter (W.told writer.old) (W.told writer.new) result }
+{
+    hand_all::<S, KeptRequest, W, Behind>(bank, &Behind { after }, writer)?;
+    put_last(writer, "")?;
+    Ok(())
+}
+
+/// Writes the kept requests whose ordinals are above a number as the records that they came as, 100 bytes each,
+/// by their ordinals, and flushes the writer. A bank that gets them behind the same plan and the same requests
+/// up to that ordinal keeps what this one keeps, but for the moments.
+///
+/// # Errors
+///
+/// At each a beginning of the records was written. None brings the bank down, and none changes the file.
+///
+/// | Error | What happened |
+/// |---|---|
+/// | [`ReplayFault::Write`] | the writer failed, at the flush too, or took no byte |
+/// | [`ReplayFault::Bank`] of `Store` | a read failed: the disk did, or memory or steps were refused |
+/// | of `Down` | the bank was down, and nothing was written |
+/// | of `Damaged` | a row can't be read, or with `Rule::Request` it is that of no request |
+/// | of `Memory` | there would be no room for so many requests |
+pub fn export<S: Alter, W: Sink>(
+    bank: &mut Bank<S>,
+    after: u64,
+    writer: &mut W,
+) -> Result<(), ReplayFault>
+    ensures rows { (bank_seen S.Store bank.new).honest → (all : List KeptItem)
+        → HasKept (database_of S.Store bank.old) all
+        → WritesText (records_behind after all) (W.contents writer.old) (W.contents writer.new) result }
+    ensures log { (bank_seen S.Store bank.new).honest → (log : List Command)
+        → ShowsLog (bank_seen S.Store bank.old) log → WritesText (records_of after (answered_behind log))
+        (W.contents writer.old) (W.contents writer.new) result }
+    ensures writer { LeavesWriter (W.told writer.old) (W.told writer.new) result }
+    ensures bank { TakesNone (bank_seen S.Store bank.old) (bank_seen S.Store bank.new) (HasAnswered result) }
+    ensures down { (bank_seen S.Store bank.old).is_down
+        → (result ≡ Err (OfBank Down)) × (bank.new ≡ bank.old) × (writer.new ≡ writer.old) }
+    ensures up { fault_of bank.new ≡ fault_of bank.old }
+    ensures stands { StandsWhileOpen S.Store bank.old bank.new }
+    ensures spares { SparesWhileOpen S.Store (connection_of bank.old) (connection_of bank.new) }
+{
+    if bank.is_down() {
+        return Err(ReplayFault::Bank(Fault::Down));
+    }
+    export_records(bank, after, writer)
+}

@@ -1,0 +1,197 @@
+//! The open branches as a plan.
+ghost use Rattle.std.specs.Prelude.{◌≡◌, ◌≤◌, ◌+◌, ◌++◌, List, Err, IfOk, length, map, option_map, ⊤};
+ghost use Rattle.std.specs.Fmt.{signed_decimal};
+ghost use Rattle.sqlite.specs.State.{HasCleanDisk};
+ghost use Rattle.posting_rules.specs.Tables.{row_at};
+ghost use Rattle.posting_rules.specs.declared.fault.Fault.TheVariants.{Down};
+ghost use Rattle.sql_meanings.specs.Entries.{Entry};
+ghost use Rattle.store_rows.specs.BankTables.{branch as branch_table, floor as floor_table};
+ghost use Rattle.walked_rows.specs.Rows.{HasStoredRows};
+ghost use Rattle.walked_rows.specs.Stored.{branch_entry};
+ghost use Rattle.walked_rows.specs.StoredBeside.{floor_entry};
+ghost use Rattle.bank_store.specs.Leaving.{StandsWhileOpen, TakesNone};
+ghost use Rattle.bank_store.specs.Seen.{bank_seen, connection_of, database_of, fault_of, file_of};
+ghost use Rattle.bank_store.specs.Sparing.{SparesWhileOpen};
+ghost use Rattle.bank_replays.specs.Reading.{ReadsBank};
+ghost use Rattle.bank_replays.specs.Replays.{HasAnswered};
+ghost use Rattle.bank_replays.specs.Writing.{LeavesWriter, Wrote, WrotePart, WritesText, branch_of};
+ghost use Rattle.bank_replays.specs.Writing.{line_with, lowest_of, plan_lines, plan_text, text_of_floor};
+ghost use Rattle.bank_replays.specs.declared.fault.ReplayFault.TheVariants.{Bank as OfBank};
+
+use crate::fault::{ReplayFault, told};
+use crate::handed::{Hands, hand_all};
+use arrayvec::ArrayString;
+use bank_store::Bank;
+use itoa::Buffer;
+use posting_core::Sink;
+use posting_rules::{Counter, Fault};
+use report_lines::{put, put_last};
+use sqlite::Alter;
+use walked_rows::{StoredBranch, StoredFloor};
+
+// The most that a line takes: three numbers of 40 characters, and what stands behind each.
+const PLAN_LINE: usize = 123;
+
+type PlanLine = ArrayString<PLAN_LINE>;
+
+// The first line.
+const NAMES: &str = "branch,accounts,floor\n";
+
+// Appends a number.
+fn push_number(line: &mut PlanLine, number: i64)
+    requires { length line.old.bytes + 40 ≤ PLAN_LINE }
+    ensures bytes { line.new.bytes ≡ line.old.bytes ++ signed_decimal number }
+    ensures len { length line.new.bytes ≤ length line.old.bytes + 40 }
+{
+    let mut digits = Buffer::new();
+    line.push_str(digits.format(number));
+}
+
+// Appends a floor, if there is one.
+fn push_floor(line: &mut PlanLine, floor: Option<i64>)
+    requires { length line.old.bytes + 40 ≤ PLAN_LINE }
+    ensures bytes { line.new.bytes ≡ line.old.bytes ++ text_of_floor floor }
+    ensures len { length line.new.bytes ≤ length line.old.bytes + 40 }
+{
+    if let Some(lowest) = floor {
+        push_number(line, lowest);
+    }
+}
+
+// The line of a branch.
+fn line_of(row: &StoredBranch, floor: Option<i64>) -> PlanLine
+    ensures { result.bytes ≡ line_with (branch_entry row.now) (text_of_floor floor) }
+{
+    let mut line = ArrayString::new();
+    push_number(&mut line, row.branch.get() as i64);
+    line.push_str(",");
+    push_number(&mut line, row.accounts.get() as i64);
+    line.push_str(",");
+    push_floor(&mut line, floor);
+    line.push_str("\n");
+    line
+}
+
+// The floor of a branch.
+fn floor_of(floors: &[StoredFloor], branch: u64) -> Option<i64>
+    ensures { result ≡ option_map lowest_of (row_at branch_of floors.now branch) }
+{
+    floors
+        .iter()
+        .find(|floor| floor.branch.get() == branch)
+        .map(|floor| floor.lowest)
+}
+
+// Rows are listed.
+struct Listing;
+
+impl Hands<StoredFloor, Vec<StoredFloor>> for Listing {
+    ghost use Rattle.std.proofs.Common.{append-nil, sym};
+
+    ghost Took = { λ way first last rows. last.items ≡ first.items ++ rows };
+
+    ghost Part = { λ way first last rows fault. ⊤ };
+
+    ghost none_yet = { λ way floors. sym (append-nil floors.items) };
+
+    ghost in_part = { λ way first last rows fault took. tt };
+
+    fn hand(&self, row: StoredFloor, floors: &mut Vec<StoredFloor>) -> Result<(), ReplayFault> {
+        match floors.push(row) {
+            Ok(()) => Ok(()),
+            Err(_) => Err(ReplayFault::Bank(Fault::Memory)),
+        }
+    }
+}
+
+// Branches are written as lines, each with its floor of these.
+#[derive(Drop)]
+struct Lines {
+    floors: Vec<StoredFloor>,
+}
+
+impl<W: Sink> Hands<StoredBranch, W> for Lines {
+    ghost use Rattle.bank_replays.specs.Beginnings.{all_part, wrote_none};
+
+    ghost Took = { λ way first last rows.
+        Wrote (plan_lines (map floor_entry way.floors.items) (map branch_entry rows))
+        (W.contents first) (W.contents last) (W.told first) (W.told last) };
+
+    ghost Part = { λ way first last rows fault.
+        WrotePart (plan_lines (map floor_entry way.floors.items) (map branch_entry rows))
+        (W.contents first) (W.contents last) (W.told first) (W.told last) fault };
+
+    ghost none_yet = { λ way writer. wrote_none (W.contents writer) (W.told writer) };
+
+    ghost in_part = { λ way first last rows fault took. all_part (W.contents first) (W.contents last) _ took fault };
+
+    fn hand(&self, row: StoredBranch, writer: &mut W) -> Result<(), ReplayFault> {
+        let floor = floor_of(self.floors.as_slice(), row.branch.get());
+        put(writer, line_of(&row, floor).as_str())?;
+        Ok(())
+    }
+}
+
+// The floors of branches.
+fn floors_of<S: Alter>(bank: &mut Bank<S>) -> Result<Lines, Fault>
+    ensures bank { ReadsBank S.Store bank.old bank.new result }
+    ensures rows { HasCleanDisk (file_of bank.new) → (floors : List Entry)
+        → HasStoredRows (database_of S.Store bank.old) floor_table floors
+        → IfOk result (λ lines. map floor_entry lines.floors.items ≡ floors) }
+{
+    let mut floors = Vec::new(bank.alloc());
+    match hand_all::<S, StoredFloor, Vec<StoredFloor>, Listing>(bank, &Listing, &mut floors) {
+        Ok(()) => Ok(Lines { floors }),
+        Err(fault) => Err(told(fault)),
+    }
+}
+
+// Writes the lines of all branches.
+fn write_branches<S: Alter, W: Sink>(bank: &mut Bank<S>, writer: &mut W) -> Result<(), ReplayFault>
+    ensures bank { ReadsBank S.Store bank.old bank.new result }
+    ensures rows { HasCleanDisk (file_of bank.new) → (floors branches : List Entry)
+        → HasStoredRows (database_of S.Store bank.old) floor_table floors
+        → HasStoredRows (database_of S.Store bank.old) branch_table branches
+        → WritesText (plan_text floors branches) (W.contents writer.old) (W.contents writer.new) result }
+    ensures writer { LeavesWriter (W.told writer.old) (W.told writer.new) result }
+{
+    let lines = floors_of(bank)?;
+    put(writer, NAMES)?;
+    hand_all::<S, StoredBranch, W, Lines>(bank, &lines, writer)?;
+    put_last(writer, "")?;
+    Ok(())
+}
+
+/// Writes the open branches, by their numbers, as the plan that `read_plan` of `branch_loader` reads, and
+/// flushes the writer: CSV with the header `branch,accounts,floor`. The third field is empty where a branch has
+/// no floor.
+///
+/// # Errors
+///
+/// At each a beginning of the text was written. None brings the bank down, and none changes the file.
+///
+/// | Error | What happened |
+/// |---|---|
+/// | [`ReplayFault::Write`] | the writer failed, at the flush too, or took no byte |
+/// | [`ReplayFault::Bank`] of `Memory` | memory for the floors was refused |
+/// | of `Store` | a read failed: the disk did, or memory or steps were refused |
+/// | of `Down` | the bank was down, and nothing was written |
+/// | of `Damaged` | a row can't be read: a number of it is out of its column's range |
+pub fn write_plan<S: Alter, W: Sink>(bank: &mut Bank<S>, writer: &mut W) -> Result<(), ReplayFault>
+    ensures rows { (bank_seen S.Store bank.new).honest → (floors branches : List Entry)
+        → HasStoredRows (database_of S.Store bank.old) floor_table floors
+        → HasStoredRows (database_of S.Store bank.old) branch_table branches
+        → WritesText (plan_text floors branches) (W.contents writer.old) (W.contents writer.new) result }
+    ensures writer { LeavesWriter (W.told writer.old) (W.told writer.new) result }
+    ensures bank { TakesNone (bank_seen S.Store bank.old) (bank_seen S.Store bank.new) (HasAnswered result) }
+    ensures down { (bank_seen S.Store bank.old).is_down
+        → (result ≡ Err (OfBank Down)) × (bank.new ≡ bank.old) × (writer.new ≡ writer.old) }
+    ensures up { fault_of bank.new ≡ fault_of bank.old }
+    ensures stands { StandsWhileOpen S.Store bank.old bank.new }
+    ensures spares { SparesWhileOpen S.Store (connection_of bank.old) (connection_of bank.new) }
+{
+    if bank.is_down() {
+        return Err(ReplayFault::Bank(Fault::Down));
+    }
+    write_branches(bank, writer)
+}
