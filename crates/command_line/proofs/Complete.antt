@@ -1,5 +1,5 @@
 -- Where clap finds no fault in the words, they name one of the program's commands, with all its values.
-use Rattle.std.proofs.Common.{◌≡◌, ◌⊎◌, ◌||◌, ℕ, Bool, true, false, refl}
+use Rattle.std.proofs.Common.{◌≡◌, ◌||◌, ℕ, Bool, true, false, refl}
 use Rattle.std.proofs.Common.{subst, sym, inl, inr, Result, Ok, Err, IfOk}
 use Rattle.std.proofs.Common.{List, [], ◌∷◌, Option, Some, None, is_some, codes}
 use Rattle.std.specs.Prelude.{IsSomeAnd, find, option_map, unwrap_or}
@@ -23,13 +23,13 @@ use Rattle.clap.specs.declared.parser.matches.ArgMatches.{ArgMatches}
 use Rattle.load_driver.specs.declared.drive.TheConstants.{MAX_DRIVEN}
 use Rattle.message_records.specs.declared.limits.TheConstants.{MAX_ACCOUNT}
 use Rattle.command_line.specs.declared.limits.TheConstants.{MAX_CONNECTIONS}
-use Rattle.command_line.specs.CommandLine.{MAX_SEED, bank_app}
-use Rattle.command_line.specs.Words.{HasNumber, HasText, IsComplete, IsCompleteOnFile}
-use Rattle.command_line.proofs.Levels.{IsPlainLeaf, has_command, has_first, level_passes, value_of}
+use Rattle.command_line.specs.CommandLine.{MAX_REQUESTS, MAX_SEED, bank_app}
+use Rattle.command_line.specs.Words.{HasNumber, HasNumberIfAny, HasText, IsComplete, IsCompleteOnFile, IsOfOneFile}
+use Rattle.command_line.proofs.Levels.{IsPlainLeaf, has_command, has_first, level_passes, value_if_any, value_of}
 use Rattle.command_line.proofs.Rows.{HasValue}
-use Rattle.command_line.proofs.Shapes.{drive_is_plain, file_and_account, file_and_address, file_and_numbers}
-use Rattle.command_line.proofs.Shapes.{load_is_plain, one_file, one_is_plain, serve_is_plain}
-use Rattle.command_line.proofs.Shapes.{statement_is_plain}
+use Rattle.command_line.proofs.Shapes.{digest_is_plain, drive_is_plain, export_is_plain, file_and_account}
+use Rattle.command_line.proofs.Shapes.{file_and_address, file_and_after, file_and_numbers, file_and_requests}
+use Rattle.command_line.proofs.Shapes.{load_is_plain, one_file, one_is_plain, serve_is_plain, statement_is_plain}
 use Rattle.command_line.proofs.Shapes.{two_files}
 use Rattle.command_line.proofs.Stopped.{IsNoHelp, walk_stops}
 
@@ -65,6 +65,21 @@ has_number s words id least most leaf none is parser =
     let reads : one_of a.id (rows_after s.rules [] words) ≡ Some has.0 = rw parser at has.2 in
     rw reads (accepts-Accepts a.ignore_case (Unsigned least most) has.0 passes)
 
+-- that of one that may be left out, too
+has_number_if_any : (s : Shape) (words : List Text) (id : Text) (least most : ℕ) → IsPlainLeaf s
+    → HasNoFault s words → arg_by_id s.rules (argument s id).id ≡ Some (argument s id)
+    → (argument s id).parser ≡ Some (Unsigned least most)
+    → HasNumberIfAny (argument s id).id least most (rows_after s.rules [] words)
+has_number_if_any s words id least most leaf none own parser =
+    elim (value_if_any s words (argument s id) leaf none own) [
+      | inl absent ↦ rw absent tt
+      | inr has ↦
+          let a = argument s id in
+          let passes : accepts a.ignore_case (Unsigned least most) has.0 ≡ true = rw parser at has.3 in
+          let reads : one_of a.id (rows_after s.rules [] words) ≡ Some has.0 = rw parser at has.2 in
+          rw reads (accepts-Accepts a.ignore_case (Unsigned least most) has.0 passes)
+    ]
+
 -- with no fault the command has its values
 abbrev Completes : Shape → Type 0
 Completes s = (words : List Text) → HasNoFault s words → IsComplete (rows_at s words)
@@ -76,57 +91,70 @@ CompletesOnFile s = (words : List Text) → HasNoFault s words → IsCompleteOnF
 on_file : (s : Shape) → CompletesOnFile s → Completes s
 on_file s complete words none = inr (inr (complete words none))
 
-file_completes : (name : Text)
-    → (name ≡ codes "init") ⊎ (name ≡ codes "post") ⊎ (name ≡ codes "audit") ⊎ (name ≡ codes "migrate")
-    → CompletesOnFile (one_file name)
-file_completes name (inl is) words none =
+file_completes : (name : Text) → IsOfOneFile name → CompletesOnFile (one_file name)
+file_completes name is words none =
     (has_text (one_file name) words (codes "file") (one_is_plain name) none (refl, refl), inl is)
-file_completes name (inr (inl is)) words none =
-    (has_text (one_file name) words (codes "file") (one_is_plain name) none (refl, refl), inr (inl is))
-file_completes name (inr (inr (inl is))) words none =
-    (has_text (one_file name) words (codes "file") (one_is_plain name) none (refl, refl), inr (inr (inl is)))
-file_completes name (inr (inr (inr is))) words none = (
-  has_text (one_file name) words (codes "file") (one_is_plain name) none (refl, refl),
-  inr (inr (inr (inl is))),
-)
+
+one_completes : (name : Text) → IsOfOneFile name → Completes (one_file name)
+one_completes name is = on_file (one_file name) (file_completes name is)
 
 load_completes : CompletesOnFile two_files
 load_completes words none =
     let s = two_files in (
       has_text s words (codes "file") load_is_plain none (refl, refl),
-      inr (inr (inr (inr (inl (refl, has_text s words (codes "plan") load_is_plain none (refl, refl)))))),
+      inr (inl (refl, has_text s words (codes "plan") load_is_plain none (refl, refl))),
     )
 
 drive_completes : CompletesOnFile file_and_numbers
 drive_completes words none =
     let s = file_and_numbers in (
       has_text s words (codes "file") drive_is_plain none (refl, refl),
-      inr (inr (inr (inr (inr (inl (
+      inr (inr (inl (
         refl,
         has_number s words (codes "seed") 0 MAX_SEED drive_is_plain none (refl, refl) refl,
         has_number s words (codes "count") 1 MAX_DRIVEN drive_is_plain none (refl, refl) refl,
-      )))))),
+      ))),
     )
 
 statement_completes : CompletesOnFile file_and_account
 statement_completes words none =
     let s = file_and_account in (
       has_text s words (codes "file") statement_is_plain none (refl, refl),
-      inr (inr (inr (inr (inr (inr (inl (
+      inr (inr (inr (inl (
         refl,
         has_number s words (codes "account") 1 MAX_ACCOUNT statement_is_plain none (refl, refl) refl,
-      ))))))),
+      )))),
     )
 
 serve_completes : CompletesOnFile file_and_address
 serve_completes words none =
     let s = file_and_address in (
       has_text s words (codes "file") serve_is_plain none (refl, refl),
-      inr (inr (inr (inr (inr (inr (inr (
+      inr (inr (inr (inr (inl (
         refl,
         has_text s words (codes "address") serve_is_plain none (refl, refl),
         has_number s words (codes "connections") 1 MAX_CONNECTIONS serve_is_plain none (refl, refl) refl,
-      ))))))),
+      ))))),
+    )
+
+digest_completes : CompletesOnFile file_and_requests
+digest_completes words none =
+    let s = file_and_requests in (
+      has_text s words (codes "file") digest_is_plain none (refl, refl),
+      inr (inr (inr (inr (inr (inl (
+        refl,
+        has_number s words (codes "requests") 0 MAX_REQUESTS digest_is_plain none (refl, refl) refl,
+      )))))),
+    )
+
+export_completes : CompletesOnFile file_and_after
+export_completes words none =
+    let s = file_and_after in (
+      has_text s words (codes "file") export_is_plain none (refl, refl),
+      inr (inr (inr (inr (inr (inr (
+        refl,
+        has_number_if_any s words (codes "after") 0 MAX_REQUESTS export_is_plain none refl refl,
+      )))))),
     )
 
 -- ---- the words
@@ -168,26 +196,35 @@ is_help name other answers = go (bytes_eq (codes "help") name) refl answers
 each_completes : (name : Text) → bytes_eq name (codes "help") ≡ false
     → HoldsOfEach (CompletesAt name) (built bank_app).subs
 each_completes name other = (
-  λ named. on_file (one_file (codes "init")) (file_completes (codes "init") (inl refl)),
+  λ named. one_completes (codes "init") (inl refl),
   (
     λ named. on_file two_files load_completes,
     (
-      λ named. on_file (one_file (codes "post")) (file_completes (codes "post") (inr (inl refl))),
+      λ named. one_completes (codes "post") (inr (inl refl)),
       (
         λ named. on_file file_and_numbers drive_completes,
         (
-          λ named. on_file (one_file (codes "audit")) (file_completes (codes "audit") (inr (inr (inl refl)))),
+          λ named. one_completes (codes "audit") (inr (inr (inl refl))),
           (
             λ named. on_file file_and_account statement_completes,
             (
-              λ named. on_file file_and_address serve_completes,
+              λ named. one_completes (codes "replay") (inr (inr (inr (inl refl)))),
               (
-                λ named. on_file (one_file (codes "migrate")) (file_completes (codes "migrate") (inr (inr (inr refl)))),
+                λ named. on_file file_and_requests digest_completes,
                 (
-                  λ named words none. inl refl,
+                  λ named. on_file file_and_after export_completes,
                   (
-                    λ named words none. inr (inl refl),
-                    (λ named. absurd (is_help name other named), tt),
+                    λ named. one_completes (codes "plan") (inr (inr (inr (inr (inl refl))))),
+                    (
+                      λ named. on_file file_and_address serve_completes,
+                      (
+                        λ named. one_completes (codes "migrate") (inr (inr (inr (inr (inr refl))))),
+                        (
+                          λ named words none. inl refl,
+                          (λ named words none. inr (inl refl), (λ named. absurd (is_help name other named), tt)),
+                        ),
+                      ),
+                    ),
                   ),
                 ),
               ),

@@ -2,7 +2,7 @@
 use Rattle.std.proofs.Common.{◌≡◌, ◌≤◌, ◌∙◌, List, ℕ, Option, Some}
 use Rattle.std.proofs.Common.{None, is_some, true, false, codes, inl, inr}
 use Rattle.std.proofs.Common.{IsSome, Result, ap, ap₂, refl, subst, sym}
-use Rattle.std.specs.Prelude.{IsSomeAnd, option_map}
+use Rattle.std.specs.Prelude.{IfSome, IsSomeAnd, option_map, unwrap_or}
 use Rattle.std.specs.Str.Parse.{ExplainsUnsignedError, HasUnsignedDigitsIfOk, ParsesUnsigned}
 use Rattle.std.specs.declared.num.ParseIntError.{ParseIntError}
 use Rattle.std.specs.Borrow.{Bor}
@@ -15,14 +15,13 @@ use Rattle.clap.specs.declared.parser.matches.Found.{Found}
 use Rattle.clap.specs.declared.parser.matches.ArgMatches.TheViews.{out-ArgMatches}
 use Rattle.clap.proofs.WalkLemmas.{first_value-rows, one_text-rows}
 use Rattle.load_driver.specs.declared.drive.TheConstants.{MAX_DRIVEN}
-use Rattle.command_line.specs.CommandLine.{MAX_SEED}
+use Rattle.command_line.specs.CommandLine.{MAX_REQUESTS, MAX_SEED}
 use Rattle.message_records.specs.Ranges.{whole_within}
 use Rattle.load_driver.proofs.Listed.{within}
 use Rattle.message_records.specs.declared.limits.TheConstants.{MAX_ACCOUNT}
 use Rattle.command_line.specs.declared.limits.TheConstants.{MAX_CONNECTIONS}
-use Rattle.command_line.specs.Words.{AreInRange, HasNumber, HasText, IsCommandOf, IsComplete, IsCompleteOnFile}
-use Rattle.command_line.specs.Words.{IsNumber}
-use Rattle.command_line.specs.Words.{IsNumberIn, IsText}
+use Rattle.command_line.specs.Words.{AreInRange, HasMoreValues, HasNumber, HasNumberIfAny, HasText, IsCommandOf}
+use Rattle.command_line.specs.Words.{IsComplete, IsNumber, IsNumberIfAny, IsNumberIn, IsText, number_of}
 use Rattle.command_line.specs.declared.reading.Command.TheVariants.{Drive, Serve}
 
 -- an argument with a value gives one
@@ -50,7 +49,7 @@ composed f g None = refl
 composed f g (Some x) = refl
 
 -- the subcommand of the matches, from its name and its rows
-met_rows : (m : ArgMatches) (name : Text) (rows : List Row) → Some name ≡ subcommand_name_of m
+pub met_rows : (m : ArgMatches) (name : Text) (rows : List Row) → Some name ≡ subcommand_name_of m
     → Some rows ≡ option_map (λ p. p.1) (subcommand_rows_of m) → subcommand_rows_of m ≡ Some (name, rows)
 met_rows m name rows named met = go (subcommand_rows_of m) named_by met
   where
@@ -80,60 +79,76 @@ apart {s = s} {t = t} same other =
     let equal : bytes_eq s t ≡ true = (bytes_eq-Decides s t).1 same in
     cc
 
--- a complete `load` has its plan
-pub plan_of_load : (p : Text × List Row) → p.0 ≡ codes "load" → IsCompleteOnFile p
+-- a `load` has its plan
+pub plan_of_load : (p : Text × List Row) → p.0 ≡ codes "load" → HasMoreValues p
     → HasText (codes "plan") p.1
-plan_of_load p name complete = elim complete.1 [
-  | inl init ↦ absurd (apart (sym init ∙ name) refl)
-  | inr (inl post) ↦ absurd (apart (sym post ∙ name) refl)
-  | inr (inr (inl audit)) ↦ absurd (apart (sym audit ∙ name) refl)
-  | inr (inr (inr (inl migrate))) ↦ absurd (apart (sym migrate ∙ name) refl)
-  | inr (inr (inr (inr (inl load)))) ↦ load.1
-  | inr (inr (inr (inr (inr (inl drive))))) ↦ absurd (apart (sym drive.0 ∙ name) refl)
-  | inr (inr (inr (inr (inr (inr (inl statement)))))) ↦ absurd (apart (sym statement.0 ∙ name) refl)
-  | inr (inr (inr (inr (inr (inr (inr serve)))))) ↦ absurd (apart (sym serve.0 ∙ name) refl)
+plan_of_load p name has = elim has [
+  | inl load ↦ load.1
+  | inr (inl drive) ↦ absurd (apart (sym drive.0 ∙ name) refl)
+  | inr (inr (inl statement)) ↦ absurd (apart (sym statement.0 ∙ name) refl)
+  | inr (inr (inr (inl serve))) ↦ absurd (apart (sym serve.0 ∙ name) refl)
+  | inr (inr (inr (inr (inl digest)))) ↦ absurd (apart (sym digest.0 ∙ name) refl)
+  | inr (inr (inr (inr (inr export)))) ↦ absurd (apart (sym export.0 ∙ name) refl)
 ]
 
--- a complete `drive` has its numbers
-pub numbers_of_drive : (p : Text × List Row) → p.0 ≡ codes "drive" → IsCompleteOnFile p
+-- a `drive` has its numbers
+pub numbers_of_drive : (p : Text × List Row) → p.0 ≡ codes "drive" → HasMoreValues p
     → HasNumber (codes "seed") 0 MAX_SEED p.1 × HasNumber (codes "count") 1 MAX_DRIVEN p.1
-numbers_of_drive p name complete = elim complete.1 [
-  | inl init ↦ absurd (apart (sym init ∙ name) refl)
-  | inr (inl post) ↦ absurd (apart (sym post ∙ name) refl)
-  | inr (inr (inl audit)) ↦ absurd (apart (sym audit ∙ name) refl)
-  | inr (inr (inr (inl migrate))) ↦ absurd (apart (sym migrate ∙ name) refl)
-  | inr (inr (inr (inr (inl load)))) ↦ absurd (apart (sym load.0 ∙ name) refl)
-  | inr (inr (inr (inr (inr (inl drive))))) ↦ (drive.1, drive.2)
-  | inr (inr (inr (inr (inr (inr (inl statement)))))) ↦ absurd (apart (sym statement.0 ∙ name) refl)
-  | inr (inr (inr (inr (inr (inr (inr serve)))))) ↦ absurd (apart (sym serve.0 ∙ name) refl)
+numbers_of_drive p name has = elim has [
+  | inl load ↦ absurd (apart (sym load.0 ∙ name) refl)
+  | inr (inl drive) ↦ (drive.1, drive.2)
+  | inr (inr (inl statement)) ↦ absurd (apart (sym statement.0 ∙ name) refl)
+  | inr (inr (inr (inl serve))) ↦ absurd (apart (sym serve.0 ∙ name) refl)
+  | inr (inr (inr (inr (inl digest)))) ↦ absurd (apart (sym digest.0 ∙ name) refl)
+  | inr (inr (inr (inr (inr export)))) ↦ absurd (apart (sym export.0 ∙ name) refl)
 ]
 
--- a complete `statement` has the number of an account
-pub account_of_statement : (p : Text × List Row) → p.0 ≡ codes "statement" → IsCompleteOnFile p
+-- a `statement` has the number of an account
+pub account_of_statement : (p : Text × List Row) → p.0 ≡ codes "statement" → HasMoreValues p
     → HasNumber (codes "account") 1 MAX_ACCOUNT p.1
-account_of_statement p name complete = elim complete.1 [
-  | inl init ↦ absurd (apart (sym init ∙ name) refl)
-  | inr (inl post) ↦ absurd (apart (sym post ∙ name) refl)
-  | inr (inr (inl audit)) ↦ absurd (apart (sym audit ∙ name) refl)
-  | inr (inr (inr (inl migrate))) ↦ absurd (apart (sym migrate ∙ name) refl)
-  | inr (inr (inr (inr (inl load)))) ↦ absurd (apart (sym load.0 ∙ name) refl)
-  | inr (inr (inr (inr (inr (inl drive))))) ↦ absurd (apart (sym drive.0 ∙ name) refl)
-  | inr (inr (inr (inr (inr (inr (inl statement)))))) ↦ statement.1
-  | inr (inr (inr (inr (inr (inr (inr serve)))))) ↦ absurd (apart (sym serve.0 ∙ name) refl)
+account_of_statement p name has = elim has [
+  | inl load ↦ absurd (apart (sym load.0 ∙ name) refl)
+  | inr (inl drive) ↦ absurd (apart (sym drive.0 ∙ name) refl)
+  | inr (inr (inl statement)) ↦ statement.1
+  | inr (inr (inr (inl serve))) ↦ absurd (apart (sym serve.0 ∙ name) refl)
+  | inr (inr (inr (inr (inl digest)))) ↦ absurd (apart (sym digest.0 ∙ name) refl)
+  | inr (inr (inr (inr (inr export)))) ↦ absurd (apart (sym export.0 ∙ name) refl)
 ]
 
--- a complete `serve` has its address and its number
-pub values_of_serve : (p : Text × List Row) → p.0 ≡ codes "serve" → IsCompleteOnFile p
+-- a `serve` has its address and its number
+pub values_of_serve : (p : Text × List Row) → p.0 ≡ codes "serve" → HasMoreValues p
     → HasText (codes "address") p.1 × HasNumber (codes "connections") 1 MAX_CONNECTIONS p.1
-values_of_serve p name complete = elim complete.1 [
-  | inl init ↦ absurd (apart (sym init ∙ name) refl)
-  | inr (inl post) ↦ absurd (apart (sym post ∙ name) refl)
-  | inr (inr (inl audit)) ↦ absurd (apart (sym audit ∙ name) refl)
-  | inr (inr (inr (inl migrate))) ↦ absurd (apart (sym migrate ∙ name) refl)
-  | inr (inr (inr (inr (inl load)))) ↦ absurd (apart (sym load.0 ∙ name) refl)
-  | inr (inr (inr (inr (inr (inl drive))))) ↦ absurd (apart (sym drive.0 ∙ name) refl)
-  | inr (inr (inr (inr (inr (inr (inl statement)))))) ↦ absurd (apart (sym statement.0 ∙ name) refl)
-  | inr (inr (inr (inr (inr (inr (inr serve)))))) ↦ (serve.1, serve.2)
+values_of_serve p name has = elim has [
+  | inl load ↦ absurd (apart (sym load.0 ∙ name) refl)
+  | inr (inl drive) ↦ absurd (apart (sym drive.0 ∙ name) refl)
+  | inr (inr (inl statement)) ↦ absurd (apart (sym statement.0 ∙ name) refl)
+  | inr (inr (inr (inl serve))) ↦ (serve.1, serve.2)
+  | inr (inr (inr (inr (inl digest)))) ↦ absurd (apart (sym digest.0 ∙ name) refl)
+  | inr (inr (inr (inr (inr export)))) ↦ absurd (apart (sym export.0 ∙ name) refl)
+]
+
+-- a `digest` has a count of requests
+pub requests_of_digest : (p : Text × List Row) → p.0 ≡ codes "digest" → HasMoreValues p
+    → HasNumber (codes "requests") 0 MAX_REQUESTS p.1
+requests_of_digest p name has = elim has [
+  | inl load ↦ absurd (apart (sym load.0 ∙ name) refl)
+  | inr (inl drive) ↦ absurd (apart (sym drive.0 ∙ name) refl)
+  | inr (inr (inl statement)) ↦ absurd (apart (sym statement.0 ∙ name) refl)
+  | inr (inr (inr (inl serve))) ↦ absurd (apart (sym serve.0 ∙ name) refl)
+  | inr (inr (inr (inr (inl digest)))) ↦ digest.1
+  | inr (inr (inr (inr (inr export)))) ↦ absurd (apart (sym export.0 ∙ name) refl)
+]
+
+-- an `export` has one, or none
+pub after_of_export : (p : Text × List Row) → p.0 ≡ codes "export" → HasMoreValues p
+    → HasNumberIfAny (codes "after") 0 MAX_REQUESTS p.1
+after_of_export p name has = elim has [
+  | inl load ↦ absurd (apart (sym load.0 ∙ name) refl)
+  | inr (inl drive) ↦ absurd (apart (sym drive.0 ∙ name) refl)
+  | inr (inr (inl statement)) ↦ absurd (apart (sym statement.0 ∙ name) refl)
+  | inr (inr (inr (inl serve))) ↦ absurd (apart (sym serve.0 ∙ name) refl)
+  | inr (inr (inr (inr (inl digest)))) ↦ absurd (apart (sym digest.0 ∙ name) refl)
+  | inr (inr (inr (inr (inr export)))) ↦ export.1
 ]
 
 -- ---- numbers
@@ -172,30 +187,47 @@ number_unwrapped f id least most r value read is =
     let equal : read.0 ≡ value = cc in
     subst (IsNumberIn id least most (rows_of f)) equal read.2
 
+-- an argument that may have been left out
+pub number_if_any_read : (f : Found) (id : Text) (least most : ℕ) (r : Option ℕ)
+    → (one_text f id ≡ None → r ≡ None)
+    → ((t : Text) → one_text f id ≡ Some t → ReadsOne Gives t r)
+    → HasNumberIfAny id least most (rows_of f)
+    → IsNumberIfAny id (rows_of f) (unwrap_or r 0)
+number_if_any_read f id least most r none reads has = go (one_of id (rows_of f)) refl has
+  where
+    go : (o : Option Text) → one_of id (rows_of f) ≡ o → IfSome o (IsUnsignedIn least most)
+        → IsNumberIfAny id (rows_of f) (unwrap_or r 0)
+    go None is has = rw (none (one_text-rows f id ∙ is), is) refl
+    go (Some t) is has =
+        let given : HasNumber id least most (rows_of f) = rw is has in
+        let read = number_read f id least most r reads given in
+        let spells : read.0 ≡ number_of t = rw is at read.2.0 in
+        rw (read.1, is) spells
+
 -- the number that was read is the one that the value spells, in each range that the value keeps
 abbrev pub IsReadFor : Text → List Row → ℕ → Type 0
 IsReadFor id rows n = (least most : ℕ) → HasNumber id least most rows → IsNumberIn id least most rows n
 
--- a complete `drive`, of which file and numbers were read, is that command, with its numbers in their ranges
+-- a `drive`, of which file and numbers were read, is that command, with its numbers in their ranges
 pub drive_read : (p : Text × List Row) (file : Bor Text) (seed count : ℕ) → p.0 ≡ codes "drive"
-    → IsCompleteOnFile p
+    → HasMoreValues p
     → IsText (codes "file") p.1 file.now → IsReadFor (codes "seed") p.1 seed
     → IsReadFor (codes "count") p.1 count
     → IsCommandOf p (Drive file seed count) × AreInRange (Drive file seed count)
-drive_read p file seed count name complete is_file seed_read count_read =
-    let has = numbers_of_drive p name complete in
+drive_read p file seed count name more is_file seed_read count_read =
+    let has = numbers_of_drive p name more in
     let seed_in = seed_read 0 MAX_SEED has.0 in
     let count_in = count_read 1 MAX_DRIVEN has.1 in
     ((name, is_file, seed_in.0, count_in.0), (seed_in.2, count_in.1, count_in.2))
 
--- and so is a complete `serve`
+-- and so is a `serve`
 pub serve_read : (p : Text × List Row) (file address : Bor Text) (connections : ℕ) → p.0 ≡ codes "serve"
-    → IsCompleteOnFile p
+    → HasMoreValues p
     → IsText (codes "file") p.1 file.now → IsText (codes "address") p.1 address.now
     → IsReadFor (codes "connections") p.1 connections
     → IsCommandOf p (Serve file address connections) × AreInRange (Serve file address connections)
-serve_read p file address connections name complete is_file is_address connections_read =
-    let has = values_of_serve p name complete in
+serve_read p file address connections name more is_file is_address connections_read =
+    let has = values_of_serve p name more in
     let number_in = connections_read 1 MAX_CONNECTIONS has.1 in
     ((name, is_file, is_address, number_in.0), (number_in.1, number_in.2))
 

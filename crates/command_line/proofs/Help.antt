@@ -1,15 +1,12 @@
 -- Words that ask for help fail with the help.
-use Rattle.std.proofs.Common.{◌≡◌, ◌∙◌, ap, refl, sym, inl, inr, List}
+use Rattle.std.proofs.Common.{◌≡◌, ◌∙◌, ◌⊎◌, ap, refl, sym, inl, inr, List}
 use Rattle.std.proofs.Common.{[], ◌∷◌, codes, Result, Ok, Err, IsErrAnd}
 use Rattle.clap.specs.Words.{FailsBy, HasKind, Kinds, Text, fault_of}
 use Rattle.clap.specs.declared.error.Error.{Error}
-use Rattle.clap.specs.declared.error.kind.ErrorKind.TheVariants.{DisplayHelp}
 use Rattle.clap.proofs.OnLiterals.{clap_on_literals}
 use Rattle.command_line.specs.CommandLine.{bank_app}
-use Rattle.command_line.specs.Words.{AsksForHelp, IsHelp}
-
-abbrev help_alone : Kinds
-help_alone = DisplayHelp ∷ []
+use Rattle.command_line.specs.Words.{AsksForHelp, AsksForHelpOn, IsHelp, words_read}
+use Rattle.command_line.proofs.OwnWords.{help_alone, help_at_read, read_as_they_are}
 
 at_bank : (program : Text) (rest : List Text)
     → fault_of bank_app (program ∷ codes "--help" ∷ rest) ≡ help_alone
@@ -58,23 +55,60 @@ at_decode : (program : Text) → fault_of bank_app (program ∷ codes "decode" �
 unfolding clap_on_literals
 at_decode program = refl
 
-asked : (words : List Text) → AsksForHelp words → fault_of bank_app words ≡ help_alone
-asked words (inl bank) = ap (fault_of bank_app) bank.2 ∙ at_bank bank.0 bank.1
-asked words (inr (inl init)) = ap (fault_of bank_app) init.1 ∙ at_init init.0
-asked words (inr (inr (inl load))) = ap (fault_of bank_app) load.1 ∙ at_load load.0
-asked words (inr (inr (inr (inl post)))) = ap (fault_of bank_app) post.1 ∙ at_post post.0
-asked words (inr (inr (inr (inr (inl drive))))) = ap (fault_of bank_app) drive.1 ∙ at_drive drive.0
-asked words (inr (inr (inr (inr (inr (inl audit)))))) = ap (fault_of bank_app) audit.1 ∙ at_audit audit.0
-asked words (inr (inr (inr (inr (inr (inr (inl statement))))))) = ap (fault_of bank_app) statement.1
-    ∙ at_statement statement.0
-asked words (inr (inr (inr (inr (inr (inr (inr (inl serve)))))))) = ap (fault_of bank_app) serve.1
-    ∙ at_serve serve.0
-asked words (inr (inr (inr (inr (inr (inr (inr (inr (inl migrate))))))))) = ap (fault_of bank_app) migrate.1
-    ∙ at_migrate migrate.0
-asked words (inr (inr (inr (inr (inr (inr (inr (inr (inr (inl encode)))))))))) = ap (fault_of bank_app) encode.1
-    ∙ at_encode encode.0
-asked words (inr (inr (inr (inr (inr (inr (inr (inr (inr (inr decode)))))))))) = ap (fault_of bank_app) decode.1
-    ∙ at_decode decode.0
+at_replay : (program : Text) → fault_of bank_app (program ∷ codes "replay" ∷ codes "--help" ∷ []) ≡ help_alone
+unfolding clap_on_literals
+at_replay program = refl
+
+at_digest : (program : Text) → fault_of bank_app (program ∷ codes "digest" ∷ codes "--help" ∷ []) ≡ help_alone
+unfolding clap_on_literals
+at_digest program = refl
+
+at_export : (program : Text) → fault_of bank_app (program ∷ codes "export" ∷ codes "--help" ∷ []) ≡ help_alone
+unfolding clap_on_literals
+at_export program = refl
+
+at_plan : (program : Text) → fault_of bank_app (program ∷ codes "plan" ∷ codes "--help" ∷ []) ≡ help_alone
+unfolding clap_on_literals
+at_plan program = refl
+
+-- each is a request for help as it stands, but for the last
+asked : (words : List Text) → AsksForHelp words
+    → (fault_of bank_app words ≡ help_alone) ⊎ AsksForHelpOn (codes "help") words
+asked words (inl bank) = inl (ap (fault_of bank_app) bank.2 ∙ at_bank bank.0 bank.1)
+asked words (inr (inl init)) = inl (ap (fault_of bank_app) init.1 ∙ at_init init.0)
+asked words (inr (inr (inl load))) = inl (ap (fault_of bank_app) load.1 ∙ at_load load.0)
+asked words (inr (inr (inr (inl post)))) = inl (ap (fault_of bank_app) post.1 ∙ at_post post.0)
+asked words (inr (inr (inr (inr (inl drive))))) = inl (ap (fault_of bank_app) drive.1 ∙ at_drive drive.0)
+asked words (inr (inr (inr (inr (inr (inl audit)))))) = inl (ap (fault_of bank_app) audit.1 ∙ at_audit audit.0)
+asked words (inr (inr (inr (inr (inr (inr (inl statement))))))) =
+    inl (ap (fault_of bank_app) statement.1 ∙ at_statement statement.0)
+asked words (inr (inr (inr (inr (inr (inr (inr (inl serve)))))))) =
+    inl (ap (fault_of bank_app) serve.1 ∙ at_serve serve.0)
+asked words (inr (inr (inr (inr (inr (inr (inr (inr (inl migrate))))))))) =
+    inl (ap (fault_of bank_app) migrate.1 ∙ at_migrate migrate.0)
+asked words (inr (inr (inr (inr (inr (inr (inr (inr (inr (inl encode)))))))))) =
+    inl (ap (fault_of bank_app) encode.1 ∙ at_encode encode.0)
+asked words (inr (inr (inr (inr (inr (inr (inr (inr (inr (inr (inl decode))))))))))) =
+    inl (ap (fault_of bank_app) decode.1 ∙ at_decode decode.0)
+asked words (inr (inr (inr (inr (inr (inr (inr (inr (inr (inr (inr (inl replay)))))))))))) =
+    inl (ap (fault_of bank_app) replay.1 ∙ at_replay replay.0)
+asked words (inr (inr (inr (inr (inr (inr (inr (inr (inr (inr (inr (inr (inl digest))))))))))))) =
+    inl (ap (fault_of bank_app) digest.1 ∙ at_digest digest.0)
+asked words (inr (inr (inr (inr (inr (inr (inr (inr (inr (inr (inr (inr (inr (inl export)))))))))))))) =
+    inl (ap (fault_of bank_app) export.1 ∙ at_export export.0)
+asked words (inr (inr (inr (inr (inr (inr (inr (inr (inr (inr (inr (inr (inr (inr (inl plan))))))))))))))) =
+    inl (ap (fault_of bank_app) plan.1 ∙ at_plan plan.0)
+asked words (inr (inr (inr (inr (inr (inr (inr (inr (inr (inr (inr (inr (inr (inr (inr help))))))))))))))) = inr help
+
+-- and each is one as it is read
+asked_as_read : (words : List Text) → AsksForHelp words → fault_of bank_app (words_read words) ≡ help_alone
+asked_as_read words asks = elim (read_as_they_are words) [
+  | inr help ↦ help_at_read words help
+  | inl same ↦ elim (asked words asks) [
+    | inl plain ↦ ap (fault_of bank_app) same ∙ plain
+    | inr help ↦ help_at_read words help
+  ]
+]
 
 helped : {T : Type 0} (r : Result T Error) (kinds : Kinds) → kinds ≡ help_alone → FailsBy kinds r
     → IsErrAnd r IsHelp
@@ -89,12 +123,12 @@ helped (Err e) kinds is fails = go (rw is at fails)
     go (inr (inr none)) = absurd none
 
 -- a request for help answers with it
-pub help_given : {T : Type 0} (r : Result T Error) (words : List Text) → FailsBy (fault_of bank_app words) r
-    → AsksForHelp words → IsErrAnd r IsHelp
-help_given r words fails asks = helped r (fault_of bank_app words) (asked words asks) fails
+pub help_given : {T : Type 0} (r : Result T Error) (words : List Text)
+    → FailsBy (fault_of bank_app (words_read words)) r → AsksForHelp words → IsErrAnd r IsHelp
+help_given r words fails asks = helped r (fault_of bank_app (words_read words)) (asked_as_read words asks) fails
 
 -- words with no fault ask for none
-pub no_help_asked : (words : List Text) → fault_of bank_app words ≡ [] → AsksForHelp words → ⊥
+pub no_help_asked : (words : List Text) → fault_of bank_app (words_read words) ≡ [] → AsksForHelp words → ⊥
 no_help_asked words none asks =
-    let bad : [] ≡ help_alone = sym none ∙ asked words asks in
+    let bad : [] ≡ help_alone = sym none ∙ asked_as_read words asks in
     cc

@@ -1,19 +1,19 @@
 -- What is known of a level of the command line at which clap finds no fault.
-use Rattle.std.proofs.Common.{◌≡◌, ◌&&◌, ◌||◌, Bool, true, false, not, refl}
-use Rattle.std.proofs.Common.{subst, List, [], ◌∷◌, Some, is_some}
+use Rattle.std.proofs.Common.{◌≡◌, ◌⊎◌, ◌&&◌, ◌||◌, Bool, true, false, not, refl}
+use Rattle.std.proofs.Common.{subst, List, [], ◌∷◌, Some, None, is_some}
 use Rattle.std.specs.Prelude.{find}
 use Rattle.std.specs.List.{list_any}
 use Rattle.std.specs.Str.{bytes_eq}
 use Rattle.clap.specs.Facts.{explicit_source}
 use Rattle.clap.specs.Walk.{Names, Row, Rule, Text, arg_by_id, finished, first_of}
-use Rattle.clap.specs.Walk.{nothing_held, rows_after, settled, walk, walk_from}
+use Rattle.clap.specs.Walk.{nothing_held, one_of, rows_after, settled, walk, walk_from}
 use Rattle.clap.specs.Simple.{Shape}
 use Rattle.clap.specs.Kinds.{Kinds, check_kinds, or_else}
 use Rattle.clap.specs.Takes.{is_given}
 use Rattle.clap.specs.Faults.{check_fault, defaults_fault}
 use Rattle.clap.specs.Faults.{level_fault}
 use Rattle.clap.specs.Faults.{settle_fault, walk_fault}
-use Rattle.command_line.proofs.Rows.{ArePlainRules, HasValue, given_value, no_first, no_second}
+use Rattle.command_line.proofs.Rows.{ArePlainRules, HasValue, given_value, no_first, no_second, value_or_none}
 use Rattle.command_line.proofs.Walked.{rows_sound}
 
 -- ---- faults
@@ -115,6 +115,16 @@ value_of s words a leaf none own required =
     (rw (leaf.no_help, leaf.no_subcommand, leaf.negates) at passes.checks) in
     given_value s.rules a rows own (rows_sound s [] words leaf.plain passes.walks passes.settles)
     (given_of (λ x. bytes_eq x.id a.id) s.rules rows a wanted own required)
+
+-- and of each other argument one, or none
+pub value_if_any : (s : Shape) (words : List Text) (a : Rule) → IsPlainLeaf s
+    → level_fault s [] nothing_held words false [] ≡ []
+    → arg_by_id s.rules a.id ≡ Some a
+    → (one_of a.id (rows_after s.rules [] words) ≡ None) ⊎ HasValue a (rows_after s.rules [] words)
+value_if_any s words a leaf none own =
+    let passes = level_passes s [] words false [] none in
+    value_or_none s.rules a (rows_after s.rules [] words) own
+    (rows_sound s [] words leaf.plain passes.walks passes.settles)
 
 pub has_first : (a : Rule) (rows : List Row) → HasValue a rows → is_some (first_of a.id rows) ≡ true
 has_first a rows has = rw has.1 refl

@@ -4,6 +4,7 @@ pub mod Levels
 pub mod Shapes
 pub mod Stopped
 pub mod Complete
+pub mod OwnWords
 pub mod Help
 pub mod Getters
 pub mod Valued
@@ -12,3 +13,4 @@ pub mod SpelledNumbers
 pub mod Spelled
 pub mod LoadEnds
 pub mod Printed
+pub mod Filled

@@ -124,6 +124,7 @@ of_file fault.Foreign is = absurd is
 of_file (fault.Version n) is = absurd is
 of_file fault.NoBranches is = absurd is
 of_file (fault.NoAccount n) is = absurd is
+of_file (fault.NoRequest n) is = absurd is
 of_file fault.Network is = absurd is
 
 -- the file wasn't opened

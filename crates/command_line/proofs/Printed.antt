@@ -1,19 +1,21 @@
--- What was printed of a drive, and of connections that were served.
+-- What was printed of a drive, of connections that were served, and of a replay.
 use Rattle.std.proofs.Common.{◌≡◌, ◌≢◌, ◌≤◌, ap, inl, inr, refl, ℕ, List, length, take, Option, Result, Ok, Err, OnOk}
 use Rattle.std.proofs.Common.{IfErr}
 use Rattle.std.specs.Prelude.{OnErr}
 use Rattle.std.specs.Result.{IsErrOf}
 use Rattle.std.specs.Io.KnownBytes.{Appends}
+use Rattle.std.proofs.KnownBytes.{Keeps-refl}
 use Rattle.std.specs.declared.net.socket_addr.SocketAddr.{SocketAddr}
 use Rattle.posting_rules.specs.Counter.{Seen}
 use Rattle.posting_rules.specs.declared.fault.Fault.{Fault}
-use Rattle.posting_core.specs.Told.{WriteTold}
+use Rattle.posting_core.specs.Told.{HasWriteFailed, WriteTold}
 use Rattle.report_lines.specs.Written.{AppendsPart}
 use Rattle.load_driver.specs.Drives.{Drives}
 use Rattle.load_driver.specs.declared.drive.Driven.{Driven}
 use Rattle.command_line.specs.Lines.{PrintsLine, driven_line, listening_line}
 use Rattle.command_line.specs.declared.fault.CommandFault.{CommandFault}
-use Rattle.command_line.specs.declared.fault.CommandFault.TheVariants.{Write}
+use Rattle.command_line.specs.Replaying.{PrintsText}
+use Rattle.command_line.specs.declared.fault.CommandFault.TheVariants.{Memory, Write}
 use Rattle.command_line.specs.Working.{DrivesOver, MayTellListening, TellsDriven, TellsListening}
 use Rattle.command_line.specs.Working.{done_after}
 
@@ -58,3 +60,40 @@ drive_printed seen reason old new k k' seed count w w' t t' (Ok done) driven dri
     (Ok driven, inl (refl, prints.line), drives, tt)
 drive_printed seen reason old new k k' seed count w w' t t' (Err told) driven drives prints fault =
     (Ok driven, inr (ap done_after fault, part_of prints.part), drives, tt)
+
+-- ---- a text that was made in memory
+
+-- memory for it was refused
+pub text_unmade : (text : List ℕ) (w : Option (List ℕ)) (t : Option (List WriteTold))
+    → PrintsText text w w t t (Err Memory)
+text_unmade text w t = record {
+  line = tt;
+  flushed = tt;
+  part = λ bad. cc;
+  failed = λ bad. cc;
+  silent = λ other. Keeps-refl w;
+  memory = λ other. refl;
+}
+
+-- or it was printed as a line is
+pub text_printed : (text : List ℕ) (w w' : Option (List ℕ)) (t t' : Option (List WriteTold))
+    (r : Result (Unit {0}) CommandFault) → PrintsLine text w w' t t' r → OnErr r (IsErrOf r Write)
+    → OnErr r (HasWriteFailed t t') → PrintsText text w w' t t' r
+text_printed text w w' t t' (Ok done) prints fault failed = record {
+  line = prints.line;
+  flushed = prints.flushed;
+  part = λ bad. cc;
+  failed = λ bad. cc;
+  silent = tt;
+  memory = tt;
+}
+text_printed text w w' t t' (Err told) prints fault failed =
+    let is : told ≡ Write = cc fault in
+    record {
+      line = tt;
+      flushed = tt;
+      part = λ same. part_of prints.part;
+      failed = λ same. failed;
+      silent = λ other. absurd (other is);
+      memory = λ other. absurd (other is);
+    }

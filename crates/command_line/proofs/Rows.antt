@@ -134,6 +134,21 @@ given_value c a (r ∷ rs) own all given = go (bytes_eq r.id a.id) refl (given_v
         let later = rest (rw other at given) in
         (later.0, rw other later.1, rw other later.2, later.3)
 
+-- an argument has one, or it has no value at all
+pub value_or_none : (c : List Rule) (a : Rule) (rows : List Row) → arg_by_id c a.id ≡ Some a → AreSound c rows
+    → (one_of a.id rows ≡ None) ⊎ HasValue a rows
+value_or_none c a [] own all = inl refl
+value_or_none c a (r ∷ rs) own all = go (bytes_eq r.id a.id) refl (value_or_none c a rs own all.1)
+  where
+    go : (b : Bool) → bytes_eq r.id a.id ≡ b → (one_of a.id rs ≡ None) ⊎ HasValue a rs
+        → (one_of a.id (r ∷ rs) ≡ None) ⊎ HasValue a (r ∷ rs)
+    go true same rest =
+        let id : r.id ≡ a.id = (bytes_eq-Decides r.id a.id).0 same in
+        let got = all.0 a (ap (arg_by_id c) id ∙ own) in
+        inr (got.0, rw (same, got.2) refl, rw (same, got.2, got.4) refl, got.3)
+    go false other (inl none) = inl (rw other none)
+    go false other (inr later) = inr (later.0, rw other later.1, rw other later.2, later.3)
+
 -- ---- one use of an argument
 
 no_values : (least most : ℕ) → 0 < least → range_kinds least most 0 ≡ [] → ⊥

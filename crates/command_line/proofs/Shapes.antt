@@ -4,14 +4,15 @@ use Rattle.clap.specs.Walk.{Text, nothing_held}
 use Rattle.clap.specs.Simple.{Shape, built_leaf, inherited, marked_built, new_app, on_top, rows_at}
 use Rattle.clap.specs.Simple.{subcommand_of, with_leaf_noted, with_rule}
 use Rattle.clap.specs.Takes.{level_passes, takes}
-use Rattle.command_line.specs.CommandLine.{bank_app, drive_app, file_rule, load_app, serve_app, statement_app}
+use Rattle.command_line.specs.CommandLine.{bank_app, digest_app, drive_app, export_app, file_rule, load_app, serve_app}
+use Rattle.command_line.specs.CommandLine.{statement_app}
 use Rattle.command_line.proofs.Levels.{IsPlainLeaf}
 
 -- a command of the program with what building adds to it
 abbrev pub leaf_of : Shape → Shape
 leaf_of s = built_leaf (inherited (on_top with_leaf_noted (on_top marked_built bank_app)).top s)
 
--- `init`, `post`, `audit` or `migrate`, as built
+-- a command with a file alone, as built
 abbrev pub one_file : Text → Shape
 one_file name = leaf_of (with_rule (new_app name) file_rule).top
 
@@ -30,6 +31,14 @@ file_and_account = leaf_of statement_app.top
 -- `serve`, as built
 abbrev pub file_and_address : Shape
 file_and_address = leaf_of serve_app.top
+
+-- `digest`, as built
+abbrev pub file_and_requests : Shape
+file_and_requests = leaf_of digest_app.top
+
+-- `export`, as built
+abbrev pub file_and_after : Shape
+file_and_after = leaf_of export_app.top
 
 -- `encode` or `decode`, as built
 abbrev pub alone : Text → Shape
@@ -73,6 +82,28 @@ load_is_plain = record {
 
 pub statement_is_plain : IsPlainLeaf file_and_account
 statement_is_plain = record {
+  plain = (
+    (inl (refl, omega arith), refl, refl),
+    ((inl (refl, omega arith), refl, refl), ((inr refl, refl, refl), tt)),
+  );
+  no_help = refl;
+  no_subcommand = refl;
+  negates = refl;
+}
+
+pub digest_is_plain : IsPlainLeaf file_and_requests
+digest_is_plain = record {
+  plain = (
+    (inl (refl, omega arith), refl, refl),
+    ((inl (refl, omega arith), refl, refl), ((inr refl, refl, refl), tt)),
+  );
+  no_help = refl;
+  no_subcommand = refl;
+  negates = refl;
+}
+
+pub export_is_plain : IsPlainLeaf file_and_after
+export_is_plain = record {
   plain = (
     (inl (refl, omega arith), refl, refl),
     ((inl (refl, omega arith), refl, refl), ((inr refl, refl, refl), tt)),

@@ -1,7 +1,7 @@
 -- What clap reads in words that spell a command: that command.
 use Rattle.std.proofs.Common.{◌≡◌, ◌∙◌, ◌&&◌, true, false, refl}
 use Rattle.std.proofs.Common.{sym, ap, ap₂, inl, inr, List, [], ◌∷◌}
-use Rattle.std.proofs.Common.{Some, codes, Result, Ok, Err, IsErrAnd, drop}
+use Rattle.std.proofs.Common.{Some, None, codes, Result, Ok, Err, IsErrAnd, drop}
 use Rattle.std.specs.Prelude.{IsSomeAnd, MatchResult}
 use Rattle.clap.specs.Walk.{Row, Text, first_of, nothing_held, one_of, rows_after}
 use Rattle.clap.specs.Simple.{Shape, rows_at, subcommand_of}
@@ -10,19 +10,23 @@ use Rattle.clap.specs.Words.{kind_of}
 use Rattle.clap.specs.declared.error.Error.{Error}
 use Rattle.clap.specs.declared.error.kind.ErrorKind.TheVariants.{OutOfMemory}
 use Rattle.command_line.specs.declared.reading.Command.{Command}
-use Rattle.command_line.specs.declared.reading.Command.TheVariants.{Audit, Decode, Drive, Encode, Init, Load}
-use Rattle.command_line.specs.declared.reading.Command.TheVariants.{Migrate, Post, Serve, Statement}
+use Rattle.command_line.specs.declared.reading.Command.TheVariants.{Audit, Decode, Digest, Drive, Encode, Export}
+use Rattle.command_line.specs.declared.reading.Command.TheVariants.{Init, Load, Migrate, Plan, Post, Replay, Serve}
+use Rattle.command_line.specs.declared.reading.Command.TheVariants.{Statement}
 use Rattle.message_records.specs.declared.limits.TheConstants.{MAX_ACCOUNT}
-use Rattle.command_line.specs.CommandLine.{bank_app}
-use Rattle.command_line.specs.Words.{IsCommandOf, IsReadFrom, IsSpelled, IsSpelledBy, IsSpelledOnFile}
-use Rattle.command_line.specs.Words.{IsText}
-use Rattle.command_line.specs.Words.{IsWantOfMemory, begins_with_dash, number_of}
+use Rattle.command_line.specs.CommandLine.{MAX_REQUESTS, bank_app}
+use Rattle.command_line.specs.Words.{AskToExport, IsCommandOf, IsReadFrom, IsSpelled, IsSpelledBy}
+use Rattle.command_line.specs.Words.{IsSpelledOnFile, IsText, IsWantOfMemory, begins_with_dash, number_if_any}
+use Rattle.command_line.specs.Words.{number_of}
 use Rattle.command_line.proofs.Getters.{apart}
-use Rattle.command_line.proofs.Shapes.{IsReadAs, alone, file_and_account, file_and_address, file_and_numbers}
-use Rattle.command_line.proofs.Shapes.{one_file, two_files}
+use Rattle.command_line.proofs.Shapes.{IsReadAs, alone, file_and_account, file_and_address, file_and_after}
+use Rattle.command_line.proofs.Shapes.{file_and_numbers, file_and_requests, one_file, two_files}
 use Rattle.command_line.proofs.SpelledFiles.{audit_read, decode_read, encode_read, init_read, load_goes, load_read}
-use Rattle.command_line.proofs.SpelledFiles.{migrate_read, one_goes, post_read, two_held}
+use Rattle.command_line.proofs.SpelledFiles.{migrate_read, one_goes, plan_read, post_read, replay_read, two_held}
+use Rattle.command_line.proofs.SpelledNumbers.{digest_goes, digest_passes, digest_read}
 use Rattle.command_line.proofs.SpelledNumbers.{drive_goes, drive_passes, drive_read, drive_words}
+use Rattle.command_line.proofs.SpelledNumbers.{export_all_goes, export_all_passes, export_all_read, export_goes}
+use Rattle.command_line.proofs.SpelledNumbers.{export_passes, export_read, export_words, with_file}
 use Rattle.command_line.proofs.SpelledNumbers.{serve_goes, serve_passes, serve_read, serve_words}
 use Rattle.command_line.proofs.SpelledNumbers.{statement_goes, statement_passes, statement_read}
 use Rattle.command_line.proofs.SpelledNumbers.{with_address, with_seed}
@@ -47,6 +51,10 @@ word_of (Post f) = codes "post"
 word_of (Drive f s n) = codes "drive"
 word_of (Audit f) = codes "audit"
 word_of (Statement f n) = codes "statement"
+word_of (Replay f) = codes "replay"
+word_of (Digest f n) = codes "digest"
+word_of (Export f n) = codes "export"
+word_of (Plan f) = codes "plan"
 word_of (Serve f a n) = codes "serve"
 word_of (Migrate f) = codes "migrate"
 word_of Encode = codes "encode"
@@ -59,6 +67,10 @@ named p (Post f) told = told.0
 named p (Drive f s n) told = told.0
 named p (Audit f) told = told.0
 named p (Statement f n) told = told.0
+named p (Replay f) told = told.0
+named p (Digest f n) told = told.0
+named p (Export f n) told = told.0
+named p (Plan f) told = told.0
 named p (Serve f a n) told = told.0
 named p (Migrate f) told = told.0
 named p Encode told = told
@@ -100,6 +112,23 @@ audit_told rows file words (Audit f) first are told =
     rw (← text_told (codes "file") rows file f.now first told.1) are
 audit_told rows file words other first are told = absurd (apart (named (codes "audit", rows) other told) refl)
 
+replay_told : (rows : List Row) (file : Text) (words : List Text) (command : Command)
+    → IsText (codes "file") rows file → drop 1 words ≡ codes "replay" ∷ file ∷ []
+    → IsCommandOf (codes "replay", rows) command
+    → IsSpelledBy words command
+replay_told rows file words (Replay f) first are told =
+    rw (← text_told (codes "file") rows file f.now first told.1) are
+replay_told rows file words other first are told =
+    absurd (apart (named (codes "replay", rows) other told) refl)
+
+plan_told : (rows : List Row) (file : Text) (words : List Text) (command : Command)
+    → IsText (codes "file") rows file → drop 1 words ≡ codes "plan" ∷ file ∷ []
+    → IsCommandOf (codes "plan", rows) command
+    → IsSpelledBy words command
+plan_told rows file words (Plan f) first are told =
+    rw (← text_told (codes "file") rows file f.now first told.1) are
+plan_told rows file words other first are told = absurd (apart (named (codes "plan", rows) other told) refl)
+
 load_told : (rows : List Row) (file plan : Text) (words : List Text) (command : Command)
     → IsText (codes "file") rows file → IsText (codes "plan") rows plan
     → drop 1 words ≡ codes "load" ∷ file ∷ plan ∷ []
@@ -137,6 +166,42 @@ statement_told rows file account words (Statement f n) first second are told =
     (account, are ∙ ap (λ (t : Text). codes "statement" ∷ t ∷ account ∷ []) same, account_is)
 statement_told rows file account words other first second are told =
     absurd (apart (named (codes "statement", rows) other told) refl)
+
+digest_told : (rows : List Row) (file requests : Text) (words : List Text) (command : Command)
+    → IsText (codes "file") rows file → one_of (codes "requests") rows ≡ Some requests
+    → drop 1 words ≡ codes "digest" ∷ file ∷ requests ∷ []
+    → IsCommandOf (codes "digest", rows) command
+    → IsSpelledBy words command
+digest_told rows file requests words (Digest f n) first second are told =
+    let same = text_told (codes "file") rows file f.now first told.1 in
+    let requests_are : n ≡ number_of requests = rw second at told.2 in
+    (requests, are ∙ ap (λ (t : Text). codes "digest" ∷ t ∷ requests ∷ []) same, requests_are)
+digest_told rows file requests words other first second are told =
+    absurd (apart (named (codes "digest", rows) other told) refl)
+
+export_all_told : (rows : List Row) (file : Text) (words : List Text) (command : Command)
+    → IsText (codes "file") rows file → one_of (codes "after") rows ≡ None
+    → drop 1 words ≡ codes "export" ∷ file ∷ []
+    → IsCommandOf (codes "export", rows) command
+    → IsSpelledBy words command
+export_all_told rows file words (Export f n) first second are told =
+    let same = text_told (codes "file") rows file f.now first told.1 in
+    let none : n ≡ 0 = told.2 ∙ ap number_if_any second in
+    inl (are ∙ ap (λ (t : Text). codes "export" ∷ t ∷ []) same, none)
+export_all_told rows file words other first second are told =
+    absurd (apart (named (codes "export", rows) other told) refl)
+
+export_told : (rows : List Row) (file after : Text) (words : List Text) (command : Command)
+    → IsText (codes "file") rows file → one_of (codes "after") rows ≡ Some after
+    → drop 1 words ≡ codes "export" ∷ export_words file after
+    → IsCommandOf (codes "export", rows) command
+    → IsSpelledBy words command
+export_told rows file after words (Export f n) first second are told =
+    let same = text_told (codes "file") rows file f.now first told.1 in
+    let after_is : n ≡ number_of after = told.2 ∙ ap number_if_any second in
+    inr (after, are ∙ ap (λ (t : Text). codes "export" ∷ export_words t after) same, after_is)
+export_told rows file after words other first second are told =
+    absurd (apart (named (codes "export", rows) other told) refl)
 
 serve_told : (rows : List Row) (file address connections : Text) (words : List Text) (command : Command)
     → IsText (codes "file") rows file → IsText (codes "address") rows address
@@ -190,6 +255,14 @@ module _ (s : Shape) (name : Text) (own : List Text) (is : IsReadAs s name own) 
       → IsSomeAnd (Some (rows_at s own)) (λ p. IsCommandOf p command)
   read_as command read = rw (ap (subcommand_of bank_app) are ∙ is.rows program) at read
 
+export_taken : (words : List Text) → AskToExport words → takes bank_app words ≡ true
+export_taken words (inl s) =
+    taken_as file_and_after (codes "export") _ (export_all_read s.1) words s.0 s.3
+    (export_all_passes s.1 s.2)
+export_taken words (inr s) =
+    taken_as file_and_after (codes "export") _ (export_read s.1 s.2) words s.0 s.5
+    (export_passes s.1 s.2 s.3 s.4)
+
 -- clap takes such words
 taken_on_file : (words : List Text) → IsSpelledOnFile words → takes bank_app words ≡ true
 taken_on_file words (inl s) =
@@ -213,9 +286,19 @@ taken_on_file words (inr (inr (inr (inr (inr (inl s)))))) =
 taken_on_file words (inr (inr (inr (inr (inr (inr (inl s))))))) =
     taken_as file_and_address (codes "serve") _ (serve_read s.1 s.2 s.3) words s.0 s.7
     (serve_passes s.1 s.2 s.3 s.4 s.5 s.6)
-taken_on_file words (inr (inr (inr (inr (inr (inr (inr s))))))) =
+taken_on_file words (inr (inr (inr (inr (inr (inr (inr (inl s)))))))) =
     taken_as (one_file (codes "migrate")) (codes "migrate") _ (migrate_read s.1) words s.0 s.3
     (one_passes (codes "migrate") s.1 s.2)
+taken_on_file words (inr (inr (inr (inr (inr (inr (inr (inr (inl s))))))))) =
+    taken_as (one_file (codes "replay")) (codes "replay") _ (replay_read s.1) words s.0 s.3
+    (one_passes (codes "replay") s.1 s.2)
+taken_on_file words (inr (inr (inr (inr (inr (inr (inr (inr (inr (inl s)))))))))) =
+    taken_as file_and_requests (codes "digest") _ (digest_read s.1 s.2) words s.0 s.5
+    (digest_passes s.1 s.2 s.3 s.4)
+taken_on_file words (inr (inr (inr (inr (inr (inr (inr (inr (inr (inr (inl s))))))))))) = export_taken words s
+taken_on_file words (inr (inr (inr (inr (inr (inr (inr (inr (inr (inr (inr s))))))))))) =
+    taken_as (one_file (codes "plan")) (codes "plan") _ (plan_read s.1) words s.0 s.3
+    (one_passes (codes "plan") s.1 s.2)
 
 alone_passes : (name : Text) → level_passes (alone name) [] nothing_held [] false ≡ true
 alone_passes name =
@@ -227,6 +310,22 @@ spelled_taken words (inl s) =
 spelled_taken words (inr (inl s)) =
     taken_as (alone (codes "decode")) (codes "decode") [] decode_read words s.0 s.1 (alone_passes (codes "decode"))
 spelled_taken words (inr (inr s)) = taken_on_file words s
+
+export_at_ok : (words : List Text) (command : Command) → IsReadFrom words command → AskToExport words
+    → IsSpelledBy words command
+export_at_ok words command read (inl s) =
+    let rows = rows_after file_and_after.rules [] (s.1 ∷ []) in
+    let end = rows_to file_and_after (s.1 ∷ []) (before (file_held s.1) 2) (export_all_goes s.1 s.2) in
+    export_all_told rows s.1 words command
+    (ap (first_of (codes "file")) end) (ap (one_of (codes "after")) end) (ap (drop 1) s.3)
+    (read_as file_and_after (codes "export") _ (export_all_read s.1) words s.0 s.3 command read)
+export_at_ok words command read (inr s) =
+    let rows = rows_after file_and_after.rules [] (export_words s.1 s.2) in
+    let end = rows_to file_and_after (export_words s.1 s.2) (given 2 (with_file s.1) (codes "after") s.2)
+    (export_goes s.1 s.2 s.3 s.4) in
+    export_told rows s.1 s.2 words command
+    (ap (first_of (codes "file")) end) (ap (one_of (codes "after")) end) (ap (drop 1) s.5)
+    (read_as file_and_after (codes "export") _ (export_read s.1 s.2) words s.0 s.5 command read)
 
 -- words that spell a command tell that command
 on_file_at_ok : (words : List Text) (command : Command) → IsReadFrom words command → IsSpelledOnFile words
@@ -274,10 +373,27 @@ on_file_at_ok words command read (inr (inr (inr (inr (inr (inr (inl s))))))) =
     (ap (first_of (codes "file")) end) (ap (first_of (codes "address")) end)
     (ap (one_of (codes "connections")) end) (ap (drop 1) s.7)
     (read_as file_and_address (codes "serve") _ (serve_read s.1 s.2 s.3) words s.0 s.7 command read)
-on_file_at_ok words command read (inr (inr (inr (inr (inr (inr (inr s))))))) =
+on_file_at_ok words command read (inr (inr (inr (inr (inr (inr (inr (inl s)))))))) =
     migrate_told (rows_after (one_file (codes "migrate")).rules [] (s.1 ∷ [])) s.1 words command
     (one_first (codes "migrate") s.1 s.2) (ap (drop 1) s.3)
     (read_as (one_file (codes "migrate")) (codes "migrate") _ (migrate_read s.1) words s.0 s.3 command read)
+on_file_at_ok words command read (inr (inr (inr (inr (inr (inr (inr (inr (inl s))))))))) =
+    replay_told (rows_after (one_file (codes "replay")).rules [] (s.1 ∷ [])) s.1 words command
+    (one_first (codes "replay") s.1 s.2) (ap (drop 1) s.3)
+    (read_as (one_file (codes "replay")) (codes "replay") _ (replay_read s.1) words s.0 s.3 command read)
+on_file_at_ok words command read (inr (inr (inr (inr (inr (inr (inr (inr (inr (inl s)))))))))) =
+    let rows = rows_after file_and_requests.rules [] (s.1 ∷ s.2 ∷ []) in
+    let end = rows_to file_and_requests (s.1 ∷ s.2 ∷ []) (two_held (codes "requests") s.1 s.2)
+    (digest_goes s.1 s.2 s.3 (no_dash 0 MAX_REQUESTS s.2 s.4)) in
+    digest_told rows s.1 s.2 words command
+    (ap (first_of (codes "file")) end) (ap (one_of (codes "requests")) end) (ap (drop 1) s.5)
+    (read_as file_and_requests (codes "digest") _ (digest_read s.1 s.2) words s.0 s.5 command read)
+on_file_at_ok words command read (inr (inr (inr (inr (inr (inr (inr (inr (inr (inr (inl s))))))))))) =
+    export_at_ok words command read s
+on_file_at_ok words command read (inr (inr (inr (inr (inr (inr (inr (inr (inr (inr (inr s))))))))))) =
+    plan_told (rows_after (one_file (codes "plan")).rules [] (s.1 ∷ [])) s.1 words command
+    (one_first (codes "plan") s.1 s.2) (ap (drop 1) s.3)
+    (read_as (one_file (codes "plan")) (codes "plan") _ (plan_read s.1) words s.0 s.3 command read)
 
 pub spelled_at_ok : (words : List Text) (command : Command) → IsReadFrom words command → IsSpelled words
     → IsSpelledBy words command

@@ -1,5 +1,5 @@
--- What clap reads in the words of a command with files alone: `init`, `post`, `audit`, `migrate` and `load`; and in
--- those of one with none: `encode` and `decode`.
+-- What clap reads in the words of a command with files alone: `init`, `post`, `audit`, `replay`, `plan`, `migrate` and
+-- `load`; and in those of one with none: `encode` and `decode`.
 use Rattle.std.proofs.Common.{◌≡◌, false, refl, [], ◌∷◌, Some, codes}
 use Rattle.clap.specs.Walk.{Text, Walk, nothing_held}
 use Rattle.clap.proofs.OnLiterals.{clap_on_literals}
@@ -37,6 +37,14 @@ post_read file = record { rows = λ program. refl; taken = λ program. refl }
 pub audit_read : (file : Text) → IsReadAs (one_file (codes "audit")) (codes "audit") (file ∷ [])
 unfolding clap_on_literals
 audit_read file = record { rows = λ program. refl; taken = λ program. refl }
+
+pub replay_read : (file : Text) → IsReadAs (one_file (codes "replay")) (codes "replay") (file ∷ [])
+unfolding clap_on_literals
+replay_read file = record { rows = λ program. refl; taken = λ program. refl }
+
+pub plan_read : (file : Text) → IsReadAs (one_file (codes "plan")) (codes "plan") (file ∷ [])
+unfolding clap_on_literals
+plan_read file = record { rows = λ program. refl; taken = λ program. refl }
 
 pub migrate_read : (file : Text) → IsReadAs (one_file (codes "migrate")) (codes "migrate") (file ∷ [])
 unfolding clap_on_literals

@@ -1,4 +1,4 @@
--- What clap reads in the words of a command with numbers: `statement`, `drive` and `serve`.
+-- What clap reads in the words of a command with numbers: `statement`, `digest`, `export`, `drive` and `serve`.
 use Rattle.std.proofs.Common.{◌≡◌, true, false, refl, List, [], ◌∷◌, codes}
 use Rattle.clap.specs.Walk.{Row, Text, nothing_held, walked}
 use Rattle.clap.specs.Takes.{level_passes, turn_passes}
@@ -10,12 +10,17 @@ use Rattle.clap.specs.declared.builder.value_parser.ValueParser.TheVariants.{Uns
 use Rattle.load_driver.specs.declared.drive.TheConstants.{MAX_DRIVEN}
 use Rattle.message_records.specs.declared.limits.TheConstants.{MAX_ACCOUNT}
 use Rattle.command_line.specs.declared.limits.TheConstants.{MAX_CONNECTIONS}
-use Rattle.command_line.specs.CommandLine.{MAX_SEED}
+use Rattle.command_line.specs.CommandLine.{MAX_REQUESTS, MAX_SEED}
 use Rattle.command_line.specs.Words.{begins_with_dash}
-use Rattle.command_line.proofs.Shapes.{IsReadAs, file_and_account, file_and_address, file_and_numbers}
+use Rattle.command_line.proofs.Shapes.{IsReadAs, file_and_account, file_and_address, file_and_after}
+use Rattle.command_line.proofs.Shapes.{file_and_numbers, file_and_requests}
 use Rattle.command_line.proofs.SpelledFiles.{two_held}
 use Rattle.command_line.proofs.Valued.{Goes, asked, before, ends_well, file_held, given, goes_on, no_dash}
 use Rattle.command_line.proofs.Valued.{option_goes, row_with, stops, taken_to, value_goes}
+
+-- the rows before the first option has its value
+abbrev pub with_file : Text → List Row
+with_file file = row_with (codes "file") file ∷ []
 
 -- ---- a file and the number of an account
 
@@ -45,12 +50,96 @@ pub statement_read : (file account : Text)
 unfolding clap_on_literals
 statement_read file account = record { rows = λ program. refl; taken = λ program. refl }
 
+-- ---- a file and a count of requests
+
+pub digest_goes : (file requests : Text) → begins_with_dash file ≡ false → begins_with_dash requests ≡ false
+    → Goes file_and_requests (before nothing_held 1) (file ∷ requests ∷ [])
+    (two_held (codes "requests") file requests)
+digest_goes file requests dash requests_dash =
+    let s = file_and_requests in
+    let end = two_held (codes "requests") file requests in
+    value_goes s nothing_held 1 (before (file_held file) 2) end file (requests ∷ []) dash refl refl
+    (value_goes s (file_held file) 2 end end requests [] requests_dash refl refl (stops s end))
+
+digest_ends : (file requests : Text) → accepts false (Unsigned 0 MAX_REQUESTS) requests ≡ true
+    → ends_well file_and_requests (two_held (codes "requests") file requests).held ≡ true
+digest_ends file requests passes = rw passes refl
+
+pub digest_passes : (file requests : Text) → begins_with_dash file ≡ false
+    → IsUnsignedIn 0 MAX_REQUESTS requests
+    → level_passes file_and_requests [] nothing_held (file ∷ requests ∷ []) false ≡ true
+digest_passes file requests dash requests_in =
+    taken_to file_and_requests (file ∷ requests ∷ []) (two_held (codes "requests") file requests)
+    (digest_goes file requests dash (no_dash 0 MAX_REQUESTS requests requests_in))
+    (digest_ends file requests (Accepts-accepts false (Unsigned 0 MAX_REQUESTS) requests requests_in))
+
+pub digest_read : (file requests : Text)
+    → IsReadAs file_and_requests (codes "digest") (file ∷ requests ∷ [])
+unfolding clap_on_literals
+digest_read file requests = record { rows = λ program. refl; taken = λ program. refl }
+
+-- ---- a file, and a count of requests that may be left out
+
+pub export_all_goes : (file : Text) → begins_with_dash file ≡ false
+    → Goes file_and_after (before nothing_held 1) (file ∷ []) (before (file_held file) 2)
+export_all_goes file dash =
+    let end = before (file_held file) 2 in
+    value_goes file_and_after nothing_held 1 end end file [] dash refl refl (stops file_and_after end)
+
+pub export_all_passes : (file : Text) → begins_with_dash file ≡ false
+    → level_passes file_and_after [] nothing_held (file ∷ []) false ≡ true
+export_all_passes file dash =
+    taken_to file_and_after (file ∷ []) (before (file_held file) 2) (export_all_goes file dash) refl
+
+pub export_all_read : (file : Text) → IsReadAs file_and_after (codes "export") (file ∷ [])
+unfolding clap_on_literals
+export_all_read file = record { rows = λ program. refl; taken = λ program. refl }
+
+abbrev pub export_words : Text → Text → List Text
+export_words file after = file ∷ codes "--after" ∷ after ∷ []
+
+after_asked : (file : Text)
+    → walked file_and_after.rules [] (before (file_held file) 2) (codes "--after")
+    ≡ asked 2 (with_file file) (codes "after")
+unfolding clap_on_literals
+after_asked file = refl
+
+after_turn : (file : Text)
+    → turn_passes file_and_after [] (before (file_held file) 2) (codes "--after") ≡ true
+unfolding clap_on_literals
+after_turn file = refl
+
+pub export_goes : (file after : Text) → begins_with_dash file ≡ false → IsUnsignedIn 0 MAX_REQUESTS after
+    → Goes file_and_after (before nothing_held 1) (export_words file after)
+    (given 2 (with_file file) (codes "after") after)
+export_goes file after dash after_in =
+    let s = file_and_after in
+    let end = given 2 (with_file file) (codes "after") after in
+    let met = before (file_held file) 2 in
+    value_goes s nothing_held 1 met end file (codes "--after" ∷ after ∷ []) dash refl refl
+    (goes_on s met (asked 2 (with_file file) (codes "after")) end (codes "--after") (after ∷ []) (after_turn file)
+    (after_asked file)
+    (option_goes s 2 (with_file file) (codes "after") end after [] (no_dash 0 MAX_REQUESTS after after_in) refl
+    (stops s end)))
+
+export_ends : (file after : Text) → accepts false (Unsigned 0 MAX_REQUESTS) after ≡ true
+    → ends_well file_and_after (given 2 (with_file file) (codes "after") after).held ≡ true
+export_ends file after passes = rw passes refl
+
+pub export_passes : (file after : Text) → begins_with_dash file ≡ false → IsUnsignedIn 0 MAX_REQUESTS after
+    → level_passes file_and_after [] nothing_held (export_words file after) false ≡ true
+export_passes file after dash after_in =
+    taken_to file_and_after (export_words file after) (given 2 (with_file file) (codes "after") after)
+    (export_goes file after dash after_in)
+    (export_ends file after (Accepts-accepts false (Unsigned 0 MAX_REQUESTS) after after_in))
+
+pub export_read : (file after : Text) → IsReadAs file_and_after (codes "export") (export_words file after)
+unfolding clap_on_literals
+export_read file after = record { rows = λ program. refl; taken = λ program. refl }
+
 -- ---- a file and two numbers
 
--- the rows before `--seed` has its value, and before `--count` has it
-abbrev pub with_file : Text → List Row
-with_file file = row_with (codes "file") file ∷ []
-
+-- the rows before `--count` has its value
 abbrev pub with_seed : Text → Text → List Row
 with_seed file seed = row_with (codes "file") file ∷ row_with (codes "seed") seed ∷ []
 

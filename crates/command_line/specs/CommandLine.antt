@@ -33,9 +33,25 @@ abbrev pub number_rule : Text → ℕ → ℕ → Rule
 number_rule name least most =
     record (required_rule name) { long = Some name; parser = Some (Unsigned least most) }
 
+-- the same option, which may be left out
+abbrev pub optional_rule : Text → ℕ → ℕ → Rule
+optional_rule name least most = record (number_rule name least most) { required = false }
+
 -- the greatest seed
 abbrev pub MAX_SEED : ℕ
 MAX_SEED = 18_446_744_073_709_551_615
+
+-- the greatest count of requests that can be asked for
+abbrev pub MAX_REQUESTS : ℕ
+MAX_REQUESTS = 18_446_744_073_709_551_615
+
+-- N, how many requests
+abbrev pub requests_rule : Rule
+requests_rule = record (required_rule (codes "requests")) { parser = Some (Unsigned 0 MAX_REQUESTS) }
+
+-- `--after N`, after how many requests it begins
+abbrev pub after_rule : Rule
+after_rule = optional_rule (codes "after") 0 MAX_REQUESTS
 
 -- `--seed S`, where the driver's draws begin
 abbrev pub seed_rule : Rule
@@ -78,6 +94,22 @@ audit_app = with_rule (new_app (codes "audit")) file_rule
 abbrev pub statement_app : App
 statement_app = with_rule (with_rule (new_app (codes "statement")) file_rule) account_rule
 
+-- `replay FILE`
+abbrev pub replay_app : App
+replay_app = with_rule (new_app (codes "replay")) file_rule
+
+-- `digest FILE N`
+abbrev pub digest_app : App
+digest_app = with_rule (with_rule (new_app (codes "digest")) file_rule) requests_rule
+
+-- `export FILE [--after N]`
+abbrev pub export_app : App
+export_app = with_rule (with_rule (new_app (codes "export")) file_rule) after_rule
+
+-- `plan FILE`
+abbrev pub plan_app : App
+plan_app = with_rule (new_app (codes "plan")) file_rule
+
 -- `serve FILE ADDR --connections N`
 abbrev pub serve_app : App
 serve_app =
@@ -106,8 +138,8 @@ bank_alone = let bank = new_app (codes "bank") in record bank {
 
 -- the commands of `bank`, in the order of its help
 abbrev pub bank_commands : List App
-bank_commands = init_app ∷ load_app ∷ post_app ∷ drive_app ∷ audit_app ∷ statement_app ∷ serve_app
-    ∷ migrate_app ∷ encode_app ∷ decode_app ∷ []
+bank_commands = init_app ∷ load_app ∷ post_app ∷ drive_app ∷ audit_app ∷ statement_app ∷ replay_app ∷ digest_app
+    ∷ export_app ∷ plan_app ∷ serve_app ∷ migrate_app ∷ encode_app ∷ decode_app ∷ []
 
 -- the command line `bank` with these commands
 abbrev pub with_commands : App → List App → App

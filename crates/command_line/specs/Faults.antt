@@ -43,6 +43,7 @@ status_of fault.Foreign = Input
 status_of (fault.Version version) = Input
 status_of fault.NoBranches = Input
 status_of (fault.NoAccount account) = Input
+status_of (fault.NoRequest count) = Input
 status_of fault.Network = System
 
 -- the text of a fault; that of a plan's, of a sheet's and of a reply's fault is its own
@@ -62,6 +63,7 @@ fault_text fault.Foreign = codes "foreign tables"
 fault_text (fault.Version version) = codes "version " ++ signed_decimal version
 fault_text fault.NoBranches = codes "no branches"
 fault_text (fault.NoAccount account) = codes "no account " ++ decimal account
+fault_text (fault.NoRequest count) = codes "no request " ++ decimal count
 fault_text fault.Network = codes "network failed"
 
 -- why a bank wasn't made or found

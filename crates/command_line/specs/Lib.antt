@@ -7,3 +7,5 @@ pub mod Looking
 pub mod Working
 pub mod Auditing
 pub mod Translating
+pub mod Replaying
+pub mod Prompting

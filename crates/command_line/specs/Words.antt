@@ -1,21 +1,34 @@
 -- Which command the words of the command line tell, and which words tell one.
-use Rattle.std.specs.Prelude.{◌≡◌, ◌⊎◌, ◌==◌, ◌≤◌, ⊤, ℕ, Bool, List, [], ◌∷◌, Some, true, false, codes, drop}
-use Rattle.std.specs.Prelude.{IsSomeAnd, is_some}
+use Rattle.std.specs.Prelude.{◌≡◌, ◌⊎◌, ◌==◌, ◌≤◌, ◌&&◌, ⊤, ℕ, Bool, List, [], ◌∷◌, Option, Some, None, true, false}
+use Rattle.std.specs.Prelude.{IfSome, IsSomeAnd, codes, drop, if◌then◌else◌, is_some}
+use Rattle.std.specs.Str.{bytes_eq}
 use Rattle.std.specs.Str.Parse.{digits_value, without_leading_plus}
 use Rattle.clap.specs.Words.{IsUnsignedIn, Row, Text, first_of, kind_of, one_of, subcommand_of}
 use Rattle.clap.specs.declared.error.Error.{Error}
 use Rattle.clap.specs.declared.error.kind.ErrorKind.TheVariants as kind
 use Rattle.load_driver.specs.declared.drive.TheConstants.{MAX_DRIVEN}
 use Rattle.message_records.specs.declared.limits.TheConstants.{MAX_ACCOUNT}
-use Rattle.command_line.specs.CommandLine.{MAX_SEED, bank_app}
+use Rattle.command_line.specs.CommandLine.{MAX_REQUESTS, MAX_SEED, bank_app}
 use Rattle.command_line.specs.declared.limits.TheConstants.{MAX_CONNECTIONS}
 use Rattle.command_line.specs.declared.reading.Command.{Command}
-use Rattle.command_line.specs.declared.reading.Command.TheVariants.{Audit, Decode, Drive, Encode, Init, Load}
-use Rattle.command_line.specs.declared.reading.Command.TheVariants.{Migrate, Post, Serve, Statement}
+use Rattle.command_line.specs.declared.reading.Command.TheVariants.{Audit, Decode, Digest, Drive, Encode, Export}
+use Rattle.command_line.specs.declared.reading.Command.TheVariants.{Init, Load, Migrate, Plan, Post, Replay, Serve}
+use Rattle.command_line.specs.declared.reading.Command.TheVariants.{Statement}
 
 -- the number that a text of digits spells; a plus may come before them
 abbrev pub number_of : Text → ℕ
 number_of text = digits_value 10 (without_leading_plus text)
+
+-- the number that a text spells; 0 where there is none
+abbrev pub number_if_any : Option Text → ℕ
+number_if_any None = 0
+number_if_any (Some text) = number_of text
+
+-- the words that clap is given: it knows no `bank help --help`, which is read as `bank --help`
+abbrev pub words_read : List Text → List Text
+words_read (program ∷ name ∷ flag ∷ []) = if bytes_eq name (codes "help") && bytes_eq flag (codes "--help")
+    then name ∷ flag ∷ [] else program ∷ name ∷ flag ∷ []
+words_read words = words
 
 -- ---- what clap matched
 
@@ -31,6 +44,10 @@ HasNumber id least most rows = IsSomeAnd (one_of id rows) (IsUnsignedIn least mo
 abbrev pub HasSomeNumber : Text → List Row → Type 0
 HasSomeNumber id rows = (least : ℕ) × (most : ℕ) × HasNumber id least most rows
 
+-- the argument has no value, or one that spells a number in the range
+abbrev pub HasNumberIfAny : Text → ℕ → ℕ → List Row → Type 0
+HasNumberIfAny id least most rows = IfSome (one_of id rows) (IsUnsignedIn least most)
+
 -- the argument's value is this text
 abbrev pub IsText : Text → List Row → Text → Type 0
 IsText id rows text = first_of id rows ≡ Some text
@@ -39,7 +56,11 @@ IsText id rows text = first_of id rows ≡ Some text
 abbrev pub IsNumber : Text → List Row → ℕ → Type 0
 IsNumber id rows n = IsSomeAnd (one_of id rows) (λ text. n ≡ number_of text)
 
--- and the number is in the range
+-- or it has none, and the number is 0
+abbrev pub IsNumberIfAny : Text → List Row → ℕ → Type 0
+IsNumberIfAny id rows n = n ≡ number_if_any (one_of id rows)
+
+-- the argument's value spells this number, which is in the range
 abbrev pub IsNumberIn : Text → ℕ → ℕ → List Row → ℕ → Type 0
 IsNumberIn id least most rows n = IsNumber id rows n × (least ≤ n) × (n ≤ most)
 
@@ -55,6 +76,12 @@ IsCommandOf p (Drive file seed count) = (p.0 ≡ codes "drive") × IsText (codes
 IsCommandOf p (Audit file) = (p.0 ≡ codes "audit") × IsText (codes "file") p.1 file.now
 IsCommandOf p (Statement file account) = (p.0 ≡ codes "statement") × IsText (codes "file") p.1 file.now
     × IsNumber (codes "account") p.1 account
+IsCommandOf p (Replay file) = (p.0 ≡ codes "replay") × IsText (codes "file") p.1 file.now
+IsCommandOf p (Digest file requests) = (p.0 ≡ codes "digest") × IsText (codes "file") p.1 file.now
+    × IsNumber (codes "requests") p.1 requests
+IsCommandOf p (Export file after) = (p.0 ≡ codes "export") × IsText (codes "file") p.1 file.now
+    × IsNumberIfAny (codes "after") p.1 after
+IsCommandOf p (Plan file) = (p.0 ≡ codes "plan") × IsText (codes "file") p.1 file.now
 IsCommandOf p (Serve file address connections) = (p.0 ≡ codes "serve") × IsText (codes "file") p.1 file.now
     × IsText (codes "address") p.1 address.now
     × IsNumber (codes "connections") p.1 connections
@@ -73,16 +100,25 @@ AreInRange _ = ⊤
 abbrev pub IsReadFrom : List Text → Command → Type 0
 IsReadFrom words command = IsSomeAnd (subcommand_of bank_app words) (λ p. IsCommandOf p command)
 
--- the name is that of a command on a file, and each of its arguments has a value
-abbrev pub IsCompleteOnFile : Text × List Row → Type 0
-IsCompleteOnFile p = HasText (codes "file") p.1
-    × ((p.0 ≡ codes "init") ⊎ (p.0 ≡ codes "post") ⊎ (p.0 ≡ codes "audit") ⊎ (p.0 ≡ codes "migrate")
-    ⊎ ((p.0 ≡ codes "load") × HasText (codes "plan") p.1)
+-- the name is that of a command with a file alone
+abbrev pub IsOfOneFile : Text → Type 0
+IsOfOneFile name = (name ≡ codes "init") ⊎ (name ≡ codes "post") ⊎ (name ≡ codes "audit") ⊎ (name ≡ codes "replay")
+    ⊎ (name ≡ codes "plan") ⊎ (name ≡ codes "migrate")
+
+-- it is that of one with more, each of which has a value where it is required
+abbrev pub HasMoreValues : Text × List Row → Type 0
+HasMoreValues p = ((p.0 ≡ codes "load") × HasText (codes "plan") p.1)
     ⊎ ((p.0 ≡ codes "drive") × HasNumber (codes "seed") 0 MAX_SEED p.1
     × HasNumber (codes "count") 1 MAX_DRIVEN p.1)
     ⊎ ((p.0 ≡ codes "statement") × HasNumber (codes "account") 1 MAX_ACCOUNT p.1)
     ⊎ ((p.0 ≡ codes "serve") × HasText (codes "address") p.1
-    × HasNumber (codes "connections") 1 MAX_CONNECTIONS p.1))
+    × HasNumber (codes "connections") 1 MAX_CONNECTIONS p.1)
+    ⊎ ((p.0 ≡ codes "digest") × HasNumber (codes "requests") 0 MAX_REQUESTS p.1)
+    ⊎ ((p.0 ≡ codes "export") × HasNumberIfAny (codes "after") 0 MAX_REQUESTS p.1)
+
+-- it is that of a command on a file, and each of its arguments has a value where it is required
+abbrev pub IsCompleteOnFile : Text × List Row → Type 0
+IsCompleteOnFile p = HasText (codes "file") p.1 × (IsOfOneFile p.0 ⊎ HasMoreValues p)
 
 -- the name is that of a command, and each of its arguments has a value
 abbrev pub IsComplete : Text × List Row → Type 0
@@ -141,7 +177,27 @@ AskToServe words = (program : Text) × (file : Text) × (address : Text) × (con
 abbrev pub AskToMigrate : List Text → Type 0
 AskToMigrate words = AskWithFile (codes "migrate") words
 
--- the words are one, behind the program's name
+abbrev pub AskToReplay : List Text → Type 0
+AskToReplay words = AskWithFile (codes "replay") words
+
+-- the words are `digest FILE N`, with a file that doesn't begin with a dash, and a count of requests
+abbrev pub AskForDigest : List Text → Type 0
+AskForDigest words = (program : Text) × (file : Text) × (requests : Text) × (begins_with_dash file ≡ false)
+    × IsUnsignedIn 0 MAX_REQUESTS requests
+    × (words ≡ program ∷ codes "digest" ∷ file ∷ requests ∷ [])
+
+-- the words are `export FILE` or `export FILE --after N`, with a file that doesn't begin with a dash, and a count
+-- of requests
+abbrev pub AskToExport : List Text → Type 0
+AskToExport words = AskWithFile (codes "export") words
+    ⊎ ((program : Text) × (file : Text) × (after : Text) × (begins_with_dash file ≡ false)
+    × IsUnsignedIn 0 MAX_REQUESTS after
+    × (words ≡ program ∷ codes "export" ∷ file ∷ codes "--after" ∷ after ∷ []))
+
+abbrev pub AskForPlan : List Text → Type 0
+AskForPlan words = AskWithFile (codes "plan") words
+
+-- the words are one, after the program's name
 abbrev pub AskAlone : Text → List Text → Type 0
 AskAlone name words = (program : Text) × (words ≡ program ∷ name ∷ [])
 
@@ -154,7 +210,8 @@ AskToDecode words = AskAlone (codes "decode") words
 -- the words spell a command on a file: its name, its files, of which none begins with a dash, and its numbers
 abbrev pub IsSpelledOnFile : List Text → Type 0
 IsSpelledOnFile words = AskToInit words ⊎ AskToLoad words ⊎ AskToPost words ⊎ AskToDrive words ⊎ AskToAudit words
-    ⊎ AskForStatement words ⊎ AskToServe words ⊎ AskToMigrate words
+    ⊎ AskForStatement words ⊎ AskToServe words ⊎ AskToMigrate words ⊎ AskToReplay words ⊎ AskForDigest words
+    ⊎ AskToExport words ⊎ AskForPlan words
 
 -- the words spell a command
 abbrev pub IsSpelled : List Text → Type 0
@@ -174,6 +231,12 @@ IsSpelledBy words (Statement file account) = (n : Text)
 IsSpelledBy words (Serve file address connections) = (n : Text)
     × (drop 1 words ≡ codes "serve" ∷ file.now ∷ address.now ∷ codes "--connections" ∷ n ∷ [])
     × (connections ≡ number_of n)
+IsSpelledBy words (Replay file) = drop 1 words ≡ codes "replay" ∷ file.now ∷ []
+IsSpelledBy words (Digest file requests) = (n : Text)
+    × (drop 1 words ≡ codes "digest" ∷ file.now ∷ n ∷ []) × (requests ≡ number_of n)
+IsSpelledBy words (Export file after) = ((drop 1 words ≡ codes "export" ∷ file.now ∷ []) × (after ≡ 0))
+    ⊎ ((n : Text) × (drop 1 words ≡ codes "export" ∷ file.now ∷ codes "--after" ∷ n ∷ []) × (after ≡ number_of n))
+IsSpelledBy words (Plan file) = drop 1 words ≡ codes "plan" ∷ file.now ∷ []
 IsSpelledBy words (Migrate file) = drop 1 words ≡ codes "migrate" ∷ file.now ∷ []
 IsSpelledBy words Encode = drop 1 words ≡ codes "encode" ∷ []
 IsSpelledBy words Decode = drop 1 words ≡ codes "decode" ∷ []
@@ -188,7 +251,7 @@ IsWantOfMemory error = kind_of error ≡ kind.OutOfMemory
 abbrev pub AsksForHelpOn : Text → List Text → Type 0
 AsksForHelpOn name words = (program : Text) × (words ≡ program ∷ name ∷ codes "--help" ∷ [])
 
--- the words ask for help: `bank --help ..`, or `bank COMMAND --help`
+-- the words ask for help: `bank --help ..`, `bank COMMAND --help`, or `bank help --help`
 abbrev pub AsksForHelp : List Text → Type 0
 AsksForHelp words = ((program : Text) × (rest : List Text) × (words ≡ program ∷ codes "--help" ∷ rest))
     ⊎ AsksForHelpOn (codes "init") words
@@ -201,6 +264,11 @@ AsksForHelp words = ((program : Text) × (rest : List Text) × (words ≡ progra
     ⊎ AsksForHelpOn (codes "migrate") words
     ⊎ AsksForHelpOn (codes "encode") words
     ⊎ AsksForHelpOn (codes "decode") words
+    ⊎ AsksForHelpOn (codes "replay") words
+    ⊎ AsksForHelpOn (codes "digest") words
+    ⊎ AsksForHelpOn (codes "export") words
+    ⊎ AsksForHelpOn (codes "plan") words
+    ⊎ AsksForHelpOn (codes "help") words
 
 -- the error is the help, or memory ran out
 abbrev pub IsHelp : Error → Type 0

@@ -2,9 +2,9 @@
 ghost use Rattle.std.specs.Prelude.{◌≡◌, IfOk, false};
 ghost use Rattle.clap.specs.Words.{App, Rule, app_of, new_app, rule_of, with_rule, with_subcommand};
 ghost use Rattle.command_line.specs.CommandLine.{IsApp, audit_app, bank_alone, bank_app, drive_app, file_rule};
-ghost use Rattle.command_line.specs.CommandLine.{decode_app, encode_app, init_app, load_app, migrate_app};
-ghost use Rattle.command_line.specs.CommandLine.{number_rule, post_app};
-ghost use Rattle.command_line.specs.CommandLine.{required_rule, serve_app, statement_app};
+ghost use Rattle.command_line.specs.CommandLine.{decode_app, digest_app, encode_app, export_app, init_app};
+ghost use Rattle.command_line.specs.CommandLine.{load_app, migrate_app, number_rule, optional_rule, plan_app};
+ghost use Rattle.command_line.specs.CommandLine.{post_app, replay_app, required_rule, serve_app, statement_app};
 
 use crate::limits::MAX_CONNECTIONS;
 use crate::texts;
@@ -18,12 +18,16 @@ use std::alloc::{AllocError, Global};
 pub fn bank_command<'a>(alloc: Global) -> Result<Command<'a>, AllocError>
     ensures { IfOk result (λ bank. app_of bank ≡ bank_app) }
 {
-    let bank = with_command(Ok(bank_alone(alloc)), init_command(alloc));
+    let bank = with_command(bank_alone(alloc), init_command(alloc));
     let bank = with_command(bank, load_command(alloc));
     let bank = with_command(bank, post_command(alloc));
     let bank = with_command(bank, drive_command(alloc));
     let bank = with_command(bank, audit_command(alloc));
     let bank = with_command(bank, statement_command(alloc));
+    let bank = with_command(bank, replay_command(alloc));
+    let bank = with_command(bank, digest_command(alloc));
+    let bank = with_command(bank, export_command(alloc));
+    let bank = with_command(bank, plan_command(alloc));
     let bank = with_command(bank, serve_command(alloc));
     let bank = with_command(bank, migrate_command(alloc));
     let bank = with_command(bank, encode_command(alloc));
@@ -42,9 +46,9 @@ fn with_command<'a>(
     bank?.subcommand(command?)
 }
 
-// The command line with no command yet.
-fn bank_alone<'a>(alloc: Global) -> Command<'a>
-    ensures { app_of result ≡ bank_alone }
+// The command line with no command yet. Its usage names it `bank`, whatever the first word is.
+fn bank_alone<'a>(alloc: Global) -> Result<Command<'a>, AllocError>
+    ensures { IfOk result (λ bank. app_of bank ≡ bank_alone) }
 {
     Command::new(alloc, "bank")
         .version(texts::VERSION)
@@ -54,6 +58,7 @@ fn bank_alone<'a>(alloc: Global) -> Command<'a>
         .after_long_help(texts::BANK_DETAILS)
         .subcommand_required(true)
         .arg_required_else_help(true)
+        .bin_name("bank")
 }
 
 // A command of this name with its three texts, which takes FILE first.
@@ -108,7 +113,7 @@ fn load_command<'a>(alloc: Global) -> Result<Command<'a>, AllocError>
         texts::LOAD_AT_LENGTH,
         texts::LOAD_DETAILS,
     );
-    let plan = required_argument(alloc, "plan", "CSV", texts::PLAN);
+    let plan = required_argument(alloc, "plan", "CSV", texts::PLAN_FILE);
     with_argument(load, plan)
 }
 
@@ -165,6 +170,60 @@ fn statement_command<'a>(alloc: Global) -> Result<Command<'a>, AllocError>
         ValueParser::unsigned(1, MAX_ACCOUNT),
     );
     statement.after_help(texts::STATEMENT_EXAMPLE).arg(account)
+}
+
+fn replay_command<'a>(alloc: Global) -> Result<Command<'a>, AllocError>
+    ensures { IfOk result (IsApp replay_app) }
+{
+    command_on_file(
+        alloc,
+        "replay",
+        texts::REPLAY,
+        texts::REPLAY_AT_LENGTH,
+        texts::REPLAY_DETAILS,
+    )
+}
+
+fn digest_command<'a>(alloc: Global) -> Result<Command<'a>, AllocError>
+    ensures { IfOk result (IsApp digest_app) }
+{
+    let digest = command_on_file(
+        alloc,
+        "digest",
+        texts::DIGEST,
+        texts::DIGEST_AT_LENGTH,
+        texts::DIGEST_DETAILS,
+    )?;
+    let requests = required_argument(alloc, "requests", "N", texts::REQUESTS).value_parser(
+        ValueParser::unsigned(0, u64::MAX),
+    );
+    digest.arg(requests)
+}
+
+fn export_command<'a>(alloc: Global) -> Result<Command<'a>, AllocError>
+    ensures { IfOk result (IsApp export_app) }
+{
+    let export = command_on_file(
+        alloc,
+        "export",
+        texts::EXPORT,
+        texts::EXPORT_AT_LENGTH,
+        texts::EXPORT_DETAILS,
+    );
+    let after = optional_number(alloc, "after", "N", 0, u64::MAX, texts::AFTER);
+    with_argument(export, after)
+}
+
+fn plan_command<'a>(alloc: Global) -> Result<Command<'a>, AllocError>
+    ensures { IfOk result (IsApp plan_app) }
+{
+    command_on_file(
+        alloc,
+        "plan",
+        texts::PLAN,
+        texts::PLAN_AT_LENGTH,
+        texts::PLAN_DETAILS,
+    )
 }
 
 fn serve_command<'a>(alloc: Global) -> Result<Command<'a>, AllocError>
@@ -269,4 +328,19 @@ fn number_option<'a>(
     required_argument(alloc, name, value_name, help)
         .long(name)
         .value_parser(ValueParser::unsigned(least, most))
+}
+
+// The same option where it may be left out.
+fn optional_number<'a>(
+    alloc: Global,
+    name: &'a str,
+    value_name: &'a str,
+    least: u64,
+    most: u64,
+    help: &'a str,
+) -> Arg<'a>
+    ensures rule { rule_of result ≡ optional_rule name.now least most }
+    ensures local { result.global ≡ false }
+{
+    number_option(alloc, name, value_name, least, most, help).required(false)
 }

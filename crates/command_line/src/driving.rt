@@ -55,6 +55,7 @@ pub fn drive_into<C: Counter, W: Sink, K: Clock>(
         (λ fault. fault ≢ CommandFault.Write → Keeps (W.contents output.old) (W.contents output.new)) }
     ensures unprinted { IsErrOf result CommandFault.Write
         → HasWriteFailed (W.told output.old) (W.told output.new) }
+    ensures spares { C.spares bank.old bank.new }
 {
     let driven = drive_records(alloc, bank, clock, seed, count)?;
     print_driven(count, driven, output)

@@ -53,6 +53,8 @@ pub enum CommandFault {
     NoBranches,
     /// Status 4. The account isn't open.
     NoAccount(Account),
+    /// Status 4. The bank keeps fewer requests than that.
+    NoRequest(u64),
     /// Status 3. The address can't be bound or has no text, or the listener gave no connection.
     Network,
 }
@@ -102,7 +104,8 @@ impl CommandFault {
             | CommandFault::Foreign
             | CommandFault::Version(_)
             | CommandFault::NoBranches
-            | CommandFault::NoAccount(_) => Status::Input,
+            | CommandFault::NoAccount(_)
+            | CommandFault::NoRequest(_) => Status::Input,
         }
     }
 }
@@ -133,6 +136,7 @@ impl fmt::Display for CommandFault {
             CommandFault::Version(version) => write!(f, "version {version}"),
             CommandFault::NoBranches => write!(f, "no branches"),
             CommandFault::NoAccount(account) => write!(f, "no account {account}"),
+            CommandFault::NoRequest(count) => write!(f, "no request {count}"),
             CommandFault::Network => write!(f, "network failed"),
         }
     }

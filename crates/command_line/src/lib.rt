@@ -30,7 +30,9 @@ mod fault;
 mod limits;
 mod lines;
 mod loading;
+mod prompting;
 mod reading;
+mod replaying;
 mod serving;
 mod status;
 mod texts;
@@ -45,7 +47,9 @@ pub use lines::{
     print_loaded, print_migrated, tell, tell_no_words,
 };
 pub use loading::{load_from, load_into};
+pub use prompting::prompt;
 pub use reading::{Command, read_words};
+pub use replaying::{print_agreeing, print_differing, print_digest};
 pub use serving::listen;
 pub use status::Status;
 pub use translating::{translate_replies, translate_sheet};

@@ -192,8 +192,8 @@ fn listening_text(address: SocketAddr) -> Option<ArrayString<LINE>>
     }
 }
 
-// Writes a line, and flushes it.
-fn print_line<W: Sink>(line: &str, output: &mut W) -> Result<(), CommandFault>
+/// Writes a line, and flushes it.
+pub(crate) fn print_line<W: Sink>(line: &str, output: &mut W) -> Result<(), CommandFault>
     ensures prints { PrintsLine line.now (W.contents output.old) (W.contents output.new)
         (W.told output.old) (W.told output.new) result }
     ensures fault { OnErr result (IsErrOf result CommandFault.Write) }

@@ -29,6 +29,8 @@ pub fn load_into<R: Files + AllocGlobal, C: Counter, W: Sink>(
         (λ fault. fault ≢ CommandFault.Write → Keeps (W.contents output.old) (W.contents output.new)) }
     ensures unprinted { IsErrOf result CommandFault.Write
         → HasWriteFailed (W.told output.old) (W.told output.new) }
+    ensures honest { (C.seen bank.new).honest → (C.seen bank.old).honest }
+    ensures spares { C.spares bank.old bank.new }
 {
     let mut file = open_plan(rt, path)?;
     load_from(rt.alloc(), &mut file, bank, output)
@@ -60,6 +62,8 @@ pub fn load_from<R: Source, C: Counter, W: Sink>(
         (λ fault. fault ≢ CommandFault.Write → Keeps (W.contents output.old) (W.contents output.new)) }
     ensures unprinted { IsErrOf result CommandFault.Write
         → HasWriteFailed (W.told output.old) (W.told output.new) }
+    ensures honest { (C.seen bank.new).honest → (C.seen bank.old).honest }
+    ensures spares { C.spares bank.old bank.new }
 {
     let plan = read_plan(alloc, source)?;
     let loaded = load(&plan, bank)?;

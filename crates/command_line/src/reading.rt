@@ -1,11 +1,12 @@
 //! Which of the program's commands the words of the command line ask for, and on which files.
-ghost use Rattle.std.specs.Prelude.{◌≡◌, ℕ, IfErr, IfOk, IsErrAnd, IsSomeAnd, MatchResult, map, true};
+ghost use Rattle.std.specs.Prelude.{◌≡◌, ℕ, IfErr, IfOk, IsErrAnd, IsSomeAnd, MatchResult, codes, map, true};
 ghost use Rattle.clap.specs.Words.{FailsBy, fault_of, found_of, kind_of, rows_of, subcommand_of};
 ghost use Rattle.clap.specs.Words.{subcommand_rows_of, takes};
 ghost use Rattle.command_line.specs.CommandLine.{bank_app};
-ghost use Rattle.command_line.specs.Words.{AreInRange, AsksForHelp, HasNumber, HasSomeNumber, HasText};
-ghost use Rattle.command_line.specs.Words.{IsCommandOf, IsComplete, IsCompleteOnFile, IsHelp, IsNumberIn};
-ghost use Rattle.command_line.specs.Words.{IsReadFrom, IsSpelled, IsSpelledBy, IsText, IsWantOfMemory};
+ghost use Rattle.command_line.specs.Words.{AreInRange, AsksForHelp, HasMoreValues, HasNumber, HasNumberIfAny};
+ghost use Rattle.command_line.specs.Words.{HasSomeNumber, HasText, IsCommandOf, IsComplete, IsCompleteOnFile};
+ghost use Rattle.command_line.specs.Words.{IsHelp, IsNumberIfAny, IsNumberIn, IsReadFrom, IsSpelled, IsSpelledBy};
+ghost use Rattle.command_line.specs.Words.{IsText, IsWantOfMemory, words_read};
 
 use crate::command_line::bank_command;
 use clap::ArgMatches;
@@ -45,6 +46,24 @@ pub enum Command<'a> {
         file: &'a str,
         account: Account,
     },
+    /// Replay the file's bank.
+    Replay {
+        file: &'a str,
+    },
+    /// Print the digest of so many first requests of the file's bank.
+    Digest {
+        file: &'a str,
+        requests: u64,
+    },
+    /// Write the requests of the file's bank after so many as records.
+    Export {
+        file: &'a str,
+        after: u64,
+    },
+    /// Write the open branches of the file's bank as a plan.
+    Plan {
+        file: &'a str,
+    },
     /// Serve the file's bank over HTTP at this address, to so many connections, one after another.
     Serve {
         file: &'a str,
@@ -74,11 +93,22 @@ pub fn read_words<'a, S: AsStr>(alloc: Global, words: &'a [S]) -> Result<Command
         → MatchResult result (IsSpelledBy (map S.text words.entry.now)) IsWantOfMemory }
     ensures help { AsksForHelp (map S.text words.entry.now) → IsErrAnd result IsHelp }
 {
-    let matches = matches_of(alloc, words)?;
+    let matches = matches_of(alloc, own_words(words))?;
     let Some((name, values)) = matches.subcommand() else {
         unreachable!()
     };
     Ok(command_of(name, values))
+}
+
+// The words that clap is given: it knows no `bank help --help`, which is read as `bank --help`.
+fn own_words<S: AsStr>(words: &[S]) -> &[S]
+    ensures { map S.text result.now ≡ words_read (map S.text words.now) }
+{
+    if words.len() == 3 && words[1].as_str() == "help" && words[2].as_str() == "--help" {
+        &words[1..]
+    } else {
+        words
+    }
 }
 
 // What clap matches in the words: a command of the program, with all its values.
@@ -115,21 +145,44 @@ fn command_on_file<'a>(name: &str, values: &ArgMatches<'a>) -> Command<'a>
     let file = text_in(values, "file");
     match name {
         "init" => Command::Init { file },
+        "post" => Command::Post { file },
+        "audit" => Command::Audit { file },
+        "replay" => Command::Replay { file },
+        "plan" => Command::Plan { file },
+        "migrate" => Command::Migrate { file },
+        _ => command_with_values(name, file, values),
+    }
+}
+
+// The command that a subcommand's name, its file and its other values tell.
+fn command_with_values<'a>(name: &str, file: &'a str, values: &ArgMatches<'a>) -> Command<'a>
+    requires more { HasMoreValues (name.now, rows_of (found_of values.now)) }
+    requires file { IsText (codes "file") (rows_of (found_of values.now)) file.now }
+    ensures command { IsCommandOf (name.now, rows_of (found_of values.now)) result }
+    ensures ranges { AreInRange result }
+{
+    match name {
         "load" => {
             let plan = text_in(values, "plan");
             Command::Load { file, plan }
         }
-        "post" => Command::Post { file },
         "drive" => {
             let seed = number_in(values, "seed");
             let count = number_in(values, "count");
             Command::Drive { file, seed, count }
         }
-        "audit" => Command::Audit { file },
         "statement" => {
             let number = number_in(values, "account");
             let account = Account::new(number).unwrap();
             Command::Statement { file, account }
+        }
+        "digest" => {
+            let requests = number_in(values, "requests");
+            Command::Digest { file, requests }
+        }
+        "export" => {
+            let after = number_if_any(values, "after");
+            Command::Export { file, after }
         }
         "serve" => {
             let address = text_in(values, "address");
@@ -140,7 +193,6 @@ fn command_on_file<'a>(name: &str, values: &ArgMatches<'a>) -> Command<'a>
                 connections,
             }
         }
-        "migrate" => Command::Migrate { file },
         _ => unreachable!(),
     }
 }
@@ -160,4 +212,12 @@ fn number_in(values: &ArgMatches<'_>, id: &str) -> u64
         → IsNumberIn id.now least most (rows_of (found_of values.now)) result }
 {
     values.get_one::<u64>(id).unwrap()
+}
+
+// The number of an argument that may have been left out, which is 0 then.
+fn number_if_any(values: &ArgMatches<'_>, id: &str) -> u64
+    ensures { (least most : ℕ) → HasNumberIfAny id.now least most (rows_of (found_of values.now))
+        → IsNumberIfAny id.now (rows_of (found_of values.now)) result }
+{
+    values.get_one::<u64>(id).unwrap_or(0)
 }

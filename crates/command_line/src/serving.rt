@@ -31,6 +31,7 @@ pub fn listen<C: Counter, W: Sink, K: Clock>(
         → HasWriteFailed (W.told output.old) (W.told output.new) }
     ensures serves { ServesOver C.seen C.reason (K.readings clock.old) (K.readings clock.new) connections
         (λ end. done_after result ≡ end) bank.old bank.new }
+    ensures spares { C.spares bank.old bank.new }
 {
     let (listener, line) = bind(rt, address)?;
     serve_at(rt, &listener, &line, connections, bank, output, clock)
@@ -73,6 +74,7 @@ fn serve_at<C: Counter, W: Sink, K: Clock>(
         → HasWriteFailed (W.told output.old) (W.told output.new) }
     ensures serves { ServesOver C.seen C.reason (K.readings clock.old) (K.readings clock.new) connections
         (λ end. done_after result ≡ end) bank.old bank.new }
+    ensures spares { C.spares bank.old bank.new }
 {
     print_listening(line, output)?;
     serve_connections(rt, listener, connections, clock, bank)?;

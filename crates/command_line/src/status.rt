@@ -35,7 +35,8 @@ pub enum Status {
     System,
     /// 4: what came in, or the file, isn't what the command takes.
     Input,
-    /// 5: `load` did its work, and a branch of the plan is open with another count of accounts.
+    /// 5: `load` did its work, and a branch of the plan is open with another count of accounts; or `replay` did,
+    /// and the tables aren't what the rules give.
     Differs,
     /// 5: `audit` did its work, and the books don't agree (TPC-B clause 2).
     Inconsistent,

@@ -1,6 +1,7 @@
 -- Each command is added in its turn.
-use Rattle.command_line.specs.CommandLine.{audit_app, bank_alone, decode_app, drive_app, encode_app, init_app}
-use Rattle.command_line.specs.CommandLine.{load_app, migrate_app, post_app, serve_app, statement_app}
+use Rattle.command_line.specs.CommandLine.{audit_app, bank_alone, decode_app, digest_app, drive_app, encode_app}
+use Rattle.command_line.specs.CommandLine.{export_app, init_app, load_app, migrate_app, plan_app, post_app, replay_app}
+use Rattle.command_line.specs.CommandLine.{serve_app, statement_app}
 use Rattle.command_line.proofs.command_line.bank_command.Goals as goal
 
 pub returns : goal.returns
@@ -11,7 +12,11 @@ returns c =
     let drive = c.with_command-bank-4.ensures _ drive_app post c.drive_command.ensures in
     let audit = c.with_command-bank-5.ensures _ audit_app drive c.audit_command.ensures in
     let statement = c.with_command-bank-6.ensures _ statement_app audit c.statement_command.ensures in
-    let serve = c.with_command-bank-7.ensures _ serve_app statement c.serve_command.ensures in
-    let migrate = c.with_command-bank-8.ensures _ migrate_app serve c.migrate_command.ensures in
-    let encode = c.with_command-bank-9.ensures _ encode_app migrate c.encode_command.ensures in
+    let replay = c.with_command-bank-7.ensures _ replay_app statement c.replay_command.ensures in
+    let digest = c.with_command-bank-8.ensures _ digest_app replay c.digest_command.ensures in
+    let export = c.with_command-bank-9.ensures _ export_app digest c.export_command.ensures in
+    let plan = c.with_command-bank-10.ensures _ plan_app export c.plan_command.ensures in
+    let serve = c.with_command-bank-11.ensures _ serve_app plan c.serve_command.ensures in
+    let migrate = c.with_command-bank-12.ensures _ migrate_app serve c.migrate_command.ensures in
+    let encode = c.with_command-bank-13.ensures _ encode_app migrate c.encode_command.ensures in
     c.with_command.ensures _ decode_app encode c.decode_command.ensures

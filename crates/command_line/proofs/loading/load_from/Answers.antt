@@ -14,7 +14,14 @@ returns-in_err-plan g c =
     let it = unread g.C.Counter.seen g.C.Counter.reason (g.W.Sink.contents c.args.output.now)
     (g.W.Sink.told c.args.output.now) c.args.bank.now _ fault same
     c.in_err-plan.ensures in
-    record { loads = it.loads; line = it.line; silent = it.silent; unprinted = it.unprinted }
+    record {
+      loads = it.loads;
+      line = it.line;
+      silent = it.silent;
+      unprinted = it.unprinted;
+      honest = λ h. h;
+      spares = g.met.C.Counter.spares_itself c.args.bank.now;
+    }
 
 pub returns-in_err-loaded : goal.returns-in_err-loaded
 returns-in_err-loaded g c =
@@ -25,7 +32,14 @@ returns-in_err-loaded g c =
     (g.W.Sink.told c.args.output.now) c.args.bank.now
     c.load.new.counter _ _ fault same c.in_ok-plan.ensures
     (record { answered = told.0; after = told.1; why = c.in_err-loaded.ensures.why }) in
-    record { loads = it.loads; line = it.line; silent = it.silent; unprinted = it.unprinted }
+    record {
+      loads = it.loads;
+      line = it.line;
+      silent = it.silent;
+      unprinted = it.unprinted;
+      honest = c.in_err-loaded.ensures.spared.honest;
+      spares = c.in_err-loaded.ensures.spared.others;
+    }
 
 pub returns-in_err-print_loaded : goal.returns-in_err-print_loaded
 returns-in_err-print_loaded g c =
@@ -39,7 +53,14 @@ returns-in_err-print_loaded g c =
     (g.W.Sink.contents c.print_loaded.new.output) (g.W.Sink.told c.print_loaded.new.output) c.load.new.counter
     _ _ _ same c.in_ok-plan.ensures did (part_of c.in_err-print_loaded.ensures.prints.part)
     c.in_err-print_loaded.ensures.failed in
-    record { loads = it.loads; line = it.line; silent = it.silent; unprinted = it.unprinted }
+    record {
+      loads = it.loads;
+      line = it.line;
+      silent = it.silent;
+      unprinted = it.unprinted;
+      honest = c.in_ok-loaded.ensures.spared.honest;
+      spares = c.in_ok-loaded.ensures.spared.others;
+    }
 
 pub returns : goal.returns
 returns g c =
@@ -51,4 +72,11 @@ returns g c =
     (g.W.Sink.told c.args.output.now) c.args.bank.now
     (g.W.Sink.contents c.print_loaded.new.output) (g.W.Sink.told c.print_loaded.new.output) c.load.new.counter
     _ _ c.in_ok-print_loaded.ensures.prints.line c.in_ok-plan.ensures did in
-    record { loads = it.loads; line = it.line; silent = it.silent; unprinted = it.unprinted }
+    record {
+      loads = it.loads;
+      line = it.line;
+      silent = it.silent;
+      unprinted = it.unprinted;
+      honest = c.in_ok-loaded.ensures.spared.honest;
+      spares = c.in_ok-loaded.ensures.spared.others;
+    }

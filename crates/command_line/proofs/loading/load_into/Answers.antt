@@ -18,3 +18,7 @@ returns-in_err-file-clause-unprinted g c is =
     let p = err_from_is_err_and c.from_residual.result c.from_residual.ensures.1 in
     let same : c.from_residual.result ≡ Err c.in_err-file.field-0.0 = search rules in
     absurd (file_not_write c.in_err-file.field-0.0 c.in_err-file.ensures (cc (same, is)))
+
+-- what no call of the bank touches
+pub returns-in_err-file-clause-spares : goal.returns-in_err-file-clause-spares
+returns-in_err-file-clause-spares g c = g.met.C.Counter.spares_itself c.args.bank.now

@@ -1,20 +1,9 @@
--- The values that a command's name asks for are there, and those that are read are the command's.
-use Rattle.std.proofs.Common.{refl, subst, codes, ◌≡◌}
-use Rattle.clap.specs.Words.{found_of, rows_of}
-use Rattle.load_driver.specs.declared.drive.TheConstants.{MAX_DRIVEN}
-use Rattle.message_records.specs.declared.limits.TheConstants.{MAX_ACCOUNT}
-use Rattle.command_line.specs.CommandLine.{MAX_SEED}
-use Rattle.command_line.specs.Words.{IsNumber}
-use Rattle.command_line.specs.declared.limits.TheConstants.{MAX_CONNECTIONS}
-use Rattle.command_line.proofs.Getters.{account_of_statement, numbers_of_drive, plan_of_load, values_of_serve}
-use Rattle.command_line.proofs.Getters.{drive_read, serve_read, within_same}
-use Rattle.load_driver.proofs.Listed.{within}
+-- The name tells the command; the values that it asks for are there.
+use Rattle.std.proofs.Common.{inl, inr}
 use Rattle.command_line.proofs.reading.command_on_file.Goals as goal
 
 pub text_in-file-requires : goal.text_in-file-requires
 text_in-file-requires c = c.requires.0
-
--- ---- one file, or two
 
 pub returns-in-init-clause-command : goal.returns-in-init-clause-command
 returns-in-init-clause-command c = (c.in-init.is, c.text_in-file.ensures)
@@ -25,80 +14,26 @@ returns-in-post-clause-command c = (c.in-post.is, c.text_in-file.ensures)
 pub returns-in-audit-clause-command : goal.returns-in-audit-clause-command
 returns-in-audit-clause-command c = (c.in-audit.is, c.text_in-file.ensures)
 
+pub returns-in-replay-clause-command : goal.returns-in-replay-clause-command
+returns-in-replay-clause-command c = (c.in-replay.is, c.text_in-file.ensures)
+
+pub returns-in-plan-clause-command : goal.returns-in-plan-clause-command
+returns-in-plan-clause-command c = (c.in-plan.is, c.text_in-file.ensures)
+
 pub returns-in-migrate-clause-command : goal.returns-in-migrate-clause-command
 returns-in-migrate-clause-command c = (c.in-migrate.is, c.text_in-file.ensures)
 
-pub text_in-plan-requires : goal.text_in-plan-requires
-text_in-plan-requires c =
-    plan_of_load (c.args.name.now, rows_of (found_of c.args.values.now)) c.in-load.is c.requires
-
-pub returns-in-load-clause-command : goal.returns-in-load-clause-command
-returns-in-load-clause-command c = (c.in-load.is, c.text_in-file.ensures, c.text_in-plan.ensures)
-
--- ---- a seed and a count
-
-pub number_in-seed-requires : goal.number_in-seed-requires
-number_in-seed-requires c =
-    let has = numbers_of_drive (c.args.name.now, rows_of (found_of c.args.values.now)) c.in-drive.is
-    c.requires in
-    (0, MAX_SEED, has.0)
-
-pub number_in-count-requires : goal.number_in-count-requires
-number_in-count-requires c =
-    let has = numbers_of_drive (c.args.name.now, rows_of (found_of c.args.values.now)) c.in-drive.is
-    c.requires in
-    (1, MAX_DRIVEN, has.1)
-
-pub returns-in-drive : goal.returns-in-drive
-returns-in-drive c =
-    let read = drive_read (c.args.name.now, rows_of (found_of c.args.values.now)) c.text_in-file.result
-    c.number_in-seed.result c.number_in-count.result c.in-drive.is c.requires c.text_in-file.ensures
-    c.number_in-seed.ensures c.number_in-count.ensures in
-    record { command = read.0; ranges = read.1 }
-
--- ---- an account
-
-pub number_in-number-requires : goal.number_in-number-requires
-number_in-number-requires c =
-    let found = found_of c.args.values.now in
-    (1, MAX_ACCOUNT, account_of_statement (c.args.name.now, rows_of found) c.in-statement.is c.requires)
-
-pub unwrap-account-requires : goal.unwrap-account-requires
-unwrap-account-requires c =
-    let found = found_of c.args.values.now in
-    let has = account_of_statement (c.args.name.now, rows_of found) c.in-statement.is c.requires in
-    let read = c.number_in-number.ensures 1 MAX_ACCOUNT has in
-    rw (c.new.ensures, within MAX_ACCOUNT c.number_in-number.result read.1 read.2) refl
-
-pub returns-in-statement-clause-command : goal.returns-in-statement-clause-command
-returns-in-statement-clause-command c =
-    let found = found_of c.args.values.now in
-    let has = account_of_statement (c.args.name.now, rows_of found) c.in-statement.is c.requires in
-    let number = c.number_in-number.result in
-    let read = c.number_in-number.ensures 1 MAX_ACCOUNT has in
-    let same : number ≡ c.unwrap-account.result =
-    within_same MAX_ACCOUNT number c.unwrap-account.result c.new.result read.1 read.2 c.new.ensures
-    c.unwrap-account.ensures in (
-      c.in-statement.is,
-      c.text_in-file.ensures,
-      subst (IsNumber (codes "account") (rows_of found)) same read.0,
-    )
-
--- ---- an address and a count of connections
-
-pub number_in-connections-requires : goal.number_in-connections-requires
-number_in-connections-requires c =
-    let has = values_of_serve (c.args.name.now, rows_of (found_of c.args.values.now)) c.in-serve.is
-    c.requires in
-    (1, MAX_CONNECTIONS, has.1)
-
-pub text_in-address-requires : goal.text_in-address-requires
-text_in-address-requires c =
-    (values_of_serve (c.args.name.now, rows_of (found_of c.args.values.now)) c.in-serve.is c.requires).0
-
-pub returns-in-serve : goal.returns-in-serve
-returns-in-serve c =
-    let read = serve_read (c.args.name.now, rows_of (found_of c.args.values.now)) c.text_in-file.result
-    c.text_in-address.result c.number_in-connections.result c.in-serve.is c.requires c.text_in-file.ensures
-    c.text_in-address.ensures c.number_in-connections.ensures in
-    record { command = read.0; ranges = read.1 }
+-- none of the names of a command with one file
+pub command_with_values-requires : goal.command_with_values-requires
+command_with_values-requires c = record {
+  more = elim c.requires.1 [
+    | inl (inl init) ↦ absurd (c.in_default.not-init init)
+    | inl (inr (inl post)) ↦ absurd (c.in_default.not-post post)
+    | inl (inr (inr (inl audit))) ↦ absurd (c.in_default.not-audit audit)
+    | inl (inr (inr (inr (inl replay)))) ↦ absurd (c.in_default.not-replay replay)
+    | inl (inr (inr (inr (inr (inl plan))))) ↦ absurd (c.in_default.not-plan plan)
+    | inl (inr (inr (inr (inr (inr migrate))))) ↦ absurd (c.in_default.not-migrate migrate)
+    | inr more ↦ more
+  ];
+  file = c.text_in-file.ensures;
+}

@@ -1,7 +1,12 @@
-use Rattle.std.proofs.Common.{rules, map}
-use Rattle.clap.specs.Words.{found_of, rows_of}
-use Rattle.command_line.proofs.Getters.{met_complete}
+-- What clap makes of the words that it is given is said of the words of the command line.
+use Rattle.std.proofs.Common.{◌≡◌, ◌∙◌, [], ap, map, rules, subst, sym, List, Some}
+use Rattle.std.proofs.lemmas.Result.{err_from_is_err_and}
+use Rattle.clap.specs.Words.{FailsBy, Text, fault_of, found_of, rows_of, subcommand_of, takes}
+use Rattle.command_line.specs.CommandLine.{bank_app}
+use Rattle.command_line.specs.Words.{IsReadFrom, words_read}
+use Rattle.command_line.proofs.Getters.{met_complete, met_rows}
 use Rattle.command_line.proofs.Help.{help_given, no_help_asked}
+use Rattle.command_line.proofs.OwnWords.{fails_as_read, same_at_none, taken_as_read}
 use Rattle.command_line.proofs.Spelled.{spelled_at_err, spelled_at_ok}
 use Rattle.command_line.proofs.reading.read_words.Goals as goal
 
@@ -10,18 +15,43 @@ command_of-requires g c =
     met_complete c.in_ok-matches.matches c.in-Some.name.now (rows_of (found_of c.in-Some.values.now))
     c.in-Some.ensures.name c.in-Some.ensures.rows c.in_ok-matches.ensures.complete
 
-pub returns-in_err-matches-clause-help : goal.returns-in_err-matches-clause-help
-returns-in_err-matches-clause-help g c =
-    help_given c.from_residual.result (map g.S.AsStr.text c.args.words.now) (search rules)
+pub returns-in_err-matches : goal.returns-in_err-matches
+returns-in_err-matches g c =
+    let words = map g.S.AsStr.text c.args.words.now in
+    let given = map g.S.AsStr.text c.own_words.result.now in
+    let error = c.in_err-matches.field-0.0 in
+    let told = err_from_is_err_and c.from_residual.result c.from_residual.ensures.1 in
+    let as_given : FailsBy (fault_of bank_app given) c.from_residual.result = search rules in
+    let fails : FailsBy (fault_of bank_app (words_read words)) c.from_residual.result =
+    subst (λ (w : List Text). FailsBy (fault_of bank_app w) c.from_residual.result) c.own_words.ensures as_given in
+    let taken = taken_as_read error words
+    (λ takes_read. c.in_err-matches.ensures.taken (ap (takes bank_app) c.own_words.ensures ∙ takes_read)) in
+    record {
+      command = rw told.1 tt;
+      ranges = rw told.1 tt;
+      taken = rw (told.1, told.2) taken;
+      fault = fails_as_read c.from_residual.result words fails;
+      spelled = spelled_at_err c.from_residual.result error words c.from_residual.ensures.1 taken;
+      help = help_given c.from_residual.result words fails;
+    }
 
-pub returns-clause-help : goal.returns-clause-help
-returns-clause-help g c = no_help_asked (map g.S.AsStr.text c.args.words.now) c.in_ok-matches.ensures.fault
-
-pub returns-in_err-matches-clause-spelled : goal.returns-in_err-matches-clause-spelled
-returns-in_err-matches-clause-spelled g c =
-    spelled_at_err c.from_residual.result c.in_err-matches.field-0.0 (map g.S.AsStr.text c.args.words.now)
-    c.from_residual.ensures.1 c.in_err-matches.ensures.taken
-
-pub returns-clause-spelled : goal.returns-clause-spelled
-returns-clause-spelled g c =
-    spelled_at_ok (map g.S.AsStr.text c.args.words.now) c.command_of.result (search rules)
+pub returns : goal.returns
+returns g c =
+    let words = map g.S.AsStr.text c.args.words.now in
+    let none : fault_of bank_app (words_read words) ≡ [] =
+    subst (λ (w : List Text). fault_of bank_app w ≡ []) c.own_words.ensures c.in_ok-matches.ensures.fault in
+    let same = c.own_words.ensures ∙ same_at_none words none in
+    let name = c.in-Some.name.now in
+    let rows = rows_of (found_of c.in-Some.values.now) in
+    let met = met_rows c.in_ok-matches.matches name rows c.in-Some.ensures.name c.in-Some.ensures.rows in
+    let told : subcommand_of bank_app words ≡ Some (name, rows) =
+    ap (subcommand_of bank_app) (sym same) ∙ (sym c.in_ok-matches.ensures.matches ∙ met) in
+    let command : IsReadFrom words c.command_of.result = rw told c.command_of.ensures.command in
+    record {
+      command = command;
+      ranges = c.command_of.ensures.ranges;
+      taken = tt;
+      fault = ap (fault_of bank_app) (sym (same_at_none words none)) ∙ none;
+      spelled = spelled_at_ok words c.command_of.result command;
+      help = no_help_asked words none;
+    }

@@ -6,3 +6,7 @@ returns-clause-line g c = told_at c.serve_at.result _ _ _ c.serve_at.ensures.lin
 
 pub returns-clause-silent : goal.returns-clause-silent
 returns-clause-silent g c = may_tell c.serve_at.result _ _ _ c.serve_at.ensures.told
+
+-- what no call of the bank touches
+pub returns-in_err-listener-clause-spares : goal.returns-in_err-listener-clause-spares
+returns-in_err-listener-clause-spares g c = g.met.C.Counter.spares_itself c.args.bank.now

@@ -8,3 +8,7 @@ pub returns-in_err-print_listening-clause-serves : goal.returns-in_err-print_lis
 returns-in_err-print_listening-clause-serves g c =
     let same : c.from_residual.result ≡ Err Write = search rules in
     inl (((Write, inr refl, ap done_after same), refl), refl)
+
+-- what no call of the bank touches
+pub returns-in_err-print_listening-clause-spares : goal.returns-in_err-print_listening-clause-spares
+returns-in_err-print_listening-clause-spares g c = g.met.C.Counter.spares_itself c.args.bank.now
