@@ -6,6 +6,7 @@ use bank_commands::{run, words_of};
 use command_line::{Status, tell_no_words};
 use posting_core::SystemClock;
 use sqlite::{Start, Unknown};
+use std::io::IsTerminal;
 use std::process::ExitCode;
 
 // A run on these words between the standard streams, whatever the files hold.
@@ -15,6 +16,7 @@ fn run_on<S: Start>(rt: &HostRuntime, start: S, words: &[String]) -> Status {
         start,
         words,
         &mut rt.stdin(),
+        rt.stdin().is_terminal(),
         &mut rt.stdout(),
         &mut rt.stderr(),
         &mut SystemClock::new(rt),

@@ -1,2 +1,3 @@
 pub mod Endings
 pub mod Told
+pub mod Spared

@@ -1,7 +1,7 @@
 -- How a command ends over a connection, and what is said of it whatever bank is there.
 use Rattle.std.specs.Prelude.{⊤}
 use Rattle.std.proofs.Common.{◌≡◌, ◌≢◌, ◌⊎◌, ◌∙◌, ◌≤◌, ap, inl, inr, refl, subst, sym, ℕ, List, Option, Result, Ok, Err}
-use Rattle.std.proofs.Common.{Bool, false, true, None, OnErr, OnOk, IsErrOf, length, take}
+use Rattle.std.proofs.Common.{Bool, false, true, Some, None, OnErr, OnOk, IsErrOf, length, take}
 use Rattle.std.specs.Prelude.{IfErr, IfOk, IsErrAnd, if◌then◌else◌}
 use Rattle.std.specs.Io.KnownBytes.{Appends, Keeps}
 use Rattle.std.proofs.KnownBytes.{Keeps-refl}
@@ -11,6 +11,8 @@ use Rattle.sqlite_trees.specs.declared.store.Store.{Ghosts}
 use Rattle.posting_rules.specs.declared.fault.Fault.{Fault}
 use Rattle.posting_rules.specs.Counter.{Seen}
 use Rattle.posting_rules.specs.declared.fault.Fault.TheVariants as bank
+use Rattle.posting_rules.specs.declared.open_fault.OpenFault.{OpenFault}
+use Rattle.posting_rules.specs.declared.open_fault.OpenFault.TheVariants as opening
 use Rattle.posting_core.specs.Stream.{Streamed}
 use Rattle.posting_core.specs.declared.stream.StreamFault.{StreamFault}
 use Rattle.posting_core.specs.declared.stream.StreamFault.TheVariants as stream
@@ -20,6 +22,11 @@ use Rattle.posting_sheets.specs.declared.fault.SheetFault.{SheetFault}
 use Rattle.report_lines.specs.declared.audit.Audit.{Audit}
 use Rattle.bank_reports.specs.declared.fault.ReportFault.{ReportFault}
 use Rattle.bank_reports.specs.declared.fault.ReportFault.TheVariants as report
+use Rattle.bank_replays.specs.declared.chain.Digest.{Digest}
+use Rattle.bank_replays.specs.declared.difference.Replay.{Replay}
+use Rattle.bank_replays.specs.declared.difference.Replay.TheVariants as replays
+use Rattle.bank_replays.specs.declared.fault.ReplayFault.{ReplayFault}
+use Rattle.bank_replays.specs.declared.fault.ReplayFault.TheVariants as written
 use Rattle.bank_store.specs.declared.bank.Bank.{Bank}
 use Rattle.bank_store.specs.declared.refused.Refused.{Refused}
 use Rattle.command_line.specs.Auditing.{Prints}
@@ -41,6 +48,7 @@ use Rattle.command_line.specs.Working.{TellsListeningInPart, TellsLoad, done_aft
 use Rattle.bank_commands.specs.Commands.{EndsPost, PrintsDrive, PrintsLoad, PrintsServe, StatesOver, TellsLine}
 use Rattle.bank_commands.specs.Commands.{ended_by, stated_by}
 use Rattle.bank_commands.specs.Over.{IsRefusedOver, RunsOver}
+use Rattle.bank_commands.specs.Replaying.{PrintsDigest, PrintsReplay, ended_by_writing, ended_with}
 use Rattle.bank_commands.specs.Running.{PrintsNone, Tells}
 use Rattle.bank_commands.proofs.Endings.{input_is_not_usage, system_is_not_usage}
 
@@ -55,6 +63,44 @@ refused_over Why refused back told is same why = rw is record {
   reason = refl;
   why = why;
 }
+
+-- no bank is missed because the output failed
+opening_not_write : {Q : Type 0} (f : OpenFault) → fault_of_opening f ≡ fault.Write → Q
+opening_not_write opening.Store is = cc
+opening_not_write opening.NotBlank is = cc
+opening_not_write opening.Blank is = cc
+opening_not_write opening.Foreign is = cc
+opening_not_write (opening.Version n) is = cc
+opening_not_write (opening.Damaged rule) is = cc
+
+pub opening_is_no_write : {Q : Type 0} (f : OpenFault) (told : Result Status CommandFault)
+    → told ≡ Err (fault_of_opening f) → IsErrOf told fault.Write → Q
+opening_is_no_write f told same is =
+    let bad : fault_of_opening f ≡ fault.Write = cc (same, is) in
+    opening_not_write f bad
+
+pub refused_not_write : {S Q : Type 0} (Why : Refused S → Type 0) (back : Held S) (told : Result Status CommandFault)
+    → IsErrAnd told (IsRefusedOver Why back) → IsErrOf told fault.Write → Q
+refused_not_write Why back told refused is =
+    let f = err_from_is_err_and told refused in
+    let same : f.0 ≡ fault.Write = cc (is, f.1) in
+    opening_not_write f.2.refused.fault (sym f.2.reason ∙ same)
+
+-- and a work that is said to have failed to write did
+pub done_not_written : {Failed : Type 0} (printed : Result (Unit {0}) CommandFault)
+    → (IsErrOf printed fault.Write → Failed) → IsErrOf (done_after printed) fault.Write → Failed
+done_not_written (Ok done) failed is = cc
+done_not_written (Err f) failed is = failed (cc is)
+
+pub line_not_written : {Failed : Type 0} (printed : Result (Unit {0}) CommandFault) → OnErr printed Failed
+    → IsErrOf (done_after printed) fault.Write → Failed
+line_not_written (Ok done) failed is = cc
+line_not_written (Err f) failed is = failed
+
+pub load_not_written : {Failed : Type 0} (loaded : Result Loaded CommandFault)
+    → (IsErrOf loaded fault.Write → Failed) → IsErrOf (ended_by_load loaded) fault.Write → Failed
+load_not_written (Ok loaded) failed is = cc
+load_not_written (Err f) failed is = failed (cc is)
 
 -- a line that was printed last, or a part of it
 pub line_told : (w w' : Option (List ℕ)) (line : List ℕ) (printed : Result (Unit {0}) CommandFault)
@@ -110,6 +156,7 @@ is_write fault.Foreign = inr (λ bad. cc)
 is_write (fault.Version version) = inr (λ bad. cc)
 is_write fault.NoBranches = inr (λ bad. cc)
 is_write (fault.NoAccount account) = inr (λ bad. cc)
+is_write (fault.NoRequest count) = inr (λ bad. cc)
 is_write fault.Network = inr (λ bad. cc)
 is_write (fault.Postings sheet) = inr (λ bad. cc)
 is_write (fault.Reply place field) = inr (λ bad. cc)
@@ -158,9 +205,25 @@ stated_done account (Err (report.Bank cause)) = tt
 pub states_done : {S : Type 0} (g : Ghosts S) (conn back : Held S) (account : ℕ) (w w' : Option (List ℕ))
     (told : Result Status CommandFault) → StatesOver g conn back account w w' None None told
     → IfOk told (λ status. status ≡ Done)
-states_done g conn back account w w' told (inl none) = rw (err_from_is_err_and told none.0).1 tt
-states_done g conn back account w w' told (inr works) =
+states_done g conn back account w w' told (inl none, spares) = rw (err_from_is_err_and told none.0).1 tt
+states_done g conn back account w w' told (inr works, spares) =
     rw works.did.1.1 (stated_done account works.did.1.0)
+
+-- where a text was written
+pub written_done : {S : Type 0} {g : Ghosts S} (Why : Refused S → Type 0) (Did : Bank S g → Bank S g → Type 0)
+    {back : Held S} {Idle : Type 0} (told : Result Status CommandFault) → RunsOver g Why back told Idle Did
+    → ((old new : Bank S g) → Did old new
+    → (ends : Result (Unit {0}) ReplayFault) × (told ≡ ended_by_writing ends))
+    → IfOk told (λ status. status ≡ Done)
+written_done Why Did told (inl none) ends = rw (err_from_is_err_and told none.0).1 tt
+written_done Why Did told (inr works) ends =
+    let it = ends works.first works.last works.did in
+    rw it.1 (by it.0)
+  where
+    by : (ends : Result (Unit {0}) ReplayFault) → IfOk (ended_by_writing ends) (λ status. status ≡ Done)
+    by (Ok done) = refl
+    by (Err written.Write) = tt
+    by (Err (written.Bank cause)) = tt
 
 -- ---- where the command wasn't begun
 
@@ -177,6 +240,10 @@ tells_idle (commands.Post file) f r w has = (tt, λ _. (refl, refl))
 tells_idle (commands.Drive file seed count) f r w has = inl (Keeps-refl w)
 tells_idle (commands.Audit file) f r w has = inl ((f, refl), Keeps-refl w)
 tells_idle (commands.Statement file account) f r w has = tt
+tells_idle (commands.Replay file) f r w has = inl ((f, refl), Keeps-refl w)
+tells_idle (commands.Digest file requests) f r w has = inl ((f, refl), Keeps-refl w)
+tells_idle (commands.Export file after) f r w has = tt
+tells_idle (commands.Plan file) f r w has = tt
 tells_idle (commands.Serve file address connections) f r w has = inl (inl (Keeps-refl w))
 tells_idle (commands.Migrate file) f r w has = inl ((f, refl), Keeps-refl w)
 tells_idle commands.Encode f r w has = absurd has
@@ -200,6 +267,7 @@ fault_ends fault.Foreign = inr refl
 fault_ends (fault.Version version) = inr refl
 fault_ends fault.NoBranches = inr refl
 fault_ends (fault.NoAccount account) = inr refl
+fault_ends (fault.NoRequest count) = inr refl
 fault_ends fault.Network = inl refl
 
 pub status_is_not_usage : (f : CommandFault) → status_of f ≢ Usage
@@ -242,6 +310,28 @@ decoded_is_not_usage : (end : Result ℕ RepliesFault) (status : Status)
 decoded_is_not_usage (Ok count) status is = done_is_not_usage status cc
 decoded_is_not_usage (Err f) status is = not_a_fault status _ is
 
+ended_is_not_usage : (by status : Status) (printed : Result (Unit {0}) CommandFault) → by ≢ Usage
+    → (let told : Result Status CommandFault = Ok status in told) ≡ ended_with by printed → status ≢ Usage
+ended_is_not_usage by status (Ok done) free is =
+    let same : by ≡ status = cc in
+    subst (λ (s : Status). s ≢ Usage) same free
+ended_is_not_usage by status (Err f) free is = not_a_fault status _ is
+
+replayed_is_not_usage : (found : Result Replay Fault) (w w' : Option (List ℕ)) (status : Status)
+    → PrintsReplay found w w' None None (Ok status) → status ≢ Usage
+replayed_is_not_usage (Ok (replays.Agrees d)) w w' status told =
+    ended_is_not_usage Done status told.0 (done_is_not_usage Done refl) told.2
+replayed_is_not_usage (Ok (replays.Differs d)) w w' status told =
+    ended_is_not_usage Differs status told.1.0 differs_is_not_usage told.1.2
+replayed_is_not_usage (Err cause) w w' status told = not_a_fault status _ told.0
+
+digested_is_not_usage : (requests : ℕ) (found : Result (Option Digest) Fault) (w w' : Option (List ℕ))
+    (status : Status) → PrintsDigest requests found w w' None None (Ok status) → status ≢ Usage
+digested_is_not_usage requests (Ok (Some d)) w w' status told =
+    ended_is_not_usage Done status told.0 (done_is_not_usage Done refl) told.2
+digested_is_not_usage requests (Ok None) w w' status told = not_a_fault status _ told.0
+digested_is_not_usage requests (Err cause) w w' status told = not_a_fault status _ told.0
+
 pub told_is_not_usage : (c : Command) (r r' w w' : Option (List ℕ)) (status : Status)
     → Tells c r r' w w' (Ok status) → status ≢ Usage
 told_is_not_usage (commands.Init file) r r' w w' status (inl none) = not_a_fault status _ none.0.1
@@ -254,6 +344,14 @@ told_is_not_usage (commands.Audit file) r r' w w' status (inl none) = not_a_faul
 told_is_not_usage (commands.Audit file) r r' w w' status (inr told) =
     audited_is_not_usage told.0 w w' status told.1
 told_is_not_usage (commands.Statement file account) r r' w w' status told = done_is_not_usage status told
+told_is_not_usage (commands.Replay file) r r' w w' status (inl none) = not_a_fault status _ none.0.1
+told_is_not_usage (commands.Replay file) r r' w w' status (inr told) =
+    replayed_is_not_usage told.0 w w' status told.1
+told_is_not_usage (commands.Digest file requests) r r' w w' status (inl none) = not_a_fault status _ none.0.1
+told_is_not_usage (commands.Digest file requests) r r' w w' status (inr told) =
+    digested_is_not_usage requests told.0 w w' status told.1
+told_is_not_usage (commands.Export file after) r r' w w' status told = done_is_not_usage status told
+told_is_not_usage (commands.Plan file) r r' w w' status told = done_is_not_usage status told
 told_is_not_usage (commands.Serve file address connections) r r' w w' status told = done_is_not_usage status told.0
 told_is_not_usage (commands.Migrate file) r r' w w' status (inl none) = not_a_fault status _ none.0.1
 told_is_not_usage (commands.Migrate file) r r' w w' status (inr told) = done_is_not_usage status told.1.0

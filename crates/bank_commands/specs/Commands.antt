@@ -22,7 +22,7 @@ use Rattle.bank_store.specs.declared.bank.Bank.{Bank}
 use Rattle.bank_store.specs.declared.migration.Migrated.{Migrated}
 use Rattle.bank_store.specs.declared.migration.Migrated.TheVariants.{Already, Moved}
 use Rattle.bank_reports.specs.Audits.{Audits, AuditsFile}
-use Rattle.bank_reports.specs.Leaving.{StandsWhileOpen}
+use Rattle.bank_store.specs.Leaving.{StandsWhileOpen}
 use Rattle.bank_reports.specs.Statements.{RefusesBalance, States, StatesFile}
 use Rattle.bank_reports.specs.declared.fault.ReportFault.{ReportFault}
 use Rattle.bank_reports.specs.declared.fault.ReportFault.TheVariants as report
@@ -69,7 +69,9 @@ Migrates g conn back w w' told = RunsOver g (IsUnmovedOver g conn) back told (w'
 abbrev pub Loads : {S : Type 0} (g : Ghosts S) → (conn back : Held S) → (w w' : Option (List ℕ))
     → Result Status CommandFault → Type 0
 Loads g conn back w w' told =
-    FindsOver g conn back told (w' ≡ w) (LoadsOver (bank_seen g) (bank_reason g) w w' (λ end. told ≡ end))
+    FindsOver g conn back told (w' ≡ w)
+    (λ old new. LoadsOver (bank_seen g) (bank_reason g) w w' (λ end. told ≡ end) old new
+    × ((bank_seen g new).honest → (bank_seen g old).honest))
 
 -- how a stream ends the command
 abbrev pub ended_by : Result ℕ StreamFault → Result Status CommandFault

@@ -1,3 +1,4 @@
 pub mod Over
 pub mod Commands
+pub mod Replaying
 pub mod Running

@@ -15,6 +15,7 @@ use Rattle.bank_store.specs.Migration.{HasCarriedOver, IsMigrated, KnowsAnswer, 
 use Rattle.bank_store.specs.NewBank.{IsNewBank, IsTaken}
 use Rattle.bank_store.specs.OpenFaults.{IsUnmade}
 use Rattle.bank_store.specs.Seen.{connection_of, file_of}
+use Rattle.bank_store.specs.Sparing.{SparesWhileOpen}
 use Rattle.bank_store.specs.StoreFaults.{KnowsCause, KnowsWhyUnmade}
 use Rattle.bank_store.specs.declared.bank.Bank.{Bank}
 use Rattle.bank_store.specs.declared.migration.Migrated.{Migrated}
@@ -94,8 +95,9 @@ abbrev pub RunsOver : {S X : Type 0} (g : Ghosts S) → (Refused S → Type 0) �
     → (Idle : Type 0) → (Did : Bank S g → Bank S g → Type 0) → Type 0
 RunsOver g Why back told Idle Did = (IsErrAnd told (IsRefusedOver Why back) × Idle) ⊎ WorksOver g Did back
 
--- the same of a command that takes up the bank that is there
+-- the same of a command that takes up the bank that is there; however it ends, it spares the tables of other products
 abbrev pub FindsOver : {S X : Type 0} (g : Ghosts S) → (conn back : Held S) → Result X CommandFault
     → (Idle : Type 0) → (Did : Bank S g → Bank S g → Type 0) → Type 0
 FindsOver g conn back told Idle Did =
     RunsOver g (IsMissedOver g conn) back told Idle (λ old new. IsFoundOver g conn old × Did old new)
+    × SparesWhileOpen g conn back

@@ -1,19 +1,23 @@
 -- What a command does over a connection, by its words; how a run of the program ends, and what it prints. r and r'
 -- are the known bytes of the input before and after, w and w' those of the output, k and k' the clock's known
 -- readings.
-use Rattle.std.specs.Prelude.{◌≡◌, ◌≢◌, ◌⊎◌, ℕ, List, [], Option, None, Result, Ok, Err, IfOk}
+use Rattle.std.specs.Prelude.{◌≡◌, ◌≢◌, ◌⊎◌, ℕ, Bool, List, [], Option, None, Result, Ok, Err, IfOk}
 use Rattle.std.specs.Io.KnownBytes.{Keeps}
 use Rattle.clap.specs.Words.{IsAmong, Text, fault_of}
 use Rattle.clap.specs.declared.error.kind.ErrorKind.{ErrorKind}
 use Rattle.sqlite.specs.Held.{Held}
 use Rattle.sqlite_trees.specs.declared.store.Store.{Ghosts}
 use Rattle.posting_rules.specs.declared.fault.Fault.{Fault}
+use Rattle.report_lines.specs.Written.{AppendsPart}
 use Rattle.report_lines.specs.declared.audit.Audit.{Audit}
 use Rattle.bank_store.specs.declared.migration.Migrated.{Migrated}
+use Rattle.bank_replays.specs.declared.chain.Digest.{Digest}
+use Rattle.bank_replays.specs.declared.difference.Replay.{Replay}
 use Rattle.command_line.specs.Auditing.{Prints}
 use Rattle.command_line.specs.CommandLine.{bank_app}
 use Rattle.command_line.specs.Faults.{status_of}
 use Rattle.command_line.specs.Lines.{IsHelpOrVersion, created_line}
+use Rattle.command_line.specs.Prompting.{prompt_line}
 use Rattle.command_line.specs.Translating.{DecodesReplies, EncodesSheet}
 use Rattle.command_line.specs.Words.{IsSpelledBy}
 use Rattle.command_line.specs.declared.fault.CommandFault.{CommandFault}
@@ -23,6 +27,7 @@ use Rattle.command_line.specs.declared.status.Status.{Status}
 use Rattle.command_line.specs.declared.status.Status.TheVariants.{Done, System}
 use Rattle.bank_commands.specs.Commands.{AuditsOver, DrivesBank, EndsPost, Inits, Loads, Migrates, Posts, Serves}
 use Rattle.bank_commands.specs.Commands.{PrintsDrive, PrintsLoad, PrintsServe, StatesOver, TellsLine, migration_line}
+use Rattle.bank_commands.specs.Replaying.{DigestsOver, ExportsOver, PlansOver, PrintsDigest, PrintsReplay, ReplaysOver}
 
 -- clap takes the words for no command, and not for a call for help either
 pub record AreRefused (words : List Text) : Type 0 where
@@ -44,11 +49,18 @@ DoesOver g conn back r r' w w' k k' (commands.Statement file account) told =
     StatesOver g conn back account w w' None None told
 DoesOver g conn back r r' w w' k k' (commands.Serve file address connections) told =
     Serves g conn back w w' k k' connections told
+DoesOver g conn back r r' w w' k k' (commands.Replay file) told = ReplaysOver g conn back w w' None None told
+DoesOver g conn back r r' w w' k k' (commands.Digest file requests) told =
+    DigestsOver g conn back requests w w' None None told
+DoesOver g conn back r r' w w' k k' (commands.Export file after) told =
+    ExportsOver g conn back after w w' None None told
+DoesOver g conn back r r' w w' k k' (commands.Plan file) told = PlansOver g conn back w w' None None told
 DoesOver g conn back r r' w w' k k' (commands.Migrate file) told = Migrates g conn back w w' told
 DoesOver g conn back r r' w w' k k' commands.Encode told = (back ≡ conn) × EncodesSheet r r' w w' told
 DoesOver g conn back r r' w w' k k' commands.Decode told = (back ≡ conn) × DecodesReplies r r' w w' told
 
--- ---- how it ends and what it prints, whatever bank is there; the text of `post` and `statement` is the bank's
+-- ---- how it ends and what it prints, whatever bank is there; the text of `post`, `statement`, `export` and `plan` is
+-- the bank's
 
 -- it told a fault and printed nothing; or else Said holds
 abbrev pub PrintsNone : (w w' : Option (List ℕ)) → Result Status CommandFault → (Said : Type 0) → Type 0
@@ -62,6 +74,12 @@ Tells (commands.Drive file seed count) r r' w w' told = PrintsDrive w w' count t
 Tells (commands.Audit file) r r' w w' told =
     PrintsNone w w' told ((found : Result Audit Fault) × Prints found w w' told)
 Tells (commands.Statement file account) r r' w w' told = IfOk told (λ status. status ≡ Done)
+Tells (commands.Replay file) r r' w w' told =
+    PrintsNone w w' told ((found : Result Replay Fault) × PrintsReplay found w w' None None told)
+Tells (commands.Digest file requests) r r' w w' told =
+    PrintsNone w w' told ((found : Result (Option Digest) Fault) × PrintsDigest requests found w w' None None told)
+Tells (commands.Export file after) r r' w w' told = IfOk told (λ status. status ≡ Done)
+Tells (commands.Plan file) r r' w w' told = IfOk told (λ status. status ≡ Done)
 Tells (commands.Serve file address connections) r r' w w' told = PrintsServe w w' told
 Tells (commands.Migrate file) r r' w w' told =
     PrintsNone w w' told ((migrated : Migrated) × TellsLine w w' (migration_line migrated) told)
@@ -75,15 +93,19 @@ abbrev pub status_after : Result Status CommandFault → Status
 status_after (Ok status) = status
 status_after (Err fault) = status_of fault
 
--- the words spell a command, which ended so and printed this, and so does the program
-pub record RunsSpelled (words : List Text) (r r' w w' : Option (List ℕ)) (status : Status) : Type 0 where
+-- The words spell a command, which ended so and printed this, and so does the program. e and e' are the known bytes of
+-- standard error before and after, and typed says whether the input is a terminal.
+pub record RunsSpelled (words : List Text) (typed : Bool) (r r' w w' e e' : Option (List ℕ)) (status : Status)
+    : Type 0 where
   pub command : Command
   pub spelled : IsSpelledBy words command
   pub told : Result Status CommandFault
   pub tells : Tells command r r' w w' told
   pub ends : status ≡ status_after told
+  -- where there was no fault, nothing stands on standard error but what it waits for, if the input is typed
+  pub said : IfOk told (λ done. AppendsPart e e' (prompt_line typed command))
 
 -- or there was no memory to read them, and nothing was read, printed or asked
-abbrev pub Runs : List Text → (r r' w w' k k' : Option (List ℕ)) → Status → Type 0
-Runs words r r' w w' k k' status =
-    RunsSpelled words r r' w w' status ⊎ ((status ≡ System) × (r' ≡ r) × Keeps w w' × (k' ≡ k))
+abbrev pub Runs : List Text → (typed : Bool) → (r r' w w' e e' k k' : Option (List ℕ)) → Status → Type 0
+Runs words typed r r' w w' e e' k k' status =
+    RunsSpelled words typed r r' w w' e e' status ⊎ ((status ≡ System) × (r' ≡ r) × Keeps w w' × (k' ≡ k))

@@ -4,9 +4,10 @@ ghost use Rattle.command_line.specs.Words.{AreInRange};
 ghost use Rattle.bank_commands.specs.Running.{DoesOver, Tells};
 
 use crate::ended::Ended;
+use crate::progress::Progress;
 use crate::{
-    audit_over, drive_over, init_over, load_over, migrate_over, post_over, serve_over,
-    statement_over,
+    audit_over, digest_over, drive_over, export_over, init_over, load_over, migrate_over,
+    plan_over, post_over, replay_over, serve_over, statement_over,
 };
 use command_line::{Command, translate_replies, translate_sheet};
 use posting_core::Clock;
@@ -42,6 +43,10 @@ pub fn command_over<S: Alter + Drop, R: Read, W: Write, K: Clock>(
         }
         Command::Audit { .. } => audit_over(rt.alloc(), conn, output),
         Command::Statement { account, .. } => statement_over(rt.alloc(), conn, account, output),
+        Command::Replay { .. } => replay_over(rt.alloc(), conn, output, Progress::of(rt)),
+        Command::Digest { requests, .. } => digest_over(rt.alloc(), conn, requests, output),
+        Command::Export { after, .. } => export_over(rt.alloc(), conn, after, output),
+        Command::Plan { .. } => plan_over(rt.alloc(), conn, output),
         Command::Serve {
             address,
             connections,

@@ -1,5 +1,6 @@
 //! The commands that make a bank over a connection, and that open branches of it and post to it.
-ghost use Rattle.std.specs.Prelude.{◌≡◌, ◌≤◌, Result, false};
+ghost use Rattle.std.specs.Prelude.{◌≡◌, ◌≤◌, Result, IsErrOf, false};
+ghost use Rattle.posting_core.specs.Told.{HasWriteFailed};
 ghost use Rattle.load_driver.specs.declared.drive.TheConstants.{MAX_DRIVEN};
 ghost use Rattle.command_line.specs.Working.{done_after, ended_by_load};
 ghost use Rattle.bank_commands.specs.Commands.{DrivesBank, EndsPost, Inits, Loads, Posts, PrintsDrive};
@@ -14,7 +15,6 @@ use posting_core::{Clock, Count, Sink, Source, StreamFault, post_stream};
 use sqlite::{Alter, Connection};
 use sqlite_trees::store::Store;
 use std::alloc::Global;
-use std::io::Write;
 use std::rt::Files;
 
 /// Makes a bank, and prints `created`.
@@ -25,6 +25,8 @@ pub fn init_over<S: Alter + Drop, W: Sink>(
 ) -> Ended<S>
     requires { conn.in_transaction ≡ false }
     ensures inits { Inits S.Store conn result.conn (W.contents output.old) (W.contents output.new) result.told }
+    ensures unprinted { IsErrOf result.told CommandFault.Write
+        → HasWriteFailed (W.told output.old) (W.told output.new) }
     ensures idle { result.conn.in_transaction ≡ false }
 {
     let bank = match create(alloc, conn) {
@@ -39,7 +41,7 @@ pub fn init_over<S: Alter + Drop, W: Sink>(
 }
 
 /// Opens the branches of the plan in a file in the bank that is found, and prints how many got each answer.
-pub fn load_over<R: Files + AllocGlobal, S: Alter + Drop, W: Write>(
+pub fn load_over<R: Files + AllocGlobal, S: Alter + Drop, W: Sink>(
     rt: &R,
     conn: Connection<S>,
     plan: &str,
@@ -48,6 +50,8 @@ pub fn load_over<R: Files + AllocGlobal, S: Alter + Drop, W: Write>(
     requires { conn.in_transaction ≡ false }
     ensures loads { Loads S.Store conn result.conn (W.contents output.old) (W.contents output.new) result.told }
     ensures prints { PrintsLoad (W.contents output.old) (W.contents output.new) result.told }
+    ensures unprinted { IsErrOf result.told CommandFault.Write
+        → HasWriteFailed (W.told output.old) (W.told output.new) }
     ensures idle { result.conn.in_transaction ≡ false }
 {
     let mut bank = match find(rt.alloc(), conn) {
@@ -91,7 +95,7 @@ pub fn post_over<S: Alter + Drop, R: Source, W: Sink, K: Clock>(
 
 /// Posts the first `count` records of a seed over the open branches of the bank that is found, and prints how many
 /// were posted.
-pub fn drive_over<S: Alter + Drop, W: Write, K: Clock>(
+pub fn drive_over<S: Alter + Drop, W: Sink, K: Clock>(
     alloc: Global,
     conn: Connection<S>,
     seed: u64,
@@ -105,6 +109,8 @@ pub fn drive_over<S: Alter + Drop, W: Write, K: Clock>(
     ensures drives { DrivesBank S.Store conn result.conn (W.contents output.old) (W.contents output.new)
         (K.readings clock.old) (K.readings clock.new) seed count result.told }
     ensures prints { PrintsDrive (W.contents output.old) (W.contents output.new) count result.told }
+    ensures unprinted { IsErrOf result.told CommandFault.Write
+        → HasWriteFailed (W.told output.old) (W.told output.new) }
     ensures idle { result.conn.in_transaction ≡ false }
 {
     let mut bank = match find(alloc, conn) {

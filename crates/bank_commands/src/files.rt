@@ -1,7 +1,6 @@
-//! A command over the files of a bank: they are looked for and opened, and closed after it. **This file is to be
-//! read**: no clause ties a connection to the path that it was opened at, and a closed file is nothing that a clause
-//! can name, so that the contract says only how a command ends and what it prints. All that is done with the bank is
-//! done by [`command_over`], which is given the connection and hands it back.
+//! A command over the files of a bank. **This file is to be read**: no clause ties a connection to the path that it was
+//! opened at, and a closed file is nothing that a clause can name, so that the contract says only how a command ends
+//! and what it prints. All that is done with the bank is done by [`command_over`].
 ghost use Rattle.command_line.specs.Words.{AreInRange};
 ghost use Rattle.bank_commands.specs.Running.{Tells};
 
@@ -14,8 +13,7 @@ use sqlite::Start;
 use std::fs;
 use std::io::{Read, Write};
 
-/// Does the command with the bank of its file, which is looked for where the command is to find one there. A command
-/// without a file is done before any is looked for.
+/// Does the command with the bank of its file, if it has one: all commands but `init` are to find a bank there.
 pub(crate) fn command_in<S: Start, R: Read, W: Write, K: Clock>(
     rt: &HostRuntime,
     start: S,
@@ -37,6 +35,10 @@ pub(crate) fn command_in<S: Start, R: Read, W: Write, K: Clock>(
         | Command::Drive { file, .. }
         | Command::Audit { file }
         | Command::Statement { file, .. }
+        | Command::Replay { file }
+        | Command::Digest { file, .. }
+        | Command::Export { file, .. }
+        | Command::Plan { file }
         | Command::Serve { file, .. }
         | Command::Migrate { file } => (file, true),
     };

@@ -1,5 +1,6 @@
 //! The commands that audit a bank, and that write the statement of an account.
-ghost use Rattle.std.specs.Prelude.{◌≡◌, false};
+ghost use Rattle.std.specs.Prelude.{◌≡◌, IsErrOf, false};
+ghost use Rattle.posting_core.specs.Told.{HasWriteFailed};
 ghost use Rattle.bank_commands.specs.Commands.{AuditsOver, StatesOver, stated_by};
 
 use crate::ended::{Ended, find};
@@ -10,10 +11,9 @@ use posting_core::Sink;
 use sqlite::{Alter, Connection};
 use sqlite_trees::store::Store;
 use std::alloc::Global;
-use std::io::Write;
 
 /// Audits the bank that is found, and prints what was found in it.
-pub fn audit_over<S: Alter + Drop, W: Write>(
+pub fn audit_over<S: Alter + Drop, W: Sink>(
     alloc: Global,
     conn: Connection<S>,
     output: &mut W,
@@ -21,6 +21,8 @@ pub fn audit_over<S: Alter + Drop, W: Write>(
     requires { conn.in_transaction ≡ false }
     ensures audits { AuditsOver S.Store conn result.conn (W.contents output.old) (W.contents output.new)
         result.told }
+    ensures unprinted { IsErrOf result.told CommandFault.Write
+        → HasWriteFailed (W.told output.old) (W.told output.new) }
     ensures idle { result.conn.in_transaction ≡ false }
 {
     let mut bank = match find(alloc, conn) {

@@ -9,6 +9,7 @@
 //! use command_line::{Status, tell_no_words};
 //! use posting_core::SystemClock;
 //! use sqlite::{Start, Unknown};
+//! use std::io::IsTerminal;
 //! use std::process::ExitCode;
 //!
 //! // A run on these words between the standard streams, whatever the files hold.
@@ -18,6 +19,7 @@
 //!         start,
 //!         words,
 //!         &mut rt.stdin(),
+//!         rt.stdin().is_terminal(),
 //!         &mut rt.stdout(),
 //!         &mut rt.stderr(),
 //!         &mut SystemClock::new(rt),
@@ -43,7 +45,7 @@ ghost use Rattle.command_line.specs.Words.{AsksForHelp, IsSpelled};
 ghost use Rattle.bank_commands.specs.Running.{AreRefused, Runs};
 
 use crate::files::command_in;
-use command_line::{Status, explain, read_words, tell};
+use command_line::{Status, explain, prompt, read_words, tell};
 use posting_core::Clock;
 use sqlite::Start;
 use std::convert::AsStr;
@@ -56,12 +58,14 @@ pub fn words_of<R: Env + AllocGlobal>(rt: &R) -> io::Result<Vec<String>> {
     Ok(env::args(rt)?.collect(rt.alloc())?)
 }
 
-/// Does what the words say, and gives the status that the program ends with. A fault is reported on `faults`.
+/// Does what the words say, and gives the status that the program ends with. A fault is reported on `faults`, and so
+/// is what a command waits for that reads the input, where that is typed at a terminal.
 pub fn run<S: Start, T: AsStr, R: Read, W: Write, E: Write, K: Clock>(
     rt: &HostRuntime,
     start: S,
     words: &[T],
     input: &mut R,
+    typed: bool,
     output: &mut W,
     faults: &mut E,
     clock: &mut K,
@@ -78,14 +82,15 @@ pub fn run<S: Start, T: AsStr, R: Read, W: Write, E: Write, K: Clock>(
     // Words that spell a command, of those that the program has, have it done; what it does is said of its connection,
     // by `command_over`.
     ensures runs { IsSpelled (map T.text words.entry.now)
-        → Runs (map T.text words.entry.now) (R.remaining input.old) (R.remaining input.new)
-        (W.contents output.old) (W.contents output.new) (K.readings clock.old) (K.readings clock.new)
-        result }
+        → Runs (map T.text words.entry.now) typed (R.remaining input.old) (R.remaining input.new)
+        (W.contents output.old) (W.contents output.new) (E.contents faults.old) (E.contents faults.new)
+        (K.readings clock.old) (K.readings clock.new) result }
 {
     let command = match read_words(rt.alloc(), words) {
         Ok(command) => command,
         Err(error) => return explain(&error, output, faults),
     };
+    prompt(&command, typed, faults);
     match command_in(rt, start, &command, input, output, clock) {
         Ok(status) => status,
         Err(fault) => tell(fault, faults),

@@ -1,18 +1,18 @@
 //! The command that serves the counter over HTTP.
-ghost use Rattle.std.specs.Prelude.{◌≡◌, false};
+ghost use Rattle.std.specs.Prelude.{◌≡◌, IsErrOf, false};
+ghost use Rattle.posting_core.specs.Told.{HasWriteFailed};
 ghost use Rattle.bank_commands.specs.Commands.{PrintsServe, Serves};
 
 use crate::commands::done;
 use crate::ended::{Ended, find};
-use command_line::listen;
-use posting_core::Clock;
+use command_line::{CommandFault, listen};
+use posting_core::{Clock, Sink};
 use sqlite::{Alter, Connection};
 use sqlite_trees::store::Store;
-use std::io::Write;
 
 /// Binds the address, prints where it listens, and serves so many connections by the bank that is found, one after
 /// another.
-pub fn serve_over<S: Alter + Drop, W: Write, K: Clock>(
+pub fn serve_over<S: Alter + Drop, W: Sink, K: Clock>(
     rt: &HostRuntime,
     conn: Connection<S>,
     address: &str,
@@ -24,6 +24,8 @@ pub fn serve_over<S: Alter + Drop, W: Write, K: Clock>(
     ensures serves { Serves S.Store conn result.conn (W.contents output.old) (W.contents output.new)
         (K.readings clock.old) (K.readings clock.new) connections result.told }
     ensures prints { PrintsServe (W.contents output.old) (W.contents output.new) result.told }
+    ensures unprinted { IsErrOf result.told CommandFault.Write
+        → HasWriteFailed (W.told output.old) (W.told output.new) }
     ensures idle { result.conn.in_transaction ≡ false }
 {
     let mut bank = match find(rt.alloc(), conn) {

@@ -1,6 +1,6 @@
 -- What each command did is what was asked for.
 use Rattle.std.proofs.Common.{refl}
-use Rattle.bank_commands.proofs.Told.{prints_none, states_done}
+use Rattle.bank_commands.proofs.Told.{prints_none, states_done, written_done}
 use Rattle.bank_commands.proofs.command.command_over.Goals as goal
 
 pub returns-in-Init : goal.returns-in-Init
@@ -32,7 +32,7 @@ returns-in-Audit g c =
     let it = c.audit_over.ensures in
     rw c.in-Audit.is record {
       does = it.audits;
-      tells = prints_none _ _ _ _ c.audit_over.result.told it.audits (λ _ _ did. (did.1.0, did.1.1));
+      tells = prints_none _ _ _ _ c.audit_over.result.told it.audits.0 (λ _ _ did. (did.1.0, did.1.1));
       idle = it.idle;
     }
 
@@ -42,6 +42,42 @@ returns-in-Statement g c =
     rw c.in-Statement.is record {
       does = it.states;
       tells = states_done _ _ _ _ _ _ c.statement_over.result.told it.states;
+      idle = it.idle;
+    }
+
+pub returns-in-Replay : goal.returns-in-Replay
+returns-in-Replay g c =
+    let it = c.replay_over.ensures in
+    rw c.in-Replay.is record {
+      does = it.replays;
+      tells = prints_none _ _ _ _ c.replay_over.result.told it.replays.0 (λ _ _ did. (did.1.0, did.1.1));
+      idle = it.idle;
+    }
+
+pub returns-in-Digest : goal.returns-in-Digest
+returns-in-Digest g c =
+    let it = c.digest_over.ensures in
+    rw c.in-Digest.is record {
+      does = it.digests;
+      tells = prints_none _ _ _ _ c.digest_over.result.told it.digests.0 (λ _ _ did. (did.1.0, did.1.1));
+      idle = it.idle;
+    }
+
+pub returns-in-Export : goal.returns-in-Export
+returns-in-Export g c =
+    let it = c.export_over.ensures in
+    rw c.in-Export.is record {
+      does = it.exports;
+      tells = written_done _ _ c.export_over.result.told it.exports.0 (λ _ _ did. (did.1.0, did.1.1));
+      idle = it.idle;
+    }
+
+pub returns-in-Plan : goal.returns-in-Plan
+returns-in-Plan g c =
+    let it = c.plan_over.ensures in
+    rw c.in-Plan.is record {
+      does = it.plans;
+      tells = written_done _ _ c.plan_over.result.told it.plans.0 (λ _ _ did. (did.1.0, did.1.1));
       idle = it.idle;
     }
 

@@ -4,15 +4,21 @@ use Rattle.std.proofs.KnownBytes.{Keeps-refl}
 use Rattle.std.proofs.lemmas.Result.{err_from_is_err_and}
 use Rattle.bank_store.specs.Down.{bank_reason}
 use Rattle.bank_store.specs.Seen.{bank_seen}
-use Rattle.bank_commands.proofs.Told.{prints_load}
+use Rattle.bank_reports.proofs.Spared.{call_spares}
+use Rattle.bank_commands.proofs.Spared.{found_spares, refused_spares}
+use Rattle.bank_commands.proofs.Told.{load_not_written, prints_load, refused_not_write}
 use Rattle.bank_commands.proofs.commands.load_over.Goals as goal
 
 pub returns-in-Err : goal.returns-in-Err
 returns-in-Err g c =
     let it = c.in-Err.ensures in
     record {
-      loads = inl (it.missed, refl);
+      loads = (
+        inl (it.missed, refl),
+        refused_spares g.S.Store c.args.conn c.in-Err.ended.conn c.in-Err.ended.told it.missed,
+      );
       prints = rw (err_from_is_err_and c.in-Err.ended.told it.missed).1 (inl (Keeps-refl _));
+      unprinted = refused_not_write _ _ c.in-Err.ended.told it.missed;
       idle = it.idle;
     }
 
@@ -20,13 +26,18 @@ pub returns : goal.returns
 returns g c =
     let it = c.load_into.ensures in
     record {
-      loads = inr record {
-        first = c.in-Ok.bank;
-        last = c.load_into.new.bank;
-        did = (c.in-Ok.ensures.found, rw c.loaded-told.ensures it.loads);
-        conn = c.release.ensures.same;
-      };
+      loads = (
+        inr record {
+          first = c.in-Ok.bank;
+          last = c.load_into.new.bank;
+          did = (c.in-Ok.ensures.found, (rw c.loaded-told.ensures it.loads, it.honest));
+          conn = c.release.ensures.same;
+        },
+        found_spares g.S.Store c.args.conn c.release.result c.in-Ok.bank c.load_into.new.bank c.in-Ok.ensures.found
+            (call_spares g.S.Store c.in-Ok.bank c.load_into.new.bank it.spares) c.release.ensures.same,
+      );
       prints = prints_load _ _ c.loaded-told.result (bank_seen g.S.Store) (bank_reason g.S.Store) c.in-Ok.bank
           c.load_into.new.bank (rw c.loaded-told.ensures it.loads);
+      unprinted = rw c.loaded-told.ensures (load_not_written c.load_into.result it.unprinted);
       idle = c.release.ensures.idle;
     }

@@ -1,6 +1,8 @@
 -- The bank that was found is the one that the records were posted to.
 use Rattle.std.proofs.Common.{inl, inr, refl}
 use Rattle.std.proofs.lemmas.Result.{err_from_is_err_and}
+use Rattle.bank_reports.proofs.Spared.{call_spares}
+use Rattle.bank_commands.proofs.Spared.{found_spares, refused_spares}
 use Rattle.bank_commands.proofs.Told.{ends_post}
 use Rattle.bank_commands.proofs.commands.post_over.Goals as goal
 
@@ -8,7 +10,10 @@ pub returns-in-Err : goal.returns-in-Err
 returns-in-Err g c =
     let it = c.in-Err.ensures in
     record {
-      posts = inl (it.missed, (refl, refl, refl));
+      posts = (
+        inl (it.missed, (refl, refl, refl)),
+        refused_spares g.S.Store c.args.conn c.in-Err.ended.conn c.in-Err.ended.told it.missed,
+      );
       ends = rw (err_from_is_err_and c.in-Err.ended.told it.missed).1 (tt, λ _. (refl, refl));
       idle = it.idle;
     }
@@ -17,26 +22,30 @@ pub returns : goal.returns
 returns g c =
     let it = c.post_stream.ensures in
     record {
-      posts = inr record {
-        first = c.in-Ok.bank;
-        last = c.post_stream.new.bank;
-        did = (
-          c.in-Ok.ensures.found,
-          (
-            c.post_stream.result,
-            c.posted-told.ensures,
-            record {
-              batches = it.batches;
-              output = it.output;
-              survives = it.survives;
-              resend = it.resend;
-              refused = it.refused;
-              ends = it.ends;
-            },
-          ),
-        );
-        conn = c.release.ensures.same;
-      };
-      ends = rw c.posted-told.ensures (ends_post _ _ _ _ _ _ c.post_stream.result it.stream);
+      posts = (
+        inr record {
+          first = c.in-Ok.bank;
+          last = c.post_stream.new.bank;
+          did = (
+            c.in-Ok.ensures.found,
+            (
+              c.post_stream.result,
+              c.posted-told.ensures,
+              record {
+                batches = it.batches;
+                output = it.output;
+                survives = it.survives;
+                resend = it.resend;
+                refused = it.refused;
+                ends = it.ends;
+              },
+            ),
+          );
+          conn = c.release.ensures.same;
+        },
+        found_spares g.S.Store c.args.conn c.release.result c.in-Ok.bank c.post_stream.new.bank c.in-Ok.ensures.found
+            (call_spares g.S.Store c.in-Ok.bank c.post_stream.new.bank it.spares) c.release.ensures.same,
+      );
+      ends = rw c.posted-told.ensures (ends_post _ _ _ _ _ _ c.post_stream.result it.batches.did);
       idle = c.release.ensures.idle;
     }

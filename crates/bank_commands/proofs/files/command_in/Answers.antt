@@ -1,4 +1,5 @@
 use Rattle.std.proofs.Common.{◌≡◌, rules, Err}
+use Rattle.command_line.specs.declared.fault.CommandFault.TheVariants.{Store}
 use Rattle.bank_commands.proofs.Told.{HasFile, tells_idle}
 use Rattle.bank_commands.proofs.files.command_in.Goals as goal
 
@@ -14,6 +15,11 @@ returns-in_err-look_for g c =
     let same : c.from_residual.result ≡ Err f = search rules in
     let has : HasFile c.args.command.now = search rules in
     rw same (tells_idle _ f _ _ has)
+
+pub returns-in_default : goal.returns-in_default
+returns-in_default g c =
+    let has : HasFile c.args.command.now = search rules in
+    tells_idle _ Store _ _ has
 
 pub returns-in-Err : goal.returns-in-Err
 returns-in-Err g c = c.command_over-told.ensures.tells

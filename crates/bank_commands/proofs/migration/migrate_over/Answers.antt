@@ -1,6 +1,6 @@
 -- What `migrate` says, and what was printed after it.
 use Rattle.std.proofs.Common.{inl, inr, refl}
-use Rattle.bank_commands.proofs.Told.{line_told, refused_over}
+use Rattle.bank_commands.proofs.Told.{line_not_written, line_told, opening_is_no_write, refused_over}
 use Rattle.bank_commands.proofs.migration.migrate_over.Goals as goal
 
 pub returns-in-Err : goal.returns-in-Err
@@ -19,6 +19,7 @@ returns-in-Err g c =
             },
         refl,
       );
+      unprinted = λ is. opening_is_no_write c.in-Err.refused.fault c.refuse.result.told c.refuse.ensures.told is;
       idle = rw c.refuse.ensures.conn it.back.idle;
     }
 
@@ -38,5 +39,6 @@ returns g c =
         );
         conn = c.release.ensures.same;
       };
+      unprinted = rw c.done-told.ensures (line_not_written c.print_answer.result line.failed);
       idle = c.release.ensures.idle;
     }

@@ -51,6 +51,7 @@ returns-in-Ok-command_in g c =
         told = Ok c.in-Ok-command_in.status;
         tells = did;
         ends = refl;
+        said = c.prompt.ensures;
       };
     }
 
@@ -69,5 +70,6 @@ returns-in-Err-command_in g c =
         told = Err c.in-Err-command_in.fault;
         tells = c.in-Err-command_in.ensures;
         ends = c.tell.ensures;
+        said = tt;
       };
     }

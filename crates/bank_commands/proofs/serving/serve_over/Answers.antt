@@ -2,15 +2,21 @@
 use Rattle.std.proofs.Common.{inl, inr, refl}
 use Rattle.std.proofs.KnownBytes.{Keeps-refl}
 use Rattle.std.proofs.lemmas.Result.{err_from_is_err_and}
-use Rattle.bank_commands.proofs.Told.{prints_serve}
+use Rattle.bank_reports.proofs.Spared.{call_spares}
+use Rattle.bank_commands.proofs.Spared.{found_spares, refused_spares}
+use Rattle.bank_commands.proofs.Told.{done_not_written, prints_serve, refused_not_write}
 use Rattle.bank_commands.proofs.serving.serve_over.Goals as goal
 
 pub returns-in-Err : goal.returns-in-Err
 returns-in-Err g c =
     let it = c.in-Err.ensures in
     record {
-      serves = inl (it.missed, (refl, refl));
+      serves = (
+        inl (it.missed, (refl, refl)),
+        refused_spares g.S.Store c.args.conn c.in-Err.ended.conn c.in-Err.ended.told it.missed,
+      );
       prints = rw (err_from_is_err_and c.in-Err.ended.told it.missed).1 (inl (inl (Keeps-refl _)));
+      unprinted = refused_not_write _ _ c.in-Err.ended.told it.missed;
       idle = it.idle;
     }
 
@@ -18,12 +24,17 @@ pub returns : goal.returns
 returns g c =
     let it = c.listen.ensures in
     record {
-      serves = inr record {
-        first = c.in-Ok.bank;
-        last = c.listen.new.bank;
-        did = (c.in-Ok.ensures.found, rw c.done-told.ensures it.serves);
-        conn = c.release.ensures.same;
-      };
+      serves = (
+        inr record {
+          first = c.in-Ok.bank;
+          last = c.listen.new.bank;
+          did = (c.in-Ok.ensures.found, rw c.done-told.ensures it.serves);
+          conn = c.release.ensures.same;
+        },
+        found_spares g.S.Store c.args.conn c.release.result c.in-Ok.bank c.listen.new.bank c.in-Ok.ensures.found
+            (call_spares g.S.Store c.in-Ok.bank c.listen.new.bank it.spares) c.release.ensures.same,
+      );
       prints = rw c.done-told.ensures (prints_serve _ _ c.listen.result it.line it.silent it.part);
+      unprinted = rw c.done-told.ensures (done_not_written c.listen.result it.unprinted);
       idle = c.release.ensures.idle;
     }

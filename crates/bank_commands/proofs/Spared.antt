@@ -1,0 +1,49 @@
+-- What a command leaves of the tables of other products.
+use Rattle.std.proofs.Common.{◌≡◌, Result, arith, subst, sym}
+use Rattle.std.specs.Prelude.{IsErrAnd}
+use Rattle.std.proofs.lemmas.Result.{err_from_is_err_and}
+use Rattle.sqlite.specs.Effect.{Database}
+use Rattle.sqlite.specs.Held.{Held, state}
+use Rattle.sqlite.specs.State.{HasCleanDisk}
+use Rattle.sqlite.proofs.StateLemmas.{survives_then}
+use Rattle.sqlite_trees.specs.declared.store.Store.{Ghosts}
+use Rattle.store_rows.specs.Sparing.{SparesOthers}
+use Rattle.bank_store.specs.Seen.{connection_of, database_of, file_of}
+use Rattle.bank_store.specs.Sparing.{SparesWhileOpen}
+use Rattle.bank_store.specs.declared.bank.Bank.{Bank}
+use Rattle.bank_store.specs.declared.refused.Refused.{Refused}
+use Rattle.command_line.specs.declared.fault.CommandFault.{CommandFault}
+use Rattle.bank_reports.proofs.Spared.{idle_spares, read_spares}
+use Rattle.bank_commands.specs.Over.{IsFoundOver, IsMissedOver, IsRefusedOver}
+
+module _ {S : Type 0} (g : Ghosts S) (conn : Held S) where
+  -- no bank was found
+  missed_spares : (refused : Refused S) → IsMissedOver g conn refused → SparesWhileOpen g conn refused.conn
+  missed_spares refused missed =
+      read_spares g conn conn refused.conn (idle_spares g conn) missed.back.undone missed.survives
+
+  pub refused_spares : {X : Type 0} (back : Held S) (told : Result X CommandFault)
+      → IsErrAnd told (IsRefusedOver (IsMissedOver g conn) back) → SparesWhileOpen g conn back
+  refused_spares back told none =
+      let it = (err_from_is_err_and told none).2 in
+      subst (SparesWhileOpen g conn) (sym it.conn) (missed_spares it.refused it.why)
+
+  -- one was found, and what was done with it spared them
+  pub found_spares : (back : Held S) (first last : Bank S g) → IsFoundOver g conn first
+      → SparesWhileOpen g (connection_of first) (connection_of last) → back ≡ connection_of last
+      → SparesWhileOpen g conn back
+  found_spares back first last found spared same = subst (SparesWhileOpen g conn) (sym same) record {
+    now = λ clean is_open. subst (λ (db : Database). SparesOthers db (database_of g last)) (shown clean)
+        (spared.now clean is_open);
+    left = survives_then (state g conn) (file_of first) (file_of last) (λ _. ⊥) _ _
+        (λ clean db none. absurd none)
+        (λ clean db left. (
+          left.0,
+          left.1,
+          subst (λ (shows : Database). SparesOthers shows left.0) (shown clean) left.2,
+        ))
+        found.survives spared.left;
+  }
+    where
+      shown : HasCleanDisk (file_of last) → database_of g first ≡ (state g conn).now
+      shown clean = (found.found.found (omega (arith, spared.left.clean, clean))).there.same.now_is

@@ -1,0 +1,16 @@
+-- The lines of what was found, or its fault.
+use Rattle.std.proofs.Common.{Err, ap}
+use Rattle.std.proofs.KnownBytes.{Keeps-refl}
+use Rattle.bank_commands.proofs.replaying.print_replay.Goals as goal
+
+pub returns-in-Agrees : goal.returns-in-Agrees
+returns-in-Agrees g c =
+    rw (c.in-Ok.is, c.in-Agrees.is) (c.print_agreeing-printed.result, c.print_agreeing-printed.ensures, c.ended.ensures)
+
+pub returns-in-Differs : goal.returns-in-Differs
+returns-in-Differs g c =
+    let it = c.print_differing.ensures in
+    rw (c.in-Ok.is, c.in-Differs.is) (it.0, (c.print_differing.result, it.2, c.ended-in-Differs.ensures))
+
+pub returns-in-Err : goal.returns-in-Err
+returns-in-Err g c = rw c.in-Err.is (ap Err c.from.ensures, Keeps-refl (g.W.Sink.contents c.args.output.now))

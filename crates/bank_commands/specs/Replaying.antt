@@ -1,0 +1,152 @@
+-- What the commands that replay a bank, and that write its requests and its branches, do over the connection conn,
+-- which they hand back as back, and how they end: told is the status or the fault. w and w' are the known bytes of the
+-- output before and after, and t and t' what its calls are known to have returned.
+use Rattle.std.specs.Prelude.{◌≡◌, ℕ, List, Option, Some, None, Result, Ok, Err}
+use Rattle.std.specs.Io.KnownBytes.{Keeps}
+use Rattle.sqlite.specs.Held.{Held}
+use Rattle.sqlite_trees.specs.declared.store.Store.{Ghosts}
+use Rattle.posting_rules.specs.Commands.{Command}
+use Rattle.posting_rules.specs.Counter.{ShowsLog}
+use Rattle.posting_rules.specs.declared.fault.Fault.{Fault}
+use Rattle.posting_core.specs.Told.{WriteTold}
+use Rattle.sql_meanings.specs.Entries.{Entry}
+use Rattle.store_rows.specs.BankTables.{branch as branch_table, floor as floor_table}
+use Rattle.walked_rows.specs.KeptRows.{HasKept, KeptItem}
+use Rattle.walked_rows.specs.Rows.{HasStoredRows}
+use Rattle.bank_store.specs.Leaving.{StandsWhileOpen, TakesNone}
+use Rattle.bank_store.specs.Seen.{bank_seen, database_of, fault_of}
+use Rattle.bank_store.specs.declared.bank.Bank.{Bank}
+use Rattle.bank_replays.specs.Digests.{DigestsFirst, DigestsRows, IsDigestIn, IsDigestOf, answered_behind}
+use Rattle.bank_replays.specs.FileTables.{FileTables, HasTables}
+use Rattle.bank_replays.specs.Replays.{HasAnswered, OnAgrees}
+use Rattle.bank_replays.specs.Writing.{LeavesWriter, WritesText, plan_text, records_behind, records_of}
+use Rattle.bank_replays.specs.declared.chain.Digest.{Digest}
+use Rattle.bank_replays.specs.declared.difference.Replay.{Replay}
+use Rattle.bank_replays.specs.declared.difference.Replay.TheVariants.{Agrees, Differs}
+use Rattle.bank_replays.specs.declared.fault.ReplayFault.{ReplayFault}
+use Rattle.bank_replays.specs.declared.fault.ReplayFault.TheVariants as written
+use Rattle.command_line.specs.Faults.{fault_of_bank}
+use Rattle.command_line.specs.Replaying.{PrintsText, agreeing_lines, differing_lines, digest_lines}
+use Rattle.command_line.specs.declared.fault.CommandFault.{CommandFault}
+use Rattle.command_line.specs.declared.fault.CommandFault.TheVariants as faults
+use Rattle.command_line.specs.declared.status.Status.{Status}
+use Rattle.command_line.specs.declared.status.Status.TheVariants as statuses
+use Rattle.bank_commands.specs.Over.{FindsOver}
+
+-- ---- lines of what was found
+
+-- how the program ends with this status, once its lines are printed
+abbrev pub ended_with : Status → Result (Unit {0}) CommandFault → Result Status CommandFault
+ended_with status (Ok done) = Ok status
+ended_with status (Err fault) = Err fault
+
+-- the lines were printed, and the program ends with this status; or they couldn't be, and it ends with why
+abbrev pub TellsText : Status → List ℕ → (w w' : Option (List ℕ)) → (t t' : Option (List WriteTold))
+    → Result Status CommandFault → Type 0
+TellsText status text w w' t t' told =
+    (printed : Result (Unit {0}) CommandFault) × PrintsText text w w' t t' printed × (told ≡ ended_with status printed)
+
+-- nothing was printed, and the program ends with this fault
+abbrev pub TellsFault : CommandFault → (w w' : Option (List ℕ)) → Result Status CommandFault → Type 0
+TellsFault fault w w' told = (told ≡ Err fault) × Keeps w w'
+
+-- ---- a replay
+
+-- the digest and the verdict were printed; or a text, which `Difference` doesn't say, and the verdict
+abbrev pub PrintsReplay : Result Replay Fault → (w w' : Option (List ℕ)) → (t t' : Option (List WriteTold))
+    → Result Status CommandFault → Type 0
+PrintsReplay (Ok (Agrees d)) w w' t t' told =
+    TellsText statuses.Done (agreeing_lines d.requests d.sha256) w w' t t' told
+PrintsReplay (Ok (Differs d)) w w' t t' told =
+    (text : List ℕ) × TellsText statuses.Differs (differing_lines text) w w' t t' told
+PrintsReplay (Err fault) w w' t t' told = TellsFault (fault_of_bank fault) w w' told
+
+-- a bank was replayed, whatever rows its file has
+pub record ReplaysBank {S : Type 0} (g : Ghosts S) (found : Result Replay Fault) (old new : Bank S g)
+    : Type 0 where
+  pub agrees : (bank_seen g new).honest → (f : FileTables) → HasTables (database_of g old) f
+      → OnAgrees found (λ d. (log : List Command) × ShowsLog (bank_seen g old) log)
+  pub digest : (bank_seen g new).honest → (all : List KeptItem) → HasKept (database_of g old) all
+      → OnAgrees found (IsDigestIn all)
+  pub log : (bank_seen g new).honest → (log : List Command) → ShowsLog (bank_seen g old) log
+      → OnAgrees found (IsDigestOf (answered_behind log))
+  pub bank : TakesNone (bank_seen g old) (bank_seen g new) (HasAnswered found)
+  pub up : fault_of new ≡ fault_of old
+  pub stands : StandsWhileOpen g old new
+
+abbrev pub ReplaysOver : {S : Type 0} (g : Ghosts S) → (conn back : Held S) → (w w' : Option (List ℕ))
+    → (t t' : Option (List WriteTold)) → Result Status CommandFault → Type 0
+ReplaysOver g conn back w w' t t' told =
+    FindsOver g conn back told (w' ≡ w)
+    (λ old new. (found : Result Replay Fault) × PrintsReplay found w w' t t' told × ReplaysBank g found old new)
+
+-- ---- the digest of the first so many requests
+
+abbrev pub PrintsDigest : ℕ → Result (Option Digest) Fault → (w w' : Option (List ℕ))
+    → (t t' : Option (List WriteTold)) → Result Status CommandFault → Type 0
+PrintsDigest requests (Ok (Some d)) w w' t t' told =
+    TellsText statuses.Done (digest_lines d.requests d.sha256) w w' t t' told
+PrintsDigest requests (Ok None) w w' t t' told = TellsFault (faults.NoRequest requests) w w' told
+PrintsDigest requests (Err fault) w w' t t' told = TellsFault (fault_of_bank fault) w w' told
+
+pub record DigestsBank {S : Type 0} (g : Ghosts S) (requests : ℕ) (found : Result (Option Digest) Fault)
+    (old new : Bank S g) : Type 0 where
+  pub rows : (bank_seen g new).honest → (all : List KeptItem) → HasKept (database_of g old) all
+      → DigestsRows requests all found
+  pub log : (bank_seen g new).honest → (log : List Command) → ShowsLog (bank_seen g old) log
+      → DigestsFirst requests (answered_behind log) found
+  pub bank : TakesNone (bank_seen g old) (bank_seen g new) (HasAnswered found)
+  pub up : fault_of new ≡ fault_of old
+  pub stands : StandsWhileOpen g old new
+
+abbrev pub DigestsOver : {S : Type 0} (g : Ghosts S) → (conn back : Held S) → ℕ → (w w' : Option (List ℕ))
+    → (t t' : Option (List WriteTold)) → Result Status CommandFault → Type 0
+DigestsOver g conn back requests w w' t t' told =
+    FindsOver g conn back told (w' ≡ w)
+    (λ old new. (found : Result (Option Digest) Fault) × PrintsDigest requests found w w' t t' told
+    × DigestsBank g requests found old new)
+
+-- ---- records, and a plan
+
+-- how what was written ends the command
+abbrev pub ended_by_writing : Result (Unit {0}) ReplayFault → Result Status CommandFault
+ended_by_writing (Ok done) = Ok statuses.Done
+ended_by_writing (Err written.Write) = Err faults.Write
+ended_by_writing (Err (written.Bank cause)) = Err (fault_of_bank cause)
+
+-- the requests after the first so many were written as records, whatever rows the file has
+pub record ExportsBank {S : Type 0} (g : Ghosts S) (after : ℕ) (w w' : Option (List ℕ))
+    (t t' : Option (List WriteTold)) (ends : Result (Unit {0}) ReplayFault) (old new : Bank S g) : Type 0 where
+  pub rows : (bank_seen g new).honest → (all : List KeptItem) → HasKept (database_of g old) all
+      → WritesText (records_behind after all) w w' ends
+  pub log : (bank_seen g new).honest → (log : List Command) → ShowsLog (bank_seen g old) log
+      → WritesText (records_of after (answered_behind log)) w w' ends
+  pub writer : LeavesWriter t t' ends
+  pub bank : TakesNone (bank_seen g old) (bank_seen g new) (HasAnswered ends)
+  pub up : fault_of new ≡ fault_of old
+  pub stands : StandsWhileOpen g old new
+
+abbrev pub ExportsOver : {S : Type 0} (g : Ghosts S) → (conn back : Held S) → ℕ → (w w' : Option (List ℕ))
+    → (t t' : Option (List WriteTold)) → Result Status CommandFault → Type 0
+ExportsOver g conn back after w w' t t' told =
+    FindsOver g conn back told (w' ≡ w)
+    (λ old new. (ends : Result (Unit {0}) ReplayFault) × (told ≡ ended_by_writing ends)
+    × ExportsBank g after w w' t t' ends old new)
+
+-- the branches were written as a plan, whatever rows the file has
+pub record PlansBank {S : Type 0} (g : Ghosts S) (w w' : Option (List ℕ)) (t t' : Option (List WriteTold))
+    (ends : Result (Unit {0}) ReplayFault) (old new : Bank S g) : Type 0 where
+  pub rows : (bank_seen g new).honest → (floors branches : List Entry)
+      → HasStoredRows (database_of g old) floor_table floors
+      → HasStoredRows (database_of g old) branch_table branches → WritesText (plan_text floors branches) w w' ends
+  pub writer : LeavesWriter t t' ends
+  pub bank : TakesNone (bank_seen g old) (bank_seen g new) (HasAnswered ends)
+  pub up : fault_of new ≡ fault_of old
+  pub stands : StandsWhileOpen g old new
+
+abbrev pub PlansOver : {S : Type 0} (g : Ghosts S) → (conn back : Held S) → (w w' : Option (List ℕ))
+    → (t t' : Option (List WriteTold)) → Result Status CommandFault → Type 0
+PlansOver g conn back w w' t t' told =
+    FindsOver g conn back told (w' ≡ w)
+    (λ old new. (ends : Result (Unit {0}) ReplayFault) × (told ≡ ended_by_writing ends)
+    × PlansBank g w w' t t' ends old new)
