@@ -3,6 +3,7 @@ pub mod Lived
 pub mod ManyLived
 pub mod Quiet
 pub mod Reopened
+pub mod Replayed
 pub mod Replied
 pub mod Resent
 pub mod Sent

@@ -90,6 +90,13 @@ module _ {C : Type 0} (seen : C → Seen) (first : C) where
   life_honest now given least (goes_on was next before commands some n life call) h =
       life_honest was before some life (call.honest h)
 
+  -- one that was down is down
+  pub life_down : (now : C) (given : List Command) (least : ℕ) → Life seen first now given least
+      → (seen first).is_down → (seen now).is_down
+  life_down now given least begins down = down
+  life_down now given least (goes_on was next before commands some n life call) down =
+      (call.down (life_down was before some life down)).0
+
   pub life_lives : (now : C) (given : List Command) (least : ℕ) → Life seen first now given least
       → (seen now).honest
       → (log : List Command) → StandsAt (seen first) log → Lives (seen now) log given least

@@ -1,14 +1,15 @@
 -- What is found after any number of lives.
-use Rattle.std.proofs.Common.{◌≤◌, ℕ, List, [], ◌∷◌, ◌++◌, length, take, refl, sym, subst, arith, inl, inr}
+use Rattle.std.proofs.Common.{◌≡◌, ◌≤◌, ℕ, List, [], ◌∷◌, ◌++◌, length, take, refl, sym, subst, arith, inl, inr}
 use Rattle.std.proofs.Math.Seq.{take-length}
 use Rattle.posting_rules.specs.Commands.{Command}
-use Rattle.posting_rules.specs.Counter.{Seen, StandsAt, LeavesOnly, ShowsBeginning}
+use Rattle.posting_rules.specs.Counter.{Seen, StandsAt, LeavesOnly, ShowsBeginning, ShowsLog}
 use Rattle.posting_rules.specs.Runs.{behind}
+use Rattle.posting_rules.specs.Tables.{Tables, AreTablesOf}
 use Rattle.posting_rules.proofs.Remaining.{leaves_weaker}
 use Rattle.bank_lives.specs.Lives.{EndsLife, Life}
-use Rattle.bank_lives.specs.ManyLives.{Given, IsOpenedOn, Keeps, Lives, ShowsKept, created, carried_over, released}
-use Rattle.bank_lives.specs.ManyLives.{found, stopped, unopened}
-use Rattle.bank_lives.proofs.Lived.{end_leaves, life_given, life_honest, life_lives}
+use Rattle.bank_lives.specs.ManyLives.{Given, IsOpenedOn, Keeps, LeavesShown, Lives, ShowsKept}
+use Rattle.bank_lives.specs.ManyLives.{carried_over, created, found, released, replayed, stopped, unopened}
+use Rattle.bank_lives.proofs.Lived.{end_leaves, life_down, life_given, life_honest, life_lives}
 
 -- the beginning of what was given that is found
 pub record Begins (seen : Seen) (log given : List Command) (least : ℕ) : Type 0 where
@@ -39,6 +40,17 @@ begins_left last first log given least opened left =
       stands = opened.stands it.0 (behind log (take it.2.count given)) it.2.are it.1 it.2.shows;
     }
 
+-- what shows a log, and leaves the tables that it shows, stands there
+stands_shown : (seen : Seen) (log : List Command) → (seen.is_down → ⊥) → LeavesShown seen → ShowsLog seen log
+    → StandsAt seen log
+stands_shown seen log up leaves shows = record {
+  shows = shows;
+  up = up;
+  survives = leaves_weaker seen (λ t. t ≡ shows.tables) (λ t. AreTablesOf t log)
+      (λ t same. subst (λ (it : Tables). AreTablesOf it log) (sym same) shows.shows)
+      (leaves shows.tables shows.are);
+}
+
 -- what lives lead to from a log that others led to is what all of them lead to
 pub keeps_on : (start middle log : List Command) (earlier later : List Given) → Keeps start middle earlier
     → Keeps middle log later → Keeps start log (later ++ earlier)
@@ -59,6 +71,13 @@ module _ {M : Type 0} (seen : M → Seen) where
   before_life start first lives (created it stands) h = stands h
   before_life start first lives (carried_over it from log stands) h = stands h
   before_life start first lives (found it log stands) h = stands h
+  before_life start first lives (replayed opened it log leaves shown lived up) h =
+      let stood = stands_shown (seen opened) log (λ down. up (life_down seen opened it [] 0 lived down)) leaves
+      (shown h) in
+      elim (life_lives seen opened it [] 0 lived h log stood) [
+        | inl stands ↦ stands
+        | inr cut ↦ absurd (up cut.0)
+      ]
   before_life start first lives (unopened begun it others some) h =
       (it, some, h, λ log stood. begins_whole (seen it) log [] 0 (omega arith) stood)
   before_life start first lives (released begun before it life others some lived up) h = (

@@ -2,5 +2,6 @@
 pub mod Lives
 pub mod ManyLives
 pub mod Moments
+pub mod Replayed
 pub mod Sending
 pub mod TableRows

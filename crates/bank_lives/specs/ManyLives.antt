@@ -1,7 +1,7 @@
 -- Any number of lives, one after another, and what is found at last.
 use Rattle.std.specs.Prelude.{◌≡◌, ◌≤◌, ℕ, List, [], ◌∷◌, length, take, AllPairs}
 use Rattle.posting_rules.specs.Commands.{Command, AreCommands}
-use Rattle.posting_rules.specs.Counter.{Seen, StandsAt}
+use Rattle.posting_rules.specs.Counter.{LeavesOnly, Seen, ShowsLog, StandsAt}
 use Rattle.posting_rules.specs.Editions.{plain}
 use Rattle.posting_rules.specs.Entries.{decided}
 use Rattle.posting_rules.specs.Laws.{Differ, IsConsistent}
@@ -21,6 +21,10 @@ pub record IsOpenedOn (last first : Seen) : Type 0 where
   pub stands : (t : Tables) (log : List Command) → AreCommands log → last.found remains t → AreTablesOf t log
       → StandsAt first log
 
+-- all that a stop may leave has the tables that it shows, as of a connection that was just opened
+abbrev pub LeavesShown : Seen → Type 0
+LeavesShown seen = (t : Tables) → seen.tables t → LeavesOnly seen (λ left. left ≡ t)
+
 -- a life that was given nothing
 abbrev pub given_nothing : Given
 given_nothing = record { commands = []; least = 0 }
@@ -37,6 +41,11 @@ pub data Lives {M : Type 0} (seen : M → Seen) : List Command → M → List Gi
   -- a bank that was found standing at a log, as `reopen` says of one over the files of another store
   found : (first : M) (log : List Command) → ((seen first).honest → StandsAt (seen first) log)
       → Lives seen log first []
+  -- a file of anyone's that was opened and shows a log, as `replay` says of one that agrees: what was called between
+  -- the two moments, the replay among it, was given nothing
+  replayed : (opened first : M) (log : List Command) → LeavesShown (seen opened)
+      → ((seen first).honest → ShowsLog (seen opened) log)
+      → Life seen opened first [] 0 → ((seen first).is_down → ⊥) → Lives seen log first []
   -- before this moment the files couldn't be opened, which is a life that was given nothing
   unopened : (start : List Command) (first : M) (lives : List Given) → Lives seen start first lives
       → Lives seen start first (given_nothing ∷ lives)

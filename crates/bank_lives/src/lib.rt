@@ -35,8 +35,8 @@
 //! Read next: `specs/Lives`, with a call of a life, a life, its end, and what is found after it;
 //! `specs/ManyLives`, with lives one after another; then [`lives_law`], and [`sender_law`] for a sender who goes
 //! on after a stop. The other laws say which steps there are: the calls of a counter ([`calls_law`]), walks and
-//! reports ([`walks_law`], [`reports_law`]), streams ([`streams_law`]), and what joins two lives
-//! ([`reopenings_law`]).
+//! reports ([`walks_law`], [`reports_law`]), streams ([`streams_law`]), what joins two lives
+//! ([`reopenings_law`]), and how they begin with a file of anyone's that was replayed ([`replayed_law`]).
 #![tactic(auto)]
 
 mod laws;
@@ -47,7 +47,7 @@ mod resends;
 mod streams;
 
 pub use laws::{calls_law, life_law, rules_law};
-pub use many_lives::{lives_law, reopenings_law, sender_law};
+pub use many_lives::{lives_law, reopenings_law, replayed_law, sender_law};
 pub use readings::{reports_law, walks_law};
 pub use reopening::reopen;
 pub use resends::resends_law;

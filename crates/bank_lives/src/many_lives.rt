@@ -8,7 +8,8 @@ ghost use Rattle.bank_store.specs.Connections.{conn_seen};
 ghost use Rattle.bank_store.specs.Seen.{bank_seen, connection_of};
 ghost use Rattle.bank_lives.specs.Lives.{EndsLife, IsCall, Life};
 ghost use Rattle.bank_lives.specs.ManyLives.{Given, IsKept, IsOpenedOn, Keeps, Lives, ShowsKept};
-ghost use Rattle.bank_lives.specs.Moments.{Moment, seen_at};
+ghost use Rattle.bank_lives.specs.Moments.{Moment, Of_bank, seen_at};
+ghost use Rattle.bank_lives.specs.Replayed.{IsReplayed};
 ghost use Rattle.bank_lives.specs.Sending.{FindsSent, Sends};
 
 use bank_store::{Bank, opened_law};
@@ -35,11 +36,23 @@ pub fn reopenings_law<S: Alter>(conn: &Connection<S>)
     opened_law(conn);
 }
 
+/// A file of anyone's, of whose bank `replay` of `bank_replays` says that it agrees: on an honest disk the bank
+/// stands at the log that its tables show, as the replay left it. So does its connection once it is released, and a
+/// bank that is taken up over that: `stands` of `release` and `adopt` in `bank_store`.
+pub fn replayed_law<S: Alter>(conn: &Connection<S>)
+    // Lives may begin there.
+    ensures begins { (bank last : _) (log : List Command) → IsReplayed S.Store conn.now bank last log
+        → Lives (seen_at S.Store) log (Of_bank last) [] }
+    ensures stands { (bank last : _) (log : List Command) → IsReplayed S.Store conn.now bank last log
+        → (bank_seen S.Store last).honest → StandsAt (bank_seen S.Store last) log }
+{}
+
 /// **After any number of lives the bank shows a log that is, life by life, a beginning of what was given, which
 /// holds all that was acknowledged. Each request is posted once, every branch has the sum of its tellers, and
 /// accounts, tellers and the deltas of history have one sum** (TPC-B clause 2). A bank that was made begins with
-/// no command, one that was carried over from an earlier version with the plain log of its file, and one that
-/// [`reopen`](crate::reopen) found over the files of another store with the log at which it stands (`on`). Each
+/// no command, one that was carried over from an earlier version with the plain log of its file, one that
+/// [`reopen`](crate::reopen) found over the files of another store with the log at which it stands (`on`), and one
+/// of anyone's, of which a replay said that it agrees, with the log that its tables show ([`replayed_law`]). Each
 /// life is a run of calls, streams and reports, and ends with a release or with a stop at any store call; a
 /// reopening that was refused, or files that couldn't be opened, are a life that was given nothing.
 pub fn lives_law<S: Alter>(_bank: &Bank<S>)

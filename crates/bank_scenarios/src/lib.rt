@@ -3,13 +3,14 @@
 //! the lines. The store of the tables is any.
 //!
 //! A `Simulation` draws what a bank is asked from a seed, and compares what a bank in tables that stops at any call of its
-//! store answers with what the bank in memory does.
+//! store answers with what the bank in memory does. What is left of the bank is replayed.
 #![tactic(auto)]
 
 mod answers;
 mod draws;
 mod mixed;
 mod records;
+mod replayed;
 mod scenario;
 mod simulation;
 mod steps;

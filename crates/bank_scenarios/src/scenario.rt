@@ -93,6 +93,7 @@ impl<S: Alter + Drop> Scenario<S> {
             Step::Make => self.stored.make(),
             Step::Adopt => self.stored.adopt(),
             Step::Cause => self.stored.cause(),
+            Step::Replay => self.stored.replay(),
             Step::Query(query) => self.query(query, text),
             _ => "no step".to_string(self.alloc),
         }

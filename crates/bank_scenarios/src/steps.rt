@@ -30,6 +30,7 @@ pub enum Step {
     Make,
     Adopt,
     Cause,
+    Replay,
     Query(Query),
     Unknown,
 }
@@ -45,6 +46,7 @@ impl Step {
             "make" => Step::Make,
             "adopt" => Step::Adopt,
             "cause" => Step::Cause,
+            "replay" => Step::Replay,
             "sql" => Step::Query(Query::Batch),
             "number" => Step::Query(Query::Number),
             "look" => Step::Query(Query::Look),

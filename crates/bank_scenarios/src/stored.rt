@@ -1,5 +1,6 @@
 //! A bank in tables, which a step takes up and the next one gives back.
 use crate::answers::{Call, make_call};
+use crate::replayed::replayed;
 use crate::tables::{Query, QueryAnswer, run_query};
 use bank_store::{Bank, OpenFault, Refused, adopt, create};
 use sqlite::{Alter, Connection, Error};
@@ -141,6 +142,15 @@ impl<S: Alter + Drop> Stored<S> {
                 None => "no cause".to_string(self.alloc),
             },
             _ => "not taken up".to_string(self.alloc),
+        }
+    }
+
+    /// Replays the bank, taken up anew, and returns what that says.
+    pub fn replay(&mut self) -> Result<String, AllocError> {
+        self.take_up();
+        match &mut self.kept {
+            Kept::Taken(bank) => replayed(self.alloc, bank),
+            _ => self.fault.to_string(self.alloc),
         }
     }
 

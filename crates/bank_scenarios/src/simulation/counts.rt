@@ -11,6 +11,7 @@ pub struct Counts {
     pub connections: u64,
     /// Balances, statements and audits.
     pub reports: u64,
+    pub replays: u64,
     pub lives: u64,
     pub stops: u64,
 }
@@ -28,6 +29,7 @@ impl Counts {
             streams: 0,
             connections: 0,
             reports: 0,
+            replays: 0,
             lives: 0,
             stops: 0,
         }
@@ -40,6 +42,7 @@ impl Counts {
         add(&mut self.streams, other.streams);
         add(&mut self.connections, other.connections);
         add(&mut self.reports, other.reports);
+        add(&mut self.replays, other.replays);
         add(&mut self.lives, other.lives);
         add(&mut self.stops, other.stops);
     }
@@ -49,12 +52,13 @@ impl fmt::Display for Counts {
     fn fmt<W: fmt::Write>(&self, f: &mut fmt::Formatter<W>) -> fmt::Result {
         write!(
             f,
-            "records {} batches {} streams {} connections {} reports {} lives {} stops {}",
+            "records {} batches {} streams {} connections {} reports {} replays {} lives {} stops {}",
             self.records,
             self.batches,
             self.streams,
             self.connections,
             self.reports,
+            self.replays,
             self.lives,
             self.stops
         )

@@ -4,7 +4,7 @@ use super::counts::{Counts, add};
 use super::history::{Given, History};
 use super::ledger::{Sums, sums_of};
 use super::messages::Script;
-use super::reports::{audit_behind, balance_behind, state, statement_behind};
+use super::reports::{audit_behind, balance_behind, replay_between, state, statement_behind};
 use crate::draws::Draws;
 use anyhow::{Result, bail};
 use bank_store::{Bank, OpenFault, Refused, adopt, create};
@@ -168,6 +168,18 @@ impl Simulation {
                 self.review(end, bank.release())
             }
             Err(Refused { fault, conn }) => (refused(fault), conn.into_store()),
+        }
+    }
+
+    /// Replays what a life left, over a store that doesn't stop: a bank that is there agrees, and has what was answered.
+    pub fn replay_left<S: Alter + Drop>(&mut self, conn: Connection<S>) -> End {
+        add(&mut self.counts.replays, 1);
+        match taken(self.alloc, conn, self.is_made) {
+            Ok(mut bank) => {
+                let held = self.history.first(self.held);
+                replay_between(&mut bank, held, self.history.first(self.given))
+            }
+            Err(Refused { fault, conn: _conn }) => refused(fault),
         }
     }
 

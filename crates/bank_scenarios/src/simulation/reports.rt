@@ -1,7 +1,8 @@
-//! What balances, statements and audits have to say behind parts of a history.
+//! What balances, statements, audits and replays have to say behind parts of a history.
 use super::asking::{End, end_of};
 use super::history::{Given, Part};
 use super::ledger::Entry;
+use bank_replays::{Replay, Unwatched, replay};
 use bank_reports::{ReportFault, audit, write_statement};
 use bank_store::Bank;
 use message_records::Account;
@@ -149,6 +150,19 @@ pub fn audit_behind<S: Alter>(bank: &mut Bank<S>, parts: &[Part]) -> End {
                 End::Differs("an audit")
             }
         }
+        Err(fault) => end_of(fault),
+    }
+}
+
+/// Replays a bank. It agrees, and keeps as many requests as the first parts lead to, or more, up to those of all parts.
+pub fn replay_between<S: Alter>(bank: &mut Bank<S>, first: &[Part], all: &[Part]) -> End {
+    let (least, _, _) = totals(first);
+    let (most, _, _) = totals(all);
+    match replay(bank, Unwatched) {
+        Ok(Replay::Agrees(digest)) if digest.requests >= least && digest.requests <= most => {
+            End::Done
+        }
+        Ok(_) => End::Differs("a replay"),
         Err(fault) => end_of(fault),
     }
 }

@@ -1,0 +1,30 @@
+//! What the replay of a bank in tables says.
+use bank_replays::{Digest, Replay, Unwatched, replay};
+use bank_store::Bank;
+use sqlite::Alter;
+use std::alloc::{AllocError, Global};
+
+// The digits of a digest.
+fn digits_of(alloc: Global, sha256: &[u8]) -> Result<String, AllocError> {
+    let mut digits = String::new(alloc);
+    for byte in sha256 {
+        let two = format!(in alloc; "{byte:02x}")?;
+        digits.push_str(two.as_str())?;
+    }
+    Ok(digits)
+}
+
+fn agreed(alloc: Global, digest: &Digest) -> Result<String, AllocError> {
+    let digits = digits_of(alloc, &digest.sha256)?;
+    let requests = digest.requests;
+    format!(in alloc; "agrees: requests {requests} digest {digits}")
+}
+
+/// Replays the bank, and returns how many requests it keeps and their digest, or the first difference.
+pub fn replayed<S: Alter>(alloc: Global, bank: &mut Bank<S>) -> Result<String, AllocError> {
+    match replay(bank, Unwatched) {
+        Ok(Replay::Agrees(digest)) => agreed(alloc, &digest),
+        Ok(Replay::Differs(difference)) => difference.to_string(alloc),
+        Err(fault) => fault.to_string(alloc),
+    }
+}
