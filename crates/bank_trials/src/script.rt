@@ -25,6 +25,7 @@ enum Fails {
 #[derive(Drop)]
 pub struct Script {
     input: Vec<u8>,
+    typed: bool,
     fails: Fails,
     output: Vec<u8>,
 }
@@ -34,6 +35,7 @@ impl Script {
     pub fn new(alloc: Global) -> Self {
         Script {
             input: Vec::new(alloc),
+            typed: false,
             fails: Fails::Neither,
             output: Vec::new(alloc),
         }
@@ -65,6 +67,7 @@ impl Script {
             "line" => self.give(rt.alloc(), rest, "\n")?,
             "part" => self.input.extend_from_slice(rest.as_bytes())?,
             "from" => self.input = fs::read(rt, rest)?,
+            "typed" => self.typed = true,
             "broken" if rest == "input" => self.fails = Fails::Input,
             "broken" if rest == "output" => self.fails = Fails::Output,
             _ => bail!("no such step: {word} {rest}"),
@@ -84,6 +87,7 @@ impl Script {
         let words: Vec<&str> = line.split(' ').collect(rt.alloc())?;
         let (status, faults) = self.run_words(rt, words.as_slice());
         self.input.clear();
+        self.typed = false;
         self.fails = Fails::Neither;
         self.tell_run(rt, status, faults.as_slice())
     }
@@ -98,10 +102,11 @@ impl Script {
     fn run_words(&mut self, rt: &HostRuntime, words: &[&str]) -> (Status, Vec<u8>) {
         let mut rest = self.input.as_slice();
         let mut output = Vec::new(rt.alloc());
+        let typed = self.typed;
         let (status, faults) = match self.fails {
-            Fails::Neither => run_between(rt, Unknown, words, &mut rest, &mut output),
-            Fails::Input => run_between(rt, Unknown, words, &mut Broken, &mut output),
-            Fails::Output => run_between(rt, Unknown, words, &mut rest, &mut Broken),
+            Fails::Neither => run_between(rt, Unknown, words, &mut rest, typed, &mut output),
+            Fails::Input => run_between(rt, Unknown, words, &mut Broken, typed, &mut output),
+            Fails::Output => run_between(rt, Unknown, words, &mut rest, typed, &mut Broken),
         };
         self.output = output;
         (status, faults)
@@ -141,10 +146,20 @@ fn run_between<S: Start, R: Read, W: Write>(
     start: S,
     words: &[&str],
     input: &mut R,
+    typed: bool,
     output: &mut W,
 ) -> (Status, Vec<u8>) {
     let mut faults = Vec::new(rt.alloc());
     let mut clock = StoredClock::new(Vec::new(rt.alloc()));
-    let status = run(rt, start, words, input, output, &mut faults, &mut clock);
+    let status = run(
+        rt,
+        start,
+        words,
+        input,
+        typed,
+        output,
+        &mut faults,
+        &mut clock,
+    );
     (status, faults)
 }

@@ -1,5 +1,5 @@
 //! Simulations over files in memory that stop at a call: what wasn't synced then is lost, kept, or torn.
-use anyhow::{Context, Result, bail};
+use anyhow::{Context, Result, bail, ensure};
 use bank_scenarios::{Counts, End, Simulation};
 use sqlite::{Connection, Files, Options};
 use sqlite_disk::{Crash, Disk, Fuse, Memory};
@@ -186,12 +186,43 @@ fn life<F: Stopping>(
     Ok((end, Image { db, log }))
 }
 
+// A replay reads no page twice.
+const REPLAYED: Options = Options {
+    cache_pages: 1_000,
+    spill_pages: 1_000,
+    checkpoint_frames: 1_000,
+    seed: 7,
+};
+
+// Replays what a life left, over files that don't stop.
+fn replayed<D: Disk + Drop>(alloc: Global, simulation: &mut Simulation, files: Files<D>) -> End {
+    if !files.may_be_used() {
+        return End::Differs("a copy of the files");
+    }
+    match Connection::open_files(alloc, files, REPLAYED) {
+        Ok(conn) => simulation.replay_left(conn),
+        Err((_, _left)) => End::Stopped,
+    }
+}
+
+fn replay_left<F: Stopping>(
+    alloc: Global,
+    simulation: &mut Simulation,
+    left: &Image,
+) -> Result<()> {
+    let files = files_of::<F>(alloc, left, (u64::MAX, u64::MAX))?;
+    let end = replayed(alloc, simulation, files);
+    ensure!(end == End::Done, "differs: a replay of what was left");
+    Ok(())
+}
+
 // The lives of a seed, until all is answered and found again.
 fn play<F: Stopping>(alloc: Global, seed: u64) -> Result<Counts> {
     let mut simulation = Simulation::new(alloc, seed)?;
     let mut left = Image::new(alloc);
     for _ in 0..100u32 {
         let (end, behind) = life::<F>(alloc, &mut simulation, &left)?;
+        replay_left::<F>(alloc, &mut simulation, &behind)?;
         if simulation.is_done(end)? {
             return Ok(*simulation.counts());
         }
