@@ -25,6 +25,7 @@ CALLS = PROMISE + [
     ("bank_store", "open_branch", []),
 ]
 CLAIMS = CALLS + [
+    ("bank_lives", "replayed_law", []),
     ("bank_lives", "sender_law", []),
     ("posting_rules", "each_request_once", []),
     ("posting_rules", "cases_are_as_stated", []),

@@ -45,8 +45,9 @@ def lanes_in(room, crates):
                 if (TOP / "crates" / crate / part).is_dir():
                     shutil.copytree(TOP / "crates" / crate / part, lane / "crates" / crate / part)
             hand_on(crate, TOP, lane)
-        for it in ("crates.txt", "HANDLES"):
-            shutil.copy(TOP / it, lane)
+        shutil.copy(TOP / "HANDLES", lane)
+        # `rt` asks for the folder of each crate that is listed.
+        (lane / "crates.txt").write_text("".join(f"{it}: {' '.join(USES[it])}\n" for it in crates))
     return lanes
 
 

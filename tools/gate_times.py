@@ -1,16 +1,28 @@
 #!/usr/bin/env python3
-"""Runs the merge gate, all of it from nothing, and says where its time went, crate by crate, as the table of docs/TIMES.md.
+"""Runs the merge gate, all of it from nothing, and prints docs/TIMES.md: what the gate took, crate by crate, and then
+the page from its second heading on, as it stands.
 
-    tools/gate_times.py LOG [--anew]      what the gate prints goes to the file LOG; --anew for a kit whose gate keeps proofs
+    tools/gate_times.py LOG > TIMES.md && mv TIMES.md docs/
 
-Each check of the gate is a process of its own. Once a second this reads from /proc how much processor time each has taken
-so far, and adds it up by crate: its proof, its tests and its must-fail edits.
+What the gate prints goes to the file LOG.
+
+Each check of the gate is a process of its own. Once a second this reads from /proc how much processor time each has
+taken so far, and adds it up by crate: its proof, its tests and its must-fail edits.
 """
 import os
 import re
 import subprocess
 import sys
 import time
+from pathlib import Path
+
+TOP = Path(__file__).resolve().parent.parent
+CPUS = len(os.sched_getaffinity(0))
+ROWS = """
+The rows are processor seconds: *proof* is the crate from nothing but the crates below, *tests* the crate again with
+its test functions, *edits* all its must-fail edits, which begin with the crate from nothing once more. Building and
+running the tests and the programs comes on top.
+"""
 
 TICKS = os.sysconf("SC_CLK_TCK")
 PAGE = os.sysconf("SC_PAGE_SIZE")
@@ -54,30 +66,47 @@ def sample(spent):
 
 
 def table(spent):
+    """The lines of the table, and the processor seconds of all crates."""
     crates = {}
     for (_, crate, part), seconds in spent.items():
         parts = crates.setdefault(crate, dict.fromkeys(("proof", "tests", "edits"), 0.0))
         parts[part] += seconds
-    rows = [[crate, *(round(parts[it]) for it in ("proof", "tests", "edits"))] for crate, parts in crates.items()]
-    rows.append(["all", *(sum(row[at] for row in rows) for at in (1, 2, 3))])
-    print("| Crate | Proof | Tests | Edits | Sum |\n|---|---|---|---|---|")
-    for row in rows:
-        print(f"| {' | '.join(str(it) for it in row)} | {sum(row[1:])} |")
+    order = [line.partition(":")[0] for line in (TOP / "crates.txt").read_text(encoding="utf-8").splitlines()]
+    rows = [[f"`{crate}`", *(round(crates[crate][it]) for it in ("proof", "tests", "edits")),
+             len(list(TOP.glob(f"crates/{crate}/must-fail/*.edit")))] for crate in order if crate in crates]
+    rows.append(["all", *(sum(row[at] for row in rows) for at in (1, 2, 3, 4))])
+    lines = ["| Crate | Proof | Tests | Edits | How many edits | Sum |", "|---|---|---|---|---|---|"]
+    lines += [f"| {' | '.join(str(it or '') for it in row)} | {sum(row[1:4])} |" for row in rows]
+    return lines, sum(rows[-1][1:4])
+
+
+def tree():
+    words = ["git", "-C", str(TOP), "describe", "--always", "--dirty"]
+    return subprocess.run(words, stdout=subprocess.PIPE, text=True, check=True).stdout.strip()
 
 
 def main():
     log = sys.argv[1]
     spent, peak, began = {}, 0, time.monotonic()
-    with open(log, "w") as out:
-        gate = subprocess.Popen(["rt", "ci", *sys.argv[2:]], stdin=subprocess.DEVNULL, stdout=out, stderr=subprocess.STDOUT)
+    with open(log, "w", encoding="utf-8") as out:
+        # As .ci/run does it, with a check on each processor; but nothing that an earlier run kept is taken over.
+        gate = subprocess.Popen(["rt", "ci", "--anew"], cwd=TOP, env={**os.environ, "RT_JOBS": str(min(CPUS, 4))},
+                                stdin=subprocess.DEVNULL, stdout=out, stderr=subprocess.STDOUT)
         while gate.poll() is None:
             peak = max(peak, sample(spent))
             time.sleep(1)
-    table(spent)
-    with open(log, errors="replace") as out:
-        last = re.findall(r"^\d+ passed, \d+ failed$", out.read(), re.M)
     minutes = (time.monotonic() - began) / 60
-    print(f"\n{last[-1] if last else 'no verdict'} in {minutes:.1f} minutes, peak memory {peak / 2**30:.1f} GiB")
+    with open(log, encoding="utf-8", errors="replace") as out:
+        last = re.findall(r"^\d+ passed, \d+ failed$", out.read(), re.M)
+    lines, seconds = table(spent)
+    print("# How long the checks take\n")
+    print(f"The gate, `.ci/run`, all of it from nothing (`--anew`), on {CPUS} processors with nothing beside")
+    print(f"it, as `tools/gate_times.py` printed it on {time.strftime('%F')} of the tree `{tree()}`:")
+    print(f"{last[-1] if last else 'no verdict'} in **{minutes:.1f} minutes**, {seconds:,} processor seconds, and")
+    print(f"{peak / 2**30:.1f} GiB of memory at most.")
+    print(ROWS, *lines, "", sep="\n")
+    page = (TOP / "docs/TIMES.md").read_text(encoding="utf-8")
+    print(page[page.index("\n## ") + 1:], end="")
     return gate.returncode
 
 

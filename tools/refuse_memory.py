@@ -1,10 +1,17 @@
 #!/usr/bin/env python3
-"""Refuses each allocation of the built program in turn, one a run, in eight cases: the first posting, a truncated stream,
-one record twice in a batch, a plan loaded twice, two messages in a row, an audit that finds damage, a statement, and a
-drive made twice. What is told is the fault or the case's own answer; nothing that was acknowledged is lost; and the case
-passes when it is run again: on the same bank where a connection was refused memory, else on the reopened one. A run that was
-refused and left both files as they were isn't run again: it would be the run that was refused nothing. It needs the built
-program and a C compiler, and stands outside the gate. TMPDIR names the folder of its files, which is best in memory.
+"""Refuses each allocation of the built program in turn, one a run, in eight cases, which are played side by side: the
+first posting, a truncated stream, one record twice in a batch, a plan loaded twice, two messages in a row, an audit that
+finds damage, a statement, and a drive made twice. What is told is the fault or the case's own answer; nothing that was
+acknowledged is lost; and the case passes when it is run again: on the same bank where a connection was refused memory,
+else on the reopened one. A run that was refused and left both files as they were isn't run again: it would be the run
+that was refused nothing.
+
+In four cases of `encode` and `decode` it refuses each allocation, each read of standard input and each write to standard
+output: what is told is that fault or the case's own answer, and what was written is a prefix of it, of whole records or
+lines unless a write was refused.
+
+It needs the built program and a C compiler, and stands outside the gate. TMPDIR names the folder of its files, which is
+best in memory.
     tools/refuse_memory.py [CASE..]"""
 import os
 import shutil
@@ -13,6 +20,7 @@ import sqlite3
 import subprocess
 import sys
 import tempfile
+from concurrent.futures import ProcessPoolExecutor
 
 from serve_client import BANK, HERE, make_bank, need_program, post, record
 
@@ -67,24 +75,28 @@ def ensure(holds, what):
 
 class Folder:
     def __init__(self, path):
-        self.path, self.runs, self.allocations, self.faults = path, 0, 0, {}
+        self.path, self.runs, self.refused, self.faults = path, 0, {}, {}
         self.library, self.count = path + "/refuse.so", path + "/count"
         subprocess.run([os.environ.get("CC", "cc"), "-O1", "-shared", "-fPIC", "-o", self.library,
                         HERE + "/tools/refuse_memory.c"], check=True)
 
-    def environment(self, at):
-        return {"LD_PRELOAD": self.library, "REFUSE_AT": str(at), "REFUSE_COUNT": self.count}
+    def environment(self, at, kind="memory"):
+        return {"LD_PRELOAD": self.library, "REFUSE_AT": str(at), "REFUSE_COUNT": self.count, "REFUSE_KIND": kind}
 
     def counted(self):
         with open(self.count, "rb") as file:
             return int.from_bytes(file.read(8), sys.byteorder)
 
-    def run(self, words, given, at=0):
-        """A run that is refused its allocation of this number: its status, output and faults, and whether it had one."""
+    def run(self, words, given, at=0, kind="memory"):
+        """A run that is refused its allocation of this number, or its read or write: its status, output and faults, and
+        whether it had one."""
         ended = subprocess.run([BANK] + words, input=given, stdout=subprocess.PIPE, stderr=subprocess.PIPE,
-                               env=self.environment(at), timeout=60)
+                               env=self.environment(at, kind), timeout=60)
         self.runs += 1
         return ended.returncode, ended.stdout, ended.stderr, 0 < at <= self.counted()
+
+    def count_refused(self, kind, count):
+        self.refused[kind] = self.refused.get(kind, 0) + count
 
     def note(self, fault):
         self.faults[fault] = self.faults.get(fault, 0) + 1
@@ -307,20 +319,107 @@ def play(folder, case):
                 break
             at += 1
         allocations += at - 1
-    folder.allocations += allocations
+    folder.count_refused("memory", allocations)
     said = ", ".join(f"{fault} {count}" for fault, count in sorted(folder.faults.items()))
     print(f"{case.name}: {allocations} allocations: {said}", flush=True)
 
 
-def main():
-    need_program()
-    chosen = [case for case in CASES if not sys.argv[1:] or case.name in sys.argv[1:]]
+def sheet_line(i):
+    """A posting of a sheet as an editor writes it, its record, the reply to that, and the line of the reply."""
+    account, teller, number, delta = i % 3 + 1, i % 10 + 1, i + 1, i * 37 % 2000 - 1000
+    reference = f"rent, {i}" if i % 3 == 0 else ""
+    row = f'{account},{teller},{number},{delta:+d},{"" if i % 2 else 1},"{reference}"\r\n'
+    text = f"{account:012}{teller:08}{1:06}{number:010}{delta:+011}"
+    posted = i % 5 > 0
+    reply = f"DR01{'00' if posted else '17'}{text}{delta if posted else 0:+013}{'POSTED' if posted else 'BELOW FLOOR'}"
+    line = f"{'0,POSTED' if posted else '17,BELOW FLOOR'},{account},{teller},1,{number},{delta},{delta if posted else ''}\n"
+    return row, f"{'DC02' if reference else 'DC01'}{text}{reference}".ljust(100), reply.ljust(200), line
+
+
+ROW_COUNT = 150
+SHEET, SHEET_RECORDS, SHEET_REPLIES, SHEET_LINES = (
+    [part.encode() for part in parts] for parts in zip(*map(sheet_line, range(ROW_COUNT))))
+HEADING = b"\xef\xbb\xbfaccount,teller,number,delta,branch,reference\r\n"
+REPLY_HEADING = b"outcome,name,account,teller,branch,number,delta,balance\n"
+
+
+class Pipe:
+    """A command that has no file, its input, the status, output and fault that it ends with, and the prefixes of the
+    output that hold whole records or lines."""
+
+    def __init__(self, name, command, given, status, heading, pieces, fault):
+        self.name, self.command, self.given, self.own = name, command, given, (status, heading + b"".join(pieces), fault)
+        self.prefixes = {b"", heading + b"".join(pieces)}
+        for count in range(len(pieces)):
+            self.prefixes.add(heading + b"".join(pieces[:count]))
+
+
+PIPES = [
+    Pipe("a sheet", "encode", HEADING + b"".join(SHEET), 0, b"", SHEET_RECORDS, b""),
+    Pipe("a sheet with a wrong row", "encode", HEADING + b"".join(SHEET[:80]) + b"1,1,81,1.50,,\r\n" + b"".join(SHEET[80:]),
+         4, b"", SHEET_RECORDS[:80], b"bank: postings row 81 delta\n"),
+    Pipe("replies", "decode", b"".join(SHEET_REPLIES), 0, REPLY_HEADING, SHEET_LINES, b""),
+    Pipe("replies cut off", "decode", b"".join(SHEET_REPLIES[:80]) + SHEET_REPLIES[80][:77], 4, REPLY_HEADING,
+         SHEET_LINES[:80], b"bank: truncated 77 bytes\n"),
+]
+PIPE_FAULTS = {"memory": b"bank: no memory\n", "read": b"bank: read failed\n", "write": b"bank: write failed\n"}
+
+
+def refused_in_pipe(folder, pipe, kind):
+    """Refuses each allocation, read or write of a command in turn, and gives how many there were."""
+    ended = folder.run([pipe.command], pipe.given)[:3]
+    ensure(ended == pipe.own, f"nothing was refused: {ended}")
+    for at in range(1, sys.maxsize):
+        *ended, refused = folder.run([pipe.command], pipe.given, at, kind)
+        if not refused:
+            ensure(tuple(ended) == pipe.own, f"nothing was refused: {ended}")
+            return at - 1
+        if tuple(ended) == pipe.own:
+            folder.note("own answer")
+            continue
+        status, output, fault = ended
+        ensure((status, fault) == (3, PIPE_FAULTS[kind]), f"{kind} {at}: status {status}, {fault!r}")
+        ensure(pipe.own[1].startswith(output) if kind == "write" else output in pipe.prefixes, f"{kind} {at}: {output!r}")
+        folder.note(fault.decode()[6:-1])
+
+
+def play_pipe(folder, pipe):
+    for kind in PIPE_FAULTS:
+        folder.faults = {}
+        try:
+            count = refused_in_pipe(folder, pipe, kind)
+        except Wrong as wrong:
+            sys.exit(f"refuse_memory: {pipe.name}: {wrong}")
+        folder.count_refused(kind, count)
+        said = ", ".join(f"{fault} {count}" for fault, count in sorted(folder.faults.items()))
+        print(f"{pipe.command} of {pipe.name}, {kind} refused {count} times: {said}", flush=True)
+
+
+def alone(name):
+    """Plays the case of this name in a folder of its own, and gives how often each kind was refused, and the runs."""
     with tempfile.TemporaryDirectory() as path:
         folder = Folder(path)
-        for case in chosen:
-            play(folder, case)
-        print(f"refuse_memory: {len(chosen)} cases, {folder.allocations} allocations refused, {folder.runs} runs: "
-              "each ends with its fault or its own answer, and passes again")
+        for it in CASES:
+            if it.name == name:
+                play(folder, it)
+        for it in PIPES:
+            if it.name == name:
+                play_pipe(folder, it)
+        return folder.refused, folder.runs
+
+
+def main():
+    need_program()
+    names = [it.name for it in CASES + PIPES if not sys.argv[1:] or it.name in sys.argv[1:]]
+    refused, runs = {}, 0
+    with ProcessPoolExecutor(len(os.sched_getaffinity(0))) as pool:
+        for refused_here, runs_here in pool.map(alone, names):
+            runs += runs_here
+            for kind, count in refused_here.items():
+                refused[kind] = refused.get(kind, 0) + count
+    said = ", ".join(f"{kind} refused {count} times" for kind, count in refused.items())
+    print(f"refuse_memory: {len(names)} cases, {runs} runs, {said}: each ends with its fault or its own answer, "
+          "and passes again")
 
 
 if __name__ == "__main__":

@@ -14,19 +14,20 @@ git init -q
 cp "$here/HANDLES" .
 # The libraries below a program of these words in crates.txt, each once, with what is kept of them.
 below() {
-    local crate
+    local crate libraries
     for crate in "$@"; do
         grep -q "^$crate:" "$here/crates.txt" || continue
         grep -q "^$crate:" crates.txt && continue
-        below $(sed -n "s/^$crate: *//p" "$here/crates.txt")
+        read -ra libraries < <(sed -n "s/^$crate: *//p" "$here/crates.txt")
+        below "${libraries[@]}"
         grep "^$crate:" "$here/crates.txt" >>crates.txt
         cp -a "$here/crates/$crate" crates/
     done
 }
-libraries='bank_reports report_lines bank_store branch_loader counter_http load_driver message_records posting_core'
+own=(bank_reports report_lines bank_store branch_loader counter_http load_driver message_records posting_core)
 : >crates.txt
-below $libraries
-echo "refused_again: $libraries sqlite sqlite_disk" >>crates.txt
+below "${own[@]}"
+echo "refused_again: ${own[*]} sqlite sqlite_disk" >>crates.txt
 cp "$here/tools/refused_again.rt.in" crates/refused_again/src/main.rt
 cc -O1 -shared -fPIC -o refuse.so "$here/tools/refuse_memory.c"
 (cd crates/refused_again && { rt run </dev/null || test -x out/refused_again; }) >said 2>&1 || { cat said; exit 1; }
@@ -34,19 +35,18 @@ cc -O1 -shared -fPIC -o refuse.so "$here/tools/refuse_memory.c"
 # Plays all cases with this word on its standard input, and the allocation of this number refused.
 play() {
     status=0
-    said=$(echo "$1" | REFUSE_AT=$2 REFUSE_COUNT=$work/count LD_PRELOAD=$work/refuse.so crates/refused_again/out/refused_again) ||
-        status=$?
+    said=$(echo "$1" | REFUSE_AT=$2 LD_PRELOAD=./refuse.so crates/refused_again/out/refused_again) || status=$?
+    case "$status $said" in
+    '0 passed'*) echo "$said" ;;
+    '3 ') echo itself ;;
+    *) echo "WRONG at $2: status $status $said" ;;
+    esac
 }
+export -f play
 
 for kind in memory tables; do
-    play $kind 0
-    most=$(od -An -tu8 "$work/count" | tr -d ' ')
-    for ((at = 1; at <= most; at++)); do
-        play $kind "$at"
-        case "$status $said" in
-        '0 passed'*) echo "$said" ;;
-        '3 ') echo itself ;;
-        *) echo "WRONG at $at: status $status $said" ;;
-        esac
-    done | sort | uniq -c | sed "s/^ */refused_again: $kind: /"
+    REFUSE_COUNT=count play $kind 0 >said
+    most=$(od -An -tu8 count | tr -d ' ')
+    seq "$most" | xargs -P "$(nproc)" -I '{}' bash -c "play $kind {}" | sort | uniq -c |
+        sed "s/^ */refused_again: $kind: /"
 done

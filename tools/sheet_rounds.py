@@ -4,9 +4,10 @@
 100,000 postings are drawn from a seed and written as CSV by Python's own writer: with each header, with line feeds
 or carriage returns, behind a byte order mark or with none, with quotes about every field or about those that need
 them. The records have to be those that this script spells; the sheet of the replies has to have the fields that this
-script cuts out of the replies' bytes. Then one field of a sheet in turn is made wrong at a drawn row: the records of
-the rows before it are written, the fault names row and column, and the status is 4. Last, the replies are cut at a
-drawn byte. It needs the built program, and stands outside the gate.
+script cuts out of the replies' bytes. Then one field of a sheet in turn is made wrong at a drawn row, or the row gets a
+field more or fewer: the records of the rows before it are written, the fault names row and column, and the status is 4.
+Headers that an editor may write are refused. Last, the replies are cut at a drawn byte. It needs the built program, and
+stands outside the gate.
 
     tools/sheet_rounds.py [POSTINGS]
 """
@@ -105,6 +106,7 @@ def rounds(draw, count, folder):
         file.write("branch,accounts\n" + "".join(f"{b},{ACCOUNTS}\n" for b in range(1, BRANCHES + 1)))
     run(["init", bank], b"", 0)
     run(["load", bank, plan], b"", 0)
+    faults = 0
     for i in range(16):
         header = HEADERS[i % 4]
         rows = drawn(draw, count // 16, header)
@@ -118,25 +120,49 @@ def rounds(draw, count, folder):
         if len(replies) != len(rows) + 1:
             sys.exit(f"the replies to sheet {i} aren't so many")
         decoded(replies)
-        names_each_fault(draw, header, rows[:50])
+        faults += names_each_fault(draw, header, rows[:50])
         at = draw.randint(1, 199)
         text, told = run(["decode"], replies[0] + replies[1][:at], 4)
         if told != b"bank: truncated %d bytes\n" % at or text.count(b"\n") != 2:
             sys.exit(f"a reply cut at {at}: {told!r}")
     run(["audit", bank], b"", 0)
+    return faults
 
 
 def names_each_fault(draw, header, rows):
-    for name in header:
-        for wrong in WRONG[name]:
+    """Each wrong field, and a row of other columns, in a sheet as a program writes it and as an editor does. Gives how
+    many sheets there were."""
+    count = 0
+    for mark, line_end in ((False, "\n"), (True, "\r\n")):
+        for name in header:
+            for wrong in WRONG[name]:
+                at = draw.randrange(len(rows))
+                broken = [dict(row) for row in rows]
+                broken[at][name] = wrong
+                is_told(sheet(header, broken, mark, line_end, csv.QUOTE_MINIMAL), f"row {at + 1} {name}", rows[:at])
+                count += 1
+        lines = sheet(header, rows, mark, line_end, csv.QUOTE_MINIMAL).split(line_end.encode())
+        for change in (lambda line: line + b",", lambda line: line.partition(b",")[2], lambda line: b"1,1"):
             at = draw.randrange(len(rows))
-            broken = [dict(row) for row in rows]
-            broken[at][name] = wrong
-            text, told = run(["encode"], sheet(header, broken, False, "\n", csv.QUOTE_MINIMAL), 4)
-            if told.decode() != f"bank: postings row {at + 1} {name}\n":
-                sys.exit(f"{name} {wrong!r}: {told!r}")
-            if text != b"".join(spelled(row) for row in rows[:at]):
-                sys.exit(f"{name} {wrong!r}: the records before it differ")
+            broken = lines[:at + 1] + [change(lines[at + 1])] + lines[at + 2:]
+            is_told(line_end.encode().join(broken), f"row {at + 1} columns", rows[:at])
+            count += 1
+    text = sheet(header, rows, False, "\n", csv.QUOTE_MINIMAL)
+    head, _, rest = text.partition(b"\n")
+    for other in (head.replace(b",", b";"), head.replace(b",", b"\t"), head.upper(), head + b",", b" " + head,
+                  b"sep=,\n" + head, b""):
+        is_told(other + b"\n" + rest, "header", [])
+    is_told(text.decode().encode("utf-16"), "header", [])
+    return count + 8
+
+
+def is_told(text, fault, rows):
+    """A sheet with this fault: the records of these rows, which are before it, are written."""
+    records, told = run(["encode"], text, 4)
+    if told.decode() != f"bank: postings {fault}\n":
+        sys.exit(f"{fault}: {told!r}")
+    if records != b"".join(spelled(row) for row in rows):
+        sys.exit(f"{fault}: the records before it differ")
 
 
 def main():
@@ -144,8 +170,8 @@ def main():
     if not os.path.exists(BANK):
         sys.exit(f"{BANK} isn't built")
     with tempfile.TemporaryDirectory() as folder:
-        rounds(random.Random(56), count, folder)
-    print(f"{count} postings there and back")
+        faults = rounds(random.Random(56), count, folder)
+    print(f"sheet_rounds: {count} postings there and back; {faults} sheets with a fault, each by its row and column")
 
 
 main()

@@ -1,8 +1,9 @@
 #!/usr/bin/env bash
 # Plays simulations on the built program, for as many seeds as one likes, and adds up what they did. From a seed come a
 # plan and mixed records, which a bank in tables gets in many ways, life after life, while its store stops at any call;
-# replies, tables and reports have to be those of the bank in memory. Where something differs the seed is named, and
-# played again by it: tools/simulate.sh SEED 1. It needs the built program, and stands outside the gate.
+# replies, tables and reports have to be those of the bank in memory, and what each life leaves is replayed and agrees.
+# Where something differs the seed is named, and played again by it: tools/simulate.sh SEED 1. It needs the built
+# program, and stands outside the gate.
 #   tools/simulate.sh [SEED [COUNT]]
 set -euo pipefail
 here=$(cd "$(dirname "$0")/.." && pwd)

@@ -1,10 +1,10 @@
 #!/usr/bin/env bash
-# Tries what README and examples/ show, with the built program: README's minute as a script and pasted into a shell,
-# the reports in SQL, the evening's copy and the migration, each with what they refuse.
+# Tries what README, docs/USING.md and examples/ show, with the built program: README's minute as a script and pasted
+# into a terminal, the reports in SQL, the evening's copy, a recovery and the migration, each with what they refuse.
 #
 #     tools/try_examples.sh [TIMES]
 #
-# It needs curl and sqlite3. The minute is run TIMES times, 10 if that isn't said.
+# It needs curl, sqlite3 and script. The minute is run TIMES times, 10 if that isn't said.
 set -eu
 top="$(cd "$(dirname "$0")/.." && pwd)"
 times="${1:-10}"
@@ -40,15 +40,17 @@ check() {
     same "$(grep -c POSTED "$1")" 7 "replies in $1"
     if grep -q 'bank: ' "$1"; then fail "$1 has a fault"; fi
 }
+# A terminal ends its lines with a carriage return, and shows what is pasted, too.
 for number in $(seq "$times"); do
     folder "script-$number"
     (cd "script-$number" && timeout 60 bash -e ../minute.sh >../script 2>&1) || fail "the minute failed: $(cat script)"
     check script
+    folder "pasted-$number"
+    (cd "pasted-$number" && cat ../minute.sh - <<<exit | TERM=dumb timeout 60 script -qc 'bash --norc -i' /dev/null |
+        tr -d '\r' >../pasted)
+    check pasted
 done
-folder pasted
-(cd pasted && timeout 60 bash --norc -i <../minute.sh >../paste 2>&1)
-check paste
-echo "README's minute: $times times as a script, and pasted line by line"
+echo "README's minute: $times times as a script, and $times times pasted into a terminal line by line"
 
 cd script-1
 day="$(date -u -d "@$(sqlite3 my.db 'SELECT max(moment) FROM history')" +%F)"
@@ -56,24 +58,65 @@ day="$(date -u -d "@$(sqlite3 my.db 'SELECT max(moment) FROM history')" +%F)"
 same "$(grep -c . out/postings.csv)" "$(($(sqlite3 my.db 'SELECT count(*) FROM history') + 1))" "lines of postings.csv"
 same "$(awk '/totals by branch/ { on = 1 } /: postings/ { on = 0 } on && /^[0-9]/ { sum += $5 } END { printf "%.2f", sum }' reports)" \
     "$(sqlite3 my.db 'SELECT printf("%.2f", sum(balance) / 100.0) FROM branch')" "the totals of $day"
-"$bank" audit my.db >audit && grep -q "^CONSISTENT$" audit || fail "reports.sh changed the bank"
+"$bank" audit my.db | grep -q "^CONSISTENT$" || fail "reports.sh changed the bank"
 echo "reports.sh"
 
+# Evenings of copies of this bank, in the folder `safe`.
 evening() {
-    STOP="${stop:-true}" START="touch started" BANK="$bank" "$top/examples/evening.sh" "$@"
+    rm -f started
+    STOP="${stop:-true}" START="touch started" BANK="$bank" "$top/examples/evening.sh" "$@" >said 2>&1
 }
-same "$(evening my.db safe)" CONSISTENT "an evening"
-[ -e started ] || fail "the counter was not started again"
-if evening my.db safe 2>/dev/null; then fail "a copy was overwritten"; fi
-rm started
-if evening lost.db other 2>/dev/null; then fail "an evening without a bank"; fi
+is_started() {
+    [ -e started ] || fail "the counter was not started again: $(cat said)"
+}
+good_evening() {
+    evening "$@" || fail "an evening: $(cat said)"
+    same "$(cut -d ' ' -f 1 said | paste -sd ' ')" "CONSISTENT AGREES requests" "an evening"
+    is_started
+}
+alarms() {
+    if evening "${@:2}"; then fail "no alarm: $1"; fi
+    grep -q "^evening: .*$1" said || fail "another alarm than $1: $(cat said)"
+}
+good_evening my.db safe/1
+alarms "my.db is there" my.db safe/1
+alarms "there is no" lost.db safe/2
 lacks started
-"$bank" init broken.db >/dev/null
-"$bank" load broken.db examples/plan.csv >/dev/null
-sqlite3 broken.db 'UPDATE teller SET balance = 1 WHERE tid = 1'
-if evening broken.db broken 2>/dev/null; then fail "no alarm of an inconsistent bank"; fi
-[ -e started ] || fail "the counter was not started again before the audit"
+"$bank" drive my.db --seed 9 --count 100 >/dev/null
+good_evening my.db safe/2
+same "$(wc -l <safe/my.db.digests)" 2 "lines of digests"
+count="$(sqlite3 my.db 'SELECT decided FROM meta')"
+same "$(cut -d ' ' -f 2 safe/my.db.digests | paste -sd ' ')" "6 $count" "requests of two evenings"
+stop=false alarms "not copied" my.db safe/3
+is_started
+# What stands in the file is changed by hand: a sum, two balances, a moment, and a file of another day.
+changed() {
+    cp my.db changed.db
+    if [ -e my.db-wal ]; then cp my.db-wal changed.db-wal; fi
+    sqlite3 changed.db "$1"
+    alarms "$2" changed.db "safe/$3" safe/my.db.digests
+    is_started
+}
+changed 'UPDATE teller SET balance = balance + 1 WHERE tid = 1' 'bank audit ended with status 5' 4
+changed 'UPDATE account SET balance = balance + 300 - 200 * aid WHERE aid < 3' 'bank replay ended with status 5' 5
+changed 'UPDATE history SET moment = moment - 1 WHERE ordinal = 1' 'are not those of the evening before' 6
+alarms "has not the $count requests" safe/1/my.db safe/7 safe/my.db.digests
 echo "evening.sh"
+
+# Recovery as in docs/USING.md: the copy of the first evening gets what was posted since.
+for end in "" -wal; do
+    if [ -e "safe/1/my.db$end" ]; then cp "safe/1/my.db$end" "recovered.db$end"; fi
+done
+"$bank" plan my.db >plan.csv
+same "$("$bank" load recovered.db plan.csv)" "opened 0 already 2 differs 0" "the plan of a bank"
+"$bank" export my.db --after 6 >rest
+same "$(wc -c <rest)" "$((100 * (count - 6)))" "bytes of export"
+"$bank" post recovered.db <rest >replies
+"$bank" export my.db | "$bank" post recovered.db | tail -c +1201 | cmp - replies
+for it in audit export plan; do
+    cmp <("$bank" "$it" my.db) <("$bank" "$it" recovered.db) || fail "$it of a bank that was recovered"
+done
+echo "recovery"
 
 if "$top/examples/migrate.sh" lost.db "$bank" 2>/dev/null; then fail "a migration of nothing"; fi
 lacks lost.db.before

@@ -1,0 +1,191 @@
+#!/usr/bin/env python3
+"""Compares the built program's replays, digests, records and plans with those of tools/replay.py, on drawn files.
+
+Each file is a bank of drawn branches, some with floors, some opened between records, with records that are posted and
+refused, some with references and some that come again. A third are then set back to version 1 or 2 by SQL, and
+migrated. Half are changed by SQL, in ways that are drawn too. What the two say of a file has to be the same to the
+byte, as has the status. Where it agrees, a second bank is made from its plan and its records as the program gives
+them, which agrees too and keeps as many requests. It needs the built program, and stands outside the gate.
+
+    tools/replay_agrees.py [FILES [SEED]]
+"""
+import os
+import random
+import sqlite3
+import subprocess
+import sys
+import tempfile
+
+import replay
+
+HERE = os.path.dirname(os.path.dirname(os.path.abspath(__file__)))
+BANK = os.environ.get("BANK", os.path.join(HERE, "crates", "bank", "out", "bank"))
+
+# Changes by hand: a statement for keys and amounts that are drawn.
+CHANGES = [
+    "UPDATE account SET balance = balance + {amount} WHERE aid = {account}",
+    "UPDATE teller SET balance = balance + {amount} WHERE tid = {teller}",
+    "UPDATE branch SET balance = balance + {amount} WHERE bid = {branch}",
+    "UPDATE branch SET accounts = accounts + 1 WHERE bid = {branch}",
+    "UPDATE branch_floor SET lowest = min(lowest + {amount}, 0)",
+    "DELETE FROM branch_floor WHERE bid = {branch}",
+    "DELETE FROM account WHERE aid = {account}",
+    "DELETE FROM teller WHERE tid = {teller}",
+    "DELETE FROM branch WHERE bid = {branch}",
+    "INSERT OR IGNORE INTO account VALUES ({account} + 1, 0)",
+    "INSERT OR IGNORE INTO teller VALUES ({teller} + 10, 0)",
+    "INSERT OR IGNORE INTO branch VALUES ({branch} + 1, 1, 0)",
+    "UPDATE meta SET decided = decided + 1",
+    "UPDATE history SET moment = moment + 1 WHERE ordinal = {ordinal}",
+    "UPDATE history SET aid = {account} WHERE ordinal = {ordinal}",
+    "UPDATE history SET delta = delta + {amount} WHERE ordinal = {ordinal}",
+    "DELETE FROM history WHERE ordinal = {ordinal}",
+    "DELETE FROM request WHERE ordinal = {ordinal}",
+    "UPDATE request SET aid = {account} WHERE ordinal = {ordinal}",
+    "UPDATE request SET balance = balance + {amount} WHERE ordinal = {ordinal}",
+    "UPDATE request SET delta = delta + {amount} WHERE ordinal = {ordinal}",
+    "UPDATE request SET outcome = {outcome} WHERE ordinal = {ordinal}",
+    "UPDATE request SET number = number + 1000000 WHERE ordinal = {ordinal}",
+    "UPDATE request_reference SET reference = 'CHANGED BY HAND     ' WHERE ordinal = {ordinal}",
+    "DELETE FROM request_reference WHERE ordinal = {ordinal}",
+    "INSERT OR IGNORE INTO request_reference VALUES ({ordinal} + 1, 'PUT IN BY HAND      ')",
+]
+
+
+def run(*words, data=b""):
+    told = subprocess.run([BANK, *words], input=data, capture_output=True, check=False)
+    return told.stdout, told.stderr, told.returncode
+
+
+def done(*words, data=b""):
+    """The output of a command that has to succeed."""
+    output, faults, status = run(*words, data=data)
+    if status:
+        sys.exit(f"replay_agrees: status {status} of {' '.join(words)}: {faults.decode()}")
+    return output
+
+
+def draw_plan(draw):
+    return {bid: (draw.randint(1, 5), draw.choice([None, None, 0, -draw.randint(1, 2000)]))
+            for bid in draw.sample([1, 2, 3, 50, 9999], draw.randint(1, 4))}
+
+
+def write_plan(path, plan):
+    with open(path, "w", encoding="ascii") as out:
+        out.write("branch,accounts,floor\n")
+        out.writelines(f"{bid},{count},{'' if floor is None else floor}\n" for bid, (count, floor) in plan.items())
+
+
+def draw_record(draw, plan, sent):
+    """A record of an open teller mostly, or one that was sent."""
+    if sent and draw.random() < 0.1:
+        return draw.choice(sent)
+    bid = draw.choice(list(plan))
+    home = draw.choice(list(plan)) if draw.random() < 0.2 else bid
+    aid = 100_000 * (home - 1) + draw.randint(1, plan[home][0] + (draw.random() < 0.1))
+    tid = 10 * (bid - 1) + draw.randint(1, 10)
+    named = bid + (draw.random() < 0.05)
+    delta = draw.choice([draw.randint(-3000, 3000), 0, 9_999_999_999, -9_999_999_999])
+    reference = draw.choice([None, None, "RENT", ""])
+    return replay.record_of(replay.fields_of(aid, tid, named, draw.randint(1, 400), delta), reference)
+
+
+def make(work, file, draw):
+    """A bank whose branches are opened in two parts, with records before and between."""
+    plan = draw_plan(draw)
+    first = dict(list(plan.items())[: draw.randint(0, len(plan))])
+    done("init", file)
+    sent = []
+    for part in (first, plan):
+        write_plan(os.path.join(work, "plan.csv"), part)
+        done("load", file, os.path.join(work, "plan.csv"))
+        records = [draw_record(draw, plan, sent) for _ in range(draw.choice([0, 1, 20, 64, 65, 200]))]
+        sent += records
+        done("post", file, data=b"".join(records))
+
+
+def by_sql(file, text):
+    conn = sqlite3.connect(file)
+    conn.executescript(text)
+    conn.commit()
+    conn.close()
+
+
+def migrated(file):
+    """Sets a bank back to version 2, or to version 1 if it has no floors, and carries it over."""
+    version = 2 if tables_of(file)["branch_floor"] else 1
+    floors = "DROP TABLE branch_floor; " if version == 1 else ""
+    by_sql(file, f"{floors}DROP TABLE request_reference; UPDATE meta SET version = {version}")
+    done("migrate", file)
+
+
+def change(file, draw):
+    """Changes a bank by hand, in one way or two."""
+    tables = tables_of(file)
+    keys = {"account": "account", "teller": "teller", "branch": "branch", "ordinal": "request"}
+    for _ in range(draw.randint(1, 2)):
+        drawn = {name: draw.choice(list(tables[table]) or [1]) for name, table in keys.items()}
+        drawn |= {"amount": draw.choice([1, -1, 100, -5000]), "outcome": draw.choice(list(replay.NAMES))}
+        by_sql(file, draw.choice(CHANGES).format(**drawn))
+
+
+def tables_of(file):
+    conn = sqlite3.connect(file)
+    tables = replay.tables_of(conn)
+    conn.close()
+    return tables
+
+
+def compare(file, words, lines, status):
+    """The program prints these lines, a fault's on standard error."""
+    text = "".join(line + "\n" for line in lines).encode()
+    wanted = (b"", text, status) if status in (3, 4) else (text, b"", status)
+    told = run(*words)
+    if told != wanted:
+        sys.exit(f"replay_agrees: {file}: {' '.join(words)}: {told}, not {wanted}")
+
+
+def again(work, file, requests):
+    """A second bank from the plan and the records of one, in which each branch is open before the first record."""
+    records = done("export", file)
+    if len(records) != 100 * requests:
+        sys.exit(f"replay_agrees: {file}: {len(records)} bytes of records, not {requests} records")
+    second = file + ".second"
+    with open(os.path.join(work, "second.csv"), "wb") as out:
+        out.write(done("plan", file))
+    done("init", second)
+    done("load", second, os.path.join(work, "second.csv"))
+    done("post", second, data=records)
+    if len(done("export", second)) != len(records) or run("replay", second)[2]:
+        sys.exit(f"replay_agrees: {file}: its second bank")
+
+
+def main():
+    if not os.access(BANK, os.X_OK):
+        sys.exit("replay_agrees: build the program first: (cd crates/bank && rt run -- --help)")
+    files = int(sys.argv[1]) if len(sys.argv) > 1 else 20
+    first = int(sys.argv[2]) if len(sys.argv) > 2 else 0
+    agree = 0
+    with tempfile.TemporaryDirectory() as work:
+        for seed in range(first, first + files):
+            draw = random.Random(seed)
+            file = os.path.join(work, f"{seed}.db")
+            make(work, file, draw)
+            if seed % 3 == 2:
+                migrated(file)
+            if seed % 2 == 1:
+                change(file, draw)
+            tables = tables_of(file)
+            lines, status = replay.replay(tables)
+            compare(file, ("replay", file), lines, status)
+            if status == 0:
+                agree += 1
+                requests = list(replay.requests_of(tables))
+                some = draw.randint(0, len(requests))
+                compare(file, ("digest", file, str(some)), replay.digest_lines(requests[:some]), 0)
+                compare(file, ("digest", file, str(len(requests) + 1)), [f"bank: no request {len(requests) + 1}"], 4)
+                again(work, file, len(requests))
+    print(f"replay_agrees: {files} files, {agree} of them agree: each replay is that of tools/replay.py")
+
+
+main()
