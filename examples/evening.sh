@@ -1,22 +1,34 @@
 #!/usr/bin/env bash
-# The evening of a bank that is served: the counter stops, both files are copied, the counter starts again, and then the
-# copy is audited. Ends with status 0 if the copy is consistent; any other status is an alarm.
+# The evening of a bank that is served: the counter stops, both files are copied, and the counter starts again. Then the
+# copy is audited and replayed, and its first requests are compared with those of the evening before. Ends with status 0
+# if all is well; any other status is an alarm, and a line on standard error says of what.
 #
-#     examples/evening.sh FILE FOLDER
+#     examples/evening.sh FILE FOLDER [DIGESTS]
 #
-# FILE is the bank, and FOLDER gets its copy. STOP and START are the commands that stop and start the counter, and BANK
-# is the program; without them it is the service of examples/bank.service.
+# FILE is the bank. FOLDER, a new one each evening, gets the copy, its audit and its replay. The file DIGESTS gets a line
+# `requests N digest D` each evening: let it be where nobody who can write FILE can write. If it isn't named, it is beside
+# FOLDER. STOP and START are the commands that stop and start the counter, and BANK is the program; without them it is
+# the service of examples/bank.service.
 set -eu
 stop="${STOP:-systemctl stop bank}"
 start="${START:-systemctl start bank}"
 bank="${BANK:-bank}"
 file="${1:?the bank}"
 folder="${2:?a folder for the copy}"
-copy="$folder/$(basename "$file")"
+name="$(basename "$file")"
+copy="$folder/$name"
+digests="${3:-$(dirname "$folder")/$name.digests}"
 
 alarm() {
     echo "evening: $1" >&2
     exit 1
+}
+copy_both() {
+    cp "$file" "$copy" && if [ -e "$file-wal" ]; then cp "$file-wal" "$copy-wal"; fi
+}
+# What `bank replay` and `bank digest` begin with, two lines, as one.
+one_line() {
+    head -2 "$1" | paste -sd ' ' - | tr -s ' '
 }
 
 # Both files or neither: a copy of the evening before isn't mixed with this one's.
@@ -24,14 +36,24 @@ if [ ! -e "$file" ]; then alarm "there is no $file"; fi
 if [ -e "$copy" ] || [ -e "$copy-wal" ]; then alarm "$copy is there"; fi
 mkdir -p "$folder"
 
-# The counter starts again whatever the copying comes to.
-copied=yes
-$stop
-cp "$file" "$copy" || copied=no
-if [ -e "$file-wal" ]; then cp "$file-wal" "$copy-wal" || copied=no; fi
-$start
+# The counter starts again as soon as the files are copied, whatever the copying comes to, also where a signal ends it.
+copied=no
+trap '$start' EXIT
+if $stop && copy_both; then copied=yes; fi
+trap - EXIT
+$start || alarm "the counter did not start"
 if [ "$copied" = no ]; then alarm "$file was not copied"; fi
-
 sync "$copy" "$folder"
+
 "$bank" audit "$copy" >"$copy.audit" || alarm "bank audit ended with status $?: see $copy.audit"
-tail -1 "$copy.audit"
+"$bank" replay "$copy" >"$copy.replay" || alarm "bank replay ended with status $?: see $copy.replay"
+if [ -s "$digests" ]; then
+    before="$(tail -1 "$digests")"
+    count="$(cut -d ' ' -f 2 <<<"$before")"
+    "$bank" digest "$copy" "$count" >"$copy.digest" || alarm "$copy has not the $count requests of the evening before"
+    if [ "$(one_line "$copy.digest")" != "$before" ]; then
+        alarm "the first $count requests are not those of the evening before: see $copy.digest and $digests"
+    fi
+fi
+one_line "$copy.replay" >>"$digests"
+tail -qn 1 "$copy.audit" "$copy.replay" "$digests"
