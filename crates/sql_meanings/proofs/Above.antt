@@ -1,5 +1,5 @@
 -- The next rows above a key, or from it on, under any schema.
-use Rattle.sql_meanings.specs.Names.{◌≡◌, ℕ, ◌-◌, List, [], ◌∷◌, map, Ok, Some, None, Option, true, false, Collation}
+use Rattle.sql_meanings.specs.Names.{ℕ, List, [], map, Ok, Some, None, Option, true, false, Collation}
 use Rattle.sql_meanings.specs.Names.{Program, Select, Term, lit, col, op2, Value, Schema, Table, Expr, out-Expr}
 use Rattle.sql_meanings.specs.Names.{Expr-F, Core, out-Core, Shown, Sort, out-Sort, out-Source, Parsed, Draft, Inner}
 use Rattle.sql_meanings.specs.Names.{Output, Carried, integer, nothing, alone, chosen, begin, finish, spend, Name}
@@ -30,6 +30,7 @@ use Rattle.sqlite_ast.specs.declared.Select as written_select
 use Rattle.sqlite_ast.specs.declared.Origin.TheVariants as origin
 use Rattle.sqlite_resolve.specs.declared.compare.Affinity.TheVariants as affinity
 use Rattle.sqlite_resolve.specs.Program as prog
+use Rattle.std.specs.Prelude.{◌≡◌, ◌-◌, ◌∷◌}
 
 lower_integer : (cx : Context) (e : Expr) (text : List ℕ) (v : Value) (d next budget : ℕ) (l : Carried)
     → out-Expr e ≡ Expr-F.Integer text → integer false text ≡ Ok v → nat_lt 1 budget ≡ true

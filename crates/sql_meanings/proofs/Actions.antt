@@ -1,6 +1,6 @@
 -- Whatever refers to a table with no foreign key of its own, an edit leaves in it what the edit says.
-use Rattle.sql_meanings.specs.Names.{◌≡◌, ◌≢◌, ℕ, ◌+◌, ◌==◌, List, [], ◌∷◌, length, Ok, Result, Some, None, Option}
-use Rattle.sql_meanings.specs.Names.{◌&&◌, ◌⊎◌, ℤ, filter_map, flat_map, list_any, Schema, Table, Trees, Keys}
+use Rattle.sql_meanings.specs.Names.{ℕ, List, [], length, Ok, Result, Some, None, Option}
+use Rattle.sql_meanings.specs.Names.{ℤ, filter_map, flat_map, list_any, Schema, Table, Trees, Keys}
 use Rattle.sql_meanings.specs.Names.{Reference, ParentKey, parent_key, Deed, Has, taken_by, work_by, work_for, works}
 use Rattle.sql_meanings.specs.Names.{pairs, deed_for, Leads, Writes}
 use Rattle.sql_meanings.proofs.Names.{suc, zero, refl, nat_lt, ap, sym, subst, ◌∙◌, inl, inr, cases_Bool, all_has}
@@ -10,6 +10,7 @@ use Rattle.sqlite_value.specs.Order.{Row}
 use Rattle.sqlite_rules.specs.Edit.{Edit, Applies, edited}
 use Rattle.sqlite_rules.specs.Action.{Work, loses, Acts, ActsOn, Goes, refuses, max_depth, action_edit, End}
 use Rattle.sql_meanings.specs.Making.{Stands}
+use Rattle.std.specs.Prelude.{◌≡◌, ◌≢◌, ◌+◌, ◌==◌, ◌∷◌, ◌&&◌, ◌⊎◌}
 
 ok_same : {B E : Type 0} {a b : B} → ◌≡◌ {A = Result B E} (Ok a) (Ok b) → a ≡ b
 ok_same e = cc

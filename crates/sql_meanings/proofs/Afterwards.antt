@@ -1,10 +1,11 @@
 -- What a failure says of the states before it and after it.
-use Rattle.sql_meanings.specs.Names.{ℕ, ◌≤◌, Bool, IsTrue, State, Fails, HasCause, IsRolledBack, KeepsCounts, Error}
+use Rattle.sql_meanings.specs.Names.{ℕ, Bool, IsTrue, State, Fails, HasCause, IsRolledBack, KeepsCounts, Error}
 use Rattle.sql_meanings.specs.Names.{StoreError, OutOfMemory, Io, Corrupt, Full, Broken, Unstorable}
 use Rattle.sql_meanings.proofs.Names.{◌∙◌, arith}
 use Rattle.sqlite.specs.Disk.{MoreFaults}
 use Rattle.sqlite.specs.State.{Shows as StateShows}
 use Rattle.sql_meanings.specs.StatementAnswers.{IsUndone, NamesCause}
+use Rattle.std.specs.Prelude.{◌≤◌}
 
 faults_since : (a b c : ℕ) → a ≤ b → MoreFaults b c → MoreFaults a c
 faults_since a b c more h = omega arith

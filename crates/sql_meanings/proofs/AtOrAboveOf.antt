@@ -1,5 +1,5 @@
 -- The next rows from a key on among those with a number in a column, under any schema.
-use Rattle.sql_meanings.specs.Names.{Bool, ◌≡◌, ℕ, ◌-◌, List, [], ◌∷◌, map, Ok, Some, None, true, false, Program}
+use Rattle.sql_meanings.specs.Names.{Bool, ℕ, List, [], map, Ok, Some, None, true, false, Program}
 use Rattle.sql_meanings.specs.Names.{Select, lit, col, op2, Value, Schema, Table, Expr, out-Expr, Expr-F, Core, Shown}
 use Rattle.sql_meanings.specs.Names.{Sort, out-Sort, Parsed, Inner, Output, Carried, integer, nothing, alone, Name}
 use Rattle.sql_meanings.specs.Names.{declared, alias_of, number, conjuncts, affinity_of, ungrouped, lower_to, both}
@@ -23,6 +23,7 @@ use Rattle.sqlite_ast.specs.declared.Statement.TheVariants as written
 use Rattle.sqlite_ast.specs.declared.Select as written_select
 use Rattle.sqlite_resolve.specs.declared.compare.Affinity.TheVariants as affinity
 use Rattle.sqlite_resolve.specs.Program as prog
+use Rattle.std.specs.Prelude.{◌≡◌, ◌-◌, ◌∷◌}
 
 module _ (schema : Schema) (p : ℕ) (table : Table) (name : Name) (shown : List Output) (may : Bool)
     (has : HasTable schema name p table) where

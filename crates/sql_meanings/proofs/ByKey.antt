@@ -1,5 +1,5 @@
 -- The test of a column against a parameter, and an UPDATE by it.
-use Rattle.sql_meanings.specs.Names.{◌≡◌, ℕ, ◌-◌, ◌==◌, List, [], ◌∷◌, Ok, Some, None, slice_get, Bool, true, false}
+use Rattle.sql_meanings.specs.Names.{ℕ, List, [], Ok, Some, None, slice_get, Bool, true, false}
 use Rattle.sql_meanings.specs.Names.{cond, Compare, Eq, column_named, place_of, Column, Program, Term, col, op2}
 use Rattle.sql_meanings.specs.Names.{Schema, Table, Expr, out-Expr, Expr-F, Parsed, Inner, Output, Carried, nothing}
 use Rattle.sql_meanings.specs.Names.{chosen, Name, Context, declared, compared, affinity_of, converted, may_be_text}
@@ -17,6 +17,7 @@ use Rattle.sqlite_ast.specs.declared.Statement.TheVariants as written
 use Rattle.sqlite_resolve.specs.declared.compare.Affinity.TheVariants as affinity
 use Rattle.sqlite_resolve.specs.Write as w
 use Rattle.sqlite_resolve.specs.Program as prog
+use Rattle.std.specs.Prelude.{◌≡◌, ◌-◌, ◌==◌, ◌∷◌}
 
 -- a column of numbers is compared with a parameter as it is
 pub compared_is : (cx : Context) (at m : ℕ) → affinity_of cx (col 1 at) ≡ affinity.Numeric

@@ -1,11 +1,12 @@
 -- A row of a key, whole numbers and texts is stored as it is.
-use Rattle.sql_meanings.specs.Names.{◌≡◌, ◌≤◌, ◌⊎◌, ℕ, ℤ, List, [], ◌∷◌, ◌++◌, map, length, Value, Null, Int, Text}
+use Rattle.sql_meanings.specs.Names.{ℕ, ℤ, List, [], map, length, Value, Null, Int, Text}
 use Rattle.sql_meanings.specs.Names.{Row, Table, cast_row, Column}
 use Rattle.sql_meanings.proofs.Names.{inl, inr, refl, ap, arith}
 use Rattle.sqlite_rules.specs.Cast.{cast, cast_all}
 use Rattle.sql_meanings.specs.Entries.{Entry, numbers, texts_held, stored, AreShort}
 use Rattle.sql_meanings.specs.Plain.{key_column, number_column, text_column}
 use Rattle.sql_meanings.proofs.EntryLists.{cast_int, cast_null}
+use Rattle.std.specs.Prelude.{◌≡◌, ◌≤◌, ◌⊎◌, ◌∷◌, ◌++◌}
 
 -- the column takes this value as it is, and keeps it
 abbrev pub IsFor : Column → Value → Type 0

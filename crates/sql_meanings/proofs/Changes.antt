@@ -1,11 +1,12 @@
 -- The row under a key is changed, or a row is put in: what is found after it, and that keys rise on.
-use Rattle.sql_meanings.specs.Names.{◌≡◌, ◌||◌, ℕ, ℤ, List, [], ◌∷◌, map, find, is_some, cond, Bool, true, false}
+use Rattle.sql_meanings.specs.Names.{ℕ, ℤ, List, [], map, find, is_some, cond, Bool, true, false}
 use Rattle.sql_meanings.specs.Names.{Some, None, int_eq, match_ordering, AllByRecursion, Row, is_taken}
 use Rattle.sql_meanings.proofs.Names.{refl, sym, ap, subst, ◌∙◌, Less, Equal, Greater, Ordering, int_cmp, ints, arith}
 use Rattle.sql_meanings.proofs.Names.{value_cmp-Int}
 use Rattle.std.proofs.lemmas.Bool.Decides.{Decides-int_eq}
 use Rattle.sql_meanings.specs.Entries.{HasWidth, Entry, IsTree, Rise, changed, has_key, put, stored}
 use Rattle.sql_meanings.proofs.EntryLists.{Above, rise_put}
+use Rattle.std.specs.Prelude.{◌≡◌, ◌||◌, ◌∷◌}
 
 -- what holds of every element holds of the one that is found
 pub found_all : {X : Type 0} (P : X → Type 0) (p : X → Bool) (xs : List X) (x : X) → AllByRecursion P xs

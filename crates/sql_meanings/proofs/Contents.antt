@@ -1,5 +1,5 @@
 -- Tables side by side: what is held of each, and what a write of one leaves.
-use Rattle.sql_meanings.specs.Names.{◌≡◌, ◌≢◌, ◌==◌, ◌&&◌, not, ℕ, List, [], ◌∷◌, length, slice_get, Some, true}
+use Rattle.sql_meanings.specs.Names.{not, ℕ, List, [], length, slice_get, Some, true}
 use Rattle.sql_meanings.specs.Names.{bytes_eq, State, Table, Database, Has}
 use Rattle.sql_meanings.proofs.Names.{inl, inr, zero, suc, refl, sym, subst, arith}
 use Rattle.std.proofs.Common.{slice_set}
@@ -11,6 +11,7 @@ use Rattle.sql_meanings.proofs.Steps.{stayed, stepped}
 use Rattle.sql_meanings.proofs.TableWrites.{Leaves}
 use Rattle.sql_meanings.proofs.Tests.{and_both}
 use Rattle.sql_meanings.proofs.Trees.{Holds-prop}
+use Rattle.std.specs.Prelude.{◌≡◌, ◌≢◌, ◌==◌, ◌&&◌, ◌∷◌}
 
 -- ---- what the tests say
 

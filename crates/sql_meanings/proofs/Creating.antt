@@ -1,6 +1,6 @@
 -- CREATE TABLE under any schema.
-use Rattle.sql_meanings.specs.Names.{◌≡◌, ℕ, ◌==◌, ◌&&◌, not, if◌then◌else◌, List, [], length, Ok, Err, None, is_some}
-use Rattle.sql_meanings.specs.Names.{Bool, true, false, ◌⊎◌, table_named, index_named, view_named, Schema, Table}
+use Rattle.sql_meanings.specs.Names.{ℕ, not, List, [], length, Ok, Err, None, is_some}
+use Rattle.sql_meanings.specs.Names.{Bool, true, false, table_named, index_named, view_named, Schema, Table}
 use Rattle.sql_meanings.specs.Names.{Parsed, CompileError, Compiled, Checked, and_then, Name, compiled, first}
 use Rattle.sql_meanings.specs.Names.{planned, timed, meaning, returning, command, create_table, creates, is_attached}
 use Rattle.sql_meanings.specs.Names.{is_reserved, with_command, understood}
@@ -13,6 +13,7 @@ use Rattle.sqlite.specs.Listing.{misses_table}
 use Rattle.sql_meanings.specs.Making.{IsCreation}
 use Rattle.sqlite_ast.specs.declared.Statement.TheVariants as written
 use Rattle.sqlite_resolve.specs.Define as define
+use Rattle.std.specs.Prelude.{◌≡◌, ◌==◌, ◌&&◌, if◌then◌else◌, ◌⊎◌}
 
 -- it is made, or refused as a name that is taken
 abbrev pub Outcome : {A : Type 0} → A → Checked A → Type 0

@@ -1,5 +1,5 @@
 -- 'A schema defines a table' is a proposition, and the same as that the table stands.
-use Rattle.sql_meanings.specs.Names.{◌≡◌, ℕ, [], Some, None, Option, slice_get, option_and_then, AllByRecursion-prop}
+use Rattle.sql_meanings.specs.Names.{ℕ, [], Some, None, Option, slice_get, option_and_then, AllByRecursion-prop}
 use Rattle.sql_meanings.specs.Names.{table_named, Schema, Table, Trees, IsSound, Has}
 use Rattle.sql_meanings.proofs.Names.{sym, ap, ◌∙◌, all_has}
 use Rattle.std.specs.Coded.{coded_option}
@@ -11,6 +11,7 @@ use Rattle.sql_meanings.specs.Tables.{Defines, table_of, tree_of}
 use base.Stored.{Coded-set}
 use mathlib.Core.HLevel.{Π_prop}
 use Rattle.sqlite_schema.specs.contracts.schema.Table as table_row
+use Rattle.std.specs.Prelude.{◌≡◌}
 
 Table-set : IsSet Table
 Table-set = Coded-set table_row.the_row.coded

@@ -1,5 +1,5 @@
 -- The rows of a tree and their entries.
-use Rattle.sql_meanings.specs.Names.{◌≡◌, ℕ, ℤ, List, [], ◌∷◌, map, filter, find, cond, Bool, true, false, not, None}
+use Rattle.sql_meanings.specs.Names.{ℕ, ℤ, List, [], map, filter, find, cond, Bool, true, false, not, None}
 use Rattle.sql_meanings.specs.Names.{Some, is_eq, int_eq, match_ordering, AllByRecursion, Null, Int, Text, put_row}
 use Rattle.sql_meanings.specs.Names.{without_rowid, is_true, from_truth, binary, Compare, Eq, Binary}
 use Rattle.sql_meanings.proofs.Names.{inl, inr, refl, ap, ◌∙◌, Less, Equal, Greater, Ordering, int_cmp, arith, ints}
@@ -11,6 +11,7 @@ use Rattle.sqlite_trees.proofs.ListLemmas.{filter-map}
 use Rattle.sqlite_schema.specs.declared.schema.Kind.TheVariants.{Integer}
 use Rattle.sqlite.specs.Cast.{cast}
 use Rattle.sql_meanings.specs.Entries.{listed, Entry, Rise, has_key, put, stored}
+use Rattle.std.specs.Prelude.{◌≡◌, ◌∷◌}
 
 -- a choice between the same
 pub either : {X : Type 0} (b : Bool) (x : X) → cond b x x ≡ x

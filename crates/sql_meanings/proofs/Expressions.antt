@@ -1,5 +1,5 @@
 -- Expressions over one table, under any schema.
-use Rattle.sql_meanings.specs.Names.{◌≡◌, ℕ, ◌-◌, [], Ok, None, true, Term, col, op2, Expr, out-Expr, Expr-F, Carried}
+use Rattle.sql_meanings.specs.Names.{ℕ, [], Ok, None, true, Term, col, op2, Expr, out-Expr, Expr-F, Carried}
 use Rattle.sql_meanings.specs.Names.{nothing, begin, finish, spend, chosen, Name, Context, column, compared, lower_to}
 use Rattle.sql_meanings.specs.Names.{node, opened, passes, operation, both, wanted_truth, tests_truth, tests_alias}
 use Rattle.sql_meanings.specs.Names.{combine}
@@ -8,6 +8,7 @@ use Rattle.sqlite_resolve.specs.declared.state.State.{State}
 use Rattle.sqlite_ast.specs.declared.Binary.TheVariants as binary
 use Rattle.sqlite_sql.specs.declared.ops.BinaryOp.TheVariants as by
 use Rattle.sqlite_sql.specs.declared.ops.CompareOp.TheVariants as compare
+use Rattle.std.specs.Prelude.{◌≡◌, ◌-◌}
 
 -- between two expressions of a query with no subquery
 abbrev pub st : ℕ → ℕ → Carried → State

@@ -1,5 +1,5 @@
 -- Where its name is free, a CREATE TABLE is understood, and only a full file refuses it.
-use Rattle.sql_meanings.specs.Names.{◌≡◌, ℕ, ◌+◌, ◌++◌, ◌==◌, ◌&&◌, not, List, [], ◌∷◌, length, Bool, true, false, Ok}
+use Rattle.sql_meanings.specs.Names.{ℕ, not, List, [], length, Bool, true, false, Ok}
 use Rattle.sql_meanings.specs.Names.{None, Some, Option, is_some, codes, slice_get, option_and_then, position_from}
 use Rattle.sql_meanings.specs.Names.{created, is_used, next_tree, lacks_sequence, understood, sequence, Schema, Table}
 use Rattle.sql_meanings.specs.Names.{Error, SqliteFailure, SchemaTooBig, index_named, same_name, table_named, Parsed}
@@ -14,6 +14,7 @@ use Rattle.sql_meanings.specs.StatementAnswers.{IsUnderstood}
 use Rattle.sql_meanings.proofs.TableStands.{counts_created}
 use Rattle.sqlite_ast.specs.declared.Statement.TheVariants as written
 use Rattle.sqlite_resolve.specs.Define as define
+use Rattle.std.specs.Prelude.{◌≡◌, ◌+◌, ◌++◌, ◌==◌, ◌&&◌, ◌∷◌}
 
 module _ (schema : Schema) (def : CreateTable) (t : Table) (defined : define.table [] def ≡ Ok t)
     (stamped : (length t.computed == length t.stamps.places && not def.resolves) ≡ true)

@@ -1,9 +1,10 @@
 -- How a schema grows: its trees are numbered low, and the table of AUTOINCREMENT may come first.
-use Rattle.sql_meanings.specs.Names.{◌≡◌, ◌<◌, List, [], ◌∷◌, Ok, ◌⊎◌, Schema, Table, Trees, Has, IsSound, Database}
+use Rattle.sql_meanings.specs.Names.{List, [], Ok, Schema, Table, Trees, Has, IsSound, Database}
 use Rattle.sql_meanings.specs.Names.{MakesTable, MakesSequence, lacks_sequence, sequence_text}
 use Rattle.sql_meanings.proofs.Names.{sym, subst, inl, inr, cases_Bool}
 use Rattle.std.specs.List.{AllZip}
 use Rattle.sqlite_catalog.specs.Listing.{IsTableRow}
+use Rattle.std.specs.Prelude.{◌≡◌, ◌<◌, ◌∷◌, ◌⊎◌}
 
 zipped : {X Y : Type 0} (R : X → Y → Type 0) (xs : List X) (ys : List Y) (y : Y) → AllZip R xs ys → Has ys y
     → (x : X) × R x y

@@ -1,5 +1,5 @@
 -- What a text means that reads or writes the row under its key, by what is computed of the text alone.
-use Rattle.sql_meanings.specs.Names.{◌≡◌, ◌≤◌, ℕ, ℤ, true, false, List, [], ◌∷◌, length, slice_get, Ok, Some, None}
+use Rattle.sql_meanings.specs.Names.{ℕ, ℤ, true, false, List, [], length, slice_get, Ok, Some, None}
 use Rattle.sql_meanings.specs.Names.{Schema, Table, Term, col, op2, eval_all, Int, Expr, out-Expr, Expr-F, Inner}
 use Rattle.sql_meanings.specs.Names.{first, chosen, nothing, declared, ungrouped, number, column_named, place_of}
 use Rattle.sql_meanings.specs.Names.{passes_checks, Compare, Eq, Parsed, accepts_program}
@@ -20,6 +20,7 @@ use Rattle.sqlite_ast.specs.declared.Binary.TheVariants as binary
 use Rattle.sqlite_ast.specs.declared.Statement.TheVariants as written
 use Rattle.sqlite_resolve.specs.Program as program
 use Rattle.sqlite_resolve.specs.Write as write
+use Rattle.std.specs.Prelude.{◌≡◌, ◌≤◌, ◌∷◌}
 
 -- the key of the table stands first
 abbrev pub IsFirst : Table → List ℕ → Type 0

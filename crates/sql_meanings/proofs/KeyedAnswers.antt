@@ -1,5 +1,5 @@
 -- What a keyed SELECT answers.
-use Rattle.sql_meanings.specs.Names.{◌≡◌, ℕ, ℤ, List, [], ◌∷◌, ◌++◌, length, map, filter, find, cond, ◌&&◌, Bool}
+use Rattle.sql_meanings.specs.Names.{ℕ, ℤ, List, [], length, map, filter, find, cond, Bool}
 use Rattle.sql_meanings.specs.Names.{true, false, Some, None, Option, flat_map, Value, Int, Row, Term, Env, eval_all}
 use Rattle.sql_meanings.specs.Names.{holds, col, IsAnswerAs, matches_as, inner, end, output, Trees}
 use Rattle.sql_meanings.proofs.Names.{refl, sym, ap, subst, ◌∙◌, arith, length_permutation, map-map}
@@ -9,6 +9,7 @@ use Rattle.sqlite.proofs.Callers.{one_permutation}
 use Rattle.sql_meanings.proofs.EntryLists.{int_equals, one_filter}
 use Rattle.sql_meanings.specs.Entries.{listed, Entry, IsTree, has_key, stored}
 use Rattle.sql_meanings.specs.Queries.{no_limit, is, query}
+use Rattle.std.specs.Prelude.{◌≡◌, ◌∷◌, ◌++◌, ◌&&◌}
 
 -- the environment of each row that is met
 abbrev met : ℤ → Row → Entry → Env

@@ -1,5 +1,5 @@
 -- Why a CREATE TABLE inside a transaction fails, and what it tells.
-use Rattle.sql_meanings.specs.Names.{◌≡◌, ◌⊎◌, ℕ, ◌+◌, ◌^◌, ◌==◌, true, false, codes, ◌≤◌, List, [], length, None}
+use Rattle.sql_meanings.specs.Names.{ℕ, true, false, codes, List, [], length, None}
 use Rattle.sql_meanings.specs.Names.{Some, Option, Ok, Err, Result, IsTrue, Table, automatics, created, is_used}
 use Rattle.sql_meanings.specs.Names.{next_tree, CreateTable, table_defined_by, Does, MakesSequence, MakesTable}
 use Rattle.sql_meanings.specs.Names.{lacks_sequence, no_rows, sequence_text, Database, Gives, Then, State}
@@ -19,6 +19,7 @@ use Rattle.sql_meanings.proofs.NumberRows.{none_indexed}
 use Rattle.sql_meanings.proofs.Stopping.{Stops, fails_for, stops}
 use Rattle.sql_meanings.proofs.PuttingIn.{never, stopped}
 use Rattle.sql_meanings.proofs.Writing.{same_value}
+use Rattle.std.specs.Prelude.{◌≡◌, ◌⊎◌, ◌+◌, ◌^◌, ◌==◌, ◌≤◌}
 
 module _ (text : List ℕ) (t : Table) (make : IsMakeable text t) (db : Database) where
   -- what is said of the table that the text defines is said of this one

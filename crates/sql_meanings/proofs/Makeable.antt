@@ -1,5 +1,5 @@
 -- That a text makes a table under any schema that takes it, by what is computed of the text.
-use Rattle.sql_meanings.specs.Names.{◌≡◌, ◌+◌, ◌^◌, ◌≤◌, ◌==◌, ◌&&◌, not, List, [], ℕ, Bool, true, false, length}
+use Rattle.sql_meanings.specs.Names.{not, List, [], ℕ, Bool, true, false, length}
 use Rattle.sql_meanings.specs.Names.{codes, Ok, None, IsUtf8, slice_range, list_all, table_defined_by, Table, Text}
 use Rattle.sql_meanings.specs.Names.{IsBadName, is_fit, is_formed, first, with_command, table_reals, Parsed}
 use Rattle.sql_meanings.proofs.Names.{nat_lt, inl, inr, refl, arith}
@@ -14,6 +14,7 @@ use Rattle.sql_meanings.specs.Making.{CreatesOnly, IsMakeable}
 use Rattle.sql_meanings.proofs.Creating.{compiled_create, known, told}
 use Rattle.sqlite_ast.specs.declared.Statement.TheVariants as written
 use Rattle.sqlite_resolve.specs.Define as define
+use Rattle.std.specs.Prelude.{◌≡◌, ◌+◌, ◌^◌, ◌≤◌, ◌==◌, ◌&&◌}
 
 abbrev is_ascii : List ℕ → Bool
 is_ascii = list_all (λ b. nat_lt b 128)

@@ -1,5 +1,5 @@
 -- A CREATE TABLE inside a transaction, done: the table is there and empty, and what stood stands on.
-use Rattle.sql_meanings.specs.Names.{◌≡◌, ◌⊎◌, ℕ, List, [], None, Ok, Err, Result, false, unwrap_or, Table, Row}
+use Rattle.sql_meanings.specs.Names.{ℕ, List, [], None, Ok, Err, Result, false, unwrap_or, Table, Row}
 use Rattle.sql_meanings.specs.Names.{CreateTable, Database, IsDatabase, understood, Does, MakesSequence, MakesTable}
 use Rattle.sql_meanings.specs.Names.{Tally, no_rows, Gives, Then, State, ExecutesIn, Executes, ExecutesInside}
 use Rattle.sql_meanings.specs.Names.{KeepsCommit, IsUnchanged, IsRolledBack, KeepsCounts, mode_of, Error}
@@ -12,6 +12,7 @@ use Rattle.sql_meanings.specs.StatementAnswers.{WriteKept}
 use Rattle.sql_meanings.proofs.Defining.{stands_defined}
 use Rattle.sql_meanings.proofs.TableStands.{adds}
 use Rattle.sql_meanings.proofs.Writing.{same_value}
+use Rattle.std.specs.Prelude.{◌≡◌, ◌⊎◌}
 
 -- whatever is executed inside
 pub kept_inside : (old new : State) (text : List ℕ) (params : Row) (r : Result ℕ Error)

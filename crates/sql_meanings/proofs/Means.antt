@@ -1,8 +1,9 @@
 -- What a text means under a schema, as a caller's proof takes it.
-use Rattle.sql_meanings.specs.Names.{◌≡◌, ℕ, List, [], length, ◌≤◌, None, Ok, Err, Result, false, Schema, Row}
+use Rattle.sql_meanings.specs.Names.{ℕ, List, [], length, None, Ok, Err, Result, false, Schema, Row}
 use Rattle.sql_meanings.specs.Names.{Command, understood, reads_listing, State, IsNoStatement, Error, Compiled}
 use Rattle.sql_meanings.specs.Names.{CompileError, compiled}
 use Rattle.sql_meanings.proofs.Names.{inl, inr, sym, ap, subst, ◌∙◌, IsPlain, command_of}
+use Rattle.std.specs.Prelude.{◌≡◌, ◌≤◌}
 
 -- one statement, with so many parameters, that is this command
 pub record Means (schema : Schema) (text : List ℕ) (count : ℕ) (command : Command) : Type 0 where

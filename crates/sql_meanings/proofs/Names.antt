@@ -6,7 +6,7 @@ pub use Rattle.sqlite_trees.proofs.ListLemmas.{map-map}
 pub use Rattle.sqlite_value.proofs.OrderLemmas.{value_cmp-Int}
 pub use Rattle.std.proofs.Common.{Equal, Greater, IsPermutation, Less, Ordering, ap, append-nil, arith, drop, get_or}
 pub use Rattle.std.proofs.Common.{inl, inr, int_cmp, length-append, nat_le, nat_lt, refl, subst, suc, sym, take, zero}
-pub use Rattle.std.proofs.Common.{◌/◌, ◌∙◌}
+pub use Rattle.std.proofs.Common.{◌∙◌}
 pub use Rattle.std.proofs.Math.Logic.{∥∥₁_elim}
 pub use Rattle.std.proofs.lemmas.Bool.{cases_Bool, or_parts}
 pub use Rattle.std.proofs.lemmas.Int.{ints}

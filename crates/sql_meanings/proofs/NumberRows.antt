@@ -1,5 +1,5 @@
 -- A row of a key and whole numbers keeps the rules that its table has of each row alone, and can be stored.
-use Rattle.sql_meanings.specs.Names.{◌≡◌, ◌⊎◌, ℕ, ◌+◌, ◌<◌, ◌≤◌, ◌==◌, ℤ, pos, negsuc, List, [], ◌∷◌, ◌++◌, ◌||◌, not}
+use Rattle.sql_meanings.specs.Names.{ℕ, ℤ, pos, negsuc, List, [], not}
 use Rattle.sql_meanings.specs.Names.{Bool, false, map, length, true, Some, AllByRecursion, Value, Null, Int, Text}
 use Rattle.sql_meanings.specs.Names.{Row, Table, IsStorable, IsStorableRow, entry_of, kind_code, index_reals}
 use Rattle.sql_meanings.specs.Names.{table_reals, Column}
@@ -19,6 +19,7 @@ use Rattle.sql_meanings.specs.Entries.{Entry, AreShort, numbers, texts_held, sto
 use Rattle.sql_meanings.specs.Plain.{key_column}
 use Rattle.sql_meanings.proofs.Casting.{AreFor, IsFor}
 use lib.Ieee.{is_nan}
+use Rattle.std.specs.Prelude.{◌≡◌, ◌⊎◌, ◌+◌, ◌<◌, ◌≤◌, ◌==◌, ◌∷◌, ◌++◌, ◌||◌}
 
 -- the first of what is left
 drop_head : (n : ℕ) (row : Row) (v : Value) (vs : Row) → drop n row ≡ v ∷ vs

@@ -1,5 +1,5 @@
 -- SELECT over one table, under any schema that has it.
-use Rattle.sql_meanings.specs.Names.{◌≡◌, ℕ, List, [], ◌∷◌, map, Ok, None, Option, true, false, Collation, Key}
+use Rattle.sql_meanings.specs.Names.{ℕ, List, [], map, Ok, None, Option, true, false, Collation, Key}
 use Rattle.sql_meanings.specs.Names.{Program, Select, Term, Schema, Table, Expr, Core, out-Core, Shown, Sort}
 use Rattle.sql_meanings.specs.Names.{out-Source, Draft, Inner, Output, Carried, nothing, take_slot, Name, number}
 use Rattle.sql_meanings.specs.Names.{table_in, bound, bounds, outputs, tests, body, sorts, parts, ungrouped, named}
@@ -19,6 +19,7 @@ use Rattle.sql_meanings.proofs.Expressions.{st}
 use Rattle.sql_meanings.proofs.Statements.{HasTable}
 use Rattle.sqlite_ast.specs.declared.Select as written_select
 use Rattle.sqlite_ast.specs.declared.Origin.TheVariants as origin
+use Rattle.std.specs.Prelude.{◌≡◌, ◌∷◌}
 
 -- a SELECT of one part, in this order and with this limit, if there is one
 abbrev pub IsSelectOf : written_select.Select → Core → List Sort → Option Expr → Type 0

@@ -1,5 +1,5 @@
 -- A SELECT shows rows and writes nothing, whatever the schema makes of it.
-use Rattle.sql_meanings.specs.Names.{◌≡◌, ℕ, List, [], length, ◌≤◌, Ok, Err, Result, Bool, true, false, cond, Schema}
+use Rattle.sql_meanings.specs.Names.{ℕ, List, [], length, Ok, Err, Result, Bool, true, false, cond, Schema}
 use Rattle.sql_meanings.specs.Names.{Row, Command, Parsed, Compiled, CompileError, Checked, compiled, first, planned}
 use Rattle.sql_meanings.specs.Names.{timed, meaning, returning, command, shows, read, understood, listing_schema}
 use Rattle.sql_meanings.specs.Names.{reads_listing, if_select, is_select, NoSuchTable, State, IsUnchanged, QueriesRow}
@@ -11,6 +11,7 @@ use Rattle.sql_meanings.proofs.Statements.{compiled_select}
 use Rattle.sql_meanings.specs.StatementAnswers.{IsOne, OnlyShows, ReadKept}
 use Rattle.sqlite_ast.specs.declared.Statement.TheVariants as written
 use Rattle.sqlite_ast.specs.declared.Select as written_select
+use Rattle.std.specs.Prelude.{◌≡◌, ◌≤◌}
 
 module _ (text : List ℕ) (count : ℕ) (P : Parsed) (s : written_select.Select) (parsed : first text ≡ Ok P)
     (is : P.statement ≡ written.Select s) (plain : P.formats ≡ [])

@@ -1,5 +1,5 @@
 -- What a query of one table with ORDER BY its key answers.
-use Rattle.sql_meanings.specs.Names.{◌≡◌, ◌&&◌, ℕ, ℤ, pos, List, [], ◌∷◌, map, filter, find, cond, Bool, true, false}
+use Rattle.sql_meanings.specs.Names.{ℕ, ℤ, pos, List, [], map, filter, find, cond, Bool, true, false}
 use Rattle.sql_meanings.specs.Names.{Some, AllByRecursion, flat_map, list_all, is_gt, Value, Int, Row, Binary}
 use Rattle.sql_meanings.specs.Names.{is_true, from_truth, binary, Compare, Gt, Trees, IsAscending, Term, Env}
 use Rattle.sql_meanings.specs.Names.{eval_all, holds, lit, col, Query, Join, IsAnswerAs, matches_as, page, inner, end}
@@ -15,6 +15,7 @@ use Rattle.sql_meanings.specs.Queries.{ascending, above, key_above, query}
 use Rattle.sql_meanings.proofs.EntryLists.{Above}
 use Rattle.sql_meanings.proofs.TestedAnswers.{passing}
 use Rattle.sql_meanings.proofs.RisingOrder.{sorted_is}
+use Rattle.std.specs.Prelude.{◌≡◌, ◌&&◌, ◌∷◌}
 
 module _ (from : Join) (tests project : List Term) (most : Term) (f : Entry → Env) (keyed : (e : Entry)
     → eval (col 1 0) (f e) ≡ Int e.key) where

@@ -1,6 +1,7 @@
 -- The element at a place of a list.
-use Rattle.sql_meanings.specs.Names.{◌≡◌, ℕ, ◌+◌, ◌<◌, length, List, [], ◌∷◌, slice_get, Some, AllByRecursion}
+use Rattle.sql_meanings.specs.Names.{ℕ, length, List, [], slice_get, Some, AllByRecursion}
 use Rattle.sql_meanings.proofs.Names.{zero, suc, drop, take, refl, sym, ap, subst, ◌∙◌, arith}
+use Rattle.std.specs.Prelude.{◌≡◌, ◌+◌, ◌<◌, ◌∷◌}
 
 -- of the one at a place
 pub each_at : {X : Type 0} (P : X → Type 0) (xs : List X) → AllByRecursion P xs → (n : ℕ) (x : X)

@@ -1,5 +1,5 @@
 -- What a caller knows after a plain SELECT, whose text is known to be understood.
-use Rattle.sql_meanings.specs.Names.{◌≡◌, ◌⊎◌, ℕ, List, [], ◌∷◌, length, None, Ok, Err, true, false, Schema, Row}
+use Rattle.sql_meanings.specs.Names.{ℕ, List, [], length, None, Ok, Err, true, false, Schema, Row}
 use Rattle.sql_meanings.specs.Names.{Query, IsSureAnswer, has_no_fold, overlay, understood, reads_listing, State}
 use Rattle.sql_meanings.specs.Names.{IsUnchanged, IsNotRun, QueriesRow, QueriesRowInside, FailsToQuery}
 use Rattle.sql_meanings.specs.Names.{accepts_program, Error, QueryReturnedNoRows}
@@ -13,6 +13,7 @@ use Rattle.sqlite.specs.State.{Shown}
 use Rattle.sqlite.proofs.Callers.{reads_as, first_as}
 use Rattle.sql_meanings.proofs.Means.{Means, meant_is, plain_is, no_refusal}
 use Rattle.sql_meanings.specs.StatementAnswers.{ReadFails}
+use Rattle.std.specs.Prelude.{◌≡◌, ◌⊎◌, ◌∷◌}
 
 module _ (schema : Schema) (text : List ℕ) (params : Row) (q : Query) (names : List (List ℕ))
     (m : Means schema text (length params) (Select (record { lets = []; body = q }) names))

@@ -1,6 +1,6 @@
 -- What a probe tells.
-use Rattle.sql_meanings.specs.Names.{◌≡◌, ℕ, List, [], ◌∷◌, Ok, Err, Some, None, Option, Result, Bool, true, false}
-use Rattle.sql_meanings.specs.Names.{cond, ◌⊎◌, Schema, Table, Term, table_named, view_named, Core, out-Core, Sort}
+use Rattle.sql_meanings.specs.Names.{ℕ, List, [], Ok, Err, Some, None, Option, Result, Bool, true, false}
+use Rattle.sql_meanings.specs.Names.{cond, Schema, Table, Term, table_named, view_named, Core, out-Core, Sort}
 use Rattle.sql_meanings.specs.Names.{out-Source, Parsed, CompileError, NoSuchTable, Carried, nothing, take_slot, Name}
 use Rattle.sql_meanings.specs.Names.{number, table_in, bound, bounds, body, parts, named, paging, constant_or}
 use Rattle.sql_meanings.specs.Names.{viewing, single, source, sources, whole, with, level, query_to, query, compiled}
@@ -23,6 +23,7 @@ use Rattle.sql_meanings.specs.Queries.{no_limit}
 use Rattle.sqlite_ast.specs.declared.Select as written_select
 use Rattle.sqlite_ast.specs.declared.Origin.TheVariants as origin
 use Rattle.sqlite_ast.specs.declared.Statement.TheVariants as written
+use Rattle.std.specs.Prelude.{◌≡◌, ◌∷◌, ◌⊎◌}
 
 -- a schema with no table and no view of the name refuses it
 module _ (schema : Schema) (name : Name) (no_table : table_named schema name ≡ None)

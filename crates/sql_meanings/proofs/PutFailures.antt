@@ -1,12 +1,12 @@
 -- Why rows can't be put in.
-use Rattle.sql_meanings.specs.Names.{◌≡◌, ◌⊎◌, ℕ, List, [], ◌∷◌, map, find, length, true, false, None, Some, Option}
+use Rattle.sql_meanings.specs.Names.{ℕ, List, [], map, find, length, true, false, None, Some, Option}
 use Rattle.sql_meanings.specs.Names.{is_some, Ok, Err, AllByRecursion, Row, Schema, Trees, Table, Edit, edit_of}
 use Rattle.sql_meanings.specs.Names.{edited, Values, Command, Insert, Does, Concludes, Returns, Tested, IsDatabase}
 use Rattle.sql_meanings.specs.Names.{value_rows, Part, Gives, Edited, Task, Then, Counts, Written, count_of, stamped}
 use Rattle.sql_meanings.specs.Names.{State, ExecutesInside, IsUnchanged, mode_of, text_of, Error, SqliteFailure}
 use Rattle.sql_meanings.specs.Names.{Chosen, Compiled, fits_i64, ForeignKey, Unique, All, Enforced, Refers, are_fresh}
 use Rattle.sql_meanings.specs.Names.{left_by, Has}
-use Rattle.sql_meanings.proofs.Names.{inl, inr, ◌/◌, refl, sym, ap, subst, ◌∙◌, ∥∥₁_elim, all_has}
+use Rattle.sql_meanings.proofs.Names.{inl, inr, refl, sym, ap, subst, ◌∙◌, ∥∥₁_elim, all_has}
 use Rattle.std.proofs.Common.{fold}
 use Rattle.sqlite.specs.Rows.{Sourced, Counter, Inserts, higher, last_id}
 use Rattle.sqlite_rules.proofs.TableLemmas.{put_all_keeps}
@@ -26,6 +26,7 @@ use Rattle.sql_meanings.proofs.PuttingIn.{key_taken, never, none_in, put_in_appl
 use Rattle.sql_meanings.proofs.Writing.{same_value, uncounted, went}
 use Rattle.sqlite.specs.declared.error.ErrorCode.TheVariants as code
 use Rattle.sqlite_schema.specs.declared.command.Source.TheVariants as from
+use Rattle.std.specs.Prelude.{◌≡◌, ◌⊎◌, ◌∷◌, ◌/◌}
 
 module _ (old new : State) (t : Table) (is : IsPlain (uncounted t)) (sound : ∥ IsDatabase old.now ∥₁)
     (es : List Entry)

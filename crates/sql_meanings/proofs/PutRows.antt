@@ -1,9 +1,9 @@
 -- New rows are put into a table.
-use Rattle.sql_meanings.specs.Names.{◌≡◌, ℕ, List, [], ◌∷◌, map, find, length, is_some, Ok, Bool, not, true, false}
+use Rattle.sql_meanings.specs.Names.{ℕ, List, [], map, find, length, is_some, Ok, Bool, not, true, false}
 use Rattle.sql_meanings.specs.Names.{Row, Schema, Trees, Table, Term, Edit, edit_of, edited, are_fresh, left_by}
 use Rattle.sql_meanings.specs.Names.{put_all, Chosen, Values, Insert, IsDatabase, value_rows, stamped, State}
 use Rattle.sql_meanings.specs.Names.{Executes, AllByRecursion, Enforced, Has, passes_checks, accepts_terms}
-use Rattle.sql_meanings.proofs.Names.{◌/◌, refl, sym, ap, subst, ◌∙◌, all_has}
+use Rattle.sql_meanings.proofs.Names.{refl, sym, ap, subst, ◌∙◌, all_has}
 use Rattle.sql_meanings.specs.Entries.{AreShort, HasWidth, Entry, has_key, put, stored}
 use Rattle.sql_meanings.specs.SeveralRows.{meets_key, put_each}
 use Rattle.sql_meanings.specs.Tables.{Holds, placed_at, tree_of, width_of}
@@ -15,6 +15,7 @@ use Rattle.sql_meanings.proofs.Writing.{Wrote, inserts, uncounted}
 use Rattle.sql_meanings.specs.Making.{SparesTables}
 use Rattle.sql_meanings.proofs.PuttingIn.{put_in_applies}
 use Rattle.sql_meanings.proofs.TableWrites.{IsPlain, Leaves, steps_by}
+use Rattle.std.specs.Prelude.{◌≡◌, ◌∷◌, ◌/◌}
 
 not_false : (b : Bool) → not b ≡ true → b ≡ false
 not_false true h = absurd cc

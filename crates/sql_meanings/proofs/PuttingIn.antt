@@ -1,11 +1,12 @@
 -- Rows that are only put in set nothing off; and in which of its parts a statement stops.
-use Rattle.sql_meanings.specs.Names.{◌≡◌, ◌⊎◌, ℕ, ◌==◌, List, [], ◌∷◌, length, Bool, true, false, ◌&&◌, Some, None}
+use Rattle.sql_meanings.specs.Names.{ℕ, List, [], length, Bool, true, false, Some, None}
 use Rattle.sql_meanings.specs.Names.{Option, Ok, Err, Result, flat_map, filter_map, Row, Table, Schema, Trees, Edit}
 use Rattle.sql_meanings.specs.Names.{Part, Then, Error, SqliteFailure, Keys, PrimaryKey, Reference, ParentKey}
 use Rattle.sql_meanings.specs.Names.{parent_key, Deed, Refusal, work_by, work_for, deed_for, Leads, Writes}
 use Rattle.sql_meanings.proofs.Names.{inl, inr, zero, suc, length-append, refl, sym, ap, subst, arith, one_step}
 use Rattle.sqlite.specs.Edit.{Applies}
 use Rattle.sqlite.specs.declared.error.ErrorCode.TheVariants as code
+use Rattle.std.specs.Prelude.{◌≡◌, ◌⊎◌, ◌==◌, ◌∷◌, ◌&&◌}
 
 -- the error that names the primary key
 abbrev pub key_taken : Error

@@ -1,5 +1,5 @@
 -- The look-ups of a table that a database holds: by its key, by two columns, and of the next key.
-use Rattle.sql_meanings.specs.Names.{◌≡◌, ℕ, ℤ, List, [], ◌∷◌, find, slice_get, Some, option_map, Result, Row, Null}
+use Rattle.sql_meanings.specs.Names.{ℕ, ℤ, List, [], find, slice_get, Some, option_map, Result, Row, Null}
 use Rattle.sql_meanings.specs.Names.{Int, overlay, Table, Term, eval_all, IsDatabase, State, QueriesRowInside, Error}
 use Rattle.sql_meanings.specs.Names.{plain}
 use Rattle.sql_meanings.proofs.Names.{get_or, ∥∥₁_elim}
@@ -13,6 +13,7 @@ use Rattle.sql_meanings.proofs.OrderedAnswers.{next_answer}
 use Rattle.sql_meanings.proofs.TwoColumns.{Clear, clear, two_answer}
 use Rattle.sql_meanings.proofs.Steps.{standing}
 use mathlib.Core.Bool.{Bool-set}
+use Rattle.std.specs.Prelude.{◌≡◌, ◌∷◌}
 
 module _ (old new : State) (table : Table) (free : table.references ≡ []) (sound : ∥ IsDatabase old.now ∥₁)
     (es : List Entry)

@@ -1,5 +1,5 @@
 -- What a seek tells of a table that a database holds.
-use Rattle.sql_meanings.specs.Names.{◌≡◌, ℕ, ℤ, ◌^◌, List, [], ◌∷◌, map, filter, Ok, Err, Result, false, length, Row}
+use Rattle.sql_meanings.specs.Names.{ℕ, ℤ, List, [], map, filter, Ok, Err, Result, false, length, Row}
 use Rattle.sql_meanings.specs.Names.{Null, Int, overlay, Query, IsSureAnswer, page, Table, Trees, understood, Term}
 use Rattle.sql_meanings.specs.Names.{eval_all, IsDatabase, State, FailsToQuery, IsNotRun, Survives, Error, IsSome}
 use Rattle.sql_meanings.proofs.Names.{inl, inr, refl, nat_le, subst}
@@ -13,6 +13,7 @@ use Rattle.sql_meanings.proofs.PlainReads.{fails_reading, shown_answers}
 use Rattle.sql_meanings.proofs.ReadTables.{ReadsAs, under_overlay}
 use Rattle.sql_meanings.proofs.SeekAnswers.{from_answer, of_from_answer}
 use Rattle.sql_meanings.proofs.Steps.{standing}
+use Rattle.std.specs.Prelude.{◌≡◌, ◌^◌, ◌∷◌}
 
 -- what `query_all` answers
 abbrev pub QueriesAll : List ℕ → Row → State → State → Result (List Row) Error → Type 0

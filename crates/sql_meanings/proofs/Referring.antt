@@ -1,5 +1,5 @@
 -- A foreign key that names no table's row is set off by no edit of it, and is kept by it.
-use Rattle.sql_meanings.specs.Names.{◌≡◌, ◌≢◌, ◌⊎◌, ℕ, ◌==◌, List, [], ◌∷◌, ◌||◌, ◌&&◌, not, Bool, true, false, Some}
+use Rattle.sql_meanings.specs.Names.{ℕ, List, [], not, Bool, true, false, Some}
 use Rattle.sql_meanings.specs.Names.{None, Option, find, length, option_and_then, filter_map, flat_map, list_all}
 use Rattle.sql_meanings.specs.Names.{Schema, Table, Trees, Row, All, Keys, Enforced, Reference, same_name, ParentKey}
 use Rattle.sql_meanings.specs.Names.{Refers, parent_key, Deed, Has, is_referred, deed_for, pairs, work_by, work_for}
@@ -12,6 +12,7 @@ use Rattle.sqlite_rules.proofs.ListLemmas.{fails_has, has_found, some_from, some
 use Rattle.sqlite_rules.proofs.RuleLemmas.{key_tree, parent_is_table, refers_at, refers_from}
 use Rattle.sql_meanings.specs.Making.{Stands}
 use Rattle.sql_meanings.specs.StatementAnswers.{is_parent}
+use Rattle.std.specs.Prelude.{◌≡◌, ◌≢◌, ◌⊎◌, ◌==◌, ◌∷◌, ◌||◌, ◌&&◌}
 
 -- the table that a reference finds has its parent's name
 parent_named : (tables : List Table) (ref : Reference) (key : ParentKey) → parent_key tables ref ≡ Some key

@@ -1,5 +1,5 @@
 -- Why a write of rows of whole numbers is refused, or can't be stored.
-use Rattle.sql_meanings.specs.Names.{◌≡◌, ◌⊎◌, ℕ, ◌==◌, ◌&&◌, not, List, [], ◌∷◌, map, length, Bool, true, false}
+use Rattle.sql_meanings.specs.Names.{ℕ, not, List, [], map, length, Bool, true, false}
 use Rattle.sql_meanings.specs.Names.{Some, None, Option, option_map, Err, AllByRecursion, list_all, list_any, Row}
 use Rattle.sql_meanings.specs.Names.{Schema, Table, Trees, Edit, edited, IsDatabase, edit_error, Edited, Error}
 use Rattle.sql_meanings.specs.Names.{SqliteFailure, fits_i64, entry_of, IsStorable, IsStorableRow, clashes}
@@ -22,6 +22,7 @@ use Rattle.sql_meanings.proofs.NumberRows.{entry_fits, entry_present, entry_type
 use Rattle.sql_meanings.proofs.TableWrites.{fits_columns, IsPlain}
 use Rattle.sql_meanings.proofs.PuttingIn.{key_taken, no_end}
 use Rattle.sqlite.specs.declared.error.ErrorCode.TheVariants as code
+use Rattle.std.specs.Prelude.{◌≡◌, ◌⊎◌, ◌==◌, ◌&&◌, ◌∷◌}
 
 -- the row has as many numbers as the table, its key is one that a file can hold, and it passes the CHECKs
 pub record IsFit (table : Table) (x : Entry) : Type 0 where

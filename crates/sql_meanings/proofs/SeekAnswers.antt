@@ -1,5 +1,5 @@
 -- What a query of one table answers that asks for the next rows from a key on.
-use Rattle.sql_meanings.specs.Names.{◌≡◌, ◌&&◌, ℕ, ℤ, List, [], ◌∷◌, map, filter, Bool, true, false, Some, flat_map}
+use Rattle.sql_meanings.specs.Names.{ℕ, ℤ, List, [], map, filter, Bool, true, false, Some, flat_map}
 use Rattle.sql_meanings.specs.Names.{list_all, is_ge, int_eq, Value, Int, Row, Binary, is_true, from_truth, binary}
 use Rattle.sql_meanings.specs.Names.{Compare, Ge, Trees, Term, Env, eval_all, holds, IsAnswerAs, matches_as, page}
 use Rattle.sql_meanings.specs.Names.{inner, end}
@@ -9,6 +9,7 @@ use Rattle.sql_meanings.specs.Seeks.{is_from, is_of_from, key_from, next_from, n
 use Rattle.sql_meanings.proofs.EntryLists.{int_equals, text_apart}
 use Rattle.sql_meanings.proofs.OrderedAnswers.{ordered_answer, rise_filter}
 use Rattle.sql_meanings.proofs.TestedAnswers.{passing}
+use Rattle.std.specs.Prelude.{◌≡◌, ◌&&◌, ◌∷◌}
 
 truth_back : (b : Bool) → is_true (from_truth (Some b)) ≡ b
 truth_back true = refl

@@ -1,5 +1,5 @@
 -- What the texts of seeks mean of a table in whatever schema, by what is computed of the text alone.
-use Rattle.sql_meanings.specs.Names.{◌≡◌, ℕ, ℤ, pos, List, [], ◌∷◌, map, Ok, Some, None, true, false, Int, Binary}
+use Rattle.sql_meanings.specs.Names.{ℕ, ℤ, pos, List, [], map, Ok, Some, None, true, false, Int, Binary}
 use Rattle.sql_meanings.specs.Names.{Schema, Table, Term, col, lit, Expr-F, Expr, out-Expr, Sort, out-Sort, Inner}
 use Rattle.sql_meanings.specs.Names.{integer, alone, affinity_of, Name, alias_of, declared, ungrouped, number}
 use Rattle.sql_meanings.specs.Names.{accepts_program}
@@ -19,6 +19,7 @@ use Rattle.sql_meanings.proofs.Texts.{IsSelect, left_over, many}
 use Rattle.sqlite_ast.specs.declared.Binary.TheVariants as binary
 use Rattle.sqlite_resolve.specs.Program as prog
 use Rattle.sqlite_resolve.specs.declared.compare.Affinity.TheVariants as affinity
+use Rattle.std.specs.Prelude.{◌≡◌, ◌∷◌}
 
 module _ (table : Table) (text : List ℕ) (places : List ℕ) (most : ℕ) (terms : List Term) (key : Name)
     (keys : (tree : ℕ) → Tests (placed_at table tree) key 0)

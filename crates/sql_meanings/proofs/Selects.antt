@@ -1,5 +1,5 @@
 -- Whole SELECTs over one table, and those of the bank.
-use Rattle.sql_meanings.specs.Names.{◌≡◌, ℕ, ◌-◌, List, [], ◌∷◌, map, Ok, Some, None, Option, slice_get, true, false}
+use Rattle.sql_meanings.specs.Names.{ℕ, List, [], map, Ok, Some, None, Option, slice_get, true, false}
 use Rattle.sql_meanings.specs.Names.{Key, Compare, Eq, Program, Select, Term, col, op2, Schema, Table, Expr, out-Expr}
 use Rattle.sql_meanings.specs.Names.{Expr-F, Core, Shown, Sort, out-Sort, Parsed, Inner, Output, Carried, nothing}
 use Rattle.sql_meanings.specs.Names.{alone, Name, Context, alias_of, tests, outputs, sorts, number, conjuncts}
@@ -20,6 +20,7 @@ use Rattle.sqlite_ast.specs.declared.Select as written_select
 use Rattle.sqlite_resolve.specs.declared.compare.Affinity.TheVariants as affinity
 use Rattle.sqlite_resolve.specs.Order as order
 use Rattle.sqlite_resolve.specs.Program as prog
+use Rattle.std.specs.Prelude.{◌≡◌, ◌-◌, ◌∷◌}
 
 -- no WHERE
 pub no_test : (cx : Context) (budget : ℕ) (l : Carried)

@@ -1,5 +1,5 @@
 -- Why one column of a row can't be written.
-use Rattle.sql_meanings.specs.Names.{◌≡◌, ◌⊎◌, ℕ, ℤ, List, [], ◌∷◌, map, find, length, not, ◌&&◌, true, false, None}
+use Rattle.sql_meanings.specs.Names.{ℕ, ℤ, List, [], map, find, length, not, true, false, None}
 use Rattle.sql_meanings.specs.Names.{Some, Option, Ok, Err, IsTrue, AllByRecursion, Null, Int, Row, overlay, Schema}
 use Rattle.sql_meanings.specs.Names.{eval_all, Trees, without_rowid, Table, Edit, edit_of, edited, Command, Update}
 use Rattle.sql_meanings.specs.Names.{Does, Concludes, Returns, Tested, Answers, IsDatabase, edit_error, Gives, Edited}
@@ -28,6 +28,7 @@ use Rattle.sql_meanings.proofs.TableWrites.{IsPlain, cast_is, none_short, plain_
 use Rattle.sql_meanings.proofs.PuttingIn.{never, stopped}
 use Rattle.sql_meanings.proofs.Writing.{same_value, went}
 use Rattle.sqlite.specs.declared.error.ErrorCode.TheVariants as code
+use Rattle.std.specs.Prelude.{◌≡◌, ◌⊎◌, ◌∷◌, ◌&&◌}
 
 module _ (old new : State) (table : Table) (is : IsPlain table) (sound : ∥ IsDatabase old.now ∥₁)
     (es : List Entry)

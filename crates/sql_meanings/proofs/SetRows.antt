@@ -1,5 +1,5 @@
 -- One column is written under a key.
-use Rattle.sql_meanings.specs.Names.{◌≡◌, ℕ, ℤ, List, [], ◌∷◌, map, find, length, None, Some, Option, is_some, Ok}
+use Rattle.sql_meanings.specs.Names.{ℕ, ℤ, List, [], map, find, length, None, Some, Option, is_some, Ok}
 use Rattle.sql_meanings.specs.Names.{Bool, cond, true, false, Null, Int, Row, overlay, Schema, Trees, put_row}
 use Rattle.sql_meanings.specs.Names.{without_rowid, Table, Term, eval_all, Edit, edit_of, edited, ids_of}
 use Rattle.sql_meanings.specs.Names.{passes_checks, accepts_program, Given, Update, IsDatabase, State, Executes}
@@ -16,6 +16,7 @@ use Rattle.sql_meanings.proofs.ReadTables.{under_overlay}
 use Rattle.sql_meanings.proofs.Steps.{standing}
 use Rattle.sql_meanings.proofs.Writing.{updates}
 use Rattle.sql_meanings.proofs.TableWrites.{cast_is, none_short, IsPlain, Leaves, steps_by}
+use Rattle.std.specs.Prelude.{◌≡◌, ◌∷◌}
 
 -- with these parameters the text changes so the row under the key
 pub record ChangesAs (table : Table) (text : List ℕ) (k : ℤ) (more : Row)

@@ -1,5 +1,5 @@
 -- Rows that are put in one after another, as a file holds them.
-use Rattle.sql_meanings.specs.Names.{◌≡◌, ℕ, List, [], ◌∷◌, map, find, is_some, Bool, not, ◌&&◌, ◌||◌, true, false}
+use Rattle.sql_meanings.specs.Names.{ℕ, List, [], map, find, is_some, Bool, not, true, false}
 use Rattle.sql_meanings.specs.Names.{AllByRecursion, Row, Chosen, Table, put_row, cast_row, are_fresh, put_all}
 use Rattle.sql_meanings.specs.Names.{passes_checks, fits_i64}
 use Rattle.sql_meanings.proofs.Names.{refl, ap, ◌∙◌}
@@ -11,6 +11,7 @@ use Rattle.sql_meanings.proofs.Changes.{taken_is, wide_put}
 use Rattle.sql_meanings.proofs.EntryLists.{put_stored, rise_put}
 use Rattle.sql_meanings.proofs.Refusals.{IsFit}
 use Rattle.sql_meanings.proofs.TableWrites.{IsPlain, cast_is}
+use Rattle.std.specs.Prelude.{◌≡◌, ◌∷◌, ◌&&◌, ◌||◌}
 
 -- the row has the table's width, its texts are short, and it passes the CHECKs
 pub record IsRowOf (table : Table) (e : Entry) : Type 0 where

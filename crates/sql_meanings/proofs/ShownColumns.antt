@@ -1,5 +1,5 @@
 -- The columns that a SELECT shows, and its order.
-use Rattle.sql_meanings.specs.Names.{◌≡◌, ℕ, ◌-◌, ◌<◌, List, [], ◌∷◌, ◌++◌, length, map, Option, option_map}
+use Rattle.sql_meanings.specs.Names.{ℕ, List, [], length, map, Option, option_map}
 use Rattle.sql_meanings.specs.Names.{unwrap_or, Ok, Some, None, slice_get, Bool, true, false, column_named, place_of}
 use Rattle.sql_meanings.specs.Names.{Column, col, Schema, Table, Expr, out-Expr, Expr-F, Shown, out-Shown, Output}
 use Rattle.sql_meanings.specs.Names.{Carried, nothing, Name, declared, outputs, lower}
@@ -12,6 +12,7 @@ use Rattle.sql_meanings.specs.Plain.{key_column}
 use Rattle.sql_meanings.proofs.Columns.{bound_to, over_one, found_is, column_is}
 use Rattle.sql_meanings.proofs.Expressions.{st, lower_column}
 use Rattle.sqlite_resolve.specs.Body as body
+use Rattle.std.specs.Prelude.{◌≡◌, ◌-◌, ◌<◌, ◌∷◌, ◌++◌}
 
 -- a column as it is shown
 abbrev pub output_of : Table → ℕ → Column → Output

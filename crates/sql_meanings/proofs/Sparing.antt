@@ -1,6 +1,6 @@
 -- An INSERT of values or an UPDATE leaves every table but its own, whatever the schema makes of it.
-use Rattle.sql_meanings.specs.Names.{◌≡◌, ◌≢◌, ℕ, ◌+◌, List, [], ◌∷◌, false, Some, None, Option, Ok, Err, slice_get}
-use Rattle.sql_meanings.specs.Names.{◌++◌, ℤ, if◌then◌else◌, AllByRecursion, Expr, Rows, Parsed, table_named, Program}
+use Rattle.sql_meanings.specs.Names.{ℕ, List, [], false, Some, None, Option, Ok, Err, slice_get}
+use Rattle.sql_meanings.specs.Names.{ℤ, AllByRecursion, Expr, Rows, Parsed, table_named, Program}
 use Rattle.sql_meanings.specs.Names.{Keys, Command, Insert, Update, Does, Tally, Database, Edit, if_select, is_select}
 use Rattle.sql_meanings.specs.Names.{listing_schema, reads_listing, understood, Mode, Row, Counts, Task, Written}
 use Rattle.sql_meanings.specs.Names.{count_of, sequence, Schema, State, Executes, ExecutesIn, mode_of, shows_rows}
@@ -25,6 +25,7 @@ use Rattle.sql_meanings.proofs.Writing.{same_value, went}
 use Rattle.sql_meanings.specs.Sparing.{IsNot, SparesAllBut, sequence_name}
 use Rattle.sqlite_ast.specs.declared.Conflict.TheVariants as conflict
 use Rattle.sqlite_ast.specs.declared.Statement.TheVariants as written
+use Rattle.std.specs.Prelude.{◌≡◌, ◌≢◌, ◌+◌, ◌∷◌, ◌++◌, if◌then◌else◌}
 
 -- ---- an edit
 

@@ -1,5 +1,5 @@
 -- Statements over one table, under any schema that has it.
-use Rattle.sql_meanings.specs.Names.{◌≡◌, ℕ, ◌+◌, ◌^◌, ◌==◌, List, [], ◌∷◌, find, Ok, Some, None, Option, slice_get}
+use Rattle.sql_meanings.specs.Names.{ℕ, List, [], find, Ok, Some, None, Option, slice_get}
 use Rattle.sql_meanings.specs.Names.{false, table_named, Program, Term, col, Schema, Table, Expr, Rows, Parsed, Draft}
 use Rattle.sql_meanings.specs.Names.{Inner, Carried, nothing, Name, conjuncts, tests, lower, compiled, first, planned}
 use Rattle.sql_meanings.specs.Names.{timed, meaning, returning, command, shows, insert_or_abort, insert, update, read}
@@ -16,6 +16,7 @@ use Rattle.sqlite_ast.specs.declared.Statement.TheVariants as written
 use Rattle.sqlite_ast.specs.declared.Select as written_select
 use Rattle.sqlite_resolve.specs.Program as prog
 use Rattle.sqlite_resolve.specs.Write as w
+use Rattle.std.specs.Prelude.{◌≡◌, ◌+◌, ◌^◌, ◌==◌, ◌∷◌}
 
 -- the six facts that a statement takes of a table
 pub record HasTable (schema : Schema) (name : Name) (p : ℕ) (table : Table) : Type 0 where

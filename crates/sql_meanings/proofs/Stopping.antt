@@ -1,6 +1,6 @@
 -- The error of a write inside a transaction: the text is no statement, the command tells it, or the store
 -- failed.
-use Rattle.sql_meanings.specs.Names.{◌≡◌, ◌⊎◌, ℕ, List, [], None, Some, Ok, Err, Bool, ◌&&◌, ◌||◌, true, false, ⊤}
+use Rattle.sql_meanings.specs.Names.{ℕ, List, [], None, Some, Ok, Err, Bool, true, false, ⊤}
 use Rattle.sql_meanings.specs.Names.{Row, Command, Insert, Update, CreateTable, understood, Does, State, mode_of}
 use Rattle.sql_meanings.specs.Names.{ExecutesIn, ExecutesInside, IsNoStatement, IsNotRun, IsUnchanged, Fails}
 use Rattle.sql_meanings.specs.Names.{HasCause, shows_rows, text_of, Error, Compiled, StoreError, OutOfMemory, Io}
@@ -9,6 +9,7 @@ use Rattle.sql_meanings.proofs.Names.{inl, inr, append-nil, refl, ap, subst, ◌
 use Rattle.sqlite.specs.Clock.{timed}
 use Rattle.sqlite.specs.Effect.{is_query}
 use Rattle.sqlite.specs.State.{EndsScope, Escapes, IsMisplaced, RunsCommand, is_pragma}
+use Rattle.std.specs.Prelude.{◌≡◌, ◌⊎◌, ◌&&◌, ◌||◌}
 
 -- the command puts rows in, changes rows or makes a table
 abbrev pub is_write : Command → Bool

@@ -1,5 +1,5 @@
 -- A table that stands in any schema, and what a CREATE TABLE keeps and adds.
-use Rattle.sql_meanings.specs.Names.{◌≡◌, ◌⊎◌, ℕ, ◌+◌, ◌^◌, ◌<◌, ◌==◌, List, [], ◌∷◌, find, slice_get, Bool, true}
+use Rattle.sql_meanings.specs.Names.{ℕ, List, [], find, slice_get, Bool, true}
 use Rattle.sql_meanings.specs.Names.{false, Some, None, Option, Ok, Result, position_from, Table, Schema, Trees}
 use Rattle.sql_meanings.specs.Names.{Database, Tally, Does, MakesTable, MakesSequence, lacks_sequence, no_rows}
 use Rattle.sql_meanings.specs.Names.{sequence_text, Then, Gives, CreateTable, table_defined_by, Mode, same_name, Has}
@@ -15,6 +15,7 @@ use Rattle.sqlite_catalog.proofs.StepLemmas.{table_below, same_itself}
 use Rattle.sql_meanings.proofs.Statements.{HasTable}
 use Rattle.sql_meanings.specs.Making.{Stands, AddsTable, IsGrown, KeepsWhatStood, counts_rows}
 use Rattle.sql_meanings.proofs.Growing.{low_tree, sequenced}
+use Rattle.std.specs.Prelude.{◌≡◌, ◌⊎◌, ◌+◌, ◌^◌, ◌<◌, ◌==◌, ◌∷◌}
 
 -- a table stands on as another is made
 pub stands_after : (schema : Schema) (new table : Table) → Stands schema table

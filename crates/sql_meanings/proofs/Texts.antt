@@ -1,11 +1,11 @@
 -- What a text means of a table in whatever schema, by what is computed of the text alone.
-use Rattle.sql_meanings.specs.Names.{◌≡◌, ◌≤◌, ◌<◌, ℕ, ℤ, List, [], ◌∷◌, length, map, Ok, Err, Some, None, Option}
-use Rattle.sql_meanings.specs.Names.{true, false, ◌+◌, ◌++◌, AllByRecursion, listing_schema, understood, inner, end}
+use Rattle.sql_meanings.specs.Names.{ℕ, ℤ, List, [], length, map, Ok, Err, Some, None, Option}
+use Rattle.sql_meanings.specs.Names.{true, false, AllByRecursion, listing_schema, understood, inner, end}
 use Rattle.sql_meanings.specs.Names.{value_rows, Row, stamped, Values, passes_checks, Rows, Schema, Table, Term, col}
 use Rattle.sql_meanings.specs.Names.{lit, Null, Int, Core, Expr, out-Expr, Expr-F, Shown, out-Shown, Sort, Inner}
 use Rattle.sql_meanings.specs.Names.{compiled, first, new_rows, small, Name, ungrouped, number, NoSuchTable, Parsed}
 use Rattle.sql_meanings.specs.Names.{accepts_program, accepts_terms}
-use Rattle.sql_meanings.proofs.Names.{refl, ap, arith, zero, suc, ◌/◌, length-map}
+use Rattle.sql_meanings.proofs.Names.{refl, ap, arith, zero, suc, length-map}
 use Rattle.sql_meanings.specs.Entries.{AreShort, HasWidth, Entry, stored}
 use Rattle.sql_meanings.proofs.PutRows.{PutsAs, PutsEachAs}
 use Rattle.sqlite_ast.specs.declared.Source.{Source as From}
@@ -28,6 +28,7 @@ use Rattle.sqlite_ast.specs.declared.Binary.TheVariants as binary
 use Rattle.sqlite_ast.specs.declared.Select as written_select
 use Rattle.sqlite_ast.specs.declared.Statement.TheVariants as written
 use Rattle.sqlite_resolve.specs.Program as prog
+use Rattle.std.specs.Prelude.{◌≡◌, ◌≤◌, ◌<◌, ◌∷◌, ◌+◌, ◌++◌, ◌/◌}
 
 -- a SELECT as it is written: it shows the columns at these places of one table
 pub record IsSelect (table : Table) (text : List ℕ) (count : ℕ) (places : List ℕ) : Type 0 where

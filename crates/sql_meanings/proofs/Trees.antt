@@ -1,5 +1,5 @@
 -- Trees tell their schema, and what a database holds of a table is a proposition.
-use Rattle.sql_meanings.specs.Names.{AllByRecursion, length, ◌≡◌, ℕ, List, AllByRecursion-prop, Schema, Table, Row}
+use Rattle.sql_meanings.specs.Names.{AllByRecursion, length, ℕ, List, AllByRecursion-prop, Schema, Table, Row}
 use Rattle.sql_meanings.specs.Names.{Trees, Database, IsDatabase, IsSound}
 use Rattle.sql_meanings.proofs.Names.{Less, ∥∥₁_elim}
 use Rattle.std.specs.Coded.{coded_ℕ}
@@ -11,6 +11,7 @@ use Rattle.sql_meanings.specs.Entries.{HasWidth, Entry, IsTree, Rise}
 use Rattle.sql_meanings.specs.Tables.{Holds, tree_of, width_of}
 use base.Stored.{Coded-set}
 use Rattle.sqlite_schema.specs.contracts.schema.Schema as schema_row
+use Rattle.std.specs.Prelude.{◌≡◌}
 
 Schema-set : IsSet Schema
 Schema-set = Coded-set schema_row.the_row.coded

@@ -1,6 +1,6 @@
 -- Where two columns behind the key are UNIQUE together, one row at most has two given numbers there.
-use Rattle.sql_meanings.specs.Names.{◌≡◌, ◌⊎◌, ℕ, ℤ, List, [], ◌∷◌, map, filter, find, Some, Bool, cond, slice_get}
-use Rattle.sql_meanings.specs.Names.{◌&&◌, ◌||◌, true, false, list_any, list_all, int_eq, is_eq, Value, Int, plain}
+use Rattle.sql_meanings.specs.Names.{ℕ, ℤ, List, [], map, filter, find, Some, Bool, cond, slice_get}
+use Rattle.sql_meanings.specs.Names.{true, false, list_any, list_all, int_eq, is_eq, Value, Int, plain}
 use Rattle.sql_meanings.specs.Names.{Binary, is_true, from_truth, binary, Compare, clashes, Row, IsAnswerAs, inner}
 use Rattle.sql_meanings.specs.Names.{end, Trees, Table, Schema, Term, eval_all, holds, IsSound, Has}
 use Rattle.sql_meanings.proofs.Names.{inl, inr, refl, sym, ap, subst, ◌∙◌, get_or, arith, int_cmp, Less, ints}
@@ -18,6 +18,7 @@ use Rattle.sql_meanings.proofs.EntryLists.{Above, int_equals, text_apart}
 use Rattle.sql_meanings.proofs.KeyedAnswers.{small_permutation}
 use Rattle.sql_meanings.proofs.TestedAnswers.{looked_up}
 use Rattle.sql_meanings.proofs.Tests.{and_both}
+use Rattle.std.specs.Prelude.{◌≡◌, ◌⊎◌, ◌∷◌, ◌&&◌, ◌||◌}
 
 -- the test on the two columns
 first_two_test : (one two key : ℤ) (t n : ℤ) (more : List ℤ) (texts : List (List ℕ))

@@ -1,13 +1,14 @@
 -- What an INSERT of given values and an UPDATE leave, in any table that stands, whatever else the schema has.
-use Rattle.sql_meanings.specs.Names.{◌≡◌, ◌⊎◌, ℕ, List, [], length, true, false, Some, Ok, Err, Result, slice_get}
+use Rattle.sql_meanings.specs.Names.{ℕ, List, [], length, true, false, Some, Ok, Err, Result, slice_get}
 use Rattle.sql_meanings.specs.Names.{unwrap_or, Row, Term, Table, Schema, Trees, Values, Insert, Update, Program}
 use Rattle.sql_meanings.specs.Names.{Keys, Enforced, Chosen, Given, Edit, edit_of, are_fresh, left_by, ids_of, Writes}
 use Rattle.sql_meanings.specs.Names.{Tally, Written, stamped, Database, IsDatabase, Answers, value_rows, State}
 use Rattle.sql_meanings.specs.Names.{Executes}
-use Rattle.sql_meanings.proofs.Names.{inl, inr, ◌/◌, refl, sym, ap, subst, ◌∙◌, runs_as}
+use Rattle.sql_meanings.proofs.Names.{inl, inr, refl, sym, ap, subst, ◌∙◌, runs_as}
 use Rattle.sql_meanings.specs.Making.{Stands}
 use Rattle.sql_meanings.proofs.Actions.{Leaves, writes_leave}
 use Rattle.sql_meanings.proofs.Means.{Means, meant_is, plain_is}
+use Rattle.std.specs.Prelude.{◌≡◌, ◌⊎◌, ◌/◌}
 
 -- a part that gave a value
 pub went : {B E R : Type 0} {b : B} {Stops : E → Type 0} → ((stop : E) × Stops stop × (Ok b ≡ Err stop)) ⊎ R

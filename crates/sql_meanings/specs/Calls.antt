@@ -1,5 +1,6 @@
 -- What each call inside a transaction says.
-use Rattle.sql_meanings.specs.Names.{◌≡◌, IsTrue, State, HasCleanDisk, Survives, state, Transaction, Ghosts}
+use Rattle.sql_meanings.specs.Names.{IsTrue, State, HasCleanDisk, Survives, state, Transaction, Ghosts}
+use Rattle.std.specs.Prelude.{◌≡◌}
 
 -- The connection is the same. On an honest disk: what it says of the rows, and what holds whatever the rows.
 -- Only a fault shuts the store, and a stop leaves nothing new.

@@ -1,8 +1,9 @@
 -- Tables side by side in one database, each with its rows.
-use Rattle.sql_meanings.specs.Names.{◌&&◌, ◌==◌, not, Bool, true, List, [], ◌∷◌, length, list_all, bytes_eq, Table}
+use Rattle.sql_meanings.specs.Names.{not, Bool, true, List, [], length, list_all, bytes_eq, Table}
 use Rattle.sql_meanings.specs.Names.{Database}
 use Rattle.sql_meanings.specs.Entries.{Entry}
 use Rattle.sql_meanings.specs.Tables.{Holds}
+use Rattle.std.specs.Prelude.{◌&&◌, ◌==◌, ◌∷◌}
 
 -- the database holds each of these tables with its rows, whatever else it has
 abbrev pub HoldsEach : Database → List Table → List (List Entry) → Type 0

@@ -1,9 +1,10 @@
 -- Rows of whole numbers and texts under rising keys.
-use Rattle.sql_meanings.specs.Names.{◌≡◌, ◌≤◌, ◌&&◌, ◌++◌, ℕ, ℤ, Bool, false, List, [], ◌∷◌, length, map, Option}
+use Rattle.sql_meanings.specs.Names.{ℕ, ℤ, Bool, false, List, [], length, map, Option}
 use Rattle.sql_meanings.specs.Names.{Some, None, cond, int_eq, is_gt, match_ordering, AllByRecursion, Null, Int, Text}
 use Rattle.sql_meanings.specs.Names.{Row, IsAscending}
 use Rattle.std.specs.Ordering.{int_cmp}
 use Rattle.std.specs.declared.cmp.Ordering.TheVariants.{Less}
+use Rattle.std.specs.Prelude.{◌≡◌, ◌≤◌, ◌&&◌, ◌++◌, ◌∷◌}
 
 -- a row: its key, its other numbers and behind them its texts, each in the order of the columns
 pub record Entry : Type 0 where

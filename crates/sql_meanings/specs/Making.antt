@@ -1,11 +1,11 @@
 -- How a table comes to be, and what is kept beside it.
-use Rattle.sql_meanings.specs.Names.{◌≡◌, ◌≢◌, ◌⊎◌, ◌+◌, ◌^◌, ◌<◌, ◌≤◌, ◌==◌, IsTrue, IsUtf8, List, ℕ, [], Bool, true}
+use Rattle.sql_meanings.specs.Names.{IsTrue, IsUtf8, List, ℕ, [], Bool, true}
 use Rattle.sql_meanings.specs.Names.{false, codes, length, Ok, Err, None, slice_range, list_any, Schema, Table}
 use Rattle.sql_meanings.specs.Names.{CreateTable, automatics, created, is_used, next_tree, lacks_sequence}
 use Rattle.sql_meanings.specs.Names.{sequence_text, Database, Error, SqliteFailure, SqlInputError, SchemaTooBig, Text}
 use Rattle.sql_meanings.specs.Names.{understood, table_defined_by, Compiled, CompileError, IsBadName, is_fit}
 use Rattle.sql_meanings.specs.Names.{is_formed, Index, table_reals, Has}
-use Rattle.std.specs.Prelude.{◌*◌}
+use Rattle.std.specs.Prelude.{◌*◌, ◌≡◌, ◌≢◌, ◌⊎◌, ◌+◌, ◌^◌, ◌<◌, ◌≤◌, ◌==◌}
 use Rattle.sqlite.specs.declared.error.ErrorCode.TheVariants.{NameTaken}
 use Rattle.sql_meanings.specs.Tables.{placed_at, tree_of}
 

@@ -109,7 +109,6 @@ pub use Rattle.sqlite_value.specs.declared.keys.Key.{Key}
 pub use Rattle.std.specs.List.{AllByRecursion, filter_map, flat_map, list_all, list_any, position_from}
 pub use Rattle.std.specs.Ordering.{int_eq, is_eq, is_ge, is_gt, match_ordering}
 pub use Rattle.std.specs.Prelude.{Bool, Err, IsSome, IsTrue, IsUtf8, List, None, Ok, Option, Result, Some, [], codes}
-pub use Rattle.std.specs.Prelude.{cond, false, filter, find, if◌then◌else◌, is_some, length, map, negsuc, not}
+pub use Rattle.std.specs.Prelude.{cond, false, filter, find, is_some, length, map, negsuc, not}
 pub use Rattle.std.specs.Prelude.{option_and_then, option_map, pos, slice_get, slice_range, true, unwrap_or, ℕ, ℤ, ⊤}
-pub use Rattle.std.specs.Prelude.{◌&&◌, ◌++◌, ◌+◌, ◌-◌, ◌<◌, ◌==◌, ◌^◌, ◌||◌, ◌∷◌, ◌≡◌, ◌≢◌, ◌≤◌, ◌⊎◌}
 pub use Rattle.std.specs.Str.{bytes_eq}

@@ -1,6 +1,7 @@
 -- STRICT tables of a key, whole numbers and texts.
-use Rattle.sql_meanings.specs.Names.{ℕ, true, false, List, [], ◌∷◌, ◌++◌, Some, map, Binary, Table, Null, Column}
+use Rattle.sql_meanings.specs.Names.{ℕ, true, false, List, [], Some, map, Binary, Table, Null, Column}
 use Rattle.sqlite.specs.Kind.TheVariants.{Integer, Text}
+use Rattle.std.specs.Prelude.{◌∷◌, ◌++◌}
 
 -- the column of an INTEGER PRIMARY KEY
 abbrev pub key_column : List ℕ → Column

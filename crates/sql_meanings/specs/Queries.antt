@@ -1,6 +1,7 @@
 -- The queries that the texts mean, over one table in any tree.
-use Rattle.sql_meanings.specs.Names.{ℕ, List, [], ◌∷◌, pos, negsuc, None, false, Int, Term, lit, col, op2, Query}
+use Rattle.sql_meanings.specs.Names.{ℕ, List, [], pos, negsuc, None, false, Int, Term, lit, col, op2, Query}
 use Rattle.sql_meanings.specs.Names.{Join, inner, end, Binary, Compare, Eq, Gt, Key}
+use Rattle.std.specs.Prelude.{◌∷◌}
 
 -- the two are equal
 abbrev pub is : Term → Term → Term

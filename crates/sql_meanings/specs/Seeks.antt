@@ -1,10 +1,11 @@
 -- The queries of the rows that come next, by rising keys, from a number on: of all rows, or of those with a
 -- number behind their keys.
-use Rattle.sql_meanings.specs.Names.{ℕ, ℤ, Bool, false, ◌&&◌, List, [], ◌∷◌, pos, int_eq, is_ge, Int, Term, lit, col}
+use Rattle.sql_meanings.specs.Names.{ℕ, ℤ, Bool, false, List, [], pos, int_eq, is_ge, Int, Term, lit, col}
 use Rattle.sql_meanings.specs.Names.{op2, Query, inner, end, Binary, Compare, Ge}
 use Rattle.std.specs.Ordering.{int_cmp}
 use Rattle.sql_meanings.specs.Entries.{Entry}
 use Rattle.sql_meanings.specs.Queries.{ascending, is, query}
+use Rattle.std.specs.Prelude.{◌&&◌, ◌∷◌}
 
 -- the row's key is this one or above it
 abbrev pub is_from : ℤ → Entry → Bool

@@ -1,6 +1,7 @@
 -- Rows that are put in one after another.
-use Rattle.sql_meanings.specs.Names.{◌||◌, Bool, false, List, [], ◌∷◌, find, is_some}
+use Rattle.sql_meanings.specs.Names.{Bool, false, List, [], find, is_some}
 use Rattle.sql_meanings.specs.Entries.{Entry, has_key, put}
+use Rattle.std.specs.Prelude.{◌||◌, ◌∷◌}
 
 -- the rows with these in their places, one after another
 abbrev pub put_each : List Entry → List Entry → List Entry

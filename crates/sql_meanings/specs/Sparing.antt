@@ -1,7 +1,8 @@
 -- What a statement leaves of the tables that it doesn't name, whatever file it runs on.
-use Rattle.sql_meanings.specs.Names.{◌≡◌, ◌≢◌, ℕ, List, codes, AllByRecursion, Database, Schema, Table}
+use Rattle.sql_meanings.specs.Names.{ℕ, List, codes, AllByRecursion, Database, Schema, Table}
 use Rattle.sql_meanings.specs.Making.{Stands}
 use Rattle.sql_meanings.specs.Tables.{tree_of}
+use Rattle.std.specs.Prelude.{◌≡◌, ◌≢◌}
 
 -- the table has its rows in another tree than the table of this name
 abbrev pub IsNot : Schema → Table → List ℕ → Type 0

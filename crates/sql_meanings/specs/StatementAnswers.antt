@@ -1,5 +1,5 @@
 -- What a statement inside a transaction answers, why it may fail, and what it leaves.
-use Rattle.sql_meanings.specs.Names.{◌≡◌, ◌≢◌, ◌⊎◌, ◌≤◌, ◌<◌, ◌==◌, ◌&&◌, IsSome, IsTrue, ℕ, List, [], length, map}
+use Rattle.sql_meanings.specs.Names.{IsSome, IsTrue, ℕ, List, [], length, map}
 use Rattle.sql_meanings.specs.Names.{Bool, true, false, Option, Some, None, Result, Ok, Err, ⊤, list_any, Row, Table}
 use Rattle.sql_meanings.specs.Names.{Schema, Trees, IsDatabase, edit_error, understood, StoreError, same_name}
 use Rattle.sql_meanings.specs.Names.{table_named, view_named, Index, PrimaryKey, Unique, Has, Refusal, Compiled}
@@ -10,6 +10,7 @@ use Rattle.sqlite.specs.declared.error.ErrorCode.TheVariants.{OutOfMemory, Opera
 use Rattle.sql_meanings.specs.Entries.{Entry, stored}
 use Rattle.sql_meanings.specs.Making.{AddsTable, NotMade}
 use Rattle.sql_meanings.specs.Tables.{Defines, tree_of}
+use Rattle.std.specs.Prelude.{◌≡◌, ◌≢◌, ◌⊎◌, ◌≤◌, ◌<◌, ◌==◌, ◌&&◌}
 
 -- why a plain read may fail: the store failed and the transaction is rolled back, or the limit on steps was
 -- met and nothing has changed

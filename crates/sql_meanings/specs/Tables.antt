@@ -1,8 +1,9 @@
 -- A table that a schema defines, and the rows that a database holds of it.
-use Rattle.sql_meanings.specs.Names.{◌≡◌, ◌==◌, ℕ, ◌-◌, List, length, filter, Option, Some, slice_get, option_map}
+use Rattle.sql_meanings.specs.Names.{ℕ, List, length, filter, Option, Some, slice_get, option_map}
 use Rattle.sql_meanings.specs.Names.{option_and_then, unwrap_or, AllByRecursion, kind_code, Schema, Table, Database}
 use Rattle.sql_meanings.specs.Names.{table_named}
 use Rattle.sql_meanings.specs.Entries.{Entry, IsTree}
+use Rattle.std.specs.Prelude.{◌≡◌, ◌==◌, ◌-◌}
 
 -- the table that the name finds
 abbrev pub table_of : Schema → List ℕ → Option Table
