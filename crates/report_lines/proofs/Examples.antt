@@ -1,17 +1,12 @@
 -- Two audits and two statements, worked out to the byte.
 use Rattle.std.specs.Prelude.{◌≡◌, ◌++◌, ℕ, ℤ, pos, negsuc, [], ◌∷◌, Some, None, refl, codes}
 use Rattle.std.specs.Fmt.{digits}
-use Rattle.walked_rows.specs.declared.postings.StoredPosting.{StoredPosting}
-use Rattle.walked_rows.specs.declared.stated.StatedPosting.{StatedPosting}
-use Rattle.walked_rows.specs.declared.requests.StoredRequest.{StoredRequest}
-use Rattle.walked_rows.specs.declared.tellers.StoredTeller.{StoredTeller}
-use Rattle.walked_rows.specs.declared.accounts.StoredAccount.{StoredAccount}
-use Rattle.walked_rows.specs.declared.branches.StoredBranch.{StoredBranch}
+use Rattle.walked_rows.specs.declared.{postings.StoredPosting.StoredPosting, stated.StatedPosting.StatedPosting}
+use Rattle.walked_rows.specs.declared.{requests.StoredRequest.StoredRequest, tellers.StoredTeller.StoredTeller}
+use Rattle.walked_rows.specs.declared.{accounts.StoredAccount.StoredAccount, branches.StoredBranch.StoredBranch}
 use Rattle.report_lines.specs.declared.audit.Audit.{Audit}
-use Rattle.report_lines.specs.Stored.{StoredTables}
-use Rattle.report_lines.specs.Audit.{audit_of}
+use Rattle.report_lines.specs.{Stored.StoredTables, Audit.audit_of, StatementText.statement_text}
 use Rattle.report_lines.specs.AuditText.{audit_text, number_line, branch_line}
-use Rattle.report_lines.specs.StatementText.{statement_text}
 
 teller : ℕ → ℤ → StoredTeller
 teller n balance = record { teller = n; balance = balance }

@@ -1,12 +1,8 @@
 -- Lines that are appended one by one.
-use Rattle.std.proofs.Common.{◌≡◌, ℕ, List, [], ◌∷◌, ◌++◌, sym, ap, ◌∙◌, append-nil}
-use Rattle.std.proofs.Common.{to_z, of_z, FitsSigned}
-use Rattle.std.specs.Prelude.{ℤ}
-use Rattle.std.specs.Int.{w128}
-use Rattle.std.proofs.lemmas.Int.{to_z-of_z}
-use Rattle.std.proofs.lemmas.List.Concat.{flat_map-append}
-use Rattle.report_lines.specs.AuditText.{number_line}
-use Rattle.report_lines.specs.Lines.{text_of}
+use Rattle.std.proofs.Common.{◌≡◌, ℕ, List, [], ◌∷◌, ◌++◌, sym, ap, ◌∙◌, append-nil, to_z, of_z, FitsSigned}
+use Rattle.std.specs.{Prelude.ℤ, Int.w128}
+use Rattle.std.proofs.{lemmas.Int.to_z-of_z, lemmas.List.Concat.flat_map-append}
+use Rattle.report_lines.specs.{AuditText.number_line, Lines.text_of}
 
 pub text_of-append : (xs ys : List (List ℕ)) → text_of (xs ++ ys) ≡ text_of xs ++ text_of ys
 text_of-append xs ys = flat_map-append (λ l. l) xs ys

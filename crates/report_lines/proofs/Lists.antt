@@ -2,11 +2,8 @@
 use Rattle.std.proofs.Common.{◌≡◌, Bool, true, false, not, ◌&&◌, List, [], ◌∷◌, ◌++◌, map}
 use Rattle.std.proofs.Common.{FitsSigned, filter, length, refl, inl, inr, arith, of_z, rules, w64}
 use Rattle.std.specs.Prelude.{ℤ, ◌==◌}
-use Rattle.std.specs.List.{AllByRecursion}
-use Rattle.std.specs.Ordering.{int_eq}
-use Rattle.std.proofs.Math.Dec.{eqb}
-use Rattle.std.proofs.lemmas.Bool.{cases_Bool, eqb-true}
-use Rattle.std.proofs.lemmas.Int.{ints}
+use Rattle.std.specs.{List.AllByRecursion, Ordering.int_eq}
+use Rattle.std.proofs.{Math.Dec.eqb, lemmas.Bool.cases_Bool, lemmas.Bool.eqb-true, lemmas.Int.ints}
 
 pub not_false : (b : Bool) → not b ≡ false → b ≡ true
 not_false true h = refl

@@ -2,11 +2,9 @@
 use Rattle.std.proofs.Common.{◌≡◌, ◌+◌, ℕ, suc, Bool, List, [], ◌∷◌, map, filter, length}
 use Rattle.std.proofs.Common.{refl, ap, ◌∙◌, inl, inr, arith}
 use Rattle.std.specs.Prelude.{ℤ, Option}
-use Rattle.std.proofs.lemmas.Bool.{cases_Bool}
-use Rattle.std.proofs.lemmas.List.{length-append, length-map}
+use Rattle.std.proofs.{lemmas.Bool.cases_Bool, lemmas.List.length-append, lemmas.List.length-map}
 use Rattle.posting_rules.specs.Laws.{total}
-use Rattle.walked_rows.specs.declared.postings.StoredPosting.{StoredPosting}
-use Rattle.walked_rows.specs.declared.requests.StoredRequest.{StoredRequest}
+use Rattle.walked_rows.specs.declared.{postings.StoredPosting.StoredPosting, requests.StoredRequest.StoredRequest}
 use Rattle.report_lines.specs.declared.audit.Audit.{Audit}
 use Rattle.report_lines.specs.Audit.{audit_of, delta_of, is_odd_request, is_odd_posting, request_ordinal}
 use Rattle.report_lines.specs.Audit.{posting_ordinal, request_under, posting_under, unmatched}

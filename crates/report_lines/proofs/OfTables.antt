@@ -2,19 +2,15 @@
 use Rattle.std.proofs.Common.{◌≡◌, ℕ, pos, Bool, true, eqb, List, [], ◌∷◌, map, filter, Option}
 use Rattle.std.proofs.Common.{Some, None, refl, sym, ap, subst, ◌∙◌, inl, inr, arith}
 use Rattle.std.specs.Prelude.{ℤ, ◌&&◌, nat_eq, nat_le, option_map}
-use Rattle.std.specs.List.{AllByRecursion, IsDistinct}
-use Rattle.std.specs.Ordering.{int_eq}
-use Rattle.std.proofs.lemmas.Bool.{cases_Bool}
-use Rattle.std.proofs.lemmas.Int.{ints}
+use Rattle.std.specs.{List.AllByRecursion, List.IsDistinct, Ordering.int_eq}
+use Rattle.std.proofs.{lemmas.Bool.cases_Bool, lemmas.Int.ints}
 use Rattle.message_records.specs.Outcomes.{code_of, has_balance}
 use Rattle.message_records.specs.declared.records.Outcome.{Outcome}
 use Rattle.message_records.specs.declared.records.Outcome.TheVariants.{Posted, NoTeller, WrongBranch}
 use Rattle.message_records.specs.declared.records.Outcome.TheVariants.{BelowFloor, NoAccount, OverLimit, ReusedNumber}
 use Rattle.message_records.specs.declared.records.Outcome.TheVariants.{Full, Malformed}
-use Rattle.posting_rules.specs.declared.rows.HistoryRow.{HistoryRow}
-use Rattle.posting_rules.specs.declared.rows.RequestRow.{RequestRow}
-use Rattle.posting_rules.specs.declared.rows.TellerRow.{TellerRow}
-use Rattle.posting_rules.specs.declared.rows.BranchRow.{BranchRow}
+use Rattle.posting_rules.specs.declared.{rows.HistoryRow.HistoryRow, rows.RequestRow.RequestRow}
+use Rattle.posting_rules.specs.declared.{rows.TellerRow.TellerRow, rows.BranchRow.BranchRow}
 use Rattle.posting_rules.specs.Numbering.{branch_of_teller}
 use Rattle.posting_rules.specs.Laws.{total, tellers_of, Match, IsConsistent}
 use Rattle.posting_rules.specs.LookUps.{balance_of_teller, balance_of_account, balance_of_branch}

@@ -1,34 +1,22 @@
 -- One more row.
-use Rattle.std.proofs.Common.{◌≡◌, ◌≤◌, ◌<◌, ◌+◌, ◌-◌, ◌/◌, ◌*◌, ℕ, zero}
-use Rattle.std.proofs.Common.{suc, replicate, Bool, true, false, not, List, [], ◌∷◌, ◌++◌, map}
-use Rattle.std.proofs.Common.{filter, length, take, set, get_or, refl, sym, ap, subst, ◌∙◌, inl, inr}
-use Rattle.std.proofs.Common.{arith, append-nil, w64, to_z, of_z, FitsSigned}
-use Rattle.std.specs.Prelude.{ℤ, ◌&&◌, pos, ◌+ℤ◌, nat_eq, nat_le, nat_abs}
-use Rattle.std.specs.Prelude.{Option, is_some}
-use Rattle.std.specs.Ordering.{int_eq}
-use Rattle.std.specs.Int.{w128}
+use Rattle.std.proofs.Common.{◌≡◌, ◌≤◌, ◌<◌, ◌+◌, ◌-◌, ◌/◌, ◌*◌, ℕ, zero, suc, replicate, Bool, true, false, not}
+use Rattle.std.proofs.Common.{List, [], ◌∷◌, ◌++◌, map, filter, length, take, set, get_or, refl, sym, ap, subst, ◌∙◌}
+use Rattle.std.proofs.Common.{inl, inr, arith, append-nil, w64, to_z, of_z, FitsSigned}
+use Rattle.std.specs.Prelude.{ℤ, ◌&&◌, pos, ◌+ℤ◌, nat_eq, nat_le, nat_abs, Option, is_some}
+use Rattle.std.specs.{Ordering.int_eq, Int.w128}
 use mir.Val.{bool_byte}
-use Rattle.walked_rows.specs.declared.postings.StoredPosting.{StoredPosting}
-use Rattle.walked_rows.specs.declared.requests.StoredRequest.{StoredRequest}
-use Rattle.report_lines.specs.Beside.{is_alone}
+use Rattle.walked_rows.specs.declared.{postings.StoredPosting.StoredPosting, requests.StoredRequest.StoredRequest}
+use Rattle.walked_rows.specs.declared.{branches.StoredBranch.StoredBranch, tellers.StoredTeller.StoredTeller}
+use Rattle.report_lines.specs.{Beside.is_alone, Sums.AreSmall, Added.IsSum}
 use Rattle.report_lines.proofs.Lists.{same_int, int_same}
-use Rattle.std.proofs.Math.IntN.{+ℤ_assoc}
-use Rattle.std.proofs.lemmas.Int.{ints, to_z-of_z}
+use Rattle.std.proofs.{Math.IntN.+ℤ_assoc, lemmas.Int.ints, lemmas.Int.to_z-of_z, lemmas.Bool.Decides.nat_tests}
+use Rattle.std.proofs.{lemmas.Grind.get_or-set_at, lemmas.List.Elements.filter-append}
 use Rattle.std.proofs.lemmas.Bool.{cases_Bool, eqb-true, le-leb}
-use Rattle.std.proofs.lemmas.Bool.Decides.{nat_tests}
 use Rattle.std.proofs.lemmas.List.{length-append, map-append, get_or-set_other, get_or-set_same, set-get_or}
 use Rattle.std.proofs.lemmas.List.{take_more_set}
-use Rattle.std.proofs.lemmas.Grind.{get_or-set_at}
-use Rattle.report_lines.specs.Sums.{AreSmall}
-use Rattle.std.proofs.lemmas.List.Elements.{filter-append}
-use Rattle.posting_rules.specs.Numbering.{branch_of_teller}
-use Rattle.posting_rules.specs.Laws.{total}
-use Rattle.walked_rows.specs.declared.branches.StoredBranch.{StoredBranch}
-use Rattle.walked_rows.specs.declared.tellers.StoredTeller.{StoredTeller}
-use Rattle.report_lines.specs.declared.sum.Sum.{Sum}
-use Rattle.report_lines.specs.declared.audit.BranchLine.{BranchLine}
+use Rattle.posting_rules.specs.{Numbering.branch_of_teller, Laws.total}
+use Rattle.report_lines.specs.declared.{sum.Sum.Sum, audit.BranchLine.BranchLine}
 use Rattle.report_lines.specs.Audit.{teller_sum, teller_balance, lines_of, line_of, differs}
-use Rattle.report_lines.specs.Added.{IsSum}
 
 total-append : (xs ys : List ℤ) → total (xs ++ ys) ≡ total xs +ℤ total ys
 total-append [] ys = omega (arith, ints)

@@ -1,10 +1,7 @@
 -- Bytes that are printable.
-use Rattle.std.proofs.Common.{◌≡◌, ◌<◌, ◌+◌, ℕ, suc, true, List, ◌∷◌, drop, get_or, length, ap, subst}
-use Rattle.std.proofs.Common.{◌∙◌, arith}
+use Rattle.std.proofs.Common.{◌≡◌, ◌<◌, ◌+◌, ℕ, suc, true, List, ◌∷◌, drop, get_or, length, ap, subst, ◌∙◌, arith}
 use Rattle.std.specs.Prelude.{IsTrue, nat_le}
-use Rattle.std.proofs.lemmas.Bool.{and_parts}
-use Rattle.std.proofs.lemmas.Bool.Decides.{nat_tests}
-use Rattle.std.proofs.lemmas.Str.{encode_ascii}
+use Rattle.std.proofs.{lemmas.Bool.and_parts, lemmas.Bool.Decides.nat_tests, lemmas.Str.encode_ascii}
 use Rattle.std.proofs.Math.Seq.{drop-cons}
 use Rattle.message_records.specs.Records.{is_printable}
 use lib.Utf8.{encode}
@@ -15,10 +12,6 @@ module _ (text : List ℕ) (i : ℕ) (low : i < length text) where
   from_one =
       let later : suc i ≡ i + 1 = omega arith in
       drop-cons text i 0 low ∙ ap (λ n. get_or text i 0 ∷ drop n text) later
-
-  pub all_behind : IsTrue (is_printable (drop i text)) → IsTrue (is_printable (drop (i + 1) text))
-  all_behind all =
-      let is = subst (λ l. IsTrue (is_printable l)) from_one all in (and_parts _ _ is).1
 
   -- it is ASCII
   pub one_is_ascii : IsTrue (is_printable (drop i text)) → get_or text i 0 < 128

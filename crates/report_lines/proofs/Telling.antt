@@ -1,11 +1,8 @@
 -- The audit says that stored tables are consistent exactly where they are.
 use Rattle.std.proofs.Common.{◌≡◌, ℕ, true, false, not, List, [], ◌∷◌, map, filter, length}
 use Rattle.std.proofs.Common.{Option, Some, None, refl, ap, subst, ◌∙◌}
-use Rattle.std.specs.Prelude.{is_some, nat_eq}
-use Rattle.std.specs.Ordering.{int_eq}
-use Rattle.std.specs.List.{AllByRecursion}
-use Rattle.walked_rows.specs.declared.branches.StoredBranch.{StoredBranch}
-use Rattle.walked_rows.specs.declared.postings.StoredPosting.{StoredPosting}
+use Rattle.std.specs.{Prelude.is_some, Prelude.nat_eq, Ordering.int_eq, List.AllByRecursion}
+use Rattle.walked_rows.specs.declared.{branches.StoredBranch.StoredBranch, postings.StoredPosting.StoredPosting}
 use Rattle.walked_rows.specs.declared.requests.StoredRequest.{StoredRequest}
 use Rattle.report_lines.specs.declared.audit.Audit.{Audit}
 use Rattle.report_lines.specs.Stored.{StoredTables}

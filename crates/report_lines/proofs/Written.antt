@@ -3,13 +3,11 @@ use Rattle.std.proofs.Common.{◌≡◌, ◌+◌, ℕ, List, [], ◌∷◌, ◌+
 use Rattle.std.proofs.Common.{get_or, Option, Result, Ok, Err, sym, ap, subst, ◌∙◌, arith}
 use Rattle.std.specs.Prelude.{OnErr, OnOk, ◌<◌}
 use Rattle.std.specs.Io.KnownBytes.{Appends}
-use Rattle.std.proofs.KnownBytes.{Appends-trans}
-use Rattle.std.proofs.Math.Seq.{take-append-add}
+use Rattle.std.proofs.{KnownBytes.Appends-trans, Math.Seq.take-append-add}
 use Rattle.std.proofs.lemmas.List.{take-append-le, take_more, take-append-drop, length-append, map-append}
 use Rattle.posting_core.specs.Told.{HasMore, HasWriteFailed, IsWriteFailure, WriteTold}
 use Rattle.posting_core.proofs.Telling.{more_failed}
-use Rattle.report_lines.specs.Lines.{text_of}
-use Rattle.report_lines.specs.Written.{AppendsPart}
+use Rattle.report_lines.specs.{Lines.text_of, Written.AppendsPart}
 use Rattle.report_lines.proofs.Joined.{text_of-snoc, text_of-append}
 
 -- all of a text, and a beginning of it

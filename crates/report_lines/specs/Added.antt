@@ -1,6 +1,5 @@
 -- What rows that were added up leave.
-use Rattle.std.specs.Prelude.{◌≡◌, ℕ, ℤ, pos, ◌+◌, ◌-◌, ◌≤◌, List, length, map}
-use Rattle.std.specs.Prelude.{filter, take, Option, slice_index_or}
+use Rattle.std.specs.Prelude.{◌≡◌, ℕ, ℤ, pos, ◌+◌, ◌-◌, ◌≤◌, List, length, map, filter, take, Option, slice_index_or}
 use Rattle.posting_rules.specs.declared.limits.TheConstants.{LAST_BRANCH}
 use Rattle.posting_rules.specs.Laws.{total}
 use Rattle.walked_rows.specs.declared.branches.StoredBranch.{StoredBranch}

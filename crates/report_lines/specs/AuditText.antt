@@ -1,6 +1,5 @@
 -- The text of an audit.
-use Rattle.std.specs.Prelude.{ℕ, ℤ, pos, Bool, List, [], ◌∷◌, ◌++◌, codes, map, decimal}
-use Rattle.std.specs.Prelude.{if◌then◌else◌}
+use Rattle.std.specs.Prelude.{ℕ, ℤ, pos, Bool, List, [], ◌∷◌, ◌++◌, codes, map, decimal, if◌then◌else◌}
 use Rattle.std.specs.Fmt.{signed_decimal}
 use Rattle.report_lines.specs.declared.audit.BranchLine.{BranchLine}
 use Rattle.report_lines.specs.declared.audit.Audit.{Audit}

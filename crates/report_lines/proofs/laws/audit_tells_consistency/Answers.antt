@@ -1,6 +1,5 @@
 -- The laws.
-use Rattle.report_lines.proofs.Telling.{tells}
-use Rattle.report_lines.proofs.OfTables.{tells_of_tables}
+use Rattle.report_lines.proofs.{Telling.tells, OfTables.tells_of_tables}
 use Rattle.report_lines.proofs.laws.audit_tells_consistency.Goals as goal
 
 pub returns-clause-stored : goal.returns-clause-stored

@@ -1,8 +1,7 @@
 use Rattle.std.proofs.Common.{map, take}
 use Rattle.std.specs.Io.KnownBytes.{Appends}
 use Rattle.posting_core.specs.Told.{HasMore}
-use Rattle.report_lines.specs.AuditText.{branch_line}
-use Rattle.report_lines.specs.Lines.{text_of}
+use Rattle.report_lines.specs.{AuditText.branch_line, Lines.text_of}
 use Rattle.report_lines.proofs.writing.put_branches.Given as goal
 
 -- the lines so far were written

@@ -1,16 +1,12 @@
 -- The numbers, the branches that differ, and the verdict.
-use Rattle.std.proofs.Common.{◌≡◌, ℕ, List, [], ◌∷◌, ◌++◌, map, Option, sym, ap, ◌∙◌}
-use Rattle.std.proofs.Common.{append-nil}
+use Rattle.std.proofs.Common.{◌≡◌, ℕ, List, [], ◌∷◌, ◌++◌, map, Option, sym, ap, ◌∙◌, append-nil}
 use Rattle.std.proofs.KnownBytes.{Appends-trans}
 use Rattle.std.specs.Io.KnownBytes.{Appends}
 use Rattle.posting_core.specs.Told.{IsFlush}
 use Rattle.posting_core.proofs.Telling.{more_more, more_last}
-use Rattle.report_lines.specs.declared.audit.BranchLine.{BranchLine}
-use Rattle.report_lines.specs.declared.audit.Audit.{Audit}
-use Rattle.report_lines.specs.Audit.{is_sound}
+use Rattle.report_lines.specs.declared.{audit.BranchLine.BranchLine, audit.Audit.Audit}
+use Rattle.report_lines.specs.{Audit.is_sound, Lines.text_of, Written.AppendsPart}
 use Rattle.report_lines.specs.AuditText.{audit_text, branch_line, number_lines, verdict_line}
-use Rattle.report_lines.specs.Lines.{text_of}
-use Rattle.report_lines.specs.Written.{AppendsPart}
 use Rattle.report_lines.proofs.Joined.{text_of-append}
 use Rattle.report_lines.proofs.Written.{first_part, same_part, same_all, then_part, later_failed, on_err_any}
 use Rattle.report_lines.proofs.Written.{on_err, on_ok}

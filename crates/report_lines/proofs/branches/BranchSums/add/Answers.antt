@@ -1,11 +1,9 @@
 -- One more branch.
 use Rattle.std.proofs.Common.{rules, ◌<◌, ◌∙◌, length, sym, arith, w64, FitsSigned}
 use Rattle.std.specs.Int.{w128}
-use Rattle.std.proofs.lemmas.Int.{to_z-of_z}
-use Rattle.std.proofs.lemmas.List.{length-map}
+use Rattle.std.proofs.{lemmas.Int.to_z-of_z, lemmas.List.length-map}
 use Rattle.report_lines.specs.Audit.{branch_balance}
-use Rattle.report_lines.proofs.OneMore.{sum_more_64, line_is, line_none, lines_after, branch_differs}
-use Rattle.report_lines.proofs.OneMore.{branch_agrees}
+use Rattle.report_lines.proofs.OneMore.{sum_more_64, line_is, line_none, lines_after, branch_differs, branch_agrees}
 use Rattle.report_lines.proofs.branches.BranchSums.add.Goals as goal
 
 pub returns-then-tellers-from : goal.returns-then-tellers-from

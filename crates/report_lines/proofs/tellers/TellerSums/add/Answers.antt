@@ -1,10 +1,8 @@
 -- One more teller, under its branch.
-use Rattle.std.proofs.Common.{rules, ◌≡◌, ◌≤◌, ◌<◌, ◌-◌, ◌/◌, ℕ, length}
-use Rattle.std.proofs.Common.{ap, ◌∙◌, arith, w64, FitsSigned}
+use Rattle.std.proofs.Common.{rules, ◌≡◌, ◌≤◌, ◌<◌, ◌-◌, ◌/◌, ℕ, length, ap, ◌∙◌, arith, w64, FitsSigned}
 use Rattle.std.specs.Prelude.{ℤ, ◌+ℤ◌}
 use Rattle.report_lines.specs.Audit.{teller_balance}
-use Rattle.report_lines.proofs.OneMore.{sum_fits, sum_is, small_after, branches_after}
-use Rattle.report_lines.proofs.OneMore.{small_at, sum_more_64}
+use Rattle.report_lines.proofs.OneMore.{sum_fits, sum_is, small_after, branches_after, small_at, sum_more_64}
 use Rattle.report_lines.proofs.tellers.TellerSums.add.Goals as goal
 
 pub overflow_add-sum : goal.overflow_add-sum

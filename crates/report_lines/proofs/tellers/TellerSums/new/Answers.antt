@@ -1,6 +1,5 @@
 -- Zeros, of which there is one for each branch.
-use Rattle.std.proofs.Common.{◌≡◌, ◌≤◌, ◌-◌, ◌*◌, ◌∙◌, List, get_or, ap, subst, sym}
-use Rattle.std.proofs.Common.{arith}
+use Rattle.std.proofs.Common.{◌≡◌, ◌≤◌, ◌-◌, ◌*◌, ◌∙◌, List, get_or, ap, subst, sym, arith}
 use Rattle.std.specs.Prelude.{ℤ, pos, nat_abs}
 use Rattle.report_lines.proofs.OneMore.{zeros}
 use Rattle.report_lines.proofs.tellers.TellerSums.new.Goals as goal
