@@ -1,8 +1,7 @@
 -- A record that comes again gets the reply that it got.
 use Rattle.std.proofs.Common.{◌≡◌, ◌⊎◌, ◌<◌, ◌≤◌, ℕ, zero, suc, ◌+◌, ◌-◌, ◌*◌, true, false, leb, List, []}
 use Rattle.std.proofs.Common.{◌∷◌, ◌++◌, length, get_or, take, drop, Result, Ok, Err, Vec, inl, inr, refl, sym, ap, ◌∙◌, arith}
-use Rattle.std.specs.Prelude.{IfOk}
-use Rattle.std.specs.List.{AllByRecursion}
+use Rattle.std.specs.{Prelude.IfOk, List.AllByRecursion}
 use Rattle.std.specs.declared.alloc.Global.{Global}
 use Rattle.std.proofs.lemmas.List.{take_at, drop_at, drop_all, drop-drop, drop-take, length-take}
 use Rattle.std.proofs.lemmas.Bool.Decides.{leb_tells}
@@ -12,13 +11,10 @@ use Rattle.message_records.proofs.Beginnings.{length-reply}
 use Rattle.posting_rules.specs.declared.fault.Fault.{Fault}
 use Rattle.posting_rules.specs.Commands.{Command, Open, Post}
 use Rattle.posting_rules.specs.Counter.{Answers, IsCounterCall, Seen, ShowsLog, Takes}
-use Rattle.posting_rules.specs.Entries.{reply}
-use Rattle.posting_rules.specs.Resends.{Place}
+use Rattle.posting_rules.specs.{Entries.reply, Resends.Place}
 use Rattle.posting_rules.specs.Runs.{behind, posts, replies_to, ArePosts}
 use Rattle.posting_rules.proofs.Resends.{replies_in_place, shows_log_left_out}
-use Rattle.posting_core.specs.Again.{AnswersAgain}
-use Rattle.posting_core.specs.Batches.{joined}
-use Rattle.posting_core.specs.Stream.{reply_at}
+use Rattle.posting_core.specs.{Again.AnswersAgain, Batches.joined, Stream.reply_at}
 
 -- ---- a call
 

@@ -2,36 +2,28 @@
 -- log with its command.
 use Rattle.std.proofs.Common.{◌≡◌, ℕ, ◌+◌, ◌≤◌, List, ◌∷◌, Option, Some, None, Result, Ok, Err, refl, sym, ap}
 use Rattle.std.proofs.Common.{subst, ◌∙◌, arith}
-use Rattle.std.specs.Prelude.{ℤ, pos}
-use Rattle.std.specs.Option.{option_map}
+use Rattle.std.specs.{Prelude.ℤ, Prelude.pos, Option.option_map}
 use Rattle.message_records.specs.declared.fault.Bad.{Bad}
-use Rattle.message_records.specs.Records.{RequestFields}
-use Rattle.message_records.specs.Reading.{request_of}
-use Rattle.posting_rules.specs.declared.judgments.Verdict.{Verdict}
+use Rattle.message_records.specs.{Records.RequestFields, Reading.request_of}
+use Rattle.posting_rules.specs.declared.{judgments.Verdict.Verdict, rows.FloorRow.FloorRow}
+use Rattle.posting_rules.specs.declared.{rows.ReferenceRow.ReferenceRow, limits.TheConstants.MAX_ACCOUNTS}
 use Rattle.posting_rules.specs.declared.judgments.Verdict.TheVariants.{Unkept, Again, Refused, Posted}
 use Rattle.posting_rules.specs.Commands.{Command, Open, Post, Terms, opened}
-use Rattle.posting_rules.specs.Cases.{case_of}
+use Rattle.posting_rules.specs.{Cases.case_of, Changes.new_teller, Changes.new_account}
 use Rattle.posting_rules.specs.Entries.{refused_entry, posted_entry, reply_given, decided, reply}
-use Rattle.posting_rules.specs.Tables.{Tables, AreTablesOf, row_at, branch_key, teller_key, account_key}
-use Rattle.posting_rules.specs.Tables.{history_key, request_key, branch_row_of, history_row_of}
-use Rattle.posting_rules.specs.Tables.{request_row_of, HasKeys, floor_key, floor_row_of, reference_key}
-use Rattle.posting_rules.specs.Tables.{reference_row_of}
+use Rattle.posting_rules.specs.Tables.{Tables, AreTablesOf, row_at, branch_key, teller_key, account_key, history_key}
+use Rattle.posting_rules.specs.Tables.{request_key, branch_row_of, history_row_of, request_row_of, HasKeys, floor_key}
+use Rattle.posting_rules.specs.Tables.{floor_row_of, reference_key, reference_row_of}
 use Rattle.posting_rules.specs.LookUps.{found_in, floor_in, terms_of_branch}
-use Rattle.posting_rules.specs.declared.rows.FloorRow.{FloorRow}
-use Rattle.posting_rules.specs.declared.rows.ReferenceRow.{ReferenceRow}
-use Rattle.posting_rules.specs.Changes.{new_teller, new_account}
 use Rattle.posting_rules.specs.Steps.{IsStep, AddsFloor, AddsReference, with_branch_balance}
 use Rattle.posting_rules.specs.Steps.{with_teller_balance, with_account_balance}
 use Rattle.posting_rules.specs.Numbering.{branch_of_teller, first_teller, first_account}
 use Rattle.posting_core.specs.Appended.{appended_after, appended_with, appended_opened, floor_behind}
 use Rattle.posting_core.specs.Appended.{reference_behind, reply_in_tables}
-use Rattle.posting_rules.proofs.RowChanges.{row_changes}
+use Rattle.posting_rules.proofs.{RowChanges.row_changes, Looked.terms_shown, Opened.opening_shown}
 use Rattle.posting_rules.proofs.Ready.{AreReady, ready_shown, no_teller, no_account}
-use Rattle.posting_rules.proofs.Looked.{terms_shown}
 use Rattle.posting_rules.proofs.Stepped.{post_shown, malformed_shown, reply_shown}
-use Rattle.posting_rules.proofs.Opened.{opening_shown}
 use Rattle.posting_core.proofs.Behind.{row_behind, rows_behind}
-use Rattle.posting_rules.specs.declared.limits.TheConstants.{MAX_ACCOUNTS}
 
 -- ---- a record
 

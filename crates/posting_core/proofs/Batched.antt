@@ -2,12 +2,10 @@
 use Rattle.std.proofs.Common.{◌≡◌, ℕ, zero, suc, ◌+◌, ◌-◌, ◌*◌, ◌/◌, ◌<◌, ◌≤◌, List, [], ◌∷◌, ◌++◌, length}
 use Rattle.std.proofs.Common.{take, drop, refl, sym, ap, subst, ◌∙◌, append_assoc, append-nil, arith}
 use Rattle.std.specs.Prelude.{◌%◌}
-use Rattle.std.specs.List.{AllByRecursion}
-use Rattle.std.specs.Simd.{first_chunks}
-use Rattle.std.proofs.Math.Nat.{suc-mul}
+use Rattle.std.specs.{List.AllByRecursion, Simd.first_chunks}
+use Rattle.std.proofs.{Math.Nat.suc-mul, lemmas.List.Concat.flat_map-append}
 use Rattle.std.proofs.lemmas.List.{take_at, drop_at, length-take-le, drop-take, drop-drop, length-append}
 use Rattle.std.proofs.lemmas.List.{length-drop, take-append-drop}
-use Rattle.std.proofs.lemmas.List.Concat.{flat_map-append}
 use Rattle.posting_rules.specs.Commands.{Command}
 use Rattle.posting_rules.specs.Runs.{behind, posts, replies_to, ArePosts}
 use Rattle.posting_core.specs.Batches.{Batch, IsRecord, joined, records_in, posts_in, records_of, posts_of}

@@ -2,19 +2,12 @@
 use Rattle.std.proofs.Common.{◌≡◌, ℕ, zero, suc, ◌+◌, ◌<◌, Bool, true, false, cond, eqb, List, [], ◌∷◌, ◌++◌}
 use Rattle.std.proofs.Common.{length, map, take, drop, set, get_or, Option, Some, None, refl, sym, ap, subst}
 use Rattle.std.proofs.Common.{◌∙◌, append_assoc, append-nil, arith}
-use Rattle.std.specs.Prelude.{nat_eq}
-use Rattle.std.specs.Cmp.{nat_eq_equiv}
-use Rattle.std.specs.List.{IsDistinct}
-use Rattle.std.specs.Option.{option_or}
-use Rattle.std.proofs.lemmas.Bool.{eqb-true, eq-eqb}
-use Rattle.std.proofs.lemmas.Bool.Decides.{nat_tests}
-use Rattle.std.proofs.lemmas.List.{map-append}
-use Rattle.std.proofs.lemmas.List.Edits.{map_over_more}
-use Rattle.std.proofs.lemmas.List.Elements.{All-from_recursion}
-use Rattle.std.proofs.lemmas.List.Folds.{find-append, list_any_none}
-use Rattle.std.proofs.lemmas.Map.Keys.{IsDistinct-push}
-use Rattle.posting_rules.specs.Tables.{row_at, HasKeys}
-use Rattle.posting_rules.specs.Steps.{GainsRow, AddsRows}
+use Rattle.std.specs.{Prelude.nat_eq, Cmp.nat_eq_equiv, List.IsDistinct, Option.option_or}
+use Rattle.std.proofs.{lemmas.Bool.eqb-true, lemmas.Bool.eq-eqb, lemmas.Bool.Decides.nat_tests}
+use Rattle.std.proofs.{lemmas.List.map-append, lemmas.List.Edits.map_over_more}
+use Rattle.std.proofs.{lemmas.List.Elements.All-from_recursion, lemmas.List.Folds.find-append}
+use Rattle.std.proofs.{lemmas.List.Folds.list_any_none, lemmas.Map.Keys.IsDistinct-push}
+use Rattle.posting_rules.specs.{Tables.row_at, Tables.HasKeys, Steps.GainsRow, Steps.AddsRows}
 use Rattle.posting_rules.proofs.RowChanges.{changed_at, free_apart, rows_none, rows_more}
 use Rattle.posting_core.specs.Appended.{rows_from}
 

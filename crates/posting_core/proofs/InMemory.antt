@@ -2,30 +2,22 @@
 use Rattle.std.proofs.Common.{◌≡◌, ℕ, ◌≤◌, List, [], ◌∷◌, length, Option, Some, None, Result, Ok, Err, refl, sym, ap}
 use Rattle.std.proofs.Common.{subst, ◌∙◌}
 use Rattle.std.specs.Option.{option_map}
-use Rattle.posting_rules.specs.declared.limits.TheConstants.{MAX_ACCOUNTS}
-use Rattle.message_records.specs.Reading.{request_of}
-use Rattle.message_records.specs.Spelling.{reply_spelling}
-use Rattle.posting_rules.specs.declared.rows.BranchRow.{BranchRow}
-use Rattle.posting_rules.specs.declared.rows.TellerRow.{TellerRow}
-use Rattle.posting_rules.specs.declared.rows.AccountRow.{AccountRow}
-use Rattle.posting_rules.specs.declared.rows.HistoryRow.{HistoryRow}
-use Rattle.posting_rules.specs.declared.rows.RequestRow.{RequestRow}
-use Rattle.posting_rules.specs.declared.rows.FloorRow.{FloorRow}
-use Rattle.posting_rules.specs.declared.rows.ReferenceRow.{ReferenceRow}
-use Rattle.posting_rules.specs.declared.fault.Fault.{Fault}
+use Rattle.posting_rules.specs.declared.{limits.TheConstants.MAX_ACCOUNTS, rows.BranchRow.BranchRow}
+use Rattle.posting_rules.specs.declared.{rows.TellerRow.TellerRow, rows.AccountRow.AccountRow}
+use Rattle.posting_rules.specs.declared.{rows.HistoryRow.HistoryRow, rows.RequestRow.RequestRow}
+use Rattle.posting_rules.specs.declared.{rows.FloorRow.FloorRow, rows.ReferenceRow.ReferenceRow, fault.Fault.Fault}
 use Rattle.posting_rules.specs.declared.fault.Fault.TheVariants.{Memory}
+use Rattle.message_records.specs.{Reading.request_of, Spelling.reply_spelling}
 use Rattle.posting_rules.specs.Commands.{Command, Open, Post, AreCommands, Terms}
-use Rattle.posting_rules.specs.Entries.{reply}
+use Rattle.posting_rules.specs.{Entries.reply, Runs.behind}
 use Rattle.posting_rules.specs.Tables.{Tables, AreTablesOf, row_at, branch_key}
-use Rattle.posting_rules.specs.Runs.{behind}
 use Rattle.posting_rules.specs.Counter.{IsCounterCall, IsSeenUnchanged, ShowsLog, StandsAt, Takes}
 use Rattle.posting_core.specs.declared.plain_bank.PlainBank.{PlainBank}
 use Rattle.posting_core.specs.Appended.{appended_with, appended_opened, reply_in_tables}
 use Rattle.posting_core.specs.Plain.{plain_reason, plain_tables, plain_seen}
-use Rattle.posting_rules.proofs.CounterCalls.{call_answered, call_spared}
-use Rattle.posting_rules.proofs.Empty.{empty_shown}
-use Rattle.posting_core.proofs.Appending.{record_shown, reply_is, opened_shown}
+use Rattle.posting_rules.proofs.{CounterCalls.call_answered, CounterCalls.call_spared, Empty.empty_shown}
 use Rattle.posting_rules.proofs.Sequence.{commands_behind}
+use Rattle.posting_core.proofs.Appending.{record_shown, reply_is, opened_shown}
 
 pub empty_from : (bs : List BranchRow) (ts : List TellerRow) (xs : List AccountRow) (hs : List HistoryRow)
     (rs : List RequestRow) (fs : List FloorRow) (gs : List ReferenceRow) → bs ≡ [] → ts ≡ [] → xs ≡ []

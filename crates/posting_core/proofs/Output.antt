@@ -2,30 +2,22 @@
 -- that come again.
 use Rattle.std.proofs.Common.{◌≡◌, ℕ, zero, suc, ◌-◌, ◌<◌, ◌≤◌, List, [], ◌∷◌, ◌++◌, length, take, Option}
 use Rattle.std.proofs.Common.{Result, Ok, Err, sym, ap, subst, ◌∙◌, append-nil, arith}
-use Rattle.std.specs.List.{AllByRecursion}
-use Rattle.std.specs.Io.KnownBytes.{Appends}
-use Rattle.std.proofs.Math.Seq.{take-append_seam}
-use Rattle.std.proofs.lemmas.List.{length-append, length-take}
+use Rattle.std.specs.{List.AllByRecursion, Io.KnownBytes.Appends}
+use Rattle.std.proofs.{Math.Seq.take-append_seam, lemmas.List.length-append, lemmas.List.length-take}
 use Rattle.std.proofs.lemmas.List.Concat.{flat_map-append}
 use Rattle.posting_core.specs.declared.stream.StreamFault.{StreamFault}
 use Rattle.posting_core.specs.declared.stream.StreamFault.TheVariants.{Truncated, Read, Write, Bank}
-use Rattle.posting_rules.specs.Commands.{Command}
-use Rattle.posting_rules.specs.Counter.{Seen, ShowsLog}
+use Rattle.posting_rules.specs.{Commands.Command, Counter.Seen, Counter.ShowsLog, Entries.reply, Resends.Place}
+use Rattle.posting_rules.specs.Resends.{Skips}
 use Rattle.posting_rules.specs.Runs.{behind, posts, replies_to, ArePosts}
 use Rattle.message_records.specs.Spelling.{reply_spelling}
-use Rattle.posting_rules.specs.Entries.{reply}
-use Rattle.posting_rules.specs.Resends.{Place, Skips}
 use Rattle.posting_core.specs.Batches.{Batch, IsRecord, joined, records_of, posts_in, posts_of}
-use Rattle.posting_core.specs.Stream.{replies_text, acknowledged, IfTaken, Streamed, OutputsReplies}
-use Rattle.posting_core.specs.Stream.{SurvivesStream}
+use Rattle.posting_core.specs.Stream.{replies_text, acknowledged, IfTaken, Streamed, OutputsReplies, SurvivesStream}
 use Rattle.posting_core.specs.Stream.{IsReplied, Resends, reply_at}
-use Rattle.posting_core.proofs.Again.{reply_begins, reply_stands}
-use Rattle.posting_rules.proofs.Sequence.{replies_to-append, one_reply_each}
-use Rattle.posting_rules.proofs.Resends.{shows_log_left_out}
-use Rattle.posting_core.proofs.Stops.{at_least}
-use Rattle.posting_core.proofs.Timeless.{timeless}
-use Rattle.posting_core.proofs.Batched.{joined-append, all_posts, posted_is, whole_records_are}
+use Rattle.posting_core.proofs.{Again.reply_begins, Again.reply_stands, Stops.at_least, Timeless.timeless}
+use Rattle.posting_rules.proofs.{Sequence.replies_to-append, Sequence.one_reply_each, Resends.shows_log_left_out}
 use Rattle.posting_rules.proofs.Remaining.{leaves_weaker}
+use Rattle.posting_core.proofs.Batched.{joined-append, all_posts, posted_is, whole_records_are}
 
 -- ---- the text
 

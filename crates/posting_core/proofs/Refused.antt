@@ -3,20 +3,16 @@ use Rattle.std.proofs.Common.{◌≡◌, ◌≤◌, ◌<◌, ℕ, List, [], ◌�
 use Rattle.std.proofs.Common.{subst, ◌∙◌, length-append, arith}
 use Rattle.std.specs.List.{AllByRecursion}
 use Rattle.std.proofs.lemmas.List.{length-map}
-use Rattle.posting_rules.specs.declared.fault.Fault.{Fault}
+use Rattle.posting_rules.specs.declared.{fault.Fault.Fault, limits.TheConstants.RECORDS_PER_BATCH}
 use Rattle.posting_rules.specs.declared.fault.Fault.TheVariants.{Memory, Store, Down, Damaged}
-use Rattle.posting_rules.specs.declared.limits.TheConstants.{RECORDS_PER_BATCH}
 use Rattle.posting_core.specs.declared.stream.StreamFault.{StreamFault}
 use Rattle.posting_core.specs.declared.stream.StreamFault.TheVariants.{Truncated, Read, Write, Bank}
-use Rattle.posting_rules.specs.Commands.{Command, Post}
-use Rattle.posting_rules.specs.Counter.{Seen, Refuses}
-use Rattle.posting_rules.specs.Runs.{posts, ArePosts}
+use Rattle.posting_rules.specs.{Commands.Command, Commands.Post, Counter.Seen, Counter.Refuses, Runs.posts}
+use Rattle.posting_rules.specs.Runs.{ArePosts}
 use Rattle.posting_core.specs.Batches.{Batch, IsRecord, joined, records_of, posts_of, BreaksOff}
-use Rattle.posting_core.specs.Stream.{IfBank, IfTaken, IsRefusedBehind, UnlessDown, posted_records}
-use Rattle.posting_core.specs.Stream.{whole_records}
+use Rattle.posting_core.specs.Stream.{IfBank, IfTaken, IsRefusedBehind, UnlessDown, posted_records, whole_records}
 use Rattle.posting_core.proofs.Batched.{all_posts, posted_is, posts_of_one_more, whole_records_are}
-use Rattle.posting_core.proofs.Streaming.{Going}
-use Rattle.posting_core.proofs.StreamedBatches.{read_batch, whole_batch}
+use Rattle.posting_core.proofs.{Streaming.Going, StreamedBatches.read_batch, StreamedBatches.whole_batch}
 
 -- ---- how many commands there are
 

@@ -1,15 +1,12 @@
 -- What a stop leaves of commands that were given, and what a text holds of others.
 use Rattle.std.proofs.Common.{◌≡◌, ℕ, ◌+◌, ◌≤◌, List, ◌++◌, length, take, sym, ap, subst, ◌∙◌, arith}
-use Rattle.std.proofs.Math.Seq.{take-append-add}
-use Rattle.std.proofs.lemmas.List.{length-append, take_all}
+use Rattle.std.proofs.{Math.Seq.take-append-add, lemmas.List.length-append, lemmas.List.take_all}
 use Rattle.posting_rules.specs.declared.fault.Fault.{Fault}
 use Rattle.posting_rules.specs.declared.fault.Fault.TheVariants.{Memory, Store, Down, Damaged}
-use Rattle.posting_rules.specs.Commands.{Command, AreCommands}
-use Rattle.posting_rules.specs.Tables.{Tables, AreTablesOf}
-use Rattle.posting_rules.specs.Counter.{Seen, LeavesOnly, StandsAt, ShowsBeginning, Refuses}
+use Rattle.posting_rules.specs.{Commands.Command, Commands.AreCommands, Tables.Tables, Tables.AreTablesOf}
 use Rattle.posting_rules.specs.Runs.{behind}
-use Rattle.posting_rules.proofs.Remaining.{leaves_still, leaves_weaker}
-use Rattle.posting_rules.proofs.Sequence.{behind-append}
+use Rattle.posting_rules.specs.Counter.{Seen, LeavesOnly, StandsAt, ShowsBeginning, Refuses}
+use Rattle.posting_rules.proofs.{Remaining.leaves_still, Remaining.leaves_weaker, Sequence.behind-append}
 
 -- a stop leaves all that was taken
 pub stop_all : (c : Seen) (log cs ds : List Command) → cs ≡ ds → StandsAt c (behind log ds)

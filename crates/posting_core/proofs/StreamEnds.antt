@@ -1,16 +1,13 @@
 -- How a stream ends: where all that was read was taken, and at a batch.
 use Rattle.std.proofs.Common.{◌≡◌, ℕ, ◌<◌, ◌≤◌, List, [], ◌∷◌, ◌++◌, length, take, Option, Result, Ok}
 use Rattle.std.proofs.Common.{Err, refl, sym, ap, subst, ◌∙◌, append-nil, arith}
-use Rattle.std.specs.List.{AllByRecursion}
-use Rattle.std.specs.Io.KnownBytes.{Consumes, IsAtEnd}
+use Rattle.std.specs.{List.AllByRecursion, Io.KnownBytes.Consumes, Io.KnownBytes.IsAtEnd}
 use Rattle.std.proofs.KnownBytes.{Appends-trans, Appends-kept}
-use Rattle.posting_rules.specs.declared.fault.Fault.{Fault}
+use Rattle.posting_rules.specs.declared.{fault.Fault.Fault, limits.TheConstants.RECORDS_PER_BATCH}
 use Rattle.posting_rules.specs.declared.fault.Fault.TheVariants.{Memory, Store, Down, Damaged}
 use Rattle.posting_core.specs.declared.stream.StreamFault.{StreamFault}
 use Rattle.posting_core.specs.declared.stream.StreamFault.TheVariants.{Truncated, Read, Write, Bank}
-use Rattle.posting_rules.specs.declared.limits.TheConstants.{RECORDS_PER_BATCH}
-use Rattle.posting_rules.specs.Commands.{Command}
-use Rattle.posting_rules.specs.Tables.{AreTablesOf}
+use Rattle.posting_rules.specs.{Commands.Command, Tables.AreTablesOf}
 use Rattle.posting_rules.specs.Counter.{Seen, ShowsLog, StandsAt, Refuses, IsSeenUnchanged}
 use Rattle.posting_rules.specs.Runs.{behind, posts, replies_to}
 use Rattle.posting_core.specs.Clock.{IsReading, AreReadings}
@@ -18,12 +15,10 @@ use Rattle.posting_core.specs.Batches.{Batch, IsBatch, IsRecord, joined, moments
 use Rattle.posting_core.specs.Stream.{EndsStream, FollowReads, RepliesAreWritten, IfUp, StreamsAsRead}
 use Rattle.posting_core.specs.Stream.{UnlessDown, read_by, submitted_by}
 use Rattle.posting_core.specs.Told.{Beside, ReadTold, WriteTold}
-use Rattle.posting_core.proofs.Followed.{Following}
-use Rattle.posting_core.proofs.Prompt.{prompt_written}
+use Rattle.posting_core.proofs.{Followed.Following, Prompt.prompt_written, Batched.posts_of_one_more}
+use Rattle.posting_core.proofs.{Batched.replies_of_one_more, Streaming.Going}
 use Rattle.posting_rules.proofs.Remaining.{leaves_still}
 use Rattle.posting_core.proofs.Stops.{refused_stop, stop_all, stop_part, written_part}
-use Rattle.posting_core.proofs.Batched.{posts_of_one_more, replies_of_one_more}
-use Rattle.posting_core.proofs.Streaming.{Going}
 use Rattle.posting_core.proofs.StreamedBatches.{all_more, takes_batch, read_batch, whole_batch, clock_batch}
 
 -- ---- ends where all that was read was taken

@@ -1,7 +1,6 @@
 -- A stream goes on by a batch.
 use Rattle.std.proofs.Common.{◌≡◌, ◌≤◌, ℕ, ◌+◌, ◌*◌, List, [], ◌∷◌, ◌++◌, length, Option, sym, ap, subst, ◌∙◌, arith}
-use Rattle.std.specs.List.{AllByRecursion}
-use Rattle.std.specs.Io.KnownBytes.{Consumes}
+use Rattle.std.specs.{List.AllByRecursion, Io.KnownBytes.Consumes}
 use Rattle.std.proofs.KnownBytes.{Appends-trans}
 use Rattle.std.proofs.lemmas.List.{length-append, length-map, map-append}
 use Rattle.posting_rules.specs.declared.limits.TheConstants.{RECORDS_PER_BATCH}
@@ -12,8 +11,7 @@ use Rattle.posting_core.specs.Clock.{after_one, IsNextReading, IsReading, AreRea
 use Rattle.posting_core.specs.Batches.{Batch, IsBatch, IsRecord, joined, moment_of, moments_of, records_of, posts_in}
 use Rattle.posting_core.specs.Batches.{posts_of, BatchIsAnswered}
 use Rattle.posting_rules.proofs.Sequence.{behind-append}
-use Rattle.posting_core.proofs.Batched.{joined_one_more, records_one_more, posts_of_one_more}
-use Rattle.posting_core.proofs.Batched.{replies_of_one_more}
+use Rattle.posting_core.proofs.Batched.{joined_one_more, records_one_more, posts_of_one_more, replies_of_one_more}
 use Rattle.posting_core.proofs.Streaming.{Going}
 
 pub all_more : {A : Type 0} (P : A → Type 0) (xs ys : List A) → AllByRecursion P xs → AllByRecursion P ys

@@ -1,16 +1,14 @@
 -- A stream of records, step by step: a read, a batch, and each way to end.
 use Rattle.std.proofs.Common.{◌≡◌, ◌⊎◌, inl, inr, ℕ, ◌+◌, ◌*◌, ◌<◌, ◌≤◌, List, [], ◌++◌, length, take, Option}
 use Rattle.std.proofs.Common.{Result, Ok, refl, sym, ap, subst, ◌∙◌, append_assoc, append-nil, arith}
-use Rattle.std.specs.Prelude.{IfOk}
-use Rattle.std.specs.List.{AllByRecursion}
+use Rattle.std.specs.{Prelude.IfOk, List.AllByRecursion}
 use Rattle.std.specs.Io.KnownBytes.{Keeps, Appends, Consumes}
 use Rattle.std.proofs.KnownBytes.{Appends-nil, Consumes-trans, Consumes-nil, Consumes-kept}
 use Rattle.std.proofs.lemmas.List.{length-take-le}
 use Rattle.message_records.specs.declared.limits.TheConstants.{REPLY_BYTES}
 use Rattle.posting_core.specs.declared.stream.TheConstants.{BUFFER}
-use Rattle.posting_rules.specs.Commands.{Command}
+use Rattle.posting_rules.specs.{Commands.Command, Runs.replies_to}
 use Rattle.posting_rules.specs.Counter.{Seen, ShowsLog, Takes}
-use Rattle.posting_rules.specs.Runs.{replies_to}
 use Rattle.posting_core.specs.Clock.{AreReadings}
 use Rattle.posting_core.specs.Batches.{Batch, IsBatch, IsRecord, joined, moments_of, records_of, posts_of}
 

@@ -1,20 +1,16 @@
 -- Calls of a source or a sink, one after another.
-use Rattle.std.proofs.Common.{◌≡◌, ◌≤◌, ◌+◌, ℕ, true, false, List, [], ◌∷◌, ◌++◌, length, Option, Some, None}
-use Rattle.std.proofs.Common.{Result, Ok, Err, refl, sym, ap, subst, ◌∙◌, append_assoc, append-nil, arith}
-use Rattle.std.proofs.Common.{inl, inr}
+use Rattle.std.proofs.Common.{◌≡◌, ◌≤◌, ◌+◌, ℕ, true, false, List, [], ◌∷◌, ◌++◌, length, Option, Some, None, Result}
+use Rattle.std.proofs.Common.{Ok, Err, refl, sym, ap, subst, ◌∙◌, append_assoc, append-nil, arith, inl, inr}
 use Rattle.std.specs.Prelude.{◌⊎◌, ◌-◌, ◌^◌, ◌≢◌}
 use Rattle.std.proofs.lemmas.List.{length-append}
-use Rattle.std.specs.IoError.{error_kind}
-use Rattle.std.specs.declared.io.Error.{Error}
-use Rattle.std.specs.declared.io.ErrorKind.{ErrorKind}
-use Rattle.std.specs.contracts.io.ErrorKind.{the_type}
+use Rattle.std.specs.{IoError.error_kind, contracts.io.ErrorKind.the_type}
+use Rattle.std.specs.declared.{io.Error.Error, io.ErrorKind.ErrorKind}
 use denote.Enum.Bare.{sameb, same_true}
 use Rattle.std.specs.declared.io.ErrorKind.TheVariants.{Interrupted}
 use Rattle.std.specs.List.{AllByRecursion}
 use Rattle.posting_core.specs.Told.{GrowsBy, EndsWith, EndsWithMany, HasMore, HasReadFailed, HasWriteFailed}
-use Rattle.posting_core.specs.Told.{IsEndOfInput, IsInterrupted, IsReadFailure, IsWornOut, IsWriteFailure}
-use Rattle.posting_core.specs.Told.{ReadTold, WriteTold, read_told}
-use Rattle.posting_core.specs.Told.{write_told, flush_told, IsFlush}
+use Rattle.posting_core.specs.Told.{IsEndOfInput, IsInterrupted, IsReadFailure, IsWornOut, IsWriteFailure, ReadTold}
+use Rattle.posting_core.specs.Told.{WriteTold, read_told, write_told, flush_told, IsFlush}
 
 pub adds-more : {A : Type 0} (a b c : Option (List A)) (xs ys : List A) → GrowsBy a b xs → GrowsBy b c ys
     → GrowsBy a c (xs ++ ys)

@@ -1,14 +1,10 @@
 -- What was written was flushed, batch by batch.
-use Rattle.std.proofs.Common.{◌≡◌, ℕ, List, Option, Err, refl, sym, subst, inl, inr}
-use Rattle.std.specs.Prelude.{◌≢◌}
+use Rattle.std.proofs.Common.{ℕ, List, Option, Err, sym, subst, inl, inr}
 use Rattle.posting_core.specs.declared.stream.StreamFault.{StreamFault}
 use Rattle.posting_core.specs.declared.stream.StreamFault.TheVariants.{Truncated, Read, Write, Bank}
-use Rattle.posting_rules.specs.Commands.{Command}
-use Rattle.posting_rules.specs.Counter.{Seen}
-use Rattle.posting_core.specs.Batches.{BreaksOff}
-use Rattle.posting_core.specs.Stream.{StreamFaultIsOfItsEnd}
-use Rattle.posting_core.specs.Told.{ReadTold, WriteTold, EndsWith, HasMore, HasWriteFailed, IsFlush}
-use Rattle.posting_core.specs.Told.{IsThrough, IsWriteFailure}
+use Rattle.posting_rules.specs.{Commands.Command, Counter.Seen}
+use Rattle.posting_core.specs.{Batches.BreaksOff, Stream.StreamFaultIsOfItsEnd, Stream.TellsBreak}
+use Rattle.posting_core.specs.Told.{ReadTold, WriteTold, EndsWith, HasMore, IsFlush, IsThrough, IsWriteFailure}
 use Rattle.posting_core.proofs.Telling.{adds-none, last_some, more_failed, more_last}
 
 pub through_first : (w : Option (List WriteTold)) → IsThrough w w
@@ -26,11 +22,10 @@ through_batch h flushed = inr (more_last IsFlush (through_more h) flushed)
 -- a batch broke off
 pub ends_broken : (r r' : Option (List ReadTold)) (w w' w'' : Option (List WriteTold))
     (k k' : Option (List ℕ)) (c c' : Seen) (cs : List Command) (fault : StreamFault)
-    → IsThrough w w' → BreaksOff fault k k' c c' cs → (fault ≡ Write → HasWriteFailed w' w'')
-    → (fault ≢ Write → w'' ≡ w') → StreamFaultIsOfItsEnd (Err fault) r r' w w''
-ends_broken r r' w w' w'' k k' c c' cs Write h a unwritten unasked = more_failed IsWriteFailure
-    (through_more h) (unwritten refl)
-ends_broken r r' w w' w'' k k' c c' cs (Bank fault) h a unwritten unasked =
-    subst (λ (t : Option (List WriteTold)). IsThrough w t) (sym (unasked (λ e. cc e))) h
-ends_broken r r' w w' w'' k k' c c' cs Read h a unwritten unasked = absurd a
-ends_broken r r' w w' w'' k k' c c' cs (Truncated n) h a unwritten unasked = absurd a
+    → IsThrough w w' → BreaksOff fault k k' c c' cs → TellsBreak fault w' w''
+    → StreamFaultIsOfItsEnd (Err fault) r r' w w''
+ends_broken r r' w w' w'' k k' c c' cs Write h a failed = more_failed IsWriteFailure (through_more h) failed
+ends_broken r r' w w' w'' k k' c c' cs (Bank fault) h a same =
+    subst (λ (t : Option (List WriteTold)). IsThrough w t) (sym same) h
+ends_broken r r' w w' w'' k k' c c' cs Read h a told = absurd a
+ends_broken r r' w w' w'' k k' c c' cs (Truncated n) h a told = absurd a

@@ -172,6 +172,11 @@ StreamFaultIsOfItsEnd (Err Read) r r' w w' = HasReadFailed r r' × IsThrough w w
 StreamFaultIsOfItsEnd (Err Write) r r' w w' = HasWriteFailed w w'
 StreamFaultIsOfItsEnd (Err (Bank fault)) r r' w w' = IsThrough w w'
 
+-- where a batch broke off, its write failed, or nothing was written
+abbrev pub TellsBreak : StreamFault → Option (List WriteTold) → Option (List WriteTold) → Type 0
+TellsBreak Write w w' = HasWriteFailed w w'
+TellsBreak _ w w' = w' ≡ w
+
 -- ---- what a stop leaves
 
 -- the records that are posted

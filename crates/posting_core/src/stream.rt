@@ -1,13 +1,13 @@
 //! A stream of records in, and a stream of replies out.
-ghost use Rattle.std.specs.Prelude.{◌≡◌, ◌≢◌, ℕ, ◌≤◌, MatchResult, IfErr, OnOk, length};
+ghost use Rattle.std.specs.Prelude.{◌≡◌, ℕ, ◌≤◌, MatchResult, IfErr, length};
 ghost use Rattle.std.specs.Result.{IsErrOf};
 ghost use Rattle.posting_core.specs.Clock.{IsReading};
 ghost use Rattle.posting_rules.specs.Runs.{posts};
 ghost use Rattle.posting_core.specs.Batches.{BatchIsAnswered, BreaksOff};
 ghost use Rattle.posting_core.specs.Stream.{OutputsReplies, SurvivesStream, Resends};
 ghost use Rattle.posting_core.specs.Stream.{StreamFaultIsOfItsEnd, StreamsAsRead};
-ghost use Rattle.posting_core.specs.Stream.{IfBank, IfTaken, IsDownAsBefore, IsRefusedBehind};
-ghost use Rattle.posting_core.specs.Told.{EndsWith, HasWriteFailed, IsFlush};
+ghost use Rattle.posting_core.specs.Stream.{IfBank, IfTaken, IsDownAsBefore, IsRefusedBehind, TellsBreak};
+ghost use Rattle.posting_core.specs.Told.{EndsWith, IsFlush};
 
 use crate::clock::Clock;
 use crate::ends::{Sink, Source};
@@ -72,11 +72,8 @@ fn reply_to_batch<W: Sink, K: Clock, C: Counter>(
         (posts moment records.now))
         (λ fault. BreaksOff fault (W.contents writer.old) (W.contents writer.new) (C.seen bank.old)
         (C.seen bank.new) (posts moment records.now)) }
-    ensures flushed { OnOk result (EndsWith IsFlush (W.told writer.old) (W.told writer.new)) }
-    ensures unwritten { IsErrOf result StreamFault.Write
-        → HasWriteFailed (W.told writer.old) (W.told writer.new) }
-    ensures unasked { IfErr result (λ fault. fault ≢ StreamFault.Write
-        → W.told writer.new ≡ W.told writer.old) }
+    ensures told { MatchResult result (λ _. EndsWith IsFlush (W.told writer.old) (W.told writer.new))
+        (λ fault. TellsBreak fault (W.told writer.old) (W.told writer.new)) }
     ensures up { IfTaken result ((C.seen bank.new).is_down → ⊥) }
     ensures why { IfErr result (λ fault. IfBank fault (λ told. C.reason told bank.old bank.new)) }
     ensures down { (C.seen bank.old).is_down → IsErrOf result (StreamFault.Bank Fault.Down)

@@ -1,6 +1,5 @@
 use Rattle.std.proofs.Common.{◌≡◌, ◌<◌, ◌∙◌, arith, length, take, sym, rules}
-use Rattle.std.proofs.KnownBytes.{Keeps-refl}
-use Rattle.std.proofs.lemmas.List.{length-take-le}
+use Rattle.std.proofs.{KnownBytes.Keeps-refl, lemmas.List.length-take-le}
 use Rattle.posting_rules.proofs.CounterCalls.{unchanged_seen}
 use Rattle.posting_core.proofs.Transferred.{read_whole, wrote_all, wrote_some}
 use Rattle.posting_core.proofs.once.answer_once.Goals as goal

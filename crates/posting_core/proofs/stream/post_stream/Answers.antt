@@ -1,22 +1,17 @@
-use Rattle.std.proofs.Common.{◌≡◌, ◌≤◌, ◌+◌, ◌∙◌, [], ◌∷◌, inl, inr, refl, ap, Err, arith, length, take}
-use Rattle.std.proofs.lemmas.List.{length-take-le}
-use Rattle.std.proofs.lemmas.Result.{err_from_is_err_and}
+use Rattle.std.proofs.Common.{◌≡◌, ◌≤◌, ◌+◌, ◌∙◌, [], ◌∷◌, inl, inr, refl, arith, length, take}
+use Rattle.std.proofs.{lemmas.List.length-take-le, lemmas.Result.err_from_is_err_and}
 use Rattle.posting_core.specs.declared.stream.TheConstants.{BUFFER}
-use Rattle.posting_core.proofs.Batched.{cut_into, cut_and_moved}
+use Rattle.posting_core.proofs.{Batched.cut_into, Batched.cut_and_moved, StreamedBatches.going_batch}
+use Rattle.posting_core.proofs.{Refused.refused_broken, Refused.up_broken}
 use Rattle.posting_core.proofs.Output.{output_of, survives_of, resends_of}
 use Rattle.posting_core.proofs.Followed.{following_batch, following_first, following_read, following_wrote}
 use Rattle.posting_core.proofs.Followed.{gave_none, gave_some, up_to}
-use Rattle.posting_core.specs.Batches.{Batch}
-use Rattle.posting_core.specs.Stream.{given}
-use Rattle.posting_core.specs.Told.{read_told}
+use Rattle.posting_core.specs.{Batches.Batch, Stream.given, Told.read_told}
 use Rattle.posting_rules.specs.declared.limits.TheConstants.{RECORDS_PER_BATCH}
 use Rattle.posting_rules.proofs.CounterCalls.{idle_behind}
-use Rattle.posting_core.proofs.Streaming.{going_first, going_filled, going_on, nothing_read}
-use Rattle.posting_core.proofs.StreamedBatches.{going_batch}
+use Rattle.posting_core.proofs.Streaming.{going_first, going_filled, going_on, nothing_read, at_ok, few_left}
 use Rattle.posting_core.proofs.StreamEnds.{end_whole, end_in_record, end_unread, end_broken}
-use Rattle.posting_core.proofs.Streaming.{at_ok, few_left}
 use Rattle.posting_core.proofs.Telling.{made_many, made_none, made_one, other_kind, read_ended, read_failed}
-use Rattle.posting_core.proofs.Refused.{refused_broken, up_broken}
 use Rattle.posting_core.proofs.Through.{ends_broken, through_batch, through_first}
 use Rattle.posting_core.proofs.stream.post_stream.Goals as goal
 use Rattle.posting_core.proofs.stream.post_stream.Goals.{then-filled-ge-REQUEST_BYTES+in_ok-reply_to_batch}
@@ -205,7 +200,7 @@ returns-in_err-reply_to_batch g c =
       spares = g.met.C.Counter.spares_then c.args.bank.now c.reads.bank c.reply_to_batch.new.bank
           c.reads.invariant.spares c.in_err-reply_to_batch.ensures.spares;
       ends = ends_broken _ _ _ _ _ _ _ _ _ _ fault c.reads.invariant.through a.2
-          (λ e. c.in_err-reply_to_batch.ensures.unwritten (ap Err e)) c.in_err-reply_to_batch.ensures.unasked;
+          c.in_err-reply_to_batch.ensures.told;
     })
 
 pub reads-preserved : goal.reads-preserved
@@ -245,7 +240,7 @@ reads-preserved g c =
             spares = g.met.C.Counter.spares_then c.args.bank.now c.reads.bank w.reply_to_batch.new.bank
                 c.reads.invariant.spares w.in_ok-reply_to_batch.ensures.spares;
             made = made_one _ _ c.reads.invariant.made c.fill_beside.ensures.tells refl;
-            through = through_batch c.reads.invariant.through w.in_ok-reply_to_batch.ensures.flushed;
+            through = through_batch c.reads.invariant.through w.in_ok-reply_to_batch.ensures.told;
             done = _;
             going = going_batch a.0 (take c.match-fill_beside.filled c.fill_beside.new.buffer)
                 (take left after) _ rs on.0 cut (

@@ -1,9 +1,7 @@
 use Rattle.std.proofs.Common.{◌∙◌, ℕ, ap, arith, length, refl, sym, take}
-use Rattle.std.proofs.Math.Seq.{take-length}
-use Rattle.std.proofs.KnownBytes.{Keeps-refl}
-use Rattle.std.proofs.lemmas.List.{length-map, length-take-le}
-use Rattle.posting_rules.specs.Commands.{Post}
-use Rattle.posting_rules.specs.Runs.{posts, replies_to}
+use Rattle.std.proofs.{Math.Seq.take-length, KnownBytes.Keeps-refl, lemmas.List.length-map}
+use Rattle.std.proofs.lemmas.List.{length-take-le}
+use Rattle.posting_rules.specs.{Commands.Post, Runs.posts, Runs.replies_to}
 use Rattle.posting_core.specs.Batches.{joined}
 use Rattle.posting_core.proofs.stream.reply_to_batch.Goals as goal
 
@@ -32,8 +30,8 @@ returns-in-Ok-write_out-clause-answers g c =
       },
     )
 
-pub returns-in-Ok-write_out-clause-flushed : goal.returns-in-Ok-write_out-clause-flushed
-returns-in-Ok-write_out-clause-flushed g c = c.in-Ok-write_out.ensures.flushed
+pub returns-in-Ok-write_out-clause-told : goal.returns-in-Ok-write_out-clause-told
+returns-in-Ok-write_out-clause-told g c = c.in-Ok-write_out.ensures.flushed
 
 pub returns-in-Err-clause-answers : goal.returns-in-Err-clause-answers
 returns-in-Err-clause-answers g c = (
@@ -42,8 +40,8 @@ returns-in-Err-clause-answers g c = (
   record { wrote = Keeps-refl _; refuses = c.in-Err.ensures.call.fault },
 )
 
-pub returns-in-Err-clause-unasked : goal.returns-in-Err-clause-unasked
-returns-in-Err-clause-unasked g c = λ _. refl
+pub returns-in-Err-clause-told : goal.returns-in-Err-clause-told
+returns-in-Err-clause-told g c = refl
 
 pub returns-in-Err-clause-why : goal.returns-in-Err-clause-why
 returns-in-Err-clause-why g c = c.in-Err.ensures.call.why
@@ -69,5 +67,5 @@ returns-clause-answers g c =
       },
     )
 
-pub returns-clause-unwritten : goal.returns-clause-unwritten
-returns-clause-unwritten g c = λ _. c.in-Err-write_out.ensures.failed
+pub returns-clause-told : goal.returns-clause-told
+returns-clause-told g c = c.in-Err-write_out.ensures.failed

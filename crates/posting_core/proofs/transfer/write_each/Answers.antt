@@ -1,8 +1,7 @@
 use Rattle.std.proofs.Common.{arith, refl, rules}
 use Rattle.std.proofs.lemmas.List.{length-take, length-drop}
 use Rattle.posting_core.specs.Told.{HasWriteFailed, IsWriteFailure}
-use Rattle.posting_core.proofs.Transferred.{wrote_write}
-use Rattle.posting_core.proofs.Telling.{more_failed, more_more}
+use Rattle.posting_core.proofs.{Transferred.wrote_write, Telling.more_failed, Telling.more_more}
 use Rattle.posting_core.proofs.transfer.write_each.Goals as goal
 
 pub returns-in_err-done-clause-failed : goal.returns-in_err-done-clause-failed

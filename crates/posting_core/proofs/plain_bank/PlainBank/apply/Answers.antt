@@ -2,15 +2,10 @@
 use Rattle.std.proofs.Common.{◌≡◌, ℕ, Bool, true, false, cond, eqb, List, length, get_or, sym, subst, ap, ◌∙◌}
 use Rattle.std.proofs.Common.{arith, rules}
 use Rattle.std.specs.Prelude.{ℤ, All, map}
-use Rattle.std.proofs.lemmas.Grind.{common_steps}
-use Rattle.std.proofs.lemmas.List.{with_items_is}
-use Rattle.std.proofs.lemmas.List.Elements.{All-map}
+use Rattle.std.proofs.{lemmas.Grind.common_steps, lemmas.List.with_items_is, lemmas.List.Elements.All-map}
 use Rattle.posting_rules.specs.declared.rows.BranchRow.{BranchRow}
-use Rattle.posting_rules.specs.Branches.{IsInRange}
-use Rattle.posting_rules.specs.Changes.{row_changed}
+use Rattle.posting_rules.specs.{Branches.IsInRange, Changes.row_changed, Steps.with_branch_balance, Tables.branch_key}
 use Rattle.posting_rules.proofs.RowChanges.{changed_at}
-use Rattle.posting_rules.specs.Steps.{with_branch_balance}
-use Rattle.posting_rules.specs.Tables.{branch_key}
 use Rattle.posting_core.proofs.plain_bank.PlainBank.apply.Goals as goal
 
 -- another balance leaves number and count

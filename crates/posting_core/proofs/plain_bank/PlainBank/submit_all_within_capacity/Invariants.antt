@@ -1,7 +1,6 @@
 use Rattle.std.proofs.Common.{◌≡◌, ◌+◌, ◌-◌, ◌≤◌, ◌++◌, List, take, length, vec_len}
 use Rattle.std.specs.Vec.{vec_capacity}
-use Rattle.posting_rules.specs.Commands.{Command, AreCommands}
-use Rattle.posting_rules.specs.Tables.{AreTablesOf}
+use Rattle.posting_rules.specs.{Commands.Command, Commands.AreCommands, Tables.AreTablesOf}
 use Rattle.posting_core.specs.Plain.{plain_tables}
 use Rattle.posting_rules.specs.Runs.{behind, posts, replies_to}
 use Rattle.posting_core.proofs.plain_bank.PlainBank.submit_all_within_capacity.Given as goal

@@ -1,13 +1,10 @@
 use Rattle.std.proofs.Common.{ℕ, List, [], ◌∷◌, sym, ap, ◌∙◌}
-use Rattle.posting_rules.specs.declared.rows.BranchRow.{BranchRow}
-use Rattle.posting_rules.specs.declared.counter.Opening.TheVariants.{Opened}
-use Rattle.posting_rules.specs.Commands.{Open, opened_with}
-use Rattle.posting_rules.specs.Tables.{row_at, branch_key}
-use Rattle.posting_core.specs.Plain.{plain_tables}
+use Rattle.posting_rules.specs.declared.{rows.BranchRow.BranchRow, counter.Opening.TheVariants.Opened}
+use Rattle.posting_rules.specs.{Commands.Open, Commands.opened_with, Tables.row_at, Tables.branch_key}
 use Rattle.posting_rules.specs.LookUps.{count_of_branch}
+use Rattle.posting_core.specs.Plain.{plain_tables}
 use Rattle.std.specs.Option.{option_map}
-use Rattle.posting_core.proofs.InMemory.{answered_plain, unmapped, opened_from, branches_as_before}
-use Rattle.posting_core.proofs.InMemory.{takes_plain}
+use Rattle.posting_core.proofs.InMemory.{answered_plain, unmapped, opened_from, branches_as_before, takes_plain}
 use Rattle.posting_core.proofs.plain_bank.PlainBankCounter.open_branch.Goals as goal
 
 pub returns-clause-call : goal.returns-clause-call

@@ -1,9 +1,7 @@
 use Rattle.std.proofs.Common.{refl, subst, sym, ap, ◌∙◌, ◌++◌, List, ℕ, rules}
-use Rattle.posting_rules.specs.Tables.{Tables, AreTablesOf}
+use Rattle.posting_rules.specs.{Tables.Tables, Tables.AreTablesOf, Runs.posts, Runs.replies_to}
 use Rattle.posting_core.specs.Plain.{plain_tables}
-use Rattle.posting_rules.specs.Runs.{posts, replies_to}
-use Rattle.posting_core.proofs.InMemory.{answered_plain, plain_shows, requests_as_before, spared_plain}
-use Rattle.posting_core.proofs.InMemory.{takes_plain}
+use Rattle.posting_core.proofs.InMemory.{answered_plain, plain_shows, requests_as_before, spared_plain, takes_plain}
 use Rattle.posting_core.proofs.plain_bank.PlainBankCounter.submit_all.Goals as goal
 
 pub returns-clause-call : goal.returns-clause-call
