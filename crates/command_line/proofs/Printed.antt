@@ -1,18 +1,20 @@
 -- What was printed of a drive, of connections that were served, and of a replay.
-use Rattle.std.proofs.Common.{◌≡◌, ◌≢◌, ◌≤◌, ap, inl, inr, refl, ℕ, List, length, take, Option, Result, Ok, Err, OnOk}
-use Rattle.std.proofs.Common.{IfErr}
+use Rattle.std.proofs.Common.{◌≡◌, ◌≢◌, ◌≤◌, ◌⊎◌, ap, inl, inr, refl, ℕ, List, [], length, take, Option, Result, Ok, Err, OnOk}
+use Rattle.std.proofs.Common.{IfErr, arith, subst, sym}
+use Rattle.std.proofs.lemmas.List.{take_all}
 use Rattle.std.specs.Prelude.{OnErr}
 use Rattle.std.specs.Result.{IsErrOf}
 use Rattle.std.specs.Io.KnownBytes.{Appends}
-use Rattle.std.proofs.KnownBytes.{Keeps-refl}
+use Rattle.std.proofs.KnownBytes.{Appends-nil, Keeps-refl}
 use Rattle.std.specs.declared.net.socket_addr.SocketAddr.{SocketAddr}
 use Rattle.posting_rules.specs.Counter.{Seen}
 use Rattle.posting_rules.specs.declared.fault.Fault.{Fault}
-use Rattle.posting_core.specs.Told.{HasWriteFailed, WriteTold}
+use Rattle.posting_core.proofs.Telling.{adds-none}
+use Rattle.posting_core.specs.Told.{EndsWith, HasWriteFailed, IsFlush, WriteTold}
 use Rattle.report_lines.specs.Written.{AppendsPart}
 use Rattle.load_driver.specs.Drives.{Drives}
 use Rattle.load_driver.specs.declared.drive.Driven.{Driven}
-use Rattle.command_line.specs.Lines.{PrintsLine, driven_line, listening_line}
+use Rattle.command_line.specs.Lines.{PrintsLine, WritesOut, driven_line, listening_line}
 use Rattle.command_line.specs.declared.fault.CommandFault.{CommandFault}
 use Rattle.command_line.specs.Replaying.{PrintsText}
 use Rattle.command_line.specs.declared.fault.CommandFault.TheVariants.{Memory, Write}
@@ -33,6 +35,47 @@ pub told_driven : {C : Type 0} (seen : C → Seen) (old new : C) (k k' : Option 
 told_driven seen old new k k' seed count before after (Ok done) driven drives line =
     (driven, drives.submits.ends.total, line)
 told_driven seen old new k k' seed count before after (Err fault) driven drives line = tt
+
+-- ---- what was written to standard error
+
+-- a text was written out, or a prefix of it
+pub written_out : {E : Type 0} (text : List ℕ) (w w' : Option (List ℕ)) (t t' : Option (List WriteTold))
+    (r : Result (Unit {0}) E)
+    → (n : ℕ) × (n ≤ length text) × Appends w w' (take n text) × OnOk r (n ≡ length text)
+    → OnOk r (EndsWith IsFlush t t') → OnErr r (HasWriteFailed t t') → WritesOut text w w' t t'
+written_out text w w' t t' (Ok done) wrote flushed failed =
+    let all : take wrote.0 text ≡ text = take_all wrote.0 text (omega (arith, wrote.3)) in
+    inl (subst (λ (bytes : List ℕ). Appends w w' bytes) all wrote.2, inr flushed)
+written_out text w w' t t' (Err fault) wrote flushed failed = inr (part_of (wrote.0, wrote.1, wrote.2), failed)
+
+-- a whole text is a prefix of itself
+pub in_part : (text : List ℕ) (w w' : Option (List ℕ)) (t t' : Option (List WriteTold)) → WritesOut text w w' t t'
+    → AppendsPart w w' text
+in_part text w w' t t' (inl out) = record {
+  count = length text;
+  within = omega arith;
+  wrote = subst (λ (bytes : List ℕ). Appends w w' bytes) (sym (take_all (length text) text (omega arith))) out.0;
+}
+in_part text w w' t t' (inr part) = part.0
+
+-- a line was said, or none, where its text wasn't made
+pub said_in_part : (line text : List ℕ) (w w' : Option (List ℕ)) (t t' : Option (List WriteTold))
+    → (text ≡ line) ⊎ (text ≡ []) → WritesOut text w w' t t' → AppendsPart w w' line
+said_in_part line text w w' t t' (inl is) out =
+    in_part line w w' t t' (subst (λ (bytes : List ℕ). WritesOut bytes w w' t t') is out)
+said_in_part line text w w' t t' (inr none) out =
+    let within : 0 ≤ length line = omega arith in
+    let part = in_part [] w w' t t' (subst (λ (bytes : List ℕ). WritesOut bytes w w' t t') none out) in
+    let nothing : take part.count [] ≡ [] = take_all part.count [] (omega arith) in
+    record {
+      count = 0;
+      within = within;
+      wrote = subst (λ (bytes : List ℕ). Appends w w' bytes) nothing part.wrote;
+    }
+
+-- none was due
+pub none_due : (w : Option (List ℕ)) (t : Option (List WriteTold)) → WritesOut [] w w t t
+none_due w t = inl (Appends-nil w, inl (adds-none t))
 
 -- ---- the line, whatever address it tells
 

@@ -4,13 +4,18 @@ use Rattle.std.specs.Prelude.{Option, Result, OnErr, OnOk}
 use Rattle.std.specs.Fmt.{decimal, signed_decimal}
 use Rattle.std.specs.Io.KnownBytes.{Appends}
 use Rattle.std.specs.Net.Text.{socket_text}
+use Rattle.std.specs.declared.io.ErrorKind.{ErrorKind as FileError}
+use Rattle.std.specs.declared.io.ErrorKind.TheVariants.{OutOfMemory}
 use Rattle.std.specs.declared.net.socket_addr.SocketAddr.{SocketAddr}
 use Rattle.load_driver.specs.declared.drive.Driven.{Driven}
 use Rattle.branch_loader.specs.declared.loader.Loaded.{Loaded}
 use Rattle.clap.specs.declared.error.kind.ErrorKind.{ErrorKind}
 use Rattle.clap.specs.declared.error.kind.ErrorKind.TheVariants as kind
-use Rattle.posting_core.specs.Told.{EndsWith, IsFlush, WriteTold}
+use Rattle.posting_core.specs.Told.{EndsWith, HasWriteFailed, IsFlush, IsThrough, WriteTold}
+use Rattle.report_lines.specs.Written.{AppendsPart}
+use Rattle.command_line.specs.Faults.{fault_text}
 use Rattle.command_line.specs.declared.fault.CommandFault.{CommandFault}
+use Rattle.command_line.specs.declared.fault.CommandFault.TheVariants.{Memory}
 use Rattle.command_line.specs.declared.status.Status.{Status}
 use Rattle.command_line.specs.declared.status.Status.TheVariants.{Done, Usage, System}
 
@@ -46,6 +51,15 @@ already_line version = line (codes "already version " ++ signed_decimal version)
 abbrev pub listening_line : SocketAddr → List ℕ
 listening_line address = line (codes "listening " ++ socket_text address)
 
+-- why a command ended, on standard error
+abbrev pub fault_line : CommandFault → List ℕ
+fault_line fault = line (codes "bank: " ++ fault_text fault)
+
+-- that its words couldn't be read, for an error of this kind
+abbrev pub no_words_line : FileError → List ℕ
+no_words_line OutOfMemory = fault_line Memory
+no_words_line _ = line (codes "error: a word isn't UTF-8")
+
 -- A line is printed. w and w' are the known bytes of the output before and after, and t and t' what its calls
 -- are known to have returned.
 pub record PrintsLine (text : List ℕ) (w w' : Option (List ℕ)) (t t' : Option (List WriteTold))
@@ -56,6 +70,10 @@ pub record PrintsLine (text : List ℕ) (w w' : Option (List ℕ)) (t t' : Optio
   pub flushed : OnOk told (EndsWith IsFlush t t')
   -- at a fault a beginning of it is written
   pub part : OnErr told ((n : ℕ) × (n ≤ length text) × Appends w w' (take n text))
+
+-- A text is written and flushed, or none is due; or the output failed, and a prefix of it is written.
+abbrev pub WritesOut : List ℕ → (w w' : Option (List ℕ)) → (t t' : Option (List WriteTold)) → Type 0
+WritesOut text w w' t t' = (Appends w w' text × IsThrough t t') ⊎ (AppendsPart w w' text × HasWriteFailed t t')
 
 -- help or the version was asked for
 abbrev pub IsHelpOrVersion : ErrorKind → Type 0

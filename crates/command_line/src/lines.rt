@@ -1,13 +1,15 @@
 //! What the program prints: one line for a command that did its work, and one on standard error for a fault.
-ghost use Rattle.std.specs.Prelude.{◌≡◌, ◌⊎◌, IfSome, IsErr, IsErrOf, IsOk, OnErr, OnOk};
+ghost use Rattle.std.specs.Prelude.{◌≡◌, ◌⊎◌, [], IfSome, IsErr, IsErrOf, IsOk, OnErr, OnOk};
 ghost use Rattle.std.specs.Io.KnownBytes.{Keeps};
 ghost use Rattle.std.specs.IoError.{error_kind};
 ghost use Rattle.clap.specs.Words.{kind_of};
 ghost use Rattle.posting_core.specs.Told.{EndsWith, HasWriteFailed, IsFlush};
 ghost use Rattle.command_line.specs.Faults.{status_of};
-ghost use Rattle.command_line.specs.Lines.{IsHelpOrVersion, IsShown, PrintsLine, already_line, created_line};
-ghost use Rattle.command_line.specs.Lines.{driven_line, listening_line, loaded_line, migrated_line};
+ghost use Rattle.command_line.specs.Lines.{IsHelpOrVersion, IsShown, PrintsLine, WritesOut, already_line};
+ghost use Rattle.command_line.specs.Lines.{created_line, driven_line, fault_line, listening_line, loaded_line};
+ghost use Rattle.command_line.specs.Lines.{migrated_line, no_words_line};
 ghost use Rattle.command_line.specs.Statuses.{status_of_no_words};
+ghost use Rattle.report_lines.specs.Written.{AppendsPart};
 
 use crate::fault::CommandFault;
 use crate::status::Status;
@@ -224,11 +226,31 @@ fn finish<W: Sink>(written: io::Result<()>, output: &mut W) -> Result<(), Comman
 
 /// Writes `bank: ` and the fault as a line to standard error, and returns the status that the program ends
 /// with. A line that can't be written is given up.
-pub fn tell<E: Write>(fault: CommandFault, faults: &mut E) -> Status
-    ensures { result ≡ status_of fault }
+pub fn tell<E: Sink>(fault: CommandFault, faults: &mut E) -> Status
+    ensures status { result ≡ status_of fault }
+    ensures said { AppendsPart (E.contents faults.old) (E.contents faults.new) (fault_line fault) }
 {
-    let _ = writeln!(faults, "bank: {fault}");
+    say(told_text(&fault).as_str(), faults);
     fault.status()
+}
+
+/// Writes a line to standard error, and flushes it. One that can't be written is given up.
+pub(crate) fn say<E: Sink>(line: &str, faults: &mut E)
+    ensures { WritesOut line.now (E.contents faults.old) (E.contents faults.new)
+        (E.told faults.old) (E.told faults.new) }
+{
+    let _ = write_out(faults, line.as_bytes());
+}
+
+// The line of a fault; none where its text can't be made.
+fn told_text(fault: &CommandFault) -> ArrayString<LINE>
+    ensures { (result.bytes ≡ fault_line fault.now) ⊎ (result.bytes ≡ []) }
+{
+    let mut line = ArrayString::new();
+    match writeln!(line, "bank: {fault}") {
+        Ok(()) => line,
+        Err(_) => ArrayString::new(),
+    }
 }
 
 /// Shows why the words aren't a command, by the text of `clap`, and returns the status that the program ends
@@ -265,13 +287,15 @@ fn show<W: Write, E: Write>(error: &clap::Error, output: &mut W, faults: &mut E)
 
 /// Reports on standard error that the words couldn't be read, and returns the status that the program ends
 /// with: 3 if memory was refused, and 2 if a word isn't UTF-8.
-pub fn tell_no_words<E: Write>(error: &io::Error, faults: &mut E) -> Status
-    ensures { result ≡ status_of_no_words (error_kind error.now) }
+pub fn tell_no_words<E: Sink>(error: &io::Error, faults: &mut E) -> Status
+    ensures status { result ≡ status_of_no_words (error_kind error.now) }
+    ensures said { AppendsPart (E.contents faults.old) (E.contents faults.new)
+        (no_words_line (error_kind error.now)) }
 {
     match error.kind() {
         io::ErrorKind::OutOfMemory => tell(CommandFault::Memory, faults),
         _ => {
-            let _ = writeln!(faults, "error: a word isn't UTF-8");
+            say("error: a word isn't UTF-8\n", faults);
             Status::Usage
         }
     }

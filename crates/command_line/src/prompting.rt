@@ -1,18 +1,20 @@
 //! What a command says that reads what is typed.
 ghost use Rattle.std.specs.Prelude.{◌≡◌, true};
+ghost use Rattle.command_line.specs.Lines.{WritesOut};
 ghost use Rattle.command_line.specs.Prompting.{prompt_line};
-ghost use Rattle.report_lines.specs.Written.{AppendsPart};
 
 use crate::Command;
-use posting_core::{Sink, write_out};
+use crate::lines::say;
+use posting_core::Sink;
 
 /// Where the input is typed at a terminal, says what the command waits for, if it reads any. A line that can't be
 /// written is given up.
 pub fn prompt<E: Sink>(command: &Command<'_>, typed: bool, faults: &mut E)
-    ensures { AppendsPart (E.contents faults.old) (E.contents faults.new) (prompt_line typed command.now) }
+    ensures { WritesOut (prompt_line typed command.now) (E.contents faults.old) (E.contents faults.new)
+        (E.told faults.old) (E.told faults.new) }
 {
     if typed {
-        let _ = write_out(faults, prompt_text(command).as_bytes());
+        say(prompt_text(command), faults);
     }
 }
 
