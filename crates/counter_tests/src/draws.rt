@@ -133,16 +133,3 @@ fn no_branches(rt: HostRuntime) {
     let fault = driver_of(&rt, &[], 1).err();
     assert_eq!(rt; fault, Some(DriverFault::Empty));
 }
-
-const TEXTS: [(DriverFault, &str); 2] = [
-    (DriverFault::Empty, "no branches"),
-    (DriverFault::Memory, "no memory"),
-];
-
-#[test]
-fn texts(rt: HostRuntime) {
-    for (fault, want) in &TEXTS {
-        let text = format!(in rt.alloc(); "{fault}").expect(&rt, "memory");
-        assert_eq!(rt; text.as_str(), *want);
-    }
-}

@@ -1,6 +1,6 @@
-//! Tests of what no scenario of a bank reaches: records and plans, fault by fault, the records that are drawn
-//! and driven, one record alone, streams over ends and banks that fail, a client that waits for its answers,
-//! clocks, the verdict of a full bank, and the laws; and the first programs of the crates' pages.
+//! Tests of what no scenario of a bank reaches: records, plans and sheets, fault by fault, the records that are
+//! drawn, streams over ends and banks that fail, a client that waits for its answers, clocks, the verdict of a
+//! full bank, and the laws; and the first programs of the crates' pages.
 #![tactic(auto)]
 
 #[cfg(test)]
@@ -10,13 +10,9 @@ mod clocks;
 #[cfg(test)]
 mod draws;
 #[cfg(test)]
-mod drives;
-#[cfg(test)]
 mod first_programs;
 #[cfg(test)]
 mod judging;
-#[cfg(test)]
-mod once;
 #[cfg(test)]
 mod plans;
 #[cfg(test)]

@@ -1,7 +1,6 @@
 //! Plans: sources and lists, and the plan or the fault that each gives.
-use branch_loader::{Plan, PlanFault, load, read_plan};
-use message_records::{Account, Branch, Cents};
-use posting_core::{Counter, PlainBank};
+use branch_loader::{Plan, PlanFault, read_plan};
+use message_records::{Branch, Cents};
 use std::alloc::{Alloc, AllocError, Global};
 use std::io;
 use std::io::Read;
@@ -155,44 +154,6 @@ fn a_failing_source(rt: HostRuntime) {
     }
 }
 
-// A plan of no branch, one of two, the same again, one in which a branch has more accounts, and one in which it has
-// a floor; and how many
-// openings of each are `opened`, `already` and `differs`.
-const LOADS: [(&[u8], (u32, u32, u32)); 5] = [
-    (b"branch,accounts\n", (0, 0, 0)),
-    (b"branch,accounts\n1,3\n2,2\n", (2, 0, 0)),
-    (b"branch,accounts\n1,3\n2,2\n", (0, 2, 0)),
-    (b"branch,accounts\n1,3\n2,5\n", (0, 1, 1)),
-    (b"branch,accounts,floor\n1,3,\n2,2,0\n", (0, 1, 1)),
-];
-
-fn loads_again<C: Counter>(rt: &(impl Abort + Alloc<A = Global>), bank: &mut C) {
-    for (source, want) in &LOADS {
-        let mut source = *source;
-        let plan = read_plan(rt.alloc(), &mut source).expect(rt, "a plan");
-        let loaded = load(&plan, bank).expect(rt, "a bank");
-        assert_eq!(rt; (loaded.opened, loaded.already, loaded.differs), *want);
-    }
-}
-
-// The last account of either branch, and the one behind it: whether it is open then.
-const LAST_ACCOUNTS: [(u64, bool); 4] = [(3, true), (4, false), (100_002, true), (100_003, false)];
-
-fn has_opened<C: Counter>(rt: &impl Abort, bank: &mut C) {
-    for (account, is_open) in &LAST_ACCOUNTS {
-        let account = Account::new(*account).expect(rt, "an account");
-        let balance = bank.balance(account).expect(rt, "a bank");
-        assert_eq!(rt; balance.is_some(), *is_open, "{account}");
-    }
-}
-
-#[test]
-fn a_plan_loaded_twice(rt: HostRuntime) {
-    let mut bank = PlainBank::new(rt.alloc());
-    loads_again(&rt, &mut bank);
-    has_opened(&rt, &mut bank);
-}
-
 // How many rows the plan of these two rows has, or the fault.
 fn rows_of(
     rt: &(impl Abort + Alloc<A = Global>),
@@ -238,24 +199,5 @@ fn lists_with_floors(rt: HostRuntime) {
         let floor = Cents::new(*floor).expect(&rt, "a floor");
         let rows = [(first, 1, None), (second, 1, Some(floor))];
         assert_eq!(rt; rows_of(&rt, &rows), *want);
-    }
-}
-
-const TEXTS: [(PlanFault, &str); 8] = [
-    (PlanFault::Header, "plan header"),
-    (PlanFault::Columns(1), "plan row 1 columns"),
-    (PlanFault::Branch(2), "plan row 2 branch"),
-    (PlanFault::Accounts(3), "plan row 3 accounts"),
-    (PlanFault::Floor(9), "plan row 9 floor"),
-    (PlanFault::Twice(10), "plan row 10 twice"),
-    (PlanFault::Csv, "plan unreadable"),
-    (PlanFault::Memory, "no memory"),
-];
-
-#[test]
-fn texts(rt: HostRuntime) {
-    for (fault, want) in &TEXTS {
-        let text = format!(in rt.alloc(); "{fault}").expect(&rt, "memory");
-        assert_eq!(rt; text.as_str(), *want);
     }
 }

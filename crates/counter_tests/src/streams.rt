@@ -103,22 +103,6 @@ fn ends<R: Read>(
     assert_eq!(rt; output.as_slice(), replies);
 }
 
-#[test]
-fn a_truncated_stream(rt: HostRuntime) {
-    let wanted = (Err(StreamFault::Truncated(50)), (500, -700));
-    ends(
-        &rt,
-        &mut truncated_input().as_slice(),
-        wanted,
-        &two_replies(),
-    );
-}
-
-#[test]
-fn an_empty_stream(rt: HostRuntime) {
-    ends(&rt, &mut b"".as_slice(), (Ok(0), (0, 0)), b"");
-}
-
 // The same record 130 times: two full buffers and a part of one.
 #[test]
 fn a_long_stream(rt: HostRuntime) {
