@@ -114,16 +114,3 @@ fn a_bank_that_fails(rt: HostRuntime) -> Result<(), Fail> {
     refused_at(&rt, b"GET /account/1 HTTP/1.1\r\n\r\n")?;
     refused_at(&rt, b"GET /branches HTTP/1.1\r\n\r\n")
 }
-
-fn has_text(rt: &(impl Abort + Alloc<A = Global>), fault: ServeFault, text: &str) {
-    let said = format!(in rt.alloc(); "{fault}").expect(rt, "memory");
-    assert_eq!(rt; said.as_str(), text);
-}
-
-#[test]
-fn texts_of_faults(rt: HostRuntime) {
-    has_text(&rt, ServeFault::Read, "read failed");
-    has_text(&rt, ServeFault::Write, "write failed");
-    has_text(&rt, ServeFault::Bank(Fault::Store), "store fault");
-    has_text(&rt, ServeFault::Memory, "no memory");
-}

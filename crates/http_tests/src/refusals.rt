@@ -14,8 +14,6 @@ const CASES: &[(&[u8], &[u8])] = &[
     (b"\0", BAD),
     (b"GET /branches HTTP/1.1\r\n", BAD),
     (b"GET /\xff HTTP/1.1\r\n\r\n", BAD),
-    (b"POST /post HTTP/1.1\r\nContent-Length: 4097\r\n\r\n", BAD),
-    (b"POST /post HTTP/1.1\r\nContent-Length: +100\r\n\r\n", BAD),
     (b"POST /post HTTP/1.1\r\nContent-Length:\r\n\r\n", BAD),
     (
         b"POST /post HTTP/1.1\r\nContent-Length: 0\r\ncontent-length: 0\r\n\r\n",
@@ -40,30 +38,6 @@ const CASES: &[(&[u8], &[u8])] = &[
 fn what_is_no_message(rt: HostRuntime) {
     for &(input, answer) in CASES {
         refused(&rt, input, answer);
-    }
-}
-
-// A head of so many fields, of which the last is filled up to so many bytes for all of it.
-fn write_head(head: &mut Vec<u8>, fields: usize, bytes: usize) -> Result<(), AllocError> {
-    head.extend_from_slice(b"HEAD / HTTP/1.1\r\n")?;
-    for _ in 1..fields {
-        head.extend_from_slice(b"a:b\r\n")?;
-    }
-    head.extend_from_slice(b"c:")?;
-    head.resize(bytes.saturating_sub(4), b'd')?;
-    head.extend_from_slice(b"\r\n\r\n")
-}
-
-#[test]
-fn the_greatest_head(rt: HostRuntime) {
-    let mut head = Vec::new(rt.alloc());
-    let found: &[u8] =
-        b"HTTP/1.1 404 Not Found\r\nContent-Type: text/plain\r\nContent-Length: 14\r\n\r\n";
-    for (fields, bytes, answer) in [(32, 8192, found), (32, 8193, BAD), (33, 8192, BAD)] {
-        head.clear();
-        assert!(rt; write_head(&mut head, fields, bytes).is_ok());
-        assert_eq!(rt; head.len(), bytes);
-        refused(&rt, &head, answer);
     }
 }
 
