@@ -8,20 +8,16 @@ use Rattle.std.proofs.lemmas.List.{take-append-drop, take-map}
 use Rattle.std.proofs.lemmas.List.Sums.{sum_by-append}
 use Rattle.posting_rules.specs.Commands.{Command, Open, AreCommands}
 use Rattle.posting_rules.specs.Counter.{Seen, ShowsLog, ShowsBeginning, Takes, Refuses, opening_behind}
-use Rattle.posting_rules.specs.Runs.{behind}
-use Rattle.posting_rules.specs.Tables.{Tables, AreTablesOf}
-use Rattle.posting_rules.proofs.CounterCalls.{Takes-append}
-use Rattle.posting_rules.proofs.Remaining.{leaves_still, leaves_weaker}
+use Rattle.posting_rules.specs.{Runs.behind, Tables.Tables, Tables.AreTablesOf}
+use Rattle.posting_rules.proofs.{CounterCalls.Takes-append, Remaining.leaves_still, Remaining.leaves_weaker}
 use Rattle.posting_rules.proofs.Sequence.{behind-append}
 use Rattle.posting_core.proofs.Refused.{still_down}
-use Rattle.posting_rules.specs.declared.counter.Opening.{Opening}
+use Rattle.posting_rules.specs.declared.{counter.Opening.Opening, fault.Fault.Fault}
 use Rattle.posting_rules.specs.declared.counter.Opening.TheVariants.{Opened, Already, Differs}
-use Rattle.posting_rules.specs.declared.fault.Fault.{Fault}
 use Rattle.posting_rules.specs.declared.fault.Fault.TheVariants.{Memory, Store, Down, Damaged}
 use Rattle.branch_loader.specs.Plans.{openings, terms_of, Rows, Row}
 use Rattle.branch_loader.specs.Loading.{IsRefusedAfter, LeavesBeginning, LoadsAll, answers, counted, total}
-use Rattle.branch_loader.specs.Loading.{with_answer}
-use Rattle.branch_loader.specs.Loading.{is_opened, is_already, is_differs}
+use Rattle.branch_loader.specs.Loading.{with_answer, is_opened, is_already, is_differs}
 use Rattle.branch_loader.specs.declared.loader.Loaded.{Loaded}
 
 -- ---- answers

@@ -6,8 +6,7 @@ use Rattle.csv.specs.Machine.{Read, after_end, ends_at_end, ends_with, field_aft
 use Rattle.csv.specs.Machine.{is_end, next_record, start_field, start_record, step}
 use Rattle.csv.specs.Reading.{NextIs, ReadRecord, ReadsNext, default_config, pending_of, records, strip_bom}
 use Rattle.csv.specs.Reading.{records_from, records_next, source_of}
-use Rattle.csv.specs.declared.parser.Action.{Action}
-use Rattle.csv.specs.declared.parser.State.{State}
+use Rattle.csv.specs.declared.{parser.Action.Action, parser.State.State}
 use Rattle.csv.specs.declared.parser.State.TheVariants as st
 use Rattle.csv.specs.declared.reader.Reader.{Reader}
 use Rattle.branch_loader.specs.Records.{HasLeft, TakesRecord, records_at, Records, Fields}

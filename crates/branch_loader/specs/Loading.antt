@@ -1,9 +1,7 @@
 -- What loading a plan into a counter does.
-use Rattle.std.specs.Prelude.{◌≡◌, ℕ, ◌+◌, ◌<◌, List, [], ◌∷◌, Bool, true, false, count_by, length, take}
-use Rattle.std.specs.Prelude.{drop}
+use Rattle.std.specs.Prelude.{◌≡◌, ℕ, ◌+◌, ◌<◌, List, [], ◌∷◌, Bool, true, false, count_by, length, take, drop}
 use Rattle.posting_rules.specs.Commands.{Command, Open}
-use Rattle.posting_rules.specs.Counter.{Seen, StandsAt, LeavesOnly, ShowsBeginning, Takes, Refuses}
-use Rattle.posting_rules.specs.Counter.{opening_behind}
+use Rattle.posting_rules.specs.Counter.{Seen, StandsAt, LeavesOnly, ShowsBeginning, Takes, Refuses, opening_behind}
 use Rattle.posting_rules.specs.declared.counter.Opening.{Opening}
 use Rattle.posting_rules.specs.declared.counter.Opening.TheVariants.{Opened, Already, Differs}
 use Rattle.posting_rules.specs.declared.fault.Fault.{Fault}

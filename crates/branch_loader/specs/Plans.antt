@@ -1,9 +1,8 @@
 -- What a text of CSV states as a plan: branches, how many accounts each is to have and the floor of these, or
 -- the first fault with its row.
 use Rattle.std.specs.Prelude.{◌≡◌, ◌≤◌, ◌≤ℤ◌, ◌+◌, ◌==◌, ◌&&◌, ◌⊎◌, ⊤, Bool, true, false, ℕ, zero, suc, ℤ, pos}
-use Rattle.std.specs.Prelude.{negsuc, List, [], ◌∷◌, ◌++◌, Option, Some, option_map, IfSome, int_le}
-use Rattle.std.specs.Prelude.{None, Result, Ok, Err, All, map, length, bytes_eq, codes, nat_eq, nat_le}
-use Rattle.std.specs.Prelude.{if◌then◌else◌, option_and_then}
+use Rattle.std.specs.Prelude.{negsuc, List, [], ◌∷◌, ◌++◌, Option, Some, option_map, IfSome, int_le, None, Result, Ok}
+use Rattle.std.specs.Prelude.{Err, All, map, length, bytes_eq, codes, nat_eq, nat_le, if◌then◌else◌, option_and_then}
 use Rattle.std.specs.List.{IsDistinct, list_any}
 use Rattle.std.specs.Io.KnownBytes.{Consumes, IsAtEnd}
 use Rattle.posting_rules.specs.declared.limits.TheConstants.{LAST_BRANCH, MAX_ACCOUNTS}

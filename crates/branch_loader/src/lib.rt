@@ -23,7 +23,7 @@
 //! A third count of [`Loaded`], `differs`, is of the branches that are open with another count of accounts or
 //! another floor, which they keep. A plan whose header is `branch,accounts,floor` gives a branch the balance
 //! below which none of its accounts may go, or nothing. [`Plan::from_list`] makes a plan without a source, of a
-//! vector of a `Branch`, a `u32`, its count of accounts, and an `Option<Cents>`, its floor.
+//! vector of [`PlanRow`]s.
 //!
 //! [`PlanFault`] says why a source is no plan: its header, or a row, counted from 1, whose columns, branch,
 //! count of accounts or floor are wrong or whose branch an earlier row has; or that the source can't be read,
@@ -42,7 +42,7 @@ mod text;
 
 pub use fault::PlanFault;
 pub use loader::{Loaded, load};
-pub use plan::Plan;
+pub use plan::{Plan, PlanRow};
 pub use read::{next_record, read_plan};
 pub use records::RecordSource;
 pub use text::read_text;

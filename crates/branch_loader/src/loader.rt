@@ -20,8 +20,7 @@ pub struct Loaded {
     pub differs: u32,
 }
 
-ghost use Rattle.branch_loader.specs.Loading.{IsRefusedAfter, LoadsAll, answers, counted, total};
-ghost use Rattle.branch_loader.specs.Loading.{with_answer};
+ghost use Rattle.branch_loader.specs.Loading.{IsRefusedAfter, LoadsAll, answers, counted, total, with_answer};
 
 // The counts with one answer more.
 fn with_answer(loaded: Loaded, opening: Opening) -> Loaded

@@ -1,15 +1,17 @@
 //! The plan: which branches, how many accounts each is to have, and their floor.
 ghost use Rattle.std.specs.Prelude.{◌≡◌, ◌≤◌, ◌+◌, List, length};
-ghost use Rattle.branch_loader.specs.Plans.{IsPlan, Row, floor_within, names, plan_of_list, row_of};
-ghost use Rattle.branch_loader.specs.Plans.{row_of_listed};
+ghost use Rattle.branch_loader.specs.Plans.{IsPlan, Row, floor_within, names, plan_of_list, row_of, row_of_listed};
 
 use crate::fault::PlanFault;
 use message_records::{Branch, Cents};
 use posting_core::{LAST_BRANCH, MAX_ACCOUNTS};
 use std::marker::Model;
 
+/// A row of a plan: a branch, its count of accounts, and their floor, if they have one.
+pub type PlanRow = (Branch, u32, Option<Cents>);
+
 // Whether one of the rows names the branch.
-fn names(rows: &[(Branch, u32, Option<Cents>)], branch: u64) -> bool
+fn names(rows: &[PlanRow], branch: u64) -> bool
     ensures { result ≡ names branch rows.now }
 {
     rows.iter().any(|row| branch == row.0.get())
@@ -17,11 +19,11 @@ fn names(rows: &[(Branch, u32, Option<Cents>)], branch: u64) -> bool
 
 // The row of a branch, a count and a floor, where they are there and no row before it names the branch.
 pub(crate) fn row_of(
-    before: &[(Branch, u32, Option<Cents>)],
+    before: &[PlanRow],
     branch: Option<Branch>,
     accounts: Option<u32>,
     floor: Option<Option<Cents>>,
-) -> Result<(Branch, u32, Option<Cents>), PlanFault>
+) -> Result<PlanRow, PlanFault>
     requires { length before.now ≤ LAST_BRANCH + 1 }
     ensures { result ≡ row_of before.now branch accounts floor }
 {
@@ -59,11 +61,11 @@ fn floor_within(floor: Option<Cents>) -> Option<Option<Cents>>
 
 // The row of a list, where its numbers are in range and no row before it names the branch.
 fn row_of_listed(
-    before: &[(Branch, u32, Option<Cents>)],
+    before: &[PlanRow],
     branch: Branch,
     accounts: u32,
     floor: Option<Cents>,
-) -> Result<(Branch, u32, Option<Cents>), PlanFault>
+) -> Result<PlanRow, PlanFault>
     requires { length before.now ≤ LAST_BRANCH + 1 }
     ensures { result ≡ row_of_listed before.now (branch, accounts, floor) }
 {
@@ -81,7 +83,7 @@ fn row_of_listed(
 /// floors of their accounts in cents, at most zero, or none, in an order.
 #[derive(Debug, Drop)]
 pub struct Plan {
-    rows: Vec<(Branch, u32, Option<Cents>)>,
+    rows: Vec<PlanRow>,
 }
 
 impl Model for Plan {
@@ -94,7 +96,7 @@ impl Model for Plan {
 
 impl Plan {
     // The plan of rows that are one.
-    pub(crate) fn new(rows: Vec<(Branch, u32, Option<Cents>)>) -> Plan
+    pub(crate) fn new(rows: Vec<PlanRow>) -> Plan
         requires { IsPlan rows.items }
         ensures { result ≡ rows.items }
     {
@@ -103,7 +105,7 @@ impl Plan {
 
     /// The plan of a list of branches, counts and floors, or the list's first fault: `Branch`, `Accounts`,
     /// `Floor` or `Twice`, with the row, counted from 1. It takes no memory.
-    pub fn from_list(rows: Vec<(Branch, u32, Option<Cents>)>) -> Result<Plan, PlanFault>
+    pub fn from_list(rows: Vec<PlanRow>) -> Result<Plan, PlanFault>
         ensures { result ≡ plan_of_list rows.items }
     {
         for i in 0..rows.len() {
@@ -115,7 +117,7 @@ impl Plan {
 
     /// The branches, their counts of accounts and the floors of these, in the plan's order.
     #[must_use]
-    pub fn rows(&self) -> &[(Branch, u32, Option<Cents>)]
+    pub fn rows(&self) -> &[PlanRow]
         ensures rows { result.now ≡ self.now }
         ensures plan { IsPlan result.now }
     {

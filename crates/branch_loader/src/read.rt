@@ -11,7 +11,7 @@ ghost use Rattle.branch_loader.specs.Plans.{row_of_fields, three_of, two_of};
 ghost use Rattle.branch_loader.specs.Records.{Records, TakesRecord, WasFailure, WasRecord};
 
 use crate::fault::PlanFault;
-use crate::plan::{Plan, row_of};
+use crate::plan::{Plan, PlanRow, row_of};
 use crate::records::RecordSource;
 use crate::text::read_text;
 use csv::{ByteRecord, ErrorKind, ReaderBuilder};
@@ -130,9 +130,9 @@ fn floor_of(field: &[u8]) -> Option<Option<Cents>>
 // The row that a record states behind the rows before it.
 fn row_of_fields(
     has_floors: bool,
-    before: &[(Branch, u32, Option<Cents>)],
+    before: &[PlanRow],
     fields: &ByteRecord,
-) -> Result<(Branch, u32, Option<Cents>), PlanFault>
+) -> Result<PlanRow, PlanFault>
     requires { length before.now ≤ LAST_BRANCH + 1 }
     ensures { result ≡ row_of_fields has_floors before.now (fields_of fields.now) }
 {

@@ -1,6 +1,5 @@
 use Rattle.std.proofs.Common.{◌≡◌, ◌+◌, ◌∷◌, ◌++◌, ◌∙◌, [], take, arith, refl}
-use Rattle.std.proofs.lemmas.List.{length-take-le, take_more}
-use Rattle.std.proofs.lemmas.Result.{err_from_is_err_and}
+use Rattle.std.proofs.{lemmas.List.length-take-le, lemmas.List.take_more, lemmas.Result.err_from_is_err_and}
 use Rattle.posting_rules.proofs.CounterCalls.{call_idle_behind, call_refused_behind}
 use Rattle.branch_loader.proofs.Openings.{behind-idle, behind-more, behind-none, behind-refused, loaded_all}
 use Rattle.branch_loader.proofs.Rows.{plan-short}

@@ -1,6 +1,5 @@
 use Rattle.std.proofs.Common.{Some}
-use Rattle.branch_loader.proofs.Remain.{start}
-use Rattle.branch_loader.proofs.SourceRead.{not_csv}
+use Rattle.branch_loader.proofs.{Remain.start, SourceRead.not_csv}
 use Rattle.branch_loader.proofs.read.plan_of_text.Goals as goal
 
 pub returns-clause-plan : goal.returns-clause-plan

@@ -1,6 +1,5 @@
 use Rattle.std.proofs.Common.{◌≡◌, true, take, refl, inr, rules, arith, is_ok}
-use Rattle.std.proofs.KnownBytes.{Consumes-trans, Consumes-kept}
-use Rattle.std.proofs.lemmas.Grind.{common_steps}
+use Rattle.std.proofs.{KnownBytes.Consumes-trans, KnownBytes.Consumes-kept, lemmas.Grind.common_steps}
 use Rattle.posting_core.proofs.Telling.{made_one, other_kind, read_ended, read_failed}
 use Rattle.posting_core.proofs.Transferred.{read_more}
 use Rattle.branch_loader.proofs.text.read_text.Goals as goal
