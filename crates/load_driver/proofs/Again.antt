@@ -1,13 +1,9 @@
 -- Posts of the same records, made again: nothing is added, and they get the same replies.
 use Rattle.std.proofs.Common.{◌≡◌, ◌+◌, ℕ, cond, List, [], ◌∷◌, ◌++◌, refl, sym, ap, ◌∙◌, append_assoc, inl}
-use Rattle.message_records.specs.Outcomes.{has_balance}
-use Rattle.message_records.specs.Records.{ReplyFields}
+use Rattle.message_records.specs.{Outcomes.has_balance, Records.ReplyFields}
 use Rattle.posting_rules.specs.Commands.{Command, Open, Post}
-use Rattle.posting_rules.specs.Entries.{reply}
-use Rattle.posting_rules.specs.Resends.{Place, Skips}
-use Rattle.posting_rules.specs.Runs.{behind, ArePosts}
-use Rattle.posting_rules.proofs.Resends.{adds_nothing, posts_both}
-use Rattle.posting_rules.proofs.Sequence.{behind-append}
+use Rattle.posting_rules.specs.{Entries.reply, Resends.Place, Resends.Skips, Runs.behind, Runs.ArePosts}
+use Rattle.posting_rules.proofs.{Resends.adds_nothing, Resends.posts_both, Sequence.behind-append}
 use Rattle.posting_core.specs.Stream.{posted_records}
 use Rattle.load_driver.specs.Records.{posted_among}
 

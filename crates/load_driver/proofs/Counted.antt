@@ -7,14 +7,11 @@ use Rattle.message_records.specs.declared.records.Outcome.{Outcome}
 use Rattle.message_records.specs.declared.records.Outcome.TheVariants.{Posted, NoTeller, WrongBranch}
 use Rattle.message_records.specs.declared.records.Outcome.TheVariants.{NoAccount, BelowFloor, OverLimit}
 use Rattle.message_records.specs.declared.records.Outcome.TheVariants.{ReusedNumber, Full, Malformed}
-use Rattle.message_records.specs.Outcomes.{code_of, has_balance}
-use Rattle.message_records.specs.Records.{ReplyFields}
-use Rattle.message_records.specs.Spelling.{digits, reply_spelling}
+use Rattle.message_records.specs.{Outcomes.code_of, Outcomes.has_balance, Records.ReplyFields, Spelling.digits}
+use Rattle.message_records.specs.Spelling.{reply_spelling}
 use Rattle.posting_rules.specs.Commands.{Command, Open, Post}
-use Rattle.posting_rules.specs.Entries.{reply}
-use Rattle.posting_rules.specs.Runs.{behind, replies_to}
-use Rattle.load_driver.specs.Counted.{is_posted}
-use Rattle.load_driver.specs.Records.{posted_among}
+use Rattle.posting_rules.specs.{Entries.reply, Runs.behind, Runs.replies_to}
+use Rattle.load_driver.specs.{Counted.is_posted, Records.posted_among}
 
 by_outcome : (outcome : Outcome) (rest : List ℕ)
     → is_posted (codes "DR01" ++ (digits 2 (code_of outcome) ++ rest)) ≡ has_balance outcome

@@ -3,8 +3,7 @@ use Rattle.std.proofs.Common.{◌≡◌, ◌+◌, ℕ, zero, suc, List, [], ◌�
 use Rattle.std.proofs.Common.{add-one, append-nil, append_assoc}
 use Rattle.message_records.specs.Spelling.{request_spelling}
 use Rattle.branch_loader.specs.Plans.{Rows}
-use Rattle.load_driver.specs.Requests.{request_at}
-use Rattle.load_driver.specs.Records.{drawn}
+use Rattle.load_driver.specs.{Requests.request_at, Records.drawn}
 
 pub drawn_none : (rows : Rows) (seed from : ℕ) → drawn rows seed from 0 ≡ []
 unfolding drawn

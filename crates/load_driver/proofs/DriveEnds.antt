@@ -2,33 +2,25 @@
 use Rattle.std.proofs.Common.{◌≡◌, ◌≤◌, ◌+◌, ℕ, zero, suc, List, [], ◌∷◌, ◌++◌, length, map, Option, Some}
 use Rattle.std.proofs.Common.{None, Result, Ok, Err, refl, sym, ap, subst, ◌∙◌, arith, append-nil, inl, inr}
 use Rattle.std.specs.Prelude.{IfErr, IfOk, IfSome, OnOk}
-use Rattle.std.proofs.Math.Nat.{eq-or-lt_of_le}
-use Rattle.std.proofs.lemmas.List.Sorted.{IsPermutation-refl}
-use Rattle.posting_rules.specs.declared.fault.Fault.{Fault}
+use Rattle.std.proofs.{Math.Nat.eq-or-lt_of_le, lemmas.List.Sorted.IsPermutation-refl}
+use Rattle.posting_rules.specs.declared.{fault.Fault.Fault, limits.TheConstants.LAST_BRANCH}
 use Rattle.posting_rules.specs.declared.fault.Fault.TheVariants.{Memory, Store, Down, Damaged}
 use Rattle.posting_rules.specs.Commands.{Command, Open, IsCommand, AreCommands, opened, Terms}
 use Rattle.posting_rules.specs.Counter.{Seen, ShowsLog, Takes, Refuses}
-use Rattle.posting_rules.specs.Resends.{Skips}
-use Rattle.posting_rules.specs.Runs.{behind, ArePosts}
-use Rattle.posting_rules.proofs.Resends.{shows_log_left_out}
-use Rattle.posting_rules.proofs.SoundEntries.{open_within}
+use Rattle.posting_rules.specs.{Resends.Skips, Runs.behind, Runs.ArePosts}
+use Rattle.posting_rules.proofs.{Resends.shows_log_left_out, SoundEntries.open_within, CounterCalls.Takes-append}
+use Rattle.posting_rules.proofs.CounterCalls.{refused_behind}
 use Rattle.posting_core.specs.Batches.{Batch, posts_of, records_of}
-use Rattle.posting_core.proofs.Batched.{all_posts, posted_is}
-use Rattle.posting_core.proofs.Stops.{refused_stop, stop_all}
+use Rattle.posting_core.proofs.{Batched.all_posts, Batched.posted_is, Stops.refused_stop, Stops.stop_all}
 use Rattle.branch_loader.specs.Plans.{Row, Rows}
-use Rattle.posting_rules.proofs.CounterCalls.{Takes-append, refused_behind}
 use Rattle.posting_core.specs.Stream.{IfUp, IsOfCall}
 use Rattle.load_driver.specs.Requests.{IsAscending}
 use Rattle.load_driver.specs.declared.drive.Driven.{Driven}
-use Rattle.load_driver.specs.declared.drive_fault.DriveFault.{DriveFault}
-use Rattle.load_driver.specs.declared.drive_fault.DriveFault.TheVariants.{NoBranches, Bank}
+use Rattle.load_driver.specs.declared.drive_fault.DriveFault.{DriveFault, TheVariants.NoBranches, TheVariants.Bank}
 use Rattle.load_driver.specs.Drives.{Drives, EndsDrive, IfListed, IfRefused, IsUnlisted, MayRefuse, DrivesAgain}
 use Rattle.load_driver.specs.Drives.{Submits, UnlessDown}
 use Rattle.load_driver.specs.Records.{NoneOpen, first_drawn, open_branches, open_up_to, row_if_open}
-use Rattle.load_driver.proofs.Again.{posted_again, skips_again}
-use Rattle.load_driver.proofs.Drawn.{drawn_none}
-use Rattle.load_driver.proofs.Listed.{none_more}
-use Rattle.posting_rules.specs.declared.limits.TheConstants.{LAST_BRANCH}
+use Rattle.load_driver.proofs.{Again.posted_again, Again.skips_again, Drawn.drawn_none, Listed.none_more}
 
 -- ---- where no branch is open
 

@@ -3,11 +3,10 @@ use Rattle.std.proofs.Common.{◌≡◌, ◌≤◌, ◌<◌, ◌+◌, ◌-◌, �
 use Rattle.std.proofs.Common.{None, Result, Ok, Err, leb, refl, sym, ap, ◌∙◌, arith, append-nil, inl, inr}
 use Rattle.std.specs.List.{AllByRecursion}
 use Rattle.std.specs.Prelude.{nat_eq, ◌&&◌, ◌≤ℤ◌, ℤ, pos, Option, IfSome, int_le}
-use Rattle.std.proofs.lemmas.Bool.Decides.{nat_tests}
-use Rattle.std.proofs.lemmas.Int.{ints}
-use Rattle.std.proofs.lemmas.Bool.{cases_Bool}
+use Rattle.std.proofs.{lemmas.Bool.Decides.nat_tests, lemmas.Int.ints, lemmas.Bool.cases_Bool}
 use Rattle.message_records.specs.Ranges.{whole_within}
 use Rattle.posting_rules.specs.declared.counter.BranchLine.{BranchLine}
+use Rattle.posting_rules.specs.declared.limits.TheConstants.{LAST_BRANCH, MAX_ACCOUNTS}
 use Rattle.posting_rules.specs.Branches.{IsLineAbove, IsNextBranch, IsNextOpen}
 use Rattle.posting_rules.specs.Commands.{Command, opened}
 use Rattle.posting_rules.specs.Counter.{Seen, ShowsLog, Takes}
@@ -16,7 +15,6 @@ use Rattle.branch_loader.specs.declared.fault.PlanFault.{PlanFault}
 use Rattle.posting_rules.proofs.CounterCalls.{Takes-append, was_up}
 use Rattle.branch_loader.proofs.Stated.{rows_by-ok, rows_by-done}
 use Rattle.load_driver.specs.Records.{open_branches, open_up_to, row_if_open}
-use Rattle.posting_rules.specs.declared.limits.TheConstants.{LAST_BRANCH, MAX_ACCOUNTS}
 
 -- ---- rows that are a plan
 

@@ -22,6 +22,12 @@ abbrev pub MayRefuse : Rows → DriveFault → Type 0
 MayRefuse rows NoBranches = rows ≡ []
 MayRefuse rows (Bank fault) = fault ≡ Memory
 
+-- the counter listed its branches: it was given nothing, and can be used
+pub record IsListed (old new : Seen) : Type 0 where
+  pub takes : Takes old new []
+  pub up : new.is_down → ⊥
+  pub honest : new.honest → old.honest
+
 -- the counter refused to list its branches: it stood here when it was asked
 pub record IsUnlisted {C : Type 0} (seen : C → Seen) (old new : C) (fault : Fault) : Type 0 where
   pub stood : C

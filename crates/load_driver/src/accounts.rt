@@ -6,11 +6,12 @@ ghost use Rattle.load_driver.specs.Requests.{account_by, count_of, is_home, remo
 ghost use Rattle.load_driver.specs.OfPlan.{IsAccountFor};
 
 use crate::draws::draw;
-use message_records::{Branch, Cents};
+use branch_loader::PlanRow;
+use message_records::Branch;
 use posting_core::{LAST_BRANCH, first_account};
 
 // How many accounts the rows have together.
-fn count_of(rows: &[(Branch, u32, Option<Cents>)]) -> u64
+fn count_of(rows: &[PlanRow]) -> u64
     requires { length rows.now ≤ LAST_BRANCH + 1 }
     ensures { result ≡ count_of rows.now }
 {
@@ -19,7 +20,7 @@ fn count_of(rows: &[(Branch, u32, Option<Cents>)]) -> u64
 
 // The account at this place, from 0 on, among those of the other branches in their order, without a list of
 // them. It is 0 beyond the last, which no draw reaches.
-fn remote_account(rows: &[(Branch, u32, Option<Cents>)], branch: Branch, place: u64) -> u64
+fn remote_account(rows: &[PlanRow], branch: Branch, place: u64) -> u64
     ensures { result ≡ get_or (remote_accounts branch rows.now) place 0 }
 {
     let mut left = place;
@@ -38,12 +39,7 @@ fn remote_account(rows: &[(Branch, u32, Option<Cents>)], branch: Branch, place: 
 
 // The account by the words for X, of 0..=99, and for the account itself: one of the teller's branch if X is
 // below 85 or the plan has one branch, and else one of the others.
-pub(crate) fn account_by(
-    rows: &[(Branch, u32, Option<Cents>)],
-    home: (Branch, u32, Option<Cents>),
-    choice: u64,
-    pick: u64,
-) -> u64
+pub(crate) fn account_by(rows: &[PlanRow], home: PlanRow, choice: u64, pick: u64) -> u64
     requires plan { IsPlan rows.now }
     requires home { Contains rows.now home }
     ensures value { result ≡ account_by rows.now home choice pick }

@@ -12,9 +12,9 @@ ghost use Rattle.load_driver.specs.Counts.{Driving, IsReady};
 
 use crate::accounts::account_by;
 use crate::draws::{Words, draw, take_words, words_of};
-use branch_loader::Plan;
+use branch_loader::{Plan, PlanRow};
 use message_records::{
-    Account, Branch, Cents, MAX_NUMBER, Number, REQUEST_BYTES, Request, Teller, encode_request,
+    Account, Cents, MAX_NUMBER, Number, REQUEST_BYTES, Request, Teller, encode_request,
 };
 use posting_core::{TELLERS_PER_BRANCH, first_teller};
 use rand_pcg::Lcg128Xsl64;
@@ -55,10 +55,7 @@ pub const MAX_RECORDS: u64 = MAX_NUMBER;
 const MAX_AMOUNT: u64 = 999_999;
 
 // The rows of a plan by rising branches, so that their order in the plan doesn't matter.
-fn ascending(
-    alloc: Global,
-    rows: &[(Branch, u32, Option<Cents>)],
-) -> Result<Vec<(Branch, u32, Option<Cents>)>, AllocError>
+fn ascending(alloc: Global, rows: &[PlanRow]) -> Result<Vec<PlanRow>, AllocError>
     requires { IsPlan rows.now }
     ensures plan { IfOk result (λ v. IsPlan v.items) }
     ensures ascending { IfOk result (λ v. IsAscending rows.now v.items) }
@@ -78,12 +75,7 @@ fn amount_by(word: u64) -> Cents
 
 // The request of the teller at a place, from 0 on, among all tellers, by the record's words and by its
 // number.
-fn request_by(
-    rows: &[(Branch, u32, Option<Cents>)],
-    place: u64,
-    words: Words,
-    number: u64,
-) -> Request
+fn request_by(rows: &[PlanRow], place: u64, words: Words, number: u64) -> Request
     requires plan { IsPlan rows.now }
     requires place { place < TELLERS_PER_BRANCH * length rows.now }
     requires first { 1 ≤ number }
@@ -111,7 +103,7 @@ fn request_by(
 #[derive(Debug, Drop)]
 pub struct Driver {
     // the plan's rows, ascending
-    rows: Vec<(Branch, u32, Option<Cents>)>,
+    rows: Vec<PlanRow>,
     // how many requests each teller has made, in the order of the tellers
     counts: Vec<u64>,
     words: Lcg128Xsl64,

@@ -1,9 +1,9 @@
 //! The open branches of a counter.
-ghost use Rattle.std.specs.Prelude.{◌≡◌, ◌↔◌, [], List, IfOk, OnOk, IfErr};
+ghost use Rattle.std.specs.Prelude.{◌≡◌, ◌↔◌, List, IfOk, OnOk, IfErr};
 ghost use Rattle.std.specs.Result.{IsErrOf};
 ghost use Rattle.posting_rules.specs.Commands.{Command};
-ghost use Rattle.posting_rules.specs.Counter.{ShowsLog, Takes};
-ghost use Rattle.load_driver.specs.Drives.{IsUnlisted};
+ghost use Rattle.posting_rules.specs.Counter.{ShowsLog};
+ghost use Rattle.load_driver.specs.Drives.{IsListed, IsUnlisted};
 ghost use Rattle.posting_core.specs.Stream.{IsOfCall};
 ghost use Rattle.load_driver.specs.Records.{open_branches};
 
@@ -16,14 +16,12 @@ use std::alloc::Global;
 pub(crate) fn list_branches<C: Counter>(alloc: Global, counter: &mut C) -> Result<Plan, Fault>
     ensures listed { IfOk result (λ plan. (C.seen counter.new).honest
         → (log : List Command) → ShowsLog (C.seen counter.old) log → plan ≡ open_branches log) }
-    ensures takes { OnOk result (Takes (C.seen counter.old) (C.seen counter.new) []) }
-    ensures up { OnOk result ((C.seen counter.new).is_down → ⊥) }
+    ensures done { OnOk result (IsListed (C.seen counter.old) (C.seen counter.new)) }
     ensures spared { IsErrOf result Fault.Memory → (C.seen counter.new).is_down
         → (C.seen counter.old).is_down }
     ensures fault { IfErr result (IsUnlisted C.seen counter.old counter.new) }
     ensures why { IfErr result (IsOfCall C.seen C.reason counter.old counter.new) }
     ensures down { IsErrOf result Fault.Down ↔ (C.seen counter.old).is_down }
-    ensures honest { (C.seen counter.new).honest → (C.seen counter.old).honest }
     ensures spares { C.spares counter.old counter.new }
 {
     let mut rows = Vec::new(alloc);

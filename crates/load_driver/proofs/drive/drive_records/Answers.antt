@@ -23,8 +23,8 @@ returns-in_err-driver-clause-drives g c =
     rw (p.1, p.2)
     (ended_empty g.C.Counter.seen c.args.counter.now c.list_branches.new.counter
     (g.K.Clock.readings c.args.clock.now) c.args.seed c.args.count
-    c.in_ok-plan.plan c.in_err-driver.field-0.0 c.in_err-driver.ensures.fault c.in_ok-plan.ensures.takes
-    c.in_ok-plan.ensures.honest c.in_ok-plan.ensures.listed
+    c.in_ok-plan.plan c.in_err-driver.field-0.0 c.in_err-driver.ensures.fault c.in_ok-plan.ensures.done.takes
+    c.in_ok-plan.ensures.done.honest c.in_ok-plan.ensures.listed
     (λ down. absurd (let e = c.in_ok-plan.ensures.down.1 down in cc e)))
 
 pub returns-in_err-driver-clause-none : goal.returns-in_err-driver-clause-none
@@ -40,8 +40,8 @@ returns-clause-drives g c =
     let d = c.in_ok-driver.driver in
     drives g.C.Counter.seen c.args.counter.now c.list_branches.new.counter c.drive.new.counter
     (g.K.Clock.readings c.args.clock.now)
-    (g.K.Clock.readings c.drive.new.clock) d.rows c.args.seed c.args.count c.in_ok-plan.ensures.takes
-    c.in_ok-plan.ensures.honest
+    (g.K.Clock.readings c.drive.new.clock) d.rows c.args.seed c.args.count c.in_ok-plan.ensures.done.takes
+    c.in_ok-plan.ensures.done.honest
     c.drive.ensures.honest c.in_ok-plan.plan c.drive.result
     (rw (← c.in_ok-driver.ensures.seed) c.drive.ensures.submits)
     c.in_ok-plan.ensures.listed c.in_ok-driver.ensures.rows
@@ -75,7 +75,7 @@ returns-in_err-driver-clause-up g c =
     let p = err_from_is_err_and c.from_residual-in_err-driver.result c.from_residual-in_err-driver.ensures.1
     in
     rw (p.1, p.2) (up_empty c.in_ok-plan.plan c.in_err-driver.field-0.0 _ c.in_err-driver.ensures.fault
-    (λ down. absurd (c.in_ok-plan.ensures.up down)))
+    (λ down. absurd (c.in_ok-plan.ensures.done.up down)))
 
 pub returns-in_err-driver-clause-why : goal.returns-in_err-driver-clause-why
 returns-in_err-driver-clause-why g c =
@@ -83,7 +83,7 @@ returns-in_err-driver-clause-why g c =
     in
     rw (p.1, p.2) (why_empty g.C.Counter.seen g.C.Counter.reason c.args.counter.now
     c.list_branches.new.counter c.in_ok-plan.plan c.in_err-driver.field-0.0 c.in_err-driver.ensures.fault
-    c.in_ok-plan.ensures.up)
+    c.in_ok-plan.ensures.done.up)
 
 pub returns-clause-up : goal.returns-clause-up
 returns-clause-up g c = up_behind c.drive.result _ _ c.drive.ensures.up
@@ -91,7 +91,7 @@ returns-clause-up g c = up_behind c.drive.result _ _ c.drive.ensures.up
 pub returns-clause-why : goal.returns-clause-why
 returns-clause-why g c =
     why_behind g.C.Counter.seen g.C.Counter.reason c.args.counter.now c.list_branches.new.counter
-    c.drive.new.counter c.in_ok-plan.ensures.takes c.in_ok-plan.ensures.honest
+    c.drive.new.counter c.in_ok-plan.ensures.done.takes c.in_ok-plan.ensures.done.honest
     (λ down. absurd (let e = c.in_ok-plan.ensures.down.1 down in cc e)) c.drive.result
     c.drive.ensures.why
 

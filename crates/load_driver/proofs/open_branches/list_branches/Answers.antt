@@ -1,10 +1,8 @@
 use Rattle.std.proofs.Common.{◌≡◌, [], None, refl, sym, subst, ◌∙◌, inl, inr}
 use Rattle.std.proofs.lemmas.Result.{err_from_is_err_and}
-use Rattle.posting_rules.specs.Branches.{IsLineAbove, IsNextBranch}
+use Rattle.posting_rules.specs.{Branches.IsLineAbove, Branches.IsNextBranch, Counter.Refuses}
 use Rattle.branch_loader.specs.Plans.{Rows}
-use Rattle.posting_rules.specs.declared.fault.Fault.{Fault}
-use Rattle.posting_rules.specs.declared.fault.Fault.TheVariants.{Memory}
-use Rattle.posting_rules.specs.Counter.{Refuses}
+use Rattle.posting_rules.specs.declared.fault.Fault.{Fault, TheVariants.Memory}
 use Rattle.posting_rules.proofs.CounterCalls.{Takes-append, call_idle_behind, call_refused_behind}
 use Rattle.load_driver.proofs.Listed.{Listing, listing_first, listing_more, listing_all}
 use Rattle.load_driver.proofs.open_branches.list_branches.Goals as goal
@@ -77,11 +75,16 @@ returns-clause-listed g c h log s =
     sym plan ∙ listing_all seen c.args.counter.now c.loop-rows.counter c.loop-rows.rows.items
     c.loop-rows.after log l none before s
 
-pub returns-clause-takes : goal.returns-clause-takes
-returns-clause-takes g c =
+pub returns-clause-done : goal.returns-clause-done
+returns-clause-done g c =
     let seen = g.C.Counter.seen in
-    Takes-append (seen c.args.counter.now) (seen c.loop-rows.counter) (seen c.next_branch.new.self) [] []
-    c.loop-rows.invariant.listing.takes c.in_ok-line.ensures.call.done c.in_ok-line.ensures.call.honest
+    let call = c.in_ok-line.ensures.call in
+    record {
+      takes = Takes-append (seen c.args.counter.now) (seen c.loop-rows.counter) (seen c.next_branch.new.self) [] []
+          c.loop-rows.invariant.listing.takes call.done call.honest;
+      up = call.up;
+      honest = λ h. c.loop-rows.invariant.listing.honest (call.honest h);
+    }
 
 pub returns-in_err-push-clause-spared : goal.returns-in_err-push-clause-spared
 returns-in_err-push-clause-spared g c is down = absurd (c.in_ok-line.ensures.call.up down)
