@@ -16,7 +16,7 @@ use Rattle.bank_replays.specs.declared.difference.Replay.{Replay}
 use Rattle.command_line.specs.Auditing.{Prints}
 use Rattle.command_line.specs.CommandLine.{bank_app}
 use Rattle.command_line.specs.Faults.{status_of}
-use Rattle.command_line.specs.Lines.{IsHelpOrVersion, created_line}
+use Rattle.command_line.specs.Lines.{IsHelpOrVersion, created_line, fault_line}
 use Rattle.command_line.specs.Prompting.{prompt_line}
 use Rattle.command_line.specs.Translating.{DecodesReplies, EncodesSheet}
 use Rattle.command_line.specs.Words.{IsSpelledBy}
@@ -93,6 +93,13 @@ abbrev pub status_after : Result Status CommandFault → Status
 status_after (Ok status) = status
 status_after (Err fault) = status_of fault
 
+-- what stands on standard error: what it waits for, and at a fault the line of that; a prefix of either where it
+-- couldn't be written
+abbrev pub Says : (e e' : Option (List ℕ)) → (waiting : List ℕ) → Result Status CommandFault → Type 0
+Says e e' waiting (Ok status) = AppendsPart e e' waiting
+Says e e' waiting (Err fault) =
+    (m : Option (List ℕ)) × AppendsPart e m waiting × AppendsPart m e' (fault_line fault)
+
 -- The words spell a command, which ended so and printed this, and so does the program. e and e' are the known bytes of
 -- standard error before and after, and typed says whether the input is a terminal.
 pub record RunsSpelled (words : List Text) (typed : Bool) (r r' w w' e e' : Option (List ℕ)) (status : Status)
@@ -102,8 +109,8 @@ pub record RunsSpelled (words : List Text) (typed : Bool) (r r' w w' e e' : Opti
   pub told : Result Status CommandFault
   pub tells : Tells command r r' w w' told
   pub ends : status ≡ status_after told
-  -- where there was no fault, nothing stands on standard error but what it waits for, if the input is typed
-  pub said : IfOk told (λ done. AppendsPart e e' (prompt_line typed command))
+  -- what it waits for is told only where the input is typed
+  pub said : Says e e' (prompt_line typed command) told
 
 -- or there was no memory to read them, and nothing was read, printed or asked
 abbrev pub Runs : List Text → (typed : Bool) → (r r' w w' e e' k k' : Option (List ℕ)) → Status → Type 0

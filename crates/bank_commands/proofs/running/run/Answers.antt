@@ -3,6 +3,7 @@ use Rattle.clap.specs.Words.{kind_of}
 use Rattle.bank_commands.proofs.Told.{status_is_not_usage, told_is_not_usage}
 use Rattle.bank_commands.proofs.Endings.{help_ends, memory_ends, memory_is_no_request, mistake_ends}
 use Rattle.bank_commands.proofs.Endings.{mistake_keeps, not_asked, system_is_not_usage}
+use Rattle.command_line.proofs.Printed.{in_part}
 use Rattle.bank_commands.proofs.running.run.Goals as goal
 
 -- ---- words that clap doesn't take, or that there was no memory to read
@@ -51,7 +52,7 @@ returns-in-Ok-command_in g c =
         told = Ok c.in-Ok-command_in.status;
         tells = did;
         ends = refl;
-        said = c.prompt.ensures;
+        said = in_part _ _ _ _ _ c.prompt.ensures;
       };
     }
 
@@ -63,13 +64,13 @@ returns-in-Err-command_in g c =
       silent = λ refused. absurd (refused.some says.fault);
       unread = λ some. absurd (some says.fault);
       help = λ asks. absurd (says.help asks);
-      taken = λ spelled other. status_is_not_usage c.in-Err-command_in.fault (sym c.tell.ensures ∙ other);
+      taken = λ spelled other. status_is_not_usage c.in-Err-command_in.fault (sym c.tell.ensures.status ∙ other);
       runs = λ spelled. inl record {
         command = c.in-Ok.command;
         spelled = says.spelled spelled;
         told = Err c.in-Err-command_in.fault;
         tells = c.in-Err-command_in.ensures;
-        ends = c.tell.ensures;
-        said = tt;
+        ends = c.tell.ensures.status;
+        said = (_, in_part _ _ _ _ _ c.prompt.ensures, c.tell.ensures.said);
       };
     }
