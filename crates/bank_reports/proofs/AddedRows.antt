@@ -2,20 +2,17 @@
 use Rattle.std.proofs.Common.{◌≡◌, ◌≤◌, ◌<◌, ◌⊎◌, ◌+◌, ◌++◌, ℕ, List, [], ◌∷◌, length, map}
 use Rattle.std.proofs.Common.{Ok, Err, refl, sym, ap, ◌∙◌, append_assoc, append-nil, inl, inr, arith}
 use Rattle.std.specs.Prelude.{ℤ, pos, ◌+ℤ◌, ◌≤ℤ◌, ◌<ℤ◌}
-use Rattle.std.proofs.lemmas.Int.{ints}
-use Rattle.std.proofs.lemmas.List.{length-append, map-append}
+use Rattle.std.proofs.{lemmas.Int.ints, lemmas.List.length-append, lemmas.List.map-append}
 use Rattle.sqlite.specs.Effect.{Database}
 use Rattle.sqlite.specs.State.{State, HasCleanDisk, Survives}
 use Rattle.posting_rules.specs.declared.fault.Fault.{Fault}
 use Rattle.posting_rules.specs.declared.fault.Fault.TheVariants as told
 use Rattle.posting_rules.specs.declared.fault.Rule.{Rule}
-use Rattle.bank_store.specs.Walking.{Steps}
-use Rattle.bank_store.specs.Walks.{IsStill, IsUntouchedIfOpen}
+use Rattle.bank_store.specs.{Walking.Steps, Walks.IsStill, Walks.IsUntouchedIfOpen}
 use Rattle.report_lines.specs.Beside.{AuditRows}
 use Rattle.report_lines.specs.declared.limits.TheConstants.{MAX_ROWS}
 use Rattle.bank_reports.specs.Adding.{AddsToSums, HasSums, IsPassed}
-use Rattle.bank_reports.specs.Failures.{SaysOf}
-use Rattle.bank_reports.specs.Files.{HasBroken}
+use Rattle.bank_reports.specs.{Failures.SaysOf, Files.HasBroken}
 use Rattle.bank_reports.specs.declared.sums.Sums.{Sums}
 use Rattle.bank_store.proofs.StepsKeep.{quiet_then, still_then, still_undone, undone_then}
 

@@ -1,10 +1,8 @@
 -- A broken row of one table is one of the file.
 use Rattle.std.proofs.Common.{◌≡◌, inl, inr, List}
-use Rattle.posting_rules.specs.declared.fault.Rule.{Rule}
-use Rattle.posting_rules.specs.declared.fault.Rule.TheVariants.{Value}
+use Rattle.posting_rules.specs.declared.fault.Rule.{Rule, TheVariants.Value}
 use Rattle.sql_meanings.specs.Entries.{Entry}
-use Rattle.walked_rows.specs.StepOutcomes.{BreaksValue}
-use Rattle.walked_rows.specs.Pairs.{paired}
+use Rattle.walked_rows.specs.{StepOutcomes.BreaksValue, Pairs.paired}
 use Rattle.walked_rows.specs.Stored.{BreaksAsked, BreaksPosted, IsNoAccount, IsNoBranch, IsNoPosting}
 use Rattle.walked_rows.specs.Stored.{IsNoRequest, IsNoTeller}
 use Rattle.bank_reports.specs.Files.{FileRows, HasBroken, HasBrokenRow}

@@ -1,19 +1,14 @@
 -- What is told of a bank with a fault.
 use Rattle.std.proofs.Common.{◌≡◌, ◌∙◌, refl, sym, ℕ, List, Option, Result, Err}
-use Rattle.posting_rules.specs.declared.fault.Fault.{Fault}
-use Rattle.posting_rules.specs.declared.fault.Fault.TheVariants.{Memory, Down, Damaged}
+use Rattle.posting_rules.specs.declared.fault.Fault.{Fault, TheVariants.Memory, TheVariants.Down, TheVariants.Damaged}
 use Rattle.posting_rules.specs.declared.fault.Rule.{Rule}
-use Rattle.posting_rules.specs.Commands.{Command}
-use Rattle.posting_rules.specs.Counter.{Seen, ShowsLog}
+use Rattle.posting_rules.specs.{Commands.Command, Counter.Seen, Counter.ShowsLog}
 use Rattle.report_lines.proofs.Written.{on_err_any}
 use Rattle.report_lines.specs.declared.audit.Audit.{Audit}
-use Rattle.bank_reports.specs.declared.fault.ReportFault.{ReportFault}
-use Rattle.bank_reports.specs.declared.fault.ReportFault.TheVariants.{Bank}
-use Rattle.bank_reports.specs.Audits.{Audits, HasAudited}
-use Rattle.bank_reports.specs.Behind.{statement_behind}
-use Rattle.bank_store.specs.Leaving.{TakesNone}
-use Rattle.bank_reports.specs.Postings.{HasAnswered}
+use Rattle.bank_reports.specs.declared.fault.ReportFault.{ReportFault, TheVariants.Bank}
+use Rattle.bank_reports.specs.{Audits.Audits, Audits.HasAudited, Behind.statement_behind, Postings.HasAnswered}
 use Rattle.bank_reports.specs.Statements.{States}
+use Rattle.bank_store.specs.Leaving.{TakesNone}
 use Rattle.bank_reports.proofs.Further.{error_is, nothing_written}
 use Rattle.bank_reports.proofs.ReportEnds.{not_missing, same_fault}
 

@@ -1,23 +1,18 @@
 -- The lines of an account's postings, one after another.
-use Rattle.std.proofs.Common.{◌≡◌, ◌≤◌, ◌+◌, ◌-◌, ◌^◌, ◌++◌, ℕ, List, []}
-use Rattle.std.proofs.Common.{◌∷◌, length, map, Option, Result, Ok, Err, refl, sym, ap, subst}
-use Rattle.std.proofs.Common.{◌∙◌, inl, inr, append_assoc, arith}
+use Rattle.std.proofs.Common.{◌≡◌, ◌≤◌, ◌+◌, ◌-◌, ◌^◌, ◌++◌, ℕ, List, [], ◌∷◌, length, map, Option, Result, Ok, Err}
+use Rattle.std.proofs.Common.{refl, sym, ap, subst, ◌∙◌, inl, inr, append_assoc, arith}
 use Rattle.std.specs.Prelude.{ℤ, pos, ◌+ℤ◌, ◌<◌, nat_abs}
 use Rattle.std.specs.Io.KnownBytes.{Appends}
-use Rattle.std.proofs.KnownBytes.{Appends-nil, Appends-trans}
-use Rattle.std.proofs.Math.Seq.{take-length}
-use Rattle.std.proofs.lemmas.List.{length-append, map-append}
+use Rattle.std.proofs.{KnownBytes.Appends-nil, KnownBytes.Appends-trans, Math.Seq.take-length}
+use Rattle.std.proofs.{lemmas.List.length-append, lemmas.List.map-append}
 use Rattle.message_records.specs.declared.limits.TheConstants.{MAX_BALANCE}
-use Rattle.posting_rules.specs.declared.fault.Fault.{Fault}
+use Rattle.posting_rules.specs.declared.{fault.Fault.Fault, fault.Rule.Rule}
 use Rattle.posting_rules.specs.declared.fault.Fault.TheVariants.{Memory, Store, Down, Damaged}
-use Rattle.posting_rules.specs.declared.fault.Rule.{Rule}
 use Rattle.posting_rules.specs.declared.fault.Rule.TheVariants.{Meta, Teller, Account, Balance, Request}
 use Rattle.posting_rules.specs.declared.fault.Rule.TheVariants.{Value, Key, Floor, Reference}
 use Rattle.walked_rows.specs.declared.stated.StatedPosting.{StatedPosting}
-use Rattle.walked_rows.specs.Pairs.{Pair}
-use Rattle.walked_rows.specs.Stored.{BreaksStated, stated_pair}
-use Rattle.report_lines.specs.Lines.{text_of}
-use Rattle.report_lines.specs.StatementText.{posting_line, posting_lines}
+use Rattle.walked_rows.specs.{Pairs.Pair, Stored.BreaksStated, Stored.stated_pair}
+use Rattle.report_lines.specs.{Lines.text_of, StatementText.posting_line, StatementText.posting_lines}
 use Rattle.report_lines.specs.Written.{AppendsPart}
 use Rattle.report_lines.proofs.Joined.{text_of-snoc}
 use Rattle.report_lines.proofs.Written.{same_all, same_part, then_part}

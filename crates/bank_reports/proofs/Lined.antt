@@ -2,12 +2,9 @@
 use Rattle.std.proofs.Common.{◌≡◌, ◌<◌, ◌≤◌, ◌+◌, ◌++◌, ℕ, Bool, true, false, cond}
 use Rattle.std.proofs.Common.{List, [], ◌∷◌, length, map, refl, sym, ap, subst, ◌∙◌, arith}
 use Rattle.std.specs.Prelude.{ℤ, pos, ◌+ℤ◌, nat_abs}
-use Rattle.std.proofs.lemmas.Int.{ints}
-use Rattle.std.proofs.lemmas.List.{length-append, map-append}
-use Rattle.std.proofs.Math.IntN.{+ℤ_assoc}
+use Rattle.std.proofs.{lemmas.Int.ints, lemmas.List.length-append, lemmas.List.map-append, Math.IntN.+ℤ_assoc}
 use Rattle.message_records.specs.declared.limits.TheConstants.{MAX_BALANCE}
-use Rattle.posting_rules.specs.Entries.{DecidedRequest, account_balance}
-use Rattle.posting_rules.specs.Laws.{total}
+use Rattle.posting_rules.specs.{Entries.DecidedRequest, Entries.account_balance, Laws.total}
 use Rattle.walked_rows.specs.declared.stated.StatedPosting.{StatedPosting}
 use Rattle.report_lines.specs.StatementText.{posting_line, posting_lines}
 use Rattle.bank_reports.specs.Behind.{is_posted_to, lines_to, postings_to, stated_of}

@@ -3,16 +3,12 @@ use Rattle.std.proofs.Common.{◌≡◌, ◌<◌, ◌∙◌, ℕ, pos, true, fal
 use Rattle.std.proofs.Common.{Less, int_cmp, refl, sym, ap, subst, inl, inr, arith}
 use Rattle.std.specs.Prelude.{nat_eq, IsTrue}
 use Rattle.std.specs.List.{AllByRecursion, Contains, IsDistinct}
-use Rattle.std.proofs.lemmas.Bool.{cases_Bool, eqb-true}
-use Rattle.std.proofs.lemmas.Int.{ints}
-use Rattle.std.proofs.lemmas.List.Elements.{All-contains_itself, recursion_from_All}
+use Rattle.std.proofs.{lemmas.Bool.cases_Bool, lemmas.Bool.eqb-true, lemmas.Int.ints}
+use Rattle.std.proofs.{lemmas.List.Elements.All-contains_itself, lemmas.List.Elements.recursion_from_All}
 use Rattle.sqlite.specs.Effect.{Database}
-use Rattle.posting_rules.specs.Commands.{Command, AreCommands}
-use Rattle.posting_rules.specs.Damage.{IsUndamaged}
-use Rattle.posting_rules.specs.Laws.{IsConsistent}
+use Rattle.posting_rules.specs.{Commands.Command, Commands.AreCommands, Damage.IsUndamaged, Laws.IsConsistent}
 use Rattle.posting_rules.specs.Tables.{Tables, AreTablesOf, history_key, request_key}
-use Rattle.posting_rules.proofs.Consistent.{consistent}
-use Rattle.posting_rules.proofs.Undamaged.{undamaged}
+use Rattle.posting_rules.proofs.{Consistent.consistent, Undamaged.undamaged}
 use Rattle.sql_meanings.specs.Entries.{Entry, Rise}
 use Rattle.store_rows.specs.BankTables as bank
 use Rattle.store_rows.specs.View as view
@@ -27,8 +23,7 @@ use Rattle.report_lines.specs.Stored.{StoredTables, account_stored, branch_store
 use Rattle.report_lines.specs.Stored.{request_stored, stored, teller_stored}
 use Rattle.report_lines.proofs.OfTables.{tells_of_tables}
 use Rattle.bank_reports.specs.Files.{HasBroken, HasBrokenRow, HasFile, rows_in}
-use Rattle.bank_reports.proofs.Passed.{split_map}
-use Rattle.bank_reports.proofs.StatementReports.{all_behind, outside_none}
+use Rattle.bank_reports.proofs.{Passed.split_map, StatementReports.all_behind, StatementReports.outside_none}
 
 -- ---- keys that rise are distinct
 

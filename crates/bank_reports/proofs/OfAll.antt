@@ -3,19 +3,14 @@ use Rattle.std.proofs.Common.{ℕ, ℤ, Bool, Option, None, List, map, Result, O
 use Rattle.std.specs.Borrow.{GName}
 use Rattle.std.specs.Prelude.{◌≡◌, IfErr, IfOk}
 use Rattle.std.proofs.lemmas.Result.{IfOk-weaker}
-use Rattle.sqlite.specs.Effect.{Database}
-use Rattle.sqlite.specs.Held.{Held}
+use Rattle.sqlite.specs.{Effect.Database, Held.Held}
 use Rattle.sqlite_trees.specs.declared.store.Store.{Ghosts}
-use Rattle.posting_rules.specs.declared.fault.Fault.{Fault}
-use Rattle.posting_rules.specs.declared.fault.Rule.{Rule}
+use Rattle.posting_rules.specs.declared.{fault.Fault.Fault, fault.Rule.Rule}
 use Rattle.report_lines.specs.Beside.{AuditRows}
 use Rattle.bank_store.specs.Seen.{connection_of, database_of}
 use Rattle.bank_store.specs.Walking.{BeginsWalk, items_to_come, lent}
-use Rattle.bank_store.specs.declared.bank.Bank.{Bank}
-use Rattle.bank_store.specs.declared.walks.Walk.{Walk}
-use Rattle.bank_reports.specs.Adding.{AddsToSums}
-use Rattle.bank_reports.specs.Failures.{HasFailedToRead, SaysOf}
-use Rattle.bank_reports.specs.Files.{HasBroken}
+use Rattle.bank_store.specs.declared.{bank.Bank.Bank, walks.Walk.Walk}
+use Rattle.bank_reports.specs.{Adding.AddsToSums, Failures.HasFailedToRead, Failures.SaysOf, Files.HasBroken}
 use Rattle.bank_reports.specs.declared.sums.Sums.{Sums}
 
 -- the bank as it was before, and the walk that it was lent to

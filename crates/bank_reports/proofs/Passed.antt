@@ -3,8 +3,7 @@ use Rattle.std.proofs.Common.{◌≡◌, ◌++◌, ◌⊎◌, Bool, List, [], �
 use Rattle.std.proofs.Common.{Ok, Err, refl, sym, ap, subst, inl, inr, arith}
 use Rattle.std.specs.Prelude.{IsSomeAnd, OnOk}
 use Rattle.std.proofs.lemmas.Bool.{cases_Bool}
-use Rattle.sqlite.specs.Effect.{Database}
-use Rattle.sqlite.specs.State.{State, HasCleanDisk}
+use Rattle.sqlite.specs.{Effect.Database, State.State, State.HasCleanDisk}
 use Rattle.posting_rules.specs.declared.fault.Fault.{Fault}
 use Rattle.posting_rules.specs.declared.fault.Fault.TheVariants as told
 use Rattle.posting_rules.specs.declared.fault.Rule.{Rule}
@@ -16,8 +15,7 @@ use Rattle.bank_transactions.proofs.Blamed.{comes, then_moment}
 use Rattle.store_rows.specs.BankTables.{history as history_table, request as request_table}
 use Rattle.bank_store.specs.Walks.{IsStill}
 use Rattle.walked_rows.specs.Pairs.{BreaksPair, HasPairs, pair_with, paired}
-use Rattle.bank_reports.specs.Adding.{IsPassed}
-use Rattle.bank_reports.specs.Failures.{HasFailedToRead, SaysOf}
+use Rattle.bank_reports.specs.{Adding.IsPassed, Failures.HasFailedToRead, Failures.SaysOf}
 use Rattle.bank_reports.specs.Files.{FileRows, HasBroken, HasFile}
 use Rattle.bank_store.proofs.StepsKeep.{quiet_then, still_then, undone_then}
 use Rattle.bank_reports.proofs.Read.{first_of, rest_of}

@@ -2,28 +2,20 @@
 use Rattle.std.proofs.Common.{◌≡◌, ℕ, List, [], ◌∷◌, ◌==◌, map, Option, Some, None, refl}
 use Rattle.std.proofs.Common.{sym, ap, subst, ◌∙◌, inl, inr, arith}
 use Rattle.std.specs.Prelude.{ℤ, pos, nat_abs, option_map}
-use Rattle.std.specs.List.{AllByRecursion}
-use Rattle.std.specs.Ordering.{int_eq}
-use Rattle.std.proofs.lemmas.Bool.{cases_Bool}
-use Rattle.std.proofs.lemmas.Int.{ints}
+use Rattle.std.specs.{List.AllByRecursion, Ordering.int_eq}
+use Rattle.std.proofs.{lemmas.Bool.cases_Bool, lemmas.Int.ints}
 use Rattle.posting_rules.specs.Tables.{row_at}
 use Rattle.sql_meanings.specs.Entries.{Entry, has_key}
-use Rattle.walked_rows.specs.declared.accounts.StoredAccount.{StoredAccount}
-use Rattle.walked_rows.specs.declared.branches.StoredBranch.{StoredBranch}
-use Rattle.walked_rows.specs.declared.tellers.StoredTeller.{StoredTeller}
-use Rattle.walked_rows.specs.declared.postings.StoredPosting.{StoredPosting}
-use Rattle.walked_rows.specs.declared.requests.StoredRequest.{StoredRequest}
-use Rattle.walked_rows.specs.declared.joined.Joined.{Joined}
+use Rattle.walked_rows.specs.declared.{accounts.StoredAccount.StoredAccount, branches.StoredBranch.StoredBranch}
+use Rattle.walked_rows.specs.declared.{tellers.StoredTeller.StoredTeller, postings.StoredPosting.StoredPosting}
+use Rattle.walked_rows.specs.declared.{requests.StoredRequest.StoredRequest, joined.Joined.Joined}
 use Rattle.walked_rows.specs.Pairs.{pair_of, pair_with, paired, row_under}
 use Rattle.walked_rows.specs.Stored.{account_entry, asked_pair, branch_entry, number_behind, posted_pair}
 use Rattle.walked_rows.specs.Stored.{posting_entry, request_entry, teller_entry}
-use Rattle.report_lines.specs.Added.{HasBeside}
+use Rattle.report_lines.specs.{Added.HasBeside, Beside.rows_of, Stored.StoredTables}
 use Rattle.report_lines.specs.Audit.{posting_ordinal, posting_under, request_ordinal, request_under}
-use Rattle.report_lines.specs.Beside.{rows_of}
-use Rattle.report_lines.specs.Stored.{StoredTables}
 use Rattle.bank_reports.specs.declared.sums.Sums.{Sums}
-use Rattle.bank_reports.specs.Adding.{HasSums, both}
-use Rattle.bank_reports.specs.Files.{FileRows, rows_in}
+use Rattle.bank_reports.specs.{Adding.HasSums, Adding.both, Files.FileRows, Files.rows_in}
 use Rattle.bank_reports.proofs.RisingRows.{all_as}
 
 -- ---- the row that a file's row is

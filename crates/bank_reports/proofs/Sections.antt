@@ -1,18 +1,14 @@
 -- The parts of a statement, one after another.
-use Rattle.std.proofs.Common.{◌≡◌, ◌++◌, ℕ, List, [], ◌∷◌, Option, Ok, Err, refl, sym, ap}
-use Rattle.std.proofs.Common.{◌∙◌, append-nil}
-use Rattle.std.specs.Prelude.{ℤ, pos}
-use Rattle.std.specs.Io.KnownBytes.{Appends}
+use Rattle.std.proofs.Common.{◌≡◌, ◌++◌, ℕ, List, [], ◌∷◌, Option, Ok, Err, refl, sym, ap, ◌∙◌, append-nil}
+use Rattle.std.specs.{Prelude.ℤ, Prelude.pos, Io.KnownBytes.Appends}
 use Rattle.std.proofs.KnownBytes.{Appends-trans}
 use Rattle.walked_rows.specs.declared.stated.StatedPosting.{StatedPosting}
 use Rattle.walked_rows.specs.Pairs.{Pair}
-use Rattle.report_lines.specs.Lines.{text_of}
+use Rattle.report_lines.specs.{Lines.text_of, Written.AppendsPart}
 use Rattle.report_lines.specs.StatementText.{heading_line, names_line, posting_lines, closing_line}
-use Rattle.report_lines.specs.Written.{AppendsPart}
 use Rattle.report_lines.proofs.Joined.{text_of-append}
 use Rattle.report_lines.proofs.Written.{first_part, same_all, same_part, then_part}
-use Rattle.bank_reports.specs.declared.fault.ReportFault.{ReportFault}
-use Rattle.bank_reports.specs.declared.fault.ReportFault.TheVariants.{Write}
+use Rattle.bank_reports.specs.declared.fault.ReportFault.{ReportFault, TheVariants.Write}
 use Rattle.bank_reports.specs.Postings.{WritesPostings, WritesStatement, closing_behind, text_so_far}
 
 module _ (account : ℕ) (balance : ℤ) (all : List Pair) (old : Option (List ℕ)) where

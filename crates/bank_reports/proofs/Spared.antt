@@ -1,15 +1,12 @@
 -- A report spares the tables of other products.
-use Rattle.std.proofs.Common.{◌≡◌, arith, inl, refl, subst, sym}
-use Rattle.sqlite.specs.Effect.{Database}
-use Rattle.sqlite.specs.Held.{Held, state}
-use Rattle.sqlite.specs.State.{HasCleanDisk, Survives}
+use Rattle.std.proofs.Common.{arith, inl, refl, subst, sym}
+use Rattle.sqlite.specs.{Effect.Database, Held.Held, Held.state, State.HasCleanDisk, State.Survives}
 use Rattle.sqlite.proofs.StateLemmas.{survives_then}
 use Rattle.sqlite_trees.specs.declared.store.Store.{Ghosts}
 use Rattle.sql_meanings.proofs.Sparing.{spares_itself}
 use Rattle.store_rows.specs.Sparing.{SparesOthers, bank_names}
 use Rattle.bank_transactions.specs.Doing.{LeavesOthers}
-use Rattle.bank_store.specs.Seen.{connection_of}
-use Rattle.bank_store.specs.Sparing.{SparesOtherTables, SparesWhileOpen}
+use Rattle.bank_store.specs.{Seen.connection_of, Sparing.SparesOtherTables, Sparing.SparesWhileOpen}
 use Rattle.bank_store.specs.Walks.{IsUntouchedIfOpen}
 use Rattle.bank_store.specs.declared.bank.Bank.{Bank}
 

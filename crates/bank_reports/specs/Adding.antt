@@ -1,6 +1,5 @@
 -- What an audit has added up, and what a pass over the rows of a table leaves.
-use Rattle.std.specs.Prelude.{List, [], map, Option, Result}
-use Rattle.std.specs.Prelude.{OnOk}
+use Rattle.std.specs.Prelude.{List, [], map, Option, Result, OnOk}
 use Rattle.sqlite.specs.State.{State, HasCleanDisk, Survives}
 use Rattle.posting_rules.specs.declared.fault.Fault.{Fault}
 use Rattle.walked_rows.specs.declared.accounts.StoredAccount.{StoredAccount}

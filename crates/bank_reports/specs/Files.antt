@@ -2,9 +2,8 @@
 use Rattle.std.specs.Prelude.{◌≡◌, ◌⊎◌, ◌++◌, ◌∷◌, List, map}
 use Rattle.sqlite.specs.Effect.{Database}
 use Rattle.sql_meanings.specs.Entries.{Entry}
-use Rattle.store_rows.specs.BankTables.{account as account_table, branch as branch_table}
-use Rattle.store_rows.specs.BankTables.{history as history_table, request as request_table}
-use Rattle.store_rows.specs.BankTables.{teller as teller_table}
+use Rattle.store_rows.specs.BankTables.{account as account_table, branch as branch_table, history as history_table}
+use Rattle.store_rows.specs.BankTables.{request as request_table, teller as teller_table}
 use Rattle.walked_rows.specs.Rows.{HasStoredRows}
 use Rattle.walked_rows.specs.Stored.{account_entry, branch_entry, posting_entry, request_entry, teller_entry}
 use Rattle.walked_rows.specs.Stored.{IsNoAccount, IsNoBranch, IsNoPosting, IsNoRequest, IsNoTeller}

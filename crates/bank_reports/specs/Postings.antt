@@ -1,7 +1,6 @@
 -- What is written of the postings of an account, and why not all of them are.
-use Rattle.std.specs.Prelude.{◌≡◌, ◌⊎◌, ◌<◌, ◌≤◌, ◌-◌, ◌^◌, ◌+ℤ◌, ℕ}
-use Rattle.std.specs.Prelude.{ℤ, pos, nat_abs, List, [], ◌∷◌, ◌++◌, filter, map, length, Option, Some}
-use Rattle.std.specs.Prelude.{Result, Ok, Err, ⊤}
+use Rattle.std.specs.Prelude.{◌≡◌, ◌⊎◌, ◌<◌, ◌≤◌, ◌-◌, ◌^◌, ◌+ℤ◌, ℕ, ℤ, pos, nat_abs, List, [], ◌∷◌, ◌++◌, filter}
+use Rattle.std.specs.Prelude.{map, length, Option, Some, Result, Ok, Err, ⊤}
 use Rattle.std.specs.Io.KnownBytes.{Appends}
 use Rattle.sqlite.specs.Effect.{Database}
 use Rattle.message_records.specs.declared.limits.TheConstants.{MAX_BALANCE}
@@ -14,8 +13,7 @@ use Rattle.walked_rows.specs.declared.stated.StatedPosting.{StatedPosting}
 use Rattle.walked_rows.specs.Pairs.{Pair}
 use Rattle.walked_rows.specs.Stored.{BreaksStated, is_stated_of, stated_pair}
 use Rattle.report_lines.specs.Lines.{text_of}
-use Rattle.report_lines.specs.StatementText.{heading_line, names_line, posting_line, posting_lines}
-use Rattle.report_lines.specs.StatementText.{closing_line}
+use Rattle.report_lines.specs.StatementText.{heading_line, names_line, posting_line, posting_lines, closing_line}
 use Rattle.report_lines.specs.Written.{AppendsPart}
 use Rattle.bank_reports.specs.declared.fault.ReportFault.{ReportFault}
 use Rattle.bank_reports.specs.declared.fault.ReportFault.TheVariants.{NoAccount, Write, Bank}

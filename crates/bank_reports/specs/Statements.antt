@@ -1,6 +1,5 @@
 -- What a statement says of a bank, and of any file, and what it leaves of its writer.
-use Rattle.std.specs.Prelude.{◌≡◌, ◌≢◌, ◌⊎◌, ℕ, List, map, Option, None, Result, Err}
-use Rattle.std.specs.Prelude.{IsSome, IsTrue, OnErr, OnOk}
+use Rattle.std.specs.Prelude.{◌≡◌, ◌≢◌, ◌⊎◌, ℕ, List, map, Option, None, Result, Err, IsSome, IsTrue, OnErr, OnOk}
 use Rattle.std.specs.Io.KnownBytes.{Appends}
 use Rattle.sqlite_trees.specs.declared.store.Store.{Ghosts}
 use Rattle.posting_rules.specs.Commands.{Command}

@@ -1,13 +1,11 @@
 -- One pass after another.
 use Rattle.std.proofs.Common.{rules, ◌≡◌, Err}
-use Rattle.sqlite.specs.State.{HasCleanDisk}
-use Rattle.sqlite.specs.Held.{state}
+use Rattle.sqlite.specs.{State.HasCleanDisk, Held.state}
 use Rattle.walked_rows.specs.Pairs.{paired}
 use Rattle.report_lines.specs.Beside.{no_rows}
 use Rattle.bank_reports.specs.Adding.{with_accounts, with_branches, with_requests, with_tellers}
 use Rattle.bank_reports.specs.Failures.{HasFailedToRead}
-use Rattle.bank_reports.proofs.Broken.{broken_account, broken_asked, broken_branch, broken_posted}
-use Rattle.bank_reports.proofs.Broken.{broken_teller}
+use Rattle.bank_reports.proofs.Broken.{broken_account, broken_asked, broken_branch, broken_posted, broken_teller}
 use Rattle.bank_reports.proofs.Passed.{asked_in, clean_mid, has_mid, passed_five, passed_four, passed_then}
 use Rattle.bank_reports.proofs.Passed.{passed_three, posted_in, says_any, says_behind}
 use Rattle.bank_reports.proofs.Read.{read, read_is, read_sums}

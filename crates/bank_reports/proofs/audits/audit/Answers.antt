@@ -1,30 +1,22 @@
 -- The audit of a file, and of one that shows a log.
 use Rattle.std.proofs.Common.{rules, ◌≡◌, Bool, Result, Ok, Err, false, true, refl, sym, ap, subst, ◌∙◌}
 use Rattle.std.specs.Prelude.{◌↔◌, IsSome, IsTrue}
-use Rattle.sqlite.specs.State.{HasCleanDisk}
-use Rattle.sqlite.specs.Held.{state}
+use Rattle.sqlite.specs.{State.HasCleanDisk, Held.state}
 use Rattle.posting_rules.specs.Laws.{IsConsistent}
 use Rattle.posting_rules.specs.declared.fault.Fault.{Fault}
 use Rattle.posting_rules.specs.declared.fault.Fault.TheVariants.{Damaged, Down, Memory, Store}
 use Rattle.posting_rules.specs.declared.fault.Rule.{Rule as Broken}
 use Rattle.posting_rules.proofs.Undamaged.{undamaged}
-use Rattle.report_lines.specs.Audit.{audit_of, is_sound}
-use Rattle.report_lines.specs.Beside.{rows_of}
-use Rattle.report_lines.specs.Consistency.{IsSoundFile}
-use Rattle.report_lines.specs.Stored.{StoredTables, stored}
-use Rattle.report_lines.proofs.OfRows.{rows_tell}
-use Rattle.report_lines.proofs.Telling.{tells}
+use Rattle.report_lines.specs.{Audit.audit_of, Audit.is_sound, Beside.rows_of, Consistency.IsSoundFile}
+use Rattle.report_lines.specs.{Stored.StoredTables, Stored.stored}
+use Rattle.report_lines.proofs.{OfRows.rows_tell, Telling.tells}
 use Rattle.bank_store.specs.Seen.{bank_seen, database_of}
 use Rattle.bank_reports.specs.Files.{HasFile, rows_in}
 use Rattle.bank_reports.proofs.FaultsTold.{down_is_sound, memory_is_sound, unaudited}
-use Rattle.bank_reports.proofs.Further.{error_is}
+use Rattle.bank_reports.proofs.{Further.error_is, OncePosted.posted_once, Read.one_file, ReportEnds.not_ok}
+use Rattle.bank_reports.proofs.{Spared.idle_spares, Spared.read_spares, audits.audit.Given.Over}
 use Rattle.bank_reports.proofs.LogFiles.{balanced, has_file, has_ordinals, not_damaged, tells_in_file}
-use Rattle.bank_reports.proofs.OncePosted.{posted_once}
-use Rattle.bank_reports.proofs.Read.{one_file}
-use Rattle.bank_reports.proofs.ReportEnds.{not_ok}
 use Rattle.bank_store.proofs.ReadsLeave.{idle_takes, reads_take_none, untouched_stands}
-use Rattle.bank_reports.proofs.Spared.{idle_spares, read_spares}
-use Rattle.bank_reports.proofs.audits.audit.Given.{Over}
 use Rattle.bank_reports.proofs.audits.audit.Goals as goal
 
 -- ---- a bank that was down, and one that wasn't

@@ -1,16 +1,13 @@
 -- One more row, and what ends the walk.
 use Rattle.std.proofs.Common.{rules, ◌≡◌, ◌<◌, ℕ, [], inl, Err, refl, sym, ap, ◌∙◌, arith, subst}
-use Rattle.sqlite.specs.State.{HasCleanDisk}
-use Rattle.sqlite.specs.Held.{state}
+use Rattle.sqlite.specs.{State.HasCleanDisk, Held.state}
 use Rattle.bank_transactions.proofs.Blamed.{comes}
 use Rattle.bank_store.specs.Walking.{ComesFrom, items_to_come}
 use Rattle.walked_rows.specs.Rows.{LEAST}
 use Rattle.bank_reports.proofs.AddedRows.{all_given, along_more, failed_row, one_more_row}
 use Rattle.bank_reports.proofs.AddedRows.{passed_err, passed_ok, room_for}
 use Rattle.bank_store.proofs.StepsKeep.{still_then, quiet_then}
-use Rattle.bank_reports.proofs.Further.{error_is}
-use Rattle.bank_reports.proofs.ReportEnds.{not_ok}
-use Rattle.bank_reports.proofs.gathered.add_rows.Given.{Over}
+use Rattle.bank_reports.proofs.{Further.error_is, ReportEnds.not_ok, gathered.add_rows.Given.Over}
 use Rattle.bank_reports.proofs.gathered.add_rows.Goals as goal
 
 pub rows-init : goal.rows-init

@@ -1,7 +1,6 @@
 -- The rows that the walk gave were added.
 use Rattle.std.proofs.Common.{◌≡◌}
-use Rattle.sqlite.specs.State.{HasCleanDisk, Survives}
-use Rattle.sqlite.specs.Held.{state}
+use Rattle.sqlite.specs.{State.HasCleanDisk, State.Survives, Held.state}
 use Rattle.bank_store.specs.Walks.{IsStill}
 use Rattle.bank_store.specs.Walking.{ComesFrom, HasToldFault, items_to_come}
 use Rattle.bank_reports.proofs.AddedRows.{IsAlong, IsGathered}

@@ -1,8 +1,7 @@
 -- What ends the lines, and what one more line leaves.
 use Rattle.std.proofs.Common.{rules, ◌≡◌, Err, refl, sym, ap, subst, ◌∙◌, arith}
 use Rattle.std.specs.Prelude.{IsSome}
-use Rattle.sqlite.specs.State.{HasCleanDisk}
-use Rattle.sqlite.specs.Held.{state}
+use Rattle.sqlite.specs.{State.HasCleanDisk, Held.state}
 use Rattle.posting_rules.specs.declared.fault.Fault.TheVariants.{Damaged, Down, Memory, Store}
 use Rattle.posting_rules.specs.declared.fault.Rule.TheVariants.{Value}
 use Rattle.posting_core.proofs.Telling.{more_more, more_none}
@@ -13,8 +12,8 @@ use Rattle.bank_reports.specs.declared.fault.ReportFault.{ReportFault}
 use Rattle.bank_reports.specs.declared.fault.ReportFault.TheVariants.{Bank, NoAccount, Write}
 use Rattle.bank_reports.proofs.Further.{at_first, error_is, line_err, line_is, one_line, walk_end, walk_err, worn_out}
 use Rattle.bank_reports.proofs.ReportEnds.{damaged_not_down, damaged_not_memory, damaged_not_store}
-use Rattle.bank_store.proofs.ReadsLeave.{clean_before}
 use Rattle.bank_reports.proofs.ReportEnds.{not_missing, not_ok, not_write, same_fault}
+use Rattle.bank_store.proofs.ReadsLeave.{clean_before}
 use Rattle.bank_store.proofs.StepsKeep.{quiet_then, still_has, still_then, still_undone, undone_then}
 use Rattle.bank_reports.proofs.postings.write_rows.Goals as goal
 

@@ -1,12 +1,10 @@
 -- The lines of the postings that the walk gave were written.
 use Rattle.std.proofs.Common.{◌≡◌, List}
-use Rattle.sqlite.specs.State.{HasCleanDisk, Survives}
-use Rattle.sqlite.specs.Held.{state}
+use Rattle.sqlite.specs.{State.HasCleanDisk, State.Survives, Held.state}
 use Rattle.posting_core.specs.Told.{HasMore}
 use Rattle.store_rows.specs.BankTables.{history as history_table, reference as reference_table}
 use Rattle.walked_rows.specs.Pairs.{HasPairs, Pair}
-use Rattle.bank_store.specs.Walks.{IsStill}
-use Rattle.bank_store.specs.Walking.{HasToldFault, postings_to_come}
+use Rattle.bank_store.specs.{Walks.IsStill, Walking.HasToldFault, Walking.postings_to_come}
 use Rattle.bank_reports.proofs.Further.{IsFar}
 use Rattle.bank_reports.proofs.postings.write_rows.Given as goal
 
