@@ -135,10 +135,10 @@ class Bank:
             for record in sent[before:]:
                 self.give(group, record)
 
-    def drive(self, seed, count):
+    def drive(self, seed, count, group=None):
         plan = [(bid, row[0]) for bid, row in self.book.rows["branch"].items()]
-        for _, request in zip(range(count if plan else 0), driver_vectors.requests(seed, plan)):
-            self.give(0, driver_vectors.spelling(*request).encode())
+        for place, request in zip(range(count if plan else 0), driver_vectors.requests(seed, plan)):
+            self.give(place // group if group else 0, driver_vectors.spelling(*request).encode())
 
     def tables(self):
         """Its tables under SQL."""
@@ -170,6 +170,8 @@ class Bank:
         elif word == "mixed":
             seed, _, way = rest.partition(" ")
             self.mixed(int(seed), way)
+        elif word == "steady":
+            self.drive(int(rest.partition(" ")[0]), 500, group=25)
         elif word == "drive":
             seed, _, counts = rest.partition(" ")
             for count in counts.split(", "):

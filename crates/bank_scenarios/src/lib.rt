@@ -7,8 +7,8 @@
 #![tactic(auto)]
 
 mod answers;
+mod drawn;
 mod draws;
-mod mixed;
 mod records;
 mod replayed;
 mod scenario;

@@ -1,6 +1,6 @@
 //! One scenario: the banks that it asks, and what they answer to each step.
 use crate::answers::{Call, make_call};
-use crate::mixed::play_run;
+use crate::drawn::play_run;
 use crate::steps::{Place, Step, parts_of};
 use crate::stored::Stored;
 use crate::tables::{Query, QueryAnswer, Sums};
@@ -83,7 +83,7 @@ impl<S: Alter + Drop> Scenario<S> {
             return Ok("no tables".to_string(self.alloc)?);
         }
         match step {
-            Step::Mixed(run) => play_run(self.alloc, &mut self.plain, &mut self.stored, run),
+            Step::Run(run) => play_run(self.alloc, &mut self.plain, &mut self.stored, run),
             _ => Ok(self.step_on_tables(step, text)?),
         }
     }

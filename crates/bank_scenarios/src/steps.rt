@@ -1,5 +1,5 @@
 //! What the lines of a script say.
-use crate::mixed::Run;
+use crate::drawn::{Drawn, Run};
 use crate::tables::Query;
 
 /// Where the bank of a scenario is.
@@ -26,7 +26,7 @@ impl Place {
 /// A step that is no call of a bank, but for the text that it takes.
 #[derive(Clone, Copy)]
 pub enum Step {
-    Mixed(Run),
+    Run(Run),
     Make,
     Adopt,
     Cause,
@@ -39,10 +39,8 @@ impl Step {
     /// The step of a word and the text behind it.
     pub fn of(word: &str, rest: &str) -> Self {
         match word {
-            "mixed" => match Run::of(rest) {
-                Some(run) => Step::Mixed(run),
-                None => Step::Unknown,
-            },
+            "mixed" => run_of(Drawn::Mixed, rest),
+            "steady" => run_of(Drawn::Driven, rest),
             "make" => Step::Make,
             "adopt" => Step::Adopt,
             "cause" => Step::Cause,
@@ -53,6 +51,13 @@ impl Step {
             "same" => Step::Query(Query::Same),
             _ => Step::Unknown,
         }
+    }
+}
+
+fn run_of(drawn: Drawn, text: &str) -> Step {
+    match Run::of(drawn, text) {
+        Some(run) => Step::Run(run),
+        None => Step::Unknown,
     }
 }
 

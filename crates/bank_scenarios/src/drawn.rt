@@ -1,9 +1,13 @@
-//! Runs of mixed records, on the bank in memory and on the bank in tables.
+//! Runs of drawn records, on the bank in memory and on the bank in tables.
 use crate::draws::{Draws, draw_group};
 use crate::stored::Stored;
 use anyhow::{Context, Result, bail, ensure};
 use bank_store::Bank;
-use message_records::{Account, Cents, Moment, Outcome, REPLY_BYTES, REQUEST_BYTES, decode_reply};
+use branch_loader::Plan;
+use load_driver::Driver;
+use message_records::{
+    Account, Branch, Cents, Moment, Outcome, REPLY_BYTES, REQUEST_BYTES, decode_reply,
+};
 use posting_core::{Counter, PlainBank};
 use sqlite::Alter;
 use std::alloc::{AllocError, Global};
@@ -42,9 +46,19 @@ impl Way {
     }
 }
 
+/// Who draws the records.
+#[derive(Clone, Copy, PartialEq, Eq)]
+pub enum Drawn {
+    /// Mixed ones.
+    Mixed,
+    /// The driver's, of a steady run.
+    Driven,
+}
+
 /// A run of 20 groups of records.
 #[derive(Clone, Copy)]
 pub struct Run {
+    pub drawn: Drawn,
     pub seed: u64,
     pub way: Way,
 }
@@ -52,7 +66,7 @@ pub struct Run {
 impl Run {
     /// The run that a step says behind its word, as `1 one by one`, `2 in batches` or `5 in batches beside one
     /// by one`, none where it says no run.
-    pub fn of(text: &str) -> Option<Self> {
+    pub fn of(drawn: Drawn, text: &str) -> Option<Self> {
         let (seed, way) = text.split_once(' ')?;
         let way = match way {
             "one by one" => Way::OneByOne,
@@ -61,6 +75,7 @@ impl Run {
             _ => return None,
         };
         Some(Run {
+            drawn,
             seed: seed.parse::<u64>().ok()?,
             way,
         })
@@ -136,12 +151,59 @@ fn note(outcomes: &mut Vec<Outcome>, replies: &[[u8; REPLY_BYTES]]) -> Result<()
     Ok(())
 }
 
+// The driver of a seed over the branches.
+fn driver_of(alloc: Global, seed: u64) -> Result<Driver> {
+    let mut rows = Vec::new(alloc);
+    for (branch, count) in &BRANCHES {
+        rows.push((Branch::new(*branch).context("a branch")?, *count, None))?;
+    }
+    let plan = Plan::from_list(rows).ok().context("a plan")?;
+    Driver::new(alloc, &plan, seed).ok().context("a driver")
+}
+
+// What draws the records of a run.
+#[derive(Drop)]
+enum Drawing {
+    Mixed(Draws),
+    Driven(Driver),
+}
+
+impl Drawing {
+    fn of(alloc: Global, run: Run) -> Result<Self> {
+        match run.drawn {
+            Drawn::Mixed => Ok(Drawing::Mixed(Draws::new(run.seed))),
+            Drawn::Driven => Ok(Drawing::Driven(driver_of(alloc, run.seed)?)),
+        }
+    }
+
+    // Puts a group of so many records behind those that were sent.
+    fn draw(&mut self, count: u32, sent: &mut Vec<[u8; REQUEST_BYTES]>) -> Result<()> {
+        match self {
+            Drawing::Mixed(draws) => draw_group(draws, count, sent),
+            Drawing::Driven(driver) => {
+                for _ in 0..count {
+                    sent.push(driver.next().context("a record")?)?;
+                }
+                Ok(())
+            }
+        }
+    }
+
+    // How many records the next group has.
+    fn size_of_group(&mut self, way: Way) -> u32 {
+        match self {
+            Drawing::Mixed(draws) if way == Way::Beside => draws.below(64).saturating_add(1),
+            _ => GROUP,
+        }
+    }
+}
+
 // The records of a run, and what came of them.
 #[derive(Drop)]
 struct Course {
     alloc: Global,
     run: Run,
-    draws: Draws,
+    drawing: Drawing,
     sent: Vec<[u8; REQUEST_BYTES]>,
     outcomes: Vec<Outcome>,
 }
@@ -155,13 +217,10 @@ impl Course {
         group: u16,
     ) -> Result<()> {
         let before = self.sent.len();
-        let count = match self.run.way {
-            Way::Beside => self.draws.below(64).saturating_add(1),
-            _ => GROUP,
-        };
-        draw_group(&mut self.draws, count, &mut self.sent)?;
-        let records = self.sent.get(before..).context("a group")?;
         let way = self.run.way;
+        let count = self.drawing.size_of_group(way);
+        self.drawing.draw(count, &mut self.sent)?;
+        let records = self.sent.get(before..).context("a group")?;
         let wanted = replies_of(self.alloc, plain, group, records, way.in_memory())?;
         let replies = replies_of(self.alloc, bank, group, records, way.in_tables())?;
         ensure!(
@@ -222,7 +281,7 @@ fn agree<S: Alter + Drop>(
     Ok(())
 }
 
-/// Submits mixed records to both banks, group by group, and says that their replies and balances agree, and
+/// Submits the records of a run to both banks, group by group, and says that their replies and balances agree, and
 /// which outcomes came. It fails where they don't agree.
 pub fn play_run<S: Alter + Drop>(
     alloc: Global,
@@ -233,7 +292,7 @@ pub fn play_run<S: Alter + Drop>(
     let mut course = Course {
         alloc,
         run,
-        draws: Draws::new(run.seed),
+        drawing: Drawing::of(alloc, run)?,
         sent: Vec::new(alloc),
         outcomes: Vec::new(alloc),
     };
