@@ -85,20 +85,8 @@ pub fn migrated_again<S: Alter + Drop>(
     }
 }
 
-const VERSIONS: [Version; 2] = [Version::BeforeFloors, Version::BeforeReferences];
-
 fn earlier(rt: &(impl Abort + Alloc<A = Global>), version: Version, beside: &str) -> Image {
     made(rt, &[Task::MakeEarlier(version, beside)])
-}
-
-#[test]
-fn an_earlier_bank_is_carried_over(rt: HostRuntime) {
-    for version in VERSIONS {
-        let start = earlier(&rt, version, "");
-        let tasks = [Task::Migrate(version), Task::Remigrate(version, true)];
-        let ended = play_on(&rt, &start.db, &start.log, ALL_PASS, &tasks);
-        assert!(rt; ended.progress.is_done);
-    }
 }
 
 // Stops at each call on the one file or the other. Some stops are in the migration.

@@ -24,26 +24,21 @@ fn read_by(
     ended.progress
 }
 
-fn read_until(
-    rt: &(impl Abort + Alloc<A = Global>),
-    start: &Image,
-    reading: Reading,
-    calls: u64,
-) -> Progress {
+fn walk_until(rt: &(impl Abort + Alloc<A = Global>), start: &Image, calls: u64) -> Progress {
     let passed = Passed {
         db: calls,
         log: calls,
     };
-    read_by(rt, start, Task::Read(reading), passed)
+    read_by(rt, start, Task::Read(Reading::History), passed)
 }
 
-// The least number of calls behind which the reading has begun.
-fn calls_to_begin(rt: &(impl Abort + Alloc<A = Global>), start: &Image, reading: Reading) -> u64 {
+// The least number of calls behind which a walk has begun.
+fn calls_to_begin(rt: &(impl Abort + Alloc<A = Global>), start: &Image) -> u64 {
     let mut low = 0u64;
     let mut high = 4_096u64;
     for _ in 0..12u8 {
         let middle = low.midpoint(high);
-        if read_until(rt, start, reading, middle).is_begun {
+        if walk_until(rt, start, middle).is_begun {
             high = middle;
         } else {
             low = middle;
@@ -52,34 +47,21 @@ fn calls_to_begin(rt: &(impl Abort + Alloc<A = Global>), start: &Image, reading:
     high
 }
 
-// Lets the files fail behind more and more calls, from the first reading that begins up to one that ends: the
-// others stop late.
-fn fail_behind_more(rt: &(impl Abort + Alloc<A = Global>), start: &Image, reading: Reading) {
-    let first = calls_to_begin(rt, start, reading);
+// Lets the files fail behind more and more calls, from the first walk that begins up to one that ends: the others
+// stop late.
+#[test]
+fn a_walk_stops_behind_its_first_row(rt: HostRuntime) {
+    let start = made(&rt, &[Task::Make(BRANCHES), Task::Post]);
+    let first = calls_to_begin(&rt, &start);
     for more in 0..1_000u64 {
-        let progress = read_until(rt, start, reading, first.saturating_add(more));
+        let progress = walk_until(&rt, &start, first.saturating_add(more));
         assert!(rt; progress.is_begun);
         if progress.is_done {
             assert!(rt; more > 0);
             return;
         }
     }
-    panic!(rt; "a reading that ends");
-}
-
-fn fail_while_reading(rt: &(impl Abort + Alloc<A = Global>), reading: Reading) {
-    let start = made(rt, &[Task::Make(BRANCHES), Task::Post]);
-    fail_behind_more(rt, &start, reading);
-}
-
-#[test]
-fn a_walk_stops_behind_its_first_row(rt: HostRuntime) {
-    fail_while_reading(&rt, Reading::History);
-}
-
-#[test]
-fn an_audit_stops(rt: HostRuntime) {
-    fail_while_reading(&rt, Reading::Audit);
+    panic!(rt; "a walk that ends");
 }
 
 // Lets each statement visit more and more rows, up to a walk that ends. It is refused before its first row or

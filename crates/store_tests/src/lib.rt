@@ -1,7 +1,6 @@
-//! Tests of the bank in tables that no scenario reaches: each statement of the bank's tables once, walks over
-//! rows that are beside one another, machines that stop at each call on a file, life after life, files of
-//! earlier versions, steady runs, files that fail while a bank is read, the texts of reports, whole and cut,
-//! and the first programs of the libraries.
+//! Tests of the bank in tables that no scenario reaches: machines that stop at each call on a file, life after
+//! life, files of earlier versions, files that fail while a bank is read, reports that are cut, and the first
+//! programs of the libraries.
 #![tactic(auto)]
 
 #[cfg(test)]
@@ -25,22 +24,14 @@ mod lives;
 #[cfg(test)]
 mod readings;
 #[cfg(test)]
-mod report_texts;
-#[cfg(test)]
 mod reports;
 #[cfg(test)]
-mod rows;
-#[cfg(test)]
 mod sql;
-#[cfg(test)]
-mod steady;
 #[cfg(test)]
 mod stops;
 #[cfg(test)]
 mod sums;
 #[cfg(test)]
 mod tasks;
-#[cfg(test)]
-mod walks;
 #[cfg(test)]
 mod ways;

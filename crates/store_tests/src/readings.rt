@@ -1,9 +1,8 @@
 //! Calls that read all that was posted, on any store: what they give until it fails.
 use crate::reports::{audit_fault, statement_fault};
 use crate::tasks::Progress;
-use crate::walks::{Ordinals, Postings, gives_posting, next_posting};
 use bank_reports::audit;
-use bank_store::{Bank, each_history};
+use bank_store::{Bank, Joined, StoredPosting, StoredRequest, Walk, each_history};
 use message_records::{
     Account, Branch, Cents, Moment, Number, REQUEST_BYTES, Request, Teller, encode_request,
 };
@@ -23,8 +22,6 @@ const POSTINGS: u64 = 1_000;
 pub enum Reading {
     /// The postings one after another, each with its request.
     History,
-    /// All rows, by an audit.
-    Audit,
     /// The text of an audit behind the first posting and a remote one.
     AuditText,
     /// The text of the statement of account 1 behind them.
@@ -72,6 +69,19 @@ pub fn post_many<C: Counter>(rt: &impl Abort, bank: &mut C) -> Result<(), Fault>
     Ok(())
 }
 
+type Postings<'a, S> = Walk<'a, S, Joined<StoredPosting, StoredRequest>>;
+
+// The ordinals of a posting and of the request beside it.
+type Ordinals = (u64, Option<u64>);
+
+fn next_posting<S: Alter>(walk: &mut Postings<'_, S>) -> Result<Option<Ordinals>, Fault> {
+    let Some(Joined { stored, beside }) = walk.next()? else {
+        return Ok(None);
+    };
+    let beside = beside.map(|request| request.ordinal.get());
+    Ok(Some((stored.ordinal.get(), beside)))
+}
+
 // The next posting has its own request.
 fn is_behind(rt: &impl Abort, count: u64, found: Ordinals) {
     let ordinal = count.saturating_add(1);
@@ -86,7 +96,7 @@ fn given_by<S: Alter>(rt: &impl Abort, walk: &mut Postings<'_, S>) -> (u64, Opti
             Ok(Some(found)) => is_behind(rt, count, found),
             Ok(None) => return (count, None),
             Err(fault) => {
-                gives_posting(rt, walk, Err(Fault::Down));
+                assert_eq!(rt; next_posting(walk), Err(Fault::Down));
                 return (count, Some(fault));
             }
         }
@@ -97,27 +107,6 @@ fn given_by<S: Alter>(rt: &impl Abort, walk: &mut Postings<'_, S>) -> (u64, Opti
 fn given<S: Alter>(rt: &impl Abort, bank: &mut Bank<S>) -> Result<(u64, Option<Fault>), Fault> {
     let mut walk = each_history(bank)?;
     Ok(given_by(rt, &mut walk))
-}
-
-// What an audit says of all that is there.
-fn found_by<S: Alter>(bank: &mut Bank<S>) -> Result<(u64, u64, i128, bool), Fault> {
-    let told = audit(bank)?;
-    Ok((
-        told.requests,
-        told.history,
-        told.account_sum,
-        told.is_consistent(),
-    ))
-}
-
-// The fault of an audit, if it has one. Else all is there.
-fn audited<S: Alter>(rt: &impl Abort, bank: &mut Bank<S>) -> Option<Fault> {
-    let found = found_by(bank);
-    if let Err(fault) = found {
-        return Some(fault);
-    }
-    assert_eq!(rt; found, Ok((POSTINGS, POSTINGS, i128::from(POSTINGS), true)));
-    None
 }
 
 // Whether a walk gave a row, and its fault, if it has one. Else all is there.
@@ -144,7 +133,6 @@ pub fn read<S: Alter + Drop>(
 ) -> Progress {
     let (is_begun, fault) = match reading {
         Reading::History => walked(rt, bank),
-        Reading::Audit => (true, audited(rt, bank)),
         Reading::AuditText => (true, audit_fault(rt, bank)),
         Reading::Statement => (true, statement_fault(rt, bank)),
     };

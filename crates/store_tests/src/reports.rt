@@ -1,7 +1,6 @@
 //! Reports to a writer that refuses after so many bytes.
 use crate::calls::{Asked, ask_to_the_end};
 use crate::readings::one_cent;
-use crate::report_texts::{AUDIT, STATEMENT};
 use crate::tasks::{BRANCHES, Task, play_in_memory};
 use bank_reports::{ReportFault, audit, write_statement};
 use bank_store::Bank;
@@ -16,6 +15,27 @@ use std::alloc::{Alloc, Global};
 use std::io::ErrorKind;
 use std::process::Abort;
 use std::test::Fail;
+
+// The audit of a bank with the first posting and a remote one.
+const AUDIT: &[u8] = b"branches                       2
+tellers                       20
+accounts                       5
+requests                       2
+history                        2
+account sum                 -200
+teller sum                  -200
+branch sum                  -200
+history sum                 -200
+unmatched                      0
+CONSISTENT
+";
+
+// The statement of account 1 there.
+const STATEMENT: &[u8] = b"STATEMENT ACCOUNT 000000000001
+      ordinal       moment   teller branch          delta        balance reference
+            1         1000        1      1           +500            500 RENT MAY            
+closing balance                                                      500
+";
 
 // Takes so many bytes, and then fails.
 fn cut_after(alloc: Global, most: usize) -> CutWriter {
@@ -148,8 +168,8 @@ fn statement_is_cut<S: Alter + Drop>(
     assert!(rt; count > 300);
 }
 
-/// A writer that refuses behind these bytes of an audit's text took them.
-pub fn audit_is_cut_to(rt: &(impl Abort + Alloc<A = Global>), told: &Audit, text: &[u8]) {
+// A writer that refuses behind these bytes of an audit's text took them.
+fn audit_is_cut_to(rt: &(impl Abort + Alloc<A = Global>), told: &Audit, text: &[u8]) {
     let mut writer = cut_after(rt.alloc(), text.len());
     let written = write_audit(told, &mut writer);
     assert_eq!(rt; (written, writer.taken.as_slice()), (Err(WriteFault), text));

@@ -6,7 +6,6 @@ use crate::readings::{Reading, is_consistent, read};
 use crate::reports::reports_are_cut;
 use crate::sql::batch;
 use crate::sums::{Ledger, Sums, sums_of};
-use crate::walks::{Rows, put_rows, walk_over};
 use bank_store::{Bank, Migrated, OpenFault, Refused, adopt, create};
 use posting_core::Fault;
 use sqlite::{Alter, Connection};
@@ -39,8 +38,6 @@ pub enum Task<'a> {
     Read(Reading),
     /// The same, where each statement may visit so many rows.
     Limited(u64),
-    /// Rows are put into its tables, and walked over.
-    Walk(Rows),
     /// Its reports are cut.
     Report,
     /// It is made by hand, as a bank of an earlier version, with this beside it.
@@ -124,7 +121,6 @@ fn is_left<S: Alter>(rt: &impl Abort, conn: &mut Connection<S>, states: &[Sums],
 fn prepare<S: Alter>(rt: &impl Abort, conn: &mut Connection<S>, task: Task) {
     match task {
         Task::Again(case, parts) => is_left(rt, conn, case.states, parts),
-        Task::Walk(rows) => assert_eq!(rt; put_rows(conn, rows), Ok(1)),
         Task::Limited(rows) => conn.set_step_limit(Some(rows)),
         Task::MakeEarlier(version, beside) => {
             assert_eq!(rt; batch(conn, EARLIER), Ok(()));
@@ -188,7 +184,6 @@ fn act<S: Alter + Drop>(
         Task::Read(reading) => return read(rt, bank, reading),
         Task::Remigrate(_, _) => return read(rt, bank, Reading::AuditText),
         Task::Limited(_) => return read(rt, bank, Reading::History),
-        Task::Walk(rows) => assert_eq!(rt; walk_over(rt, bank, rows), Ok(())),
         Task::Report => reports_are_cut(rt, bank),
     }
     DONE
