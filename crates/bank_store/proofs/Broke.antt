@@ -6,6 +6,7 @@ use Rattle.sqlite_trees.specs.declared.store.Store.{Ghosts}
 use Rattle.posting_rules.specs.declared.fault.Fault.{Fault}
 use Rattle.posting_rules.specs.declared.fault.Rule.{Rule}
 use Rattle.posting_rules.specs.Tables.{Tables}
+use Rattle.store_rows.specs.Failures.{Additions}
 use Rattle.store_rows.specs.declared.fault.TableFault.{TableFault}
 use Rattle.store_rows.specs.declared.fault.TableFault.TheVariants.{Sqlite, Damaged}
 use Rattle.bank_transactions.specs.Causes.{Damage, IsBrokenOrMet, IsFirstBroken}
@@ -37,10 +38,10 @@ module _ {S X : Type 0} {So : Tables → Type 0} {after : Tables → Tables} {wa
   consulted e does went = of_damage (IsFirstBroken g) (λ rule it. it) e does went
 
   -- of a call that writes
-  pub transacted : (e : TableFault) → Transacts {X = X} g old mid So after wanted (Err e)
+  pub transacted : {Adds : Additions} (e : TableFault) → Transacts {X = X} g Adds old mid So after wanted (Err e)
       → GoesDown (state g mid) (state g new) e kept fault
-      → OfDamage fault (λ rule. HasCleanDisk (state g new) → IsBrokenOrMet g old new rule)
-  transacted e does went = of_damage (IsBrokenOrMet g) (λ rule it. elim it [
+      → OfDamage fault (λ rule. HasCleanDisk (state g new) → IsBrokenOrMet g Adds old new rule)
+  transacted {Adds} e does went = of_damage (IsBrokenOrMet g Adds) (λ rule it. elim it [
     | inl broken ↦ inl broken
     | inr met ↦ inr (met_within g old old mid new rule (same_moment (state g old)) (comes quiet) met)
   ]) e does went

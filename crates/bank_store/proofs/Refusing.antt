@@ -14,10 +14,13 @@ use Rattle.posting_rules.specs.Tables.{Tables}
 use Rattle.posting_rules.proofs.Calls.{IsChange}
 use Rattle.posting_rules.proofs.CounterCalls.{call_answered, call_refused, call_spared, call_untried}
 use Rattle.posting_rules.proofs.CounterCalls.{unchanged_seen}
+use Rattle.store_rows.specs.Failures.{Additions}
 use Rattle.store_rows.specs.declared.fault.TableFault.{TableFault}
 use Rattle.store_rows.specs.declared.fault.TableFault.TheVariants.{Sqlite, Damaged}
+use Rattle.bank_transactions.specs.Additions.{AnyRow}
 use Rattle.bank_transactions.specs.Causes.{Damage, IsBrokenOrMet, IsFirstBroken}
 use Rattle.bank_transactions.specs.Doing.{Transacts, TransactsBy}
+use Rattle.bank_transactions.proofs.Blamed.{between_also}
 use Rattle.bank_store.specs.Down.{GoesDown, IsBankCall, KeepsCause, OfDamage, WasBrokenOrMet, bank_reason}
 use Rattle.bank_store.specs.Seen.{bank_seen, cause_of, connection_of, database_of, fault_of}
 use Rattle.bank_store.specs.declared.bank.Bank.{Bank}
@@ -89,7 +92,7 @@ never_down old new (Damaged rule) kept fault (inr went) down = let both = sym we
 
 -- what the bank's fault says of the call
 reason_of : {S : Type 0} (g : Ghosts S) (old new : Bank S g) (told : Fault)
-    → (told ≡ Store → KeepsCause g old new) → OfDamage told (WasBrokenOrMet g old new)
+    → (told ≡ Store → KeepsCause g old new) → OfDamage told (WasBrokenOrMet g AnyRow old new)
     → (TellsDamage told → cause_of new ≡ None) → bank_reason g told old new
 reason_of g old new Memory cause broken none = tt
 reason_of g old new Store cause broken none = cause refl
@@ -112,7 +115,7 @@ module _ {S X : Type 0} {So : Tables → Type 0} {after : Tables → Tables} {wa
     (quiet : Survives (state g mid) (state g (connection_of new)) (λ _. ⊥)) where
   refusal : (Met : Damage S)
       → ((rule : Rule) → Met (connection_of old) (connection_of new) rule
-      → IsBrokenOrMet g (connection_of old) (connection_of new) rule)
+      → IsBrokenOrMet g AnyRow (connection_of old) (connection_of new) rule)
       → TransactsBy {X = X} Met g (connection_of old) mid So after wanted (Err e)
       → OfDamage told (λ rule. HasCleanDisk (state g (connection_of new))
       → Met (connection_of old) (connection_of new) rule)
@@ -128,7 +131,7 @@ module _ {S X : Type 0} {So : Tables → Type 0} {after : Tables → Tables} {wa
               kept = kept_error _ _ (fault_of new) told e down tells;
               failed = failed_between g a mid c (fault_of new) told quiet e does down;
             })
-            (of_wider told (λ rule. HasCleanDisk (state g c) → Met a c rule) (WasBrokenOrMet g old new)
+            (of_wider told (λ rule. HasCleanDisk (state g c) → Met a c rule) (WasBrokenOrMet g AnyRow old new)
             (λ rule met clean. wide rule (met clean)) broken)
             (no_error _ _ (fault_of new) told e down);
         kept = λ damage clean. keeps_file g a mid c e (fault_of new) told does down quiet damage clean;
@@ -147,8 +150,12 @@ module _ {S X : Type 0} {So : Tables → Type 0} {after : Tables → Tables} {wa
       (consulted g (connection_of old) mid (connection_of new) (fault_of new) told quiet e does down)
 
   -- of a call that writes
-  pub transaction_refused : Transacts {X = X} g (connection_of old) mid So after wanted (Err e)
-      → Refusal g old new cs (IsBrokenOrMet g) told
-  transaction_refused does =
-      refusal (IsBrokenOrMet g) (λ rule it. it) does
+  pub transaction_refused : {Adds : Additions}
+      → Transacts {X = X} g Adds (connection_of old) mid So after wanted (Err e)
+      → Refusal g old new cs (IsBrokenOrMet g Adds) told
+  transaction_refused {Adds} does =
+      refusal (IsBrokenOrMet g Adds) (λ rule it. elim it [
+        | inl broken ↦ inl broken
+        | inr met ↦ inr (between_also g (connection_of old) (connection_of new) rule (λ text values own. tt) met)
+      ]) does
       (transacted g (connection_of old) mid (connection_of new) (fault_of new) told quiet e does down)

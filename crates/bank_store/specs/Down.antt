@@ -10,7 +10,9 @@ use Rattle.posting_rules.specs.declared.fault.Fault.TheVariants as told
 use Rattle.posting_rules.specs.declared.fault.Rule.{Rule}
 use Rattle.store_rows.specs.declared.fault.TableFault.{TableFault}
 use Rattle.store_rows.specs.declared.fault.TableFault.TheVariants.{Sqlite, Damaged}
+use Rattle.store_rows.specs.Failures.{Additions}
 use Rattle.store_rows.specs.Rules.{IsBroken}
+use Rattle.bank_transactions.specs.Additions.{AnyRow}
 use Rattle.bank_transactions.specs.Causes.{HasFailedBetween, IsBrokenOrMet}
 use Rattle.bank_store.specs.Seen.{bank_seen, cause_of, connection_of, database_of, file_of}
 use Rattle.bank_store.specs.declared.bank.Bank.{Bank}
@@ -46,10 +48,10 @@ OfDamage _ P = ⊤
 abbrev pub WasBroken : {S : Type 0} (g : Ghosts S) → Bank S g → Bank S g → Rule → Type 0
 WasBroken g old new rule = HasCleanDisk (file_of new) → IsBroken rule (database_of g old)
 
--- they do; or a statement of the call met it as it wrote: a key that is taken, or a row that is missing
-abbrev pub WasBrokenOrMet : {S : Type 0} (g : Ghosts S) → Bank S g → Bank S g → Rule → Type 0
-WasBrokenOrMet g old new rule =
-    HasCleanDisk (file_of new) → IsBrokenOrMet g (connection_of old) (connection_of new) rule
+-- they do; or a statement of the call met it as it wrote: the key of such a row is taken, or a row is missing
+abbrev pub WasBrokenOrMet : {S : Type 0} (g : Ghosts S) → Additions → Bank S g → Bank S g → Rule → Type 0
+WasBrokenOrMet g Adds old new rule =
+    HasCleanDisk (file_of new) → IsBrokenOrMet g Adds (connection_of old) (connection_of new) rule
 
 -- ---- a call
 
@@ -59,7 +61,7 @@ abbrev pub bank_reason : {S : Type 0} (g : Ghosts S) → Fault → Bank S g → 
 bank_reason g told.Memory old new = ⊤
 bank_reason g told.Store old new = KeepsCause g old new
 bank_reason g told.Down old new = ⊤
-bank_reason g (told.Damaged rule) old new = WasBrokenOrMet g old new rule × (cause_of new ≡ None)
+bank_reason g (told.Damaged rule) old new = WasBrokenOrMet g AnyRow old new rule × (cause_of new ≡ None)
 
 -- what every call of a bank in a file promises, whatever it answers
 abbrev pub IsBankCall : {S X : Type 0} (g : Ghosts S) → Bank S g → Bank S g → List Command → Result X Fault

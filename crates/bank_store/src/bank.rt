@@ -214,11 +214,12 @@ impl<S: Alter + Drop> Counter for Bank<S> {
     ghost use Rattle.std.specs.Prelude.{Ok};
     ghost use Rattle.message_records.specs.Reading.{request_of};
     ghost use Rattle.message_records.specs.Records.{RequestFields};
+    ghost use Rattle.bank_transactions.specs.Additions.{AddsBranch, AddsForRecords};
     ghost use Rattle.bank_transactions.specs.Causes.{IsBefore};
     ghost use Rattle.bank_transactions.specs.Stored.{IsStoredBalance, IsStoredNext, OpensByStored};
     ghost use Rattle.bank_transactions.specs.Stored.{RepliesToAllStored, RepliesToStored};
     ghost use Rattle.bank_transactions.specs.Batches.{DecidesNone};
-    ghost use Rattle.bank_store.specs.Down.{AnswersBy, IsBankCall, OfDamage, WasBroken};
+    ghost use Rattle.bank_store.specs.Down.{AnswersBy, IsBankCall, OfDamage, WasBroken, WasBrokenOrMet};
     ghost use Rattle.bank_store.specs.Down.{bank_reason};
     ghost use Rattle.bank_store.specs.NoneOrAll.{LeavesNoneOrAll, IsIdle};
     ghost use Rattle.bank_store.specs.Seen.{bank_seen, database_of, file_of};
@@ -256,6 +257,9 @@ impl<S: Alter + Drop> Counter for Bank<S> {
         // Whatever rows the file holds.
         ensures stored { IfOk result (λ out. (bank_seen S.Store self.new).honest → (r : RequestFields)
             → request_of bytes.now ≡ Ok r → RepliesToStored (database_of S.Store self.old) r out) }
+        // A key that is taken is the next ordinal's, unless the file has no bank's tables.
+        ensures own { IfErr result (λ fault. OfDamage fault
+            (WasBrokenOrMet S.Store (AddsForRecords (database_of S.Store self.old) 1) self.old self.new)) }
         ensures spares { SparesOtherTables S.Store self.old self.new }
     {
         range_law(moment);
@@ -292,6 +296,11 @@ impl<S: Alter + Drop> Counter for Bank<S> {
         // Whatever rows the file holds.
         ensures stored { IfOk result (λ replies. (bank_seen S.Store self.new).honest
             → RepliesToAllStored (database_of S.Store self.old) moment records.now replies.items) }
+        // A key that is taken is one of the next ordinals', at most one a record, unless the file has no bank's
+        // tables.
+        ensures own { IfErr result (λ fault. OfDamage fault
+            (WasBrokenOrMet S.Store (AddsForRecords (database_of S.Store self.old) (length records.now))
+            self.old self.new)) }
         ensures spares { SparesOtherTables S.Store self.old self.new }
     {
         range_law(moment);
@@ -321,6 +330,10 @@ impl<S: Alter + Drop> Counter for Bank<S> {
         ensures stored { IfOk result (λ opening. (bank_seen S.Store self.new).honest
             → OpensByStored (database_of S.Store self.old) (database_of S.Store self.new) branch
             (opened_with count floor) opening) }
+        // A key that is taken is the branch's own, one of its tellers', of its accounts' or its floor's, unless the
+        // file has no bank's tables.
+        ensures own { IfErr result (λ fault. OfDamage fault
+            (WasBrokenOrMet S.Store (AddsBranch branch (opened_with count floor)) self.old self.new)) }
         ensures spares { SparesOtherTables S.Store self.old self.new }
     {
         range_law(branch);

@@ -24,6 +24,7 @@ use Rattle.posting_batch.proofs.Covered.{stands, homes_all}
 use Rattle.posting_batch.proofs.FreeOrdinals.{free_shown}
 use Rattle.posting_batch.proofs.OneRecord.{one_adds, one_back, one_changes, one_filled, one_homes, one_judged}
 use Rattle.posting_batch.proofs.OneRecord.{one_reply, one_rising, one_tables}
+use Rattle.store_rows.specs.Failures.{Additions}
 use Rattle.store_rows.specs.View as stored
 use Rattle.store_rows.specs.declared.fault.TableFault.{TableFault}
 use Rattle.bank_transactions.specs.Causes.{Damage, IsFirstBroken}
@@ -84,27 +85,27 @@ module _ {S X : Type 0} {g : Ghosts S} {old mid : Transaction S} {So : Tables �
       ∙ sym (ap (λ (q : Overlay). q.decided) e)
 
   -- nothing is written, and the tables are as they were
-  pub answered_idle : o.decided ≡ p'.decided → Acts g old mid So after wanted (Ok x)
+  pub answered_idle : {Adds : Additions} → o.decided ≡ p'.decided → Acts g Adds old mid So after wanted (Ok x)
   answered_idle none =
       acts_read (does_so filled_so (λ t it e. (sym (so.back none t it e), so.answers t it e)))
 
   abbrev Knows : Tables → Type 0
   Knows t = So t × (p' ≡ filled t p)
 
-  written_so : {new : Transaction S} {r : Result (Unit {0}) TableFault}
-      → Does {X = Unit {0}} g mid new (Written o) (λ t. tables_over o t) (λ _. tt {0}) r
-      → Does {X = Unit {0}} g mid new Knows after (λ _. tt {0}) r
+  written_so : {Adds : Additions} {new : Transaction S} {r : Result (Unit {0}) TableFault}
+      → Does {X = Unit {0}} g Adds mid new (Written o) (λ t. tables_over o t) (λ _. tt {0}) r
+      → Does {X = Unit {0}} g Adds mid new Knows after (λ _. tt {0}) r
   written_so second = does_for second (λ t it. (so.writes t it.0 it.1, so.tables t it.0 it.1, refl))
 
-  pub answered_written : {new : Transaction S}
-      → Does {X = Unit {0}} g mid new (Written o) (λ t. tables_over o t) (λ _. tt {0}) (Ok (tt {0}))
-      → Acts g old new So after wanted (Ok x)
+  pub answered_written : {Adds : Additions} {new : Transaction S}
+      → Does {X = Unit {0}} g Adds mid new (Written o) (λ t. tables_over o t) (λ _. tt {0}) (Ok (tt {0}))
+      → Acts g Adds old new So after wanted (Ok x)
   answered_written second =
       acts_wrote (does_both filled_so (written_so second) (λ t it e. (it, e)) (λ t it e f. so.answers t it e))
 
-  pub answered_not : {new : Transaction S} {e : TableFault}
-      → Does {X = Unit {0}} g mid new (Written o) (λ t. tables_over o t) (λ _. tt {0}) (Err e)
-      → Acts {X = X} g old new So after wanted (Err e)
+  pub answered_not : {Adds : Additions} {new : Transaction S} {e : TableFault}
+      → Does {X = Unit {0}} g Adds mid new (Written o) (λ t. tables_over o t) (λ _. tt {0}) (Err e)
+      → Acts {X = X} g Adds old new So after wanted (Err e)
   answered_not second = acts_wrote (does_but filled_so (written_so second) (λ t it e. (it, e)))
 
 -- ---- a batch

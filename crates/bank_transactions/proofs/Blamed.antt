@@ -1,16 +1,19 @@
 -- Why a part of a call failed, and what its damage says.
-use Rattle.std.proofs.Common.{Ok, Err, Result, refl, ◌∙◌, arith, inl, inr}
+use Rattle.std.proofs.Common.{ℕ, List, Ok, Err, Result, refl, sym, subst, ◌∙◌, arith, inl, inr}
 use Rattle.std.specs.Prelude.{IsTrue}
 use Rattle.sqlite.specs.State.{State, Fails, Survives}
 use Rattle.sqlite.specs.Steps.{FailsToCommit}
 use Rattle.sqlite.specs.Held.{Held, state}
+use Rattle.sqlite.specs.Order.{Row}
 use Rattle.sqlite.specs.Tree.{Trees}
 use Rattle.sqlite.specs.declared.error.Error.{Error}
 use Rattle.sqlite_trees.specs.declared.store.Store.{Ghosts}
-use Rattle.store_rows.specs.Failures.{HasFailed, HasMet, Puts}
+use Rattle.store_rows.specs.Failures.{Additions, HasFailed, HasMet, Puts}
 use Rattle.store_rows.specs.declared.fault.TableFault.{TableFault}
 use Rattle.store_rows.specs.declared.fault.TableFault.TheVariants.{Sqlite, Damaged}
 use Rattle.posting_rules.specs.declared.fault.Rule.{Rule}
+use Rattle.posting_rules.specs.declared.fault.Rule.TheVariants.{Meta, Teller, Account, Balance, Request}
+use Rattle.posting_rules.specs.declared.fault.Rule.TheVariants.{Value, Key, Floor, Reference}
 use Rattle.bank_transactions.specs.Causes.{IsBefore, HasFailedBetween, HasMetBetween, Damage, IsBrokenOrMet}
 use Rattle.bank_transactions.specs.Causes.{IsFault, Blames}
 
@@ -56,9 +59,9 @@ failed_within g old mid end new e one two it = record {
 }
 
 -- the same of damage that was met
-pub met_within : {S : Type 0} (g : Ghosts S) (old mid end new : Held S) (rule : Rule)
+pub met_within : {S : Type 0} {Adds : Additions} (g : Ghosts S) (old mid end new : Held S) (rule : Rule)
     → IsBefore (state g old) (state g mid)
-    → IsBefore (state g end) (state g new) → HasMetBetween g mid end rule → HasMetBetween g old new rule
+    → IsBefore (state g end) (state g new) → HasMetBetween g Adds mid end rule → HasMetBetween g Adds old new rule
 met_within g old mid end new rule one two it = record {
   at = it.at;
   then = it.then;
@@ -86,16 +89,16 @@ blames_after Met g old mid new (Err fault) wide one it =
     fault_within Met g old mid new new fault wide one (same_moment (state g new)) it
 
 -- a part that only writes
-pub met_after : {S X : Type 0} (g : Ghosts S) (old mid new : Held S) (r : Result X TableFault)
+pub met_after : {S X : Type 0} (Adds : Additions) (g : Ghosts S) (old mid new : Held S) (r : Result X TableFault)
     → IsBefore (state g old) (state g mid)
-    → Blames (HasMetBetween g) g mid new r → Blames (HasMetBetween g) g old new r
-met_after g old mid new r one =
-    blames_after (HasMetBetween g) g old mid new r
+    → Blames (HasMetBetween g Adds) g mid new r → Blames (HasMetBetween g Adds) g old new r
+met_after Adds g old mid new r one =
+    blames_after (HasMetBetween g Adds) g old mid new r
     (λ rule. met_within g old mid new new rule one (same_moment (state g new))) one
 
 -- the statement is the whole part
-pub met_here : {S : Type 0} (g : Ghosts S) (old new : Held S) (rule : Rule)
-    → HasMet (state g old) (state g new) rule → HasMetBetween g old new rule
+pub met_here : {S : Type 0} {Adds : Additions} (g : Ghosts S) (old new : Held S) (rule : Rule)
+    → HasMet Adds (state g old) (state g new) rule → HasMetBetween g Adds old new rule
 met_here g old new rule met =
     record {
       at = old;
@@ -105,18 +108,53 @@ met_here g old new rule met =
       after = same_moment (state g new);
     }
 
-pub blames_put : {S : Type 0} (g : Ghosts S) (old new : Held S) (r : Result (Unit {0}) TableFault)
-    → Puts (state g old) (state g new) r
-    → Blames (HasMetBetween g) g old new r
-blames_put g old new (Ok done) kept = tt
-blames_put g old new (Err (Sqlite e)) kept = failed_here g old new e kept.1
-blames_put g old new (Err (Damaged rule)) kept = met_here g old new rule kept.1
+pub blames_put : {S : Type 0} (Adds : Additions) (g : Ghosts S) (old new : Held S) (text : List ℕ) (values : Row)
+    (r : Result (Unit {0}) TableFault) → Adds text values → Puts text values (state g old) (state g new) r
+    → Blames (HasMetBetween g Adds) g old new r
+blames_put Adds g old new text values (Ok done) own kept = tt
+blames_put Adds g old new text values (Err (Sqlite e)) own kept = failed_here g old new e kept.1
+blames_put Adds g old new text values (Err (Damaged rule)) own kept =
+    subst (λ (x : Rule). HasMetBetween g Adds old new x) (sym kept.1.0)
+    (met_here g old new Key (text, values, own, kept.1.1))
+
+-- ---- what is so of the rows that are put in
+
+met_also : {Adds Adds' : Additions} (old new : State) (rule : Rule)
+    → ((text : List ℕ) (values : Row) → Adds text values → Adds' text values)
+    → HasMet Adds old new rule → HasMet Adds' old new rule
+met_also old new Meta also met = met
+met_also old new Teller also met = met
+met_also old new Account also met = met
+met_also old new Balance also met = met
+met_also old new Request also met = met
+met_also old new Value also met = met
+met_also old new Key also met = (met.0, met.1, also met.0 met.1 met.2, met.3)
+met_also old new Floor also met = met
+met_also old new Reference also met = met
+
+pub between_also : {S : Type 0} {Adds Adds' : Additions} (g : Ghosts S) (old new : Held S) (rule : Rule)
+    → ((text : List ℕ) (values : Row) → Adds text values → Adds' text values)
+    → HasMetBetween g Adds old new rule → HasMetBetween g Adds' old new rule
+between_also g old new rule also it = record {
+  at = it.at;
+  then = it.then;
+  before = it.before;
+  met = met_also (state g it.at) (state g it.then) rule also it.met;
+  after = it.after;
+}
+
+pub blames_also : {S X : Type 0} {Adds Adds' : Additions} (g : Ghosts S) (old new : Held S)
+    (r : Result X TableFault) → ((text : List ℕ) (values : Row) → Adds text values → Adds' text values)
+    → Blames (HasMetBetween g Adds) g old new r → Blames (HasMetBetween g Adds') g old new r
+blames_also g old new (Ok x) also it = tt
+blames_also g old new (Err (Sqlite e)) also it = it
+blames_also g old new (Err (Damaged rule)) also it = between_also g old new rule also it
 
 -- what is said of rows that were there, or was met
-pub broken_or_met : {S X : Type 0} (Met : Damage S) (g : Ghosts S) (old new : Held S)
+pub broken_or_met : {S X : Type 0} {Adds : Additions} (Met : Damage S) (g : Ghosts S) (old new : Held S)
     (r : Result X TableFault)
-    → ((rule : Rule) → Met old new rule → IsBrokenOrMet g old new rule) → Blames Met g old new r
-    → Blames (IsBrokenOrMet g) g old new r
+    → ((rule : Rule) → Met old new rule → IsBrokenOrMet g Adds old new rule) → Blames Met g old new r
+    → Blames (IsBrokenOrMet g Adds) g old new r
 broken_or_met Met g old new (Ok x) weaker it = tt
 broken_or_met Met g old new (Err (Sqlite e)) weaker it = it
 broken_or_met Met g old new (Err (Damaged rule)) weaker it = weaker rule it

@@ -5,20 +5,21 @@ use Rattle.sqlite.specs.Held.{state}
 use Rattle.sqlite.specs.declared.transaction.Transaction.{Transaction}
 use Rattle.sqlite_trees.specs.declared.store.Store.{Ghosts}
 use Rattle.posting_rules.specs.Tables.{Tables}
+use Rattle.store_rows.specs.Failures.{Additions}
 use Rattle.bank_transactions.specs.Causes.{Damage}
 use Rattle.bank_transactions.specs.Doing.{Does, DoesBy}
 use Rattle.bank_transactions.proofs.Chained.{knowing}
 
 -- one part, and then another: the answer of both comes from the two
-pub does_both : {S X Y Z : Type 0} {g : Ghosts S} {old mid new : Transaction S} {So So' : Tables → Type 0}
+pub does_both : {S X Y Z : Type 0} {g : Ghosts S} {Adds : Additions} {old mid new : Transaction S} {So So' : Tables → Type 0}
     {after after' : Tables → Tables}
     {w : Tables → X} {w' : Tables → Y} {w'' : Tables → Z} {x : X} {y : Y} {z : Z} {Met : Damage S}
     → DoesBy Met g old mid So after w (Ok x)
-    → Does g mid new So' after' w' (Ok y)
+    → Does g Adds mid new So' after' w' (Ok y)
     → ((t : Tables) → So t → x ≡ w t → So' (after t))
     → ((t : Tables) → So t → x ≡ w t → y ≡ w' (after t) → z ≡ w'' t)
-    → Does g old new So (λ t. after' (after t)) w'' (Ok z)
-does_both {S} {X} {Y} {Z} {g} {old} {mid} {new} {So} {So'} {after} {after'} {w} {w'} {w''} {x} {y} {z}
+    → Does g Adds old new So (λ t. after' (after t)) w'' (Ok z)
+does_both {S} {X} {Y} {Z} {g} {Adds} {old} {mid} {new} {So} {So'} {after} {after'} {w} {w'} {w''} {x} {y} {z}
     {Met} one two ready joins =
     let both = knowing one two ready in
     record {

@@ -1,14 +1,16 @@
 -- The parts of a call one after another.
 use Rattle.std.proofs.Common.{◌≡◌, Ok, Err, Result, refl, sym, subst, ◌∙◌, inl, inr, arith}
-use Rattle.std.specs.Prelude.{IsTrue, Bool}
+use Rattle.std.specs.Prelude.{IsTrue, Bool, List, ℕ}
 use Rattle.sqlite.specs.State.{State, HasCleanDisk, Survives}
 use Rattle.sqlite.specs.Held.{state}
+use Rattle.sqlite.specs.Order.{Row}
 use Rattle.sqlite.specs.declared.transaction.Transaction.{Transaction}
 use Rattle.sqlite_trees.specs.declared.store.Store.{Ghosts}
 use Rattle.posting_rules.specs.Tables.{Tables}
 use Rattle.posting_rules.specs.declared.fault.Rule.{Rule}
 use Rattle.sql_meanings.proofs.Saying.{says_then}
 use Rattle.sql_meanings.proofs.Sparing.{spares_itself, spares_then}
+use Rattle.store_rows.specs.Failures.{Additions}
 use Rattle.store_rows.specs.Sparing.{bank_names}
 use Rattle.store_rows.specs.View.{Shows}
 use Rattle.store_rows.specs.declared.fault.TableFault.{TableFault}
@@ -16,7 +18,7 @@ use Rattle.store_rows.specs.declared.fault.TableFault.TheVariants.{Sqlite, Damag
 use Rattle.bank_transactions.specs.Causes.{Damage, IsBrokenOrMet, IsFirstBroken}
 use Rattle.bank_transactions.specs.Doing.{Acts, CommitsNothing, Does, DoesBy, GoesOnUncommitted}
 use Rattle.bank_transactions.specs.Doing.{LeavesAndAnswers}
-use Rattle.bank_transactions.proofs.Blamed.{broken_or_met, comes, met_after}
+use Rattle.bank_transactions.proofs.Blamed.{blames_also, broken_or_met, comes, met_after}
 
 -- ---- what goes on
 
@@ -50,9 +52,9 @@ same_fault new end one two x y (Damaged rule) told = told
 -- ---- parts
 
 -- nothing yet
-pub does_none : {S : Type 0} {g : Ghosts S} {tx : Transaction S} {So : Tables → Type 0}
+pub does_none : {S : Type 0} {g : Ghosts S} {Adds : Additions} {tx : Transaction S} {So : Tables → Type 0}
     → Survives (state g tx.conn.now) (state g tx.conn.now) (λ _. ⊥)
-    → Does {X = Unit {0}} g tx tx So (λ t. t) (λ _. tt {0}) (Ok (tt {0}))
+    → Does {X = Unit {0}} g Adds tx tx So (λ t. t) (λ _. tt {0}) (Ok (tt {0}))
 does_none stays = record {
   says = record {
     same_reference = refl;
@@ -66,13 +68,13 @@ does_none stays = record {
 }
 
 -- one part, and then another
-pub does_then : {S X Y : Type 0} {g : Ghosts S} {old mid new : Transaction S} {So So' : Tables → Type 0}
+pub does_then : {S X Y : Type 0} {g : Ghosts S} {Adds : Additions} {old mid new : Transaction S} {So So' : Tables → Type 0}
     {after after' : Tables → Tables}
     {w : Tables → X} {w' : Tables → Y} {x : X} {r : Result Y TableFault} {Met : Damage S}
     → DoesBy Met g old mid So after w (Ok x)
-    → Does g mid new So' after' w' r → ((t : Tables) → So t → So' (after t))
-    → Does g old new So (λ t. after' (after t)) (λ t. w' (after t)) r
-does_then {S} {X} {Y} {g} {old} {mid} {new} {So} {So'} {after} {after'} {w} {w'} {x} {r} {Met} one two ready =
+    → Does g Adds mid new So' after' w' r → ((t : Tables) → So t → So' (after t))
+    → Does g Adds old new So (λ t. after' (after t)) (λ t. w' (after t)) r
+does_then {S} {X} {Y} {g} {Adds} {old} {mid} {new} {So} {So'} {after} {after'} {w} {w'} {x} {r} {Met} one two ready =
     record {
       says = says_then g old mid new one.says two.says
           (λ told kept told' live t shows so.
@@ -82,7 +84,7 @@ does_then {S} {X} {Y} {g} {old} {mid} {new} {So} {So'} {after} {after'} {w} {w'}
           let on = (kept live).0 in
           let last = kept' (still_in (state g old.conn.now) (state g mid.conn.now) on live) in (
             keeps_then (state g old.conn.now) (state g mid.conn.now) (state g new.conn.now) r on last.0,
-            met_after g old.conn.now mid.conn.now new.conn.now r (comes one.says.survives) last.1,
+            met_after Adds g old.conn.now mid.conn.now new.conn.now r (comes one.says.survives) last.1,
           ));
     }
 
@@ -122,25 +124,42 @@ does_for {S} {X} {g} {old} {new} {So} {So'} {after} {after'} {w} {w'} {r} part s
   };
 }
 
+-- it puts in no other rows than these
+pub does_adds : {S X : Type 0} {g : Ghosts S} {Adds Adds' : Additions} {old new : Transaction S}
+    {So : Tables → Type 0} {after : Tables → Tables} {w : Tables → X} {r : Result X TableFault}
+    → (HasCleanDisk (state g new.conn.now) → (text : List ℕ) (values : Row) → Adds text values
+    → Adds' text values)
+    → Does g Adds old new So after w r → Does g Adds' old new So after w r
+does_adds {S} {X} {g} {Adds} {Adds'} {old} {new} {So} {after} {w} {r} also part = record {
+  says = record {
+    same_reference = part.says.same_reference;
+    told = part.says.told;
+    kept = λ clean live.
+        let it = part.says.kept clean live in
+        (it.0, blames_also g old.conn.now new.conn.now r (also clean) it.1);
+    survives = part.says.survives;
+  };
+}
+
 -- ---- where the answer of the first part counts too
 
-module _ {S X Y : Type 0} {g : Ghosts S} {old mid new : Transaction S} {So So' : Tables → Type 0}
+module _ {S X Y : Type 0} {g : Ghosts S} {Adds : Additions} {old mid new : Transaction S} {So So' : Tables → Type 0}
     {after after' : Tables → Tables}
     {w : Tables → X} {w' : Tables → Y} {x : X} {r : Result Y TableFault} {Met : Damage S}
-    (one : DoesBy Met g old mid So after w (Ok x)) (two : Does g mid new So' after' w' r)
+    (one : DoesBy Met g old mid So after w (Ok x)) (two : Does g Adds mid new So' after' w' r)
     (ready : (t : Tables) → So t → x ≡ w t → So' (after t)) where
   -- one part, and then another, for tables of which the first answer is known
-  pub knowing : Does g old new (λ t. So t × (x ≡ w t)) (λ t. after' (after t)) (λ t. w' (after t)) r
+  pub knowing : Does g Adds old new (λ t. So t × (x ≡ w t)) (λ t. after' (after t)) (λ t. w' (after t)) r
   knowing = does_then (does_for one (λ t so. (so.0, refl, refl))) two (λ t so. ready t so.0 so.1)
 
 -- an error of the second is that of both
-pub does_but : {S X Y Z : Type 0} {g : Ghosts S} {old mid new : Transaction S} {So So' : Tables → Type 0}
+pub does_but : {S X Y Z : Type 0} {g : Ghosts S} {Adds : Additions} {old mid new : Transaction S} {So So' : Tables → Type 0}
     {after after' after'' : Tables → Tables}
     {w : Tables → X} {w' : Tables → Y} {w'' : Tables → Z} {x : X} {e : TableFault} {Met : Damage S}
     → DoesBy Met g old mid So after w (Ok x)
-    → Does g mid new So' after' w' (Err e)
-    → ((t : Tables) → So t → x ≡ w t → So' (after t)) → Does g old new So after'' w'' (Err e)
-does_but {S} {X} {Y} {Z} {g} {old} {mid} {new} {So} {So'} {after} {after'} {after''} {w} {w'} {w''} {x} {e}
+    → Does g Adds mid new So' after' w' (Err e)
+    → ((t : Tables) → So t → x ≡ w t → So' (after t)) → Does g Adds old new So after'' w'' (Err e)
+does_but {S} {X} {Y} {Z} {g} {Adds} {old} {mid} {new} {So} {So'} {after} {after'} {after''} {w} {w'} {w''} {x} {e}
     {Met} one two ready =
     let both = knowing one two ready in
     record {
@@ -178,13 +197,13 @@ does_tell {S} {X} {Y} {g} {old} {new} {So} {So'} {after} {after'} {w} {w'} {x} {
 }
 
 -- the same of two, of which the second is done
-pub does_both : {S X Y Z : Type 0} {g : Ghosts S} {old mid new : Transaction S} {So So' : Tables → Type 0}
+pub does_both : {S X Y Z : Type 0} {g : Ghosts S} {Adds : Additions} {old mid new : Transaction S} {So So' : Tables → Type 0}
     {after after' after'' : Tables → Tables}
     {w : Tables → X} {w' : Tables → Y} {w'' : Tables → Z} {x : X} {y : Y} {z : Z} {Met : Damage S}
-    → DoesBy Met g old mid So after w (Ok x) → Does g mid new So' after' w' (Ok y)
+    → DoesBy Met g old mid So after w (Ok x) → Does g Adds mid new So' after' w' (Ok y)
     → ((t : Tables) → So t → x ≡ w t → So' (after t) × (after' (after t) ≡ after'' t) × (z ≡ w'' t))
-    → Does g old new So after'' w'' (Ok z)
-does_both {S} {X} {Y} {Z} {g} {old} {mid} {new} {So} {So'} {after} {after'} {after''} {w} {w'} {w''} {x} {y}
+    → Does g Adds old new So after'' w'' (Ok z)
+does_both {S} {X} {Y} {Z} {g} {Adds} {old} {mid} {new} {So} {So'} {after} {after'} {after''} {w} {w'} {w''} {x} {y}
     {z} {Met} one two ready =
     let both = knowing one two (λ t so found. (ready t so found).0) in
     record {
@@ -205,12 +224,12 @@ does_both {S} {X} {Y} {Z} {g} {old} {mid} {new} {So} {So'} {after} {after'} {aft
 
 -- ---- a part that reads and then writes
 
-acts_as : {S X : Type 0} {Met : Damage S} {g : Ghosts S} {old new : Transaction S} {So : Tables → Type 0}
+acts_as : {S X : Type 0} {Met : Damage S} {g : Ghosts S} {Adds : Additions} {old new : Transaction S} {So : Tables → Type 0}
     {after : Tables → Tables}
     {w : Tables → X} {r : Result X TableFault}
-    → ((rule : Rule) → Met old.conn.now new.conn.now rule → IsBrokenOrMet g old.conn.now new.conn.now rule)
-    → DoesBy Met g old new So after w r → Acts g old new So after w r
-acts_as {S} {X} {Met} {g} {old} {new} {So} {after} {w} {r} weaker part = record {
+    → ((rule : Rule) → Met old.conn.now new.conn.now rule → IsBrokenOrMet g Adds old.conn.now new.conn.now rule)
+    → DoesBy Met g old new So after w r → Acts g Adds old new So after w r
+acts_as {S} {X} {Met} {g} {Adds} {old} {new} {So} {after} {w} {r} weaker part = record {
   says = record {
     same_reference = part.says.same_reference;
     told = part.says.told;
@@ -222,13 +241,14 @@ acts_as {S} {X} {Met} {g} {old} {new} {So} {after} {w} {r} weaker part = record 
 }
 
 -- it only read so far
-pub acts_read : {S X : Type 0} {g : Ghosts S} {old new : Transaction S} {So : Tables → Type 0}
+pub acts_read : {S X : Type 0} {g : Ghosts S} {Adds : Additions} {old new : Transaction S} {So : Tables → Type 0}
     {after : Tables → Tables} {w : Tables → X}
-    {r : Result X TableFault} → DoesBy (IsFirstBroken g) g old new So after w r → Acts g old new So after w r
+    {r : Result X TableFault} → DoesBy (IsFirstBroken g) g old new So after w r
+    → Acts g Adds old new So after w r
 acts_read part = acts_as (λ rule it. inl it) part
 
 -- it wrote
-pub acts_wrote : {S X : Type 0} {g : Ghosts S} {old new : Transaction S} {So : Tables → Type 0}
+pub acts_wrote : {S X : Type 0} {g : Ghosts S} {Adds : Additions} {old new : Transaction S} {So : Tables → Type 0}
     {after : Tables → Tables} {w : Tables → X}
-    {r : Result X TableFault} → Does g old new So after w r → Acts g old new So after w r
+    {r : Result X TableFault} → Does g Adds old new So after w r → Acts g Adds old new So after w r
 acts_wrote part = acts_as (λ rule it. inr it) part

@@ -3,15 +3,14 @@ use Rattle.std.proofs.Common.{◌≡◌, Ok, Err, Result, refl, sym, ap, subst, 
 use Rattle.std.specs.Prelude.{Bool, OnOk, IfOk, IsTrue, true}
 use Rattle.sqlite.specs.Effect.{Database}
 use Rattle.sqlite.specs.Held.{Held, state}
-use Rattle.sqlite.specs.State.{HasCleanDisk}
+use Rattle.sqlite.specs.State.{State, HasCleanDisk}
 use Rattle.sqlite.specs.Table.{Table}
 use Rattle.sqlite.specs.declared.transaction.Transaction.{Transaction}
 use Rattle.sqlite_trees.specs.declared.store.Store.{Ghosts}
 use Rattle.posting_rules.specs.Tables.{Tables}
 use Rattle.sql_meanings.specs.Calls.{Inside, Says}
 use Rattle.store_rows.specs.Calls.{OfTables}
-use Rattle.store_rows.specs.Failures.{Puts}
-use Rattle.store_rows.specs.Sparing.{SparesIfOk}
+use Rattle.store_rows.specs.Failures.{Additions}
 use Rattle.store_rows.specs.TableAnswers.{PutsOneRow}
 use Rattle.store_rows.specs.View.{Shows}
 use Rattle.store_rows.specs.declared.fault.TableFault.{TableFault}
@@ -36,10 +35,10 @@ pub leaves_err : {S X : Type 0} {g : Ghosts S} {old new : Transaction S} {after 
 leaves_err = record { shown = tt }
 
 -- a row that is put in
-pub leaves_add : {S : Type 0} (g : Ghosts S) (old new : Transaction S) (table : Table) (taken : Tables → Bool)
+pub leaves_add : {S : Type 0} {Kept : State → State → Type 0} (g : Ghosts S) (old new : Transaction S) (table : Table) (taken : Tables → Bool)
     (more : Tables → Tables) (r : Result (Unit {0}) TableFault)
     → Says g old new (Inside (OfTables (λ before now t. PutsOneRow before now table (taken t) (more t) r)))
-    (Inside (λ before now. Puts before now r × SparesIfOk before now r))
+    (Inside Kept)
     → Leaves g old new more r
 leaves_add g old new table taken more (Ok done) says =
     record { shown = λ clean live t shows. (says.told clean live t shows).1 }
@@ -48,7 +47,7 @@ leaves_add g old new table taken more (Err e) says = record { shown = tt }
 -- one part, and then another
 pub leaves_then : {S X Y : Type 0} {g : Ghosts S} {old mid new : Transaction S} {So So' : Tables → Type 0}
     {one two after after' : Tables → Tables} {w : Tables → X} {w' : Tables → Y} {x : X} {r : Result Y TableFault}
-    {Met : Damage S} → DoesBy Met g old mid So one w (Ok x) → Does g mid new So' two w' r
+    {Met : Damage S} {Adds : Additions} → DoesBy Met g old mid So one w (Ok x) → Does g Adds mid new So' two w' r
     → Leaves {X = X} g old mid after (Ok x) → Leaves g mid new after' r
     → Leaves g old new (λ t. after' (after t)) r
 leaves_then {S} {X} {Y} {g} {old} {mid} {new} {r = Ok y} first second left more = record {

@@ -25,3 +25,4 @@ pub mod Together
 pub mod HeldBatch
 pub mod Answered
 pub mod Idle
+pub mod Added

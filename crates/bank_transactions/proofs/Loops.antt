@@ -1,16 +1,19 @@
 -- Slots are filled, and rows are written, one after another.
 use Rattle.std.proofs.Common.{◌≡◌, ℕ, zero, suc, ◌+◌, ◌<◌, List, [], ◌∷◌, ◌++◌, map, length, take, drop, set}
-use Rattle.std.proofs.Common.{get_or, Ok, Result, refl, sym, ap, subst, ◌∙◌, arith}
+use Rattle.std.proofs.Common.{get_or, Ok, Result, refl, sym, ap, subst, ◌∙◌, arith, inl, inr}
 use Rattle.std.specs.List.{AllByRecursion}
 use Rattle.std.proofs.lemmas.List.{append-nil, append_assoc, take_more, take-append-drop}
 use Rattle.std.proofs.Math.Seq.{drop-cons}
 use Rattle.std.proofs.lemmas.List.Edits.{map_over_more}
 use Rattle.sqlite.specs.declared.transaction.Transaction.{Transaction}
 use Rattle.sqlite_trees.specs.declared.store.Store.{Ghosts}
+use Rattle.sqlite_rules.specs.Lists.{Has}
 use Rattle.posting_rules.specs.Tables.{Tables}
+use Rattle.store_rows.specs.Failures.{Additions}
 use Rattle.store_rows.specs.declared.fault.TableFault.{TableFault}
+use Rattle.bank_transactions.specs.Additions.{AddsAlike}
 use Rattle.bank_transactions.specs.Doing.{Does}
-use Rattle.bank_transactions.proofs.Chained.{does_then, does_for}
+use Rattle.bank_transactions.proofs.Chained.{does_adds, does_then, does_for}
 use Rattle.bank_transactions.specs.Filling.{ReadsWhere}
 use Rattle.bank_transactions.specs.InParts.{InParts}
 use Rattle.bank_transactions.specs.InTurn.{InTurn}
@@ -75,18 +78,41 @@ split_at : {A : Type 0} (xs : List A) (i : ℕ) (x : A) → i < length xs → xs
 split_at {A} xs i x lt = sym (take-append-drop i xs)
     ∙ ap (λ (rest : List A). take i xs ++ rest) (drop-cons xs i x lt)
 
+has_at : {A : Type 0} (xs : List A) (i : ℕ) (d : A) → i < length xs → Has xs (get_or xs i d)
+has_at [] i d lt = absurd (omega arith)
+has_at (x ∷ xs) zero d lt = inl refl
+has_at (x ∷ xs) (suc i) d lt = inr (has_at xs i d (omega arith))
+
+-- one of them
+has_one : {A : Type 0} (xs : List A) (i : ℕ) (x : A) → i < length xs → x ≡ get_or xs i x → (y : A)
+    → Has (x ∷ []) y → Has xs y
+has_one {A} xs i x lt is y (inl same) =
+    subst (λ (s : A). Has xs s) (sym (same ∙ is)) (has_at xs i x lt)
+has_one xs i x lt is y (inr none) = absurd none
+
+-- some of them, in their midst
+has_first : {A : Type 0} (some rest : List A) (y : A) → Has some y → Has (some ++ rest) y
+has_first (x ∷ some) rest y (inl same) = inl same
+has_first (x ∷ some) rest y (inr more) = inr (has_first some rest y more)
+has_first [] rest y none = absurd none
+
+has_behind : {A : Type 0} (front rest : List A) (y : A) → Has rest y → Has (front ++ rest) y
+has_behind [] rest y has = has
+has_behind (x ∷ front) rest y has = inr (has_behind front rest y has)
+
 -- one more of the changes that are made one after another
-pub make_more : {S A : Type 0} {g : Ghosts S} {old mid new : Transaction S} {r : Result (Unit {0}) TableFault}
+pub make_more : {S A : Type 0} {g : Ghosts S} {Adds : List A → Additions} {old mid new : Transaction S} {r : Result (Unit {0}) TableFault}
     (made : List A → Tables → Tables)
     (May : List A → Tables → Type 0)
-    → InTurn made May → (xs : List A) (i : ℕ) (x : A) → i < length xs → x ≡ get_or xs i x
-    → Does {X = Unit {0}} g old mid (May xs) (made (take i xs)) (λ _. tt {0}) (Ok (tt {0}))
-    → Does {X = Unit {0}} g mid new (May (x ∷ [])) (made (x ∷ [])) (λ _. tt {0}) r
-    → Does {X = Unit {0}} g old new (May xs) (made (take (i + 1) xs)) (λ _. tt {0}) r
-make_more {S} {A} {g} {old} {mid} {new} {r} made May law xs i x lt is before one =
+    → InTurn made May → AddsAlike Adds → (xs : List A) (i : ℕ) (x : A) → i < length xs → x ≡ get_or xs i x
+    → Does {X = Unit {0}} g (Adds xs) old mid (May xs) (made (take i xs)) (λ _. tt {0}) (Ok (tt {0}))
+    → Does {X = Unit {0}} g (Adds (x ∷ [])) mid new (May (x ∷ [])) (made (x ∷ [])) (λ _. tt {0}) r
+    → Does {X = Unit {0}} g (Adds xs) old new (May xs) (made (take (i + 1) xs)) (λ _. tt {0}) r
+make_more {S} {A} {g} {Adds} {old} {mid} {new} {r} made May law alike xs i x lt is before one =
     let it = get_or xs i x in
-    let next : Does {X = Unit {0}} g mid new (May (it ∷ [])) (made (it ∷ [])) (λ _. tt {0}) r =
-    subst (λ (s : A). Does {X = Unit {0}} g mid new (May (s ∷ [])) (made (s ∷ [])) (λ _. tt {0}) r) is one in
+    let next : Does {X = Unit {0}} g (Adds xs) mid new (May (it ∷ [])) (made (it ∷ [])) (λ _. tt {0}) r =
+    subst (λ (s : A). Does {X = Unit {0}} g (Adds xs) mid new (May (s ∷ [])) (made (s ∷ [])) (λ _. tt {0}) r) is
+    (does_adds (λ clean. alike.more (x ∷ []) xs (has_one xs i x lt is)) one) in
     let so : (t : Tables) → May xs t → May (it ∷ []) (made (take i xs) t)
     × (made (it ∷ []) (made (take i xs) t) ≡ made (take i xs ++ it ∷ []) t) =
     λ t may. law.next (take i xs) it (drop (suc i) xs) t
@@ -97,44 +123,50 @@ make_more {S} {A} {g} {old} {mid} {new} {r} made May law xs i x lt is before one
 -- ---- rows are put in, several at a time
 
 -- rows before others are put in: these rows, and those that are left
-pub record Stands {S A : Type 0} (g : Ghosts S) (old now : Transaction S) (made : List A → Tables → Tables)
+pub record Stands {S A : Type 0} (g : Ghosts S) (Adds : Additions) (old now : Transaction S) (made : List A → Tables → Tables)
     (May : List A → Tables → Type 0) (rows left : List A) : Type 0 where
   pub front : List A
   pub are : rows ≡ front ++ left
-  pub so_far : Does {X = Unit {0}} g old now (May rows) (made front) (λ _. tt {0}) (Ok (tt {0}))
+  pub so_far : Does {X = Unit {0}} g Adds old now (May rows) (made front) (λ _. tt {0}) (Ok (tt {0}))
 
 -- some more of them
-pub some_more : {S A : Type 0} {g : Ghosts S} {old mid new : Transaction S} {r : Result (Unit {0}) TableFault}
+pub some_more : {S A : Type 0} {g : Ghosts S} {Adds : List A → Additions} {old mid new : Transaction S} {r : Result (Unit {0}) TableFault}
     {made : List A → Tables → Tables} {May : List A → Tables → Type 0} {rows left : List A}
-    (law : InParts made May) (stands : Stands g old mid made May rows left) (some rest : List A)
-    → left ≡ some ++ rest → Does {X = Unit {0}} g mid new (May some) (made some) (λ _. tt {0}) r
-    → Does {X = Unit {0}} g old new (May rows) (made (stands.front ++ some)) (λ _. tt {0}) r
-some_more {S} {A} {g} {old} {mid} {new} {r} {made} {May} {rows} {left} law stands some rest parts next =
+    (law : InParts made May) (alike : AddsAlike Adds) (stands : Stands g (Adds rows) old mid made May rows left)
+    (some rest : List A)
+    → left ≡ some ++ rest → Does {X = Unit {0}} g (Adds some) mid new (May some) (made some) (λ _. tt {0}) r
+    → Does {X = Unit {0}} g (Adds rows) old new (May rows) (made (stands.front ++ some)) (λ _. tt {0}) r
+some_more {S} {A} {g} {Adds} {old} {mid} {new} {r} {made} {May} {rows} {left} law alike stands some rest parts
+    next =
     let all : rows ≡ stands.front ++ (some ++ rest) = stands.are ∙ ap (λ (l : List A). stands.front ++ l) parts in
     let so : (t : Tables) → May rows t → May some (made stands.front t)
     × (made some (made stands.front t) ≡ made (stands.front ++ some) t) =
     λ t may. law.next stands.front some rest t (subst (λ (l : List A). May l t) all may) in
-    does_for (does_then stands.so_far next (λ t may. (so t may).0)) (λ t may. (may, (so t may).1, refl))
+    let among : (y : A) → Has some y → Has rows y =
+    λ y has. subst (λ (l : List A). Has l y) (sym all)
+    (has_behind stands.front (some ++ rest) y (has_first some rest y has)) in
+    does_for (does_then stands.so_far (does_adds (λ clean. alike.more some rows among) next)
+    (λ t may. (so t may).0)) (λ t may. (may, (so t may).1, refl))
 
 -- they stand so too
-pub stands_more : {S A : Type 0} {g : Ghosts S} {old mid new : Transaction S}
+pub stands_more : {S A : Type 0} {g : Ghosts S} {Adds : List A → Additions} {old mid new : Transaction S}
     {made : List A → Tables → Tables} {May : List A → Tables → Type 0} {rows left : List A}
-    (law : InParts made May) (stands : Stands g old mid made May rows left) (some rest : List A)
-    → left ≡ some ++ rest
-    → Does {X = Unit {0}} g mid new (May some) (made some) (λ _. tt {0}) (Ok (tt {0}))
-    → Stands g old new made May rows rest
-stands_more {S} {A} law stands some rest parts next = record {
+    (law : InParts made May) (alike : AddsAlike Adds) (stands : Stands g (Adds rows) old mid made May rows left)
+    (some rest : List A) → left ≡ some ++ rest
+    → Does {X = Unit {0}} g (Adds some) mid new (May some) (made some) (λ _. tt {0}) (Ok (tt {0}))
+    → Stands g (Adds rows) old new made May rows rest
+stands_more {S} {A} law alike stands some rest parts next = record {
   front = stands.front ++ some;
   are = stands.are ∙ ap (λ (l : List A). stands.front ++ l) parts ∙ sym (append_assoc stands.front some rest);
-  so_far = some_more law stands some rest parts next;
+  so_far = some_more law alike stands some rest parts next;
 }
 
 -- the rest of them
-pub all_more : {S A : Type 0} {g : Ghosts S} {old mid new : Transaction S} {r : Result (Unit {0}) TableFault}
+pub all_more : {S A : Type 0} {g : Ghosts S} {Adds : List A → Additions} {old mid new : Transaction S} {r : Result (Unit {0}) TableFault}
     {made : List A → Tables → Tables} {May : List A → Tables → Type 0} {rows left : List A}
-    (law : InParts made May) → Stands g old mid made May rows left
-    → Does {X = Unit {0}} g mid new (May left) (made left) (λ _. tt {0}) r
-    → Does {X = Unit {0}} g old new (May rows) (made rows) (λ _. tt {0}) r
-all_more {S} {A} {made = made} {rows = rows} {left = left} law stands last =
-    does_for (some_more law stands left [] (sym (append-nil left)) last)
+    (law : InParts made May) → AddsAlike Adds → Stands g (Adds rows) old mid made May rows left
+    → Does {X = Unit {0}} g (Adds left) mid new (May left) (made left) (λ _. tt {0}) r
+    → Does {X = Unit {0}} g (Adds rows) old new (May rows) (made rows) (λ _. tt {0}) r
+all_more {S} {A} {made = made} {rows = rows} {left = left} law alike stands last =
+    does_for (some_more law alike stands left [] (sym (append-nil left)) last)
     (λ t may. (may, ap (λ (l : List A). made l t) (sym stands.are), refl))

@@ -1,9 +1,13 @@
 -- What one slot writes.
 use Rattle.std.proofs.Common.{◌≡◌, ℕ, List, [], ◌∷◌, Option, Result, Some, None, false, refl, sym, ap}
-use Rattle.std.proofs.Common.{subst, ◌∙◌}
+use Rattle.std.proofs.Common.{subst, ◌∙◌, inl, inr}
+use Rattle.std.proofs.lemmas.List.{append-nil}
+use Rattle.std.specs.List.{AllByRecursion}
 use Rattle.std.specs.Prelude.{ℤ, is_some}
+use Rattle.sqlite.specs.Order.{Row}
 use Rattle.sqlite.specs.Table.{Table}
 use Rattle.sqlite.specs.declared.transaction.Transaction.{Transaction}
+use Rattle.sqlite_rules.specs.Lists.{Has}
 use Rattle.sqlite_trees.specs.declared.store.Store.{Ghosts}
 use Rattle.posting_rules.specs.declared.rows.HistoryRow.{HistoryRow}
 use Rattle.posting_rules.specs.declared.rows.RequestRow.{RequestRow}
@@ -12,15 +16,20 @@ use Rattle.posting_rules.specs.Changes.{with_history, with_reference, with_reque
 use Rattle.posting_batch.specs.Batch.{PutsFree}
 use Rattle.posting_batch.specs.Overlay.{each_put, history_put, requests_put, references_put}
 use Rattle.sql_meanings.specs.Calls.{Says, Inside}
+use Rattle.sql_meanings.specs.Entries.{Entry}
 use Rattle.store_rows.specs.BankTables as bank
 use Rattle.store_rows.specs.Calls.{OfTables}
-use Rattle.store_rows.specs.Failures.{Puts}
+use Rattle.store_rows.specs.Failures.{Additions, Puts}
 use Rattle.store_rows.specs.Holders.{with_balance}
-use Rattle.store_rows.specs.SeveralRows.{AddsRows, meets_key, with_each}
+use Rattle.store_rows.specs.SeveralRows.{AddsRows, given, given_each, meets_key, with_each}
 use Rattle.store_rows.specs.Sparing.{SparesIfOk}
 use Rattle.store_rows.specs.TableAnswers.{PutsOneRow}
+use Rattle.store_rows.specs.View.{history_entry, reference_entry, request_entry}
 use Rattle.store_rows.specs.declared.fault.TableFault.{TableFault}
+use Rattle.store_rows.specs.Inserts.{eight_postings_insert, eight_requests_insert, posting_insert}
+use Rattle.store_rows.specs.Inserts.{reference_insert, request_insert}
 use Rattle.store_rows.specs.declared.holders.Holder.TheVariants.{Account, Teller, Branch}
+use Rattle.bank_transactions.specs.Additions.{AddsPostings, AddsReferences, AddsRequests}
 use Rattle.bank_transactions.specs.Doing.{Does}
 use Rattle.bank_transactions.proofs.Chained.{does_for}
 use Rattle.bank_transactions.proofs.Statements.{does_add}
@@ -41,19 +50,27 @@ use Rattle.bank_transactions.specs.Writing.{MayAddPostings, MayAddRequests, by_c
 
 -- ---- new rows
 
+within : {R : Type 0} (rows some : List R) → ((r : R) → Has some r → Has rows r) → AllByRecursion (Has rows) some
+within rows [] all = tt
+within rows (r ∷ some) all = (all r (inl refl), within rows some (λ x has. all x (inr has)))
+
+-- each row is one of them
+all_in : {R : Type 0} (rows : List R) → AllByRecursion (Has rows) rows
+all_in rows = within rows rows (λ r has. has)
+
 -- a row is put in under a key that is free
 pub row_added : {S R : Type 0} {g : Ghosts S} {old new : Transaction S} {r : Result (Unit {0}) TableFault}
-    (table : Table)
+    {Adds : Additions} (text : List ℕ) (values : Row) (table : Table)
     (key : R → ℕ) (rows : Tables → List R) (put : R → Tables → Tables) (made : List R → Tables → Tables)
     (row : R)
-    → ((t : Tables) → put row t ≡ made (row ∷ []) t)
+    → ((t : Tables) → put row t ≡ made (row ∷ []) t) → Adds text values
     → Says g old new (Inside (OfTables (λ before now t.
     PutsOneRow before now table (is_some (row_at key (rows t) (key row))) (put row t) r)))
-    (Inside (λ before now. Puts before now r × SparesIfOk before now r))
-    → Does g old new (λ t. PutsFree key (row ∷ []) (rows t)) (made (row ∷ [])) (λ _. tt) r
-row_added {S} {R} {g} {old} {new} {r} table key rows put made row is says =
-    does_for (does_add {So = λ t. PutsFree key (row ∷ []) (rows t)} g old new table
-    (λ t. is_some (row_at key (rows t) (key row))) (put row) r says (λ t free. ap is_some free.0))
+    (Inside (λ before now. Puts text values before now r × SparesIfOk before now r))
+    → Does g Adds old new (λ t. PutsFree key (row ∷ []) (rows t)) (made (row ∷ [])) (λ _. tt) r
+row_added {S} {R} {g} {old} {new} {r} text values table key rows put made row is own says =
+    does_for (does_add {So = λ t. PutsFree key (row ∷ []) (rows t)} g old new text values table
+    (λ t. is_some (row_at key (rows t) (key row))) (put row) r says own (λ t free. ap is_some free.0))
     (λ t free. (free, is t, refl))
 
 -- ---- several new rows
@@ -80,34 +97,67 @@ module _ {R : Type 0} (key : R → ℕ) (rows : Tables → List R) (with_rows : 
 
   -- rows are put in under keys that are free
   pub rows_added : {S : Type 0} {g : Ghosts S} {old new : Transaction S} {r : Result (Unit {0}) TableFault}
-      (table : Table) (news : List R)
-      → AddsRows g old new table (λ r t. is_some (row_at key (rows t) (key r))) with_row news r
-      → Does g old new (λ t. PutsFree key news (rows t)) (λ t. with_rows t (each_put key news (rows t))) (λ _. tt) r
-  rows_added {S} {g} {old} {new} {r} table news says =
-      does_for (does_add {So = λ t. PutsFree key news (rows t)} g old new table
+      {Adds : Additions} (text : List ℕ) (entry : R → Entry) (table : Table) (news : List R)
+      → Adds text (given_each entry news)
+      → AddsRows g old new text entry table (λ r t. is_some (row_at key (rows t) (key r))) with_row news r
+      → Does g Adds old new (λ t. PutsFree key news (rows t)) (λ t. with_rows t (each_put key news (rows t))) (λ _. tt) r
+  rows_added {S} {g} {old} {new} {r} text entry table news own says =
+      does_for (does_add {So = λ t. PutsFree key news (rows t)} g old new text (given_each entry news) table
       (meets_key with_row (λ r t. is_some (row_at key (rows t) (key r))) news) (with_each with_row news) r says
-      (none_met news))
+      own (none_met news))
       (λ t free. (free, each_is news t, refl))
 
 pub postings_added : {S : Type 0} {g : Ghosts S} {old new : Transaction S} {r : Result (Unit {0}) TableFault}
     (news : List HistoryRow)
-    → AddsRows g old new bank.history (λ r t. is_some (row_at history_key t.history r.ordinal)) with_history news r
-    → Does g old new (MayAddPostings news) (history_put news) (λ _. tt) r
+    → AddsRows g old new eight_postings_insert history_entry bank.history (λ r t. is_some (row_at history_key t.history r.ordinal))
+    with_history news r
+    → Does g (AddsPostings (Has news)) old new (MayAddPostings news) (history_put news) (λ _. tt) r
 unfolding with_history
 postings_added news says =
     rows_added history_key (λ t. t.history) (λ t rows. record t { history = rows })
-    (record { own = λ t. refl; held = λ t rs. refl; again = λ t rs others. refl }) bank.history news says
+    (record { own = λ t. refl; held = λ t rs. refl; again = λ t rs others. refl }) eight_postings_insert history_entry
+    bank.history news (record { among = inr (inl refl); rows = news; are = refl; each = all_in news }) says
 
 pub requests_added : {S : Type 0} {g : Ghosts S} {old new : Transaction S} {r : Result (Unit {0}) TableFault}
     (news : List RequestRow)
-    → AddsRows g old new bank.request (λ r t. is_some (row_at request_key t.requests r.ordinal)) with_request news r
-    → Does g old new (MayAddRequests news) (requests_put news) (λ _. tt) r
+    → AddsRows g old new eight_requests_insert request_entry bank.request (λ r t. is_some (row_at request_key t.requests r.ordinal))
+    with_request news r
+    → Does g (AddsRequests (Has news)) old new (MayAddRequests news) (requests_put news) (λ _. tt) r
 unfolding with_request
 requests_added news says =
     rows_added request_key (λ t. t.requests) (λ t rows. record t { requests = rows })
-    (record { own = λ t. refl; held = λ t rs. refl; again = λ t rs others. refl }) bank.request news says
+    (record { own = λ t. refl; held = λ t rs. refl; again = λ t rs others. refl }) eight_requests_insert request_entry
+    bank.request news (record { among = inr (inl refl); rows = news; are = refl; each = all_in news }) says
 
 -- ---- one new row
+
+pub adds_posting : (row : HistoryRow) → AddsPostings (Has (row ∷ [])) posting_insert (given (history_entry row))
+adds_posting row =
+    record {
+      among = inl refl;
+      rows = row ∷ [];
+      are = sym (append-nil (given (history_entry row)));
+      each = all_in (row ∷ []);
+    }
+
+pub adds_request : (row : RequestRow) → AddsRequests (Has (row ∷ [])) request_insert (given (request_entry row))
+adds_request row =
+    record {
+      among = inl refl;
+      rows = row ∷ [];
+      are = sym (append-nil (given (request_entry row)));
+      each = all_in (row ∷ []);
+    }
+
+pub adds_reference : (row : ReferenceRow)
+    → AddsReferences (Has (row ∷ [])) reference_insert (given (reference_entry row))
+adds_reference row =
+    record {
+      among = inl refl;
+      rows = row ∷ [];
+      are = sym (append-nil (given (reference_entry row)));
+      each = all_in (row ∷ []);
+    }
 
 pub posting_put : (row : HistoryRow) (t : Tables) → with_history row t ≡ history_put (row ∷ []) t
 unfolding with_history

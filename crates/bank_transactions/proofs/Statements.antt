@@ -1,9 +1,10 @@
 -- What the statements do to the tables: a look-up, a row that is put in, a row that is written.
 use Rattle.std.proofs.Common.{◌≡◌, false, true, Ok, Err, Result, refl, sym, subst, ◌∙◌, inl, inr}
-use Rattle.std.specs.Prelude.{IsTrue, Bool, List, ℕ}
+use Rattle.std.specs.Prelude.{IsTrue, Bool, List, [], ℕ}
 use Rattle.sqlite.specs.Effect.{Database}
 use Rattle.sqlite.specs.State.{State}
 use Rattle.sqlite.specs.Held.{Held, state}
+use Rattle.sqlite.specs.Order.{Row}
 use Rattle.sqlite.specs.Table.{Table}
 use Rattle.sqlite.specs.declared.error.Error.{Error}
 use Rattle.sqlite.specs.declared.transaction.Transaction.{Transaction}
@@ -15,7 +16,7 @@ use Rattle.posting_rules.specs.declared.fault.Rule.TheVariants.{Meta, Teller, Ac
 use Rattle.posting_rules.specs.declared.fault.Rule.TheVariants.{Value, Key, Floor, Reference}
 use Rattle.sql_meanings.specs.Calls.{Says, Inside}
 use Rattle.store_rows.specs.Calls.{OfTables}
-use Rattle.store_rows.specs.Failures.{Changes, HasMet, IsUpdateOf, MeetsNone, Puts}
+use Rattle.store_rows.specs.Failures.{Additions, Changes, HasMet, IsUpdateOf, MeetsNone, Puts}
 use Rattle.store_rows.specs.Sparing.{SparesIfOk}
 use Rattle.store_rows.specs.TableAnswers.{PutsOneRow, SetsRow}
 use Rattle.store_rows.specs.View.{Shows}
@@ -57,17 +58,17 @@ does_read g old new w r reads = record {
 -- ---- a row that is put in
 
 -- a row that is put in, as long as the transaction goes on
-write_keeps : (old new : State) (r : Result (Unit {0}) TableFault) → IsTrue old.in_transaction
-    → Puts old new r → SparesIfOk old new r → CommitsNothing old new r
-write_keeps old new (Ok done) live kept spared = record {
+write_keeps : (old new : State) (text : List ℕ) (values : Row) (r : Result (Unit {0}) TableFault)
+    → IsTrue old.in_transaction → Puts text values old new r → SparesIfOk old new r → CommitsNothing old new r
+write_keeps old new text values (Ok done) live kept spared = record {
   opened = λ h. kept.was_open;
   committed = kept.committed_is;
   mode = kept.mode ∙ sym live;
   spares = spared;
 }
-write_keeps old new (Err e) live (inl same, why) spared =
+write_keeps old new text values (Err e) live (inl same, why) spared =
     record { was_open = λ h. same.0.was_open; committed = λ h. same.0.committed_is }
-write_keeps old new (Err e) live (inr undone, why) spared =
+write_keeps old new text values (Err e) live (inr undone, why) spared =
     record { was_open = undone.was_open; committed = λ h. (undone.undone h).1 }
 
 added : (old new : State) (table : Table) (taken : Bool) (after : Tables) (r : Result (Unit {0}) TableFault)
@@ -78,13 +79,13 @@ added old new table taken after (Err (Sqlite e)) free adds = tt
 added old new table taken after (Err (Damaged rule)) free adds = let is = adds.1 in cc
 
 -- a row is put in under a key that is free
-pub does_add : {S : Type 0} {So : Tables → Type 0} (g : Ghosts S) (old new : Transaction S) (table : Table)
-    (taken : Tables → Bool) (more : Tables → Tables)
+pub does_add : {S : Type 0} {So : Tables → Type 0} {Adds : Additions} (g : Ghosts S) (old new : Transaction S)
+    (text : List ℕ) (values : Row) (table : Table) (taken : Tables → Bool) (more : Tables → Tables)
     (r : Result (Unit {0}) TableFault)
     → Says g old new (Inside (OfTables (λ before now t. PutsOneRow before now table (taken t) (more t) r)))
-    (Inside (λ before now. Puts before now r × SparesIfOk before now r))
-    → ((t : Tables) → So t → taken t ≡ false) → Does g old new So more (λ _. tt) r
-does_add g old new table taken more r says free = record {
+    (Inside (λ before now. Puts text values before now r × SparesIfOk before now r))
+    → Adds text values → ((t : Tables) → So t → taken t ≡ false) → Does g Adds old new So more (λ _. tt) r
+does_add {Adds = Adds} g old new text values table taken more r says own free = record {
   says = record {
     same_reference = says.same_reference;
     told = λ clean live t shows so.
@@ -93,8 +94,8 @@ does_add g old new table taken more r says free = record {
     kept = λ clean live. let it =
         says.kept clean live in (
           write_keeps (state g old.conn.now)
-              (state g new.conn.now) r live it.0 it.1,
-          blames_put g old.conn.now new.conn.now r it.0,
+              (state g new.conn.now) text values r live it.0 it.1,
+          blames_put Adds g old.conn.now new.conn.now text values r own it.0,
         );
     survives = says.survives;
   };
@@ -112,41 +113,43 @@ written old new table there after (Err e) rule is writes = tt
 written_keeps : (old new : State) (text : List ℕ) (r : Result Bool Error) (rule : Rule)
     → IsTrue old.in_transaction → Changes text old new r → SparesIfOk old new r
     → CommitsNothing old new (expected r rule)
-written_keeps old new text (Ok true) rule live kept spared = write_keeps old new (Ok tt) live kept.0 spared
+written_keeps old new text (Ok true) rule live kept spared =
+    write_keeps old new text [] (Ok tt) live kept.0 spared
 written_keeps old new text (Ok false) rule live kept spared =
     record { was_open = λ h. kept.0.was_open; committed = λ h. kept.0.committed_is }
-written_keeps old new text (Err e) rule live kept spared = write_keeps old new (Err (Sqlite e)) live kept tt
+written_keeps old new text (Err e) rule live kept spared =
+    write_keeps old new text [] (Err (Sqlite e)) live kept tt
 
-has_met : (old new : State) (rule : Rule) (text : List ℕ) → IsUpdateOf rule text → MeetsNone text old new
-    → HasMet old new rule
-has_met old new Meta text of none = (text, of, none)
-has_met old new Teller text of none = (text, of, none)
-has_met old new Account text of none = (text, of, none)
-has_met old new Balance text of none = absurd of
-has_met old new Request text of none = absurd of
-has_met old new Value text of none = absurd of
-has_met old new Key text of none = absurd of
-has_met old new Floor text of none = absurd of
-has_met old new Reference text of none = absurd of
+has_met : (Adds : Additions) (old new : State) (rule : Rule) (text : List ℕ) → IsUpdateOf rule text → MeetsNone text old new
+    → HasMet Adds old new rule
+has_met Adds old new Meta text of none = (text, of, none)
+has_met Adds old new Teller text of none = (text, of, none)
+has_met Adds old new Account text of none = (text, of, none)
+has_met Adds old new Balance text of none = absurd of
+has_met Adds old new Request text of none = absurd of
+has_met Adds old new Value text of none = absurd of
+has_met Adds old new Key text of none = absurd of
+has_met Adds old new Floor text of none = absurd of
+has_met Adds old new Reference text of none = absurd of
 
-blames_changed : {S : Type 0} (g : Ghosts S) (old new : Held S) (text : List ℕ) (r : Result Bool Error)
+blames_changed : {S : Type 0} (Adds : Additions) (g : Ghosts S) (old new : Held S) (text : List ℕ) (r : Result Bool Error)
     (rule : Rule) → IsUpdateOf rule text
-    → Changes text (state g old) (state g new) r → Blames (HasMetBetween g) g old new (expected r rule)
-blames_changed g old new text (Ok true) rule of kept = tt
-blames_changed g old new text (Ok false) rule of kept =
-    met_here g old new rule (has_met (state g old) (state g new) rule text of (kept.1 refl))
-blames_changed g old new text (Err e) rule of kept = failed_here g old new e kept.1
+    → Changes text (state g old) (state g new) r → Blames (HasMetBetween g Adds) g old new (expected r rule)
+blames_changed Adds g old new text (Ok true) rule of kept = tt
+blames_changed Adds g old new text (Ok false) rule of kept =
+    met_here g old new rule (has_met Adds (state g old) (state g new) rule text of (kept.1 refl))
+blames_changed Adds g old new text (Err e) rule of kept = failed_here g old new e kept.1
 
 -- a row that is there is written
-pub does_write : {S : Type 0} {So : Tables → Type 0} (g : Ghosts S) (old new : Transaction S) (table : Table)
+pub does_write : {S : Type 0} {So : Tables → Type 0} {Adds : Additions} (g : Ghosts S) (old new : Transaction S) (table : Table)
     (there : Tables → Bool) (after : Tables → Tables)
     (answer : Result Bool Error) (rule : Rule) (r : Result (Unit {0}) TableFault) (text : List ℕ)
     → IsUpdateOf rule text → r ≡ expected answer rule
     → Says g old new (Inside (OfTables (λ before now t. SetsRow before now table (there t) (after t) answer)))
     (Inside (λ before now. Changes text before now answer × SparesIfOk before now answer))
-    → ((t : Tables) → So t → IsTrue (there t)) → Does g old new So after (λ _. tt) r
-does_write {S} {So} g old new table there after answer rule r text of is says so =
-    subst (λ (x : Result (Unit {0}) TableFault). Does g old new So after (λ _. tt) x) (sym is) (record {
+    → ((t : Tables) → So t → IsTrue (there t)) → Does g Adds old new So after (λ _. tt) r
+does_write {S} {So} {Adds} g old new table there after answer rule r text of is says so =
+    subst (λ (x : Result (Unit {0}) TableFault). Does g Adds old new So after (λ _. tt) x) (sym is) (record {
       says = record {
         same_reference = says.same_reference;
         told = λ clean live t shows it.
@@ -155,7 +158,7 @@ does_write {S} {So} g old new table there after answer rule r text of is says so
         kept = λ clean live.
             let it = says.kept clean live in (
               written_keeps (state g old.conn.now) (state g new.conn.now) text answer rule live it.0 it.1,
-              blames_changed g old.conn.now new.conn.now text answer rule of it.0,
+              blames_changed Adds g old.conn.now new.conn.now text answer rule of it.0,
             );
         survives = says.survives;
       };

@@ -5,7 +5,9 @@ use Rattle.std.specs.Prelude.{ℤ, IsSome, IfSome, ◌&&◌}
 use Rattle.std.specs.List.{AllByRecursion}
 use Rattle.message_records.specs.Ranges.{whole_within}
 use Rattle.message_records.specs.declared.limits.TheConstants.{MAX_BRANCH}
+use Rattle.sqlite.specs.Order.{Row}
 use Rattle.sqlite.specs.declared.transaction.Transaction.{Transaction}
+use Rattle.sqlite_rules.specs.Lists.{Has}
 use Rattle.sqlite_trees.specs.declared.store.Store.{Ghosts}
 use Rattle.posting_rules.specs.declared.rows.BranchRow.{BranchRow}
 use Rattle.posting_rules.specs.Damage.{IsUndamaged}
@@ -17,9 +19,11 @@ use Rattle.posting_batch.specs.Overlay.{Overlay, accounts_over, tellers_over, br
 use Rattle.posting_batch.specs.Overlay.{requests_put, references_put}
 use Rattle.posting_batch.specs.Slots.{account_slot_key, teller_slot_key, branch_slot_key}
 use Rattle.posting_batch.proofs.Orders.{rising_keys}
+use Rattle.store_rows.specs.Failures.{Additions}
 use Rattle.store_rows.specs.declared.fault.TableFault.{TableFault}
+use Rattle.bank_transactions.specs.Additions.{AddsNew, AddsPostings, AddsReferences, AddsRequests, NoRow}
 use Rattle.bank_transactions.specs.Doing.{Does}
-use Rattle.bank_transactions.proofs.Chained.{does_then}
+use Rattle.bank_transactions.proofs.Chained.{does_adds, does_then}
 use Rattle.bank_transactions.proofs.SoundRows.{no_branch_beyond}
 use Rattle.bank_transactions.specs.Writing.{AreBranchNumbers, MayChangeAccounts, MayChangeTellers}
 use Rattle.bank_transactions.specs.Writing.{MayAddPostings, MayAddReferences, MayAddRequests}
@@ -61,8 +65,9 @@ So o t = IsUndamaged t × HasRisingSlots o × ChangesRows o t × AddsFreeRows o 
 -- Changes of one table: how they are made of tables and when they may be, and that these may be made behind
 -- what stands so far.
 pub record Behind {A : Type 0} (o : Overlay) (before : Tables → Tables) (made : List A → Tables → Tables)
-    (May : List A → Tables → Type 0) (changes : List A) : Type 0 where
+    (May : List A → Tables → Type 0) (Adds : List A → Additions) (changes : List A) : Type 0 where
   pub may : (t : Tables) → So o t → May changes (before t)
+  pub adds : (text : List ℕ) (values : Row) → Adds changes text values → AddsNew o text values
 
 -- the tables with the changes of the accounts; and of the tellers; and of the branches; and with the
 -- postings; and with the requests
@@ -81,40 +86,49 @@ to_postings o t = history_put o.history (to_branches o t)
 abbrev pub to_requests : Overlay → Tables → Tables
 to_requests o t = requests_put o.requests (to_postings o t)
 
-pub accounts : (o : Overlay) → Behind o (λ t. t) accounts_over MayChangeAccounts o.accounts
+pub accounts : (o : Overlay) → Behind o (λ t. t) accounts_over MayChangeAccounts (λ slots. NoRow) o.accounts
 accounts o = record {
   may = λ t so. (rising_keys account_slot_key o.accounts so.1.accounts, so.2.accounts);
+  adds = λ text values none. absurd none;
 }
 
-pub tellers : (o : Overlay) → Behind o (to_accounts o) tellers_over MayChangeTellers o.tellers
-tellers o = record { may = λ t so. (rising_keys teller_slot_key o.tellers so.1.tellers, so.2.tellers) }
+pub tellers : (o : Overlay) → Behind o (to_accounts o) tellers_over MayChangeTellers (λ slots. NoRow) o.tellers
+tellers o = record {
+  may = λ t so. (rising_keys teller_slot_key o.tellers so.1.tellers, so.2.tellers);
+  adds = λ text values none. absurd none;
+}
 
-pub branches : (o : Overlay) → Behind o (to_tellers o) branches_over MayChangeBranches o.branches
+pub branches : (o : Overlay) → Behind o (to_tellers o) branches_over MayChangeBranches (λ slots. NoRow) o.branches
 branches o = record {
   may = λ t so. (
     (rising_keys branch_slot_key o.branches so.1.branches, so.2.branches),
     numbers t o.branches so.0 so.2.branches,
   );
+  adds = λ text values none. absurd none;
 }
 
-pub postings : (o : Overlay) → Behind o (to_branches o) history_put MayAddPostings o.history
-postings o = record { may = λ t so. so.3.history }
+pub postings : (o : Overlay) → Behind o (to_branches o) history_put MayAddPostings (λ rows. AddsPostings (Has rows))
+    o.history
+postings o = record { may = λ t so. so.3.history; adds = λ text values it. inl it }
 
-pub requests : (o : Overlay) → Behind o (to_postings o) requests_put MayAddRequests o.requests
-requests o = record { may = λ t so. so.3.requests }
+pub requests : (o : Overlay) → Behind o (to_postings o) requests_put MayAddRequests (λ rows. AddsRequests (Has rows))
+    o.requests
+requests o = record { may = λ t so. so.3.requests; adds = λ text values it. inr (inl it) }
 
-pub references : (o : Overlay) → Behind o (to_requests o) references_put MayAddReferences o.references
-references o = record { may = λ t so. so.3.references }
+pub references : (o : Overlay) → Behind o (to_requests o) references_put MayAddReferences
+    (λ rows. AddsReferences (Has rows)) o.references
+references o = record { may = λ t so. so.3.references; adds = λ text values it. inr (inr it) }
 
 -- the changes of one table more are made
 pub step : {S A : Type 0} {g : Ghosts S} {a b c : Transaction S} {r : Result (Unit {0}) TableFault}
     {o : Overlay} {before : Tables → Tables} {made : List A → Tables → Tables}
-    {May : List A → Tables → Type 0} {changes : List A} {xs : List A}
-    → Behind o before made May changes → xs ≡ changes
-    → Does {X = Unit {0}} g a b (So o) before (λ _. tt {0}) (Ok (tt {0}))
-    → Does {X = Unit {0}} g b c (May xs) (made xs) (λ _. tt {0}) r
-    → Does {X = Unit {0}} g a c (So o) (λ t. made changes (before t)) (λ _. tt {0}) r
-step {S} {A} {g} {a} {b} {c} {r} {o} {before} {made} {May} behind same first second =
+    {May : List A → Tables → Type 0} {Adds : List A → Additions} {changes : List A} {xs : List A}
+    → Behind o before made May Adds changes → xs ≡ changes
+    → Does {X = Unit {0}} g (AddsNew o) a b (So o) before (λ _. tt {0}) (Ok (tt {0}))
+    → Does {X = Unit {0}} g (Adds xs) b c (May xs) (made xs) (λ _. tt {0}) r
+    → Does {X = Unit {0}} g (AddsNew o) a c (So o) (λ t. made changes (before t)) (λ _. tt {0}) r
+step {S} {A} {g} {a} {b} {c} {r} {o} {before} {made} {May} {Adds} behind same first second =
     does_then first
-    (subst (λ (ys : List A). Does {X = Unit {0}} g b c (May ys) (made ys) (λ _. tt {0}) r) same second)
+    (does_adds (λ clean. behind.adds)
+    (subst (λ (ys : List A). Does {X = Unit {0}} g (Adds ys) b c (May ys) (made ys) (λ _. tt {0}) r) same second))
     behind.may

@@ -1,5 +1,5 @@
 -- A transaction from its beginning to its end: what it tells, what a stop may leave of it, and why it failed.
-use Rattle.std.proofs.Common.{◌≡◌, Result, Ok, Err, refl, sym, subst, arith, inl, inr, ◌∙◌}
+use Rattle.std.proofs.Common.{◌≡◌, ℕ, Result, Ok, Err, refl, sym, subst, arith, inl, inr, ◌∙◌}
 use Rattle.std.specs.Prelude.{true, IfOk, IsTrue, OnOk}
 use Rattle.sqlite.specs.State.{State, HasCleanDisk, IsRolledBack, KeepsCommit, Survives}
 use Rattle.sqlite.specs.Held.{Held, state}
@@ -12,9 +12,10 @@ use Rattle.posting_rules.specs.Tables.{Tables}
 use Rattle.posting_rules.specs.Sound.{AreSound}
 use Rattle.store_rows.specs.Sparing.{SparesOthers}
 use Rattle.store_rows.specs.View.{Shows, ShowsTrees}
-use Rattle.store_rows.specs.Failures.{Committing}
+use Rattle.store_rows.specs.Failures.{Additions, Committing}
 use Rattle.store_rows.specs.declared.fault.TableFault.{TableFault}
 use Rattle.store_rows.specs.declared.fault.TableFault.TheVariants.{Sqlite, Damaged}
+use Rattle.bank_transactions.specs.Additions.{AddsForRecords}
 use Rattle.bank_transactions.specs.Causes.{Blames, Damage, IsBefore, IsFirstBroken}
 use Rattle.bank_transactions.specs.Doing.{Acts, LeavesAndAnswers, Completes, DoesBy, Ends, EndsBy}
 use Rattle.bank_transactions.specs.Doing.{CommitsNothing, MayLeaveAfter, MayCommit, Reads, Undoes, Consults}
@@ -183,20 +184,34 @@ module _ {S X : Type 0} {Met : Damage S} {So : Tables → Type 0} {after : Table
   }
 
 -- of parts that read and then write
-pub transacts : {S X : Type 0} {So : Tables → Type 0} {after : Tables → Tables} {w : Tables → X}
+pub transacts : {S X : Type 0} {Adds : Additions} {So : Tables → Type 0} {after : Tables → Tables} {w : Tables → X}
     {answer result : Result X TableFault} (g : Ghosts S) (old : Held S) (begun last : Transaction S)
     (end new : Held S)
     → begun.conn.now ≡ record old { in_transaction = true }
     → (IsTrue (state g old).is_open → (state g old).now ≡ (state g old).committed)
-    → Acts g begun last So after w answer → Ends g last.conn.now end answer result → end ≡ new
-    → Transacts g old new So after w result
-transacts {S} {X} {So} {after} {w} {answer} {result} g old begun last end new is settled does ends same =
-    subst (λ (h : Held S). Transacts g old h So after w result) same
+    → Acts g Adds begun last So after w answer → Ends g last.conn.now end answer result → end ≡ new
+    → Transacts g Adds old new So after w result
+transacts {S} {X} {Adds} {So} {after} {w} {answer} {result} g old begun last end new is settled does ends same =
+    subst (λ (h : Held S). Transacts g Adds old h So after w result) same
     (transacted g old begun last end is settled does ends (λ rule it. elim it [
       | inl broken ↦ inl broken
       | inr met ↦ inr (met_within g old (record old { in_transaction = true }) last.conn.now end rule
           (from_start g old begun last end is settled does ends) (comes ends.survives) met)
     ]))
+
+-- the same where records put rows in
+pub transacts_records : {S X : Type 0} {So : Tables → Type 0} {after : Tables → Tables} {w : Tables → X}
+    {answer result : Result X TableFault} (count : ℕ) (g : Ghosts S) (old : Held S) (begun last : Transaction S)
+    (end new : Held S)
+    → begun.conn.now ≡ record old { in_transaction = true }
+    → (IsTrue (state g old).is_open → (state g old).now ≡ (state g old).committed)
+    → Acts g (AddsForRecords (state g begun.conn.now).now count) begun last So after w answer
+    → Ends g last.conn.now end answer result → end ≡ new
+    → Transacts g (AddsForRecords (state g old).now count) old new So after w result
+transacts_records {S} {X} {So} {after} {w} {answer} count g old begun last end new is settled does ends same =
+    transacts g old begun last end new is settled
+    (subst (λ (h : Held S). Acts g (AddsForRecords (state g h).now count) begun last So after w answer) is does)
+    ends same
 
 -- of parts that only read
 pub consults : {S X : Type 0} {w : Tables → X} {answer result : Result X TableFault} (g : Ghosts S)

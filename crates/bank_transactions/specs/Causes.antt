@@ -5,7 +5,7 @@ use Rattle.sqlite.specs.Held.{Held, state}
 use Rattle.sqlite.specs.declared.error.Error.{Error}
 use Rattle.sqlite_trees.specs.declared.store.Store.{Ghosts}
 use Rattle.posting_rules.specs.declared.fault.Rule.{Rule}
-use Rattle.store_rows.specs.Failures.{HasFailed, HasMet}
+use Rattle.store_rows.specs.Failures.{Additions, HasFailed, HasMet}
 use Rattle.store_rows.specs.Rules.{IsBroken}
 use Rattle.store_rows.specs.declared.fault.TableFault.{TableFault}
 use Rattle.store_rows.specs.declared.fault.TableFault.TheVariants.{Sqlite, Damaged}
@@ -25,13 +25,15 @@ pub record HasFailedBetween {S : Type 0} (g : Ghosts S) (old new : Held S) (e : 
   pub failed : HasFailed (state g at) (state g then) e
   pub after : IsBefore (state g then) (state g new)
 
--- between these two moments of a connection a statement met, as it wrote, that the rule is broken
-pub record HasMetBetween {S : Type 0} (g : Ghosts S) (old new : Held S) (rule : Rule) : Type 0 where
+-- between these two moments of a connection a statement met, as it wrote, that the rule is broken; it puts such
+-- rows in, or changes one
+pub record HasMetBetween {S : Type 0} (g : Ghosts S) (Adds : Additions) (old new : Held S) (rule : Rule)
+    : Type 0 where
   -- the connection before that statement and after it
   pub at : Held S
   pub then : Held S
   pub before : IsBefore (state g old) (state g at)
-  pub met : HasMet (state g at) (state g then) rule
+  pub met : HasMet Adds (state g at) (state g then) rule
   pub after : IsBefore (state g then) (state g new)
 
 -- what damage says between two moments
@@ -42,9 +44,9 @@ Damage S = Held S → Held S → Rule → Type 0
 abbrev pub IsFirstBroken : {S : Type 0} → Ghosts S → Damage S
 IsFirstBroken g old new rule = IsBroken rule (state g old).now
 
--- they do, or a statement met it as it wrote
-abbrev pub IsBrokenOrMet : {S : Type 0} → Ghosts S → Damage S
-IsBrokenOrMet g old new rule = IsBroken rule (state g old).now ⊎ HasMetBetween g old new rule
+-- they do, or a statement met it as it wrote: the key of such a row is taken, or a row is missing
+abbrev pub IsBrokenOrMet : {S : Type 0} → Ghosts S → Additions → Damage S
+IsBrokenOrMet g Adds old new rule = IsBroken rule (state g old).now ⊎ HasMetBetween g Adds old new rule
 
 -- an error of `sqlite` is one with which a call of it failed, and damage says this
 abbrev pub IsFault : {S : Type 0} → Damage S → Ghosts S → Held S → Held S → TableFault → Type 0

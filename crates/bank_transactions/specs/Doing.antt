@@ -13,6 +13,7 @@ use Rattle.posting_rules.specs.Tables.{Tables}
 use Rattle.posting_rules.specs.declared.fault.Rule.{Rule}
 use Rattle.sql_meanings.specs.Calls.{Says, Inside}
 use Rattle.store_rows.specs.Calls.{OfTables}
+use Rattle.store_rows.specs.Failures.{Additions}
 use Rattle.store_rows.specs.Sparing.{SparesOthers}
 use Rattle.store_rows.specs.View.{Shows, ShowsTrees}
 use Rattle.store_rows.specs.declared.fault.TableFault.{TableFault}
@@ -89,17 +90,17 @@ pub record Leaves {S X : Type 0} (g : Ghosts S) (old new : Transaction S) (after
       → (tables : Tables) → Shows (state g old.conn.now).now tables
       → Shows (state g new.conn.now).now (after tables))
 
--- a part that only writes: damage was met by a statement as it wrote
-abbrev pub Does : {S X : Type 0} → Ghosts S → Transaction S → Transaction S → (Tables → Type 0)
+-- a part that only writes, and puts such rows in: damage was met by a statement as it wrote
+abbrev pub Does : {S X : Type 0} → Ghosts S → Additions → Transaction S → Transaction S → (Tables → Type 0)
     → (Tables → Tables) → (Tables → X)
     → Result X TableFault → Type 0
-Does g = DoesBy (HasMetBetween g) g
+Does g Adds = DoesBy (HasMetBetween g Adds) g
 
 -- a part that reads and then writes: damage is of the rows that were there, or was met as it wrote
-abbrev pub Acts : {S X : Type 0} → Ghosts S → Transaction S → Transaction S → (Tables → Type 0)
+abbrev pub Acts : {S X : Type 0} → Ghosts S → Additions → Transaction S → Transaction S → (Tables → Type 0)
     → (Tables → Tables) → (Tables → X)
     → Result X TableFault → Type 0
-Acts g = DoesBy (IsBrokenOrMet g) g
+Acts g Adds = DoesBy (IsBrokenOrMet g Adds) g
 
 -- ---- how a transaction ends
 
@@ -172,11 +173,12 @@ pub record TransactsBy {S X : Type 0} (Met : Damage S) (g : Ghosts S) (old new :
   pub mode : new.in_transaction ≡ false
   pub spares : SparesTheirs g old new result
 
--- damage is of the rows that the file held as the transaction began, or a statement met it as it wrote
-abbrev pub Transacts : {S X : Type 0} → Ghosts S → Held S → Held S → (Tables → Type 0) → (Tables → Tables)
+-- damage is of the rows that the file held as the transaction began, or a statement met it as it wrote: one that
+-- puts such rows in, or changes one
+abbrev pub Transacts : {S X : Type 0} → Ghosts S → Additions → Held S → Held S → (Tables → Type 0) → (Tables → Tables)
     → (Tables → X)
     → Result X TableFault → Type 0
-Transacts g = TransactsBy (IsBrokenOrMet g) g
+Transacts g Adds = TransactsBy (IsBrokenOrMet g Adds) g
 
 -- a transaction that only reads: damage is of the rows that the file held as it began
 abbrev pub Consults : {S X : Type 0} → Ghosts S → Held S → Held S → (Tables → Type 0) → (Tables → X)

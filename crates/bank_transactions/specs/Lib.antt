@@ -8,6 +8,7 @@ pub mod Stored
 pub mod Filling
 pub mod Floors
 pub mod Writing
+pub mod Additions
 pub mod InParts
 pub mod InTurn
 pub mod Batches

@@ -7,7 +7,11 @@ ghost use Rattle.posting_batch.specs.Batch.{HasRisingSlots, ChangesRows, AddsFre
 ghost use Rattle.posting_batch.specs.Overlay.{tables_over, accounts_over, tellers_over, branches_over};
 ghost use Rattle.posting_batch.specs.Overlay.{history_put, requests_put, references_put};
 ghost use Rattle.posting_batch.specs.View.{view};
+ghost use Rattle.sqlite_rules.specs.Lists.{Has};
+ghost use Rattle.store_rows.specs.Failures.{Additions};
 ghost use Rattle.store_rows.specs.Holders.{HasRow, with_balance};
+ghost use Rattle.bank_transactions.specs.Additions.{AddsAlike, AddsNew, AddsPostings, AddsReferences};
+ghost use Rattle.bank_transactions.specs.Additions.{AddsRequests, NoRow, adds_each, adds_none};
 ghost use Rattle.bank_transactions.specs.Doing.{Does};
 ghost use Rattle.bank_transactions.specs.InTurn.{InTurn, accounts_in_turn, tellers_in_turn, branches_in_turn};
 ghost use Rattle.bank_transactions.specs.InTurn.{postings_in_turn, requests_in_turn, references_in_turn};
@@ -34,19 +38,27 @@ trait Change {
     /// These changes may be made to the tables.
     ghost May: { List Self → Tables → Type 0 };
 
+    /// The rows that these changes put in.
+    ghost Adds: { List Self → Additions };
+
     /// Makes it.
     fn make<S: Alter>(&self, tx: &mut Transaction<'_, S>) -> Result<(), TableFault>
-        ensures { Does S.Store tx.old tx.new (May (self.now ∷ [])) (made (self.now ∷ [])) (λ _. tt) result };
+        ensures { Does S.Store (Adds (self.now ∷ [])) tx.old tx.new (May (self.now ∷ [])) (made (self.now ∷ []))
+            (λ _. tt) result };
 
     /// They may be made one after another, and come to the same.
     ghost in_turn: { InTurn made May };
+
+    /// Some of them put in no other rows than all.
+    ghost alike: { AddsAlike Adds };
 }
 
 /// A row that is new, one of many: eight are put in by one statement.
 trait NewRow: Change {
     /// Puts eight in.
     fn make_eight<S: Alter>(tx: &mut Transaction<'_, S>, rows: &[Self; 8]) -> Result<(), TableFault>
-        ensures { Does S.Store tx.old tx.new (Self.May rows.now) (Self.made rows.now) (λ _. tt) result };
+        ensures { Does S.Store (Self.Adds rows.now) tx.old tx.new (Self.May rows.now) (Self.made rows.now)
+            (λ _. tt) result };
 
     /// They may be put in several at a time, and come to the same.
     ghost in_parts: { InParts Self.made Self.May };
@@ -58,7 +70,7 @@ fn write_change<S: Alter>(
     holder: Holder,
     changed: Option<Cents>,
 ) -> Result<(), TableFault>
-    ensures { Does S.Store tx.old tx.new (λ tables. IfSome changed (λ _. HasRow holder tables))
+    ensures { Does S.Store NoRow tx.old tx.new (λ tables. IfSome changed (λ _. HasRow holder tables))
         (λ tables. by_change changed (λ balance. with_balance holder balance tables) tables)
         (λ _. tt) result }
 {
@@ -73,11 +85,15 @@ impl Change for AccountSlot {
 
     ghost May = { MayChangeAccounts };
 
+    ghost Adds = { λ _. NoRow };
+
     fn make<S: Alter>(&self, tx: &mut Transaction<'_, S>) -> Result<(), TableFault> {
         write_change(tx, Holder::Account(self.account), self.changed)
     }
 
     ghost in_turn = { accounts_in_turn };
+
+    ghost alike = { adds_none };
 }
 
 impl Change for TellerSlot {
@@ -85,17 +101,23 @@ impl Change for TellerSlot {
 
     ghost May = { MayChangeTellers };
 
+    ghost Adds = { λ _. NoRow };
+
     fn make<S: Alter>(&self, tx: &mut Transaction<'_, S>) -> Result<(), TableFault> {
         write_change(tx, Holder::Teller(self.teller), self.changed)
     }
 
     ghost in_turn = { tellers_in_turn };
+
+    ghost alike = { adds_none };
 }
 
 impl Change for BranchSlot {
     ghost made = { branches_over };
 
     ghost May = { MayChangeBranches };
+
+    ghost Adds = { λ _. NoRow };
 
     fn make<S: Alter>(&self, tx: &mut Transaction<'_, S>) -> Result<(), TableFault> {
         // A number that is none of branches has no row to change: `May` refuses such a slot by its
@@ -107,6 +129,8 @@ impl Change for BranchSlot {
     }
 
     ghost in_turn = { branches_in_turn };
+
+    ghost alike = { adds_none };
 }
 
 impl Change for HistoryRow {
@@ -114,11 +138,15 @@ impl Change for HistoryRow {
 
     ghost May = { MayAddPostings };
 
+    ghost Adds = { λ rows. AddsPostings (Has rows) };
+
     fn make<S: Alter>(&self, tx: &mut Transaction<'_, S>) -> Result<(), TableFault> {
         add_history(tx, *self)
     }
 
     ghost in_turn = { postings_in_turn };
+
+    ghost alike = { adds_each _ _ };
 }
 
 impl NewRow for HistoryRow {
@@ -137,11 +165,15 @@ impl Change for RequestRow {
 
     ghost May = { MayAddRequests };
 
+    ghost Adds = { λ rows. AddsRequests (Has rows) };
+
     fn make<S: Alter>(&self, tx: &mut Transaction<'_, S>) -> Result<(), TableFault> {
         add_request(tx, *self)
     }
 
     ghost in_turn = { requests_in_turn };
+
+    ghost alike = { adds_each _ _ };
 }
 
 impl NewRow for RequestRow {
@@ -160,11 +192,15 @@ impl Change for ReferenceRow {
 
     ghost May = { MayAddReferences };
 
+    ghost Adds = { λ rows. AddsReferences (Has rows) };
+
     fn make<S: Alter>(&self, tx: &mut Transaction<'_, S>) -> Result<(), TableFault> {
         add_reference(tx, *self)
     }
 
     ghost in_turn = { references_in_turn };
+
+    ghost alike = { adds_each _ _ };
 }
 
 // Makes changes, one after another.
@@ -172,7 +208,8 @@ fn make_all<S: Alter, C: Change>(
     tx: &mut Transaction<'_, S>,
     changes: &[C],
 ) -> Result<(), TableFault>
-    ensures { Does S.Store tx.old tx.new (C.May changes.now) (C.made changes.now) (λ _. tt) result }
+    ensures { Does S.Store (C.Adds changes.now) tx.old tx.new (C.May changes.now) (C.made changes.now)
+        (λ _. tt) result }
 {
     for change in changes {
         change.make(tx)?;
@@ -183,7 +220,7 @@ fn make_all<S: Alter, C: Change>(
 // Puts rows in, eight by one statement, and the rest one by one.
 fn make_rows<S: Alter, R: NewRow>(tx: &mut Transaction<'_, S>, rows: &[R]) -> Result<(), TableFault>
     requires { 8 * type_size R.row < 2 ^ 63 }
-    ensures { Does S.Store tx.old tx.new (R.May rows.now) (R.made rows.now) (λ _. tt) result }
+    ensures { Does S.Store (R.Adds rows.now) tx.old tx.new (R.May rows.now) (R.made rows.now) (λ _. tt) result }
 {
     let mut left = rows;
     while let Some((eight, rest)) = left.split_first_chunk::<8>() {
@@ -195,7 +232,7 @@ fn make_rows<S: Alter, R: NewRow>(tx: &mut Transaction<'_, S>, rows: &[R]) -> Re
 
 /// Writes what a batch has changed, each row once, and how many requests are decided.
 pub fn write<S: Alter>(tx: &mut Transaction<'_, S>, overlay: &Overlay) -> Result<(), TableFault>
-    ensures { Does S.Store tx.old tx.new
+    ensures { Does S.Store (AddsNew (view overlay.now)) tx.old tx.new
         (λ tables. IsUndamaged tables × HasRisingSlots (view overlay.now)
         × ChangesRows (view overlay.now) tables × AddsFreeRows (view overlay.now) tables)
         (λ tables. tables_over (view overlay.now) tables) (λ _. tt) result }

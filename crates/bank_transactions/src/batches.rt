@@ -41,6 +41,7 @@ ghost use Rattle.posting_rules.specs.Sound.{AreOfALog};
 ghost use Rattle.posting_rules.specs.Tables.{Tables};
 ghost use Rattle.posting_batch.specs.View.{reads_of, IsMadeOf};
 ghost use Rattle.store_rows.specs.View.{Shows};
+ghost use Rattle.bank_transactions.specs.Additions.{AddsForRecords};
 ghost use Rattle.bank_transactions.specs.Doing.{Acts, Transacts};
 ghost use Rattle.bank_transactions.specs.Batches.{items_of, DecidesNone, WritesNothing, KeepsOnly};
 ghost use Rattle.bank_transactions.specs.Stored.{RepliesToAllStored};
@@ -61,7 +62,8 @@ pub fn answer_batch<S: Alter>(
     mut batch: Batch,
 ) -> Result<Vec<[u8; REPLY_BYTES]>, TableFault>
     ensures says { (records : List (List ℕ)) → IsMadeOf batch records
-        → Acts S.Store tx.old tx.new AreOfALog (λ tables. tables_past_all tables moment records)
+        → Acts S.Store (AddsForRecords (state S.Store tx.old.conn.now).now (length records)) tx.old tx.new
+        AreOfALog (λ tables. tables_past_all tables moment records)
         (λ tables. replies_past_all tables moment records) (items_of result) }
     ensures count { IfOk result (λ replies. length replies.items ≡ length (reads_of batch)) }
     ensures idle { OnOk result
@@ -92,7 +94,8 @@ pub fn post_all<S: Alter>(
 ) -> Result<Vec<[u8; REPLY_BYTES]>, TableFault>
     requires { conn.old.in_transaction ≡ false }
     ensures says { (records : List (List ℕ)) → IsMadeOf batch records
-        → Transacts S.Store conn.old conn.new AreOfALog (λ tables. tables_past_all tables moment records)
+        → Transacts S.Store (AddsForRecords (state S.Store conn.old).now (length records)) conn.old conn.new
+        AreOfALog (λ tables. tables_past_all tables moment records)
         (λ tables. replies_past_all tables moment records) (items_of result) }
     ensures count { IfOk result (λ replies. length replies.items ≡ length (reads_of batch)) }
     ensures idle { OnOk result

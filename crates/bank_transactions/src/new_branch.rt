@@ -8,6 +8,7 @@ ghost use Rattle.posting_rules.specs.Counter.{opening_for};
 ghost use Rattle.posting_rules.specs.LookUps.{terms_in};
 ghost use Rattle.posting_rules.specs.Sound.{AreSound};
 ghost use Rattle.posting_rules.specs.Tables.{row_at, branch_key, floor_key};
+ghost use Rattle.bank_transactions.specs.Additions.{AddsBranch, AddsFloor, AddsOne, AddsRange};
 ghost use Rattle.bank_transactions.specs.Doing.{Acts, Does, Leaves, Reads};
 ghost use Rattle.bank_transactions.specs.NewRows.{tables_staffed, with_new, with_new_rows, is_taken, last_of};
 ghost use Rattle.bank_transactions.specs.Stored.{AnswersStored, OpensByStored};
@@ -37,7 +38,7 @@ fn add_new<S: Alter>(
 ) -> Result<(), TableFault>
     requires above { 1 ≤ number }
     requires below { number ≤ last_of kind }
-    ensures does { Does S.Store tx.old tx.new (λ tables. is_taken kind number tables ≡ false)
+    ensures does { Does S.Store (AddsOne kind number) tx.old tx.new (λ tables. is_taken kind number tables ≡ false)
         (with_new kind number) (λ _. tt) result }
     ensures leaves { Leaves S.Store tx.old tx.new (with_new kind number) result }
 {
@@ -63,7 +64,7 @@ fn add_rows<S: Alter>(
 ) -> Result<(), TableFault>
     requires above { 1 ≤ first }
     requires below { first + count ≤ last_of kind + 1 }
-    ensures does { Does S.Store tx.old tx.new
+    ensures does { Does S.Store (AddsRange kind first count) tx.old tx.new
         (λ tables. (n : ℕ) → n < count → is_taken kind (first + n) (with_new_rows kind first n tables)
         ≡ false)
         (with_new_rows kind first count) (λ _. tt) result }
@@ -81,7 +82,7 @@ fn add_its_floor<S: Alter>(
     branch: Branch,
     floor: Option<Cents>,
 ) -> Result<(), TableFault>
-    ensures does { Does S.Store tx.old tx.new (λ tables. row_at floor_key tables.floors branch ≡ None)
+    ensures does { Does S.Store (AddsFloor branch floor) tx.old tx.new (λ tables. row_at floor_key tables.floors branch ≡ None)
         (with_floor branch floor) (λ _. tt) result }
     ensures leaves { Leaves S.Store tx.old tx.new (with_floor branch floor) result }
 {
@@ -99,7 +100,7 @@ fn add_branch_with_rows<S: Alter>(
 ) -> Result<(), TableFault>
     requires branch { branch ≤ LAST_BRANCH }
     requires few { count ≤ MAX_ACCOUNTS }
-    ensures does { Does S.Store tx.old tx.new
+    ensures does { Does S.Store (AddsBranch branch (opened_with count None)) tx.old tx.new
         (λ tables. AreSound tables × (row_at branch_key tables.branches branch ≡ None))
         (λ tables. tables_staffed tables branch count) (λ _. tt) result }
     ensures leaves { Leaves S.Store tx.old tx.new (λ tables. tables_staffed tables branch count) result }
@@ -125,7 +126,7 @@ fn add_whole_branch<S: Alter>(
 ) -> Result<(), TableFault>
     requires branch { branch ≤ LAST_BRANCH }
     requires few { count ≤ MAX_ACCOUNTS }
-    ensures does { Does S.Store tx.old tx.new
+    ensures does { Does S.Store (AddsBranch branch (opened_with count floor)) tx.old tx.new
         (λ tables. AreSound tables × (row_at branch_key tables.branches branch ≡ None))
         (λ tables. tables_opened tables branch (opened_with count floor)) (λ _. tt) result }
     ensures leaves { Leaves S.Store tx.old tx.new (λ tables. tables_opened tables branch (opened_with count floor)) result }
@@ -173,7 +174,7 @@ pub(crate) fn open_inside<S: Alter>(
 ) -> Result<Opening, TableFault>
     requires branch { branch ≤ LAST_BRANCH }
     requires few { count ≤ MAX_ACCOUNTS }
-    ensures acts { Acts S.Store tx.old tx.new AreSound
+    ensures acts { Acts S.Store (AddsBranch branch (opened_with count floor)) tx.old tx.new AreSound
         (λ tables. tables_with_branch tables branch (opened_with count floor))
         (λ tables. opening_for (terms_in tables branch) (opened_with count floor)) result }
     ensures stored { IfOk result (λ opening. HasCleanDisk (state S.Store tx.new.conn.now)

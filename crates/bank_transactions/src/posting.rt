@@ -5,6 +5,7 @@ ghost use Rattle.posting_rules.specs.Sound.{AreSound};
 ghost use Rattle.std.specs.Prelude.{IfOk};
 ghost use Rattle.sqlite.specs.Held.{state};
 ghost use Rattle.sqlite.specs.State.{HasCleanDisk};
+ghost use Rattle.bank_transactions.specs.Additions.{AddsForRecords};
 ghost use Rattle.bank_transactions.specs.Doing.{Acts};
 ghost use Rattle.bank_transactions.specs.Stored.{RepliesToStored};
 
@@ -23,7 +24,8 @@ pub(crate) fn post_inside<S: Alter>(
     moment: Moment,
     request: &Request,
 ) -> Result<[u8; REPLY_BYTES], TableFault>
-    ensures acts { Acts S.Store tx.old tx.new AreSound (λ tables. tables_with tables moment request.now)
+    ensures acts { Acts S.Store (AddsForRecords (state S.Store tx.old.conn.now).now 1) tx.old tx.new AreSound
+        (λ tables. tables_with tables moment request.now)
         (λ tables. reply_bytes tables request.now) result }
     ensures stored { IfOk result (λ reply. HasCleanDisk (state S.Store tx.new.conn.now)
         → RepliesToStored (state S.Store tx.old.conn.now).now request.now reply) }

@@ -7,6 +7,7 @@ ghost use Rattle.posting_rules.specs.Commands.{opened_with};
 ghost use Rattle.posting_rules.specs.Counter.{opening_for};
 ghost use Rattle.posting_rules.specs.LookUps.{account_balance_in, terms_in};
 ghost use Rattle.posting_rules.specs.Sound.{AreSound};
+ghost use Rattle.bank_transactions.specs.Additions.{AddsBranch, AddsForRecords};
 ghost use Rattle.bank_transactions.specs.Doing.{Consults, Ends, Transacts};
 ghost use Rattle.bank_transactions.specs.Stored.{IsStoredBalance, OpensByStored, RepliesToStored};
 ghost use Rattle.bank_transactions.specs.Undone.{UndoesFaults};
@@ -83,7 +84,7 @@ pub fn post<S: Alter>(
     request: &Request,
 ) -> Result<[u8; REPLY_BYTES], TableFault>
     requires { conn.old.in_transaction ≡ false }
-    ensures transacts { Transacts S.Store conn.old conn.new AreSound
+    ensures transacts { Transacts S.Store (AddsForRecords (state S.Store conn.old).now 1) conn.old conn.new AreSound
         (λ tables. tables_with tables moment request.now) (λ tables. reply_bytes tables request.now) result }
     // Whatever rows the file holds.
     ensures stored { IfOk result (λ reply. HasCleanDisk (state S.Store conn.new)
@@ -110,7 +111,7 @@ pub fn open_branch<S: Alter>(
     requires mode { conn.old.in_transaction ≡ false }
     requires branch { branch ≤ LAST_BRANCH }
     requires few { count ≤ MAX_ACCOUNTS }
-    ensures transacts { Transacts S.Store conn.old conn.new AreSound
+    ensures transacts { Transacts S.Store (AddsBranch branch (opened_with count floor)) conn.old conn.new AreSound
         (λ tables. tables_with_branch tables branch (opened_with count floor))
         (λ tables. opening_for (terms_in tables branch) (opened_with count floor)) result }
     // Whatever rows the file holds.

@@ -16,3 +16,4 @@ pub mod Examples
 pub mod Written
 pub mod ToldTables
 pub mod OneRecord
+pub mod NextOrdinals

@@ -173,6 +173,16 @@ pub record AddsFreeRows (o : Overlay) (t : Tables) : Type 0 where
   pub requests : PutsFree request_key o.requests t.requests
   pub references : PutsFree reference_key o.references t.references
 
+-- the ordinal is one of so many that follow this count
+abbrev pub IsNextOrdinal : ℕ → ℕ → ℕ → Type 0
+IsNextOrdinal decided count ordinal = (decided < ordinal) × (ordinal ≤ decided + count)
+
+-- each row that is new is under one of them
+pub record HasNextOrdinals (decided count : ℕ) (o : Overlay) : Type 0 where
+  pub history : AllByRecursion (λ r. IsNextOrdinal decided count r.ordinal) o.history
+  pub requests : AllByRecursion (λ r. IsNextOrdinal decided count r.ordinal) o.requests
+  pub references : AllByRecursion (λ r. IsNextOrdinal decided count r.ordinal) o.references
+
 -- the records leave these tables and are answered these replies; a balance is changed only where the row is
 pub record IsJudged (o : Overlay) (replies : List (List ℕ)) (t : Tables) (moment : ℕ)
     (records : List (List ℕ)) : Type 0 where

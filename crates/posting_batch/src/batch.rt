@@ -7,7 +7,8 @@ ghost use Rattle.posting_rules.specs.declared.limits.TheConstants.{RECORDS_PER_B
 ghost use Rattle.posting_rules.specs.Commands.{Command};
 ghost use Rattle.posting_rules.specs.Runs.{posts};
 ghost use Rattle.posting_rules.specs.Tables.{Tables, AreTablesOf};
-ghost use Rattle.posting_batch.specs.Batch.{CoversAll, HasFreeOrdinals, HasRisingSlots, IsJudged, IsShown};
+ghost use Rattle.posting_batch.specs.Batch.{CoversAll, HasFreeOrdinals, HasNextOrdinals, HasRisingSlots};
+ghost use Rattle.posting_batch.specs.Batch.{IsJudged, IsShown};
 
 use crate::cover::decode_all;
 use crate::overlay::Overlay;
@@ -74,6 +75,9 @@ impl Batch {
         ensures shown { (t : Tables) (records : List (List ℕ)) → IsFilledFrom self t records
             → (log : List Command) → AreTablesOf t log
             → IsShown (view result.overlay) result.replies.items t log (posts moment records) }
+        // Where no row is new before it, the new ones are under the next ordinals, at most one a record.
+        ensures next { HasNextOrdinals self.overlay.decided 0 (view self.overlay)
+            → HasNextOrdinals self.overlay.decided (length (reads_of self)) (view result.overlay) }
         // Each changed row is written once.
         ensures rising { HasRisingSlots (view self.overlay) → HasRisingSlots (view result.overlay) }
 

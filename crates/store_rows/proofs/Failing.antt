@@ -129,7 +129,7 @@ adds_err old new table there taken P after e same then (inr fails) =
 -- whatever the rows, what an INSERT leaves
 pub puts_added : (old new : State) (text : List ℕ) (params : Row) (answer : Result ℕ Error)
     → ExecutesInside 0 text params old new answer → (key : ℤ) (rest : Row) → params ≡ Int key ∷ rest
-    → Has inserts text → Puts old new (added answer)
+    → Has inserts text → Puts text params old new (added answer)
 puts_added old new text params (Ok count) h key rest is among = h.1
 puts_added old new text params (Err e) h key rest is among = go (is_taken_key e) refl
   where
@@ -137,9 +137,6 @@ puts_added old new text params (Err e) h key rest is among = go (is_taken_key e)
     fails = kept_inside old new text params (Err e) h
 
     go : (b : Bool) → is_taken_key e ≡ b
-        → Puts {X = Unit {0}} old new (cond b (Err (Damaged Key)) (Err (Sqlite e)))
-    go true taken = (
-      fails,
-      (text, key, rest, e, among, subst (λ values. ExecutesInside 0 text values old new (Err e)) is h, taken),
-    )
+        → Puts {X = Unit {0}} text params old new (cond b (Err (Damaged Key)) (Err (Sqlite e)))
+    go true taken = (fails, (refl, (key, rest, e, among, is, h, taken)))
     go false free = (fails, Putting text params h free)

@@ -234,7 +234,7 @@ module _ {R : Type 0} (kind : Kind R) (placed : IsPlaced kind) where
       → AllByRecursion (λ r. kind.key r ≤ MAX_KEY) news
       → (answer : Result (Unit {0}) TableFault)
       → PutsRow g old new text (flat_map given (map kind.entry news)) answer
-      → AddsRows g old new table has_key_of with_row news answer
+      → AddsRows g old new text kind.entry table has_key_of with_row news answer
   puts_several text news puts spared among first rest is g old new low answer says =
       tells_tables g old new (λ before after t shows h. rw h.2
       (tells_rows before after t shows text (flat_map given (map kind.entry news)) news puts low h.0 h.1))

@@ -69,7 +69,7 @@ PutsEight {R} table text key entry taken with =
     → AllByRecursion (λ r. key r ≤ MAX_KEY) (a ∷ b ∷ c ∷ d ∷ e ∷ f ∷ g ∷ h ∷ [])
     → (answer : Result (Unit {0}) TableFault)
     → PutsRow gh old new text (flat_map given (map entry (a ∷ b ∷ c ∷ d ∷ e ∷ f ∷ g ∷ h ∷ []))) answer
-    → AddsRows gh old new table taken with (a ∷ b ∷ c ∷ d ∷ e ∷ f ∷ g ∷ h ∷ []) answer
+    → AddsRows gh old new text entry table taken with (a ∷ b ∷ c ∷ d ∷ e ∷ f ∷ g ∷ h ∷ []) answer
 
 pub record EightRowsPut : Type 1 where
   pub postings : PutsEight bank.history text.ADD_EIGHT_POSTINGS.now history_key history_entry

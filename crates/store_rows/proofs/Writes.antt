@@ -43,7 +43,7 @@ abbrev PutsOne : {R : Type 0} → Kind R → List ℕ → (R → Tables → Tabl
 PutsOne kind text with r =
     (S : Type 0) (g : Ghosts S) (old new : Transaction S) → kind.key r ≤ MAX_KEY
     → (answer : Result (Unit {0}) TableFault) → PutsRow g old new text (given (kind.entry r)) answer
-    → AddsRow g old new (table_of kind) (λ t. is_some (row_at kind.key (kind.rows t) (kind.key r))) (with r)
+    → AddsRow g old new text (given (kind.entry r)) (table_of kind) (λ t. is_some (row_at kind.key (kind.rows t) (kind.key r))) (with r)
     answer
 
 -- and so each row
@@ -65,7 +65,7 @@ module _ {R : Type 0} (kind : Kind R) (text : List ℕ) where
   by_insert : (r : R) → Has inserts text → (S : Type 0) (g : Ghosts S) (old new : Transaction S)
       (answer : Result (Unit {0}) TableFault) → PutsRow g old new text (given (kind.entry r)) answer
       → Says g old new (Inside (λ before after. PutsIn text (given (kind.entry r)) before after answer))
-      (Inside (λ before after. PutIsKept before after answer))
+      (Inside (λ before after. PutIsKept text (given (kind.entry r)) before after answer))
   by_insert r among S g old new answer says = record {
     same_reference = says.same_reference;
     told = says.told;

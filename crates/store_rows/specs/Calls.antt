@@ -1,6 +1,7 @@
 -- What the calls on the tables of a bank report.
 use Rattle.std.specs.Prelude.{◌≡◌, ℕ, false, Bool, List, Option, Result}
 use Rattle.sqlite.specs.Held.{Held, state}
+use Rattle.sqlite.specs.Order.{Row}
 use Rattle.sqlite.specs.State.{State, HasCleanDisk, Survives}
 use Rattle.sqlite.specs.Table.{Table}
 use Rattle.sqlite.specs.declared.error.Error.{Error}
@@ -47,14 +48,14 @@ SetsNumber g old new table text there after result =
     (OfTables (λ old new tables. SetsRow old new table (there tables) (after tables) result)))
     (Inside (λ old new. Changes text old new result × SparesIfOk old new result))
 
--- A row of the table is put in, unless its key is taken, and the tables are these after it. The tables of other
--- products are as they were, whatever rows there are.
-abbrev pub AddsRow : {S : Type 0} → Ghosts S → Transaction S → Transaction S → Table → (Tables → Bool)
-    → (Tables → Tables) → Result (Unit {0}) TableFault → Type 0
-AddsRow g old new table taken after result =
+-- By this text, with these values, a row of the table is put in, unless its key is taken, and the tables are these
+-- after it. The tables of other products are as they were, whatever rows there are.
+abbrev pub AddsRow : {S : Type 0} → Ghosts S → Transaction S → Transaction S → List ℕ → Row → Table
+    → (Tables → Bool) → (Tables → Tables) → Result (Unit {0}) TableFault → Type 0
+AddsRow g old new text values table taken after result =
     Says g old new (Inside
     (OfTables (λ old new tables. PutsOneRow old new table (taken tables) (after tables) result)))
-    (Inside (λ old new. Puts old new result × SparesIfOk old new result))
+    (Inside (λ old new. Puts text values old new result × SparesIfOk old new result))
 
 -- Whether the probe of a table is understood, on an honest disk, and so what is there of the table. Only a
 -- fault shuts the store, and a stop leaves nothing new.

@@ -53,10 +53,16 @@ inserts =
     ADD_BRANCH.now ∷ ADD_TELLER.now ∷ ADD_ACCOUNT.now ∷ ADD_FLOOR.now ∷ ADD_HISTORY.now ∷ ADD_REQUEST.now
     ∷ ADD_REFERENCE.now ∷ ADD_EIGHT_POSTINGS.now ∷ ADD_EIGHT_REQUESTS.now ∷ []
 
--- by one of them a row was to be put in under a key, which is taken; or eight, of which one has a key that is taken
-abbrev pub TakesKey : State → State → Type 0
-TakesKey old new = (text : List ℕ) × (key : ℤ) × (rest : Row) × (e : Error) × Has inserts text
-    × ExecutesInside 0 text (Int key ∷ rest) old new (Err e) × (is_taken_key e ≡ true)
+-- rows that are put in: by which text, with which values
+abbrev pub Additions : Type 1
+Additions = List ℕ → Row → Type 0
+
+-- by this text, which is one of them, a row was to be put in under a key, which is taken; or eight, of which one has
+-- a key that is taken
+abbrev pub TakesKey : List ℕ → Row → State → State → Type 0
+TakesKey text values old new = (key : ℤ) × (rest : Row) × (e : Error) × Has inserts text
+    × (values ≡ Int key ∷ rest)
+    × ExecutesInside 0 text values old new (Err e) × (is_taken_key e ≡ true)
 
 -- the text was to change one row, and did not
 abbrev pub MeetsNone : List ℕ → State → State → Type 0
@@ -70,16 +76,16 @@ IsUpdateOf Teller text = (text ≡ SET_TELLER.now) ⊎ (text ≡ SET_BRANCH.now)
 IsUpdateOf Account text = text ≡ SET_ACCOUNT.now
 IsUpdateOf _ text = ⊥
 
--- the statement that led from one state to the other met that the rule is broken: a key is taken, or a row
--- isn't there
-abbrev pub HasMet : State → State → Rule → Type 0
-HasMet old new Key = TakesKey old new
-HasMet old new rule = (text : List ℕ) × IsUpdateOf rule text × MeetsNone text old new
+-- the statement that led from one state to the other met that the rule is broken: a key of such rows is taken, or
+-- a row isn't there
+abbrev pub HasMet : Additions → State → State → Rule → Type 0
+HasMet Adds old new Key = (text : List ℕ) × (values : Row) × Adds text values × TakesKey text values old new
+HasMet Adds old new rule = (text : List ℕ) × IsUpdateOf rule text × MeetsNone text old new
 
--- the same, of the fault of a row that is put in
-abbrev pub HasPutReason : State → State → TableFault → Type 0
-HasPutReason old new (Sqlite e) = HasFailed old new e
-HasPutReason old new (Damaged rule) = HasMet old new rule
+-- why rows weren't put in by this text, with these values
+abbrev pub HasPutReason : List ℕ → Row → State → State → TableFault → Type 0
+HasPutReason text values old new (Sqlite e) = HasFailed old new e
+HasPutReason text values old new (Damaged rule) = (rule ≡ Key) × TakesKey text values old new
 
 -- What is reported of what a query answered: the row as the value that it holds, if it found one, or the rule
 -- that the row breaks, or the query's error.
@@ -114,7 +120,7 @@ Changes text old new (Ok there) = StateShows old new new.now old.committed true
     × (there ≡ false → MeetsNone text old new)
 Changes text old new (Err e) = WriteFails old new × HasFailed old new e
 
--- the same of a row that is put in by one of the texts
-abbrev pub Puts : {X : Type 0} → State → State → Result X TableFault → Type 0
-Puts old new (Ok done) = StateShows old new new.now old.committed true
-Puts old new (Err fault) = WriteFails old new × HasPutReason old new fault
+-- the same of rows that are put in by one of the texts, with these values
+abbrev pub Puts : {X : Type 0} → List ℕ → Row → State → State → Result X TableFault → Type 0
+Puts text values old new (Ok done) = StateShows old new new.now old.committed true
+Puts text values old new (Err fault) = WriteFails old new × HasPutReason text values old new fault

@@ -9,11 +9,12 @@ use Rattle.posting_rules.specs.Tables.{teller_row_of}
 use Rattle.sql_meanings.specs.Entries.{Entry}
 use Rattle.store_rows.specs.Rules.{StoredRows, row_under}
 use Rattle.store_rows.specs.BankTables as bank
+use Rattle.store_rows.specs.View.{account_entry, teller_entry}
 use Rattle.store_rows.specs.declared.holders.Holder.{Holder}
 use Rattle.store_rows.specs.declared.holders.Holder.TheVariants.{Account, Teller, Branch}
 use Rattle.store_rows.specs.declared.holders.Member.{Member}
 use Rattle.store_rows.specs.declared.holders.Member.TheVariants as member
-use Rattle.store_rows.specs.declared.texts.TheConstants.{SET_ACCOUNT, SET_BRANCH, SET_TELLER}
+use Rattle.store_rows.specs.declared.texts.TheConstants.{ADD_ACCOUNT, ADD_TELLER, SET_ACCOUNT, SET_BRANCH, SET_TELLER}
 
 -- the table of its row
 abbrev pub holder_table : Holder → Table
@@ -49,6 +50,16 @@ with_balance (Branch branch) balance t = with_branch_balance branch balance t
 abbrev pub holder_of : Member → Holder
 holder_of (member.Account account) = Account account
 holder_of (member.Teller teller) = Teller teller
+
+-- the text that puts its row in
+abbrev pub member_insert : Member → List ℕ
+member_insert (member.Account account) = ADD_ACCOUNT.now
+member_insert (member.Teller teller) = ADD_TELLER.now
+
+-- its row with this balance, as it is put in
+abbrev pub member_entry : Member → ℤ → Entry
+member_entry (member.Account account) balance = account_entry (account_row_of account balance)
+member_entry (member.Teller teller) balance = teller_entry (teller_row_of teller balance)
 
 -- its balance
 abbrev pub balance_in : Member → Tables → Option ℤ

@@ -1,5 +1,6 @@
 -- Rows that are put in one after another, by one statement.
-use Rattle.std.specs.Prelude.{◌||◌, ◌++◌, Bool, false, List, [], ◌∷◌, Result}
+use Rattle.std.specs.Prelude.{◌||◌, ◌++◌, Bool, false, ℕ, List, [], ◌∷◌, map, Result}
+use Rattle.std.specs.List.{flat_map}
 use Rattle.sqlite.specs.Order.{Row}
 use Rattle.sqlite.specs.Table.{Table}
 use Rattle.sqlite.specs.declared.transaction.Transaction.{Transaction}
@@ -24,8 +25,14 @@ abbrev pub meets_key : {R : Type 0} → (R → Tables → Tables) → (R → Tab
 meets_key with taken [] t = false
 meets_key with taken (r ∷ rows) t = taken r t || meets_key with taken rows (with r t)
 
--- The rows are put in one after another, unless the key of one is taken by then. Of an error none is put in.
-abbrev pub AddsRows : {S R : Type 0} → Ghosts S → Transaction S → Transaction S → Table → (R → Tables → Bool)
+-- the values by which rows are handed in, one after another
+abbrev pub given_each : {R : Type 0} → (R → Entry) → List R → Row
+given_each entry rows = flat_map given (map entry rows)
+
+-- By this text the rows are put in one after another, unless the key of one is taken by then. Of an error none is
+-- put in.
+abbrev pub AddsRows : {S R : Type 0} → Ghosts S → Transaction S → Transaction S → List ℕ → (R → Entry) → Table
+    → (R → Tables → Bool)
     → (R → Tables → Tables) → List R → Result (Unit {0}) TableFault → Type 0
-AddsRows g old new table taken with rows result =
-    AddsRow g old new table (meets_key with taken rows) (with_each with rows) result
+AddsRows g old new text entry table taken with rows result =
+    AddsRow g old new text (given_each entry rows) table (meets_key with taken rows) (with_each with rows) result

@@ -46,7 +46,8 @@ abbrev pub PutsRow : {S : Type 0} → Ghosts S → Transaction S → Transaction
     → Result (Unit {0}) TableFault → Type 0
 PutsRow g old new text values result =
     Says g old new (Inside (λ old new. PutsIn text values old new result))
-    (Inside (λ old new. (key : ℤ) (rest : Row) → values ≡ Int key ∷ rest → Has inserts text → Puts old new result))
+    (Inside (λ old new. (key : ℤ) (rest : Row) → values ≡ Int key ∷ rest → Has inserts text
+    → Puts text values old new result))
 
 -- run on this database with these values, the text shows this row first
 abbrev pub ShowsFirst : List ℕ → Row → Database → Row → Type 0

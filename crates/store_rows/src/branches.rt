@@ -8,6 +8,9 @@ ghost use Rattle.store_rows.specs.Columns.{branch_above};
 ghost use Rattle.store_rows.specs.Forms.{branch_form};
 ghost use Rattle.store_rows.specs.Rules.{row_under};
 ghost use Rattle.store_rows.specs.BankTables.{branch as table};
+ghost use Rattle.store_rows.specs.SeveralRows.{given};
+ghost use Rattle.store_rows.specs.View.{branch_entry};
+ghost use Rattle.store_rows.specs.declared.texts.TheConstants.{ADD_BRANCH as text};
 
 use crate::columns::{cents_at, count_at, whole_at};
 use crate::fault::TableFault;
@@ -56,7 +59,7 @@ pub fn next_branch<S: Alter>(
 
 /// Adds a branch. `Damaged(Rule::Key)` is a number that is taken.
 pub fn add_branch<S: Alter>(tx: &mut Transaction<'_, S>, row: BranchRow) -> Result<(), TableFault>
-    ensures { AddsRow S.Store tx.old tx.new table
+    ensures { AddsRow S.Store tx.old tx.new text.now (given (branch_entry row)) table
         (λ tables. is_some (row_at branch_key tables.branches row.branch)) (with_branch row) result }
 {
     let key = row.branch.get() as i64;

@@ -6,6 +6,9 @@ ghost use Rattle.store_rows.specs.Calls.{AddsRow, LooksUp};
 ghost use Rattle.store_rows.specs.Forms.{floor_form};
 ghost use Rattle.store_rows.specs.Rules.{row_under};
 ghost use Rattle.store_rows.specs.BankTables.{floor as table};
+ghost use Rattle.store_rows.specs.SeveralRows.{given};
+ghost use Rattle.store_rows.specs.View.{floor_entry};
+ghost use Rattle.store_rows.specs.declared.texts.TheConstants.{ADD_FLOOR as text};
 
 use crate::columns::{cents_at, whole_at};
 use crate::fault::TableFault;
@@ -42,7 +45,7 @@ pub fn find_floor<S: Alter>(
 
 /// Adds a floor. `Damaged(Rule::Key)` is a branch that has one.
 pub fn add_floor<S: Alter>(tx: &mut Transaction<'_, S>, row: FloorRow) -> Result<(), TableFault>
-    ensures { AddsRow S.Store tx.old tx.new table
+    ensures { AddsRow S.Store tx.old tx.new text.now (given (floor_entry row)) table
         (λ tables. is_some (row_at floor_key tables.floors row.branch)) (with_floor row.branch (Some row.lowest)) result }
 {
     put_balance(tx, ADD_FLOOR, row.branch.get(), row.lowest)

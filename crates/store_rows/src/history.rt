@@ -8,6 +8,8 @@ ghost use Rattle.store_rows.specs.BankTables.{history as table};
 ghost use Rattle.store_rows.specs.SeveralRows.{AddsRows, given};
 ghost use Rattle.store_rows.specs.View.{history_entry};
 ghost use Rattle.store_rows.specs.declared.statements.TheConstants.{MAX_KEY};
+ghost use Rattle.store_rows.specs.declared.texts.TheConstants.{ADD_EIGHT_POSTINGS as eight};
+ghost use Rattle.store_rows.specs.declared.texts.TheConstants.{ADD_HISTORY as one};
 
 use crate::fault::TableFault;
 use crate::statements::put_in;
@@ -39,7 +41,7 @@ fn values_of<'a>(row: &HistoryRow) -> [ValueRef<'a>; 6]
 
 /// Adds a posting. `Damaged(Rule::Key)` is an ordinal that is taken.
 pub fn add_history<S: Alter>(tx: &mut Transaction<'_, S>, row: HistoryRow) -> Result<(), TableFault>
-    ensures { AddsRow S.Store tx.old tx.new table
+    ensures { AddsRow S.Store tx.old tx.new one.now (given (history_entry row)) table
         (λ tables. is_some (row_at history_key tables.history row.ordinal)) (with_history row) result }
 {
     put_in(tx, ADD_HISTORY, &values_of(&row))
@@ -50,7 +52,7 @@ pub fn add_eight_postings<S: Alter>(
     tx: &mut Transaction<'_, S>,
     rows: &[HistoryRow; 8],
 ) -> Result<(), TableFault>
-    ensures { AddsRows S.Store tx.old tx.new table
+    ensures { AddsRows S.Store tx.old tx.new eight.now history_entry table
         (λ row tables. is_some (row_at history_key tables.history row.ordinal)) with_history rows.now result }
 {
     let [a, b, c, d, e, f, g, h] = rows;

@@ -3,7 +3,9 @@
 ghost use Rattle.store_rows.specs.Calls.{AddsRow, LooksUp, SetsNumber};
 ghost use Rattle.store_rows.specs.Forms.{balance_form};
 ghost use Rattle.store_rows.specs.Holders.{balance_in, entry_under, holder_of, holder_table};
-ghost use Rattle.store_rows.specs.Holders.{holder_update, is_there, with_balance, with_row};
+ghost use Rattle.store_rows.specs.Holders.{holder_update, is_there, member_entry, member_insert};
+ghost use Rattle.store_rows.specs.Holders.{with_balance, with_row};
+ghost use Rattle.store_rows.specs.SeveralRows.{given};
 
 use crate::fault::TableFault;
 use crate::found::found;
@@ -64,7 +66,8 @@ pub fn add_member<S: Alter>(
     member: Member,
     balance: Cents,
 ) -> Result<(), TableFault>
-    ensures { AddsRow S.Store tx.old tx.new (holder_table (holder_of member)) (is_there (holder_of member))
+    ensures { AddsRow S.Store tx.old tx.new (member_insert member) (given (member_entry member balance))
+        (holder_table (holder_of member)) (is_there (holder_of member))
         (with_row member balance) result }
 {
     match member {

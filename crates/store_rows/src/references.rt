@@ -6,6 +6,9 @@ ghost use Rattle.store_rows.specs.Calls.{AddsRow, LooksUp};
 ghost use Rattle.store_rows.specs.Forms.{reference_form};
 ghost use Rattle.store_rows.specs.Rules.{row_under};
 ghost use Rattle.store_rows.specs.BankTables.{reference as table};
+ghost use Rattle.store_rows.specs.SeveralRows.{given};
+ghost use Rattle.store_rows.specs.View.{reference_entry};
+ghost use Rattle.store_rows.specs.declared.texts.TheConstants.{ADD_REFERENCE as statement};
 
 use crate::columns::{reference_at, whole_at};
 use crate::fault::TableFault;
@@ -46,7 +49,7 @@ pub fn add_reference<S: Alter>(
     tx: &mut Transaction<'_, S>,
     row: ReferenceRow,
 ) -> Result<(), TableFault>
-    ensures { AddsRow S.Store tx.old tx.new table
+    ensures { AddsRow S.Store tx.old tx.new statement.now (given (reference_entry row)) table
         (λ tables. is_some (row_at reference_key tables.references row.ordinal))
         (with_reference row.ordinal (Some row.reference)) result }
 {

@@ -13,6 +13,8 @@ ghost use Rattle.store_rows.specs.BankTables.{request as table};
 ghost use Rattle.store_rows.specs.SeveralRows.{AddsRows, given};
 ghost use Rattle.store_rows.specs.View.{request_entry};
 ghost use Rattle.store_rows.specs.declared.statements.TheConstants.{MAX_KEY};
+ghost use Rattle.store_rows.specs.declared.texts.TheConstants.{ADD_EIGHT_REQUESTS as eight};
+ghost use Rattle.store_rows.specs.declared.texts.TheConstants.{ADD_REQUEST as one};
 ghost use Rattle.store_rows.specs.Stored.{IsDecision, ReadsStored, request_stored};
 
 use crate::columns::{cents_at, outcome_at, whole_at};
@@ -94,7 +96,7 @@ fn values_of<'a>(row: &RequestRow) -> [ValueRef<'a>; 8]
 
 /// Adds a decided request. `Damaged(Rule::Key)` is an ordinal that is taken.
 pub fn add_request<S: Alter>(tx: &mut Transaction<'_, S>, row: RequestRow) -> Result<(), TableFault>
-    ensures { AddsRow S.Store tx.old tx.new table
+    ensures { AddsRow S.Store tx.old tx.new one.now (given (request_entry row)) table
         (λ tables. is_some (row_at request_key tables.requests row.ordinal)) (with_request row) result }
 {
     put_in(tx, ADD_REQUEST, &values_of(&row))
@@ -106,7 +108,7 @@ pub fn add_eight_requests<S: Alter>(
     tx: &mut Transaction<'_, S>,
     rows: &[RequestRow; 8],
 ) -> Result<(), TableFault>
-    ensures { AddsRows S.Store tx.old tx.new table
+    ensures { AddsRows S.Store tx.old tx.new eight.now request_entry table
         (λ row tables. is_some (row_at request_key tables.requests row.ordinal)) with_request rows.now result }
 {
     let [a, b, c, d, e, f, g, h] = rows;

@@ -12,7 +12,7 @@ pub loop-change-preserved : goal.loop-change-preserved
 loop-change-preserved g c =
     let i = c.loop-change.change-index in
     let lt : i < length c.args.changes.now = omega arith in
-    make_more g.C.Change.made g.C.Change.May g.met.C.Change.in_turn c.args.changes.now i c.change-item.result
+    make_more g.C.Change.made g.C.Change.May g.met.C.Change.in_turn g.met.C.Change.alike c.args.changes.now i c.change-item.result
     lt c.change-item.is
     c.loop-change.invariant c.in_ok-make.ensures
 
@@ -22,7 +22,7 @@ returns-in_err-make g c =
     let i = c.loop-change.change-index in
     let lt : i < length c.args.changes.now = omega arith in
     rw same (does_err
-    (make_more g.C.Change.made g.C.Change.May g.met.C.Change.in_turn c.args.changes.now i c.change-item.result
+    (make_more g.C.Change.made g.C.Change.May g.met.C.Change.in_turn g.met.C.Change.alike c.args.changes.now i c.change-item.result
     lt c.change-item.is
     c.loop-change.invariant c.in_err-make.ensures) (λ t so. so))
 

@@ -5,5 +5,5 @@ use Rattle.bank_transactions.proofs.batch_changes.make_all.Given as goal
 
 abbrev pub invariant-loop-change : goal.invariant-loop-change
 invariant-loop-change g l =
-    Does {X = Unit {0}} g.S.Store l.fn.tx l.tx (g.C.Change.May l.changes)
+    Does {X = Unit {0}} g.S.Store (g.C.Change.Adds l.changes) l.fn.tx l.tx (g.C.Change.May l.changes)
     (g.C.Change.made (take l.change-index l.changes)) (λ _. tt {0}) (Ok (tt {0}))

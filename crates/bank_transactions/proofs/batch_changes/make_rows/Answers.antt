@@ -17,7 +17,7 @@ loop-eight-preserved g c =
     let it = c.in-Some.ensures.cases in
     let parts : c.loop-eight.left.now
     ≡ c.in-Some.eight.now ++ c.in-Some.rest.now = rw (it.0, it.1) (sym (take-append-drop 8 c.loop-eight.left.now)) in
-    stands_more g.met.R.NewRow.in_parts c.loop-eight.invariant c.in-Some.eight.now c.in-Some.rest.now parts
+    stands_more g.met.R.NewRow.in_parts g.met.R.Change.alike c.loop-eight.invariant c.in-Some.eight.now c.in-Some.rest.now parts
     c.in_ok-make_eight.ensures
 
 pub returns-in_err-make_eight : goal.returns-in_err-make_eight
@@ -27,8 +27,8 @@ returns-in_err-make_eight g c =
     ≡ c.in-Some.eight.now ++ c.in-Some.rest.now = rw (it.0, it.1) (sym (take-append-drop 8 c.loop-eight.left.now)) in
     let same : c.from_residual.result ≡ Err c.in_err-make_eight.field-0.0 = search rules in
     rw same (does_err
-    (some_more g.met.R.NewRow.in_parts c.loop-eight.invariant c.in-Some.eight.now c.in-Some.rest.now parts
+    (some_more g.met.R.NewRow.in_parts g.met.R.Change.alike c.loop-eight.invariant c.in-Some.eight.now c.in-Some.rest.now parts
     c.in_err-make_eight.ensures) (λ t so. so))
 
 pub returns : goal.returns
-returns g c = all_more g.met.R.NewRow.in_parts c.loop-eight.invariant c.make_all.ensures
+returns g c = all_more g.met.R.NewRow.in_parts g.met.R.Change.alike c.loop-eight.invariant c.make_all.ensures

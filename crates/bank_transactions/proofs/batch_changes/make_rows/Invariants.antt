@@ -4,7 +4,7 @@ use Rattle.bank_transactions.proofs.Loops.{Stands}
 use Rattle.bank_transactions.proofs.batch_changes.make_rows.Given as goal
 
 abbrev pub invariant-loop-eight : goal.invariant-loop-eight
-invariant-loop-eight g l = Stands g.S.Store l.fn.tx l.tx g.R.Change.made g.R.Change.May l.fn.rows l.left
+invariant-loop-eight g l = Stands g.S.Store (g.R.Change.Adds l.fn.rows) l.fn.tx l.tx g.R.Change.made g.R.Change.May l.fn.rows l.left
 
 abbrev pub decreases-loop-eight : goal.decreases-loop-eight
 decreases-loop-eight g l = length l.left

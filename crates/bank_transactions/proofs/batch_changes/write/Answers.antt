@@ -4,7 +4,7 @@ use Rattle.posting_rules.specs.Changes.{with_decided}
 use Rattle.posting_rules.specs.Tables.{Tables}
 use Rattle.posting_batch.specs.Overlay.{decided_put}
 use Rattle.posting_batch.specs.View.{view}
-use Rattle.bank_transactions.proofs.Chained.{does_none, does_then, does_err, does_for}
+use Rattle.bank_transactions.proofs.Chained.{does_adds, does_none, does_then, does_err, does_for}
 use Rattle.bank_transactions.proofs.Together.{step, accounts, tellers, branches, postings, requests}
 use Rattle.bank_transactions.proofs.Together.{references}
 use Rattle.bank_transactions.proofs.batch_changes.write.Goals as goal
@@ -75,4 +75,4 @@ returns g c =
     let s4 = step (postings o) c.deref-4.ensures s3 c.in_ok-make_rows.ensures in
     let s5 = step (requests o) c.deref-5.ensures s4 c.in_ok-make_rows-2.ensures in
     let s6 = step (references o) c.deref-6.ensures s5 c.in_ok-make_all-4.ensures in
-    does_for (does_then s6 c.write_decided.ensures (λ t so. tt)) (λ t so. (so, counted o.decided _, refl))
+    does_for (does_then s6 (does_adds (λ clean text values none. absurd none) c.write_decided.ensures) (λ t so. tt)) (λ t so. (so, counted o.decided _, refl))

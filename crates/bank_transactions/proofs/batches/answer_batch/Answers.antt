@@ -3,7 +3,8 @@ use Rattle.std.proofs.Common.{◌≡◌, Err, rules, arith, refl}
 use Rattle.sqlite.specs.State.{HasCleanDisk}
 use Rattle.sqlite.specs.Held.{state}
 use Rattle.posting_batch.specs.View.{view}
-use Rattle.bank_transactions.proofs.Chained.{acts_read, does_err}
+use Rattle.bank_transactions.proofs.Chained.{acts_read, does_adds, does_err}
+use Rattle.bank_transactions.proofs.Added.{adds_of_batch}
 use Rattle.bank_transactions.proofs.Answered.{answered_idle, answered_not, answered_written, counts_none}
 use Rattle.bank_transactions.proofs.Answered.{judging_all, ready}
 use Rattle.bank_transactions.proofs.HeldBatch.{homes_made, in_turn}
@@ -24,7 +25,13 @@ returns-in_err-write-clause-says g c records made =
     let so = judging_all c.args.batch _ records
     c.args.moment (view c.judge-overlay.result.overlay) c.judge-overlay.result.replies.items made refl
     j.judged j.shown j.rising j.idle in
-    rw same (answered_not so (does_look c.in_ok-fill.ensures.says) c.in_err-write.ensures)
+    let fill = c.in_ok-fill.ensures in
+    rw same (answered_not so (does_look fill.says) (does_adds (λ clean.
+    let before : HasCleanDisk (state g.S.Store c.fill.new.tx.conn.now) = omega
+    (arith, c.in_err-write.ensures.says.survives.clean, clean) in
+    adds_of_batch c.args.batch records (view c.fill.new.overlay) (view c.judge-overlay.result.overlay) _ made
+    fill.same
+    (fill.stored before (homes_made c.args.batch records made)) j.next) c.in_err-write.ensures))
 
 pub returns-clause-says : goal.returns-clause-says
 returns-clause-says g c records made =
@@ -34,7 +41,14 @@ returns-clause-says g c records made =
     j.judged j.shown j.rising j.idle in
     let first = does_look c.in_ok-fill.ensures.says in
     elim c.if-overlay-before.branch [
-      | then-overlay-before+in_ok-write w ↦ rw w.tx-is (answered_written so first w.in_ok-write.ensures)
+      | then-overlay-before+in_ok-write w ↦
+          rw w.tx-is (answered_written so first (does_adds (λ clean.
+          let before : HasCleanDisk (state g.S.Store c.fill.new.tx.conn.now) = omega
+          (arith, w.in_ok-write.ensures.says.survives.clean, clean) in
+          adds_of_batch c.args.batch records (view c.fill.new.overlay) (view c.judge-overlay.result.overlay) _
+          made c.in_ok-fill.ensures.same
+          (c.in_ok-fill.ensures.stored before (homes_made c.args.batch records made)) j.next)
+          w.in_ok-write.ensures))
       | else-overlay-before w ↦
           rw w.tx-is (answered_idle so first (omega (arith, w.if-overlay-before.false)))
     ]

@@ -1,16 +1,16 @@
 -- The parts of the transaction are one: the batch is answered.
-use Rattle.std.proofs.Common.{rules}
+use Rattle.std.proofs.Common.{length, rules}
 use Rattle.posting_batch.specs.View.{IsMadeOf}
 use Rattle.bank_transactions.specs.Stored.{RepliesToAllStored}
 use Rattle.bank_transactions.proofs.HeldBatch.{stored_after}
-use Rattle.bank_transactions.proofs.Transacted.{of_given, transacts}
+use Rattle.bank_transactions.proofs.Transacted.{of_given, transacts_records}
 use Rattle.bank_transactions.proofs.Undone.{undoes}
 use Rattle.bank_transactions.proofs.Idle.{ends_items, idle_after}
 use Rattle.bank_transactions.proofs.batches.post_all.Goals as goal
 
 pub returns-clause-says : goal.returns-clause-says
 returns-clause-says g c records made =
-    transacts g.S.Store c.args.conn.now c.begin-tx.result c.answer_batch-replies.new.tx c.finish.new.tx.0 _
+    transacts_records (length records) g.S.Store c.args.conn.now c.begin-tx.result c.answer_batch-replies.new.tx c.finish.new.tx.0 _
     c.begin-tx.ensures.begun c.begin-tx.ensures.settled (c.answer_batch-replies.ensures.says records made)
     (ends_items g.S.Store _ _ c.answer_batch-replies.result c.finish.result c.finish.ensures) (search rules)
 

@@ -1,7 +1,8 @@
 -- A branch, then its tellers, then its accounts.
 use Rattle.std.proofs.Common.{◌≡◌, ◌+◌, ◌<◌, ◌≤◌, ℕ, ℤ, None, Ok, Err, Result, false, rules, refl, ap}
-use Rattle.std.proofs.Common.{subst}
+use Rattle.std.proofs.Common.{subst, inl, inr}
 use Rattle.std.specs.Prelude.{is_some, pos}
+use Rattle.sqlite.specs.State.{State}
 use Rattle.sqlite.specs.declared.transaction.Transaction.{Transaction}
 use Rattle.sqlite_trees.specs.declared.store.Store.{Ghosts}
 use Rattle.posting_rules.specs.declared.rows.BranchRow.{BranchRow}
@@ -12,15 +13,19 @@ use Rattle.posting_rules.specs.Numbering.{first_teller, first_account}
 use Rattle.posting_rules.specs.Tables.{Tables, row_at, branch_key, branch_row_of}
 use Rattle.sql_meanings.specs.Calls.{Says, Inside}
 use Rattle.store_rows.specs.Calls.{OfTables}
-use Rattle.store_rows.specs.Failures.{Puts}
+use Rattle.store_rows.specs.Failures.{Additions, Puts}
 use Rattle.store_rows.specs.Sparing.{SparesIfOk}
 use Rattle.store_rows.specs.TableAnswers.{PutsOneRow}
 use Rattle.store_rows.specs.BankTables.{branch}
+use Rattle.store_rows.specs.SeveralRows.{given}
+use Rattle.store_rows.specs.View.{branch_entry}
+use Rattle.store_rows.specs.Inserts.{branch_insert}
 use Rattle.store_rows.specs.declared.fault.TableFault.{TableFault}
+use Rattle.bank_transactions.specs.Additions.{AddsBranch, AddsRange}
 use Rattle.bank_transactions.specs.Doing.{Does}
 use Rattle.bank_transactions.specs.NewRows.{is_taken, with_new_rows}
-use Rattle.bank_transactions.specs.declared.new_branch.NewRows.TheVariants.{Tellers}
-use Rattle.bank_transactions.proofs.Chained.{does_then, does_err, does_for}
+use Rattle.bank_transactions.specs.declared.new_branch.NewRows.TheVariants.{Accounts, Tellers}
+use Rattle.bank_transactions.proofs.Chained.{does_adds, does_then, does_err, does_for}
 use Rattle.bank_transactions.proofs.Opened.{opened_is, next_teller, next_account}
 use Rattle.bank_transactions.proofs.Statements.{does_add}
 use Rattle.bank_transactions.proofs.Left.{leaves_add, leaves_err, leaves_for, leaves_then}
@@ -39,27 +44,35 @@ module _ (b count : ℕ) where
   abbrev row : ℤ → BranchRow
   row balance = record { branch = b; accounts = count; balance = balance }
 
+  -- all that comes with it, and no floor
+  abbrev Its : Additions
+  Its = AddsBranch b (opened_with count None)
+
   module _ {S : Type 0} {g : Ghosts S} {x y : Transaction S} where
     put : {r : Result (Unit {0}) TableFault} (balance : ℤ) → balance ≡ pos 0
         → Says g x y (Inside (OfTables (λ before now t.
         PutsOneRow before now branch (is_some (row_at branch_key t.branches b))
         (with_branch (row balance) t) r)))
-        (Inside (λ before now. Puts before now r × SparesIfOk before now r))
-        → Does g x y IsNew branched (λ _. tt) r
+        (Inside (λ before now. Puts branch_insert (given (branch_entry (row balance))) before now r
+        × SparesIfOk before now r))
+        → Does g Its x y IsNew branched (λ _. tt) r
     put {r} balance zero says = does_for
-        (does_add {So = IsNew} g x y branch (λ t. is_some (row_at branch_key t.branches b))
-        (λ t. with_branch (row balance) t) r says (λ t new. ap is_some new.1))
+        (does_add {So = IsNew} {Adds = Its} g x y branch_insert (given (branch_entry (row balance))) branch
+        (λ t. is_some (row_at branch_key t.branches b))
+        (λ t. with_branch (row balance) t) r says
+        (inl (refl, ap (λ (z : ℤ). given (branch_entry (row z))) zero)) (λ t new. ap is_some new.1))
         (λ t new. (new, ap (λ (z : ℤ). with_branch (row z) t) zero, refl))
 
     -- and its tellers behind it
     staff : {z : Transaction S} {r : Result (Unit {0}) TableFault} (teller : ℕ) → teller ≡ first_teller b
         → 1 ≤ b
-        → Does {X = Unit {0}} g x y IsNew branched (λ _. tt {0}) (Ok (tt {0}))
-        → Does g y z
+        → Does {X = Unit {0}} g Its x y IsNew branched (λ _. tt {0}) (Ok (tt {0}))
+        → Does g (AddsRange Tellers teller 10) y z
         (λ t. (n : ℕ) → n < 10 → is_taken Tellers (teller + n) (with_new_rows Tellers teller n t) ≡ false)
         (with_new_rows Tellers teller 10) (λ _. tt) r
-        → Does g x z IsNew (λ t. with_new_rows Tellers teller 10 (branched t)) (λ _. tt) r
-    staff teller from above first second = does_then first second
+        → Does g Its x z IsNew (λ t. with_new_rows Tellers teller 10 (branched t)) (λ _. tt) r
+    staff teller from above first second = does_then first (does_adds (λ clean text values own.
+        inr (inl (subst (λ (n : ℕ). AddsRange Tellers n 10 text values) from own))) second)
         (λ t new n lt. next_teller t b count teller (first_account b) from refl new.0 above new.1 n lt)
 
 pub returns-in_err-add_branch-clause-does : goal.returns-in_err-add_branch-clause-does
@@ -87,7 +100,9 @@ returns-clause-does g c =
     let first = put b count c.zero.result c.zero.ensures c.in_ok-add_branch.ensures in
     does_for (does_then
     (staff b count teller.result teller.ensures.value above first c.in_ok-add_rows.ensures.does)
-    c.add_rows-2.ensures.does
+    (does_adds (λ clean text values own. inr (inr (inl (subst (λ (m : ℕ).
+    AddsRange Accounts (first_account b) m text values) c.from.ensures
+    (subst (λ (n : ℕ). AddsRange Accounts n c.from.result text values) start own))))) c.add_rows-2.ensures.does)
     (λ t new k lt. next_account t b count _ _ teller.ensures.value start new.0 above
     new.1 k c.requires.few (subst (λ m. k < m) c.from.ensures lt)))
     (λ t new. (
@@ -109,13 +124,13 @@ returns-in_err-add_rows-clause-leaves g c =
     rw same leaves_err
 
 module _ (b count : ℕ) {S : Type 0} {g : Ghosts S} {x y : Transaction S} where
-  left : {r : Result (Unit {0}) TableFault} (balance : ℤ) → balance ≡ pos 0
+  left : {Kept : State → State → Type 0} {r : Result (Unit {0}) TableFault} (balance : ℤ) → balance ≡ pos 0
       → Says g x y (Inside (OfTables (λ before now t.
       PutsOneRow before now branch (is_some (row_at branch_key t.branches b))
       (with_branch (row b count balance) t) r)))
-      (Inside (λ before now. Puts before now r × SparesIfOk before now r))
+      (Inside Kept)
       → Leaves g x y (branched b count) r
-  left {r} balance zero says = leaves_for
+  left {Kept} {r} balance zero says = leaves_for
       (leaves_add g x y branch (λ t. is_some (row_at branch_key t.branches b))
       (λ t. with_branch (row b count balance) t) r says)
       (λ t. ap (λ (z : ℤ). with_branch (row b count z) t) zero)

@@ -5,6 +5,9 @@ use Rattle.posting_rules.specs.Changes.{with_floor}
 use Rattle.posting_rules.specs.Tables.{row_at, floor_key}
 use Rattle.posting_rules.proofs.Stepping.{no_floor_more}
 use Rattle.store_rows.specs.BankTables.{floor}
+use Rattle.store_rows.specs.SeveralRows.{given}
+use Rattle.store_rows.specs.View.{floor_entry}
+use Rattle.store_rows.specs.Inserts.{floor_insert}
 use Rattle.bank_transactions.proofs.Chained.{does_for, does_none}
 use Rattle.bank_transactions.proofs.Statements.{does_add}
 use Rattle.bank_transactions.proofs.Left.{leaves_add, leaves_for, leaves_none}
@@ -17,9 +20,10 @@ returns-in_default-clause-does g c =
 pub returns-clause-does : goal.returns-clause-does
 returns-clause-does g c =
     let b = c.args.branch in
-    rw c.in-Some.is (does_add {So = λ t. row_at floor_key t.floors b ≡ None} g.S.Store _ _ floor
+    rw c.in-Some.is (does_add {So = λ t. row_at floor_key t.floors b ≡ None} g.S.Store _ _ floor_insert
+    (given (floor_entry (record { branch = b; lowest = c.in-Some.lowest }))) floor
     (λ t. is_some (row_at floor_key t.floors b)) (with_floor b (Some c.in-Some.lowest)) c.add_floor.result
-    c.add_floor.ensures (λ t free. ap is_some free))
+    c.add_floor.ensures (c.in-Some.lowest, refl, refl, refl) (λ t free. ap is_some free))
 
 pub returns-in_default-clause-leaves : goal.returns-in_default-clause-leaves
 returns-in_default-clause-leaves g c =

@@ -1,6 +1,8 @@
 -- A row more, with nothing on it.
-use Rattle.std.proofs.Common.{◌≡◌, rules, pos}
+use Rattle.std.proofs.Common.{◌≡◌, rules, pos, refl}
 use Rattle.store_rows.specs.BankTables.{account, teller}
+use Rattle.store_rows.specs.SeveralRows.{given}
+use Rattle.bank_transactions.specs.Additions.{entry_of, insert_of}
 use Rattle.bank_transactions.specs.NewRows.{is_taken, with_new}
 use Rattle.bank_transactions.specs.declared.new_branch.NewRows.TheVariants.{Tellers, Accounts}
 use Rattle.bank_transactions.proofs.Statements.{does_add}
@@ -13,8 +15,8 @@ returns-in-Tellers-clause-does g c =
     let same : c.unwrap-teller.result ≡ n = search rules in
     let nothing : c.zero-balance.result ≡ pos 0 = c.zero-balance.ensures in
     rw c.in-Tellers.is
-    (does_add g.S.Store _ _ teller (is_taken Tellers n) (with_new Tellers n) _
-    (rw (same, nothing) at c.add_member.ensures) (λ t free. free))
+    (does_add g.S.Store _ _ (insert_of Tellers) (given (entry_of Tellers n)) teller (is_taken Tellers n)
+    (with_new Tellers n) _ (rw (same, nothing) at c.add_member.ensures) (refl, refl) (λ t free. free))
 
 pub returns-in-Accounts-clause-does : goal.returns-in-Accounts-clause-does
 returns-in-Accounts-clause-does g c =
@@ -22,8 +24,8 @@ returns-in-Accounts-clause-does g c =
     let same : c.unwrap-account.result ≡ n = search rules in
     let nothing : c.zero-balance.result ≡ pos 0 = c.zero-balance.ensures in
     rw c.in-Accounts.is
-    (does_add g.S.Store _ _ account (is_taken Accounts n) (with_new Accounts n) _
-    (rw (same, nothing) at c.add_member-in-Accounts.ensures) (λ t free. free))
+    (does_add g.S.Store _ _ (insert_of Accounts) (given (entry_of Accounts n)) account (is_taken Accounts n)
+    (with_new Accounts n) _ (rw (same, nothing) at c.add_member-in-Accounts.ensures) (refl, refl) (λ t free. free))
 
 pub returns-in-Tellers-clause-leaves : goal.returns-in-Tellers-clause-leaves
 returns-in-Tellers-clause-leaves g c =

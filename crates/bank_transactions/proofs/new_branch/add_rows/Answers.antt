@@ -1,8 +1,9 @@
 -- One row more.
 use Rattle.std.proofs.Common.{◌≡◌, ◌+◌, ◌<◌, ℕ, suc, Err, Ok, false, rules, sym, subst, arith}
+use Rattle.bank_transactions.specs.Additions.{AddsRange}
 use Rattle.bank_transactions.specs.Doing.{Does, Leaves}
 use Rattle.bank_transactions.specs.NewRows.{is_taken, with_new_rows}
-use Rattle.bank_transactions.proofs.Chained.{does_none, does_then, does_err}
+use Rattle.bank_transactions.proofs.Chained.{does_adds, does_none, does_then, does_err}
 use Rattle.bank_transactions.proofs.Left.{leaves_err, leaves_none, leaves_then}
 use Rattle.bank_transactions.proofs.new_branch.add_rows.Goals as goal
 
@@ -23,10 +24,12 @@ loop-place-preserved g c =
     let next = sym (one_more c.loop-place.place) in
     record {
       does =
-          subst (λ n. Does {X = Unit {0}} g.S.Store c.args.tx.now c.add_new.new.tx
+          subst (λ n. Does {X = Unit {0}} g.S.Store (AddsRange kind first count) c.args.tx.now c.add_new.new.tx
           (λ t. (m : ℕ) → m < count → is_taken kind (first + m) (with_new_rows kind first m t) ≡ false)
           (λ t. with_new_rows kind first n t) (λ _. tt {0}) (Ok (tt {0}))) next
-          (does_then so_far.does one.does (λ t free. free c.loop-place.place lt));
+          (does_then so_far.does
+          (does_adds (λ clean text values own. (c.loop-place.place, lt, own)) one.does)
+          (λ t free. free c.loop-place.place lt));
       leaves =
           subst (λ n. Leaves {X = Unit {0}} g.S.Store c.args.tx.now c.add_new.new.tx
           (λ t. with_new_rows kind first n t) (Ok (tt {0}))) next
@@ -38,7 +41,8 @@ returns-in_err-add_new-clause-does g c =
     let lt : c.loop-place.place < c.args.count = omega arith in
     let same : c.from_residual.result ≡ Err c.in_err-add_new.field-0.0 = search rules in
     rw same (does_err
-    (does_then c.loop-place.invariant.does c.in_err-add_new.ensures.does
+    (does_then c.loop-place.invariant.does
+    (does_adds (λ clean text values own. (c.loop-place.place, lt, own)) c.in_err-add_new.ensures.does)
     (λ t free. free c.loop-place.place lt))
     (λ t free. free))
 

@@ -7,7 +7,8 @@ use Rattle.posting_batch.specs.View.{view}
 use Rattle.bank_transactions.specs.Filling.{emptied}
 use Rattle.bank_transactions.proofs.Answered.{answered_idle, answered_not, answered_written, homes_one}
 use Rattle.bank_transactions.proofs.Answered.{judging_one, ready_one}
-use Rattle.bank_transactions.proofs.Chained.{acts_read, does_err}
+use Rattle.bank_transactions.proofs.Chained.{acts_read, does_adds, does_err}
+use Rattle.bank_transactions.proofs.Added.{adds_of_one}
 use Rattle.bank_transactions.proofs.HeldBatch.{found_stored}
 use Rattle.bank_transactions.proofs.LookUps.{does_look}
 use Rattle.bank_transactions.proofs.posting.post_inside.Goals.{then-overlay-before+in_ok-write}
@@ -26,7 +27,15 @@ returns-in_err-write-clause-acts g c =
     let so = judging_one c.args.request.now c.args.moment (view c.for_request-overlay.result)
     (view c.fill.new.overlay) (view c.judge-reply.new.self) c.judge-reply.result
     c.for_request-overlay.ensures.covers c.judge-reply.ensures.reply c.judge-reply.ensures.overlay in
-    rw same (answered_not so (does_look c.in_ok-fill.ensures.says) c.in_err-write.ensures)
+    let fill = c.in_ok-fill.ensures in
+    let made = c.for_request-overlay.ensures.covers in
+    rw same (answered_not so (does_look fill.says) (does_adds (λ clean.
+    let before : HasCleanDisk (state g.S.Store c.fill.new.tx.conn.now) = omega
+    (arith, c.in_err-write.ensures.says.survives.clean, clean) in
+    adds_of_one c.args.request.now c.args.moment (view c.for_request-overlay.result) (view c.fill.new.overlay)
+    (view c.judge-reply.new.self) _ made fill.same
+    (fill.stored before (homes_one c.args.request.now (view c.for_request-overlay.result) made))
+    c.judge-reply.ensures.overlay) c.in_err-write.ensures))
 
 pub returns-clause-acts : goal.returns-clause-acts
 returns-clause-acts g c =
@@ -35,7 +44,16 @@ returns-clause-acts g c =
     c.for_request-overlay.ensures.covers c.judge-reply.ensures.reply c.judge-reply.ensures.overlay in
     let first = does_look c.in_ok-fill.ensures.says in
     elim c.if-overlay-before.branch [
-      | then-overlay-before+in_ok-write w ↦ rw w.tx-is (answered_written so first w.in_ok-write.ensures)
+      | then-overlay-before+in_ok-write w ↦
+          rw w.tx-is (answered_written so first (does_adds (λ clean.
+          let before : HasCleanDisk (state g.S.Store c.fill.new.tx.conn.now) = omega
+          (arith, w.in_ok-write.ensures.says.survives.clean, clean) in
+          let made = c.for_request-overlay.ensures.covers in
+          adds_of_one c.args.request.now c.args.moment (view c.for_request-overlay.result)
+          (view c.fill.new.overlay) (view c.judge-reply.new.self) _ made c.in_ok-fill.ensures.same
+          (c.in_ok-fill.ensures.stored before
+          (homes_one c.args.request.now (view c.for_request-overlay.result) made))
+          c.judge-reply.ensures.overlay) w.in_ok-write.ensures))
       | else-overlay-before w ↦
           rw w.tx-is (answered_idle so first (omega (arith, w.if-overlay-before.false)))
     ]

@@ -1,12 +1,12 @@
 -- The parts of the transaction are one, which reads and then writes.
 use Rattle.std.proofs.Common.{rules}
-use Rattle.bank_transactions.proofs.Transacted.{transacts}
+use Rattle.bank_transactions.proofs.Transacted.{transacts_records}
 use Rattle.bank_transactions.proofs.Undone.{undoes}
 use Rattle.bank_transactions.proofs.transactions.post.Goals as goal
 
 pub returns-clause-transacts : goal.returns-clause-transacts
 returns-clause-transacts g c =
-    transacts g.S.Store c.args.conn.now c.begin-tx.result c.post_inside-reply.new.tx c.finish.new.tx.0 _
+    transacts_records 1 g.S.Store c.args.conn.now c.begin-tx.result c.post_inside-reply.new.tx c.finish.new.tx.0 _
     c.begin-tx.ensures.begun
     c.begin-tx.ensures.settled c.post_inside-reply.ensures.acts c.finish.ensures (search rules)
 

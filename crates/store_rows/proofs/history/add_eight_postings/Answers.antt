@@ -6,6 +6,7 @@ use Rattle.posting_rules.specs.declared.rows.HistoryRow.{HistoryRow}
 use Rattle.store_rows.specs.BankTables.{history as table}
 use Rattle.store_rows.specs.SeveralRows.{AddsRows}
 use Rattle.store_rows.specs.View.{history_entry}
+use Rattle.store_rows.specs.declared.texts.TheConstants.{ADD_EIGHT_POSTINGS}
 use Rattle.store_rows.proofs.SeveralWrites.{all_given, eight_are, eight_put}
 use Rattle.store_rows.proofs.history.add_eight_postings.Goals as goal
 
@@ -48,7 +49,8 @@ returns g c =
         ),
       ),
     ) in
-    subst (λ (l : List HistoryRow). AddsRows g.S.Store c.args.tx.now c.put_in.new.tx table
+    subst (λ (l : List HistoryRow). AddsRows g.S.Store c.args.tx.now c.put_in.new.tx ADD_EIGHT_POSTINGS.now
+    history_entry table
     (λ row tables. is_some (row_at history_key tables.history row.ordinal)) with_history l c.put_in.result) (sym are)
     (eight_put.postings first second third fourth fifth sixth seventh eighth _ g.S.Store
     c.args.tx.now c.put_in.new.tx (

@@ -6,6 +6,7 @@ use Rattle.posting_rules.specs.declared.rows.RequestRow.{RequestRow}
 use Rattle.store_rows.specs.BankTables.{request as table}
 use Rattle.store_rows.specs.SeveralRows.{AddsRows}
 use Rattle.store_rows.specs.View.{request_entry}
+use Rattle.store_rows.specs.declared.texts.TheConstants.{ADD_EIGHT_REQUESTS}
 use Rattle.store_rows.proofs.SeveralWrites.{all_given, eight_are, eight_put}
 use Rattle.store_rows.proofs.requests.add_eight_requests.Goals as goal
 
@@ -48,7 +49,8 @@ returns g c =
         ),
       ),
     ) in
-    subst (λ (l : List RequestRow). AddsRows g.S.Store c.args.tx.now c.put_in.new.tx table
+    subst (λ (l : List RequestRow). AddsRows g.S.Store c.args.tx.now c.put_in.new.tx ADD_EIGHT_REQUESTS.now
+    request_entry table
     (λ row tables. is_some (row_at request_key tables.requests row.ordinal)) with_request l c.put_in.result) (sym are)
     (eight_put.requests first second third fourth fifth sixth seventh eighth _ g.S.Store
     c.args.tx.now c.put_in.new.tx (

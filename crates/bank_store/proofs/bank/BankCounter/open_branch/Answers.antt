@@ -9,6 +9,7 @@ use Rattle.bank_store.proofs.Causes.{still_clean}
 use Rattle.bank_store.proofs.Countered.{takes}
 use Rattle.bank_store.proofs.OtherTables.{spares_done, spares_down, spares_untouched}
 use Rattle.bank_store.proofs.Refusing.{answered_call, refused_call, transaction_refused, untried_call, Refusal}
+use Rattle.bank_transactions.specs.Additions.{AddsBranch}
 use Rattle.bank_transactions.specs.Causes.{IsBrokenOrMet}
 use Rattle.bank_store.proofs.bank.BankCounter.open_branch.Given.{Over}
 use Rattle.bank_store.proofs.bank.BankCounter.open_branch.Goals as goal
@@ -16,7 +17,8 @@ use Rattle.bank_store.proofs.bank.BankCounter.open_branch.Goals as goal
 -- what its refusal says
 refused : (g : Over) (c : goal.After-go_down g)
     → Refusal g.S.Store c.args.self.now c.go_down.new.self (Open c.args.branch (opened_with c.args.count c.args.floor) ∷ [])
-    (IsBrokenOrMet g.S.Store) c.go_down.result
+    (IsBrokenOrMet g.S.Store (AddsBranch c.args.branch (opened_with c.args.count c.args.floor)))
+    c.go_down.result
 refused g c =
     let b = c.args.branch in
     let terms = opened_with c.args.count c.args.floor in
@@ -50,6 +52,7 @@ returns-in-Ok g c =
           c.in_ok-up.ensures.up says) (still_clean says.survives);
       frugal = λ same. (let it = same in cc);
       stored = c.in-Ok.ensures.stored;
+      own = tt;
       spares = spares_done g.S.Store c.args.self.now _ _ c.in_ok-up.ensures.up says.spares;
     }
 
@@ -62,6 +65,7 @@ returns-in-Err g c =
           c.in_ok-up.ensures.up;
       frugal = λ same. no.frugal (let it = same in cc);
       stored = tt;
+      own = no.broken;
       spares = spares_down g.S.Store c.args.self.now c.go_down.new.self c.open_branch.new.conn c.in-Err.fault
           c.go_down.result c.in_ok-up.ensures.up c.in-Err.ensures.transacts.spares
           c.in-Err.ensures.undone

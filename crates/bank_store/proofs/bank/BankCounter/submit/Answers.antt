@@ -14,6 +14,7 @@ use Rattle.bank_store.proofs.Causes.{still_clean}
 use Rattle.bank_store.proofs.Countered.{takes}
 use Rattle.bank_store.proofs.OtherTables.{spares_done, spares_down, spares_untouched}
 use Rattle.bank_store.proofs.Refusing.{answered_call, refused_call, transaction_refused, untried_call, Refusal}
+use Rattle.bank_transactions.specs.Additions.{AddsForRecords}
 use Rattle.bank_transactions.specs.Causes.{IsBrokenOrMet}
 use Rattle.bank_store.proofs.bank.BankCounter.submit.Given.{Over}
 use Rattle.bank_store.proofs.bank.BankCounter.submit.Goals as goal
@@ -24,7 +25,8 @@ same_request is = cc
 -- what its refusal says
 refused : (g : Over) (c : goal.After-go_down g)
     → Refusal g.S.Store c.args.self.now c.go_down.new.self (Post c.args.moment c.args.bytes.now ∷ [])
-    (IsBrokenOrMet g.S.Store) c.go_down.result
+    (IsBrokenOrMet g.S.Store (AddsForRecords (database_of g.S.Store c.args.self.now) 1))
+    c.go_down.result
 refused g c =
     let m = c.args.moment in
     let bytes = c.args.bytes.now in
@@ -60,6 +62,7 @@ returns-in-Ok-post g c =
       stored = λ clean r is.
           subst (λ (q : RequestFields). RepliesToStored (database_of g.S.Store c.args.self.now) q c.in-Ok-post.reply)
           (same_request (sym read ∙ is)) (c.in-Ok-post.ensures.stored clean);
+      own = tt;
       spares = spares_done g.S.Store c.args.self.now _ _ c.in_ok-up.ensures.up says.spares;
     }
 
@@ -72,6 +75,7 @@ returns-in-Err g c =
           c.in_ok-up.ensures.up;
       frugal = λ same. no.frugal (let it = same in cc);
       stored = tt;
+      own = no.broken;
       spares = spares_down g.S.Store c.args.self.now c.go_down.new.self c.post.new.conn c.in-Err.fault
           c.go_down.result c.in_ok-up.ensures.up c.in-Err.ensures.transacts.spares
           c.in-Err.ensures.undone

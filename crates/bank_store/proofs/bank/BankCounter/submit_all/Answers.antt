@@ -13,6 +13,7 @@ use Rattle.bank_store.proofs.Countered.{HoldsOfLogs, none_or_all, none_or_all_do
 use Rattle.bank_store.proofs.OtherTables.{spares_done, spares_down, spares_untouched}
 use Rattle.bank_store.proofs.Refusing.{answered_call, refused_call, spared_call, transaction_refused}
 use Rattle.bank_store.proofs.Refusing.{untried_call, Refusal}
+use Rattle.bank_transactions.specs.Additions.{AddsForRecords}
 use Rattle.bank_transactions.specs.Causes.{IsBrokenOrMet}
 use Rattle.bank_store.proofs.bank.BankCounter.submit_all.Given.{Over}
 use Rattle.bank_store.proofs.bank.BankCounter.submit_all.Goals as goal
@@ -23,7 +24,8 @@ of_logs t log are shows = (log, are, shows)
 -- what its refusal says
 refused : (g : Over) (c : goal.After-go_down g)
     → Refusal g.S.Store c.args.self.now c.go_down.new.self (posts c.args.moment c.args.records.now)
-    (IsBrokenOrMet g.S.Store) c.go_down.result
+    (IsBrokenOrMet g.S.Store (AddsForRecords (database_of g.S.Store c.args.self.now) (length c.args.records.now)))
+    c.go_down.result
 refused g c =
     let m = c.args.moment in
     let rs = c.args.records.now in
@@ -62,6 +64,7 @@ returns-in-Ok g c =
             still = it.same;
           };
       stored = λ clean. c.in-Ok.ensures.stored clean rs made;
+      own = tt;
       spares = spares_done g.S.Store c.args.self.now _ _ c.in_ok-up.ensures.up says.spares;
     }
 
@@ -82,6 +85,7 @@ returns-in-Err g c =
           c.go_down.ensures.survives;
       idle = tt;
       stored = tt;
+      own = no.broken;
       spares = spares_down g.S.Store c.args.self.now c.go_down.new.self c.post_all.new.conn c.in-Err.fault
           c.go_down.result c.in_ok-up.ensures.up (c.in-Err.ensures.says rs c.in_ok-batch.ensures.made).spares
           (c.in-Err.ensures.undone rs c.in_ok-batch.ensures.made)

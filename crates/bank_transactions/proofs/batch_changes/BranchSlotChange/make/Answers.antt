@@ -6,6 +6,7 @@ use Rattle.message_records.specs.declared.limits.TheConstants.{MAX_BRANCH}
 use Rattle.posting_rules.specs.Tables.{Tables}
 use Rattle.store_rows.specs.Holders.{HasRow, with_balance}
 use Rattle.store_rows.specs.declared.holders.Holder.TheVariants.{Branch}
+use Rattle.bank_transactions.specs.Additions.{NoRow}
 use Rattle.bank_transactions.specs.Doing.{Does}
 use Rattle.bank_transactions.proofs.Chained.{does_for, does_none}
 use Rattle.bank_transactions.specs.Writing.{by_change}
@@ -32,7 +33,7 @@ returns-in-Some g c =
     let s = c.args.self.now in
     let same : c.in-Some.branch ≡ s.branch = same_number s.branch c.in-Some.branch
     (sym c.new.ensures ∙ c.in-Some.is) in
-    let does = subst (λ (n : ℕ). Does g.S.Store c.args.tx.now c.write_change.new.tx
+    let does = subst (λ (n : ℕ). Does g.S.Store NoRow c.args.tx.now c.write_change.new.tx
     (λ t. IfSome s.changed (λ _. HasRow (Branch n) t))
     (λ t. by_change s.changed (λ z. with_balance (Branch n) z t) t) (λ _. tt {0}) c.write_change.result)
     same c.write_change.ensures in

@@ -4,12 +4,15 @@ use Rattle.posting_rules.specs.Changes.{with_reference}
 use Rattle.posting_rules.specs.Tables.{reference_key}
 use Rattle.posting_batch.specs.Overlay.{references_put}
 use Rattle.store_rows.specs.BankTables.{reference}
-use Rattle.bank_transactions.proofs.Rows.{reference_put, row_added}
+use Rattle.store_rows.specs.SeveralRows.{given}
+use Rattle.store_rows.specs.View.{reference_entry}
+use Rattle.store_rows.specs.Inserts.{reference_insert}
+use Rattle.bank_transactions.proofs.Rows.{adds_reference, reference_put, row_added}
 use Rattle.bank_transactions.proofs.batch_changes.ReferenceRowChange.make.Goals as goal
 
 pub returns : goal.returns
 returns g c =
     let row = c.args.self.now in
-    row_added reference reference_key (λ t. t.references)
+    row_added reference_insert (given (reference_entry row)) reference reference_key (λ t. t.references)
     (λ r. with_reference r.ordinal (Some r.reference)) references_put row
-    (reference_put row) c.add_reference.ensures
+    (reference_put row) (adds_reference row) c.add_reference.ensures

@@ -10,7 +10,7 @@ use Rattle.posting_rules.specs.Tables.{Tables, AreTablesOf}
 use Rattle.posting_rules.proofs.Records.{all_past}
 use Rattle.posting_rules.proofs.Records as past
 use Rattle.posting_batch.specs.Batch.{ChangesRows, HasRisingSlots, AddsFreeRows, covering_all, no_slots}
-use Rattle.posting_batch.specs.Batch.{filled, HasFreeOrdinals}
+use Rattle.posting_batch.specs.Batch.{filled, HasFreeOrdinals, HasNextOrdinals}
 use Rattle.posting_batch.specs.Judging.{overlay_with_all, replies_over}
 use Rattle.posting_batch.specs.Overlay.{Overlay, tables_over}
 use Rattle.posting_batch.specs.View.{view}
@@ -19,6 +19,7 @@ use Rattle.posting_batch.proofs.FreeOrdinals.{free_shown}
 use Rattle.posting_batch.proofs.Idle.{all_answered, all_idle, all_rows}
 use Rattle.posting_batch.proofs.InOrder.{all_tables, all_replies, all_rising, judged}
 use Rattle.posting_batch.proofs.NewRows.{all_changes, all_adds}
+use Rattle.posting_batch.proofs.NextOrdinals.{next_all}
 use Rattle.posting_batch.proofs.batch.Batch.judge.Goals as goal
 
 pub returns-clause-judged : goal.returns-clause-judged
@@ -79,6 +80,14 @@ returns-clause-shown c t records is log shows =
           (all_adds old t log m records it.fits it.unchanged it.covers
           (subst (λ (u : Tables). AreTablesOf u log) (sym it.same) shows));
     }
+
+pub returns-clause-next : goal.returns-clause-next
+returns-clause-next c none =
+    let old = view c.args.self.overlay in
+    subst (λ (reads : List (Result RequestFields Bad)).
+    HasNextOrdinals old.decided (length reads) (view c.judge_records.new.self)) c.deref.ensures.value
+    (subst (HasNextOrdinals old.decided (length c.deref.result.now)) (sym c.judge_records.ensures.overlay)
+    (next_all old c.args.moment c.deref.result.now none))
 
 pub returns-clause-counts : goal.returns-clause-counts
 returns-clause-counts c =

@@ -1,0 +1,78 @@
+-- The rows that records put in are under ordinals that follow the count which the file holds.
+use Rattle.std.proofs.Common.{◌≡◌, ◌∙◌, ℕ, List, [], ◌∷◌, length, map, Ok, refl, sym, ap, subst, inl, inr}
+use Rattle.std.proofs.lemmas.List.{length-map}
+use Rattle.std.specs.List.{AllByRecursion}
+use Rattle.sqlite.specs.Effect.{Database}
+use Rattle.sqlite.specs.Order.{Row}
+use Rattle.sqlite_rules.specs.Lists.{Has}
+use Rattle.message_records.specs.Reading.{request_of}
+use Rattle.message_records.specs.Records.{RequestFields}
+use Rattle.posting_batch.specs.Batch.{HasNextOrdinals, IsNextOrdinal, covering, no_slots}
+use Rattle.posting_batch.specs.Judging.{overlay_with}
+use Rattle.posting_batch.specs.Overlay.{Overlay}
+use Rattle.posting_batch.specs.View.{IsMadeOf, reads_of, view}
+use Rattle.posting_batch.specs.declared.batch.Batch.{Batch}
+use Rattle.posting_batch.proofs.NextOrdinals.{HasNoRow, next_one, none_covered, none_new}
+use Rattle.store_rows.specs.Rules.{OfRows}
+use Rattle.bank_transactions.specs.Additions.{AddsForRecords, AddsNew, FollowsCount, adds_so}
+use Rattle.bank_transactions.specs.Filling.{AreHeld, emptied}
+
+each_of : {R : Type 0} (P : R → Type 0) (rows : List R) (r : R) → AllByRecursion P rows → Has rows r → P r
+each_of P [] r all none = absurd none
+each_of P (x ∷ rows) r all (inl same) = subst P (sym same) all.0
+each_of P (x ∷ rows) r all (inr more) = each_of P rows r all.1 more
+
+module _ (db : Database) (o judged : Overlay) (count : ℕ) (held : OfRows (λ rows. AreHeld rows o) db)
+    (next : HasNextOrdinals o.decided count judged) where
+  follows : (ordinal : ℕ) → IsNextOrdinal o.decided count ordinal → FollowsCount db count ordinal
+  follows ordinal is = λ rows has. (o.decided, (held rows has).decided, is)
+
+  own : {R : Type 0} (ordinal : R → ℕ) (rows : List R)
+      → AllByRecursion (λ r. IsNextOrdinal o.decided count (ordinal r)) rows
+      → (r : R) → Has rows r → FollowsCount db count (ordinal r)
+  own ordinal rows all r has =
+      follows (ordinal r) (each_of (λ x. IsNextOrdinal o.decided count (ordinal x)) rows r all has)
+
+  adds_own : (text : List ℕ) (values : Row) → AddsNew judged text values
+      → AddsForRecords db count text values
+  adds_own text values (inl it) = inl (adds_so _ _ (Has judged.history) (λ r. FollowsCount db count r.ordinal)
+      (own (λ r. r.ordinal) judged.history next.history) text values it)
+  adds_own text values (inr (inl it)) = inr (inl (adds_so _ _ (Has judged.requests)
+      (λ r. FollowsCount db count r.ordinal) (own (λ r. r.ordinal) judged.requests next.requests) text values it))
+  adds_own text values (inr (inr it)) = inr (inr (adds_so _ _ (Has judged.references)
+      (λ r. FollowsCount db count r.ordinal) (own (λ r. r.ordinal) judged.references next.references) text
+      values it))
+
+none_filled : (o p : Overlay) → emptied o ≡ emptied p → HasNoRow p → HasNoRow o
+none_filled o p same none = record {
+  history = ap (λ (q : Overlay). q.history) same ∙ none.history;
+  requests = ap (λ (q : Overlay). q.requests) same ∙ none.requests;
+  references = ap (λ (q : Overlay). q.references) same ∙ none.references;
+}
+
+none_at_first : HasNoRow no_slots
+none_at_first = record { history = refl; requests = refl; references = refl }
+
+-- those of a batch
+pub adds_of_batch : (b : Batch) (records : List (List ℕ)) (o judged : Overlay) (db : Database)
+    → IsMadeOf b records → emptied o ≡ emptied (view b.overlay) → OfRows (λ rows. AreHeld rows o) db
+    → (HasNextOrdinals o.decided 0 o → HasNextOrdinals o.decided (length (reads_of b)) judged)
+    → (text : List ℕ) (values : Row) → AddsNew judged text values
+    → AddsForRecords db (length records) text values
+adds_of_batch b records o judged db made same held next =
+    let none = none_filled o (view b.overlay) same
+    (subst HasNoRow (sym made.overlay) (none_covered no_slots (map request_of records) none_at_first)) in
+    let many : length (reads_of b) ≡ length records = ap length made.reads ∙ length-map records request_of in
+    adds_own db o judged (length records) held
+    (subst (λ (n : ℕ). HasNextOrdinals o.decided n judged) many (next (none_new o.decided o none)))
+
+-- those of a single record
+pub adds_of_one : (r : RequestFields) (m : ℕ) (p o judged : Overlay) (db : Database)
+    → p ≡ covering no_slots (Ok r) → emptied o ≡ emptied p → OfRows (λ rows. AreHeld rows o) db
+    → judged ≡ overlay_with o m (Ok r)
+    → (text : List ℕ) (values : Row) → AddsNew judged text values → AddsForRecords db 1 text values
+adds_of_one r m p o judged db made same held after =
+    let none = none_filled o p same
+    (subst HasNoRow (sym made) (none_covered no_slots (Ok r ∷ []) none_at_first)) in
+    adds_own db o judged 1 held (subst (HasNextOrdinals o.decided 1) (sym after)
+    (next_one o m r (none_new o.decided o none)))

@@ -1,0 +1,32 @@
+-- The texts by which calls put rows in.
+use Rattle.std.specs.Prelude.{ℕ, List}
+use Rattle.store_rows.specs.declared.texts.TheConstants.{ADD_ACCOUNT, ADD_BRANCH, ADD_EIGHT_POSTINGS}
+use Rattle.store_rows.specs.declared.texts.TheConstants.{ADD_EIGHT_REQUESTS, ADD_FLOOR, ADD_HISTORY}
+use Rattle.store_rows.specs.declared.texts.TheConstants.{ADD_REFERENCE, ADD_REQUEST, ADD_TELLER}
+
+abbrev pub branch_insert : List ℕ
+branch_insert = ADD_BRANCH.now
+
+abbrev pub teller_insert : List ℕ
+teller_insert = ADD_TELLER.now
+
+abbrev pub account_insert : List ℕ
+account_insert = ADD_ACCOUNT.now
+
+abbrev pub floor_insert : List ℕ
+floor_insert = ADD_FLOOR.now
+
+abbrev pub posting_insert : List ℕ
+posting_insert = ADD_HISTORY.now
+
+abbrev pub eight_postings_insert : List ℕ
+eight_postings_insert = ADD_EIGHT_POSTINGS.now
+
+abbrev pub request_insert : List ℕ
+request_insert = ADD_REQUEST.now
+
+abbrev pub eight_requests_insert : List ℕ
+eight_requests_insert = ADD_EIGHT_REQUESTS.now
+
+abbrev pub reference_insert : List ℕ
+reference_insert = ADD_REFERENCE.now
