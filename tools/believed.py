@@ -20,6 +20,8 @@ PAGE = TOP / "docs" / "BELIEVE.md"
 PROMISE = [("bank_lives", "reopen", ["found", "kept"])]
 CALLS = PROMISE + [
     ("bank_lives", "lives_law", []),
+    ("bank_lives", "calls_law", []),
+    ("bank_lives", "streams_law", []),
     ("bank_store", "submit", []),
     ("bank_store", "submit_all", []),
     ("bank_store", "open_branch", []),
@@ -244,7 +246,7 @@ def page():
         "| For | Definitions |",
         "|---|---|",
         f"| README's promise: `reopen` (`found`, `kept`) | {said}; {len(rust)} Rust types and constants, {len(kit)} names of the kit |",
-        f"| with `lives_law`, `submit`, `submit_all`, `open_branch` | {said_calls} |",
+        f"| with `lives_law`, `calls_law` and `streams_law`, which say what is acknowledged, and `submit`, `submit_all`, `open_branch` | {said_calls} |",
         f"| all ten claims of README | {said_claims} |",
         "",
         "In reading order. The lines count each definition with its comment.",
