@@ -254,6 +254,7 @@ def page():
         "## For the promise",
         "",
         *table(promise),
+        *borrowed(rust, kit),
         "## For the calls of a counter, too",
         "",
         *table([it for it in calls if id(it) in more]),
@@ -262,6 +263,19 @@ def page():
         *table([it for it in claims if id(it) not in own | more]),
     ]
     return "\n".join(text)
+
+
+def borrowed(rust, kit):
+    """The Rust types and constants that the definitions name, and the names of the kit."""
+    types, names = {}, {}
+    for crate, name in rust:
+        types.setdefault(crate, set()).add(name.split(".")[-1])
+    for path, name in kit:
+        library = path.split(".")[1] if path.startswith("Rattle.") else path.split(".")[0]
+        names.setdefault(library, set()).add(name)
+    def lines(by_crate):
+        return [f"- `{it}`: " + ", ".join(f"`{name}`" for name in sorted(by_crate[it])) for it in sorted(by_crate)]
+    return ["**Rust types and constants**", "", *lines(types), "", "**Names of the kit**", "", *lines(names), ""]
 
 
 def table(found):
