@@ -17,7 +17,7 @@ from serve_client import BANK, make_bank, need_program, post, read_answer, recor
 FEW, MANY = 1000, 3000
 # What calls `sqlite`, and what it asks for.
 KINDS = [
-    ("INSERT of the request", "make_all", "execute"),
+    ("INSERT of the request", "make_rows", "execute"),
     ("INSERT of the posting, UPDATE of account, teller and branch", "batch_changes::write", "execute"),
     ("UPDATE of meta", "write_decided", "execute"),
     ("SELECT of the request and the account", "slots::fill_all", "query_row"),
