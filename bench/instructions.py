@@ -21,9 +21,8 @@ KINDS = [
     ("INSERT of the posting, UPDATE of account, teller and branch", "batch_changes::write", "execute"),
     ("UPDATE of meta", "write_decided", "execute"),
     ("SELECT of the request and the account", "slots::fill_all", "query_row"),
-    ("SELECT of the teller and the branch", "slots::fill:", "query_row"),
+    ("SELECT of the teller, the branch and the floor", "slots::fill:", "query_row"),
     ("SELECT of meta", "read_meta", "query_row"),
-    ("SELECT of the floor", "floor_at", "query_row"),
     ("commit", "", "Connection::commit"),
 ]
 
