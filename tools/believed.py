@@ -2,7 +2,7 @@
 """Lists the definitions that a reader has to believe, for each of README's claims.
 
     tools/believed.py              prints docs/BELIEVE.md
-    tools/believed.py --check      ends with status 1 unless docs/BELIEVE.md is what it prints
+    tools/believed.py --check      ends with status 1 unless docs/BELIEVE.md is what it prints, and README has its numbers
     tools/believed.py CRATE NAME [CLAUSE..]      the list of one function's contract
 
 From the names of a function's clauses it walks through `specs/` until only names of the kit are left. A definition counts
@@ -15,6 +15,7 @@ from pathlib import Path
 TOP = Path(__file__).resolve().parent.parent
 CRATES = TOP / "crates"
 PAGE = TOP / "docs" / "BELIEVE.md"
+README = TOP / "README.md"
 
 # The promise, what a user of the library calls, and all that README claims: crate, function and clauses (none: all).
 PROMISE = [("bank_lives", "reopen", ["found", "kept"])]
@@ -294,6 +295,9 @@ def main():
     if sys.argv[1:] == ["--check"]:
         if not PAGE.exists() or PAGE.read_text() != page():
             sys.exit("docs/BELIEVE.md isn't what tools/believed.py prints")
+        said = counts(PROMISE)[3].split(" in ")[0]
+        if said not in README.read_text():
+            sys.exit(f"README.md doesn't say how much its promise needs: {said}")
         print("docs/BELIEVE.md: as tools/believed.py prints it")
     elif len(sys.argv) > 2:
         found, rust, kit, said = counts([(sys.argv[1], sys.argv[2], sys.argv[3:])])
