@@ -16,10 +16,11 @@ use Rattle.bank_store.specs.Seen.{seen_in}
 use Rattle.bank_store.specs.declared.bank.Bank.{Bank}
 use Rattle.bank_store.specs.declared.refused.Refused.{Refused}
 use Rattle.bank_store.proofs.Opened.{stands_opened}
-use Rattle.posting_rules.specs.Laws.{IsConsistent, NoneShares, TablesAreConsistent}
+use Rattle.posting_rules.specs.Laws.{IsConsistent}
+use Rattle.posting_rules.proofs.Consistent.{consistent}
 use Rattle.bank_lives.specs.Lives.{IsFoundAgain}
 use Rattle.bank_lives.specs.ManyLives.{Given, IsKept, Keeps}
-use Rattle.bank_lives.proofs.ManyLived.{Begins}
+use Rattle.bank_lives.proofs.ManyLived.{Begins, each_once}
 
 -- one that was opened on trees which show a beginning stands there
 pub begins_opened : (s : State) (log given : List Command) (least : ℕ) → Opens s
@@ -36,37 +37,35 @@ begins_opened s log given least opens settled finds (t, left, b) = record {
 }
 
 -- the tables that it shows are consistent
-sums_at : (seen : Seen) (log : List Command) → TablesAreConsistent → (stands : StandsAt seen log)
+sums_at : (seen : Seen) (log : List Command) (stands : StandsAt seen log)
     → ((other : Tables) → seen.tables other → other ≡ stands.shows.tables)
     → (t : Tables) → seen.tables t → IsConsistent t
-sums_at seen log consistent stands one other shown = subst (λ (it : Tables). IsConsistent it)
+sums_at seen log stands one other shown = subst (λ (it : Tables). IsConsistent it)
     (sym (one other shown)) (consistent stands.shows.tables log stands.shows.shows)
 
 -- a bank that stands at a beginning
 pub found_at : (seen : Seen) (log given : List Command) (least count : ℕ) → least ≤ count
-    → count ≤ length given → NoneShares
-    → TablesAreConsistent → (stands : StandsAt seen (behind log (take count given)))
+    → count ≤ length given → (stands : StandsAt seen (behind log (take count given)))
     → ((other : Tables) → seen.tables other → other ≡ stands.shows.tables) → IsFoundAgain seen log given least
-found_at seen log given least count holds within none_shares consistent stands one = record {
+found_at seen log given least count holds within stands one = record {
   count = count;
   holds = holds;
   within = within;
   stands = stands;
-  once = none_shares (behind log (take count given));
-  sums = sums_at seen (behind log (take count given)) consistent stands one;
+  once = each_once (behind log (take count given));
+  sums = sums_at seen (behind log (take count given)) stands one;
 }
 
 -- a bank that stands at what the lives before it lead to
 pub kept_at : (seen : Seen) (start : List Command) (lives : List Given) (log : List Command)
-    → Keeps start log lives → NoneShares
-    → TablesAreConsistent → (stands : StandsAt seen log)
+    → Keeps start log lives → (stands : StandsAt seen log)
     → ((other : Tables) → seen.tables other → other ≡ stands.shows.tables) → IsKept seen start lives
-kept_at seen start lives log keeps none_shares consistent stands one = record {
+kept_at seen start lives log keeps stands one = record {
   log = log;
   keeps = keeps;
   stands = stands;
-  once = none_shares log;
-  sums = sums_at seen log consistent stands one;
+  once = each_once log;
+  sums = sums_at seen log stands one;
 }
 
 -- a connection that was refused leaves what was found as it was opened

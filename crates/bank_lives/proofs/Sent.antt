@@ -4,7 +4,6 @@ use Rattle.std.proofs.Common.{◌∙◌, arith, take_all, length-append, length-
 use Rattle.std.specs.Prelude.{max}
 use Rattle.posting_rules.specs.Commands.{Command}
 use Rattle.posting_rules.specs.Counter.{Seen, StandsAt}
-use Rattle.posting_rules.specs.Laws.{NoneShares}
 use Rattle.posting_rules.specs.Resends.{Skips}
 use Rattle.posting_rules.specs.Runs.{behind, posts, replies_to, ArePosts}
 use Rattle.posting_rules.specs.Tables.{AreTablesOf}
@@ -13,7 +12,7 @@ use Rattle.posting_rules.proofs.Resends.{posts_both, shows_left_out, shows_log_l
 use Rattle.posting_rules.proofs.Sequence.{behind-append}
 use Rattle.bank_lives.specs.ManyLives.{Given, Keeps, Lives}
 use Rattle.bank_lives.specs.Sending.{FindsSent, Sends, SendsFrom, begins, goes_on}
-use Rattle.bank_lives.proofs.ManyLived.{Begins, before_life, kept}
+use Rattle.bank_lives.proofs.ManyLived.{Begins, before_life, each_once, kept}
 use Rattle.bank_lives.proofs.Resent.{first_posts, first_replies, resend, within_front}
 
 -- what stands with records that came again stands without them
@@ -97,10 +96,10 @@ replies_on seen log records answered place commands it le sent =
     ∙ within_front (length commands) place (length whole) (replies_to log (posts 0 records)) again.long
 
 pub finds_sent : {M : Type 0} (seen : M → Seen) (start : List Command) (sent before : List Given)
-    (records : List (List ℕ)) (answered : ℕ) (first : M) → NoneShares → Lives seen start first (sent ++ before)
+    (records : List (List ℕ)) (answered : ℕ) (first : M) → Lives seen start first (sent ++ before)
     → Sends records sent answered → (seen first).honest
     → (log : List Command) × Keeps start log before × FindsSent (seen first) log records answered
-finds_sent seen start sent before records answered first none_shares lives sends h =
+finds_sent seen start sent before records answered first lives sends h =
     let it = posted seen start records before sent answered first lives sends h in
     let log = it.0 in
     let its = it.2 in (
@@ -111,7 +110,7 @@ finds_sent seen start sent before records answered first none_shares lives sends
         first = its.first;
         holds = its.holds;
         stands = its.stands;
-        once = none_shares (behind log its.posted);
+        once = each_once (behind log its.posted);
         whole = λ all. its.first.are
             ∙ take_all (length its.posted) records (let some = its.holds in omega arith);
         replies = λ place commands le from.

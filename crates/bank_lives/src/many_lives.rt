@@ -13,7 +13,6 @@ ghost use Rattle.bank_lives.specs.Replayed.{IsReplayed};
 ghost use Rattle.bank_lives.specs.Sending.{FindsSent, Sends};
 
 use bank_store::{Bank, opened_law};
-use posting_rules::{each_request_once, tables_are_consistent};
 use sqlite::{Alter, Connection};
 
 /// What joins one life to the next: a connection that was opened on what a stop left, of a bank or of a
@@ -69,10 +68,7 @@ pub fn lives_law<S: Alter>(_bank: &Bank<S>)
         → Life (seen_at S.Store) first now life.commands life.least
         → EndsLife (seen_at S.Store now) (seen_at S.Store last) → (seen_at S.Store last).honest
         → LeavesOnly (seen_at S.Store last) (ShowsKept start (life ∷ lives)) }
-{
-    each_request_once();
-    tables_are_consistent();
-}
+{}
 
 /// A sender who goes on, after any number of stops, from his first record that wasn't answered, or from a place
 /// before it, gets the replies that he would have got. The tables are those of a beginning of his list that
@@ -83,6 +79,4 @@ pub fn sender_law<S: Alter>(_bank: &Bank<S>)
         → Lives (seen_at S.Store) start first (sent ++ before) → Sends records sent answered
         → (seen_at S.Store first).honest
         → (log : List Command) × Keeps start log before × FindsSent (seen_at S.Store first) log records answered }
-{
-    each_request_once();
-}
+{}

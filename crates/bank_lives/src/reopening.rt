@@ -12,9 +12,7 @@ ghost use Rattle.bank_lives.specs.Lives.{IsFoundAgain, Life};
 ghost use Rattle.bank_lives.specs.ManyLives.{Given, IsKept, Lives};
 ghost use Rattle.bank_lives.specs.Moments.{Moment, Of_bank, seen_at};
 
-use crate::laws::life_law;
 use bank_store::{Bank, OpenFault, Refused, adopt};
-use posting_rules::{each_request_once, tables_are_consistent};
 use sqlite::{Alter, Connection};
 use std::alloc::Global;
 use store_rows::trees_show_law;
@@ -74,9 +72,6 @@ pub fn reopen<S: Alter + Drop, T: Alter>(
     ensures cause { IfErr result (λ refused. KnowsCause T.Store conn refused.conn refused.fault) }
     ensures idle { IfErr result (λ refused. refused.conn.in_transaction ≡ false) }
 {
-    life_law(stopped);
     trees_show_law(&conn);
-    each_request_once();
-    tables_are_consistent();
     adopt(alloc, conn)
 }

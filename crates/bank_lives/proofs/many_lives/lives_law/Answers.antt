@@ -1,27 +1,18 @@
 -- What is found after any number of lives, and what is left at each moment.
-use Rattle.std.proofs.Common.{subst}
 use Rattle.sqlite.specs.Held.{state}
-use Rattle.posting_rules.specs.Laws.{IsConsistent}
-use Rattle.posting_rules.specs.Tables.{Tables}
 use Rattle.store_rows.proofs.ShownOnce.{one_bank}
 use Rattle.bank_lives.specs.Moments.{held_at, seen_at}
 use Rattle.bank_lives.proofs.ManyLived.{keeps_on, kept, left_of}
+use Rattle.bank_lives.proofs.Reopened.{kept_at}
 use Rattle.bank_lives.proofs.many_lives.lives_law.Goals as goal
 
 pub returns-clause-found : goal.returns-clause-found
 returns-clause-found g c start first lives some h =
     let it = kept (seen_at g.S.Store) start lives first some h in
     let shows = it.2.shows in
-    record {
-      log = it.0;
-      keeps = it.1;
-      stands = it.2;
-      once = c.each_request_once.ensures it.0;
-      sums = λ other shown. subst (λ (t : Tables). IsConsistent t)
-          (one_bank (state g.S.Store (held_at first)).now.trees shows.tables other
-          ((held_at first).schema, shows.are) ((held_at first).schema, shown))
-          (c.tables_are_consistent.ensures shows.tables it.0 shows.shows);
-    }
+    kept_at (seen_at g.S.Store first) start lives it.0 it.1 it.2
+    (λ other shown. one_bank (state g.S.Store (held_at first)).now.trees other shows.tables
+    ((held_at first).schema, shown) ((held_at first).schema, shows.are))
 
 pub returns-clause-on : goal.returns-clause-on
 returns-clause-on g c start middle first earlier later led some h =

@@ -16,12 +16,11 @@ returns-clause-found g c =
     let it = begins_opened (state g.T.Store c.args.conn) log given least opens
     (λ db may. g.met.T.Store.settled c.args.conn.store db opens.is_open may)
     (λ t shown. c.trees_show_law.ensures.finds opens.is_open t shown)
-    (c.life_law.ensures.survives first log given least life stood stopped
+    (life_leaves (λ bank. bank_seen g.S.Store bank) first c.args.stopped.now given least life stopped log stood
     (g.T.Store.view c.args.conn.store).trees left) in
     let at = taken.stands honest _ it.stands in
     found_at (bank_seen g.T.Store bank) log given least it.count it.holds it.within
-    c.each_request_once.ensures
-    c.tables_are_consistent.ensures at
+    at
     (λ other shown. c.trees_show_law.ensures.once (g.T.Store.view bank.conn.store).trees other at.shows.tables
     (bank.conn.schema, shown) (bank.conn.schema, at.shows.are))) c.adopt.result c.adopt.ensures.found
 
@@ -39,8 +38,7 @@ returns-clause-kept g c =
     let at = taken.stands honest _ it.stands in
     kept_at (bank_seen g.T.Store bank) start (life ∷ lives) (behind was.0 (take it.count life.commands))
     (was.0, was.1, it.count, it.holds, it.within, refl)
-    c.each_request_once.ensures
-    c.tables_are_consistent.ensures at
+    at
     (λ other shown. c.trees_show_law.ensures.once (g.T.Store.view bank.conn.store).trees other at.shows.tables
     (bank.conn.schema, shown) (bank.conn.schema, at.shows.are))) c.adopt.result c.adopt.ensures.found
 
@@ -50,7 +48,7 @@ returns-clause-missed g c =
     let it = begins_opened (state g.T.Store c.args.conn) log given least opens
     (λ db may. g.met.T.Store.settled c.args.conn.store db opens.is_open may)
     (λ t shown. c.trees_show_law.ensures.finds opens.is_open t shown)
-    (c.life_law.ensures.survives first log given least life stood stopped
+    (life_leaves (λ bank. bank_seen g.S.Store bank) first c.args.stopped.now given least life stopped log stood
     (g.T.Store.view c.args.conn.store).trees left) in
     known clean _ it.stands.shows) c.adopt.result c.adopt.ensures.known
 
@@ -63,7 +61,7 @@ returns-clause-again g c = refused_leaves g.T.Store (state g.T.Store c.args.conn
 pub returns-clause-remains : goal.returns-clause-remains
 returns-clause-remains g c =
     if_err _ _ (λ refused again clean opens stopped left first log given least stood life trees may.
-    c.life_law.ensures.survives first log given least life stood stopped trees
+    life_leaves (λ bank. bank_seen g.S.Store bank) first c.args.stopped.now given least life stopped log stood trees
     (again clean opens left trees may)) c.adopt.result (returns-clause-again g c)
 
 pub returns-clause-up : goal.returns-clause-up
