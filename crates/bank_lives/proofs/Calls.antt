@@ -1,13 +1,10 @@
 -- What each call of a counter says, as a call of its life.
 use Rattle.std.proofs.Common.{◌≡◌, ◌≤◌, ◌⊎◌, ℕ, List, [], length, arith, refl, inl, inr}
 use Rattle.std.proofs.Math.Seq.{take-length}
-use Rattle.posting_rules.specs.declared.fault.Fault.{Fault}
+use Rattle.posting_rules.specs.{declared.fault.Fault.Fault, Commands.Command, Commands.AreCommands, Counter.Seen}
+use Rattle.posting_rules.specs.{Counter.StandsAt, Counter.LeavesOnly, Counter.LeavesNoMore, Counter.ShowsBeginning}
+use Rattle.posting_rules.specs.{Counter.ShowsLog, Counter.Takes, Counter.Refuses, Runs.behind, Tables.AreTablesOf}
 use Rattle.posting_rules.specs.declared.fault.Fault.TheVariants.{Memory, Store, Down, Damaged}
-use Rattle.posting_rules.specs.Commands.{Command, AreCommands}
-use Rattle.posting_rules.specs.Counter.{Seen, StandsAt, LeavesOnly, LeavesNoMore, ShowsBeginning, ShowsLog}
-use Rattle.posting_rules.specs.Counter.{Takes, Refuses}
-use Rattle.posting_rules.specs.Runs.{behind}
-use Rattle.posting_rules.specs.Tables.{AreTablesOf}
 use Rattle.posting_rules.proofs.Remaining.{leaves_still, leaves_weaker}
 use Rattle.bank_lives.specs.Lives.{IsCall, EndsLife, given_to}
 

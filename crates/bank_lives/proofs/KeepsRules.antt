@@ -1,33 +1,27 @@
 -- The tables of a log keep each of the nine rules.
-use Rattle.std.proofs.Common.{◌≡◌, ◌≤◌, ℕ, zero, suc, ℤ, pos, Bool, true, false, List, [], ◌∷◌, map}
-use Rattle.std.proofs.Common.{Option, Some, None, option_map, refl, sym, ap, subst, ◌∙◌, arith}
+use Rattle.std.proofs.Common.{◌≡◌, ◌≤◌, ℕ, zero, suc, ℤ, pos, Bool, true, false, List, [], ◌∷◌, map, Option, Some}
+use Rattle.std.proofs.Common.{None, option_map, refl, sym, ap, subst, ◌∙◌, arith}
 use Rattle.std.specs.Prelude.{◌&&◌, cond, ◌≤ℤ◌, nat_le, nat_eq, is_some, option_and_then}
 use Rattle.std.specs.List.{AllByRecursion, Contains}
-use Rattle.message_records.specs.Ranges.{whole_within}
-use Rattle.message_records.specs.declared.limits.TheConstants.{MAX_BRANCH}
+use Rattle.message_records.specs.{Ranges.whole_within, declared.limits.TheConstants.MAX_BRANCH}
 use Rattle.posting_rules.specs.Commands.{Command, AreCommands, Terms, is_within}
 use Rattle.posting_rules.specs.Numbering.{branch_of_teller, branch_of_account, place_of_account}
-use Rattle.posting_rules.specs.Damage.{IsUndamaged}
-use Rattle.posting_rules.specs.Entries.{decided}
+use Rattle.posting_rules.specs.{Damage.IsUndamaged, Entries.decided, declared.fault.Rule.Rule}
 use Rattle.posting_rules.specs.LookUps.{balance_of_account, floor_in, lowest_of, terms_of_branch}
-use Rattle.posting_rules.specs.Tables.{Tables, AreTablesOf, row_at, account_key, branch_key, history_key}
-use Rattle.posting_rules.specs.Tables.{floor_key, reference_key, request_key, teller_key}
-use Rattle.posting_rules.specs.declared.fault.Rule.{Rule}
-use Rattle.posting_rules.specs.declared.fault.Rule.TheVariants.{Meta, Teller, Account, Balance, Request}
-use Rattle.posting_rules.specs.declared.fault.Rule.TheVariants.{Value, Key, Floor, Reference}
-use Rattle.posting_rules.specs.declared.rows.AccountRow.{AccountRow}
-use Rattle.posting_rules.specs.declared.rows.BranchRow.{BranchRow}
-use Rattle.posting_rules.specs.declared.rows.FloorRow.{FloorRow}
+use Rattle.posting_rules.specs.Tables.{Tables, AreTablesOf, row_at, account_key, branch_key, history_key, floor_key}
+use Rattle.posting_rules.specs.Tables.{reference_key, request_key, teller_key}
+use Rattle.posting_rules.specs.declared.fault.Rule.TheVariants.{Meta, Teller, Account, Balance, Request, Value, Key}
+use Rattle.posting_rules.specs.declared.fault.Rule.TheVariants.{Floor, Reference}
+use Rattle.posting_rules.specs.declared.rows.{AccountRow.AccountRow, BranchRow.BranchRow, FloorRow.FloorRow}
 use Rattle.posting_rules.proofs.Stepped.{history_row_past, reference_row_past, request_row_past}
 use Rattle.posting_rules.proofs.Undamaged.{undamaged}
 use Rattle.sql_meanings.specs.Entries.{Entry, has_key}
-use Rattle.store_rows.specs.Columns.{number_at}
-use Rattle.store_rows.specs.Rules.{AccountKeeps, BranchKeeps, EachKeeps, FloorKeeps, HasDecided, IsNext, IsWithinCount}
-use Rattle.store_rows.specs.Rules.{KeepsRule}
-use Rattle.store_rows.specs.Rules.{PostingKeeps, ReferenceKeeps, RequestKeeps, TellerKeeps, branch_under, floor_under, row_under}
-use Rattle.store_rows.specs.View.{account_entry, branch_entry, floor_entry, history_entry, reference_entry, request_entry}
-use Rattle.store_rows.specs.View.{teller_entry}
-use Rattle.store_rows.specs.declared.metas.TheConstants.{VERSION}
+use Rattle.store_rows.specs.{Columns.number_at, declared.metas.TheConstants.VERSION}
+use Rattle.store_rows.specs.Rules.{AccountKeeps, BranchKeeps, EachKeeps, FloorKeeps, HasDecided, IsNext}
+use Rattle.store_rows.specs.Rules.{IsWithinCount, KeepsRule, PostingKeeps, ReferenceKeeps, RequestKeeps, TellerKeeps}
+use Rattle.store_rows.specs.Rules.{branch_under, floor_under, row_under}
+use Rattle.store_rows.specs.View.{account_entry, branch_entry, floor_entry, history_entry, reference_entry}
+use Rattle.store_rows.specs.View.{request_entry, teller_entry}
 use Rattle.store_rows.proofs.RowLists.{found_by, has_row_key, taken_row_key}
 use Rattle.bank_transactions.proofs.FittingAccounts.{le_number, le_test, same_entry}
 use Rattle.bank_transactions.proofs.SoundRows.{no_branch_beyond, no_floor_beyond, not_below}

@@ -1,13 +1,9 @@
 -- What a stop leaves of a life.
 use Rattle.std.proofs.Common.{◌≡◌, ◌≤◌, ◌⊎◌, ◌+◌, ◌++◌, ℕ, zero, suc, List, length, take, arith, inl, inr}
-use Rattle.std.proofs.Math.Seq.{take-append-add}
-use Rattle.std.proofs.lemmas.List.{length-append, take-append-le}
-use Rattle.posting_rules.specs.Commands.{Command}
+use Rattle.std.proofs.{Math.Seq.take-append-add, lemmas.List.length-append, lemmas.List.take-append-le}
+use Rattle.posting_rules.specs.{Commands.Command, Runs.behind, Tables.Tables}
 use Rattle.posting_rules.specs.Counter.{Seen, StandsAt, LeavesOnly, ShowsBeginning}
-use Rattle.posting_rules.specs.Runs.{behind}
-use Rattle.posting_rules.specs.Tables.{Tables}
-use Rattle.posting_rules.proofs.Remaining.{leaves_still, leaves_weaker}
-use Rattle.posting_rules.proofs.Sequence.{behind-append}
+use Rattle.posting_rules.proofs.{Remaining.leaves_still, Remaining.leaves_weaker, Sequence.behind-append}
 use Rattle.bank_lives.specs.Lives.{IsCall, EndsLife, Life, begins, goes_on, reached}
 use Rattle.bank_lives.proofs.Calls.{all_left, nothing_ends}
 

@@ -1,18 +1,13 @@
 -- A connection that a call left as it was, but for what its store failed in.
 use Rattle.std.proofs.Common.{◌≡◌, [], List, sym, subst, arith, inl, inr}
-use Rattle.sqlite.specs.Effect.{Database}
-use Rattle.sqlite.specs.State.{State, HasCleanDisk, Survives}
-use Rattle.posting_rules.specs.Commands.{Command}
+use Rattle.sqlite.specs.{Effect.Database, State.State, State.HasCleanDisk, State.Survives, Held.Held}
+use Rattle.posting_rules.specs.{Commands.Command, Tables.AreTablesOf}
 use Rattle.posting_rules.specs.Counter.{LeavesNoMore, LeavesOnly, StandsAt}
-use Rattle.posting_rules.specs.Tables.{AreTablesOf}
 use Rattle.posting_rules.proofs.Remaining.{leaves_still}
 use Rattle.store_rows.specs.View.{Shows}
-use Rattle.sqlite.specs.Held.{Held}
 use Rattle.sqlite_trees.specs.declared.store.Store.{Ghosts}
-use Rattle.bank_store.specs.Connections.{conn_seen}
+use Rattle.bank_store.specs.{Connections.conn_seen, declared.bank.Bank.Bank, Walks.IsStill}
 use Rattle.bank_store.specs.Seen.{bank_seen, connection_of, seen_in}
-use Rattle.bank_store.specs.declared.bank.Bank.{Bank}
-use Rattle.bank_store.specs.Walks.{IsStill}
 use Rattle.bank_lives.specs.Lives.{EndsLife, IsCall}
 use Rattle.bank_lives.proofs.Calls.{stood_is_call, told_is_call}
 

@@ -2,24 +2,16 @@
 use Rattle.std.proofs.Common.{◌≡◌, ◌≤◌, ℕ, List, length, take, Result, Ok, Err, sym, subst, inl, inr}
 use Rattle.std.specs.Prelude.{IfOk, IfErr}
 use Rattle.sqlite.specs.State.{HasCleanDisk, State, Survives, Opens}
-use Rattle.sqlite.specs.Tree.{Trees}
-use Rattle.sqlite.specs.Effect.{Database}
-use Rattle.posting_rules.specs.Commands.{Command}
+use Rattle.sqlite.specs.{Tree.Trees, Effect.Database, Held.state}
+use Rattle.posting_rules.specs.{Commands.Command, Runs.behind, Tables.Tables, Laws.IsConsistent}
 use Rattle.posting_rules.specs.Counter.{Seen, StandsAt, ShowsBeginning}
-use Rattle.posting_rules.specs.Runs.{behind}
-use Rattle.posting_rules.specs.Tables.{Tables}
 use Rattle.store_rows.specs.View.{Shows, ShowsTrees}
-use Rattle.sqlite.specs.Held.{state}
 use Rattle.sqlite_trees.specs.declared.store.Store.{Ghosts}
 use Rattle.bank_store.specs.Connections.{conn_seen, state_in}
-use Rattle.bank_store.specs.Seen.{seen_in}
-use Rattle.bank_store.specs.declared.bank.Bank.{Bank}
-use Rattle.bank_store.specs.declared.refused.Refused.{Refused}
+use Rattle.bank_store.specs.{Seen.seen_in, declared.bank.Bank.Bank, declared.refused.Refused.Refused}
 use Rattle.bank_store.proofs.Opened.{stands_opened}
-use Rattle.posting_rules.specs.Laws.{IsConsistent}
 use Rattle.posting_rules.proofs.Consistent.{consistent}
-use Rattle.bank_lives.specs.Lives.{IsFoundAgain}
-use Rattle.bank_lives.specs.ManyLives.{Given, IsKept, Keeps}
+use Rattle.bank_lives.specs.{Lives.IsFoundAgain, ManyLives.Given, ManyLives.IsKept, ManyLives.Keeps}
 use Rattle.bank_lives.proofs.ManyLived.{Begins, each_once}
 
 -- one that was opened on trees which show a beginning stands there

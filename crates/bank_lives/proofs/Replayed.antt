@@ -1,25 +1,16 @@
 -- A connection that was just opened, and the bank over it that was replayed.
 use Rattle.std.proofs.Common.{◌≡◌, ◌∙◌, List, [], Option, refl, sym, ap, subst}
 use Rattle.std.specs.Prelude.{IsSome}
-use Rattle.sqlite.specs.Effect.{Database}
-use Rattle.sqlite.specs.Held.{Held, state}
-use Rattle.sqlite.specs.State.{Opens, State}
-use Rattle.sqlite.specs.Tree.{Trees}
+use Rattle.sqlite.specs.{Effect.Database, Held.Held, Held.state, State.Opens, State.State, Tree.Trees}
 use Rattle.sqlite_trees.specs.declared.store.Store.{Ghosts}
-use Rattle.posting_rules.specs.Commands.{Command}
-use Rattle.posting_rules.specs.Counter.{ShowsLog, StandsAt}
-use Rattle.store_rows.specs.View.{Shows, ShowsTrees}
-use Rattle.store_rows.specs.declared.fault.TableFault.{TableFault}
-use Rattle.bank_store.specs.Connections.{conn_seen}
+use Rattle.posting_rules.specs.{Commands.Command, Counter.ShowsLog, Counter.StandsAt}
+use Rattle.store_rows.specs.{View.Shows, View.ShowsTrees, declared.fault.TableFault.TableFault}
+use Rattle.bank_store.specs.{Connections.conn_seen, declared.bank.Bank.Bank}
 use Rattle.bank_store.specs.Seen.{bank_seen, file_of, seen_in}
-use Rattle.bank_store.specs.declared.bank.Bank.{Bank}
 use Rattle.bank_lives.specs.Lives.{IsCall, Life, begins, goes_on}
 use Rattle.bank_lives.specs.ManyLives.{LeavesShown, Lives, replayed}
-use Rattle.bank_lives.specs.Moments.{Of_bank, Of_connection, seen_at}
-use Rattle.bank_lives.specs.Replayed.{IsReplayed}
-use Rattle.bank_lives.proofs.Calls.{taken_is_call}
-use Rattle.bank_lives.proofs.ManyLived.{before_life}
-use Rattle.bank_lives.proofs.Quiet.{call_of_nothing}
+use Rattle.bank_lives.specs.{Moments.Of_bank, Moments.Of_connection, Moments.seen_at, Replayed.IsReplayed}
+use Rattle.bank_lives.proofs.{Calls.taken_is_call, ManyLived.before_life, Quiet.call_of_nothing}
 
 opened_leaves : (s : State) (D : Type 0) → Opens s → ((db : Trees) → s.may_leave db → db ≡ s.committed.trees)
     → LeavesShown (seen_in s D)

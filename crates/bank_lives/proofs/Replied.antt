@@ -3,11 +3,8 @@ use Rattle.std.proofs.Common.{◌≡◌, ℕ, List, [], ◌∷◌, ◌++◌, len
 use Rattle.std.proofs.Math.Seq.{get_or-append_seam}
 use Rattle.message_records.specs.Spelling.{reply_spelling}
 use Rattle.posting_rules.specs.Commands.{Command, Open, Post}
-use Rattle.posting_rules.specs.Entries.{reply}
-use Rattle.posting_rules.specs.Resends.{Place}
-use Rattle.posting_rules.specs.Runs.{behind, replies_to, ArePosts}
-use Rattle.posting_rules.proofs.Resends.{replies_in_place}
-use Rattle.posting_rules.proofs.Sequence.{one_reply_each, replies_to-append}
+use Rattle.posting_rules.specs.{Entries.reply, Resends.Place, Runs.behind, Runs.replies_to, Runs.ArePosts}
+use Rattle.posting_rules.proofs.{Resends.replies_in_place, Sequence.one_reply_each, Sequence.replies_to-append}
 
 front_posts : (front rest : List Command) → ArePosts (front ++ rest) → ArePosts front
 front_posts [] rest h = tt

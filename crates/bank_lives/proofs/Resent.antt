@@ -1,15 +1,11 @@
 -- Records that are posted behind others of the same list, from a place on: which of them are new, and what they
 -- are replied.
-use Rattle.std.proofs.Common.{◌≡◌, ◌≤◌, ℕ, zero, suc, ◌+◌, List, [], ◌∷◌, ◌++◌, length, take, drop, Option}
-use Rattle.std.proofs.Common.{refl, sym, ap, subst, ◌∙◌, arith, append_assoc, append-nil, take_all, take-take}
-use Rattle.std.proofs.Common.{inl, inr}
-use Rattle.message_records.specs.Reading.{request_of}
-use Rattle.message_records.specs.Records.{ReplyFields}
-use Rattle.message_records.specs.Spelling.{reply_spelling}
+use Rattle.std.proofs.Common.{◌≡◌, ◌≤◌, ℕ, zero, suc, ◌+◌, List, [], ◌∷◌, ◌++◌, length, take, drop, Option, refl, sym}
+use Rattle.std.proofs.Common.{ap, subst, ◌∙◌, arith, append_assoc, append-nil, take_all, take-take, inl, inr}
+use Rattle.message_records.specs.{Reading.request_of, Records.ReplyFields, Spelling.reply_spelling}
 use Rattle.posting_rules.specs.Commands.{Command, Open, Post, Terms, opened}
 use Rattle.posting_rules.specs.Entries.{DecidedRequest, decided, reply, reply_given, with_record}
-use Rattle.posting_rules.specs.Resends.{Place, Skips}
-use Rattle.posting_rules.specs.Runs.{behind, posts, replies_to, ArePosts}
+use Rattle.posting_rules.specs.{Resends.Place, Resends.Skips, Runs.behind, Runs.posts, Runs.replies_to, Runs.ArePosts}
 use Rattle.posting_rules.proofs.Resends.{adds_nothing, posts_both}
 use Rattle.posting_rules.proofs.Sequence.{behind-append, one_reply_each}
 use Rattle.posting_core.specs.Stream.{posted_records}

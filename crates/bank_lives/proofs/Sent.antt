@@ -1,15 +1,11 @@
 -- What a sender finds who goes on after a stop.
-use Rattle.std.proofs.Common.{◌≡◌, ◌≤◌, ℕ, ◌+◌, List, [], ◌∷◌, ◌++◌, length, take, drop, refl, sym, ap, subst}
-use Rattle.std.proofs.Common.{◌∙◌, arith, take_all, length-append, length-take}
+use Rattle.std.proofs.Common.{◌≡◌, ◌≤◌, ℕ, ◌+◌, List, [], ◌∷◌, ◌++◌, length, take, drop, refl, sym, ap, subst, ◌∙◌}
+use Rattle.std.proofs.Common.{arith, take_all, length-append, length-take}
 use Rattle.std.specs.Prelude.{max}
-use Rattle.posting_rules.specs.Commands.{Command}
-use Rattle.posting_rules.specs.Counter.{Seen, StandsAt}
-use Rattle.posting_rules.specs.Resends.{Skips}
+use Rattle.posting_rules.specs.{Commands.Command, Counter.Seen, Counter.StandsAt, Resends.Skips, Tables.AreTablesOf}
 use Rattle.posting_rules.specs.Runs.{behind, posts, replies_to, ArePosts}
-use Rattle.posting_rules.specs.Tables.{AreTablesOf}
-use Rattle.posting_rules.proofs.Remaining.{leaves_weaker}
+use Rattle.posting_rules.proofs.{Remaining.leaves_weaker, Sequence.behind-append}
 use Rattle.posting_rules.proofs.Resends.{posts_both, shows_left_out, shows_log_left_out}
-use Rattle.posting_rules.proofs.Sequence.{behind-append}
 use Rattle.bank_lives.specs.ManyLives.{Given, Keeps, Lives}
 use Rattle.bank_lives.specs.Sending.{FindsSent, Sends, SendsFrom, begins, goes_on}
 use Rattle.bank_lives.proofs.ManyLived.{Begins, before_life, each_once, kept}

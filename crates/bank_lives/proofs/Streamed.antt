@@ -1,32 +1,27 @@
 -- What each stream says, as a call of the counter's life.
-use Rattle.std.proofs.Common.{◌≡◌, ◌≤◌, ℕ, zero, suc, ◌-◌, List, [], ◌∷◌, ◌++◌, length, take, drop, Option}
-use Rattle.std.proofs.Common.{Result, Ok, Err, refl, sym, ap, subst, ◌∙◌, arith, append-nil, length-append}
-use Rattle.std.proofs.Common.{length-take, inl, inr}
+use Rattle.std.proofs.Common.{◌≡◌, ◌≤◌, ℕ, zero, suc, ◌-◌, List, [], ◌∷◌, ◌++◌, length, take, drop, Option, Result}
+use Rattle.std.proofs.Common.{Ok, Err, refl, sym, ap, subst, ◌∙◌, arith, append-nil, length-append, length-take, inl}
+use Rattle.std.proofs.Common.{inr}
 use Rattle.std.proofs.lemmas.List.Concat.{flat_map-append}
 use Rattle.std.specs.Prelude.{IfErr}
-use Rattle.posting_rules.specs.declared.fault.Fault.{Fault}
+use Rattle.posting_rules.specs.{declared.fault.Fault.Fault, Commands.Command, Tables.AreTablesOf}
 use Rattle.posting_rules.specs.declared.fault.Fault.TheVariants.{Memory, Store, Down, Damaged}
-use Rattle.posting_rules.specs.Commands.{Command}
 use Rattle.posting_rules.specs.Counter.{Seen, StandsAt, LeavesOnly, ShowsBeginning, ShowsLog, Takes, Refuses}
 use Rattle.posting_rules.specs.Counter.{IsSeenUnchanged}
 use Rattle.posting_rules.specs.Runs.{behind, replies_to, ArePosts}
-use Rattle.posting_rules.specs.Tables.{AreTablesOf}
-use Rattle.posting_rules.proofs.Remaining.{leaves_still}
-use Rattle.posting_rules.proofs.Sequence.{one_reply_each, replies_to-append}
+use Rattle.posting_rules.proofs.{Remaining.leaves_still, Sequence.one_reply_each, Sequence.replies_to-append}
 use Rattle.posting_core.specs.Batches.{Batch, joined, posts_in, posts_of}
 use Rattle.posting_core.specs.Stream.{IfBank, IsRefusedBehind, Streamed, acknowledged}
 use Rattle.posting_core.specs.declared.stream.StreamFault.{StreamFault}
 use Rattle.posting_core.specs.declared.stream.StreamFault.TheVariants as stream
 use Rattle.posting_core.proofs.Stops.{stop_part}
-use Rattle.counter_http.specs.Outputs.{acknowledged_records}
+use Rattle.counter_http.specs.{Outputs.acknowledged_records, declared.fault.ServeFault.ServeFault}
 use Rattle.counter_http.specs.Serving.{Exits, At_message, At_last, At_refusal}
 use Rattle.counter_http.specs.Turns.{Turn, commands_in, commands_of, answers_to}
-use Rattle.counter_http.specs.declared.fault.ServeFault.{ServeFault}
 use Rattle.counter_http.specs.declared.fault.ServeFault.TheVariants as serving
 use Rattle.branch_loader.specs.Loading.{IsRefusedAfter}
 use Rattle.load_driver.specs.Drives.{Drives, EndsDrive}
-use Rattle.load_driver.specs.declared.drive.Driven.{Driven}
-use Rattle.load_driver.specs.declared.drive_fault.DriveFault.{DriveFault}
+use Rattle.load_driver.specs.declared.{drive.Driven.Driven, drive_fault.DriveFault.DriveFault}
 use Rattle.load_driver.specs.declared.drive_fault.DriveFault.TheVariants as driving
 use Rattle.bank_lives.specs.Lives.{IsStream}
 use Rattle.bank_lives.proofs.Calls.{still, stood_is_call}

@@ -1,7 +1,6 @@
 -- What a stop leaves of a life.
 use Rattle.std.proofs.Math.Logic.{∥∥₁_map}
-use Rattle.posting_rules.specs.Counter.{ShowsBeginning}
-use Rattle.posting_rules.specs.Tables.{Tables}
+use Rattle.posting_rules.specs.{Counter.ShowsBeginning, Tables.Tables}
 use Rattle.bank_lives.proofs.Lived.{life_leaves, life_given}
 use Rattle.bank_lives.proofs.laws.life_law.Goals as goal
 

@@ -2,8 +2,7 @@
 use Rattle.sqlite.specs.Held.{state}
 use Rattle.store_rows.proofs.ShownOnce.{one_bank}
 use Rattle.bank_lives.specs.Moments.{held_at, seen_at}
-use Rattle.bank_lives.proofs.ManyLived.{keeps_on, kept, left_of}
-use Rattle.bank_lives.proofs.Reopened.{kept_at}
+use Rattle.bank_lives.proofs.{ManyLived.keeps_on, ManyLived.kept, ManyLived.left_of, Reopened.kept_at}
 use Rattle.bank_lives.proofs.many_lives.lives_law.Goals as goal
 
 pub returns-clause-found : goal.returns-clause-found

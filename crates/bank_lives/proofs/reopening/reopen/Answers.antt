@@ -5,8 +5,7 @@ use Rattle.posting_rules.specs.Runs.{behind}
 use Rattle.bank_store.specs.Seen.{bank_seen}
 use Rattle.bank_store.proofs.Unmade.{if_err}
 use Rattle.bank_lives.specs.Moments.{Of_bank, seen_at}
-use Rattle.bank_lives.proofs.Lived.{life_honest, life_leaves}
-use Rattle.bank_lives.proofs.ManyLived.{kept}
+use Rattle.bank_lives.proofs.{Lived.life_honest, Lived.life_leaves, ManyLived.kept}
 use Rattle.bank_lives.proofs.Reopened.{begins_opened, found_at, if_ok, kept_at, refused_leaves}
 use Rattle.bank_lives.proofs.reopening.reopen.Goals as goal
 
