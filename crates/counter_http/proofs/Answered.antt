@@ -1,32 +1,23 @@
 -- What the bank did for a message, and what was told of it.
-use Rattle.std.proofs.Common.{◌≡◌, ℕ, inl, inr, Bool, true, false, List, [], ◌∷◌, length, take, Option, Some}
-use Rattle.std.proofs.Common.{None, Result, Ok, Err, refl, sym, ap, subst, eqb, ◌∙◌, arith}
-use Rattle.std.proofs.lemmas.Bool.{and_parts, ne_eqb}
-use Rattle.std.specs.Prelude.{ℤ, codes, bytes_eq}
-use Rattle.std.specs.Io.KnownBytes.{Appends}
-use Rattle.std.proofs.lemmas.List.{take_all}
+use Rattle.std.proofs.Common.{◌≡◌, ℕ, inl, inr, Bool, true, false, List, [], ◌∷◌, length, take, Option, Some, None}
+use Rattle.std.proofs.Common.{Result, Ok, Err, refl, sym, ap, subst, eqb, ◌∙◌, arith}
+use Rattle.std.proofs.lemmas.{Bool.and_parts, Bool.ne_eqb, List.take_all}
+use Rattle.std.specs.{Prelude.ℤ, Prelude.codes, Prelude.bytes_eq, Io.KnownBytes.Appends}
 use Rattle.message_records.specs.Spelling.{reply_spelling}
-use Rattle.posting_rules.specs.declared.fault.Fault.{Fault}
+use Rattle.posting_rules.specs.{declared.fault.Fault.Fault, Entries.reply, Entries.balance_behind}
 use Rattle.posting_rules.specs.Commands.{Command, Post}
 use Rattle.posting_rules.specs.Counter.{Seen, IsCounterCall, ShowsLog, Takes, Refuses}
 use Rattle.posting_rules.proofs.CounterCalls.{call_refused_behind, refused_behind, takes_none}
-use Rattle.posting_rules.specs.Entries.{reply, balance_behind}
-use Rattle.posting_core.specs.Clock.{IsReading, AreReadings}
-use Rattle.posting_core.specs.Stream.{IsOfCall}
-use Rattle.posting_core.specs.Told.{WriteTold}
-use Rattle.counter_http.specs.declared.fault.ServeFault.{ServeFault}
+use Rattle.posting_core.specs.{Clock.IsReading, Clock.AreReadings, Stream.IsOfCall, Told.WriteTold}
+use Rattle.counter_http.specs.{declared.fault.ServeFault.ServeFault, declared.routes.Route.Route, Ends.SendsAs}
 use Rattle.counter_http.specs.declared.fault.ServeFault.TheVariants as told
-use Rattle.counter_http.specs.Answers.{octets, balance_answer, status_words}
-use Rattle.counter_http.specs.Answers.{bare, is_record}
-use Rattle.counter_http.specs.Answers.{submits, answer_on, Asked, Answer, answer_to, answer_text}
-use Rattle.counter_http.specs.Answers.{shows, unavailable, is_posting}
-use Rattle.counter_http.specs.declared.routes.Route.{Route}
+use Rattle.counter_http.specs.Answers.{octets, balance_answer, status_words, bare, is_record, submits, answer_on}
+use Rattle.counter_http.specs.Answers.{Asked, Answer, answer_to, answer_text, shows, unavailable, is_posting}
 use Rattle.counter_http.specs.declared.routes.Route.TheVariants.{Posting, Account, Branches}
-use Rattle.counter_http.specs.Ends.{SendsAs}
 use Rattle.counter_http.specs.Paths.{route_of, path_of}
 use Rattle.counter_http.proofs.PartsWritten.{bare_of, front_of}
-use Rattle.counter_http.specs.Turns.{commands_if, commands_for, readings_if, readings_for, IsDealtWith}
-use Rattle.counter_http.specs.Turns.{IfRefused, IsRefusedAt, IsSentAs, IsTellingOf, TurnIsDealtWith}
+use Rattle.counter_http.specs.Turns.{commands_if, commands_for, readings_if, readings_for, IsDealtWith, IfRefused}
+use Rattle.counter_http.specs.Turns.{IsRefusedAt, IsSentAs, IsTellingOf, TurnIsDealtWith}
 
 -- the bank refused a call, and that was told
 pub told_refused : {C : Type 0} (seen : C → Seen) {reason : Fault → C → C → Type 0} {w w' : Option (List ℕ)}

@@ -1,27 +1,18 @@
 -- A connection that ends at a message whose answer was written in part or not at all.
-use Rattle.std.proofs.Common.{◌≡◌, ℕ, inl, inr, List, [], ◌∷◌, ◌++◌, length, take, drop, Option}
-use Rattle.std.proofs.Common.{Result, Err, refl, sym, ap, subst, ◌∙◌, append-nil}
+use Rattle.std.proofs.Common.{◌≡◌, ℕ, inl, inr, List, [], ◌∷◌, ◌++◌, length, take, drop, Option, Result, Err, refl}
+use Rattle.std.proofs.Common.{sym, ap, subst, ◌∙◌, append-nil}
 use Rattle.std.specs.Io.KnownBytes.{Appends, Consumes}
-use Rattle.std.proofs.KnownBytes.{Appends-trans}
-use Rattle.std.proofs.lemmas.List.Concat.{flat_map-append}
-use Rattle.posting_rules.specs.declared.fault.Fault.{Fault}
-use Rattle.posting_rules.specs.Commands.{Command}
+use Rattle.std.proofs.{KnownBytes.Appends-trans, lemmas.List.Concat.flat_map-append}
+use Rattle.posting_rules.specs.{declared.fault.Fault.Fault, Commands.Command, Runs.behind}
 use Rattle.posting_rules.specs.Counter.{Seen, Takes, Refuses}
-use Rattle.posting_rules.specs.Runs.{behind}
 use Rattle.posting_rules.proofs.CounterCalls.{idle_behind}
-use Rattle.posting_core.specs.Clock.{AreReadings}
-use Rattle.posting_core.specs.Told.{ReadTold, WriteTold}
-use Rattle.counter_http.specs.declared.fault.ServeFault.{ServeFault}
+use Rattle.posting_core.specs.{Clock.AreReadings, Told.ReadTold, Told.WriteTold, Batches.joined}
+use Rattle.counter_http.specs.{declared.fault.ServeFault.ServeFault, declared.next.Whole.Whole, Ends.HasEnded}
+use Rattle.counter_http.specs.{Messages.IsMessage, Next.asked, Next.IsWhole}
 use Rattle.counter_http.specs.declared.fault.ServeFault.TheVariants.{Read, Write, Bank, Memory}
-use Rattle.counter_http.specs.declared.next.Whole.{Whole}
-use Rattle.counter_http.specs.Ends.{HasEnded}
-use Rattle.counter_http.specs.Messages.{IsMessage}
-use Rattle.counter_http.specs.Next.{asked, IsWhole}
 use Rattle.counter_http.specs.Answers.{Asked, asked_by, answer_of, unavailable}
-use Rattle.counter_http.specs.Turns.{Turn, commands_in, moments_in, text_in, commands_of, moments_of}
-use Rattle.counter_http.specs.Turns.{texts_of, answers_to, TurnIsAnsweredInPart, IsRefusedAt}
-use Rattle.counter_http.specs.Turns.{ServingBreaksOff, TurnIsDealtWith}
-use Rattle.posting_core.specs.Batches.{joined}
+use Rattle.counter_http.specs.Turns.{Turn, commands_in, moments_in, text_in, commands_of, moments_of, texts_of}
+use Rattle.counter_http.specs.Turns.{answers_to, TurnIsAnsweredInPart, IsRefusedAt, ServingBreaksOff, TurnIsDealtWith}
 use Rattle.posting_core.proofs.Batched.{joined-append}
 use Rattle.counter_http.specs.Serving.{At_message, At_refusal, Exits, AnswersAreWritten, ServesConnection}
 use Rattle.counter_http.proofs.Turning.{readings_append, takes_append, answers-append}

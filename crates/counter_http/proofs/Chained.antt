@@ -1,23 +1,18 @@
 -- Connections behind others.
-use Rattle.std.proofs.Common.{◌≡◌, ◌<◌, ◌+◌, ℕ, List, [], ◌∷◌, ◌++◌, length, map, Option, Result}
-use Rattle.std.proofs.Common.{Ok, Err, refl, sym, ap, subst, ◌∙◌, arith, length-append, append-nil}
-use Rattle.std.specs.List.{AllByRecursion, flat_map}
-use Rattle.std.specs.declared.io.ErrorKind.{ErrorKind}
-use Rattle.std.proofs.lemmas.List.{map-append}
-use Rattle.std.proofs.lemmas.List.Concat.{flat_map-append}
-use Rattle.posting_rules.specs.declared.fault.Fault.{Fault}
-use Rattle.posting_rules.specs.Counter.{Seen}
+use Rattle.std.proofs.Common.{◌≡◌, ◌<◌, ◌+◌, ℕ, List, [], ◌∷◌, ◌++◌, length, map, Option, Result, Ok, Err, refl, sym}
+use Rattle.std.proofs.Common.{ap, subst, ◌∙◌, arith, length-append, append-nil}
+use Rattle.std.specs.{List.AllByRecursion, List.flat_map, declared.io.ErrorKind.ErrorKind}
+use Rattle.std.proofs.lemmas.List.{map-append, Concat.flat_map-append}
+use Rattle.posting_rules.specs.{declared.fault.Fault.Fault, Counter.Seen}
 use Rattle.posting_core.specs.Told.{GrowsBy}
 use Rattle.posting_core.proofs.Telling.{adds-more, adds-none}
-use Rattle.counter_http.specs.declared.fault.ServeFault.{ServeFault}
+use Rattle.counter_http.specs.{declared.fault.ServeFault.ServeFault, ListenFaults.after_connection}
 use Rattle.counter_http.specs.declared.fault.ServeFault.TheVariants as serve
 use Rattle.posting_rules.specs.declared.fault.Fault.TheVariants as bank
 use Rattle.counter_http.specs.Doors.{DoorTold, Gave, Refused, Closed}
 use Rattle.counter_http.specs.Connections.{AllGoOn, AreServed, Connection, IsServed, Known, ServesConnections}
 use Rattle.counter_http.specs.Connections.{ServesDoor, ServesEnds, calls_for, known_both, known_of, unknown}
-use Rattle.counter_http.specs.declared.listen_fault.ListenFault.{ListenFault}
-use Rattle.counter_http.specs.declared.listen_fault.ListenFault.TheVariants.{Network, Bank}
-use Rattle.counter_http.specs.ListenFaults.{after_connection}
+use Rattle.counter_http.specs.declared.listen_fault.ListenFault.{ListenFault, TheVariants.Network, TheVariants.Bank}
 
 -- one more at the end
 one_more : {C : Type 0} (seen : C → Seen) (reason : Fault → C → C → Type 0) (cs : List (Connection C))

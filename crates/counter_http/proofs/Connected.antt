@@ -1,36 +1,27 @@
 -- A connection that ends where the bank took all that it was given.
-use Rattle.std.proofs.Common.{◌≡◌, ◌<◌, ◌≤◌, ◌≢◌, ℕ, ◌+◌, inl, inr, Bool, true, List, [], ◌∷◌, ◌++◌}
-use Rattle.std.proofs.Common.{length, take, drop, Option, Result, Ok, Err, refl, sym, ap, subst, ◌∙◌}
-use Rattle.std.proofs.Common.{append_assoc, append-nil, arith}
-use Rattle.std.specs.Prelude.{IfOk}
+use Rattle.std.proofs.Common.{◌≡◌, ◌<◌, ◌≤◌, ◌≢◌, ℕ, ◌+◌, inl, inr, Bool, true, List, [], ◌∷◌, ◌++◌, length, take}
+use Rattle.std.proofs.Common.{drop, Option, Result, Ok, Err, refl, sym, ap, subst, ◌∙◌, append_assoc, append-nil}
+use Rattle.std.proofs.Common.{arith}
+use Rattle.std.specs.{Prelude.IfOk, declared.io.Error.Error}
 use Rattle.std.specs.Io.KnownBytes.{Appends, Consumes, IsAtEnd}
-use Rattle.std.specs.declared.io.Error.{Error}
 use Rattle.std.proofs.KnownBytes.{Appends-trans, Appends-nil, Consumes-nil}
 use Rattle.std.proofs.lemmas.List.{length-take-le, length-append, take_all}
-use Rattle.posting_rules.specs.declared.fault.Fault.{Fault}
-use Rattle.posting_rules.specs.Counter.{Seen}
+use Rattle.posting_rules.specs.{declared.fault.Fault.Fault, Counter.Seen}
 use Rattle.posting_rules.proofs.CounterCalls.{idle_behind}
-use Rattle.posting_core.specs.Clock.{AreReadings}
+use Rattle.posting_core.specs.{Clock.AreReadings, Batches.joined}
 use Rattle.posting_core.specs.Told.{ReadTold, WriteTold, GrowsBy, read_told}
-use Rattle.counter_http.specs.declared.fault.ServeFault.{ServeFault}
+use Rattle.counter_http.specs.{declared.fault.ServeFault.ServeFault, declared.next.Whole.Whole, Ends.HasEnded}
+use Rattle.counter_http.specs.{Answers.Asked, Answers.refusal, Serving.BeginsWithNoMessage, Serving.IsWalked}
+use Rattle.counter_http.specs.{Serving.At_last, Serving.Exits, Serving.AnswersAreWritten, Serving.ServesConnection}
 use Rattle.counter_http.specs.declared.fault.ServeFault.TheVariants.{Read, Write, Memory}
-use Rattle.counter_http.specs.declared.next.Whole.{Whole}
-use Rattle.counter_http.specs.Ends.{HasEnded}
 use Rattle.counter_http.specs.Messages.{closes, Finished, Closed, EndsWalk, Walks}
 use Rattle.counter_http.specs.Next.{asked, IsWhole, IsUnfinished, IsHopeless}
-use Rattle.counter_http.specs.Answers.{Asked, refusal}
-use Rattle.counter_http.specs.Turns.{Turn, text_in, commands_of, moments_of, messages_of, texts_of}
-use Rattle.counter_http.specs.Turns.{answers_to, AreAnswered, TurnIsDealtWith}
-use Rattle.posting_core.specs.Batches.{joined}
-use Rattle.posting_core.proofs.Batched.{joined-append}
-use Rattle.posting_core.proofs.Streaming.{at_ok}
-use Rattle.posting_core.proofs.Telling.{HasMade}
+use Rattle.counter_http.specs.Turns.{Turn, text_in, commands_of, moments_of, messages_of, texts_of, answers_to}
+use Rattle.counter_http.specs.Turns.{AreAnswered, TurnIsDealtWith}
+use Rattle.posting_core.proofs.{Batched.joined-append, Streaming.at_ok, Telling.HasMade}
 use Rattle.posting_core.proofs.Stops.{stop_all, written_part}
-use Rattle.counter_http.specs.Serving.{BeginsWithNoMessage, IsWalked, At_last, Exits, AnswersAreWritten}
-use Rattle.counter_http.specs.Serving.{ServesConnection}
 use Rattle.counter_http.proofs.Walking.{walks_behind, walks_end, walks_always, walks_closed}
-use Rattle.counter_http.proofs.Sent.{ended_at}
-use Rattle.counter_http.proofs.PartsWritten.{front_of}
+use Rattle.counter_http.proofs.{Sent.ended_at, PartsWritten.front_of}
 use Rattle.counter_http.proofs.Turning.{answered_none, answered_more, answered_one}
 use Rattle.counter_http.proofs.ConnectionLoop.{Going, turn_of, read_one_more, texts_one_more, same_front}
 use Rattle.counter_http.proofs.ConnectionLoop.{going_filled}

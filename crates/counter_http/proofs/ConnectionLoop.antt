@@ -1,20 +1,15 @@
 -- Where the loop over a connection stands: what was read, a message, and the buffer.
-use Rattle.std.proofs.Common.{◌≡◌, ℕ, ◌+◌, ◌<◌, ◌≤◌, ◌-◌, slice_range, drop-drop, length-drop, Bool, false}
-use Rattle.std.proofs.Common.{List, [], ◌∷◌, ◌++◌, length, take, drop, Option, Ok, refl, sym, ap, subst, ◌∙◌}
-use Rattle.std.proofs.Common.{append_assoc, append-nil, arith}
-use Rattle.std.specs.List.{AllByRecursion}
-use Rattle.std.specs.Io.KnownBytes.{Consumes}
+use Rattle.std.proofs.Common.{◌≡◌, ℕ, ◌+◌, ◌<◌, ◌≤◌, ◌-◌, slice_range, drop-drop, length-drop, Bool, false, List, []}
+use Rattle.std.proofs.Common.{◌∷◌, ◌++◌, length, take, drop, Option, Ok, refl, sym, ap, subst, ◌∙◌, append_assoc}
+use Rattle.std.proofs.Common.{append-nil, arith}
+use Rattle.std.specs.{List.AllByRecursion, Io.KnownBytes.Consumes}
 use Rattle.std.proofs.KnownBytes.{Consumes-trans, Consumes-nil}
-use Rattle.std.proofs.lemmas.List.{length-append, length-take-le, drop-take, nil_from_length}
-use Rattle.std.proofs.lemmas.List.Concat.{flat_map-append}
-use Rattle.posting_rules.specs.declared.fault.Fault.{Fault}
-use Rattle.posting_rules.specs.Counter.{Seen}
+use Rattle.std.proofs.lemmas.List.{length-append, length-take-le, drop-take, nil_from_length, Concat.flat_map-append}
+use Rattle.posting_rules.specs.{declared.fault.Fault.Fault, Counter.Seen}
 use Rattle.posting_core.specs.Told.{WriteTold}
 use Rattle.httparse.specs.Grammar.{print_request}
-use Rattle.counter_http.specs.declared.next.Whole.{Whole}
-use Rattle.counter_http.specs.Messages.{message_text, Finished}
+use Rattle.counter_http.specs.{declared.next.Whole.Whole, Messages.message_text, Messages.Finished, Answers.Asked}
 use Rattle.counter_http.specs.Next.{asked, IsWhole, IsUnfinished}
-use Rattle.counter_http.specs.Answers.{Asked}
 use Rattle.counter_http.specs.Turns.{Turn, text_in, texts_of, AreAnswered, TurnIsDealtWith}
 use Rattle.counter_http.specs.Serving.{KeepsConnection, BeginsWithNoMessage}
 use Rattle.counter_http.proofs.Walking.{no_message, head_some}

@@ -1,17 +1,15 @@
 -- A head at the front of bytes, whatever follows.
-use Rattle.std.proofs.Common.{eqb, drop-drop, ◌≡◌, ◌≢◌, ℕ, ◌+◌, ◌<◌, ◌≤◌, List, [], ◌++◌, length, map, take}
-use Rattle.std.proofs.Common.{drop, Bool, true, false, Option, Some, None, Result, Err, refl, sym, ap, subst}
-use Rattle.std.proofs.Common.{◌∙◌, append_assoc, arith}
+use Rattle.std.proofs.Common.{eqb, drop-drop, ◌≡◌, ◌≢◌, ℕ, ◌+◌, ◌<◌, ◌≤◌, List, [], ◌++◌, length, map, take, drop}
+use Rattle.std.proofs.Common.{Bool, true, false, Option, Some, None, Result, Err, refl, sym, ap, subst, ◌∙◌}
+use Rattle.std.proofs.Common.{append_assoc, arith}
 use Rattle.std.proofs.lemmas.List.{length-append, length-take, length-map, take-append-le, take-append-drop}
 use Rattle.std.proofs.lemmas.List.{length-take-le}
 use Rattle.std.specs.Prelude.{OnErr}
-use Rattle.std.proofs.lemmas.Bool.{eq-eqb, ne_eqb}
-use Rattle.std.proofs.Math.Seq.{take-append_seam}
+use Rattle.std.proofs.{lemmas.Bool.eq-eqb, lemmas.Bool.ne_eqb, Math.Seq.take-append_seam}
 use Rattle.httparse.specs.Grammar.{RequestHead, print_request, ReadsRequest, HasNoRequest}
-use Rattle.httparse.specs.declared.spans.HeaderSpan.{HeaderSpan}
-use Rattle.httparse.specs.declared.spans.RequestSpans.{RequestSpans}
-use Rattle.httparse.specs.Spans.{header_bytes, name_and_value, AreFieldsAt, IsRequestWithin, IsRequestAt}
-use Rattle.httparse.specs.Spans.{IsRequestOf, RequestOverflows}
+use Rattle.httparse.specs.declared.spans.{HeaderSpan.HeaderSpan, RequestSpans.RequestSpans}
+use Rattle.httparse.specs.Spans.{header_bytes, name_and_value, AreFieldsAt, IsRequestWithin, IsRequestAt, IsRequestOf}
+use Rattle.httparse.specs.Spans.{RequestOverflows}
 use Rattle.httparse.proofs.GrammarLemmas.{request_prefix_free, ReadsRequest-append}
 use Rattle.counter_http.specs.Answers.{Asked}
 use Rattle.counter_http.specs.Fields.{NamedValue, named_values, body_length, asks_to_close}

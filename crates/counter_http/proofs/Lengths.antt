@@ -1,15 +1,11 @@
 -- The body's length, read from the fields in order.
-use Rattle.std.proofs.Common.{◌≡◌, ℕ, ◌+◌, ◌-◌, ◌*◌, ◌<◌, ◌≤◌, inl}
-use Rattle.std.proofs.Common.{inr, min, Bool, true, false, cond, leb, List, [], ◌∷◌, length, Option}
-use Rattle.std.proofs.Common.{Some, None, refl, sym, ap, ◌∙◌, arith, map, drop, get_or}
+use Rattle.std.proofs.Common.{◌≡◌, ℕ, ◌+◌, ◌-◌, ◌*◌, ◌<◌, ◌≤◌, inl, inr, min, Bool, true, false, cond, leb, List, []}
+use Rattle.std.proofs.Common.{◌∷◌, length, Option, Some, None, refl, sym, ap, ◌∙◌, arith, map, drop, get_or}
 use Rattle.std.specs.Prelude.{◌&&◌, codes, unwrap_or}
-use Rattle.std.specs.Option.{is_some}
-use Rattle.std.specs.List.{list_any, list_all}
+use Rattle.std.specs.{Option.is_some, List.list_any, List.list_all, Str.Parse.digits_value_after}
 use Rattle.std.specs.Char.{is_ascii_digit, digit_value}
-use Rattle.std.specs.Str.Parse.{digits_value_after}
 use Rattle.std.proofs.lemmas.Bool.{cases_Bool, cases_lt, and_parts, false≢true, leb-true, lt-leb, lt-ltb}
-use Rattle.std.proofs.lemmas.List.{at_drop_more}
-use Rattle.std.proofs.lemmas.Str.{digit_value_digit}
+use Rattle.std.proofs.lemmas.{List.at_drop_more, Str.digit_value_digit}
 use Rattle.counter_http.specs.Fields.{NamedValue, is_alike, is_named, values_of, stated_length, length_by}
 use Rattle.counter_http.specs.Fields.{body_length}
 

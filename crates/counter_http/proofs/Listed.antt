@@ -1,27 +1,19 @@
 -- The lines of the open branches, one after another, and what the bank did meanwhile.
-use Rattle.std.proofs.Common.{lit<, Bool, false, ◌≡◌, ℕ, zero, suc, ◌-◌, ◌<◌, ◌≤◌, inl, inr, List, [], ◌∷◌}
-use Rattle.std.proofs.Common.{◌++◌, length, Option, Some, None, refl, sym, ap, ◌∙◌, append_assoc, append-nil}
-use Rattle.std.proofs.Common.{arith, Ok}
-use Rattle.std.specs.Prelude.{codes, ℤ, pos, negsuc}
-use Rattle.std.proofs.lemmas.Bool.{cases_lt, le-ltb}
-use Rattle.posting_rules.specs.declared.counter.BranchLine.{BranchLine}
+use Rattle.std.proofs.Common.{lit<, Bool, false, ◌≡◌, ℕ, zero, suc, ◌-◌, ◌<◌, ◌≤◌, inl, inr, List, [], ◌∷◌, ◌++◌}
+use Rattle.std.proofs.Common.{length, Option, Some, None, refl, sym, ap, ◌∙◌, append_assoc, append-nil, arith, Ok}
+use Rattle.std.specs.Prelude.{codes, ℤ, pos, negsuc, replicate}
+use Rattle.std.proofs.lemmas.{Bool.cases_lt, Bool.le-ltb, Str.encode_ascii}
+use Rattle.posting_rules.specs.{declared.counter.BranchLine.BranchLine, Entries.branch_balance, Entries.decided}
+use Rattle.posting_rules.specs.{declared.fault.Fault.Fault, declared.fault.Fault.TheVariants.Memory}
+use Rattle.posting_rules.specs.{declared.limits.TheConstants.LAST_BRANCH, Branches.IsNextBranch}
 use Rattle.posting_rules.specs.Commands.{Command, opened, Terms, opened_with}
-use Rattle.posting_rules.specs.Entries.{branch_balance, decided}
-use Rattle.posting_rules.specs.declared.fault.Fault.{Fault}
-use Rattle.posting_rules.specs.declared.fault.Fault.TheVariants.{Memory}
 use Rattle.posting_rules.specs.Counter.{Seen, IsCounterCall, Takes, Refuses}
-use Rattle.posting_rules.specs.declared.limits.TheConstants.{LAST_BRANCH}
-use Rattle.posting_rules.specs.Branches.{IsNextBranch}
 use Rattle.posting_rules.proofs.CounterCalls.{Takes-append, call_idle_behind}
-use Rattle.std.specs.Prelude.{replicate}
-use Rattle.std.specs.List.{repeat}
-use Rattle.std.specs.Int.{is_negative}
+use Rattle.std.specs.{List.repeat, Int.is_negative}
 use lib.IntN.{nat_abs}
 use lib.Utf8.{encode}
-use Rattle.std.proofs.lemmas.Str.{encode_ascii}
 use Rattle.std.specs.Fmt.{padded_integral, format_spec, decimal, signed_decimal, char_count}
-use Rattle.counter_http.specs.Answers.{account_line, right_in, branch_line, line_if_open, lines_up_to}
-use Rattle.counter_http.specs.Answers.{branch_lines}
+use Rattle.counter_http.specs.Answers.{account_line, right_in, branch_line, line_if_open, lines_up_to, branch_lines}
 use Rattle.counter_http.specs.Turns.{IsRefusedAt}
 
 -- ---- what the bank did so far: it answered calls that change nothing

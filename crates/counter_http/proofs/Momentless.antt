@@ -1,25 +1,20 @@
 -- No answer depends on the moments of the postings before it.
-use Rattle.std.proofs.Common.{◌≡◌, ℕ, zero, suc, Bool, true, false, cond, eqb, List, [], ◌∷◌, ◌++◌, length}
-use Rattle.std.proofs.Common.{Option, Some, None, refl, sym, ap, ◌∙◌}
+use Rattle.std.proofs.Common.{◌≡◌, ℕ, zero, suc, Bool, true, false, cond, eqb, List, [], ◌∷◌, ◌++◌, length, Option}
+use Rattle.std.proofs.Common.{Some, None, refl, sym, ap, ◌∙◌}
 use Rattle.std.specs.Prelude.{ℤ, codes, bytes_eq}
-use Rattle.message_records.specs.Records.{ReplyFields}
-use Rattle.message_records.specs.Reading.{request_of}
-use Rattle.message_records.specs.Spelling.{reply_spelling}
-use Rattle.posting_rules.specs.declared.limits.TheConstants.{LAST_BRANCH}
+use Rattle.message_records.specs.{Records.ReplyFields, Reading.request_of, Spelling.reply_spelling}
+use Rattle.posting_rules.specs.{declared.limits.TheConstants.LAST_BRANCH, Runs.behind}
 use Rattle.posting_rules.specs.Commands.{Command, Post, opened, is_account_open, Terms}
 use Rattle.posting_rules.specs.Entries.{DecidedRequest, account_balance, branch_balance, with_record, decided}
 use Rattle.posting_rules.specs.Entries.{reply_given, reply, balance_behind}
-use Rattle.posting_rules.specs.Runs.{behind}
 use Rattle.posting_core.proofs.Timeless.{zeroed, sum_zeroed, reply_zeroed, record_zeroed}
-use Rattle.counter_http.specs.declared.routes.Route.{Route}
+use Rattle.counter_http.specs.{declared.routes.Route.Route, Outputs.answers_behind}
 use Rattle.counter_http.specs.declared.routes.Route.TheVariants.{Posting, Account, Branches}
 use Rattle.counter_http.specs.Paths.{account_in, path_of, route_of}
-use Rattle.counter_http.specs.Answers.{Asked, Answer, asked_by, account_answer, account_named, answer_of}
-use Rattle.counter_http.specs.Answers.{answer_on, answer_text, answer_to, balance_answer, bare, branch_line}
-use Rattle.counter_http.specs.Answers.{branch_lines, is_posting, is_reading, line_if_open, lines_up_to}
-use Rattle.counter_http.specs.Answers.{not_allowed, plain, shows}
+use Rattle.counter_http.specs.Answers.{Asked, Answer, asked_by, account_answer, account_named, answer_of, answer_on}
+use Rattle.counter_http.specs.Answers.{answer_text, answer_to, balance_answer, bare, branch_line, branch_lines}
+use Rattle.counter_http.specs.Answers.{is_posting, is_reading, line_if_open, lines_up_to, not_allowed, plain, shows}
 use Rattle.counter_http.specs.Turns.{Turn, commands_for, commands_if, commands_in, answers_to, messages_of}
-use Rattle.counter_http.specs.Outputs.{answers_behind}
 
 -- the same is open, and the same is decided but for the moments
 pub record IsAlike (a b : List Command) : Type 0 where

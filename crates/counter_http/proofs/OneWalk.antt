@@ -1,17 +1,15 @@
 -- An input has one walk.
-use Rattle.std.proofs.Common.{◌≡◌, ℕ, inl, inr, List, [], ◌∷◌, ◌++◌, length, take, drop, Some, refl, sym}
-use Rattle.std.proofs.Common.{ap, subst, ◌∙◌, append_assoc, arith}
+use Rattle.std.proofs.Common.{◌≡◌, ℕ, inl, inr, List, [], ◌∷◌, ◌++◌, length, take, drop, Some, refl, sym, ap, subst}
+use Rattle.std.proofs.Common.{◌∙◌, append_assoc, arith}
 use Rattle.std.proofs.Math.Seq.{take-append_seam, drop-append_seam}
-use Rattle.std.proofs.lemmas.Bool.{cases_Bool}
-use Rattle.std.proofs.lemmas.List.{length-append}
+use Rattle.std.proofs.lemmas.{Bool.cases_Bool, List.length-append}
 use Rattle.httparse.specs.Grammar.{RequestHead, print_request}
 use Rattle.httparse.proofs.GrammarLemmas.{request_unique}
-use Rattle.counter_http.specs.Fields.{named_values, body_length}
-use Rattle.counter_http.specs.Messages.{Message, message_text, IsMessage, closes, Ending, Finished, Closed}
-use Rattle.counter_http.specs.Messages.{No_head, No_body, EndsWalk, Walks}
+use Rattle.counter_http.specs.{Fields.named_values, Fields.body_length, Outputs.texts_of_all}
+use Rattle.counter_http.specs.Messages.{Message, message_text, IsMessage, closes, Ending, Finished, Closed, No_head}
+use Rattle.counter_http.specs.Messages.{No_body, EndsWalk, Walks}
 use Rattle.std.specs.List.{AllByRecursion}
 use Rattle.counter_http.specs.Serving.{KeepsConnection, BeginsWithNoMessage}
-use Rattle.counter_http.specs.Outputs.{texts_of_all}
 use Rattle.counter_http.proofs.Walking.{no_message, head_some}
 
 -- texts of one length at the front of one text

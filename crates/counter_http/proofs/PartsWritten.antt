@@ -1,23 +1,17 @@
 -- A text that is written part by part.
-use Rattle.std.proofs.Common.{◌≡◌, ℕ, ◌+◌, ◌≤◌, Bool, true, false, List, [], ◌++◌, length, take, drop, Option}
-use Rattle.std.proofs.Common.{Some, None, Result, Ok, Err, refl, sym, ap, subst, ◌∙◌, append_assoc}
-use Rattle.std.proofs.Common.{append-nil, arith}
+use Rattle.std.proofs.Common.{◌≡◌, ℕ, ◌+◌, ◌≤◌, Bool, true, false, List, [], ◌++◌, length, take, drop, Option, Some}
+use Rattle.std.proofs.Common.{None, Result, Ok, Err, refl, sym, ap, subst, ◌∙◌, append_assoc, append-nil, arith}
 use Rattle.std.specs.Prelude.{OnOk, OnErr, codes, unwrap_or, is_ok}
-use Rattle.std.specs.Fmt.{decimal}
-use Rattle.std.specs.Io.KnownBytes.{Appends}
+use Rattle.std.specs.{Fmt.decimal, Io.KnownBytes.Appends, Option.option_map, Result.IsErrOf}
 use Rattle.std.proofs.KnownBytes.{Appends-trans, Appends-nil}
 use Rattle.std.proofs.Math.Seq.{take-append-add, take-append_seam}
 use Rattle.std.proofs.lemmas.List.{length-append, length-take, take_all, take-append-drop, take-append-le}
 use Rattle.std.proofs.lemmas.List.{length-take-le}
-use Rattle.std.specs.Option.{option_map}
-use Rattle.std.specs.Result.{IsErrOf}
 use Rattle.http.specs.StatusCode.{reason_phrase, code_digits}
 use Rattle.posting_core.specs.Told.{WriteTold}
 use Rattle.counter_http.specs.Answers.{Answer, status_words, allow_line, close_line, answer_text, bare}
-use Rattle.counter_http.specs.declared.fault.ServeFault.{ServeFault}
-use Rattle.counter_http.specs.declared.fault.ServeFault.TheVariants.{Write}
-use Rattle.counter_http.specs.Ends.{SendsAs}
-use Rattle.counter_http.specs.Turns.{IsSentAs, IsWrittenTo}
+use Rattle.counter_http.specs.{declared.fault.ServeFault.ServeFault, declared.fault.ServeFault.TheVariants.Write}
+use Rattle.counter_http.specs.{Ends.SendsAs, Turns.IsSentAs, Turns.IsWrittenTo}
 use Rattle.counter_http.specs.Telling.{IsWrittenOrHeld, first_lines, last_lines}
 
 pub on_ok_true : {A E : Type 0} {P : Type 0} (r : Result A E) → OnOk r P → is_ok r ≡ true → P

@@ -1,29 +1,20 @@
 -- What was written as each read was made, read by read.
-use Rattle.std.proofs.Common.{◌≡◌, ℕ, ◌+◌, ◌<◌, ◌≤◌, List, [], ◌∷◌, ◌++◌, length, take, drop, get_or, Option}
-use Rattle.std.proofs.Common.{Result, Ok, Err, refl, sym, ap, subst, ◌∙◌, arith, inl, inr, append_assoc, append-nil}
+use Rattle.std.proofs.Common.{◌≡◌, ℕ, ◌+◌, ◌<◌, ◌≤◌, List, [], ◌∷◌, ◌++◌, length, take, drop, get_or, Option, Result}
+use Rattle.std.proofs.Common.{Ok, Err, refl, sym, ap, subst, ◌∙◌, arith, inl, inr, append_assoc, append-nil}
 use Rattle.std.specs.Prelude.{◌⊎◌, false}
-use Rattle.std.specs.Io.KnownBytes.{Appends, Consumes, Keeps}
-use Rattle.std.proofs.KnownBytes.{Consumes-kept, Consumes-nil}
-use Rattle.std.specs.declared.io.Error.{Error}
-use Rattle.std.proofs.lemmas.List.{get_or_append_left, length-append, length-take-le, take-append-drop, take-append-le}
-use Rattle.std.proofs.Math.Seq.{get_or-append_seam, take-append_seam}
-use Rattle.posting_rules.specs.Commands.{Command}
-use Rattle.posting_rules.specs.Counter.{Seen}
-use Rattle.posting_core.specs.Stream.{given}
+use Rattle.std.specs.{Io.KnownBytes.Appends, Io.KnownBytes.Consumes, Io.KnownBytes.Keeps, declared.io.Error.Error}
+use Rattle.std.proofs.{KnownBytes.Consumes-kept, KnownBytes.Consumes-nil, lemmas.List.get_or_append_left}
+use Rattle.std.proofs.{lemmas.List.length-append, lemmas.List.length-take-le, lemmas.List.take-append-drop}
+use Rattle.std.proofs.{lemmas.List.take-append-le, Math.Seq.get_or-append_seam, Math.Seq.take-append_seam}
+use Rattle.posting_rules.specs.{Commands.Command, Counter.Seen, declared.fault.Fault.Fault}
+use Rattle.posting_core.specs.{Stream.given, Batches.joined}
 use Rattle.posting_core.specs.Told.{Beside, Failed, Gave, GrowsBy, IsThrough, ReadTold, WriteTold, read_told, unknown}
-use Rattle.posting_core.proofs.Followed.{gave_none, gave_some}
-use Rattle.posting_core.proofs.Telling.{adds-more, adds-none}
-use Rattle.counter_http.specs.Outputs.{AnswersWhole}
-use Rattle.counter_http.specs.Prompt.{AnswersBeforeReads, HoldsAnswers, IsPrompt}
-use Rattle.counter_http.specs.Serving.{BeginsWithNoMessage}
+use Rattle.posting_core.proofs.{Followed.gave_none, Followed.gave_some, Telling.adds-more, Telling.adds-none}
+use Rattle.counter_http.specs.{Outputs.AnswersWhole, Prompt.AnswersBeforeReads, Prompt.HoldsAnswers, Prompt.IsPrompt}
+use Rattle.counter_http.specs.{Serving.BeginsWithNoMessage, Next.asked, Next.IsWhole, declared.next.Whole.Whole}
 use Rattle.counter_http.specs.Turns.{Turn, TurnIsDealtWith, answers_to, messages_of, text_in, texts_of}
-use Rattle.counter_http.specs.Next.{asked, IsWhole}
-use Rattle.counter_http.specs.declared.next.Whole.{Whole}
-use Rattle.posting_core.specs.Batches.{joined}
-use Rattle.posting_rules.specs.declared.fault.Fault.{Fault}
 use Rattle.counter_http.proofs.ConnectionLoop.{Going, going_first, going_message, going_read, texts_one_more, turn_of}
-use Rattle.counter_http.proofs.Momentless.{momentless}
-use Rattle.counter_http.proofs.Written.{stays_all, texts_are}
+use Rattle.counter_http.proofs.{Momentless.momentless, Written.stays_all, Written.texts_are}
 
 -- ---- what stands written
 

@@ -1,22 +1,17 @@
 -- What the router's search answers, as tests on the path.
-use Rattle.std.proofs.Common.{lit<, get_or, ◌≡◌, ℕ, zero, suc, ◌-◌, ◌<◌, ◌≤◌, inl, inr, Bool, true, false}
-use Rattle.std.proofs.Common.{cond, ltb, eqb, List, [], ◌∷◌, ◌++◌, length, take, drop, Option, Some, None}
-use Rattle.std.proofs.Common.{refl, sym, ap, subst, ◌∙◌, arith}
-use Rattle.std.specs.Prelude.{codes, bytes_eq, not, ◌&&◌}
-use Rattle.std.specs.List.{list_any, AllByRecursion}
-use Rattle.std.specs.Prelude.{unwrap_or}
-use Rattle.std.specs.Str.{IsUtf8, is_utf8}
-use Rattle.std.specs.List.{position_or_len}
+use Rattle.std.proofs.Common.{lit<, get_or, ◌≡◌, ℕ, zero, suc, ◌-◌, ◌<◌, ◌≤◌, inl, inr, Bool, true, false, cond, ltb}
+use Rattle.std.proofs.Common.{eqb, List, [], ◌∷◌, ◌++◌, length, take, drop, Option, Some, None, refl, sym, ap, subst}
+use Rattle.std.proofs.Common.{◌∙◌, arith}
+use Rattle.std.specs.Prelude.{codes, bytes_eq, not, ◌&&◌, unwrap_or}
+use Rattle.std.specs.List.{list_any, AllByRecursion, position_or_len}
+use Rattle.std.specs.{Str.IsUtf8, Str.is_utf8, Option.option_map}
 use Rattle.std.proofs.lemmas.Str.{IsUtf8-from_is_utf8, is_utf8-from_IsUtf8}
-use Rattle.std.specs.Option.{option_map}
 use Rattle.std.proofs.lemmas.Bool.{cases_Bool, cases_eq, cases_lt, le-ltb, ne_eqb, lt-ltb}
-use Rattle.matchit.specs.Rows.{RowsOf}
-use Rattle.matchit.specs.Router.{RouteOf}
-use Rattle.counter_http.specs.declared.routes.Route.{Route}
+use Rattle.matchit.specs.{Rows.RowsOf, Router.RouteOf}
+use Rattle.counter_http.specs.declared.routes.Route.{Route, TheVariants.Posting, TheVariants.Branches}
 use Rattle.matchit.specs.Seek.{step, or_else, param_step, seek, first, has_slash}
 use Rattle.counter_http.specs.Paths.{is_slash, route_named, route_of}
 use Rattle.counter_http.specs.Rows.{fixed, account_row, all_routes}
-use Rattle.counter_http.specs.declared.routes.Route.TheVariants.{Posting, Branches}
 
 -- the bytes of a text are bytes
 abbrev pub AreBytes : List ℕ → Type 0

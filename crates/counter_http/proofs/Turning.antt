@@ -1,14 +1,11 @@
 -- Messages that are answered one after another.
 use Rattle.std.proofs.Common.{◌≡◌, ℕ, List, [], ◌∷◌, ◌++◌, Option, refl, sym, ap, subst, ◌∙◌, append-nil}
-use Rattle.std.proofs.KnownBytes.{Appends-trans, Appends-nil}
-use Rattle.std.proofs.lemmas.List.Concat.{flat_map-append}
-use Rattle.posting_rules.specs.Commands.{Command}
+use Rattle.std.proofs.{KnownBytes.Appends-trans, KnownBytes.Appends-nil, lemmas.List.Concat.flat_map-append}
+use Rattle.posting_rules.specs.{Commands.Command, Runs.behind}
 use Rattle.posting_rules.specs.Counter.{Seen, ShowsLog, StandsAt, Takes}
-use Rattle.posting_rules.specs.Runs.{behind}
-use Rattle.posting_core.specs.Clock.{after_one, AreReadings}
+use Rattle.posting_core.specs.{Clock.after_one, Clock.AreReadings, Batches.joined}
 use Rattle.posting_rules.proofs.Sequence.{behind-append}
 use Rattle.counter_http.specs.Answers.{Asked, asked_by, answer_of}
-use Rattle.posting_core.specs.Batches.{joined}
 use Rattle.posting_core.proofs.Batched.{joined-append}
 use Rattle.counter_http.specs.Turns.{Turn, commands_for, readings_for, commands_in, moments_in, commands_of}
 use Rattle.counter_http.specs.Turns.{moments_of, answers_to, AreAnswered, TurnIsAnswered}

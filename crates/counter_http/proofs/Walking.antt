@@ -1,16 +1,14 @@
 -- The walk over messages one behind another.
-use Rattle.std.proofs.Common.{◌≡◌, ℕ, ◌<◌, true, List, [], ◌∷◌, ◌++◌, length, Option, refl, sym, ap, subst}
-use Rattle.std.proofs.Common.{◌∙◌, append_assoc, append-nil, arith}
+use Rattle.std.proofs.Common.{◌≡◌, ℕ, ◌<◌, true, List, [], ◌∷◌, ◌++◌, length, Option, refl, sym, ap, subst, ◌∙◌}
+use Rattle.std.proofs.Common.{append_assoc, append-nil, arith}
 use Rattle.std.specs.List.{AllByRecursion}
-use Rattle.std.proofs.lemmas.Bool.{true≢false}
-use Rattle.std.proofs.lemmas.List.{length-append}
+use Rattle.std.proofs.lemmas.{Bool.true≢false, List.length-append}
 use Rattle.httparse.specs.Grammar.{RequestHead, print_request, IsRequestHead}
 use Rattle.httparse.proofs.GrammarLemmas.{request_unique}
-use Rattle.counter_http.specs.Fields.{named_values, body_length}
-use Rattle.counter_http.specs.Messages.{Message, message_text, IsMessage, closes, Ending, Finished, Closed}
-use Rattle.counter_http.specs.Messages.{No_head, No_body, EndsWalk, AlwaysEnds, LacksBody, Walks}
-use Rattle.counter_http.specs.Turns.{Turn, messages_of, text_in, texts_of}
-use Rattle.counter_http.specs.Serving.{KeepsConnection, BeginsWithNoMessage}
+use Rattle.counter_http.specs.{Fields.named_values, Fields.body_length, Turns.Turn, Turns.messages_of, Turns.text_in}
+use Rattle.counter_http.specs.{Turns.texts_of, Serving.KeepsConnection, Serving.BeginsWithNoMessage}
+use Rattle.counter_http.specs.Messages.{Message, message_text, IsMessage, closes, Ending, Finished, Closed, No_head}
+use Rattle.counter_http.specs.Messages.{No_body, EndsWalk, AlwaysEnds, LacksBody, Walks}
 
 -- a walk behind messages after which the connection goes on
 pub walks_behind : (ts us : List Turn) (rest : List ℕ) (ending : Ending)

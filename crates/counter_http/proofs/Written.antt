@@ -1,33 +1,25 @@
 -- What a connection did, said of what was read and written alone, and what a stop leaves of it.
-use Rattle.std.proofs.Common.{◌≡◌, ℕ, ◌≤◌, inl, inr, List, [], ◌∷◌, ◌++◌, length, take, drop, Option, Result}
-use Rattle.std.proofs.Common.{Ok, Err, refl, sym, ap, subst, ◌∙◌, append_assoc, append-nil, arith}
-use Rattle.std.specs.List.{AllByRecursion}
+use Rattle.std.proofs.Common.{◌≡◌, ℕ, ◌≤◌, inl, inr, List, [], ◌∷◌, ◌++◌, length, take, drop, Option, Result, Ok, Err}
+use Rattle.std.proofs.Common.{refl, sym, ap, subst, ◌∙◌, append_assoc, append-nil, arith}
+use Rattle.std.specs.{List.AllByRecursion, Io.KnownBytes.Appends}
 use Rattle.std.specs.Prelude.{◌⊎◌, OnOk}
-use Rattle.std.specs.Io.KnownBytes.{Appends}
-use Rattle.std.proofs.lemmas.List.{length-append, map-append, take-append-drop}
-use Rattle.std.proofs.lemmas.List.Concat.{flat_map-append}
-use Rattle.posting_rules.specs.Commands.{Command}
-use Rattle.posting_rules.specs.Counter.{Seen}
+use Rattle.std.proofs.lemmas.List.{length-append, map-append, take-append-drop, Concat.flat_map-append}
+use Rattle.posting_rules.specs.{Commands.Command, Counter.Seen}
 use Rattle.posting_rules.proofs.Remaining.{leaves_weaker}
-use Rattle.posting_core.specs.Batches.{joined}
-use Rattle.posting_core.specs.Stream.{acknowledged}
-use Rattle.posting_core.specs.Told.{ReadTold}
+use Rattle.posting_core.specs.{Batches.joined, Stream.acknowledged, Told.ReadTold}
 use Rattle.posting_core.proofs.Stops.{at_least}
-use Rattle.counter_http.specs.declared.fault.ServeFault.{ServeFault}
+use Rattle.counter_http.specs.{declared.fault.ServeFault.ServeFault, Ends.HasEnded}
 use Rattle.counter_http.specs.declared.fault.ServeFault.TheVariants.{Read, Write, Bank, Memory}
-use Rattle.counter_http.specs.Ends.{HasEnded}
 use Rattle.counter_http.specs.Messages.{Message, message_text, Ending, Walks}
 use Rattle.counter_http.specs.Answers.{asked_by, unavailable, final_answer}
-use Rattle.counter_http.specs.Turns.{Turn, message_in, text_in, commands_in, commands_of, messages_of}
-use Rattle.counter_http.specs.Turns.{texts_of, answers_to}
+use Rattle.counter_http.specs.Turns.{Turn, message_in, text_in, commands_in, commands_of, messages_of, texts_of}
+use Rattle.counter_http.specs.Turns.{answers_to}
 use Rattle.counter_http.specs.Serving.{KeepsConnection, AnswersAreWritten, IsWalked, IsBrokenOff, IsAtMessage}
-use Rattle.counter_http.specs.Serving.{At_message}
-use Rattle.counter_http.specs.Serving.{At_last, At_refusal, ServesConnection}
+use Rattle.counter_http.specs.Serving.{At_message, At_last, At_refusal, ServesConnection}
 use Rattle.counter_http.specs.Outputs.{texts_of_all, answers_behind, AnswersInput, AnswersWhole, AnswersFirst}
 use Rattle.counter_http.specs.Outputs.{AnswersBroken, IsTextFor, WritesAnswers, IsSettled, OutputsAnswers}
 use Rattle.counter_http.specs.Outputs.{SurvivesServing}
-use Rattle.counter_http.proofs.Momentless.{momentless}
-use Rattle.counter_http.proofs.OneWalk.{walk_unique, front_unique}
+use Rattle.counter_http.proofs.{Momentless.momentless, OneWalk.walk_unique, OneWalk.front_unique}
 
 -- ---- messages of turns
 

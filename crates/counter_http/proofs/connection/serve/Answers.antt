@@ -1,23 +1,18 @@
-use Rattle.std.proofs.Common.{◌≡◌, ◌<◌, ◌≤◌, ℕ, ◌+◌, ◌-◌, ◌*◌, List, [], refl, sym, subst, arith, inr}
-use Rattle.std.proofs.Common.{◌∙◌, length, take, Fits, w64}
+use Rattle.std.proofs.Common.{◌≡◌, ◌<◌, ◌≤◌, ℕ, ◌+◌, ◌-◌, ◌*◌, List, [], refl, sym, subst, arith, inr, ◌∙◌, length}
+use Rattle.std.proofs.Common.{take, Fits, w64}
 use Rattle.std.specs.Int.{w128}
 use Rattle.std.proofs.lemmas.Result.{err_from_is_err_and}
-use Rattle.posting_core.proofs.Streaming.{at_ok, nothing_read}
+use Rattle.posting_core.proofs.{Streaming.at_ok, Streaming.nothing_read, Through.through_batch, Through.through_first}
 use Rattle.posting_core.proofs.Telling.{made_many, made_none, made_one, other_kind, read_failed}
-use Rattle.posting_core.proofs.Through.{through_batch, through_first}
 use Rattle.posting_rules.proofs.CounterCalls.{idle_behind}
-use Rattle.counter_http.specs.declared.fault.ServeFault.TheVariants.{Write}
-use Rattle.counter_http.specs.Messages.{No_head}
-use Rattle.counter_http.specs.Next.{IsUnfinished}
-use Rattle.counter_http.proofs.ConnectionLoop.{going_filled, message_long, unfinished_none}
-use Rattle.counter_http.proofs.ConnectionLoop.{range_all, range_next, range_long}
+use Rattle.counter_http.specs.{declared.fault.ServeFault.TheVariants.Write, Messages.No_head, Next.IsUnfinished}
+use Rattle.counter_http.proofs.ConnectionLoop.{going_filled, message_long, unfinished_none, range_all, range_next}
+use Rattle.counter_http.proofs.ConnectionLoop.{range_long}
 use Rattle.counter_http.proofs.Prompts.{HasRead, has_failed, has_read, message_on, prompt_so_far, prompted_first}
 use Rattle.counter_http.proofs.Prompts.{read_on}
-use Rattle.counter_http.proofs.Connected.{end_finished, end_unread, end_closed, short_read, hopeless_walk}
-use Rattle.counter_http.proofs.Connected.{end_told, end_untold}
-use Rattle.counter_http.proofs.Answered.{why_behind}
-use Rattle.counter_http.proofs.BrokenOff.{end_broken}
-use Rattle.counter_http.proofs.Sent.{ended_at, sent_broken}
+use Rattle.counter_http.proofs.Connected.{end_finished, end_unread, end_closed, short_read, hopeless_walk, end_told}
+use Rattle.counter_http.proofs.Connected.{end_untold}
+use Rattle.counter_http.proofs.{Answered.why_behind, BrokenOff.end_broken, Sent.ended_at, Sent.sent_broken}
 use Rattle.counter_http.proofs.connection.serve.Goals as goal
 use Rattle.counter_http.proofs.connection.serve.Goals.{in-Ok, in-Err}
 

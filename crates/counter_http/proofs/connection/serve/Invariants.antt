@@ -1,8 +1,7 @@
 use Rattle.std.proofs.Common.{◌≡◌, ◌<◌, ◌≤◌, ◌*◌, ◌+◌, ◌-◌, length, take, slice_range}
-use Rattle.counter_http.specs.declared.limits.TheConstants.{BUFFER}
+use Rattle.counter_http.specs.{declared.limits.TheConstants.BUFFER, Next.IsUnfinished}
 use Rattle.posting_core.specs.Told.{IsThrough}
 use Rattle.posting_core.proofs.Telling.{HasMade}
-use Rattle.counter_http.specs.Next.{IsUnfinished}
 use Rattle.counter_http.proofs.Prompts.{Prompted}
 use Rattle.counter_http.proofs.connection.serve.Given as goal
 

@@ -1,8 +1,7 @@
 use Rattle.std.proofs.Common.{◌++◌, ℕ, List, [], Option, Some, refl, ap, subst, sym, ◌∙◌, inl, inr}
 use Rattle.std.specs.Prelude.{IfSome}
 use Rattle.std.proofs.lemmas.Result.{err_from_is_err_and}
-use Rattle.posting_rules.specs.declared.counter.BranchLine.{BranchLine}
-use Rattle.posting_rules.specs.Branches.{IsNextBranch, IsLineAbove}
+use Rattle.posting_rules.specs.{declared.counter.BranchLine.BranchLine, Branches.IsNextBranch, Branches.IsLineAbove}
 use Rattle.posting_rules.proofs.CounterCalls.{call_idle_behind, call_refused_behind}
 use Rattle.counter_http.specs.Answers.{lines_up_to}
 use Rattle.counter_http.proofs.Listed.{asking_more, asking_refused, asking_full, next_line, all_listed}

@@ -1,8 +1,6 @@
 use Rattle.std.proofs.Common.{◌≡◌, ◌-◌, ◌≤◌, List}
 use Rattle.std.specs.Prelude.{string_bytes}
-use Rattle.posting_rules.specs.declared.limits.TheConstants.{LAST_BRANCH}
-use Rattle.posting_rules.specs.Commands.{Command}
-use Rattle.posting_rules.specs.Counter.{ShowsLog}
+use Rattle.posting_rules.specs.{declared.limits.TheConstants.LAST_BRANCH, Commands.Command, Counter.ShowsLog}
 use Rattle.counter_http.specs.Answers.{lines_up_to}
 use Rattle.counter_http.proofs.Listed.{Asking}
 use Rattle.counter_http.proofs.lines.all_lines.Given as goal

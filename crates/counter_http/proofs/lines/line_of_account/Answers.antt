@@ -1,8 +1,7 @@
 use Rattle.std.proofs.Common.{rules, ◌∙◌}
 use mir.Val.{SFits}
 use mir.Syntax.{w64}
-use Rattle.std.proofs.lemmas.Int.{to_z-of_z}
-use Rattle.std.proofs.lemmas.Result.{IfOk-weaker}
+use Rattle.std.proofs.lemmas.{Int.to_z-of_z, Result.IfOk-weaker}
 use Rattle.counter_http.proofs.Listed.{account_text}
 use Rattle.counter_http.proofs.lines.line_of_account.Goals as goal
 

@@ -1,9 +1,8 @@
-use Rattle.std.proofs.Common.{◌∷◌, [], Bool, ◌<◌, ◌≤◌, ℕ, List, length, take, drop, codes, bytes_eq, subst}
-use Rattle.std.proofs.Common.{sym, ap, ◌∙◌, arith, length-drop}
+use Rattle.std.proofs.Common.{◌∷◌, [], Bool, ◌<◌, ◌≤◌, ℕ, List, length, take, drop, codes, bytes_eq, subst, sym, ap}
+use Rattle.std.proofs.Common.{◌∙◌, arith, length-drop}
 use Rattle.std.specs.Prelude.{not}
 use Rattle.std.proofs.lemmas.Slice.{between_to_end}
-use Rattle.counter_http.specs.Fields.{body_length, asks_to_close}
-use Rattle.counter_http.specs.Answers.{refusal}
+use Rattle.counter_http.specs.{Fields.body_length, Fields.asks_to_close, Answers.refusal}
 use Rattle.counter_http.specs.Messages.{No_body, closes}
 use Rattle.counter_http.proofs.Heads.{asks_alike, closes_old, closes_asked, head_is, fields_say, no_length}
 use Rattle.counter_http.proofs.Heads.{short_body, whole_message}
