@@ -117,11 +117,12 @@ lay : (d s : List ℕ) (m m' z : ℕ) → m' ≡ m → z ≡ 0
     → ((repeat m' (encode 32) ++ s) ++ []) ++ [] ++ (d ++ repeat z (encode 32)) ≡ replicate m 32 ++ (s ++ d)
 lay d s m m' z e f = rw (e, f, filled m) (simp (append_assoc, append-nil))
 
-right : (n k : ℕ)
+-- as a format prints it
+pub right_printed : (n k : ℕ)
     → padded_integral (format_spec 32 3 0 n 18446744073709551615) false [] (decimal k)
     ≡ right_in n (decimal k)
 unfolding padded_integral char_count
-right n k =
+right_printed n k =
     let d = length (decimal k) in
     lay (decimal k) [] (n - d) (n - d - 0 - 0) (n - d - 0 - 0 - (n - d - 0 - 0)) (omega arith) (omega arith)
 
@@ -132,7 +133,7 @@ unfolding padded_integral char_count
 right_signed n (pos k) =
     let plus : is_negative (pos k) ≡ false = le-ltb k 0 (omega arith) in
     ap (λ (b : Bool). padded_integral (format_spec 32 3 0 n 18446744073709551615) b [] (decimal k)) plus
-    ∙ right n k
+    ∙ right_printed n k
 right_signed n (negsuc k) =
     let d = length (decimal (suc k)) in
     lay (decimal (suc k)) (45 ∷ []) (n - suc d) (n - d - 1 - 0) (n - d - 1 - 0 - (n - d - 1 - 0))
@@ -144,7 +145,7 @@ pub line_text : (b a : ℕ) (z y : ℤ) → y ≡ z
     ++ (32 ∷ (padded_integral (format_spec 32 3 0 14 18446744073709551615) (is_negative y) []
     (decimal (nat_abs y)) ++ (10 ∷ []))))) ≡ branch_line b a z
 line_text b a z y e =
-    rw (e, right 6 b, right 7 a, right_signed 14 z)
+    rw (e, right_printed 6 b, right_printed 7 a, right_signed 14 z)
     (six (right_in 6 (decimal b)) (32 ∷ []) (right_in 7 (decimal a)) (32 ∷ [])
     (right_in 14 (signed_decimal z)) (10 ∷ []))
   where
