@@ -1,13 +1,13 @@
 -- The next rows above a key, or from it on, under any schema.
-use Rattle.sql_meanings.specs.Names.{ℕ, List, [], map, Ok, Some, None, Option, true, false, Collation}
-use Rattle.sql_meanings.specs.Names.{Program, Select, Term, lit, col, op2, Value, Schema, Table, Expr, out-Expr}
-use Rattle.sql_meanings.specs.Names.{Expr-F, Core, out-Core, Shown, Sort, out-Sort, out-Source, Parsed, Draft, Inner}
-use Rattle.sql_meanings.specs.Names.{Output, Carried, integer, nothing, alone, chosen, begin, finish, spend, Name}
-use Rattle.sql_meanings.specs.Names.{Context, declared, alias_of, number, conjuncts, compared, affinity_of, converted}
-use Rattle.sql_meanings.specs.Names.{may_be_text, ungrouped, named, paging, constant_or, lower, lower_to, node}
-use Rattle.sql_meanings.specs.Names.{opened, passes, operation, both, wanted_truth, tests_truth, tests_alias, combine}
-use Rattle.sql_meanings.specs.Names.{viewing, single, source, sources, whole, with, level, query_to, query, compiled}
-use Rattle.sql_meanings.specs.Names.{first, with_command}
+use Rattle.sql_meanings.specs.Names.{ℕ, List, [], map, Ok, Some, None, Option, true, false, Collation, Program}
+use Rattle.sql_meanings.specs.Names.{Select, Term, lit, col, op2, Value, Schema, Table, Expr, out-Expr, Expr-F, Core}
+use Rattle.sql_meanings.specs.Names.{out-Core, Shown, Sort, out-Sort, out-Source, Parsed, Draft, Inner, Output}
+use Rattle.sql_meanings.specs.Names.{Carried, integer, nothing, alone, chosen, begin, finish, spend, Name, Context}
+use Rattle.sql_meanings.specs.Names.{declared, alias_of, number, compared, affinity_of, converted, may_be_text}
+use Rattle.sql_meanings.specs.Names.{ungrouped, named, paging, constant_or, lower, lower_to, node, opened, passes}
+use Rattle.sql_meanings.specs.Names.{operation, both, wanted_truth, tests_truth, tests_alias, combine, viewing}
+use Rattle.sql_meanings.specs.Names.{single, source, sources, whole, with, level, query_to, query, compiled, first}
+use Rattle.sql_meanings.specs.Names.{with_command}
 use Rattle.sql_meanings.proofs.Names.{suc, refl, nat_lt, ap, ◌∙◌}
 use Rattle.sqlite_value.specs.declared.keys.Collation.TheVariants.{Binary}
 use Rattle.sqlite_sql.specs.declared.ops.CompareOp.{CompareOp}
@@ -15,10 +15,9 @@ use Rattle.sqlite_schema.specs.declared.program.Table.{Table as Let}
 use Rattle.sqlite_ast.specs.declared.Binary.{Binary as Operator}
 use Rattle.sqlite_ast.specs.declared.Source.{Source as From}
 use Rattle.sqlite_resolve.specs.Select.{constant, stepless, outermost}
-use Rattle.sql_meanings.proofs.Columns.{over_one, column_is}
+use Rattle.sql_meanings.proofs.{Columns.over_one, Columns.column_is, ByKey.Tests, ByKey.parameter_at}
 use Rattle.sql_meanings.proofs.Expressions.{st, lower_column, lower_parameter}
 use Rattle.sql_meanings.proofs.Statements.{HasTable, compiled_select}
-use Rattle.sql_meanings.proofs.ByKey.{Tests, parameter_at}
 use Rattle.sql_meanings.proofs.OneTable.{IsPartOf, IsSelectOf, one_table, parts_are, read_is}
 use Rattle.sql_meanings.proofs.ShownColumns.{ShowsColumns, HasRoom, spent, last_of}
 use Rattle.sql_meanings.proofs.Selects.{one_test, one_order, outputs_are_all}

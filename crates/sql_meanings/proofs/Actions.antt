@@ -1,8 +1,7 @@
 -- Whatever refers to a table with no foreign key of its own, an edit leaves in it what the edit says.
-use Rattle.sql_meanings.specs.Names.{ℕ, List, [], length, Ok, Result, Some, None, Option}
-use Rattle.sql_meanings.specs.Names.{ℤ, filter_map, flat_map, list_any, Schema, Table, Trees, Keys}
-use Rattle.sql_meanings.specs.Names.{Reference, ParentKey, parent_key, Deed, Has, taken_by, work_by, work_for, works}
-use Rattle.sql_meanings.specs.Names.{pairs, deed_for, Leads, Writes}
+use Rattle.sql_meanings.specs.Names.{ℕ, List, [], length, Ok, Result, Some, None, Option, ℤ, filter_map, flat_map}
+use Rattle.sql_meanings.specs.Names.{list_any, Schema, Table, Trees, Keys, Reference, ParentKey, parent_key, Deed}
+use Rattle.sql_meanings.specs.Names.{Has, taken_by, work_by, work_for, works, pairs, deed_for, Leads, Writes}
 use Rattle.sql_meanings.proofs.Names.{suc, zero, refl, nat_lt, ap, sym, subst, ◌∙◌, inl, inr, cases_Bool, all_has}
 use Rattle.sql_meanings.proofs.Names.{has_either, has_left, has_right}
 use Rattle.std.specs.List.{cons_option}

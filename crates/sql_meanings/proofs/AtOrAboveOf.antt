@@ -1,16 +1,14 @@
 -- The next rows from a key on among those with a number in a column, under any schema.
-use Rattle.sql_meanings.specs.Names.{Bool, ℕ, List, [], map, Ok, Some, None, true, false, Program}
-use Rattle.sql_meanings.specs.Names.{Select, lit, col, op2, Value, Schema, Table, Expr, out-Expr, Expr-F, Core, Shown}
-use Rattle.sql_meanings.specs.Names.{Sort, out-Sort, Parsed, Inner, Output, Carried, integer, nothing, alone, Name}
-use Rattle.sql_meanings.specs.Names.{declared, alias_of, number, conjuncts, affinity_of, ungrouped, lower_to, both}
-use Rattle.sql_meanings.specs.Names.{viewing, single, source, sources, whole, with, level, query_to, query, compiled}
-use Rattle.sql_meanings.specs.Names.{first, with_command}
+use Rattle.sql_meanings.specs.Names.{Bool, ℕ, List, [], map, Ok, Some, None, true, false, Program, Select, lit, col}
+use Rattle.sql_meanings.specs.Names.{op2, Value, Schema, Table, Expr, out-Expr, Expr-F, Core, Shown, Sort, out-Sort}
+use Rattle.sql_meanings.specs.Names.{Parsed, Inner, Output, Carried, integer, nothing, alone, Name, declared}
+use Rattle.sql_meanings.specs.Names.{alias_of, number, affinity_of, ungrouped, lower_to, both, source, whole}
+use Rattle.sql_meanings.specs.Names.{compiled, first, with_command}
 use Rattle.sql_meanings.proofs.Names.{suc, nat_lt, ap, ◌∙◌}
 use Rattle.sqlite_value.specs.declared.keys.Collation.TheVariants.{Binary}
 use Rattle.sqlite_ast.specs.declared.Source.{Source as From}
-use Rattle.sql_meanings.proofs.Columns.{over_one, column_is}
+use Rattle.sql_meanings.proofs.{Columns.over_one, Columns.column_is, Statements.HasTable, Statements.compiled_select}
 use Rattle.sql_meanings.proofs.Expressions.{st, lower_column, lower_parameter, lower_and}
-use Rattle.sql_meanings.proofs.Statements.{HasTable, compiled_select}
 use Rattle.sql_meanings.proofs.ByKey.{Tests, parameter_at, key_test}
 use Rattle.sql_meanings.proofs.OneTable.{IsPartOf, IsSelectOf, one_table, parts_are, read_is}
 use Rattle.sql_meanings.proofs.ShownColumns.{ShowsColumns, HasRoom, spent, last_of}

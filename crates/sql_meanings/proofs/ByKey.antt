@@ -1,17 +1,15 @@
 -- The test of a column against a parameter, and an UPDATE by it.
-use Rattle.sql_meanings.specs.Names.{ℕ, List, [], Ok, Some, None, slice_get, Bool, true, false}
-use Rattle.sql_meanings.specs.Names.{cond, Compare, Eq, column_named, place_of, Column, Program, Term, col, op2}
-use Rattle.sql_meanings.specs.Names.{Schema, Table, Expr, out-Expr, Expr-F, Parsed, Inner, Output, Carried, nothing}
-use Rattle.sql_meanings.specs.Names.{chosen, Name, Context, declared, compared, affinity_of, converted, may_be_text}
-use Rattle.sql_meanings.specs.Names.{lower_to, compiled, first, with_command}
+use Rattle.sql_meanings.specs.Names.{ℕ, List, [], Ok, Some, None, slice_get, Bool, true, false, cond, Compare, Eq}
+use Rattle.sql_meanings.specs.Names.{column_named, place_of, Column, Program, Term, col, op2, Schema, Table, Expr}
+use Rattle.sql_meanings.specs.Names.{out-Expr, Expr-F, Parsed, Inner, Output, Carried, nothing, chosen, Name, Context}
+use Rattle.sql_meanings.specs.Names.{declared, compared, affinity_of, converted, may_be_text, lower_to, compiled}
+use Rattle.sql_meanings.specs.Names.{first, with_command}
 use Rattle.sql_meanings.proofs.Names.{suc, refl, nat_lt, ◌∙◌}
 use Rattle.sqlite_value.specs.declared.keys.Collation.TheVariants.{Binary}
 use Rattle.sqlite_schema.specs.declared.command.Command.TheVariants.{Update}
-use Rattle.sqlite_resolve.specs.declared.compare.Affinity.{Affinity}
-use Rattle.sqlite_resolve.specs.Compare.{of_column, of_declared}
-use Rattle.sql_meanings.proofs.Columns.{over_one, column_is}
+use Rattle.sqlite_resolve.specs.{declared.compare.Affinity.Affinity, Compare.of_column, Compare.of_declared}
+use Rattle.sql_meanings.proofs.{Columns.over_one, Columns.column_is, Statements.HasTable, Statements.updates}
 use Rattle.sql_meanings.proofs.Expressions.{st, lower_parameter, lower_column, lower_equal}
-use Rattle.sql_meanings.proofs.Statements.{HasTable, updates}
 use Rattle.sqlite_ast.specs.declared.Binary.TheVariants as binary
 use Rattle.sqlite_ast.specs.declared.Statement.TheVariants as written
 use Rattle.sqlite_resolve.specs.declared.compare.Affinity.TheVariants as affinity

@@ -1,8 +1,7 @@
 -- Columns of one table, as a statement over that table alone names them.
-use Rattle.sql_meanings.specs.Names.{ℕ, List, [], Ok, Some, None, slice_get, Bool, true, column_named}
-use Rattle.sql_meanings.specs.Names.{place_of, Column, col, Schema, Table, Output, Name, Context, column, declared}
-use Rattle.sqlite_resolve.specs.declared.state.State.{State}
-use Rattle.sqlite_resolve.specs.declared.scope.Bound.{Bound}
+use Rattle.sql_meanings.specs.Names.{ℕ, List, [], Ok, Some, None, slice_get, Bool, true, column_named, place_of}
+use Rattle.sql_meanings.specs.Names.{Column, col, Schema, Table, Output, Name, Context, column, declared}
+use Rattle.sqlite_resolve.specs.declared.{state.State.State, scope.Bound.Bound}
 use Rattle.sqlite_resolve.specs.Scope.{find, term_of, column_at, in_level, only, hit, column_in, is_among}
 use Rattle.sqlite_resolve.specs.declared.scope.Found.TheVariants as found
 use Rattle.std.specs.Prelude.{◌≡◌, ◌∷◌}

@@ -1,16 +1,11 @@
 -- Tables side by side: what is held of each, and what a write of one leaves.
-use Rattle.sql_meanings.specs.Names.{not, ℕ, List, [], length, slice_get, Some, true}
-use Rattle.sql_meanings.specs.Names.{bytes_eq, State, Table, Database, Has}
+use Rattle.sql_meanings.specs.Names.{not, ℕ, List, [], length, slice_get, Some, true, bytes_eq, State, Table}
+use Rattle.sql_meanings.specs.Names.{Database, Has}
 use Rattle.sql_meanings.proofs.Names.{inl, inr, zero, suc, refl, sym, subst, arith}
-use Rattle.std.proofs.Common.{slice_set}
-use Rattle.std.proofs.lemmas.Slice.Eq.{bytes_eq-Decides}
+use Rattle.std.proofs.{Common.slice_set, lemmas.Slice.Eq.bytes_eq-Decides}
 use Rattle.sql_meanings.specs.Contents.{HoldsEach, has_other_names, is_free, stand_apart}
-use Rattle.sql_meanings.specs.Entries.{Entry}
-use Rattle.sql_meanings.specs.Tables.{Defines, Holds}
-use Rattle.sql_meanings.proofs.Steps.{stayed, stepped}
-use Rattle.sql_meanings.proofs.TableWrites.{Leaves}
-use Rattle.sql_meanings.proofs.Tests.{and_both}
-use Rattle.sql_meanings.proofs.Trees.{Holds-prop}
+use Rattle.sql_meanings.specs.{Entries.Entry, Tables.Defines, Tables.Holds}
+use Rattle.sql_meanings.proofs.{Steps.stayed, Steps.stepped, TableWrites.Leaves, Tests.and_both, Trees.Holds-prop}
 use Rattle.std.specs.Prelude.{◌≡◌, ◌≢◌, ◌==◌, ◌&&◌, ◌∷◌}
 
 -- ---- what the tests say

@@ -1,9 +1,8 @@
 -- CREATE TABLE under any schema.
-use Rattle.sql_meanings.specs.Names.{ℕ, not, List, [], length, Ok, Err, None, is_some}
-use Rattle.sql_meanings.specs.Names.{Bool, true, false, table_named, index_named, view_named, Schema, Table}
-use Rattle.sql_meanings.specs.Names.{Parsed, CompileError, Compiled, Checked, and_then, Name, compiled, first}
-use Rattle.sql_meanings.specs.Names.{planned, timed, meaning, returning, command, create_table, creates, is_attached}
-use Rattle.sql_meanings.specs.Names.{is_reserved, with_command, understood}
+use Rattle.sql_meanings.specs.Names.{ℕ, not, List, [], length, Ok, Err, None, is_some, Bool, true, false, table_named}
+use Rattle.sql_meanings.specs.Names.{index_named, view_named, Schema, Table, Parsed, CompileError, Compiled, Checked}
+use Rattle.sql_meanings.specs.Names.{and_then, Name, compiled, first, planned, timed, meaning, returning, command}
+use Rattle.sql_meanings.specs.Names.{create_table, creates, is_attached, is_reserved, with_command, understood}
 use Rattle.sql_meanings.proofs.Names.{refl, sym, subst, ◌∙◌, inl, inr}
 use Rattle.std.specs.Option.{option_or}
 use Rattle.sqlite.specs.Command.TheVariants.{CreateTable as MakeTable, Nothing}

@@ -5,9 +5,8 @@ use Rattle.sql_meanings.proofs.Names.{sym, ap, ◌∙◌, all_has}
 use Rattle.std.specs.Coded.{coded_option}
 use Rattle.sqlite_catalog.proofs.AlterLemmas.{place_has}
 use Rattle.sqlite_rules.proofs.ListLemmas.{all_from}
-use Rattle.sql_meanings.specs.Making.{Stands}
+use Rattle.sql_meanings.specs.{Making.Stands, Tables.Defines, Tables.table_of, Tables.tree_of}
 use Rattle.sql_meanings.proofs.TableStands.{has_table}
-use Rattle.sql_meanings.specs.Tables.{Defines, table_of, tree_of}
 use base.Stored.{Coded-set}
 use mathlib.Core.HLevel.{Π_prop}
 use Rattle.sqlite_schema.specs.contracts.schema.Table as table_row

@@ -1,15 +1,14 @@
 -- The rows of a tree and their entries.
-use Rattle.sql_meanings.specs.Names.{ℕ, ℤ, List, [], map, filter, find, cond, Bool, true, false, not, None}
-use Rattle.sql_meanings.specs.Names.{Some, is_eq, int_eq, match_ordering, AllByRecursion, Null, Int, Text, put_row}
+use Rattle.sql_meanings.specs.Names.{ℕ, ℤ, List, [], map, filter, find, cond, Bool, true, false, not, None, Some}
+use Rattle.sql_meanings.specs.Names.{is_eq, int_eq, match_ordering, AllByRecursion, Null, Int, Text, put_row}
 use Rattle.sql_meanings.specs.Names.{without_rowid, is_true, from_truth, binary, Compare, Eq, Binary}
 use Rattle.sql_meanings.proofs.Names.{inl, inr, refl, ap, ◌∙◌, Less, Equal, Greater, Ordering, int_cmp, arith, ints}
 use Rattle.sql_meanings.proofs.Names.{cases_Bool, value_cmp-Int}
-use Rattle.sqlite.specs.Tree.{has_rowid}
+use Rattle.sqlite.specs.{Tree.has_rowid, Cast.cast}
 use Rattle.sqlite_sql.specs.Ops.{unary}
 use Rattle.sqlite_value.specs.Order.{value_cmp}
 use Rattle.sqlite_trees.proofs.ListLemmas.{filter-map}
 use Rattle.sqlite_schema.specs.declared.schema.Kind.TheVariants.{Integer}
-use Rattle.sqlite.specs.Cast.{cast}
 use Rattle.sql_meanings.specs.Entries.{listed, Entry, Rise, has_key, put, stored}
 use Rattle.std.specs.Prelude.{◌≡◌, ◌∷◌}
 

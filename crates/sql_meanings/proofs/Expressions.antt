@@ -1,8 +1,7 @@
 -- Expressions over one table, under any schema.
-use Rattle.sql_meanings.specs.Names.{ℕ, [], Ok, None, true, Term, col, op2, Expr, out-Expr, Expr-F, Carried}
-use Rattle.sql_meanings.specs.Names.{nothing, begin, finish, spend, chosen, Name, Context, column, compared, lower_to}
-use Rattle.sql_meanings.specs.Names.{node, opened, passes, operation, both, wanted_truth, tests_truth, tests_alias}
-use Rattle.sql_meanings.specs.Names.{combine}
+use Rattle.sql_meanings.specs.Names.{ℕ, [], Ok, None, true, Term, col, op2, Expr, out-Expr, Expr-F, Carried, nothing}
+use Rattle.sql_meanings.specs.Names.{begin, finish, spend, chosen, Name, Context, column, compared, lower_to, node}
+use Rattle.sql_meanings.specs.Names.{opened, passes, operation, both, wanted_truth, tests_truth, tests_alias, combine}
 use Rattle.sql_meanings.proofs.Names.{suc, nat_lt}
 use Rattle.sqlite_resolve.specs.declared.state.State.{State}
 use Rattle.sqlite_ast.specs.declared.Binary.TheVariants as binary

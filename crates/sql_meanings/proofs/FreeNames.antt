@@ -1,16 +1,15 @@
 -- Where its name is free, a CREATE TABLE is understood, and only a full file refuses it.
-use Rattle.sql_meanings.specs.Names.{ℕ, not, List, [], length, Bool, true, false, Ok}
-use Rattle.sql_meanings.specs.Names.{None, Some, Option, is_some, codes, slice_get, option_and_then, position_from}
-use Rattle.sql_meanings.specs.Names.{created, is_used, next_tree, lacks_sequence, understood, sequence, Schema, Table}
-use Rattle.sql_meanings.specs.Names.{Error, SqliteFailure, SchemaTooBig, index_named, same_name, table_named, Parsed}
-use Rattle.sql_meanings.specs.Names.{compiled, first, planned, timed, meaning, returning, command, create_table}
-use Rattle.sql_meanings.specs.Names.{creates, is_attached, is_reserved, with_command}
+use Rattle.sql_meanings.specs.Names.{ℕ, not, List, [], length, Bool, true, false, Ok, None, Some, Option, is_some}
+use Rattle.sql_meanings.specs.Names.{codes, slice_get, option_and_then, position_from, created, is_used, next_tree}
+use Rattle.sql_meanings.specs.Names.{lacks_sequence, understood, sequence, Schema, Table, Error, SqliteFailure}
+use Rattle.sql_meanings.specs.Names.{SchemaTooBig, index_named, same_name, table_named, Parsed, compiled, first}
+use Rattle.sql_meanings.specs.Names.{planned, timed, meaning, returning, command, create_table, creates, is_attached}
+use Rattle.sql_meanings.specs.Names.{is_reserved, with_command}
 use Rattle.sql_meanings.proofs.Names.{refl, sym, ap, ◌∙◌, inl, inr, append-nil, suc, zero, cases_Bool, or_parts}
 use Rattle.sqlite.specs.Command.TheVariants.{CreateTable as MakeTable}
 use Rattle.sqlite_ast.specs.declared.CreateTable.{CreateTable}
 use Rattle.sqlite_catalog.proofs.StepLemmas.{no_table, no_index, no_view}
-use Rattle.sql_meanings.specs.Making.{NotMade, counts_rows}
-use Rattle.sql_meanings.specs.StatementAnswers.{IsUnderstood}
+use Rattle.sql_meanings.specs.{Making.NotMade, Making.counts_rows, StatementAnswers.IsUnderstood}
 use Rattle.sql_meanings.proofs.TableStands.{counts_created}
 use Rattle.sqlite_ast.specs.declared.Statement.TheVariants as written
 use Rattle.sqlite_resolve.specs.Define as define

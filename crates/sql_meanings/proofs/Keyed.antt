@@ -1,21 +1,14 @@
 -- What a text means that reads or writes the row under its key, by what is computed of the text alone.
-use Rattle.sql_meanings.specs.Names.{ℕ, ℤ, true, false, List, [], length, slice_get, Ok, Some, None}
-use Rattle.sql_meanings.specs.Names.{Schema, Table, Term, col, op2, eval_all, Int, Expr, out-Expr, Expr-F, Inner}
-use Rattle.sql_meanings.specs.Names.{first, chosen, nothing, declared, ungrouped, number, column_named, place_of}
-use Rattle.sql_meanings.specs.Names.{passes_checks, Compare, Eq, Parsed, accepts_program}
-use Rattle.sql_meanings.proofs.Names.{refl}
+use Rattle.sql_meanings.specs.Names.{ℕ, ℤ, true, false, List, [], length, slice_get, Ok, Some, None, Schema, Table}
+use Rattle.sql_meanings.specs.Names.{Term, col, op2, eval_all, Int, Expr, out-Expr, Expr-F, Inner, first, chosen}
+use Rattle.sql_meanings.specs.Names.{nothing, declared, ungrouped, number, column_named, place_of, passes_checks}
+use Rattle.sql_meanings.specs.Names.{Compare, Eq, Parsed, accepts_program}
+use Rattle.sql_meanings.proofs.{Names.refl, Means.means, ReadTables.ReadsAs, SetRows.ChangesAs}
+use Rattle.sql_meanings.proofs.{ShownColumns.outputs_at, Statements.HasTable, Texts.IsSelect, Texts.reads_by}
 use Rattle.sqlite_value.specs.declared.keys.Collation.TheVariants.{Binary}
-use Rattle.sql_meanings.specs.Entries.{HasWidth, Entry, stored}
-use Rattle.sql_meanings.specs.Plain.{key_column}
-use Rattle.sql_meanings.specs.Queries.{by_key, key_is, no_limit}
-use Rattle.sql_meanings.specs.Tables.{placed_at, texts_of, width_of}
+use Rattle.sql_meanings.specs.{Entries.HasWidth, Entries.Entry, Entries.stored, Plain.key_column, Queries.by_key}
+use Rattle.sql_meanings.specs.{Queries.key_is, Queries.no_limit, Tables.placed_at, Tables.texts_of, Tables.width_of}
 use Rattle.sql_meanings.proofs.ByKey.{Tests, key_at, update_by_key}
-use Rattle.sql_meanings.proofs.Means.{means}
-use Rattle.sql_meanings.proofs.ReadTables.{ReadsAs}
-use Rattle.sql_meanings.proofs.SetRows.{ChangesAs}
-use Rattle.sql_meanings.proofs.ShownColumns.{outputs_at}
-use Rattle.sql_meanings.proofs.Statements.{HasTable}
-use Rattle.sql_meanings.proofs.Texts.{IsSelect, reads_by}
 use Rattle.sqlite_ast.specs.declared.Binary.TheVariants as binary
 use Rattle.sqlite_ast.specs.declared.Statement.TheVariants as written
 use Rattle.sqlite_resolve.specs.Program as program

@@ -1,24 +1,20 @@
 -- Why a CREATE TABLE inside a transaction fails, and what it tells.
-use Rattle.sql_meanings.specs.Names.{ℕ, true, false, codes, List, [], length, None}
-use Rattle.sql_meanings.specs.Names.{Some, Option, Ok, Err, Result, IsTrue, Table, automatics, created, is_used}
-use Rattle.sql_meanings.specs.Names.{next_tree, CreateTable, table_defined_by, Does, MakesSequence, MakesTable}
-use Rattle.sql_meanings.specs.Names.{lacks_sequence, no_rows, sequence_text, Database, Gives, Then, State}
-use Rattle.sql_meanings.specs.Names.{ExecutesInside, IsNoStatement, mode_of, Error, IsBadName, is_fit, is_formed}
-use Rattle.sql_meanings.specs.Names.{Index, index_reals, table_reals, Has, Text}
+use Rattle.sql_meanings.specs.Names.{ℕ, true, false, codes, List, [], length, None, Some, Option, Ok, Err, Result}
+use Rattle.sql_meanings.specs.Names.{IsTrue, Table, automatics, created, is_used, next_tree, CreateTable}
+use Rattle.sql_meanings.specs.Names.{table_defined_by, Does, MakesSequence, MakesTable, lacks_sequence, no_rows}
+use Rattle.sql_meanings.specs.Names.{sequence_text, Database, Gives, Then, State, ExecutesInside, IsNoStatement}
+use Rattle.sql_meanings.specs.Names.{mode_of, Error, IsBadName, is_fit, is_formed, Index, index_reals, table_reals}
+use Rattle.sql_meanings.specs.Names.{Has, Text}
 use Rattle.sql_meanings.proofs.Names.{inl, inr, refl, sym, ap, subst, ◌∙◌, arith, cases_Bool}
 use Rattle.std.proofs.Common.{◌*◌}
 use Rattle.sqlite.specs.Effect.{alter_error}
-use Rattle.sqlite_catalog.specs.Calls.{RefusesTable}
-use Rattle.sqlite_catalog.specs.declared.error.Refusal.{Refusal}
+use Rattle.sqlite_catalog.specs.{Calls.RefusesTable, declared.error.Refusal.Refusal}
 use Rattle.sqlite_catalog.specs.declared.error.Refusal.TheVariants.{Invalid, NameTaken, BadName, TooBig, BadKey}
 use Rattle.sqlite_catalog.specs.declared.error.Refusal.TheVariants.{BadText, Violates}
 use Rattle.sql_meanings.specs.Making.{CreatesOnly, IsMakeable, NotMade, RefusesNew}
 use Rattle.sql_meanings.specs.StatementAnswers.{MakeFails, MakesTold}
-use Rattle.sql_meanings.proofs.Makings.{made_by}
-use Rattle.sql_meanings.proofs.NumberRows.{none_indexed}
-use Rattle.sql_meanings.proofs.Stopping.{Stops, fails_for, stops}
-use Rattle.sql_meanings.proofs.PuttingIn.{never, stopped}
-use Rattle.sql_meanings.proofs.Writing.{same_value}
+use Rattle.sql_meanings.proofs.{Makings.made_by, NumberRows.none_indexed, Stopping.Stops, Stopping.fails_for}
+use Rattle.sql_meanings.proofs.{Stopping.stops, PuttingIn.never, PuttingIn.stopped, Writing.same_value}
 use Rattle.std.specs.Prelude.{◌≡◌, ◌⊎◌, ◌+◌, ◌^◌, ◌==◌, ◌≤◌}
 
 module _ (text : List ℕ) (t : Table) (make : IsMakeable text t) (db : Database) where

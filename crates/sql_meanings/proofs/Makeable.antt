@@ -1,12 +1,10 @@
 -- That a text makes a table under any schema that takes it, by what is computed of the text.
-use Rattle.sql_meanings.specs.Names.{not, List, [], ℕ, Bool, true, false, length}
-use Rattle.sql_meanings.specs.Names.{codes, Ok, None, IsUtf8, slice_range, list_all, table_defined_by, Table, Text}
-use Rattle.sql_meanings.specs.Names.{IsBadName, is_fit, is_formed, first, with_command, table_reals, Parsed}
+use Rattle.sql_meanings.specs.Names.{not, List, [], ℕ, Bool, true, false, length, codes, Ok, None, IsUtf8}
+use Rattle.sql_meanings.specs.Names.{slice_range, list_all, table_defined_by, Table, Text, IsBadName, is_fit}
+use Rattle.sql_meanings.specs.Names.{is_formed, first, with_command, table_reals, Parsed}
 use Rattle.sql_meanings.proofs.Names.{nat_lt, inl, inr, refl, arith}
 use Rattle.std.proofs.Common.{◌*◌}
-use Rattle.std.proofs.lemmas.Str.{IsUtf8-from_ascii}
-use Rattle.std.proofs.lemmas.Str.Ascii.{IsAscii-from_all}
-use Rattle.std.proofs.lemmas.List.Sums.{AllPass-from_list_all}
+use Rattle.std.proofs.lemmas.{Str.IsUtf8-from_ascii, Str.Ascii.IsAscii-from_all, List.Sums.AllPass-from_list_all}
 use Rattle.sqlite.specs.Change.{is_reserved}
 use Rattle.sqlite.specs.Command.TheVariants.{CreateTable as MakeTable}
 use Rattle.sqlite_ast.specs.declared.CreateTable.{CreateTable}

@@ -1,17 +1,13 @@
 -- A CREATE TABLE inside a transaction, done: the table is there and empty, and what stood stands on.
-use Rattle.sql_meanings.specs.Names.{ℕ, List, [], None, Ok, Err, Result, false, unwrap_or, Table, Row}
-use Rattle.sql_meanings.specs.Names.{CreateTable, Database, IsDatabase, understood, Does, MakesSequence, MakesTable}
-use Rattle.sql_meanings.specs.Names.{Tally, no_rows, Gives, Then, State, ExecutesIn, Executes, ExecutesInside}
-use Rattle.sql_meanings.specs.Names.{KeepsCommit, IsUnchanged, IsRolledBack, KeepsCounts, mode_of, Error}
+use Rattle.sql_meanings.specs.Names.{ℕ, List, [], None, Ok, Err, Result, false, unwrap_or, Table, Row, CreateTable}
+use Rattle.sql_meanings.specs.Names.{Database, IsDatabase, understood, Does, MakesSequence, MakesTable, Tally}
+use Rattle.sql_meanings.specs.Names.{no_rows, Gives, Then, State, ExecutesIn, Executes, ExecutesInside, KeepsCommit}
+use Rattle.sql_meanings.specs.Names.{IsUnchanged, IsRolledBack, KeepsCounts, mode_of, Error}
 use Rattle.sql_meanings.proofs.Names.{inl, inr, refl, sym, ap, subst, ◌∙◌, IsPlain, command_of, runs_as, through}
 use Rattle.sqlite.proofs.Callers.{statement_of}
-use Rattle.sql_meanings.specs.Entries.{IsTree}
-use Rattle.sql_meanings.specs.Tables.{Holds, placed_at, tree_of, width_of}
-use Rattle.sql_meanings.specs.Making.{AddsTable, CreatesOnly, Stands}
-use Rattle.sql_meanings.specs.StatementAnswers.{WriteKept}
-use Rattle.sql_meanings.proofs.Defining.{stands_defined}
-use Rattle.sql_meanings.proofs.TableStands.{adds}
-use Rattle.sql_meanings.proofs.Writing.{same_value}
+use Rattle.sql_meanings.specs.{Entries.IsTree, Tables.Holds, Tables.placed_at, Tables.tree_of, Tables.width_of}
+use Rattle.sql_meanings.specs.{Making.AddsTable, Making.CreatesOnly, Making.Stands, StatementAnswers.WriteKept}
+use Rattle.sql_meanings.proofs.{Defining.stands_defined, TableStands.adds, Writing.same_value}
 use Rattle.std.specs.Prelude.{◌≡◌, ◌⊎◌}
 
 -- whatever is executed inside

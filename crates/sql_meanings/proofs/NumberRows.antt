@@ -1,15 +1,12 @@
 -- A row of a key and whole numbers keeps the rules that its table has of each row alone, and can be stored.
-use Rattle.sql_meanings.specs.Names.{ℕ, ℤ, pos, negsuc, List, [], not}
-use Rattle.sql_meanings.specs.Names.{Bool, false, map, length, true, Some, AllByRecursion, Value, Null, Int, Text}
-use Rattle.sql_meanings.specs.Names.{Row, Table, IsStorable, IsStorableRow, entry_of, kind_code, index_reals}
-use Rattle.sql_meanings.specs.Names.{table_reals, Column}
+use Rattle.sql_meanings.specs.Names.{ℕ, ℤ, pos, negsuc, List, [], not, Bool, false, map, length, true, Some}
+use Rattle.sql_meanings.specs.Names.{AllByRecursion, Value, Null, Int, Text, Row, Table, IsStorable, IsStorableRow}
+use Rattle.sql_meanings.specs.Names.{entry_of, kind_code, index_reals, table_reals, Column}
 use Rattle.sql_meanings.proofs.Names.{inl, inr, zero, suc, length-append, drop, refl, sym, ap, subst, ◌∙◌, arith}
 use Rattle.sql_meanings.proofs.Names.{length-map}
 use Rattle.std.proofs.Common.{All, add-one}
 use Rattle.std.specs.Float.{NotNan}
-use Rattle.std.proofs.lemmas.List.Elements.{All-from_recursion}
-use Rattle.std.proofs.lemmas.List.Sums.{sum_by-le}
-use Rattle.std.proofs.lemmas.Nat.Bits.{bit_at-zero}
+use Rattle.std.proofs.lemmas.{List.Elements.All-from_recursion, List.Sums.sum_by-le, Nat.Bits.bit_at-zero}
 use Rattle.sqlite.specs.Order.{column}
 use Rattle.sqlite_value.specs.Order.{number, bytes}
 use Rattle.sqlite_trees.proofs.ListLemmas.{all-append}

@@ -1,22 +1,17 @@
 -- SELECT over one table, under any schema that has it.
-use Rattle.sql_meanings.specs.Names.{ℕ, List, [], map, Ok, None, Option, true, false, Collation, Key}
-use Rattle.sql_meanings.specs.Names.{Program, Select, Term, Schema, Table, Expr, Core, out-Core, Shown, Sort}
-use Rattle.sql_meanings.specs.Names.{out-Source, Draft, Inner, Output, Carried, nothing, take_slot, Name, number}
-use Rattle.sql_meanings.specs.Names.{table_in, bound, bounds, outputs, tests, body, sorts, parts, ungrouped, named}
-use Rattle.sql_meanings.specs.Names.{paging, constant_or, lower, viewing, single, source, sources, whole, with, level}
-use Rattle.sql_meanings.specs.Names.{query_to, query, program, read}
-use Rattle.sql_meanings.proofs.Names.{suc}
+use Rattle.sql_meanings.specs.Names.{ℕ, List, [], map, Ok, None, Option, true, false, Collation, Key, Program, Select}
+use Rattle.sql_meanings.specs.Names.{Term, Schema, Table, Expr, Core, out-Core, Shown, Sort, out-Source, Draft, Inner}
+use Rattle.sql_meanings.specs.Names.{Output, Carried, nothing, take_slot, Name, number, table_in, bound, bounds}
+use Rattle.sql_meanings.specs.Names.{outputs, tests, body, sorts, parts, ungrouped, named, paging, constant_or, lower}
+use Rattle.sql_meanings.specs.Names.{viewing, single, source, sources, whole, with, level, query_to, query, program}
+use Rattle.sql_meanings.specs.Names.{read}
+use Rattle.sql_meanings.proofs.{Names.suc, Columns.bound_to, Columns.over_one, Expressions.st, Statements.HasTable}
 use Rattle.sqlite_schema.specs.declared.program.Table.{Table as Let}
 use Rattle.sqlite_ast.specs.declared.Select.{out-Select}
 use Rattle.sqlite_ast.specs.declared.Source.{Source as From}
 use Rattle.sqlite_resolve.specs.Body.{shared, joins, join, inner_join, result, matching}
-use Rattle.sqlite_resolve.specs.Order.{keys}
-use Rattle.sqlite_resolve.specs.Select.{having, assembled}
-use Rattle.sqlite_resolve.specs.Program.{alone}
+use Rattle.sqlite_resolve.specs.{Order.keys, Select.having, Select.assembled, Program.alone}
 use Rattle.sql_meanings.specs.Queries.{no_limit}
-use Rattle.sql_meanings.proofs.Columns.{bound_to, over_one}
-use Rattle.sql_meanings.proofs.Expressions.{st}
-use Rattle.sql_meanings.proofs.Statements.{HasTable}
 use Rattle.sqlite_ast.specs.declared.Select as written_select
 use Rattle.sqlite_ast.specs.declared.Origin.TheVariants as origin
 use Rattle.std.specs.Prelude.{◌≡◌, ◌∷◌}

@@ -1,20 +1,15 @@
 -- What a query of one table with ORDER BY its key answers.
-use Rattle.sql_meanings.specs.Names.{ℕ, ℤ, pos, List, [], map, filter, find, cond, Bool, true, false}
-use Rattle.sql_meanings.specs.Names.{Some, AllByRecursion, flat_map, list_all, is_gt, Value, Int, Row, Binary}
-use Rattle.sql_meanings.specs.Names.{is_true, from_truth, binary, Compare, Gt, Trees, IsAscending, Term, Env}
-use Rattle.sql_meanings.specs.Names.{eval_all, holds, lit, col, Query, Join, IsAnswerAs, matches_as, page, inner, end}
-use Rattle.sql_meanings.specs.Names.{output}
+use Rattle.sql_meanings.specs.Names.{ℕ, ℤ, pos, List, [], map, filter, find, cond, Bool, true, false, Some}
+use Rattle.sql_meanings.specs.Names.{AllByRecursion, flat_map, list_all, is_gt, Value, Int, Row, Binary, is_true}
+use Rattle.sql_meanings.specs.Names.{from_truth, binary, Compare, Gt, Trees, IsAscending, Term, Env, eval_all, holds}
+use Rattle.sql_meanings.specs.Names.{lit, col, Query, Join, IsAnswerAs, matches_as, page, inner, end, output}
 use Rattle.sql_meanings.proofs.Names.{take, refl, ap, subst, ◌∙◌, Less, int_cmp, IsPermutation, value_cmp-Int}
 use Rattle.sql_meanings.proofs.Names.{map-map}
-use Rattle.sqlite.specs.Order.{value_cmp}
-use Rattle.sqlite.specs.Term.{eval}
-use Rattle.sqlite.specs.Query.{output_cmp, Output}
+use Rattle.sqlite.specs.{Order.value_cmp, Term.eval, Query.output_cmp, Query.Output}
 use Rattle.sqlite_sql.proofs.QueryLemmas.{output_cmp_total}
 use Rattle.sql_meanings.specs.Entries.{Entry, IsTree, Rise, is_above, listed, stored}
 use Rattle.sql_meanings.specs.Queries.{ascending, above, key_above, query}
-use Rattle.sql_meanings.proofs.EntryLists.{Above}
-use Rattle.sql_meanings.proofs.TestedAnswers.{passing}
-use Rattle.sql_meanings.proofs.RisingOrder.{sorted_is}
+use Rattle.sql_meanings.proofs.{EntryLists.Above, TestedAnswers.passing, RisingOrder.sorted_is}
 use Rattle.std.specs.Prelude.{◌≡◌, ◌&&◌, ◌∷◌}
 
 module _ (from : Join) (tests project : List Term) (most : Term) (f : Entry → Env) (keyed : (e : Entry)

@@ -1,15 +1,12 @@
 -- What a caller knows after a plain SELECT, whose text is known to be understood.
-use Rattle.sql_meanings.specs.Names.{ℕ, List, [], length, None, Ok, Err, true, false, Schema, Row}
-use Rattle.sql_meanings.specs.Names.{Query, IsSureAnswer, has_no_fold, overlay, understood, reads_listing, State}
+use Rattle.sql_meanings.specs.Names.{ℕ, List, [], length, None, Ok, Err, true, false, Schema, Row, Query}
+use Rattle.sql_meanings.specs.Names.{IsSureAnswer, has_no_fold, overlay, understood, reads_listing, State}
 use Rattle.sql_meanings.specs.Names.{IsUnchanged, IsNotRun, QueriesRow, QueriesRowInside, FailsToQuery}
 use Rattle.sql_meanings.specs.Names.{accepts_program, Error, QueryReturnedNoRows}
 use Rattle.sql_meanings.proofs.Names.{inl, inr, append-nil, sym, ap, subst, ◌∙◌, no_fold_overflows, IsPlain}
 use Rattle.sql_meanings.proofs.Names.{command_of}
 use Rattle.std.proofs.Common.{subst₂}
-use Rattle.sqlite.specs.Command.TheVariants.{Select}
-use Rattle.sqlite.specs.Effect.{RefusesToRead}
-use Rattle.sqlite.specs.Listing.{IsSourceOf}
-use Rattle.sqlite.specs.State.{Shown}
+use Rattle.sqlite.specs.{Command.TheVariants.Select, Effect.RefusesToRead, Listing.IsSourceOf, State.Shown}
 use Rattle.sqlite.proofs.Callers.{reads_as, first_as}
 use Rattle.sql_meanings.proofs.Means.{Means, meant_is, plain_is, no_refusal}
 use Rattle.sql_meanings.specs.StatementAnswers.{ReadFails}

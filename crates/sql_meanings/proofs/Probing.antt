@@ -1,25 +1,20 @@
 -- What a probe tells.
-use Rattle.sql_meanings.specs.Names.{ℕ, List, [], Ok, Err, Some, None, Option, Result, Bool, true, false}
-use Rattle.sql_meanings.specs.Names.{cond, Schema, Table, Term, table_named, view_named, Core, out-Core, Sort}
-use Rattle.sql_meanings.specs.Names.{out-Source, Parsed, CompileError, NoSuchTable, Carried, nothing, take_slot, Name}
-use Rattle.sql_meanings.specs.Names.{number, table_in, bound, bounds, body, parts, named, paging, constant_or}
-use Rattle.sql_meanings.specs.Names.{viewing, single, source, sources, whole, with, level, query_to, query, compiled}
-use Rattle.sql_meanings.specs.Names.{first, planned, timed, meaning, returning, command, read, understood}
-use Rattle.sql_meanings.specs.Names.{listing_schema, Error, SqlInputError, State, Fails, IsUnchanged, IsNotRun}
-use Rattle.sql_meanings.specs.Names.{store_error, Database, IsDatabase, StoreError, OutOfMemory, Io, Corrupt, Full}
-use Rattle.sql_meanings.specs.Names.{Broken, Unstorable}
+use Rattle.sql_meanings.specs.Names.{ℕ, List, [], Ok, Err, Some, None, Option, Result, Bool, true, false, cond}
+use Rattle.sql_meanings.specs.Names.{Schema, Table, Term, table_named, view_named, Core, out-Core, Sort, out-Source}
+use Rattle.sql_meanings.specs.Names.{Parsed, CompileError, NoSuchTable, Carried, nothing, take_slot, Name, number}
+use Rattle.sql_meanings.specs.Names.{table_in, bound, bounds, body, parts, named, paging, constant_or, viewing}
+use Rattle.sql_meanings.specs.Names.{single, source, sources, whole, with, level, query_to, query, compiled, first}
+use Rattle.sql_meanings.specs.Names.{planned, timed, meaning, returning, command, read, understood, listing_schema}
+use Rattle.sql_meanings.specs.Names.{Error, SqlInputError, State, Fails, IsUnchanged, IsNotRun, store_error, Database}
+use Rattle.sql_meanings.specs.Names.{IsDatabase, StoreError, OutOfMemory, Io, Corrupt, Full, Broken, Unstorable}
 use Rattle.sql_meanings.proofs.Names.{suc, refl, ap, sym, ◌∙◌, inl, inr}
 use Rattle.sqlite_ast.specs.declared.Source.{Source as From}
 use Rattle.sqlite_schema.specs.declared.program.Table.{Table as Let}
 use Rattle.sqlite_resolve.specs.Program.{alone}
 use Rattle.sql_meanings.specs.StatementAnswers.{is_text_refused, IsThere, IsUnderstood, OnlyShows, TellsProbe}
 use Rattle.sql_meanings.specs.StatementAnswers.{TellsUnderstood}
-use Rattle.sql_meanings.specs.Tables.{Defines, placed_at, tree_of}
-use Rattle.sql_meanings.proofs.Steps.{standing}
-use Rattle.sql_meanings.proofs.Expressions.{st}
-use Rattle.sql_meanings.proofs.OneTable.{IsSelectOf}
-use Rattle.sql_meanings.proofs.Statements.{HasTable}
-use Rattle.sql_meanings.specs.Queries.{no_limit}
+use Rattle.sql_meanings.specs.{Tables.Defines, Tables.placed_at, Tables.tree_of, Queries.no_limit}
+use Rattle.sql_meanings.proofs.{Steps.standing, Expressions.st, OneTable.IsSelectOf, Statements.HasTable}
 use Rattle.sqlite_ast.specs.declared.Select as written_select
 use Rattle.sqlite_ast.specs.declared.Origin.TheVariants as origin
 use Rattle.sqlite_ast.specs.declared.Statement.TheVariants as written

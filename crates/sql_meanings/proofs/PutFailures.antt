@@ -1,27 +1,24 @@
 -- Why rows can't be put in.
-use Rattle.sql_meanings.specs.Names.{ℕ, List, [], map, find, length, true, false, None, Some, Option}
-use Rattle.sql_meanings.specs.Names.{is_some, Ok, Err, AllByRecursion, Row, Schema, Trees, Table, Edit, edit_of}
-use Rattle.sql_meanings.specs.Names.{edited, Values, Command, Insert, Does, Concludes, Returns, Tested, IsDatabase}
-use Rattle.sql_meanings.specs.Names.{value_rows, Part, Gives, Edited, Task, Then, Counts, Written, count_of, stamped}
-use Rattle.sql_meanings.specs.Names.{State, ExecutesInside, IsUnchanged, mode_of, text_of, Error, SqliteFailure}
-use Rattle.sql_meanings.specs.Names.{Chosen, Compiled, fits_i64, ForeignKey, Unique, All, Enforced, Refers, are_fresh}
+use Rattle.sql_meanings.specs.Names.{ℕ, List, [], map, find, length, true, false, None, Some, Option, is_some, Ok}
+use Rattle.sql_meanings.specs.Names.{Err, AllByRecursion, Row, Schema, Trees, Table, Edit, edit_of, edited, Values}
+use Rattle.sql_meanings.specs.Names.{Command, Insert, Does, Concludes, Returns, Tested, IsDatabase, value_rows, Part}
+use Rattle.sql_meanings.specs.Names.{Gives, Edited, Task, Then, Counts, Written, count_of, stamped, State}
+use Rattle.sql_meanings.specs.Names.{ExecutesInside, IsUnchanged, mode_of, text_of, Error, SqliteFailure, Chosen}
+use Rattle.sql_meanings.specs.Names.{Compiled, fits_i64, ForeignKey, Unique, All, Enforced, Refers, are_fresh}
 use Rattle.sql_meanings.specs.Names.{left_by, Has}
 use Rattle.sql_meanings.proofs.Names.{inl, inr, refl, sym, ap, subst, ◌∙◌, ∥∥₁_elim, all_has}
 use Rattle.std.proofs.Common.{fold}
 use Rattle.sqlite.specs.Rows.{Sourced, Counter, Inserts, higher, last_id}
 use Rattle.sqlite_rules.proofs.TableLemmas.{put_all_keeps}
-use Rattle.sql_meanings.specs.Entries.{Entry, has_key, put, stored}
-use Rattle.sql_meanings.specs.SeveralRows.{meets_key, put_each}
+use Rattle.sql_meanings.specs.{Entries.Entry, Entries.has_key, Entries.put, Entries.stored, SeveralRows.meets_key}
+use Rattle.sql_meanings.specs.{SeveralRows.put_each, Tables.Holds, Tables.placed_at, Tables.tree_of}
 use Rattle.sql_meanings.specs.StatementAnswers.{Forbids, HasWideIndex, IsInterrupted, PutFails}
-use Rattle.sql_meanings.specs.Tables.{Holds, placed_at, tree_of}
-use Rattle.sql_meanings.proofs.Means.{Means, no_refusal}
+use Rattle.sql_meanings.proofs.{Means.Means, Means.no_refusal, Referring.asks_none, Referring.refers_after}
+use Rattle.sql_meanings.proofs.{Steps.Standing, Steps.standing, TableWrites.IsPlain, TableWrites.plain_at}
 use Rattle.sql_meanings.proofs.PutRows.{PutsAs, PutsEachAs, news_are, put_are, puts_one, taken_are}
 use Rattle.sql_meanings.proofs.SeveralRows.{IsKey, fit_at, or_nothing}
-use Rattle.sql_meanings.proofs.Referring.{asks_none, refers_after}
 use Rattle.sql_meanings.proofs.Refusals.{EditStops, IsFit, edit_stops, forbids}
-use Rattle.sql_meanings.proofs.Steps.{Standing, standing}
 use Rattle.sql_meanings.proofs.Stopping.{Stops, fails_for, stops}
-use Rattle.sql_meanings.proofs.TableWrites.{IsPlain, plain_at}
 use Rattle.sql_meanings.proofs.PuttingIn.{key_taken, never, none_in, put_in_applies, stopped}
 use Rattle.sql_meanings.proofs.Writing.{same_value, uncounted, went}
 use Rattle.sqlite.specs.declared.error.ErrorCode.TheVariants as code

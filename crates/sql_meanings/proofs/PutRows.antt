@@ -1,19 +1,15 @@
 -- New rows are put into a table.
-use Rattle.sql_meanings.specs.Names.{ℕ, List, [], map, find, length, is_some, Ok, Bool, not, true, false}
-use Rattle.sql_meanings.specs.Names.{Row, Schema, Trees, Table, Term, Edit, edit_of, edited, are_fresh, left_by}
-use Rattle.sql_meanings.specs.Names.{put_all, Chosen, Values, Insert, IsDatabase, value_rows, stamped, State}
-use Rattle.sql_meanings.specs.Names.{Executes, AllByRecursion, Enforced, Has, passes_checks, accepts_terms}
+use Rattle.sql_meanings.specs.Names.{ℕ, List, [], map, find, length, is_some, Ok, Bool, not, true, false, Row, Schema}
+use Rattle.sql_meanings.specs.Names.{Trees, Table, Term, Edit, edit_of, edited, are_fresh, left_by, put_all, Chosen}
+use Rattle.sql_meanings.specs.Names.{Values, Insert, IsDatabase, value_rows, stamped, State, Executes, AllByRecursion}
+use Rattle.sql_meanings.specs.Names.{Enforced, Has, passes_checks, accepts_terms}
 use Rattle.sql_meanings.proofs.Names.{refl, sym, ap, subst, ◌∙◌, all_has}
 use Rattle.sql_meanings.specs.Entries.{AreShort, HasWidth, Entry, has_key, put, stored}
-use Rattle.sql_meanings.specs.SeveralRows.{meets_key, put_each}
+use Rattle.sql_meanings.specs.{SeveralRows.meets_key, SeveralRows.put_each, Making.SparesTables}
 use Rattle.sql_meanings.specs.Tables.{Holds, placed_at, tree_of, width_of}
-use Rattle.sql_meanings.proofs.Statements.{HasTable}
-use Rattle.sql_meanings.proofs.Means.{Means}
+use Rattle.sql_meanings.proofs.{Statements.HasTable, Means.Means, Steps.standing, PuttingIn.put_in_applies}
 use Rattle.sql_meanings.proofs.SeveralRows.{IsRowOf, fresh_each, numbered_each, or_nothing, put_all_stored, tree_each}
-use Rattle.sql_meanings.proofs.Steps.{standing}
 use Rattle.sql_meanings.proofs.Writing.{Wrote, inserts, uncounted}
-use Rattle.sql_meanings.specs.Making.{SparesTables}
-use Rattle.sql_meanings.proofs.PuttingIn.{put_in_applies}
 use Rattle.sql_meanings.proofs.TableWrites.{IsPlain, Leaves, steps_by}
 use Rattle.std.specs.Prelude.{◌≡◌, ◌∷◌, ◌/◌}
 

@@ -1,17 +1,13 @@
 -- The look-ups of a table that a database holds: by its key, by two columns, and of the next key.
-use Rattle.sql_meanings.specs.Names.{ℕ, ℤ, List, [], find, slice_get, Some, option_map, Result, Row, Null}
-use Rattle.sql_meanings.specs.Names.{Int, overlay, Table, Term, eval_all, IsDatabase, State, QueriesRowInside, Error}
+use Rattle.sql_meanings.specs.Names.{ℕ, ℤ, List, [], find, slice_get, Some, option_map, Result, Row, Null, Int}
+use Rattle.sql_meanings.specs.Names.{overlay, Table, Term, eval_all, IsDatabase, State, QueriesRowInside, Error}
 use Rattle.sql_meanings.specs.Names.{plain}
-use Rattle.sql_meanings.proofs.Names.{get_or, ∥∥₁_elim}
+use Rattle.sql_meanings.proofs.{Names.get_or, Names.∥∥₁_elim, KeyedAnswers.keyed_answer, OrderedAnswers.next_answer}
+use Rattle.sql_meanings.proofs.{TwoColumns.Clear, TwoColumns.clear, TwoColumns.two_answer, Steps.standing}
 use Rattle.sql_meanings.specs.Entries.{Entry, has_key, has_two, is_above, stored}
-use Rattle.sql_meanings.specs.Tables.{Holds, placed_at, tree_of}
+use Rattle.sql_meanings.specs.{Tables.Holds, Tables.placed_at, Tables.tree_of, StatementAnswers.TellsRow}
 use Rattle.sql_meanings.specs.Queries.{by_key, by_two, next_above}
-use Rattle.sql_meanings.specs.StatementAnswers.{TellsRow}
 use Rattle.sql_meanings.proofs.ReadTables.{ReadsAs, reads_row, under_overlay}
-use Rattle.sql_meanings.proofs.KeyedAnswers.{keyed_answer}
-use Rattle.sql_meanings.proofs.OrderedAnswers.{next_answer}
-use Rattle.sql_meanings.proofs.TwoColumns.{Clear, clear, two_answer}
-use Rattle.sql_meanings.proofs.Steps.{standing}
 use mathlib.Core.Bool.{Bool-set}
 use Rattle.std.specs.Prelude.{◌≡◌, ◌∷◌}
 

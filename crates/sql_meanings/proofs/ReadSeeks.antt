@@ -1,18 +1,15 @@
 -- What a seek tells of a table that a database holds.
-use Rattle.sql_meanings.specs.Names.{ℕ, ℤ, List, [], map, filter, Ok, Err, Result, false, length, Row}
-use Rattle.sql_meanings.specs.Names.{Null, Int, overlay, Query, IsSureAnswer, page, Table, Trees, understood, Term}
-use Rattle.sql_meanings.specs.Names.{eval_all, IsDatabase, State, FailsToQuery, IsNotRun, Survives, Error, IsSome}
-use Rattle.sql_meanings.proofs.Names.{inl, inr, refl, nat_le, subst}
+use Rattle.sql_meanings.specs.Names.{ℕ, ℤ, List, [], map, filter, Ok, Err, Result, false, length, Row, Null, Int}
+use Rattle.sql_meanings.specs.Names.{overlay, Query, IsSureAnswer, page, Table, Trees, understood, Term, eval_all}
+use Rattle.sql_meanings.specs.Names.{IsDatabase, State, FailsToQuery, IsNotRun, Survives, Error, IsSome}
+use Rattle.sql_meanings.proofs.{Names.inl, Names.inr, Names.refl, Names.nat_le, Names.subst, PlainReads.fails_reading}
+use Rattle.sql_meanings.proofs.{PlainReads.shown_answers, ReadTables.ReadsAs, ReadTables.under_overlay}
+use Rattle.sql_meanings.proofs.{SeekAnswers.from_answer, SeekAnswers.of_from_answer, Steps.standing}
 use Rattle.sqlite.specs.State.{CommitsShowing, Shown}
 use Rattle.sqlite.proofs.StateLemmas.{survives_weaker}
-use Rattle.sql_meanings.specs.Entries.{Entry, stored}
-use Rattle.sql_meanings.specs.Tables.{Defines, Holds, tree_of}
+use Rattle.sql_meanings.specs.{Entries.Entry, Entries.stored, Tables.Defines, Tables.Holds, Tables.tree_of}
 use Rattle.sql_meanings.specs.StatementAnswers.{OnlyShows, ReadKept, TellsRows}
 use Rattle.sql_meanings.specs.Seeks.{is_from, is_of_from, next_from, next_of_from}
-use Rattle.sql_meanings.proofs.PlainReads.{fails_reading, shown_answers}
-use Rattle.sql_meanings.proofs.ReadTables.{ReadsAs, under_overlay}
-use Rattle.sql_meanings.proofs.SeekAnswers.{from_answer, of_from_answer}
-use Rattle.sql_meanings.proofs.Steps.{standing}
 use Rattle.std.specs.Prelude.{◌≡◌, ◌^◌, ◌∷◌}
 
 -- what `query_all` answers

@@ -1,16 +1,13 @@
 -- What a SELECT inside a transaction tells of a table that a database holds.
-use Rattle.sql_meanings.specs.Names.{ℕ, List, [], map, length, None, Some, Option, option_map, Ok, Err}
-use Rattle.sql_meanings.specs.Names.{Result, true, false, Row, Query, IsSureAnswer, has_no_fold, overlay, Schema}
-use Rattle.sql_meanings.specs.Names.{Table, Trees, IsDatabase, State, QueriesRowInside, Error, accepts_program}
+use Rattle.sql_meanings.specs.Names.{ℕ, List, [], map, length, None, Some, Option, option_map, Ok, Err, Result, true}
+use Rattle.sql_meanings.specs.Names.{false, Row, Query, IsSureAnswer, has_no_fold, overlay, Schema, Table, Trees}
+use Rattle.sql_meanings.specs.Names.{IsDatabase, State, QueriesRowInside, Error, accepts_program}
 use Rattle.sql_meanings.proofs.Names.{inl, inr, refl, sym, subst, nat_le}
 use Rattle.sqlite.specs.Command.TheVariants.{Select}
 use Rattle.sql_meanings.specs.Entries.{Entry, IsTree, listed}
-use Rattle.sql_meanings.specs.Tables.{Defines, placed_at, tree_of}
-use Rattle.sql_meanings.specs.StatementAnswers.{TellsRow}
-use Rattle.sql_meanings.proofs.Statements.{HasTable}
-use Rattle.sql_meanings.proofs.Means.{Means}
+use Rattle.sql_meanings.specs.{Tables.Defines, Tables.placed_at, Tables.tree_of, StatementAnswers.TellsRow}
+use Rattle.sql_meanings.proofs.{Statements.HasTable, Means.Means, Steps.standing}
 use Rattle.sql_meanings.proofs.PlainReads.{first_answers, none_or_fails}
-use Rattle.sql_meanings.proofs.Steps.{standing}
 use Rattle.std.specs.Prelude.{◌≡◌, ◌^◌, ◌∷◌}
 
 -- with these parameters the text is this query of the table, in whatever schema and tree the table stands

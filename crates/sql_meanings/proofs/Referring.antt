@@ -1,17 +1,15 @@
 -- A foreign key that names no table's row is set off by no edit of it, and is kept by it.
-use Rattle.sql_meanings.specs.Names.{ℕ, List, [], not, Bool, true, false, Some}
-use Rattle.sql_meanings.specs.Names.{None, Option, find, length, option_and_then, filter_map, flat_map, list_all}
-use Rattle.sql_meanings.specs.Names.{Schema, Table, Trees, Row, All, Keys, Enforced, Reference, same_name, ParentKey}
-use Rattle.sql_meanings.specs.Names.{Refers, parent_key, Deed, Has, is_referred, deed_for, pairs, work_by, work_for}
-use Rattle.sql_meanings.specs.Names.{works}
+use Rattle.sql_meanings.specs.Names.{ℕ, List, [], not, Bool, true, false, Some, None, Option, find, length}
+use Rattle.sql_meanings.specs.Names.{option_and_then, filter_map, flat_map, list_all, Schema, Table, Trees, Row, All}
+use Rattle.sql_meanings.specs.Names.{Keys, Enforced, Reference, same_name, ParentKey, Refers, parent_key, Deed, Has}
+use Rattle.sql_meanings.specs.Names.{is_referred, deed_for, pairs, work_by, work_for, works}
 use Rattle.sql_meanings.proofs.Names.{inl, inr, nat_lt, refl, sym, ap, subst, ◌∙◌, arith, cases_Bool, or_parts}
 use Rattle.std.proofs.lemmas.Bool.{not-false}
 use Rattle.sqlite_schema.specs.Rules.{has_null, has_parent, is_held, is_key_if_to, key_in, key_places}
 use Rattle.sqlite_rules.specs.Edit.{Edit}
 use Rattle.sqlite_rules.proofs.ListLemmas.{fails_has, has_found, some_from, some_has}
 use Rattle.sqlite_rules.proofs.RuleLemmas.{key_tree, parent_is_table, refers_at, refers_from}
-use Rattle.sql_meanings.specs.Making.{Stands}
-use Rattle.sql_meanings.specs.StatementAnswers.{is_parent}
+use Rattle.sql_meanings.specs.{Making.Stands, StatementAnswers.is_parent}
 use Rattle.std.specs.Prelude.{◌≡◌, ◌≢◌, ◌⊎◌, ◌==◌, ◌∷◌, ◌||◌, ◌&&◌}
 
 -- the table that a reference finds has its parent's name

@@ -1,11 +1,10 @@
 -- Why a write of rows of whole numbers is refused, or can't be stored.
-use Rattle.sql_meanings.specs.Names.{ℕ, not, List, [], map, length, Bool, true, false}
-use Rattle.sql_meanings.specs.Names.{Some, None, Option, option_map, Err, AllByRecursion, list_all, list_any, Row}
-use Rattle.sql_meanings.specs.Names.{Schema, Table, Trees, Edit, edited, IsDatabase, edit_error, Edited, Error}
-use Rattle.sql_meanings.specs.Names.{SqliteFailure, fits_i64, entry_of, IsStorable, IsStorableRow, clashes}
-use Rattle.sql_meanings.specs.Names.{index_reals, passes_checks, table_reals, Index, PrimaryKey, Unique, ForeignKey}
-use Rattle.sql_meanings.specs.Names.{Enforced, Refusal, Violates, Has, Writes, works, are_fresh, is_referred, left_by}
-use Rattle.sql_meanings.specs.Names.{taken_by}
+use Rattle.sql_meanings.specs.Names.{ℕ, not, List, [], map, length, Bool, true, false, Some, None, Option, option_map}
+use Rattle.sql_meanings.specs.Names.{Err, AllByRecursion, list_all, list_any, Row, Schema, Table, Trees, Edit, edited}
+use Rattle.sql_meanings.specs.Names.{IsDatabase, edit_error, Edited, Error, SqliteFailure, fits_i64, entry_of}
+use Rattle.sql_meanings.specs.Names.{IsStorable, IsStorableRow, clashes, index_reals, passes_checks, table_reals}
+use Rattle.sql_meanings.specs.Names.{Index, PrimaryKey, Unique, ForeignKey, Enforced, Refusal, Violates, Has, Writes}
+use Rattle.sql_meanings.specs.Names.{works, are_fresh, is_referred, left_by, taken_by}
 use Rattle.sql_meanings.proofs.Names.{inl, inr, refl, sym, ap, subst, ◌∙◌, arith, cases_Bool, ∥∥₁_elim}
 use Rattle.std.proofs.lemmas.Bool.{cases_lt}
 use Rattle.sqlite.specs.Edit.{IsRefused}
@@ -19,8 +18,7 @@ use Rattle.sql_meanings.specs.Entries.{AreShort, HasWidth, Entry, stored}
 use Rattle.sql_meanings.specs.StatementAnswers.{Forbids, HasWideIndex, has_unique}
 use Rattle.sql_meanings.specs.Tables.{tree_of, width_of}
 use Rattle.sql_meanings.proofs.NumberRows.{entry_fits, entry_present, entry_typed, none_indexed, none_real, row_fits}
-use Rattle.sql_meanings.proofs.TableWrites.{fits_columns, IsPlain}
-use Rattle.sql_meanings.proofs.PuttingIn.{key_taken, no_end}
+use Rattle.sql_meanings.proofs.{TableWrites.fits_columns, TableWrites.IsPlain, PuttingIn.key_taken, PuttingIn.no_end}
 use Rattle.sqlite.specs.declared.error.ErrorCode.TheVariants as code
 use Rattle.std.specs.Prelude.{◌≡◌, ◌⊎◌, ◌==◌, ◌&&◌, ◌∷◌}
 

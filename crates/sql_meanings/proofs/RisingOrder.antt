@@ -1,15 +1,11 @@
 -- A list that rises strictly is the only sorted order of its elements.
-use Rattle.sql_meanings.specs.Names.{List, [], length, filter, Bool, true, false, cond, AllByRecursion}
-use Rattle.sql_meanings.specs.Names.{IsAscending}
+use Rattle.sql_meanings.specs.Names.{List, [], length, filter, Bool, true, false, cond, AllByRecursion, IsAscending}
 use Rattle.sql_meanings.proofs.Names.{inl, inr, refl, ap, subst, ◌∙◌, arith, Ordering, Less, Equal, Greater}
 use Rattle.sql_meanings.proofs.Names.{IsPermutation, length_permutation}
-use Rattle.std.proofs.Common.{is_lt, is_gt, is_eq}
-use Rattle.std.specs.Cmp.{IsTotalOrder}
-use Rattle.std.specs.Ordering.{ordering_reverse}
-use Rattle.std.proofs.lemmas.List.Sorted.{IsPermutation-sym}
+use Rattle.std.proofs.{Common.is_lt, Common.is_gt, Common.is_eq, lemmas.List.Sorted.IsPermutation-sym}
+use Rattle.std.specs.{Cmp.IsTotalOrder, Ordering.ordering_reverse, List.Sorted.IsSorted}
 use Rattle.sqlite_trees.proofs.ListLemmas.{all-permutation, filter_all, all_weaker, IsPermutation-filter}
 use Rattle.sqlite_exec.proofs.PartitionLemmas.{ascending_from_sorted}
-use Rattle.std.specs.List.Sorted.{IsSorted}
 use Rattle.std.specs.Prelude.{◌≡◌, ◌⊎◌, ◌∷◌}
 
 module _ {X : Type 0} (cmp : X → X → Ordering) (total : IsTotalOrder cmp) where

@@ -1,21 +1,13 @@
 -- What the texts of seeks mean of a table in whatever schema, by what is computed of the text alone.
-use Rattle.sql_meanings.specs.Names.{ℕ, ℤ, pos, List, [], map, Ok, Some, None, true, false, Int, Binary}
-use Rattle.sql_meanings.specs.Names.{Schema, Table, Term, col, lit, Expr-F, Expr, out-Expr, Sort, out-Sort, Inner}
-use Rattle.sql_meanings.specs.Names.{integer, alone, affinity_of, Name, alias_of, declared, ungrouped, number}
-use Rattle.sql_meanings.specs.Names.{accepts_program}
-use Rattle.sql_meanings.proofs.Names.{refl, arith}
-use Rattle.sql_meanings.specs.Queries.{ascending}
+use Rattle.sql_meanings.specs.Names.{ℕ, ℤ, pos, List, [], map, Ok, Some, None, true, false, Int, Binary, Schema}
+use Rattle.sql_meanings.specs.Names.{Table, Term, col, lit, Expr-F, Expr, out-Expr, Sort, out-Sort, Inner, integer}
+use Rattle.sql_meanings.specs.Names.{alone, affinity_of, Name, alias_of, declared, ungrouped, number, accepts_program}
+use Rattle.sql_meanings.proofs.{Names.refl, Names.arith, Above.Onwards, Above.select_rising}
+use Rattle.sql_meanings.proofs.{AtOrAboveOf.select_two_from, ByKey.Tests, ByKey.key_at, Columns.over_one, Means.means}
+use Rattle.sql_meanings.proofs.{ReadTables.ReadsAs, Statements.HasTable, Texts.IsSelect, Texts.left_over, Texts.many}
+use Rattle.sql_meanings.specs.{Queries.ascending, Tables.placed_at}
 use Rattle.sql_meanings.specs.Seeks.{key_from, next_from, next_of_from, of_from}
-use Rattle.sql_meanings.specs.Tables.{placed_at}
-use Rattle.sql_meanings.proofs.Above.{Onwards, select_rising}
-use Rattle.sql_meanings.proofs.AtOrAboveOf.{select_two_from}
-use Rattle.sql_meanings.proofs.ByKey.{Tests, key_at}
-use Rattle.sql_meanings.proofs.Columns.{over_one}
-use Rattle.sql_meanings.proofs.Means.{means}
-use Rattle.sql_meanings.proofs.ReadTables.{ReadsAs}
 use Rattle.sql_meanings.proofs.ShownColumns.{has_room, outputs_at, shows_named}
-use Rattle.sql_meanings.proofs.Statements.{HasTable}
-use Rattle.sql_meanings.proofs.Texts.{IsSelect, left_over, many}
 use Rattle.sqlite_ast.specs.declared.Binary.TheVariants as binary
 use Rattle.sqlite_resolve.specs.Program as prog
 use Rattle.sqlite_resolve.specs.declared.compare.Affinity.TheVariants as affinity

@@ -1,16 +1,14 @@
 -- Whole SELECTs over one table, and those of the bank.
-use Rattle.sql_meanings.specs.Names.{ℕ, List, [], map, Ok, Some, None, Option, slice_get, true, false}
-use Rattle.sql_meanings.specs.Names.{Key, Compare, Eq, Program, Select, Term, col, op2, Schema, Table, Expr, out-Expr}
-use Rattle.sql_meanings.specs.Names.{Expr-F, Core, Shown, Sort, out-Sort, Parsed, Inner, Output, Carried, nothing}
-use Rattle.sql_meanings.specs.Names.{alone, Name, Context, alias_of, tests, outputs, sorts, number, conjuncts}
-use Rattle.sql_meanings.specs.Names.{affinity_of, ungrouped, lower, compiled, first, with_command}
+use Rattle.sql_meanings.specs.Names.{ℕ, List, [], map, Ok, Some, None, Option, slice_get, true, false, Key, Compare}
+use Rattle.sql_meanings.specs.Names.{Eq, Program, Select, Term, col, op2, Schema, Table, Expr, out-Expr, Expr-F, Core}
+use Rattle.sql_meanings.specs.Names.{Shown, Sort, out-Sort, Parsed, Inner, Output, Carried, nothing, alone, Name}
+use Rattle.sql_meanings.specs.Names.{Context, alias_of, tests, outputs, sorts, number, conjuncts, affinity_of}
+use Rattle.sql_meanings.specs.Names.{ungrouped, lower, compiled, first, with_command}
 use Rattle.sql_meanings.proofs.Names.{refl, nat_lt, ap}
 use Rattle.sqlite_value.specs.declared.keys.Collation.TheVariants.{Binary}
 use Rattle.sqlite_ast.specs.declared.Source.{Source as From}
-use Rattle.sql_meanings.proofs.Columns.{bound_to, over_one}
-use Rattle.sql_meanings.proofs.Expressions.{st, lower_and}
-use Rattle.sql_meanings.proofs.Statements.{HasTable, compiled_select}
-use Rattle.sql_meanings.proofs.ByKey.{Tests, key_test}
+use Rattle.sql_meanings.proofs.{Columns.bound_to, Columns.over_one, Expressions.st, Expressions.lower_and}
+use Rattle.sql_meanings.proofs.{Statements.HasTable, Statements.compiled_select, ByKey.Tests, ByKey.key_test}
 use Rattle.sql_meanings.specs.Queries.{no_limit}
 use Rattle.sql_meanings.proofs.OneTable.{IsPartOf, IsSelectOf, one_table, parts_are, query_is, read_is}
 use Rattle.sql_meanings.proofs.ShownColumns.{ShowsColumns, HasRoom, spent, last_of, outputs_are}

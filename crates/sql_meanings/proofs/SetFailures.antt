@@ -1,32 +1,26 @@
 -- Why one column of a row can't be written.
-use Rattle.sql_meanings.specs.Names.{ℕ, ℤ, List, [], map, find, length, not, true, false, None}
-use Rattle.sql_meanings.specs.Names.{Some, Option, Ok, Err, IsTrue, AllByRecursion, Null, Int, Row, overlay, Schema}
-use Rattle.sql_meanings.specs.Names.{eval_all, Trees, without_rowid, Table, Edit, edit_of, edited, Command, Update}
-use Rattle.sql_meanings.specs.Names.{Does, Concludes, Returns, Tested, Answers, IsDatabase, edit_error, Gives, Edited}
-use Rattle.sql_meanings.specs.Names.{Task, Then, Written, State, ExecutesInside, mode_of, text_of, Error}
-use Rattle.sql_meanings.specs.Names.{SqliteFailure, fits_i64, Program, Compiled, ForeignKey, Unique, All, Enforced}
-use Rattle.sql_meanings.specs.Names.{Refers, Refusal, Violates, Given, cast_row, ids_of, are_fresh, is_taken, left_by}
-use Rattle.sql_meanings.specs.Names.{taken_by, works, Has}
+use Rattle.sql_meanings.specs.Names.{ℕ, ℤ, List, [], map, find, length, not, true, false, None, Some, Option, Ok, Err}
+use Rattle.sql_meanings.specs.Names.{IsTrue, AllByRecursion, Null, Int, Row, overlay, Schema, eval_all, Trees}
+use Rattle.sql_meanings.specs.Names.{without_rowid, Table, Edit, edit_of, edited, Command, Update, Does, Concludes}
+use Rattle.sql_meanings.specs.Names.{Returns, Tested, Answers, IsDatabase, edit_error, Gives, Edited, Task, Then}
+use Rattle.sql_meanings.specs.Names.{Written, State, ExecutesInside, mode_of, text_of, Error, SqliteFailure, fits_i64}
+use Rattle.sql_meanings.specs.Names.{Program, Compiled, ForeignKey, Unique, All, Enforced, Refers, Refusal, Violates}
+use Rattle.sql_meanings.specs.Names.{Given, cast_row, ids_of, are_fresh, is_taken, left_by, taken_by, works, Has}
 use Rattle.sql_meanings.proofs.Names.{inl, inr, refl, sym, ap, subst, ◌∙◌, cases_Bool, ∥∥₁_elim, one_step}
 use Rattle.sql_meanings.proofs.Names.{no_fold_overflows, all_has}
 use Rattle.sqlite.specs.Rows.{Queried, Updates}
 use Rattle.sql_meanings.specs.Entries.{HasWidth, Entry, changed, has_key, listed, stored}
 use Rattle.sql_meanings.specs.StatementAnswers.{Forbids, HasWideIndex, IsInterrupted, SetFails, is_parent}
-use Rattle.sql_meanings.specs.Tables.{Holds, placed_at, tree_of, width_of}
-use Rattle.sql_meanings.specs.Queries.{by_key}
+use Rattle.sql_meanings.specs.{Tables.Holds, Tables.placed_at, Tables.tree_of, Tables.width_of, Queries.by_key}
 use Rattle.sql_meanings.proofs.Changes.{found_all, found_key, taken_is}
 use Rattle.sql_meanings.proofs.EntryLists.{none_without, without, without_stored}
-use Rattle.sql_meanings.proofs.KeyedAnswers.{keyed_answer}
-use Rattle.sql_meanings.proofs.Means.{Means, no_refusal}
-use Rattle.sql_meanings.proofs.ReadTables.{under_overlay}
+use Rattle.sql_meanings.proofs.{KeyedAnswers.keyed_answer, Means.Means, Means.no_refusal, ReadTables.under_overlay}
+use Rattle.sql_meanings.proofs.{SetRows.ChangesAs, SetRows.set_rows, Steps.Standing, Steps.standing, PuttingIn.never}
+use Rattle.sql_meanings.proofs.{PuttingIn.stopped, Writing.same_value, Writing.went}
 use Rattle.sql_meanings.proofs.Referring.{asks_parent, nothing_set_off, refers_after}
 use Rattle.sql_meanings.proofs.Refusals.{EditStops, IsFit, edit_stops, forbids}
-use Rattle.sql_meanings.proofs.SetRows.{ChangesAs, set_rows}
-use Rattle.sql_meanings.proofs.Steps.{Standing, standing}
 use Rattle.sql_meanings.proofs.Stopping.{Stops, fails_for, fails_split, stops}
 use Rattle.sql_meanings.proofs.TableWrites.{IsPlain, cast_is, none_short, plain_at}
-use Rattle.sql_meanings.proofs.PuttingIn.{never, stopped}
-use Rattle.sql_meanings.proofs.Writing.{same_value, went}
 use Rattle.sqlite.specs.declared.error.ErrorCode.TheVariants as code
 use Rattle.std.specs.Prelude.{◌≡◌, ◌⊎◌, ◌∷◌, ◌&&◌}
 

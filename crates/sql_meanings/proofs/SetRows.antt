@@ -1,20 +1,16 @@
 -- One column is written under a key.
-use Rattle.sql_meanings.specs.Names.{ℕ, ℤ, List, [], map, find, length, None, Some, Option, is_some, Ok}
-use Rattle.sql_meanings.specs.Names.{Bool, cond, true, false, Null, Int, Row, overlay, Schema, Trees, put_row}
-use Rattle.sql_meanings.specs.Names.{without_rowid, Table, Term, eval_all, Edit, edit_of, edited, ids_of}
-use Rattle.sql_meanings.specs.Names.{passes_checks, accepts_program, Given, Update, IsDatabase, State, Executes}
+use Rattle.sql_meanings.specs.Names.{ℕ, ℤ, List, [], map, find, length, None, Some, Option, is_some, Ok, Bool, cond}
+use Rattle.sql_meanings.specs.Names.{true, false, Null, Int, Row, overlay, Schema, Trees, put_row, without_rowid}
+use Rattle.sql_meanings.specs.Names.{Table, Term, eval_all, Edit, edit_of, edited, ids_of, passes_checks}
+use Rattle.sql_meanings.specs.Names.{accepts_program, Given, Update, IsDatabase, State, Executes}
 use Rattle.sql_meanings.proofs.Names.{refl, sym, ap, subst, ◌∙◌}
 use Rattle.sql_meanings.specs.Entries.{HasWidth, Entry, IsTree, changed, has_key, listed, put, stored}
 use Rattle.sql_meanings.specs.Tables.{Holds, placed_at, tree_of, width_of, texts_of}
 use Rattle.sql_meanings.specs.Queries.{by_key}
-use Rattle.sql_meanings.proofs.Statements.{HasTable}
-use Rattle.sql_meanings.proofs.Means.{Means}
+use Rattle.sql_meanings.proofs.{Statements.HasTable, Means.Means, KeyedAnswers.keyed_answer, ReadTables.under_overlay}
+use Rattle.sql_meanings.proofs.{Steps.standing, Writing.updates}
 use Rattle.sql_meanings.proofs.Changes.{none_changed, put_changed, tree_put, found_all}
 use Rattle.sql_meanings.proofs.EntryLists.{put_stored, put_without, without, without_stored}
-use Rattle.sql_meanings.proofs.KeyedAnswers.{keyed_answer}
-use Rattle.sql_meanings.proofs.ReadTables.{under_overlay}
-use Rattle.sql_meanings.proofs.Steps.{standing}
-use Rattle.sql_meanings.proofs.Writing.{updates}
 use Rattle.sql_meanings.proofs.TableWrites.{cast_is, none_short, IsPlain, Leaves, steps_by}
 use Rattle.std.specs.Prelude.{◌≡◌, ◌∷◌}
 

@@ -1,16 +1,12 @@
 -- Rows that are put in one after another, as a file holds them.
-use Rattle.sql_meanings.specs.Names.{ℕ, List, [], map, find, is_some, Bool, not, true, false}
-use Rattle.sql_meanings.specs.Names.{AllByRecursion, Row, Chosen, Table, put_row, cast_row, are_fresh, put_all}
-use Rattle.sql_meanings.specs.Names.{passes_checks, fits_i64}
+use Rattle.sql_meanings.specs.Names.{ℕ, List, [], map, find, is_some, Bool, not, true, false, AllByRecursion, Row}
+use Rattle.sql_meanings.specs.Names.{Chosen, Table, put_row, cast_row, are_fresh, put_all, passes_checks, fits_i64}
 use Rattle.sql_meanings.proofs.Names.{refl, ap, ◌∙◌}
 use Rattle.sqlite_rules.specs.Edit.{numbered}
 use Rattle.sql_meanings.specs.Entries.{AreShort, Entry, HasWidth, IsTree, Rise, has_key, put, stored}
-use Rattle.sql_meanings.specs.SeveralRows.{meets_key, put_each}
-use Rattle.sql_meanings.specs.Tables.{placed_at, width_of}
-use Rattle.sql_meanings.proofs.Changes.{taken_is, wide_put}
-use Rattle.sql_meanings.proofs.EntryLists.{put_stored, rise_put}
-use Rattle.sql_meanings.proofs.Refusals.{IsFit}
-use Rattle.sql_meanings.proofs.TableWrites.{IsPlain, cast_is}
+use Rattle.sql_meanings.specs.{SeveralRows.meets_key, SeveralRows.put_each, Tables.placed_at, Tables.width_of}
+use Rattle.sql_meanings.proofs.{Changes.taken_is, Changes.wide_put, EntryLists.put_stored, EntryLists.rise_put}
+use Rattle.sql_meanings.proofs.{Refusals.IsFit, TableWrites.IsPlain, TableWrites.cast_is}
 use Rattle.std.specs.Prelude.{◌≡◌, ◌∷◌, ◌&&◌, ◌||◌}
 
 -- the row has the table's width, its texts are short, and it passes the CHECKs

@@ -1,12 +1,11 @@
 -- The columns that a SELECT shows, and its order.
-use Rattle.sql_meanings.specs.Names.{ℕ, List, [], length, map, Option, option_map}
-use Rattle.sql_meanings.specs.Names.{unwrap_or, Ok, Some, None, slice_get, Bool, true, false, column_named, place_of}
-use Rattle.sql_meanings.specs.Names.{Column, col, Schema, Table, Expr, out-Expr, Expr-F, Shown, out-Shown, Output}
-use Rattle.sql_meanings.specs.Names.{Carried, nothing, Name, declared, outputs, lower}
+use Rattle.sql_meanings.specs.Names.{ℕ, List, [], length, map, Option, option_map, unwrap_or, Ok, Some, None}
+use Rattle.sql_meanings.specs.Names.{slice_get, Bool, true, false, column_named, place_of, Column, col, Schema, Table}
+use Rattle.sql_meanings.specs.Names.{Expr, out-Expr, Expr-F, Shown, out-Shown, Output, Carried, nothing, Name}
+use Rattle.sql_meanings.specs.Names.{declared, lower}
 use Rattle.sql_meanings.proofs.Names.{append-nil, refl, arith, nat_lt, ◌∙◌}
 use Rattle.std.proofs.Common.{append_assoc}
-use Rattle.sqlite_ast.specs.declared.Expr.TheOpen.{Shown-F}
-use Rattle.sqlite_ast.specs.Layer.{Layer, ShownLayer}
+use Rattle.sqlite_ast.specs.{declared.Expr.TheOpen.Shown-F, Layer.Layer, Layer.ShownLayer}
 use Rattle.sqlite_resolve.specs.Body.{outputs_from, shown, heading, is_column}
 use Rattle.sql_meanings.specs.Plain.{key_column}
 use Rattle.sql_meanings.proofs.Columns.{bound_to, over_one, found_is, column_is}

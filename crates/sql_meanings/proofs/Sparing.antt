@@ -1,25 +1,20 @@
 -- An INSERT of values or an UPDATE leaves every table but its own, whatever the schema makes of it.
-use Rattle.sql_meanings.specs.Names.{ℕ, List, [], false, Some, None, Option, Ok, Err, slice_get}
-use Rattle.sql_meanings.specs.Names.{ℤ, AllByRecursion, Expr, Rows, Parsed, table_named, Program}
-use Rattle.sql_meanings.specs.Names.{Keys, Command, Insert, Update, Does, Tally, Database, Edit, if_select, is_select}
-use Rattle.sql_meanings.specs.Names.{listing_schema, reads_listing, understood, Mode, Row, Counts, Task, Written}
-use Rattle.sql_meanings.specs.Names.{count_of, sequence, Schema, State, Executes, ExecutesIn, mode_of, shows_rows}
-use Rattle.sql_meanings.specs.Names.{text_of, Table, Trees, command, compiled, first, insert, insert_or_abort}
-use Rattle.sql_meanings.specs.Names.{meaning, planned, returning, formats_of, new_rows, shows, small, timed, update}
-use Rattle.sql_meanings.specs.Names.{program, Checked, and_then, Name, Compiled, CompileError, Writes, taken_by}
+use Rattle.sql_meanings.specs.Names.{ℕ, List, [], false, Some, None, Option, Ok, Err, slice_get, ℤ, AllByRecursion}
+use Rattle.sql_meanings.specs.Names.{Expr, Rows, Parsed, table_named, Program, Keys, Command, Insert, Update, Does}
+use Rattle.sql_meanings.specs.Names.{Tally, Database, Edit, if_select, is_select, listing_schema, reads_listing}
+use Rattle.sql_meanings.specs.Names.{understood, Mode, Row, Counts, Task, Written, count_of, sequence, Schema, State}
+use Rattle.sql_meanings.specs.Names.{Executes, ExecutesIn, mode_of, shows_rows, text_of, Table, Trees, command}
+use Rattle.sql_meanings.specs.Names.{compiled, first, insert, insert_or_abort, meaning, planned, returning}
+use Rattle.sql_meanings.specs.Names.{formats_of, new_rows, shows, small, timed, update, program, Checked, and_then}
+use Rattle.sql_meanings.specs.Names.{Name, Compiled, CompileError, Writes, taken_by}
 use Rattle.sql_meanings.proofs.Names.{inl, inr, refl, sym, ap, subst, ◌∙◌, cases_Bool}
 use Rattle.sqlite_schema.specs.declared.command.Returning.{Returning}
-use Rattle.sqlite.specs.Rows.{CountsIn, counting}
+use Rattle.sqlite.specs.{Rows.CountsIn, Rows.counting, Source.Source}
 use Rattle.std.specs.Ordering.{int_cmp, is_lt}
-use Rattle.sqlite.specs.Source.{Source}
 use Rattle.sqlite.specs.State.{Runs, Writes as WritesNow}
 use Rattle.sqlite.specs.Clock.{timed as with_time}
-use Rattle.sqlite_resolve.specs.Compile.{on_table, target}
-use Rattle.sqlite_resolve.specs.Body.{table_at}
-use Rattle.sqlite_resolve.specs.Write.{updated}
-use Rattle.sqlite_resolve.specs.Lowering.{or_else}
-use Rattle.sql_meanings.specs.Making.{Stands}
-use Rattle.sql_meanings.specs.Tables.{tree_of}
+use Rattle.sqlite_resolve.specs.{Compile.on_table, Compile.target, Body.table_at, Write.updated, Lowering.or_else}
+use Rattle.sql_meanings.specs.{Making.Stands, Tables.tree_of}
 use Rattle.sql_meanings.proofs.Actions.{apart_from, good_works, settles}
 use Rattle.sql_meanings.proofs.Writing.{same_value, went}
 use Rattle.sql_meanings.specs.Sparing.{IsNot, SparesAllBut, sequence_name}

@@ -1,16 +1,14 @@
 -- Statements over one table, under any schema that has it.
-use Rattle.sql_meanings.specs.Names.{ℕ, List, [], find, Ok, Some, None, Option, slice_get}
-use Rattle.sql_meanings.specs.Names.{false, table_named, Program, Term, col, Schema, Table, Expr, Rows, Parsed, Draft}
-use Rattle.sql_meanings.specs.Names.{Inner, Carried, nothing, Name, conjuncts, tests, lower, compiled, first, planned}
-use Rattle.sql_meanings.specs.Names.{timed, meaning, returning, command, shows, insert_or_abort, insert, update, read}
-use Rattle.sql_meanings.specs.Names.{new_rows, formats_of, small, with_command}
+use Rattle.sql_meanings.specs.Names.{ℕ, List, [], find, Ok, Some, None, Option, slice_get, false, table_named}
+use Rattle.sql_meanings.specs.Names.{Program, Term, col, Schema, Table, Expr, Rows, Parsed, Draft, Inner, Carried}
+use Rattle.sql_meanings.specs.Names.{nothing, Name, conjuncts, tests, lower, compiled, first, planned, timed, meaning}
+use Rattle.sql_meanings.specs.Names.{returning, command, shows, insert_or_abort, insert, update, read, new_rows}
+use Rattle.sql_meanings.specs.Names.{formats_of, small, with_command}
 use Rattle.sql_meanings.proofs.Names.{nat_le, ◌∙◌}
-use Rattle.sqlite_schema.specs.declared.command.Command.{Command}
+use Rattle.sqlite_schema.specs.declared.command.{Command.Command, Source.Source}
 use Rattle.sqlite_schema.specs.declared.command.Command.TheVariants.{Insert, Update}
-use Rattle.sqlite_schema.specs.declared.command.Source.{Source}
 use Rattle.sqlite_resolve.specs.Reach.{any_scans}
-use Rattle.sql_meanings.proofs.Columns.{over_one}
-use Rattle.sql_meanings.proofs.Expressions.{st}
+use Rattle.sql_meanings.proofs.{Columns.over_one, Expressions.st}
 use Rattle.sqlite_ast.specs.declared.Conflict.TheVariants as conflict
 use Rattle.sqlite_ast.specs.declared.Statement.TheVariants as written
 use Rattle.sqlite_ast.specs.declared.Select as written_select

@@ -1,14 +1,11 @@
 -- What a statement takes of a table that is defined, and what a step on one table leaves of the others.
-use Rattle.sql_meanings.specs.Names.{ℕ, List, [], Some, None, Option, slice_get, false}
-use Rattle.sql_meanings.specs.Names.{option_and_then, table_named, Schema, Table, Row, Database, IsDatabase}
+use Rattle.sql_meanings.specs.Names.{ℕ, List, [], Some, None, Option, slice_get, false, option_and_then, table_named}
+use Rattle.sql_meanings.specs.Names.{Schema, Table, Row, Database, IsDatabase}
 use Rattle.sql_meanings.proofs.Names.{nat_le, refl, sym, ap, subst, ◌∙◌, ∥∥₁_elim, all_has}
 use Rattle.std.specs.Coded.{coded_bool}
-use Rattle.sql_meanings.proofs.Statements.{HasTable}
-use Rattle.sql_meanings.specs.Making.{Stands}
-use Rattle.sql_meanings.proofs.Defining.{defined_stands}
-use Rattle.sql_meanings.proofs.Growing.{low_tree}
+use Rattle.sql_meanings.proofs.{Statements.HasTable, Defining.defined_stands, Growing.low_tree}
+use Rattle.sql_meanings.specs.{Making.Stands, Entries.Entry, Entries.IsTree}
 use Rattle.sql_meanings.proofs.TableStands.{found_apart, high_not}
-use Rattle.sql_meanings.specs.Entries.{Entry, IsTree}
 use Rattle.sql_meanings.specs.Tables.{Defines, Holds, placed_at, tree_of, width_of}
 use base.Stored.{Coded-set}
 use Rattle.std.specs.Prelude.{◌≡◌, ◌≢◌, ◌^◌}

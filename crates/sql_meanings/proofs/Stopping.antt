@@ -1,13 +1,12 @@
 -- The error of a write inside a transaction: the text is no statement, the command tells it, or the store
 -- failed.
-use Rattle.sql_meanings.specs.Names.{ℕ, List, [], None, Some, Ok, Err, Bool, true, false, ⊤}
-use Rattle.sql_meanings.specs.Names.{Row, Command, Insert, Update, CreateTable, understood, Does, State, mode_of}
-use Rattle.sql_meanings.specs.Names.{ExecutesIn, ExecutesInside, IsNoStatement, IsNotRun, IsUnchanged, Fails}
-use Rattle.sql_meanings.specs.Names.{HasCause, shows_rows, text_of, Error, Compiled, StoreError, OutOfMemory, Io}
-use Rattle.sql_meanings.specs.Names.{Corrupt, Full, Broken, Unstorable}
+use Rattle.sql_meanings.specs.Names.{ℕ, List, [], None, Some, Ok, Err, Bool, true, false, ⊤, Row, Command, Insert}
+use Rattle.sql_meanings.specs.Names.{Update, CreateTable, understood, Does, State, mode_of, ExecutesIn}
+use Rattle.sql_meanings.specs.Names.{ExecutesInside, IsNoStatement, IsNotRun, IsUnchanged, Fails, HasCause}
+use Rattle.sql_meanings.specs.Names.{shows_rows, text_of, Error, Compiled, StoreError, OutOfMemory, Io, Corrupt, Full}
+use Rattle.sql_meanings.specs.Names.{Broken, Unstorable}
 use Rattle.sql_meanings.proofs.Names.{inl, inr, append-nil, refl, ap, subst, ◌∙◌}
-use Rattle.sqlite.specs.Clock.{timed}
-use Rattle.sqlite.specs.Effect.{is_query}
+use Rattle.sqlite.specs.{Clock.timed, Effect.is_query}
 use Rattle.sqlite.specs.State.{EndsScope, Escapes, IsMisplaced, RunsCommand, is_pragma}
 use Rattle.std.specs.Prelude.{◌≡◌, ◌⊎◌, ◌&&◌, ◌||◌}
 

@@ -1,20 +1,17 @@
 -- A table that stands in any schema, and what a CREATE TABLE keeps and adds.
-use Rattle.sql_meanings.specs.Names.{ℕ, List, [], find, slice_get, Bool, true}
-use Rattle.sql_meanings.specs.Names.{false, Some, None, Option, Ok, Result, position_from, Table, Schema, Trees}
-use Rattle.sql_meanings.specs.Names.{Database, Tally, Does, MakesTable, MakesSequence, lacks_sequence, no_rows}
-use Rattle.sql_meanings.specs.Names.{sequence_text, Then, Gives, CreateTable, table_defined_by, Mode, same_name, Has}
-use Rattle.sql_meanings.specs.Names.{IsSound}
+use Rattle.sql_meanings.specs.Names.{ℕ, List, [], find, slice_get, Bool, true, false, Some, None, Option, Ok, Result}
+use Rattle.sql_meanings.specs.Names.{position_from, Table, Schema, Trees, Database, Tally, Does, MakesTable}
+use Rattle.sql_meanings.specs.Names.{MakesSequence, lacks_sequence, no_rows, sequence_text, Then, Gives, CreateTable}
+use Rattle.sql_meanings.specs.Names.{table_defined_by, Mode, same_name, Has, IsSound}
 use Rattle.sql_meanings.proofs.Names.{inl, inr, suc, refl, sym, ap, subst, ◌∙◌, nat_le, arith, cases_Bool, through}
 use Rattle.sql_meanings.proofs.Names.{all_has, has_either, has_left, has_right}
 use Rattle.std.proofs.lemmas.List.Folds.{list_any-append}
-use Rattle.sqlite_catalog.specs.Calls.{CreatesTable}
+use Rattle.sqlite_catalog.specs.{Calls.CreatesTable, Change.created, Change.next_tree}
 use Rattle.sqlite_value.specs.Order.{Row}
 use Rattle.sqlite_trees.specs.Tree.{IsAscending}
-use Rattle.sqlite_catalog.specs.Change.{created, next_tree}
 use Rattle.sqlite_catalog.proofs.StepLemmas.{table_below, same_itself}
-use Rattle.sql_meanings.proofs.Statements.{HasTable}
+use Rattle.sql_meanings.proofs.{Statements.HasTable, Growing.low_tree, Growing.sequenced}
 use Rattle.sql_meanings.specs.Making.{Stands, AddsTable, IsGrown, KeepsWhatStood, counts_rows}
-use Rattle.sql_meanings.proofs.Growing.{low_tree, sequenced}
 use Rattle.std.specs.Prelude.{◌≡◌, ◌⊎◌, ◌+◌, ◌^◌, ◌<◌, ◌==◌, ◌∷◌}
 
 -- a table stands on as another is made

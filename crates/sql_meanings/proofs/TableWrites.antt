@@ -1,14 +1,12 @@
 -- What a write of one table leaves.
-use Rattle.sql_meanings.specs.Names.{length, ℕ, Some, List, [], map, Row, Table, Edit}
-use Rattle.sql_meanings.specs.Names.{edited, IsDatabase, State, cast_row}
+use Rattle.sql_meanings.specs.Names.{length, ℕ, Some, List, [], map, Row, Table, Edit, edited, IsDatabase, State}
+use Rattle.sql_meanings.specs.Names.{cast_row}
 use Rattle.sql_meanings.proofs.Names.{sym, ap, subst, ◌∙◌, arith}
 use Rattle.sql_meanings.specs.Entries.{Entry, IsTree, HasWidth, AreShort, numbers, texts_held, stored}
-use Rattle.sql_meanings.proofs.Casting.{AreFor, all_for, cast_stored}
+use Rattle.sql_meanings.proofs.{Casting.AreFor, Casting.all_for, Casting.cast_stored, Steps.Steps, Writing.Wrote}
 use Rattle.sql_meanings.specs.Making.{SparesStanding, Stands}
 use Rattle.sql_meanings.specs.Tables.{placed_at, tree_of, width_of, texts_of}
 use Rattle.sql_meanings.specs.Plain.{key_column, number_column, text_column}
-use Rattle.sql_meanings.proofs.Steps.{Steps}
-use Rattle.sql_meanings.proofs.Writing.{Wrote}
 use Rattle.std.specs.Prelude.{◌≡◌, ◌≤◌, ◌+◌, ◌++◌, ◌∷◌}
 
 -- what a write of one table leaves: the table has these rows now, and each other table what it had

@@ -1,13 +1,12 @@
 -- What a SELECT with any test answers of one table: the rows that pass it, in some order. No order of the
 -- keys is asked for.
-use Rattle.sql_meanings.specs.Names.{ℕ, List, [], map, filter, cond, Bool, true, false, flat_map}
-use Rattle.sql_meanings.specs.Names.{list_all, Value, Row, Trees, Term, Env, eval_all, holds, IsAnswerAs, matches_as}
-use Rattle.sql_meanings.specs.Names.{inner, end, output}
+use Rattle.sql_meanings.specs.Names.{ℕ, List, [], map, filter, cond, Bool, true, false, flat_map, list_all, Value}
+use Rattle.sql_meanings.specs.Names.{Row, Trees, Term, Env, eval_all, holds, IsAnswerAs, matches_as, inner, end}
+use Rattle.sql_meanings.specs.Names.{output}
 use Rattle.sql_meanings.proofs.Names.{refl, sym, ap, subst, ◌∙◌, IsPermutation, map-map}
 use Rattle.std.proofs.lemmas.List.Sorted.{IsPermutation-map}
 use Rattle.sqlite.specs.Query.{Output}
-use Rattle.sql_meanings.specs.Entries.{Entry, stored}
-use Rattle.sql_meanings.specs.Queries.{no_limit, query}
+use Rattle.sql_meanings.specs.{Entries.Entry, Entries.stored, Queries.no_limit, Queries.query}
 use Rattle.std.specs.Prelude.{◌≡◌, ◌∷◌, ◌++◌}
 
 module _ (params : Row) (tests : List Term) (passes : Entry → Bool) (same : (e : Entry)

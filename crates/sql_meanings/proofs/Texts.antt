@@ -1,28 +1,22 @@
 -- What a text means of a table in whatever schema, by what is computed of the text alone.
-use Rattle.sql_meanings.specs.Names.{ℕ, ℤ, List, [], length, map, Ok, Err, Some, None, Option}
-use Rattle.sql_meanings.specs.Names.{true, false, AllByRecursion, listing_schema, understood, inner, end}
-use Rattle.sql_meanings.specs.Names.{value_rows, Row, stamped, Values, passes_checks, Rows, Schema, Table, Term, col}
-use Rattle.sql_meanings.specs.Names.{lit, Null, Int, Core, Expr, out-Expr, Expr-F, Shown, out-Shown, Sort, Inner}
-use Rattle.sql_meanings.specs.Names.{compiled, first, new_rows, small, Name, ungrouped, number, NoSuchTable, Parsed}
-use Rattle.sql_meanings.specs.Names.{accepts_program, accepts_terms}
+use Rattle.sql_meanings.specs.Names.{ℕ, ℤ, List, [], length, map, Ok, Err, Some, None, Option, true, false}
+use Rattle.sql_meanings.specs.Names.{AllByRecursion, listing_schema, understood, inner, end, value_rows, Row, stamped}
+use Rattle.sql_meanings.specs.Names.{Values, passes_checks, Rows, Schema, Table, Term, col, lit, Null, Int, Core}
+use Rattle.sql_meanings.specs.Names.{Expr, out-Expr, Expr-F, Shown, out-Shown, Sort, Inner, compiled, first, new_rows}
+use Rattle.sql_meanings.specs.Names.{small, Name, ungrouped, number, NoSuchTable, Parsed, accepts_program}
+use Rattle.sql_meanings.specs.Names.{accepts_terms}
 use Rattle.sql_meanings.proofs.Names.{refl, ap, arith, zero, suc, length-map}
 use Rattle.sql_meanings.specs.Entries.{AreShort, HasWidth, Entry, stored}
-use Rattle.sql_meanings.proofs.PutRows.{PutsAs, PutsEachAs}
+use Rattle.sql_meanings.proofs.{PutRows.PutsAs, PutRows.PutsEachAs, ByKey.Tests, ByKey.key_at, Means.means}
+use Rattle.sql_meanings.proofs.{OnlyShowing.only_understood, ReadTables.ReadsAs, Selects.select_all}
+use Rattle.sql_meanings.proofs.{Selects.select_by_key, SeveralRows.IsRowOf, Statements.HasTable, Statements.inserts}
 use Rattle.sqlite_ast.specs.declared.Source.{Source as From}
-use Rattle.sql_meanings.specs.StatementAnswers.{OnlyShows}
+use Rattle.sql_meanings.specs.{StatementAnswers.OnlyShows, Tables.placed_at, Tables.width_of}
 use Rattle.sql_meanings.specs.Queries.{by_key, key_is, no_limit, query}
-use Rattle.sql_meanings.specs.Tables.{placed_at, width_of}
-use Rattle.sql_meanings.proofs.ByKey.{Tests, key_at}
-use Rattle.sql_meanings.proofs.Means.{means}
 use Rattle.sql_meanings.proofs.OneTable.{IsPartOf, IsSelectOf, one_table}
-use Rattle.sql_meanings.proofs.OnlyShowing.{only_understood}
 use Rattle.sql_meanings.proofs.Probing.{ProbesAs, refuses_query, understood_missing}
-use Rattle.sql_meanings.proofs.ReadTables.{ReadsAs}
-use Rattle.sql_meanings.proofs.Selects.{select_all, select_by_key}
 use Rattle.sql_meanings.proofs.ShownColumns.{has_room, is_left, output_named, outputs_at, shown_name, shows_named}
 use Rattle.sql_meanings.proofs.ShownColumns.{spent}
-use Rattle.sql_meanings.proofs.SeveralRows.{IsRowOf}
-use Rattle.sql_meanings.proofs.Statements.{HasTable, inserts}
 use Rattle.sqlite_ast.specs.declared.Conflict.TheVariants as conflict
 use Rattle.sqlite_ast.specs.declared.Binary.TheVariants as binary
 use Rattle.sqlite_ast.specs.declared.Select as written_select

@@ -1,12 +1,10 @@
 -- Trees tell their schema, and what a database holds of a table is a proposition.
-use Rattle.sql_meanings.specs.Names.{AllByRecursion, length, ℕ, List, AllByRecursion-prop, Schema, Table, Row}
-use Rattle.sql_meanings.specs.Names.{Trees, Database, IsDatabase, IsSound}
-use Rattle.sql_meanings.proofs.Names.{Less, ∥∥₁_elim}
+use Rattle.sql_meanings.specs.Names.{AllByRecursion, length, ℕ, List, AllByRecursion-prop, Schema, Table, Row, Trees}
+use Rattle.sql_meanings.specs.Names.{Database, IsDatabase, IsSound}
+use Rattle.sql_meanings.proofs.{Names.Less, Names.∥∥₁_elim, Defining.Defines-prop}
 use Rattle.std.specs.Coded.{coded_ℕ}
-use Rattle.sqlite_trees.specs.Props.{rows_set, IsAscending-prop, Ordering-set}
-use Rattle.sqlite_trees.specs.Objects.{catalog_tree}
+use Rattle.sqlite_trees.specs.{Props.rows_set, Props.IsAscending-prop, Props.Ordering-set, Objects.catalog_tree}
 use Rattle.sqlite_catalog.proofs.ReadLemmas.{lists_once}
-use Rattle.sql_meanings.proofs.Defining.{Defines-prop}
 use Rattle.sql_meanings.specs.Entries.{HasWidth, Entry, IsTree, Rise}
 use Rattle.sql_meanings.specs.Tables.{Holds, tree_of, width_of}
 use base.Stored.{Coded-set}

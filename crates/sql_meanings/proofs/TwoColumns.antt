@@ -1,13 +1,12 @@
 -- Where two columns behind the key are UNIQUE together, one row at most has two given numbers there.
-use Rattle.sql_meanings.specs.Names.{ℕ, ℤ, List, [], map, filter, find, Some, Bool, cond, slice_get}
-use Rattle.sql_meanings.specs.Names.{true, false, list_any, list_all, int_eq, is_eq, Value, Int, plain}
-use Rattle.sql_meanings.specs.Names.{Binary, is_true, from_truth, binary, Compare, clashes, Row, IsAnswerAs, inner}
-use Rattle.sql_meanings.specs.Names.{end, Trees, Table, Schema, Term, eval_all, holds, IsSound, Has}
+use Rattle.sql_meanings.specs.Names.{ℕ, ℤ, List, [], map, filter, find, Some, Bool, cond, slice_get, true, false}
+use Rattle.sql_meanings.specs.Names.{list_any, list_all, int_eq, is_eq, Value, Int, plain, Binary, is_true}
+use Rattle.sql_meanings.specs.Names.{from_truth, binary, Compare, clashes, Row, IsAnswerAs, inner, end, Trees, Table}
+use Rattle.sql_meanings.specs.Names.{Schema, Term, eval_all, holds, IsSound, Has}
 use Rattle.sql_meanings.proofs.Names.{inl, inr, refl, sym, ap, subst, ◌∙◌, get_or, arith, int_cmp, Less, ints}
 use Rattle.sql_meanings.proofs.Names.{value_cmp-Int}
 use Rattle.std.proofs.Common.{true≢false}
-use Rattle.std.specs.Ordering.{is_ne}
-use Rattle.std.specs.List.Sorted.{IsPermutation}
+use Rattle.std.specs.{Ordering.is_ne, List.Sorted.IsPermutation}
 use Rattle.sqlite_value.specs.Keys.{first_key}
 use Rattle.sqlite_sql.specs.declared.ops.CompareOp.TheVariants.{Ne}
 use Rattle.sqlite_schema.specs.Rules.{agree, differ}
@@ -15,9 +14,7 @@ use Rattle.sqlite_catalog.proofs.AlterLemmas.{keys_are_unique}
 use Rattle.sql_meanings.specs.Entries.{Entry, IsTree, Rise, begins_with, has_two, listed, stored}
 use Rattle.sql_meanings.specs.Queries.{no_limit, query, two_are}
 use Rattle.sql_meanings.proofs.EntryLists.{Above, int_equals, text_apart}
-use Rattle.sql_meanings.proofs.KeyedAnswers.{small_permutation}
-use Rattle.sql_meanings.proofs.TestedAnswers.{looked_up}
-use Rattle.sql_meanings.proofs.Tests.{and_both}
+use Rattle.sql_meanings.proofs.{KeyedAnswers.small_permutation, TestedAnswers.looked_up, Tests.and_both}
 use Rattle.std.specs.Prelude.{◌≡◌, ◌⊎◌, ◌∷◌, ◌&&◌, ◌||◌}
 
 -- the test on the two columns

@@ -1,13 +1,11 @@
 -- What an INSERT of given values and an UPDATE leave, in any table that stands, whatever else the schema has.
-use Rattle.sql_meanings.specs.Names.{ℕ, List, [], length, true, false, Some, Ok, Err, Result, slice_get}
-use Rattle.sql_meanings.specs.Names.{unwrap_or, Row, Term, Table, Schema, Trees, Values, Insert, Update, Program}
-use Rattle.sql_meanings.specs.Names.{Keys, Enforced, Chosen, Given, Edit, edit_of, are_fresh, left_by, ids_of, Writes}
-use Rattle.sql_meanings.specs.Names.{Tally, Written, stamped, Database, IsDatabase, Answers, value_rows, State}
-use Rattle.sql_meanings.specs.Names.{Executes}
+use Rattle.sql_meanings.specs.Names.{ℕ, List, [], length, true, false, Some, Ok, Err, Result, slice_get, unwrap_or}
+use Rattle.sql_meanings.specs.Names.{Row, Term, Table, Schema, Trees, Values, Insert, Update, Program, Keys, Enforced}
+use Rattle.sql_meanings.specs.Names.{Chosen, Given, Edit, edit_of, are_fresh, left_by, ids_of, Writes, Tally, Written}
+use Rattle.sql_meanings.specs.Names.{stamped, Database, IsDatabase, Answers, value_rows, State, Executes}
 use Rattle.sql_meanings.proofs.Names.{inl, inr, refl, sym, ap, subst, ◌∙◌, runs_as}
 use Rattle.sql_meanings.specs.Making.{Stands}
-use Rattle.sql_meanings.proofs.Actions.{Leaves, writes_leave}
-use Rattle.sql_meanings.proofs.Means.{Means, meant_is, plain_is}
+use Rattle.sql_meanings.proofs.{Actions.Leaves, Actions.writes_leave, Means.Means, Means.meant_is, Means.plain_is}
 use Rattle.std.specs.Prelude.{◌≡◌, ◌⊎◌, ◌/◌}
 
 -- a part that gave a value
