@@ -5,20 +5,18 @@ use Rattle.sql_meanings.specs.Names.{out-Core, Shown, Sort, out-Sort, out-Source
 use Rattle.sql_meanings.specs.Names.{Carried, integer, nothing, alone, chosen, begin, finish, spend, Name, Context}
 use Rattle.sql_meanings.specs.Names.{declared, alias_of, number, compared, affinity_of, converted, may_be_text}
 use Rattle.sql_meanings.specs.Names.{ungrouped, named, paging, constant_or, lower, lower_to, node, opened, passes}
-use Rattle.sql_meanings.specs.Names.{operation, both, wanted_truth, tests_truth, tests_alias, combine, viewing}
-use Rattle.sql_meanings.specs.Names.{single, source, sources, whole, with, level, query_to, query, compiled, first}
-use Rattle.sql_meanings.specs.Names.{with_command}
+use Rattle.sql_meanings.specs.Names.{operation, both, wanted_truth, tests_truth, tests_alias, combine, single, source}
+use Rattle.sql_meanings.specs.Names.{sources, whole, with, level, query_to, query, compiled, first, with_command}
 use Rattle.sql_meanings.proofs.Names.{suc, refl, nat_lt, ap, ◌∙◌}
 use Rattle.sqlite_value.specs.declared.keys.Collation.TheVariants.{Binary}
 use Rattle.sqlite_sql.specs.declared.ops.CompareOp.{CompareOp}
-use Rattle.sqlite_schema.specs.declared.program.Table.{Table as Let}
 use Rattle.sqlite_ast.specs.declared.Binary.{Binary as Operator}
 use Rattle.sqlite_ast.specs.declared.Source.{Source as From}
 use Rattle.sqlite_resolve.specs.Select.{constant, stepless, outermost}
 use Rattle.sql_meanings.proofs.{Columns.over_one, Columns.column_is, ByKey.Tests, ByKey.parameter_at}
 use Rattle.sql_meanings.proofs.Expressions.{st, lower_column, lower_parameter}
 use Rattle.sql_meanings.proofs.Statements.{HasTable, compiled_select}
-use Rattle.sql_meanings.proofs.OneTable.{IsPartOf, IsSelectOf, one_table, parts_are, read_is}
+use Rattle.sql_meanings.proofs.OneTable.{IsPartOf, IsSelectOf, one_table, parts_are, read_is, viewing_is}
 use Rattle.sql_meanings.proofs.ShownColumns.{ShowsColumns, HasRoom, spent, last_of}
 use Rattle.sql_meanings.proofs.Selects.{one_test, one_order, outputs_are_all}
 use Rattle.sqlite_sql.specs.declared.ops.BinaryOp.TheVariants as by
@@ -79,13 +77,6 @@ module _ (schema : Schema) where
   constant_is e text v is value = rw
       (lower_integer (outermost schema) e text v 699 1 100000 nothing is value refl)
 
-  viewing_is : (core : Core) (order : List Sort) (page : Term × Term) (n : ℕ)
-      (shown : Draft × List Name × List (Option Collation))
-      (lets : List Let) → named schema core order page ≡ Ok shown
-      → viewing (query_to 15) schema core order page (suc n) schema lets ≡ Ok ((shown, schema), lets)
-  unfolding viewing
-  viewing_is core order page n shown lets is = rw is
-
   -- a SELECT of one table, with a LIMIT
   pub paged_is : (s : written_select.Select) (core : Core) (source : From) (from : Name) (order : List Sort)
       (limit : Expr) (most : Term)
@@ -97,7 +88,7 @@ module _ (schema : Schema) where
       → query schema s ≡ Ok (shown, [])
   unfolding query query_to level with whole paging constant_or prog.alone single source sources
   paged_is s core source from order limit most shown is one origin cap made =
-      rw (is, one, origin, cap, viewing_is core order (most, number 0) 63 shown [] made)
+      rw (is, one, origin, cap, viewing_is schema core order (most, number 0) 63 shown [] made)
 
 module _ (schema : Schema) (name : Name) (p : ℕ) (table : Table) (has : HasTable schema name p table) where
   -- SELECT columns FROM table WHERE key > ?m ORDER BY key LIMIT n, and the same with >=

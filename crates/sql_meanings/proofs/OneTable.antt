@@ -74,7 +74,7 @@ module _ (schema : Schema) (name : Name) (p : ℕ) (table : Table) (has : HasTab
 
 -- a SELECT of one part, whose tables are all stored
 module _ (schema : Schema) where
-  viewing_is : (core : Core) (order : List Sort) (page : Term × Term) (n : ℕ)
+  pub viewing_is : (core : Core) (order : List Sort) (page : Term × Term) (n : ℕ)
       (shown : Draft × List Name × List (Option Collation))
       (lets : List Let) → named schema core order page ≡ Ok shown
       → viewing (query_to 15) schema core order page (suc n) schema lets ≡ Ok ((shown, schema), lets)
