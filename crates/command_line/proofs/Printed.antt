@@ -1,6 +1,6 @@
 -- What was printed of a drive, of connections that were served, and of a replay.
-use Rattle.std.proofs.Common.{◌≡◌, ◌≢◌, ◌≤◌, ◌⊎◌, ap, inl, inr, refl, ℕ, List, [], length, take, Option, Result, Ok, Err, OnOk}
-use Rattle.std.proofs.Common.{IfErr, arith, subst, sym}
+use Rattle.std.proofs.Common.{◌≡◌, ◌≢◌, ◌≤◌, ap, inl, inr, refl, ℕ, List, [], length, take, Option, Result, Ok, Err}
+use Rattle.std.proofs.Common.{OnOk, IfErr, arith, subst, sym}
 use Rattle.std.proofs.lemmas.List.{take_all}
 use Rattle.std.specs.Prelude.{OnErr}
 use Rattle.std.specs.Result.{IsErrOf}
@@ -18,8 +18,7 @@ use Rattle.command_line.specs.Lines.{PrintsLine, WritesOut, driven_line, listeni
 use Rattle.command_line.specs.declared.fault.CommandFault.{CommandFault}
 use Rattle.command_line.specs.Replaying.{PrintsText}
 use Rattle.command_line.specs.declared.fault.CommandFault.TheVariants.{Memory, Write}
-use Rattle.command_line.specs.Working.{DrivesOver, MayTellListening, TellsDriven, TellsListening}
-use Rattle.command_line.specs.Working.{done_after}
+use Rattle.command_line.specs.Working.{DrivesOver, MayTellListening, TellsDriven, TellsListening, done_after}
 
 -- a prefix of a text
 pub part_of : {old new : Option (List ℕ)} {text : List ℕ}
@@ -57,21 +56,6 @@ in_part text w w' t t' (inl out) = record {
   wrote = subst (λ (bytes : List ℕ). Appends w w' bytes) (sym (take_all (length text) text (omega arith))) out.0;
 }
 in_part text w w' t t' (inr part) = part.0
-
--- a line was said, or none, where its text wasn't made
-pub said_in_part : (line text : List ℕ) (w w' : Option (List ℕ)) (t t' : Option (List WriteTold))
-    → (text ≡ line) ⊎ (text ≡ []) → WritesOut text w w' t t' → AppendsPart w w' line
-said_in_part line text w w' t t' (inl is) out =
-    in_part line w w' t t' (subst (λ (bytes : List ℕ). WritesOut bytes w w' t t') is out)
-said_in_part line text w w' t t' (inr none) out =
-    let within : 0 ≤ length line = omega arith in
-    let part = in_part [] w w' t t' (subst (λ (bytes : List ℕ). WritesOut bytes w w' t t') none out) in
-    let nothing : take part.count [] ≡ [] = take_all part.count [] (omega arith) in
-    record {
-      count = 0;
-      within = within;
-      wrote = subst (λ (bytes : List ℕ). Appends w w' bytes) nothing part.wrote;
-    }
 
 -- none was due
 pub none_due : (w : Option (List ℕ)) (t : Option (List WriteTold)) → WritesOut [] w w t t

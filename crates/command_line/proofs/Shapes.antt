@@ -53,14 +53,6 @@ pub record IsReadAs (s : Shape) (name : Text) (words : List Text) : Type 0 where
 
 -- ---- their arguments are plain
 
-pub alone_is_plain : (name : Text) → IsPlainLeaf (alone name)
-alone_is_plain name = record {
-  plain = ((inr refl, refl, refl), tt);
-  no_help = refl;
-  no_subcommand = refl;
-  negates = refl;
-}
-
 pub one_is_plain : (name : Text) → IsPlainLeaf (one_file name)
 one_is_plain name = record {
   plain = ((inl (refl, omega arith), refl, refl), ((inr refl, refl, refl), tt));

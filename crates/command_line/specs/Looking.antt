@@ -4,9 +4,7 @@ use Rattle.std.specs.declared.io.ErrorKind.{ErrorKind}
 use Rattle.std.specs.declared.io.ErrorKind.TheVariants as kind
 use Rattle.branch_loader.specs.declared.fault.PlanFault.TheVariants.{Csv}
 use Rattle.command_line.specs.declared.fault.CommandFault.{CommandFault}
-use Rattle.command_line.specs.declared.fault.CommandFault.TheVariants.{AlreadyBank, Damaged, Foreign, Memory}
-use Rattle.command_line.specs.declared.fault.CommandFault.TheVariants.{NoBank}
-use Rattle.command_line.specs.declared.fault.CommandFault.TheVariants.{Plan, Store, Version}
+use Rattle.command_line.specs.declared.fault.CommandFault.TheVariants.{Memory, NoBank, Plan, Store}
 
 -- a file that isn't there, or that is below something that is no folder, is no bank
 abbrev pub fault_of_look : ErrorKind → CommandFault
@@ -32,17 +30,6 @@ abbrev pub IsOfPlanFile : CommandFault → Type 0
 IsOfPlanFile Memory = ⊤
 IsOfPlanFile (Plan Csv) = ⊤
 IsOfPlanFile _ = ⊥
-
--- the fault is one with which a bank isn't made in its file, or isn't found there
-abbrev pub IsOfOpening : CommandFault → Type 0
-IsOfOpening NoBank = ⊤
-IsOfOpening AlreadyBank = ⊤
-IsOfOpening Foreign = ⊤
-IsOfOpening (Version version) = ⊤
-IsOfOpening (Damaged rule) = ⊤
-IsOfOpening Memory = ⊤
-IsOfOpening Store = ⊤
-IsOfOpening _ = ⊥
 
 -- the fault is one of a plan, or want of memory
 abbrev pub IsPlanFault : CommandFault → Type 0
