@@ -1,37 +1,28 @@
 -- Where clap finds no fault in the words, they name one of the program's commands, with all its values.
-use Rattle.std.proofs.Common.{◌≡◌, ◌||◌, ℕ, Bool, true, false, refl}
-use Rattle.std.proofs.Common.{subst, sym, inl, inr, Result, Ok, Err, IfOk}
+use Rattle.std.proofs.Common.{◌≡◌, ◌||◌, ℕ, Bool, true, false, refl, subst, sym, inl, inr, Result, Ok, Err, IfOk}
 use Rattle.std.proofs.Common.{List, [], ◌∷◌, Option, Some, None, is_some, codes}
 use Rattle.std.specs.Prelude.{IsSomeAnd, find, option_map, unwrap_or}
-use Rattle.std.specs.Option.{option_map_or}
-use Rattle.std.specs.Str.{bytes_eq}
+use Rattle.std.specs.{Option.option_map_or, Str.bytes_eq}
 use Rattle.std.proofs.lemmas.Slice.Eq.{bytes_eq-Decides}
-use Rattle.clap.specs.Walk.{Rule, Text, answers_to, arg_by_id}
-use Rattle.clap.specs.Walk.{nothing_held, one_of, rows_after, stop_after, walk_from}
-use Rattle.clap.specs.Simple.{new_rule, App, Shape, argument_words}
-use Rattle.clap.specs.Simple.{built, built_leaf, entered, label_of}
-use Rattle.clap.specs.Simple.{names_of, rows_at, subcommand_of}
-use Rattle.clap.specs.Simple.{HasMatchesOf, help_shape, subcommand_rows_of}
-use Rattle.clap.specs.Kinds.{FailsBy}
-use Rattle.clap.specs.ValueTests.{accepts}
-use Rattle.clap.specs.Faults.{entered_fault}
-use Rattle.clap.specs.Faults.{fault_of, is_simple_and_free, level_fault}
+use Rattle.clap.specs.{Walk.Rule, Walk.Text, Walk.answers_to, Walk.arg_by_id, Walk.nothing_held, Walk.one_of}
+use Rattle.clap.specs.{Walk.rows_after, Walk.stop_after, Walk.walk_from, Kinds.FailsBy, ValueTests.accepts}
+use Rattle.clap.specs.{Faults.entered_fault, Faults.fault_of, Faults.is_simple_and_free, Faults.level_fault}
+use Rattle.clap.specs.{declared.builder.value_parser.ValueParser.TheVariants.Unsigned, declared.error.Error.Error}
+use Rattle.clap.specs.{declared.parser.matches.ArgMatches.ArgMatches}
+use Rattle.clap.specs.Simple.{new_rule, App, Shape, argument_words, built, built_leaf, entered, label_of, names_of}
+use Rattle.clap.specs.Simple.{rows_at, subcommand_of, HasMatchesOf, help_shape, subcommand_rows_of}
 use Rattle.clap.proofs.ValueTestLemmas.{accepts-Accepts}
-use Rattle.clap.specs.declared.builder.value_parser.ValueParser.TheVariants.{Unsigned}
-use Rattle.clap.specs.declared.error.Error.{Error}
-use Rattle.clap.specs.declared.parser.matches.ArgMatches.{ArgMatches}
 use Rattle.load_driver.specs.declared.drive.TheConstants.{MAX_DRIVEN}
 use Rattle.message_records.specs.declared.limits.TheConstants.{MAX_ACCOUNT}
 use Rattle.command_line.specs.declared.limits.TheConstants.{MAX_CONNECTIONS}
 use Rattle.command_line.specs.CommandLine.{MAX_REQUESTS, MAX_SEED, bank_app}
 use Rattle.command_line.specs.Words.{HasNumber, HasNumberIfAny, HasText, IsComplete, IsCompleteOnFile, IsOfOneFile}
 use Rattle.command_line.proofs.Levels.{IsPlainLeaf, has_command, has_first, level_passes, value_if_any, value_of}
-use Rattle.command_line.proofs.Rows.{HasValue}
+use Rattle.command_line.proofs.{Rows.HasValue, Stopped.IsNoHelp, Stopped.walk_stops}
 use Rattle.command_line.proofs.Shapes.{digest_is_plain, drive_is_plain, export_is_plain, file_and_account}
 use Rattle.command_line.proofs.Shapes.{file_and_address, file_and_after, file_and_numbers, file_and_requests}
 use Rattle.command_line.proofs.Shapes.{load_is_plain, one_file, one_is_plain, serve_is_plain, statement_is_plain}
 use Rattle.command_line.proofs.Shapes.{two_files}
-use Rattle.command_line.proofs.Stopped.{IsNoHelp, walk_stops}
 
 -- ---- the arguments of a command
 

@@ -1,9 +1,7 @@
 -- A number that is printed right in so many places.
-use Rattle.std.proofs.Common.{lit<, false, ◌≡◌, ◌∙◌, ap, ℕ, zero, suc, ◌-◌, List, [], ◌∷◌, ◌++◌, length}
-use Rattle.std.proofs.Common.{refl, replicate}
-use Rattle.std.proofs.Common.{append-nil, append_assoc, arith, codes}
-use Rattle.std.specs.Fmt.{char_count, decimal, format_spec, padded_integral}
-use Rattle.std.specs.List.{repeat}
+use Rattle.std.proofs.Common.{lit<, false, ◌≡◌, ◌∙◌, ap, ℕ, zero, suc, ◌-◌, List, [], ◌∷◌, ◌++◌, length, refl}
+use Rattle.std.proofs.Common.{replicate, append-nil, append_assoc, arith, codes}
+use Rattle.std.specs.{Fmt.char_count, Fmt.decimal, Fmt.format_spec, Fmt.padded_integral, List.repeat}
 use lib.Utf8.{encode}
 use Rattle.std.proofs.lemmas.Str.{encode_ascii}
 use Rattle.report_lines.specs.Lines.{right_in}

@@ -1,24 +1,18 @@
 -- What `get_str` gives, by the rows of clap's matches.
-use Rattle.std.proofs.Common.{◌≡◌, ◌≤◌, ◌∙◌, List, ℕ, Option, Some}
-use Rattle.std.proofs.Common.{None, is_some, true, false, codes, inl, inr}
+use Rattle.std.proofs.Common.{◌≡◌, ◌≤◌, ◌∙◌, List, ℕ, Option, Some, None, is_some, true, false, codes, inl, inr}
 use Rattle.std.proofs.Common.{IsSome, Result, ap, ap₂, refl, subst, sym}
 use Rattle.std.specs.Prelude.{IfSome, IsSomeAnd, option_map, unwrap_or}
 use Rattle.std.specs.Str.Parse.{ExplainsUnsignedError, HasUnsignedDigitsIfOk, ParsesUnsigned}
-use Rattle.std.specs.declared.num.ParseIntError.{ParseIntError}
-use Rattle.std.specs.Borrow.{Bor}
-use Rattle.std.specs.Str.{bytes_eq}
+use Rattle.std.specs.{declared.num.ParseIntError.ParseIntError, Borrow.Bor, Str.bytes_eq}
 use Rattle.std.proofs.lemmas.Slice.Eq.{bytes_eq-Decides}
-use Rattle.clap.specs.Words.{IsUnsignedIn, ReadsOne, Row, Text, first_of, first_value, one_of, one_text}
-use Rattle.clap.specs.Words.{rows_of, subcommand_name_of, subcommand_rows_of}
-use Rattle.clap.specs.declared.parser.matches.ArgMatches.{ArgMatches}
-use Rattle.clap.specs.declared.parser.matches.Found.{Found}
-use Rattle.clap.specs.declared.parser.matches.ArgMatches.TheViews.{out-ArgMatches}
+use Rattle.clap.specs.Words.{IsUnsignedIn, ReadsOne, Row, Text, first_of, first_value, one_of, one_text, rows_of}
+use Rattle.clap.specs.Words.{subcommand_name_of, subcommand_rows_of}
+use Rattle.clap.specs.declared.parser.matches.{ArgMatches.ArgMatches, Found.Found, ArgMatches.TheViews.out-ArgMatches}
 use Rattle.clap.proofs.WalkLemmas.{first_value-rows, one_text-rows}
 use Rattle.load_driver.specs.declared.drive.TheConstants.{MAX_DRIVEN}
 use Rattle.command_line.specs.CommandLine.{MAX_REQUESTS, MAX_SEED}
-use Rattle.message_records.specs.Ranges.{whole_within}
+use Rattle.message_records.specs.{Ranges.whole_within, declared.limits.TheConstants.MAX_ACCOUNT}
 use Rattle.load_driver.proofs.Listed.{within}
-use Rattle.message_records.specs.declared.limits.TheConstants.{MAX_ACCOUNT}
 use Rattle.command_line.specs.declared.limits.TheConstants.{MAX_CONNECTIONS}
 use Rattle.command_line.specs.Words.{AreInRange, HasMoreValues, HasNumber, HasNumberIfAny, HasText, IsCommandOf}
 use Rattle.command_line.specs.Words.{IsComplete, IsNumber, IsNumberIfAny, IsNumberIn, IsText, number_of}

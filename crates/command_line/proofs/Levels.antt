@@ -1,18 +1,12 @@
 -- What is known of a level of the command line at which clap finds no fault.
-use Rattle.std.proofs.Common.{◌≡◌, ◌⊎◌, ◌&&◌, ◌||◌, Bool, true, false, not, refl}
-use Rattle.std.proofs.Common.{subst, List, [], ◌∷◌, Some, None, is_some}
-use Rattle.std.specs.Prelude.{find}
-use Rattle.std.specs.List.{list_any}
-use Rattle.std.specs.Str.{bytes_eq}
-use Rattle.clap.specs.Facts.{explicit_source}
-use Rattle.clap.specs.Walk.{Names, Row, Rule, Text, arg_by_id, finished, first_of}
-use Rattle.clap.specs.Walk.{nothing_held, one_of, rows_after, settled, walk, walk_from}
-use Rattle.clap.specs.Simple.{Shape}
+use Rattle.std.proofs.Common.{◌≡◌, ◌⊎◌, ◌&&◌, ◌||◌, Bool, true, false, not, refl, subst, List, [], ◌∷◌, Some, None}
+use Rattle.std.proofs.Common.{is_some}
+use Rattle.std.specs.{Prelude.find, List.list_any, Str.bytes_eq}
+use Rattle.clap.specs.{Facts.explicit_source, Simple.Shape, Takes.is_given}
+use Rattle.clap.specs.Walk.{Names, Row, Rule, Text, arg_by_id, finished, first_of, nothing_held, one_of, rows_after}
+use Rattle.clap.specs.Walk.{settled, walk, walk_from}
 use Rattle.clap.specs.Kinds.{Kinds, check_kinds, or_else}
-use Rattle.clap.specs.Takes.{is_given}
-use Rattle.clap.specs.Faults.{check_fault, defaults_fault}
-use Rattle.clap.specs.Faults.{level_fault}
-use Rattle.clap.specs.Faults.{settle_fault, walk_fault}
+use Rattle.clap.specs.Faults.{check_fault, defaults_fault, level_fault, settle_fault, walk_fault}
 use Rattle.command_line.proofs.Rows.{ArePlainRules, HasValue, given_value, no_first, no_second, value_or_none}
 use Rattle.command_line.proofs.Walked.{rows_sound}
 

@@ -1,29 +1,20 @@
 -- How the loading of a plan ends, by the call that ended it.
 use Rattle.std.proofs.Common.{◌≡◌, ◌≢◌, refl, inl, inr, subst, ℕ, List, Option, Result, Ok, Err}
-use Rattle.std.specs.Prelude.{IfErr, IfOk}
-use Rattle.std.specs.Result.{IsErrOf}
-use Rattle.std.specs.Io.KnownBytes.{Appends, Keeps}
+use Rattle.std.specs.{Prelude.IfErr, Prelude.IfOk, Result.IsErrOf, Io.KnownBytes.Appends, Io.KnownBytes.Keeps}
 use Rattle.std.proofs.KnownBytes.{Keeps-refl}
-use Rattle.posting_rules.specs.declared.fault.Fault.{Fault}
+use Rattle.posting_rules.specs.{declared.fault.Fault.Fault, Counter.Seen}
 use Rattle.posting_rules.specs.declared.fault.Fault.TheVariants as bank
-use Rattle.posting_rules.specs.Counter.{Seen}
 use Rattle.posting_core.specs.Told.{HasWriteFailed, ReadTold, WriteTold}
 use Rattle.report_lines.specs.Written.{AppendsPart}
 use Rattle.branch_loader.specs.Plans.{ReadsPlan, Rows}
-use Rattle.branch_loader.specs.declared.fault.PlanFault.{PlanFault}
-use Rattle.branch_loader.specs.declared.fault.PlanFault.TheVariants.{Header, Columns, Branch, Accounts, Floor}
-use Rattle.branch_loader.specs.declared.fault.PlanFault.TheVariants.{Twice}
+use Rattle.branch_loader.specs.declared.{fault.PlanFault.PlanFault, loader.Loaded.Loaded}
+use Rattle.branch_loader.specs.declared.fault.PlanFault.TheVariants.{Header, Columns, Branch, Accounts, Floor, Twice}
 use Rattle.branch_loader.specs.declared.fault.PlanFault.TheVariants.{Csv, Memory}
-use Rattle.branch_loader.specs.declared.loader.Loaded.{Loaded}
-use Rattle.command_line.specs.Faults.{fault_of_bank, fault_of_plan}
-use Rattle.command_line.specs.Lines.{loaded_line}
-use Rattle.command_line.specs.Looking.{IsOfPlanFile, IsPlanFault}
-use Rattle.command_line.specs.declared.fault.CommandFault.{CommandFault}
+use Rattle.command_line.specs.{Faults.fault_of_bank, Faults.fault_of_plan, Lines.loaded_line, Looking.IsOfPlanFile}
+use Rattle.command_line.specs.{Looking.IsPlanFault, declared.fault.CommandFault.CommandFault}
+use Rattle.command_line.specs.{declared.fault.CommandFault.TheVariants.Write, declared.status.Status.Status}
 use Rattle.command_line.specs.declared.fault.CommandFault.TheVariants as fault
-use Rattle.command_line.specs.declared.fault.CommandFault.TheVariants.{Write}
-use Rattle.command_line.specs.declared.status.Status.{Status}
-use Rattle.command_line.specs.Working.{IsRefusedLoad, Loads, LoadsAnswer, LoadsFrom, LoadsOver}
-use Rattle.command_line.specs.Working.{ended_by_load}
+use Rattle.command_line.specs.Working.{IsRefusedLoad, Loads, LoadsAnswer, LoadsFrom, LoadsOver, ended_by_load}
 
 -- each fault of a plan is told as one
 of_plan : (fault : PlanFault) → IsPlanFault (fault_of_plan fault)

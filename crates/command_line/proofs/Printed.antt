@@ -1,23 +1,17 @@
 -- What was printed of a drive, of connections that were served, and of a replay.
 use Rattle.std.proofs.Common.{◌≡◌, ◌≢◌, ◌≤◌, ap, inl, inr, refl, ℕ, List, [], length, take, Option, Result, Ok, Err}
 use Rattle.std.proofs.Common.{OnOk, IfErr, arith, subst, sym}
-use Rattle.std.proofs.lemmas.List.{take_all}
-use Rattle.std.specs.Prelude.{OnErr}
-use Rattle.std.specs.Result.{IsErrOf}
-use Rattle.std.specs.Io.KnownBytes.{Appends}
-use Rattle.std.proofs.KnownBytes.{Appends-nil, Keeps-refl}
-use Rattle.std.specs.declared.net.socket_addr.SocketAddr.{SocketAddr}
-use Rattle.posting_rules.specs.Counter.{Seen}
-use Rattle.posting_rules.specs.declared.fault.Fault.{Fault}
+use Rattle.std.proofs.{lemmas.List.take_all, KnownBytes.Appends-nil, KnownBytes.Keeps-refl}
+use Rattle.std.specs.{Prelude.OnErr, Result.IsErrOf, Io.KnownBytes.Appends}
+use Rattle.std.specs.{declared.net.socket_addr.SocketAddr.SocketAddr}
+use Rattle.posting_rules.specs.{Counter.Seen, declared.fault.Fault.Fault}
 use Rattle.posting_core.proofs.Telling.{adds-none}
 use Rattle.posting_core.specs.Told.{EndsWith, HasWriteFailed, IsFlush, WriteTold}
 use Rattle.report_lines.specs.Written.{AppendsPart}
-use Rattle.load_driver.specs.Drives.{Drives}
-use Rattle.load_driver.specs.declared.drive.Driven.{Driven}
+use Rattle.load_driver.specs.{Drives.Drives, declared.drive.Driven.Driven}
 use Rattle.command_line.specs.Lines.{PrintsLine, WritesOut, driven_line, listening_line}
-use Rattle.command_line.specs.declared.fault.CommandFault.{CommandFault}
+use Rattle.command_line.specs.declared.fault.CommandFault.{CommandFault, TheVariants.Memory, TheVariants.Write}
 use Rattle.command_line.specs.Replaying.{PrintsText}
-use Rattle.command_line.specs.declared.fault.CommandFault.TheVariants.{Memory, Write}
 use Rattle.command_line.specs.Working.{DrivesOver, MayTellListening, TellsDriven, TellsListening, done_after}
 
 -- a prefix of a text

@@ -1,11 +1,10 @@
 -- The program's commands as clap builds them.
 use Rattle.std.proofs.Common.{◌≡◌, ◌&&◌, ◌∷◌, List, [], Some, false, true, refl, arith, inl, inr}
-use Rattle.clap.specs.Walk.{Text, nothing_held}
-use Rattle.clap.specs.Simple.{Shape, built_leaf, inherited, marked_built, new_app, on_top, rows_at}
-use Rattle.clap.specs.Simple.{subcommand_of, with_leaf_noted, with_rule}
-use Rattle.clap.specs.Takes.{level_passes, takes}
-use Rattle.command_line.specs.CommandLine.{bank_app, digest_app, drive_app, export_app, file_rule, load_app, serve_app}
-use Rattle.command_line.specs.CommandLine.{statement_app}
+use Rattle.clap.specs.{Walk.Text, Walk.nothing_held, Takes.level_passes, Takes.takes}
+use Rattle.clap.specs.Simple.{Shape, built_leaf, inherited, marked_built, new_app, on_top, rows_at, subcommand_of}
+use Rattle.clap.specs.Simple.{with_leaf_noted, with_rule}
+use Rattle.command_line.specs.CommandLine.{bank_app, digest_app, drive_app, export_app, file_rule, load_app}
+use Rattle.command_line.specs.CommandLine.{serve_app, statement_app}
 use Rattle.command_line.proofs.Levels.{IsPlainLeaf}
 
 -- a command of the program with what building adds to it

@@ -1,35 +1,29 @@
 -- What clap reads in words that spell a command: that command.
-use Rattle.std.proofs.Common.{◌≡◌, ◌∙◌, ◌&&◌, true, false, refl}
-use Rattle.std.proofs.Common.{sym, ap, ap₂, inl, inr, List, [], ◌∷◌}
-use Rattle.std.proofs.Common.{Some, None, codes, Result, Ok, Err, IsErrAnd, drop}
+use Rattle.std.proofs.Common.{◌≡◌, ◌∙◌, ◌&&◌, true, false, refl, sym, ap, ap₂, inl, inr, List, [], ◌∷◌, Some, None}
+use Rattle.std.proofs.Common.{codes, Result, Ok, Err, IsErrAnd, drop}
 use Rattle.std.specs.Prelude.{IsSomeAnd, MatchResult}
 use Rattle.clap.specs.Walk.{Row, Text, first_of, nothing_held, one_of, rows_after}
 use Rattle.clap.specs.Simple.{Shape, rows_at, subcommand_of}
-use Rattle.clap.specs.Takes.{level_passes, takes}
-use Rattle.clap.specs.Words.{kind_of}
-use Rattle.clap.specs.declared.error.Error.{Error}
+use Rattle.clap.specs.{Takes.level_passes, Takes.takes, Words.kind_of, declared.error.Error.Error}
 use Rattle.clap.specs.declared.error.kind.ErrorKind.TheVariants.{OutOfMemory}
-use Rattle.command_line.specs.declared.reading.Command.{Command}
+use Rattle.command_line.specs.{declared.reading.Command.Command, CommandLine.MAX_REQUESTS, CommandLine.bank_app}
 use Rattle.command_line.specs.declared.reading.Command.TheVariants.{Audit, Decode, Digest, Drive, Encode, Export}
 use Rattle.command_line.specs.declared.reading.Command.TheVariants.{Init, Load, Migrate, Plan, Post, Replay, Serve}
 use Rattle.command_line.specs.declared.reading.Command.TheVariants.{Statement}
 use Rattle.message_records.specs.declared.limits.TheConstants.{MAX_ACCOUNT}
-use Rattle.command_line.specs.CommandLine.{MAX_REQUESTS, bank_app}
-use Rattle.command_line.specs.Words.{AskToExport, IsCommandOf, IsReadFrom, IsSpelled, IsSpelledBy}
-use Rattle.command_line.specs.Words.{IsSpelledOnFile, IsText, IsWantOfMemory, begins_with_dash, number_if_any}
-use Rattle.command_line.specs.Words.{number_of}
+use Rattle.command_line.specs.Words.{AskToExport, IsCommandOf, IsReadFrom, IsSpelled, IsSpelledBy, IsSpelledOnFile}
+use Rattle.command_line.specs.Words.{IsText, IsWantOfMemory, begins_with_dash, number_if_any, number_of}
 use Rattle.command_line.proofs.Getters.{apart}
 use Rattle.command_line.proofs.Shapes.{IsReadAs, alone, file_and_account, file_and_address, file_and_after}
 use Rattle.command_line.proofs.Shapes.{file_and_numbers, file_and_requests, one_file, two_files}
 use Rattle.command_line.proofs.SpelledFiles.{audit_read, decode_read, encode_read, init_read, load_goes, load_read}
 use Rattle.command_line.proofs.SpelledFiles.{migrate_read, one_goes, plan_read, post_read, replay_read, two_held}
-use Rattle.command_line.proofs.SpelledNumbers.{digest_goes, digest_passes, digest_read}
-use Rattle.command_line.proofs.SpelledNumbers.{drive_goes, drive_passes, drive_read, drive_words}
-use Rattle.command_line.proofs.SpelledNumbers.{export_all_goes, export_all_passes, export_all_read, export_goes}
-use Rattle.command_line.proofs.SpelledNumbers.{export_passes, export_read, export_words, with_file}
-use Rattle.command_line.proofs.SpelledNumbers.{serve_goes, serve_passes, serve_read, serve_words}
-use Rattle.command_line.proofs.SpelledNumbers.{statement_goes, statement_passes, statement_read}
-use Rattle.command_line.proofs.SpelledNumbers.{with_address, with_seed}
+use Rattle.command_line.proofs.SpelledNumbers.{digest_goes, digest_passes, digest_read, drive_goes, drive_passes}
+use Rattle.command_line.proofs.SpelledNumbers.{drive_read, drive_words, export_all_goes, export_all_passes}
+use Rattle.command_line.proofs.SpelledNumbers.{export_all_read, export_goes, export_passes, export_read, export_words}
+use Rattle.command_line.proofs.SpelledNumbers.{with_file, serve_goes, serve_passes, serve_read, serve_words}
+use Rattle.command_line.proofs.SpelledNumbers.{statement_goes, statement_passes, statement_read, with_address}
+use Rattle.command_line.proofs.SpelledNumbers.{with_seed}
 use Rattle.command_line.proofs.Valued.{before, file_held, given, no_dash, rows_to, stops, taken_to}
 
 -- ---- the command that is told

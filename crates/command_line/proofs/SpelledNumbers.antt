@@ -1,19 +1,15 @@
 -- What clap reads in the words of a command with numbers: `statement`, `digest`, `export`, `drive` and `serve`.
 use Rattle.std.proofs.Common.{◌≡◌, true, false, refl, List, [], ◌∷◌, codes}
 use Rattle.clap.specs.Walk.{Row, Text, nothing_held, walked}
-use Rattle.clap.specs.Takes.{level_passes, turn_passes}
-use Rattle.clap.proofs.OnLiterals.{clap_on_literals}
-use Rattle.clap.specs.ValueTests.{accepts}
-use Rattle.clap.specs.Words.{IsUnsignedIn}
-use Rattle.clap.proofs.ValueTestLemmas.{Accepts-accepts}
+use Rattle.clap.specs.{Takes.level_passes, Takes.turn_passes, ValueTests.accepts, Words.IsUnsignedIn}
+use Rattle.clap.proofs.{OnLiterals.clap_on_literals, ValueTestLemmas.Accepts-accepts}
 use Rattle.clap.specs.declared.builder.value_parser.ValueParser.TheVariants.{Unsigned}
 use Rattle.load_driver.specs.declared.drive.TheConstants.{MAX_DRIVEN}
 use Rattle.message_records.specs.declared.limits.TheConstants.{MAX_ACCOUNT}
-use Rattle.command_line.specs.declared.limits.TheConstants.{MAX_CONNECTIONS}
+use Rattle.command_line.specs.{declared.limits.TheConstants.MAX_CONNECTIONS, Words.begins_with_dash}
 use Rattle.command_line.specs.CommandLine.{MAX_REQUESTS, MAX_SEED}
-use Rattle.command_line.specs.Words.{begins_with_dash}
-use Rattle.command_line.proofs.Shapes.{IsReadAs, file_and_account, file_and_address, file_and_after}
-use Rattle.command_line.proofs.Shapes.{file_and_numbers, file_and_requests}
+use Rattle.command_line.proofs.Shapes.{IsReadAs, file_and_account, file_and_address, file_and_after, file_and_numbers}
+use Rattle.command_line.proofs.Shapes.{file_and_requests}
 use Rattle.command_line.proofs.SpelledFiles.{two_held}
 use Rattle.command_line.proofs.Valued.{Goes, asked, before, ends_well, file_held, given, goes_on, no_dash}
 use Rattle.command_line.proofs.Valued.{option_goes, row_with, stops, taken_to, value_goes}

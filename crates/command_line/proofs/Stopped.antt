@@ -3,16 +3,11 @@ use Rattle.std.proofs.Common.{◌≡◌, ◌&&◌, ℕ, Bool, true, false, not, 
 use Rattle.std.specs.Prelude.{codes, fold, if◌then◌else◌, is_some}
 use Rattle.std.specs.Str.{bytes_eq}
 use Rattle.clap.specs.Faults.{other_fault, step_fault, turn_fault, walk_fault, word_fault}
-use Rattle.clap.specs.Kinds.{or_else}
-use Rattle.clap.specs.Lexer.{long_of, short_of}
-use Rattle.clap.specs.Simple.{Shape}
-use Rattle.clap.specs.Walk.{Held, Names, Outcome, Rule, Step, Text, Waiting, Walk, done, waits, plain}
-use Rattle.clap.specs.Walk.{refused}
-use Rattle.clap.specs.Walk.{idle, option, positional, next, trailing, subcommand, value, after_flag}
-use Rattle.clap.specs.Walk.{after_step}
-use Rattle.clap.specs.Walk.{arg_by_index, arg_by_long, bundle, long_met, long_or_other, plain_word}
-use Rattle.clap.specs.Walk.{short_or_plain, subcommand_met, subcommand_or_other, to_positional, walked}
-use Rattle.clap.specs.Walk.{walked_from, word_met}
+use Rattle.clap.specs.{Kinds.or_else, Lexer.long_of, Lexer.short_of, Simple.Shape}
+use Rattle.clap.specs.Walk.{Held, Names, Outcome, Rule, Step, Text, Waiting, Walk, done, waits, plain, refused, idle}
+use Rattle.clap.specs.Walk.{option, positional, next, trailing, subcommand, value, after_flag, after_step}
+use Rattle.clap.specs.Walk.{arg_by_index, arg_by_long, bundle, long_met, long_or_other, plain_word, short_or_plain}
+use Rattle.clap.specs.Walk.{subcommand_met, subcommand_or_other, to_positional, walked, walked_from, word_met}
 use Rattle.clap.specs.declared.error.kind.ErrorKind.TheVariants as kind
 use Rattle.command_line.proofs.Rows.{no_first, no_second}
 

@@ -1,23 +1,15 @@
 -- What clap makes of the words behind a command's name: values of its arguments, and options before theirs.
-use Rattle.std.proofs.Common.{◌≡◌, ◌∙◌, ◌&&◌, ◌==◌, ℕ, Bool, true, false, refl, arith}
-use Rattle.std.proofs.Common.{subst, ap, ap₂, List, [], ◌∷◌}
+use Rattle.std.proofs.Common.{◌≡◌, ◌∙◌, ◌&&◌, ◌==◌, ℕ, Bool, true, false, refl, arith, subst, ap, ap₂, List, [], ◌∷◌}
 use Rattle.std.proofs.Common.{Some, None, codes}
-use Rattle.std.specs.Prelude.{fold}
-use Rattle.std.proofs.lemmas.Bool.{eqb-true}
-use Rattle.std.specs.Str.Parse.{IsNumeral, without_leading_plus}
-use Rattle.std.proofs.lemmas.Str.Parse.{digit_from_value}
-use Rattle.clap.specs.Lexer.{short_of}
-use Rattle.clap.specs.Walk.{Held, Row, Rule, Step, Text, Walk}
-use Rattle.clap.specs.Walk.{after_step, arg_by_index, finished, idle, option, plain_word}
-use Rattle.clap.specs.Walk.{nothing_held, rows_after, to_positional, value, walked, word_met}
-use Rattle.clap.specs.Simple.{Shape}
-use Rattle.clap.specs.Takes.{default_passes, is_valid, level_passes, settle_passes}
-use Rattle.clap.specs.Takes.{step_passes, turn_passes}
+use Rattle.std.specs.{Prelude.fold, Str.Parse.IsNumeral, Str.Parse.without_leading_plus, List.list_all}
+use Rattle.std.proofs.lemmas.{Bool.eqb-true, Str.Parse.digit_from_value}
+use Rattle.clap.specs.{Lexer.short_of, Simple.Shape, Words.IsUnsignedIn}
+use Rattle.clap.specs.Walk.{Held, Row, Rule, Step, Text, Walk, after_step, arg_by_index, finished, idle, option}
+use Rattle.clap.specs.Walk.{plain_word, nothing_held, rows_after, to_positional, value, walked, word_met}
+use Rattle.clap.specs.Takes.{default_passes, is_valid, level_passes, settle_passes, step_passes, turn_passes}
 use Rattle.clap.specs.Takes.{walk_passes, word_passes}
-use Rattle.clap.specs.Words.{IsUnsignedIn}
 use Rattle.clap.specs.declared.builder.value_parser.Reading.TheVariants.{AsWritten}
 use Rattle.clap.specs.declared.parser.matches.ValueSource.TheVariants.{CommandLine}
-use Rattle.std.specs.List.{list_all}
 use Rattle.command_line.specs.Words.{begins_with_dash}
 
 -- ---- a word that is no flag, at a command with no subcommand

@@ -1,26 +1,20 @@
 -- A walk over words that meets no fault leaves rows whose values pass the parsers of their arguments.
-use Rattle.std.proofs.Common.{◌≡◌, ◌&&◌, ◌∙◌, ℕ, Bool, zero, suc, true, false, List, [], ◌∷◌, length, Option}
-use Rattle.std.proofs.Common.{Some, None, refl, ap, not}
+use Rattle.std.proofs.Common.{◌≡◌, ◌&&◌, ◌∙◌, ℕ, Bool, zero, suc, true, false, List, [], ◌∷◌, length, Option, Some}
+use Rattle.std.proofs.Common.{None, refl, ap, not}
 use Rattle.std.specs.Prelude.{fold, slice_get, drop, encode_utf8, if◌then◌else◌, is_some}
-use Rattle.std.specs.Option.{option_map_or}
-use Rattle.std.specs.Str.{bytes_eq, chars}
-use Rattle.clap.specs.Faults.{bundle_step_fault, flag_word_fault, flags_fault, long_fault, option_fault}
-use Rattle.clap.specs.Faults.{other_fault}
-use Rattle.clap.specs.Faults.{positional_fault, react_fault, settle_fault, short_fault, step_fault}
-use Rattle.clap.specs.Faults.{stray_fault, turn_fault, use_fault, walk_fault, word_fault}
-use Rattle.clap.specs.Kinds.{or_else}
-use Rattle.clap.specs.Lexer.{long_of, short_of}
-use Rattle.clap.specs.Simple.{Shape}
-use Rattle.clap.specs.Walk.{Held, Names, Outcome, Row, Rule, Step, Text, Waiting, Walk, done, waits, plain}
-use Rattle.clap.specs.Walk.{refused, idle, option, positional, next, trailing, subcommand, value, after_flag}
-use Rattle.clap.specs.Walk.{after_step, arg_by_id, arg_by_index, arg_by_long, arg_by_short, attached_value}
-use Rattle.clap.specs.Walk.{bundle_met, bundle_step, default_rows, flag_met, has_long, has_row, has_short}
-use Rattle.clap.specs.Walk.{is_pending, long_met, long_or_other, nothing_held, option_met, option_word}
-use Rattle.clap.specs.Walk.{plain_word, positional_held, reacted, reading_by, rows_after, settled}
-use Rattle.clap.specs.Walk.{settled_rows}
-use Rattle.clap.specs.Walk.{short_met, short_or_plain, subcommand_met, subcommand_or_other, takes_several}
-use Rattle.clap.specs.Walk.{takes_values, to_positional, used_by_id, walk, walk_from, walked, walked_from}
-use Rattle.clap.specs.Walk.{with_default, word_met}
+use Rattle.std.specs.{Option.option_map_or, Str.bytes_eq, Str.chars}
+use Rattle.clap.specs.Faults.{bundle_step_fault, flag_word_fault, flags_fault, long_fault, option_fault, other_fault}
+use Rattle.clap.specs.Faults.{positional_fault, react_fault, settle_fault, short_fault, step_fault, stray_fault}
+use Rattle.clap.specs.Faults.{turn_fault, use_fault, walk_fault, word_fault}
+use Rattle.clap.specs.{Kinds.or_else, Lexer.long_of, Lexer.short_of, Simple.Shape}
+use Rattle.clap.specs.Walk.{Held, Names, Outcome, Row, Rule, Step, Text, Waiting, Walk, done, waits, plain, refused}
+use Rattle.clap.specs.Walk.{idle, option, positional, next, trailing, subcommand, value, after_flag, after_step}
+use Rattle.clap.specs.Walk.{arg_by_id, arg_by_index, arg_by_long, arg_by_short, attached_value, bundle_met}
+use Rattle.clap.specs.Walk.{bundle_step, default_rows, flag_met, has_long, has_row, has_short, is_pending, long_met}
+use Rattle.clap.specs.Walk.{long_or_other, nothing_held, option_met, option_word, plain_word, positional_held}
+use Rattle.clap.specs.Walk.{reacted, reading_by, rows_after, settled, settled_rows, short_met, short_or_plain}
+use Rattle.clap.specs.Walk.{subcommand_met, subcommand_or_other, takes_several, takes_values, to_positional}
+use Rattle.clap.specs.Walk.{used_by_id, walk, walk_from, walked, walked_from, with_default, word_met}
 use Rattle.clap.specs.declared.error.kind.ErrorKind.TheVariants as kind
 use Rattle.command_line.proofs.Rows.{ArePlainRules, AreSound, IsPlainRule, found_plain, no_first, no_second}
 use Rattle.command_line.proofs.Rows.{used_sound}

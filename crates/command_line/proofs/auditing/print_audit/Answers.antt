@@ -3,10 +3,8 @@ use Rattle.std.proofs.Common.{◌≡◌, ◌⊎◌, Bool, Err, false, true, ap, 
 use Rattle.std.specs.Prelude.{if◌then◌else◌}
 use Rattle.std.proofs.KnownBytes.{Keeps-refl}
 use Rattle.report_lines.specs.Audit.{is_sound}
-use Rattle.command_line.specs.Faults.{fault_of_bank}
-use Rattle.command_line.specs.declared.fault.CommandFault.TheVariants.{Write}
-use Rattle.command_line.specs.declared.status.Status.{Status}
-use Rattle.command_line.specs.declared.status.Status.TheVariants.{Done, Inconsistent}
+use Rattle.command_line.specs.{Faults.fault_of_bank, declared.fault.CommandFault.TheVariants.Write}
+use Rattle.command_line.specs.declared.status.Status.{Status, TheVariants.Done, TheVariants.Inconsistent}
 use Rattle.command_line.proofs.LoadEnds.{never_write}
 use Rattle.command_line.proofs.auditing.print_audit.Goals as goal
 

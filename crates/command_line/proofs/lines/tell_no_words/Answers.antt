@@ -1,9 +1,7 @@
 -- Words that couldn't be read, though memory was there.
 use Rattle.std.proofs.Common.{◌≡◌, ◌≢◌, refl, rules}
-use Rattle.std.specs.Prelude.{codes}
-use Rattle.std.specs.IoError.{error_kind}
-use Rattle.std.specs.declared.io.ErrorKind.{ErrorKind}
-use Rattle.std.specs.declared.io.ErrorKind.TheVariants.{OutOfMemory}
+use Rattle.std.specs.{Prelude.codes, IoError.error_kind, declared.io.ErrorKind.ErrorKind}
+use Rattle.std.specs.{declared.io.ErrorKind.TheVariants.OutOfMemory}
 use Rattle.command_line.specs.Lines.{line, no_words_line}
 use Rattle.command_line.proofs.Printed.{in_part}
 use Rattle.command_line.proofs.lines.tell_no_words.Goals as goal

@@ -4,8 +4,7 @@ use Rattle.clap.specs.Words.{found_of, rows_of}
 use Rattle.load_driver.specs.declared.drive.TheConstants.{MAX_DRIVEN}
 use Rattle.message_records.specs.declared.limits.TheConstants.{MAX_ACCOUNT}
 use Rattle.command_line.specs.CommandLine.{MAX_REQUESTS, MAX_SEED}
-use Rattle.command_line.specs.Words.{IsNumber}
-use Rattle.command_line.specs.declared.limits.TheConstants.{MAX_CONNECTIONS}
+use Rattle.command_line.specs.{Words.IsNumber, declared.limits.TheConstants.MAX_CONNECTIONS}
 use Rattle.command_line.proofs.Getters.{account_of_statement, after_of_export, drive_read, numbers_of_drive}
 use Rattle.command_line.proofs.Getters.{plan_of_load, requests_of_digest, serve_read, values_of_serve, within_same}
 use Rattle.load_driver.proofs.Listed.{within}

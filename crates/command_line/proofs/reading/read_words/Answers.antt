@@ -2,10 +2,8 @@
 use Rattle.std.proofs.Common.{◌≡◌, ◌∙◌, [], ap, map, rules, subst, sym, List, Some}
 use Rattle.std.proofs.lemmas.Result.{err_from_is_err_and}
 use Rattle.clap.specs.Words.{FailsBy, Text, fault_of, found_of, rows_of, subcommand_of, takes}
-use Rattle.command_line.specs.CommandLine.{bank_app}
-use Rattle.command_line.specs.Words.{IsReadFrom, words_read}
-use Rattle.command_line.proofs.Getters.{met_complete, met_rows}
-use Rattle.command_line.proofs.Help.{help_given, no_help_asked}
+use Rattle.command_line.specs.{CommandLine.bank_app, Words.IsReadFrom, Words.words_read}
+use Rattle.command_line.proofs.{Getters.met_complete, Getters.met_rows, Help.help_given, Help.no_help_asked}
 use Rattle.command_line.proofs.OwnWords.{fails_as_read, same_at_none, taken_as_read}
 use Rattle.command_line.proofs.Spelled.{spelled_at_err, spelled_at_ok}
 use Rattle.command_line.proofs.reading.read_words.Goals as goal

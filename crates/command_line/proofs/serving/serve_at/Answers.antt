@@ -1,7 +1,6 @@
 -- Where it can't be told where the counter listens, nothing is served.
 use Rattle.std.proofs.Common.{rules, ◌≡◌, ap, inl, inr, refl, Err}
-use Rattle.command_line.specs.declared.fault.CommandFault.TheVariants.{Write}
-use Rattle.command_line.specs.Working.{done_after}
+use Rattle.command_line.specs.{declared.fault.CommandFault.TheVariants.Write, Working.done_after}
 use Rattle.command_line.proofs.serving.serve_at.Goals as goal
 
 pub returns-in_err-print_listening-clause-serves : goal.returns-in_err-print_listening-clause-serves
