@@ -5,7 +5,7 @@ use Rattle.clap.specs.Simple.{Shape, built_leaf, inherited, marked_built, new_ap
 use Rattle.clap.specs.Simple.{with_leaf_noted, with_rule}
 use Rattle.command_line.specs.CommandLine.{bank_app, digest_app, drive_app, export_app, file_rule, load_app}
 use Rattle.command_line.specs.CommandLine.{serve_app, statement_app}
-use Rattle.command_line.proofs.Levels.{IsPlainLeaf}
+use Rattle.command_line.proofs.{Levels.IsPlainLeaf, Rows.ArePlainRules}
 
 -- a command of the program with what building adds to it
 abbrev pub leaf_of : Shape → Shape
@@ -52,82 +52,47 @@ pub record IsReadAs (s : Shape) (name : Text) (words : List Text) : Type 0 where
 
 -- ---- their arguments are plain
 
+plain_leaf : (s : Shape) → ArePlainRules s.rules s.rules → s.arg_required_else_help ≡ false
+    → s.subcommand_required ≡ false → s.subcommand_negates_reqs ≡ false → IsPlainLeaf s
+plain_leaf s plain no_help no_subcommand negates =
+    record { plain = plain; no_help = no_help; no_subcommand = no_subcommand; negates = negates }
+
 pub one_is_plain : (name : Text) → IsPlainLeaf (one_file name)
-one_is_plain name = record {
-  plain = ((inl (refl, omega arith), refl, refl), ((inr refl, refl, refl), tt));
-  no_help = refl;
-  no_subcommand = refl;
-  negates = refl;
-}
+one_is_plain name = plain_leaf (one_file name)
+    ((inl (refl, omega arith), refl, refl), ((inr refl, refl, refl), tt)) refl refl refl
 
 pub load_is_plain : IsPlainLeaf two_files
-load_is_plain = record {
-  plain = (
-    (inl (refl, omega arith), refl, refl),
-    ((inl (refl, omega arith), refl, refl), ((inr refl, refl, refl), tt)),
-  );
-  no_help = refl;
-  no_subcommand = refl;
-  negates = refl;
-}
+load_is_plain = plain_leaf two_files (
+  (inl (refl, omega arith), refl, refl),
+  ((inl (refl, omega arith), refl, refl), ((inr refl, refl, refl), tt)),
+) refl refl refl
 
 pub statement_is_plain : IsPlainLeaf file_and_account
-statement_is_plain = record {
-  plain = (
-    (inl (refl, omega arith), refl, refl),
-    ((inl (refl, omega arith), refl, refl), ((inr refl, refl, refl), tt)),
-  );
-  no_help = refl;
-  no_subcommand = refl;
-  negates = refl;
-}
+statement_is_plain = plain_leaf file_and_account (
+  (inl (refl, omega arith), refl, refl),
+  ((inl (refl, omega arith), refl, refl), ((inr refl, refl, refl), tt)),
+) refl refl refl
 
 pub digest_is_plain : IsPlainLeaf file_and_requests
-digest_is_plain = record {
-  plain = (
-    (inl (refl, omega arith), refl, refl),
-    ((inl (refl, omega arith), refl, refl), ((inr refl, refl, refl), tt)),
-  );
-  no_help = refl;
-  no_subcommand = refl;
-  negates = refl;
-}
+digest_is_plain = plain_leaf file_and_requests (
+  (inl (refl, omega arith), refl, refl),
+  ((inl (refl, omega arith), refl, refl), ((inr refl, refl, refl), tt)),
+) refl refl refl
 
 pub export_is_plain : IsPlainLeaf file_and_after
-export_is_plain = record {
-  plain = (
-    (inl (refl, omega arith), refl, refl),
-    ((inl (refl, omega arith), refl, refl), ((inr refl, refl, refl), tt)),
-  );
-  no_help = refl;
-  no_subcommand = refl;
-  negates = refl;
-}
+export_is_plain = plain_leaf file_and_after (
+  (inl (refl, omega arith), refl, refl),
+  ((inl (refl, omega arith), refl, refl), ((inr refl, refl, refl), tt)),
+) refl refl refl
 
 pub drive_is_plain : IsPlainLeaf file_and_numbers
-drive_is_plain = record {
-  plain = (
-    (inl (refl, omega arith), refl, refl),
-    (
-      (inl (refl, omega arith), refl, refl),
-      ((inl (refl, omega arith), refl, refl), ((inr refl, refl, refl), tt)),
-    ),
-  );
-  no_help = refl;
-  no_subcommand = refl;
-  negates = refl;
-}
+drive_is_plain = plain_leaf file_and_numbers (
+  (inl (refl, omega arith), refl, refl),
+  ((inl (refl, omega arith), refl, refl), ((inl (refl, omega arith), refl, refl), ((inr refl, refl, refl), tt))),
+) refl refl refl
 
 pub serve_is_plain : IsPlainLeaf file_and_address
-serve_is_plain = record {
-  plain = (
-    (inl (refl, omega arith), refl, refl),
-    (
-      (inl (refl, omega arith), refl, refl),
-      ((inl (refl, omega arith), refl, refl), ((inr refl, refl, refl), tt)),
-    ),
-  );
-  no_help = refl;
-  no_subcommand = refl;
-  negates = refl;
-}
+serve_is_plain = plain_leaf file_and_address (
+  (inl (refl, omega arith), refl, refl),
+  ((inl (refl, omega arith), refl, refl), ((inl (refl, omega arith), refl, refl), ((inr refl, refl, refl), tt))),
+) refl refl refl
