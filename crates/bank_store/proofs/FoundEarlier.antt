@@ -10,8 +10,8 @@ use Rattle.sqlite_rules.specs.Lists.{Has}
 use Rattle.posting_rules.specs.Commands.{Command, AreCommands}
 use Rattle.posting_rules.specs.Editions.{AreTablesIn, plain}
 use Rattle.posting_rules.specs.Tables.{Tables, AreTablesOf}
-use Rattle.posting_rules.specs.declared.fault.Rule.TheVariants.{Meta, Teller, Account, Balance, Request}
-use Rattle.posting_rules.specs.declared.fault.Rule.TheVariants.{Value, Key, Floor, Reference}
+use Rattle.posting_rules.specs.declared.fault.Rule.TheVariants.{Meta, Teller, Account, Balance, Request, Value, Key}
+use Rattle.posting_rules.specs.declared.fault.Rule.TheVariants.{Floor, Reference}
 use Rattle.posting_rules.specs.declared.limits.TheConstants.{MAX_DECIDED}
 use Rattle.posting_rules.specs.declared.open_fault.OpenFault.{OpenFault}
 use Rattle.posting_rules.specs.declared.open_fault.OpenFault.TheVariants.{Store, NotBlank, Blank, Foreign, Version}
@@ -37,10 +37,8 @@ use Rattle.walked_rows.specs.Rows.{HasStoredRows}
 use Rattle.bank_store.specs.MetaRow.{ChecksCount, ChecksOnly, HasOnlyRow, IsNoCount, IsOfVersion, IsOurs}
 use Rattle.bank_store.specs.MetaRow.{LacksOnlyRow}
 use Rattle.bank_store.specs.Migration.{BankIsMoved, HasEarlier, HasEarlierTables, IsCounted, IsFrom, IsOfEarlier}
-use Rattle.bank_store.specs.Migration.{IsUnmoved, Migrates}
-use Rattle.bank_store.specs.Migration.{Misplaces, MissesEarlier, TellsNoEarlier}
-use Rattle.bank_store.specs.Migration.{IsUncounted, MovesFound, SeeksEarlier, ShowsEarlier, earlier_probes}
-use Rattle.bank_store.specs.declared.migration.Migrated.TheVariants.{Moved}
+use Rattle.bank_store.specs.Migration.{IsUnmoved, Migrates, Misplaces, MissesEarlier, TellsNoEarlier, IsUncounted}
+use Rattle.bank_store.specs.Migration.{MovesFound, SeeksEarlier, ShowsEarlier, earlier_probes}
 use Rattle.bank_store.specs.OpenFaults.{of_the_store}
 use Rattle.bank_store.specs.TablePresence.{IsPresent, Lacks, OneOf}
 use Rattle.bank_store.specs.declared.presence.Presence.{Presence}
@@ -119,24 +117,11 @@ found_moves from old mid new tables same (Err fault) moved why reads = (
   reads_at old mid same new fault reads,
 )
 
--- a version is told of one earlier version
-pub one_version : (told : ℤ) (from other : ℕ) → IsFrom told from → IsFrom told other → from ≡ other
-one_version told from other one two = ap nat_abs (sym one.0 ∙ two.0)
-
 -- its version was looked at first
 module _ (from : ℕ) (old mid new : State) (version : ℤ) (is : IsFrom version from)
     (found : Misses old (Version version) × IsAsBefore old mid) where
   pub was_earlier : IsOfEarlier from old
   was_earlier = (is.1, subst (λ (n : ℤ). Misses old (Version n)) is.0 found.0)
-
-  pub moved_at : MovesFound from mid new (Ok tt) → Migrates old new (Ok (Moved version))
-  moved_at h other told =
-      subst (λ n. IsOfEarlier n old × HasEarlier n old.now × BankIsMoved n old.now new)
-      (one_version version from other is told) (
-        was_earlier,
-        subst (HasEarlier from) found.1.now_is h.0,
-        subst (λ (db : Database). BankIsMoved from db new) found.1.now_is h.1,
-      )
 
   pub unmoved_at : (fault : OpenFault) → MovesFound from mid new (Err fault) → Migrates old new (Err fault)
   unmoved_at fault h = (

@@ -1,5 +1,5 @@
 -- What reads leave of a bank that stands at a log.
-use Rattle.std.proofs.Common.{◌≡◌, List, [], sym, subst, inl, inr, arith}
+use Rattle.std.proofs.Common.{List, [], sym, subst, inl, inr, arith}
 use Rattle.std.specs.Prelude.{IsTrue}
 use Rattle.sqlite.specs.Effect.{Database}
 use Rattle.sqlite.specs.State.{State, HasCleanDisk, Survives}
