@@ -1,14 +1,10 @@
 -- The rule that is told to be broken: what a transaction says of it is what the call says.
 use Rattle.std.proofs.Common.{Option, Err, sym, subst, arith, inl, inr}
-use Rattle.sqlite.specs.State.{HasCleanDisk, Survives}
-use Rattle.sqlite.specs.Held.{Held, state}
+use Rattle.sqlite.specs.{State.HasCleanDisk, State.Survives, Held.Held, Held.state}
 use Rattle.sqlite_trees.specs.declared.store.Store.{Ghosts}
-use Rattle.posting_rules.specs.declared.fault.Fault.{Fault}
-use Rattle.posting_rules.specs.declared.fault.Rule.{Rule}
-use Rattle.posting_rules.specs.Tables.{Tables}
+use Rattle.posting_rules.specs.{declared.fault.Fault.Fault, declared.fault.Rule.Rule, Tables.Tables}
 use Rattle.store_rows.specs.Failures.{Additions}
-use Rattle.store_rows.specs.declared.fault.TableFault.{TableFault}
-use Rattle.store_rows.specs.declared.fault.TableFault.TheVariants.{Sqlite, Damaged}
+use Rattle.store_rows.specs.declared.fault.TableFault.{TableFault, TheVariants.Sqlite, TheVariants.Damaged}
 use Rattle.bank_transactions.specs.Causes.{Damage, IsBrokenOrMet, IsFirstBroken}
 use Rattle.bank_transactions.specs.Doing.{Transacts, TransactsBy}
 use Rattle.bank_transactions.proofs.Blamed.{comes, met_within, same_moment}

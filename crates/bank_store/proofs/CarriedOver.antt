@@ -1,19 +1,14 @@
 -- A bank that is carried over stands at the plain log, and what is known of the answer and of what a refusal leaves.
 use Rattle.std.proofs.Common.{ℕ, pos, List, Ok, Err, refl, ap, subst, ◌∙◌, inl, inr}
-use Rattle.sqlite.specs.Held.{Held, state}
-use Rattle.sqlite.specs.State.{State, HasCleanDisk, Survives}
+use Rattle.sqlite.specs.{Held.Held, Held.state, State.State, State.HasCleanDisk, State.Survives}
 use Rattle.sqlite_trees.specs.declared.store.Store.{Ghosts}
-use Rattle.posting_rules.specs.Commands.{Command}
-use Rattle.posting_rules.specs.Counter.{StandsAt}
-use Rattle.posting_rules.specs.Editions.{plain}
+use Rattle.posting_rules.specs.{Commands.Command, Counter.StandsAt, Editions.plain}
 use Rattle.posting_rules.proofs.Editions.{plain_are_commands}
 use Rattle.bank_store.specs.Migration.{BankIsMoved, HasCarriedOver, HasMoved, IsFromEarlier, IsMigrated, KnowsAnswer}
 use Rattle.bank_store.specs.Migration.{LeavesBank, Migrates, Misplaces, ShowsEarlier}
 use Rattle.bank_store.specs.Seen.{bank_seen, file_of, seen_in}
-use Rattle.bank_store.specs.declared.bank.Bank.{Bank}
-use Rattle.bank_store.specs.declared.migration.Migrated.{Migrated}
+use Rattle.bank_store.specs.declared.{bank.Bank.Bank, migration.Migrated.Migrated, refused.Refused.Refused}
 use Rattle.bank_store.specs.declared.migration.Migrated.TheVariants.{Moved, Already}
-use Rattle.bank_store.specs.declared.refused.Refused.{Refused}
 use Rattle.bank_store.proofs.FoundEarlier.{not_earlier, not_found, not_misplaced, ours_misplaced, plainly}
 use Rattle.bank_store.proofs.FoundEarlier.{same_version, shows_less}
 use Rattle.bank_store.proofs.TakenUp.{still_left, taken_up}

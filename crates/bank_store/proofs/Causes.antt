@@ -2,24 +2,16 @@
 use Rattle.std.proofs.Common.{refl, Bool, Option, Ok, Err, Result, List, ℕ, inl, inr, arith}
 use Rattle.std.specs.Prelude.{IfErr, IsTrue}
 use Rattle.std.proofs.lemmas.Bool.{cases_Bool}
-use Rattle.sqlite.specs.Table.{Table}
-use Rattle.sqlite.specs.Tree.{Trees}
-use Rattle.sqlite.specs.State.{State, HasCleanDisk, Survives}
-use Rattle.sqlite.specs.Held.{Held, state}
-use Rattle.sqlite.specs.Steps.{FailsToCommit}
-use Rattle.sqlite.specs.declared.error.Error.{Error}
+use Rattle.sqlite.specs.{Table.Table, Tree.Trees, State.State, State.HasCleanDisk, State.Survives, Held.Held}
+use Rattle.sqlite.specs.{Held.state, Steps.FailsToCommit, declared.error.Error.Error}
 use Rattle.sqlite.proofs.StateLemmas.{survives_then}
 use Rattle.sqlite_trees.specs.declared.store.Store.{Ghosts}
-use Rattle.store_rows.specs.Calls.{Probes}
-use Rattle.store_rows.specs.Creation.{CreatesBank}
-use Rattle.store_rows.specs.Failures.{Committing, HasReason}
-use Rattle.store_rows.specs.declared.fault.TableFault.{TableFault}
+use Rattle.store_rows.specs.{Calls.Probes, Creation.CreatesBank, Failures.Committing, Failures.HasReason}
+use Rattle.store_rows.specs.{declared.fault.TableFault.TableFault, declared.metas.StoredMeta.StoredMeta}
 use Rattle.store_rows.specs.declared.fault.TableFault.TheVariants.{Sqlite, Damaged as Broken}
 use Rattle.bank_transactions.specs.Causes.{IsBefore}
 use Rattle.bank_transactions.proofs.Blamed.{comes, commit_fails, failed_here, failed_within, same_moment, then_moment}
-use Rattle.store_rows.specs.declared.metas.StoredMeta.{StoredMeta}
-use Rattle.bank_store.specs.MetaRow.{ChecksMeta}
-use Rattle.bank_store.specs.OpenFaults.{of_the_store, unmade_by, unread_by}
+use Rattle.bank_store.specs.{MetaRow.ChecksMeta, OpenFaults.of_the_store, OpenFaults.unmade_by, OpenFaults.unread_by}
 use Rattle.bank_store.specs.StoreFaults.{CallFailed, IsOpenCall, KnowsCause, KnowsWhyUnmade, LooksIn, MakingFailed}
 use Rattle.posting_rules.specs.declared.open_fault.OpenFault.{OpenFault}
 use Rattle.posting_rules.specs.declared.open_fault.OpenFault.TheVariants.{Store, NotBlank, Blank, Foreign, Version}

@@ -1,36 +1,23 @@
 -- A transaction on a connection, as a call of a counter.
-use Rattle.std.proofs.Common.{◌≡◌, List, length, Option, Some, None, Result, Ok, Err, refl, sym, subst, ◌∙◌}
-use Rattle.std.proofs.Common.{arith}
+use Rattle.std.proofs.Common.{◌≡◌, List, length, Option, Some, None, Result, Ok, Err, refl, sym, subst, ◌∙◌, arith}
 use Rattle.std.proofs.Common.{inl, inr}
 use Rattle.std.specs.Prelude.{IsSome}
 use Rattle.std.proofs.Math.Seq.{take-length}
-use Rattle.sqlite.specs.Effect.{Database}
-use Rattle.sqlite.specs.declared.error.Error.{Error}
+use Rattle.sqlite.specs.{Effect.Database, declared.error.Error.Error, Held.Held, Held.state}
 use Rattle.sqlite.specs.State.{State, HasCleanDisk, Survives}
-use Rattle.sqlite.specs.Held.{Held, state}
 use Rattle.sqlite_trees.specs.declared.store.Store.{Ghosts}
 use Rattle.sqlite.proofs.StateLemmas.{survives_then}
-use Rattle.posting_rules.specs.declared.fault.Fault.{Fault}
+use Rattle.posting_rules.specs.{declared.fault.Fault.Fault, declared.fault.Rule.Rule, Runs.behind}
 use Rattle.posting_rules.specs.declared.fault.Fault.TheVariants as told
-use Rattle.posting_rules.specs.declared.fault.Rule.{Rule}
 use Rattle.posting_rules.specs.Commands.{Command, AreCommands}
-use Rattle.posting_rules.specs.Counter.{ShowsLog, ShowsBeginning, Takes, IsCutShort, IsDamaged, Refuses}
-use Rattle.posting_rules.specs.Counter.{TellsDamage}
-use Rattle.posting_rules.specs.Runs.{behind}
-use Rattle.posting_rules.specs.Tables.{Tables}
-use Rattle.posting_rules.specs.Tables.{AreTablesOf as Show}
-use Rattle.posting_rules.proofs.Calls.{IsChange}
-use Rattle.posting_rules.proofs.Sequence.{commands_behind}
-use Rattle.store_rows.specs.View.{Shows}
-use Rattle.store_rows.specs.declared.fault.TableFault.{TableFault}
+use Rattle.posting_rules.specs.Counter.{ShowsLog, ShowsBeginning, Takes, IsCutShort, IsDamaged, Refuses, TellsDamage}
+use Rattle.posting_rules.specs.Tables.{Tables, AreTablesOf as Show}
+use Rattle.posting_rules.proofs.{Calls.IsChange, Sequence.commands_behind}
+use Rattle.store_rows.specs.{View.Shows, declared.fault.TableFault.TableFault, Failures.Committing}
 use Rattle.store_rows.specs.declared.fault.TableFault.TheVariants.{Sqlite, Damaged}
-use Rattle.store_rows.specs.Failures.{Committing}
-use Rattle.bank_transactions.specs.Causes.{Damage, HasFailedBetween}
-use Rattle.bank_transactions.specs.Doing.{MayLeaveAfter, TransactsBy}
+use Rattle.bank_transactions.specs.{Causes.Damage, Causes.HasFailedBetween, Doing.MayLeaveAfter, Doing.TransactsBy}
 use Rattle.bank_transactions.proofs.Blamed.{comes, failed_within, same_moment}
-use Rattle.bank_store.specs.Down.{GoesDown}
-use Rattle.bank_store.specs.NoneOrAll.{LeavesNoneOrAll}
-use Rattle.bank_store.specs.Seen.{error_in, seen_in}
+use Rattle.bank_store.specs.{Down.GoesDown, NoneOrAll.LeavesNoneOrAll, Seen.error_in, Seen.seen_in}
 
 -- what the commands lead to is a beginning of them, and so is what was there
 all_of_them : (t : Tables) (log cs : List Command) → AreCommands (behind log cs) → Show t (behind log cs)

@@ -1,46 +1,35 @@
 -- What is found of a bank, and that nothing is missed where a log is shown.
-use Rattle.std.proofs.Common.{◌≡◌, ◌≤◌, ℕ, ℤ, pos, List, [], ◌∷◌, map, Option, Some, None, Ok, Err}
-use Rattle.std.proofs.Common.{Result, refl, sym, ap, subst, ◌∙◌, inl, inr, arith}
+use Rattle.std.proofs.Common.{◌≡◌, ◌≤◌, ℕ, ℤ, pos, List, [], ◌∷◌, map, Option, Some, None, Ok, Err, Result, refl, sym}
+use Rattle.std.proofs.Common.{ap, subst, ◌∙◌, inl, inr, arith}
 use Rattle.std.specs.Prelude.{◌⊎◌, ◌≢◌, ◌<ℤ◌}
 use Rattle.std.proofs.lemmas.Int.{ints}
-use Rattle.sqlite.specs.Table.{Table}
-use Rattle.sqlite.specs.Effect.{Database}
-use Rattle.sqlite.specs.State.{State}
+use Rattle.sqlite.specs.{Table.Table, Effect.Database, State.State}
 use Rattle.sqlite_rules.specs.Lists.{Has}
-use Rattle.posting_rules.specs.Commands.{Command, AreCommands}
-use Rattle.posting_rules.specs.Damage.{IsUndamaged}
-use Rattle.posting_rules.specs.Tables.{Tables}
-use Rattle.posting_rules.specs.Tables.{AreTablesOf as Show}
-use Rattle.posting_rules.specs.declared.fault.Rule.TheVariants.{Meta, Teller, Account, Balance, Request}
-use Rattle.posting_rules.specs.declared.fault.Rule.TheVariants.{Value, Key, Floor, Reference}
+use Rattle.posting_rules.specs.{Commands.Command, Commands.AreCommands, Damage.IsUndamaged}
+use Rattle.posting_rules.specs.{declared.open_fault.OpenFault.OpenFault, declared.limits.TheConstants.MAX_DECIDED}
+use Rattle.posting_rules.specs.Tables.{Tables, AreTablesOf as Show}
+use Rattle.posting_rules.specs.declared.fault.Rule.TheVariants.{Meta, Teller, Account, Balance, Request, Value, Key}
+use Rattle.posting_rules.specs.declared.fault.Rule.TheVariants.{Floor, Reference}
 use Rattle.posting_rules.proofs.Undamaged.{undamaged}
 use Rattle.sql_meanings.proofs.Contents.{each_defined}
 use Rattle.sql_meanings.specs.Entries.{Entry}
-use Rattle.store_rows.specs.Columns.{meta_in}
-use Rattle.store_rows.specs.Probes.{all_probes, probe_of}
+use Rattle.store_rows.specs.{Columns.meta_in, Probes.all_probes, Probes.probe_of, BankTables.bank_tables}
+use Rattle.store_rows.specs.{Statements.HasOtherValue, View.HoldsRows, View.Shows, View.contents, View.meta_entry}
+use Rattle.store_rows.specs.{declared.metas.StoredMeta.StoredMeta, declared.metas.TheConstants.VERSION}
 use Rattle.store_rows.specs.declared.probes.BankTable.TheVariants as table
 use Rattle.store_rows.specs.BankTables as bank
-use Rattle.store_rows.specs.BankTables.{bank_tables}
-use Rattle.store_rows.specs.Statements.{HasOtherValue}
-use Rattle.store_rows.specs.View.{HoldsRows, Shows, contents, meta_entry}
-use Rattle.store_rows.specs.declared.metas.StoredMeta.{StoredMeta}
 use Rattle.bank_store.specs.Connections.{IsAsBefore, IsReadOnly}
 use Rattle.bank_store.specs.FoundBank.{HasNoOtherVersion, MetaIs, Misses, SeeksBank, SeeksTables, TablesAreFound}
-use Rattle.bank_store.specs.MetaRow.{IsOurs, IsOfVersion, IsNoCount, ChecksMeta, TellsMeta, IsOfOtherType}
-use Rattle.bank_store.specs.MetaRow.{ChecksOnly, HasOnlyRow, LacksOnlyRow}
-use Rattle.bank_store.specs.OpenFaults.{RowIsUnread}
+use Rattle.bank_store.specs.MetaRow.{IsOurs, IsOfVersion, IsNoCount, ChecksMeta, TellsMeta, IsOfOtherType, ChecksOnly}
+use Rattle.bank_store.specs.MetaRow.{HasOnlyRow, LacksOnlyRow}
+use Rattle.bank_store.specs.{OpenFaults.RowIsUnread, declared.presence.Presence.Presence}
 use Rattle.bank_store.specs.TablePresence.{Lacks, IsPresent, IsReadable}
-use Rattle.bank_store.specs.declared.presence.Presence.{Presence}
 use Rattle.bank_store.specs.declared.presence.Presence.TheVariants.{Absent, Partial, Whole}
-use Rattle.posting_rules.specs.declared.open_fault.OpenFault.{OpenFault}
 use Rattle.posting_rules.specs.declared.open_fault.OpenFault.TheVariants.{Store, NotBlank, Blank, Foreign, Version}
 use Rattle.posting_rules.specs.declared.open_fault.OpenFault.TheVariants.{Damaged}
 use Rattle.store_rows.proofs.MetaRow.{has_one}
-use Rattle.store_rows.specs.declared.metas.TheConstants.{VERSION}
 use Rattle.walked_rows.proofs.Shown.{has_meta}
-use Rattle.bank_store.proofs.MetaRow.{other_version}
-use Rattle.bank_store.proofs.Probed.{as_before}
-use Rattle.posting_rules.specs.declared.limits.TheConstants.{MAX_DECIDED}
+use Rattle.bank_store.proofs.{MetaRow.other_version, Probed.as_before}
 
 -- ---- the row of the bank
 

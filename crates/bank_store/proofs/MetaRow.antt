@@ -1,22 +1,16 @@
 -- What the row of the bank tells, and what stands after it was read.
 use Rattle.std.proofs.Common.{◌≡◌, ℤ, Option, Some, Err, refl, sym, ap, subst, ◌∙◌, inl, inr}
 use Rattle.std.specs.Prelude.{◌≢◌}
-use Rattle.sqlite.specs.State.{State, store_error}
-use Rattle.sqlite.specs.declared.error.Error.{Error}
+use Rattle.sqlite.specs.{State.State, State.store_error, declared.error.Error.Error, Effect.Database}
 use Rattle.sqlite_trees.specs.declared.error.StoreError.{StoreError}
 use Rattle.sqlite_trees.specs.declared.error.StoreError.TheVariants as cause
 use Rattle.sql_meanings.specs.StatementAnswers.{IsStoreError}
 use Rattle.store_rows.specs.TableAnswers.{Finds, Never}
-use Rattle.store_rows.specs.declared.fault.TableFault.{TableFault}
+use Rattle.store_rows.specs.{declared.fault.TableFault.TableFault, declared.metas.TheConstants.VERSION}
+use Rattle.store_rows.specs.{declared.metas.StoredMeta.StoredMeta, Statements.TellsOther}
 use Rattle.store_rows.specs.declared.fault.TableFault.TheVariants.{Sqlite, Damaged}
-use Rattle.store_rows.specs.declared.metas.TheConstants.{VERSION}
-use Rattle.store_rows.specs.declared.metas.StoredMeta.{StoredMeta}
-use Rattle.posting_rules.specs.declared.open_fault.OpenFault.{OpenFault}
-use Rattle.posting_rules.specs.declared.open_fault.OpenFault.TheVariants.{Store}
-use Rattle.sqlite.specs.Effect.{Database}
-use Rattle.store_rows.specs.Statements.{TellsOther}
-use Rattle.bank_store.specs.MetaRow.{IsOfOtherType, IsOfVersion, TellsMeta}
-use Rattle.bank_store.specs.OpenFaults.{unread_by}
+use Rattle.posting_rules.specs.declared.open_fault.OpenFault.{OpenFault, TheVariants.Store}
+use Rattle.bank_store.specs.{MetaRow.IsOfOtherType, MetaRow.IsOfVersion, MetaRow.TellsMeta, OpenFaults.unread_by}
 
 by_cause : (c : StoreError) → unread_by (Sqlite (store_error c)) ≡ Store
 by_cause cause.OutOfMemory = refl

@@ -3,35 +3,22 @@ use Rattle.std.proofs.Common.{◌≡◌, ℕ, pos, [], ◌∷◌, true, false, N
 use Rattle.std.proofs.Common.{subst, sym, inl, inr, arith}
 use Rattle.std.specs.Prelude.{IsTrue}
 use Rattle.std.proofs.lemmas.Bool.{cases_Bool}
-use Rattle.sqlite.specs.Effect.{Database}
-use Rattle.sqlite.specs.Held.{Held, state}
-use Rattle.sqlite.specs.State.{State, HasCleanDisk, KeepsCommit, Survives}
-use Rattle.sqlite.specs.State.{Shows as StateShows}
-use Rattle.sqlite.specs.Tree.{Trees}
-use Rattle.sqlite.specs.declared.error.Error.{Error}
-use Rattle.sqlite.proofs.Callers.{survives_begin}
-use Rattle.sqlite.proofs.StateLemmas.{survives_then}
+use Rattle.sqlite.specs.{Effect.Database, Held.Held, Held.state, Tree.Trees, declared.error.Error.Error}
+use Rattle.sqlite.specs.State.{State, HasCleanDisk, KeepsCommit, Survives, Shows as StateShows}
+use Rattle.sqlite.proofs.{Callers.survives_begin, StateLemmas.survives_then}
 use Rattle.sqlite_trees.specs.declared.store.Store.{Ghosts}
 use Rattle.posting_rules.specs.Tables.{Tables}
-use Rattle.posting_rules.specs.declared.open_fault.OpenFault.TheVariants.{Damaged}
-use Rattle.posting_rules.specs.declared.fault.Rule.TheVariants.{Meta}
-use Rattle.sql_meanings.specs.Making.{SparesStanding, Stands}
-use Rattle.sql_meanings.specs.Sparing.{SparesAllBut}
-use Rattle.sql_meanings.specs.Tables.{tree_of}
+use Rattle.posting_rules.specs.declared.{open_fault.OpenFault.TheVariants.Damaged, fault.Rule.TheVariants.Meta}
+use Rattle.sql_meanings.specs.{Making.SparesStanding, Making.Stands, Sparing.SparesAllBut, Tables.tree_of}
 use Rattle.sql_meanings.proofs.Contents.{held}
-use Rattle.store_rows.specs.BankTables.{meta}
-use Rattle.store_rows.specs.Columns.{meta_in}
-use Rattle.store_rows.specs.Failures.{HasFailedAtLast}
+use Rattle.store_rows.specs.{BankTables.meta, Columns.meta_in, Failures.HasFailedAtLast}
+use Rattle.store_rows.specs.{declared.metas.StoredMeta.StoredMeta, declared.metas.TheConstants.VERSION}
 use Rattle.store_rows.specs.Migration.{LackingAreMade, MakesLacking, SetsVersion, ShowsLess}
 use Rattle.store_rows.specs.View.{Shows, ShowsTrees, contents_of, meta_entry, tables_of}
-use Rattle.store_rows.specs.declared.metas.StoredMeta.{StoredMeta}
-use Rattle.store_rows.specs.declared.metas.TheConstants.{VERSION}
 use Rattle.bank_transactions.proofs.Blamed.{comes, same_moment}
 use Rattle.bank_store.specs.Migration.{BankIsMoved, ChangesTables, HasMoved, IsUnmoved, KeepsRows}
-use Rattle.bank_store.specs.OpenFaults.{of_the_store, unmoved_by}
-use Rattle.bank_store.specs.StoreFaults.{KnowsCause}
-use Rattle.bank_store.proofs.FoundEarlier.{meta_there}
-use Rattle.bank_store.proofs.Unmade.{own_error}
+use Rattle.bank_store.specs.{OpenFaults.of_the_store, OpenFaults.unmoved_by, StoreFaults.KnowsCause}
+use Rattle.bank_store.proofs.{FoundEarlier.meta_there, Unmade.own_error}
 
 -- ---- a table isn't made
 

@@ -4,8 +4,7 @@ use Rattle.sqlite.specs.State.{State}
 use Rattle.posting_rules.specs.Counter.{StandsAt}
 use Rattle.posting_rules.proofs.Empty.{empty_shown}
 use Rattle.store_rows.specs.Creation.{new_tables}
-use Rattle.bank_store.specs.NewBank.{BankIsMade}
-use Rattle.bank_store.specs.Seen.{seen_in}
+use Rattle.bank_store.specs.{NewBank.BankIsMade, Seen.seen_in}
 
 pub stands_empty : (old new : State) (D : Type 0) → (D → ⊥) → BankIsMade old new → StandsAt (seen_in new D) []
 stands_empty old new D up made = record {

@@ -2,13 +2,10 @@
 use Rattle.std.proofs.Common.{◌≡◌, ℤ, List, Some, Ok, Err, Result, sym, ap, ◌∙◌, inr}
 use Rattle.sqlite.specs.State.{State}
 use Rattle.sql_meanings.specs.Entries.{Entry}
-use Rattle.posting_rules.specs.declared.limits.TheConstants.{MAX_DECIDED}
-use Rattle.posting_rules.specs.declared.open_fault.OpenFault.{OpenFault}
-use Rattle.store_rows.specs.Columns.{meta_in}
-use Rattle.store_rows.specs.declared.metas.StoredMeta.{StoredMeta}
+use Rattle.posting_rules.specs.declared.{limits.TheConstants.MAX_DECIDED, open_fault.OpenFault.OpenFault}
+use Rattle.store_rows.specs.{Columns.meta_in, declared.metas.StoredMeta.StoredMeta}
 use Rattle.walked_rows.specs.OnlyMeta.{TellsOnly}
-use Rattle.bank_store.specs.Connections.{IsAsBefore}
-use Rattle.bank_store.specs.MetaRow.{ChecksCount, ChecksOnly, OfAnyMeta}
+use Rattle.bank_store.specs.{Connections.IsAsBefore, MetaRow.ChecksCount, MetaRow.ChecksOnly, MetaRow.OfAnyMeta}
 use Rattle.bank_store.proofs.FoundBank.{decided_in, not_outside}
 
 -- it is the only one, with these numbers

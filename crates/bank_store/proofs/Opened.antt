@@ -1,12 +1,8 @@
 -- A connection that was just opened.
 use Rattle.std.proofs.Common.{◌≡◌, ◌∙◌, ℕ, List, sym, ap, subst}
-use Rattle.sqlite.specs.Effect.{Database, IsDatabase}
-use Rattle.sqlite.specs.Schema.{Schema}
-use Rattle.sqlite.specs.State.{State, Opens}
-use Rattle.sqlite.specs.Tree.{Trees}
+use Rattle.sqlite.specs.{Effect.Database, Effect.IsDatabase, Schema.Schema, State.State, State.Opens, Tree.Trees}
 use Rattle.posting_rules.specs.Commands.{Command, AreCommands}
-use Rattle.posting_rules.specs.Counter.{StandsAt}
-use Rattle.posting_rules.specs.Tables.{Tables, AreTablesOf}
+use Rattle.posting_rules.specs.{Counter.StandsAt, Tables.Tables, Tables.AreTablesOf}
 use Rattle.sql_meanings.proofs.Trees.{same_schema}
 use Rattle.store_rows.specs.View.{Shows, ShowsTrees}
 use Rattle.bank_store.specs.Migration.{ShowsEarlier, ShowsEarlierTrees, StandsEarlier}

@@ -1,26 +1,18 @@
 -- What a call leaves of the tables of other products.
 use Rattle.std.proofs.Common.{◌∙◌, Bool, true, false, Option, Ok, Err, refl, arith, inl, inr}
 use Rattle.std.specs.Prelude.{IsSome}
-use Rattle.sqlite.specs.State.{State, HasCleanDisk, Survives}
-use Rattle.sqlite.specs.Held.{Held, state}
-use Rattle.sqlite.specs.Table.{Table}
+use Rattle.sqlite.specs.{State.State, State.HasCleanDisk, State.Survives, Held.Held, Held.state, Table.Table}
 use Rattle.sqlite.proofs.StateLemmas.{survives_then}
 use Rattle.sqlite_trees.specs.declared.store.Store.{Ghosts}
 use Rattle.posting_rules.specs.declared.fault.Fault.{Fault}
 use Rattle.sql_meanings.specs.StatementAnswers.{TellsProbe}
 use Rattle.sql_meanings.proofs.Sparing.{spares_same}
 use Rattle.store_rows.specs.Sparing.{bank_names}
-use Rattle.store_rows.specs.declared.fault.TableFault.{TableFault}
-use Rattle.store_rows.specs.declared.fault.TableFault.TheVariants.{Sqlite, Damaged}
-use Rattle.bank_transactions.specs.Doing.{LeavesOthers, SparesTheirs}
-use Rattle.bank_transactions.specs.Undone.{UndoesFaults}
-use Rattle.bank_store.specs.Connections.{IsAsBefore}
-use Rattle.bank_store.specs.Down.{GoesDown}
+use Rattle.store_rows.specs.declared.fault.TableFault.{TableFault, TheVariants.Sqlite, TheVariants.Damaged}
+use Rattle.bank_transactions.specs.{Doing.LeavesOthers, Doing.SparesTheirs, Undone.UndoesFaults}
+use Rattle.bank_store.specs.{Connections.IsAsBefore, Down.GoesDown, Sparing.SparesOtherTables}
+use Rattle.bank_store.specs.{Walks.IsUntouchedIfOpen, declared.bank.Bank.Bank, SparedTables.spared_itself}
 use Rattle.bank_store.specs.Seen.{bank_seen, connection_of, database_of, fault_of, file_of}
-use Rattle.bank_store.specs.Sparing.{SparesOtherTables}
-use Rattle.bank_store.specs.Walks.{IsUntouchedIfOpen}
-use Rattle.bank_store.specs.declared.bank.Bank.{Bank}
-use Rattle.bank_store.specs.SparedTables.{spared_itself}
 
 -- a call that tried nothing, or read nothing of the file
 pub spares_untouched : {S : Type 0} (g : Ghosts S) (bank : Bank S g) → SparesOtherTables g bank bank

@@ -1,23 +1,16 @@
 -- What the probes tell of several tables, and that nothing has changed.
-use Rattle.std.proofs.Common.{◌≡◌, ◌<◌, ◌+◌, suc, ℕ, Bool, true, false, List, [], ◌∷◌, ◌++◌, length, map}
-use Rattle.std.proofs.Common.{take, get_or, Ok, refl, ap, subst, ◌∙◌, inl, inr, arith}
-use Rattle.std.proofs.Math.Seq.{take-suc}
-use Rattle.std.proofs.lemmas.List.{map-append}
+use Rattle.std.proofs.Common.{◌≡◌, ◌<◌, ◌+◌, suc, ℕ, Bool, true, false, List, [], ◌∷◌, ◌++◌, length, map, take}
+use Rattle.std.proofs.Common.{get_or, Ok, refl, ap, subst, ◌∙◌, inl, inr, arith}
+use Rattle.std.proofs.{Math.Seq.take-suc, lemmas.List.map-append}
 use Rattle.std.specs.List.{AllByRecursion}
-use Rattle.sqlite.specs.Table.{Table}
-use Rattle.sqlite.specs.Effect.{Database}
-use Rattle.sqlite.specs.State.{State, HasCleanDisk}
-use Rattle.sqlite.specs.Held.{Held, state}
+use Rattle.sqlite.specs.{Table.Table, Effect.Database, State.State, State.HasCleanDisk, Held.Held, Held.state}
 use Rattle.sqlite_trees.specs.declared.store.Store.{Ghosts}
 use Rattle.sqlite_rules.specs.Lists.{Has}
 use Rattle.sqlite_trees.proofs.ListLemmas.{all-append}
 use Rattle.sql_meanings.specs.StatementAnswers.{TellsProbe, TellsUnderstood}
-use Rattle.store_rows.specs.Calls.{Probes}
-use Rattle.store_rows.specs.Probes.{probe_of}
-use Rattle.store_rows.specs.declared.probes.BankTable.{BankTable}
-use Rattle.bank_store.specs.declared.presence.Presence.{Presence}
+use Rattle.store_rows.specs.{Calls.Probes, Probes.probe_of, declared.probes.BankTable.BankTable}
+use Rattle.bank_store.specs.{declared.presence.Presence.Presence, Connections.IsAsBefore}
 use Rattle.bank_store.specs.declared.presence.Presence.TheVariants.{Absent, Partial, Whole}
-use Rattle.bank_store.specs.Connections.{IsAsBefore}
 use Rattle.bank_store.specs.TablePresence.{IsReadable, Lacks, OneOf, IsPresent, presence_of, joined}
 
 -- a table, and the statement that reads all its columns

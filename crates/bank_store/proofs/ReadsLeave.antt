@@ -1,15 +1,11 @@
 -- What reads leave of a bank that stands at a log.
 use Rattle.std.proofs.Common.{List, [], sym, subst, inl, inr, arith}
 use Rattle.std.specs.Prelude.{IsTrue}
-use Rattle.sqlite.specs.Effect.{Database}
-use Rattle.sqlite.specs.State.{State, HasCleanDisk, Survives}
-use Rattle.posting_rules.specs.Commands.{Command}
+use Rattle.sqlite.specs.{Effect.Database, State.State, State.HasCleanDisk, State.Survives}
+use Rattle.posting_rules.specs.{Commands.Command, Tables.AreTablesOf}
 use Rattle.posting_rules.specs.Counter.{Seen, ShowsLog, StandsAt, Takes, LeavesOnly}
-use Rattle.posting_rules.specs.Tables.{AreTablesOf}
 use Rattle.store_rows.specs.View.{Shows}
-use Rattle.bank_store.specs.Leaving.{TakesNone}
-use Rattle.bank_store.specs.Seen.{seen_in}
-use Rattle.bank_store.specs.Walks.{IsStill, IsUntouchedIfOpen}
+use Rattle.bank_store.specs.{Leaving.TakesNone, Seen.seen_in, Walks.IsStill, Walks.IsUntouchedIfOpen}
 
 -- where the connection sees what it saw, all stands as it stood
 pub takes_then : (old mid new : State) (D E F : Type 0) → Takes (seen_in old D) (seen_in mid E) []

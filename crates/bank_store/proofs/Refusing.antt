@@ -1,25 +1,18 @@
 -- A call of the bank, as the one record of it: what became of a transaction, or nothing was tried.
-use Rattle.std.proofs.Common.{◌≡◌, List, Option, None, Result, Ok, Err, arith, refl, sym, ap, subst, ◌∙◌, inl}
-use Rattle.std.proofs.Common.{inr}
+use Rattle.std.proofs.Common.{◌≡◌, List, Option, None, Result, Ok, Err, arith, refl, sym, ap, subst, ◌∙◌, inl, inr}
 use Rattle.std.specs.Prelude.{IsSome, ◌≢◌}
-use Rattle.sqlite.specs.State.{State, HasCleanDisk, Survives}
-use Rattle.sqlite.specs.Held.{Held, state}
+use Rattle.sqlite.specs.{State.State, State.HasCleanDisk, State.Survives, Held.Held, Held.state}
 use Rattle.sqlite_trees.specs.declared.store.Store.{Ghosts}
-use Rattle.posting_rules.specs.declared.fault.Fault.{Fault}
+use Rattle.posting_rules.specs.{declared.fault.Fault.Fault, declared.fault.Rule.Rule, Tables.Tables}
 use Rattle.posting_rules.specs.declared.fault.Fault.TheVariants.{Memory, Store, Down, Damaged as Broken}
-use Rattle.posting_rules.specs.declared.fault.Rule.{Rule}
 use Rattle.posting_rules.specs.Commands.{Command, AreCommands}
 use Rattle.posting_rules.specs.Counter.{Refuses, Takes, TellsDamage}
-use Rattle.posting_rules.specs.Tables.{Tables}
 use Rattle.posting_rules.proofs.Calls.{IsChange}
-use Rattle.posting_rules.proofs.CounterCalls.{call_answered, call_refused, call_spared, call_untried}
-use Rattle.posting_rules.proofs.CounterCalls.{unchanged_seen}
+use Rattle.posting_rules.proofs.CounterCalls.{call_answered, call_refused, call_spared, call_untried, unchanged_seen}
 use Rattle.store_rows.specs.Failures.{Additions}
-use Rattle.store_rows.specs.declared.fault.TableFault.{TableFault}
-use Rattle.store_rows.specs.declared.fault.TableFault.TheVariants.{Sqlite, Damaged}
-use Rattle.bank_transactions.specs.Additions.{AnyRow}
+use Rattle.store_rows.specs.declared.fault.TableFault.{TableFault, TheVariants.Sqlite, TheVariants.Damaged}
+use Rattle.bank_transactions.specs.{Additions.AnyRow, Doing.Transacts, Doing.TransactsBy}
 use Rattle.bank_transactions.specs.Causes.{Damage, IsBrokenOrMet, IsFirstBroken}
-use Rattle.bank_transactions.specs.Doing.{Transacts, TransactsBy}
 use Rattle.bank_transactions.proofs.Blamed.{between_also}
 use Rattle.bank_store.specs.Down.{GoesDown, IsBankCall, KeepsCause, OfDamage, WasBrokenOrMet, bank_reason}
 use Rattle.bank_store.specs.Seen.{bank_seen, cause_of, connection_of, database_of, fault_of}

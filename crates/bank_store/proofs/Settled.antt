@@ -1,8 +1,7 @@
 -- A connection that was given back shows what it showed.
 use Rattle.std.proofs.Common.{◌≡◌, Result, Ok, Err, refl, sym, ◌∙◌}
 use Rattle.std.specs.Prelude.{◌≢◌, IsTrue}
-use Rattle.sqlite.specs.State.{State, Fails}
-use Rattle.sqlite.specs.declared.error.Error.{Error}
+use Rattle.sqlite.specs.{State.State, State.Fails, declared.error.Error.Error}
 use Rattle.bank_store.specs.Connections.{IsAsBefore, IsReadOnly, IsUndoneIfOpen}
 use Rattle.posting_rules.specs.declared.open_fault.OpenFault.{OpenFault}
 use Rattle.posting_rules.specs.declared.open_fault.OpenFault.TheVariants.{Store, NotBlank, Blank, Foreign, Version}

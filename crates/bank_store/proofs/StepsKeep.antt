@@ -1,8 +1,6 @@
 -- What several steps of a walk leave of a connection.
 use Rattle.std.proofs.Common.{List, sym, subst, ◌∙◌, IsTrue}
-use Rattle.sqlite.specs.Table.{Table}
-use Rattle.sqlite.specs.Effect.{Database}
-use Rattle.sqlite.specs.State.{State, Survives}
+use Rattle.sqlite.specs.{Table.Table, Effect.Database, State.State, State.Survives}
 use Rattle.sqlite.proofs.StateLemmas.{survives_then}
 use Rattle.walked_rows.specs.Pairs.{HasPairs, Pair}
 use Rattle.bank_store.specs.Walks.{IsUntouchedIfOpen, IsStill}

@@ -1,17 +1,11 @@
 -- What is shown over a connection that is given back, in a bank or alone, and what a stop leaves of it.
 use Rattle.std.proofs.Common.{List, sym, subst, inl, inr}
-use Rattle.sqlite.specs.Held.{Held, state}
-use Rattle.sqlite.specs.State.{State, HasCleanDisk, Survives}
-use Rattle.sqlite.specs.Tree.{Trees}
+use Rattle.sqlite.specs.{Held.Held, Held.state, State.State, State.HasCleanDisk, State.Survives, Tree.Trees}
 use Rattle.sqlite_trees.specs.declared.store.Store.{Ghosts}
-use Rattle.posting_rules.specs.Commands.{Command}
-use Rattle.posting_rules.specs.Counter.{LeavesOnly, ShowsLog}
-use Rattle.posting_rules.specs.Tables.{Tables}
+use Rattle.posting_rules.specs.{Commands.Command, Counter.LeavesOnly, Counter.ShowsLog, Tables.Tables}
 use Rattle.store_rows.specs.View.{Shows}
-use Rattle.bank_store.specs.Connections.{IsAsBefore, conn_seen}
-use Rattle.bank_store.specs.FoundBank.{BankIsFound, IsTakenUp}
-use Rattle.bank_store.specs.Seen.{bank_seen, file_of, seen_in}
-use Rattle.bank_store.specs.declared.bank.Bank.{Bank}
+use Rattle.bank_store.specs.{Connections.IsAsBefore, Connections.conn_seen, FoundBank.BankIsFound}
+use Rattle.bank_store.specs.{FoundBank.IsTakenUp, Seen.bank_seen, Seen.file_of, Seen.seen_in, declared.bank.Bank.Bank}
 
 module _ (old new : State) (D E : Type 0) where
   still_shown : (log : List Command) → IsAsBefore old new → ShowsLog (seen_in old D) log

@@ -1,10 +1,7 @@
 -- Why no bank can be made.
 use Rattle.std.proofs.Common.{◌≡◌, ℕ, List, true, Ok, Err, Result, refl, ap, subst, ◌∙◌, inl, inr}
 use Rattle.std.specs.Prelude.{IfErr, IsSome}
-use Rattle.sqlite.specs.Table.{Table}
-use Rattle.sqlite.specs.Effect.{Database}
-use Rattle.sqlite.specs.State.{State, store_error}
-use Rattle.sqlite.specs.declared.error.Error.{Error}
+use Rattle.sqlite.specs.{Table.Table, Effect.Database, State.State, State.store_error, declared.error.Error.Error}
 use Rattle.sqlite_trees.specs.declared.error.StoreError.{StoreError}
 use Rattle.sqlite_trees.specs.declared.error.StoreError.TheVariants.{OutOfMemory, Io, Corrupt, Full, Broken}
 use Rattle.sqlite_trees.specs.declared.error.StoreError.TheVariants.{Unstorable}
@@ -15,13 +12,11 @@ use Rattle.store_rows.specs.Creation.{CreatesBank, IsEmpty, TablesAreMade, Refus
 use Rattle.store_rows.specs.Probes.{all_probes, probe_of}
 use Rattle.store_rows.specs.declared.probes.BankTable.TheVariants as table
 use Rattle.store_rows.proofs.EmptyFile.{refused_on_nothing}
-use Rattle.bank_store.specs.NewBank.{IsRefusedOnTheWay, IsTaken}
+use Rattle.bank_store.specs.{NewBank.IsRefusedOnTheWay, NewBank.IsTaken, declared.presence.Presence.Presence}
 use Rattle.bank_store.specs.OpenFaults.{of_the_store, unmade_by}
 use Rattle.bank_store.specs.TablePresence.{IsReadable, OneOf, IsPresent}
-use Rattle.bank_store.specs.declared.presence.Presence.{Presence}
 use Rattle.bank_store.specs.declared.presence.Presence.TheVariants.{Absent, Partial, Whole}
-use Rattle.posting_rules.specs.declared.open_fault.OpenFault.{OpenFault}
-use Rattle.posting_rules.specs.declared.open_fault.OpenFault.TheVariants.{NotBlank}
+use Rattle.posting_rules.specs.declared.open_fault.OpenFault.{OpenFault, TheVariants.NotBlank}
 
 -- what the store names is its own
 pub own_error : (cause : StoreError) → of_the_store (store_error cause) ≡ true

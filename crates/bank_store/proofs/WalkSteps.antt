@@ -1,19 +1,14 @@
 -- What a step of a walk gives, of what was read ahead.
-use Rattle.std.proofs.Common.{◌≡◌, ◌≤◌, ◌≤ℤ◌, ◌+ℤ◌, ◌+◌, pos, subst, ℕ, ℤ, zero, suc, List, [], ◌∷◌, ◌++◌}
-use Rattle.std.proofs.Common.{map, drop, length, slice_get, Some, None, Option, Result, Ok, Err, refl, sym, ap, ◌∙◌, arith}
-use Rattle.posting_rules.specs.declared.fault.Fault.{Fault}
+use Rattle.std.proofs.Common.{◌≡◌, ◌≤◌, ◌≤ℤ◌, ◌+ℤ◌, ◌+◌, pos, subst, ℕ, ℤ, zero, suc, List, [], ◌∷◌, ◌++◌, map, drop}
+use Rattle.std.proofs.Common.{length, slice_get, Some, None, Option, Result, Ok, Err, refl, sym, ap, ◌∙◌, arith}
+use Rattle.posting_rules.specs.declared.fault.{Fault.Fault, Rule.Rule}
 use Rattle.posting_rules.specs.declared.fault.Fault.TheVariants as fault
-use Rattle.posting_rules.specs.declared.fault.Rule.{Rule}
 use Rattle.sqlite.specs.declared.error.Error.{Error}
-use Rattle.store_rows.specs.declared.fault.TableFault.{TableFault}
-use Rattle.store_rows.specs.declared.fault.TableFault.TheVariants.{Sqlite, Damaged}
-use Rattle.walked_rows.specs.StepOutcomes.{BreaksFirst}
-use Rattle.walked_rows.specs.Rising.{RisesFrom}
+use Rattle.store_rows.specs.declared.fault.TableFault.{TableFault, TheVariants.Sqlite, TheVariants.Damaged}
+use Rattle.walked_rows.specs.{StepOutcomes.BreaksFirst, Rising.RisesFrom, Rows.items_behind, Rows.items_from}
 use Rattle.walked_rows.proofs.Rises.{from_lower}
-use Rattle.walked_rows.specs.Rows.{items_behind, items_from}
-use Rattle.bank_store.specs.Walks.{TellsFault}
+use Rattle.bank_store.specs.{Walks.TellsFault, declared.walks.Stage.Stage}
 use Rattle.bank_store.specs.Walking.{IsToldFault, Steps, coming}
-use Rattle.bank_store.specs.declared.walks.Stage.{Stage}
 use Rattle.bank_store.specs.declared.walks.Stage.TheVariants.{Going, Ended, Failed}
 
 -- what is told of a fault is the walk's fault

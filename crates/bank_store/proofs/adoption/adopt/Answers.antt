@@ -1,11 +1,9 @@
 -- What the found bank shows is what was shown. A bank that shows a log is missed only where the store failed.
 use Rattle.std.proofs.Common.{sym, subst}
 use Rattle.std.specs.Prelude.{IsSome}
-use Rattle.sqlite.specs.State.{HasCleanDisk, Survives}
-use Rattle.sqlite.specs.Held.{state}
+use Rattle.sqlite.specs.{State.HasCleanDisk, State.Survives, Held.state}
 use Rattle.bank_store.specs.FoundBank.{BankIsFound}
-use Rattle.bank_store.proofs.FoundBank.{known}
-use Rattle.bank_store.proofs.Settled.{as_it_was, undone_if_open}
+use Rattle.bank_store.proofs.{FoundBank.known, Settled.as_it_was, Settled.undone_if_open}
 use Rattle.bank_store.proofs.TakenUp.{still_left, taken_up}
 use Rattle.bank_store.proofs.adoption.adopt.Goals as goal
 

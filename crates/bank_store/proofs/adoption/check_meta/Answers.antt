@@ -3,8 +3,7 @@ use Rattle.std.proofs.Common.{◌≡◌, ℤ, Some, Ok, Err, Result, rules, sym,
 use mir.Val.{to_z, of_z}
 use mir.Syntax.{w64}
 use Rattle.posting_rules.specs.declared.open_fault.OpenFault.{OpenFault}
-use Rattle.store_rows.specs.declared.metas.StoredMeta.{StoredMeta}
-use Rattle.store_rows.specs.declared.metas.TheConstants.{VERSION}
+use Rattle.store_rows.specs.declared.metas.{StoredMeta.StoredMeta, TheConstants.VERSION}
 use Rattle.bank_store.specs.MetaRow.{ChecksCount, ChecksMeta}
 use Rattle.bank_store.proofs.MetaRow.{other_version}
 use Rattle.bank_store.proofs.adoption.check_meta.Goals as goal

@@ -3,12 +3,9 @@ use Rattle.std.proofs.Common.{◌≡◌, Some, None, Err, Result, rules, refl, s
 use Rattle.sqlite.specs.Held.{state}
 use Rattle.store_rows.specs.Probes.{all_probes}
 use Rattle.posting_rules.specs.declared.fault.Rule.TheVariants.{Meta}
-use Rattle.bank_store.specs.Connections.{IsAsBefore}
+use Rattle.bank_store.specs.{Connections.IsAsBefore, TablePresence.IsPresent, declared.presence.Presence.Presence}
 use Rattle.bank_store.specs.FoundBank.{Misses, SeeksTables}
-use Rattle.bank_store.specs.TablePresence.{IsPresent}
-use Rattle.bank_store.specs.declared.presence.Presence.{Presence}
-use Rattle.posting_rules.specs.declared.open_fault.OpenFault.{OpenFault}
-use Rattle.posting_rules.specs.declared.open_fault.OpenFault.TheVariants.{Damaged}
+use Rattle.posting_rules.specs.declared.open_fault.OpenFault.{OpenFault, TheVariants.Damaged}
 use Rattle.bank_store.proofs.Causes.{checks_known, looks_then, still_clean}
 use Rattle.bank_store.proofs.FoundBank.{looked, missed}
 use Rattle.bank_store.proofs.adoption.find_tables.Goals as goal

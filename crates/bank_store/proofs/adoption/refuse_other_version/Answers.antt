@@ -3,16 +3,11 @@ use Rattle.std.proofs.Common.{◌≡◌, map, [], ◌∷◌, Err, rules, sym, ap
 use Rattle.sqlite.specs.Held.{state}
 use mir.Val.{to_z, of_z}
 use mir.Syntax.{w64}
-use Rattle.bank_store.specs.Connections.{IsAsBefore}
-use Rattle.bank_store.specs.StoreFaults.{KnowsCause}
-use Rattle.bank_store.specs.TablePresence.{IsPresent}
-use Rattle.store_rows.specs.Probes.{probe_of}
-use Rattle.store_rows.specs.declared.probes.BankTable.TheVariants.{Meta}
-use Rattle.bank_store.specs.declared.presence.Presence.{Presence}
-use Rattle.posting_rules.specs.declared.open_fault.OpenFault.{OpenFault}
-use Rattle.posting_rules.specs.declared.open_fault.OpenFault.TheVariants.{Store}
-use Rattle.bank_store.proofs.Causes.{looks_then, still_clean}
-use Rattle.bank_store.proofs.FoundBank.{other_read}
+use Rattle.bank_store.specs.{Connections.IsAsBefore, StoreFaults.KnowsCause, TablePresence.IsPresent}
+use Rattle.bank_store.specs.{declared.presence.Presence.Presence}
+use Rattle.store_rows.specs.{Probes.probe_of, declared.probes.BankTable.TheVariants.Meta}
+use Rattle.posting_rules.specs.declared.open_fault.OpenFault.{OpenFault, TheVariants.Store}
+use Rattle.bank_store.proofs.{Causes.looks_then, Causes.still_clean, FoundBank.other_read}
 use Rattle.bank_store.proofs.adoption.refuse_other_version.Goals as goal
 
 pub returns-in-Ok-Some-clause-told : goal.returns-in-Ok-Some-clause-told

@@ -1,10 +1,7 @@
 -- What the row of the bank tells.
 use Rattle.std.proofs.Common.{◌≡◌, true, rules}
-use Rattle.sqlite.specs.State.{HasCleanDisk}
-use Rattle.sqlite.specs.Held.{state}
-use Rattle.store_rows.specs.Columns.{meta_in}
-use Rattle.store_rows.specs.BankTables.{meta}
-use Rattle.store_rows.specs.View.{HoldsRows}
+use Rattle.sqlite.specs.{State.HasCleanDisk, Held.state}
+use Rattle.store_rows.specs.{Columns.meta_in, BankTables.meta, View.HoldsRows}
 use Rattle.bank_transactions.specs.Causes.{IsBefore}
 use Rattle.bank_transactions.proofs.Blamed.{comes}
 use Rattle.bank_store.specs.OpenFaults.{unread_by}

@@ -1,16 +1,11 @@
 -- What is found of a bank of an earlier version.
 use Rattle.std.proofs.Common.{◌≡◌, ◌+◌, ℕ, List, ◌∷◌, map, take, drop, Err, rules, sym, ◌∙◌, ap, subst}
-use Rattle.sqlite.specs.Held.{state}
-use Rattle.sqlite.specs.State.{State}
-use Rattle.store_rows.specs.Probes.{all_tables, probe_of}
-use Rattle.store_rows.specs.declared.probes.BankTable.{BankTable}
+use Rattle.sqlite.specs.{Held.state, State.State}
+use Rattle.store_rows.specs.{Probes.all_tables, Probes.probe_of, declared.probes.BankTable.BankTable}
 use Rattle.store_rows.specs.declared.probes.BankTable.TheVariants as table
-use Rattle.bank_store.specs.Connections.{IsAsBefore}
+use Rattle.bank_store.specs.{Connections.IsAsBefore, TablePresence.IsPresent, declared.presence.Presence.Presence}
 use Rattle.bank_store.specs.Migration.{MissesEarlier, earlier_probes}
-use Rattle.bank_store.specs.TablePresence.{IsPresent}
-use Rattle.bank_store.specs.declared.presence.Presence.{Presence}
-use Rattle.bank_store.proofs.Causes.{looks_then, still_clean}
-use Rattle.bank_store.proofs.FoundBank.{missed}
+use Rattle.bank_store.proofs.{Causes.looks_then, Causes.still_clean, FoundBank.missed}
 use Rattle.bank_store.proofs.FoundEarlier.{counted, meta_first, some_lacking}
 use Rattle.bank_store.proofs.migration.find_earlier.Goals as goal
 

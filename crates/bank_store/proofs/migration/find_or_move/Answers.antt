@@ -3,16 +3,12 @@ use Rattle.std.proofs.Common.{◌≡◌, ℕ, ℤ, Err, Result, rules, subst}
 use Rattle.std.specs.Prelude.{IfErr}
 use mir.Val.{to_z, of_z}
 use mir.Syntax.{w64}
-use Rattle.sqlite.specs.State.{HasCleanDisk, Survives}
-use Rattle.sqlite.specs.Held.{Held, state}
+use Rattle.sqlite.specs.{State.HasCleanDisk, State.Survives, Held.Held, Held.state}
 use Rattle.sqlite_trees.specs.declared.store.Store.{Ghosts}
-use Rattle.posting_rules.specs.declared.open_fault.OpenFault.{OpenFault}
-use Rattle.posting_rules.specs.declared.open_fault.OpenFault.TheVariants.{Version}
-use Rattle.bank_store.specs.FoundBank.{SeeksBank}
+use Rattle.posting_rules.specs.declared.open_fault.OpenFault.{OpenFault, TheVariants.Version}
+use Rattle.bank_store.specs.{FoundBank.SeeksBank, StoreFaults.IsOpenCall, StoreFaults.KnowsCause}
 use Rattle.bank_store.specs.Migration.{HasCarriedOver, HasMoved, IsFrom}
-use Rattle.bank_store.specs.StoreFaults.{IsOpenCall, KnowsCause}
-use Rattle.bank_store.proofs.Causes.{call_then, still_clean}
-use Rattle.bank_store.proofs.FoundEarlier.{unmoved_at, was_earlier}
+use Rattle.bank_store.proofs.{Causes.call_then, Causes.still_clean, FoundEarlier.unmoved_at, FoundEarlier.was_earlier}
 use Rattle.bank_store.proofs.migration.find_or_move.Goals as goal
 
 -- a bank is moved behind a look at its version

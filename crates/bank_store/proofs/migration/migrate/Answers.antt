@@ -1,7 +1,6 @@
 -- The bank that was found, carried over or not, and what is known where there is none.
 use Rattle.std.proofs.Common.{Ok, sym, subst}
-use Rattle.sqlite.specs.State.{HasCleanDisk, Survives}
-use Rattle.sqlite.specs.Held.{state}
+use Rattle.sqlite.specs.{State.HasCleanDisk, State.Survives, Held.state}
 use Rattle.bank_store.specs.Migration.{HasCarriedOver, Migrates}
 use Rattle.bank_store.proofs.CarriedOver.{is_migrated, knows_migrated, knows_refused, leaves_bank}
 use Rattle.bank_store.proofs.Settled.{as_it_was, undone_if_open}

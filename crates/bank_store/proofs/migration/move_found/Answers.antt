@@ -1,12 +1,10 @@
 -- What is found is moved, where the row of the bank is the only row of `meta`.
 use Rattle.std.proofs.Common.{◌≡◌, pos, Err, arith, refl, rules, subst, to_z, w64}
-use Rattle.sqlite.specs.Effect.{Database}
-use Rattle.sqlite.specs.Held.{state}
+use Rattle.sqlite.specs.{Effect.Database, Held.state}
 use Rattle.store_rows.proofs.Lookups.{as_integer}
 use Rattle.bank_store.specs.Migration.{HasMoved}
-use Rattle.bank_store.proofs.Causes.{call_then, still_clean}
+use Rattle.bank_store.proofs.{Causes.call_then, Causes.still_clean, Probed.as_before}
 use Rattle.bank_store.proofs.FoundEarlier.{found_moves, not_only, with_only}
-use Rattle.bank_store.proofs.Probed.{as_before}
 use Rattle.bank_store.proofs.migration.move_found.Goals as goal
 
 pub returns-in_err-check_only : goal.returns-in_err-check_only

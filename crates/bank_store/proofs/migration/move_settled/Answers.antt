@@ -2,12 +2,10 @@
 -- failed.
 use Rattle.std.proofs.Common.{Err, sym, ◌∙◌}
 use Rattle.sqlite.specs.Held.{state}
-use Rattle.store_rows.specs.Probes.{probe_of}
-use Rattle.store_rows.specs.declared.probes.BankTable.TheVariants.{Meta}
+use Rattle.store_rows.specs.{Probes.probe_of, declared.probes.BankTable.TheVariants.Meta}
 use Rattle.bank_store.specs.Migration.{HasMoved}
 use Rattle.bank_store.proofs.Causes.{fails_then, still_answers, still_clean}
-use Rattle.bank_store.proofs.Probed.{as_before, probed}
-use Rattle.bank_store.proofs.Settled.{back, read_only}
+use Rattle.bank_store.proofs.{Probed.as_before, Probed.probed, Settled.back, Settled.read_only}
 use Rattle.bank_store.proofs.migration.move_settled.Goals as goal
 
 pub returns-in_default-probe_table-clause-moves : goal.returns-in_default-probe_table-clause-moves

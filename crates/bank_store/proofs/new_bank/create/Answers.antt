@@ -2,16 +2,11 @@
 -- store.
 use Rattle.std.proofs.Common.{sym, subst, inl, inr}
 use Rattle.std.specs.Prelude.{IsSome}
-use Rattle.sqlite.specs.State.{HasCleanDisk, Survives}
-use Rattle.sqlite.specs.Held.{state}
-use Rattle.store_rows.specs.Creation.{HasNewBank}
-use Rattle.store_rows.specs.Probes.{all_probes}
-use Rattle.bank_store.specs.NewBank.{BankIsMade}
-use Rattle.bank_store.specs.TablePresence.{IsPresent}
-use Rattle.bank_store.specs.declared.presence.Presence.TheVariants.{Absent}
-use Rattle.bank_store.proofs.FoundBank.{no_bank}
-use Rattle.bank_store.proofs.Unmade.{not_taken}
-use Rattle.bank_store.proofs.NewBank.{stands_empty}
+use Rattle.sqlite.specs.{State.HasCleanDisk, State.Survives, Held.state}
+use Rattle.store_rows.specs.{Creation.HasNewBank, Probes.all_probes}
+use Rattle.bank_store.specs.{NewBank.BankIsMade, TablePresence.IsPresent}
+use Rattle.bank_store.specs.{declared.presence.Presence.TheVariants.Absent}
+use Rattle.bank_store.proofs.{FoundBank.no_bank, Unmade.not_taken, NewBank.stands_empty}
 use Rattle.bank_store.proofs.new_bank.create.Goals as goal
 
 pub returns-in-Ok : goal.returns-in-Ok

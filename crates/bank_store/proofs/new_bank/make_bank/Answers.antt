@@ -1,18 +1,13 @@
 -- None of the tables was there.
 use Rattle.std.proofs.Common.{◌≡◌, Ok, Err, Result, rules, arith, subst, inl, inr}
 use Rattle.std.specs.Prelude.{OnOk}
-use Rattle.sqlite.specs.State.{HasCleanDisk}
-use Rattle.sqlite.specs.Held.{state}
+use Rattle.sqlite.specs.{State.HasCleanDisk, Held.state}
 use Rattle.store_rows.specs.Probes.{all_probes}
 use Rattle.bank_transactions.proofs.Blamed.{comes, same_moment}
-use Rattle.bank_store.specs.Connections.{IsAsBefore}
-use Rattle.bank_store.specs.NewBank.{IsRefusedOnTheWay, IsTaken, LeavesAll}
-use Rattle.bank_store.specs.StoreFaults.{KnowsWhyUnmade}
-use Rattle.bank_store.specs.TablePresence.{IsPresent}
+use Rattle.bank_store.specs.{Connections.IsAsBefore, NewBank.IsRefusedOnTheWay, NewBank.IsTaken, NewBank.LeavesAll}
+use Rattle.bank_store.specs.{StoreFaults.KnowsWhyUnmade, TablePresence.IsPresent, declared.presence.Presence.Presence}
 use Rattle.posting_rules.specs.declared.open_fault.OpenFault.TheVariants.{NotBlank}
-use Rattle.bank_store.specs.declared.presence.Presence.{Presence}
-use Rattle.bank_store.proofs.Causes.{unmade_as_known, unmade_within}
-use Rattle.bank_store.proofs.Probed.{as_before}
+use Rattle.bank_store.proofs.{Causes.unmade_as_known, Causes.unmade_within, Probed.as_before}
 use Rattle.bank_store.proofs.Unmade.{if_err, refused_before, some_there}
 use Rattle.bank_store.proofs.new_bank.make_bank.Goals as goal
 

@@ -1,11 +1,9 @@
 -- Why the tables aren't made.
 use Rattle.std.proofs.Common.{◌≡◌, true, rules, arith, refl, sym, subst, ap, inl}
-use Rattle.sqlite.specs.State.{HasCleanDisk}
-use Rattle.sqlite.specs.Held.{state}
+use Rattle.sqlite.specs.{State.HasCleanDisk, Held.state}
 use Rattle.bank_transactions.specs.Causes.{IsBefore}
 use Rattle.bank_transactions.proofs.Blamed.{comes, same_moment, then_moment}
-use Rattle.bank_store.specs.NewBank.{IsRefusedOnTheWay}
-use Rattle.bank_store.specs.OpenFaults.{unmade_by}
+use Rattle.bank_store.specs.{NewBank.IsRefusedOnTheWay, OpenFaults.unmade_by}
 use Rattle.posting_rules.specs.declared.open_fault.OpenFault.TheVariants.{Store}
 use Rattle.bank_store.proofs.Causes.{begun_after, commit_failed, making_failed, still_clean, unmade_within}
 use Rattle.bank_store.proofs.Unmade.{refused_because}

@@ -1,11 +1,8 @@
 -- How many there are of those so far, and everything is as it was.
 use Rattle.std.proofs.Common.{◌∷◌, map, take, Ok}
-use Rattle.sqlite.specs.State.{HasCleanDisk}
-use Rattle.sqlite.specs.Held.{state}
-use Rattle.bank_store.specs.Connections.{IsAsBefore}
+use Rattle.sqlite.specs.{State.HasCleanDisk, Held.state}
+use Rattle.bank_store.specs.{Connections.IsAsBefore, StoreFaults.LooksIn, TablePresence.IsPresent}
 use Rattle.store_rows.specs.Probes.{probe_of}
-use Rattle.bank_store.specs.StoreFaults.{LooksIn}
-use Rattle.bank_store.specs.TablePresence.{IsPresent}
 use Rattle.bank_store.proofs.presence.count_tables.Given as goal
 
 abbrev pub invariant-loop-table : goal.invariant-loop-table

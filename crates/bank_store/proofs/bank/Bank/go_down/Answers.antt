@@ -1,8 +1,7 @@
 -- How the bank goes down where the store doesn't answer, and that its file is as it was.
 use Rattle.std.proofs.Common.{refl, rules}
 use Rattle.sqlite.specs.Held.{state}
-use Rattle.bank_store.proofs.OtherTables.{probe_unchanged}
-use Rattle.bank_store.proofs.Settled.{back}
+use Rattle.bank_store.proofs.{OtherTables.probe_unchanged, Settled.back}
 use Rattle.bank_store.proofs.bank.Bank.go_down.Goals as goal
 
 pub returns-in-Err-clause-down : goal.returns-in-Err-clause-down

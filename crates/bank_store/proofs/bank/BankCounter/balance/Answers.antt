@@ -2,16 +2,12 @@
 use Rattle.std.proofs.Common.{[], ◌∙◌}
 use Rattle.std.proofs.lemmas.Result.{err_from_is_err_and}
 use Rattle.std.specs.Prelude.{IsSome}
-use Rattle.posting_rules.proofs.Calls.{stays}
-use Rattle.posting_rules.proofs.Looked.{balance_shown}
-use Rattle.posting_rules.proofs.Stepping.{sound_tables}
-use Rattle.bank_store.proofs.Countered.{takes}
-use Rattle.bank_store.proofs.Causes.{still_clean}
+use Rattle.posting_rules.proofs.{Calls.stays, Looked.balance_shown, Stepping.sound_tables}
+use Rattle.bank_store.proofs.{Countered.takes, Causes.still_clean, bank.BankCounter.balance.Given.Over}
 use Rattle.bank_store.proofs.OtherTables.{spares_done, spares_down, spares_untouched}
 use Rattle.bank_store.proofs.Refusing.{answered_call, consult_refused, refused_call, untried_call, Refusal}
 use Rattle.bank_transactions.specs.Causes.{IsFirstBroken}
 use Rattle.bank_transactions.proofs.Blamed.{comes}
-use Rattle.bank_store.proofs.bank.BankCounter.balance.Given.{Over}
 use Rattle.bank_store.proofs.bank.BankCounter.balance.Goals as goal
 
 -- what its refusal says

@@ -2,18 +2,13 @@
 use Rattle.std.proofs.Common.{◌≡◌, [], ◌∙◌}
 use Rattle.std.specs.Prelude.{IsSome}
 use Rattle.std.proofs.lemmas.Result.{err_from_is_err_and}
-use Rattle.posting_rules.proofs.Calls.{stays}
-use Rattle.posting_rules.proofs.NextBranch.{next_shown}
-use Rattle.posting_rules.proofs.Stepping.{sound_tables}
+use Rattle.posting_rules.proofs.{Calls.stays, NextBranch.next_shown, Stepping.sound_tables}
 use Rattle.store_rows.specs.Columns.{branch_above}
-use Rattle.bank_store.proofs.Causes.{still_clean}
-use Rattle.bank_store.proofs.Countered.{takes}
+use Rattle.bank_store.proofs.{Causes.still_clean, Countered.takes, bank.BankCounter.next_branch.Given.Over}
 use Rattle.bank_store.proofs.OtherTables.{spares_done, spares_down, spares_untouched}
 use Rattle.bank_store.proofs.Refusing.{answered_call, consult_refused, refused_call, untried_call, Refusal}
-use Rattle.bank_transactions.specs.NextBranch.{line_above}
+use Rattle.bank_transactions.specs.{NextBranch.line_above, Causes.IsFirstBroken}
 use Rattle.bank_transactions.proofs.NextRow.{next_is}
-use Rattle.bank_transactions.specs.Causes.{IsFirstBroken}
-use Rattle.bank_store.proofs.bank.BankCounter.next_branch.Given.{Over}
 use Rattle.bank_store.proofs.bank.BankCounter.next_branch.Goals as goal
 
 -- what its refusal says

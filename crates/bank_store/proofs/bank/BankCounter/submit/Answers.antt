@@ -2,21 +2,14 @@
 use Rattle.std.proofs.Common.{◌≡◌, [], ◌∷◌, Ok, Result, rules, sym, subst, ◌∙◌}
 use Rattle.std.proofs.lemmas.Result.{err_from_is_err_and}
 use Rattle.std.specs.Prelude.{IsSome}
-use Rattle.message_records.specs.Reading.{request_of}
-use Rattle.message_records.specs.Records.{RequestFields}
-use Rattle.message_records.specs.declared.fault.Bad.{Bad}
-use Rattle.bank_transactions.specs.Stored.{RepliesToStored}
+use Rattle.message_records.specs.{Reading.request_of, Records.RequestFields, declared.fault.Bad.Bad}
+use Rattle.bank_transactions.specs.{Stored.RepliesToStored, Additions.AddsForRecords, Causes.IsBrokenOrMet}
 use Rattle.bank_store.specs.Seen.{database_of}
 use Rattle.posting_rules.specs.Commands.{Post, AreCommands}
-use Rattle.posting_rules.proofs.Calls.{posts, replies}
-use Rattle.posting_rules.proofs.Stepping.{sound_tables}
-use Rattle.bank_store.proofs.Causes.{still_clean}
-use Rattle.bank_store.proofs.Countered.{takes}
+use Rattle.posting_rules.proofs.{Calls.posts, Calls.replies, Stepping.sound_tables}
+use Rattle.bank_store.proofs.{Causes.still_clean, Countered.takes, bank.BankCounter.submit.Given.Over}
 use Rattle.bank_store.proofs.OtherTables.{spares_done, spares_down, spares_untouched}
 use Rattle.bank_store.proofs.Refusing.{answered_call, refused_call, transaction_refused, untried_call, Refusal}
-use Rattle.bank_transactions.specs.Additions.{AddsForRecords}
-use Rattle.bank_transactions.specs.Causes.{IsBrokenOrMet}
-use Rattle.bank_store.proofs.bank.BankCounter.submit.Given.{Over}
 use Rattle.bank_store.proofs.bank.BankCounter.submit.Goals as goal
 
 same_request : {a b : RequestFields} → ◌≡◌ {A = Result RequestFields Bad} (Ok a) (Ok b) → a ≡ b

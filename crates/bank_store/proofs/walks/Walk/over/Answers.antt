@@ -1,7 +1,6 @@
 -- From the least number on all are to come.
 use Rattle.std.proofs.Common.{filter}
-use Rattle.walked_rows.proofs.Keys.{all_left, keys_filter}
-use Rattle.walked_rows.proofs.Rises.{le_itself}
+use Rattle.walked_rows.proofs.{Keys.all_left, Keys.keys_filter, Rises.le_itself}
 use Rattle.walked_rows.specs.Rows.{LEAST}
 use Rattle.bank_store.proofs.walks.Walk.over.Goals as goal
 
