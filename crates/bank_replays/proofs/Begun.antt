@@ -1,5 +1,5 @@
 -- What is told of the rows that are to come of a bank that was lent is told of all its rows.
-use Rattle.std.proofs.Common.{◌≡◌, ℕ, ℤ, Bool, Option, None, List, Result, Ok, Err, take, sym, ap, subst, ◌∙◌}
+use Rattle.std.proofs.Common.{ℕ, ℤ, Bool, Option, None, List, Result, Ok, Err, take, sym, ap, subst, ◌∙◌}
 use Rattle.std.specs.Borrow.{GName}
 use Rattle.sqlite.specs.Effect.{Database}
 use Rattle.sqlite_trees.specs.declared.store.Store.{Ghosts}
@@ -7,7 +7,6 @@ use Rattle.bank_store.specs.Seen.{database_of}
 use Rattle.bank_store.specs.Walking.{BeginsWalk, items_to_come, lent}
 use Rattle.bank_store.specs.declared.bank.Bank.{Bank}
 use Rattle.bank_store.specs.declared.walks.Walk.{Walk}
-use Rattle.bank_replays.specs.Comparing.{SameRows}
 use Rattle.bank_replays.specs.Handing.{HandsSome}
 use Rattle.bank_replays.specs.declared.fault.ReplayFault.{ReplayFault}
 
@@ -36,18 +35,3 @@ module _ {S R X : Type 0} {g : Ghosts S} {key : X → ℤ} {item : R → X} {is_
         let more = it.2 (before late) all (there all has) in
         (more.0, more.1 ∙ begins.all all has),
   )
-
--- the same of two
-module _ {S T R X : Type 0} {g : Ghosts S} {h : Ghosts T} {key : X → ℤ} {item : R → X}
-    {is_given : Option ℕ → X → Bool} {HasItems : Database → List X → Type 0} {name name' : GName}
-    {old : Bank S g} {due : Bank T h} {walk : Walk S R g} {walk' : Walk T R h}
-    (begins : BeginsWalk g key item is_given HasItems None name old (Ok walk))
-    (begins' : BeginsWalk h key item is_given HasItems None name' due (Ok walk')) where
-  pub same_of_all : ((all others : List X) → HasItems (database_of g (lent walk)) all
-      → HasItems (database_of h (lent walk')) others
-      → items_to_come key item is_given all walk ≡ items_to_come key item is_given others walk')
-      → SameRows HasItems (database_of g old) (database_of h due)
-  same_of_all same all others has has_due =
-      sym (begins.all all has)
-      ∙ same all others (there begins all has) (there begins' others has_due)
-      ∙ begins'.all others has_due

@@ -44,14 +44,6 @@ module _ (after : ℕ) where
       ap (λ (t : List ℕ). records_behind after (map kept_item rows) ++ t) (sym (one_record (kept_item row) is))
       ∙ records_more rows row
 
-  -- one that isn't behind
-  pub record_passed : (rows : List KeptRequest) (row : KeptRequest) → is_behind after (kept_item row) ≡ false
-      → records_behind after (map kept_item rows) ≡ records_behind after (map kept_item (rows ++ row ∷ []))
-  record_passed rows row is =
-      sym (append-nil (records_behind after (map kept_item rows)))
-      ∙ ap (λ (t : List ℕ). records_behind after (map kept_item rows) ++ t) (sym (no_record (kept_item row) is))
-      ∙ records_more rows row
-
 -- the records of the first rows are a beginning of those of all
 pub records_of_part : (old new : Option (List ℕ)) (after : ℕ) (items rest all : List KeptItem) → items ++ rest ≡ all
     → AppendsPart old new (records_behind after items) → AppendsPart old new (records_behind after all)
