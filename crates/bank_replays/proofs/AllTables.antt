@@ -1,12 +1,10 @@
 -- The rows of two files are the same where they are in each table.
 use Rattle.std.proofs.Common.{◌≡◌, List}
-use Rattle.sqlite.specs.Effect.{Database}
-use Rattle.sqlite.specs.Table.{Table}
+use Rattle.sqlite.specs.{Effect.Database, Table.Table}
 use Rattle.sql_meanings.specs.Entries.{Entry}
 use Rattle.store_rows.specs.BankTables.{account, branch, floor, history, meta, reference, request, teller}
 use Rattle.walked_rows.specs.Rows.{HasStoredRows}
-use Rattle.bank_replays.specs.Comparing.{Both, SameRows}
-use Rattle.bank_replays.specs.FileTables.{FileTables, SameTables}
+use Rattle.bank_replays.specs.{Comparing.Both, Comparing.SameRows, FileTables.FileTables, FileTables.SameTables}
 
 -- the same rows of one table
 abbrev pub SameIn : Table → Database → Database → Type 0

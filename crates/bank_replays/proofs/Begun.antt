@@ -3,12 +3,9 @@ use Rattle.std.proofs.Common.{ℕ, ℤ, Bool, Option, None, List, Result, Ok, Er
 use Rattle.std.specs.Borrow.{GName}
 use Rattle.sqlite.specs.Effect.{Database}
 use Rattle.sqlite_trees.specs.declared.store.Store.{Ghosts}
-use Rattle.bank_store.specs.Seen.{database_of}
+use Rattle.bank_store.specs.{Seen.database_of, declared.bank.Bank.Bank, declared.walks.Walk.Walk}
 use Rattle.bank_store.specs.Walking.{BeginsWalk, items_to_come, lent}
-use Rattle.bank_store.specs.declared.bank.Bank.{Bank}
-use Rattle.bank_store.specs.declared.walks.Walk.{Walk}
-use Rattle.bank_replays.specs.Handing.{HandsSome}
-use Rattle.bank_replays.specs.declared.fault.ReplayFault.{ReplayFault}
+use Rattle.bank_replays.specs.{Handing.HandsSome, declared.fault.ReplayFault.ReplayFault}
 
 -- the bank as it was before, and the walk that it was lent to
 module _ {S R X : Type 0} {g : Ghosts S} {key : X → ℤ} {item : R → X} {is_given : Option ℕ → X → Bool}

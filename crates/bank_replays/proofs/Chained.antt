@@ -1,27 +1,21 @@
 -- The digest of requests, one request more, and what is read of a kept row.
-use Rattle.std.proofs.Common.{◌≡◌, ◌+◌, ◌++◌, ℕ, ℤ, pos, List, [], ◌∷◌, map, Option, Some, None, replicate}
-use Rattle.std.proofs.Common.{refl, sym, ap, subst, ◌∙◌, arith}
-use Rattle.std.specs.Prelude.{nat_abs, option_map, unwrap_or}
-use Rattle.std.specs.List.{AllByRecursion}
+use Rattle.std.proofs.Common.{◌≡◌, ◌+◌, ◌++◌, ℕ, ℤ, pos, List, [], ◌∷◌, map, Option, Some, None, replicate, refl, sym}
+use Rattle.std.proofs.Common.{ap, subst, ◌∙◌, arith}
+use Rattle.std.specs.{Prelude.nat_abs, Prelude.option_map, Prelude.unwrap_or, List.AllByRecursion}
 use Rattle.std.proofs.lemmas.List.{length-append, length-map, map-append}
-use Rattle.message_records.specs.declared.records.Outcome.{Outcome}
-use Rattle.message_records.specs.declared.records.Outcome.TheVariants.{Posted, NoTeller, WrongBranch}
-use Rattle.message_records.specs.declared.records.Outcome.TheVariants.{NoAccount, BelowFloor, OverLimit}
-use Rattle.message_records.specs.declared.records.Outcome.TheVariants.{ReusedNumber, Full, Malformed}
-use Rattle.message_records.specs.Outcomes.{code_of}
-use Rattle.message_records.specs.Reading.{outcome_with}
+use Rattle.message_records.specs.{declared.records.Outcome.Outcome, Outcomes.code_of, Reading.outcome_with}
+use Rattle.message_records.specs.declared.records.Outcome.TheVariants.{Posted, NoTeller, WrongBranch, NoAccount}
+use Rattle.message_records.specs.declared.records.Outcome.TheVariants.{BelowFloor, OverLimit, ReusedNumber, Full}
+use Rattle.message_records.specs.declared.records.Outcome.TheVariants.{Malformed}
 use Rattle.message_records.specs.Records.{ReplyFields, RequestFields, unreferenced}
 use Rattle.posting_rules.specs.Cases.{balance_shown}
-use Rattle.walked_rows.specs.KeptRows.{KeptItem, kept_item}
+use Rattle.walked_rows.specs.{KeptRows.KeptItem, KeptRows.kept_item, Stored.posting_entry}
+use Rattle.walked_rows.specs.{declared.kept.KeptRequest.KeptRequest, declared.postings.StoredPosting.StoredPosting}
 use Rattle.walked_rows.specs.References.{text_behind, text_entry}
-use Rattle.walked_rows.specs.Stored.{posting_entry}
-use Rattle.walked_rows.specs.declared.kept.KeptRequest.{KeptRequest}
-use Rattle.walked_rows.specs.declared.postings.StoredPosting.{StoredPosting}
-use Rattle.bank_replays.specs.Came.{CameAs, GotReply, moment_of}
+use Rattle.bank_replays.specs.{Came.CameAs, Came.GotReply, Came.moment_of, declared.chain.Digest.Digest}
 use Rattle.bank_replays.specs.Digests.{GoesOnBy, IsDigestIn, chained, digest_from}
 use Rattle.bank_replays.specs.Requests.{Answered, IsRequestRow, answered_in, moment_under, outcome_in, reply_in}
 use Rattle.bank_replays.specs.Requests.{request_in}
-use Rattle.bank_replays.specs.declared.chain.Digest.{Digest}
 
 -- ---- what is read of a row
 

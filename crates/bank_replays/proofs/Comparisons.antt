@@ -3,14 +3,10 @@ use Rattle.std.proofs.Common.{◌≡◌, List, [], ◌∷◌, Option, Some, None
 use Rattle.std.specs.Prelude.{IsSome}
 use Rattle.sqlite.specs.Effect.{Database}
 use Rattle.sqlite_trees.specs.declared.store.Store.{Ghosts}
-use Rattle.posting_rules.specs.declared.fault.Fault.{Fault}
+use Rattle.posting_rules.specs.declared.fault.{Fault.Fault, Rule.Rule}
 use Rattle.posting_rules.specs.declared.fault.Fault.TheVariants.{Down, Memory}
-use Rattle.posting_rules.specs.declared.fault.Rule.{Rule}
-use Rattle.bank_store.specs.Walking.{Steps}
-use Rattle.bank_store.specs.Seen.{database_of}
-use Rattle.bank_store.specs.declared.bank.Bank.{Bank}
-use Rattle.bank_replays.specs.Comparing.{Both, Compares}
-use Rattle.bank_replays.specs.declared.difference.Difference.{Difference}
+use Rattle.bank_store.specs.{Walking.Steps, Seen.database_of, declared.bank.Bank.Bank}
+use Rattle.bank_replays.specs.{Comparing.Both, Comparing.Compares, declared.difference.Difference.Difference}
 use Rattle.bank_replays.proofs.Read.{clean_before, read_then}
 
 module _ {S T : Type 0} {g : Ghosts S} {h : Ghosts T} {One Other : Database → Database → Type 0} where

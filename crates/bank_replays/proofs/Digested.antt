@@ -6,9 +6,7 @@ use Rattle.posting_rules.specs.declared.fault.Fault.{Fault}
 use Rattle.walked_rows.specs.KeptRows.{KeptItem}
 use Rattle.bank_replays.specs.Digests.{DigestsFirst, DigestsRows, IsDigestIn, IsDigestOf}
 use Rattle.bank_replays.specs.Requests.{Answered, answered_in}
-use Rattle.bank_replays.specs.Replays.{OnAgrees}
-use Rattle.bank_replays.specs.declared.chain.Digest.{Digest}
-use Rattle.bank_replays.specs.declared.difference.Replay.{Replay}
+use Rattle.bank_replays.specs.{Replays.OnAgrees, declared.chain.Digest.Digest, declared.difference.Replay.Replay}
 use Rattle.bank_replays.specs.declared.difference.Replay.TheVariants.{Agrees, Differs}
 
 module _ (count : ℕ) (all : List KeptItem) (d : Digest) (is : IsDigestIn (take count all) d) where

@@ -1,17 +1,13 @@
 -- Records of kept rows, one row more, and those of a log.
-use Rattle.std.proofs.Common.{◌≡◌, ◌++◌, ℕ, Bool, true, false, cond, List, [], ◌∷◌, map, filter, Option}
-use Rattle.std.proofs.Common.{sym, ap, ◌∙◌, append-nil}
+use Rattle.std.proofs.Common.{◌≡◌, ◌++◌, ℕ, Bool, true, false, cond, List, [], ◌∷◌, map, filter, Option, sym, ap, ◌∙◌}
+use Rattle.std.proofs.Common.{append-nil}
 use Rattle.std.specs.List.{flat_map}
-use Rattle.std.proofs.lemmas.List.{map-append}
-use Rattle.std.proofs.lemmas.List.Concat.{flat_map-append}
-use Rattle.std.proofs.lemmas.List.Elements.{filter-append}
+use Rattle.std.proofs.lemmas.List.{map-append, Concat.flat_map-append, Elements.filter-append}
 use Rattle.report_lines.specs.Written.{AppendsPart}
 use Rattle.report_lines.proofs.Written.{first_part, same_part}
 use Rattle.message_records.specs.Spelling.{request_spelling}
-use Rattle.walked_rows.specs.KeptRows.{KeptItem, kept_item}
-use Rattle.walked_rows.specs.declared.kept.KeptRequest.{KeptRequest}
-use Rattle.bank_replays.specs.Requests.{request_in}
-use Rattle.bank_replays.specs.Writing.{is_behind, records_behind}
+use Rattle.walked_rows.specs.{KeptRows.KeptItem, KeptRows.kept_item, declared.kept.KeptRequest.KeptRequest}
+use Rattle.bank_replays.specs.{Requests.request_in, Writing.is_behind, Writing.records_behind}
 
 abbrev pub record_of : KeptItem → List ℕ
 record_of k = request_spelling (request_in k)

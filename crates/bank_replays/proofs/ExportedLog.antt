@@ -1,29 +1,22 @@
 -- The records of the kept rows of a log are those of its requests.
 use Rattle.std.proofs.Common.{◌≡◌, ◌<◌, ◌≤◌, ◌+◌, ◌++◌, ℕ, true, false, List, [], ◌∷◌, length, map, drop, Option}
 use Rattle.std.proofs.Common.{Result, refl, sym, ap, subst, ◌∙◌, append-nil, inl, inr, arith}
-use Rattle.std.specs.Prelude.{int_lt, pos}
-use Rattle.std.specs.List.{flat_map}
-use Rattle.std.proofs.lemmas.Bool.{cases_Bool}
-use Rattle.std.proofs.lemmas.Int.{ints}
+use Rattle.std.specs.{Prelude.int_lt, Prelude.pos, List.flat_map}
+use Rattle.std.proofs.lemmas.{Bool.cases_Bool, Int.ints, List.Concat.flat_map-append}
 use Rattle.std.proofs.lemmas.List.{drop-append-le, drop_all, length-append, map-append}
-use Rattle.std.proofs.lemmas.List.Concat.{flat_map-append}
 use Rattle.sqlite.specs.Effect.{Database}
 use Rattle.message_records.specs.Spelling.{request_spelling}
-use Rattle.posting_rules.specs.Commands.{Command}
-use Rattle.posting_rules.specs.Entries.{DecidedRequest, decided}
-use Rattle.posting_rules.specs.Tables.{AreTablesOf, Tables, request_row_of}
-use Rattle.posting_rules.specs.declared.rows.RequestRow.{RequestRow}
+use Rattle.posting_rules.specs.{Commands.Command, Entries.DecidedRequest, Entries.decided, Tables.AreTablesOf}
+use Rattle.posting_rules.specs.{Tables.Tables, Tables.request_row_of, declared.rows.RequestRow.RequestRow}
 use Rattle.sql_meanings.specs.Entries.{Entry}
 use Rattle.store_rows.specs.View.{Shows}
 use Rattle.walked_rows.specs.KeptRows.{KeptItem}
 use Rattle.bank_replays.specs.Digests.{answered_behind, answered_of, each_answered}
-use Rattle.bank_replays.specs.Requests.{Answered}
+use Rattle.bank_replays.specs.{Requests.Answered, declared.fault.ReplayFault.ReplayFault}
 use Rattle.bank_replays.specs.Writing.{WritesText, is_behind, records_behind, records_of}
-use Rattle.bank_replays.specs.declared.fault.ReplayFault.{ReplayFault}
 use Rattle.bank_replays.proofs.Exported.{no_record, one_record, records-append}
 use Rattle.bank_replays.proofs.LogRows.{Stand, item_of, kept_is, kept_of, last_answered, postings, references}
-use Rattle.bank_replays.proofs.LogRows.{requests_of}
-use Rattle.bank_replays.proofs.LogRows.{stand_earlier, stand_in}
+use Rattle.bank_replays.proofs.LogRows.{requests_of, stand_earlier, stand_in}
 
 -- the record of a request
 abbrev spelled : Answered → List ℕ

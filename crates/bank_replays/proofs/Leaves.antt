@@ -3,15 +3,11 @@ use Rattle.std.proofs.Common.{Result, Ok, Err, subst}
 use Rattle.std.specs.Prelude.{IsSome, OnOk}
 use Rattle.sqlite.specs.State.{HasCleanDisk}
 use Rattle.sqlite_trees.specs.declared.store.Store.{Ghosts}
-use Rattle.bank_store.specs.Leaving.{StandsWhileOpen, TakesNone}
-use Rattle.bank_store.specs.Seen.{bank_seen, connection_of, file_of}
-use Rattle.bank_store.specs.Sparing.{SparesWhileOpen}
-use Rattle.bank_store.specs.Walks.{IsStill}
-use Rattle.bank_store.specs.declared.bank.Bank.{Bank}
+use Rattle.bank_store.specs.{Leaving.StandsWhileOpen, Leaving.TakesNone, Seen.bank_seen, Seen.connection_of}
+use Rattle.bank_store.specs.{Seen.file_of, Sparing.SparesWhileOpen, Walks.IsStill, declared.bank.Bank.Bank}
 use Rattle.bank_store.proofs.ReadsLeave.{reads_take_none, untouched_stands}
 use Rattle.bank_reports.proofs.Spared.{idle_spares, read_spares as spared_by_reads}
-use Rattle.bank_replays.specs.Reading.{ReadsBank}
-use Rattle.bank_replays.specs.Replays.{HasAnswered}
+use Rattle.bank_replays.specs.{Reading.ReadsBank, Replays.HasAnswered}
 
 module _ {S X E : Type 0} {g : Ghosts S} {old new : Bank S g} (r : Result X E) (reads : ReadsBank g old new r) where
   up : (bank_seen g new).is_down → (bank_seen g old).is_down

@@ -1,35 +1,25 @@
 -- The kept rows of a file that shows a log are its decided requests, the oldest first.
-use Rattle.std.proofs.Common.{◌≡◌, ◌<◌, ◌≤◌, ◌+◌, ◌++◌, ◌&&◌, ℕ, Bool, true, false, cond, eqb, List, [], ◌∷◌}
-use Rattle.std.proofs.Common.{length, map}
-use Rattle.std.proofs.Common.{Option, Some, None, Less, int_cmp, refl, sym, ap, ◌∙◌, inl, inr, arith}
-use Rattle.std.specs.Prelude.{pos, option_map, unwrap_or}
-use Rattle.std.specs.List.{AllByRecursion}
-use Rattle.std.proofs.lemmas.Bool.{cases_Bool, eq-eqb, eqb-true}
-use Rattle.std.proofs.lemmas.Int.{ints}
-use Rattle.std.proofs.lemmas.List.{map-append}
+use Rattle.std.proofs.Common.{◌≡◌, ◌<◌, ◌≤◌, ◌+◌, ◌++◌, ◌&&◌, ℕ, Bool, true, false, cond, eqb, List, [], ◌∷◌, length}
+use Rattle.std.proofs.Common.{map, Option, Some, None, Less, int_cmp, refl, sym, ap, ◌∙◌, inl, inr, arith}
+use Rattle.std.specs.{Prelude.pos, Prelude.option_map, Prelude.unwrap_or, List.AllByRecursion}
+use Rattle.std.proofs.lemmas.{Bool.cases_Bool, Bool.eq-eqb, Bool.eqb-true, Int.ints, List.map-append}
 use Rattle.sqlite.specs.Effect.{Database}
-use Rattle.message_records.specs.declared.records.Outcome.{Outcome}
-use Rattle.message_records.specs.declared.records.Outcome.TheVariants.{Malformed}
-use Rattle.message_records.specs.Outcomes.{code_of}
-use Rattle.message_records.specs.Reading.{outcome_with}
-use Rattle.message_records.specs.Records.{unreferenced}
-use Rattle.posting_rules.specs.Cases.{balance_shown, kept_reply}
-use Rattle.posting_rules.specs.Commands.{Command}
+use Rattle.message_records.specs.{declared.records.Outcome.Outcome, declared.records.Outcome.TheVariants.Malformed}
+use Rattle.message_records.specs.{Outcomes.code_of, Reading.outcome_with, Records.unreferenced}
+use Rattle.posting_rules.specs.{Cases.balance_shown, Cases.kept_reply, Commands.Command}
+use Rattle.posting_rules.specs.{declared.rows.HistoryRow.HistoryRow, declared.rows.RequestRow.RequestRow}
 use Rattle.posting_rules.specs.Entries.{DecidedRequest, decided, is_posted, kept_fields}
 use Rattle.posting_rules.specs.Tables.{AreTablesOf, Tables, history_key, history_row, history_row_of, reference_key}
-use Rattle.posting_rules.specs.Tables.{reference_row, reference_row_of, request_key, request_row}
-use Rattle.posting_rules.specs.Tables.{request_row_of, row_at}
-use Rattle.posting_rules.specs.declared.rows.HistoryRow.{HistoryRow}
-use Rattle.posting_rules.specs.declared.rows.RequestRow.{RequestRow}
+use Rattle.posting_rules.specs.Tables.{reference_row, reference_row_of, request_key, request_row, request_row_of}
+use Rattle.posting_rules.specs.Tables.{row_at}
 use Rattle.sql_meanings.specs.Entries.{Entry, Rise}
 use Rattle.store_rows.specs.View.{Shows, history_entry, reference_entry, request_entry}
 use Rattle.walked_rows.specs.KeptRows.{HasKept, KeptItem, kept_all, kept_with}
-use Rattle.walked_rows.specs.Pairs.{row_under}
-use Rattle.walked_rows.specs.References.{text_behind}
+use Rattle.walked_rows.specs.{Pairs.row_under, References.text_behind}
 use Rattle.walked_rows.proofs.Shown.{has_history, has_references, has_requests}
 use Rattle.bank_reports.proofs.Read.{under}
-use Rattle.bank_reports.proofs.RisingRows.{Rising, all-append, all_as, find_before, find_behind, not_under, rising_more}
-use Rattle.bank_reports.proofs.RisingRows.{rising_once}
+use Rattle.bank_reports.proofs.RisingRows.{Rising, all-append, all_as, find_before, find_behind, not_under}
+use Rattle.bank_reports.proofs.RisingRows.{rising_more, rising_once}
 use Rattle.bank_replays.specs.Digests.{answered_behind, answered_of, each_answered}
 use Rattle.bank_replays.specs.Requests.{answered_in, moment_under}
 use Rattle.bank_replays.proofs.Chained.{answered_same, code_back, reply_same, request_same}

@@ -1,18 +1,12 @@
 -- The lines of a plan, one branch more, and the whole text.
 use Rattle.std.proofs.Common.{◌≡◌, ◌++◌, ℕ, pos, List, [], ◌∷◌, map, Option, Some, None, refl, sym, ap, subst, ◌∙◌}
-use Rattle.std.specs.Prelude.{option_map}
-use Rattle.std.specs.Io.KnownBytes.{Appends}
-use Rattle.std.proofs.KnownBytes.{Appends-trans}
-use Rattle.std.proofs.lemmas.List.{map-append}
+use Rattle.std.specs.{Prelude.option_map, Io.KnownBytes.Appends}
+use Rattle.std.proofs.{KnownBytes.Appends-trans, lemmas.List.map-append}
 use Rattle.posting_rules.specs.Tables.{row_at}
 use Rattle.sql_meanings.specs.Entries.{Entry}
-use Rattle.walked_rows.specs.Pairs.{row_under}
-use Rattle.walked_rows.specs.Stored.{branch_entry, number_behind}
-use Rattle.walked_rows.specs.StoredBeside.{floor_entry}
-use Rattle.walked_rows.specs.declared.branches.StoredBranch.{StoredBranch}
-use Rattle.walked_rows.specs.declared.floors.StoredFloor.{StoredFloor}
-use Rattle.report_lines.specs.Lines.{text_of}
-use Rattle.report_lines.specs.Written.{AppendsPart}
+use Rattle.walked_rows.specs.{Pairs.row_under, Stored.branch_entry, Stored.number_behind, StoredBeside.floor_entry}
+use Rattle.walked_rows.specs.{declared.branches.StoredBranch.StoredBranch, declared.floors.StoredFloor.StoredFloor}
+use Rattle.report_lines.specs.{Lines.text_of, Written.AppendsPart}
 use Rattle.report_lines.proofs.Joined.{text_of-append, text_of-snoc}
 use Rattle.report_lines.proofs.Written.{first_part, same_part, then_part}
 use Rattle.bank_reports.proofs.Read.{under}

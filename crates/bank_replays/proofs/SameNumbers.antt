@@ -1,7 +1,6 @@
 -- Rows whose numbers are the same, one by one.
 use Rattle.std.proofs.Common.{◌≡◌, ◌&&◌, ℕ, ℤ, pos, Bool, true, false, [], ◌∷◌, eqb, int_eq, refl, arith}
-use Rattle.std.proofs.lemmas.Bool.{eqb-true}
-use Rattle.std.proofs.lemmas.Int.{ints}
+use Rattle.std.proofs.lemmas.{Bool.eqb-true, Int.ints}
 use Rattle.sql_meanings.specs.Entries.{Entry}
 
 both : (a b : Bool) → (a && b) ≡ true → (a ≡ true) × (b ≡ true)

@@ -1,13 +1,10 @@
 -- Two files with the same rows show the same tables.
 use Rattle.std.proofs.Common.{List, subst}
-use Rattle.sqlite.specs.Effect.{Database}
-use Rattle.posting_rules.specs.Commands.{Command}
-use Rattle.posting_rules.specs.Counter.{ShowsLog}
-use Rattle.posting_rules.specs.Tables.{Tables}
-use Rattle.sqlite.specs.State.{State}
+use Rattle.sqlite.specs.{Effect.Database, State.State}
+use Rattle.posting_rules.specs.{Commands.Command, Counter.ShowsLog, Tables.Tables}
 use Rattle.store_rows.specs.View.{Shows}
-use Rattle.walked_rows.proofs.Shown.{has_accounts, has_branches, has_floors, has_history, has_meta}
-use Rattle.walked_rows.proofs.Shown.{has_references, has_requests, has_tellers}
+use Rattle.walked_rows.proofs.Shown.{has_accounts, has_branches, has_floors, has_history, has_meta, has_references}
+use Rattle.walked_rows.proofs.Shown.{has_requests, has_tellers}
 use Rattle.bank_store.specs.Seen.{seen_in}
 use Rattle.bank_replays.specs.FileTables.{FileTables, HasTables, SameTables, rows_due}
 

@@ -1,8 +1,6 @@
 -- Texts that are written one after another.
-use Rattle.std.proofs.Common.{◌≡◌, ◌++◌, ℕ, List, [], Option, Result, Ok, Err}
-use Rattle.std.proofs.Common.{append-nil}
-use Rattle.std.specs.Prelude.{IfErr, OnOk}
-use Rattle.std.specs.Io.KnownBytes.{Appends}
+use Rattle.std.proofs.Common.{◌≡◌, ◌++◌, ℕ, List, [], Option, Result, Ok, Err, append-nil}
+use Rattle.std.specs.{Prelude.IfErr, Prelude.OnOk, Io.KnownBytes.Appends}
 use Rattle.std.proofs.KnownBytes.{Appends-trans}
 use Rattle.posting_core.specs.Told.{EndsWith, HasMore, HasWriteFailed, IsFlush, WriteTold}
 use Rattle.posting_core.proofs.Telling.{more_last, more_more}
@@ -10,8 +8,7 @@ use Rattle.posting_rules.specs.declared.fault.Fault.{Fault}
 use Rattle.report_lines.specs.Written.{AppendsPart}
 use Rattle.report_lines.proofs.Written.{first_part, later_failed, same_all, same_part, then_part}
 use Rattle.bank_replays.specs.Writing.{LeavesWriter, Puts, Wrote, WrotePart}
-use Rattle.bank_replays.specs.declared.fault.ReplayFault.{ReplayFault}
-use Rattle.bank_replays.specs.declared.fault.ReplayFault.TheVariants.{Bank, Write}
+use Rattle.bank_replays.specs.declared.fault.ReplayFault.{ReplayFault, TheVariants.Bank, TheVariants.Write}
 
 module _ (old mid new : Option (List ℕ)) {t t' t'' : Option (List WriteTold)} (a b text : List ℕ)
     (wrote : Wrote a old mid t t') (same : a ++ b ≡ text) where

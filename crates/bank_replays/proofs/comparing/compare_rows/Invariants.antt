@@ -1,7 +1,6 @@
 -- What was given of both was the same, and neither bank is changed.
 use Rattle.std.proofs.Common.{◌≡◌, List, Ok}
-use Rattle.sqlite.specs.State.{HasCleanDisk}
-use Rattle.sqlite.specs.Held.{state}
+use Rattle.sqlite.specs.{State.HasCleanDisk, Held.state}
 use Rattle.posting_rules.specs.declared.fault.Fault.{Fault}
 use Rattle.bank_store.specs.Walking.{HasToldFault, items_to_come}
 use Rattle.bank_replays.specs.Reading.{ReadsBank}

@@ -1,6 +1,5 @@
 -- All rows were handed on to the digest of none.
-use Rattle.bank_replays.proofs.Chained.{digest_is}
-use Rattle.bank_replays.proofs.Read.{read_any, read_fails}
+use Rattle.bank_replays.proofs.{Chained.digest_is, Read.read_any, Read.read_fails}
 use Rattle.bank_replays.proofs.digests.digest_all.Goals as goal
 
 pub returns-in-Ok : goal.returns-in-Ok

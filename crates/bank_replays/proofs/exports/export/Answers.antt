@@ -1,7 +1,6 @@
 -- The records of a log's requests.
 use Rattle.bank_store.specs.Seen.{database_of}
-use Rattle.bank_replays.proofs.ExportedLog.{writes_log}
-use Rattle.bank_replays.proofs.LogRows.{has_kept, kept_of}
+use Rattle.bank_replays.proofs.{ExportedLog.writes_log, LogRows.has_kept, LogRows.kept_of}
 use Rattle.bank_replays.proofs.exports.export.Goals as goal
 
 pub returns-clause-log : goal.returns-clause-log

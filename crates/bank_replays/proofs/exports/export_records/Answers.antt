@@ -2,8 +2,7 @@
 use Rattle.std.proofs.Common.{rules, ◌≡◌, Err, map, ap}
 use Rattle.walked_rows.specs.KeptRows.{kept_item}
 use Rattle.report_lines.proofs.Written.{later_failed, same_all, same_part}
-use Rattle.bank_replays.specs.Writing.{records_behind}
-use Rattle.bank_replays.specs.declared.fault.ReplayFault.TheVariants.{Write}
+use Rattle.bank_replays.specs.{Writing.records_behind, declared.fault.ReplayFault.TheVariants.Write}
 use Rattle.bank_replays.proofs.Exported.{records_of_part}
 use Rattle.bank_replays.proofs.Wrote.{end_part, end_wrote, writer_err, writer_ok}
 use Rattle.bank_replays.proofs.exports.export_records.Goals as goal

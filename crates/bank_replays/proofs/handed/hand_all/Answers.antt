@@ -2,8 +2,7 @@
 use Rattle.std.proofs.Common.{rules, ◌≡◌, ◌-◌, ◌^◌, Err}
 use Rattle.posting_rules.specs.declared.fault.Fault.TheVariants.{Memory}
 use Rattle.bank_replays.specs.declared.fault.ReplayFault.TheVariants.{Bank}
-use Rattle.bank_replays.proofs.Hands.{all_handed, part_handed}
-use Rattle.bank_replays.proofs.Read.{read_any, read_fails}
+use Rattle.bank_replays.proofs.{Hands.all_handed, Hands.part_handed, Read.read_any, Read.read_fails}
 use Rattle.bank_replays.proofs.handed.hand_all.Goals as goal
 
 pub returns-in_err-count : goal.returns-in_err-count

@@ -1,10 +1,8 @@
 -- The taker was handed what the walk gave, and the bank isn't changed.
 use Rattle.std.proofs.Common.{◌≡◌, Ok}
-use Rattle.sqlite.specs.State.{HasCleanDisk}
-use Rattle.sqlite.specs.Held.{state}
+use Rattle.sqlite.specs.{State.HasCleanDisk, Held.state}
 use Rattle.bank_store.specs.Walking.{HasToldFault, items_to_come}
-use Rattle.bank_replays.specs.Reading.{ReadsBank}
-use Rattle.bank_replays.specs.declared.fault.ReplayFault.{ReplayFault}
+use Rattle.bank_replays.specs.{Reading.ReadsBank, declared.fault.ReplayFault.ReplayFault}
 use Rattle.bank_replays.proofs.Hands.{IsHanded}
 use Rattle.bank_replays.proofs.handed.hand_rows.Given as goal
 

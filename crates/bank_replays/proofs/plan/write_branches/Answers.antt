@@ -2,15 +2,12 @@
 use Rattle.std.proofs.Common.{rules, ◌≡◌, Err, map, sym, subst}
 use Rattle.posting_core.proofs.Telling.{more_more}
 use Rattle.store_rows.specs.BankTables.{branch as branch_table}
-use Rattle.walked_rows.specs.Rows.{HasStoredRows}
-use Rattle.walked_rows.specs.Stored.{branch_entry}
-use Rattle.walked_rows.specs.StoredBeside.{floor_entry}
+use Rattle.walked_rows.specs.{Rows.HasStoredRows, Stored.branch_entry, StoredBeside.floor_entry}
 use Rattle.report_lines.proofs.Written.{first_part, later_failed}
 use Rattle.bank_replays.specs.Writing.{plan_lines, plan_names}
 use Rattle.bank_replays.specs.declared.fault.ReplayFault.TheVariants.{Bank, Write}
 use Rattle.bank_replays.proofs.Planned.{plan_all, plan_end, plan_part}
-use Rattle.bank_replays.proofs.Read.{clean_before}
-use Rattle.bank_replays.proofs.Wrote.{bank_err, writer_err, writer_ok}
+use Rattle.bank_replays.proofs.{Read.clean_before, Wrote.bank_err, Wrote.writer_err, Wrote.writer_ok}
 use Rattle.bank_replays.proofs.plan.write_branches.Goals as goal
 
 pub returns-in_err-lines-clause-writer : goal.returns-in_err-lines-clause-writer

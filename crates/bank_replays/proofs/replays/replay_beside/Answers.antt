@@ -5,8 +5,7 @@ use Rattle.sqlite.specs.Effect.{Database}
 use Rattle.bank_store.specs.Seen.{connection_of, file_of}
 use Rattle.walked_rows.specs.KeptRows.{HasKept}
 use Rattle.bank_replays.specs.FileTables.{SameTables}
-use Rattle.bank_replays.proofs.Read.{clean_before, read_any, read_fails, read_then}
-use Rattle.bank_replays.proofs.Tables.{same_log}
+use Rattle.bank_replays.proofs.{Read.clean_before, Read.read_any, Read.read_fails, Read.read_then, Tables.same_log}
 use Rattle.bank_replays.proofs.replays.replay_beside.Goals as goal
 
 pub returns-in_err-due : goal.returns-in_err-due

@@ -1,14 +1,10 @@
 -- The record was written, or a beginning of it, or the row is that of no request.
 use Rattle.std.proofs.Common.{rules, ◌≡◌, ◌++◌, ◌∷◌, [], ℕ, List, Bool, true, false, not, map, refl, sym, ap, ◌∙◌}
 use Rattle.message_records.specs.Spelling.{request_spelling}
-use Rattle.posting_rules.specs.declared.fault.Fault.TheVariants.{Damaged}
-use Rattle.posting_rules.specs.declared.fault.Rule.TheVariants.{Request}
+use Rattle.posting_rules.specs.declared.fault.{Fault.TheVariants.Damaged, Rule.TheVariants.Request}
 use Rattle.walked_rows.specs.KeptRows.{kept_item}
-use Rattle.bank_replays.specs.Beginnings.{all_part}
-use Rattle.bank_replays.specs.Requests.{request_in}
-use Rattle.bank_replays.specs.Writing.{is_behind, records_behind}
-use Rattle.bank_replays.proofs.Chained.{request_is}
-use Rattle.bank_replays.proofs.Exported.{record_more, records_more}
+use Rattle.bank_replays.specs.{Beginnings.all_part, Requests.request_in, Writing.is_behind, Writing.records_behind}
+use Rattle.bank_replays.proofs.{Chained.request_is, Exported.record_more, Exported.records_more}
 use Rattle.bank_replays.proofs.Wrote.{part_of, puts_part, puts_took}
 use Rattle.bank_replays.proofs.exports.BehindHandsKeptRequest.hand.Goals as goal
 

@@ -2,12 +2,10 @@
 use Rattle.std.proofs.Common.{rules, ◌≡◌, ◌++◌, ℕ, ℤ, List, Ok, Err, Option, map, ap, ◌∙◌}
 use Rattle.std.specs.Prelude.{option_map}
 use Rattle.posting_rules.specs.Tables.{row_at}
-use Rattle.walked_rows.specs.Stored.{branch_entry}
-use Rattle.walked_rows.specs.StoredBeside.{floor_entry}
+use Rattle.walked_rows.specs.{Stored.branch_entry, StoredBeside.floor_entry}
 use Rattle.bank_replays.specs.Writing.{branch_of, line_with, lowest_of, plan_line, plan_lines, text_of_floor}
 use Rattle.bank_replays.specs.declared.fault.ReplayFault.TheVariants.{Write}
-use Rattle.bank_replays.proofs.Planned.{floor_is, line_more}
-use Rattle.bank_replays.proofs.Wrote.{puts_part, puts_took}
+use Rattle.bank_replays.proofs.{Planned.floor_is, Planned.line_more, Wrote.puts_part, Wrote.puts_took}
 use Rattle.bank_replays.proofs.plan.LinesHandsStoredBranch.hand.Goals as goal
 
 pub returns-in_err-put-clause-part : goal.returns-in_err-put-clause-part
