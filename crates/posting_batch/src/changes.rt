@@ -1,19 +1,20 @@
-//! A slot is changed under its key.
+//! A row, or a slot, is changed under its key.
 ghost use Rattle.std.specs.Prelude.{◌≡◌};
 ghost use Rattle.posting_rules.specs.Changes.{row_changed};
 ghost use Rattle.posting_batch.specs.Slots.{slots_kept};
 
-use crate::slots::{BalanceSlot, RequestSlot};
+use crate::balances::BalanceRow;
+use crate::slots::RequestSlot;
 use message_records::{Cents, Number, Teller};
 use posting_rules::Kept;
 
 /// Gives the row under a number another balance.
-pub(crate) fn change_at<T: BalanceSlot>(slots: &mut [T], number: u64, balance: Cents)
-    ensures { slots.new ≡ row_changed T.key (T.with_balance balance) number slots.old }
+pub fn change_at<R: BalanceRow>(rows: &mut [R], number: u64, balance: Cents)
+    ensures { rows.new ≡ row_changed R.key (R.with_balance balance) number rows.old }
 {
-    for slot in slots.iter_mut() {
-        if slot.number() == number {
-            slot.change(balance);
+    for row in rows.iter_mut() {
+        if row.number() == number {
+            row.change(balance);
         }
     }
 }

@@ -38,6 +38,7 @@
 //! fills a batch from the tables of a file and writes it.
 #![tactic(auto)]
 
+mod balances;
 mod batch;
 mod changes;
 mod cover;
@@ -46,7 +47,9 @@ mod placement;
 mod search;
 mod slots;
 
+pub use balances::BalanceRow;
 pub use batch::{Batch, Judged};
+pub use changes::change_at;
 pub use overlay::Overlay;
-pub use search::{stored_branch, stored_floor};
+pub use search::{balance_at, stored_branch, stored_floor};
 pub use slots::{AccountSlot, BranchSlot, FloorSlot, RequestSlot, TellerSlot};

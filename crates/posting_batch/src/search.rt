@@ -1,4 +1,4 @@
-//! Slots are found by walking: a batch has few of them.
+//! Rows and slots are found by walking: a batch has few of them.
 ghost use Rattle.std.specs.Prelude.{◌≡◌};
 ghost use Rattle.std.specs.List.{find};
 ghost use Rattle.std.specs.Option.{option_map};
@@ -6,25 +6,26 @@ ghost use Rattle.posting_rules.specs.Tables.{row_at};
 ghost use Rattle.posting_batch.specs.Slots.{slot_balance, kept_in_slots, is_for, kept_of_slot, row_of_slot};
 ghost use Rattle.posting_batch.specs.Slots.{in_slot, branch_slot_key, floor_of_slot, floor_slot_key, slot_floor};
 
-use crate::slots::{BalanceSlot, BranchSlot, FloorSlot, RequestSlot};
+use crate::balances::BalanceRow;
+use crate::slots::{BranchSlot, FloorSlot, RequestSlot};
 use message_records::{Cents, Number, Teller};
 use posting_rules::{BranchRow, Kept};
 
-// What the slot under a number tells of its balance.
-fn told_at<T: BalanceSlot>(slots: &[T], number: u64) -> Option<Option<Cents>>
-    ensures { result ≡ option_map T.balance_in (row_at T.key slots.now number) }
+// What the row under a number tells of its balance.
+fn told_at<R: BalanceRow>(rows: &[R], number: u64) -> Option<Option<Cents>>
+    ensures { result ≡ option_map R.balance_in (row_at R.key rows.now number) }
 {
-    slots
-        .iter()
-        .find(|slot| slot.number() == number)
-        .map(|slot| slot.balance())
+    rows.iter()
+        .find(|row| row.number() == number)
+        .map(|row| row.balance())
 }
 
 /// The balance under a number, none where there is no row.
-pub(crate) fn balance_at<T: BalanceSlot>(slots: &[T], number: u64) -> Option<Cents>
-    ensures { result ≡ slot_balance T.key T.balance_in slots.now number }
+#[must_use]
+pub fn balance_at<R: BalanceRow>(rows: &[R], number: u64) -> Option<Cents>
+    ensures { result ≡ slot_balance R.key R.balance_in rows.now number }
 {
-    told_at(slots, number).flatten()
+    told_at(rows, number).flatten()
 }
 
 // What the slot of a branch tells of its row.
