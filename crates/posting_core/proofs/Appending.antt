@@ -1,98 +1,88 @@
--- Tables whose rows stand in the order in which they came show a log, and what a call does to them shows the
--- log with its command.
-use Rattle.std.proofs.Common.{◌≡◌, ℕ, ◌+◌, ◌≤◌, List, ◌∷◌, Option, Some, None, Result, Ok, Err, refl, sym, ap}
-use Rattle.std.proofs.Common.{subst, ◌∙◌, arith}
-use Rattle.std.specs.{Prelude.ℤ, Prelude.pos, Option.option_map}
-use Rattle.message_records.specs.declared.fault.Bad.{Bad}
-use Rattle.message_records.specs.{Records.RequestFields, Reading.request_of}
-use Rattle.posting_rules.specs.declared.{judgments.Verdict.Verdict, rows.FloorRow.FloorRow}
+-- Rows in the order in which they came: one is put in behind the others, and tables with a branch more show the
+-- log with its opening.
+use Rattle.std.proofs.Common.{◌≡◌, ℕ, ◌+◌, ◌≤◌, ltb, true, List, [], ◌∷◌, ◌++◌, Option, Some, None}
+use Rattle.std.proofs.Common.{refl, sym, ap, ◌∙◌, arith}
+use Rattle.std.specs.{Prelude.ℤ, Prelude.pos, Prelude.All, List.AllByRecursion, Option.option_map}
+use Rattle.std.proofs.lemmas.{List.Elements.recursion_from_All, Bool.Decides.nat_tests}
+use Rattle.posting_rules.specs.declared.{rows.FloorRow.FloorRow}
 use Rattle.posting_rules.specs.declared.{rows.ReferenceRow.ReferenceRow, limits.TheConstants.MAX_ACCOUNTS}
-use Rattle.posting_rules.specs.declared.judgments.Verdict.TheVariants.{Unkept, Again, Refused, Posted}
-use Rattle.posting_rules.specs.Commands.{Command, Open, Post, Terms, opened}
-use Rattle.posting_rules.specs.{Cases.case_of, Changes.new_teller, Changes.new_account}
-use Rattle.posting_rules.specs.Entries.{refused_entry, posted_entry, reply_given, decided, reply}
+use Rattle.posting_rules.specs.Changes.{row_changed, row_put, reference_put, tables_kept, tables_posted, with_decided}
+use Rattle.posting_rules.specs.Changes.{with_request, with_reference, with_history, with_branch_balance}
+use Rattle.posting_rules.specs.Changes.{with_teller_balance, with_account_balance, new_teller, new_account}
+use Rattle.posting_rules.specs.Commands.{Command, Open, Terms, opened}
+use Rattle.posting_rules.specs.Entries.{DecidedRequest, decided}
 use Rattle.posting_rules.specs.Tables.{Tables, AreTablesOf, row_at, branch_key, teller_key, account_key, history_key}
 use Rattle.posting_rules.specs.Tables.{request_key, branch_row_of, history_row_of, request_row_of, HasKeys, floor_key}
 use Rattle.posting_rules.specs.Tables.{floor_row_of, reference_key, reference_row_of}
-use Rattle.posting_rules.specs.LookUps.{found_in, floor_in, terms_of_branch}
-use Rattle.posting_rules.specs.Steps.{IsStep, AddsFloor, AddsReference, with_branch_balance}
-use Rattle.posting_rules.specs.Steps.{with_teller_balance, with_account_balance}
+use Rattle.posting_rules.specs.LookUps.{floor_in, terms_of_branch}
+use Rattle.posting_rules.specs.Steps.{AddsFloor}
+use Rattle.posting_rules.specs.Steps as steps
 use Rattle.posting_rules.specs.Numbering.{branch_of_teller, first_teller, first_account}
-use Rattle.posting_core.specs.Appended.{appended_after, appended_with, appended_opened, floor_behind}
-use Rattle.posting_core.specs.Appended.{reference_behind, reply_in_tables}
-use Rattle.posting_rules.proofs.{RowChanges.row_changes, Looked.terms_shown, Opened.opening_shown}
-use Rattle.posting_rules.proofs.Ready.{AreReady, ready_shown, no_teller, no_account}
-use Rattle.posting_rules.proofs.Stepped.{post_shown, malformed_shown, reply_shown}
+use Rattle.posting_batch.specs.Judging.{reference_behind}
+use Rattle.posting_core.specs.Appended.{HasOrdinalsTo, appended_opened, floor_behind}
+use Rattle.posting_rules.proofs.{Looked.terms_shown, Opened.opening_shown}
+use Rattle.posting_rules.proofs.Ready.{ready_shown, no_teller, no_account}
 use Rattle.posting_core.proofs.Behind.{row_behind, rows_behind}
 
--- ---- a record
+-- ---- rows of requests
 
--- the reference that is put behind the others
-reference_adds : (ordinal : ℕ) (reference : Option (List ℕ)) (rows : List ReferenceRow)
-    → HasKeys reference_key rows → row_at reference_key rows ordinal ≡ None
-    → AddsReference ordinal reference rows (reference_behind ordinal reference rows)
-reference_adds ordinal None rows keys free = refl
-reference_adds ordinal (Some text) rows keys free =
-    row_behind reference_key rows (reference_row_of ordinal text) keys free
+lower : (n last k : ℕ) → n ≤ last → k ≡ last + 1 → ltb n k ≡ true
+lower n last k le is = grind (arith, nat_tests)
 
--- what a verdict makes of the rows is what it does to tables
-step_is : (t : Tables) (m : ℕ) (r : RequestFields) (v : Verdict) → AreReady t
-    → IsStep t (appended_after t m r v) (t.decided + 1) m r v
-step_is t m r (Unkept o) ready = refl
-step_is t m r (Again x) ready = refl
-step_is t m r (Refused o) ready = record {
-  decided = refl;
-  branches = refl;
-  tellers = refl;
-  accounts = refl;
-  history = refl;
-  requests = row_behind request_key t.requests
-      (request_row_of (t.decided + 1) (refused_entry m r o)) ready.requests ready.next_request;
-  references = reference_adds (t.decided + 1) r.reference t.references ready.references
-      ready.next_reference;
-  floors = refl;
-}
-step_is t m r (Posted a te b) ready =
-    let e = posted_entry m r a in
-    record {
-      decided = refl;
-      branches = row_changes branch_key (branch_of_teller r.teller) (with_branch_balance b) t.branches
-          (λ _. refl) ready.branches;
-      tellers = row_changes teller_key r.teller (with_teller_balance te) t.tellers (λ _. refl) ready.tellers;
-      accounts = row_changes account_key r.account (with_account_balance a) t.accounts
-          (λ _. refl) ready.accounts;
-      history = row_behind history_key t.history
-          (history_row_of (t.decided + 1) e) ready.history ready.next_posting;
-      requests = row_behind request_key t.requests
-          (request_row_of (t.decided + 1) e) ready.requests ready.next_request;
-      references = reference_adds (t.decided + 1) r.reference t.references ready.references
-          ready.next_reference;
-      floors = refl;
-    }
+-- behind the others is where a row under the next ordinal is put in
+put_next : {R : Type 0} (key : R → ℕ) (last : ℕ) (x : R) (rows : List R)
+    → AllByRecursion (λ r. key r ≤ last) rows → key x ≡ last + 1 → rows ++ x ∷ [] ≡ row_put key x rows
+put_next key last x [] all next = refl
+put_next key last x (r ∷ rows) all next =
+    rw (lower (key r) last (key x) all.0 next) (ap (λ xs. r ∷ xs) (put_next key last x rows all.1 next))
 
--- the tables after a record show the log with it
-pub record_shown : (t : Tables) (log : List Command) (m : ℕ) (bytes : List ℕ) → AreTablesOf t log
-    → AreTablesOf (appended_with t m (request_of bytes)) (Post m bytes ∷ log)
-record_shown t log m bytes s = by_read (request_of bytes) refl
-  where
-    by_read : (read : Result RequestFields Bad) → request_of bytes ≡ read
-        → AreTablesOf (appended_with t m read) (Post m bytes ∷ log)
-    by_read (Ok r) e = post_shown t (appended_after t m r (case_of (found_in t r) r)) log m bytes r e s
-        (subst (λ n. IsStep t (appended_after t m r (case_of (found_in t r) r)) (n + 1) m r
-        (case_of (found_in t r) r))
-        s.rows.decided (step_is t m r (case_of (found_in t r) r) (ready_shown t log s)))
-    by_read (Err fault) e = malformed_shown t log m bytes fault e s
+next_behind : {R : Type 0} (key : R → ℕ) (last : ℕ) (x : R) (rows : List R) → All (λ r. key r ≤ last) rows
+    → key x ≡ last + 1 → rows ++ x ∷ [] ≡ row_put key x rows
+next_behind key last x rows all next =
+    put_next key last x rows (recursion_from_All (λ r. key r ≤ last) rows all) next
 
--- the reply by the tables is the reply behind the log
-pub reply_is : (t : Tables) (log : List Command) (bytes : List ℕ) → AreTablesOf t log
-    → reply_in_tables t (request_of bytes) ≡ reply log bytes
-reply_is t log bytes s = by_read (request_of bytes) refl
-  where
-    by_read : (read : Result RequestFields Bad) → request_of bytes ≡ read
-        → reply_in_tables t read ≡ reply log bytes
-    by_read (Ok r) e = reply_shown t log bytes r e s
-    by_read (Err fault) e = ap (λ (x : Result RequestFields Bad). reply_given x (λ b. opened log b)
-        (decided log)) (sym e)
+reference_next : (last : ℕ) (reference : Option (List ℕ)) (rows : List ReferenceRow)
+    → All (λ r. r.ordinal ≤ last) rows
+    → reference_behind (last + 1) reference rows ≡ reference_put (last + 1) reference rows
+reference_next last None rows all = refl
+reference_next last (Some text) rows all =
+    next_behind reference_key last (reference_row_of (last + 1) text) rows all refl
+
+-- where a request is kept, and where it is posted with these new balances
+pub kept_is : (t : Tables) (e : DecidedRequest) → HasOrdinalsTo t.decided t.history t.requests t.references
+    → (let u : Tables = record t {
+      decided = t.decided + 1;
+      requests = t.requests ++ request_row_of (t.decided + 1) e ∷ [];
+      references = reference_behind (t.decided + 1) e.request.reference t.references;
+    } in u) ≡ tables_kept t (t.decided + 1) e
+unfolding with_decided with_request with_reference
+kept_is t e to =
+    rw (
+      next_behind request_key t.decided (request_row_of (t.decided + 1) e) t.requests to.requests refl,
+      reference_next t.decided e.request.reference t.references to.references,
+    ) refl
+
+pub posted_is : (t : Tables) (e : DecidedRequest) (te b : ℤ)
+    → HasOrdinalsTo t.decided t.history t.requests t.references
+    → (let u : Tables = record {
+      decided = t.decided + 1;
+      branches = row_changed branch_key (steps.with_branch_balance b)
+          (branch_of_teller e.request.teller) t.branches;
+      tellers = row_changed teller_key (steps.with_teller_balance te) e.request.teller t.tellers;
+      accounts = row_changed account_key (steps.with_account_balance e.balance) e.request.account t.accounts;
+      history = t.history ++ history_row_of (t.decided + 1) e ∷ [];
+      requests = t.requests ++ request_row_of (t.decided + 1) e ∷ [];
+      floors = t.floors;
+      references = reference_behind (t.decided + 1) e.request.reference t.references;
+    } in u) ≡ tables_posted t (t.decided + 1) e te b
+unfolding with_decided with_request with_reference with_history
+    with_branch_balance with_teller_balance with_account_balance
+posted_is t e te b to =
+    rw (
+      next_behind history_key t.decided (history_row_of (t.decided + 1) e) t.history to.history refl,
+      next_behind request_key t.decided (request_row_of (t.decided + 1) e) t.requests to.requests refl,
+      reference_next t.decided e.request.reference t.references to.references,
+    ) refl
 
 -- ---- an opening
 

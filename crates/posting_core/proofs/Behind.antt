@@ -1,14 +1,13 @@
--- Rows in a vector: one is changed by a walk, and new ones are put behind the others.
+-- Rows in a vector: new ones are put behind the others.
 use Rattle.std.proofs.Common.{◌≡◌, ℕ, zero, suc, ◌+◌, ◌<◌, Bool, true, false, cond, eqb, List, [], ◌∷◌, ◌++◌}
-use Rattle.std.proofs.Common.{length, map, take, drop, set, get_or, Option, Some, None, refl, sym, ap, subst}
+use Rattle.std.proofs.Common.{map, Option, Some, None, refl, sym, ap, subst}
 use Rattle.std.proofs.Common.{◌∙◌, append_assoc, append-nil, arith}
 use Rattle.std.specs.{Prelude.nat_eq, Cmp.nat_eq_equiv, List.IsDistinct, Option.option_or}
-use Rattle.std.proofs.{lemmas.Bool.eqb-true, lemmas.Bool.eq-eqb, lemmas.Bool.Decides.nat_tests}
-use Rattle.std.proofs.{lemmas.List.map-append, lemmas.List.Edits.map_over_more}
+use Rattle.std.proofs.{lemmas.Bool.eqb-true, lemmas.List.map-append}
 use Rattle.std.proofs.{lemmas.List.Elements.All-from_recursion, lemmas.List.Folds.find-append}
 use Rattle.std.proofs.{lemmas.List.Folds.list_any_none, lemmas.Map.Keys.IsDistinct-push}
 use Rattle.posting_rules.specs.{Tables.row_at, Tables.HasKeys, Steps.GainsRow, Steps.AddsRows}
-use Rattle.posting_rules.proofs.RowChanges.{changed_at, free_apart, rows_none, rows_more}
+use Rattle.posting_rules.proofs.RowChanges.{free_apart, rows_none, rows_more}
 use Rattle.posting_core.specs.Appended.{rows_from}
 
 -- ---- one row behind the others
@@ -50,29 +49,3 @@ rows_behind {R} key row first (suc count) rows own keys none =
     (rows_more key row first count rows before (before ++ x ∷ []) own
     (rows_behind key row first count rows own keys (λ n lt. none n (omega arith))) (none count (omega arith))
     (λ distinct free. row_behind key before x distinct free))
-
--- ---- a walk that changes the rows under a key
-
--- one row more of it, under the key
-pub walk_hit : {R : Type 0} (key : R → ℕ) (k : ℕ) (change : R → R) (xs ys zs : List R) (i : ℕ) (x : R)
-    → i < length xs
-    → ys ≡ map (changed_at key k change) (take i xs) ++ drop i xs → x ≡ get_or ys i x
-    → key (get_or ys i x) ≡ k → zs ≡ set ys i (change (get_or ys i x))
-    → zs ≡ map (changed_at key k change) (take (i + 1) xs) ++ drop (i + 1) xs
-walk_hit {R} key k change xs ys zs i x lt so_far is hit e =
-    let changes : changed_at key k change (get_or ys i x) ≡ change (get_or ys i x) = rw
-    (eq-eqb (key (get_or ys i x)) k hit) refl in
-    e ∙ ap (λ (y : R). set ys i y) (sym changes ∙ ap (changed_at key k change) (sym is)) ∙ map_over_more
-    (changed_at key k change) xs ys i x lt so_far is
-
--- and under another
-pub walk_miss : {R : Type 0} (key : R → ℕ) (k : ℕ) (change : R → R) (xs ys zs : List R) (i : ℕ) (x : R)
-    → i < length xs
-    → ys ≡ map (changed_at key k change) (take i xs) ++ drop i xs → x ≡ get_or ys i x
-    → (key (get_or ys i x) ≡ k → ⊥) → zs ≡ set ys i (get_or ys i x)
-    → zs ≡ map (changed_at key k change) (take (i + 1) xs) ++ drop (i + 1) xs
-walk_miss {R} key k change xs ys zs i x lt so_far is miss e =
-    let other : eqb (key (get_or ys i x)) k ≡ false = grind (arith, nat_tests) in
-    let stays : changed_at key k change (get_or ys i x) ≡ get_or ys i x = rw other refl in
-    e ∙ ap (λ (y : R). set ys i y) (sym stays ∙ ap (changed_at key k change) (sym is)) ∙ map_over_more
-    (changed_at key k change) xs ys i x lt so_far is

@@ -4,40 +4,19 @@ ghost use Rattle.std.specs.Option.{option_map};
 ghost use Rattle.posting_rules.specs.declared.rows.BranchRow.{BranchRow};
 ghost use Rattle.posting_rules.specs.Branches.{IsAtMostZero, IsNextIn};
 ghost use Rattle.posting_rules.specs.Tables.{branch_key, floor_key, row_at};
-ghost use Rattle.posting_rules.specs.LookUps.{balance_of_branch, count_of_branch, lowest_of};
-ghost use Rattle.posting_rules.specs.Steps.{with_branch_balance};
+ghost use Rattle.posting_rules.specs.LookUps.{count_of_branch, lowest_of};
 ghost use Rattle.posting_core.specs.Appended.{floor_behind};
 
-use crate::walking::{BalanceRow, put};
+use crate::walking::put;
 use message_records::{Branch, Cents};
 use posting_rules::{BranchRow, FloorRow};
-
-impl BalanceRow for BranchRow {
-    ghost key = { branch_key };
-
-    ghost balance_in = { balance_of_branch };
-
-    ghost with_balance = { with_branch_balance };
-
-    fn number(&self) -> u64 {
-        self.branch.get()
-    }
-
-    fn balance(&self) -> Cents {
-        self.balance
-    }
-
-    fn set_balance(&mut self, balance: Cents) {
-        self.balance = balance;
-    }
-}
 
 /// How many accounts a branch is open with.
 pub(crate) fn count_at(rows: &[BranchRow], number: u64) -> Option<u32>
     ensures { result ≡ option_map count_of_branch (row_at branch_key rows.now number) }
 {
     rows.iter()
-        .find(|row| row.number() == number)
+        .find(|row| row.branch.get() == number)
         .map(|row| row.accounts)
 }
 

@@ -45,6 +45,9 @@ pub use clock::{Clock, StoredClock};
 pub use ends::{Sink, Source};
 pub use once::{OnceFault, answer_once};
 pub use plain_bank::PlainBank;
+pub use posting_batch::{
+    AccountSlot, Batch, BranchSlot, FloorSlot, Judged, Overlay, RequestSlot, TellerSlot,
+};
 pub use posting_rules::{
     ACCOUNTS_PER_BRANCH, AccountRow, BranchLine, BranchRow, Counter, Decision, Fault, FloorRow,
     Found, HistoryRow, Kept, LAST_BRANCH, MAX_ACCOUNTS, MAX_DECIDED, OpenFault, Opening, Ordinal,

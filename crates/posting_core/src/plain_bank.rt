@@ -1,22 +1,22 @@
 //! A bank in memory.
-ghost use Rattle.std.specs.Prelude.{◌≡◌, ◌≤◌, ◌≤ℤ◌, ◌<◌, ◌+◌, ◌-◌, ◌*◌, [], ◌∷◌, ◌++◌, List, pos, length, vec_len};
+ghost use Rattle.std.specs.Prelude.{◌≡◌, ◌≤◌, ◌≤ℤ◌, ◌<◌, ◌+◌, ◌-◌, ◌*◌, [], ◌∷◌, ◌++◌, pos, length, vec_len};
 ghost use Rattle.std.specs.Prelude.{vec_capacity, All, IfSome, IsTrue};
-ghost use Rattle.message_records.specs.Spelling.{reply_spelling};
-ghost use Rattle.message_records.specs.Reading.{request_of};
 ghost use Rattle.posting_rules.specs.declared.limits.TheConstants.{MAX_DECIDED};
 ghost use Rattle.posting_rules.specs.Branches.{IsAtMostZero, IsInRange};
 ghost use Rattle.posting_rules.specs.Commands.{IsFloor};
 ghost use Rattle.posting_rules.specs.Kept.{is_kept_with};
 ghost use Rattle.posting_rules.specs.Entries.{DecidedRequest};
 ghost use Rattle.posting_rules.specs.Tables.{request_row_of};
-ghost use Rattle.posting_core.specs.Appended.{reference_behind, rows_from};
+ghost use Rattle.posting_batch.specs.Judging.{reference_behind};
+ghost use Rattle.posting_core.specs.Appended.{HasOrdinalsTo, rows_from};
 
 use crate::branches::{count_at, floor_at, next_at, put_floor};
-use crate::walking::{NewRow, balance_at, kept_at, put, put_reference, set_balance_at};
+use crate::walking::{NewRow, kept_at, put, put_reference};
 use message_records::{
     Account, Branch, Cents, MAX_ACCOUNT, MAX_MOMENT, MAX_TELLER, Moment, Outcome, REPLY_BYTES,
     REQUEST_BYTES, Request, Teller, decode_request, encode_reply,
 };
+use posting_batch::{balance_at, change_at};
 use posting_rules::{
     AccountRow, BranchLine, BranchRow, Counter, Fault, FloorRow, Found, HistoryRow, LAST_BRANCH,
     MAX_ACCOUNTS, Opening, Ordinal, ReferenceRow, RequestRow, TELLERS_PER_BRANCH, TellerRow,
@@ -133,16 +133,18 @@ pub struct PlainBank {
     ghost few: { length requests.items ≤ MAX_DECIDED },
     ghost in_range: { All IsInRange branches.items },
     ghost at_most_zero: { All IsAtMostZero floors.items },
+    ghost counted: { HasOrdinalsTo (length requests.items) history.items requests.items references.items },
 }
 
 impl PlainBank {
     ghost use Rattle.posting_rules.specs.Cases.{IsProper};
+    ghost use Rattle.posting_rules.specs.Changes.{tables_after, tables_past, tables_past_all};
+    ghost use Rattle.posting_rules.specs.Changes.{reply_past, replies_past_all};
     ghost use Rattle.posting_rules.specs.Tables.{AreTablesOf};
     ghost use Rattle.posting_rules.specs.LookUps.{found_in};
     ghost use Rattle.posting_rules.specs.Branches.{line_in};
-    ghost use Rattle.posting_rules.specs.Commands.{Command, Post, IsCommand, AreCommands, opened_with};
-    ghost use Rattle.posting_rules.specs.Runs.{behind, posts, replies_to};
-    ghost use Rattle.posting_core.specs.Appended.{appended_after, appended_with, appended_opened, reply_in_tables};
+    ghost use Rattle.posting_rules.specs.Commands.{opened_with};
+    ghost use Rattle.posting_core.specs.Appended.{appended_opened};
     ghost use Rattle.posting_core.specs.Plain.{plain_tables};
 
     /// A bank with no branch. It takes no memory.
@@ -195,7 +197,7 @@ impl PlainBank {
             × (vec_capacity self.old.history ≤ vec_capacity self.new.history) }
         ensures references { (vec_len self.new.references ≤ vec_len self.old.references + 1)
             × (vec_capacity self.old.references ≤ vec_capacity self.new.references) }
-        ensures tables { plain_tables self.new ≡ appended_after (plain_tables self.old) moment request.now
+        ensures tables { plain_tables self.new ≡ tables_after (plain_tables self.old) moment request.now
             verdict.now }
     {
         match verdict {
@@ -214,9 +216,9 @@ impl PlainBank {
             } => {
                 let home = branch_of_teller(request.teller());
                 let ordinal = Ordinal::new(self.requests.len() as u64 + 1).unwrap();
-                set_balance_at(&mut self.accounts, request.account().get(), *account);
-                set_balance_at(&mut self.tellers, request.teller().get(), *teller);
-                set_balance_at(&mut self.branches, home, *branch);
+                change_at(&mut self.accounts, request.account().get(), *account);
+                change_at(&mut self.tellers, request.teller().get(), *teller);
+                change_at(&mut self.branches, home, *branch);
                 put(
                     &mut self.history,
                     HistoryRow::posted(ordinal, moment, request),
@@ -247,13 +249,9 @@ impl PlainBank {
             × (vec_capacity self.old.history ≤ vec_capacity self.new.history) }
         ensures references { (vec_len self.new.references ≤ vec_len self.old.references + 1)
             × (vec_capacity self.old.references ≤ vec_capacity self.new.references) }
-        ensures reply { result ≡ reply_spelling
-            (reply_in_tables (plain_tables self.old) (request_of bytes.now)) }
-        ensures tables { plain_tables self.new ≡ appended_with (plain_tables self.old) moment
-            (request_of bytes.now) }
-        ensures command { IsCommand (Post moment bytes.now) }
+        ensures reply { result ≡ reply_past (plain_tables self.old) bytes.now }
+        ensures tables { plain_tables self.new ≡ tables_past (plain_tables self.old) moment bytes.now }
     {
-        read_range(moment);
         let Ok(request) = decode_request(bytes) else {
             return encode_reply(&malformed_reply());
         };
@@ -275,12 +273,9 @@ impl PlainBank {
         requires references { vec_len self.old.references + length records.now
             ≤ vec_capacity self.old.references }
         requires replies { vec_len replies.old + length records.now ≤ vec_capacity replies.old }
-        ensures count { length replies.new.items ≡ length replies.old.items + length records.now }
-        ensures commands { AreCommands (posts moment records.now) }
-        ensures shows { (log : List Command) → AreTablesOf (plain_tables self.old) log
-            → AreTablesOf (plain_tables self.new) (behind log (posts moment records.now)) }
-        ensures replies { (log : List Command) → AreTablesOf (plain_tables self.old) log →
-            replies.new.items ≡ replies.old.items ++ replies_to log (posts moment records.now) }
+        ensures tables { plain_tables self.new ≡ tables_past_all (plain_tables self.old) moment records.now }
+        ensures replies { replies.new.items ≡ replies.old.items
+            ++ replies_past_all (plain_tables self.old) moment records.now }
     {
         for bytes in records {
             let reply = self.submit_within_capacity(moment, bytes);
@@ -356,6 +351,7 @@ impl Counter for PlainBank {
         moment: Moment,
         bytes: &[u8; REQUEST_BYTES],
     ) -> Result<[u8; REPLY_BYTES], Fault> {
+        read_range(moment);
         self.history.reserve(1)?;
         self.requests.reserve(1)?;
         self.references.reserve(1)?;
@@ -367,6 +363,7 @@ impl Counter for PlainBank {
         moment: Moment,
         records: &[[u8; REQUEST_BYTES]],
     ) -> Result<Vec<[u8; REPLY_BYTES]>, Fault> {
+        read_range(moment);
         let mut replies = Vec::new(self.alloc);
         replies.reserve(records.len())?;
         self.history.reserve(records.len())?;

@@ -1,35 +1,10 @@
 //! Rows in vectors, which are found by walking.
-ghost use Rattle.std.specs.Prelude.{◌≡◌, ◌<◌, ◌≤◌, ◌+◌, ◌++◌, ◌∷◌, [], ℕ, ℤ, vec_len, vec_capacity};
-ghost use Rattle.std.specs.Option.{option_map};
-ghost use Rattle.posting_rules.specs.Tables.{account_key, row_at, teller_key};
-ghost use Rattle.posting_rules.specs.LookUps.{balance_of_account, balance_of_teller, kept_in, reference_in};
-ghost use Rattle.posting_rules.specs.Steps.{with_account_balance, with_teller_balance};
-ghost use Rattle.posting_rules.specs.Changes.{row_changed};
-ghost use Rattle.posting_core.specs.Appended.{reference_behind};
+ghost use Rattle.std.specs.Prelude.{◌≡◌, ◌<◌, ◌≤◌, ◌+◌, ◌++◌, ◌∷◌, [], ℕ, vec_len, vec_capacity};
+ghost use Rattle.posting_rules.specs.LookUps.{kept_in, reference_in};
+ghost use Rattle.posting_batch.specs.Judging.{reference_behind};
 
-use message_records::{Cents, Number, Reference, Teller};
-use posting_rules::{AccountRow, Kept, Ordinal, ReferenceRow, RequestRow, TellerRow};
-
-/// A row that keeps a balance under a number.
-pub(crate) trait BalanceRow {
-    ghost key: { Self → ℕ };
-
-    ghost balance_in: { Self → ℤ };
-
-    ghost with_balance: { ℤ → Self → Self };
-
-    /// The number.
-    fn number(&self) -> u64
-        ensures { result ≡ key self.now };
-
-    /// The balance.
-    fn balance(&self) -> Cents
-        ensures { result ≡ balance_in self.now };
-
-    /// Gives it another balance.
-    fn set_balance(&mut self, balance: Cents)
-        ensures { self.new ≡ with_balance balance self.old };
-}
+use message_records::{Number, Reference, Teller};
+use posting_rules::{Kept, Ordinal, ReferenceRow, RequestRow};
 
 /// A row that comes with the opening of a branch.
 pub(crate) trait NewRow {
@@ -43,66 +18,6 @@ pub(crate) trait NewRow {
         requires above { 1 ≤ number }
         requires below { number ≤ most }
         ensures { result ≡ row_of number };
-}
-
-impl BalanceRow for TellerRow {
-    ghost key = { teller_key };
-
-    ghost balance_in = { balance_of_teller };
-
-    ghost with_balance = { with_teller_balance };
-
-    fn number(&self) -> u64 {
-        self.teller.get()
-    }
-
-    fn balance(&self) -> Cents {
-        self.balance
-    }
-
-    fn set_balance(&mut self, balance: Cents) {
-        self.balance = balance;
-    }
-}
-
-impl BalanceRow for AccountRow {
-    ghost key = { account_key };
-
-    ghost balance_in = { balance_of_account };
-
-    ghost with_balance = { with_account_balance };
-
-    fn number(&self) -> u64 {
-        self.account.get()
-    }
-
-    fn balance(&self) -> Cents {
-        self.balance
-    }
-
-    fn set_balance(&mut self, balance: Cents) {
-        self.balance = balance;
-    }
-}
-
-/// The balance of the row under a number.
-pub(crate) fn balance_at<R: BalanceRow>(rows: &[R], number: u64) -> Option<Cents>
-    ensures { result ≡ option_map R.balance_in (row_at R.key rows.now number) }
-{
-    rows.iter()
-        .find(|row| row.number() == number)
-        .map(|row| row.balance())
-}
-
-/// Gives the row under a number another balance.
-pub(crate) fn set_balance_at<R: BalanceRow>(rows: &mut [R], number: u64, balance: Cents)
-    ensures { rows.new ≡ row_changed R.key (R.with_balance balance) number rows.old }
-{
-    for row in rows.iter_mut() {
-        if row.number() == number {
-            row.set_balance(balance);
-        }
-    }
 }
 
 // The reference of the decided request under an ordinal.

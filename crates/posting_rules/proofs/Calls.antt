@@ -1,6 +1,5 @@
 -- What a request, an opening and a look-up do to the tables is what the commands lead to.
-use Rattle.std.proofs.Common.{◌≡◌, ℕ, ◌+◌, ◌≤◌, List, [], ◌∷◌, Option, Some, None, Ok, refl, sym, ap, subst}
-use Rattle.std.proofs.Common.{◌∙◌}
+use Rattle.std.proofs.Common.{◌≡◌, ℕ, ◌≤◌, List, [], ◌∷◌, Option, Some, None, Ok, refl, sym, ap, ◌∙◌}
 use Rattle.std.specs.Option.{option_map}
 use Rattle.message_records.specs.Records.{RequestFields}
 use Rattle.message_records.specs.Reading.{request_of}
@@ -8,11 +7,9 @@ use Rattle.message_records.specs.Spelling.{reply_spelling}
 use Rattle.posting_rules.specs.declared.rows.BranchRow.{BranchRow}
 use Rattle.posting_rules.specs.Commands.{Command, Open, Post, opened, Terms}
 use Rattle.posting_rules.specs.Runs.{behind}
-use Rattle.posting_rules.specs.Cases.{case_of}
 use Rattle.posting_rules.specs.Counter.{opening_for, opening_behind}
 use Rattle.posting_rules.specs.Entries.{decided, reply}
-use Rattle.posting_rules.specs.LookUps.{found_in, floor_in, terms_in, terms_of_branch}
-use Rattle.posting_rules.specs.Steps.{IsStep}
+use Rattle.posting_rules.specs.LookUps.{floor_in, terms_in, terms_of_branch}
 use Rattle.posting_rules.specs.Tables.{Tables, row_at, branch_key}
 use Rattle.posting_rules.specs.Tables.{AreTablesOf as Show}
 use Rattle.posting_rules.proofs.Looked.{terms_shown}
@@ -20,7 +17,7 @@ use Rattle.posting_rules.proofs.Opened.{opening_shown, already_open_shown}
 use Rattle.posting_rules.proofs.Stepped.{post_shown, reply_shown}
 use Rattle.posting_rules.specs.Changes.{tables_with, reply_bytes, opened_where, tables_with_branch}
 use Rattle.posting_rules.proofs.Ready.{ready_shown}
-use Rattle.posting_rules.proofs.Stepping.{step_is, opens_is}
+use Rattle.posting_rules.proofs.Stepping.{opens_is}
 use Rattle.posting_rules.specs.declared.limits.TheConstants.{MAX_ACCOUNTS}
 
 -- the change is that of the commands
@@ -31,11 +28,7 @@ IsChange after cs = (t : Tables) (log : List Command) → Show t log → Show (a
 
 pub posts : (m : ℕ) (bytes : List ℕ) (r : RequestFields) → request_of bytes ≡ Ok r
     → IsChange (λ t. tables_with t m r) (Post m bytes ∷ [])
-posts m bytes r read t log shows =
-    let v = case_of (found_in t r) r in
-    let step = step_is t m r v (ready_shown t log shows) in
-    post_shown t (tables_with t m r) log m bytes r read shows
-    (subst (λ n. IsStep t (tables_with t m r) (n + 1) m r v) shows.rows.decided step)
+posts m bytes r read t log shows = post_shown t log m bytes r read shows
 
 pub replies : (t : Tables) (log : List Command) (bytes : List ℕ) (r : RequestFields) → request_of bytes ≡ Ok r
     → Show t log

@@ -1,14 +1,13 @@
 -- Tables on which the next record and the next opening can build, as those of every log are.
-use Rattle.std.proofs.Common.{◌≡◌, ℕ, suc, ◌+◌, ◌<◌, ◌≤◌, Bool, true, false, cond, leb, List, length, Option}
+use Rattle.std.proofs.Common.{◌≡◌, ℕ, ◌+◌, ◌<◌, ◌≤◌, Bool, true, false, cond, leb, List, Option}
 use Rattle.std.proofs.Common.{Some, None, refl, sym, ap, ◌∙◌, arith}
 use Rattle.std.specs.Prelude.{ℤ, is_some, ◌&&◌, option_and_then}
 use Rattle.std.specs.Option.{option_map}
 use Rattle.std.proofs.lemmas.Bool.{le-leb}
 use Rattle.posting_rules.specs.declared.rows.BranchRow.{BranchRow}
 use Rattle.posting_rules.specs.Commands.{Command, opened, is_within, Terms}
-use Rattle.posting_rules.specs.Entries.{DecidedRequest, account_balance, teller_balance, branch_balance}
-use Rattle.posting_rules.specs.Entries.{decided}
-use Rattle.posting_rules.specs.Tables.{Tables, HasRows, AreTablesOf, HasKeys, row_at, branch_key, teller_key}
+use Rattle.posting_rules.specs.Entries.{account_balance, teller_balance, branch_balance, decided}
+use Rattle.posting_rules.specs.Tables.{Tables, AreTablesOf, HasKeys, row_at, branch_key, teller_key}
 use Rattle.posting_rules.specs.Tables.{account_key, history_key, request_key, branch_row_of, teller_row_of}
 use Rattle.posting_rules.specs.Tables.{account_row_of, floor_key, floor_row_of, reference_key}
 use Rattle.posting_rules.specs.LookUps.{terms_in, floor_in, terms_of_branch}
@@ -16,7 +15,7 @@ use Rattle.posting_rules.specs.Sound.{AreSound}
 use Rattle.posting_rules.specs.Numbering.{branch_of_teller, branch_of_account, place_of_account, first_teller}
 use Rattle.posting_rules.specs.Numbering.{first_account}
 use Rattle.posting_rules.proofs.Looked.{terms_shown}
-use Rattle.posting_rules.proofs.Stepped.{request_row_past, history_row_past, reference_row_past}
+use Rattle.posting_rules.proofs.Stepped.{next_request, next_posting, next_reference}
 use Rattle.posting_rules.specs.declared.limits.TheConstants.{ACCOUNTS_PER_BRANCH}
 
 -- the next ordinal is free, the tellers and the accounts are those of the branches, and only these have floors
@@ -68,27 +67,6 @@ there false test x e = absurd cc
 is_some-mapped : {A B : Type 0} (f : A → B) (o : Option A) → is_some (option_map f o) ≡ is_some o
 is_some-mapped f (Some x) = refl
 is_some-mapped f None = refl
-
-next_request : (t : Tables) (opened : ℕ → Option Terms) (es : List DecidedRequest) → HasRows t opened es
-    → row_at request_key t.requests (length es + 1) ≡ None
-next_request t opened es s =
-    let next : length es + 1 ≡ suc (length es) = omega arith in
-    ap (λ (o : ℕ). row_at request_key t.requests o) next ∙ s.requests (suc (length es)) ∙ request_row_past es
-    (length es) (omega arith)
-
-next_posting : (t : Tables) (opened : ℕ → Option Terms) (es : List DecidedRequest) → HasRows t opened es
-    → row_at history_key t.history (length es + 1) ≡ None
-next_posting t opened es s =
-    let next : length es + 1 ≡ suc (length es) = omega arith in
-    ap (λ (o : ℕ). row_at history_key t.history o) next ∙ s.history (suc (length es)) ∙ history_row_past es
-    (length es) (omega arith)
-
-next_reference : (t : Tables) (opened : ℕ → Option Terms) (es : List DecidedRequest) → HasRows t opened es
-    → row_at reference_key t.references (length es + 1) ≡ None
-next_reference t opened es s =
-    let next : length es + 1 ≡ suc (length es) = omega arith in
-    ap (λ (o : ℕ). row_at reference_key t.references o) next ∙ s.references (suc (length es))
-    ∙ reference_row_past es (length es) (omega arith)
 
 -- a branch that has no row has no floor
 unopened : (o : Option Terms) (b : ℕ) (z : ℤ) → option_map (branch_row_of b z) o ≡ None

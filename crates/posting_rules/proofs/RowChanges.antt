@@ -111,7 +111,7 @@ all-put P key x (r ∷ rows) new old =
       | inr f ↦ rw f (new, old)
     ]
 
-keys-put : {R : Type 0} (key : R → ℕ) (x : R) (rows : List R) → HasKeys key rows
+pub keys-put : {R : Type 0} (key : R → ℕ) (x : R) (rows : List R) → HasKeys key rows
     → row_at key rows (key x) ≡ None
     → HasKeys key (row_put key x rows)
 keys-put key x [] keys none = IsDistinct-cons nat_eq (key x) [] tt keys

@@ -1,13 +1,9 @@
 -- Commands one after another.
-use Rattle.std.proofs.Common.{◌≡◌, ℕ, suc, ◌+◌, ◌<◌, ◌≤◌, List, [], ◌∷◌, ◌++◌, length, take, get_or, refl}
-use Rattle.std.proofs.Common.{sym, ap, subst, ◌∙◌, append_assoc}
-use Rattle.std.proofs.lemmas.List.{take_more, map-append}
-use Rattle.message_records.specs.declared.limits.TheConstants.{MAX_MOMENT, REQUEST_BYTES}
+use Rattle.std.proofs.Common.{◌≡◌, ℕ, suc, List, [], ◌∷◌, ◌++◌, length, refl, ap}
 use Rattle.message_records.specs.Spelling.{reply_spelling}
 use Rattle.posting_rules.specs.Commands.{Command, Open, Post, AreCommands}
 use Rattle.posting_rules.specs.Entries.{reply}
-use Rattle.posting_rules.specs.Tables.{Tables, AreTablesOf}
-use Rattle.posting_rules.specs.Runs.{behind, posts, replies_to, ArePosts}
+use Rattle.posting_rules.specs.Runs.{behind, replies_to, ArePosts}
 
 -- commands and then others behind a log
 pub behind-append : (log cs ds : List Command) → behind log (cs ++ ds) ≡ behind (behind log cs) ds
@@ -34,45 +30,6 @@ replies_to-append log [] ds = refl
 replies_to-append log (Open b terms ∷ cs) ds = replies_to-append (Open b terms ∷ log) cs ds
 replies_to-append log (Post m r ∷ cs) ds = ap (λ (t : List (List ℕ)). reply_spelling (reply log r) ∷ t)
     (replies_to-append (Post m r ∷ log) cs ds)
-
--- ---- one record more of those that are posted at one moment
-
-posts_one_more : (m : ℕ) (rs : List (List ℕ)) (i : ℕ) → i < length rs
-    → posts m (take (i + 1) rs) ≡ posts m (take i rs) ++ Post m (get_or rs i []) ∷ []
-posts_one_more m rs i lt = ap (posts m) (take_more rs i [] lt) ∙ map-append (Post m) (take i rs)
-    (get_or rs i [] ∷ [])
-
--- they are commands of the bank
-pub commands_one_more : (m : ℕ) (rs : List (List ℕ)) (i : ℕ) → i < length rs → m ≤ MAX_MOMENT
-    → length (get_or rs i []) ≡ REQUEST_BYTES
-    → AreCommands (posts m (take i rs)) → AreCommands (posts m (take (i + 1) rs))
-commands_one_more m rs i lt late whole are =
-    subst AreCommands (sym (posts_one_more m rs i lt))
-    (commands_both (posts m (take i rs)) (Post m (get_or rs i []) ∷ []) are ((late, whole), tt))
-
--- what is shown with one more
-pub shows_one_more : (t : Tables) (log : List Command) (m : ℕ) (rs : List (List ℕ)) (i : ℕ) → i < length rs
-    → AreTablesOf t (Post m (get_or rs i []) ∷ behind log (posts m (take i rs)))
-    → AreTablesOf t (behind log (posts m (take (i + 1) rs)))
-shows_one_more t log m rs i lt s =
-    let one = Post m (get_or rs i []) ∷ [] in
-    subst (λ (l : List Command). AreTablesOf t l)
-    (sym (ap (behind log) (posts_one_more m rs i lt) ∙ behind-append log (posts m (take i rs)) one)) s
-
--- the replies with one more
-pub replies_one_more : (log : List Command) (m : ℕ) (rs : List (List ℕ)) (i : ℕ)
-    (before so_far after : List (List ℕ)) (out : List ℕ) → i < length rs
-    → so_far ≡ before ++ replies_to log (posts m (take i rs))
-    → out ≡ reply_spelling (reply (behind log (posts m (take i rs))) (get_or rs i []))
-    → after ≡ so_far ++ out ∷ [] → after ≡ before ++ replies_to log (posts m (take (i + 1) rs))
-replies_one_more log m rs i before so_far after out lt inv is e =
-    let bytes = get_or rs i [] in
-    let now = behind log (posts m (take i rs)) in
-    let replies = replies_to log (posts m (take i rs)) in
-    e ∙ ap (λ (t : List (List ℕ)). t ++ out ∷ []) inv ∙ ap (λ (x : List ℕ). (before ++ replies) ++ x ∷ []) is
-    ∙ append_assoc before replies (reply_spelling (reply now bytes) ∷ [])
-    ∙ ap (λ (t : List (List ℕ)). before ++ t) (sym (ap (replies_to log) (posts_one_more m rs i lt)
-    ∙ replies_to-append log (posts m (take i rs)) (Post m bytes ∷ [])))
 
 -- posts get a reply each
 pub one_reply_each : (log cs : List Command) → ArePosts cs → length (replies_to log cs) ≡ length cs

@@ -1,4 +1,4 @@
--- Tables of a log that a verdict changes are the tables of the log with the record.
+-- What a verdict leaves of the tables of a log are the tables of the log with the record.
 use Rattle.std.proofs.Common.{◌≡◌, ℕ, suc, ◌+◌, ◌<◌, ◌≤◌, Bool, true, false, cond, eqb, List, [], ◌∷◌, length}
 use Rattle.std.proofs.Common.{Option, Some, None, Result, Ok, Err, refl, sym, ap, subst, ◌∙◌, arith}
 use Rattle.std.specs.Prelude.{ℤ, ◌+ℤ◌, ◌&&◌}
@@ -12,12 +12,8 @@ use Rattle.message_records.specs.Reading.{request_of}
 use Rattle.posting_rules.specs.declared.judgments.Found.{Found}
 use Rattle.posting_rules.specs.declared.judgments.Verdict.{Verdict}
 use Rattle.posting_rules.specs.declared.judgments.Verdict.TheVariants.{Unkept, Again, Refused, Posted}
-use Rattle.posting_rules.specs.declared.rows.BranchRow.{BranchRow}
-use Rattle.posting_rules.specs.declared.rows.TellerRow.{TellerRow}
-use Rattle.posting_rules.specs.declared.rows.AccountRow.{AccountRow}
 use Rattle.posting_rules.specs.declared.rows.HistoryRow.{HistoryRow}
 use Rattle.posting_rules.specs.declared.rows.RequestRow.{RequestRow}
-use Rattle.posting_rules.specs.declared.rows.FloorRow.{FloorRow}
 use Rattle.posting_rules.specs.declared.rows.ReferenceRow.{ReferenceRow}
 use Rattle.posting_rules.specs.Commands.{Command, Post, opened, is_teller_open, is_account_open, Terms}
 use Rattle.posting_rules.specs.Numbering.{branch_of_teller}
@@ -29,15 +25,16 @@ use Rattle.posting_rules.specs.Entries.{with_record, reply_given, decided, reply
 use Rattle.posting_rules.specs.Tables.{Tables, HasRows, HasKeys, AreTablesOf, row_at, branch_key, teller_key}
 use Rattle.posting_rules.specs.Tables.{account_key, history_key, request_key, branch_row_of, teller_row_of}
 use Rattle.posting_rules.specs.Tables.{account_row_of, history_row, history_row_of, request_row}
-use Rattle.posting_rules.specs.Tables.{request_row_of, floor_key, reference_key, reference_row}
-use Rattle.posting_rules.specs.Tables.{reference_row_of}
+use Rattle.posting_rules.specs.Tables.{request_row_of, reference_key, reference_row, reference_row_of}
 use Rattle.posting_rules.specs.LookUps.{found_in}
-use Rattle.posting_rules.specs.Steps.{GainsRow, AddsReference, KeepsRefusal, KeepsPosting, IsStep}
-use Rattle.posting_rules.specs.Steps.{with_branch_balance}
-use Rattle.posting_rules.specs.Steps.{with_teller_balance, with_account_balance}
+use Rattle.posting_rules.specs.Changes.{row_put, reference_put, tables_kept, tables_posted, tables_after}
+use Rattle.posting_rules.specs.Changes.{tables_with, with_decided, with_request, with_reference, with_history}
+use Rattle.posting_rules.specs.Changes.{with_branch_balance, with_teller_balance, with_account_balance}
+use Rattle.posting_rules.specs.Steps as steps
 use Rattle.posting_rules.proofs.Verdicts.{IsVerdict, IsPosting, IsRefusal, verdict_is}
 use Rattle.posting_rules.proofs.Requests.{are_new}
 use Rattle.posting_rules.proofs.Looked.{found_shown}
+use Rattle.posting_rules.proofs.RowChanges.{row_at-put, row_changes, keys-put}
 
 -- ---- rows under ordinals
 
@@ -68,44 +65,58 @@ reference_row_past [] o le = refl
 reference_row_past (e ∷ es) o le = rw (other_ordinal (length es) o (omega arith))
     (reference_row_past es o (omega arith))
 
-requests_added : (old new : List RequestRow) (es : List DecidedRequest) (e : DecidedRequest)
-    → GainsRow request_key (request_row_of (length es + 1) e) old new
-    → ((o : ℕ) → row_at request_key old o ≡ request_row es o) → (o : ℕ)
-    → row_at request_key new o ≡ request_row (e ∷ es) o
-requests_added old new es e adds shown o =
-    adds.rows o ∙ ap (cond (eqb (length es + 1) o) (Some (request_row_of (length es + 1) e))) (shown o)
-    ∙ named (eqb (length es + 1) o) refl
+-- and none has the next one
+pub next_request : (t : Tables) (opened : ℕ → Option Terms) (es : List DecidedRequest) → HasRows t opened es
+    → row_at request_key t.requests (length es + 1) ≡ None
+next_request t opened es s =
+    ap (row_at request_key t.requests) (one_more (length es)) ∙ s.requests (suc (length es))
+    ∙ request_row_past es (length es) (omega arith)
+
+pub next_posting : (t : Tables) (opened : ℕ → Option Terms) (es : List DecidedRequest) → HasRows t opened es
+    → row_at history_key t.history (length es + 1) ≡ None
+next_posting t opened es s =
+    ap (row_at history_key t.history) (one_more (length es)) ∙ s.history (suc (length es))
+    ∙ history_row_past es (length es) (omega arith)
+
+pub next_reference : (t : Tables) (opened : ℕ → Option Terms) (es : List DecidedRequest) → HasRows t opened es
+    → row_at reference_key t.references (length es + 1) ≡ None
+next_reference t opened es s =
+    ap (row_at reference_key t.references) (one_more (length es)) ∙ s.references (suc (length es))
+    ∙ reference_row_past es (length es) (omega arith)
+
+-- what rows show with one more
+put_shown : {R : Type 0} (key : R → ℕ) (row : ℕ → R) (rows : List R) (n o : ℕ) (shown : Option R)
+    → key (row n) ≡ n → row_at key rows o ≡ shown
+    → row_at key (row_put key (row n) rows) o ≡ cond (eqb n o) (Some (row o)) shown
+put_shown key row rows n o shown own is =
+    row_at-put key (row n) rows o ∙ ap (λ (k : ℕ). cond (eqb k o) (Some (row n)) (row_at key rows o)) own
+    ∙ ap (cond (eqb n o) (Some (row n))) is ∙ named (eqb n o) refl
   where
-    named : (b : Bool) → eqb (length es + 1) o ≡ b
-        → cond b (Some (request_row_of (length es + 1) e)) (request_row es o) ≡ cond b
-        (Some (request_row_of o e)) (request_row es o)
-    named true t = ap (λ (n : ℕ). Some (request_row_of n e)) (eqb-true _ _ t)
+    named : (b : Bool) → eqb n o ≡ b → cond b (Some (row n)) shown ≡ cond b (Some (row o)) shown
+    named true t = ap (λ (k : ℕ). Some (row k)) (eqb-true _ _ t)
     named false f = refl
 
-history_added : (old new : List HistoryRow) (es : List DecidedRequest) (e : DecidedRequest)
-    → is_posted e ≡ true
-    → GainsRow history_key (history_row_of (length es + 1) e) old new
-    → ((o : ℕ) → row_at history_key old o ≡ history_row es o) → (o : ℕ)
-    → row_at history_key new o ≡ history_row (e ∷ es) o
-history_added old new es e done adds shown o =
-    adds.rows o ∙ ap (cond (eqb (length es + 1) o) (Some (history_row_of (length es + 1) e))) (shown o)
-    ∙ named (eqb (length es + 1) o) refl ∙ rw done refl
-  where
-    named : (b : Bool) → eqb (length es + 1) o ≡ b
-        → cond b (Some (history_row_of (length es + 1) e)) (history_row es o) ≡ cond b
-        (Some (history_row_of o e)) (history_row es o)
-    named true t = ap (λ (n : ℕ). Some (history_row_of n e)) (eqb-true _ _ t)
-    named false f = refl
+requests_added : (rows : List RequestRow) (es : List DecidedRequest) (e : DecidedRequest)
+    → ((o : ℕ) → row_at request_key rows o ≡ request_row es o) → (o : ℕ)
+    → row_at request_key (row_put request_key (request_row_of (length es + 1) e) rows) o
+    ≡ request_row (e ∷ es) o
+requests_added rows es e shown o = put_shown request_key (λ n. request_row_of n e) rows (length es + 1) o
+    (request_row es o) refl (shown o)
+
+history_added : (rows : List HistoryRow) (es : List DecidedRequest) (e : DecidedRequest) → is_posted e ≡ true
+    → ((o : ℕ) → row_at history_key rows o ≡ history_row es o) → (o : ℕ)
+    → row_at history_key (row_put history_key (history_row_of (length es + 1) e) rows) o
+    ≡ history_row (e ∷ es) o
+history_added rows es e done shown o =
+    put_shown history_key (λ n. history_row_of n e) rows (length es + 1) o (history_row es o) refl (shown o)
+    ∙ rw done refl
 
 -- the next ordinal has the reference of the request that is decided under it, or none
-references_added : (old new : List ReferenceRow) (es : List DecidedRequest) (e : DecidedRequest)
-    (reference : Option (List ℕ))
-    → e.request.reference ≡ reference → AddsReference (length es + 1) reference old new
-    → ((o : ℕ) → row_at reference_key old o ≡ reference_row es o) → (o : ℕ)
-    → row_at reference_key new o ≡ reference_row (e ∷ es) o
-references_added old new es e None its adds shown o =
-    ap (λ (rows : List ReferenceRow). row_at reference_key rows o) adds ∙ shown o ∙ rw its
-    (unreferenced (eqb (length es + 1) o) refl)
+references_added : (rows : List ReferenceRow) (es : List DecidedRequest) (e : DecidedRequest)
+    (reference : Option (List ℕ)) → e.request.reference ≡ reference
+    → ((o : ℕ) → row_at reference_key rows o ≡ reference_row es o) → (o : ℕ)
+    → row_at reference_key (reference_put (length es + 1) reference rows) o ≡ reference_row (e ∷ es) o
+references_added rows es e None its shown o = shown o ∙ rw its (unreferenced (eqb (length es + 1) o) refl)
   where
     unreferenced : (b : Bool) → eqb (length es + 1) o ≡ b
         → reference_row es o ≡ cond b None (reference_row es o)
@@ -113,21 +124,16 @@ references_added old new es e None its adds shown o =
         ap (λ (n : ℕ). reference_row es n) (sym (eqb-true _ _ t) ∙ one_more (length es))
         ∙ reference_row_past es (length es) (omega arith)
     unreferenced false f = refl
-references_added old new es e (Some text) its adds shown o =
-    adds.rows o ∙ ap (cond (eqb (length es + 1) o) (Some (reference_row_of (length es + 1) text))) (shown o)
-    ∙ rw its (named (eqb (length es + 1) o) refl)
-  where
-    named : (b : Bool) → eqb (length es + 1) o ≡ b
-        → cond b (Some (reference_row_of (length es + 1) text)) (reference_row es o) ≡ cond b
-        (Some (reference_row_of o text)) (reference_row es o)
-    named true t = ap (λ (n : ℕ). Some (reference_row_of n text)) (eqb-true _ _ t)
-    named false f = refl
+references_added rows es e (Some text) its shown o =
+    rw its (put_shown reference_key (λ n. reference_row_of n text) rows (length es + 1) o (reference_row es o)
+    refl (shown o))
 
-reference_keys_added : (old new : List ReferenceRow) (ordinal : ℕ) (reference : Option (List ℕ))
-    → AddsReference ordinal reference old new → HasKeys reference_key old → HasKeys reference_key new
-reference_keys_added old new ordinal None adds keys = subst
-    (λ (rows : List ReferenceRow). HasKeys reference_key rows) (sym adds) keys
-reference_keys_added old new ordinal (Some text) adds keys = adds.keys
+reference_keys_added : (ordinal : ℕ) (reference : Option (List ℕ)) (rows : List ReferenceRow)
+    → HasKeys reference_key rows → row_at reference_key rows ordinal ≡ None
+    → HasKeys reference_key (reference_put ordinal reference rows)
+reference_keys_added ordinal None rows keys free = keys
+reference_keys_added ordinal (Some text) rows keys free =
+    keys-put reference_key (reference_row_of ordinal text) rows keys free
 
 -- ---- balances
 
@@ -142,21 +148,21 @@ unposted_history : (es : List DecidedRequest) (e : DecidedRequest) → is_posted
 unposted_history es e h o = rw h refl
 
 branch_changed : (o : Option Terms) (hit : Bool) (b : ℕ) (z old delta : ℤ) → (hit ≡ true → z ≡ old +ℤ delta)
-    → option_map (λ r. cond hit (with_branch_balance z r) r) (option_map (branch_row_of b old) o) ≡ option_map
+    → option_map (λ r. cond hit (steps.with_branch_balance z r) r) (option_map (branch_row_of b old) o) ≡ option_map
     (branch_row_of b (cond hit (old +ℤ delta) old)) o
 branch_changed (Some count) true b z old delta h = ap (λ (v : ℤ). Some (branch_row_of b v count)) (h refl)
 branch_changed (Some count) false b z old delta h = refl
 branch_changed None hit b z old delta h = refl
 
 teller_changed : (is_open hit : Bool) (n : ℕ) (z old delta : ℤ) → (hit ≡ true → z ≡ old +ℤ delta)
-    → option_map (λ r. cond hit (with_teller_balance z r) r) (cond is_open (Some (teller_row_of n old)) None)
+    → option_map (λ r. cond hit (steps.with_teller_balance z r) r) (cond is_open (Some (teller_row_of n old)) None)
     ≡ cond is_open (Some (teller_row_of n (cond hit (old +ℤ delta) old))) None
 teller_changed true true n z old delta h = ap (λ (v : ℤ). Some (teller_row_of n v)) (h refl)
 teller_changed true false n z old delta h = refl
 teller_changed false hit n z old delta h = refl
 
 account_changed : (is_open hit : Bool) (n : ℕ) (z old delta : ℤ) → (hit ≡ true → z ≡ old +ℤ delta)
-    → option_map (λ r. cond hit (with_account_balance z r) r)
+    → option_map (λ r. cond hit (steps.with_account_balance z r) r)
     (cond is_open (Some (account_row_of n old)) None) ≡ cond is_open
     (Some (account_row_of n (cond hit (old +ℤ delta) old))) None
 account_changed true true n z old delta h = ap (λ (v : ℤ). Some (account_row_of n v)) (h refl)
@@ -165,115 +171,113 @@ account_changed false hit n z old delta h = refl
 
 -- ---- the two verdicts that change tables
 
-refusal_shown : (old new : Tables) (opened : ℕ → Option Terms) (es : List DecidedRequest) (m : ℕ)
-    (r : RequestFields)
-    (o : Outcome)
-    → HasRows old opened es → IsRefusal es r o → KeepsRefusal old new (length es + 1) (refused_entry m r o)
-    → HasRows new opened (refused_entry m r o ∷ es)
-refusal_shown old new opened es m r o s h step =
+refusal_shown : (t : Tables) (opened : ℕ → Option Terms) (es : List DecidedRequest) (m : ℕ)
+    (r : RequestFields) (o : Outcome) → HasRows t opened es → IsRefusal es r o
+    → HasRows (tables_kept t (length es + 1) (refused_entry m r o)) opened (refused_entry m r o ∷ es)
+unfolding with_decided with_request with_reference
+refusal_shown t opened es m r o s h =
     let e = refused_entry m r o in
     record {
-      decided = step.decided ∙ one_more (length es);
-      branches = λ b. ap (λ (rows : List BranchRow). row_at branch_key rows b) step.branches ∙ s.branches b
-          ∙ ap (λ (z : ℤ). option_map (branch_row_of b z) (opened b))
+      decided = one_more (length es);
+      branches = λ b. s.branches b ∙ ap (λ (z : ℤ). option_map (branch_row_of b z) (opened b))
           (unposted_sum (λ q. eqb q.branch b) es e h.unposted);
-      tellers = λ t. ap (λ (rows : List TellerRow). row_at teller_key rows t) step.tellers ∙ s.tellers t
-          ∙ ap (λ (z : ℤ). cond (is_teller_open opened t) (Some (teller_row_of t z)) None)
-          (unposted_sum (λ q. eqb q.teller t) es e h.unposted);
-      accounts = λ a. ap (λ (rows : List AccountRow). row_at account_key rows a) step.accounts ∙ s.accounts a
+      tellers = λ n. s.tellers n
+          ∙ ap (λ (z : ℤ). cond (is_teller_open opened n) (Some (teller_row_of n z)) None)
+          (unposted_sum (λ q. eqb q.teller n) es e h.unposted);
+      accounts = λ a. s.accounts a
           ∙ ap (λ (z : ℤ). cond (is_account_open opened a) (Some (account_row_of a z)) None)
           (unposted_sum (λ q. eqb q.account a) es e h.unposted);
-      history = λ k. ap (λ (rows : List HistoryRow). row_at history_key rows k) step.history ∙ s.history k
-          ∙ unposted_history es e h.unposted k;
-      requests = requests_added old.requests new.requests es e step.requests s.requests;
-      references = references_added old.references new.references es e r.reference refl step.references
-          s.references;
-      floors = λ b. ap (λ (rows : List FloorRow). row_at floor_key rows b) step.floors ∙ s.floors b;
-      branch_keys = subst (λ (rows : List BranchRow). HasKeys branch_key rows)
-          (sym step.branches) s.branch_keys;
-      teller_keys = subst (λ (rows : List TellerRow). HasKeys teller_key rows)
-          (sym step.tellers) s.teller_keys;
-      account_keys = subst (λ (rows : List AccountRow). HasKeys account_key rows)
-          (sym step.accounts) s.account_keys;
-      history_keys = subst (λ (rows : List HistoryRow). HasKeys history_key rows)
-          (sym step.history) s.history_keys;
-      request_keys = step.requests.keys;
-      floor_keys = subst (λ (rows : List FloorRow). HasKeys floor_key rows) (sym step.floors) s.floor_keys;
-      reference_keys = reference_keys_added old.references new.references (length es + 1) r.reference
-          step.references s.reference_keys;
+      history = λ k. s.history k ∙ unposted_history es e h.unposted k;
+      requests = requests_added t.requests es e s.requests;
+      references = references_added t.references es e r.reference refl s.references;
+      floors = s.floors;
+      branch_keys = s.branch_keys;
+      teller_keys = s.teller_keys;
+      account_keys = s.account_keys;
+      history_keys = s.history_keys;
+      request_keys = keys-put request_key (request_row_of (length es + 1) e) t.requests s.request_keys
+          (next_request t opened es s);
+      floor_keys = s.floor_keys;
+      reference_keys = reference_keys_added (length es + 1) r.reference t.references s.reference_keys
+          (next_reference t opened es s);
     }
 
-posting_shown : (old new : Tables) (opened : ℕ → Option Terms) (es : List DecidedRequest) (m : ℕ)
-    (r : RequestFields)
-    (a t b : ℤ)
-    → HasRows old opened es → IsPosting opened es r a t b
-    → KeepsPosting old new (length es + 1) (posted_entry m r a) t b
-    → HasRows new opened (posted_entry m r a ∷ es)
-posting_shown old new opened es m r a t b s h step =
+posting_shown : (t : Tables) (opened : ℕ → Option Terms) (es : List DecidedRequest) (m : ℕ)
+    (r : RequestFields) (a te b : ℤ) → HasRows t opened es → IsPosting opened es r a te b
+    → HasRows (tables_posted t (length es + 1) (posted_entry m r a) te b) opened (posted_entry m r a ∷ es)
+unfolding with_decided with_request with_reference with_history
+    with_branch_balance with_teller_balance with_account_balance
+posting_shown t opened es m r a te b s h =
     let e = posted_entry m r a in
     let home = branch_of_teller r.teller in
+    let branches = row_changes branch_key home (steps.with_branch_balance b) t.branches (λ _. refl)
+    s.branch_keys in
+    let tellers = row_changes teller_key r.teller (steps.with_teller_balance te) t.tellers (λ _. refl)
+    s.teller_keys in
+    let accounts = row_changes account_key r.account (steps.with_account_balance a) t.accounts (λ _. refl)
+    s.account_keys in
     record {
-      decided = step.decided ∙ one_more (length es);
-      branches = λ n. step.branches.rows n ∙ ap
-          (option_map (λ row. cond (eqb home n) (with_branch_balance b row) row)) (s.branches n)
+      decided = one_more (length es);
+      branches = λ n. branches.rows n ∙ ap
+          (option_map (λ row. cond (eqb home n) (steps.with_branch_balance b row) row)) (s.branches n)
           ∙ branch_changed (opened n) (eqb home n) n b (branch_balance es n) r.delta
           (λ q. h.branch_is.sum ∙ ap (λ (x : ℕ). branch_balance es x +ℤ r.delta) (eqb-true _ _ q))
           ∙ ap (λ (x : ℕ). option_map (branch_row_of n (cond (eqb x n) (branch_balance es n +ℤ r.delta)
           (branch_balance es n))) (opened n)) (sym h.its_branch);
-      tellers = λ n. step.tellers.rows n ∙ ap
-          (option_map (λ row. cond (eqb r.teller n) (with_teller_balance t row) row)) (s.tellers n)
-          ∙ teller_changed (is_teller_open opened n) (eqb r.teller n) n t (teller_balance es n) r.delta
+      tellers = λ n. tellers.rows n ∙ ap
+          (option_map (λ row. cond (eqb r.teller n) (steps.with_teller_balance te row) row)) (s.tellers n)
+          ∙ teller_changed (is_teller_open opened n) (eqb r.teller n) n te (teller_balance es n) r.delta
           (λ q. h.teller_is.sum ∙ ap (λ (x : ℕ). teller_balance es x +ℤ r.delta) (eqb-true _ _ q));
-      accounts = λ n. step.accounts.rows n ∙ ap
-          (option_map (λ row. cond (eqb r.account n) (with_account_balance a row) row)) (s.accounts n)
+      accounts = λ n. accounts.rows n ∙ ap
+          (option_map (λ row. cond (eqb r.account n) (steps.with_account_balance a row) row)) (s.accounts n)
           ∙ account_changed (is_account_open opened n) (eqb r.account n) n a (account_balance es n) r.delta
           (λ q. h.account_is.sum ∙ ap (λ (x : ℕ). account_balance es x +ℤ r.delta) (eqb-true _ _ q));
-      history = history_added old.history new.history es e refl step.history s.history;
-      requests = requests_added old.requests new.requests es e step.requests s.requests;
-      references = references_added old.references new.references es e r.reference refl step.references
-          s.references;
-      floors = λ n. ap (λ (rows : List FloorRow). row_at floor_key rows n) step.floors ∙ s.floors n;
-      branch_keys = step.branches.keys;
-      teller_keys = step.tellers.keys;
-      account_keys = step.accounts.keys;
-      history_keys = step.history.keys;
-      request_keys = step.requests.keys;
-      floor_keys = subst (λ (rows : List FloorRow). HasKeys floor_key rows) (sym step.floors) s.floor_keys;
-      reference_keys = reference_keys_added old.references new.references (length es + 1) r.reference
-          step.references s.reference_keys;
+      history = history_added t.history es e refl s.history;
+      requests = requests_added t.requests es e s.requests;
+      references = references_added t.references es e r.reference refl s.references;
+      floors = s.floors;
+      branch_keys = branches.keys;
+      teller_keys = tellers.keys;
+      account_keys = accounts.keys;
+      history_keys = keys-put history_key (history_row_of (length es + 1) e) t.history s.history_keys
+          (next_posting t opened es s);
+      request_keys = keys-put request_key (request_row_of (length es + 1) e) t.requests s.request_keys
+          (next_request t opened es s);
+      floor_keys = s.floor_keys;
+      reference_keys = reference_keys_added (length es + 1) r.reference t.references s.reference_keys
+          (next_reference t opened es s);
     }
 
-verdict_shown : (old new : Tables) (opened : ℕ → Option Terms) (es : List DecidedRequest) (m : ℕ)
-    (r : RequestFields)
-    (v : Verdict)
-    → HasRows old opened es → IsVerdict opened es r v → IsStep old new (length es + 1) m r v
-    → HasRows new opened (with_verdict m r v es)
-verdict_shown old new opened es m r (Unkept o) s h step = subst (λ (u : Tables). HasRows u opened es)
-    (sym step) s
-verdict_shown old new opened es m r (Again x) s h step = subst (λ (u : Tables). HasRows u opened es)
-    (sym step) s
-verdict_shown old new opened es m r (Refused o) s h step = refusal_shown old new opened es m r o s h step
-verdict_shown old new opened es m r (Posted a t b) s h step =
-    posting_shown old new opened es m r a t b s h step
+-- the entry of a verdict stands under the ordinal behind the count
+verdict_shown : (t : Tables) (opened : ℕ → Option Terms) (es : List DecidedRequest) (m : ℕ)
+    (r : RequestFields) (v : Verdict) → HasRows t opened es → IsVerdict opened es r v
+    → HasRows (tables_after t m r v) opened (with_verdict m r v es)
+verdict_shown t opened es m r (Unkept o) s h = s
+verdict_shown t opened es m r (Again x) s h = s
+verdict_shown t opened es m r (Refused o) s h =
+    let e = refused_entry m r o in
+    subst (λ (n : ℕ). HasRows (tables_kept t (n + 1) e) opened (e ∷ es)) (sym s.decided)
+    (refusal_shown t opened es m r o s h)
+verdict_shown t opened es m r (Posted a te b) s h =
+    let e = posted_entry m r a in
+    subst (λ (n : ℕ). HasRows (tables_posted t (n + 1) e te b) opened (e ∷ es)) (sym s.decided)
+    (posting_shown t opened es m r a te b s h)
 
 -- ---- a request behind a log
 
--- tables that the verdict on what was looked up for a request changes
-pub post_shown : (old new : Tables) (log : List Command) (m : ℕ) (bytes : List ℕ) (r : RequestFields)
-    → request_of bytes ≡ Ok r → AreTablesOf old log
-    → IsStep old new (length (decided log) + 1) m r (case_of (found_in old r) r)
-    → AreTablesOf new (Post m bytes ∷ log)
-post_shown old new log m bytes r read s step =
+-- the verdict on what was looked up for a request leaves the tables of the log with it
+pub post_shown : (t : Tables) (log : List Command) (m : ℕ) (bytes : List ℕ) (r : RequestFields)
+    → request_of bytes ≡ Ok r → AreTablesOf t log → AreTablesOf (tables_with t m r) (Post m bytes ∷ log)
+post_shown t log m bytes r read s =
     let es = decided log in
-    let found : found_in old r ≡ facts (λ b. opened log b) es r = found_shown old (λ b. opened log b) es r
-    (are_new log) s.rows in
-    let v = case_of (facts (λ b. opened log b) es r) r in
-    let after : HasRows new (λ b. opened log b) (with_verdict m r v es) =
-    verdict_shown old new (λ b. opened log b) es m r v s.rows (verdict_is (λ b. opened log b) es r)
-    (subst (λ (f : Found). IsStep old new (length es + 1) m r (case_of f r)) found step) in
+    let open_ = λ (b : ℕ). opened log b in
+    let v = case_of (facts open_ es r) r in
+    let found : found_in t r ≡ facts open_ es r = found_shown t open_ es r (are_new log) s.rows in
     record {
-      rows = subst (λ (x : Result RequestFields Bad). HasRows new (λ b. opened log b)
-          (with_record m x (λ b. opened log b) es)) (sym read) after;
+      rows = subst (λ (x : Result RequestFields Bad). HasRows (tables_with t m r) open_
+          (with_record m x open_ es)) (sym read)
+          (subst (λ (f : Found). HasRows (tables_after t m r (case_of f r)) open_ (with_verdict m r v es))
+          (sym found) (verdict_shown t open_ es m r v s.rows (verdict_is open_ es r)));
     }
 
 -- bytes that are no request change nothing

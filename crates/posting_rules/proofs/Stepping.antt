@@ -1,38 +1,29 @@
--- In sound tables, what a verdict or an opening leaves by its statements is what it does to tables by
--- look-ups.
+-- What the statements of a posting and of an opening leave of sound tables.
 use Rattle.std.proofs.Common.{◌≡◌, ℕ, suc, ◌+◌, ◌<◌, ◌≤◌, List, Option, Some, None, refl, ap, ◌∙◌, arith}
 use Rattle.std.specs.Prelude.{ℤ, pos, is_some, IsSome}
 use Rattle.std.specs.Option.{option_map}
 use Rattle.message_records.specs.Records.{RequestFields}
 use Rattle.posting_rules.specs.declared.judgments.Verdict.{Verdict}
-use Rattle.posting_rules.specs.declared.judgments.Verdict.TheVariants.{Unkept, Again, Refused, Posted}
+use Rattle.posting_rules.specs.declared.judgments.Verdict.TheVariants.{Posted}
 use Rattle.posting_rules.specs.declared.rows.FloorRow.{FloorRow}
-use Rattle.posting_rules.specs.declared.rows.ReferenceRow.{ReferenceRow}
 use Rattle.posting_rules.specs.Commands.{Command, AreCommands, Terms}
 use Rattle.posting_rules.specs.Cases.{case_of, plus_within}
-use Rattle.posting_rules.specs.Entries.{DecidedRequest, refused_entry, posted_entry}
+use Rattle.posting_rules.specs.Entries.{DecidedRequest}
 use Rattle.posting_rules.specs.Tables.{Tables, AreTablesOf, HasKeys, row_at, branch_key, teller_key}
-use Rattle.posting_rules.specs.Tables.{account_key}
-use Rattle.posting_rules.specs.Tables.{history_key, request_key, branch_row_of, request_row_of}
-use Rattle.posting_rules.specs.Tables.{history_row_of, floor_key, floor_row_of, reference_key}
-use Rattle.posting_rules.specs.Tables.{reference_row_of}
+use Rattle.posting_rules.specs.Tables.{account_key, branch_row_of, floor_key, floor_row_of}
 use Rattle.posting_rules.specs.LookUps.{both_of, balance_of_branch, balance_of_teller, balance_of_account}
 use Rattle.posting_rules.specs.LookUps.{found_in}
-use Rattle.posting_rules.specs.Steps.{GainsRow, AddsRows, AddsFloor, KeepsRefusal, KeepsPosting, IsStep}
-use Rattle.posting_rules.specs.Steps.{OpensBranch, AddsReference}
+use Rattle.posting_rules.specs.Steps.{AddsFloor, OpensBranch}
 use Rattle.posting_rules.specs.Numbering.{branch_of_teller, first_teller, first_account}
-use Rattle.posting_rules.specs.Steps as steps
 use Rattle.posting_rules.proofs.Undamaged.{undamaged}
 use Rattle.posting_rules.proofs.Verdicts.{by_posting, by_account, by_new, by_known, by_teller}
-use Rattle.posting_rules.specs.Changes.{rows_put, new_teller, new_account, with_decided, with_branch_balance}
+use Rattle.posting_rules.specs.Changes.{rows_put, new_teller, new_account, with_branch_balance}
 use Rattle.posting_rules.specs.Changes.{with_teller_balance, with_account_balance, with_branch, with_teller}
-use Rattle.posting_rules.specs.Changes.{with_account, with_history, with_request, with_floor, floor_put}
-use Rattle.posting_rules.specs.Changes.{with_reference, reference_put}
+use Rattle.posting_rules.specs.Changes.{with_account, with_history, with_floor, floor_put}
 use Rattle.posting_rules.specs.Sound.{AreSound}
-use Rattle.posting_rules.specs.Changes.{tables_kept, tables_moved, tables_posted, tables_after, with_tellers}
-use Rattle.posting_rules.specs.Changes.{with_accounts, tables_opened, HasRowsOf}
+use Rattle.posting_rules.specs.Changes.{tables_moved, with_tellers, with_accounts, tables_opened, HasRowsOf}
 use Rattle.posting_rules.proofs.Ready.{AreReady, ready_sound, no_teller, no_account}
-use Rattle.posting_rules.proofs.RowChanges.{row_changes, row_adds, rows_add, next_is_free}
+use Rattle.posting_rules.proofs.RowChanges.{row_adds, rows_add, next_is_free}
 use Rattle.posting_rules.specs.declared.limits.TheConstants.{MAX_ACCOUNTS}
 
 -- the tables that a log of commands leads to are sound
@@ -47,65 +38,6 @@ sound_tables t log are shows = record {
   floors = shows.rows.floor_keys;
   references = shows.rows.reference_keys;
 }
-
--- ---- what is decided
-
--- the reference that is put in
-reference_adds : (ordinal : ℕ) (reference : Option (List ℕ)) (rows : List ReferenceRow)
-    → HasKeys reference_key rows → row_at reference_key rows ordinal ≡ None
-    → AddsReference ordinal reference rows (reference_put ordinal reference rows)
-reference_adds ordinal None rows keys free = refl
-reference_adds ordinal (Some text) rows keys free = row_adds reference_key rows
-    (reference_row_of ordinal text) keys free
-
--- the tables of a refusal
-pub refused_is : (t : Tables) (e : DecidedRequest) → AreReady t
-    → KeepsRefusal t (tables_kept t (t.decided + 1) e) (t.decided + 1) e
-unfolding with_decided with_request with_reference
-refused_is t e ready = record {
-  decided = refl;
-  branches = refl;
-  tellers = refl;
-  accounts = refl;
-  history = refl;
-  requests = row_adds request_key t.requests
-      (request_row_of (t.decided + 1) e) ready.requests ready.next_request;
-  references = reference_adds (t.decided + 1) e.request.reference t.references
-      ready.references ready.next_reference;
-  floors = refl;
-}
-
--- the tables of a posting
-pub posted_is : (t : Tables) (e : DecidedRequest) (teller branch : ℤ) → AreReady t
-    → KeepsPosting t (tables_posted t (t.decided + 1) e teller branch) (t.decided + 1) e teller branch
-unfolding with_decided with_request with_reference with_history
-    with_branch_balance with_teller_balance with_account_balance
-posted_is t e teller branch ready = record {
-  decided = refl;
-  branches =
-      row_changes branch_key (branch_of_teller e.request.teller) (steps.with_branch_balance branch) t.branches
-      (λ _. refl) ready.branches;
-  tellers = row_changes teller_key e.request.teller (steps.with_teller_balance teller) t.tellers
-      (λ _. refl) ready.tellers;
-  accounts = row_changes account_key e.request.account (steps.with_account_balance e.balance) t.accounts
-      (λ _. refl) ready.accounts;
-  history = row_adds history_key t.history
-      (history_row_of (t.decided + 1) e) ready.history ready.next_posting;
-  requests = row_adds request_key t.requests
-      (request_row_of (t.decided + 1) e) ready.requests ready.next_request;
-  references = reference_adds (t.decided + 1) e.request.reference t.references
-      ready.references ready.next_reference;
-  floors = refl;
-}
-
--- the tables of any verdict
-pub step_is : (t : Tables) (moment : ℕ) (r : RequestFields) (v : Verdict) → AreReady t
-    → IsStep t (tables_after t moment r v) (t.decided + 1) moment r v
-step_is t moment r (Unkept outcome) ready = refl
-step_is t moment r (Again reply) ready = refl
-step_is t moment r (Refused outcome) ready = refused_is t (refused_entry moment r outcome) ready
-step_is t moment r (Posted account teller branch) ready = posted_is t
-    (posted_entry moment r account) teller branch ready
 
 -- the writes of a posting leave the decided requests
 pub requests_as_before : (t : Tables) (ordinal : ℕ) (e : DecidedRequest) (teller branch : ℤ)

@@ -5,7 +5,10 @@ use Rattle.std.specs.Prelude.{ℤ, All, map}
 use Rattle.std.proofs.{lemmas.Grind.common_steps, lemmas.List.with_items_is, lemmas.List.Elements.All-map}
 use Rattle.posting_rules.specs.declared.rows.BranchRow.{BranchRow}
 use Rattle.posting_rules.specs.{Branches.IsInRange, Changes.row_changed, Steps.with_branch_balance, Tables.branch_key}
+use Rattle.posting_rules.specs.Entries.{posted_entry, refused_entry}
 use Rattle.posting_rules.proofs.RowChanges.{changed_at}
+use Rattle.posting_core.specs.Plain.{plain_tables}
+use Rattle.posting_core.proofs.Appending.{kept_is, posted_is}
 use Rattle.posting_core.proofs.plain_bank.PlainBank.apply.Goals as goal
 
 -- another balance leaves number and count
@@ -24,17 +27,29 @@ changed_in_range number balance rows h =
 pub invariant_of-self-in-Posted-1-clause-in_range : goal.invariant_of-self-in-Posted-1-clause-in_range
 invariant_of-self-in-Posted-1-clause-in_range c =
     let vec = c.args.self.now.branches in
-    let after = c.set_balance_at-in-Posted-2.new.rows in
+    let after = c.change_at-in-Posted-2.new.rows in
     let change = changed_at branch_key c.branch_of_teller-home.result
     (with_branch_balance c.in-Posted.branch) in
     let is : after ≡ map change vec.items =
-    c.set_balance_at-in-Posted-2.ensures ∙ ap (map change) c.deref_mut-in-Posted-2.ensures.value in
+    c.change_at-in-Posted-2.ensures ∙ ap (map change) c.deref_mut-in-Posted-2.ensures.value in
     let long : length after ≡ vec.len = search rules in
     subst (λ (rows : List BranchRow). All IsInRange rows) (sym (with_items_is vec after long ∙ is))
     (changed_in_range c.branch_of_teller-home.result c.in-Posted.branch vec.items c.args.self.now.in_range)
 
+-- the last step first, which says what the first one comes to
+last : {A : Type 0} {x y z : A} → y ≡ z → x ≡ y → x ≡ z
+last is first = first ∙ is
+
 pub returns-in-Refused-clause-tables : goal.returns-in-Refused-clause-tables
-returns-in-Refused-clause-tables c = grind (arith, common_steps)
+returns-in-Refused-clause-tables c =
+    let bank = c.args.self.now in
+    let e = refused_entry c.args.moment c.args.request.now c.in-Refused.outcome in
+    rw c.in-Refused.is (last (kept_is (plain_tables bank) e bank.counted) (grind (arith, common_steps)))
 
 pub returns-in-Posted-clause-tables : goal.returns-in-Posted-clause-tables
-returns-in-Posted-clause-tables c = grind (arith, common_steps)
+returns-in-Posted-clause-tables c =
+    let bank = c.args.self.now in
+    let e = posted_entry c.args.moment c.args.request.now c.in-Posted.account in
+    rw c.in-Posted.is
+    (last (posted_is (plain_tables bank) e c.in-Posted.teller c.in-Posted.branch bank.counted)
+    (grind (arith, common_steps)))

@@ -1,20 +1,16 @@
-use Rattle.std.proofs.Common.{◌≡◌, ◌+◌, ◌-◌, ◌≤◌, ◌++◌, List, take, length, vec_len}
+use Rattle.std.proofs.Common.{◌≡◌, ◌+◌, ◌-◌, ◌≤◌, ◌++◌, drop, length, vec_len}
 use Rattle.std.specs.Vec.{vec_capacity}
-use Rattle.posting_rules.specs.{Commands.Command, Commands.AreCommands, Tables.AreTablesOf}
+use Rattle.posting_rules.specs.Changes.{tables_past_all, replies_past_all}
 use Rattle.posting_core.specs.Plain.{plain_tables}
-use Rattle.posting_rules.specs.Runs.{behind, posts, replies_to}
 use Rattle.posting_core.proofs.plain_bank.PlainBank.submit_all_within_capacity.Given as goal
 
--- the records so far are behind each log, their replies were put, and there is room for the others
+-- what is left comes to what all come to, and there is room for it
 abbrev pub invariant-loop-bytes : goal.invariant-loop-bytes
 invariant-loop-bytes l = record {
-  shows : (log : List Command) → AreTablesOf (plain_tables l.fn.self) log
-      → AreTablesOf (plain_tables l.self) (behind log (posts l.moment (take l.bytes-index l.records)));
-  replies : (log : List Command) → AreTablesOf (plain_tables l.fn.self) log
-      → l.replies.items ≡ l.fn.replies.items ++ replies_to log
-      (posts l.moment (take l.bytes-index l.records));
-  commands : AreCommands (posts l.moment (take l.bytes-index l.records));
-  count : length l.replies.items ≡ length l.fn.replies.items + l.bytes-index;
+  tables : tables_past_all (plain_tables l.self) l.moment (drop l.bytes-index l.records)
+      ≡ tables_past_all (plain_tables l.fn.self) l.moment l.records;
+  told : l.replies.items ++ replies_past_all (plain_tables l.self) l.moment (drop l.bytes-index l.records)
+      ≡ l.fn.replies.items ++ replies_past_all (plain_tables l.fn.self) l.moment l.records;
   replies_room : vec_len l.replies + (length l.records - l.bytes-index) ≤ vec_capacity l.replies;
   requests_room : vec_len l.self.requests + (length l.records - l.bytes-index) ≤ vec_capacity l.self.requests;
   history_room : vec_len l.self.history + (length l.records - l.bytes-index) ≤ vec_capacity l.self.history;

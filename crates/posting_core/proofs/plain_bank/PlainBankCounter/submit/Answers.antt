@@ -1,27 +1,31 @@
-use Rattle.std.proofs.Common.{[], ◌∷◌, refl, rules}
-use Rattle.posting_rules.specs.Commands.{Post}
+use Rattle.std.proofs.Common.{[], ◌∷◌, refl, ap, ◌∙◌, rules}
+use Rattle.posting_rules.specs.{Commands.Post, Changes.reply_past, Changes.tables_past, Tables.Tables}
+use Rattle.posting_rules.proofs.Records.{past_shown, past_reply}
 use Rattle.posting_core.specs.Plain.{plain_tables}
-use Rattle.posting_core.proofs.InMemory.{record_from, reply_from, requests_as_before, plain_shows}
-use Rattle.posting_core.proofs.InMemory.{answered_plain, spared_plain, takes_plain}
+use Rattle.posting_core.proofs.InMemory.{answered_plain, behind_plain, plain_shows, requests_as_before, spared_plain}
 use Rattle.posting_core.proofs.plain_bank.PlainBankCounter.submit.Goals as goal
 
 pub returns-clause-answer : goal.returns-clause-answer
-returns-clause-answer c = λ h log s.
-    reply_from (plain_tables c.args.self.now) _ log c.args.bytes.now _ c.submit_within_capacity.ensures.reply
-    (requests_as_before (plain_tables c.args.self.now) _ _ _ refl c.reserve.ensures.items
-    c.reserve-2.ensures.items c.reserve-3.ensures.items) (plain_shows c.args.self.now log s)
+returns-clause-answer c h log s =
+    let t = plain_tables c.args.self.now in
+    let same = requests_as_before t _ _ _ refl c.reserve.ensures.items c.reserve-2.ensures.items
+    c.reserve-3.ensures.items in
+    c.submit_within_capacity.ensures.reply ∙ ap (λ (u : Tables). reply_past u c.args.bytes.now) same
+    ∙ past_reply t log c.args.bytes.now (plain_shows c.args.self.now log s)
 
 pub returns-clause-call : goal.returns-clause-call
 returns-clause-call c =
-    answered_plain c.args.self.now c.submit_within_capacity.new.self (Post c.args.moment c.args.bytes.now ∷ [])
+    let t = plain_tables c.args.self.now in
+    let same = requests_as_before t _ _ _ refl c.reserve.ensures.items c.reserve-2.ensures.items
+    c.reserve-3.ensures.items in
+    let m = c.args.moment in
+    let bytes = c.args.bytes.now in
+    answered_plain c.args.self.now c.submit_within_capacity.new.self (Post m bytes ∷ [])
     c.submit_within_capacity.result
-    (takes_plain c.args.self.now c.submit_within_capacity.new.self (Post c.args.moment c.args.bytes.now ∷ [])
-    (c.submit_within_capacity.ensures.command, tt) (λ log s.
-    record_from (plain_tables c.args.self.now) _
-    (plain_tables c.submit_within_capacity.new.self) log c.args.moment c.args.bytes.now
-    c.submit_within_capacity.ensures.tables
-    (requests_as_before (plain_tables c.args.self.now) _ _ _ refl c.reserve.ensures.items
-    c.reserve-2.ensures.items c.reserve-3.ensures.items) s))
+    (behind_plain c.args.self.now c.submit_within_capacity.new.self (Post m bytes ∷ [])
+    (λ u. tables_past u m bytes) ((c.read_range.ensures, search rules), tt)
+    (c.submit_within_capacity.ensures.tables ∙ ap (λ (u : Tables). tables_past u m bytes) same)
+    (λ log s. past_shown t log m bytes s))
 
 pub returns-in_err-reserve-clause-call : goal.returns-in_err-reserve-clause-call
 returns-in_err-reserve-clause-call c = spared_plain _ _ _ _ (search rules) (search rules)

@@ -1,19 +1,34 @@
-use Rattle.std.proofs.Common.{refl, subst, sym, ap, ◌∙◌, ◌++◌, List, ℕ, rules}
-use Rattle.posting_rules.specs.{Tables.Tables, Tables.AreTablesOf, Runs.posts, Runs.replies_to}
+use Rattle.std.proofs.Common.{◌≡◌, [], ◌∷◌, ◌++◌, suc, length, refl, ap, ◌∙◌, List, ℕ, rules}
+use Rattle.posting_rules.specs.{Changes.replies_past_all, Changes.tables_past, Changes.tables_past_all}
+use Rattle.posting_rules.specs.{Tables.Tables, Runs.posts}
+use Rattle.posting_rules.proofs.Records.{all_past, all_replies, are_posts}
 use Rattle.posting_core.specs.Plain.{plain_tables}
-use Rattle.posting_core.proofs.InMemory.{answered_plain, plain_shows, requests_as_before, spared_plain, takes_plain}
+use Rattle.posting_core.proofs.InMemory.{answered_plain, behind_plain, plain_shows, requests_as_before, spared_plain}
 use Rattle.posting_core.proofs.plain_bank.PlainBankCounter.submit_all.Goals as goal
+
+replies_are : (u t : Tables) (m : ℕ) (rs before all : List (List ℕ)) → all ≡ before ++ replies_past_all u m rs
+    → before ≡ [] → u ≡ t → all ≡ replies_past_all t m rs
+replies_are u t m rs before all is none same =
+    is ∙ ap (λ (out : List (List ℕ)). out ++ replies_past_all u m rs) none
+    ∙ ap (λ (v : Tables). replies_past_all v m rs) same
+
+one_each : (t : Tables) (m : ℕ) (rs : List (List ℕ)) → length (replies_past_all t m rs) ≡ length rs
+one_each t m [] = refl
+one_each t m (r ∷ rs) = ap suc (one_each (tables_past t m r) m rs)
 
 pub returns-clause-call : goal.returns-clause-call
 returns-clause-call c =
-    let same = requests_as_before (plain_tables c.args.self.now) _ _ _ refl c.reserve-2.ensures.items
-    c.reserve-3.ensures.items c.reserve-4.ensures.items in
-    answered_plain c.args.self.now c.submit_all_within_capacity.new.self
-    (posts c.args.moment c.args.records.now) c.submit_all_within_capacity.new.replies
-    (takes_plain c.args.self.now c.submit_all_within_capacity.new.self
-    (posts c.args.moment c.args.records.now) c.submit_all_within_capacity.ensures.commands
-    (λ log s. c.submit_all_within_capacity.ensures.shows log
-    (subst (λ (t : Tables). AreTablesOf t log) (sym same) s)))
+    let t = plain_tables c.args.self.now in
+    let same = requests_as_before t _ _ _ refl c.reserve-2.ensures.items c.reserve-3.ensures.items
+    c.reserve-4.ensures.items in
+    let m = c.args.moment in
+    let rs = c.args.records.now in
+    answered_plain c.args.self.now c.submit_all_within_capacity.new.self (posts m rs)
+    c.submit_all_within_capacity.new.replies
+    (behind_plain c.args.self.now c.submit_all_within_capacity.new.self (posts m rs)
+    (λ u. tables_past_all u m rs) (are_posts m rs c.read_range.ensures c.told-records)
+    (c.submit_all_within_capacity.ensures.tables ∙ ap (λ (u : Tables). tables_past_all u m rs) same)
+    (λ log s. all_past t log m rs s))
 
 pub returns-in_err-reserve-clause-call : goal.returns-in_err-reserve-clause-call
 returns-in_err-reserve-clause-call c = spared_plain _ _ _ _ (search rules) refl
@@ -27,11 +42,23 @@ returns-in_err-reserve-3-clause-call c = spared_plain _ _ _ _ (search rules) (se
 pub returns-in_err-reserve-4-clause-call : goal.returns-in_err-reserve-4-clause-call
 returns-in_err-reserve-4-clause-call c = spared_plain _ _ _ _ (search rules) (search rules)
 
+pub returns-clause-count : goal.returns-clause-count
+returns-clause-count c =
+    let t = plain_tables c.args.self.now in
+    let same = requests_as_before t _ _ _ refl c.reserve-2.ensures.items c.reserve-3.ensures.items
+    c.reserve-4.ensures.items in
+    let m = c.args.moment in
+    let rs = c.args.records.now in
+    ap length (replies_are _ t m rs _ _ c.submit_all_within_capacity.ensures.replies
+    (c.reserve.ensures.items ∙ c.new-replies.ensures.items) same) ∙ one_each t m rs
+
 pub returns-clause-answer : goal.returns-clause-answer
 returns-clause-answer c h log s =
-    let same = requests_as_before (plain_tables c.args.self.now) _ _ _ refl c.reserve-2.ensures.items
-    c.reserve-3.ensures.items c.reserve-4.ensures.items in
-    c.submit_all_within_capacity.ensures.replies log (subst (λ (t : Tables). AreTablesOf t log) (sym same)
-    (plain_shows c.args.self.now log s))
-    ∙ ap (λ (rs : List (List ℕ)). rs ++ replies_to log (posts c.args.moment c.args.records.now))
-    (c.reserve.ensures.items ∙ c.new-replies.ensures.items)
+    let t = plain_tables c.args.self.now in
+    let same = requests_as_before t _ _ _ refl c.reserve-2.ensures.items c.reserve-3.ensures.items
+    c.reserve-4.ensures.items in
+    let m = c.args.moment in
+    let rs = c.args.records.now in
+    replies_are _ t m rs _ _ c.submit_all_within_capacity.ensures.replies
+    (c.reserve.ensures.items ∙ c.new-replies.ensures.items) same
+    ∙ all_replies t log m rs (plain_shows c.args.self.now log s)
