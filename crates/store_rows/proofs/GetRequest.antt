@@ -1,13 +1,10 @@
 -- The look-up of a request by its teller and number, of which UNIQUE leaves one at most.
 use Rattle.std.proofs.Common.{◌≡◌, ◌&&◌, ◌==◌, ℕ, ℤ, pos, true, false, List, [], ◌∷◌, codes, lit≤, refl}
-use Rattle.std.proofs.Common.{subst, option_map, Ok, Result, ◌∙◌}
-use Rattle.sqlite.specs.Order.{Row}
+use Rattle.std.proofs.Common.{Ok}
 use Rattle.sqlite.specs.Schema.{Schema}
 use Rattle.sqlite.specs.Command.TheVariants.{Select}
 use Rattle.sqlite.specs.Listing.{understood}
-use Rattle.sqlite.specs.State.{State, QueriesRowInside}
-use Rattle.sqlite.specs.Term.{Term, col, eval_all}
-use Rattle.sqlite.specs.declared.error.Error.{Error}
+use Rattle.sqlite.specs.Term.{Term, col}
 use Rattle.sqlite.specs.declared.types.Value.TheVariants.{Int}
 use Rattle.sqlite_tied.specs.Compute.{everything}
 use Rattle.sqlite_draft.specs.declared.join.Step.TheVariants.{Inner}
@@ -16,28 +13,23 @@ use Rattle.sqlite_resolve.specs.Program as program
 use Rattle.sqlite_resolve.specs.Select.{ungrouped}
 use Rattle.sqlite_resolve.specs.Terms.{number}
 use Rattle.sqlite_typing.specs.Types.{accepts_program}
-use Rattle.posting_rules.specs.Tables.{Tables, request_key}
 use Rattle.posting_rules.specs.declared.rows.RequestRow.{RequestRow}
-use Rattle.sql_meanings.specs.Entries.{has_two, stored}
-use Rattle.sql_meanings.specs.StatementAnswers.{OnlyShows, TellsRow}
+use Rattle.sql_meanings.specs.Entries.{has_two}
+use Rattle.sql_meanings.specs.StatementAnswers.{OnlyShows}
 use Rattle.sql_meanings.specs.Plain.{number_column}
 use Rattle.sql_meanings.specs.Queries.{by_two, two_are, no_limit}
 use Rattle.sql_meanings.specs.Tables.{placed_at}
 use Rattle.sql_meanings.proofs.ByKey.{Tests, number_at}
 use Rattle.sql_meanings.proofs.Means.{Means, means}
-use Rattle.sql_meanings.proofs.ReadRows.{reads_two}
 use Rattle.sql_meanings.proofs.ReadTables.{ReadsAs}
 use Rattle.sql_meanings.proofs.Selects.{select_by_two}
 use Rattle.sql_meanings.proofs.ShownColumns.{outputs_at, shows_named}
 use Rattle.sql_meanings.proofs.Statements.{HasTable}
 use Rattle.sql_meanings.proofs.Texts.{IsSelect, only_reads, select_of}
-use Rattle.store_rows.specs.Columns.{request_shown, request_in}
 use Rattle.store_rows.specs.BankTables.{request}
 use Rattle.store_rows.specs.declared.texts.TheConstants.{GET_REQUEST}
-use Rattle.store_rows.specs.View.{Shows, request_entry}
-use Rattle.store_rows.proofs.TableKinds.{holds}
-use Rattle.store_rows.proofs.TheTables.{requests}
-use Rattle.store_rows.proofs.RowLists.{same_number, shown_by, shown_itself}
+use Rattle.store_rows.specs.View.{request_entry}
+use Rattle.store_rows.proofs.RowLists.{same_number}
 
 by_tid : (tree : ℕ) → Tests (placed_at request tree) (codes "tid") 2
 unfolding everything
@@ -114,24 +106,9 @@ reads a b = record {
   ungrouped = λ _. refl;
 }
 
-has_both : (a b : ℕ) (r : RequestRow)
+pub has_both : (a b : ℕ) (r : RequestRow)
     → has_two (pos a) (pos b) (request_entry r) ≡ ((r.teller == a) && (r.number == b))
 has_both a b r = rw (same_number r.teller a, same_number r.number b) refl
-
--- it reports the request of the teller under the number
-pub tells : (old new : State) (t : Tables) (a b : ℕ) (r : Result Row Error) → Shows old.now t
-    → QueriesRowInside GET_REQUEST.now (Int (pos a) ∷ Int (pos b) ∷ []) old new r
-    → TellsRow old new (option_map request_shown (request_in t a b)) r
-tells old new t a b r shows h =
-    subst (λ o. TellsRow old new o r)
-    (shown_by request_key request_entry (λ _. refl)
-    (λ e. eval_all project ((Int (pos a) ∷ Int (pos b) ∷ []) ∷ stored e ∷ []))
-    request_shown (λ x. x) (λ _. refl)
-    (has_two (pos a) (pos b)) (λ x. (x.teller == a) && (x.number == b)) (has_both a b) t.requests
-    ∙ shown_itself request_shown (request_in t a b))
-    (reads_two old new request refl shows.sound _ (holds requests old.now t shows) GET_REQUEST.now project
-    (pos a) (pos b) refl refl
-    (reads (pos a) (pos b)) r h)
 
 -- under any schema it only shows rows
 pub only : (schema : Schema) → OnlyShows GET_REQUEST.now 2 (understood schema GET_REQUEST.now)

@@ -1,7 +1,7 @@
 -- The one row of `meta`: what is read of it, and what a write of the count leaves.
-use Rattle.std.proofs.Common.{◌≡◌, ℕ, ℤ, pos, Bool, true, nat_eq, List, [], ◌∷◌, codes, find, length}
+use Rattle.std.proofs.Common.{◌≡◌, ◌<◌, ◌∙◌, ℕ, pos, Bool, true, nat_eq, List, [], ◌∷◌, codes, find}
 use Rattle.std.proofs.Common.{slice_get, slice_set, Some, None, Option, option_map, Ok, Err, Result, lit≤}
-use Rattle.std.proofs.Common.{refl, sym, ap, subst, arith}
+use Rattle.std.proofs.Common.{refl, sym, subst, arith}
 use Rattle.sqlite.specs.Order.{Row}
 use Rattle.sqlite.specs.Effect.{Database}
 use Rattle.sqlite.specs.State.{State, ExecutesInside, QueriesRowInside}
@@ -14,7 +14,6 @@ use Rattle.sql_meanings.specs.Contents.{HoldsEach}
 use Rattle.sql_meanings.specs.Entries.{Entry, HasWidth, has_key, stored}
 use Rattle.sql_meanings.specs.StatementAnswers.{TellsRow}
 use Rattle.sql_meanings.specs.Tables.{Holds}
-use Rattle.sql_meanings.proofs.Changes.{found_all}
 use Rattle.sql_meanings.proofs.Contents.{held, one_written}
 use Rattle.sql_meanings.proofs.Failures.{set_fails_as}
 use Rattle.sql_meanings.proofs.ReadRows.{reads_key}
@@ -33,6 +32,7 @@ use Rattle.store_rows.proofs.Failing.{forbidden, key_fits}
 use Rattle.store_rows.proofs.Getting.{gets}
 use Rattle.store_rows.proofs.Lookups.{one_written as one_met}
 use Rattle.store_rows.proofs.Setting.{set_second, sets}
+use Rattle.store_rows.proofs.StoredRows.{number_shown, shown_as}
 
 -- it is a table of a key and numbers
 pub is_plain : IsPlain bank.meta
@@ -63,19 +63,16 @@ has_one db t shows = record { sound = shows.sound; holds = holds_one db t shows 
 abbrev project : List Term
 project = col 1 2 ∷ col 1 3 ∷ []
 
-two_shown : (k key : ℤ) (values : List ℤ) (texts : List (List ℕ)) → length values ≡ 2
-    → eval_all project ((Int k ∷ []) ∷ stored (record { key = key; values = values; texts = texts }) ∷ [])
-    ≡ meta_shown (meta_numbers (record { key = key; values = values; texts = texts }))
-two_shown k key [] texts wide = absurd (omega arith)
-two_shown k key (a ∷ []) texts wide = absurd (omega arith)
-two_shown k key (a ∷ b ∷ []) texts wide = refl
-two_shown k key (a ∷ b ∷ c ∷ more) texts wide = absurd (omega arith)
+two_shown : (given : Row) (e : Entry) → HasWidth (2, 0) e
+    → eval_all project (given ∷ stored e ∷ []) ≡ meta_shown (meta_numbers e)
+two_shown given e wide =
+    let at = λ (n : ℕ) (low : n < 2). number_shown n e.values e.texts (subst (λ m. n < m) (sym wide.0) low) in
+    rw (at 0 (omega arith), at 1 (omega arith)) refl
 
-shown_is : (k : ℤ) (o : Option Entry) → ((e : Entry) → o ≡ Some e → HasWidth (2, 0) e)
-    → option_map (λ e. eval_all project ((Int k ∷ []) ∷ stored e ∷ [])) o
+numbers_of : (o : Option Entry) → option_map (λ e. meta_shown (meta_numbers e)) o
     ≡ option_map meta_shown (option_map meta_numbers o)
-shown_is k None wide = refl
-shown_is k (Some e) wide = ap Some (two_shown k e.key e.values e.texts (wide e refl).0)
+numbers_of None = refl
+numbers_of (Some e) = refl
 
 -- the row under the bank's id is reported
 pub tells_meta : (old new : State) (rows : List Entry) → HoldsRows old.now bank.meta rows
@@ -84,9 +81,9 @@ pub tells_meta : (old new : State) (rows : List Entry) → HoldsRows old.now ban
     → TellsRow old new (option_map meta_shown (meta_in rows)) r
 tells_meta old new rows has r h =
     subst (λ o. TellsRow old new o r)
-    (shown_is (pos META_ID) (find (has_key (pos META_ID)) rows)
-    (λ e found. found_all (λ x. HasWidth (2, 0) x) (has_key (pos META_ID)) rows e has.holds.rows.wide
-    found))
+    (shown_as (2, 0) _ (λ e. meta_shown (meta_numbers e)) (two_shown (Int (pos META_ID) ∷ []))
+    (has_key (pos META_ID)) rows has.holds.rows.wide
+    ∙ numbers_of (find (has_key (pos META_ID)) rows))
     (reads_key old new bank.meta refl has.sound rows has.holds GET_META.now project (pos META_ID)
     (gets.meta.reads (pos META_ID)) r h)
 

@@ -1,13 +1,10 @@
 -- The look-up of the branch with the least number above one.
-use Rattle.std.proofs.Common.{◌≡◌, nat_lt, ℕ, ℤ, pos, true, false, List, [], ◌∷◌, codes, lit≤, refl, subst}
-use Rattle.std.proofs.Common.{option_map, Ok, Result, ◌∙◌}
-use Rattle.sqlite.specs.Order.{Row}
+use Rattle.std.proofs.Common.{◌≡◌, ℕ, ℤ, pos, true, false, List, [], ◌∷◌, codes, lit≤, refl}
+use Rattle.std.proofs.Common.{Ok}
 use Rattle.sqlite.specs.Schema.{Schema}
 use Rattle.sqlite.specs.Command.TheVariants.{Select}
 use Rattle.sqlite.specs.Listing.{understood}
-use Rattle.sqlite.specs.State.{State, QueriesRowInside}
-use Rattle.sqlite.specs.Term.{Term, col, lit, eval_all}
-use Rattle.sqlite.specs.declared.error.Error.{Error}
+use Rattle.sqlite.specs.Term.{Term, col, lit}
 use Rattle.sqlite.specs.declared.types.Value.TheVariants.{Int}
 use Rattle.sqlite_tied.specs.Compute.{everything}
 use Rattle.sqlite_draft.specs.declared.join.Step.TheVariants.{Inner}
@@ -16,27 +13,19 @@ use Rattle.sqlite_resolve.specs.Program as program
 use Rattle.sqlite_resolve.specs.Select.{ungrouped}
 use Rattle.sqlite_resolve.specs.Terms.{number}
 use Rattle.sqlite_typing.specs.Types.{accepts_program}
-use Rattle.posting_rules.specs.Tables.{Tables, branch_key}
-use Rattle.sql_meanings.specs.Entries.{is_above, stored}
-use Rattle.sql_meanings.specs.StatementAnswers.{OnlyShows, TellsRow}
+use Rattle.sql_meanings.specs.StatementAnswers.{OnlyShows}
 use Rattle.sql_meanings.specs.Queries.{ascending, next_above, key_above}
 use Rattle.sql_meanings.specs.Tables.{placed_at}
 use Rattle.sql_meanings.proofs.ByKey.{key_at}
 use Rattle.sql_meanings.proofs.Means.{Means, means}
-use Rattle.sql_meanings.proofs.ReadRows.{reads_next}
 use Rattle.sql_meanings.proofs.ReadTables.{ReadsAs}
 use Rattle.sql_meanings.proofs.Above.{Beyond, select_rising}
 use Rattle.sql_meanings.proofs.ShownColumns.{outputs_at, shows_named}
 use Rattle.sql_meanings.proofs.Statements.{HasTable}
 use Rattle.sql_meanings.proofs.Texts.{IsSelect, only_reads, select_of}
-use Rattle.store_rows.specs.Columns.{branch_shown, branch_above}
 use Rattle.store_rows.specs.BankTables.{branch}
 use Rattle.store_rows.specs.declared.texts.TheConstants.{NEXT_BRANCH}
-use Rattle.store_rows.specs.View.{Shows, branch_entry}
-use Rattle.store_rows.proofs.TableKinds.{holds}
 use Rattle.store_rows.proofs.Getting.{keys}
-use Rattle.store_rows.proofs.TheTables.{branches}
-use Rattle.store_rows.proofs.RowLists.{is_row_above, shown_by, shown_itself}
 
 abbrev outputs : ℕ → List Output
 outputs tree = outputs_at (placed_at branch tree) (0 ∷ 1 ∷ 2 ∷ [])
@@ -83,21 +72,6 @@ reads k = record {
   unfolded = λ _. refl;
   ungrouped = λ _. refl;
 }
-
--- it reports the row with the least key above
-pub tells : (old new : State) (t : Tables) (k : ℕ) (r : Result Row Error) → Shows old.now t
-    → QueriesRowInside NEXT_BRANCH.now (Int (pos k) ∷ []) old new r
-    → TellsRow old new (option_map branch_shown (branch_above t k)) r
-tells old new t k r shows h =
-    subst (λ o. TellsRow old new o r)
-    (shown_by branch_key branch_entry (λ _. refl) (λ e. eval_all project ((Int (pos k) ∷ []) ∷ stored e ∷ []))
-    branch_shown (λ x. x)
-    (λ _. refl)
-    (is_above (pos k)) (λ x. nat_lt k x.branch) (is_row_above branch_key branch_entry (λ _. refl) k)
-    t.branches
-    ∙ shown_itself branch_shown (branch_above t k))
-    (reads_next old new branch refl shows.sound _ (holds branches old.now t shows) NEXT_BRANCH.now project
-    (pos k) (reads (pos k)) r h)
 
 -- under any schema it only shows rows
 pub only : (schema : Schema) → OnlyShows NEXT_BRANCH.now 1 (understood schema NEXT_BRANCH.now)

@@ -22,12 +22,6 @@ not_below a b h apart = grind (arith, ints)
 above : (a b : ℕ) → is_gt (int_cmp (pos b) (pos a)) ≡ nat_lt a b
 above a b = grind (arith, ints)
 
--- where a whole row is looked for, what is shown of it is what is shown of what was looked for
-pub shown_itself : {X : Type 0} (shown : X → Row) (o : Option X)
-    → option_map shown (option_map (λ x. x) o) ≡ option_map shown o
-shown_itself shown None = refl
-shown_itself shown (Some x) = refl
-
 module _ {R : Type 0} (key : R → ℕ) (entry : R → Entry) (keyed : (r : R) → (entry r).key ≡ pos (key r)) where
   -- the entry has a key where its row has it
   pub has_row_key : (k : ℕ) (r : R) → has_key (pos k) (entry r) ≡ (key r == k)
@@ -50,16 +44,13 @@ module _ {R : Type 0} (key : R → ℕ) (entry : R → Entry) (keyed : (r : R) �
       go true more = refl
       go false more = more
 
-  -- what a statement shows of the entry it shows of what was looked for
-  pub shown_by : {X : Type 0} (show : Entry → Row) (shown : X → Row) (value : R → X)
-      → ((r : R) → show (entry r) ≡ shown (value r))
-      → (p : Entry → Bool) (q : R → Bool)
-      → ((r : R) → p (entry r) ≡ q r) → (rows : List R)
-      → option_map show (find p (map entry rows)) ≡ option_map shown (option_map value (find q rows))
-  shown_by show shown value same p q test rows = ap (option_map show) (found_by p q test rows)
-      ∙ go (find q rows)
+  -- what is shown of the entry is what is shown of the row
+  pub shown_by : (show : Entry → Row) (shown : R → Row) → ((r : R) → show (entry r) ≡ shown r)
+      → (p : Entry → Bool) (q : R → Bool) → ((r : R) → p (entry r) ≡ q r) → (rows : List R)
+      → option_map show (find p (map entry rows)) ≡ option_map shown (find q rows)
+  shown_by show shown same p q test rows = ap (option_map show) (found_by p q test rows) ∙ go (find q rows)
     where
-      go : (o : Option R) → option_map show (option_map entry o) ≡ option_map shown (option_map value o)
+      go : (o : Option R) → option_map show (option_map entry o) ≡ option_map shown o
       go None = refl
       go (Some r) = ap Some (same r)
 
@@ -74,12 +65,10 @@ module _ {R : Type 0} (key : R → ℕ) (entry : R → Entry) (keyed : (r : R) �
       ∙ there (row_at key rows k)
 
   -- the same under a key
-  pub shown_row : {X : Type 0} (show : Entry → Row) (shown : X → Row) (value : R → X)
-      → ((r : R) → show (entry r) ≡ shown (value r))
+  pub shown_row : (show : Entry → Row) (shown : R → Row) → ((r : R) → show (entry r) ≡ shown r)
       → (k : ℕ) (rows : List R)
-      → option_map show (find (has_key (pos k)) (map entry rows))
-      ≡ option_map shown (option_map value (row_at key rows k))
-  shown_row show shown value same k rows = shown_by show shown value same (has_key (pos k)) (λ r. key r == k)
+      → option_map show (find (has_key (pos k)) (map entry rows)) ≡ option_map shown (row_at key rows k)
+  shown_row show shown same k rows = shown_by show shown same (has_key (pos k)) (λ r. key r == k)
       (has_row_key k) rows
 
   -- to change the entry under a key is to change the row under it

@@ -1,12 +1,9 @@
 -- What was made of a stored row, whatever values it has, and which rule it breaks.
-use Rattle.std.proofs.Common.{◌≡◌, ◌≤◌, ℕ, ℤ, List, leb, true, inl, inr, Option, Some, None, option_map}
+use Rattle.std.proofs.Common.{◌≡◌, ◌≤◌, ℕ, ℤ, List, leb, true, None}
 use Rattle.std.proofs.Common.{Result, Ok, Err, refl, sym, subst, ap, ◌∙◌, arith}
 use Rattle.std.specs.Prelude.{nat_abs, ◌&&◌}
 use Rattle.std.proofs.lemmas.Bool.Decides.{nat_tests}
 use Rattle.sqlite.specs.Order.{Row, column}
-use Rattle.sqlite.specs.State.{State}
-use Rattle.sqlite.specs.declared.error.Error.{Error}
-use Rattle.sqlite.specs.declared.error.Error.TheVariants.{QueryReturnedNoRows}
 use Rattle.sqlite.specs.declared.types.Value.TheVariants.{Int, Text}
 use Rattle.message_records.specs.Ranges.{cents_within, whole_within}
 use Rattle.message_records.specs.Records.{IsReference, is_reference, reference_from}
@@ -14,16 +11,12 @@ use Rattle.message_records.specs.declared.limits.TheConstants.{MAX_BALANCE}
 use Rattle.posting_rules.specs.declared.fault.Rule.{Rule}
 use Rattle.posting_rules.specs.declared.fault.Rule.TheVariants.{Balance, Reference}
 use Rattle.sql_meanings.specs.Entries.{Entry}
-use Rattle.sql_meanings.specs.StatementAnswers.{TellsRow}
-use Rattle.sql_meanings.proofs.OnlyShowing.{no_rows_error}
 use Rattle.store_rows.specs.Columns.{number_at}
-use Rattle.store_rows.specs.Failures.{ReadsAnswer}
 use Rattle.store_rows.specs.TableAnswers.{ReadsCents, ReadsReference, ReadsWhole}
 use Rattle.store_rows.specs.Rules.{IsFrom}
-use Rattle.store_rows.specs.Stored.{BalanceKeeps, FindsStored, IsBalance, ReadsStored, balance_stored}
+use Rattle.store_rows.specs.Stored.{BalanceKeeps, IsBalance, ReadsStored, balance_stored}
 use Rattle.store_rows.specs.declared.fault.TableFault.{TableFault}
 use Rattle.store_rows.specs.declared.fault.TableFault.TheVariants.{Sqlite, Damaged}
-use Rattle.store_rows.proofs.FoundRows.{the_row}
 
 -- ---- numbers and amounts in their ranges
 
@@ -93,53 +86,3 @@ reads_balance_stored row (Ok z) read = λ r is. sym (read (number_at 0 r) (ap (�
 reads_balance_stored row (Err fault) read =
     unread_cents balance_stored IsBalance BalanceKeeps row Balance 0 (number_at 0) (λ _. refl) MAX_BALANCE
     (omega arith) (λ r le. le) fault read
-
--- ---- what is reported of the row
-
-module _ {X : Type 0} (old new : State) (shown : Entry → Row) (Is : X → Entry → Type 0)
-    (Keeps : Rule → Entry → Type 0) (stored : Option Entry) where
-  -- a value that was read is of the row that is stored
-  stored_ok : (row : Row) (x : X) → TellsRow old new (option_map shown stored) (Ok row)
-      → ReadsStored shown Is Keeps row (Ok x)
-      → FindsStored stored Is Keeps (Ok (Some x))
-  stored_ok row x told read = go stored told.0
-    where
-      go : (o : Option Entry) → option_map shown o ≡ Some row → FindsStored o Is Keeps (Ok (Some x))
-      go None is = absurd cc
-      go (Some r) is = (r, refl, read r (the_row is))
-
-  -- one that couldn't be read breaks a rule
-  stored_err : (row : Row) (fault : TableFault) → TellsRow old new (option_map shown stored) (Ok row)
-      → ReadsStored {X = X} shown Is Keeps row (Err fault) → FindsStored {X = X} stored Is Keeps (Err fault)
-  stored_err row (Sqlite e) told read = absurd read
-  stored_err row (Damaged rule) told read = go stored told.0
-    where
-      go : (o : Option Entry) → option_map shown o ≡ Some row
-          → FindsStored {X = X} o Is Keeps (Err (Damaged rule))
-      go None is = absurd cc
-      go (Some r) is = (r, refl, read r (the_row is))
-
-  -- no row is reported if none is stored
-  stored_none : TellsRow old new (option_map shown stored) (Err QueryReturnedNoRows)
-      → FindsStored {X = X} stored Is Keeps (Ok None)
-  stored_none (inl none) = go stored none.1
-    where
-      go : (o : Option Entry) → option_map shown o ≡ None → o ≡ None
-      go None is = refl
-      go (Some r) is = absurd cc
-  stored_none (inr (inl fails)) = absurd (no_rows_error fails.0 fails.1)
-  stored_none (inr (inr limit)) = absurd (let e = limit.0 in cc)
-
-  -- what is reported of the answer of a query is of the row that is stored
-  pub stores : (answer : Result Row Error) (result : Result (Option X) TableFault)
-      → ReadsAnswer (ReadsStored shown Is Keeps) answer result
-      → TellsRow old new (option_map shown stored) answer → FindsStored stored Is Keeps result
-  stores (Ok row) (Ok (Some x)) read told = stored_ok row x told read
-  stores (Ok row) (Ok None) read told = absurd read
-  stores (Ok row) (Err (Sqlite e)) read told = absurd read
-  stores (Ok row) (Err (Damaged rule)) read told = stored_err row (Damaged rule) told read
-  stores (Err e) (Ok (Some x)) read told = absurd read
-  stores (Err e) (Ok None) read told = stored_none
-      (subst (λ e. TellsRow old new (option_map shown stored) (Err e)) read told)
-  stores (Err e) (Err fault) read told = subst (λ f. FindsStored {X = X} stored Is Keeps (Err f)) (sym read.0)
-      tt

@@ -2,30 +2,26 @@
 -- all.
 use Rattle.std.proofs.Common.{◌++◌, ◌+◌, length, ◌≡◌, ℕ, ◌≤◌, pos, Bool, true, cond, nat_eq, is_some, List}
 use Rattle.std.proofs.Common.{[], ◌∷◌, map, find}
-use Rattle.std.proofs.Common.{slice_get, slice_set, Some, Option, option_map, Ok, Err, Result, refl, sym, ap}
+use Rattle.std.proofs.Common.{slice_get, slice_set, Some, Option, Ok, Err, Result, refl, sym, ap}
 use Rattle.std.proofs.Common.{subst, ◌∙◌}
 use Rattle.sqlite.specs.Order.{Row}
 use Rattle.sqlite.specs.Effect.{Database}
-use Rattle.sqlite.specs.State.{State, ExecutesInside, QueriesRowInside}
+use Rattle.sqlite.specs.State.{State, ExecutesInside}
 use Rattle.sqlite.specs.Table.{Table}
-use Rattle.sqlite.specs.Term.{Term, eval_all}
 use Rattle.sqlite.specs.declared.error.Error.{Error}
 use Rattle.sqlite.specs.declared.types.Value.TheVariants.{Int}
 use Rattle.sqlite_sql.specs.Ops.{fits_i64}
 use Rattle.posting_rules.specs.Changes.{row_changed, row_put}
 use Rattle.posting_rules.specs.Tables.{Tables, row_at}
 use Rattle.sql_meanings.specs.Contents.{HoldsEach}
-use Rattle.sql_meanings.specs.Entries.{Entry, changed, has_key, stored}
-use Rattle.sql_meanings.specs.StatementAnswers.{Forbids, TellsRow}
-use Rattle.sql_meanings.specs.Queries.{by_key}
+use Rattle.sql_meanings.specs.Entries.{Entry, changed, has_key}
+use Rattle.sql_meanings.specs.StatementAnswers.{Forbids}
 use Rattle.sql_meanings.specs.Plain.{key_column, number_column, text_column}
 use Rattle.sql_meanings.specs.Tables.{Holds, width_of}
 use Rattle.sql_meanings.proofs.Contents.{held, one_written}
 use Rattle.sql_meanings.proofs.Failures.{set_fails_as}
 use Rattle.sql_meanings.proofs.PutFailures.{refuses_insert}
 use Rattle.sql_meanings.proofs.PutRows.{PutsAs, puts_row}
-use Rattle.sql_meanings.proofs.ReadRows.{reads_key}
-use Rattle.sql_meanings.proofs.ReadTables.{ReadsAs}
 use Rattle.sql_meanings.proofs.SetFailures.{refuses_update}
 use Rattle.sql_meanings.proofs.SetRows.{ChangesAs, sets_row}
 use Rattle.sql_meanings.proofs.TableWrites.{IsPlain, Leaves, spares_standing}
@@ -37,7 +33,7 @@ use Rattle.store_rows.specs.Statements.{MeetsOne}
 use Rattle.store_rows.specs.View.{Shows, contents}
 use Rattle.store_rows.proofs.Failing.{adds_err, forbidden, forbidden_put, key_fits}
 use Rattle.store_rows.proofs.Lookups.{one_written as one_met}
-use Rattle.store_rows.proofs.RowLists.{changed_rows, put_rows, shown_itself, shown_row, taken_row_key}
+use Rattle.store_rows.proofs.RowLists.{changed_rows, put_rows, taken_row_key}
 use Rattle.store_rows.specs.declared.statements.TheConstants.{MAX_KEY}
 
 -- a table of the bank: its place among them, and how a file holds its rows
@@ -203,31 +199,3 @@ module _ {R : Type 0} (kind : Kind R) where
         subst (λ b. SetsRow old new table (is_some (under t k)) (kind.having after t) (Ok b)) (sym h.2)
         (tells_set h.0 h.1)
     tells_write low (Err e) h = fails_to_set low e h
-
-  -- ---- a row under its key
-
-  -- it reports what is shown of the row
-  pub tells_row : (old new : State) (t : Tables) → Shows old.now t
-      → (text : List ℕ) (project : List Term) (k : ℕ)
-      → ReadsAs table text (Int (pos k) ∷ []) (λ tree. by_key tree project)
-      → {X : Type 0} (shown : X → Row) (value : R → X)
-      → ((r : R) → eval_all project ((Int (pos k) ∷ []) ∷ stored (kind.entry r) ∷ []) ≡ shown (value r))
-      → (r : Result Row Error) → QueriesRowInside text (Int (pos k) ∷ []) old new r
-      → TellsRow old new (option_map shown (option_map value (under t k))) r
-  tells_row old new t shows text project k reads shown value same r h =
-      subst (λ o. TellsRow old new o r)
-      (shown_row kind.key kind.entry kind.keyed (λ e. eval_all project ((Int (pos k) ∷ []) ∷ stored e ∷ []))
-      shown value same k (kind.rows t))
-      (reads_key old new table kind.is_plain.free shows.sound _ (holds old.now t shows) text project (pos k)
-      reads r h)
-
-  -- the same of the whole row
-  pub tells_whole : (old new : State) (t : Tables) → Shows old.now t
-      → (text : List ℕ) (project : List Term) (k : ℕ)
-      → ReadsAs table text (Int (pos k) ∷ []) (λ tree. by_key tree project) → (shown : R → Row)
-      → ((r : R) → eval_all project ((Int (pos k) ∷ []) ∷ stored (kind.entry r) ∷ []) ≡ shown r)
-      → (r : Result Row Error) → QueriesRowInside text (Int (pos k) ∷ []) old new r
-      → TellsRow old new (option_map shown (under t k)) r
-  tells_whole old new t shows text project k reads shown same r h =
-      subst (λ o. TellsRow old new o r) (shown_itself shown (under t k))
-      (tells_row old new t shows text project k reads shown (λ x. x) same r h)

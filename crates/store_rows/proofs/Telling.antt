@@ -1,5 +1,5 @@
 -- What a call reports of the tables, by the statement that was run.
-use Rattle.std.proofs.Common.{ℕ, List, Option, option_map, Result}
+use Rattle.std.proofs.Common.{◌≡◌, ℕ, List, Option, option_map, Result, subst}
 use Rattle.sqlite.specs.Listing.{understood}
 use Rattle.sqlite.specs.Order.{Row}
 use Rattle.sqlite.specs.Schema.{Schema}
@@ -15,25 +15,32 @@ use Rattle.store_rows.specs.Calls.{LooksUp, OfTables}
 use Rattle.store_rows.specs.Failures.{Asks, ReadsAnswer}
 use Rattle.store_rows.specs.Forms.{Form}
 use Rattle.store_rows.specs.TableAnswers.{ReadsRow}
-use Rattle.store_rows.specs.Rules.{HoldsBank, StoredRows}
+use Rattle.store_rows.specs.Rules.{HoldsBank, StoredRows, stored_rows}
 use Rattle.store_rows.specs.Stored.{ReadsStored}
 use Rattle.store_rows.specs.View.{Shows}
 use Rattle.store_rows.specs.declared.fault.TableFault.{TableFault}
-use Rattle.store_rows.proofs.FoundRows.{finds}
+use Rattle.store_rows.proofs.FoundRows.{finds, stores}
 use Rattle.store_rows.proofs.Reasons.{looks}
-use Rattle.store_rows.proofs.StoredReads.{stores}
+use Rattle.store_rows.proofs.StoredRows.{holds_shown}
 
--- with these values the text looks up what is wanted of the tables that are shown, and this of the rows that
--- are held
+-- with these values the text looks up this of the rows that are held, which is what is wanted of the tables that
+-- are shown
 pub record Seeks {X : Type 0} (text : List ℕ) (params : Row) (count : ℕ) (form : Form X)
     (wanted : Tables → Option X)
     (stored : StoredRows → Option Entry) : Type 1 where
   pub only : (schema : Schema) → OnlyShows text count (understood schema text)
-  pub told : (old new : State) (t : Tables) → Shows old.now t → (r : Result Row Error)
-      → QueriesRowInside text params old new r
-      → TellsRow old new (option_map form.shown (wanted t)) r
-  pub kept : (old new : State) (rows : StoredRows) → HoldsBank old.now rows → (r : Result Row Error)
+  pub told : (old new : State) (rows : StoredRows) → HoldsBank old.now rows → (r : Result Row Error)
       → QueriesRowInside text params old new r → TellsRow old new (option_map form.held (stored rows)) r
+  pub same : (t : Tables) → option_map form.held (stored (stored_rows t)) ≡ option_map form.shown (wanted t)
+
+-- of the tables that are shown: the rows that are held are theirs
+of_tables : {X : Type 0} {text : List ℕ} {params : Row} {count : ℕ} {form : Form X} {wanted : Tables → Option X}
+    {stored : StoredRows → Option Entry} → Seeks text params count form wanted stored
+    → (old new : State) (t : Tables) → Shows old.now t → (r : Result Row Error)
+    → QueriesRowInside text params old new r → TellsRow old new (option_map form.shown (wanted t)) r
+of_tables seeks old new t shows r h =
+    subst (λ o. TellsRow old new o r) (seeks.same t)
+    (seeks.told old new (stored_rows t) (holds_shown old.now t shows) r h)
 
 module _ {S : Type 0} (g : Ghosts S) (old new : Transaction S) where
   -- a look-up reports what its text looks up
@@ -51,11 +58,11 @@ module _ {S : Type 0} (g : Ghosts S) (old new : Transaction S) where
         same_reference = says.same_reference;
         told = λ clean t shows.
             finds _ _ form.shown form.Breaks (wanted t) answer result read
-            (seeks.told _ _ t shows answer (says.told clean));
+            (of_tables seeks _ _ t shows answer (says.told clean));
         kept = λ clean. (
           looks _ _ (ReadsRow form.shown form.Breaks) answer result read (says.kept clean (seeks.only _)),
           λ rows has. stores _ _ form.held form.Is form.Keeps (stored rows) answer result read_stored
-              (seeks.kept _ _ rows has answer (says.told clean)),
+              (seeks.told _ _ rows has answer (says.told clean)),
         );
         survives = says.survives;
       }

@@ -1,7 +1,7 @@
 -- The rows of a bank's tables as a file holds them, whatever values they have, and the nine rules that the
 -- rows of a bank keep.
-use Rattle.std.specs.Prelude.{◌≡◌, ◌≤◌, ◌<◌, ◌≤ℤ◌, ◌+◌, ◌*◌, ℕ, ℤ, pos, nat_abs, List, [], ◌∷◌, find, Option, Some}
-use Rattle.std.specs.Prelude.{None, option_and_then, IsSome, IsTrue, ⊤}
+use Rattle.std.specs.Prelude.{◌≡◌, ◌≤◌, ◌<◌, ◌≤ℤ◌, ◌+◌, ◌*◌, ℕ, ℤ, pos, nat_abs, List, [], ◌∷◌, find, map, Option}
+use Rattle.std.specs.Prelude.{Some, None, option_and_then, IsSome, IsTrue, ⊤}
 use Rattle.std.specs.List.{AllByRecursion}
 use Rattle.sqlite.specs.Effect.{Database, IsDatabase}
 use Rattle.message_records.specs.Outcomes.{code_of}
@@ -13,6 +13,7 @@ use Rattle.message_records.specs.declared.limits.TheConstants.{MAX_DELTA, MAX_MO
 use Rattle.posting_rules.specs.Numbering.{branch_of_teller, branch_of_account, place_of_account}
 use Rattle.posting_rules.specs.Commands.{IsFloor}
 use Rattle.posting_rules.specs.Kept.{is_kept_with}
+use Rattle.posting_rules.specs.Tables.{Tables}
 use Rattle.posting_rules.specs.declared.fault.Rule.{Rule}
 use Rattle.posting_rules.specs.declared.fault.Rule.TheVariants.{Meta, Teller, Account, Balance, Request}
 use Rattle.posting_rules.specs.declared.fault.Rule.TheVariants.{Value, Key, Floor, Reference}
@@ -22,7 +23,9 @@ use Rattle.sql_meanings.specs.Contents.{HoldsEach}
 use Rattle.sql_meanings.specs.Entries.{Entry, has_key}
 use Rattle.store_rows.specs.Columns.{number_at, text_at}
 use Rattle.store_rows.specs.BankTables.{bank_tables}
-use Rattle.store_rows.specs.declared.metas.TheConstants.{META_ID}
+use Rattle.store_rows.specs.View.{account_entry, branch_entry, floor_entry, history_entry, meta_entry}
+use Rattle.store_rows.specs.View.{reference_entry, request_entry, teller_entry}
+use Rattle.store_rows.specs.declared.metas.TheConstants.{META_ID, VERSION}
 
 -- ---- what a file holds
 
@@ -36,6 +39,19 @@ pub record StoredRows : Type 0 where
   pub requests : List Entry
   pub floors : List Entry
   pub references : List Entry
+
+-- the tables of a bank as a file holds them
+abbrev pub stored_rows : Tables → StoredRows
+stored_rows t = record {
+  meta = meta_entry VERSION t.decided ∷ [];
+  branches = map branch_entry t.branches;
+  tellers = map teller_entry t.tellers;
+  accounts = map account_entry t.accounts;
+  history = map history_entry t.history;
+  requests = map request_entry t.requests;
+  floors = map floor_entry t.floors;
+  references = map reference_entry t.references;
+}
 
 -- in the order of `bank_tables`
 abbrev pub stored_lists : StoredRows → List (List Entry)

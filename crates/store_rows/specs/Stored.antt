@@ -13,6 +13,7 @@ use Rattle.posting_rules.specs.declared.rows.FloorRow.{FloorRow}
 use Rattle.posting_rules.specs.declared.rows.ReferenceRow.{ReferenceRow}
 use Rattle.sql_meanings.specs.Entries.{Entry}
 use Rattle.store_rows.specs.Columns.{number_at, text_at}
+use Rattle.store_rows.specs.TableAnswers.{ReadsColumns}
 use Rattle.store_rows.specs.declared.fault.TableFault.{TableFault}
 use Rattle.store_rows.specs.declared.fault.TableFault.TheVariants.{Sqlite, Damaged}
 
@@ -82,9 +83,7 @@ BalanceKeeps _ r = ⊤
 -- what is shown of a row is read so; or the row doesn't keep the rule
 abbrev pub ReadsStored : {X : Type 0} → (Entry → Row) → (X → Entry → Type 0) → (Rule → Entry → Type 0) → Row
     → Result X TableFault → Type 0
-ReadsStored shown Is Keeps row (Ok x) = (r : Entry) → row ≡ shown r → Is x r
-ReadsStored shown Is Keeps row (Err (Sqlite e)) = ⊥
-ReadsStored shown Is Keeps row (Err (Damaged rule)) = (r : Entry) → row ≡ shown r → ¬ Keeps rule r
+ReadsStored shown Is Keeps = ReadsColumns shown Is (λ r rule. ¬ Keeps rule r)
 
 -- the stored row is reported, and that there is none; or it doesn't keep the rule; or the store failed
 abbrev pub FindsStored : {X : Type 0} → Option Entry → (X → Entry → Type 0) → (Rule → Entry → Type 0)

@@ -141,11 +141,16 @@ ReadsReference v (Err (Sqlite e)) = ⊥
 ReadsReference v (Err (Damaged broken)) = (text : List ℕ) → v ≡ Text text → (broken ≡ rule.Reference)
     × (reference_from text ≡ None)
 
+-- whatever the row shows, the value was made of that, or that breaks the rule
+abbrev pub ReadsColumns : {X Y : Type 0} → (Y → Row) → (X → Y → Type 0) → (Y → Rule → Type 0) → Row
+    → Result X TableFault → Type 0
+ReadsColumns {Y = Y} shown Is Breaks row (Ok x) = (y : Y) → row ≡ shown y → Is x y
+ReadsColumns shown Is Breaks row (Err (Sqlite e)) = ⊥
+ReadsColumns {Y = Y} shown Is Breaks row (Err (Damaged broken)) = (y : Y) → row ≡ shown y → Breaks y broken
+
 -- what a row shows, or it breaks a rule in this way
 abbrev pub ReadsRow : {X : Type 0} → (X → Row) → (X → Rule → Type 0) → Row → Result X TableFault → Type 0
-ReadsRow {X} shown Breaks row (Ok x) = (y : X) → row ≡ shown y → x ≡ y
-ReadsRow shown Breaks row (Err (Sqlite e)) = ⊥
-ReadsRow {X} shown Breaks row (Err (Damaged broken)) = (y : X) → row ≡ shown y → Breaks y broken
+ReadsRow shown Breaks = ReadsColumns shown (λ x y. x ≡ y) Breaks
 
 -- what a row says was decided of a request, or it is no decision that can be kept
 abbrev pub ReadsDecision : Row → Result DecisionFields TableFault → Type 0

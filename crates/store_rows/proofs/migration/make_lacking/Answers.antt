@@ -1,5 +1,5 @@
 -- The tables are made, or why one isn't.
-use Rattle.std.proofs.Common.{ℕ, Ok, Err, Result, rules}
+use Rattle.std.proofs.Common.{ℕ, Ok, Err, Result}
 use Rattle.sqlite.specs.State.{State}
 use Rattle.sqlite.specs.declared.error.Error.{Error}
 use Rattle.store_rows.specs.Creation.{MakesAll}
