@@ -26,6 +26,7 @@ pub mod SeveralRows
 pub mod SeveralTexts
 pub mod SeveralWrites
 pub mod ShownOnce
+pub mod ShownValues
 pub mod SparedTexts
 pub mod StoredFrom
 pub mod StoredReads

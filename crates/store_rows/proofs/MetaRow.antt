@@ -28,11 +28,12 @@ use Rattle.store_rows.specs.Statements.{MeetsOne}
 use Rattle.store_rows.specs.View.{HoldsRows, Shows, contents, meta_entry}
 use Rattle.store_rows.specs.declared.metas.TheConstants.{META_ID, VERSION}
 use Rattle.store_rows.specs.declared.texts.TheConstants.{GET_META, SET_META}
+use Rattle.store_rows.proofs.ShownValues.{number_shown}
 use Rattle.store_rows.proofs.Failing.{forbidden, key_fits}
 use Rattle.store_rows.proofs.Getting.{gets}
 use Rattle.store_rows.proofs.Lookups.{one_written as one_met}
 use Rattle.store_rows.proofs.Setting.{set_second, sets}
-use Rattle.store_rows.proofs.StoredRows.{number_shown, shown_as}
+use Rattle.store_rows.proofs.StoredRows.{shown_as}
 
 -- it is a table of a key and numbers
 pub is_plain : IsPlain bank.meta

@@ -44,6 +44,11 @@ module _ {R : Type 0} (key : R → ℕ) (entry : R → Entry) (keyed : (r : R) �
       go true more = refl
       go false more = more
 
+  -- the entry under a key is that of the row under it
+  pub found_row : (k : ℕ) (rows : List R) → find (has_key (pos k)) (map entry rows)
+      ≡ option_map entry (row_at key rows k)
+  found_row k rows = found_by (has_key (pos k)) (λ r. key r == k) (has_row_key k) rows
+
   -- what is shown of the entry is what is shown of the row
   pub shown_by : (show : Entry → Row) (shown : R → Row) → ((r : R) → show (entry r) ≡ shown r)
       → (p : Entry → Bool) (q : R → Bool) → ((r : R) → p (entry r) ≡ q r) → (rows : List R)
@@ -61,8 +66,7 @@ module _ {R : Type 0} (key : R → ℕ) (entry : R → Entry) (keyed : (r : R) �
   -- a key is taken where a row has it
   pub taken_row_key : (k : ℕ) (rows : List R)
       → is_some (find (has_key (pos k)) (map entry rows)) ≡ is_some (row_at key rows k)
-  taken_row_key k rows = ap is_some (found_by (has_key (pos k)) (λ r. key r == k) (has_row_key k) rows)
-      ∙ there (row_at key rows k)
+  taken_row_key k rows = ap is_some (found_row k rows) ∙ there (row_at key rows k)
 
   -- the same under a key
   pub shown_row : (show : Entry → Row) (shown : R → Row) → ((r : R) → show (entry r) ≡ shown r)

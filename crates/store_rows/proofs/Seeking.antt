@@ -104,8 +104,7 @@ pub seeks_reference : (k : ℕ) → Seeks GET_REFERENCE.now (Int (pos k) ∷ [])
 seeks_reference k = record {
   only = only_reads gets.reference.is;
   told = stored_under 7 (table_of references) refl refl (λ rows. rows.references) (λ _. refl) _
-      reference_project k (gets.reference.reads (pos k)) reference_stored
-      (λ e wide. key_and_text (pos k) e.key e.values e.texts wide.0 wide.1);
+      reference_project k (gets.reference.reads (pos k)) reference_stored (key_and_text (Int (pos k) ∷ []));
   same = λ t. shown_row reference_key reference_entry (λ _. refl) reference_stored reference_shown (λ _. refl) k
       t.references;
 }

@@ -1,7 +1,6 @@
 -- What each look-up reports of the rows that a file holds, whatever numbers they have.
-use Rattle.std.proofs.Common.{◌≡◌, ◌<◌, ◌++◌, ℕ, zero, suc, ℤ, pos, List, [], ◌∷◌, find, length, slice_get, Bool}
+use Rattle.std.proofs.Common.{◌≡◌, ◌<◌, ℕ, pos, List, [], ◌∷◌, find, length, slice_get, Bool}
 use Rattle.std.proofs.Common.{Some, None, Option, option_map, Result, refl, sym, ap, subst, arith}
-use Rattle.std.specs.Prelude.{slice_index_or}
 use Rattle.std.specs.List.{AllByRecursion}
 use Rattle.sqlite.specs.Effect.{Database}
 use Rattle.sqlite.specs.Order.{Row}
@@ -9,9 +8,9 @@ use Rattle.sqlite.specs.State.{State, QueriesRowInside}
 use Rattle.sqlite.specs.Table.{Table}
 use Rattle.sqlite.specs.Term.{Term, col, eval_all}
 use Rattle.sqlite.specs.declared.error.Error.{Error}
-use Rattle.sqlite.specs.declared.types.Value.TheVariants.{Int, Null}
+use Rattle.sqlite.specs.declared.types.Value.TheVariants.{Int}
 use Rattle.posting_rules.specs.Tables.{Tables}
-use Rattle.sql_meanings.specs.Entries.{Entry, HasWidth, has_key, is_above, has_two, numbers, stored, texts_held}
+use Rattle.sql_meanings.specs.Entries.{Entry, HasWidth, has_key, is_above, has_two, stored}
 use Rattle.sql_meanings.specs.StatementAnswers.{TellsRow}
 use Rattle.sql_meanings.specs.Queries.{by_key}
 use Rattle.sql_meanings.specs.Tables.{Holds, width_of}
@@ -26,6 +25,7 @@ use Rattle.store_rows.specs.Stored.{balance_stored, branch_stored, floor_stored,
 use Rattle.store_rows.specs.Stored.{request_stored}
 use Rattle.store_rows.specs.View.{Shows}
 use Rattle.store_rows.specs.declared.texts.TheConstants.{GET_REQUEST, NEXT_BRANCH}
+use Rattle.store_rows.proofs.ShownValues.{number_shown, text_shown}
 use Rattle.store_rows.proofs.GetRequest as request
 use Rattle.store_rows.proofs.NextBranch as next
 
@@ -68,13 +68,6 @@ stored_under at t free listed rows_of there text project k reads held same old n
 
 -- ---- the columns of a row
 
--- a number behind the key is shown as it is held
-pub number_shown : (at : ℕ) (values : List ℤ) (texts : List (List ℕ)) → at < length values
-    → slice_index_or (numbers values ++ texts_held texts) at Null ≡ Int (slice_index_or values at (pos 0))
-number_shown at [] texts low = absurd (omega arith)
-number_shown zero (v ∷ values) texts low = refl
-number_shown (suc at) (v ∷ values) texts low = number_shown at values texts (omega arith)
-
 -- the balance of an account or a teller
 pub one_number : (given : Row) (e : Entry) → length e.values ≡ 1
     → eval_all (col 1 2 ∷ []) (given ∷ stored e ∷ []) ≡ balance_stored e
@@ -90,15 +83,9 @@ key_and_number given e wide = rw (number_shown 0 e.values e.texts (omega (arith,
 abbrev pub reference_project : List Term
 reference_project = col 1 0 ∷ col 1 2 ∷ []
 
-pub key_and_text : (k key : ℤ) (values : List ℤ) (texts : List (List ℕ)) → length values ≡ 0
-    → length texts ≡ 1
-    → eval_all reference_project ((Int k ∷ [])
-    ∷ stored (record { key = key; values = values; texts = texts }) ∷ [])
-    ≡ reference_stored (record { key = key; values = values; texts = texts })
-key_and_text k key [] [] wide tall = absurd (omega arith)
-key_and_text k key [] (a ∷ []) wide tall = refl
-key_and_text k key [] (a ∷ b ∷ more) wide tall = absurd (omega arith)
-key_and_text k key (a ∷ more) texts wide tall = absurd (omega arith)
+pub key_and_text : (given : Row) (e : Entry) → HasWidth (0, 1) e
+    → eval_all reference_project (given ∷ stored e ∷ []) ≡ reference_stored e
+key_and_text given e wide = rw (text_shown e wide) refl
 
 abbrev pub branch_project : List Term
 branch_project = col 1 0 ∷ col 1 2 ∷ col 1 3 ∷ []

@@ -1,6 +1,6 @@
 -- What the look-up of a reference tells.
-use Rattle.std.proofs.Common.{◌≡◌, ℕ, ℤ, pos, List, [], ◌∷◌, map, length, Some, None, Option, Ok, Err}
-use Rattle.std.proofs.Common.{Result, codes, lit≤, refl, sym, ap, subst, ◌∙◌, arith}
+use Rattle.std.proofs.Common.{◌≡◌, ℕ, ℤ, pos, List, [], ◌∷◌, map, Some, None, Option, Ok, Err}
+use Rattle.std.proofs.Common.{Result, codes, lit≤, refl, sym, ap, subst, ◌∙◌}
 use Rattle.std.specs.Prelude.{IsSomeAnd, MatchResult, option_map}
 use Rattle.sqlite.specs.Order.{Row, column}
 use Rattle.sqlite.specs.Program.{overlay}
@@ -9,6 +9,7 @@ use Rattle.sqlite.specs.Listing.{understood}
 use Rattle.sqlite.specs.State.{State, FailsToQuery, Shown}
 use Rattle.sqlite.specs.Term.{Term, col, eval_all}
 use Rattle.sqlite.specs.declared.error.Error.{Error}
+use Rattle.sqlite.specs.declared.types.Value.{Value}
 use Rattle.sqlite.specs.declared.types.Value.TheVariants.{Null, Int, Text}
 use Rattle.sqlite_tied.specs.Compute.{everything}
 use Rattle.sqlite_resolve.specs.Program as program
@@ -26,6 +27,7 @@ use Rattle.sql_meanings.specs.Tables.{tree_of}
 use Rattle.store_rows.specs.BankTables as bank
 use Rattle.store_rows.specs.declared.fault.TableFault.{TableFault}
 use Rattle.store_rows.specs.declared.fault.TableFault.TheVariants.{Sqlite, Damaged}
+use Rattle.store_rows.proofs.ShownValues.{places_are, text_shown}
 use Rattle.walked_rows.specs.Pairs.{BreaksUnder, row_under}
 use Rattle.walked_rows.specs.References.{BreaksReference, ReadsFirst, text_behind, text_entry}
 use Rattle.walked_rows.specs.Rows.{HasStoredRows}
@@ -56,26 +58,17 @@ abbrev shown_of : ℤ → Entry → Row
 shown_of k e = eval_all project ((Int k ∷ []) ∷ stored e ∷ [])
 
 shows_text : (k : ℤ) (e : Entry) → HasWidth (0, 1) e → shown_of k e ≡ Text (text_behind e) ∷ []
-shows_text k e wide = go e.key e.values e.texts wide.0 wide.1
-  where
-    go : (key : ℤ) (vs : List ℤ) (ts : List (List ℕ)) → length vs ≡ 0 → length ts ≡ 1
-        → shown_of k (record { key = key; values = vs; texts = ts })
-        ≡ Text (text_behind (record { key = key; values = vs; texts = ts })) ∷ []
-    go key (v ∷ vs) ts none one = absurd (omega arith)
-    go key [] [] none one = absurd (omega arith)
-    go key [] (t ∷ []) none one = refl
-    go key [] (t ∷ u ∷ ts) none one = absurd (omega arith)
+shows_text k e wide = ap (λ (v : Value). v ∷ []) (text_shown e wide)
+
+same_entry : (k key : ℤ) (vs values : List ℤ) (ts texts : List (List ℕ)) → k ≡ key → vs ≡ values → ts ≡ texts
+    → (let it : Entry = record { key = k; values = vs; texts = ts } in it)
+    ≡ record { key = key; values = values; texts = texts }
+same_entry k key vs values ts texts one two three = cc
 
 is_text : (n : ℕ) (e : Entry) → HasWidth (0, 1) e → e.key ≡ pos n → text_entry n (text_behind e) ≡ e
-is_text n e wide at = go e.key e.values e.texts wide.0 wide.1 at
-  where
-    go : (key : ℤ) (vs : List ℤ) (ts : List (List ℕ)) → length vs ≡ 0 → length ts ≡ 1 → key ≡ pos n
-        → text_entry n (text_behind (record { key = key; values = vs; texts = ts }))
-        ≡ record { key = key; values = vs; texts = ts }
-    go key (v ∷ vs) ts none one is = absurd (omega arith)
-    go key [] [] none one is = absurd (omega arith)
-    go key [] (t ∷ []) none one is = ap (λ z. record { key = z; values = []; texts = t ∷ [] }) (sym is)
-    go key [] (t ∷ u ∷ ts) none one is = absurd (omega arith)
+is_text n e wide at =
+    same_entry (pos n) e.key [] e.values (text_behind e ∷ []) e.texts (sym at)
+    (places_are (pos 0) 0 e.values wide.0) (places_are [] 1 e.texts wide.1)
 
 -- ---- what is read of it
 
