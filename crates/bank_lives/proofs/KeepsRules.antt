@@ -1,7 +1,7 @@
 -- The tables of a log keep each of the nine rules.
-use Rattle.std.proofs.Common.{◌≡◌, ◌≤◌, ℕ, zero, suc, ℤ, pos, Bool, true, false, List, [], ◌∷◌, map, Option, Some}
-use Rattle.std.proofs.Common.{None, option_map, refl, sym, ap, subst, ◌∙◌, arith}
-use Rattle.std.specs.Prelude.{◌&&◌, cond, ◌≤ℤ◌, nat_le, nat_eq, is_some, option_and_then}
+use Rattle.std.proofs.Common.{◌≡◌, ◌≤◌, ℕ, zero, suc, ℤ, pos, Bool, true, false, List, [], ◌∷◌, length, map}
+use Rattle.std.proofs.Common.{Option, Some, None, option_map, refl, sym, ap, subst, ◌∙◌, arith}
+use Rattle.std.specs.Prelude.{◌&&◌, cond, ◌≤ℤ◌, nat_le, is_some, option_and_then}
 use Rattle.std.specs.List.{AllByRecursion, Contains}
 use Rattle.message_records.specs.{Ranges.whole_within, declared.limits.TheConstants.MAX_BRANCH}
 use Rattle.posting_rules.specs.Commands.{Command, AreCommands, Terms, is_within}
@@ -15,17 +15,20 @@ use Rattle.posting_rules.specs.declared.fault.Rule.TheVariants.{Floor, Reference
 use Rattle.posting_rules.specs.declared.rows.{AccountRow.AccountRow, BranchRow.BranchRow, FloorRow.FloorRow}
 use Rattle.posting_rules.proofs.Stepped.{history_row_past, reference_row_past, request_row_past}
 use Rattle.posting_rules.proofs.Undamaged.{undamaged}
-use Rattle.sql_meanings.specs.Entries.{Entry, has_key}
-use Rattle.store_rows.specs.{Columns.number_at, declared.metas.TheConstants.VERSION}
+use Rattle.sql_meanings.specs.Entries.{Entry}
+use Rattle.store_rows.specs.Columns.{number_at}
 use Rattle.store_rows.specs.Rules.{AccountKeeps, BranchKeeps, EachKeeps, FloorKeeps, HasDecided, IsNext}
-use Rattle.store_rows.specs.Rules.{IsWithinCount, KeepsRule, PostingKeeps, ReferenceKeeps, RequestKeeps, TellerKeeps}
-use Rattle.store_rows.specs.Rules.{branch_under, floor_under, row_under}
+use Rattle.store_rows.specs.Rules.{IsWithinCount}
+use Rattle.store_rows.specs.Rules.{KeepsRule, stored_rows}
+use Rattle.store_rows.specs.Rules.{PostingKeeps, ReferenceKeeps, RequestKeeps, TellerKeeps, branch_under, floor_under}
+use Rattle.store_rows.specs.Rules.{row_under}
 use Rattle.store_rows.specs.View.{account_entry, branch_entry, floor_entry, history_entry, reference_entry}
-use Rattle.store_rows.specs.View.{request_entry, teller_entry}
-use Rattle.store_rows.proofs.RowLists.{found_by, has_row_key, taken_row_key}
+use Rattle.store_rows.specs.View.{request_entry}
+use Rattle.store_rows.specs.View.{teller_entry}
+use Rattle.store_rows.specs.declared.metas.TheConstants.{VERSION}
+use Rattle.store_rows.proofs.RowLists.{found_row, taken_row_key}
 use Rattle.bank_transactions.proofs.FittingAccounts.{le_number, le_test, same_entry}
 use Rattle.bank_transactions.proofs.SoundRows.{no_branch_beyond, no_floor_beyond, not_below}
-use Rattle.bank_lives.specs.TableRows.{stored_rows}
 
 -- ---- each row
 
@@ -124,8 +127,7 @@ module _ (t : Tables) (sound : IsUndamaged t) where
   under_number key entry keyed rows beyond n (Some m) is =
       let same : m ≡ n = within_is n m is in
       ap (row_under (map entry rows)) same
-      ∙ found_by key entry keyed (has_key (pos n)) (λ r. nat_eq (key r) n)
-      (has_row_key key entry keyed n) rows
+      ∙ found_row key entry keyed n rows
     where
       within_is : (n m : ℕ) → whole_within 1 MAX_BRANCH n ≡ Some m → m ≡ n
       within_is n m is = go (nat_le 1 n) (nat_le n MAX_BRANCH) is
@@ -150,9 +152,7 @@ module _ (t : Tables) (sound : IsUndamaged t) where
 
   account_is : (n : ℕ) → row_under (map account_entry t.accounts) n
       ≡ option_map account_entry (row_at account_key t.accounts n)
-  account_is n =
-      found_by account_key account_entry (λ _. refl) (has_key (pos n)) (λ r. nat_eq r.account n)
-      (has_row_key account_key account_entry (λ _. refl) n) t.accounts
+  account_is n = found_row account_key account_entry (λ _. refl) n t.accounts
 
   -- ---- accounts above their floors
 
@@ -259,8 +259,7 @@ module _ (t : Tables) (sound : IsUndamaged t) where
 
   no_floor : (n : ℕ) → branch_under (stored_rows t) n ≡ None → row_under (map floor_entry t.floors) n ≡ None
   no_floor n none =
-      found_by floor_key floor_entry (λ _. refl) (has_key (pos n)) (λ r. nat_eq r.branch n)
-      (has_row_key floor_key floor_entry (λ _. refl) n) t.floors
+      found_row floor_key floor_entry (λ _. refl) n t.floors
       ∙ ap (option_map floor_entry)
       (sound.floors n (unmapped (row_at branch_key t.branches n) (sym (under_is n) ∙ none)))
 
@@ -274,42 +273,17 @@ same_count a b version is = let same : ◌≡◌ {A = ℤ} (pos a) (pos b) = ap 
     second (e ∷ es) = number_at 1 e
 
 module _ (t : Tables) (log : List Command) (shows : AreTablesOf t log) where
-  no_row : {R : Type 0} (key : R → ℕ) (entry : R → Entry) → ((r : R) → (entry r).key ≡ pos (key r))
-      → (rows : List R) (n : ℕ)
-      → row_at key rows n ≡ None → row_under (map entry rows) n ≡ None
-  no_row key entry keyed rows n none =
-      found_by key entry keyed (has_key (pos n)) (λ r. nat_eq (key r) n) (has_row_key key entry keyed n) rows
-      ∙ ap (option_map entry) none
-
-  no_request : (d n : ℕ) → HasDecided (stored_rows t) d → IsNext d n → row_under (map request_entry t.requests) n
-      ≡ None
-  no_request d zero has next = absurd (let lt = next.0 in omega arith)
-  no_request d (suc n) has next =
+  -- there is no row under a next ordinal
+  no_next : {R : Type 0} (key : R → ℕ) (entry : R → Entry) → ((r : R) → (entry r).key ≡ pos (key r))
+      → (rows : List R) → ((n : ℕ) → length (decided log) ≤ n → row_at key rows (suc n) ≡ None)
+      → (d n : ℕ) → HasDecided (stored_rows t) d → IsNext d n → row_under (map entry rows) n ≡ None
+  no_next key entry keyed rows past d zero has next = absurd (let lt = next.0 in omega arith)
+  no_next key entry keyed rows past d (suc n) has next =
       let lt = next.0 in
       let count : t.decided ≡ d = same_count t.decided d has.0 has.1 in
       let length_is = shows.rows.decided in
-      no_row request_key request_entry (λ _. refl) t.requests (suc n)
-      (shows.rows.requests (suc n) ∙ request_row_past (decided log) n (omega (arith, length_is, count)))
-
-  no_posting : (d n : ℕ) → HasDecided (stored_rows t) d → IsNext d n → row_under (map history_entry t.history) n
-      ≡ None
-  no_posting d zero has next = absurd (let lt = next.0 in omega arith)
-  no_posting d (suc n) has next =
-      let lt = next.0 in
-      let count : t.decided ≡ d = same_count t.decided d has.0 has.1 in
-      let length_is = shows.rows.decided in
-      no_row history_key history_entry (λ _. refl) t.history (suc n)
-      (shows.rows.history (suc n) ∙ history_row_past (decided log) n (omega (arith, length_is, count)))
-
-  no_reference : (d n : ℕ) → HasDecided (stored_rows t) d → IsNext d n
-      → row_under (map reference_entry t.references) n ≡ None
-  no_reference d zero has next = absurd (let lt = next.0 in omega arith)
-  no_reference d (suc n) has next =
-      let lt = next.0 in
-      let count : t.decided ≡ d = same_count t.decided d has.0 has.1 in
-      let length_is = shows.rows.decided in
-      no_row reference_key reference_entry (λ _. refl) t.references (suc n)
-      (shows.rows.references (suc n) ∙ reference_row_past (decided log) n (omega (arith, length_is, count)))
+      found_row key entry keyed (suc n) rows
+      ∙ ap (option_map entry) (past n (omega (arith, length_is, count)))
 
 -- the tables of a log keep each rule
 pub keeps_all : (t : Tables) (log : List Command) → AreCommands log → AreTablesOf t log → (rule : Rule)
@@ -321,9 +295,12 @@ keeps_all t log are shows Balance = keeps_balance t (undamaged t log are shows)
 keeps_all t log are shows Request = keeps_request t (undamaged t log are shows)
 keeps_all t log are shows Value = keeps_value t (undamaged t log are shows)
 keeps_all t log are shows Key = record {
-  requests = no_request t log shows;
-  postings = no_posting t log shows;
-  references = no_reference t log shows;
+  requests = no_next t log shows request_key request_entry (λ _. refl) t.requests
+      (λ n past. shows.rows.requests (suc n) ∙ request_row_past (decided log) n past);
+  postings = no_next t log shows history_key history_entry (λ _. refl) t.history
+      (λ n past. shows.rows.history (suc n) ∙ history_row_past (decided log) n past);
+  references = no_next t log shows reference_key reference_entry (λ _. refl) t.references
+      (λ n past. shows.rows.references (suc n) ∙ reference_row_past (decided log) n past);
   tellers = no_teller t (undamaged t log are shows);
   accounts = no_account t (undamaged t log are shows);
   floors = no_floor t (undamaged t log are shows);

@@ -4,4 +4,3 @@ pub mod ManyLives
 pub mod Moments
 pub mod Replayed
 pub mod Sending
-pub mod TableRows

@@ -7,8 +7,7 @@ ghost use Rattle.posting_rules.specs.Commands.{Command, AreCommands};
 ghost use Rattle.posting_rules.specs.Counter.{Takes, Refuses, StandsAt, LeavesOnly, ShowsBeginning};
 ghost use Rattle.posting_rules.specs.Tables.{Tables, AreTablesOf};
 ghost use Rattle.posting_rules.specs.declared.fault.Rule.{Rule};
-ghost use Rattle.store_rows.specs.Rules.{KeepsRule};
-ghost use Rattle.bank_lives.specs.TableRows.{stored_rows};
+ghost use Rattle.store_rows.specs.Rules.{KeepsRule, stored_rows};
 ghost use Rattle.bank_lives.specs.Lives.{IsCall, Life, given_to};
 
 use posting_rules::Counter;
