@@ -154,7 +154,7 @@ above_put e new [] low above = (low, above)
 above_put e new (x ∷ xs) low above = above_put_by e new x xs low above (above_put e new xs low above.1)
     (int_cmp x.key new.key)
 
-flip : (a b : ℤ) → int_cmp a b ≡ Greater → int_cmp b a ≡ Less
+pub flip : (a b : ℤ) → int_cmp a b ≡ Greater → int_cmp b a ≡ Less
 flip a b h = grind (arith, ints)
 
 same_below : (a b c : ℤ) → int_cmp a b ≡ Equal → int_cmp a c ≡ Less → int_cmp b c ≡ Less

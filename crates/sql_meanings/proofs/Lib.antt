@@ -23,6 +23,7 @@ pub mod MakeFailures
 pub mod Makeable
 pub mod Makings
 pub mod Means
+pub mod NewPairs
 pub mod NumberRows
 pub mod OneTable
 pub mod OnlyShowing

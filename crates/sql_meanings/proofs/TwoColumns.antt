@@ -99,7 +99,8 @@ two_clash one two a b (t ∷ n ∷ more) (u ∷ m ∷ rest) vs ws low p q =
       low,
     ) refl
 
-not_both : (all : List Entry) (one two : ℤ) (e x : Entry) → Clear all → Has all e → Has all x
+-- two rows have not the same two numbers there
+pub not_both : (all : List Entry) (one two : ℤ) (e x : Entry) → Clear all → Has all e → Has all x
     → int_cmp e.key x.key ≡ Less
     → has_two one two e ≡ true → has_two one two x ≡ true → ⊥
 not_both all one two e x clear he hx low p q =
