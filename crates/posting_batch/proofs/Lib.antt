@@ -17,3 +17,4 @@ pub mod Written
 pub mod ToldTables
 pub mod OneRecord
 pub mod NextOrdinals
+pub mod Blanked

@@ -1,7 +1,7 @@
 -- A batch before its records are judged, and after.
 use Rattle.std.specs.Prelude.{◌≡◌, ◌≤◌, ◌<◌, ℕ, ◌+◌, List, [], ◌∷◌, map, None, IfSome, IsSome, Result, Ok}
-use Rattle.std.specs.Prelude.{Err}
-use Rattle.std.specs.List.{find, AllByRecursion}
+use Rattle.std.specs.Prelude.{◌==◌, ◌&&◌, Bool, Err, is_none}
+use Rattle.std.specs.List.{find, list_any, AllByRecursion}
 use Rattle.std.specs.Option.{option_map}
 use Rattle.message_records.specs.declared.fault.Bad.{Bad}
 use Rattle.message_records.specs.Records.{RequestFields}
@@ -12,6 +12,7 @@ use Rattle.posting_rules.specs.LookUps.{kept_in, account_balance_in, balance_of_
 use Rattle.posting_rules.specs.Runs.{behind, replies_to}
 use Rattle.posting_rules.specs.Tables.{Tables, AreTablesOf, row_at, branch_key, teller_key, account_key}
 use Rattle.posting_rules.specs.Tables.{history_key, request_key, reference_key}
+use Rattle.posting_rules.specs.declared.rows.RequestRow.{RequestRow}
 use Rattle.posting_batch.specs.declared.slots.AccountSlot.{AccountSlot}
 use Rattle.posting_batch.specs.declared.slots.TellerSlot.{TellerSlot}
 use Rattle.posting_batch.specs.declared.slots.BranchSlot.{BranchSlot}
@@ -197,3 +198,31 @@ pub record IsShown (o : Overlay) (replies : List (List ℕ)) (t : Tables) (log :
   pub shows : AreTablesOf (tables_over o t) (behind log commands)
   pub answers : replies ≡ replies_to log commands
   pub adds : AddsFreeRows o t
+
+-- ---- it is judged again
+
+-- the slots with nothing in them, and no row that is new
+abbrev pub blanked : Overlay → Overlay
+blanked o = record {
+  branches = map (λ s. empty_branch s.branch) o.branches;
+  floors = map (λ s. empty_floor s.branch) o.floors;
+  tellers = map (λ s. empty_teller s.teller) o.tellers;
+  accounts = map (λ s. empty_account s.account) o.accounts;
+  kept = map (λ s. empty_request s.teller s.number) o.kept;
+  decided = 0;
+  history = [];
+  requests = [];
+  references = [];
+}
+
+-- one of the requests is of the slot's teller, under its number
+abbrev pub IsAmong : List RequestRow → RequestSlot → Type 0
+IsAmong rows s = IsSome (find (λ r. (r.teller == s.teller) && (r.number == s.number)) rows)
+
+-- each request that is kept is a new one
+abbrev pub KeepsNew : Overlay → Type 0
+KeepsNew o = AllByRecursion (λ s. IfSome s.kept (λ k. IsAmong o.requests s)) o.kept
+
+-- a slot keeps no request
+abbrev pub has_gap : List RequestSlot → Bool
+has_gap slots = list_any (λ s. is_none s.kept) slots

@@ -6,6 +6,7 @@ use Rattle.message_records.specs.Records.{RequestFields}
 use Rattle.posting_rules.specs.Tables.{Tables}
 use Rattle.posting_batch.specs.declared.overlay.Overlay as held
 use Rattle.posting_batch.specs.declared.batch.Batch.{Batch}
+use Rattle.posting_batch.specs.declared.batch.Judged.{Judged}
 use Rattle.posting_batch.specs.Overlay.{Overlay}
 use Rattle.posting_batch.specs.Room.{IsRoomFor}
 use Rattle.posting_batch.specs.Batch.{covering_all, no_slots, filled}
@@ -39,6 +40,10 @@ pub record IsForRecords (count : ℕ) (o : held.Overlay) : Type 0 where
 -- what was read of the records
 abbrev pub reads_of : Batch → List (Result RequestFields Bad)
 reads_of b = b.reads.items
+
+-- the same, once they are judged
+abbrev pub reads_judged : Judged → List (Result RequestFields Bad)
+reads_judged j = j.reads.items
 
 -- the batch is made of these records: there is an empty slot under each key that they can touch
 pub record IsMadeOf (b : Batch) (records : List (List ℕ)) : Type 0 where

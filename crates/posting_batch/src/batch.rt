@@ -8,7 +8,7 @@ ghost use Rattle.posting_rules.specs.Commands.{Command};
 ghost use Rattle.posting_rules.specs.Runs.{posts};
 ghost use Rattle.posting_rules.specs.Tables.{Tables, AreTablesOf};
 ghost use Rattle.posting_batch.specs.Batch.{CoversAll, HasFreeOrdinals, HasNextOrdinals, HasRisingSlots};
-ghost use Rattle.posting_batch.specs.Batch.{IsJudged, IsShown};
+ghost use Rattle.posting_batch.specs.Batch.{IsJudged, IsShown, KeepsNew, blanked};
 
 use crate::cover::decode_all;
 use crate::overlay::Overlay;
@@ -38,10 +38,50 @@ pub struct Judged {
     pub overlay: Overlay,
     /// The replies of 200 bytes in order, one to each record.
     pub replies: Vec<[u8; REPLY_BYTES]>,
+    reads: Vec<Result<Request, Bad>>,
+    ghost room: { length reads.items ≤ vec_capacity replies },
+    ghost requests: { length reads.items ≤ overlay.requests.capacity },
+    ghost history: { length reads.items ≤ overlay.history.capacity },
+    ghost references: { length reads.items ≤ overlay.references.capacity },
+}
+
+impl Judged {
+    ghost use Rattle.posting_batch.specs.View.{view, reads_judged, reads_of};
+
+    /// The batch as it was made, to be filled and judged again. It takes no memory.
+    pub fn again(self) -> Batch
+        ensures reads { reads_of result ≡ reads_judged self }
+        ensures overlay { view result.overlay ≡ blanked (view self.overlay) }
+    {
+        let Judged {
+            mut overlay,
+            mut replies,
+            reads,
+        } = self;
+        overlay.clear();
+        replies.clear();
+        Batch {
+            reads,
+            overlay,
+            replies,
+        }
+    }
+
+    /// The replies alone.
+    pub fn into_replies(self) -> Vec<[u8; REPLY_BYTES]>
+        ensures { result ≡ self.replies }
+    {
+        let Judged {
+            overlay: _,
+            replies,
+            reads: _,
+        } = self;
+        replies
+    }
 }
 
 impl Batch {
-    ghost use Rattle.posting_batch.specs.View.{view, reads_of, IsMadeOf, IsFilledFrom};
+    ghost use Rattle.posting_batch.specs.View.{view, reads_judged, reads_of, IsMadeOf, IsFilledFrom};
 
     /// Decodes up to `RECORDS_PER_BATCH` records, and places an empty slot under every key that they can
     /// touch. All that a batch ever takes of memory is taken here; where it was refused, nothing is left.
@@ -88,6 +128,12 @@ impl Batch {
             ≡ self.overlay.decided + length result.overlay.requests.items }
         ensures idle { result.overlay.decided ≡ self.overlay.decided
             → view result.overlay ≡ view self.overlay }
+
+        // The records and the keys are as they were. Where no request was kept before it, each that is kept then is
+        // a new one.
+        ensures same { (reads_judged result ≡ reads_of self)
+            × (blanked (view result.overlay) ≡ blanked (view self.overlay)) }
+        ensures own { KeepsNew (view self.overlay) → KeepsNew (view result.overlay) }
     {
         let Batch {
             reads,
@@ -95,6 +141,10 @@ impl Batch {
             mut replies,
         } = self;
         overlay.judge_records(moment, &reads, &mut replies);
-        Judged { overlay, replies }
+        Judged {
+            overlay,
+            replies,
+            reads,
+        }
     }
 }

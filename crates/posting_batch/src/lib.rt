@@ -42,6 +42,7 @@ mod balances;
 mod batch;
 mod changes;
 mod cover;
+mod emptying;
 mod overlay;
 mod placement;
 mod search;

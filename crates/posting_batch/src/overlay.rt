@@ -84,6 +84,7 @@ pub struct Overlay {
 impl Overlay {
     ghost use Rattle.posting_batch.specs.Judging.{found_over, overlay_kept, overlay_posted, overlay_after};
     ghost use Rattle.posting_batch.specs.Judging.{overlay_with, reply_over, overlay_with_all, replies_over};
+    ghost use Rattle.posting_batch.specs.Batch.{has_gap};
     ghost use Rattle.posting_batch.specs.View.{view, IsForRecords};
 
     // One without a slot and without a new row, with room for what a single record comes to.
@@ -119,6 +120,14 @@ impl Overlay {
             requests: SmallVec::with_capacity(alloc, count)?,
             references: SmallVec::with_capacity(alloc, count)?,
         })
+    }
+
+    /// Tests whether a slot of a request keeps none.
+    #[must_use]
+    pub fn has_gap(&self) -> bool
+        ensures { result ≡ has_gap (view self.now).kept }
+    {
+        self.kept.iter().any(|slot| slot.kept.is_none())
     }
 
     // All that is looked up for a request.
@@ -255,6 +264,11 @@ impl Overlay {
         ensures overlay { view self.new ≡ overlay_with_all (view self.old) moment reads.now }
         ensures replies { replies.new.items ≡ replies.old.items
             ++ map reply_spelling (replies_over (view self.old) moment reads.now) }
+        // No room is lost.
+        ensures room { vec_capacity replies.old ≤ vec_capacity replies.new }
+        ensures rooms { (self.new.requests.capacity ≡ self.old.requests.capacity)
+            × (self.new.history.capacity ≡ self.old.history.capacity)
+            × (self.new.references.capacity ≡ self.old.references.capacity) }
     {
         for read in reads {
             let reply = match read {

@@ -1,4 +1,4 @@
-use Rattle.std.proofs.Common.{◌≡◌, ◌∙◌, ◌+◌, ◌++◌, ℕ, List, Result, length, map, sym, ap, subst}
+use Rattle.std.proofs.Common.{◌≡◌, ◌∙◌, ◌+◌, ◌++◌, ℕ, List, Result, length, map, refl, sym, ap, subst}
 use Rattle.std.proofs.lemmas.List.{length-map}
 use Rattle.message_records.specs.declared.fault.Bad.{Bad}
 use Rattle.message_records.specs.Reading.{request_of}
@@ -10,10 +10,11 @@ use Rattle.posting_rules.specs.Tables.{Tables, AreTablesOf}
 use Rattle.posting_rules.proofs.Records.{all_past}
 use Rattle.posting_rules.proofs.Records as past
 use Rattle.posting_batch.specs.Batch.{ChangesRows, HasRisingSlots, AddsFreeRows, covering_all, no_slots}
-use Rattle.posting_batch.specs.Batch.{filled, HasFreeOrdinals, HasNextOrdinals}
+use Rattle.posting_batch.specs.Batch.{filled, HasFreeOrdinals, HasNextOrdinals, KeepsNew, blanked}
 use Rattle.posting_batch.specs.Judging.{overlay_with_all, replies_over}
 use Rattle.posting_batch.specs.Overlay.{Overlay, tables_over}
 use Rattle.posting_batch.specs.View.{view}
+use Rattle.posting_batch.proofs.Blanked.{blank_all, keeps_all}
 use Rattle.posting_batch.proofs.Covered.{stands}
 use Rattle.posting_batch.proofs.FreeOrdinals.{free_shown}
 use Rattle.posting_batch.proofs.Idle.{all_answered, all_idle, all_rows}
@@ -103,3 +104,15 @@ returns-clause-idle c none =
     let is : view c.judge_records.new.self ≡ overlay_with_all old c.args.moment reads =
     c.judge_records.ensures.overlay in
     is ∙ all_idle old c.args.moment reads (ap (λ (o : Overlay). o.decided) (sym is) ∙ none)
+
+pub returns-clause-same : goal.returns-clause-same
+returns-clause-same c = (
+  refl,
+  ap blanked c.judge_records.ensures.overlay
+      ∙ blank_all (view c.args.self.overlay) c.args.moment c.deref.result.now,
+)
+
+pub returns-clause-own : goal.returns-clause-own
+returns-clause-own c keeps =
+    subst KeepsNew (sym c.judge_records.ensures.overlay)
+    (keeps_all (view c.args.self.overlay) c.args.moment c.deref.result.now keeps)

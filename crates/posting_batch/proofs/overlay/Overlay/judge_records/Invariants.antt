@@ -18,4 +18,8 @@ invariant-loop-read l = record {
   requests_room : HasRoomFor l.self.requests (length l.reads - l.read-index);
   history_room : HasRoomFor l.self.history (length l.reads - l.read-index);
   references_room : HasRoomFor l.self.references (length l.reads - l.read-index);
+  capacity : vec_capacity l.fn.replies ≤ vec_capacity l.replies;
+  requests_capacity : l.self.requests.capacity ≡ l.fn.self.requests.capacity;
+  history_capacity : l.self.history.capacity ≡ l.fn.self.history.capacity;
+  references_capacity : l.self.references.capacity ≡ l.fn.self.references.capacity;
 }
