@@ -106,6 +106,7 @@ reads a b = record {
   ungrouped = λ _. refl;
 }
 
+-- an entry is of a teller and a number where its row is
 pub has_both : (a b : ℕ) (r : RequestRow)
     → has_two (pos a) (pos b) (request_entry r) ≡ ((r.teller == a) && (r.number == b))
 has_both a b r = rw (same_number r.teller a, same_number r.number b) refl

@@ -14,6 +14,7 @@ pub mod KeptRows
 pub mod Lookups
 pub mod MadeSoFar
 pub mod MetaRow
+pub mod NewRequests
 pub mod NextBranch
 pub mod OtherValue
 pub mod Probing

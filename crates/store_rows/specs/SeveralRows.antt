@@ -1,14 +1,19 @@
 -- Rows that are put in one after another, by one statement.
-use Rattle.std.specs.Prelude.{◌||◌, ◌++◌, Bool, false, ℕ, List, [], ◌∷◌, map, Result}
-use Rattle.std.specs.List.{flat_map}
+use Rattle.std.specs.Prelude.{◌≡◌, ◌||◌, ◌++◌, Bool, false, ℕ, pos, List, [], ◌∷◌, map, find, None, Result}
+use Rattle.std.specs.List.{AllByRecursion, flat_map}
+use Rattle.sqlite.specs.Effect.{Database}
 use Rattle.sqlite.specs.Order.{Row}
 use Rattle.sqlite.specs.Table.{Table}
 use Rattle.sqlite.specs.declared.transaction.Transaction.{Transaction}
 use Rattle.sqlite.specs.declared.types.Value.TheVariants.{Int}
+use Rattle.sqlite_rules.specs.Lists.{Has}
 use Rattle.sqlite_trees.specs.declared.store.Store.{Ghosts}
 use Rattle.posting_rules.specs.Tables.{Tables}
-use Rattle.sql_meanings.specs.Entries.{Entry, numbers, texts_held}
+use Rattle.posting_rules.specs.declared.rows.RequestRow.{RequestRow}
+use Rattle.sql_meanings.specs.Entries.{Entry, has_two, numbers, texts_held}
+use Rattle.store_rows.specs.BankTables.{request}
 use Rattle.store_rows.specs.Calls.{AddsRow}
+use Rattle.store_rows.specs.View.{HoldsRows, request_entry}
 use Rattle.store_rows.specs.declared.fault.TableFault.{TableFault}
 
 -- the values by which a row is handed in
@@ -36,3 +41,21 @@ abbrev pub AddsRows : {S R : Type 0} → Ghosts S → Transaction S → Transact
     → (R → Tables → Tables) → List R → Result (Unit {0}) TableFault → Type 0
 AddsRows g old new text entry table taken with rows result =
     AddsRow g old new text (given_each entry rows) table (meets_key with taken rows) (with_each with rows) result
+
+-- ---- requests, whatever rows a file holds
+
+-- no row has the teller and the number of this one
+abbrev pub IsNew : List Entry → RequestRow → Type 0
+IsNew rows r = find (has_two (pos r.teller) (pos r.number)) rows ≡ None
+
+-- the database holds these requests, and maybe more
+pub record HoldsStill (db : Database) (rows : List Entry) : Type 0 where
+  pub all : List Entry
+  pub holds : HoldsRows db request all
+  pub still : (e : Entry) → Has rows e → Has all e
+
+-- whatever requests the first database held, none had the teller and the number of one of these, and the second
+-- holds them still
+abbrev pub PutsNew : Database → Database → List RequestRow → Type 0
+PutsNew old new news = (rows : List Entry) → HoldsRows old request rows
+    → AllByRecursion (IsNew rows) news × HoldsStill new rows

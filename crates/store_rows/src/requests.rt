@@ -1,5 +1,7 @@
 //! The table of decided requests.
-ghost use Rattle.std.specs.Prelude.{◌≡◌, ◌≤◌, pos, find, is_some};
+ghost use Rattle.std.specs.Prelude.{◌≡◌, ◌≤◌, [], ◌∷◌, pos, find, is_some, IsTrue, OnOk};
+ghost use Rattle.sqlite.specs.Held.{state};
+ghost use Rattle.sqlite.specs.State.{HasCleanDisk};
 ghost use Rattle.sqlite.specs.Values.{bound};
 ghost use Rattle.sql_meanings.specs.Entries.{has_two};
 ghost use Rattle.posting_rules.specs.Tables.{row_at, request_key};
@@ -10,7 +12,7 @@ ghost use Rattle.store_rows.specs.Forms.{request_form};
 ghost use Rattle.store_rows.specs.TableAnswers.{ReadsDecision};
 ghost use Rattle.store_rows.specs.Rules.{RequestKeeps};
 ghost use Rattle.store_rows.specs.BankTables.{request as table};
-ghost use Rattle.store_rows.specs.SeveralRows.{AddsRows, given};
+ghost use Rattle.store_rows.specs.SeveralRows.{AddsRows, PutsNew, given};
 ghost use Rattle.store_rows.specs.View.{request_entry};
 ghost use Rattle.store_rows.specs.declared.statements.TheConstants.{MAX_KEY};
 ghost use Rattle.store_rows.specs.declared.texts.TheConstants.{ADD_EIGHT_REQUESTS as eight};
@@ -94,10 +96,15 @@ fn values_of<'a>(row: &RequestRow) -> [ValueRef<'a>; 8]
     ]
 }
 
-/// Adds a decided request. `Damaged(Rule::Key)` is an ordinal that is taken.
+/// Adds a decided request. `Damaged(Rule::Key)` is an ordinal that is taken. It is refused where its teller has
+/// used its number before.
 pub fn add_request<S: Alter>(tx: &mut Transaction<'_, S>, row: RequestRow) -> Result<(), TableFault>
-    ensures { AddsRow S.Store tx.old tx.new one.now (given (request_entry row)) table
+    ensures adds { AddsRow S.Store tx.old tx.new one.now (given (request_entry row)) table
         (λ tables. is_some (row_at request_key tables.requests row.ordinal)) (with_request row) result }
+    // Whatever rows the file holds.
+    ensures unknown { OnOk result (HasCleanDisk (state S.Store tx.new.conn.now)
+        → IsTrue (state S.Store tx.old.conn.now).in_transaction
+        → PutsNew (state S.Store tx.old.conn.now).now (state S.Store tx.new.conn.now).now (row ∷ [])) }
 {
     put_in(tx, ADD_REQUEST, &values_of(&row))
 }
@@ -108,8 +115,12 @@ pub fn add_eight_requests<S: Alter>(
     tx: &mut Transaction<'_, S>,
     rows: &[RequestRow; 8],
 ) -> Result<(), TableFault>
-    ensures { AddsRows S.Store tx.old tx.new eight.now request_entry table
+    ensures adds { AddsRows S.Store tx.old tx.new eight.now request_entry table
         (λ row tables. is_some (row_at request_key tables.requests row.ordinal)) with_request rows.now result }
+    // Whatever rows the file holds.
+    ensures unknown { OnOk result (HasCleanDisk (state S.Store tx.new.conn.now)
+        → IsTrue (state S.Store tx.old.conn.now).in_transaction
+        → PutsNew (state S.Store tx.old.conn.now).now (state S.Store tx.new.conn.now).now rows.now) }
 {
     let [a, b, c, d, e, f, g, h] = rows;
     let values = [

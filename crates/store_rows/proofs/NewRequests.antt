@@ -1,0 +1,88 @@
+-- Requests that were put in had no like, whatever rows the file held.
+use Rattle.std.proofs.Common.{◌≡◌, ◌&&◌, ℕ, pos, List, [], ◌∷◌, map, Bool, true, false, cond, Ok, Err, Result, None}
+use Rattle.std.proofs.Common.{find, refl, arith}
+use Rattle.std.specs.Prelude.{IsTrue, OnOk, ℤ}
+use Rattle.std.specs.List.{AllByRecursion}
+use Rattle.std.specs.Ordering.{int_eq}
+use Rattle.std.proofs.lemmas.Int.{ints}
+use Rattle.sqlite.specs.Held.{state}
+use Rattle.sqlite.specs.State.{State, ExecutesInside, HasCleanDisk}
+use Rattle.sqlite.specs.declared.error.Error.{Error}
+use Rattle.sqlite.specs.declared.transaction.Transaction.{Transaction}
+use Rattle.sqlite_trees.specs.declared.store.Store.{Ghosts}
+use Rattle.posting_rules.specs.declared.fault.Rule.TheVariants.{Key}
+use Rattle.posting_rules.specs.declared.rows.RequestRow.{RequestRow}
+use Rattle.sql_meanings.specs.Entries.{Entry, has_two}
+use Rattle.sql_meanings.specs.SeveralRows.{put_each}
+use Rattle.sql_meanings.specs.StatementAnswers.{is_taken_key}
+use Rattle.sql_meanings.specs.Tables.{Holds, placed_at, tree_of}
+use Rattle.sql_meanings.proofs.NewPairs.{has_each, none_had}
+use Rattle.sql_meanings.proofs.PutRows.{PutsEachAs, puts_rows}
+use Rattle.sql_meanings.proofs.Steps.{standing, stepped}
+use Rattle.sql_meanings.proofs.TwoColumns.{Clear, clear}
+use Rattle.store_rows.specs.BankTables.{request}
+use Rattle.store_rows.specs.Faults.{added}
+use Rattle.store_rows.specs.SeveralRows.{IsNew, PutsNew, given_each}
+use Rattle.store_rows.specs.Statements.{PutsIn, PutsRow}
+use Rattle.store_rows.specs.View.{request_entry}
+use Rattle.store_rows.specs.declared.fault.TableFault.{TableFault}
+use Rattle.store_rows.specs.declared.fault.TableFault.TheVariants.{Sqlite, Damaged}
+use Rattle.store_rows.proofs.TheTables.{requests}
+
+own : (a b : ℕ) → (int_eq (pos a) (pos a) && int_eq (pos b) (pos b)) ≡ true
+own a b = grind (arith, ints)
+
+each_new : (rows : List Entry) (news : List RequestRow)
+    → AllByRecursion (λ e. (one two : ℤ) → has_two one two e ≡ true → find (has_two one two) rows ≡ None)
+    (map request_entry news)
+    → AllByRecursion (IsNew rows) news
+each_new rows [] all = tt
+each_new rows (r ∷ news) all =
+    (all.0 (pos r.teller) (pos r.number) (own r.teller r.number), each_new rows news all.1)
+
+-- the text puts these requests in
+module _ (text : List ℕ) (news : List RequestRow)
+    (puts : PutsEachAs request text (given_each request_entry news) (map request_entry news)) where
+  abbrev entries : List Entry
+  entries = map request_entry news
+
+  were_new : (old new : State) (count : ℕ)
+      → ExecutesInside 0 text (given_each request_entry news) old new (Ok count) → PutsNew old.now new.now news
+  were_new old new count h rows holds =
+      let done = puts_rows old new request requests.is_plain holds.sound rows holds.holds text
+      (given_each request_entry news) entries puts count h.0 in
+      let left = done.0 in
+      let after : Holds new.now request (put_each entries rows) =
+      stepped old.now new.now request left.rows left.steps refl (put_each entries rows) holds.holds.defined
+      left.tree in
+      let apart : Clear (put_each entries rows) =
+      clear new.now.schema new.now.trees (placed_at request (tree_of new.now.schema request.name))
+      (put_each entries rows) left.sound
+      (standing new.now request refl ∣ left.sound ∣₁ after.defined).stands.listed refl refl after.rows.are in (
+        each_new rows news (none_had rows entries rows (λ x has. has) done.1 apart),
+        record {
+          all = put_each entries rows;
+          holds = record { sound = ∣ left.sound ∣₁; holds = after };
+          still = λ e has. has_each entries rows e done.1 has;
+        },
+      )
+
+  not_ok : (done : Unit {0}) (b : Bool) (e : Error) → Ok done ≡ cond b (Err (Damaged Key)) (Err (Sqlite e)) → ⊥
+  not_ok done true e is = absurd (let h = is in cc)
+  not_ok done false e is = absurd (let h = is in cc)
+
+  by_answer : (old new : State) (done : Unit {0}) (answer : Result ℕ Error)
+      → ExecutesInside 0 text (given_each request_entry news) old new answer → Ok done ≡ added answer
+      → PutsNew old.now new.now news
+  by_answer old new done (Ok count) h is = were_new old new count h
+  by_answer old new done (Err e) h is = absurd (not_ok done (is_taken_key e) e is)
+
+  -- a call that runs the text says so
+  pub puts_new : {S : Type 0} (g : Ghosts S) (old new : Transaction S) (result : Result (Unit {0}) TableFault)
+      → PutsRow g old new text (given_each request_entry news) result
+      → OnOk result (HasCleanDisk (state g new.conn.now) → IsTrue (state g old.conn.now).in_transaction
+      → PutsNew (state g old.conn.now).now (state g new.conn.now).now news)
+  puts_new g old new (Ok done) says = λ clean live.
+      let it = says.told clean live in
+      by_answer (state g old.conn.now) (state g new.conn.now) done it.0 it.1 it.2
+  puts_new g old new (Err fault) says = tt
