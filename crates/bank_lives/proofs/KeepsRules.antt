@@ -18,13 +18,10 @@ use Rattle.posting_rules.proofs.Undamaged.{undamaged}
 use Rattle.sql_meanings.specs.Entries.{Entry}
 use Rattle.store_rows.specs.Columns.{number_at}
 use Rattle.store_rows.specs.Rules.{AccountKeeps, BranchKeeps, EachKeeps, FloorKeeps, HasDecided, IsNext}
-use Rattle.store_rows.specs.Rules.{IsWithinCount}
-use Rattle.store_rows.specs.Rules.{KeepsRule, stored_rows}
-use Rattle.store_rows.specs.Rules.{PostingKeeps, ReferenceKeeps, RequestKeeps, TellerKeeps, branch_under, floor_under}
-use Rattle.store_rows.specs.Rules.{row_under}
+use Rattle.store_rows.specs.Rules.{IsWithinCount, KeepsRule, PostingKeeps, ReferenceKeeps, RequestKeeps, TellerKeeps}
+use Rattle.store_rows.specs.Rules.{branch_under, floor_under, row_under, stored_rows}
 use Rattle.store_rows.specs.View.{account_entry, branch_entry, floor_entry, history_entry, reference_entry}
-use Rattle.store_rows.specs.View.{request_entry}
-use Rattle.store_rows.specs.View.{teller_entry}
+use Rattle.store_rows.specs.View.{request_entry, teller_entry}
 use Rattle.store_rows.specs.declared.metas.TheConstants.{VERSION}
 use Rattle.store_rows.proofs.RowLists.{found_row, taken_row_key}
 use Rattle.bank_transactions.proofs.FittingAccounts.{le_number, le_test, same_entry}
