@@ -4,9 +4,10 @@
     tools/build.py [CRATE]
 
 `rt` locks a crate's folder and those of the libraries below it, so that one checkout proves one crate after another.
-So there are lanes: the checkout, and copies of it in .git or in a temporary folder. Each crate that can be proved gets
-a job on every processor, and `nice` lets the one with the longest chain of crates above it go first. What a lane has
-built is linked into the others, and what it kept for the next check goes to the checkout.
+So there are lanes: the checkout, and copies of it in .git or in a temporary folder. Of the crates that can be proved,
+the one with the longest chain of crates above it gets all processors, and the others, by two jobs each and `nice`, what
+it leaves idle; near the end, where a processor would wait, all get all. What a lane has built is linked into the
+others, and what it kept for the next check goes to the checkout.
 """
 import os
 import shutil
@@ -18,7 +19,7 @@ from pathlib import Path
 
 TOP = Path(__file__).resolve().parent.parent
 CPUS = len(os.sched_getaffinity(0))
-# What a lane may take, in kB: a check over SQLite takes 3 to 5 GB.
+# What a lane may take, in kB: a check over SQLite by two jobs takes 3 to 5 GB.
 LANE = 6_000_000
 PARTS = ("src", "specs", "proofs")
 LISTED = [it.split("#")[0].partition(":") for it in (TOP / "crates.txt").read_text().splitlines()]
@@ -68,11 +69,9 @@ def hand_on(crate, lane, other):
         shutil.move(here / "incremental", there / "incremental")
 
 
-def command(crate, ahead):
-    """What proves a crate, beside so many that have to be done sooner."""
-    verb = "run" if (TOP / "crates" / crate / "src/main.rt").exists() else "lib"
-    words = ["nice", "-n", str(5 * ahead), "rt", verb, "--jobs", str(CPUS)]
-    return words + (["--", "--help"] if verb == "run" else [])
+def command(crate, jobs, is_first):
+    words = ["rt", "run" if (TOP / "crates" / crate / "src/main.rt").exists() else "lib", "--jobs", str(jobs)]
+    return ([] if is_first else ["nice"]) + words + (["--", "--help"] if words[1] == "run" else [])
 
 
 def build(room, program):
@@ -85,10 +84,12 @@ def build(room, program):
     while len(done) < len(crates):
         ready = [it for it in crates - done - running.keys() if below(it) - {it} <= done]
         for crate in sorted(ready, key=lambda it: -chain[it])[: len(lanes) - len(running)]:
-            ahead = sum(chain[it] >= chain[crate] for it in running)
+            is_first = all(chain[crate] > chain[it] for it in running)
+            # Two jobs load less than four; a crate that begins late may be left alone with them.
+            is_late = len(crates) - len(done) <= 2 * len(lanes)
             lane = next(it for it in lanes if it not in [lane for lane, _, _ in running.values()])
             lane, log = TOP if crate == program else lane, open(f"{room}/{crate}.log", "w+")
-            words = command(crate, ahead)
+            words = command(crate, CPUS if is_first or is_late else min(CPUS, 2), is_first)
             how = {"cwd": lane / "crates" / crate, "stdin": subprocess.DEVNULL, "stdout": log, "stderr": log}
             running[crate] = lane, log, subprocess.Popen(words, **how)
             left = f"{len(crates) - len(done)} of {len(crates)} crates left"
