@@ -1,26 +1,19 @@
 -- The decoding of replies, reply by reply.
-use Rattle.std.proofs.Common.{◌≡◌, ◌≤◌, ◌<◌, ◌+◌, ◌∷◌, ◌++◌, ◌∙◌, ℕ, List, [], length, take, false, Option, Result, Ok}
-use Rattle.std.proofs.Common.{Err, All, inl, inr, refl, sym, ap, subst, append-nil, append_assoc}
+use Rattle.std.proofs.Common.{◌≡◌, ◌≤◌, ◌<◌, ◌+◌, ◌∷◌, ◌++◌, ◌∙◌, ℕ, List, [], length, take, false, Option, Result}
+use Rattle.std.proofs.Common.{Ok, Err, All, inl, inr, refl, sym, ap, subst, append-nil, append_assoc}
 use Rattle.std.specs.Io.KnownBytes.{Appends, Consumes, Keeps}
-use Rattle.std.proofs.KnownBytes.{Appends-kept, Appends-trans, Consumes-kept, Consumes-nil}
-use Rattle.std.proofs.KnownBytes.{Consumes-trans}
+use Rattle.std.proofs.KnownBytes.{Appends-kept, Appends-trans, Consumes-kept, Consumes-nil, Consumes-trans}
 use Rattle.std.specs.Prelude.{◌⊎◌, OnOk}
-use Rattle.std.specs.Result.{is_err}
-use Rattle.std.specs.List.{flat_map}
+use Rattle.std.specs.{Result.is_err, List.flat_map}
 use Rattle.std.proofs.Math.Seq.{take-length}
-use Rattle.std.proofs.lemmas.List.{length_push}
-use Rattle.std.proofs.lemmas.List.Concat.{flat_map-append}
-use Rattle.std.proofs.lemmas.List.Elements.{All-nil, All-push}
+use Rattle.std.proofs.lemmas.List.{length_push, Concat.flat_map-append, Elements.All-nil, Elements.All-push}
 use Rattle.message_records.specs.Records.{IsReply, ReplyFields}
-use Rattle.message_records.specs.Spelling.{reply_spelling}
-use Rattle.message_records.specs.declared.limits.TheConstants.{REPLY_BYTES}
-use Rattle.posting_core.specs.Told.{EndsWith, IsFlush, ReadTold, WriteTold}
+use Rattle.message_records.specs.{Spelling.reply_spelling, declared.limits.TheConstants.REPLY_BYTES}
+use Rattle.posting_core.specs.Told.{EndsWith, IsFlush, ReadTold, WriteTold, IsWriteFailure}
 use Rattle.posting_core.proofs.Telling.{last_some, more_failed}
-use Rattle.posting_core.specs.Told.{IsWriteFailure}
-use Rattle.posting_sheets.specs.Encoding.{IsPrefixOf}
-use Rattle.posting_sheets.specs.Replies.{Decodes, IsLineSo, RepliesFaultIsOfItsEnd, heading}
-use Rattle.posting_sheets.specs.Replies.{replies_sheet, replies_spelling, reply_line}
-use Rattle.posting_sheets.specs.declared.fault.RepliesFault.{RepliesFault}
+use Rattle.posting_sheets.specs.{Encoding.IsPrefixOf, declared.fault.RepliesFault.RepliesFault}
+use Rattle.posting_sheets.specs.Replies.{Decodes, IsLineSo, RepliesFaultIsOfItsEnd, heading, replies_sheet}
+use Rattle.posting_sheets.specs.Replies.{replies_spelling, reply_line}
 use Rattle.posting_sheets.specs.declared.fault.RepliesFault.TheVariants as Fault
 use Rattle.posting_sheets.proofs.Prefixes.{prefix-append, prefix-after, prefix-take}
 

@@ -1,17 +1,12 @@
 -- What a sheet states, row by row.
-use Rattle.std.proofs.Common.{◌≡◌, ◌+◌, ◌∷◌, ◌++◌, ◌∙◌, ℕ, List, [], Some, None, Bool, true, false}
-use Rattle.std.proofs.Common.{Result, Ok, Err, length, refl, sym, ap, append-nil, append_assoc}
-use Rattle.std.proofs.lemmas.List.{length_push}
-use Rattle.std.proofs.lemmas.List.Concat.{flat_map-append}
+use Rattle.std.proofs.Common.{◌≡◌, ◌+◌, ◌∷◌, ◌++◌, ◌∙◌, ℕ, List, [], Some, None, Bool, true, false, Result, Ok, Err}
+use Rattle.std.proofs.Common.{length, refl, sym, ap, append-nil, append_assoc}
+use Rattle.std.proofs.lemmas.List.{length_push, Concat.flat_map-append}
 use Rattle.branch_loader.specs.Records.{Fields, Records, TakesRecord}
-use Rattle.message_records.specs.Records.{RequestFields}
-use Rattle.message_records.specs.Spelling.{request_spelling}
+use Rattle.message_records.specs.{Records.RequestFields, Spelling.request_spelling}
 use Rattle.posting_sheets.specs.Encoding.{IsPutSo, records_text}
-use Rattle.posting_sheets.specs.Sheets.{Sheet, form_of, request_of_row, sheet_by}
-use Rattle.posting_sheets.specs.Sheets.{sheet_of_records}
-use Rattle.posting_sheets.specs.declared.form.Form.{Form}
-use Rattle.posting_sheets.specs.declared.fault.BadRow.{BadRow}
-use Rattle.posting_sheets.specs.declared.fault.SheetFault.{SheetFault}
+use Rattle.posting_sheets.specs.Sheets.{Sheet, form_of, request_of_row, sheet_by, sheet_of_records}
+use Rattle.posting_sheets.specs.declared.{form.Form.Form, fault.BadRow.BadRow, fault.SheetFault.SheetFault}
 use Rattle.posting_sheets.specs.declared.fault.SheetFault.TheVariants as Fault
 use Rattle.posting_sheets.proofs.Prefixes.{prefix-append}
 

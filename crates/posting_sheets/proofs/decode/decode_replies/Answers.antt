@@ -1,15 +1,13 @@
 use Rattle.std.proofs.Common.{◌≡◌, ◌≤◌, ◌+◌, ◌∙◌, false, length, take, refl, sym, arith, inl, inr}
 use Rattle.std.specs.Result.{is_err}
-use Rattle.std.proofs.lemmas.List.{length-take-le}
-use Rattle.std.proofs.lemmas.Result.{err_from_is_err_and}
+use Rattle.std.proofs.lemmas.{List.length-take-le, Result.err_from_is_err_and}
 use Rattle.message_records.specs.declared.limits.TheConstants.{REPLY_BYTES}
 use Rattle.posting_core.specs.Told.{IsFlush}
-use Rattle.posting_core.proofs.Streaming.{at_ok}
-use Rattle.posting_core.proofs.Telling.{last_some, made_none, made_one, more_last, other_kind, read_ended, read_failed}
+use Rattle.posting_core.proofs.{Streaming.at_ok, Telling.last_some, Telling.made_none, Telling.made_one}
+use Rattle.posting_core.proofs.{Telling.more_last, Telling.other_kind, Telling.read_ended, Telling.read_failed}
 use Rattle.posting_sheets.proofs.Decoded.{at_err, broken-ends, decoded-broken, decoded-done, decoded-filled}
-use Rattle.posting_sheets.proofs.Decoded.{decoded-first}
-use Rattle.posting_sheets.proofs.Decoded.{decoded-full, decoded-kept, decoded-line, decoded-more, decoded-truncated}
-use Rattle.posting_sheets.proofs.Decoded.{decoded-unheaded, decoded-unread, written-all}
+use Rattle.posting_sheets.proofs.Decoded.{decoded-first, decoded-full, decoded-kept, decoded-line, decoded-more}
+use Rattle.posting_sheets.proofs.Decoded.{decoded-truncated, decoded-unheaded, decoded-unread, written-all}
 use Rattle.posting_sheets.proofs.decode.decode_replies.Goals as goal
 use Rattle.posting_sheets.proofs.decode.decode_replies.Goals.{else-filled-eq-REPLY_BYTES, in-Err, in-Ok}
 use Rattle.posting_sheets.proofs.decode.decode_replies.Goals.{then-filled-eq-REPLY_BYTES+in_ok-write_line}

@@ -1,7 +1,6 @@
 use Rattle.std.proofs.Common.{◌≡◌, ◌++◌, ◌∙◌, List, ℕ, Some, ap, subst, sym}
 use Rattle.branch_loader.proofs.Remain.{start}
-use Rattle.posting_sheets.specs.Encoding.{IsPutSo}
-use Rattle.posting_sheets.specs.Sheets.{sheet_of}
+use Rattle.posting_sheets.specs.{Encoding.IsPutSo, Sheets.sheet_of}
 use Rattle.posting_sheets.proofs.encode.records_of_text.Goals as goal
 
 pub returns : goal.returns
