@@ -1,14 +1,13 @@
 -- The replies that tell of a posting are counted by their outcomes.
-use Rattle.std.proofs.Common.{◌≡◌, ◌+◌, ℕ, Bool, cond, List, [], ◌∷◌, ◌++◌, codes, refl, sym, ap, ◌∙◌}
-use Rattle.std.proofs.Common.{zero-add, add_assoc}
+use Rattle.std.proofs.Common.{◌≡◌, ◌+◌, ℕ, Bool, cond, List, [], ◌∷◌, ◌++◌, codes, refl, sym, ap, ◌∙◌, zero-add}
+use Rattle.std.proofs.Common.{add_assoc}
 use Rattle.std.specs.Prelude.{count_by}
 use Rattle.std.proofs.lemmas.List.Sums.{sum_by-cons}
-use Rattle.message_records.specs.declared.records.Outcome.{Outcome}
-use Rattle.message_records.specs.declared.records.Outcome.TheVariants.{Posted, NoTeller, WrongBranch}
-use Rattle.message_records.specs.declared.records.Outcome.TheVariants.{NoAccount, BelowFloor, OverLimit}
-use Rattle.message_records.specs.declared.records.Outcome.TheVariants.{ReusedNumber, Full, Malformed}
-use Rattle.message_records.specs.{Outcomes.code_of, Outcomes.has_balance, Records.ReplyFields, Spelling.digits}
-use Rattle.message_records.specs.Spelling.{reply_spelling}
+use Rattle.message_records.specs.{declared.records.Outcome.Outcome, Outcomes.code_of, Outcomes.has_balance}
+use Rattle.message_records.specs.{Records.ReplyFields, Spelling.digits, Spelling.reply_spelling}
+use Rattle.message_records.specs.declared.records.Outcome.TheVariants.{Posted, NoTeller, WrongBranch, NoAccount}
+use Rattle.message_records.specs.declared.records.Outcome.TheVariants.{BelowFloor, OverLimit, ReusedNumber, Full}
+use Rattle.message_records.specs.declared.records.Outcome.TheVariants.{Malformed}
 use Rattle.posting_rules.specs.Commands.{Command, Open, Post}
 use Rattle.posting_rules.specs.{Entries.reply, Runs.behind, Runs.replies_to}
 use Rattle.load_driver.specs.{Counted.is_posted, Records.posted_among}

@@ -1,21 +1,19 @@
 -- What a drive did, from where its branches were listed on.
-use Rattle.std.proofs.Common.{◌≡◌, ◌≤◌, ◌+◌, ℕ, zero, suc, List, [], ◌∷◌, ◌++◌, length, map, Option, Some}
-use Rattle.std.proofs.Common.{None, Result, Ok, Err, refl, sym, ap, subst, ◌∙◌, arith, append-nil, inl, inr}
+use Rattle.std.proofs.Common.{◌≡◌, ◌≤◌, ◌+◌, ℕ, zero, suc, List, [], ◌∷◌, ◌++◌, length, map, Option, Some, None}
+use Rattle.std.proofs.Common.{Result, Ok, Err, refl, sym, ap, subst, ◌∙◌, arith, append-nil, inl, inr}
 use Rattle.std.specs.Prelude.{IfErr, IfOk, IfSome, OnOk}
 use Rattle.std.proofs.{Math.Nat.eq-or-lt_of_le, lemmas.List.Sorted.IsPermutation-refl}
-use Rattle.posting_rules.specs.declared.{fault.Fault.Fault, limits.TheConstants.LAST_BRANCH}
+use Rattle.posting_rules.specs.{declared.fault.Fault.Fault, declared.limits.TheConstants.LAST_BRANCH, Resends.Skips}
 use Rattle.posting_rules.specs.declared.fault.Fault.TheVariants.{Memory, Store, Down, Damaged}
 use Rattle.posting_rules.specs.Commands.{Command, Open, IsCommand, AreCommands, opened, Terms}
 use Rattle.posting_rules.specs.Counter.{Seen, ShowsLog, Takes, Refuses}
-use Rattle.posting_rules.specs.{Resends.Skips, Runs.behind, Runs.ArePosts}
-use Rattle.posting_rules.proofs.{Resends.shows_log_left_out, SoundEntries.open_within, CounterCalls.Takes-append}
-use Rattle.posting_rules.proofs.CounterCalls.{refused_behind}
-use Rattle.posting_core.specs.Batches.{Batch, posts_of, records_of}
+use Rattle.posting_rules.specs.Runs.{behind, ArePosts}
+use Rattle.posting_rules.proofs.{Resends.shows_log_left_out, SoundEntries.open_within}
+use Rattle.posting_rules.proofs.CounterCalls.{Takes-append, refused_behind}
+use Rattle.posting_core.specs.{Batches.Batch, Batches.posts_of, Batches.records_of, Stream.IfUp, Stream.IsOfCall}
 use Rattle.posting_core.proofs.{Batched.all_posts, Batched.posted_is, Stops.refused_stop, Stops.stop_all}
 use Rattle.branch_loader.specs.Plans.{Row, Rows}
-use Rattle.posting_core.specs.Stream.{IfUp, IsOfCall}
-use Rattle.load_driver.specs.Requests.{IsAscending}
-use Rattle.load_driver.specs.declared.drive.Driven.{Driven}
+use Rattle.load_driver.specs.{Requests.IsAscending, declared.drive.Driven.Driven}
 use Rattle.load_driver.specs.declared.drive_fault.DriveFault.{DriveFault, TheVariants.NoBranches, TheVariants.Bank}
 use Rattle.load_driver.specs.Drives.{Drives, EndsDrive, IfListed, IfRefused, IsUnlisted, MayRefuse, DrivesAgain}
 use Rattle.load_driver.specs.Drives.{Submits, UnlessDown}

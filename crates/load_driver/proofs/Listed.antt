@@ -1,14 +1,13 @@
 -- The open branches are listed one after another.
-use Rattle.std.proofs.Common.{◌≡◌, ◌≤◌, ◌<◌, ◌+◌, ◌-◌, ℕ, zero, suc, true, false, List, [], ◌∷◌, ◌++◌, Some}
-use Rattle.std.proofs.Common.{None, Result, Ok, Err, leb, refl, sym, ap, ◌∙◌, arith, append-nil, inl, inr}
+use Rattle.std.proofs.Common.{◌≡◌, ◌≤◌, ◌<◌, ◌+◌, ◌-◌, ℕ, zero, suc, true, false, List, [], ◌∷◌, ◌++◌, Some, None}
+use Rattle.std.proofs.Common.{Result, Ok, Err, leb, refl, sym, ap, ◌∙◌, arith, append-nil, inl, inr}
 use Rattle.std.specs.List.{AllByRecursion}
 use Rattle.std.specs.Prelude.{nat_eq, ◌&&◌, ◌≤ℤ◌, ℤ, pos, Option, IfSome, int_le}
-use Rattle.std.proofs.{lemmas.Bool.Decides.nat_tests, lemmas.Int.ints, lemmas.Bool.cases_Bool}
+use Rattle.std.proofs.lemmas.{Bool.Decides.nat_tests, Int.ints, Bool.cases_Bool}
 use Rattle.message_records.specs.Ranges.{whole_within}
-use Rattle.posting_rules.specs.declared.counter.BranchLine.{BranchLine}
+use Rattle.posting_rules.specs.{declared.counter.BranchLine.BranchLine, Commands.Command, Commands.opened}
 use Rattle.posting_rules.specs.declared.limits.TheConstants.{LAST_BRANCH, MAX_ACCOUNTS}
 use Rattle.posting_rules.specs.Branches.{IsLineAbove, IsNextBranch, IsNextOpen}
-use Rattle.posting_rules.specs.Commands.{Command, opened}
 use Rattle.posting_rules.specs.Counter.{Seen, ShowsLog, Takes}
 use Rattle.branch_loader.specs.Plans.{IsRow, Row, Rows, floor_within, names, plan_of_list, row_of_listed, rows_by}
 use Rattle.branch_loader.specs.declared.fault.PlanFault.{PlanFault}

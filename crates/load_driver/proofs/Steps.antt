@@ -1,16 +1,14 @@
 -- What a record does to a driver.
-use Rattle.std.proofs.Common.{◌≡◌, ◌<◌, ◌≤◌, ◌+◌, ◌*◌, ◌∙◌, ◌≢◌, ◌⊎◌, inl, inr, ℕ, zero, suc, List, Bool}
-use Rattle.std.proofs.Common.{true, false, length, get_or, arith, refl, sym, ap, nat_eq, add-one, set}
+use Rattle.std.proofs.Common.{◌≡◌, ◌<◌, ◌≤◌, ◌+◌, ◌*◌, ◌∙◌, ◌≢◌, ◌⊎◌, inl, inr, ℕ, zero, suc, List, Bool, true, false}
+use Rattle.std.proofs.Common.{length, get_or, arith, refl, sym, ap, nat_eq, add-one, set}
 use Rattle.std.specs.Prelude.{if◌then◌else◌}
 use Rattle.std.proofs.{lemmas.Bool.cases_Bool, lemmas.Bool.Decides.nat_tests, Math.ListN.length-set}
 use Rattle.std.proofs.lemmas.List.{get_or-set_other, get_or-set_same, get_or_read}
 use Rattle.posting_rules.specs.declared.limits.TheConstants.{TELLERS_PER_BRANCH}
 use Rattle.rand_pcg.specs.{Lcg.Lcg, Pcg.pcg64}
 use Rattle.branch_loader.specs.Plans.{IsPlan, Rows}
-use Rattle.load_driver.specs.Draw.{words_after, draw, word}
-use Rattle.load_driver.specs.Requests.{earlier, place_at, teller_of}
-use Rattle.load_driver.specs.{Counts.Counts, Words.TakesWords}
-use Rattle.load_driver.specs.declared.draws.Words.{Words}
+use Rattle.load_driver.specs.{Draw.words_after, Draw.draw, Draw.word, Requests.earlier, Requests.place_at}
+use Rattle.load_driver.specs.{Requests.teller_of, Counts.Counts, Words.TakesWords, declared.draws.Words.Words}
 use Rattle.load_driver.proofs.Totals.{one_teller}
 
 -- one word

@@ -1,16 +1,13 @@
 -- How many accounts there are, of which row an account is, and that a teller has one place.
-use Rattle.std.proofs.Common.{◌≡◌, ◌≢◌, ◌<◌, ◌≤◌, ◌+◌, ◌-◌, ◌*◌, ◌/◌, ◌∷◌, ◌∙◌, ◌⊎◌, inl, inr, ℕ, zero, suc}
-use Rattle.std.proofs.Common.{[], Bool, true, false, not, length, get_or, map, All, arith, refl, sym, ap}
-use Rattle.std.proofs.Common.{None, subst, nat_eq, nat_lt, cond}
-use Rattle.std.specs.Prelude.{Contains}
-use Rattle.std.specs.List.{AllByRecursion, IsDistinct, flat_map}
-use Rattle.std.proofs.{lemmas.Bool.cases_Bool, lemmas.Bool.false≢true, lemmas.Bool.Decides.nat_tests}
-use Rattle.std.proofs.{lemmas.List.FromFn.length-range_with_len, lemmas.List.Sums.sum_by-cons}
-use Rattle.std.proofs.lemmas.Map.Keys.{apart_from_distinct}
+use Rattle.std.proofs.Common.{◌≡◌, ◌≢◌, ◌<◌, ◌≤◌, ◌+◌, ◌-◌, ◌*◌, ◌/◌, ◌∷◌, ◌∙◌, ◌⊎◌, inl, inr, ℕ, zero, suc, [], Bool}
+use Rattle.std.proofs.Common.{true, false, not, length, get_or, map, All, arith, refl, sym, ap, None, subst, nat_eq}
+use Rattle.std.proofs.Common.{nat_lt, cond}
+use Rattle.std.specs.{Prelude.Contains, List.AllByRecursion, List.IsDistinct, List.flat_map}
+use Rattle.std.proofs.lemmas.{Bool.cases_Bool, Bool.false≢true, Bool.Decides.nat_tests}
+use Rattle.std.proofs.lemmas.{List.FromFn.length-range_with_len, List.Sums.sum_by-cons, Map.Keys.apart_from_distinct}
 use Rattle.std.proofs.lemmas.List.{get_or-map, length-append, length-map}
-use Rattle.posting_rules.specs.declared.limits.TheConstants.{TELLERS_PER_BRANCH}
+use Rattle.posting_rules.specs.{declared.limits.TheConstants.TELLERS_PER_BRANCH, Numbering.first_account}
 use Rattle.branch_loader.specs.Plans.{IsPlan, IsRow, Rows, Row}
-use Rattle.posting_rules.specs.Numbering.{first_account}
 use Rattle.load_driver.specs.OfPlan.{IsAccountFor, IsAccountOf}
 use Rattle.load_driver.specs.Requests.{CountsOthers, accounts_of, count_of, home_of, others, remote_accounts}
 use Rattle.load_driver.specs.Requests.{teller_of}

@@ -1,9 +1,8 @@
 use Rattle.std.proofs.Common.{◌≡◌, Err, sym, ap, subst, ◌∙◌}
 use Rattle.std.proofs.lemmas.Result.{err_from_is_err_and}
-use Rattle.load_driver.specs.declared.drive_fault.DriveFault.TheVariants.{NoBranches}
-use Rattle.load_driver.specs.Drives.{MayRefuse}
-use Rattle.load_driver.proofs.DriveEnds.{drives, ended_empty, ended_unlisted, none_listed, none_open, on_ok}
-use Rattle.load_driver.proofs.DriveEnds.{resends, up_behind, up_empty, up_unlisted, why_behind, why_empty}
+use Rattle.load_driver.specs.{declared.drive_fault.DriveFault.TheVariants.NoBranches, Drives.MayRefuse}
+use Rattle.load_driver.proofs.DriveEnds.{drives, ended_empty, ended_unlisted, none_listed, none_open, on_ok, resends}
+use Rattle.load_driver.proofs.DriveEnds.{up_behind, up_empty, up_unlisted, why_behind, why_empty}
 use Rattle.load_driver.proofs.drive.drive_records.Goals as goal
 
 -- the branches weren't listed
