@@ -15,17 +15,18 @@ use Rattle.posting_batch.specs.declared.batch.Batch.{Batch}
 use Rattle.posting_batch.proofs.NextOrdinals.{HasNoRow, next_one, none_covered, none_new}
 use Rattle.store_rows.specs.Rules.{OfRows}
 use Rattle.bank_transactions.specs.Additions.{AddsForRecords, AddsNew, FollowsCount, adds_so}
-use Rattle.bank_transactions.specs.Filling.{AreHeld, emptied}
+use Rattle.bank_transactions.specs.Filling.{emptied}
+use Rattle.bank_transactions.specs.Stored.{HoldsDecided}
 
 each_of : {R : Type 0} (P : R → Type 0) (rows : List R) (r : R) → AllByRecursion P rows → Has rows r → P r
 each_of P [] r all none = absurd none
 each_of P (x ∷ rows) r all (inl same) = subst P (sym same) all.0
 each_of P (x ∷ rows) r all (inr more) = each_of P rows r all.1 more
 
-module _ (db : Database) (o judged : Overlay) (count : ℕ) (held : OfRows (λ rows. AreHeld rows o) db)
+module _ (db : Database) (o judged : Overlay) (count : ℕ) (held : OfRows (λ rows. HoldsDecided rows o.decided) db)
     (next : HasNextOrdinals o.decided count judged) where
   follows : (ordinal : ℕ) → IsNextOrdinal o.decided count ordinal → FollowsCount db count ordinal
-  follows ordinal is = λ rows has. (o.decided, (held rows has).decided, is)
+  follows ordinal is = λ rows has. (o.decided, held rows has, is)
 
   own : {R : Type 0} (ordinal : R → ℕ) (rows : List R)
       → AllByRecursion (λ r. IsNextOrdinal o.decided count (ordinal r)) rows
@@ -55,7 +56,7 @@ none_at_first = record { history = refl; requests = refl; references = refl }
 
 -- those of a batch
 pub adds_of_batch : (b : Batch) (records : List (List ℕ)) (o judged : Overlay) (db : Database)
-    → IsMadeOf b records → emptied o ≡ emptied (view b.overlay) → OfRows (λ rows. AreHeld rows o) db
+    → IsMadeOf b records → emptied o ≡ emptied (view b.overlay) → OfRows (λ rows. HoldsDecided rows o.decided) db
     → (HasNextOrdinals o.decided 0 o → HasNextOrdinals o.decided (length (reads_of b)) judged)
     → (text : List ℕ) (values : Row) → AddsNew judged text values
     → AddsForRecords db (length records) text values
@@ -68,7 +69,7 @@ adds_of_batch b records o judged db made same held next =
 
 -- those of a single record
 pub adds_of_one : (r : RequestFields) (m : ℕ) (p o judged : Overlay) (db : Database)
-    → p ≡ covering no_slots (Ok r) → emptied o ≡ emptied p → OfRows (λ rows. AreHeld rows o) db
+    → p ≡ covering no_slots (Ok r) → emptied o ≡ emptied p → OfRows (λ rows. HoldsDecided rows o.decided) db
     → judged ≡ overlay_with o m (Ok r)
     → (text : List ℕ) (values : Row) → AddsNew judged text values → AddsForRecords db 1 text values
 adds_of_one r m p o judged db made same held after =

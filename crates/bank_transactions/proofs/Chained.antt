@@ -44,7 +44,7 @@ keeps_then old mid new (Err e) on then = record {
 -- ---- what is told
 
 -- no damage of a part is none of the whole
-same_fault : {X Y : Type 0} (new end : State) (one two : Tables) (x : X) (y : Y) (e : TableFault)
+pub same_fault : {X Y : Type 0} (new end : State) (one two : Tables) (x : X) (y : Y) (e : TableFault)
     → LeavesAndAnswers new one x (Err e) → LeavesAndAnswers end two y (Err e)
 same_fault new end one two x y (Sqlite e) told = tt
 same_fault new end one two x y (Damaged rule) told = told

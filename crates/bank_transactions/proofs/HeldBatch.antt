@@ -52,7 +52,7 @@ use Rattle.bank_transactions.proofs.Together.{within_or_none}
 
 -- ---- an overlay that is filled again
 
-map_twice : {A B C : Type 0} (f : B → C) (g : A → B) (h : A → C) → ((a : A) → f (g a) ≡ h a) → (xs : List A)
+pub map_twice : {A B C : Type 0} (f : B → C) (g : A → B) (h : A → C) → ((a : A) → f (g a) ≡ h a) → (xs : List A)
     → map f (map g xs) ≡ map h xs
 map_twice f g h same [] = refl
 map_twice {A} {B} {C} f g h same (x ∷ xs) =

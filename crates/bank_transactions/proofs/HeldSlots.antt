@@ -103,12 +103,15 @@ pub put_back : {A : Type 0} (v : SmallVec A) (xs ys : List A) → xs ≡ v.items
 put_back v xs ys is same = items-with_items v ys (same ∙ ap length is)
 
 -- the overlay with filled slots, without what they are filled with
-pub emptied_same : (o : Overlay) (n : ℕ) (b : List BranchSlot) (f : List FloorSlot) (e : List TellerSlot)
-    (a : List AccountSlot) (k : List RequestSlot) → map emptied_branch b ≡ map emptied_branch o.branches
+pub emptied_known : (o : Overlay) (n : ℕ) (b : List BranchSlot) (f : List FloorSlot) (e : List TellerSlot)
+    (a : List AccountSlot) → map emptied_branch b ≡ map emptied_branch o.branches
     → map emptied_floor f ≡ map emptied_floor o.floors
     → map emptied_teller e ≡ map emptied_teller o.tellers
     → map emptied_account a ≡ map emptied_account o.accounts
-    → map emptied_request k ≡ map emptied_request o.kept
-    → emptied (with_kept k (with_accounts a (with_tellers e (with_floors f (with_branches b (with_count n o))))))
-    ≡ emptied o
-emptied_same o n b f e a k eb ef ee ea ek = rw (eb, ef, ee, ea, ek) refl
+    → emptied (with_accounts a (with_tellers e (with_floors f (with_branches b (with_count n o))))) ≡ emptied o
+emptied_known o n b f e a eb ef ee ea = rw (eb, ef, ee, ea) refl
+
+-- and with those of requests
+pub emptied_kept : (p : Overlay) (k : List RequestSlot) → map emptied_request k ≡ map emptied_request p.kept
+    → emptied (with_kept k p) ≡ emptied p
+emptied_kept p k ek = rw ek refl

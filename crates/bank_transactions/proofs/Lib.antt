@@ -26,3 +26,6 @@ pub mod HeldBatch
 pub mod Answered
 pub mod Idle
 pub mod Added
+pub mod NewRequests
+pub mod Tries
+pub mod NewBatch

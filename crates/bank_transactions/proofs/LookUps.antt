@@ -81,6 +81,20 @@ reads_so part same = record {
   };
 }
 
+-- an error is that of whatever was looked for
+pub reads_err : {S X Y : Type 0} {g : Ghosts S} {old new : Transaction S} {So : Tables → Type 0} {w : Tables → X}
+    {w' : Tables → Y} {e : TableFault} → ReadsWhere {X = X} g old new So w (Err e)
+    → ReadsWhere {X = Y} g old new So w' (Err e)
+reads_err {S} {X} {Y} {g} {old} {new} {So} {w} {w'} {e} part = record {
+  says = record {
+    same_reference = part.says.same_reference;
+    told = λ clean t shows so. same_fault (state g old.conn.now) (state g new.conn.now) (w t) (w' t) e
+        (part.says.told clean t shows so);
+    kept = part.says.kept;
+    survives = part.says.survives;
+  };
+}
+
 module _ {S X Y : Type 0} {g : Ghosts S} {old mid new : Transaction S} {So So' : Tables → Type 0}
     {w : Tables → X} {w' : Tables → Y} {x : X} where
   -- one look-up, and then another: the answer of both comes from the two

@@ -149,7 +149,7 @@ some_more {S} {A} {g} {Adds} {old} {mid} {new} {r} {made} {May} {rows} {left} la
     (λ t may. (so t may).0)) (λ t may. (may, (so t may).1, refl))
 
 -- they stand so too
-pub stands_more : {S A : Type 0} {g : Ghosts S} {Adds : List A → Additions} {old mid new : Transaction S}
+unfoldable pub stands_more : {S A : Type 0} {g : Ghosts S} {Adds : List A → Additions} {old mid new : Transaction S}
     {made : List A → Tables → Tables} {May : List A → Tables → Type 0} {rows left : List A}
     (law : InParts made May) (alike : AddsAlike Adds) (stands : Stands g (Adds rows) old mid made May rows left)
     (some rest : List A) → left ≡ some ++ rest

@@ -10,24 +10,25 @@ use Rattle.sqlite.specs.declared.transaction.Transaction.{Transaction}
 use Rattle.sqlite_rules.specs.Lists.{Has}
 use Rattle.sqlite_trees.specs.declared.store.Store.{Ghosts}
 use Rattle.posting_rules.specs.declared.rows.BranchRow.{BranchRow}
+use Rattle.posting_rules.specs.declared.rows.RequestRow.{RequestRow}
 use Rattle.posting_rules.specs.Damage.{IsUndamaged}
 use Rattle.posting_rules.specs.Tables.{Tables, row_at, branch_key}
 use Rattle.posting_rules.proofs.Keyed.{by_test}
 use Rattle.posting_batch.specs.declared.slots.BranchSlot.{BranchSlot}
 use Rattle.posting_batch.specs.Batch.{HasRisingSlots, ChangesRows, AddsFreeRows}
 use Rattle.posting_batch.specs.Overlay.{Overlay, accounts_over, tellers_over, branches_over, history_put}
-use Rattle.posting_batch.specs.Overlay.{requests_put, references_put}
+use Rattle.posting_batch.specs.Overlay.{requests_put, references_put, tables_over}
 use Rattle.posting_batch.specs.Slots.{account_slot_key, teller_slot_key, branch_slot_key}
 use Rattle.posting_batch.proofs.Orders.{rising_keys}
 use Rattle.store_rows.specs.Failures.{Additions}
 use Rattle.store_rows.specs.declared.fault.TableFault.{TableFault}
 use Rattle.bank_transactions.specs.Additions.{AddsNew, AddsPostings, AddsReferences, AddsRequests, NoRow}
 use Rattle.bank_transactions.specs.Doing.{Does}
-use Rattle.bank_transactions.proofs.Chained.{does_adds, does_then}
+use Rattle.bank_transactions.proofs.Chained.{does_adds, does_for, does_then}
 use Rattle.bank_transactions.proofs.SoundRows.{no_branch_beyond}
 use Rattle.bank_transactions.specs.Writing.{AreBranchNumbers, MayChangeAccounts, MayChangeTellers}
 use Rattle.bank_transactions.specs.Writing.{MayAddPostings, MayAddReferences, MayAddRequests}
-use Rattle.bank_transactions.specs.Writing.{MayChangeBranches}
+use Rattle.bank_transactions.specs.Writing.{MayChangeBranches, MayWriteBehind, behind_requests}
 
 -- ---- the numbers of branches that have a row
 
@@ -46,7 +47,7 @@ number_is t n sound there = elim (within_or_none n) [
   | inr none ↦ absurd (not_there (row_at branch_key t.branches n) there (no_branch_beyond t n sound none))
 ]
 
-pub numbers : (t : Tables) (slots : List BranchSlot) → IsUndamaged t
+numbers : (t : Tables) (slots : List BranchSlot) → IsUndamaged t
     → AllByRecursion (λ s. IfSome s.changed (λ z. IsSome (row_at branch_key t.branches s.branch))) slots
     → AreBranchNumbers slots
 numbers t [] sound all = tt
@@ -59,8 +60,8 @@ numbers t (s ∷ slots) sound all = (one s.changed all.0, numbers t slots sound 
 
 -- ---- the tables one after another
 
-abbrev pub So : Overlay → Tables → Type 0
-So o t = IsUndamaged t × HasRisingSlots o × ChangesRows o t × AddsFreeRows o t
+abbrev So : Overlay → Tables → Type 0
+So o t = MayWriteBehind o t
 
 -- Changes of one table: how they are made of tables and when they may be, and that these may be made behind
 -- what stands so far.
@@ -70,7 +71,7 @@ pub record Behind {A : Type 0} (o : Overlay) (before : Tables → Tables) (made 
   pub adds : (text : List ℕ) (values : Row) → Adds changes text values → AddsNew o text values
 
 -- the tables with the changes of the accounts; and of the tellers; and of the branches; and with the
--- postings; and with the requests
+-- postings
 abbrev pub to_accounts : Overlay → Tables → Tables
 to_accounts o t = accounts_over o.accounts t
 
@@ -83,41 +84,31 @@ to_branches o t = branches_over o.branches (to_tellers o t)
 abbrev pub to_postings : Overlay → Tables → Tables
 to_postings o t = history_put o.history (to_branches o t)
 
-abbrev pub to_requests : Overlay → Tables → Tables
-to_requests o t = requests_put o.requests (to_postings o t)
-
 pub accounts : (o : Overlay) → Behind o (λ t. t) accounts_over MayChangeAccounts (λ slots. NoRow) o.accounts
 accounts o = record {
-  may = λ t so. (rising_keys account_slot_key o.accounts so.1.accounts, so.2.accounts);
+  may = λ t so. (rising_keys account_slot_key o.accounts so.0.accounts, so.1.accounts);
   adds = λ text values none. absurd none;
 }
 
 pub tellers : (o : Overlay) → Behind o (to_accounts o) tellers_over MayChangeTellers (λ slots. NoRow) o.tellers
 tellers o = record {
-  may = λ t so. (rising_keys teller_slot_key o.tellers so.1.tellers, so.2.tellers);
+  may = λ t so. (rising_keys teller_slot_key o.tellers so.0.tellers, so.1.tellers);
   adds = λ text values none. absurd none;
 }
 
 pub branches : (o : Overlay) → Behind o (to_tellers o) branches_over MayChangeBranches (λ slots. NoRow) o.branches
 branches o = record {
-  may = λ t so. (
-    (rising_keys branch_slot_key o.branches so.1.branches, so.2.branches),
-    numbers t o.branches so.0 so.2.branches,
-  );
+  may = λ t so. ((rising_keys branch_slot_key o.branches so.0.branches, so.1.branches), so.2);
   adds = λ text values none. absurd none;
 }
 
 pub postings : (o : Overlay) → Behind o (to_branches o) history_put MayAddPostings (λ rows. AddsPostings (Has rows))
     o.history
-postings o = record { may = λ t so. so.3.history; adds = λ text values it. inl it }
+postings o = record { may = λ t so. so.3; adds = λ text values it. inl it }
 
-pub requests : (o : Overlay) → Behind o (to_postings o) requests_put MayAddRequests (λ rows. AddsRequests (Has rows))
-    o.requests
-requests o = record { may = λ t so. so.3.requests; adds = λ text values it. inr (inl it) }
-
-pub references : (o : Overlay) → Behind o (to_requests o) references_put MayAddReferences
+pub references : (o : Overlay) → Behind o (to_postings o) references_put MayAddReferences
     (λ rows. AddsReferences (Has rows)) o.references
-references o = record { may = λ t so. so.3.references; adds = λ text values it. inr (inr it) }
+references o = record { may = λ t so. so.4; adds = λ text values it. inr (inr it) }
 
 -- the changes of one table more are made
 pub step : {S A : Type 0} {g : Ghosts S} {a b c : Transaction S} {r : Result (Unit {0}) TableFault}
@@ -132,3 +123,38 @@ step {S} {A} {g} {a} {b} {c} {r} {o} {before} {made} {May} {Adds} behind same fi
     (does_adds (λ clean. behind.adds)
     (subst (λ (ys : List A). Does {X = Unit {0}} g (Adds ys) b c (May ys) (made ys) (λ _. tt {0}) r) same second))
     behind.may
+
+-- ---- the requests first
+
+abbrev pub Written : Overlay → Tables → Type 0
+Written o t = IsUndamaged t × HasRisingSlots o × ChangesRows o t × AddsFreeRows o t
+
+-- the rest may be written behind the requests
+behind : (o : Overlay) (t : Tables) → Written o t → MayWriteBehind o (requests_put o.requests t)
+behind o t so = (
+  so.1,
+  record { branches = so.2.branches; tellers = so.2.tellers; accounts = so.2.accounts },
+  numbers t o.branches so.0 so.2.branches,
+  so.3.history,
+  so.3.references,
+)
+
+-- the requests of a batch are put in
+pub requests_first : {S : Type 0} {g : Ghosts S} {old new : Transaction S} {r : Result (Unit {0}) TableFault}
+    {rows : List RequestRow} (o : Overlay) → rows ≡ o.requests
+    → Does {X = Unit {0}} g (AddsRequests (Has rows)) old new (MayAddRequests rows) (requests_put rows)
+    (λ _. tt {0}) r
+    → Does {X = Unit {0}} g (AddsNew o) old new (Written o) (requests_put o.requests) (λ _. tt {0}) r
+requests_first {S} {g} {old} {new} {r} o same puts =
+    does_for (does_adds (λ clean text values it. inr (inl it))
+    (subst (λ (rows : List RequestRow). Does {X = Unit {0}} g (AddsRequests (Has rows)) old new (MayAddRequests rows)
+    (requests_put rows) (λ _. tt {0}) r) same puts))
+    (λ t so. (so.3.requests, refl, refl))
+
+-- and then the rest
+pub all_written : {S : Type 0} {g : Ghosts S} {old mid new : Transaction S} {r : Result (Unit {0}) TableFault}
+    (o : Overlay)
+    → Does {X = Unit {0}} g (AddsNew o) old mid (Written o) (requests_put o.requests) (λ _. tt {0}) (Ok (tt {0}))
+    → Does {X = Unit {0}} g (AddsNew o) mid new (MayWriteBehind o) (behind_requests o) (λ _. tt {0}) r
+    → Does {X = Unit {0}} g (AddsNew o) old new (Written o) (λ t. tables_over o t) (λ _. tt {0}) r
+all_written o first second = does_for (does_then first second (behind o)) (λ t so. (so, refl, refl))

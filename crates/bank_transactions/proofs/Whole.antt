@@ -13,10 +13,10 @@ use Rattle.posting_batch.specs.declared.slots.BranchSlot.{BranchSlot}
 use Rattle.posting_batch.specs.declared.slots.FloorSlot.{FloorSlot}
 use Rattle.posting_batch.specs.declared.slots.RequestSlot.{RequestSlot}
 use Rattle.posting_batch.specs.Batch.{HasHomes, branch_filled, floor_filled, teller_filled, account_filled}
-use Rattle.posting_batch.specs.Batch.{request_filled}
+use Rattle.posting_batch.specs.Batch.{filled, request_filled}
 use Rattle.posting_batch.specs.Overlay.{Overlay}
 use Rattle.bank_transactions.specs.Doing.{Reads}
-use Rattle.bank_transactions.specs.Filling.{ReadsWhere, TellsBranch}
+use Rattle.bank_transactions.specs.Filling.{ReadsWhere, TellsBranch, known}
 use Rattle.bank_transactions.proofs.LookUps.{reads_both}
 use Rattle.bank_transactions.proofs.FilledSlots.{tells_all}
 
@@ -45,11 +45,11 @@ abbrev pub with_kept : List RequestSlot → Overlay → Overlay
 with_kept slots o = record o { kept = slots }
 
 -- the same slots, held elsewhere
-pub same_now : (o : Overlay) (n : ℕ) (b b' : List BranchSlot) (f f' : List FloorSlot) (e e' : List TellerSlot)
-    (a a' : List AccountSlot) (k k' : List RequestSlot) → b ≡ b' → f ≡ f' → e ≡ e' → a ≡ a' → k ≡ k'
-    → with_kept k (with_accounts a (with_tellers e (with_floors f (with_branches b (with_count n o)))))
-    ≡ with_kept k' (with_accounts a' (with_tellers e' (with_floors f' (with_branches b' (with_count n o)))))
-same_now o n b b' f f' e e' a a' k k' eb ef ee ea ek = rw (eb, ef, ee, ea, ek) refl
+pub same_known : (o : Overlay) (n : ℕ) (b b' : List BranchSlot) (f f' : List FloorSlot) (e e' : List TellerSlot)
+    (a a' : List AccountSlot) → b ≡ b' → f ≡ f' → e ≡ e' → a ≡ a'
+    → with_accounts a (with_tellers e (with_floors f (with_branches b (with_count n o))))
+    ≡ with_accounts a' (with_tellers e' (with_floors f' (with_branches b' (with_count n o))))
+same_known o n b b' f f' e e' a a' eb ef ee ea = rw (eb, ef, ee, ea) refl
 
 -- ---- what is known of the branches
 
@@ -111,7 +111,7 @@ part {S} {A} o put fill p f xs zs ys same first second ready =
     reads_both first second ready (λ t so e h.
     ap (put ys) e ∙ ap (λ (ws : List A). put ws (f t)) (h ∙ ap (λ (ws : List A). map (fill t) ws) same))
 
--- so far filled: the count; and the branches; and the floors; and the tellers; and the accounts; and all
+-- so far filled: the count; and the branches; and the floors; and the tellers; and the accounts
 abbrev pub with_counted : Overlay → Tables → Overlay
 with_counted o t = with_count t.decided o
 
@@ -126,9 +126,6 @@ to_tellers o t = with_tellers (map (teller_filled t) o.tellers) (to_floors o t)
 
 abbrev pub to_accounts : Overlay → Tables → Overlay
 to_accounts o t = with_accounts (map (account_filled t) o.accounts) (to_tellers o t)
-
-abbrev pub to_kept : Overlay → Tables → Overlay
-to_kept o t = with_kept (map (request_filled t) o.kept) (to_accounts o t)
 
 -- slots of which nothing is asked of the branches
 abbrev Plain : {A : Type 0} → List A → Tables → Type 0
@@ -193,9 +190,10 @@ module _ {S : Type 0} {g : Ghosts S} {a b : Transaction S} where
         part o with_accounts account_filled p (to_tellers o) xs o.accounts ys is first second
         (accounts_ready same is)
 
-    pub kept_in : {xs ys : List RequestSlot} → ReadsWhere g a b (So o) (to_accounts o) (Ok p) → xs ≡ o.kept
+    -- what is kept of requests, behind all that
+    pub kept_behind : {xs ys : List RequestSlot} → ReadsWhere g a b (So o) (λ t. known t o) (Ok p) → xs ≡ o.kept
         → ReadsWhere g b c (Plain xs) (λ t. map (request_filled t) xs) (Ok ys)
-        → ReadsWhere g a c (So o) (to_kept o) (Ok (with_kept ys p))
-    kept_in {xs} {ys} first is second =
-        part o with_kept request_filled p (to_accounts o) xs o.kept ys is first second
-        (plain (to_accounts o) xs)
+        → ReadsWhere g a c (So o) (λ t. filled t o) (Ok (with_kept ys p))
+    kept_behind {xs} {ys} first is second =
+        part o with_kept request_filled p (λ t. known t o) xs o.kept ys is first second
+        (plain (λ t. known t o) xs)

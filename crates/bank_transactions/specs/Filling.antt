@@ -11,6 +11,7 @@ use Rattle.posting_batch.specs.declared.slots.BranchSlot.{BranchSlot}
 use Rattle.posting_batch.specs.declared.slots.FloorSlot.{FloorSlot}
 use Rattle.posting_batch.specs.declared.slots.RequestSlot.{RequestSlot}
 use Rattle.posting_batch.specs.declared.slots.TellerSlot.{TellerSlot}
+use Rattle.posting_batch.specs.Batch.{filled}
 use Rattle.posting_batch.specs.Overlay.{Overlay}
 use Rattle.posting_batch.specs.Slots.{in_slot, row_of_slot, branch_slot_key, slot_floor}
 use Rattle.sql_meanings.specs.Calls.{Says}
@@ -43,6 +44,10 @@ HasBranch branch n t = IsUndamaged t × (branch ≡ row_at branch_key t.branches
 -- the slot under a number tells the row of that branch
 abbrev pub TellsBranch : List BranchSlot → Tables → ℕ → Type 0
 TellsBranch slots t n = in_slot row_of_slot (row_at branch_slot_key slots n) ≡ row_at branch_key t.branches n
+
+-- the overlay filled from tables, but for what is kept of requests
+abbrev pub known : Tables → Overlay → Overlay
+known t o = record (filled t o) { kept = o.kept }
 
 -- ---- of whatever rows a file holds
 
@@ -92,6 +97,14 @@ AccountHeld rows s = HoldsAccount rows s.account s.stored
 
 abbrev pub RequestHeld : StoredRows → RequestSlot → Type 0
 RequestHeld rows s = HoldsKept rows s.teller s.number s.kept
+
+-- each slot has, but for those of requests, and the count is that of the rows
+pub record AreKnown (rows : StoredRows) (o : Overlay) : Type 0 where
+  pub branches : AllByRecursion (BranchHeld rows) o.branches
+  pub floors : AllByRecursion (FloorHeld rows) o.floors
+  pub tellers : AllByRecursion (TellerHeld rows) o.tellers
+  pub accounts : AllByRecursion (AccountHeld rows) o.accounts
+  pub decided : HoldsDecided rows o.decided
 
 -- each slot has, and the count is that of the rows
 pub record AreHeld (rows : StoredRows) (o : Overlay) : Type 0 where

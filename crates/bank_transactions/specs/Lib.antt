@@ -12,3 +12,4 @@ pub mod Additions
 pub mod InParts
 pub mod InTurn
 pub mod Batches
+pub mod Tries

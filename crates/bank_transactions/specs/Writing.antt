@@ -11,7 +11,9 @@ use Rattle.posting_rules.specs.Tables.{history_key, request_key, reference_key}
 use Rattle.posting_batch.specs.declared.slots.AccountSlot.{AccountSlot}
 use Rattle.posting_batch.specs.declared.slots.TellerSlot.{TellerSlot}
 use Rattle.posting_batch.specs.declared.slots.BranchSlot.{BranchSlot}
-use Rattle.posting_batch.specs.Batch.{PutsFree}
+use Rattle.posting_batch.specs.Batch.{ChangesRows, HasRisingSlots, PutsFree}
+use Rattle.posting_batch.specs.Overlay.{Overlay, accounts_over, branches_over, decided_put, history_put}
+use Rattle.posting_batch.specs.Overlay.{references_put, tellers_over}
 use Rattle.posting_batch.specs.Slots.{account_slot_key, teller_slot_key, branch_slot_key}
 
 -- the tables with the balance that is changed, where one is
@@ -49,3 +51,16 @@ MayAddRequests rows t = PutsFree request_key rows t.requests
 
 abbrev pub MayAddReferences : List ReferenceRow → Tables → Type 0
 MayAddReferences rows t = PutsFree reference_key rows t.references
+
+-- ---- a batch
+
+-- the tables with what it changes, but for its requests
+abbrev pub behind_requests : Overlay → Tables → Tables
+behind_requests o t =
+    decided_put o.decided (references_put o.references (history_put o.history
+    (branches_over o.branches (tellers_over o.tellers (accounts_over o.accounts t)))))
+
+-- it may be written
+abbrev pub MayWriteBehind : Overlay → Tables → Type 0
+MayWriteBehind o t = HasRisingSlots o × ChangesRows o t × AreBranchNumbers o.branches
+    × MayAddPostings o.history t × MayAddReferences o.references t

@@ -1,6 +1,8 @@
 //! What a batch has changed is written, each row once.
 ghost use Rattle.std.specs.Mem.{type_size};
-ghost use Rattle.std.specs.Prelude.{◌*◌, ◌^◌, ◌<◌, [], ◌∷◌, List, IfSome};
+ghost use Rattle.std.specs.Prelude.{◌*◌, ◌^◌, ◌<◌, [], ◌∷◌, List, IfSome, IsTrue, OnOk};
+ghost use Rattle.sqlite.specs.Held.{state};
+ghost use Rattle.sqlite.specs.State.{HasCleanDisk};
 ghost use Rattle.posting_rules.specs.Damage.{IsUndamaged};
 ghost use Rattle.posting_rules.specs.Tables.{Tables};
 ghost use Rattle.posting_batch.specs.Batch.{HasRisingSlots, ChangesRows, AddsFreeRows};
@@ -10,15 +12,16 @@ ghost use Rattle.posting_batch.specs.View.{view};
 ghost use Rattle.sqlite_rules.specs.Lists.{Has};
 ghost use Rattle.store_rows.specs.Failures.{Additions};
 ghost use Rattle.store_rows.specs.Holders.{HasRow, with_balance};
+ghost use Rattle.store_rows.specs.SeveralRows.{PutsNew};
 ghost use Rattle.bank_transactions.specs.Additions.{AddsAlike, AddsNew, AddsPostings, AddsReferences};
 ghost use Rattle.bank_transactions.specs.Additions.{AddsRequests, NoRow, adds_each, adds_none};
 ghost use Rattle.bank_transactions.specs.Doing.{Does};
 ghost use Rattle.bank_transactions.specs.InTurn.{InTurn, accounts_in_turn, tellers_in_turn, branches_in_turn};
-ghost use Rattle.bank_transactions.specs.InTurn.{postings_in_turn, requests_in_turn, references_in_turn};
-ghost use Rattle.bank_transactions.specs.InParts.{InParts, postings_in_parts, requests_in_parts};
+ghost use Rattle.bank_transactions.specs.InTurn.{postings_in_turn, references_in_turn};
+ghost use Rattle.bank_transactions.specs.InParts.{InParts, postings_in_parts};
 ghost use Rattle.bank_transactions.specs.Writing.{MayChangeAccounts, MayChangeTellers, MayChangeBranches};
 ghost use Rattle.bank_transactions.specs.Writing.{MayAddPostings, MayAddRequests, MayAddReferences};
-ghost use Rattle.bank_transactions.specs.Writing.{by_change};
+ghost use Rattle.bank_transactions.specs.Writing.{MayWriteBehind, behind_requests, by_change};
 
 use crate::{write_balance, write_decided};
 use message_records::{Branch, Cents};
@@ -160,33 +163,6 @@ impl NewRow for HistoryRow {
     ghost in_parts = { postings_in_parts };
 }
 
-impl Change for RequestRow {
-    ghost made = { requests_put };
-
-    ghost May = { MayAddRequests };
-
-    ghost Adds = { λ rows. AddsRequests (Has rows) };
-
-    fn make<S: Alter>(&self, tx: &mut Transaction<'_, S>) -> Result<(), TableFault> {
-        add_request(tx, *self)
-    }
-
-    ghost in_turn = { requests_in_turn };
-
-    ghost alike = { adds_each _ _ };
-}
-
-impl NewRow for RequestRow {
-    fn make_eight<S: Alter>(
-        tx: &mut Transaction<'_, S>,
-        rows: &[RequestRow; 8],
-    ) -> Result<(), TableFault> {
-        add_eight_requests(tx, rows)
-    }
-
-    ghost in_parts = { requests_in_parts };
-}
-
 impl Change for ReferenceRow {
     ghost made = { references_put };
 
@@ -230,6 +206,56 @@ fn make_rows<S: Alter, R: NewRow>(tx: &mut Transaction<'_, S>, rows: &[R]) -> Re
     make_all(tx, left)
 }
 
+// Puts requests in, one by one.
+fn put_singly<S: Alter>(tx: &mut Transaction<'_, S>, rows: &[RequestRow]) -> Result<(), TableFault>
+    ensures puts { Does S.Store (AddsRequests (Has rows.now)) tx.old tx.new (MayAddRequests rows.now)
+        (requests_put rows.now) (λ _. tt) result }
+    ensures unknown { OnOk result (HasCleanDisk (state S.Store tx.new.conn.now)
+        → IsTrue (state S.Store tx.old.conn.now).in_transaction
+        → PutsNew (state S.Store tx.old.conn.now).now (state S.Store tx.new.conn.now).now rows.now) }
+{
+    for row in rows {
+        add_request(tx, *row)?;
+    }
+    Ok(())
+}
+
+/// Puts the requests of a batch in, eight by one statement, and the rest one by one.
+pub(crate) fn put_requests<S: Alter>(
+    tx: &mut Transaction<'_, S>,
+    rows: &[RequestRow],
+) -> Result<(), TableFault>
+    ensures puts { Does S.Store (AddsRequests (Has rows.now)) tx.old tx.new (MayAddRequests rows.now)
+        (requests_put rows.now) (λ _. tt) result }
+    // Whatever rows the file holds.
+    ensures unknown { OnOk result (HasCleanDisk (state S.Store tx.new.conn.now)
+        → IsTrue (state S.Store tx.old.conn.now).in_transaction
+        → PutsNew (state S.Store tx.old.conn.now).now (state S.Store tx.new.conn.now).now rows.now) }
+{
+    let mut left = rows;
+    while let Some((eight, rest)) = left.split_first_chunk::<8>() {
+        add_eight_requests(tx, eight)?;
+        left = rest;
+    }
+    put_singly(tx, left)
+}
+
+/// Writes the rest of what a batch has changed, each row once, and how many requests are decided.
+pub(crate) fn write_behind<S: Alter>(
+    tx: &mut Transaction<'_, S>,
+    overlay: &Overlay,
+) -> Result<(), TableFault>
+    ensures { Does S.Store (AddsNew (view overlay.now)) tx.old tx.new (MayWriteBehind (view overlay.now))
+        (behind_requests (view overlay.now)) (λ _. tt) result }
+{
+    make_all(tx, &overlay.accounts)?;
+    make_all(tx, &overlay.tellers)?;
+    make_all(tx, &overlay.branches)?;
+    make_rows(tx, &overlay.history)?;
+    make_all(tx, &overlay.references)?;
+    write_decided(tx, overlay.decided)
+}
+
 /// Writes what a batch has changed, each row once, and how many requests are decided.
 pub fn write<S: Alter>(tx: &mut Transaction<'_, S>, overlay: &Overlay) -> Result<(), TableFault>
     ensures { Does S.Store (AddsNew (view overlay.now)) tx.old tx.new
@@ -237,11 +263,6 @@ pub fn write<S: Alter>(tx: &mut Transaction<'_, S>, overlay: &Overlay) -> Result
         × ChangesRows (view overlay.now) tables × AddsFreeRows (view overlay.now) tables)
         (λ tables. tables_over (view overlay.now) tables) (λ _. tt) result }
 {
-    make_all(tx, &overlay.accounts)?;
-    make_all(tx, &overlay.tellers)?;
-    make_all(tx, &overlay.branches)?;
-    make_rows(tx, &overlay.history)?;
-    make_rows(tx, &overlay.requests)?;
-    make_all(tx, &overlay.references)?;
-    write_decided(tx, overlay.decided)
+    put_requests(tx, &overlay.requests)?;
+    write_behind(tx, overlay)
 }

@@ -51,7 +51,7 @@ use crate::batch_changes::write;
 use crate::slots::fill;
 use crate::{begin, finish};
 use message_records::{Moment, REPLY_BYTES};
-use posting_batch::{Batch, Judged};
+use posting_batch::Batch;
 use sqlite::{Alter, Connection, Transaction};
 use store_rows::TableFault;
 
@@ -78,11 +78,11 @@ pub fn answer_batch<S: Alter>(
 {
     fill(tx, &mut batch.overlay)?;
     let before = batch.overlay.decided;
-    let Judged { overlay, replies } = batch.judge(moment);
-    if overlay.decided != before {
-        write(tx, &overlay)?;
+    let judged = batch.judge(moment);
+    if judged.overlay.decided != before {
+        write(tx, &judged.overlay)?;
     }
-    Ok(replies)
+    Ok(judged.into_replies())
 }
 
 /// Answers the records that a batch is made of, in order. They stand together or not at all. Where none of

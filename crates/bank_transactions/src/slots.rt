@@ -11,11 +11,12 @@ ghost use Rattle.posting_rules.specs.Tables.{Tables, row_at, teller_key};
 ghost use Rattle.posting_batch.specs.declared.slots.BranchSlot.{BranchSlot};
 ghost use Rattle.posting_batch.specs.declared.slots.FloorSlot.{FloorSlot};
 ghost use Rattle.posting_batch.specs.Batch.{HasHomes, filled};
+ghost use Rattle.bank_transactions.specs.Filling.{known};
 ghost use Rattle.posting_batch.specs.View.{view};
 ghost use Rattle.bank_transactions.specs.Doing.{Reads};
 ghost use Rattle.store_rows.specs.Rules.{OfRows, StoredRows};
 ghost use Rattle.bank_transactions.specs.Filling.{handing, HasBranch, HoldsBranch, ReadsWhere, TellsBranch};
-ghost use Rattle.bank_transactions.specs.Filling.{AreHeld, TellsFloor, TellsStored, emptied};
+ghost use Rattle.bank_transactions.specs.Filling.{AreHeld, AreKnown, TellsFloor, TellsStored, emptied};
 ghost use Rattle.bank_transactions.specs.Stored.{HoldsAccount, HoldsFloor, HoldsTellerRow};
 
 use crate::floors::{balance_and_floor, floor_at, is_below};
@@ -285,6 +286,37 @@ fn fill_all<S: Alter, T: Slot>(
     Ok(())
 }
 
+/// Fills an overlay but for what is kept of requests: each other slot with what is in the tables under its key, and
+/// how many requests are decided.
+pub(crate) fn fill_known<S: Alter>(
+    tx: &mut Transaction<'_, S>,
+    overlay: &mut Overlay,
+) -> Result<(), TableFault>
+    ensures new_rows { (overlay.new.history ≡ overlay.old.history)
+        × (overlay.new.requests ≡ overlay.old.requests)
+        × (overlay.new.references ≡ overlay.old.references) × (overlay.new.kept ≡ overlay.old.kept) }
+    ensures says { ReadsWhere S.Store tx.old tx.new
+        (λ tables. IsUndamaged tables × HasHomes (view overlay.old))
+        (λ tables. known tables (view overlay.old)) (handing (view overlay.new) result) }
+    ensures same { OnOk result (emptied (view overlay.new) ≡ emptied (view overlay.old)) }
+    // Whatever rows the file holds.
+    ensures stored { OnOk result (HasCleanDisk (state S.Store tx.new.conn.now)
+        → HasHomes (view overlay.old)
+        → OfRows (λ rows. AreKnown rows (view overlay.new)) (state S.Store tx.old.conn.now).now) }
+{
+    overlay.decided = decided(tx)?;
+    fill_all(tx, &mut overlay.branches, &[], &[])?;
+    fill_all(tx, &mut overlay.floors, &[], &[])?;
+    fill_all(tx, &mut overlay.tellers, &overlay.branches, &[])?;
+    fill_all(
+        tx,
+        &mut overlay.accounts,
+        &overlay.branches,
+        &overlay.floors,
+    )?;
+    Ok(())
+}
+
 /// Fills an overlay: each slot with what is in the tables under its key, and how many requests are decided.
 pub fn fill<S: Alter>(tx: &mut Transaction<'_, S>, overlay: &mut Overlay) -> Result<(), TableFault>
     ensures new_rows { (overlay.new.history ≡ overlay.old.history)
@@ -299,16 +331,7 @@ pub fn fill<S: Alter>(tx: &mut Transaction<'_, S>, overlay: &mut Overlay) -> Res
         → HasHomes (view overlay.old)
         → OfRows (λ rows. AreHeld rows (view overlay.new)) (state S.Store tx.old.conn.now).now) }
 {
-    overlay.decided = decided(tx)?;
-    fill_all(tx, &mut overlay.branches, &[], &[])?;
-    fill_all(tx, &mut overlay.floors, &[], &[])?;
-    fill_all(tx, &mut overlay.tellers, &overlay.branches, &[])?;
-    fill_all(
-        tx,
-        &mut overlay.accounts,
-        &overlay.branches,
-        &overlay.floors,
-    )?;
+    fill_known(tx, overlay)?;
     fill_all(tx, &mut overlay.kept, &[], &[])?;
     Ok(())
 }

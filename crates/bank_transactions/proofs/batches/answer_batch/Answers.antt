@@ -9,8 +9,8 @@ use Rattle.bank_transactions.proofs.Answered.{answered_idle, answered_not, answe
 use Rattle.bank_transactions.proofs.Answered.{judging_all, ready}
 use Rattle.bank_transactions.proofs.HeldBatch.{homes_made, in_turn}
 use Rattle.bank_transactions.proofs.LookUps.{does_look}
-use Rattle.bank_transactions.proofs.batches.answer_batch.Goals.{then-overlay-before+in_ok-write}
-use Rattle.bank_transactions.proofs.batches.answer_batch.Goals.{else-overlay-before}
+use Rattle.bank_transactions.proofs.batches.answer_batch.Goals.{then-judged-before+in_ok-write}
+use Rattle.bank_transactions.proofs.batches.answer_batch.Goals.{else-judged-before}
 use Rattle.bank_transactions.proofs.batches.answer_batch.Goals as goal
 
 pub returns-in_err-fill-clause-says : goal.returns-in_err-fill-clause-says
@@ -20,58 +20,60 @@ returns-in_err-fill-clause-says g c records made =
 
 pub returns-in_err-write-clause-says : goal.returns-in_err-write-clause-says
 returns-in_err-write-clause-says g c records made =
-    let j = c.judge-overlay.ensures in
+    let j = c.judge-judged.ensures in
     let same : c.from_residual-in_err-write.result ≡ Err c.in_err-write.field-0.0 = search rules in
     let so = judging_all c.args.batch _ records
-    c.args.moment (view c.judge-overlay.result.overlay) c.judge-overlay.result.replies.items made refl
+    c.args.moment (view c.judge-judged.result.overlay) c.judge-judged.result.replies.items made refl
     j.judged j.shown j.rising j.idle in
     let fill = c.in_ok-fill.ensures in
     rw same (answered_not so (does_look fill.says) (does_adds (λ clean.
     let before : HasCleanDisk (state g.S.Store c.fill.new.tx.conn.now) = omega
     (arith, c.in_err-write.ensures.says.survives.clean, clean) in
-    adds_of_batch c.args.batch records (view c.fill.new.overlay) (view c.judge-overlay.result.overlay) _ made
+    adds_of_batch c.args.batch records (view c.fill.new.overlay) (view c.judge-judged.result.overlay) _ made
     fill.same
-    (fill.stored before (homes_made c.args.batch records made)) j.next) c.in_err-write.ensures))
+    (λ rows has. (fill.stored before (homes_made c.args.batch records made) rows has).decided) j.next)
+    c.in_err-write.ensures))
 
 pub returns-clause-says : goal.returns-clause-says
 returns-clause-says g c records made =
-    let j = c.judge-overlay.ensures in
+    let j = c.judge-judged.ensures in
     let so = judging_all c.args.batch _ records
-    c.args.moment (view c.judge-overlay.result.overlay) c.judge-overlay.result.replies.items made refl
+    c.args.moment (view c.judge-judged.result.overlay) c.judge-judged.result.replies.items made refl
     j.judged j.shown j.rising j.idle in
     let first = does_look c.in_ok-fill.ensures.says in
-    elim c.if-overlay-before.branch [
-      | then-overlay-before+in_ok-write w ↦
+    rw c.into_replies.ensures (elim c.if-judged-before.branch [
+      | then-judged-before+in_ok-write w ↦
           rw w.tx-is (answered_written so first (does_adds (λ clean.
           let before : HasCleanDisk (state g.S.Store c.fill.new.tx.conn.now) = omega
           (arith, w.in_ok-write.ensures.says.survives.clean, clean) in
-          adds_of_batch c.args.batch records (view c.fill.new.overlay) (view c.judge-overlay.result.overlay) _
+          adds_of_batch c.args.batch records (view c.fill.new.overlay) (view c.judge-judged.result.overlay) _
           made c.in_ok-fill.ensures.same
-          (c.in_ok-fill.ensures.stored before (homes_made c.args.batch records made)) j.next)
+          (λ rows has. (c.in_ok-fill.ensures.stored before (homes_made c.args.batch records made) rows has).decided)
+          j.next)
           w.in_ok-write.ensures))
-      | else-overlay-before w ↦
-          rw w.tx-is (answered_idle so first (omega (arith, w.if-overlay-before.false)))
-    ]
+      | else-judged-before w ↦
+          rw w.tx-is (answered_idle so first (omega (arith, w.if-judged-before.false)))
+    ])
 
 pub returns-clause-idle : goal.returns-clause-idle
 returns-clause-idle g c clean records made t shows so none =
-    let j = c.judge-overlay.ensures in
+    let j = c.judge-judged.ensures in
     let fill = c.in_ok-fill.ensures in
     let it = judging_all c.args.batch _ records
-    c.args.moment (view c.judge-overlay.result.overlay) c.judge-overlay.result.replies.items made refl
+    c.args.moment (view c.judge-judged.result.overlay) c.judge-judged.result.replies.items made refl
     j.judged j.shown j.rising j.idle in
     let first = does_look fill.says in
-    elim c.if-overlay-before.branch [
-      | then-overlay-before+in_ok-write w ↦
+    elim c.if-judged-before.branch [
+      | then-judged-before+in_ok-write w ↦
           let before : HasCleanDisk (state g.S.Store c.fill.new.tx.conn.now) = omega
           (arith, w.in_ok-write.ensures.says.survives.clean, rw w.tx-is at clean) in
           let told = fill.says.says.told before t shows (ready c.args.batch records made t so) in
-          absurd (w.if-overlay-before.true (counts_none it first t so told.0 none))
-      | else-overlay-before w ↦
+          absurd (w.if-judged-before.true (counts_none it first t so told.0 none))
+      | else-judged-before w ↦
           let told = fill.says.says.told (rw w.tx-is at clean) t shows
           (ready c.args.batch records made t so) in
           rw w.tx-is (record {
-            leads = it.back (omega (arith, w.if-overlay-before.false)) t so told.0;
+            leads = it.back (omega (arith, w.if-judged-before.false)) t so told.0;
             stays = told.1;
           })
     ]
@@ -80,11 +82,11 @@ pub returns-clause-stored : goal.returns-clause-stored
 returns-clause-stored g c clean records made rows has =
     let fill = c.in_ok-fill.ensures in
     let before : HasCleanDisk (state g.S.Store c.fill.new.tx.conn.now) =
-    elim c.if-overlay-before.branch [
-      | then-overlay-before+in_ok-write w ↦
+    elim c.if-judged-before.branch [
+      | then-judged-before+in_ok-write w ↦
           omega (arith, w.in_ok-write.ensures.says.survives.clean, rw w.tx-is at clean)
-      | else-overlay-before w ↦ rw w.tx-is at clean
+      | else-judged-before w ↦ rw w.tx-is at clean
     ] in
-    in_turn rows c.args.batch _ records c.args.moment
-    (view c.judge-overlay.result.overlay) c.judge-overlay.result.replies.items made refl fill.same
-    (fill.stored before (homes_made c.args.batch records made) rows has) c.judge-overlay.ensures.judged
+    rw c.into_replies.ensures (in_turn rows c.args.batch _ records c.args.moment
+    (view c.judge-judged.result.overlay) c.judge-judged.result.replies.items made refl fill.same
+    (fill.stored before (homes_made c.args.batch records made) rows has) c.judge-judged.ensures.judged)

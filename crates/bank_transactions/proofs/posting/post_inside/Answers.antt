@@ -34,7 +34,8 @@ returns-in_err-write-clause-acts g c =
     (arith, c.in_err-write.ensures.says.survives.clean, clean) in
     adds_of_one c.args.request.now c.args.moment (view c.for_request-overlay.result) (view c.fill.new.overlay)
     (view c.judge-reply.new.self) _ made fill.same
-    (fill.stored before (homes_one c.args.request.now (view c.for_request-overlay.result) made))
+    (λ rows has. (fill.stored before (homes_one c.args.request.now (view c.for_request-overlay.result) made) rows
+    has).decided)
     c.judge-reply.ensures.overlay) c.in_err-write.ensures))
 
 pub returns-clause-acts : goal.returns-clause-acts
@@ -51,8 +52,8 @@ returns-clause-acts g c =
           let made = c.for_request-overlay.ensures.covers in
           adds_of_one c.args.request.now c.args.moment (view c.for_request-overlay.result)
           (view c.fill.new.overlay) (view c.judge-reply.new.self) _ made c.in_ok-fill.ensures.same
-          (c.in_ok-fill.ensures.stored before
-          (homes_one c.args.request.now (view c.for_request-overlay.result) made))
+          (λ rows has. (c.in_ok-fill.ensures.stored before
+          (homes_one c.args.request.now (view c.for_request-overlay.result) made) rows has).decided)
           c.judge-reply.ensures.overlay) w.in_ok-write.ensures))
       | else-overlay-before w ↦
           rw w.tx-is (answered_idle so first (omega (arith, w.if-overlay-before.false)))

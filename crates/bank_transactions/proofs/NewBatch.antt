@@ -1,0 +1,319 @@
+-- A batch whose requests were put in first: none of them was kept, so that its slots have what the tables have.
+use Rattle.std.proofs.Common.{◌≡◌, ◌∙◌, ℕ, eqb, pos, true, false, Bool, List, [], ◌∷◌, map, Option, Some, None, Result}
+use Rattle.std.proofs.Common.{Ok, Err, find, option_map, refl, sym, ap, subst, arith, inl, inr}
+use Rattle.std.proofs.lemmas.Bool.{eqb-true}
+use Rattle.std.specs.Prelude.{◌&&◌, ◌||◌, IfSome, IsSome, IsTrue, is_none}
+use Rattle.std.specs.List.{AllByRecursion, list_any}
+use Rattle.sqlite.specs.Effect.{Database}
+use Rattle.sqlite.specs.Held.{state}
+use Rattle.sqlite.specs.State.{State, HasCleanDisk, KeepsCommit}
+use Rattle.sqlite.specs.declared.transaction.Transaction.{Transaction}
+use Rattle.sqlite_trees.specs.declared.store.Store.{Ghosts}
+use Rattle.message_records.specs.Reading.{request_of}
+use Rattle.posting_rules.specs.Kept.{KeptFields}
+use Rattle.posting_rules.specs.LookUps.{kept_in, kept_of_row}
+use Rattle.posting_rules.specs.Tables.{Tables}
+use Rattle.posting_rules.specs.declared.rows.RequestRow.{RequestRow}
+use Rattle.posting_rules.proofs.Keyed.{by_test}
+use Rattle.posting_batch.specs.declared.batch.Batch.{Batch}
+use Rattle.posting_batch.specs.declared.slots.RequestSlot.{RequestSlot}
+use Rattle.posting_batch.specs.Batch.{IsAmong, KeepsNew, blanked, covering_all, filled, has_gap, no_slots}
+use Rattle.posting_batch.specs.Batch.{request_filled}
+use Rattle.posting_batch.specs.Overlay.{Overlay, requests_put, tables_over}
+use Rattle.posting_batch.specs.Slots.{empty_request}
+use Rattle.posting_batch.specs.View.{IsMadeOf, reads_of, view}
+use Rattle.posting_batch.proofs.Blanked.{blank_made, made_unkept}
+use Rattle.posting_batch.proofs.KeptSlots.{both_true}
+use Rattle.sql_meanings.specs.Calls.{Inside, Says}
+use Rattle.sql_meanings.specs.Entries.{Entry, has_two}
+use Rattle.sql_meanings.proofs.Changes.{found_all, found_passes}
+use Rattle.sql_meanings.proofs.NewPairs.{neither}
+use Rattle.store_rows.specs.BankTables.{request}
+use Rattle.store_rows.specs.Failures.{Additions}
+use Rattle.store_rows.specs.Rules.{HoldsBank, OfRows, StoredRows}
+use Rattle.store_rows.specs.SeveralRows.{IsNew, PutsNew}
+use Rattle.store_rows.specs.View.{HoldsRows, Shows, request_entry}
+use Rattle.store_rows.specs.declared.fault.TableFault.{TableFault}
+use Rattle.store_rows.proofs.GetRequest.{has_both}
+use Rattle.store_rows.proofs.RowLists.{found_by}
+use Rattle.store_rows.proofs.StoredRows.{holds_list}
+use Rattle.store_rows.proofs.TableKinds.{holds}
+use Rattle.store_rows.proofs.TheTables.{requests}
+use Rattle.sqlite_rules.specs.Lists.{Has}
+use Rattle.bank_transactions.specs.Additions.{AddsRequests}
+use Rattle.bank_transactions.specs.Causes.{Damage, IsFirstBroken}
+use Rattle.bank_transactions.specs.Doing.{Acts, CommitsNothing, Does, DoesBy}
+use Rattle.bank_transactions.specs.Filling.{AreHeld, AreKnown, ReadsWhere, RequestHeld, emptied, known}
+use Rattle.bank_transactions.specs.Stored.{HoldsKept}
+use Rattle.bank_transactions.specs.Writing.{MayAddRequests}
+use Rattle.bank_transactions.proofs.Answered.{Judging, Ready, Written}
+use Rattle.bank_transactions.proofs.Chained.{acts_wrote, does_for, does_then, same_fault, still_in}
+use Rattle.bank_transactions.proofs.HeldBatch.{map_twice}
+
+-- ---- slots
+
+-- no row is of the slot's teller, under its number
+abbrev pub IsNowhere : List Entry → RequestSlot → Type 0
+IsNowhere es s = find (has_two (pos s.teller) (pos s.number)) es ≡ None
+
+-- a slot keeps a request that is among those that were put in, so that it was nowhere
+one_nowhere : (es : List Entry) (rows : List RequestRow) (s : RequestSlot) → AllByRecursion (IsNew es) rows
+    → IsAmong rows s → IsNowhere es s
+one_nowhere es rows s new among = go (find asks rows) refl among
+  where
+    asks : RequestRow → Bool
+    asks r = (eqb r.teller s.teller) && (eqb r.number s.number)
+
+    go : (o : Option RequestRow) → find asks rows ≡ o → IsSome o → IsNowhere es s
+    go None found there = absurd cc
+    go (Some r) found there =
+        let both = both_true (eqb r.teller s.teller) (eqb r.number s.number) (found_passes asks rows r found) in
+        subst (λ (n : ℕ). find (has_two (pos n) (pos s.number)) es ≡ None) (eqb-true r.teller s.teller both.0)
+        (subst (λ (n : ℕ). find (has_two (pos r.teller) (pos n)) es ≡ None) (eqb-true r.number s.number both.1)
+        (found_all (IsNew es) asks rows r new found))
+
+kept_there : (o : Option KeptFields) (A : Type 0) → is_none o ≡ false → IfSome o (λ k. A) → A
+kept_there None A none it = absurd cc
+kept_there (Some k) A none it = it
+
+all_nowhere : (es : List Entry) (rows : List RequestRow) (slots : List RequestSlot) → AllByRecursion (IsNew es) rows
+    → has_gap slots ≡ false → AllByRecursion (λ s. IfSome s.kept (λ k. IsAmong rows s)) slots
+    → AllByRecursion (IsNowhere es) slots
+all_nowhere es rows [] new none own = tt
+all_nowhere es rows (s ∷ slots) new none own =
+    let both = neither (is_none s.kept) (has_gap slots) none in (
+      one_nowhere es rows s new (kept_there s.kept (IsAmong rows s) both.0 own.0),
+      all_nowhere es rows slots new both.1 own.1,
+    )
+
+abbrev blank : RequestSlot → RequestSlot
+blank s = empty_request s.teller s.number
+
+-- slots with the same keys
+same_keys : (P : RequestSlot → Type 0) → ((s : RequestSlot) → P s → P (blank s)) → ((s : RequestSlot) → P (blank s) → P s)
+    → (xs ys : List RequestSlot) → map blank xs ≡ map blank ys → AllByRecursion P xs → AllByRecursion P ys
+same_keys P to from [] [] same all = tt
+same_keys P to from [] (y ∷ ys) same all = absurd cc
+same_keys P to from (x ∷ xs) [] same all = absurd cc
+same_keys P to from (x ∷ xs) (y ∷ ys) same all =
+    let first : blank x ≡ blank y = cc in
+    let rest : map blank xs ≡ map blank ys = cc in
+    (from y (subst P first (to x all.0)), same_keys P to from xs ys rest all.1)
+
+pub nowhere : (es : List Entry) (p o : Overlay) → has_gap o.kept ≡ false → KeepsNew o → blanked o ≡ blanked p
+    → AllByRecursion (IsNew es) o.requests → AllByRecursion (IsNowhere es) p.kept
+nowhere es p o none own same new =
+    same_keys (IsNowhere es) (λ s it. it) (λ s it. it) o.kept p.kept (ap (λ (q : Overlay). q.kept) same)
+    (all_nowhere es o.requests o.kept new none own)
+
+-- ---- in tables
+
+not_kept : (t : Tables) (n m : ℕ) → find (has_two (pos n) (pos m)) (map request_entry t.requests) ≡ None
+    → kept_in t.requests t.references n m ≡ None
+not_kept t n m none =
+    go (find asks t.requests)
+    (sym (found_by (λ r. r.ordinal) request_entry (λ r. refl) (has_two (pos n) (pos m)) asks (has_both n m) t.requests)
+    ∙ none)
+  where
+    asks : RequestRow → Bool
+    asks r = (eqb r.teller n) && (eqb r.number m)
+
+    go : (o : Option RequestRow) → option_map request_entry o ≡ None
+        → option_map (kept_of_row t.references) o ≡ None
+    go None none = refl
+    go (Some r) none = absurd cc
+
+filled_none : (t : Tables) (slots : List RequestSlot) → AllByRecursion (λ s. s.kept ≡ None) slots
+    → AllByRecursion (IsNowhere (map request_entry t.requests)) slots → map (request_filled t) slots ≡ slots
+filled_none t [] unkept nowhere = refl
+filled_none t (s ∷ slots) unkept nowhere =
+    let none = not_kept t s.teller s.number nowhere.0 ∙ sym unkept.0 in
+    let first : request_filled t s ≡ s = ap (λ (k : Option KeptFields). record s { kept = k }) none in
+    ap (λ (x : RequestSlot). x ∷ map (request_filled t) slots) first
+    ∙ ap (λ (xs : List RequestSlot). s ∷ xs) (filled_none t slots unkept.1 nowhere.1)
+
+-- what is known is all
+pub known_all : (t : Tables) (p p' : Overlay) → AllByRecursion (λ s. s.kept ≡ None) p.kept
+    → AllByRecursion (IsNowhere (map request_entry t.requests)) p.kept → p' ≡ known t p → p' ≡ filled t p
+known_all t p p' unkept nowhere is =
+    is ∙ ap (λ (slots : List RequestSlot). record (filled t p) { kept = slots })
+    (sym (filled_none t p.kept unkept nowhere))
+
+-- ---- in rows
+
+held_none : (rows : StoredRows) (slots : List RequestSlot) → AllByRecursion (λ s. s.kept ≡ None) slots
+    → AllByRecursion (IsNowhere rows.requests) slots → AllByRecursion (RequestHeld rows) slots
+held_none rows [] unkept nowhere = tt
+held_none rows (s ∷ slots) unkept nowhere = (
+  subst (λ (k : Option KeptFields). HoldsKept rows s.teller s.number k) (sym unkept.0) nowhere.0,
+  held_none rows slots unkept.1 nowhere.1,
+)
+
+pub known_held : (rows : StoredRows) (p : Overlay) → AllByRecursion (λ s. s.kept ≡ None) p.kept
+    → AllByRecursion (IsNowhere rows.requests) p.kept → AreKnown rows p → AreHeld rows p
+known_held rows p unkept nowhere it = record {
+  branches = it.branches;
+  floors = it.floors;
+  tellers = it.tellers;
+  accounts = it.accounts;
+  kept = held_none rows p.kept unkept nowhere;
+  decided = it.decided;
+}
+
+-- the requests that a file holds
+pub requests_shown : (db : Database) (t : Tables) → Shows db t → HoldsRows db request (map request_entry t.requests)
+requests_shown db t shows = record { sound = shows.sound; holds = holds requests db t shows }
+
+pub requests_held : (db : Database) (rows : StoredRows) → HoldsBank db rows → HoldsRows db request rows.requests
+requests_held db rows has =
+    record { sound = has.sound; holds = holds_list db rows has 5 request rows.requests refl refl }
+
+-- ---- a batch is made again
+
+blank_emptied : (o : Overlay) → blanked (emptied o) ≡ blanked o
+blank_emptied o = rw (
+  map_twice _ _ _ (λ s. refl) o.branches,
+  map_twice _ _ _ (λ s. refl) o.floors,
+  map_twice _ _ _ (λ s. refl) o.tellers,
+  map_twice _ _ _ (λ s. refl) o.accounts,
+  map_twice _ _ _ (λ s. refl) o.kept,
+) refl
+
+blank_same : (o p : Overlay) → emptied o ≡ emptied p → blanked o ≡ blanked p
+blank_same o p same = sym (blank_emptied o) ∙ ap blanked same ∙ blank_emptied p
+
+pub made_again : (b again : Batch) (records : List (List ℕ)) (p o : Overlay) → IsMadeOf b records
+    → emptied p ≡ emptied (view b.overlay) → blanked o ≡ blanked p → reads_of again ≡ reads_of b
+    → view again.overlay ≡ blanked o → IsMadeOf again records
+made_again b again records p o made same keys reads is = record {
+  reads = reads ∙ made.reads;
+  overlay =
+      is ∙ keys ∙ blank_same p (view b.overlay) same ∙ ap blanked made.overlay ∙ blank_made (map request_of records);
+}
+
+-- a batch that was made keeps nothing
+pub made_empty : (b : Batch) (records : List (List ℕ)) → IsMadeOf b records
+    → AllByRecursion (λ s. s.kept ≡ None) (view b.overlay).kept
+made_empty b records made =
+    subst (λ (o : Overlay). AllByRecursion (λ s. s.kept ≡ None) o.kept) (sym made.overlay)
+    (made_unkept (map request_of records))
+
+none_kept : (rows : List RequestRow) (slots : List RequestSlot) → AllByRecursion (λ s. s.kept ≡ None) slots
+    → AllByRecursion (λ s. IfSome s.kept (λ k. IsAmong rows s)) slots
+none_kept rows [] unkept = tt
+none_kept rows (s ∷ slots) unkept =
+    (subst (λ (k : Option KeptFields). IfSome k (λ _. IsAmong rows s)) (sym unkept.0) tt, none_kept rows slots unkept.1)
+
+pub keeps_none : (o : Overlay) → AllByRecursion (λ s. s.kept ≡ None) o.kept → KeepsNew o
+keeps_none o unkept = none_kept o.requests o.kept unkept
+
+-- ---- the parts of the try
+
+commits_none : {X : Type 0} (old new : State) (r : Result X TableFault) → CommitsNothing old new r → KeepsCommit old new
+commits_none old new (Ok x) it = record { was_open = it.opened; committed = λ _. it.committed }
+commits_none old new (Err e) it = it
+
+-- it commits nothing
+pub quiet : {S X : Type 0} {Met : Damage S} {g : Ghosts S} {old new : Transaction S} {So : Tables → Type 0}
+    {after : Tables → Tables} {w : Tables → X} {r : Result X TableFault} → DoesBy Met g old new So after w r
+    → Says g old new (λ _ _. Unit {0}) (Inside KeepsCommit)
+quiet {g = g} {old = old} {new = new} {r = r} does = record {
+  same_reference = does.says.same_reference;
+  told = λ clean. tt;
+  kept = λ clean live. commits_none (state g old.conn.now) (state g new.conn.now) r (does.says.kept clean live).0;
+  survives = does.says.survives;
+}
+
+-- whatever the tables: one part, and then another
+pub blind : {S X Y : Type 0} {Met : Damage S} {g : Ghosts S} {Adds : Additions} {old mid new : Transaction S}
+    {So So' : Tables → Type 0} {one two : Tables → Tables} {w : Tables → X} {w' : Tables → Y} {x : X}
+    {r : Result Y TableFault} → DoesBy Met g old mid So one w (Ok x) → Does g Adds mid new So' two w' r
+    → Does g Adds old new (λ _. ⊥) (λ t. two (one t)) (λ t. w' (one t)) r
+blind {S} {X} {Y} {Met} {g} {Adds} {old} {mid} {new} {So} {So'} {one} {two} {w} {w'} {x} {r} first second =
+    let a : DoesBy Met g old mid (λ _. ⊥) one w (Ok x) = does_for first (λ t none. absurd none) in
+    let b : Does g Adds mid new (λ _. ⊥) two w' r = does_for second (λ t none. absurd none) in
+    does_then a b (λ t none. none)
+
+module _ {S X : Type 0} {g : Ghosts S} {old mid new : Transaction S} {So : Tables → Type 0}
+    {after : Tables → Tables} {wanted : Tables → X} {p p' o : Overlay} {x : X}
+    (so : Judging So after wanted p p' o x)
+    (first : DoesBy (IsFirstBroken g) g old mid (Ready p) (λ t. t) (λ t. known t p) (Ok p'))
+    (all : HasCleanDisk (state g new.conn.now) → IsTrue (state g old.conn.now).in_transaction → (t : Tables)
+    → Shows (state g old.conn.now).now t → p' ≡ known t p → p' ≡ filled t p) where
+  -- the records are answered
+  pub answered_new : {Adds : Additions}
+      → Does {X = Unit {0}} g Adds mid new (Written o) (λ t. tables_over o t) (λ _. tt {0}) (Ok (tt {0}))
+      → Acts g Adds old new So after wanted (Ok x)
+  answered_new second = record {
+    says = record {
+      same_reference = (blind first second).says.same_reference;
+      told = λ clean live t shows it.
+          let before : HasCleanDisk (state g mid.conn.now) = omega (arith, second.says.survives.clean, clean) in
+          let found = first.says.told before live t shows (so.ready t it) in
+          let e = all clean live t shows found.0 in
+          let on = (first.says.kept before live).0 in
+          let last = second.says.told clean (still_in (state g old.conn.now) (state g mid.conn.now) on live) t found.1
+          (so.writes t it e) in
+          (so.answers t it e, subst (λ (u : Tables). Shows (state g new.conn.now).now u) (so.tables t it e) last.1);
+      kept = λ clean live. (acts_wrote (blind first second)).says.kept clean live;
+      survives = (blind first second).says.survives;
+    };
+  }
+
+  -- an error of the last part is that of all
+  pub unanswered_new : {Adds : Additions} {e : TableFault}
+      → Does {X = Unit {0}} g Adds mid new (Written o) (λ t. tables_over o t) (λ _. tt {0}) (Err e)
+      → Acts {X = X} g Adds old new So after wanted (Err e)
+  unanswered_new {e = e} second = record {
+    says = record {
+      same_reference = (blind first second).says.same_reference;
+      told = λ clean live t shows it.
+          let before : HasCleanDisk (state g mid.conn.now) = omega (arith, second.says.survives.clean, clean) in
+          let found = first.says.told before live t shows (so.ready t it) in
+          let on = (first.says.kept before live).0 in
+          same_fault (state g new.conn.now) (state g new.conn.now) (tables_over o t) (after t) (tt {0}) (wanted t) e
+          (second.says.told clean (still_in (state g old.conn.now) (state g mid.conn.now) on live) t found.1
+          (so.writes t it (all clean live t shows found.0)));
+      kept = λ clean live. (acts_wrote (blind first second)).says.kept clean live;
+      survives = (blind first second).says.survives;
+    };
+  }
+
+-- ---- the requests were put in
+
+module _ {S : Type 0} {g : Ghosts S} {old mid done : Transaction S} (b b' : Batch) (o : Overlay)
+    (rows : List RequestRow) (records : List (List ℕ)) (made : IsMadeOf b records)
+    (look : ReadsWhere g old mid (Ready (view b.overlay)) (λ t. known t (view b.overlay)) (Ok (view b'.overlay)))
+    (kept : (view b'.overlay).kept ≡ (view b.overlay).kept) (keys : blanked o ≡ blanked (view b'.overlay))
+    (own : KeepsNew (view b'.overlay) → KeepsNew o) (whole : has_gap o.kept ≡ false) (are : rows ≡ o.requests)
+    (puts : Does {X = Unit {0}} g (AddsRequests (Has rows)) mid done (MayAddRequests rows) (requests_put rows)
+    (λ _. tt {0}) (Ok (tt {0})))
+    (unknown : HasCleanDisk (state g done.conn.now) → IsTrue (state g mid.conn.now).in_transaction
+    → PutsNew (state g mid.conn.now).now (state g done.conn.now).now rows)
+    (clean : HasCleanDisk (state g done.conn.now)) (live : IsTrue (state g old.conn.now).in_transaction) where
+  unkept : AllByRecursion (λ s. s.kept ≡ None) (view b'.overlay).kept
+  unkept = subst (AllByRecursion (λ s. s.kept ≡ None)) (sym kept) (made_empty b records made)
+
+  all_new : (es : List Entry) → HoldsRows (state g old.conn.now).now request es
+      → AllByRecursion (IsNowhere es) (view b'.overlay).kept
+  all_new es holds =
+      let before : HasCleanDisk (state g mid.conn.now) = omega (arith, puts.says.survives.clean) in
+      let stays = (look.says.kept before).0 in
+      let there = subst (λ (db : Database). HoldsRows db request es) (sym stays.now) holds in
+      let new = (unknown clean
+      (still_in (state g old.conn.now) (state g mid.conn.now) stays.goes_on live) es there).0 in
+      nowhere es (view b'.overlay) o whole (own (keeps_none (view b'.overlay) unkept)) keys
+      (subst (AllByRecursion (IsNew es)) are new)
+
+  pub all_filled : (t : Tables) → Shows (state g old.conn.now).now t → view b'.overlay ≡ known t (view b.overlay)
+      → view b'.overlay ≡ filled t (view b.overlay)
+  all_filled t shows is =
+      let es = map request_entry t.requests in
+      known_all t (view b.overlay) (view b'.overlay) (made_empty b records made)
+      (subst (AllByRecursion (IsNowhere es)) kept (all_new es (requests_shown (state g old.conn.now).now t shows))) is
+
+  pub all_held : OfRows (λ rows. AreKnown rows (view b'.overlay)) (state g old.conn.now).now
+      → OfRows (λ rows. AreHeld rows (view b'.overlay)) (state g old.conn.now).now
+  all_held held = λ its has.
+      known_held its (view b'.overlay) unkept
+      (all_new its.requests (requests_held (state g old.conn.now).now its has)) (held its has)

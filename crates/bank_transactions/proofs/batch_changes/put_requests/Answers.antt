@@ -1,0 +1,71 @@
+-- Eight requests more are put in, and at the end those that are left.
+use Rattle.std.proofs.Common.{◌≡◌, ◌++◌, [], List, Err, rules, arith, refl, sym, subst}
+use Rattle.std.proofs.lemmas.List.{take-append-drop}
+use Rattle.std.specs.Prelude.{IsTrue}
+use Rattle.sqlite.specs.Held.{state}
+use Rattle.sqlite.specs.State.{HasCleanDisk}
+use Rattle.posting_rules.specs.declared.rows.RequestRow.{RequestRow}
+use Rattle.store_rows.specs.SeveralRows.{PutsNew}
+use Rattle.bank_transactions.specs.Additions.{adds_each}
+use Rattle.bank_transactions.specs.InParts.{requests_in_parts}
+use Rattle.bank_transactions.specs.InTurn.{requests_in_turn}
+use Rattle.bank_transactions.proofs.Chained.{does_err, does_none, does_for, still_in}
+use Rattle.bank_transactions.proofs.Loops.{all_more, some_more, stands_more}
+use Rattle.bank_transactions.proofs.NewRequests.{news_none, news_then, on_ok}
+use Rattle.bank_transactions.proofs.Rows.{requests_added}
+use Rattle.bank_transactions.proofs.batch_changes.put_requests.Goals as goal
+
+pub loop-eight-init : goal.loop-eight-init
+loop-eight-init g c = record {
+  puts = record {
+    front = [];
+    are = refl;
+    so_far = does_for (does_none (search rules)) (λ t so. (so, requests_in_turn.none t, refl));
+  };
+  unknown = λ clean live. news_none _;
+}
+
+pub loop-eight-preserved : goal.loop-eight-preserved
+unfolding stands_more
+loop-eight-preserved g c =
+    let it = c.in-Some.ensures.cases in
+    let eight = c.in-Some.eight.now in
+    let parts : c.loop-eight.left.now ≡ eight ++ c.in-Some.rest.now =
+    rw (it.0, it.1) (sym (take-append-drop 8 c.loop-eight.left.now)) in
+    let so_far = c.loop-eight.invariant in
+    let one = c.in_ok-add_eight_requests.ensures in
+    record {
+      puts = stands_more requests_in_parts (adds_each _ _) so_far.puts eight c.in-Some.rest.now parts
+          (requests_added eight one.adds);
+      unknown = λ clean live.
+          let mid : HasCleanDisk (state g.S.Store c.loop-eight.tx.conn.now) =
+          omega (arith, one.adds.survives.clean, clean) in
+          let on = (so_far.puts.so_far.says.kept mid live).0 in
+          news_then _ _ _ so_far.puts.front eight (so_far.unknown mid live) (one.unknown clean (still_in _ _ on live));
+    }
+
+pub returns-in_err-add_eight_requests-clause-puts : goal.returns-in_err-add_eight_requests-clause-puts
+returns-in_err-add_eight_requests-clause-puts g c =
+    let it = c.in-Some.ensures.cases in
+    let eight = c.in-Some.eight.now in
+    let parts : c.loop-eight.left.now ≡ eight ++ c.in-Some.rest.now =
+    rw (it.0, it.1) (sym (take-append-drop 8 c.loop-eight.left.now)) in
+    let same : c.from_residual.result ≡ Err c.in_err-add_eight_requests.field-0.0 = search rules in
+    rw same (does_err (some_more requests_in_parts (adds_each _ _) c.loop-eight.invariant.puts eight
+    c.in-Some.rest.now parts (requests_added eight c.in_err-add_eight_requests.ensures.adds)) (λ t so. so))
+
+pub returns-clause-puts : goal.returns-clause-puts
+returns-clause-puts g c =
+    all_more requests_in_parts (adds_each _ _) c.loop-eight.invariant.puts c.put_singly.ensures.puts
+
+pub returns-clause-unknown : goal.returns-clause-unknown
+returns-clause-unknown g c =
+    let so_far = c.loop-eight.invariant in
+    on_ok c.put_singly.result (λ one clean live.
+    let mid : HasCleanDisk (state g.S.Store c.loop-eight.tx.conn.now) =
+    omega (arith, c.put_singly.ensures.puts.says.survives.clean, clean) in
+    let on = (so_far.puts.so_far.says.kept mid live).0 in
+    subst (λ (rows : List RequestRow). PutsNew (state g.S.Store c.args.tx.now.conn.now).now
+    (state g.S.Store c.put_singly.new.tx.conn.now).now rows) (sym so_far.puts.are)
+    (news_then _ _ _ so_far.puts.front c.loop-eight.left.now (so_far.unknown mid live)
+    (one clean (still_in _ _ on live)))) c.put_singly.ensures.unknown

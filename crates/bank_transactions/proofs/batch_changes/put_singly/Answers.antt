@@ -1,0 +1,83 @@
+-- One request more is put in.
+use Rattle.std.proofs.Common.{◌≡◌, ◌<◌, ◌+◌, ◌++◌, [], ◌∷◌, List, Err, take, get_or, length, rules, arith, refl, sym, ap}
+use Rattle.std.proofs.Common.{◌∙◌, subst}
+use Rattle.std.proofs.lemmas.List.{take_more}
+use Rattle.std.proofs.Math.Seq.{take-length}
+use Rattle.std.specs.Prelude.{IsTrue}
+use Rattle.sqlite.specs.Effect.{Database}
+use Rattle.sqlite.specs.Held.{state}
+use Rattle.sqlite.specs.State.{HasCleanDisk}
+use Rattle.posting_rules.specs.Changes.{with_request}
+use Rattle.posting_rules.specs.Tables.{request_key}
+use Rattle.posting_rules.specs.declared.rows.RequestRow.{RequestRow}
+use Rattle.posting_batch.specs.Overlay.{requests_put}
+use Rattle.store_rows.specs.BankTables.{request}
+use Rattle.store_rows.specs.SeveralRows.{PutsNew, given}
+use Rattle.store_rows.specs.View.{request_entry}
+use Rattle.store_rows.specs.Inserts.{request_insert}
+use Rattle.bank_transactions.specs.Additions.{adds_each}
+use Rattle.bank_transactions.specs.InTurn.{requests_in_turn}
+use Rattle.bank_transactions.specs.Writing.{MayAddRequests}
+use Rattle.bank_transactions.proofs.Chained.{does_none, does_err, does_for, still_in}
+use Rattle.bank_transactions.proofs.Loops.{make_more}
+use Rattle.bank_transactions.proofs.NewRequests.{news_none, news_then}
+use Rattle.bank_transactions.proofs.Rows.{adds_request, request_put, row_added}
+use Rattle.bank_transactions.proofs.batch_changes.put_singly.Goals as goal
+
+pub loop-row-init : goal.loop-row-init
+loop-row-init g c = record {
+  puts = does_for (does_none (search rules)) (λ t so. (so, requests_in_turn.none t, refl));
+  unknown = λ clean live. news_none _;
+}
+
+pub loop-row-preserved : goal.loop-row-preserved
+loop-row-preserved g c =
+    let xs = c.args.rows.now in
+    let i = c.loop-row.row-index in
+    let x = c.row-item.result in
+    let lt : i < length xs = omega arith in
+    let so_far = c.loop-row.invariant in
+    let one = c.in_ok-add_request.ensures in
+    let more : take (i + 1) xs ≡ take i xs ++ x ∷ [] =
+    take_more xs i x lt ∙ ap (λ (r : RequestRow). take i xs ++ r ∷ []) (sym c.row-item.is) in
+    record {
+      puts = make_more requests_put MayAddRequests requests_in_turn (adds_each _ _) xs i x lt c.row-item.is
+          so_far.puts
+          (row_added request_insert (given (request_entry x)) request request_key (λ t. t.requests) with_request
+          requests_put x (request_put x) (adds_request x) one.adds);
+      unknown = λ clean live.
+          let mid : HasCleanDisk (state g.S.Store c.loop-row.tx.conn.now) = omega (arith, one.adds.survives.clean, clean)
+          in
+          let on = (so_far.puts.says.kept mid live).0 in
+          subst (λ (rows : List RequestRow). PutsNew (state g.S.Store c.args.tx.now.conn.now).now
+          (state g.S.Store c.add_request.new.tx.conn.now).now rows) (sym more)
+          (news_then _ _ _ (take i xs) (x ∷ []) (so_far.unknown mid live)
+          (one.unknown clean (still_in _ _ on live)));
+    }
+
+pub returns-in_err-add_request-clause-puts : goal.returns-in_err-add_request-clause-puts
+returns-in_err-add_request-clause-puts g c =
+    let same : c.from_residual.result ≡ Err c.in_err-add_request.field-0.0 = search rules in
+    let xs = c.args.rows.now in
+    let i = c.loop-row.row-index in
+    let x = c.row-item.result in
+    let lt : i < length xs = omega arith in
+    rw same (does_err (make_more requests_put MayAddRequests requests_in_turn (adds_each _ _) xs i x lt
+    c.row-item.is c.loop-row.invariant.puts
+    (row_added request_insert (given (request_entry x)) request request_key (λ t. t.requests) with_request
+    requests_put x (request_put x) (adds_request x) c.in_err-add_request.ensures.adds)) (λ t so. so))
+
+pub returns-clause-puts : goal.returns-clause-puts
+returns-clause-puts g c =
+    let xs = c.args.rows.now in
+    let at_end : take c.loop-row.row-index xs
+    ≡ xs = (let e : c.loop-row.row-index ≡ length xs = omega arith in rw e (take-length xs)) in
+    does_for c.loop-row.invariant.puts (λ t so. (so, ap (λ ys. requests_put ys t) at_end, refl))
+
+pub returns-clause-unknown : goal.returns-clause-unknown
+returns-clause-unknown g c clean live =
+    let xs = c.args.rows.now in
+    let at_end : take c.loop-row.row-index xs
+    ≡ xs = (let e : c.loop-row.row-index ≡ length xs = omega arith in rw e (take-length xs)) in
+    subst (λ (rows : List RequestRow). PutsNew (state g.S.Store c.args.tx.now.conn.now).now
+    (state g.S.Store c.loop-row.tx.conn.now).now rows) at_end (c.loop-row.invariant.unknown clean live)

@@ -1,0 +1,157 @@
+-- The parts of a batch that are filled one after another, but for its requests.
+use Rattle.std.proofs.Common.{◌≡◌, Err, List, length, map, rules, arith, sym, ap, subst, ◌∙◌}
+use Rattle.std.specs.List.{AllByRecursion}
+use Rattle.sqlite.specs.Effect.{Database}
+use Rattle.sqlite.specs.Held.{state}
+use Rattle.sqlite.specs.State.{HasCleanDisk}
+use Rattle.posting_rules.specs.Numbering.{branch_of_account, branch_of_teller}
+use Rattle.posting_batch.specs.declared.slots.AccountSlot.{AccountSlot}
+use Rattle.posting_batch.specs.declared.slots.BranchSlot.{BranchSlot}
+use Rattle.posting_batch.specs.declared.slots.FloorSlot.{FloorSlot}
+use Rattle.posting_batch.specs.declared.slots.TellerSlot.{TellerSlot}
+use Rattle.store_rows.specs.Rules.{HoldsBank}
+use Rattle.bank_transactions.specs.Filling.{AccountHeld, BranchHeld, FloorHeld, TellerHeld}
+use Rattle.bank_transactions.specs.Filling.{emptied_account}
+use Rattle.bank_transactions.specs.Filling.{emptied_branch, emptied_floor, emptied_teller}
+use Rattle.bank_transactions.proofs.HeldSlots.{emptied_known, know_branches, know_floors, put_back}
+use Rattle.smallvec.specs.SmallVec.{with_items}
+use Rattle.posting_batch.specs.View.{view}
+use Rattle.sqlite_trees.proofs.ListLemmas.{all_both}
+use Rattle.bank_transactions.proofs.LookUps.{reads_but, reads_so}
+use Rattle.bank_transactions.proofs.Whole.{accounts_in, accounts_ready, branches_in, count_in, floors_in}
+use Rattle.bank_transactions.proofs.Whole.{plain}
+use Rattle.bank_transactions.proofs.Whole.{nothing_asked, same_known, tellers_in, tellers_ready}
+use Rattle.bank_transactions.proofs.slots.fill_known.Goals as goal
+
+pub returns-in_err-fill_all-clause-says : goal.returns-in_err-fill_all-clause-says
+returns-in_err-fill_all-clause-says g c =
+    let same : c.from_residual-in_err-fill_all.result ≡ Err c.in_err-fill_all.field-0.0 = search rules in
+    let s1 = count_in {g = g.S.Store} (view c.args.overlay.now) _ c.in_ok-overlay.ensures.says in
+    rw same (reads_but s1 c.in_err-fill_all.ensures.says (plain _ _))
+
+pub returns-in_err-fill_all-2-clause-says : goal.returns-in_err-fill_all-2-clause-says
+returns-in_err-fill_all-2-clause-says g c =
+    let same : c.from_residual-in_err-fill_all-2.result ≡ Err c.in_err-fill_all-2.field-0.0 = search rules in
+    let s1 = count_in {g = g.S.Store} (view c.args.overlay.now) _ c.in_ok-overlay.ensures.says in
+    let s2 = branches_in s1 c.deref_mut.ensures.value c.in_ok-fill_all.ensures.says in
+    rw same (reads_but s2 c.in_err-fill_all-2.ensures.says (plain _ _))
+
+pub returns-in_err-fill_all-3-clause-says : goal.returns-in_err-fill_all-3-clause-says
+returns-in_err-fill_all-3-clause-says g c =
+    let same : c.from_residual-in_err-fill_all-3.result ≡ Err c.in_err-fill_all-3.field-0.0 = search rules in
+    let bs = put_back c.args.overlay.now.branches _ c.fill_all.new.slots c.deref_mut.ensures.value
+    c.fill_all.auto.slots in
+    let s1 = count_in {g = g.S.Store} (view c.args.overlay.now) _ c.in_ok-overlay.ensures.says in
+    let s2 = branches_in s1 c.deref_mut.ensures.value c.in_ok-fill_all.ensures.says in
+    let s3 = floors_in s2 c.deref_mut-2.ensures.value c.in_ok-fill_all-2.ensures.says in
+    rw same (reads_but s3 c.in_err-fill_all-3.ensures.says
+    (tellers_ready (c.deref.ensures ∙ bs) c.deref_mut-3.ensures.value))
+
+pub returns-in_err-fill_all-4-clause-says : goal.returns-in_err-fill_all-4-clause-says
+returns-in_err-fill_all-4-clause-says g c =
+    let same : c.from_residual-in_err-fill_all-4.result ≡ Err c.in_err-fill_all-4.field-0.0 = search rules in
+    let bs = put_back c.args.overlay.now.branches _ c.fill_all.new.slots c.deref_mut.ensures.value
+    c.fill_all.auto.slots in
+    let s1 = count_in {g = g.S.Store} (view c.args.overlay.now) _ c.in_ok-overlay.ensures.says in
+    let s2 = branches_in s1 c.deref_mut.ensures.value c.in_ok-fill_all.ensures.says in
+    let s3 = floors_in s2 c.deref_mut-2.ensures.value c.in_ok-fill_all-2.ensures.says in
+    let s4 = tellers_in s3
+    (c.deref.ensures ∙ bs) c.deref_mut-3.ensures.value c.in_ok-fill_all-3.ensures.says in
+    rw same (reads_but s4 c.in_err-fill_all-4.ensures.says
+    (accounts_ready (c.deref-2.ensures ∙ bs) c.deref_mut-4.ensures.value))
+
+pub returns-clause-says : goal.returns-clause-says
+returns-clause-says g c =
+    let o = view c.args.overlay.now in
+    let bv = c.args.overlay.now.branches in
+    let fv = c.args.overlay.now.floors in
+    let tv = c.args.overlay.now.tellers in
+    let av = c.args.overlay.now.accounts in
+    let bs = put_back bv _ c.fill_all.new.slots c.deref_mut.ensures.value c.fill_all.auto.slots in
+    let s1 = count_in {g = g.S.Store} o _ c.in_ok-overlay.ensures.says in
+    let s2 = branches_in s1 c.deref_mut.ensures.value c.in_ok-fill_all.ensures.says in
+    let s3 = floors_in s2 c.deref_mut-2.ensures.value c.in_ok-fill_all-2.ensures.says in
+    let s4 = tellers_in s3
+    (c.deref.ensures ∙ bs) c.deref_mut-3.ensures.value c.in_ok-fill_all-3.ensures.says in
+    let s5 = accounts_in s4
+    (c.deref-2.ensures ∙ bs) c.deref_mut-4.ensures.value c.in_ok-fill_all-4.ensures.says in
+    let held = same_known o c.in_ok-overlay.field-0
+    (with_items bv c.fill_all.new.slots).items c.fill_all.new.slots
+    (with_items fv c.fill_all-2.new.slots).items c.fill_all-2.new.slots
+    (with_items tv c.fill_all-3.new.slots).items c.fill_all-3.new.slots
+    (with_items av c.fill_all-4.new.slots).items c.fill_all-4.new.slots
+    bs (put_back fv _ c.fill_all-2.new.slots c.deref_mut-2.ensures.value c.fill_all-2.auto.slots)
+    (put_back tv _ c.fill_all-3.new.slots c.deref_mut-3.ensures.value c.fill_all-3.auto.slots)
+    (put_back av _ c.fill_all-4.new.slots c.deref_mut-4.ensures.value c.fill_all-4.auto.slots) in
+    reads_so s5 (λ t so. (so, λ e. held ∙ e))
+
+-- ---- of whatever rows a file holds
+
+pub returns-clause-same : goal.returns-clause-same
+returns-clause-same g c =
+    let o = view c.args.overlay.now in
+    let bv = c.args.overlay.now.branches in
+    let fv = c.args.overlay.now.floors in
+    let tv = c.args.overlay.now.tellers in
+    let av = c.args.overlay.now.accounts in
+    emptied_known o c.in_ok-overlay.field-0
+    (with_items bv c.fill_all.new.slots).items (with_items fv c.fill_all-2.new.slots).items
+    (with_items tv c.fill_all-3.new.slots).items
+    (with_items av c.fill_all-4.new.slots).items
+    (ap (map emptied_branch) (put_back bv _ c.fill_all.new.slots c.deref_mut.ensures.value c.fill_all.auto.slots)
+    ∙ c.in_ok-fill_all.ensures.same ∙ ap (map emptied_branch) c.deref_mut.ensures.value)
+    (ap (map emptied_floor) (put_back fv _ c.fill_all-2.new.slots c.deref_mut-2.ensures.value c.fill_all-2.auto.slots)
+    ∙ c.in_ok-fill_all-2.ensures.same ∙ ap (map emptied_floor) c.deref_mut-2.ensures.value)
+    (ap (map emptied_teller) (put_back tv _ c.fill_all-3.new.slots c.deref_mut-3.ensures.value c.fill_all-3.auto.slots)
+    ∙ c.in_ok-fill_all-3.ensures.same ∙ ap (map emptied_teller) c.deref_mut-3.ensures.value)
+    (ap (map emptied_account) (put_back av _ c.fill_all-4.new.slots c.deref_mut-4.ensures.value c.fill_all-4.auto.slots)
+    ∙ c.in_ok-fill_all-4.ensures.same ∙ ap (map emptied_account) c.deref_mut-4.ensures.value)
+
+pub returns-clause-stored : goal.returns-clause-stored
+returns-clause-stored g c clean homes rows has =
+    let o = view c.args.overlay.now in
+    let bv = c.args.overlay.now.branches in
+    let fv = c.args.overlay.now.floors in
+    let tv = c.args.overlay.now.tellers in
+    let av = c.args.overlay.now.accounts in
+    let zero = c.in_ok-overlay.ensures in
+    let one = c.in_ok-fill_all.ensures in
+    let two = c.in_ok-fill_all-2.ensures in
+    let three = c.in_ok-fill_all-3.ensures in
+    let four = c.in_ok-fill_all-4.ensures in
+    let clean3 : HasCleanDisk (state g.S.Store c.fill_all-3.new.tx.conn.now) =
+    omega (arith, four.says.says.survives.clean, clean) in
+    let clean2 : HasCleanDisk (state g.S.Store c.fill_all-2.new.tx.conn.now) =
+    omega (arith, three.says.says.survives.clean, clean3) in
+    let clean1 : HasCleanDisk (state g.S.Store c.fill_all.new.tx.conn.now) =
+    omega (arith, two.says.says.survives.clean, clean2) in
+    let clean0 : HasCleanDisk (state g.S.Store c.decided.new.tx.conn.now) =
+    omega (arith, one.says.says.survives.clean, clean1) in
+    let has0 = subst (λ (db : Database). HoldsBank db rows) (sym (zero.says.kept clean0).0.now) has in
+    let has1 = subst (λ (db : Database). HoldsBank db rows) (sym (one.says.says.kept clean1).0.now) has0 in
+    let has2 = subst (λ (db : Database). HoldsBank db rows) (sym (two.says.says.kept clean2).0.now) has1 in
+    let has3 = subst (λ (db : Database). HoldsBank db rows) (sym (three.says.says.kept clean3).0.now) has2 in
+    let bs = put_back bv _ c.fill_all.new.slots c.deref_mut.ensures.value c.fill_all.auto.slots in
+    let branches = one.stored clean1 rows has0 (nothing_asked _) in
+    let fs = put_back fv _ c.fill_all-2.new.slots c.deref_mut-2.ensures.value c.fill_all-2.auto.slots in
+    let floors = two.stored clean2 rows has1 (nothing_asked _) in
+    let same = one.same ∙ ap (map emptied_branch) c.deref_mut.ensures.value in
+    record {
+      branches = subst (λ (slots : List BranchSlot). AllByRecursion (BranchHeld rows) slots) (sym bs) branches;
+      floors = subst (λ (slots : List FloorSlot). AllByRecursion (FloorHeld rows) slots) (sym fs) floors;
+      tellers = subst (λ (slots : List TellerSlot). AllByRecursion (TellerHeld rows) slots)
+          (sym (put_back tv _ c.fill_all-3.new.slots c.deref_mut-3.ensures.value c.fill_all-3.auto.slots))
+          (three.stored clean3 rows has2
+          (know_branches (λ s. branch_of_teller s.teller) rows o.branches _ c.fill_all.new.slots o.tellers _
+          (c.deref.ensures ∙ bs) c.deref_mut-3.ensures.value same branches homes.tellers));
+      accounts = subst (λ (slots : List AccountSlot). AllByRecursion (AccountHeld rows) slots)
+          (sym (put_back av _ c.fill_all-4.new.slots c.deref_mut-4.ensures.value c.fill_all-4.auto.slots))
+          (four.stored clean rows has3
+          (all_both _ _ _ (λ s branch floor. (branch, floor)) _
+          (know_branches (λ s. branch_of_account s.account) rows o.branches _ c.fill_all.new.slots o.accounts _
+          (c.deref-2.ensures ∙ bs) c.deref_mut-4.ensures.value same branches homes.accounts)
+          (know_floors (λ s. branch_of_account s.account) rows o.floors _ c.fill_all-2.new.slots o.accounts _
+          (c.deref-3.ensures ∙ fs) c.deref_mut-4.ensures.value
+          (two.same ∙ ap (map emptied_floor) c.deref_mut-2.ensures.value) floors homes.floors)));
+      decided = zero.stored clean0 rows has;
+    }
