@@ -1,18 +1,15 @@
 -- No spelling begins another: all are equally long, and each is read as one value.
-use Rattle.std.proofs.Common.{◌≡◌, ℕ, ◌-◌, List, [], ◌∷◌, ◌++◌, length, replicate, Option, Some, None, Result, Ok, refl, sym, ap, ◌∙◌, append-nil}
-use Rattle.std.proofs.Common.{arith}
+use Rattle.std.proofs.Common.{◌≡◌, ℕ, ◌-◌, List, [], ◌∷◌, ◌++◌, length, replicate, Option, Some, None, Result, Ok}
+use Rattle.std.proofs.Common.{refl, sym, ap, ◌∙◌, append-nil, arith}
 use Rattle.std.specs.Prelude.{pos, IfSome, unwrap_or}
 use Rattle.std.proofs.lemmas.List.{length-append, length-replicate}
 use Rattle.message_records.specs.declared.limits.TheConstants.{REPLY_BYTES, REQUEST_BYTES}
-use Rattle.message_records.specs.Outcomes.{code_of}
+use Rattle.message_records.specs.{Outcomes.code_of, Reading.request_of, Reading.reply_of}
 use Rattle.message_records.specs.Records.{RequestFields, IsRequest, IsReference, ReplyFields, IsReply}
-use Rattle.message_records.specs.Spelling.{no_fields, filled, tag_of, reference_text, request_spelling, reply_spelling}
-use Rattle.message_records.specs.Reading.{request_of, reply_of}
-use Rattle.message_records.proofs.Digits.{length-digits}
-use Rattle.message_records.proofs.Amounts.{length-signed}
-use Rattle.message_records.proofs.Fields.{length-fields}
-use Rattle.message_records.proofs.Requests.{request_again}
-use Rattle.message_records.proofs.SpelledReplies.{length-name, reply_again}
+use Rattle.message_records.specs.Spelling.{no_fields, filled, tag_of, reference_text, request_spelling}
+use Rattle.message_records.specs.Spelling.{reply_spelling}
+use Rattle.message_records.proofs.{Digits.length-digits, Amounts.length-signed, Fields.length-fields}
+use Rattle.message_records.proofs.{Requests.request_again, SpelledReplies.length-name, SpelledReplies.reply_again}
 
 -- a list of no elements
 nothing : (xs : List ℕ) → length xs ≡ 0 → xs ≡ []

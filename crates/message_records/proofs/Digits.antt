@@ -1,14 +1,11 @@
 -- Digits that are written are read again, and digits that are read are those that are written.
-use Rattle.std.proofs.Common.{◌≡◌, ℕ, zero, suc, ◌+◌, ◌-◌, ◌*◌, ◌/◌, ◌%◌, ◌^◌, ◌<◌, ◌≤◌, Bool, true, false}
-use Rattle.std.proofs.Common.{cond, ◌&&◌, leb, List, [], ◌∷◌, ◌++◌, length, Some, None, refl, sym, ap, ◌∙◌}
-use Rattle.std.proofs.Common.{arith, inl, inr}
+use Rattle.std.proofs.Common.{◌≡◌, ℕ, zero, suc, ◌+◌, ◌-◌, ◌*◌, ◌/◌, ◌%◌, ◌^◌, ◌<◌, ◌≤◌, Bool, true, false, cond}
+use Rattle.std.proofs.Common.{◌&&◌, leb, List, [], ◌∷◌, ◌++◌, length, Some, None, refl, sym, ap, ◌∙◌, arith, inl, inr}
 use Rattle.std.specs.Prelude.{◌⊎◌}
-use Rattle.std.proofs.lemmas.List.{length-append}
-use Rattle.std.proofs.lemmas.Bool.Decides.{nat_tests}
-use Rattle.std.proofs.Math.Nat.{pow-suc, pow-succ', pow-le-pow_right, div-div-eq-div-mul, lt-div-mul-add}
-use Rattle.std.proofs.Math.Nat.{one-le-pow, zero-mul}
-use Rattle.message_records.specs.declared.limits.TheConstants.{MAX_BALANCE}
-use Rattle.message_records.specs.Spelling.{digits}
+use Rattle.std.proofs.lemmas.{List.length-append, Bool.Decides.nat_tests}
+use Rattle.std.proofs.Math.Nat.{pow-suc, pow-succ', pow-le-pow_right, div-div-eq-div-mul, lt-div-mul-add, one-le-pow}
+use Rattle.std.proofs.Math.Nat.{zero-mul}
+use Rattle.message_records.specs.{declared.limits.TheConstants.MAX_BALANCE, Spelling.digits}
 use Rattle.message_records.specs.Reading.{number_after, number_of}
 
 -- so many digits are so long

@@ -1,6 +1,5 @@
 -- Two requests and two replies, worked out to the byte.
-use Rattle.std.specs.Prelude.{◌≡◌, ℕ, pos, List, ◌∷◌, ◌++◌, take, drop, Some, None, Ok, Err, refl, codes}
-use Rattle.std.specs.Prelude.{replicate}
+use Rattle.std.specs.Prelude.{◌≡◌, ℕ, pos, List, ◌∷◌, ◌++◌, take, drop, Some, None, Ok, Err, refl, codes, replicate}
 use Rattle.message_records.specs.declared.fault.Bad.TheVariants as bad
 use Rattle.message_records.specs.declared.records.Outcome.TheVariants.{Posted, Malformed}
 use Rattle.message_records.specs.Records.{RequestFields, ReplyFields, referenced}

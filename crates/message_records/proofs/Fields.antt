@@ -1,21 +1,17 @@
 -- The five fields that a request and a reply have in common: spelled and read.
-use Rattle.std.proofs.Common.{◌≡◌, ℕ, ◌^◌, ◌<◌, ◌≤◌, true, ◌&&◌, leb, List, ◌++◌, length, take, drop, Some}
-use Rattle.std.proofs.Common.{None, Ok, refl, ap, subst, ◌∙◌, arith, inl, inr}
-use Rattle.std.specs.Prelude.{option_and_then}
-use Rattle.std.specs.Option.{ok_or}
-use Rattle.std.proofs.lemmas.Bool.Decides.{nat_tests}
-use Rattle.std.proofs.lemmas.List.{length-append}
-use Rattle.message_records.specs.declared.limits.TheConstants.{MAX_ACCOUNT, MAX_TELLER, MAX_BRANCH}
-use Rattle.message_records.specs.declared.limits.TheConstants.{MAX_NUMBER}
+use Rattle.std.proofs.Common.{◌≡◌, ℕ, ◌^◌, ◌<◌, ◌≤◌, true, ◌&&◌, leb, List, ◌++◌, length, take, drop, Some, None, Ok}
+use Rattle.std.proofs.Common.{refl, ap, subst, ◌∙◌, arith, inl, inr}
+use Rattle.std.specs.{Prelude.option_and_then, Option.ok_or}
+use Rattle.std.proofs.lemmas.{Bool.Decides.nat_tests, List.length-append}
+use Rattle.message_records.specs.declared.limits.TheConstants.{MAX_ACCOUNT, MAX_TELLER, MAX_BRANCH, MAX_NUMBER}
 use Rattle.message_records.specs.declared.fault.Bad.TheVariants as bad
-use Rattle.message_records.specs.Ranges.{whole_within}
+use Rattle.message_records.specs.{Ranges.whole_within, Spelling.digits, Spelling.signed, Spelling.fields_spelling}
 use Rattle.message_records.specs.Records.{RequestFields, IsRequest, IsShownRequest, unreferenced}
-use Rattle.message_records.specs.Spelling.{digits, signed, fields_spelling}
 use Rattle.message_records.specs.Reading.{number_of, signed_of, number_at, fields_of}
 use Rattle.message_records.proofs.Digits.{length-digits, chosen, number_of-digits, number_takes}
 use Rattle.message_records.proofs.Amounts.{length-signed, signed_again, signed_takes, and_then_some}
-use Rattle.message_records.proofs.Pieces.{field_next, field_joined, last_field, last_joined, field_length}
-use Rattle.message_records.proofs.Pieces.{step_takes, ok_or_some}
+use Rattle.message_records.proofs.Pieces.{field_next, field_joined, last_field, last_joined, field_length, step_takes}
+use Rattle.message_records.proofs.Pieces.{ok_or_some}
 
 -- ---- a number from 1 on
 

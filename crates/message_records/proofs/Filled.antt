@@ -1,11 +1,10 @@
 -- A text that is filled with spaces: the text, and spaces behind it.
-use Rattle.std.proofs.Common.{◌≡◌, ℕ, ◌-◌, true, false, List, ◌++◌, length, take, drop, replicate, refl, sym}
-use Rattle.std.proofs.Common.{ap, ◌∙◌, arith}
+use Rattle.std.proofs.Common.{◌≡◌, ℕ, ◌-◌, true, false, List, ◌++◌, length, take, drop, replicate, refl, sym, ap, ◌∙◌}
+use Rattle.std.proofs.Common.{arith}
 use Rattle.std.specs.Str.{bytes_eq}
-use Rattle.std.proofs.lemmas.Bool.Decides.{same_from_decides}
-use Rattle.std.proofs.lemmas.Slice.Eq.{bytes_eq-Decides}
-use Rattle.std.proofs.lemmas.List.{length-drop, length-replicate, take_all, take_at, drop_at}
-use Rattle.std.proofs.lemmas.List.{take-append-drop, drop-replicate}
+use Rattle.std.proofs.lemmas.{Bool.Decides.same_from_decides, Slice.Eq.bytes_eq-Decides}
+use Rattle.std.proofs.lemmas.List.{length-drop, length-replicate, take_all, take_at, drop_at, take-append-drop}
+use Rattle.std.proofs.lemmas.List.{drop-replicate}
 use Rattle.message_records.specs.Spelling.{filled}
 
 -- what stands behind the text, as the test sees it

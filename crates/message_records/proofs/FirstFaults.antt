@@ -1,22 +1,16 @@
 -- Reading a reply field by field: its first fault, or its parts. The tests are as the code makes them.
-use Rattle.std.proofs.Common.{◌≡◌, ℕ, true, false, not, List, take, drop, replicate, Option, Some, None, Result, Ok, Err}
-use Rattle.std.proofs.Common.{length, refl, sym, ap, ◌∙◌, arith}
+use Rattle.std.proofs.Common.{◌≡◌, ℕ, true, false, not, List, take, drop, replicate, Option, Some, None, Result, Ok}
+use Rattle.std.proofs.Common.{Err, length, refl, sym, ap, ◌∙◌, arith}
 use Rattle.std.specs.Prelude.{ℤ, Bool, codes, is_some, IfSome, option_and_then}
-use Rattle.std.specs.Option.{ok_or, option_map}
-use Rattle.std.specs.Str.{bytes_eq}
+use Rattle.std.specs.{Option.ok_or, Option.option_map, Str.bytes_eq}
 use Rattle.std.proofs.lemmas.Bool.{not-true, not-false}
-use Rattle.message_records.specs.declared.fault.BadReply.{BadReply}
+use Rattle.message_records.specs.{declared.fault.BadReply.BadReply, declared.records.Outcome.Outcome, Spelling.filled}
 use Rattle.message_records.specs.declared.fault.BadReply.TheVariants as bad_reply
-use Rattle.message_records.specs.declared.records.Outcome.{Outcome}
 use Rattle.message_records.specs.Outcomes.{name_of, has_request, has_balance}
 use Rattle.message_records.specs.declared.limits.TheConstants.{REPLY_BYTES}
-use Rattle.message_records.specs.Records.{RequestFields, IsShownRequest, ReplyFields, reply_from, agree}
-use Rattle.message_records.specs.Records.{unreferenced}
-use Rattle.message_records.specs.Spelling.{filled}
+use Rattle.message_records.specs.Records.{RequestFields, IsShownRequest, ReplyFields, reply_from, agree, unreferenced}
 use Rattle.message_records.specs.Reading.{number_of, outcome_with, shown_request_of, balance_of, reply_of}
-use Rattle.message_records.proofs.Pieces.{field_length}
-use Rattle.message_records.proofs.References.{unreferenced_same}
-use Rattle.message_records.proofs.ReadReplies.{shown_takes}
+use Rattle.message_records.proofs.{Pieces.field_length, References.unreferenced_same, ReadReplies.shown_takes}
 
 -- the outcome that the bytes name
 abbrev pub outcome_in : List ℕ → Option Outcome

@@ -1,11 +1,9 @@
 -- Taking bytes apart field by field, and going on where no field was faulty.
-use Rattle.std.proofs.Common.{◌≡◌, ℕ, ◌+◌, ◌≤◌, cond, List, ◌++◌, length, take, drop, Option, Some, None}
-use Rattle.std.proofs.Common.{Result, Ok, Err, refl, sym, ap, ◌∙◌, arith, inl, inr}
-use Rattle.std.specs.Option.{ok_or}
-use Rattle.std.specs.Str.{bytes_eq}
+use Rattle.std.proofs.Common.{◌≡◌, ℕ, ◌+◌, ◌≤◌, cond, List, ◌++◌, length, take, drop, Option, Some, None, Result, Ok}
+use Rattle.std.proofs.Common.{Err, refl, sym, ap, ◌∙◌, arith, inl, inr}
+use Rattle.std.specs.{Option.ok_or, Str.bytes_eq}
 use Rattle.std.proofs.lemmas.Slice.Eq.{bytes_eq-Decides}
-use Rattle.std.proofs.lemmas.List.{length-drop, drop-drop, take_at, drop_at, take_all, take-append-drop}
-use Rattle.std.proofs.lemmas.List.{length-take}
+use Rattle.std.proofs.lemmas.List.{length-drop, drop-drop, take_at, drop_at, take_all, take-append-drop, length-take}
 use Rattle.message_records.specs.Reading.{◌>>=◌, text_at}
 use Rattle.message_records.proofs.Digits.{chosen}
 

@@ -1,30 +1,23 @@
 -- A reply that is read is spelled so.
-use Rattle.std.proofs.Common.{◌≡◌, ℕ, ◌≤◌, true, false, cond, eqb, List, ◌∷◌, ◌++◌, length, take, drop}
-use Rattle.std.proofs.Common.{replicate, Option, Some, None, Result, Ok, Err, refl, sym, ap, subst, ◌∙◌}
-use Rattle.std.proofs.Common.{arith, inl, inr}
+use Rattle.std.proofs.Common.{◌≡◌, ℕ, ◌≤◌, true, false, cond, eqb, List, ◌∷◌, ◌++◌, length, take, drop, replicate}
+use Rattle.std.proofs.Common.{Option, Some, None, Result, Ok, Err, refl, sym, ap, subst, ◌∙◌, arith, inl, inr}
 use Rattle.std.specs.Prelude.{ℤ, pos, nat_abs, codes, is_some, IfSome, IfOk, unwrap_or, option_and_then}
 use Rattle.std.specs.Option.{ok_or}
 use Rattle.std.proofs.lemmas.Bool.{eqb-true}
 use Rattle.message_records.specs.declared.limits.TheConstants.{MAX_BALANCE, REPLY_BYTES}
-use Rattle.message_records.specs.declared.fault.Bad.{Bad}
-use Rattle.message_records.specs.declared.fault.BadReply.{BadReply}
+use Rattle.message_records.specs.declared.{fault.Bad.Bad, fault.BadReply.BadReply, records.Outcome.Outcome}
 use Rattle.message_records.specs.declared.fault.BadReply.TheVariants as bad_reply
-use Rattle.message_records.specs.declared.records.Outcome.{Outcome}
-use Rattle.message_records.specs.declared.records.Outcome.TheVariants.{Posted, NoTeller, WrongBranch}
-use Rattle.message_records.specs.declared.records.Outcome.TheVariants.{NoAccount, BelowFloor, OverLimit}
-use Rattle.message_records.specs.declared.records.Outcome.TheVariants.{ReusedNumber, Full, Malformed}
+use Rattle.message_records.specs.declared.records.Outcome.TheVariants.{Posted, NoTeller, WrongBranch, NoAccount}
+use Rattle.message_records.specs.declared.records.Outcome.TheVariants.{BelowFloor, OverLimit, ReusedNumber, Full}
+use Rattle.message_records.specs.declared.records.Outcome.TheVariants.{Malformed}
 use Rattle.message_records.specs.Outcomes.{code_of, name_of, has_request, has_balance}
 use Rattle.message_records.specs.Records.{RequestFields, IsShownRequest, ReplyFields, IsReply}
 use Rattle.message_records.specs.Spelling.{digits, signed, fields_spelling, no_fields, filled, reply_spelling}
 use Rattle.message_records.specs.Reading.{◌>>=◌, number_of, signed_of, text_at, fields_of, outcome_with}
-use Rattle.message_records.specs.Reading.{shown_in_reply, no_fields_of, shown_request_of, balance_of}
-use Rattle.message_records.specs.Reading.{reply_of}
-use Rattle.message_records.proofs.Digits.{chosen, number_takes}
-use Rattle.message_records.proofs.Amounts.{signed_takes, and_then_some}
-use Rattle.message_records.proofs.Pieces.{field_joined, last_joined, field_length, text_step, step_takes}
-use Rattle.message_records.proofs.Pieces.{ok_or_some}
-use Rattle.message_records.proofs.Fields.{fields_take}
-use Rattle.message_records.proofs.SpelledReplies.{zero_balance}
+use Rattle.message_records.specs.Reading.{shown_in_reply, no_fields_of, shown_request_of, balance_of, reply_of}
+use Rattle.message_records.proofs.{Digits.chosen, Digits.number_takes, Amounts.signed_takes, Amounts.and_then_some}
+use Rattle.message_records.proofs.{Fields.fields_take, SpelledReplies.zero_balance}
+use Rattle.message_records.proofs.Pieces.{field_joined, last_joined, field_length, text_step, step_takes, ok_or_some}
 
 -- ---- outcomes
 

@@ -1,6 +1,5 @@
 -- A reference that is read is the bytes, and a request with a reference and without.
-use Rattle.std.proofs.Common.{◌≡◌, ℕ, eqb, List, length, Option, Some, None, refl, ap, subst}
-use Rattle.std.proofs.Common.{sym, inl, inr}
+use Rattle.std.proofs.Common.{◌≡◌, ℕ, eqb, List, length, Option, Some, None, refl, ap, subst, sym, inl, inr}
 use Rattle.std.specs.Prelude.{IfSome}
 use Rattle.std.proofs.lemmas.Bool.{and_parts, eqb-true}
 use Rattle.message_records.specs.declared.limits.TheConstants.{REFERENCE_BYTES}

@@ -1,22 +1,18 @@
 -- A request that is spelled is read, and one that is read is spelled so: without a reference, and with one.
 use Rattle.std.proofs.Common.{◌≡◌, ℕ, ◌-◌, cond, List, ◌++◌, length, take, drop, replicate, Option, Some, None}
 use Rattle.std.proofs.Common.{Result, Ok, Err, refl, sym, ap, subst, ◌∙◌, arith, inl, inr}
-use Rattle.std.specs.Prelude.{codes, IfOk, IfSome}
-use Rattle.std.specs.Option.{ok_or}
-use Rattle.std.specs.Str.{bytes_eq}
-use Rattle.message_records.specs.declared.limits.TheConstants.{REQUEST_BYTES}
-use Rattle.message_records.specs.declared.fault.Bad.{Bad}
+use Rattle.std.specs.{Prelude.codes, Prelude.IfOk, Prelude.IfSome, Option.ok_or, Str.bytes_eq}
+use Rattle.message_records.specs.declared.{limits.TheConstants.REQUEST_BYTES, fault.Bad.Bad}
 use Rattle.message_records.specs.declared.fault.Bad.TheVariants as bad
 use Rattle.message_records.specs.Records.{RequestFields, IsRequest, IsReference, reference_from, unreferenced}
 use Rattle.message_records.specs.Records.{referenced}
 use Rattle.message_records.specs.Spelling.{fields_spelling, filled, tag_of, reference_text, request_spelling}
 use Rattle.message_records.specs.Reading.{fields_of, plain_request_of, referenced_request_of, request_of}
-use Rattle.message_records.proofs.Digits.{chosen}
-use Rattle.message_records.proofs.Pieces.{field_next, field_joined, last_field, last_joined, field_length}
-use Rattle.message_records.proofs.Pieces.{text_again, text_step, step_takes, ok_or_some}
+use Rattle.message_records.proofs.{Digits.chosen, Fields.length-fields, Fields.fields_again, Fields.fields_take}
+use Rattle.message_records.proofs.Pieces.{field_next, field_joined, last_field, last_joined, field_length, text_again}
+use Rattle.message_records.proofs.Pieces.{text_step, step_takes, ok_or_some}
 use Rattle.message_records.proofs.References.{reference_again, reference_takes, in_range, unreferenced_same}
 use Rattle.message_records.proofs.References.{referenced_same}
-use Rattle.message_records.proofs.Fields.{length-fields, fields_again, fields_take}
 
 -- ---- which of the two it is
 

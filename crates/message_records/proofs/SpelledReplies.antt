@@ -1,23 +1,20 @@
 -- A reply that is spelled is read.
-use Rattle.std.proofs.Common.{◌≡◌, ℕ, ◌^◌, ◌<◌, ◌≤◌, List, ◌∷◌, ◌++◌, length, take, drop, replicate, Option}
-use Rattle.std.proofs.Common.{Some, None, Ok, refl, ap, ◌∙◌, lit<, arith}
+use Rattle.std.proofs.Common.{◌≡◌, ℕ, ◌^◌, ◌<◌, ◌≤◌, List, ◌∷◌, ◌++◌, length, take, drop, replicate, Option, Some}
+use Rattle.std.proofs.Common.{None, Ok, refl, ap, ◌∙◌, lit<, arith}
 use Rattle.std.specs.Prelude.{ℤ, pos, nat_abs, codes, is_some, IfSome, unwrap_or, option_and_then}
-use Rattle.message_records.specs.declared.limits.TheConstants.{MAX_BALANCE}
+use Rattle.message_records.specs.declared.{limits.TheConstants.MAX_BALANCE, records.Outcome.Outcome}
 use Rattle.message_records.specs.declared.fault.BadReply.TheVariants as bad_reply
-use Rattle.message_records.specs.declared.records.Outcome.{Outcome}
-use Rattle.message_records.specs.declared.records.Outcome.TheVariants.{Posted, NoTeller, WrongBranch}
-use Rattle.message_records.specs.declared.records.Outcome.TheVariants.{NoAccount, BelowFloor, OverLimit}
-use Rattle.message_records.specs.declared.records.Outcome.TheVariants.{ReusedNumber, Full, Malformed}
+use Rattle.message_records.specs.declared.records.Outcome.TheVariants.{Posted, NoTeller, WrongBranch, NoAccount}
+use Rattle.message_records.specs.declared.records.Outcome.TheVariants.{BelowFloor, OverLimit, ReusedNumber, Full}
+use Rattle.message_records.specs.declared.records.Outcome.TheVariants.{Malformed}
 use Rattle.message_records.specs.Outcomes.{code_of, name_of, has_request, has_balance}
 use Rattle.message_records.specs.Records.{RequestFields, IsShownRequest, ReplyFields, IsReply}
 use Rattle.message_records.specs.Spelling.{digits, signed, fields_spelling, no_fields, filled, reply_spelling}
-use Rattle.message_records.specs.Reading.{number_of, outcome_with, shown_in_reply, no_fields_of}
-use Rattle.message_records.specs.Reading.{shown_request_of, balance_of, reply_of}
-use Rattle.message_records.proofs.Digits.{length-digits, number_of-digits}
-use Rattle.message_records.proofs.Amounts.{length-signed, signed_again}
-use Rattle.message_records.proofs.Pieces.{field_next, last_field, text_again}
-use Rattle.message_records.proofs.References.{unreferenced_same}
-use Rattle.message_records.proofs.Fields.{length-fields, fields_again}
+use Rattle.message_records.specs.Reading.{number_of, outcome_with, shown_in_reply, no_fields_of, shown_request_of}
+use Rattle.message_records.specs.Reading.{balance_of, reply_of}
+use Rattle.message_records.proofs.{Digits.length-digits, Digits.number_of-digits, Amounts.length-signed}
+use Rattle.message_records.proofs.{Amounts.signed_again, Pieces.field_next, Pieces.last_field, Pieces.text_again}
+use Rattle.message_records.proofs.{References.unreferenced_same, Fields.length-fields, Fields.fields_again}
 
 -- ---- outcomes
 

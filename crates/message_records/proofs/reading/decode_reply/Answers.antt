@@ -1,7 +1,6 @@
 -- What is read is spelled so, and what is spelled so is read.
 use Rattle.std.proofs.Common.{rules, ◌∙◌}
-use Rattle.message_records.proofs.SpelledReplies.{reply_again}
-use Rattle.message_records.proofs.ReadReplies.{reply_found}
+use Rattle.message_records.proofs.{SpelledReplies.reply_again, ReadReplies.reply_found}
 use Rattle.message_records.proofs.reading.decode_reply.Goals as goal
 
 pub returns-clause-found : goal.returns-clause-found

@@ -1,10 +1,9 @@
 use Rattle.std.proofs.Common.{◌≡◌, ◌≢◌, ◌∷◌, List, ℕ, Ok, None, true, refl, replicate, rules}
 use Rattle.std.specs.Str.{bytes_eq}
-use Rattle.message_records.specs.declared.records.Outcome.{Outcome}
-use Rattle.message_records.specs.declared.records.Outcome.TheVariants.{Posted, NoTeller, WrongBranch}
-use Rattle.message_records.specs.declared.records.Outcome.TheVariants.{NoAccount, BelowFloor, OverLimit}
-use Rattle.message_records.specs.declared.records.Outcome.TheVariants.{ReusedNumber, Full, Malformed}
-use Rattle.message_records.specs.Reading.{balance_of}
+use Rattle.message_records.specs.{declared.records.Outcome.Outcome, Reading.balance_of}
+use Rattle.message_records.specs.declared.records.Outcome.TheVariants.{Posted, NoTeller, WrongBranch, NoAccount}
+use Rattle.message_records.specs.declared.records.Outcome.TheVariants.{BelowFloor, OverLimit, ReusedNumber, Full}
+use Rattle.message_records.specs.declared.records.Outcome.TheVariants.{Malformed}
 use Rattle.message_records.proofs.reading.read_balance.Goals as goal
 
 -- zeros are the balance of a request that isn't posted

@@ -1,13 +1,10 @@
 -- The draft is the spelling, which is read again.
 use Rattle.std.proofs.Common.{◌≡◌, ◌+◌, ◌++◌, ◌≤◌, length, Option, Some, None, ap, subst, ◌∙◌, arith}
 use Rattle.std.specs.Prelude.{ℤ, pos, nat_abs, unwrap_or, IfSome}
-use Rattle.message_records.specs.declared.limits.TheConstants.{MAX_BALANCE}
-use Rattle.message_records.specs.Outcomes.{code_of, name_of}
+use Rattle.message_records.specs.{declared.limits.TheConstants.MAX_BALANCE, Outcomes.code_of, Outcomes.name_of}
 use Rattle.message_records.specs.Records.{RequestFields, IsRequest, IsShownRequest, IsReply, unreferenced}
 use Rattle.message_records.specs.Spelling.{signed, no_fields, fields_spelling}
-use Rattle.message_records.proofs.Composed.{reply_put}
-use Rattle.message_records.proofs.References.{is_shown}
-use Rattle.message_records.proofs.SpelledReplies.{reply_again}
+use Rattle.message_records.proofs.{Composed.reply_put, References.is_shown, SpelledReplies.reply_again}
 use Rattle.message_records.proofs.writing.encode_reply.Goals as goal
 
 pub returns-clause-spelling : goal.returns-clause-spelling

@@ -1,8 +1,6 @@
 -- The draft is the spelling, which is read again.
 use Rattle.std.proofs.Common.{◌≡◌, length, arith}
-use Rattle.message_records.proofs.Composed.{request_put}
-use Rattle.message_records.proofs.References.{in_range}
-use Rattle.message_records.proofs.Requests.{request_again}
+use Rattle.message_records.proofs.{Composed.request_put, References.in_range, Requests.request_again}
 use Rattle.message_records.proofs.writing.encode_request.Goals as goal
 
 pub returns-clause-spelling : goal.returns-clause-spelling
