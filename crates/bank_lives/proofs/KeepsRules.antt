@@ -13,6 +13,8 @@ use Rattle.posting_rules.specs.Tables.{reference_key, request_key, teller_key}
 use Rattle.posting_rules.specs.declared.fault.Rule.TheVariants.{Meta, Teller, Account, Balance, Request, Value, Key}
 use Rattle.posting_rules.specs.declared.fault.Rule.TheVariants.{Floor, Reference}
 use Rattle.posting_rules.specs.declared.rows.{AccountRow.AccountRow, BranchRow.BranchRow, FloorRow.FloorRow}
+use Rattle.posting_rules.specs.declared.rows.{HistoryRow.HistoryRow, ReferenceRow.ReferenceRow}
+use Rattle.posting_rules.specs.declared.rows.{RequestRow.RequestRow, TellerRow.TellerRow}
 use Rattle.posting_rules.proofs.Stepped.{history_row_past, reference_row_past, request_row_past}
 use Rattle.posting_rules.proofs.Undamaged.{undamaged}
 use Rattle.sql_meanings.specs.Entries.{Entry}
@@ -39,79 +41,62 @@ each_entry entry P (r ∷ rows) all = (
 )
 
 module _ (t : Tables) (sound : IsUndamaged t) where
-  each_balance : EachKeeps Balance (stored_rows t)
-  each_balance = (
-    each_entry branch_entry (BranchKeeps Balance) t.branches (λ r has. (sound.each_branch r has).balance),
-    each_entry teller_entry (TellerKeeps Balance) t.tellers (λ r has. (sound.each_teller r has).balance),
-    each_entry account_entry (AccountKeeps Balance) t.accounts (λ r has. (sound.each_account r has).balance),
-    each_entry history_entry (PostingKeeps Balance) t.history (λ r has. tt),
-    each_entry request_entry (RequestKeeps Balance) t.requests (λ r has. tt),
-    each_entry floor_entry (FloorKeeps Balance) t.floors (λ r has. tt),
-    each_entry reference_entry (ReferenceKeeps Balance) t.references (λ r has. tt),
+  -- each row of each table does, by what is said of one
+  each_keeps : (rule : Rule) → ((r : BranchRow) → Contains t.branches r → BranchKeeps rule (branch_entry r))
+      → ((r : TellerRow) → Contains t.tellers r → TellerKeeps rule (teller_entry r))
+      → ((r : AccountRow) → Contains t.accounts r → AccountKeeps rule (account_entry r))
+      → ((r : HistoryRow) → Contains t.history r → PostingKeeps rule (history_entry r))
+      → ((r : RequestRow) → Contains t.requests r → RequestKeeps rule (request_entry r))
+      → ((r : FloorRow) → Contains t.floors r → FloorKeeps rule (floor_entry r))
+      → ((r : ReferenceRow) → Contains t.references r → ReferenceKeeps rule (reference_entry r))
+      → EachKeeps rule (stored_rows t)
+  each_keeps rule branch teller account posting request floor reference = (
+    each_entry branch_entry (BranchKeeps rule) t.branches branch,
+    each_entry teller_entry (TellerKeeps rule) t.tellers teller,
+    each_entry account_entry (AccountKeeps rule) t.accounts account,
+    each_entry history_entry (PostingKeeps rule) t.history posting,
+    each_entry request_entry (RequestKeeps rule) t.requests request,
+    each_entry floor_entry (FloorKeeps rule) t.floors floor,
+    each_entry reference_entry (ReferenceKeeps rule) t.references reference,
   )
+
+  each_balance : EachKeeps Balance (stored_rows t)
+  each_balance = each_keeps Balance (λ r has. (sound.each_branch r has).balance)
+      (λ r has. (sound.each_teller r has).balance) (λ r has. (sound.each_account r has).balance) (λ r has. tt)
+      (λ r has. tt) (λ r has. tt) (λ r has. tt)
 
   keeps_request : KeepsRule Request (stored_rows t)
-  keeps_request = (
-    each_entry branch_entry (BranchKeeps Request) t.branches (λ r has. tt),
-    each_entry teller_entry (TellerKeeps Request) t.tellers (λ r has. tt),
-    each_entry account_entry (AccountKeeps Request) t.accounts (λ r has. tt),
-    each_entry history_entry (PostingKeeps Request) t.history (λ r has. tt),
-    each_entry request_entry (RequestKeeps Request) t.requests
-        (λ r has. let is = sound.each_request r has in record {
-          teller = (r.teller, refl, is.fields.teller_above, is.fields.teller);
-          number = (r.number, refl, is.number_above, is.number);
-          account = (r.decision.account, refl, is.fields.account_above, is.fields.account);
-          branch = (r.decision.branch, refl, is.fields.branch_above, is.fields.branch);
-          delta = is.fields.delta;
-          outcome = (r.decision.outcome, refl, is.decision);
-          balance = is.balance;
-        }),
-    each_entry floor_entry (FloorKeeps Request) t.floors (λ r has. tt),
-    each_entry reference_entry (ReferenceKeeps Request) t.references (λ r has. tt),
-  )
+  keeps_request = each_keeps Request (λ r has. tt) (λ r has. tt) (λ r has. tt) (λ r has. tt)
+      (λ r has. let is = sound.each_request r has in record {
+        teller = (r.teller, refl, is.fields.teller_above, is.fields.teller);
+        number = (r.number, refl, is.number_above, is.number);
+        account = (r.decision.account, refl, is.fields.account_above, is.fields.account);
+        branch = (r.decision.branch, refl, is.fields.branch_above, is.fields.branch);
+        delta = is.fields.delta;
+        outcome = (r.decision.outcome, refl, is.decision);
+        balance = is.balance;
+      })
+      (λ r has. tt) (λ r has. tt)
 
   keeps_value : KeepsRule Value (stored_rows t)
-  keeps_value = (
-    each_entry branch_entry (BranchKeeps Value) t.branches (λ r has.
-        let is = sound.each_branch r has in
-        ((r.branch, refl, is.some, is.most), (r.accounts, refl, is.few, is.many))),
-    each_entry teller_entry (TellerKeeps Value) t.tellers (λ r has.
-        let is = sound.each_teller r has in let most = is.most in (r.teller, refl, is.some, most)),
-    each_entry account_entry (AccountKeeps Value) t.accounts (λ r has.
-        let is = sound.each_account r has in let most = is.most in (r.account, refl, is.some, most)),
-    each_entry history_entry (PostingKeeps Value) t.history (λ r has.
-        let is = sound.each_posting r has in
-        ((r.ordinal, refl, is.ordinal_above, is.ordinal), (r.moment, refl, omega arith, is.moment))),
-    each_entry request_entry (RequestKeeps Value) t.requests (λ r has.
-        let is = sound.each_request r has in (r.ordinal, refl, is.ordinal_above, is.ordinal)),
-    each_entry floor_entry (FloorKeeps Value) t.floors (λ r has.
-        let is = sound.each_floor r has in (r.branch, refl, is.some, is.most)),
-    each_entry reference_entry (ReferenceKeeps Value) t.references (λ r has.
-        let is = sound.each_reference r has in (r.ordinal, refl, is.ordinal_above, is.ordinal)),
-  )
+  keeps_value = each_keeps Value
+      (λ r has. let is = sound.each_branch r has in
+      ((r.branch, refl, is.some, is.most), (r.accounts, refl, is.few, is.many)))
+      (λ r has. let is = sound.each_teller r has in let most = is.most in (r.teller, refl, is.some, most))
+      (λ r has. let is = sound.each_account r has in let most = is.most in (r.account, refl, is.some, most))
+      (λ r has. let is = sound.each_posting r has in
+      ((r.ordinal, refl, is.ordinal_above, is.ordinal), (r.moment, refl, omega arith, is.moment)))
+      (λ r has. let is = sound.each_request r has in (r.ordinal, refl, is.ordinal_above, is.ordinal))
+      (λ r has. let is = sound.each_floor r has in (r.branch, refl, is.some, is.most))
+      (λ r has. let is = sound.each_reference r has in (r.ordinal, refl, is.ordinal_above, is.ordinal))
 
   keeps_floor : KeepsRule Floor (stored_rows t)
-  keeps_floor = (
-    each_entry branch_entry (BranchKeeps Floor) t.branches (λ r has. tt),
-    each_entry teller_entry (TellerKeeps Floor) t.tellers (λ r has. tt),
-    each_entry account_entry (AccountKeeps Floor) t.accounts (λ r has. tt),
-    each_entry history_entry (PostingKeeps Floor) t.history (λ r has. tt),
-    each_entry request_entry (RequestKeeps Floor) t.requests (λ r has. tt),
-    each_entry floor_entry (FloorKeeps Floor) t.floors (λ r has. (sound.each_floor r has).lowest),
-    each_entry reference_entry (ReferenceKeeps Floor) t.references (λ r has. tt),
-  )
+  keeps_floor = each_keeps Floor (λ r has. tt) (λ r has. tt) (λ r has. tt) (λ r has. tt) (λ r has. tt)
+      (λ r has. (sound.each_floor r has).lowest) (λ r has. tt)
 
   keeps_reference : KeepsRule Reference (stored_rows t)
-  keeps_reference = (
-    each_entry branch_entry (BranchKeeps Reference) t.branches (λ r has. tt),
-    each_entry teller_entry (TellerKeeps Reference) t.tellers (λ r has. tt),
-    each_entry account_entry (AccountKeeps Reference) t.accounts (λ r has. tt),
-    each_entry history_entry (PostingKeeps Reference) t.history (λ r has. tt),
-    each_entry request_entry (RequestKeeps Reference) t.requests (λ r has. tt),
-    each_entry floor_entry (FloorKeeps Reference) t.floors (λ r has. tt),
-    each_entry reference_entry (ReferenceKeeps Reference) t.references
-        (λ r has. (sound.each_reference r has).reference),
-  )
+  keeps_reference = each_keeps Reference (λ r has. tt) (λ r has. tt) (λ r has. tt) (λ r has. tt) (λ r has. tt)
+      (λ r has. tt) (λ r has. (sound.each_reference r has).reference)
 
   -- ---- rows that belong together
 
