@@ -1,17 +1,15 @@
 -- The same of tables of a bank.
-use Rattle.std.proofs.Common.{◌≡◌, ℕ, pos, Bool, true, eqb, List, [], ◌∷◌, map, filter, Option}
-use Rattle.std.proofs.Common.{Some, None, refl, sym, ap, subst, ◌∙◌, inl, inr, arith}
+use Rattle.std.proofs.Common.{◌≡◌, ℕ, pos, Bool, true, eqb, List, [], ◌∷◌, map, filter, Option, Some, None, refl, sym}
+use Rattle.std.proofs.Common.{ap, subst, ◌∙◌, inl, inr, arith}
 use Rattle.std.specs.Prelude.{ℤ, ◌&&◌, nat_eq, nat_le, option_map}
 use Rattle.std.specs.{List.AllByRecursion, List.IsDistinct, Ordering.int_eq}
-use Rattle.std.proofs.{lemmas.Bool.cases_Bool, lemmas.Int.ints}
-use Rattle.message_records.specs.Outcomes.{code_of, has_balance}
-use Rattle.message_records.specs.declared.records.Outcome.{Outcome}
-use Rattle.message_records.specs.declared.records.Outcome.TheVariants.{Posted, NoTeller, WrongBranch}
-use Rattle.message_records.specs.declared.records.Outcome.TheVariants.{BelowFloor, NoAccount, OverLimit, ReusedNumber}
-use Rattle.message_records.specs.declared.records.Outcome.TheVariants.{Full, Malformed}
-use Rattle.posting_rules.specs.declared.{rows.HistoryRow.HistoryRow, rows.RequestRow.RequestRow}
-use Rattle.posting_rules.specs.declared.{rows.TellerRow.TellerRow, rows.BranchRow.BranchRow}
-use Rattle.posting_rules.specs.Numbering.{branch_of_teller}
+use Rattle.std.proofs.lemmas.{Bool.cases_Bool, Int.ints}
+use Rattle.message_records.specs.{Outcomes.code_of, Outcomes.has_balance, declared.records.Outcome.Outcome}
+use Rattle.message_records.specs.declared.records.Outcome.TheVariants.{Posted, NoTeller, WrongBranch, BelowFloor}
+use Rattle.message_records.specs.declared.records.Outcome.TheVariants.{NoAccount, OverLimit, ReusedNumber, Full}
+use Rattle.message_records.specs.declared.records.Outcome.TheVariants.{Malformed}
+use Rattle.posting_rules.specs.{declared.rows.HistoryRow.HistoryRow, Numbering.branch_of_teller}
+use Rattle.posting_rules.specs.declared.rows.{RequestRow.RequestRow, TellerRow.TellerRow, BranchRow.BranchRow}
 use Rattle.posting_rules.specs.Laws.{total, tellers_of, Match, IsConsistent}
 use Rattle.posting_rules.specs.LookUps.{balance_of_teller, balance_of_account, balance_of_branch}
 use Rattle.posting_rules.specs.Tables.{Tables, row_at, history_key, request_key}
@@ -20,8 +18,7 @@ use Rattle.report_lines.specs.Stored.{branch_stored, account_stored}
 use Rattle.report_lines.specs.Audit.{is_matched, teller_sum, teller_balance, branch_balance, account_balance}
 use Rattle.report_lines.specs.Audit.{delta_of, request_under, posting_under, posting_ordinal, request_ordinal}
 use Rattle.report_lines.specs.Consistency.{TellsOfTables, IsSoundFile, HasOrdinals}
-use Rattle.report_lines.proofs.Lists.{one_four, all_one_four, same_int, int_same}
-use Rattle.report_lines.proofs.Telling.{tells}
+use Rattle.report_lines.proofs.{Lists.one_four, Lists.all_one_four, Lists.same_int, Lists.int_same, Telling.tells}
 
 -- a value of each row
 values : {X Y : Type 0} (f : X → Y) (v : Y → ℤ) (w : X → ℤ) → ((x : X) → v (f x) ≡ w x)

@@ -1,17 +1,16 @@
 -- The audit says that stored tables are consistent exactly where they are.
-use Rattle.std.proofs.Common.{◌≡◌, ℕ, true, false, not, List, [], ◌∷◌, map, filter, length}
-use Rattle.std.proofs.Common.{Option, Some, None, refl, ap, subst, ◌∙◌}
+use Rattle.std.proofs.Common.{◌≡◌, ℕ, true, false, not, List, [], ◌∷◌, map, filter, length, Option, Some, None, refl}
+use Rattle.std.proofs.Common.{ap, subst, ◌∙◌}
 use Rattle.std.specs.{Prelude.is_some, Prelude.nat_eq, Ordering.int_eq, List.AllByRecursion}
 use Rattle.walked_rows.specs.declared.{branches.StoredBranch.StoredBranch, postings.StoredPosting.StoredPosting}
-use Rattle.walked_rows.specs.declared.requests.StoredRequest.{StoredRequest}
-use Rattle.report_lines.specs.declared.audit.Audit.{Audit}
-use Rattle.report_lines.specs.Stored.{StoredTables}
+use Rattle.walked_rows.specs.declared.{requests.StoredRequest.StoredRequest}
+use Rattle.report_lines.specs.{declared.audit.Audit.Audit, Stored.StoredTables}
 use Rattle.report_lines.specs.Audit.{is_matched, request_under, posting_under, is_odd_request, is_odd_posting}
 use Rattle.report_lines.specs.Audit.{unmatched, lines_of, line_of, differs, teller_sum, request_ordinal}
 use Rattle.report_lines.specs.Audit.{posting_ordinal, is_sound, audit_of}
 use Rattle.report_lines.specs.Consistency.{TellsOfStored, IsSoundFile, HasOrdinals}
-use Rattle.report_lines.proofs.Lists.{five, all_five, not_false, true_not, same_int, int_same, none_pass}
-use Rattle.report_lines.proofs.Lists.{pass_none, no_map, no_parts, empty_list}
+use Rattle.report_lines.proofs.Lists.{five, all_five, not_false, true_not, same_int, int_same, none_pass, pass_none}
+use Rattle.report_lines.proofs.Lists.{no_map, no_parts, empty_list}
 use Rattle.report_lines.proofs.EachOrdinal.{found, each_found}
 
 module _ (t : StoredTables) where

@@ -2,8 +2,7 @@
 use Rattle.std.proofs.Common.{◌+◌, ◌∙◌, sym, take, drop, map, get_or, pos}
 use Rattle.std.proofs.KnownBytes.{Appends-trans}
 use Rattle.posting_core.proofs.Telling.{more_more}
-use Rattle.report_lines.specs.declared.audit.BranchLine.{BranchLine}
-use Rattle.report_lines.specs.{AuditText.branch_line, Lines.text_of}
+use Rattle.report_lines.specs.{declared.audit.BranchLine.BranchLine, AuditText.branch_line, Lines.text_of}
 use Rattle.report_lines.proofs.Written.{first_part, same_part, same_all, then_part, later_failed, on_err_any}
 use Rattle.report_lines.proofs.Written.{lines_more, lines_split}
 use Rattle.report_lines.proofs.writing.put_branches.Goals as goal
