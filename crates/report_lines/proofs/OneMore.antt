@@ -23,7 +23,7 @@ total-append [] ys = omega (arith, ints)
 total-append (x ∷ xs) ys = ap (λ (z : ℤ). x +ℤ z) (total-append xs ys)
     ∙ sym (+ℤ_assoc x (total xs) (total ys))
 
-total-snoc : (xs : List ℤ) (z : ℤ) → total (xs ++ z ∷ []) ≡ total xs +ℤ z
+pub total-snoc : (xs : List ℤ) (z : ℤ) → total (xs ++ z ∷ []) ≡ total xs +ℤ z
 total-snoc xs z = total-append xs (z ∷ []) ∙ ap (λ (y : ℤ). total xs +ℤ y) (omega (arith, ints))
 
 -- a sum of one more amount
