@@ -1,19 +1,15 @@
 -- Rows that were added one after another.
-use Rattle.std.proofs.Common.{◌≡◌, ◌≤◌, ◌<◌, ◌⊎◌, ◌+◌, ◌++◌, ℕ, List, [], ◌∷◌, length, map}
-use Rattle.std.proofs.Common.{Ok, Err, refl, sym, ap, ◌∙◌, append_assoc, append-nil, inl, inr, arith}
+use Rattle.std.proofs.Common.{◌≡◌, ◌≤◌, ◌<◌, ◌⊎◌, ◌+◌, ◌++◌, ℕ, List, [], ◌∷◌, length, map, Ok, Err, refl, sym, ap}
+use Rattle.std.proofs.Common.{◌∙◌, append_assoc, append-nil, inl, inr, arith}
 use Rattle.std.specs.Prelude.{ℤ, pos, ◌+ℤ◌, ◌≤ℤ◌, ◌<ℤ◌}
-use Rattle.std.proofs.{lemmas.Int.ints, lemmas.List.length-append, lemmas.List.map-append}
-use Rattle.sqlite.specs.Effect.{Database}
-use Rattle.sqlite.specs.State.{State, HasCleanDisk, Survives}
-use Rattle.posting_rules.specs.declared.fault.Fault.{Fault}
+use Rattle.std.proofs.lemmas.{Int.ints, List.length-append, List.map-append}
+use Rattle.sqlite.specs.{Effect.Database, State.State, State.HasCleanDisk, State.Survives}
+use Rattle.posting_rules.specs.declared.fault.{Fault.Fault, Rule.Rule}
 use Rattle.posting_rules.specs.declared.fault.Fault.TheVariants as told
-use Rattle.posting_rules.specs.declared.fault.Rule.{Rule}
 use Rattle.bank_store.specs.{Walking.Steps, Walks.IsStill, Walks.IsUntouchedIfOpen}
-use Rattle.report_lines.specs.Beside.{AuditRows}
-use Rattle.report_lines.specs.declared.limits.TheConstants.{MAX_ROWS}
+use Rattle.report_lines.specs.{Beside.AuditRows, declared.limits.TheConstants.MAX_ROWS}
 use Rattle.bank_reports.specs.Adding.{AddsToSums, HasSums, IsPassed}
-use Rattle.bank_reports.specs.{Failures.SaysOf, Files.HasBroken}
-use Rattle.bank_reports.specs.declared.sums.Sums.{Sums}
+use Rattle.bank_reports.specs.{Failures.SaysOf, Files.HasBroken, declared.sums.Sums.Sums}
 use Rattle.bank_store.proofs.StepsKeep.{quiet_then, still_then, still_undone, undone_then}
 
 -- ---- the rows

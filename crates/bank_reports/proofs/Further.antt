@@ -4,18 +4,17 @@ use Rattle.std.proofs.Common.{refl, sym, ap, subst, ◌∙◌, inl, inr, append_
 use Rattle.std.specs.Prelude.{ℤ, pos, ◌+ℤ◌, ◌<◌, nat_abs}
 use Rattle.std.specs.Io.KnownBytes.{Appends}
 use Rattle.std.proofs.{KnownBytes.Appends-nil, KnownBytes.Appends-trans, Math.Seq.take-length}
-use Rattle.std.proofs.{lemmas.List.length-append, lemmas.List.map-append}
+use Rattle.std.proofs.lemmas.List.{length-append, map-append}
 use Rattle.message_records.specs.declared.limits.TheConstants.{MAX_BALANCE}
-use Rattle.posting_rules.specs.declared.{fault.Fault.Fault, fault.Rule.Rule}
+use Rattle.posting_rules.specs.declared.fault.{Fault.Fault, Rule.Rule}
 use Rattle.posting_rules.specs.declared.fault.Fault.TheVariants.{Memory, Store, Down, Damaged}
-use Rattle.posting_rules.specs.declared.fault.Rule.TheVariants.{Meta, Teller, Account, Balance, Request}
-use Rattle.posting_rules.specs.declared.fault.Rule.TheVariants.{Value, Key, Floor, Reference}
-use Rattle.walked_rows.specs.declared.stated.StatedPosting.{StatedPosting}
-use Rattle.walked_rows.specs.{Pairs.Pair, Stored.BreaksStated, Stored.stated_pair}
-use Rattle.report_lines.specs.{Lines.text_of, StatementText.posting_line, StatementText.posting_lines}
-use Rattle.report_lines.specs.Written.{AppendsPart}
-use Rattle.report_lines.proofs.Joined.{text_of-snoc}
-use Rattle.report_lines.proofs.Written.{same_all, same_part, then_part}
+use Rattle.posting_rules.specs.declared.fault.Rule.TheVariants.{Meta, Teller, Account, Balance, Request, Value, Key}
+use Rattle.posting_rules.specs.declared.fault.Rule.TheVariants.{Floor, Reference}
+use Rattle.walked_rows.specs.{declared.stated.StatedPosting.StatedPosting, Pairs.Pair}
+use Rattle.walked_rows.specs.Stored.{BreaksStated, stated_pair}
+use Rattle.report_lines.specs.{Lines.text_of, Written.AppendsPart}
+use Rattle.report_lines.specs.StatementText.{posting_line, posting_lines}
+use Rattle.report_lines.proofs.{Joined.text_of-snoc, Written.same_all, Written.same_part, Written.then_part}
 use Rattle.bank_store.specs.Walking.{Steps}
 use Rattle.bank_reports.specs.declared.fault.ReportFault.{ReportFault}
 use Rattle.bank_reports.specs.declared.fault.ReportFault.TheVariants.{NoAccount, Write, Bank}

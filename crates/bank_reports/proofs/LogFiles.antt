@@ -1,10 +1,9 @@
 -- The file of a bank that shows a log.
-use Rattle.std.proofs.Common.{◌≡◌, ◌<◌, ◌∙◌, ℕ, pos, true, false, List, [], ◌∷◌, map}
-use Rattle.std.proofs.Common.{Less, int_cmp, refl, sym, ap, subst, inl, inr, arith}
-use Rattle.std.specs.Prelude.{nat_eq, IsTrue}
-use Rattle.std.specs.List.{AllByRecursion, Contains, IsDistinct}
-use Rattle.std.proofs.{lemmas.Bool.cases_Bool, lemmas.Bool.eqb-true, lemmas.Int.ints}
-use Rattle.std.proofs.{lemmas.List.Elements.All-contains_itself, lemmas.List.Elements.recursion_from_All}
+use Rattle.std.proofs.Common.{◌≡◌, ◌<◌, ◌∙◌, ℕ, pos, true, false, List, [], ◌∷◌, map, Less, int_cmp, refl, sym, ap}
+use Rattle.std.proofs.Common.{subst, inl, inr, arith}
+use Rattle.std.specs.{Prelude.nat_eq, Prelude.IsTrue, List.AllByRecursion, List.Contains, List.IsDistinct}
+use Rattle.std.proofs.lemmas.{Bool.cases_Bool, Bool.eqb-true, Int.ints}
+use Rattle.std.proofs.lemmas.List.Elements.{All-contains_itself, recursion_from_All}
 use Rattle.sqlite.specs.Effect.{Database}
 use Rattle.posting_rules.specs.{Commands.Command, Commands.AreCommands, Damage.IsUndamaged, Laws.IsConsistent}
 use Rattle.posting_rules.specs.Tables.{Tables, AreTablesOf, history_key, request_key}
@@ -19,8 +18,8 @@ use Rattle.walked_rows.specs.Stored.{IsNoAccount, IsNoBranch, IsNoPosting, IsNoR
 use Rattle.walked_rows.proofs.Shown.{has_accounts, has_branches, has_history, has_requests, has_tellers}
 use Rattle.report_lines.specs.Audit.{audit_of, is_sound, posting_ordinal, request_ordinal}
 use Rattle.report_lines.specs.Consistency.{HasOrdinals}
-use Rattle.report_lines.specs.Stored.{StoredTables, account_stored, branch_stored, posting_stored}
-use Rattle.report_lines.specs.Stored.{request_stored, stored, teller_stored}
+use Rattle.report_lines.specs.Stored.{StoredTables, account_stored, branch_stored, posting_stored, request_stored}
+use Rattle.report_lines.specs.Stored.{stored, teller_stored}
 use Rattle.report_lines.proofs.OfTables.{tells_of_tables}
 use Rattle.bank_reports.specs.Files.{HasBroken, HasBrokenRow, HasFile, rows_in}
 use Rattle.bank_reports.proofs.{Passed.split_map, StatementReports.all_behind, StatementReports.outside_none}

@@ -4,14 +4,13 @@ use Rattle.std.proofs.Common.{Option, Some, Result, Ok, Err, refl, ap, ◌∙◌
 use Rattle.std.specs.Prelude.{nat_abs, if◌then◌else◌}
 use Rattle.std.specs.List.{AllByRecursion}
 use Rattle.std.proofs.lemmas.Bool.{eqb-true}
-use Rattle.message_records.specs.declared.{limits.TheConstants.MAX_BALANCE, fault.Bad.Bad}
+use Rattle.message_records.specs.{declared.limits.TheConstants.MAX_BALANCE, declared.fault.Bad.Bad}
 use Rattle.message_records.specs.{Records.RequestFields, Reading.request_of}
 use Rattle.posting_rules.specs.declared.{rows.HistoryRow.HistoryRow, judgments.Verdict.Verdict}
 use Rattle.posting_rules.specs.declared.judgments.Verdict.TheVariants.{Unkept, Again, Refused, Posted}
 use Rattle.posting_rules.specs.Commands.{Command, Open, Post, opened, Terms}
-use Rattle.posting_rules.specs.Cases.{case_of}
-use Rattle.posting_rules.specs.Entries.{DecidedRequest, is_posted, facts, account_balance, with_verdict, with_record}
-use Rattle.posting_rules.specs.Entries.{decided}
+use Rattle.posting_rules.specs.{Cases.case_of, Entries.DecidedRequest, Entries.is_posted, Entries.facts}
+use Rattle.posting_rules.specs.{Entries.account_balance, Entries.with_verdict, Entries.with_record, Entries.decided}
 use Rattle.posting_rules.specs.Tables.{row_at, history_key, history_row, history_row_of}
 use Rattle.posting_rules.proofs.BalanceLimits.{stays_within}
 use Rattle.bank_reports.proofs.RisingRows.{Rising, all-append, all_as, find_behind, find_before, not_under}

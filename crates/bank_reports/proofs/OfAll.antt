@@ -5,13 +5,12 @@ use Rattle.std.specs.Prelude.{◌≡◌, IfErr, IfOk}
 use Rattle.std.proofs.lemmas.Result.{IfOk-weaker}
 use Rattle.sqlite.specs.{Effect.Database, Held.Held}
 use Rattle.sqlite_trees.specs.declared.store.Store.{Ghosts}
-use Rattle.posting_rules.specs.declared.{fault.Fault.Fault, fault.Rule.Rule}
+use Rattle.posting_rules.specs.declared.fault.{Fault.Fault, Rule.Rule}
 use Rattle.report_lines.specs.Beside.{AuditRows}
-use Rattle.bank_store.specs.Seen.{connection_of, database_of}
+use Rattle.bank_store.specs.{Seen.connection_of, Seen.database_of, declared.bank.Bank.Bank, declared.walks.Walk.Walk}
 use Rattle.bank_store.specs.Walking.{BeginsWalk, items_to_come, lent}
-use Rattle.bank_store.specs.declared.{bank.Bank.Bank, walks.Walk.Walk}
-use Rattle.bank_reports.specs.{Adding.AddsToSums, Failures.HasFailedToRead, Failures.SaysOf, Files.HasBroken}
-use Rattle.bank_reports.specs.declared.sums.Sums.{Sums}
+use Rattle.bank_reports.specs.{Adding.AddsToSums, Files.HasBroken, declared.sums.Sums.Sums}
+use Rattle.bank_reports.specs.Failures.{HasFailedToRead, SaysOf}
 
 -- the bank as it was before, and the walk that it was lent to
 module _ {S R X : Type 0} {g : Ghosts S} {key : X → ℤ} {item : R → X} {is_given : Option ℕ → X → Bool}

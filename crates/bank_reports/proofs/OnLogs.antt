@@ -1,25 +1,23 @@
 -- The statement of an account of a bank that shows a log.
-use Rattle.std.proofs.Common.{◌≡◌, ◌==◌, ◌&&◌, ◌<◌, ◌≤◌, ◌+◌, ◌++◌, ℕ, Bool, true, false, cond, List, []}
-use Rattle.std.proofs.Common.{◌∷◌, length, map, filter, Option, Some, None, Less, int_cmp, refl, sym, ap, ◌∙◌}
-use Rattle.std.proofs.Common.{append_assoc, append-nil, inl, inr, arith}
+use Rattle.std.proofs.Common.{◌≡◌, ◌==◌, ◌&&◌, ◌<◌, ◌≤◌, ◌+◌, ◌++◌, ℕ, Bool, true, false, cond, List, [], ◌∷◌, length}
+use Rattle.std.proofs.Common.{map, filter, Option, Some, None, Less, int_cmp, refl, sym, ap, ◌∙◌, append_assoc}
+use Rattle.std.proofs.Common.{append-nil, inl, inr, arith}
 use Rattle.std.specs.Prelude.{ℤ, pos, ◌+ℤ◌, option_map}
 use Rattle.std.specs.{List.AllByRecursion, Ordering.int_eq}
-use Rattle.std.proofs.lemmas.Bool.{cases_Bool, eq-eqb, eqb-true}
-use Rattle.std.proofs.{lemmas.Int.ints, lemmas.List.map-append, lemmas.List.Elements.filter-append}
-use Rattle.std.proofs.Math.IntN.{+ℤ_assoc}
+use Rattle.std.proofs.{lemmas.Bool.cases_Bool, lemmas.Bool.eq-eqb, lemmas.Bool.eqb-true, lemmas.Int.ints}
+use Rattle.std.proofs.{lemmas.List.map-append, lemmas.List.Elements.filter-append, Math.IntN.+ℤ_assoc}
 use Rattle.sqlite.specs.Effect.{Database}
-use Rattle.posting_rules.specs.declared.{rows.HistoryRow.HistoryRow, rows.ReferenceRow.ReferenceRow}
+use Rattle.posting_rules.specs.declared.rows.{HistoryRow.HistoryRow, ReferenceRow.ReferenceRow}
 use Rattle.posting_rules.specs.Commands.{Command}
 use Rattle.posting_rules.specs.Entries.{DecidedRequest, is_posted, decided, account_balance}
-use Rattle.posting_rules.specs.Tables.{Tables, AreTablesOf, history_key, history_row_of, reference_key}
-use Rattle.posting_rules.specs.Tables.{reference_row, reference_row_of, row_at}
+use Rattle.posting_rules.specs.Tables.{Tables, AreTablesOf, history_key, history_row_of, reference_key, reference_row}
+use Rattle.posting_rules.specs.Tables.{reference_row_of, row_at}
 use Rattle.sql_meanings.specs.Entries.{Rise, Entry as Stored}
 use Rattle.sql_meanings.proofs.Contents.{held}
 use Rattle.store_rows.specs.BankTables.{bank_tables, history as history_table, reference as reference_table}
 use Rattle.store_rows.specs.View.{contents, history_entry, reference_entry, Shows}
-use Rattle.walked_rows.specs.declared.stated.StatedPosting.{StatedPosting}
-use Rattle.walked_rows.specs.Pairs.{HasPairs, Pair, paired, row_under}
-use Rattle.walked_rows.specs.References.{text_behind, text_entry}
+use Rattle.walked_rows.specs.{declared.stated.StatedPosting.StatedPosting, Pairs.HasPairs, Pairs.Pair, Pairs.paired}
+use Rattle.walked_rows.specs.{Pairs.row_under, References.text_behind, References.text_entry}
 use Rattle.walked_rows.specs.Stored.{is_of, is_stated_of, posting_entry, stated_pair}
 use Rattle.walked_rows.proofs.{Joining.paired_filter, Shown.has_history, Shown.has_references}
 use Rattle.report_lines.specs.Lines.{text_of}
@@ -27,10 +25,9 @@ use Rattle.report_lines.specs.StatementText.{heading_line, names_line, posting_l
 use Rattle.report_lines.proofs.Joined.{text_of-append}
 use Rattle.bank_reports.specs.Behind.{is_posted_to, lines_to, postings_to, stated_of, statement_behind}
 use Rattle.bank_reports.specs.Postings.{delta_of, sum_of, text_so_far}
-use Rattle.bank_reports.proofs.Read.{posting_back, posting_in, under}
+use Rattle.bank_reports.proofs.{Read.posting_back, Read.posting_in, Read.under, Lined.lines_are}
 use Rattle.bank_reports.proofs.RisingRows.{Rising, all-append, all_as, rising_once}
 use Rattle.bank_reports.proofs.LogHistory.{postings_of, postings_rise, postings_under}
-use Rattle.bank_reports.proofs.Lined.{lines_are}
 
 -- ---- the history of a file
 

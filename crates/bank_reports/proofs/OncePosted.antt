@@ -1,13 +1,10 @@
 -- No two requests of a log's tables share teller and number.
-use Rattle.std.proofs.Common.{◌≡◌, ◌==◌, ◌+◌, ◌&&◌, ℕ, true, false, List, [], ◌∷◌}
-use Rattle.std.proofs.Common.{length, map, Some, None, refl, sym, ap, ◌∙◌, inl, inr, arith}
-use Rattle.std.specs.Prelude.{nat_eq}
-use Rattle.std.specs.List.{AllByRecursion, AllPairs, IsDistinct}
-use Rattle.std.proofs.lemmas.Bool.{cases_Bool, eqb-true, eq-eqb}
-use Rattle.std.proofs.{lemmas.List.Elements.All-from_recursion, lemmas.List.Kept.AllPairs-cons}
-use Rattle.std.proofs.{lemmas.Map.Keys.IsDistinct-head, lemmas.Map.Keys.IsDistinct-tail}
-use Rattle.posting_rules.specs.declared.rows.RequestRow.{RequestRow}
-use Rattle.posting_rules.specs.Commands.{Command}
+use Rattle.std.proofs.Common.{◌≡◌, ◌==◌, ◌+◌, ◌&&◌, ℕ, true, false, List, [], ◌∷◌, length, map, Some, None, refl, sym}
+use Rattle.std.proofs.Common.{ap, ◌∙◌, inl, inr, arith}
+use Rattle.std.specs.{Prelude.nat_eq, List.AllByRecursion, List.AllPairs, List.IsDistinct}
+use Rattle.std.proofs.lemmas.{Bool.cases_Bool, Bool.eqb-true, Bool.eq-eqb, List.Elements.All-from_recursion}
+use Rattle.std.proofs.lemmas.{List.Kept.AllPairs-cons, Map.Keys.IsDistinct-head, Map.Keys.IsDistinct-tail}
+use Rattle.posting_rules.specs.{declared.rows.RequestRow.RequestRow, Commands.Command}
 use Rattle.posting_rules.specs.Entries.{DecidedRequest, decided, kept}
 use Rattle.posting_rules.specs.Tables.{Tables, AreTablesOf, request_key, request_row, request_row_of, row_at}
 use Rattle.posting_rules.proofs.{Requests.AreNew, Requests.are_new, Totals.each_under_its_key}

@@ -1,13 +1,11 @@
 -- Passes over the tables of a file, one after another.
-use Rattle.std.proofs.Common.{◌≡◌, ◌++◌, ◌⊎◌, Bool, List, [], ◌∷◌, map, find, Result}
-use Rattle.std.proofs.Common.{Ok, Err, refl, sym, ap, subst, inl, inr, arith}
+use Rattle.std.proofs.Common.{◌≡◌, ◌++◌, ◌⊎◌, Bool, List, [], ◌∷◌, map, find, Result, Ok, Err, refl, sym, ap, subst}
+use Rattle.std.proofs.Common.{inl, inr, arith}
 use Rattle.std.specs.Prelude.{IsSomeAnd, OnOk}
 use Rattle.std.proofs.lemmas.Bool.{cases_Bool}
-use Rattle.sqlite.specs.{Effect.Database, State.State, State.HasCleanDisk}
-use Rattle.posting_rules.specs.declared.fault.Fault.{Fault}
+use Rattle.sqlite.specs.{Effect.Database, State.State, State.HasCleanDisk, Held.Held, Held.state}
+use Rattle.posting_rules.specs.declared.fault.{Fault.Fault, Rule.Rule}
 use Rattle.posting_rules.specs.declared.fault.Fault.TheVariants as told
-use Rattle.posting_rules.specs.declared.fault.Rule.{Rule}
-use Rattle.sqlite.specs.Held.{Held, state}
 use Rattle.sqlite_trees.specs.declared.store.Store.{Ghosts}
 use Rattle.sql_meanings.specs.Entries.{Entry}
 use Rattle.bank_transactions.specs.Causes.{IsBefore}

@@ -1,9 +1,9 @@
 -- The stored tables that were read of a file, each request and each posting beside the other of its ordinal.
-use Rattle.std.proofs.Common.{◌≡◌, ℕ, List, [], ◌∷◌, ◌==◌, map, Option, Some, None, refl}
-use Rattle.std.proofs.Common.{sym, ap, subst, ◌∙◌, inl, inr, arith}
+use Rattle.std.proofs.Common.{◌≡◌, ℕ, List, [], ◌∷◌, ◌==◌, map, Option, Some, None, refl, sym, ap, subst, ◌∙◌, inl}
+use Rattle.std.proofs.Common.{inr, arith}
 use Rattle.std.specs.Prelude.{ℤ, pos, nat_abs, option_map}
 use Rattle.std.specs.{List.AllByRecursion, Ordering.int_eq}
-use Rattle.std.proofs.{lemmas.Bool.cases_Bool, lemmas.Int.ints}
+use Rattle.std.proofs.lemmas.{Bool.cases_Bool, Int.ints}
 use Rattle.posting_rules.specs.Tables.{row_at}
 use Rattle.sql_meanings.specs.Entries.{Entry, has_key}
 use Rattle.walked_rows.specs.declared.{accounts.StoredAccount.StoredAccount, branches.StoredBranch.StoredBranch}
@@ -14,8 +14,7 @@ use Rattle.walked_rows.specs.Stored.{account_entry, asked_pair, branch_entry, nu
 use Rattle.walked_rows.specs.Stored.{posting_entry, request_entry, teller_entry}
 use Rattle.report_lines.specs.{Added.HasBeside, Beside.rows_of, Stored.StoredTables}
 use Rattle.report_lines.specs.Audit.{posting_ordinal, posting_under, request_ordinal, request_under}
-use Rattle.bank_reports.specs.declared.sums.Sums.{Sums}
-use Rattle.bank_reports.specs.{Adding.HasSums, Adding.both, Files.FileRows, Files.rows_in}
+use Rattle.bank_reports.specs.{declared.sums.Sums.Sums, Adding.HasSums, Adding.both, Files.FileRows, Files.rows_in}
 use Rattle.bank_reports.proofs.RisingRows.{all_as}
 
 -- ---- the row that a file's row is

@@ -1,13 +1,12 @@
 -- How a report ends: never in two ways, and what the refusal that ended it says.
 use Rattle.std.proofs.Common.{◌≡◌, ℕ, zero, suc, List, [], take, Ok, Err, Result, refl, subst}
 use Rattle.std.specs.Prelude.{OnErr, OnOk}
-use Rattle.posting_rules.specs.declared.{fault.Fault.Fault, fault.Rule.Rule}
+use Rattle.posting_rules.specs.declared.fault.Fault.{Fault}
+use Rattle.posting_rules.specs.{declared.fault.Rule.Rule, Commands.Command, Runs.behind, Tables.AreTablesOf}
 use Rattle.posting_rules.specs.declared.fault.Fault.TheVariants.{Memory, Store, Down, Damaged}
-use Rattle.posting_rules.specs.{Commands.Command, Runs.behind, Tables.AreTablesOf}
 use Rattle.posting_rules.specs.Counter.{Seen, ShowsLog, StandsAt, Refuses, LeavesNoMore, LeavesOnly}
-use Rattle.bank_reports.specs.declared.fault.ReportFault.{ReportFault}
+use Rattle.bank_reports.specs.{declared.fault.ReportFault.ReportFault, Postings.HasAnswered, Postings.HasWritten}
 use Rattle.bank_reports.specs.declared.fault.ReportFault.TheVariants.{NoAccount, Write, Bank}
-use Rattle.bank_reports.specs.Postings.{HasAnswered, HasWritten}
 
 pub of_ok : {E P : Type 0} (r : Result (Unit {0}) E) → (r ≡ Ok tt → P) → OnOk r P
 of_ok (Ok x) f = f refl

@@ -2,8 +2,7 @@
 use Rattle.std.proofs.Common.{◌≡◌, ◌++◌, ℕ, List, [], ◌∷◌, Option, Ok, Err, refl, sym, ap, ◌∙◌, append-nil}
 use Rattle.std.specs.{Prelude.ℤ, Prelude.pos, Io.KnownBytes.Appends}
 use Rattle.std.proofs.KnownBytes.{Appends-trans}
-use Rattle.walked_rows.specs.declared.stated.StatedPosting.{StatedPosting}
-use Rattle.walked_rows.specs.Pairs.{Pair}
+use Rattle.walked_rows.specs.{declared.stated.StatedPosting.StatedPosting, Pairs.Pair}
 use Rattle.report_lines.specs.{Lines.text_of, Written.AppendsPart}
 use Rattle.report_lines.specs.StatementText.{heading_line, names_line, posting_lines, closing_line}
 use Rattle.report_lines.proofs.Joined.{text_of-append}

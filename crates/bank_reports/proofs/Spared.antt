@@ -6,9 +6,8 @@ use Rattle.sqlite_trees.specs.declared.store.Store.{Ghosts}
 use Rattle.sql_meanings.proofs.Sparing.{spares_itself}
 use Rattle.store_rows.specs.Sparing.{SparesOthers, bank_names}
 use Rattle.bank_transactions.specs.Doing.{LeavesOthers}
-use Rattle.bank_store.specs.{Seen.connection_of, Sparing.SparesOtherTables, Sparing.SparesWhileOpen}
-use Rattle.bank_store.specs.Walks.{IsUntouchedIfOpen}
-use Rattle.bank_store.specs.declared.bank.Bank.{Bank}
+use Rattle.bank_store.specs.{Seen.connection_of, Walks.IsUntouchedIfOpen, declared.bank.Bank.Bank}
+use Rattle.bank_store.specs.Sparing.{SparesOtherTables, SparesWhileOpen}
 
 -- nothing was read
 pub idle_spares : {S : Type 0} (g : Ghosts S) (conn : Held S) → SparesWhileOpen g conn conn

@@ -3,24 +3,23 @@ use Rattle.std.proofs.Common.{◌≡◌, ◌<◌, ◌≤◌, ◌+◌, ◌++◌, 
 use Rattle.std.proofs.Common.{Option, Some, None, Result, Ok, Err, refl, sym, ap, subst, ◌∙◌, inl, inr, arith}
 use Rattle.std.specs.Prelude.{ℤ, pos, ◌+ℤ◌, ◌-◌, ◌^◌, nat_abs, option_map, IfSome, IsSomeAnd}
 use Rattle.std.specs.{List.AllByRecursion, Io.KnownBytes.Appends}
-use Rattle.std.proofs.{lemmas.Int.ints, lemmas.List.length-append}
+use Rattle.std.proofs.lemmas.{Int.ints, List.length-append}
 use Rattle.message_records.proofs.References.{reference_again}
 use Rattle.message_records.specs.Records.{IsReference, reference_from}
 use Rattle.message_records.specs.declared.limits.TheConstants.{MAX_BALANCE, MAX_MOMENT}
-use Rattle.posting_rules.specs.declared.{limits.TheConstants.MAX_DECIDED, fault.Rule.Rule}
-use Rattle.posting_rules.specs.declared.fault.Fault.TheVariants.{Damaged}
+use Rattle.posting_rules.specs.declared.limits.TheConstants.{MAX_DECIDED}
+use Rattle.posting_rules.specs.declared.fault.{Rule.Rule, Fault.TheVariants.Damaged}
 use Rattle.posting_rules.specs.Commands.{Command, AreCommands, is_account_open, opened}
 use Rattle.posting_rules.specs.Entries.{DecidedRequest, decided, account_balance, balance_behind}
 use Rattle.posting_rules.proofs.SoundEntries.{AreSound, are_sound, few_enough}
 use Rattle.walked_rows.specs.{Pairs.Pair, Reading.IsOutside, References.BreaksReference, References.text_entry}
-use Rattle.walked_rows.specs.{Stored.BreaksStated, Stored.stated_pair}
-use Rattle.walked_rows.specs.declared.stated.StatedPosting.{StatedPosting}
+use Rattle.walked_rows.specs.{Stored.BreaksStated, Stored.stated_pair, declared.stated.StatedPosting.StatedPosting}
 use Rattle.report_lines.specs.Written.{AppendsPart}
 use Rattle.report_lines.proofs.Written.{first_part, same_all, same_part}
 use Rattle.bank_reports.specs.declared.fault.ReportFault.{ReportFault, TheVariants.Bank}
 use Rattle.bank_reports.specs.Behind.{is_posted_to, postings_to, stated_of, statement_behind}
-use Rattle.bank_reports.specs.Postings.{StopsAtBalance, StopsAtRow, WhyDamaged, WritesStatement, delta_of}
-use Rattle.bank_reports.specs.Postings.{sum_of, text_so_far}
+use Rattle.bank_reports.specs.Postings.{StopsAtBalance, StopsAtRow, WhyDamaged, WritesStatement, delta_of, sum_of}
+use Rattle.bank_reports.specs.Postings.{text_so_far}
 use Rattle.bank_reports.proofs.{LogHistory.each_within, RisingRows.all-append}
 use Rattle.bank_reports.proofs.Lined.{AllRunWithin, few_postings, never_beyond, runs_within}
 use Rattle.bank_reports.proofs.OnLogs.{beginning, one_entry, text_begins, text_ends}

@@ -2,13 +2,12 @@
 use Rattle.std.proofs.Common.{rules, ◌≡◌, Bool, Result, Ok, Err, false, true, refl, sym, ap, subst, ◌∙◌}
 use Rattle.std.specs.Prelude.{◌↔◌, IsSome, IsTrue}
 use Rattle.sqlite.specs.{State.HasCleanDisk, Held.state}
-use Rattle.posting_rules.specs.Laws.{IsConsistent}
-use Rattle.posting_rules.specs.declared.fault.Fault.{Fault}
+use Rattle.posting_rules.specs.{Laws.IsConsistent, declared.fault.Fault.Fault}
 use Rattle.posting_rules.specs.declared.fault.Fault.TheVariants.{Damaged, Down, Memory, Store}
 use Rattle.posting_rules.specs.declared.fault.Rule.{Rule as Broken}
 use Rattle.posting_rules.proofs.Undamaged.{undamaged}
 use Rattle.report_lines.specs.{Audit.audit_of, Audit.is_sound, Beside.rows_of, Consistency.IsSoundFile}
-use Rattle.report_lines.specs.{Stored.StoredTables, Stored.stored}
+use Rattle.report_lines.specs.Stored.{StoredTables, stored}
 use Rattle.report_lines.proofs.{OfRows.rows_tell, Telling.tells}
 use Rattle.bank_store.specs.Seen.{bank_seen, database_of}
 use Rattle.bank_reports.specs.Files.{HasFile, rows_in}

@@ -1,8 +1,7 @@
 -- The rows that the walk gave were added.
 use Rattle.std.proofs.Common.{◌≡◌}
 use Rattle.sqlite.specs.{State.HasCleanDisk, State.Survives, Held.state}
-use Rattle.bank_store.specs.Walks.{IsStill}
-use Rattle.bank_store.specs.Walking.{ComesFrom, HasToldFault, items_to_come}
+use Rattle.bank_store.specs.{Walks.IsStill, Walking.ComesFrom, Walking.HasToldFault, Walking.items_to_come}
 use Rattle.bank_reports.proofs.AddedRows.{IsAlong, IsGathered}
 use Rattle.bank_reports.proofs.gathered.add_rows.Given as goal
 

@@ -1,18 +1,16 @@
 -- The statement of an account of a bank that shows a log.
-use Rattle.std.proofs.Common.{rules, ◌≡◌, ◌∙◌, Bool, List, [], filter, Some, Err, false, true, refl}
-use Rattle.std.proofs.Common.{sym, ap, subst, inl, inr, arith}
+use Rattle.std.proofs.Common.{rules, ◌≡◌, ◌∙◌, Bool, List, [], filter, Some, Err, false, true, refl, sym, ap, subst}
+use Rattle.std.proofs.Common.{inl, inr, arith}
 use Rattle.std.specs.Prelude.{IsSome}
 use Rattle.sqlite.specs.{State.HasCleanDisk, Held.state}
-use Rattle.posting_rules.specs.declared.fault.Fault.TheVariants.{Down}
-use Rattle.posting_rules.specs.{Commands.Command, Counter.ShowsLog}
+use Rattle.posting_rules.specs.{declared.fault.Fault.TheVariants.Down, Commands.Command, Counter.ShowsLog}
 use Rattle.store_rows.specs.BankTables.{history as history_table, reference as reference_table}
 use Rattle.walked_rows.specs.{Pairs.HasPairs, Pairs.Pair, Stored.is_stated_of}
-use Rattle.bank_store.specs.Down.{OfDamage, WasBroken, bank_reason}
-use Rattle.bank_store.specs.Seen.{bank_seen, database_of}
-use Rattle.bank_reports.specs.declared.fault.ReportFault.TheVariants.{Bank}
-use Rattle.bank_reports.specs.{Behind.statement_behind, Postings.StatesRows}
-use Rattle.bank_reports.proofs.{FaultsTold.down_is_sound, FaultsTold.unstated, Further.nothing_written}
-use Rattle.bank_reports.proofs.{Passed.failed_later, statement.write_statement.Given.Over}
+use Rattle.bank_store.specs.{Down.OfDamage, Down.WasBroken, Down.bank_reason, Seen.bank_seen, Seen.database_of}
+use Rattle.bank_reports.specs.{declared.fault.ReportFault.TheVariants.Bank, Behind.statement_behind}
+use Rattle.bank_reports.specs.{Postings.StatesRows}
+use Rattle.bank_reports.proofs.FaultsTold.{down_is_sound, unstated}
+use Rattle.bank_reports.proofs.{Further.nothing_written, Passed.failed_later, statement.write_statement.Given.Over}
 use Rattle.bank_reports.proofs.OnLogs.{account_rows, has_stated, stated_rows}
 use Rattle.bank_reports.proofs.ReportEnds.{damaged_not_down, down_not_store, not_both, not_missing, not_write, of_err}
 use Rattle.bank_reports.proofs.ReportEnds.{of_ok, refused_before, refused_down, refused_leaves, refused_sound}
