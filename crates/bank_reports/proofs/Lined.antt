@@ -7,17 +7,10 @@ use Rattle.message_records.specs.declared.limits.TheConstants.{MAX_BALANCE}
 use Rattle.posting_rules.specs.{Entries.DecidedRequest, Entries.account_balance, Laws.total}
 use Rattle.walked_rows.specs.declared.stated.StatedPosting.{StatedPosting}
 use Rattle.report_lines.specs.StatementText.{posting_line, posting_lines}
+use Rattle.report_lines.proofs.OneMore.{total-snoc}
 use Rattle.bank_reports.specs.Behind.{is_posted_to, lines_to, postings_to, stated_of}
 use Rattle.bank_reports.specs.Postings.{delta_of, sum_of}
 use Rattle.bank_reports.proofs.LogHistory.{EachWithin}
-
-total-append : (xs ys : List ℤ) → total (xs ++ ys) ≡ total xs +ℤ total ys
-total-append [] ys = omega (arith, ints)
-total-append (x ∷ xs) ys = ap (λ (z : ℤ). x +ℤ z) (total-append xs ys)
-    ∙ sym (+ℤ_assoc x (total xs) (total ys))
-
-total-snoc : (xs : List ℤ) (z : ℤ) → total (xs ++ z ∷ []) ≡ total xs +ℤ z
-total-snoc xs z = total-append xs (z ∷ []) ∙ ap (λ (y : ℤ). total xs +ℤ y) (omega (arith, ints))
 
 pub sum_of-snoc : (rs : List StatedPosting) (r : StatedPosting) → sum_of (rs ++ r ∷ []) ≡ sum_of rs
     +ℤ delta_of r
