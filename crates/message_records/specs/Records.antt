@@ -50,25 +50,11 @@ pub record IsRequest (r : RequestFields) : Type 0 where
 
 -- the request without its reference, as its reply shows it
 abbrev pub unreferenced : RequestFields → RequestFields
-unreferenced r = record {
-  account = r.account;
-  teller = r.teller;
-  branch = r.branch;
-  number = r.number;
-  delta = r.delta;
-  reference = None;
-}
+unreferenced r = record r { reference = None }
 
 -- and with this one
 abbrev pub referenced : List ℕ → RequestFields → RequestFields
-referenced text r = record {
-  account = r.account;
-  teller = r.teller;
-  branch = r.branch;
-  number = r.number;
-  delta = r.delta;
-  reference = Some text;
-}
+referenced text r = record r { reference = Some text }
 
 -- the request of these fields, where the amount is within its limit
 abbrev pub request_from : ℕ → ℕ → ℕ → ℕ → ℤ → Option (List ℕ) → Option RequestFields

@@ -76,12 +76,7 @@ abbrev pub refused_entry : ℕ → RequestFields → Outcome → DecidedRequest
 refused_entry moment r outcome = record { moment = moment; request = r; outcome = outcome; balance = pos 0 }
 
 abbrev pub posted_entry : ℕ → RequestFields → ℤ → DecidedRequest
-posted_entry moment r balance = record {
-  moment = moment;
-  request = r;
-  outcome = outcome.Posted;
-  balance = balance;
-}
+posted_entry moment r balance = record (refused_entry moment r outcome.Posted) { balance = balance }
 
 -- the decided requests, with this one where it is decided now
 abbrev pub with_verdict : ℕ → RequestFields → Verdict → List DecidedRequest → List DecidedRequest

@@ -1,40 +1,31 @@
 -- STRICT tables of a key, whole numbers and texts.
-use Rattle.sql_meanings.specs.Names.{ℕ, true, false, List, [], Some, map, Binary, Table, Null, Column}
+use Rattle.sql_meanings.specs.Names.{ℕ, Bool, true, false, List, [], Some, map, Binary, Table, Null, Column}
+use Rattle.sqlite.specs.Kind.{Kind}
 use Rattle.sqlite.specs.Kind.TheVariants.{Integer, Text}
 use Rattle.std.specs.Prelude.{◌∷◌, ◌++◌}
 
--- the column of an INTEGER PRIMARY KEY
-abbrev pub key_column : List ℕ → Column
-key_column name = record {
+-- the column of a STRICT table that holds values of a kind, NOT NULL or not
+abbrev pub strict_column : Kind → Bool → List ℕ → Column
+strict_column kind not_null name = record {
   name = name;
-  kind = Integer;
+  kind = kind;
   is_strict = true;
-  not_null = false;
+  not_null = not_null;
   default = Null;
   collation = Binary;
 }
+
+-- the column of an INTEGER PRIMARY KEY
+abbrev pub key_column : List ℕ → Column
+key_column = strict_column Integer false
 
 -- the column of an INTEGER NOT NULL
 abbrev pub number_column : List ℕ → Column
-number_column name = record {
-  name = name;
-  kind = Integer;
-  is_strict = true;
-  not_null = true;
-  default = Null;
-  collation = Binary;
-}
+number_column = strict_column Integer true
 
 -- the column of a TEXT NOT NULL
 abbrev pub text_column : List ℕ → Column
-text_column name = record {
-  name = name;
-  kind = Text;
-  is_strict = true;
-  not_null = true;
-  default = Null;
-  collation = Binary;
-}
+text_column = strict_column Text true
 
 -- the table of this name and key, with columns of numbers and of texts behind them, and no other rule; its tree
 -- is chosen as it is made
