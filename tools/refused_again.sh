@@ -24,7 +24,7 @@ below() {
         cp -a "$here/crates/$crate" crates/
     done
 }
-own=(bank_reports report_lines bank_store branch_loader counter_http load_driver message_records posting_core)
+own=(bank_reports report_contents bank_store branch_loader counter_http load_driver message_records posting_core)
 : >crates.txt
 below "${own[@]}"
 echo "refused_again: ${own[*]} sqlite sqlite_disk" >>crates.txt

@@ -1,6 +1,7 @@
 -- How a command ends over a connection, and what is said of it whatever bank is there.
 use Rattle.std.specs.Prelude.{⊤}
-use Rattle.std.proofs.Common.{◌≡◌, ◌≢◌, ◌⊎◌, ◌∙◌, ◌≤◌, ap, inl, inr, refl, subst, sym, ℕ, List, Option, Result, Ok, Err}
+use Rattle.std.proofs.Common.{◌≡◌, ◌≢◌, ◌⊎◌, ◌∙◌, ◌≤◌, ap, inl, inr, refl, subst, sym, ℕ, List, Option, Result, Ok}
+use Rattle.std.proofs.Common.{Err}
 use Rattle.std.proofs.Common.{Bool, false, true, Some, None, OnErr, OnOk, IsErrOf, length, take}
 use Rattle.std.specs.Prelude.{IfErr, IfOk, IsErrAnd, if◌then◌else◌}
 use Rattle.std.specs.Io.KnownBytes.{Appends, Keeps}
@@ -19,7 +20,7 @@ use Rattle.posting_core.specs.declared.stream.StreamFault.TheVariants as stream
 use Rattle.branch_loader.specs.declared.loader.Loaded.{Loaded}
 use Rattle.posting_sheets.specs.declared.fault.RepliesFault.{RepliesFault}
 use Rattle.posting_sheets.specs.declared.fault.SheetFault.{SheetFault}
-use Rattle.report_lines.specs.declared.audit.Audit.{Audit}
+use Rattle.report_contents.specs.declared.audit.Audit.{Audit}
 use Rattle.bank_reports.specs.declared.fault.ReportFault.{ReportFault}
 use Rattle.bank_reports.specs.declared.fault.ReportFault.TheVariants as report
 use Rattle.bank_replays.specs.declared.chain.Digest.{Digest}

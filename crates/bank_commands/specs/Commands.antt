@@ -8,14 +8,14 @@ use Rattle.sqlite.specs.Held.{Held}
 use Rattle.sqlite_trees.specs.declared.store.Store.{Ghosts}
 use Rattle.posting_rules.specs.declared.fault.Fault.{Fault}
 use Rattle.posting_rules.specs.declared.fault.Fault.TheVariants.{Memory}
-use Rattle.posting_core.specs.Stream.{IfBank, IsRefusedBehind, OutputsReplies, Resends, StreamFaultIsOfItsEnd}
+use Rattle.posting_core.specs.Stream.{IfBank, IsRefusedAfterBatches, OutputsReplies, Resends, StreamFaultIsOfItsEnd}
 use Rattle.posting_core.specs.Stream.{StreamsAsRead, SurvivesStream}
 use Rattle.posting_core.specs.Told.{Beside, EndsWith, HasWriteFailed, IsFlush, ReadTold, WriteTold}
 use Rattle.posting_core.specs.declared.stream.StreamFault.{StreamFault}
 use Rattle.branch_loader.specs.declared.loader.Loaded.{Loaded}
 use Rattle.load_driver.specs.declared.drive.Driven.{Driven}
-use Rattle.report_lines.specs.Written.{AppendsPart}
-use Rattle.report_lines.specs.declared.audit.Audit.{Audit}
+use Rattle.report_contents.specs.Written.{AppendsPart}
+use Rattle.report_contents.specs.declared.audit.Audit.{Audit}
 use Rattle.bank_store.specs.Down.{bank_reason}
 use Rattle.bank_store.specs.Seen.{bank_seen, fault_of}
 use Rattle.bank_store.specs.declared.bank.Bank.{Bank}
@@ -41,7 +41,7 @@ use Rattle.bank_commands.specs.Over.{FindsOver, IsMadeOver, IsMigratedOver, IsUn
 
 -- ---- a bank is made, or carried over
 
--- the line was printed; or a beginning of it, where it couldn't be written
+-- the line was printed; or a prefix of it, where it couldn't be written
 abbrev pub TellsLine : (w w' : Option (List ℕ)) → List ℕ → Result Status CommandFault → Type 0
 TellsLine w w' line (Ok status) = (status ≡ Done) × Appends w w' line
 TellsLine w w' line (Err fault) = (fault ≡ faults.Write) × AppendsPart w w' line
@@ -87,7 +87,7 @@ pub record PostsTo {S : Type 0} (g : Ghosts S) (r r' : Option (List ℕ)) (q q' 
   pub survives : SurvivesStream r r' w w' (bank_seen g old) (bank_seen g new)
   pub resend : Resends r r' w w' (bank_seen g old) (bank_seen g new) streamed
   pub refused : IfErr streamed
-      (λ fault. IfBank fault (IsRefusedBehind (bank_seen g) (bank_reason g) old new r r'))
+      (λ fault. IfBank fault (IsRefusedAfterBatches (bank_seen g) (bank_reason g) old new r r'))
   pub ends : StreamFaultIsOfItsEnd streamed q q' t t'
 
 abbrev pub Posts : {S : Type 0} (g : Ghosts S) → (conn back : Held S) → (r r' : Option (List ℕ))

@@ -23,7 +23,7 @@ use Rattle.bank_store.specs.declared.refused.Refused.{Refused}
 use Rattle.command_line.specs.Faults.{fault_of_opening}
 use Rattle.command_line.specs.declared.fault.CommandFault.{CommandFault}
 
--- ---- a bank is had, and what a stop may leave of the connection
+-- ---- a bank is had, and what a crash may leave of the connection
 
 -- the one that is there
 pub record IsFoundOver {S : Type 0} (g : Ghosts S) (conn : Held S) (bank : Bank S g) : Type 0 where
@@ -41,7 +41,7 @@ pub record IsMigratedOver {S : Type 0} (g : Ghosts S) (conn : Held S) (migrated 
   pub is : IsMigrated g conn (bank, migrated)
   pub survives : Survives (state g conn) (file_of bank) (HasCarriedOver (state g conn))
 
--- ---- none is had: why, what the connection shows that comes back, and what a stop may leave of it
+-- ---- none is had: why, what the connection shows that comes back, and what a crash may leave of it
 
 -- none is there
 pub record IsMissedOver {S : Type 0} (g : Ghosts S) (conn : Held S) (refused : Refused S) : Type 0 where

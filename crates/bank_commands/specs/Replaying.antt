@@ -16,10 +16,10 @@ use Rattle.walked_rows.specs.Rows.{HasStoredRows}
 use Rattle.bank_store.specs.Leaving.{StandsWhileOpen, TakesNone}
 use Rattle.bank_store.specs.Seen.{bank_seen, database_of, fault_of}
 use Rattle.bank_store.specs.declared.bank.Bank.{Bank}
-use Rattle.bank_replays.specs.Digests.{DigestsFirst, DigestsRows, IsDigestIn, IsDigestOf, answered_behind}
+use Rattle.bank_replays.specs.Digests.{DigestsFirst, DigestsRows, IsDigestIn, IsDigestOf, answered_after}
 use Rattle.bank_replays.specs.FileTables.{FileTables, HasTables}
 use Rattle.bank_replays.specs.Replays.{HasAnswered, OnAgrees}
-use Rattle.bank_replays.specs.Writing.{LeavesWriter, WritesText, plan_text, records_behind, records_of}
+use Rattle.bank_replays.specs.Writing.{LeavesWriter, WritesText, plan_text, records_after, records_of}
 use Rattle.bank_replays.specs.declared.chain.Digest.{Digest}
 use Rattle.bank_replays.specs.declared.difference.Replay.{Replay}
 use Rattle.bank_replays.specs.declared.difference.Replay.TheVariants.{Agrees, Differs}
@@ -69,7 +69,7 @@ pub record ReplaysBank {S : Type 0} (g : Ghosts S) (found : Result Replay Fault)
   pub digest : (bank_seen g new).honest → (all : List KeptItem) → HasKept (database_of g old) all
       → OnAgrees found (IsDigestIn all)
   pub log : (bank_seen g new).honest → (log : List Command) → ShowsLog (bank_seen g old) log
-      → OnAgrees found (IsDigestOf (answered_behind log))
+      → OnAgrees found (IsDigestOf (answered_after log))
   pub bank : TakesNone (bank_seen g old) (bank_seen g new) (HasAnswered found)
   pub up : fault_of new ≡ fault_of old
   pub stands : StandsWhileOpen g old new
@@ -94,7 +94,7 @@ pub record DigestsBank {S : Type 0} (g : Ghosts S) (requests : ℕ) (found : Res
   pub rows : (bank_seen g new).honest → (all : List KeptItem) → HasKept (database_of g old) all
       → DigestsRows requests all found
   pub log : (bank_seen g new).honest → (log : List Command) → ShowsLog (bank_seen g old) log
-      → DigestsFirst requests (answered_behind log) found
+      → DigestsFirst requests (answered_after log) found
   pub bank : TakesNone (bank_seen g old) (bank_seen g new) (HasAnswered found)
   pub up : fault_of new ≡ fault_of old
   pub stands : StandsWhileOpen g old new
@@ -118,9 +118,9 @@ ended_by_writing (Err (written.Bank cause)) = Err (fault_of_bank cause)
 pub record ExportsBank {S : Type 0} (g : Ghosts S) (after : ℕ) (w w' : Option (List ℕ))
     (t t' : Option (List WriteTold)) (ends : Result (Unit {0}) ReplayFault) (old new : Bank S g) : Type 0 where
   pub rows : (bank_seen g new).honest → (all : List KeptItem) → HasKept (database_of g old) all
-      → WritesText (records_behind after all) w w' ends
+      → WritesText (records_after after all) w w' ends
   pub log : (bank_seen g new).honest → (log : List Command) → ShowsLog (bank_seen g old) log
-      → WritesText (records_of after (answered_behind log)) w w' ends
+      → WritesText (records_of after (answered_after log)) w w' ends
   pub writer : LeavesWriter t t' ends
   pub bank : TakesNone (bank_seen g old) (bank_seen g new) (HasAnswered ends)
   pub up : fault_of new ≡ fault_of old

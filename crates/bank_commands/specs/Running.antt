@@ -8,8 +8,8 @@ use Rattle.clap.specs.declared.error.kind.ErrorKind.{ErrorKind}
 use Rattle.sqlite.specs.Held.{Held}
 use Rattle.sqlite_trees.specs.declared.store.Store.{Ghosts}
 use Rattle.posting_rules.specs.declared.fault.Fault.{Fault}
-use Rattle.report_lines.specs.Written.{AppendsPart}
-use Rattle.report_lines.specs.declared.audit.Audit.{Audit}
+use Rattle.report_contents.specs.Written.{AppendsPart}
+use Rattle.report_contents.specs.declared.audit.Audit.{Audit}
 use Rattle.bank_store.specs.declared.migration.Migrated.{Migrated}
 use Rattle.bank_replays.specs.declared.chain.Digest.{Digest}
 use Rattle.bank_replays.specs.declared.difference.Replay.{Replay}
@@ -27,7 +27,8 @@ use Rattle.command_line.specs.declared.status.Status.{Status}
 use Rattle.command_line.specs.declared.status.Status.TheVariants.{Done, System}
 use Rattle.bank_commands.specs.Commands.{AuditsOver, DrivesBank, EndsPost, Inits, Loads, Migrates, Posts, Serves}
 use Rattle.bank_commands.specs.Commands.{PrintsDrive, PrintsLoad, PrintsServe, StatesOver, TellsLine, migration_line}
-use Rattle.bank_commands.specs.Replaying.{DigestsOver, ExportsOver, PlansOver, PrintsDigest, PrintsReplay, ReplaysOver}
+use Rattle.bank_commands.specs.Replaying.{DigestsOver, ExportsOver, PlansOver, PrintsDigest, PrintsReplay}
+use Rattle.bank_commands.specs.Replaying.{ReplaysOver}
 
 -- clap takes the words for no command, and not for a call for help either
 pub record AreRefused (words : List Text) : Type 0 where

@@ -2,18 +2,19 @@
 use Rattle.std.proofs.Common.{◌≡◌, ◌≤◌, ◌⊎◌, ℕ, List, [], length, arith, refl, inl, inr}
 use Rattle.std.proofs.Math.Seq.{take-length}
 use Rattle.posting_rules.specs.{declared.fault.Fault.Fault, Commands.Command, Commands.AreCommands, Counter.Seen}
-use Rattle.posting_rules.specs.{Counter.StandsAt, Counter.LeavesOnly, Counter.LeavesNoMore, Counter.ShowsBeginning}
-use Rattle.posting_rules.specs.{Counter.ShowsLog, Counter.Takes, Counter.Refuses, Runs.behind, Tables.AreTablesOf}
+use Rattle.posting_rules.specs.{Counter.StandsAt, Counter.LeavesOnly, Counter.LeavesNoMore, Counter.ShowsPrefix}
+use Rattle.posting_rules.specs.{Counter.ShowsLog, Counter.Takes, Counter.Refuses, Runs.followed_by}
+use Rattle.posting_rules.specs.{Tables.AreTablesOf}
 use Rattle.posting_rules.specs.declared.fault.Fault.TheVariants.{Memory, Store, Down, Damaged}
 use Rattle.posting_rules.proofs.Remaining.{leaves_still, leaves_weaker}
 use Rattle.bank_lives.specs.Lives.{IsCall, EndsLife, given_to}
 
--- what leaves the log with all the commands leaves the longest beginning
+-- what leaves the log with all the commands leaves the longest prefix
 pub all_left : (c : Seen) (log commands : List Command) (least : ℕ) → least ≤ length commands
-    → AreCommands (behind log commands) → LeavesOnly c (λ t. AreTablesOf t (behind log commands))
-    → LeavesOnly c (ShowsBeginning log commands least)
+    → AreCommands (followed_by log commands) → LeavesOnly c (λ t. AreTablesOf t (followed_by log commands))
+    → LeavesOnly c (ShowsPrefix log commands least)
 all_left c log commands least few are left =
-    leaves_weaker c (λ t. AreTablesOf t (behind log commands)) (ShowsBeginning log commands least)
+    leaves_weaker c (λ t. AreTablesOf t (followed_by log commands)) (ShowsPrefix log commands least)
     (λ t shown. record {
       count = length commands;
       holds = few;
@@ -22,14 +23,14 @@ all_left c log commands least few are left =
       shows = rw (take-length commands) shown;
     }) left
 
-pub all_shown : (c : Seen) (log commands : List Command) → StandsAt c (behind log commands)
-    → LeavesOnly c (ShowsBeginning log commands (length commands))
+pub all_shown : (c : Seen) (log commands : List Command) → StandsAt c (followed_by log commands)
+    → LeavesOnly c (ShowsPrefix log commands (length commands))
 all_shown c log commands stands =
     all_left c log commands (length commands) (omega arith) stands.shows.commands stands.survives
 
 -- it stands where all the commands lead
 pub stood_is_call : (old new : Seen) (commands : List Command) → (old.is_down → ⊥) → (new.honest → old.honest)
-    → (new.honest → (log : List Command) → StandsAt old log → StandsAt new (behind log commands))
+    → (new.honest → (log : List Command) → StandsAt old log → StandsAt new (followed_by log commands))
     → IsCall old new commands (length commands)
 stood_is_call old new commands up honest stands = record {
   within = omega arith;

@@ -15,7 +15,7 @@ use Rattle.posting_rules.specs.declared.fault.Rule.TheVariants.{Floor, Reference
 use Rattle.posting_rules.specs.declared.rows.{AccountRow.AccountRow, BranchRow.BranchRow, FloorRow.FloorRow}
 use Rattle.posting_rules.specs.declared.rows.{HistoryRow.HistoryRow, ReferenceRow.ReferenceRow}
 use Rattle.posting_rules.specs.declared.rows.{RequestRow.RequestRow, TellerRow.TellerRow}
-use Rattle.posting_rules.proofs.Stepped.{history_row_past, reference_row_past, request_row_past}
+use Rattle.posting_rules.proofs.TablesWithRecord.{history_row_past, reference_row_past, request_row_past}
 use Rattle.posting_rules.proofs.Undamaged.{undamaged}
 use Rattle.sql_meanings.specs.Entries.{Entry}
 use Rattle.store_rows.specs.Columns.{number_at}

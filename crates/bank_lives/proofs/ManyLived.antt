@@ -1,8 +1,8 @@
 -- What is found after any number of lives.
 use Rattle.std.proofs.Common.{◌≡◌, ◌≤◌, ℕ, List, [], ◌∷◌, ◌++◌, length, take, refl, sym, subst, arith, inl, inr}
 use Rattle.std.proofs.Math.Seq.{take-length}
-use Rattle.posting_rules.specs.{Commands.Command, Entries.decided, Laws.NoneShares, Runs.behind}
-use Rattle.posting_rules.specs.Counter.{Seen, StandsAt, LeavesOnly, ShowsBeginning, ShowsLog}
+use Rattle.posting_rules.specs.{Commands.Command, Entries.decided, Laws.NoneShares, Runs.followed_by}
+use Rattle.posting_rules.specs.Counter.{Seen, StandsAt, LeavesOnly, ShowsPrefix, ShowsLog}
 use Rattle.posting_rules.specs.Tables.{Tables, AreTablesOf}
 use Rattle.posting_rules.proofs.{Remaining.leaves_weaker, Requests.are_new, Requests.none_shares}
 use Rattle.bank_lives.specs.Lives.{EndsLife, Life}
@@ -14,16 +14,16 @@ use Rattle.bank_lives.proofs.Lived.{end_leaves, life_down, life_given, life_hone
 pub each_once : NoneShares
 each_once log = none_shares (decided log) (are_new log)
 
--- the beginning of what was given that is found
+-- the prefix of what was given that is found
 pub record Begins (seen : Seen) (log given : List Command) (least : ℕ) : Type 0 where
   pub count : ℕ
   pub holds : least ≤ count
   pub within : count ≤ length given
-  pub stands : StandsAt seen (behind log (take count given))
+  pub stands : StandsAt seen (followed_by log (take count given))
 
 -- where all of it stands
 begins_whole : (seen : Seen) (log given : List Command) (least : ℕ) → least ≤ length given
-    → StandsAt seen (behind log given) → Begins seen log given least
+    → StandsAt seen (followed_by log given) → Begins seen log given least
 begins_whole seen log given least few stands = record {
   count = length given;
   holds = few;
@@ -31,16 +31,16 @@ begins_whole seen log given least few stands = record {
   stands = rw (take-length given) stands;
 }
 
--- where it was opened on what a stop leaves
+-- where it was opened on what a crash leaves
 pub begins_left : (last first : Seen) (log given : List Command) (least : ℕ) → IsOpenedOn last first
-    → LeavesOnly last (ShowsBeginning log given least) → Begins first log given least
+    → LeavesOnly last (ShowsPrefix log given least) → Begins first log given least
 begins_left last first log given least opened left =
     let it = left opened.remains opened.left in
     record {
       count = it.2.count;
       holds = it.2.holds;
       within = it.2.within;
-      stands = opened.stands it.0 (behind log (take it.2.count given)) it.2.are it.1 it.2.shows;
+      stands = opened.stands it.0 (followed_by log (take it.2.count given)) it.2.are it.1 it.2.shows;
     }
 
 -- what shows a log, and leaves the tables that it shows, stands there
@@ -102,7 +102,7 @@ module _ {M : Type 0} (seen : M → Seen) where
         (end_leaves seen before now last life.commands life.least lived ends clean log stood),
   )
 
-  -- a log that is, life by life, a beginning of what was given
+  -- a log that is, life by life, a prefix of what was given
   pub kept : (start : List Command) (lives : List Given) (first : M) → Lives seen start first lives
       → (seen first).honest → (log : List Command) × Keeps start log lives × StandsAt (seen first) log
   kept start [] first some h = (start, refl, before_life start first [] some h)
@@ -110,9 +110,9 @@ module _ {M : Type 0} (seen : M → Seen) where
       let was = before_life start first (life ∷ lives) some h in
       let it = kept start lives was.0 was.1 was.2 in
       let b = was.3 it.0 it.2 in
-      (behind it.0 (take b.count life.commands), (it.0, it.1, b.count, b.holds, b.within, refl), b.stands)
+      (followed_by it.0 (take b.count life.commands), (it.0, it.1, b.count, b.holds, b.within, refl), b.stands)
 
-  -- at each moment of the last life a stop leaves one with a beginning of this life's
+  -- at each moment of the last life a crash leaves one with a prefix of this life's
   pub left_of : (start : List Command) (lives : List Given) (life : Given) (first now last : M)
       → Lives seen start first lives
       → Life seen first now life.commands life.least → EndsLife (seen now) (seen last) → (seen last).honest
@@ -120,9 +120,9 @@ module _ {M : Type 0} (seen : M → Seen) where
   left_of start lives life first now last some lived ends h =
       let it = kept start lives first some (life_honest seen first now life.commands life.least lived
       (ends.honest h)) in
-      leaves_weaker (seen last) (ShowsBeginning it.0 life.commands life.least) (ShowsKept start (life ∷ lives))
+      leaves_weaker (seen last) (ShowsPrefix it.0 life.commands life.least) (ShowsKept start (life ∷ lives))
       (λ t b. record {
-        log = behind it.0 (take b.count life.commands);
+        log = followed_by it.0 (take b.count life.commands);
         keeps = (it.0, it.1, b.count, b.holds, b.within, refl);
         are = b.are;
         shows = b.shows;

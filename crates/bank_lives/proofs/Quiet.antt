@@ -26,7 +26,7 @@ module _ (old new : State) (quiet : Survives old new (λ _. ⊥)) where
   left_shown D E log clean stood = leaves_still (seen_in old D) (seen_in new E) (λ t. AreTablesOf t log)
       (left_no_more D E clean) stood.survives
 
-  -- whatever it met, a stop leaves what it could leave before
+  -- whatever it met, a crash leaves what it could leave before
   pub ends_quietly : (D E : Type 0) → EndsLife (seen_in old D) (seen_in new E)
   ends_quietly D E = record {
     honest = was_clean;

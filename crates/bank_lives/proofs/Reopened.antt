@@ -1,30 +1,30 @@
--- A connection that was opened on what a stop left.
+-- A connection that was opened on what a crash left.
 use Rattle.std.proofs.Common.{◌≡◌, ◌≤◌, ℕ, List, length, take, Result, Ok, Err, sym, subst, inl, inr}
 use Rattle.std.specs.Prelude.{IfOk, IfErr}
 use Rattle.sqlite.specs.State.{HasCleanDisk, State, Survives, Opens}
 use Rattle.sqlite.specs.{Tree.Trees, Effect.Database, Held.state}
-use Rattle.posting_rules.specs.{Commands.Command, Runs.behind, Tables.Tables, Laws.IsConsistent}
-use Rattle.posting_rules.specs.Counter.{Seen, StandsAt, ShowsBeginning}
+use Rattle.posting_rules.specs.{Commands.Command, Runs.followed_by, Tables.Tables, Laws.IsConsistent}
+use Rattle.posting_rules.specs.Counter.{Seen, StandsAt, ShowsPrefix}
 use Rattle.store_rows.specs.View.{Shows, ShowsTrees}
 use Rattle.sqlite_trees.specs.declared.store.Store.{Ghosts}
 use Rattle.bank_store.specs.Connections.{conn_seen, state_in}
 use Rattle.bank_store.specs.{Seen.seen_in, declared.bank.Bank.Bank, declared.refused.Refused.Refused}
-use Rattle.bank_store.proofs.Opened.{stands_opened}
+use Rattle.bank_store.proofs.JustOpened.{stands_opened}
 use Rattle.posting_rules.proofs.Consistent.{consistent}
 use Rattle.bank_lives.specs.{Lives.IsFoundAgain, ManyLives.Given, ManyLives.IsKept, ManyLives.Keeps}
 use Rattle.bank_lives.proofs.ManyLived.{Begins, each_once}
 
--- one that was opened on trees which show a beginning stands there
+-- one that was opened on trees which show a prefix stands there
 pub begins_opened : (s : State) (log given : List Command) (least : ℕ) → Opens s
     → ((db : Trees) → s.may_leave db → db ≡ s.committed.trees)
     → ((t : Tables) → ShowsTrees s.now.trees t → Shows s.now t)
-    → (t : Tables) × ShowsTrees s.now.trees t × ShowsBeginning log given least t
+    → (t : Tables) × ShowsTrees s.now.trees t × ShowsPrefix log given least t
     → Begins (seen_in s ⊥) log given least
 begins_opened s log given least opens settled finds (t, left, b) = record {
   count = b.count;
   holds = b.holds;
   within = b.within;
-  stands = stands_opened s ⊥ (λ none. none) opens settled t (behind log (take b.count given)) b.are left
+  stands = stands_opened s ⊥ (λ none. none) opens settled t (followed_by log (take b.count given)) b.are left
       (finds t left) b.shows;
 }
 
@@ -35,17 +35,17 @@ sums_at : (seen : Seen) (log : List Command) (stands : StandsAt seen log)
 sums_at seen log stands one other shown = subst (λ (it : Tables). IsConsistent it)
     (sym (one other shown)) (consistent stands.shows.tables log stands.shows.shows)
 
--- a bank that stands at a beginning
+-- a bank that stands at a prefix
 pub found_at : (seen : Seen) (log given : List Command) (least count : ℕ) → least ≤ count
-    → count ≤ length given → (stands : StandsAt seen (behind log (take count given)))
+    → count ≤ length given → (stands : StandsAt seen (followed_by log (take count given)))
     → ((other : Tables) → seen.tables other → other ≡ stands.shows.tables) → IsFoundAgain seen log given least
 found_at seen log given least count holds within stands one = record {
   count = count;
   holds = holds;
   within = within;
   stands = stands;
-  once = each_once (behind log (take count given));
-  sums = sums_at seen (behind log (take count given)) stands one;
+  once = each_once (followed_by log (take count given));
+  sums = sums_at seen (followed_by log (take count given)) stands one;
 }
 
 -- a bank that stands at what the lives before it lead to

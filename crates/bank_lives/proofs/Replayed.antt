@@ -46,7 +46,7 @@ module _ {S : Type 0} (g : Ghosts S) (conn : Held S) (bank last : Bank S g) (log
   lived = goes_on (Of_bank bank) (Of_bank last) [] [] 0 0
       (goes_on (Of_connection conn) (Of_bank bank) [] [] 0 0 begins taken_up) read
 
-  -- where a stop leaves what was opened
+  -- where a crash leaves what was opened
   module _ (settled : (db : Trees) → (state g conn).may_leave db → db ≡ (state g conn).committed.trees) where
     pub begins_replayed : Lives (seen_at g) log (Of_bank last) []
     begins_replayed = replayed (Of_connection conn) (Of_bank last) log

@@ -1,13 +1,14 @@
--- Records that are posted behind others of the same list, from a place on: which of them are new, and what they
+-- Records that are posted after others of the same list, from a place on: which of them are new, and what they
 -- are replied.
 use Rattle.std.proofs.Common.{◌≡◌, ◌≤◌, ℕ, zero, suc, ◌+◌, List, [], ◌∷◌, ◌++◌, length, take, drop, Option, refl, sym}
 use Rattle.std.proofs.Common.{ap, subst, ◌∙◌, arith, append_assoc, append-nil, take_all, take-take, inl, inr}
 use Rattle.message_records.specs.{Reading.request_of, Records.ReplyFields, Spelling.reply_spelling}
 use Rattle.posting_rules.specs.Commands.{Command, Open, Post, Terms, opened}
 use Rattle.posting_rules.specs.Entries.{DecidedRequest, decided, reply, reply_given, with_record}
-use Rattle.posting_rules.specs.{Resends.Place, Resends.Skips, Runs.behind, Runs.posts, Runs.replies_to, Runs.ArePosts}
+use Rattle.posting_rules.specs.{Resends.Place, Resends.Skips, Runs.followed_by, Runs.posts, Runs.replies_to}
+use Rattle.posting_rules.specs.{Runs.ArePosts}
 use Rattle.posting_rules.proofs.Resends.{adds_nothing, posts_both}
-use Rattle.posting_rules.proofs.Sequence.{behind-append, one_reply_each}
+use Rattle.posting_rules.proofs.Sequence.{after-append, one_reply_each}
 use Rattle.posting_core.specs.Stream.{posted_records}
 use Rattle.posting_core.proofs.Timeless.{zeroed, record_zeroed, reply_zeroed}
 
@@ -19,7 +20,7 @@ Openings = ℕ → Option Terms
 
 -- posts open nothing
 opens_nothing : (log cs : List Command) → ArePosts cs
-    → ◌≡◌ {A = Openings} (λ b. opened (behind log cs) b) (λ b. opened log b)
+    → ◌≡◌ {A = Openings} (λ b. opened (followed_by log cs) b) (λ b. opened log b)
 opens_nothing log [] h = refl
 opens_nothing log (Open b n ∷ cs) h = absurd h
 opens_nothing log (Post m r ∷ cs) h = opens_nothing (Post m r ∷ log) cs h
@@ -63,11 +64,11 @@ replies_alike one two (Post m r ∷ cs) (Post n s ∷ ds) eo ed hc hd e =
     ∙ ap (λ (rest : List (List ℕ)). reply_spelling (reply two r) ∷ rest)
     (replies_alike (Post m r ∷ one) (Post n r ∷ two) cs ds eo (decided_alike one two m n r eo ed) hc hd tail))
 
--- posts behind others that decide nothing
-replies_still : (log q r : List Command) → ArePosts q → ArePosts r → decided (behind log q) ≡ decided log
-    → replies_to (behind log q) r ≡ replies_to log r
+-- posts after others that decide nothing
+replies_still : (log q r : List Command) → ArePosts q → ArePosts r → decided (followed_by log q) ≡ decided log
+    → replies_to (followed_by log q) r ≡ replies_to log r
 replies_still log q r hq hr same =
-    replies_alike (behind log q) log r r (opens_nothing log q hq) (ap zeroed same) hr hr refl
+    replies_alike (followed_by log q) log r r (opens_nothing log q hq) (ap zeroed same) hr hr refl
 
 -- ---- posts of a list from a place on
 
@@ -80,7 +81,7 @@ none_skipped p [] h = refl
 none_skipped p (Open b n ∷ r) h = absurd h
 none_skipped p (Post m bytes ∷ r) h = inr (r, refl, none_skipped p r h)
 
--- Posts p of the first records of a list stand at the end of all, behind a front. Posts r of the records from
+-- Posts p of the first records of a list stand at the end of all, after a front. Posts r of the records from
 -- a place on add these, and get the replies of one run.
 pub record IsResend (all front p r : List Command) (place : ℕ) (records : List (List ℕ)) : Type 0 where
   pub added : List Command
@@ -89,37 +90,37 @@ pub record IsResend (all front p r : List Command) (place : ℕ) (records : List
   pub are : posted_records (p ++ added) ≡ take (length (p ++ added)) records
   pub long : place + length r ≤ length (p ++ added)
   pub replies : (log q : List Command) → ArePosts q
-      → decided (behind (behind log all) q) ≡ decided (behind log all)
-      → replies_to (behind (behind log all) q) r
-      ≡ take (length r) (drop place (replies_to (behind log front) (p ++ added)))
+      → decided (followed_by (followed_by log all) q) ≡ decided (followed_by log all)
+      → replies_to (followed_by (followed_by log all) q) r
+      ≡ take (length r) (drop place (replies_to (followed_by log front) (p ++ added)))
 
--- a record that came before gets its reply again, and those behind it get the next ones
+-- a record that came before gets its reply again, and those after it get the next ones
 resent_reply : (log all q front p added r : List Command) (m n : ℕ) (b c : List ℕ) (at : Place c all) → b ≡ c
     → at.before ≡ front → ArePosts all → ArePosts q
-    → decided (behind (behind log all) q) ≡ decided (behind log all)
-    → ((more : List Command) → ArePosts more → decided (behind (behind log all) more) ≡ decided (behind log all)
-    → replies_to (behind (behind log all) more) r
-    ≡ take (length r) (replies_to (behind log (front ++ Post m b ∷ [])) (p ++ added)))
-    → replies_to (behind (behind log all) q) (Post n c ∷ r)
-    ≡ take (suc (length r)) (replies_to (behind log front) (Post m b ∷ p ++ added))
+    → decided (followed_by (followed_by log all) q) ≡ decided (followed_by log all)
+    → ((more : List Command) → ArePosts more → decided (followed_by (followed_by log all) more) ≡ decided (followed_by log all)
+    → replies_to (followed_by (followed_by log all) more) r
+    ≡ take (length r) (replies_to (followed_by log (front ++ Post m b ∷ [])) (p ++ added)))
+    → replies_to (followed_by (followed_by log all) q) (Post n c ∷ r)
+    ≡ take (suc (length r)) (replies_to (followed_by log front) (Post m b ∷ p ++ added))
 resent_reply log all q front p added r m n b c at e is ha hq same next =
     let again = adds_nothing log all q n c at ha hq in
     let more = q ++ Post n c ∷ [] in
-    let on : behind (behind log all) more ≡ Post n c ∷ behind (behind log all) q =
-    behind-append (behind log all) q (Post n c ∷ []) in
-    let still : decided (behind (behind log all) more) ≡ decided (behind log all) =
+    let on : followed_by (followed_by log all) more ≡ Post n c ∷ followed_by (followed_by log all) q =
+    after-append (followed_by log all) q (Post n c ∷ []) in
+    let still : decided (followed_by (followed_by log all) more) ≡ decided (followed_by log all) =
     ap (λ (l : List Command). decided l) on ∙ again.1 ∙ same in
-    let first : reply (behind (behind log all) q) c ≡ reply (behind log front) b =
-    again.0 ∙ ap (λ (l : List Command). reply (behind log l) c) is
-    ∙ ap (λ (y : List ℕ). reply (behind log front) y) (sym e) in
-    let rest : replies_to (Post n c ∷ behind (behind log all) q) r
-    ≡ take (length r) (replies_to (Post m b ∷ behind log front) (p ++ added)) =
+    let first : reply (followed_by (followed_by log all) q) c ≡ reply (followed_by log front) b =
+    again.0 ∙ ap (λ (l : List Command). reply (followed_by log l) c) is
+    ∙ ap (λ (y : List ℕ). reply (followed_by log front) y) (sym e) in
+    let rest : replies_to (Post n c ∷ followed_by (followed_by log all) q) r
+    ≡ take (length r) (replies_to (Post m b ∷ followed_by log front) (p ++ added)) =
     ap (λ (l : List Command). replies_to l r) (sym on)
     ∙ next more (posts_both q (Post n c ∷ []) hq tt) still
     ∙ ap (λ (l : List Command). take (length r) (replies_to l (p ++ added)))
-    (behind-append log front (Post m b ∷ [])) in
-    ap (λ (out : ReplyFields). reply_spelling out ∷ replies_to (Post n c ∷ behind (behind log all) q) r) first
-    ∙ ap (λ (outs : List (List ℕ)). reply_spelling (reply (behind log front) b) ∷ outs) rest
+    (after-append log front (Post m b ∷ [])) in
+    ap (λ (out : ReplyFields). reply_spelling out ∷ replies_to (Post n c ∷ followed_by (followed_by log all) q) r) first
+    ∙ ap (λ (outs : List (List ℕ)). reply_spelling (reply (followed_by log front) b) ∷ outs) rest
 
 one_more : (all front p : List Command) (c : Command) → all ≡ front ++ c ∷ p → all ≡ (front ++ c ∷ []) ++ p
 one_more all front p c e = e ∙ sym (append_assoc front (c ∷ []) p)
@@ -136,11 +137,11 @@ resend all front [] r zero records e ha hp hr le ep er = record {
   are = er;
   long = omega arith;
   replies = λ log q hq same.
-      let behind_front : all ≡ front = e ∙ append-nil front in
-      let each = one_reply_each (behind log front) r hr in
-      replies_still (behind log all) q r hq hr same
-      ∙ ap (λ (x : List Command). replies_to (behind log x) r) behind_front
-      ∙ sym (take_all (length r) (replies_to (behind log front) r) (omega (arith, each)));
+      let after_front : all ≡ front = e ∙ append-nil front in
+      let each = one_reply_each (followed_by log front) r hr in
+      replies_still (followed_by log all) q r hq hr same
+      ∙ ap (λ (x : List Command). replies_to (followed_by log x) r) after_front
+      ∙ sym (take_all (length r) (replies_to (followed_by log front) r) (omega (arith, each)));
 }
 resend all front (Open b n ∷ p) r place records e ha hp hr le ep er = absurd hp
 resend all front (Post m b ∷ p) r place [] e ha hp hr le ep er = absurd (cc)
@@ -158,7 +159,7 @@ resend all front (Post m b ∷ p) r (suc place) (x ∷ records) e ha hp hr le ep
       long = let some = it.long in omega arith;
       replies = λ log q hq same. it.replies log q hq same
           ∙ ap (λ (l : List Command). take (length r) (drop place (replies_to l (p ++ it.added))))
-          (behind-append log front one);
+          (after-append log front one);
     }
 resend all front (Post m b ∷ p) [] zero (x ∷ records) e ha hp hr le ep er = record {
   added = [];

@@ -1,10 +1,10 @@
--- What a sender finds who goes on after a stop.
+-- What a sender finds who goes on after a crash.
 use Rattle.std.proofs.Common.{◌≡◌, ◌≤◌, ℕ, ◌+◌, List, [], ◌∷◌, ◌++◌, length, take, drop, refl, sym, ap, subst, ◌∙◌}
 use Rattle.std.proofs.Common.{arith, take_all, length-append, length-take}
 use Rattle.std.specs.Prelude.{max}
 use Rattle.posting_rules.specs.{Commands.Command, Counter.Seen, Counter.StandsAt, Resends.Skips, Tables.AreTablesOf}
-use Rattle.posting_rules.specs.Runs.{behind, posts, replies_to, ArePosts}
-use Rattle.posting_rules.proofs.{Remaining.leaves_weaker, Sequence.behind-append}
+use Rattle.posting_rules.specs.Runs.{followed_by, posts, replies_to, ArePosts}
+use Rattle.posting_rules.proofs.{Remaining.leaves_weaker, Sequence.after-append}
 use Rattle.posting_rules.proofs.Resends.{posts_both, shows_left_out, shows_log_left_out}
 use Rattle.bank_lives.specs.ManyLives.{Given, Keeps, Lives}
 use Rattle.bank_lives.specs.Sending.{FindsSent, Sends, SendsFrom, begins, goes_on}
@@ -13,13 +13,13 @@ use Rattle.bank_lives.proofs.Resent.{first_posts, first_replies, resend, within_
 
 -- what stands with records that came again stands without them
 stands_once : (seen : Seen) (log p r added : List Command) → ArePosts p → ArePosts r → Skips p r added
-    → StandsAt seen (behind (behind log p) r) → StandsAt seen (behind log (p ++ added))
+    → StandsAt seen (followed_by (followed_by log p) r) → StandsAt seen (followed_by log (p ++ added))
 stands_once seen log p r added hp hr skips stood =
-    subst (λ (l : List Command). StandsAt seen l) (sym (behind-append log p added)) (record {
+    subst (λ (l : List Command). StandsAt seen l) (sym (after-append log p added)) (record {
       shows = shows_log_left_out seen log p r added hp hr skips stood.shows;
       up = stood.up;
-      survives = leaves_weaker seen (λ t. AreTablesOf t (behind (behind log p) r))
-          (λ t. AreTablesOf t (behind (behind log p) added))
+      survives = leaves_weaker seen (λ t. AreTablesOf t (followed_by (followed_by log p) r))
+          (λ t. AreTablesOf t (followed_by (followed_by log p) added))
           (λ t shown. shows_left_out t log p r added hp hr skips shown) stood.survives;
     })
 
@@ -28,7 +28,7 @@ pub record Posted (seen : Seen) (log : List Command) (records : List (List ℕ))
   pub posted : List Command
   pub first : SendsFrom records 0 posted
   pub holds : answered ≤ length posted
-  pub stands : StandsAt seen (behind log posted)
+  pub stands : StandsAt seen (followed_by log posted)
 
 none_posted : (seen : Seen) (log : List Command) (records : List (List ℕ)) → StandsAt seen log
     → Posted seen log records 0
@@ -46,7 +46,7 @@ one_life_more : (was first : Seen) (log : List Command) (records : List (List �
     → Posted first log records (max answered (place + life.least))
 one_life_more was first log records answered place life it le sent on =
     let p = it.posted in
-    let b = on (behind log p) it.stands in
+    let b = on (followed_by log p) it.stands in
     let r = take b.count life.commands in
     let cut = first_posts b.count life.commands (drop place records) sent.posts sent.are in
     let again = resend p [] p r place records refl it.first.posts it.first.posts cut.0
@@ -79,7 +79,7 @@ module _ {M : Type 0} (seen : M → Seen) where
 replies_on : (seen : Seen) (log : List Command) (records : List (List ℕ)) (answered place : ℕ)
     (commands : List Command) (it : Posted seen log records answered) → place ≤ answered
     → SendsFrom records place commands
-    → replies_to (behind log it.posted) commands
+    → replies_to (followed_by log it.posted) commands
     ≡ take (length commands) (drop place (replies_to log (posts 0 records)))
 replies_on seen log records answered place commands it le sent =
     let p = it.posted in
@@ -106,7 +106,7 @@ finds_sent seen start sent before records answered first lives sends h =
         first = its.first;
         holds = its.holds;
         stands = its.stands;
-        once = each_once (behind log its.posted);
+        once = each_once (followed_by log its.posted);
         whole = λ all. its.first.are
             ∙ take_all (length its.posted) records (let some = its.holds in omega arith);
         replies = λ place commands le from.

@@ -6,12 +6,12 @@ use Rattle.std.proofs.lemmas.List.Concat.{flat_map-append}
 use Rattle.std.specs.Prelude.{IfErr}
 use Rattle.posting_rules.specs.{declared.fault.Fault.Fault, Commands.Command, Tables.AreTablesOf}
 use Rattle.posting_rules.specs.declared.fault.Fault.TheVariants.{Memory, Store, Down, Damaged}
-use Rattle.posting_rules.specs.Counter.{Seen, StandsAt, LeavesOnly, ShowsBeginning, ShowsLog, Takes, Refuses}
+use Rattle.posting_rules.specs.Counter.{Seen, StandsAt, LeavesOnly, ShowsPrefix, ShowsLog, Takes, Refuses}
 use Rattle.posting_rules.specs.Counter.{IsSeenUnchanged}
-use Rattle.posting_rules.specs.Runs.{behind, replies_to, ArePosts}
+use Rattle.posting_rules.specs.Runs.{followed_by, replies_to, ArePosts}
 use Rattle.posting_rules.proofs.{Remaining.leaves_still, Sequence.one_reply_each, Sequence.replies_to-append}
 use Rattle.posting_core.specs.Batches.{Batch, joined, posts_in, posts_of}
-use Rattle.posting_core.specs.Stream.{IfBank, IsRefusedBehind, Streamed, acknowledged}
+use Rattle.posting_core.specs.Stream.{IfBank, IsRefusedAfterBatches, Streamed, acknowledged}
 use Rattle.posting_core.specs.declared.stream.StreamFault.{StreamFault}
 use Rattle.posting_core.specs.declared.stream.StreamFault.TheVariants as stream
 use Rattle.posting_core.proofs.Stops.{stop_part}
@@ -28,10 +28,10 @@ use Rattle.bank_lives.proofs.Calls.{still, stood_is_call}
 
 -- ---- in general
 
--- it stands behind what it took
+-- it stands after what it took
 stood_is_stream : (old new : Seen) (taken refused : List Command) → (old.is_down → ⊥)
     → (new.honest → old.honest)
-    → (new.honest → (log : List Command) → StandsAt old log → StandsAt new (behind log taken))
+    → (new.honest → (log : List Command) → StandsAt old log → StandsAt new (followed_by log taken))
     → IsStream old new taken refused
 stood_is_stream old new taken refused up honest stands = record {
   tried = [];
@@ -44,7 +44,7 @@ cut_is_stream : (old new : Seen) (taken refused : List Command) → (old.is_down
     → (new.honest → old.honest)
     → (new.honest → (log : List Command) → StandsAt old log → new.is_down)
     → (new.honest → (log : List Command) → StandsAt old log
-    → LeavesOnly new (ShowsBeginning log (taken ++ refused) (length taken)))
+    → LeavesOnly new (ShowsPrefix log (taken ++ refused) (length taken)))
     → IsStream old new taken refused
 cut_is_stream old new taken refused up honest down survives = record {
   tried = refused;
@@ -76,17 +76,17 @@ refused_is_stream : (fault : Fault) (old stood new : Seen) (taken refused : List
     → (new.honest → old.honest) → (new.honest → stood.honest) → IsStream old new taken refused
 refused_is_stream Memory old stood new taken refused takes refuses up whole honest =
     stood_is_stream old new taken refused up whole
-    (λ h log at. unchanged_stands stood new (behind log taken) refuses (takes.stands (honest h) log at))
+    (λ h log at. unchanged_stands stood new (followed_by log taken) refuses (takes.stands (honest h) log at))
 refused_is_stream Store old stood new taken refused takes refuses up whole honest =
     cut_is_stream old new taken refused up whole (λ h log at. refuses.down)
     (λ h log at. stop_part new log taken refused (taken ++ refused) refl
-    (refuses.survives h (behind log taken) (takes.stands (honest h) log at)))
+    (refuses.survives h (followed_by log taken) (takes.stands (honest h) log at)))
 refused_is_stream Down old stood new taken refused takes refuses up whole honest =
     cut_is_stream old new taken refused up whole (λ h log at. refuses.after)
     (λ h log at. absurd ((takes.stands (honest h) log at).up refuses.before))
 refused_is_stream (Damaged rule) old stood new taken refused takes refuses up whole honest =
     cut_is_stream old new taken refused up whole (λ h log at. refuses.down)
-    (λ h log at. absurd (refuses.never_shown h (behind log taken) (takes.stands (honest h) log at).shows))
+    (λ h log at. absurd (refuses.never_shown h (followed_by log taken) (takes.stands (honest h) log at).shows))
 
 -- it took some, and is as it stood then
 stays_is_stream : {C : Type 0} (seen : C → Seen) (old stood new : C) (taken refused : List Command)
@@ -102,7 +102,7 @@ module _ {C : Type 0} (seen : C → Seen) (reason : Fault → C → C → Type 0
     (r r' w w' k k' : Option (List ℕ)) where
   pub posted_is_stream : (result : Result ℕ StreamFault)
       (did : Streamed r r' w w' k k' (seen old) (seen new) result)
-      → IfErr result (λ fault. IfBank fault (IsRefusedBehind seen reason old new r r'))
+      → IfErr result (λ fault. IfBank fault (IsRefusedAfterBatches seen reason old new r r'))
       → ((seen old).is_down → ⊥)
       → IsStream (seen old) (seen new) (posts_of did.taken) (posts_of did.refused)
   posted_is_stream (Ok count) did refused up =
@@ -173,7 +173,7 @@ acknowledged_is_taken result did log h shows =
     let taken = posts_of did.taken in
     let split = ap (replies_to log) (flat_map-append posts_in did.taken did.refused)
     ∙ replies_to-append log taken (posts_of did.refused) in
-    let few = few_acknowledged (replies_to log taken) (replies_to (behind log taken) (posts_of did.refused))
+    let few = few_acknowledged (replies_to log taken) (replies_to (followed_by log taken) (posts_of did.refused))
     (length did.written) (few_written result did log h shows) in
     rw split (omega (arith, few, one_reply_each log taken (posts_of_are did.taken)))
 

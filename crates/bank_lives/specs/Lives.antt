@@ -3,10 +3,10 @@ use Rattle.std.specs.Prelude.{◌≡◌, ◌≤◌, ◌⊎◌, ℕ, zero, suc, �
 use Rattle.posting_rules.specs.declared.fault.Fault.{Fault}
 use Rattle.posting_rules.specs.declared.fault.Fault.TheVariants.{Memory, Store, Down, Damaged}
 use Rattle.posting_rules.specs.Commands.{Command}
-use Rattle.posting_rules.specs.Counter.{Seen, StandsAt, LeavesOnly, LeavesNoMore, ShowsBeginning}
+use Rattle.posting_rules.specs.Counter.{Seen, StandsAt, LeavesOnly, LeavesNoMore, ShowsPrefix}
 use Rattle.posting_rules.specs.Entries.{decided}
 use Rattle.posting_rules.specs.Laws.{Differ, IsConsistent}
-use Rattle.posting_rules.specs.Runs.{behind}
+use Rattle.posting_rules.specs.Runs.{followed_by}
 use Rattle.posting_rules.specs.Tables.{Tables, AreTablesOf}
 
 -- ---- one call
@@ -15,13 +15,13 @@ use Rattle.posting_rules.specs.Tables.{Tables, AreTablesOf}
 pub record IsCall (old new : Seen) (commands : List Command) (acknowledged : ℕ) : Type 0 where
   pub within : acknowledged ≤ length commands
   pub honest : new.honest → old.honest
-  -- a stop may leave a beginning of the commands that holds all that were acknowledged
+  -- a crash may leave a prefix of the commands that holds all that were acknowledged
   pub survives : new.honest → (log : List Command) → StandsAt old log
-      → LeavesOnly new (ShowsBeginning log commands acknowledged)
+      → LeavesOnly new (ShowsPrefix log commands acknowledged)
   -- it took them all, or it went down
   pub stands : new.honest → (log : List Command) → StandsAt old log
-      → StandsAt new (behind log commands) ⊎ new.is_down
-  -- where it was down it acknowledged none, it is down, and a stop leaves no more than it left
+      → StandsAt new (followed_by log commands) ⊎ new.is_down
+  -- where it was down it acknowledged none, it is down, and a crash leaves no more than it left
   pub down : old.is_down → new.is_down × (acknowledged ≡ 0) × LeavesNoMore old new
 
 -- a counter that was out of memory, or down, was given nothing
@@ -40,13 +40,13 @@ pub record IsStream (old new : Seen) (taken refused : List Command) : Type 0 whe
 
 -- ---- a life
 
--- how many commands a beginning has that holds all that were acknowledged, with those of one call more
+-- how many commands a prefix has that holds all that were acknowledged, with those of one call more
 abbrev pub reached : ℕ → List Command → ℕ → ℕ
 reached least given zero = least
 reached least given (suc n) = length given + suc n
 
 -- Calls one after another: the counter as they began and as it is now, the commands that they were given, and
--- how many of these the least beginning has that holds all that were acknowledged.
+-- how many of these the least prefix has that holds all that were acknowledged.
 pub data Life {C : Type 0} (seen : C → Seen) (first : C) : C → List Command → ℕ → Type 0 where
   begins : Life seen first first [] 0
   goes_on : (now next : C) (given commands : List Command) (least acknowledged : ℕ)
@@ -54,22 +54,22 @@ pub data Life {C : Type 0} (seen : C → Seen) (first : C) : C → List Command 
       → Life seen first next (given ++ commands) (reached least given acknowledged)
 
 -- What a life ends with: nothing at all, or a walk, a report or a reopening that failed. It was given nothing,
--- and all that is known of it is what a stop leaves.
+-- and all that is known of it is what a crash leaves.
 pub record EndsLife (now last : Seen) : Type 0 where
   pub honest : last.honest → now.honest
   pub survives : last.honest → (log : List Command) → StandsAt now log
       → LeavesOnly last (λ t. AreTablesOf t log)
   pub down : last.honest → now.is_down → LeavesNoMore now last
 
--- ---- after a stop
+-- ---- after a crash
 
--- It shows the log that the life began with and a beginning of the commands that were given in it, which
--- holds every one that was acknowledged, and so does whatever a stop leaves of it. Each request is posted
+-- It shows the log that the life began with and a prefix of the commands that were given in it, which
+-- holds every one that was acknowledged, and so does whatever a crash leaves of it. Each request is posted
 -- once, and accounts, tellers, branches and the deltas of history have one sum (TPC-B clause 2).
 pub record IsFoundAgain (seen : Seen) (log given : List Command) (least : ℕ) : Type 0 where
   pub count : ℕ
   pub holds : least ≤ count
   pub within : count ≤ length given
-  pub stands : StandsAt seen (behind log (take count given))
-  pub once : AllPairs Differ (decided (behind log (take count given)))
+  pub stands : StandsAt seen (followed_by log (take count given))
+  pub once : AllPairs Differ (decided (followed_by log (take count given)))
   pub sums : (t : Tables) → seen.tables t → IsConsistent t

@@ -5,23 +5,23 @@ use Rattle.posting_rules.specs.Counter.{LeavesOnly, Seen, ShowsLog, StandsAt}
 use Rattle.posting_rules.specs.Editions.{plain}
 use Rattle.posting_rules.specs.Entries.{decided}
 use Rattle.posting_rules.specs.Laws.{Differ, IsConsistent}
-use Rattle.posting_rules.specs.Runs.{behind}
+use Rattle.posting_rules.specs.Runs.{followed_by}
 use Rattle.posting_rules.specs.Tables.{Tables, AreTablesOf}
 use Rattle.bank_lives.specs.Lives.{Life, EndsLife}
 
--- what one life was given, and how many of it the least beginning has that holds all that were acknowledged
+-- what one life was given, and how many of it the least prefix has that holds all that were acknowledged
 pub record Given : Type 0 where
   pub commands : List Command
   pub least : ℕ
 
--- it was opened on something that a stop leaves, and stands at whatever log that shows
+-- it was opened on something that a crash leaves, and stands at whatever log that shows
 pub record IsOpenedOn (last first : Seen) : Type 0 where
   pub remains : last.Remains
   pub left : last.left remains
   pub stands : (t : Tables) (log : List Command) → AreCommands log → last.found remains t → AreTablesOf t log
       → StandsAt first log
 
--- all that a stop may leave has the tables that it shows, as of a connection that was just opened
+-- all that a crash may leave has the tables that it shows, as of a connection that was just opened
 abbrev pub LeavesShown : Seen → Type 0
 LeavesShown seen = (t : Tables) → seen.tables t → LeavesOnly seen (λ left. left ≡ t)
 
@@ -53,20 +53,20 @@ pub data Lives {M : Type 0} (seen : M → Seen) : List Command → M → List Gi
   released : (start : List Command) (before first : M) (life : Given) (lives : List Given)
       → Lives seen start before lives → Life seen before first life.commands life.least
       → ((seen first).is_down → ⊥) → Lives seen start first (life ∷ lives)
-  -- it was stopped, on a disk that returns what was written, and this one was opened on what the stop left
+  -- it was stopped, on a disk that returns what was written, and this one was opened on what the crash left
   stopped : (start : List Command) (before now last first : M) (life : Given) (lives : List Given)
       → Lives seen start before lives → Life seen before now life.commands life.least
       → EndsLife (seen now) (seen last) → (seen last).honest → IsOpenedOn (seen last) (seen first)
       → Lives seen start first (life ∷ lives)
 
--- the log is that at which the first life began and then, life by life, a beginning of what was given that holds
+-- the log is that at which the first life began and then, life by life, a prefix of what was given that holds
 -- all that was acknowledged
 abbrev pub Keeps : List Command → List Command → List Given → Type 0
 Keeps start log [] = log ≡ start
 Keeps start log (life ∷ lives) = (before : List Command) × Keeps start before lives × (count : ℕ)
-    × (life.least ≤ count) × (count ≤ length life.commands) × (log ≡ behind before (take count life.commands))
+    × (life.least ≤ count) × (count ≤ length life.commands) × (log ≡ followed_by before (take count life.commands))
 
--- It shows such a log, and so does whatever a stop leaves of it. Each request is posted once, and accounts,
+-- It shows such a log, and so does whatever a crash leaves of it. Each request is posted once, and accounts,
 -- tellers, branches and the deltas of history have one sum (TPC-B clause 2).
 pub record IsKept (seen : Seen) (start : List Command) (lives : List Given) : Type 0 where
   pub log : List Command

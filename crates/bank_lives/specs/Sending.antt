@@ -1,10 +1,10 @@
--- A sender of records, who goes on after a stop.
+-- A sender of records, who goes on after a crash.
 use Rattle.std.specs.Prelude.{◌≡◌, ◌≤◌, ℕ, ◌+◌, List, [], ◌∷◌, length, take, drop, max, AllPairs}
 use Rattle.posting_rules.specs.Commands.{Command}
 use Rattle.posting_rules.specs.Counter.{Seen, StandsAt}
 use Rattle.posting_rules.specs.Entries.{decided}
 use Rattle.posting_rules.specs.Laws.{Differ}
-use Rattle.posting_rules.specs.Runs.{behind, posts, replies_to, ArePosts}
+use Rattle.posting_rules.specs.Runs.{followed_by, posts, replies_to, ArePosts}
 use Rattle.posting_core.specs.Stream.{posted_records}
 use Rattle.bank_lives.specs.ManyLives.{Given}
 
@@ -21,16 +21,16 @@ pub data Sends (records : List (List ℕ)) : List Given → ℕ → Type 0 where
       → place ≤ answered → SendsFrom records place life.commands
       → Sends records (life ∷ lives) (max answered (place + life.least))
 
--- It shows the log and then posts of a beginning of the list, each record once, which holds all that were
--- answered; and so does whatever a stop leaves of it.
+-- It shows the log and then posts of a prefix of the list, each record once, which holds all that were
+-- answered; and so does whatever a crash leaves of it.
 pub record FindsSent (seen : Seen) (log : List Command) (records : List (List ℕ)) (answered : ℕ) : Type 0 where
   pub posted : List Command
   pub first : SendsFrom records 0 posted
   pub holds : answered ≤ length posted
-  pub stands : StandsAt seen (behind log posted)
-  pub once : AllPairs Differ (decided (behind log posted))
+  pub stands : StandsAt seen (followed_by log posted)
+  pub once : AllPairs Differ (decided (followed_by log posted))
   pub whole : length records ≤ answered → posted_records posted ≡ records
   -- whoever goes on gets the replies that he would have got
   pub replies : (place : ℕ) (commands : List Command) → place ≤ answered → SendsFrom records place commands
-      → replies_to (behind log posted) commands
+      → replies_to (followed_by log posted) commands
       ≡ take (length commands) (drop place (replies_to log (posts 0 records)))

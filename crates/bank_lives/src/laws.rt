@@ -4,7 +4,7 @@ ghost use Rattle.std.specs.Prelude.{◌≡◌, ◌≤◌, ℕ, List, length};
 ghost use Rattle.posting_rules.specs.declared.fault.Fault.{Fault as Told};
 ghost use Rattle.posting_rules.specs.declared.fault.Fault.TheVariants.{Down};
 ghost use Rattle.posting_rules.specs.Commands.{Command, AreCommands};
-ghost use Rattle.posting_rules.specs.Counter.{Takes, Refuses, StandsAt, LeavesOnly, ShowsBeginning};
+ghost use Rattle.posting_rules.specs.Counter.{Takes, Refuses, StandsAt, LeavesOnly, ShowsPrefix};
 ghost use Rattle.posting_rules.specs.Tables.{Tables, AreTablesOf};
 ghost use Rattle.posting_rules.specs.declared.fault.Rule.{Rule};
 ghost use Rattle.store_rows.specs.Rules.{KeepsRule, stored_rows};
@@ -25,8 +25,8 @@ pub fn calls_law<C: Counter>(_counter: &C)
         → IsCall (C.seen old) (C.seen new) (given_to fault commands) 0 }
 {}
 
-/// At every moment of a life, everything that a stop may leave shows the log that the life began with and a
-/// beginning of the commands that were given, which holds every one that was acknowledged (TPC-B,
+/// At every moment of a life, everything that a crash may leave shows the log that the life began with and a
+/// prefix of the commands that were given, which holds every one that was acknowledged (TPC-B,
 /// durability). What was acknowledged was given.
 pub fn life_law<C: Counter>(counter: &C)
     ensures given { (first : _) (given : List Command) (least : ℕ) → Life C.seen first counter.now given least
@@ -34,12 +34,12 @@ pub fn life_law<C: Counter>(counter: &C)
     ensures survives { (first : _) (log given : List Command) (least : ℕ)
         → Life C.seen first counter.now given least
         → StandsAt (C.seen first) log → (C.seen counter.now).honest
-        → LeavesOnly (C.seen counter.now) (ShowsBeginning log given least) }
-    // And a stop leaves something, so that there are such tables.
+        → LeavesOnly (C.seen counter.now) (ShowsPrefix log given least) }
+    // And a crash leaves something, so that there are such tables.
     ensures something { (first : _) (log given : List Command) (least : ℕ)
         → Life C.seen first counter.now given least
         → StandsAt (C.seen first) log → (C.seen counter.now).honest
-        → ∥ ((tables : Tables) × ShowsBeginning log given least tables) ∥₁ }
+        → ∥ ((tables : Tables) × ShowsPrefix log given least tables) ∥₁ }
 {}
 
 /// The tables of every log of a bank's commands keep each of the nine rules of `Rule`, so that a file which

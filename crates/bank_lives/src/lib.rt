@@ -1,8 +1,8 @@
-//! What is found of a bank after a stop, for any number of stops: every acknowledged command, each request
+//! What is found of a bank after a crash, for any number of stops: every acknowledged command, each request
 //! posted once, and books that agree (TPC-B clause 2).
 //!
 //! A life is the calls, streams and reports of a counter between two stops, and begins with the connection
-//! that was opened on what the stop before it left. [`lives_law`] is the law of any number of lives. A program
+//! that was opened on what the crash before it left. [`lives_law`] is the law of any number of lives. A program
 //! that was stopped has no old bank at hand when it runs again, and calls `bank_store::adopt`. [`reopen`] does
 //! at run time what `adopt` does; its contract names the bank that was stopped, and says what the new one has
 //! of it, so that a proof can follow a bank through its stops. The connection comes from `open` of
@@ -17,7 +17,7 @@
 //! use sqlite::{Alter, Connection};
 //! use std::alloc::Global;
 //!
-//! // `conn` was opened on what a stop left of the files of `stopped`.
+//! // `conn` was opened on what a crash left of the files of `stopped`.
 //! pub fn next_life<S: Alter + Drop, T: Alter + Drop>(
 //!     alloc: Global,
 //!     stopped: &Bank<S>,
@@ -34,7 +34,7 @@
 //!
 //! Read next: `specs/Lives`, with a call of a life, a life, its end, and what is found after it;
 //! `specs/ManyLives`, with lives one after another; then [`lives_law`], and [`sender_law`] for a sender who goes
-//! on after a stop. The other laws say which steps there are: the calls of a counter ([`calls_law`]), walks and
+//! on after a crash. The other laws say which steps there are: the calls of a counter ([`calls_law`]), walks and
 //! reports ([`walks_law`], [`reports_law`]), streams ([`streams_law`]), what joins two lives
 //! ([`reopenings_law`]), and how they begin with a file of anyone's that was replayed ([`replayed_law`]).
 #![tactic(auto)]

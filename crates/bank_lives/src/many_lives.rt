@@ -15,7 +15,7 @@ ghost use Rattle.bank_lives.specs.Sending.{FindsSent, Sends};
 use bank_store::{Bank, opened_law};
 use sqlite::{Alter, Connection};
 
-/// What joins one life to the next: a connection that was opened on what a stop left, of a bank or of a
+/// What joins one life to the next: a connection that was opened on what a crash left, of a bank or of a
 /// connection that was refused before, and what `adopt` and `release` of `bank_store` say of it. A bank that is
 /// taken up is a call that is given nothing; a refused one ends the life of its connection.
 pub fn reopenings_law<S: Alter>(conn: &Connection<S>)
@@ -46,13 +46,13 @@ pub fn replayed_law<S: Alter>(conn: &Connection<S>)
         → (bank_seen S.Store last).honest → StandsAt (bank_seen S.Store last) log }
 {}
 
-/// **After any number of lives the bank shows a log that is, life by life, a beginning of what was given, which
+/// **After any number of lives the bank shows a log that is, life by life, a prefix of what was given, which
 /// holds all that was acknowledged. Each request is posted once, every branch has the sum of its tellers, and
 /// accounts, tellers and the deltas of history have one sum** (TPC-B clause 2). A bank that was made begins with
 /// no command, one that was carried over from an earlier version with the plain log of its file, one that
 /// [`reopen`](crate::reopen) found over the files of another store with the log at which it stands (`on`), and one
 /// of anyone's, of which a replay said that it agrees, with the log that its tables show ([`replayed_law`]). Each
-/// life is a run of calls, streams and reports, and ends with a release or with a stop at any store call; a
+/// life is a run of calls, streams and reports, and ends with a release or with a crash at any store call; a
 /// reopening that was refused, or files that couldn't be opened, are a life that was given nothing.
 pub fn lives_law<S: Alter>(_bank: &Bank<S>)
     ensures found { (start : List Command) (first : Moment S.Store) (lives : List Given)
@@ -71,7 +71,7 @@ pub fn lives_law<S: Alter>(_bank: &Bank<S>)
 {}
 
 /// A sender who goes on, after any number of stops, from his first record that wasn't answered, or from a place
-/// before it, gets the replies that he would have got. The tables are those of a beginning of his list that
+/// before it, gets the replies that he would have got. The tables are those of a prefix of his list that
 /// holds every answered record, each posting once, and at last of his whole list, moments aside.
 pub fn sender_law<S: Alter>(_bank: &Bank<S>)
     ensures { (start : List Command) (first : Moment S.Store) (sent before : List Given)

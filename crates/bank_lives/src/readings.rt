@@ -14,7 +14,7 @@ use posting_rules::Counter;
 use sqlite::Alter;
 
 /// A report that was made at a counter which was up (`audit`, `write_statement`), by what its contract says of
-/// a stop. One that was answered takes no commands, and is a call by `calls_law`.
+/// a crash. One that was answered takes no commands, and is a call by `calls_law`.
 pub fn reports_law<C: Counter>(_counter: &C)
     // It stands where it stood, as it does while its store is open, or a fault brought it down.
     ensures told { (old new : _) → ((C.seen old).is_down → ⊥) → ((C.seen new).honest → (C.seen old).honest)

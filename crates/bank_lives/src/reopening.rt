@@ -1,10 +1,10 @@
-//! Taking up a bank after a stop.
+//! Taking up a bank after a crash.
 ghost use Rattle.std.specs.Prelude.{◌≡◌, ◌∷◌, ℕ, List, IfOk, IfErr, false};
 ghost use Rattle.sqlite.specs.Held.{state};
 ghost use Rattle.sqlite.specs.State.{HasCleanDisk, Opens};
 ghost use Rattle.sqlite.specs.Tree.{Trees};
 ghost use Rattle.posting_rules.specs.Commands.{Command};
-ghost use Rattle.posting_rules.specs.Counter.{LeavesOnly, ShowsBeginning, StandsAt};
+ghost use Rattle.posting_rules.specs.Counter.{LeavesOnly, ShowsPrefix, StandsAt};
 ghost use Rattle.bank_store.specs.Connections.{conn_seen};
 ghost use Rattle.bank_store.specs.Seen.{bank_seen};
 ghost use Rattle.bank_store.specs.StoreFaults.{KnowsCause};
@@ -17,10 +17,10 @@ use sqlite::{Alter, Connection};
 use std::alloc::Global;
 use store_rows::trees_show_law;
 
-/// Takes up the bank over a connection that was opened on what a stop left of another bank.
+/// Takes up the bank over a connection that was opened on what a crash left of another bank.
 ///
-/// `stopped` is that bank at the moment of the stop, after whatever calls it was given. The bank that is
-/// found shows the log that the life began with and a beginning of the commands that were given, which holds
+/// `stopped` is that bank at the moment of the crash, after whatever calls it was given. The bank that is
+/// found shows the log that the life began with and a prefix of the commands that were given, which holds
 /// every one that was acknowledged. Each request is posted once, and every branch has the sum of its tellers
 /// (TPC-B clause 2). So it is after any number of lives (`kept`): the bank that is found is the first of the
 /// next life. All this is said of disks that return what was written, as long as nobody else writes the files.
@@ -28,7 +28,7 @@ use store_rows::trees_show_law;
 /// # Errors
 ///
 /// On such disks only [`OpenFault::Store`](bank_store::OpenFault::Store): a call of `sqlite` failed. The
-/// connection comes back outside a transaction, and a stop leaves of it what was left of the bank (`again`), so
+/// connection comes back outside a transaction, and a crash leaves of it what was left of the bank (`again`), so
 /// that the bank can be taken up again over a new one, after any number of such faults.
 pub fn reopen<S: Alter + Drop, T: Alter>(
     alloc: Global,
@@ -62,7 +62,7 @@ pub fn reopen<S: Alter + Drop, T: Alter>(
         → (bank_seen S.Store stopped.now).left (state T.Store conn).now.trees
         → (first : _) (log given : List Command) (least : ℕ) → StandsAt (bank_seen S.Store first) log
         → Life (λ bank. bank_seen S.Store bank) first stopped.now given least
-        → LeavesOnly (conn_seen T.Store refused.conn) (ShowsBeginning log given least)) }
+        → LeavesOnly (conn_seen T.Store refused.conn) (ShowsPrefix log given least)) }
     ensures again { IfErr result (λ refused. HasCleanDisk (state T.Store refused.conn)
         → Opens (state T.Store conn)
         → (bank_seen S.Store stopped.now).left (state T.Store conn).now.trees

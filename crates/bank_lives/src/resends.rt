@@ -3,7 +3,7 @@ ghost use Rattle.std.specs.Prelude.{◌≡◌, ℕ, [], List, get_or, length};
 ghost use Rattle.posting_rules.specs.Commands.{Command};
 ghost use Rattle.posting_rules.specs.Counter.{ShowMore, ShowsLog};
 ghost use Rattle.posting_rules.specs.Resends.{Place, Skips};
-ghost use Rattle.posting_rules.specs.Runs.{behind, replies_to, ArePosts};
+ghost use Rattle.posting_rules.specs.Runs.{followed_by, replies_to, ArePosts};
 
 use posting_rules::Counter;
 
@@ -13,10 +13,10 @@ pub fn resends_law<C: Counter>(_counter: &C)
     // Each gets the reply that it got.
     ensures replies { (log p r : List Command) (bytes : List ℕ) → (first : Place bytes p)
         → (again : Place bytes r) → ArePosts p → ArePosts r
-        → get_or (replies_to (behind log p) r) (length again.before) []
+        → get_or (replies_to (followed_by log p) r) (length again.before) []
         ≡ get_or (replies_to log p) (length first.before) [] }
     // What is shown are the others alone, in their order.
     ensures tables { (old new : _) (log p r added : List Command) → ShowMore (C.seen old) (C.seen new) r
-        → ArePosts p → ArePosts r → Skips p r added → ShowsLog (C.seen old) (behind log p)
-        → ShowsLog (C.seen new) (behind (behind log p) added) }
+        → ArePosts p → ArePosts r → Skips p r added → ShowsLog (C.seen old) (followed_by log p)
+        → ShowsLog (C.seen new) (followed_by (followed_by log p) added) }
 {}

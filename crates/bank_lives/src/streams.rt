@@ -6,7 +6,7 @@ ghost use Rattle.posting_rules.specs.Counter.{ShowsLog};
 ghost use Rattle.posting_rules.specs.Runs.{replies_to};
 ghost use Rattle.posting_rules.specs.declared.fault.Fault.{Fault as Told};
 ghost use Rattle.posting_core.specs.Batches.{posts_of};
-ghost use Rattle.posting_core.specs.Stream.{IfBank, IsRefusedBehind, Streamed, acknowledged};
+ghost use Rattle.posting_core.specs.Stream.{IfBank, IsRefusedAfterBatches, Streamed, acknowledged};
 ghost use Rattle.posting_core.specs.Told.{ReadTold};
 ghost use Rattle.posting_core.specs.declared.stream.StreamFault.{StreamFault};
 ghost use Rattle.counter_http.specs.Outputs.{acknowledged_records};
@@ -28,7 +28,7 @@ use posting_rules::Counter;
 pub fn streams_law<C: Counter>(_counter: &C)
     ensures posted { (r r' w w' k k' : Option (List ℕ)) (old new : _) (result : Result ℕ StreamFault)
         → (did : Streamed r r' w w' k k' (C.seen old) (C.seen new) result)
-        → IfErr result (λ fault. IfBank fault (IsRefusedBehind C.seen C.reason old new r r'))
+        → IfErr result (λ fault. IfBank fault (IsRefusedAfterBatches C.seen C.reason old new r r'))
         → ((C.seen old).is_down → ⊥)
         → IsStream (C.seen old) (C.seen new) (posts_of did.taken) (posts_of did.refused) }
     ensures acknowledged { (r r' w w' k k' : Option (List ℕ)) (old new : _) (result : Result ℕ StreamFault)

@@ -11,16 +11,17 @@ use Rattle.message_records.specs.Records.{ReplyFields, RequestFields, unreferenc
 use Rattle.posting_rules.specs.Cases.{balance_shown}
 use Rattle.walked_rows.specs.{KeptRows.KeptItem, KeptRows.kept_item, Stored.posting_entry}
 use Rattle.walked_rows.specs.{declared.kept.KeptRequest.KeptRequest, declared.postings.StoredPosting.StoredPosting}
-use Rattle.walked_rows.specs.References.{text_behind, text_entry}
+use Rattle.walked_rows.specs.References.{text_after, text_entry}
 use Rattle.bank_replays.specs.{Came.CameAs, Came.GotReply, Came.moment_of, declared.chain.Digest.Digest}
 use Rattle.bank_replays.specs.Digests.{GoesOnBy, IsDigestIn, chained, digest_from}
-use Rattle.bank_replays.specs.Requests.{Answered, IsRequestRow, answered_in, moment_under, outcome_in, reply_in}
+use Rattle.bank_replays.specs.Requests.{AnsweredRequest, IsRequestRow, answered_in, moment_under, outcome_in}
+use Rattle.bank_replays.specs.Requests.{reply_in}
 use Rattle.bank_replays.specs.Requests.{request_in}
 
 -- ---- what is read of a row
 
 text_back : (o : ℕ) (reference : Option (List ℕ))
-    → option_map text_behind (option_map (text_entry o) reference) ≡ reference
+    → option_map text_after (option_map (text_entry o) reference) ≡ reference
 text_back o None = refl
 text_back o (Some text) = refl
 
@@ -42,7 +43,7 @@ pub reply_same : (o o' : Outcome) (r r' : Option RequestFields) (b b' : Option �
 reply_same o o' r r' b b' h0 h1 h2 = cc
 
 pub answered_same : (r r' : RequestFields) (y y' : ReplyFields) (m m' : ℕ) → r ≡ r' → y ≡ y' → m ≡ m'
-    → (let it : Answered = record { request = r; reply = y; moment = m } in it)
+    → (let it : AnsweredRequest = record { request = r; reply = y; moment = m } in it)
     ≡ record { request = r'; reply = y'; moment = m' }
 answered_same r r' y y' m m' h0 h1 h2 = cc
 
@@ -66,7 +67,7 @@ module _ (row : KeptRequest) (r : RequestFields) (came : CameAs row r) where
   request_is =
       request_same r.account (nat_abs row.request.account) r.teller (nat_abs row.request.teller)
       r.branch (nat_abs row.request.branch) r.number (nat_abs row.request.number) r.delta row.request.delta
-      r.reference (option_map text_behind (option_map (text_entry row.request.ordinal) row.reference))
+      r.reference (option_map text_after (option_map (text_entry row.request.ordinal) row.reference))
       (number_back row.request.account r.account came.account)
       (number_back row.request.teller r.teller came.teller)
       (number_back row.request.branch r.branch came.branch)
@@ -104,7 +105,7 @@ moment_back (Some p) = refl
 -- a row with its moment
 pub answered_is : (row : KeptRequest) (r : RequestFields) (y : ReplyFields) (m : ℕ) → CameAs row r → GotReply row r y
     → m ≡ moment_of row.posting
-    → (let it : Answered = record { request = r; reply = y; moment = m } in it) ≡ answered_in (kept_item row)
+    → (let it : AnsweredRequest = record { request = r; reply = y; moment = m } in it) ≡ answered_in (kept_item row)
 answered_is row r y m came got is =
     answered_same r (request_in (kept_item row)) y (reply_in (kept_item row)) m
     (moment_under (option_map posting_entry row.posting)) (request_is row r came) (reply_is row r came y got)
@@ -112,7 +113,7 @@ answered_is row r y m came got is =
 
 -- ---- the digest
 
-digest_more : (before : List ℕ) (xs : List Answered) (a : Answered)
+digest_more : (before : List ℕ) (xs : List AnsweredRequest) (a : AnsweredRequest)
     → digest_from before (xs ++ a ∷ []) ≡ chained (digest_from before xs) a
 digest_more before [] a = refl
 digest_more before (x ∷ xs) a = digest_more (chained before x) xs a

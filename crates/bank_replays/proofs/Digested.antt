@@ -5,7 +5,7 @@ use Rattle.std.proofs.lemmas.List.{length-map, length-take, take-map}
 use Rattle.posting_rules.specs.declared.fault.Fault.{Fault}
 use Rattle.walked_rows.specs.KeptRows.{KeptItem}
 use Rattle.bank_replays.specs.Digests.{DigestsFirst, DigestsRows, IsDigestIn, IsDigestOf}
-use Rattle.bank_replays.specs.Requests.{Answered, answered_in}
+use Rattle.bank_replays.specs.Requests.{AnsweredRequest, answered_in}
 use Rattle.bank_replays.specs.{Replays.OnAgrees, declared.chain.Digest.Digest, declared.difference.Replay.Replay}
 use Rattle.bank_replays.specs.declared.difference.Replay.TheVariants.{Agrees, Differs}
 
@@ -16,23 +16,23 @@ module _ (count : ℕ) (all : List KeptItem) (d : Digest) (is : IsDigestIn (take
   pub rows_enough : count ≤ d.requests → count ≤ length all
   rows_enough high = omega (arith, high, is.0.0, length-map (take count all) answered_in, length-take count all)
 
-module _ (count : ℕ) (all : List KeptItem) (requests : List Answered) (same : map answered_in all ≡ requests) where
+module _ (count : ℕ) (all : List KeptItem) (requests : List AnsweredRequest) (same : map answered_in all ≡ requests) where
   count_same : length requests ≡ length all
-  count_same = ap (λ (l : List Answered). length l) (sym same) ∙ length-map all answered_in
+  count_same = ap (λ (l : List AnsweredRequest). length l) (sym same) ∙ length-map all answered_in
 
   -- the rows are those of a log
   pub digests_log : (result : Result (Option Digest) Fault) → DigestsRows count all result
       → DigestsFirst count requests result
   digests_log (Ok (Some d)) it = (
     omega (arith, it.0, count_same),
-    subst (λ (l : List Answered). IsDigestOf l d) (sym (take-map answered_in count all) ∙ ap (take count) same) it.1.0,
+    subst (λ (l : List AnsweredRequest). IsDigestOf l d) (sym (take-map answered_in count all) ∙ ap (take count) same) it.1.0,
   )
   digests_log (Ok None) it = omega (arith, it, count_same)
   digests_log (Err fault) it = tt
 
 -- all of them are
-pub agrees_log : (all : List KeptItem) (requests : List Answered) → map answered_in all ≡ requests
+pub agrees_log : (all : List KeptItem) (requests : List AnsweredRequest) → map answered_in all ≡ requests
     → (result : Result Replay Fault) → OnAgrees result (IsDigestIn all) → OnAgrees result (IsDigestOf requests)
-agrees_log all requests same (Ok (Agrees d)) is = subst (λ (l : List Answered). IsDigestOf l d) same is.0
+agrees_log all requests same (Ok (Agrees d)) is = subst (λ (l : List AnsweredRequest). IsDigestOf l d) same is.0
 agrees_log all requests same (Ok (Differs d)) is = tt
 agrees_log all requests same (Err fault) is = tt

@@ -3,46 +3,46 @@ use Rattle.std.proofs.Common.{◌≡◌, ◌++◌, ℕ, Bool, true, false, cond,
 use Rattle.std.proofs.Common.{append-nil}
 use Rattle.std.specs.List.{flat_map}
 use Rattle.std.proofs.lemmas.List.{map-append, Concat.flat_map-append, Elements.filter-append}
-use Rattle.report_lines.specs.Written.{AppendsPart}
-use Rattle.report_lines.proofs.Written.{first_part, same_part}
+use Rattle.report_contents.specs.Written.{AppendsPart}
+use Rattle.report_contents.proofs.Written.{first_part, same_part}
 use Rattle.message_records.specs.Spelling.{request_spelling}
 use Rattle.walked_rows.specs.{KeptRows.KeptItem, KeptRows.kept_item, declared.kept.KeptRequest.KeptRequest}
-use Rattle.bank_replays.specs.{Requests.request_in, Writing.is_behind, Writing.records_behind}
+use Rattle.bank_replays.specs.{Requests.request_in, Writing.is_after, Writing.records_after}
 
 abbrev pub record_of : KeptItem → List ℕ
 record_of k = request_spelling (request_in k)
 
 module _ (after : ℕ) where
   pub records-append : (xs ys : List KeptItem)
-      → records_behind after (xs ++ ys) ≡ records_behind after xs ++ records_behind after ys
+      → records_after after (xs ++ ys) ≡ records_after after xs ++ records_after after ys
   records-append xs ys =
-      ap (flat_map record_of) (filter-append (is_behind after) xs ys)
-      ∙ flat_map-append record_of (filter (is_behind after) xs) (filter (is_behind after) ys)
+      ap (flat_map record_of) (filter-append (is_after after) xs ys)
+      ∙ flat_map-append record_of (filter (is_after after) xs) (filter (is_after after) ys)
 
-  pub one_record : (k : KeptItem) → is_behind after k ≡ true → records_behind after (k ∷ []) ≡ record_of k
+  pub one_record : (k : KeptItem) → is_after after k ≡ true → records_after after (k ∷ []) ≡ record_of k
   one_record k is = ap (λ (b : Bool). flat_map record_of (cond b (k ∷ []) [])) is ∙ append-nil (record_of k)
 
-  pub no_record : (k : KeptItem) → is_behind after k ≡ false → records_behind after (k ∷ []) ≡ []
+  pub no_record : (k : KeptItem) → is_after after k ≡ false → records_after after (k ∷ []) ≡ []
   no_record k is = ap (λ (b : Bool). flat_map record_of (cond b (k ∷ []) [])) is
 
   -- a row more
   pub records_more : (rows : List KeptRequest) (row : KeptRequest)
-      → records_behind after (map kept_item rows) ++ records_behind after (kept_item row ∷ [])
-      ≡ records_behind after (map kept_item (rows ++ row ∷ []))
+      → records_after after (map kept_item rows) ++ records_after after (kept_item row ∷ [])
+      ≡ records_after after (map kept_item (rows ++ row ∷ []))
   records_more rows row =
       sym (records-append (map kept_item rows) (kept_item row ∷ []))
-      ∙ ap (records_behind after) (sym (map-append kept_item rows (row ∷ [])))
+      ∙ ap (records_after after) (sym (map-append kept_item rows (row ∷ [])))
 
-  pub record_more : (rows : List KeptRequest) (row : KeptRequest) → is_behind after (kept_item row) ≡ true
-      → records_behind after (map kept_item rows) ++ record_of (kept_item row)
-      ≡ records_behind after (map kept_item (rows ++ row ∷ []))
+  pub record_more : (rows : List KeptRequest) (row : KeptRequest) → is_after after (kept_item row) ≡ true
+      → records_after after (map kept_item rows) ++ record_of (kept_item row)
+      ≡ records_after after (map kept_item (rows ++ row ∷ []))
   record_more rows row is =
-      ap (λ (t : List ℕ). records_behind after (map kept_item rows) ++ t) (sym (one_record (kept_item row) is))
+      ap (λ (t : List ℕ). records_after after (map kept_item rows) ++ t) (sym (one_record (kept_item row) is))
       ∙ records_more rows row
 
--- the records of the first rows are a beginning of those of all
+-- the records of the first rows are a prefix of those of all
 pub records_of_part : (old new : Option (List ℕ)) (after : ℕ) (items rest all : List KeptItem) → items ++ rest ≡ all
-    → AppendsPart old new (records_behind after items) → AppendsPart old new (records_behind after all)
+    → AppendsPart old new (records_after after items) → AppendsPart old new (records_after after all)
 records_of_part old new after items rest all same part =
-    same_part old new (sym (records-append after items rest) ∙ ap (records_behind after) same)
-    (first_part old new (records_behind after items) (records_behind after rest) part)
+    same_part old new (sym (records-append after items rest) ∙ ap (records_after after) same)
+    (first_part old new (records_after after items) (records_after after rest) part)

@@ -11,15 +11,15 @@ use Rattle.posting_rules.specs.{Tables.Tables, Tables.request_row_of, declared.r
 use Rattle.sql_meanings.specs.Entries.{Entry}
 use Rattle.store_rows.specs.View.{Shows}
 use Rattle.walked_rows.specs.KeptRows.{KeptItem}
-use Rattle.bank_replays.specs.Digests.{answered_behind, answered_of, each_answered}
-use Rattle.bank_replays.specs.{Requests.Answered, declared.fault.ReplayFault.ReplayFault}
-use Rattle.bank_replays.specs.Writing.{WritesText, is_behind, records_behind, records_of}
+use Rattle.bank_replays.specs.Digests.{answered_after, answered_of, each_answered}
+use Rattle.bank_replays.specs.{Requests.AnsweredRequest, declared.fault.ReplayFault.ReplayFault}
+use Rattle.bank_replays.specs.Writing.{WritesText, is_after, records_after, records_of}
 use Rattle.bank_replays.proofs.Exported.{no_record, one_record, records-append}
 use Rattle.bank_replays.proofs.LogRows.{Stand, item_of, kept_is, kept_of, last_answered, postings, references}
 use Rattle.bank_replays.proofs.LogRows.{requests_of, stand_earlier, stand_in}
 
 -- the record of a request
-abbrev spelled : Answered → List ℕ
+abbrev spelled : AnsweredRequest → List ℕ
 spelled a = request_spelling a.request
 
 answered_length : (es : List DecidedRequest) → length (each_answered es) ≡ length es
@@ -36,12 +36,12 @@ not_above m n is = grind (arith, ints)
 
 module _ (P Q : List Entry) (after : ℕ) where
   records_are : (es : List DecidedRequest) → Stand P Q es
-      → records_behind after (map (item_of P Q) (requests_of es)) ≡ records_of after (each_answered es)
+      → records_after after (map (item_of P Q) (requests_of es)) ≡ records_of after (each_answered es)
   records_are [] stand = ap (flat_map spelled) (sym (drop_all after [] (omega arith)))
   records_are (e ∷ es) stand =
-      ap (records_behind after) (map-append (item_of P Q) (requests_of es) (r ∷ []))
+      ap (records_after after) (map-append (item_of P Q) (requests_of es) (r ∷ []))
       ∙ records-append after (map (item_of P Q) (requests_of es)) (k ∷ [])
-      ∙ ap (λ (t : List ℕ). t ++ records_behind after (k ∷ [])) (records_are es (stand_earlier P Q e es stand))
+      ∙ ap (λ (t : List ℕ). t ++ records_after after (k ∷ [])) (records_are es (stand_earlier P Q e es stand))
       ∙ last
     where
       r : RequestRow
@@ -50,9 +50,9 @@ module _ (P Q : List Entry) (after : ℕ) where
       k : KeptItem
       k = item_of P Q r
 
-      last : records_of after (each_answered es) ++ records_behind after (k ∷ [])
+      last : records_of after (each_answered es) ++ records_after after (k ∷ [])
           ≡ records_of after (each_answered es ++ answered_of e ∷ [])
-      last = elim (cases_Bool (is_behind after k)) [
+      last = elim (cases_Bool (is_after after k)) [
         | inl t ↦
             let low : after < length es + 1 = above after (length es + 1) t in
             ap (λ (x : List ℕ). records_of after (each_answered es) ++ x)
@@ -72,13 +72,13 @@ module _ (P Q : List Entry) (after : ℕ) where
 
 module _ (db : Database) (t : Tables) (log : List Command) (in_file : Shows db t) (shows : AreTablesOf t log)
     (after : ℕ) where
-  records_log : records_behind after (kept_of db t log in_file shows) ≡ records_of after (answered_behind log)
+  records_log : records_after after (kept_of db t log in_file shows) ≡ records_of after (answered_after log)
   records_log =
-      ap (records_behind after) (kept_is db t log in_file shows)
+      ap (records_after after) (kept_is db t log in_file shows)
       ∙ records_are (postings db t log in_file shows) (references db t log in_file shows) after (decided log)
       (stand_in db t log in_file shows)
 
   pub writes_log : (old new : Option (List ℕ)) (result : Result (Unit {0}) ReplayFault)
-      → WritesText (records_behind after (kept_of db t log in_file shows)) old new result
-      → WritesText (records_of after (answered_behind log)) old new result
+      → WritesText (records_after after (kept_of db t log in_file shows)) old new result
+      → WritesText (records_of after (answered_after log)) old new result
   writes_log old new result = subst (λ (text : List ℕ). WritesText text old new result) records_log

@@ -1,5 +1,6 @@
 -- Rows that are handed on, one more.
-use Rattle.std.proofs.Common.{◌≡◌, ◌≤◌, ◌+◌, ◌++◌, ℕ, List, [], ◌∷◌, map, take, drop, length, Ok, Err, Some, None, refl}
+use Rattle.std.proofs.Common.{◌≡◌, ◌≤◌, ◌+◌, ◌++◌, ℕ, List, [], ◌∷◌, map, take, drop, length, Ok, Err, Some, None}
+use Rattle.std.proofs.Common.{refl}
 use Rattle.std.proofs.Common.{sym, ap, ◌∙◌, append-nil, arith}
 use Rattle.std.specs.Prelude.{◌≢◌}
 use Rattle.std.proofs.lemmas.List.{length-append, length-map, length-take, take-append-drop, take-append-le, take_all}
@@ -16,10 +17,10 @@ pub record IsHanded {R X : Type 0} (item : R → X) (Took : List R → Type 0) (
   pub many : length given ≡ count
   pub are : Clean → (all : List X) → HasItems all → map item given ++ rest all ≡ coming all
 
-map_behind : {R X : Type 0} (item : R → X) (xs : List R) (r : R) (more : List X)
+map_after : {R X : Type 0} (item : R → X) (xs : List R) (r : R) (more : List X)
     → map item (xs ++ r ∷ []) ++ more ≡ map item xs ++ item r ∷ more
-map_behind item [] r more = refl
-map_behind item (x ∷ xs) r more = ap (λ l. item x ∷ l) (map_behind item xs r more)
+map_after item [] r more = refl
+map_after item (x ∷ xs) r more = ap (λ l. item x ∷ l) (map_after item xs r more)
 
 -- those that were taken are all, where they are fewer than the most
 pub whole : {X : Type 0} (most : ℕ) (xs all : List X) → xs ≡ take most all → length xs ≢ most → xs ≡ all
@@ -33,7 +34,7 @@ module _ {R X : Type 0} (item : R → X) (Took : List R → Type 0) (Part : List
   are_more : (r : R) → (Later → (all : List X) → HasItems all → Steps item Breaks (rest all) (rest' all) (Ok (Some r)))
       → Later → (all : List X) → HasItems all → map item (it.given ++ r ∷ []) ++ rest' all ≡ coming all
   are_more r step late all items =
-      map_behind item it.given r (rest' all)
+      map_after item it.given r (rest' all)
       ∙ ap (λ l. map item it.given ++ l) (sym (step late all items))
       ∙ it.are (before late) all items
 

@@ -15,12 +15,12 @@ use Rattle.posting_rules.specs.Tables.{row_at}
 use Rattle.sql_meanings.specs.Entries.{Entry, Rise}
 use Rattle.store_rows.specs.View.{Shows, history_entry, reference_entry, request_entry}
 use Rattle.walked_rows.specs.KeptRows.{HasKept, KeptItem, kept_all, kept_with}
-use Rattle.walked_rows.specs.{Pairs.row_under, References.text_behind}
+use Rattle.walked_rows.specs.{Pairs.row_under, References.text_after}
 use Rattle.walked_rows.proofs.Shown.{has_history, has_references, has_requests}
 use Rattle.bank_reports.proofs.Read.{under}
-use Rattle.bank_reports.proofs.RisingRows.{Rising, all-append, all_as, find_before, find_behind, not_under}
+use Rattle.bank_reports.proofs.RisingRows.{Rising, all-append, all_as, find_before, find_after, not_under}
 use Rattle.bank_reports.proofs.RisingRows.{rising_more, rising_once}
-use Rattle.bank_replays.specs.Digests.{answered_behind, answered_of, each_answered}
+use Rattle.bank_replays.specs.Digests.{answered_after, answered_of, each_answered}
 use Rattle.bank_replays.specs.Requests.{answered_in, moment_under}
 use Rattle.bank_replays.proofs.Chained.{answered_same, code_back, reply_same, request_same}
 
@@ -55,7 +55,7 @@ requests_under (e ∷ es) o = there (eqb (length es + 1) o) (requests_under es o
         → row_at request_key (requests_of es ++ request_row_of (length es + 1) e ∷ []) o
         ≡ cond b (Some (request_row_of o e)) (request_row es o)
     there true earlier is =
-        find_behind (λ r. eqb (request_key r) o) (requests_of es) (request_row_of (length es + 1) e ∷ [])
+        find_after (λ r. eqb (request_key r) o) (requests_of es) (request_row_of (length es + 1) e ∷ [])
         (not_under request_key o (requests_of es)
         (all_as (λ r. request_key r ≤ length es) (λ r. request_key r ≡ o → ⊥)
         (λ r low same. let at = eqb-true (length es + 1) o is in omega (arith, low, same, at))
@@ -141,7 +141,7 @@ own_reference e es = rw (eq-eqb (length es + 1) (length es + 1) refl) refl
 -- ---- one of them
 
 texts_back : (n : ℕ) (reference : Option (List ℕ))
-    → option_map text_behind (option_map reference_entry (option_map (reference_row_of n) reference)) ≡ reference
+    → option_map text_after (option_map reference_entry (option_map (reference_row_of n) reference)) ≡ reference
 texts_back n None = refl
 texts_back n (Some text) = refl
 
@@ -164,8 +164,8 @@ answered_item n e posting reference posted referred =
     ap (λ (o : Option Outcome). unwrap_or o Malformed) (code_back e.outcome) in
     answered_same _ r _ (kept_reply (kept_fields e) r) _ (cond (is_posted e) e.moment 0)
     (request_same r.account r.account r.teller r.teller r.branch r.branch r.number r.number r.delta r.delta
-    (option_map text_behind reference) r.reference refl refl refl refl refl
-    (ap (option_map text_behind) referred ∙ texts_back n r.reference))
+    (option_map text_after reference) r.reference refl refl refl refl refl
+    (ap (option_map text_after) referred ∙ texts_back n r.reference))
     (reply_same _ e.outcome _ (Some (unreferenced r)) _ (balance_shown e.outcome e.balance) outcome refl
     (ap (λ (o : Outcome). balance_shown o e.balance) outcome))
     (ap moment_under posted ∙ moment_shown (is_posted e) (history_row_of n e))
@@ -250,5 +250,5 @@ module _ (db : Database) (t : Tables) (log : List Command) (in_file : Shows db t
       items_are postings references t.requests
       ∙ ap (map (item_of postings references)) (requests_are db t log in_file shows)
 
-  pub kept_answered : map answered_in kept_of ≡ answered_behind log
+  pub kept_answered : map answered_in kept_of ≡ answered_after log
   kept_answered = ap (map answered_in) kept_is ∙ answered_are postings references (decided log) stand_in

@@ -4,11 +4,11 @@ use Rattle.std.specs.{Prelude.option_map, Io.KnownBytes.Appends}
 use Rattle.std.proofs.{KnownBytes.Appends-trans, lemmas.List.map-append}
 use Rattle.posting_rules.specs.Tables.{row_at}
 use Rattle.sql_meanings.specs.Entries.{Entry}
-use Rattle.walked_rows.specs.{Pairs.row_under, Stored.branch_entry, Stored.number_behind, StoredBeside.floor_entry}
+use Rattle.walked_rows.specs.{Pairs.row_under, Stored.branch_entry, Stored.number_after, StoredBeside.floor_entry}
 use Rattle.walked_rows.specs.{declared.branches.StoredBranch.StoredBranch, declared.floors.StoredFloor.StoredFloor}
-use Rattle.report_lines.specs.{Lines.text_of, Written.AppendsPart}
-use Rattle.report_lines.proofs.Joined.{text_of-append, text_of-snoc}
-use Rattle.report_lines.proofs.Written.{first_part, same_part, then_part}
+use Rattle.report_contents.specs.{Lines.text_of, Written.AppendsPart}
+use Rattle.report_contents.proofs.Joined.{text_of-append, text_of-snoc}
+use Rattle.report_contents.proofs.Written.{first_part, same_part, then_part}
 use Rattle.bank_reports.proofs.Read.{under}
 use Rattle.bank_replays.specs.Writing.{branch_of, lowest_of, plan_line, plan_lines, plan_names, plan_text}
 use Rattle.bank_replays.proofs.Wrote.{end_part, end_wrote}
@@ -16,13 +16,13 @@ use Rattle.bank_replays.proofs.Wrote.{end_part, end_wrote}
 -- a branch's floor is the one that the file has under its number
 pub floor_is : (floors : List StoredFloor) (b : ℕ)
     → option_map lowest_of (row_at branch_of floors b)
-    ≡ option_map (number_behind 0) (row_under (map floor_entry floors) (pos b))
+    ≡ option_map (number_after 0) (row_under (map floor_entry floors) (pos b))
 floor_is floors b =
     shown (row_at branch_of floors b)
-    ∙ ap (option_map (number_behind 0)) (sym (under floor_entry branch_of (λ r. refl) floors b))
+    ∙ ap (option_map (number_after 0)) (sym (under floor_entry branch_of (λ r. refl) floors b))
   where
     shown : (x : Option StoredFloor)
-        → option_map lowest_of x ≡ option_map (number_behind 0) (option_map floor_entry x)
+        → option_map lowest_of x ≡ option_map (number_after 0) (option_map floor_entry x)
     shown None = refl
     shown (Some f) = refl
 

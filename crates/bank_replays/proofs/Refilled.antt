@@ -1,6 +1,6 @@
 -- A bank that is given commands shows a log after them, if it did before.
 use Rattle.std.proofs.Common.{List}
-use Rattle.posting_rules.specs.{Commands.Command, Runs.behind}
+use Rattle.posting_rules.specs.{Commands.Command, Runs.followed_by}
 use Rattle.posting_rules.specs.Counter.{Seen, ShowsLog, StandsAt, Takes}
 
 abbrev pub SeenSome : Seen → Type 0
@@ -10,7 +10,7 @@ pub shows_more : (old new : Seen) (commands : List Command) → Takes old new co
     → (new.honest → old.honest) → SeenSome old → SeenSome new
 shows_more old new commands takes before some honest =
     let it = some (before honest) in
-    (behind it.0 commands, takes.shows honest it.0 it.1)
+    (followed_by it.0 commands, takes.shows honest it.0 it.1)
 
 pub shows_at_first : (seen : Seen) (log : List Command) → (seen.honest → StandsAt seen log) → SeenSome seen
 shows_at_first seen log stands honest = (log, (stands honest).shows)

@@ -5,8 +5,8 @@ use Rattle.std.proofs.KnownBytes.{Appends-trans}
 use Rattle.posting_core.specs.Told.{EndsWith, HasMore, HasWriteFailed, IsFlush, WriteTold}
 use Rattle.posting_core.proofs.Telling.{more_last, more_more}
 use Rattle.posting_rules.specs.declared.fault.Fault.{Fault}
-use Rattle.report_lines.specs.Written.{AppendsPart}
-use Rattle.report_lines.proofs.Written.{first_part, later_failed, same_all, same_part, then_part}
+use Rattle.report_contents.specs.Written.{AppendsPart}
+use Rattle.report_contents.proofs.Written.{first_part, later_failed, same_all, same_part, then_part}
 use Rattle.bank_replays.specs.Writing.{LeavesWriter, Puts, Wrote, WrotePart}
 use Rattle.bank_replays.specs.declared.fault.ReplayFault.{ReplayFault, TheVariants.Bank, TheVariants.Write}
 
@@ -27,7 +27,7 @@ module _ (old mid new : Option (List ℕ)) {t t' t'' : Option (List WriteTold)} 
     λ is. later_failed wrote.1 puts.failed,
   )
 
--- what was written is a beginning of more
+-- what was written is a prefix of more
 pub part_of : (old new : Option (List ℕ)) {t t' : Option (List WriteTold)} {fault : ReplayFault} (a b text : List ℕ)
     → a ++ b ≡ text → WrotePart a old new t t' fault → WrotePart text old new t t' fault
 part_of old new a b text same part = (same_part old new same (first_part old new a b part.0), part.1)

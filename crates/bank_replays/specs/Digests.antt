@@ -10,27 +10,27 @@ use Rattle.posting_rules.specs.Commands.{Command}
 use Rattle.posting_rules.specs.Entries.{DecidedRequest, decided, is_posted, kept_fields}
 use Rattle.posting_rules.specs.declared.fault.Fault.{Fault}
 use Rattle.walked_rows.specs.KeptRows.{KeptItem}
-use Rattle.bank_replays.specs.Requests.{Answered, IsRequestRow, answered_in}
+use Rattle.bank_replays.specs.Requests.{AnsweredRequest, IsRequestRow, answered_in}
 use Rattle.bank_replays.specs.declared.chain.Digest.{Digest}
 
--- the digest behind one request more: SHA-256 of the one before it, the record, the reply and the moment
-abbrev pub chained : List ℕ → Answered → List ℕ
+-- the digest after one request more: SHA-256 of the one before it, the record, the reply and the moment
+abbrev pub chained : List ℕ → AnsweredRequest → List ℕ
 chained before a =
     sha256 (before ++ (request_spelling a.request ++ (reply_spelling a.reply ++ to_be_bytes w64 a.moment)))
 
--- the digest behind some, the first of them first
-abbrev pub digest_from : List ℕ → List Answered → List ℕ
+-- the digest after some, the first of them first
+abbrev pub digest_from : List ℕ → List AnsweredRequest → List ℕ
 digest_from before [] = before
 digest_from before (a ∷ more) = digest_from (chained before a) more
 
 -- the digest of requests, which begins with 32 zeros
-abbrev pub digest_of : List Answered → List ℕ
+abbrev pub digest_of : List AnsweredRequest → List ℕ
 digest_of = digest_from (replicate 32 0)
 
 -- ---- of a log
 
 -- a decided request with the reply that it got, and the moment of its posting, zero where it wasn't posted
-abbrev pub answered_of : DecidedRequest → Answered
+abbrev pub answered_of : DecidedRequest → AnsweredRequest
 answered_of e = record {
   request = e.request;
   reply = kept_reply (kept_fields e) e.request;
@@ -38,16 +38,16 @@ answered_of e = record {
 }
 
 -- decided requests, of which the newest comes first, the oldest first
-abbrev pub each_answered : List DecidedRequest → List Answered
+abbrev pub each_answered : List DecidedRequest → List AnsweredRequest
 each_answered [] = []
 each_answered (e ∷ es) = each_answered es ++ answered_of e ∷ []
 
 -- the requests of a log
-abbrev pub answered_behind : List Command → List Answered
-answered_behind log = each_answered (decided log)
+abbrev pub answered_after : List Command → List AnsweredRequest
+answered_after log = each_answered (decided log)
 
 -- so many, with this digest
-abbrev pub IsDigestOf : List Answered → Digest → Type 0
+abbrev pub IsDigestOf : List AnsweredRequest → Digest → Type 0
 IsDigestOf requests d = (d.requests ≡ length requests) × (d.sha256 ≡ digest_of requests)
 
 -- ---- of a file
@@ -65,7 +65,7 @@ pub record GoesOnBy (first last : Digest) (items : List KeptItem) : Type 0 where
 -- ---- what is answered
 
 -- the digest of the first so many of these requests, unless there are fewer
-abbrev pub DigestsFirst : ℕ → List Answered → Result (Option Digest) Fault → Type 0
+abbrev pub DigestsFirst : ℕ → List AnsweredRequest → Result (Option Digest) Fault → Type 0
 DigestsFirst count requests (Ok (Some d)) = (count ≤ length requests) × IsDigestOf (take count requests) d
 DigestsFirst count requests (Ok None) = length requests < count
 DigestsFirst count requests (Err fault) = ⊤

@@ -4,7 +4,7 @@ use Rattle.bank_replays.specs.declared.fault.ReplayFault.{ReplayFault}
 
 module _ {R X : Type 0} (item : R → X) (Took : List R → Type 0) (Part : List R → ReplayFault → Type 0)
     (Clean : Type 0) (HasItems : List X → Type 0) where
-  -- at a fault the first of these were taken, and it came at the last of them or behind it
+  -- at a fault the first of these were taken, and it came at the last of them or after it
   abbrev pub HandsPart : (List X → List X) → ReplayFault → Type 0
   HandsPart coming fault =
       (given : List R) × Part given fault

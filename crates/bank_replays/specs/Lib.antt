@@ -2,7 +2,7 @@
 pub mod Reading
 pub mod FileTables
 pub mod Refilling
-pub mod Stepping
+pub mod NextRows
 pub mod Handing
 pub mod Comparing
 pub mod Replays
@@ -10,4 +10,4 @@ pub mod Came
 pub mod Requests
 pub mod Digests
 pub mod Writing
-pub mod Beginnings
+pub mod Prefixes

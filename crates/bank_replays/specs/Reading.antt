@@ -6,7 +6,7 @@ use Rattle.bank_store.specs.Seen.{fault_of, file_of}
 use Rattle.bank_store.specs.Walks.{IsStill, IsUntouchedIfOpen}
 use Rattle.bank_store.specs.declared.bank.Bank.{Bank}
 
--- A bank was read: a stop leaves what it could leave before, and no fault brings it down. At Ok its connection
+-- A bank was read: a crash leaves what it could leave before, and no fault brings it down. At Ok its connection
 -- sees what it saw, and at a fault too, as long as the store is open.
 pub record ReadsBank {S X E : Type 0} (g : Ghosts S) (old new : Bank S g) (result : Result X E) : Type 0 where
   pub survives : Survives (file_of old) (file_of new) (λ _. ⊥)

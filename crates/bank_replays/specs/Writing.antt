@@ -6,23 +6,23 @@ use Rattle.std.specs.List.{flat_map}
 use Rattle.std.specs.Io.KnownBytes.{Appends}
 use Rattle.message_records.specs.Spelling.{request_spelling}
 use Rattle.posting_core.specs.Told.{EndsWith, HasMore, HasWriteFailed, IsFlush, WriteTold}
-use Rattle.report_lines.specs.Lines.{text_of}
-use Rattle.report_lines.specs.Written.{AppendsPart}
+use Rattle.report_contents.specs.Lines.{text_of}
+use Rattle.report_contents.specs.Written.{AppendsPart}
 use Rattle.sql_meanings.specs.Entries.{Entry}
 use Rattle.walked_rows.specs.KeptRows.{KeptItem, kept_key}
 use Rattle.walked_rows.specs.Pairs.{row_under}
-use Rattle.walked_rows.specs.Stored.{number_behind}
+use Rattle.walked_rows.specs.Stored.{number_after}
 use Rattle.walked_rows.specs.declared.floors.StoredFloor.{StoredFloor}
-use Rattle.bank_replays.specs.Requests.{Answered, request_in}
+use Rattle.bank_replays.specs.Requests.{AnsweredRequest, request_in}
 use Rattle.bank_replays.specs.declared.fault.ReplayFault.{ReplayFault}
 use Rattle.bank_replays.specs.declared.fault.ReplayFault.TheVariants.{Write}
 
--- all of a text was written, or at a fault a beginning of it
+-- all of a text was written, or at a fault a prefix of it
 abbrev pub WritesText : List ℕ → Option (List ℕ) → Option (List ℕ) → Result (Unit {0}) ReplayFault → Type 0
 WritesText text old new (Ok done) = Appends old new text
 WritesText text old new (Err fault) = AppendsPart old new text
 
--- Bytes were written, and calls of the writer were made; or a beginning of them was, and its last call failed, or
+-- Bytes were written, and calls of the writer were made; or a prefix of them was, and its last call failed, or
 -- it was asked too often.
 pub record Puts (bytes : List ℕ) (old new : Option (List ℕ)) (t t' : Option (List WriteTold))
     (result : Result (Unit {0}) ReplayFault) : Type 0 where
@@ -35,7 +35,7 @@ abbrev pub Wrote : List ℕ → Option (List ℕ) → Option (List ℕ) → Opti
     → Option (List WriteTold) → Type 0
 Wrote text old new t t' = Appends old new text × HasMore t t'
 
--- a beginning of it was, and where the writer is said to have failed it did
+-- a prefix of it was, and where the writer is said to have failed it did
 abbrev pub WrotePart : List ℕ → Option (List ℕ) → Option (List ℕ) → Option (List WriteTold)
     → Option (List WriteTold) → ReplayFault → Type 0
 WrotePart text old new t t' fault = AppendsPart old new text × (fault ≡ Write → HasWriteFailed t t')
@@ -49,15 +49,15 @@ pub record LeavesWriter (old new : Option (List WriteTold)) (result : Result (Un
 -- ---- requests
 
 -- the row's ordinal is above this one
-abbrev pub is_behind : ℕ → KeptItem → Bool
-is_behind after k = int_lt (pos after) (kept_key k)
+abbrev pub is_after : ℕ → KeptItem → Bool
+is_after after k = int_lt (pos after) (kept_key k)
 
--- the records of the kept rows behind an ordinal, one after another
-abbrev pub records_behind : ℕ → List KeptItem → List ℕ
-records_behind after items = flat_map (λ k. request_spelling (request_in k)) (filter (is_behind after) items)
+-- the records of the kept rows after an ordinal, one after another
+abbrev pub records_after : ℕ → List KeptItem → List ℕ
+records_after after items = flat_map (λ k. request_spelling (request_in k)) (filter (is_after after) items)
 
 -- the records of all but the first so many requests
-abbrev pub records_of : ℕ → List Answered → List ℕ
+abbrev pub records_of : ℕ → List AnsweredRequest → List ℕ
 records_of after requests = flat_map (λ a. request_spelling a.request) (drop after requests)
 
 -- ---- branches
@@ -77,11 +77,11 @@ text_of_floor (Some lowest) = signed_decimal lowest
 -- the line of a branch with such a text: its number, how many accounts it has, and the text
 abbrev pub line_with : Entry → List ℕ → List ℕ
 line_with e floor =
-    signed_decimal e.key ++ (44 ∷ (signed_decimal (number_behind 0 e) ++ (44 ∷ (floor ++ (10 ∷ [])))))
+    signed_decimal e.key ++ (44 ∷ (signed_decimal (number_after 0 e) ++ (44 ∷ (floor ++ (10 ∷ [])))))
 
 -- and with the floor that a row has under its number
 abbrev pub plan_line : List Entry → Entry → List ℕ
-plan_line floors e = line_with e (text_of_floor (option_map (number_behind 0) (row_under floors e.key)))
+plan_line floors e = line_with e (text_of_floor (option_map (number_after 0) (row_under floors e.key)))
 
 -- the lines of branches
 abbrev pub plan_lines : List Entry → List Entry → List ℕ

@@ -40,7 +40,7 @@ impl Digest {
     }
 }
 
-// The digest behind one request more.
+// The digest after one request more.
 fn chained(before: &[u8; 32], request: &Request, reply: &Reply, moment: u64) -> [u8; 32]
     ensures { result ≡ chained before.now
         (record { request = request.now; reply = reply.now; moment = moment }) }
@@ -66,17 +66,17 @@ fn moment_of(posting: &Option<StoredPosting>) -> u64
     }
 }
 
-/// Requests are digested, one behind the other.
+/// Requests are digested, one after the other.
 pub(crate) struct Chaining;
 
 impl Hands<KeptRequest, Digest> for Chaining {
-    ghost use Rattle.bank_replays.specs.Beginnings.{none_behind};
+    ghost use Rattle.bank_replays.specs.Prefixes.{none_after};
 
     ghost Took = { λ way first last rows. GoesOnBy first last (map kept_item rows) };
 
     ghost Part = { λ way first last rows fault. ⊤ };
 
-    ghost none_yet = { λ way digest. none_behind digest };
+    ghost none_yet = { λ way digest. none_after digest };
 
     ghost in_part = { λ way first last rows fault took. tt };
 

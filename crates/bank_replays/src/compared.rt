@@ -1,6 +1,6 @@
 //! Rows that are compared one by one.
 ghost use Rattle.std.specs.Prelude.{◌≡◌, IsTrue};
-ghost use Rattle.bank_replays.specs.Stepping.{Sets};
+ghost use Rattle.bank_replays.specs.NextRows.{Sets};
 
 use crate::difference::{Difference, Sides};
 use crate::handed::Handed;

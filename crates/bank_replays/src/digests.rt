@@ -8,7 +8,7 @@ ghost use Rattle.walked_rows.specs.KeptRows.{HasKept, KeptItem};
 ghost use Rattle.bank_store.specs.Leaving.{StandsWhileOpen, TakesNone};
 ghost use Rattle.bank_store.specs.Seen.{bank_seen, connection_of, database_of, fault_of, file_of};
 ghost use Rattle.bank_store.specs.Sparing.{SparesWhileOpen};
-ghost use Rattle.bank_replays.specs.Digests.{DigestsFirst, DigestsRows, IsDigestIn, answered_behind};
+ghost use Rattle.bank_replays.specs.Digests.{DigestsFirst, DigestsRows, IsDigestIn, answered_after};
 ghost use Rattle.bank_replays.specs.Reading.{ReadsBank};
 ghost use Rattle.bank_replays.specs.Replays.{HasAnswered};
 
@@ -62,7 +62,7 @@ pub fn digest<S: Alter>(bank: &mut Bank<S>, count: u64) -> Result<Option<Digest>
     ensures rows { (bank_seen S.Store bank.new).honest → (all : List KeptItem)
         → HasKept (database_of S.Store bank.old) all → DigestsRows count all result }
     ensures log { (bank_seen S.Store bank.new).honest → (log : List Command)
-        → ShowsLog (bank_seen S.Store bank.old) log → DigestsFirst count (answered_behind log) result }
+        → ShowsLog (bank_seen S.Store bank.old) log → DigestsFirst count (answered_after log) result }
     ensures bank { TakesNone (bank_seen S.Store bank.old) (bank_seen S.Store bank.new) (HasAnswered result) }
     ensures down { (bank_seen S.Store bank.old).is_down → (result ≡ Err Down) × (bank.new ≡ bank.old) }
     ensures up { fault_of bank.new ≡ fault_of bank.old }

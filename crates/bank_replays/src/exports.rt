@@ -8,11 +8,11 @@ ghost use Rattle.walked_rows.specs.KeptRows.{HasKept, KeptItem, kept_item};
 ghost use Rattle.bank_store.specs.Leaving.{StandsWhileOpen, TakesNone};
 ghost use Rattle.bank_store.specs.Seen.{bank_seen, connection_of, database_of, fault_of, file_of};
 ghost use Rattle.bank_store.specs.Sparing.{SparesWhileOpen};
-ghost use Rattle.bank_replays.specs.Digests.{answered_behind};
+ghost use Rattle.bank_replays.specs.Digests.{answered_after};
 ghost use Rattle.bank_replays.specs.Reading.{ReadsBank};
 ghost use Rattle.bank_replays.specs.Replays.{HasAnswered};
-ghost use Rattle.bank_replays.specs.Writing.{LeavesWriter, Wrote, WrotePart, WritesText, is_behind};
-ghost use Rattle.bank_replays.specs.Writing.{records_behind, records_of};
+ghost use Rattle.bank_replays.specs.Writing.{LeavesWriter, Wrote, WrotePart, WritesText, is_after};
+ghost use Rattle.bank_replays.specs.Writing.{records_after, records_of};
 ghost use Rattle.bank_replays.specs.declared.fault.ReplayFault.TheVariants.{Bank as OfBank};
 
 use crate::chain::NO_REQUEST;
@@ -24,30 +24,30 @@ use bank_store::Bank;
 use message_records::encode_request;
 use posting_core::Sink;
 use posting_rules::{Counter, Fault};
-use report_lines::put_last;
+use report_contents::put_last;
 use sqlite::Alter;
 use walked_rows::KeptRequest;
 
 // Whether a row's ordinal is above this one.
-fn is_behind(row: &KeptRequest, after: u64) -> bool
-    ensures { result ≡ is_behind after (kept_item row.now) }
+fn is_after(row: &KeptRequest, after: u64) -> bool
+    ensures { result ≡ is_after after (kept_item row.now) }
 {
     row.request.ordinal.get() > after
 }
 
-/// Requests behind an ordinal are written as records.
+/// Requests after an ordinal are written as records.
 #[derive(Drop)]
-pub(crate) struct Behind {
+pub(crate) struct After {
     after: u64,
 }
 
-impl<W: Sink> Hands<KeptRequest, W> for Behind {
-    ghost use Rattle.bank_replays.specs.Beginnings.{all_part, wrote_none};
+impl<W: Sink> Hands<KeptRequest, W> for After {
+    ghost use Rattle.bank_replays.specs.Prefixes.{all_part, wrote_none};
 
-    ghost Took = { λ way first last rows. Wrote (records_behind way.after (map kept_item rows))
+    ghost Took = { λ way first last rows. Wrote (records_after way.after (map kept_item rows))
         (W.contents first) (W.contents last) (W.told first) (W.told last) };
 
-    ghost Part = { λ way first last rows fault. WrotePart (records_behind way.after (map kept_item rows))
+    ghost Part = { λ way first last rows fault. WrotePart (records_after way.after (map kept_item rows))
         (W.contents first) (W.contents last) (W.told first) (W.told last) fault };
 
     ghost none_yet = { λ way writer. wrote_none (W.contents writer) (W.told writer) };
@@ -55,7 +55,7 @@ impl<W: Sink> Hands<KeptRequest, W> for Behind {
     ghost in_part = { λ way first last rows fault took. all_part (W.contents first) (W.contents last) _ took fault };
 
     fn hand(&self, row: KeptRequest, writer: &mut W) -> Result<(), ReplayFault> {
-        if !is_behind(&row, self.after) {
+        if !is_after(&row, self.after) {
             return Ok(());
         }
         let Some(request) = request_of(&row) else {
@@ -66,7 +66,7 @@ impl<W: Sink> Hands<KeptRequest, W> for Behind {
     }
 }
 
-// Writes the records of the kept requests behind an ordinal.
+// Writes the records of the kept requests after an ordinal.
 fn export_records<S: Alter, W: Sink>(
     bank: &mut Bank<S>,
     after: u64,
@@ -75,21 +75,21 @@ fn export_records<S: Alter, W: Sink>(
     ensures bank { ReadsBank S.Store bank.old bank.new result }
     ensures rows { HasCleanDisk (file_of bank.new) → (all : List KeptItem)
         → HasKept (database_of S.Store bank.old) all
-        → WritesText (records_behind after all) (W.contents writer.old) (W.contents writer.new) result }
+        → WritesText (records_after after all) (W.contents writer.old) (W.contents writer.new) result }
     ensures writer { LeavesWriter (W.told writer.old) (W.told writer.new) result }
 {
-    hand_all::<S, KeptRequest, W, Behind>(bank, &Behind { after }, writer)?;
+    hand_all::<S, KeptRequest, W, After>(bank, &After { after }, writer)?;
     put_last(writer, "")?;
     Ok(())
 }
 
 /// Writes the kept requests whose ordinals are above a number as the records that they came as, 100 bytes each,
-/// by their ordinals, and flushes the writer. A bank that gets them behind the same plan and the same requests
+/// by their ordinals, and flushes the writer. A bank that gets them after the same plan and the same requests
 /// up to that ordinal keeps what this one keeps, but for the moments.
 ///
 /// # Errors
 ///
-/// At each a beginning of the records was written. None brings the bank down, and none changes the file.
+/// At each a prefix of the records was written. None brings the bank down, and none changes the file.
 ///
 /// | Error | What happened |
 /// |---|---|
@@ -105,9 +105,9 @@ pub fn export<S: Alter, W: Sink>(
 ) -> Result<(), ReplayFault>
     ensures rows { (bank_seen S.Store bank.new).honest → (all : List KeptItem)
         → HasKept (database_of S.Store bank.old) all
-        → WritesText (records_behind after all) (W.contents writer.old) (W.contents writer.new) result }
+        → WritesText (records_after after all) (W.contents writer.old) (W.contents writer.new) result }
     ensures log { (bank_seen S.Store bank.new).honest → (log : List Command)
-        → ShowsLog (bank_seen S.Store bank.old) log → WritesText (records_of after (answered_behind log))
+        → ShowsLog (bank_seen S.Store bank.old) log → WritesText (records_of after (answered_after log))
         (W.contents writer.old) (W.contents writer.new) result }
     ensures writer { LeavesWriter (W.told writer.old) (W.told writer.new) result }
     ensures bank { TakesNone (bank_seen S.Store bank.old) (bank_seen S.Store bank.new) (HasAnswered result) }

@@ -3,7 +3,7 @@ ghost use Rattle.std.specs.Prelude.{◌≡◌};
 ghost use Rattle.bank_replays.specs.declared.fault.ReplayFault.TheVariants.{Bank, Write};
 
 use posting_rules::Fault;
-use report_lines::WriteFault;
+use report_contents::WriteFault;
 use std::fmt;
 
 /// Why not all was written of a bank.

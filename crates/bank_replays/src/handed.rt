@@ -31,7 +31,7 @@ pub(crate) trait Hands<R: WalkedRow, V> {
     ghost Took: { Self → V → V → List R → Type 0 };
 
     /// From the one to the other it took these but for the last, at which this fault came; or all of them, and
-    /// the fault came behind them.
+    /// the fault came after them.
     ghost Part: { Self → V → V → List R → ReplayFault → Type 0 };
 
     /// Hands on one row more.

@@ -25,11 +25,11 @@ use bank_store::Bank;
 use itoa::Buffer;
 use posting_core::Sink;
 use posting_rules::{Counter, Fault};
-use report_lines::{put, put_last};
+use report_contents::{put, put_last};
 use sqlite::Alter;
 use walked_rows::{StoredBranch, StoredFloor};
 
-// The most that a line takes: three numbers of 40 characters, and what stands behind each.
+// The most that a line takes: three numbers of 40 characters, and what stands after each.
 const PLAN_LINE: usize = 123;
 
 type PlanLine = ArrayString<PLAN_LINE>;
@@ -111,7 +111,7 @@ struct Lines {
 }
 
 impl<W: Sink> Hands<StoredBranch, W> for Lines {
-    ghost use Rattle.bank_replays.specs.Beginnings.{all_part, wrote_none};
+    ghost use Rattle.bank_replays.specs.Prefixes.{all_part, wrote_none};
 
     ghost Took = { λ way first last rows.
         Wrote (plan_lines (map floor_entry way.floors.items) (map branch_entry rows))
@@ -168,7 +168,7 @@ fn write_branches<S: Alter, W: Sink>(bank: &mut Bank<S>, writer: &mut W) -> Resu
 ///
 /// # Errors
 ///
-/// At each a beginning of the text was written. None brings the bank down, and none changes the file.
+/// At each a prefix of the text was written. None brings the bank down, and none changes the file.
 ///
 /// | Error | What happened |
 /// |---|---|

@@ -113,7 +113,7 @@ impl<T: Alter + Drop, W: Watch + Drop> Refill<T, W> {
         Ok(())
     }
 
-    // Opens a branch, if it is yet to be opened, behind all that came before.
+    // Opens a branch, if it is yet to be opened, after all that came before.
     fn open(&mut self, branch: u64) -> Result<(), ReplayFault>
         ensures { ShowsSome T.Store self.old.bank → OnOk result (ShowsSome T.Store self.new.bank) }
     {

@@ -10,7 +10,7 @@ ghost use Rattle.walked_rows.specs.KeptRows.{HasKept, KeptItem};
 ghost use Rattle.bank_store.specs.Seen.{bank_seen, connection_of, database_of, fault_of, file_of};
 ghost use Rattle.bank_store.specs.Sparing.{SparesWhileOpen};
 ghost use Rattle.bank_store.specs.Leaving.{StandsWhileOpen, TakesNone};
-ghost use Rattle.bank_replays.specs.Digests.{IsDigestIn, IsDigestOf, answered_behind};
+ghost use Rattle.bank_replays.specs.Digests.{IsDigestIn, IsDigestOf, answered_after};
 ghost use Rattle.bank_replays.specs.FileTables.{FileTables, HasTables};
 ghost use Rattle.bank_replays.specs.Reading.{ReadsBank};
 ghost use Rattle.bank_replays.specs.Refilling.{ShowsSome};
@@ -142,7 +142,7 @@ pub fn replay<S: Alter, W: Watch + Drop>(bank: &mut Bank<S>, watch: W) -> Result
     ensures digest { (bank_seen S.Store bank.new).honest → (all : List KeptItem)
         → HasKept (database_of S.Store bank.old) all → OnAgrees result (IsDigestIn all) }
     ensures log { (bank_seen S.Store bank.new).honest → (log : List Command)
-        → ShowsLog (bank_seen S.Store bank.old) log → OnAgrees result (IsDigestOf (answered_behind log)) }
+        → ShowsLog (bank_seen S.Store bank.old) log → OnAgrees result (IsDigestOf (answered_after log)) }
     ensures bank { TakesNone (bank_seen S.Store bank.old) (bank_seen S.Store bank.new) (HasAnswered result) }
     ensures down { (bank_seen S.Store bank.old).is_down → (result ≡ Err Down) × (bank.new ≡ bank.old) }
     ensures up { fault_of bank.new ≡ fault_of bank.old }

@@ -11,7 +11,7 @@ use walked_rows::{
     StoredRequest, StoredTeller,
 };
 
-// The most numbers that a row has behind its key.
+// The most numbers that a row has after its key.
 const NUMBERS: usize = 7;
 
 // A row of numbers, as a difference shows it.
@@ -22,7 +22,7 @@ trait Shown: Compared {
     // What its numbers are called; nothing for the balance, and for the floor of a branch.
     fn names() -> [&'static str; NUMBERS];
 
-    // Its numbers, with zeros behind them.
+    // Its numbers, with zeros after them.
     fn numbers(&self) -> [i64; NUMBERS];
 }
 

@@ -7,7 +7,7 @@ use Rattle.sqlite.specs.{Effect.Database, State.State, State.HasCleanDisk, State
 use Rattle.posting_rules.specs.declared.fault.{Fault.Fault, Rule.Rule}
 use Rattle.posting_rules.specs.declared.fault.Fault.TheVariants as told
 use Rattle.bank_store.specs.{Walking.Steps, Walks.IsStill, Walks.IsUntouchedIfOpen}
-use Rattle.report_lines.specs.{Beside.AuditRows, declared.limits.TheConstants.MAX_ROWS}
+use Rattle.report_contents.specs.{Beside.AuditRows, declared.limits.TheConstants.MAX_ROWS}
 use Rattle.bank_reports.specs.Adding.{AddsToSums, HasSums, IsPassed}
 use Rattle.bank_reports.specs.{Failures.SaysOf, Files.HasBroken, declared.sums.Sums.Sums}
 use Rattle.bank_store.proofs.StepsKeep.{quiet_then, still_then, still_undone, undone_then}
@@ -78,22 +78,22 @@ module _ {R X : Type 0} (item : R → X) (HasItems : Database → List X → Typ
 
 -- ---- how many there are
 
--- where there are so many rows with lesser keys, all of them above 0, a row with this key is behind them
-abbrev pub IsBehind : ℕ → ℤ → Type 0
-IsBehind count key = (count ≡ 0) ⊎ (pos count <ℤ key)
+-- where there are so many rows with lesser keys, all of them above 0, a row with this key is after them
+abbrev pub IsAfter : ℕ → ℤ → Type 0
+IsAfter count key = (count ≡ 0) ⊎ (pos count <ℤ key)
 
 -- so many rows were added, with lesser keys than those to come; all keys are above 0, and there are no more
 -- than can be
 pub record IsAlong (Comes : ℤ → Type 0) (count : ℕ) : Type 0 where
   pub next : ℤ
   pub comes : Comes next
-  pub behind : IsBehind count next
+  pub after : IsAfter count next
   pub few : count ≤ MAX_ROWS
 
 module _ (Comes Later : ℤ → Type 0) (count : ℕ) (key : ℤ) (it : IsAlong Comes count)
     (from : it.next ≤ℤ key) (n : ℕ) (is : key ≡ pos n) (least : 1 ≤ n) where
   below : count < n
-  below = elim it.behind [
+  below = elim it.after [
     | inl none ↦ omega (arith, none, least)
     | inr above ↦ omega (arith, ints, above, from, is)
   ]
@@ -108,7 +108,7 @@ module _ (Comes Later : ℤ → Type 0) (count : ℕ) (key : ℤ) (it : IsAlong 
       record {
         next = key +ℤ pos 1;
         comes = comes;
-        behind = inr (omega (arith, ints, low, is));
+        after = inr (omega (arith, ints, low, is));
         few = omega (arith, low, within);
       }
 

@@ -3,10 +3,10 @@ use Rattle.std.proofs.Common.{◌≡◌, ◌∙◌, refl, sym, ℕ, List, Option
 use Rattle.posting_rules.specs.declared.fault.Fault.{Fault, TheVariants.Memory, TheVariants.Down, TheVariants.Damaged}
 use Rattle.posting_rules.specs.declared.fault.Rule.{Rule}
 use Rattle.posting_rules.specs.{Commands.Command, Counter.Seen, Counter.ShowsLog}
-use Rattle.report_lines.proofs.Written.{on_err_any}
-use Rattle.report_lines.specs.declared.audit.Audit.{Audit}
+use Rattle.report_contents.proofs.Written.{on_err_any}
+use Rattle.report_contents.specs.declared.audit.Audit.{Audit}
 use Rattle.bank_reports.specs.declared.fault.ReportFault.{ReportFault, TheVariants.Bank}
-use Rattle.bank_reports.specs.{Audits.Audits, Audits.HasAudited, Behind.statement_behind, Postings.HasAnswered}
+use Rattle.bank_reports.specs.{Audits.Audits, Audits.HasAudited, StatedLines.statement_after, Postings.HasAnswered}
 use Rattle.bank_reports.specs.Statements.{States}
 use Rattle.bank_store.specs.Leaving.{TakesNone}
 use Rattle.bank_reports.proofs.Further.{error_is, nothing_written}
@@ -53,7 +53,7 @@ unstated old new account w told fault is sound takes = record {
   found = rw is tt;
   missing = λ none. absurd (not_missing told fault is none);
   silent = λ none. refl;
-  part = on_err_any told (λ clean log s. nothing_written w (statement_behind log account));
+  part = on_err_any told (λ clean log s. nothing_written w (statement_after log account));
   sound = λ rule damaged. sound rule (same_fault told fault (Damaged rule) is damaged);
   takes = takes;
 }

@@ -12,9 +12,9 @@ use Rattle.posting_rules.specs.declared.fault.Rule.TheVariants.{Meta, Teller, Ac
 use Rattle.posting_rules.specs.declared.fault.Rule.TheVariants.{Floor, Reference}
 use Rattle.walked_rows.specs.{declared.stated.StatedPosting.StatedPosting, Pairs.Pair}
 use Rattle.walked_rows.specs.Stored.{BreaksStated, stated_pair}
-use Rattle.report_lines.specs.{Lines.text_of, Written.AppendsPart}
-use Rattle.report_lines.specs.StatementText.{posting_line, posting_lines}
-use Rattle.report_lines.proofs.{Joined.text_of-snoc, Written.same_all, Written.same_part, Written.then_part}
+use Rattle.report_contents.specs.{Lines.text_of, Written.AppendsPart}
+use Rattle.report_contents.specs.StatementText.{posting_line, posting_lines}
+use Rattle.report_contents.proofs.{Joined.text_of-snoc, Written.same_all, Written.same_part, Written.then_part}
 use Rattle.bank_store.specs.Walking.{Steps}
 use Rattle.bank_reports.specs.declared.fault.ReportFault.{ReportFault}
 use Rattle.bank_reports.specs.declared.fault.ReportFault.TheVariants.{NoAccount, Write, Bank}
@@ -22,7 +22,7 @@ use Rattle.bank_reports.specs.Postings.{delta_of, sum_of, WritesLine, WritesPost
 use Rattle.bank_reports.proofs.Lined.{lines-snoc, sum_of-snoc}
 
 -- of these rows those given are written, and those to come aren't; so many were given, and this is the
--- balance behind them
+-- balance after them
 pub record IsFar (all coming : List Pair) (old new : Option (List ℕ)) (balance : ℤ)
     (count : ℕ) : Type 0 where
   pub given : List StatedPosting
@@ -35,11 +35,11 @@ pub at_first : (all coming : List Pair) (old : Option (List ℕ)) → coming ≡
     → IsFar all coming old old (pos 0) 0
 at_first all coming old is = record { given = []; are = is; wrote = Appends-nil old; sum = refl; many = refl }
 
--- nothing is a beginning of a text
+-- nothing is a prefix of a text
 pub nothing_written : (old : Option (List ℕ)) (text : List ℕ) → AppendsPart old old text
 nothing_written old text = record { count = 0; within = omega arith; wrote = Appends-nil old }
 
--- all of a text is a beginning of it
+-- all of a text is a prefix of it
 pub whole_part : (old new : Option (List ℕ)) (text : List ℕ) → Appends old new text
     → AppendsPart old new text
 whole_part old new text wrote = record {

@@ -1,4 +1,4 @@
--- The lines of a statement, over the postings that a file has and behind a log.
+-- The lines of a statement, over the postings that a file has and after a log.
 use Rattle.std.proofs.Common.{◌≡◌, ◌<◌, ◌≤◌, ◌+◌, ◌++◌, ℕ, Bool, true, false, cond}
 use Rattle.std.proofs.Common.{List, [], ◌∷◌, length, map, refl, sym, ap, subst, ◌∙◌, arith}
 use Rattle.std.specs.Prelude.{ℤ, pos, ◌+ℤ◌, nat_abs}
@@ -6,9 +6,9 @@ use Rattle.std.proofs.{lemmas.Int.ints, lemmas.List.length-append, lemmas.List.m
 use Rattle.message_records.specs.declared.limits.TheConstants.{MAX_BALANCE}
 use Rattle.posting_rules.specs.{Entries.DecidedRequest, Entries.account_balance, Laws.total}
 use Rattle.walked_rows.specs.declared.stated.StatedPosting.{StatedPosting}
-use Rattle.report_lines.specs.StatementText.{posting_line, posting_lines}
-use Rattle.report_lines.proofs.OneMore.{total-snoc}
-use Rattle.bank_reports.specs.Behind.{is_posted_to, lines_to, postings_to, stated_of}
+use Rattle.report_contents.specs.StatementText.{posting_line, posting_lines}
+use Rattle.report_contents.proofs.OneMore.{total-snoc}
+use Rattle.bank_reports.specs.StatedLines.{is_posted_to, lines_to, postings_to, stated_of}
 use Rattle.bank_reports.specs.Postings.{delta_of, sum_of}
 use Rattle.bank_reports.proofs.LogHistory.{EachWithin}
 
@@ -35,7 +35,7 @@ lines-snoc rs r = posting_lines-snoc (pos 0) rs r
     ∙ ap (λ (z : ℤ). posting_lines (pos 0) rs ++ posting_line r (z +ℤ delta_of r) ∷ [])
     (omega (arith, ints))
 
--- ---- behind a log
+-- ---- after a log
 
 -- what is posted to an account is its balance
 pub sum_is_balance : (a : ℕ) (es : List DecidedRequest) → sum_of (postings_to a es) ≡ account_balance es a
@@ -49,7 +49,7 @@ sum_is_balance a (e ∷ es) = last (is_posted_to a e) (sum_is_balance a es)
         ∙ ap (λ (z : ℤ). z +ℤ e.request.delta) earlier
     last false earlier = earlier
 
--- the running balance of a line is the account's balance behind it
+-- the running balance of a line is the account's balance after it
 pub lines_are : (a : ℕ) (es : List DecidedRequest) → posting_lines (pos 0) (postings_to a es) ≡ lines_to a es
 lines_are a [] = refl
 lines_are a (e ∷ es) = last (is_posted_to a e) refl (lines_are a es)
@@ -115,7 +115,7 @@ run_more before (x ∷ rs) r all low = (
       (sym (+ℤ_assoc before (delta_of x) (sum_of rs))) low),
 )
 
--- behind a log they are
+-- after a log they are
 pub runs_within : (a : ℕ) (es : List DecidedRequest) → EachWithin a es
     → AllRunWithin (pos 0) (postings_to a es)
 runs_within a [] all = tt

@@ -16,13 +16,13 @@ use Rattle.walked_rows.specs.Rows.{HasStoredRows}
 use Rattle.walked_rows.specs.Stored.{account_entry, branch_entry, posting_entry, request_entry, teller_entry}
 use Rattle.walked_rows.specs.Stored.{IsNoAccount, IsNoBranch, IsNoPosting, IsNoRequest, IsNoTeller}
 use Rattle.walked_rows.proofs.Shown.{has_accounts, has_branches, has_history, has_requests, has_tellers}
-use Rattle.report_lines.specs.Audit.{audit_of, is_sound, posting_ordinal, request_ordinal}
-use Rattle.report_lines.specs.Consistency.{HasOrdinals}
-use Rattle.report_lines.specs.Stored.{StoredTables, account_stored, branch_stored, posting_stored, request_stored}
-use Rattle.report_lines.specs.Stored.{stored, teller_stored}
-use Rattle.report_lines.proofs.OfTables.{tells_of_tables}
+use Rattle.report_contents.specs.Audit.{audit_of, is_sound, posting_ordinal, request_ordinal}
+use Rattle.report_contents.specs.Consistency.{HasOrdinals}
+use Rattle.report_contents.specs.Stored.{StoredTables, account_stored, branch_stored, posting_stored, request_stored}
+use Rattle.report_contents.specs.Stored.{stored, teller_stored}
+use Rattle.report_contents.proofs.OfTables.{tells_of_tables}
 use Rattle.bank_reports.specs.Files.{HasBroken, HasBrokenRow, HasFile, rows_in}
-use Rattle.bank_reports.proofs.{Passed.split_map, StatementReports.all_behind, StatementReports.outside_none}
+use Rattle.bank_reports.proofs.{Passed.split_map, StatementReports.all_after, StatementReports.outside_none}
 
 -- ---- keys that rise are distinct
 
@@ -104,7 +104,7 @@ none_broken f entry Breaks P never xs each broken =
     let all = recursion_from_All P xs (λ k d low. each _ (All-contains_itself xs k d low)) in
     let row = split_map entry (map f xs) broken.0 broken.1 broken.2 broken.3 in
     let it = split_map f xs row.0 row.1 row.2 row.3 in
-    let here = all_behind P it.0 (it.1 ∷ it.2) (subst (AllByRecursion P) it.3 all) in
+    let here = all_after P it.0 (it.1 ∷ it.2) (subst (AllByRecursion P) it.3 all) in
     never it.1 here.0 (subst Breaks (row.4 ∙ ap entry it.4) broken.4)
 
 module _ (t : Tables) (log : List Command) (are : AreCommands log) (shows : AreTablesOf t log) where

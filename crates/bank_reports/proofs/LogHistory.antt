@@ -13,7 +13,7 @@ use Rattle.posting_rules.specs.{Cases.case_of, Entries.DecidedRequest, Entries.i
 use Rattle.posting_rules.specs.{Entries.account_balance, Entries.with_verdict, Entries.with_record, Entries.decided}
 use Rattle.posting_rules.specs.Tables.{row_at, history_key, history_row, history_row_of}
 use Rattle.posting_rules.proofs.BalanceLimits.{stays_within}
-use Rattle.bank_reports.proofs.RisingRows.{Rising, all-append, all_as, find_behind, find_before, not_under}
+use Rattle.bank_reports.proofs.RisingRows.{Rising, all-append, all_as, find_after, find_before, not_under}
 use Rattle.bank_reports.proofs.RisingRows.{rising_more}
 
 -- the postings of decided requests, the oldest first
@@ -58,7 +58,7 @@ postings_under (e ∷ es) o = last (is_posted e) (postings_under es o)
         → row_at history_key (postings_of es ++ history_row_of (length es + 1) e ∷ []) o
         ≡ cond b (Some (history_row_of o e)) (history_row es o)
     there true earlier is =
-        find_behind (λ r. eqb (history_key r) o) (postings_of es) (history_row_of (length es + 1) e ∷ [])
+        find_after (λ r. eqb (history_key r) o) (postings_of es) (history_row_of (length es + 1) e ∷ [])
         (not_under history_key o (postings_of es)
         (all_as (λ r. history_key r ≤ length es) (λ r. history_key r ≡ o → ⊥)
         (λ r low same. let at = eqb-true (length es + 1) o is in omega (arith, low, same, at))

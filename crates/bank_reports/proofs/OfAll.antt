@@ -6,7 +6,7 @@ use Rattle.std.proofs.lemmas.Result.{IfOk-weaker}
 use Rattle.sqlite.specs.{Effect.Database, Held.Held}
 use Rattle.sqlite_trees.specs.declared.store.Store.{Ghosts}
 use Rattle.posting_rules.specs.declared.fault.{Fault.Fault, Rule.Rule}
-use Rattle.report_lines.specs.Beside.{AuditRows}
+use Rattle.report_contents.specs.Beside.{AuditRows}
 use Rattle.bank_store.specs.{Seen.connection_of, Seen.database_of, declared.bank.Bank.Bank, declared.walks.Walk.Walk}
 use Rattle.bank_store.specs.Walking.{BeginsWalk, items_to_come, lent}
 use Rattle.bank_reports.specs.{Adding.AddsToSums, Files.HasBroken, declared.sums.Sums.Sums}
@@ -23,7 +23,7 @@ module _ {S R X : Type 0} {g : Ghosts S} {key : X → ℤ} {item : R → X} {is_
   there : (all : List X) → HasItems (database_of g old) all → HasItems (database_of g (lent walk)) all
   there all = subst (λ bank. HasItems (database_of g bank) all) (sym begins.same)
 
-  -- at the end of the loan and behind it
+  -- at the end of the loan and after it
   pub told_of_all : (Breaks : Rule → X → Type 0) {Clean Later : Type 0} {last new : Held S}
       → (Clean → (all : List X) → HasItems (database_of g (lent walk)) all
       → IfErr r (SaysOf (λ rule. HasBroken (Breaks rule) (to_come all))

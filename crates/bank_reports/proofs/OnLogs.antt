@@ -17,13 +17,13 @@ use Rattle.sql_meanings.proofs.Contents.{held}
 use Rattle.store_rows.specs.BankTables.{bank_tables, history as history_table, reference as reference_table}
 use Rattle.store_rows.specs.View.{contents, history_entry, reference_entry, Shows}
 use Rattle.walked_rows.specs.{declared.stated.StatedPosting.StatedPosting, Pairs.HasPairs, Pairs.Pair, Pairs.paired}
-use Rattle.walked_rows.specs.{Pairs.row_under, References.text_behind, References.text_entry}
+use Rattle.walked_rows.specs.{Pairs.row_under, References.text_after, References.text_entry}
 use Rattle.walked_rows.specs.Stored.{is_of, is_stated_of, posting_entry, stated_pair}
 use Rattle.walked_rows.proofs.{Joining.paired_filter, Shown.has_history, Shown.has_references}
-use Rattle.report_lines.specs.Lines.{text_of}
-use Rattle.report_lines.specs.StatementText.{heading_line, names_line, posting_line, posting_lines, closing_line}
-use Rattle.report_lines.proofs.Joined.{text_of-append}
-use Rattle.bank_reports.specs.Behind.{is_posted_to, lines_to, postings_to, stated_of, statement_behind}
+use Rattle.report_contents.specs.Lines.{text_of}
+use Rattle.report_contents.specs.StatementText.{heading_line, names_line, posting_line, posting_lines, closing_line}
+use Rattle.report_contents.proofs.Joined.{text_of-append}
+use Rattle.bank_reports.specs.StatedLines.{is_posted_to, lines_to, postings_to, stated_of, statement_after}
 use Rattle.bank_reports.specs.Postings.{delta_of, sum_of, text_so_far}
 use Rattle.bank_reports.proofs.{Read.posting_back, Read.posting_in, Read.under, Lined.lines_are}
 use Rattle.bank_reports.proofs.RisingRows.{Rising, all-append, all_as, rising_once}
@@ -168,10 +168,10 @@ pairs_are es references same (s ∷ ss) all =
     ∙ ap (option_map reference_entry) (same o ∙ all.0.1) ∙ own_text o s.reference in
     rw (beside, pairs_are es references same ss all.1) refl
 
--- ---- a beginning of them
+-- ---- a prefix of them
 
 stated_in : Pair → StatedPosting
-stated_in p = record { posting = posting_in p.entry; reference = option_map text_behind p.beside }
+stated_in p = record { posting = posting_in p.entry; reference = option_map text_after p.beside }
 
 stated_back : (s : StatedPosting) → stated_in (stated_pair s) ≡ s
 unfolding stated_in
@@ -195,12 +195,12 @@ rest_of [] = []
 rest_of (x ∷ xs) = xs
 
 -- rows that begin with those of some postings
-pub beginning : (given ps : List StatedPosting) (rest : List Pair) → map stated_pair given ++ rest
+pub prefix : (given ps : List StatedPosting) (rest : List Pair) → map stated_pair given ++ rest
     ≡ map stated_pair ps
     → (more : List StatedPosting) × (ps ≡ given ++ more) × (rest ≡ map stated_pair more)
-beginning [] ps rest same = (ps, refl, same)
-beginning (g ∷ given) [] rest same = absurd cc
-beginning (g ∷ given) (p ∷ ps) rest same = next (beginning given ps rest (tails same))
+prefix [] ps rest same = (ps, refl, same)
+prefix (g ∷ given) [] rest same = absurd cc
+prefix (g ∷ given) (p ∷ ps) rest same = next (prefix given ps rest (tails same))
   where
     tails : stated_pair g ∷ (map stated_pair given ++ rest) ≡ stated_pair p ∷ map stated_pair ps
         → map stated_pair given ++ rest ≡ map stated_pair ps
@@ -232,13 +232,13 @@ text-append before (r ∷ rs) more =
     ∙ ap (λ (z : ℤ). posting_lines (before +ℤ delta_of r) rs ++ posting_lines z more)
     (+ℤ_assoc before (delta_of r) (sum_of rs)))
 
--- the statement so far is a beginning of that of the log
+-- the statement so far is a prefix of that of the log
 pub text_begins : (a : ℕ) (log : List Command) (given more : List StatedPosting) (rest : List Pair)
     → postings_to a (decided log) ≡ given ++ more
     → rest ≡ map stated_pair more
-    → (behind : List ℕ) × (text_so_far a (account_balance (decided log) a) given rest ++ behind
-    ≡ statement_behind log a)
-unfolding statement_behind
+    → (after : List ℕ) × (text_so_far a (account_balance (decided log) a) given rest ++ after
+    ≡ statement_after log a)
+unfolding statement_after
 text_begins a log given [] rest is left = (
   [],
   append-nil _ ∙ ap (λ r. text_so_far a (account_balance (decided log) a) given r) left
@@ -265,8 +265,8 @@ text_begins a log given (p ∷ more) rest is left =
 -- the whole statement is that of the log
 pub text_ends : (a : ℕ) (log : List Command) (given more : List StatedPosting)
     → postings_to a (decided log) ≡ given ++ more → [] ≡ map stated_pair more
-    → text_so_far a (account_balance (decided log) a) given [] ≡ statement_behind log a
-unfolding statement_behind
+    → text_so_far a (account_balance (decided log) a) given [] ≡ statement_after log a
+unfolding statement_after
 text_ends a log given [] is left =
     ap (λ l. text_of (heading_line a ∷ names_line
     ∷ (l ++ closing_line (account_balance (decided log) a) ∷ [])))

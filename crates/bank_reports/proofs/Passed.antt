@@ -79,16 +79,16 @@ failed_later g old mid new later failed = record {
   failed = failed.failed;
 }
 
--- so it does behind other passes
-pub says_behind : {S : Type 0} {Breaks AnyBreaks : Rule → Type 0} (g : Ghosts S) (old mid new : Held S)
+-- so it does after other passes
+pub says_after : {S : Type 0} {Breaks AnyBreaks : Rule → Type 0} (g : Ghosts S) (old mid new : Held S)
     (fault : Fault) → ((rule : Rule) → Breaks rule → AnyBreaks rule)
     → IsPassed (state g old) (state g mid) (Ok tt) → SaysOf Breaks (HasFailedToRead g mid new) fault
     → SaysOf AnyBreaks (HasFailedToRead g old new) fault
-says_behind g old mid new told.Memory any pass says = says
-says_behind g old mid new told.Store any pass says =
+says_after g old mid new told.Memory any pass says = says
+says_after g old mid new told.Store any pass says =
     failed_later g old mid new (comes pass.survives) says
-says_behind g old mid new told.Down any pass says = tt
-says_behind g old mid new (told.Damaged rule) any pass says = any rule says
+says_after g old mid new told.Down any pass says = tt
+says_after g old mid new (told.Damaged rule) any pass says = any rule says
 
 -- the connection is as that read left it
 pub failed_at_end : {S : Type 0} {g : Ghosts S} {old last new : Held S} → HasFailedToRead g old last

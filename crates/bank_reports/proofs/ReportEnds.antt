@@ -2,7 +2,7 @@
 use Rattle.std.proofs.Common.{◌≡◌, ℕ, zero, suc, List, [], take, Ok, Err, Result, refl, subst}
 use Rattle.std.specs.Prelude.{OnErr, OnOk}
 use Rattle.posting_rules.specs.declared.fault.Fault.{Fault}
-use Rattle.posting_rules.specs.{declared.fault.Rule.Rule, Commands.Command, Runs.behind, Tables.AreTablesOf}
+use Rattle.posting_rules.specs.{declared.fault.Rule.Rule, Commands.Command, Runs.followed_by, Tables.AreTablesOf}
 use Rattle.posting_rules.specs.declared.fault.Fault.TheVariants.{Memory, Store, Down, Damaged}
 use Rattle.posting_rules.specs.Counter.{Seen, ShowsLog, StandsAt, Refuses, LeavesNoMore, LeavesOnly}
 use Rattle.bank_reports.specs.{declared.fault.ReportFault.ReportFault, Postings.HasAnswered, Postings.HasWritten}
@@ -101,6 +101,6 @@ pub refused_leaves : (fault : Fault) (old new : Seen) → Refuses fault old new 
 refused_leaves Memory old new refused honest log at = leaves_same old new log refused.left at.survives
 refused_leaves Store old new refused honest log at = λ remains left.
     let it = refused.survives honest log at remains left in
-    (it.0, it.1, subst (λ cs. AreTablesOf it.0 (behind log cs)) (none_taken it.2.count) it.2.shows)
+    (it.0, it.1, subst (λ cs. AreTablesOf it.0 (followed_by log cs)) (none_taken it.2.count) it.2.shows)
 refused_leaves Down old new refused honest log at = leaves_same old new log refused.left at.survives
 refused_leaves (Damaged rule) old new refused honest log at = absurd (refused.never_shown honest log at.shows)

@@ -15,13 +15,13 @@ pub all_as : {X : Type 0} (P Q : X → Type 0) → ((x : X) → P x → Q x) →
 all_as P Q f [] all = tt
 all_as P Q f (x ∷ xs) all = (f x all.0, all_as P Q f xs all.1)
 
--- what isn't found in front is looked for behind
-pub find_behind : {X : Type 0} (p : X → Bool) (xs ys : List X) → find p xs ≡ None → find p (xs ++ ys)
+-- what isn't found in front is looked for after
+pub find_after : {X : Type 0} (p : X → Bool) (xs ys : List X) → find p xs ≡ None → find p (xs ++ ys)
     ≡ find p ys
-find_behind p [] ys none = refl
-find_behind p (x ∷ xs) ys none = elim (cases_Bool (p x)) [
+find_after p [] ys none = refl
+find_after p (x ∷ xs) ys none = elim (cases_Bool (p x)) [
   | inl t ↦ absurd (let e = rw t at none in cc)
-  | inr f ↦ rw f (find_behind p xs ys (rw f at none))
+  | inr f ↦ rw f (find_after p xs ys (rw f at none))
 ]
 
 -- a last one that doesn't pass is as good as none

@@ -3,16 +3,16 @@ use Rattle.std.proofs.Common.{◌≡◌, ◌++◌, ℕ, List, [], ◌∷◌, Opt
 use Rattle.std.specs.{Prelude.ℤ, Prelude.pos, Io.KnownBytes.Appends}
 use Rattle.std.proofs.KnownBytes.{Appends-trans}
 use Rattle.walked_rows.specs.{declared.stated.StatedPosting.StatedPosting, Pairs.Pair}
-use Rattle.report_lines.specs.{Lines.text_of, Written.AppendsPart}
-use Rattle.report_lines.specs.StatementText.{heading_line, names_line, posting_lines, closing_line}
-use Rattle.report_lines.proofs.Joined.{text_of-append}
-use Rattle.report_lines.proofs.Written.{first_part, same_all, same_part, then_part}
+use Rattle.report_contents.specs.{Lines.text_of, Written.AppendsPart}
+use Rattle.report_contents.specs.StatementText.{heading_line, names_line, posting_lines, closing_line}
+use Rattle.report_contents.proofs.Joined.{text_of-append}
+use Rattle.report_contents.proofs.Written.{first_part, same_all, same_part, then_part}
 use Rattle.bank_reports.specs.declared.fault.ReportFault.{ReportFault, TheVariants.Write}
-use Rattle.bank_reports.specs.Postings.{WritesPostings, WritesStatement, closing_behind, text_so_far}
+use Rattle.bank_reports.specs.Postings.{WritesPostings, WritesStatement, closing_after, text_so_far}
 
 module _ (account : ℕ) (balance : ℤ) (all : List Pair) (old : Option (List ℕ)) where
   later : List StatedPosting → List Pair → List ℕ
-  later given rest = text_of (posting_lines (pos 0) given ++ closing_behind rest balance)
+  later given rest = text_of (posting_lines (pos 0) given ++ closing_after rest balance)
 
   -- the heading failed
   pub heading_err : (new : Option (List ℕ)) → AppendsPart old new (heading_line account)
@@ -42,12 +42,12 @@ module _ (account : ℕ) (balance : ℤ) (all : List Pair) (old : Option (List �
     }
 
     module _ (two : Option (List ℕ)) (names : Appends one two names_line) where
-      -- a beginning of what stands behind the names
-      behind : (new : Option (List ℕ)) (given : List StatedPosting) (rest : List Pair)
+      -- a prefix of what stands after the names
+      after : (new : Option (List ℕ)) (given : List StatedPosting) (rest : List Pair)
           → AppendsPart two new (later given rest)
           → AppendsPart old new (text_so_far account balance given rest)
       unfolding later
-      behind new given rest part =
+      after new given rest part =
           then_part old one new (heading_line account) (names_line ++ later given rest) heading
           (then_part one two new names_line (later given rest) names part)
 
@@ -61,11 +61,11 @@ module _ (account : ℕ) (balance : ℤ) (all : List Pair) (old : Option (List �
         rest = p.rest;
         are = p.are;
         why = p.why;
-        wrote = behind new p.given p.rest
+        wrote = after new p.given p.rest
             (same_part two new (sym
-            (text_of-append (posting_lines (pos 0) p.given) (closing_behind p.rest balance)))
+            (text_of-append (posting_lines (pos 0) p.given) (closing_after p.rest balance)))
             (first_part two new (text_of (posting_lines (pos 0) p.given))
-            (text_of (closing_behind p.rest balance)) p.wrote));
+            (text_of (closing_after p.rest balance)) p.wrote));
       }
 
       module _ (three : Option (List ℕ)) (p : WritesPostings all two three (Ok tt)) where
@@ -74,7 +74,7 @@ module _ (account : ℕ) (balance : ℤ) (all : List Pair) (old : Option (List �
         closes =
             ap (λ l. text_of (posting_lines (pos 0) p.given) ++ l) (sym (append-nil (closing_line balance)))
             ∙ sym (text_of-append (posting_lines (pos 0) p.given) (closing_line balance ∷ []))
-            ∙ ap (λ rest. text_of (posting_lines (pos 0) p.given ++ closing_behind rest balance))
+            ∙ ap (λ rest. text_of (posting_lines (pos 0) p.given ++ closing_after rest balance))
             (sym p.why)
 
         -- the closing line failed
@@ -85,7 +85,7 @@ module _ (account : ℕ) (balance : ℤ) (all : List Pair) (old : Option (List �
           rest = p.rest;
           are = p.are;
           why = tt;
-          wrote = behind new p.given p.rest (same_part two new closes
+          wrote = after new p.given p.rest (same_part two new closes
               (then_part two three new (text_of (posting_lines (pos 0) p.given)) (closing_line balance)
               p.wrote part));
         }

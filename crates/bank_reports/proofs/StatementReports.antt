@@ -10,19 +10,19 @@ use Rattle.message_records.specs.declared.limits.TheConstants.{MAX_BALANCE, MAX_
 use Rattle.posting_rules.specs.declared.limits.TheConstants.{MAX_DECIDED}
 use Rattle.posting_rules.specs.declared.fault.{Rule.Rule, Fault.TheVariants.Damaged}
 use Rattle.posting_rules.specs.Commands.{Command, AreCommands, is_account_open, opened}
-use Rattle.posting_rules.specs.Entries.{DecidedRequest, decided, account_balance, balance_behind}
+use Rattle.posting_rules.specs.Entries.{DecidedRequest, decided, account_balance, balance_after}
 use Rattle.posting_rules.proofs.SoundEntries.{AreSound, are_sound, few_enough}
 use Rattle.walked_rows.specs.{Pairs.Pair, Reading.IsOutside, References.BreaksReference, References.text_entry}
 use Rattle.walked_rows.specs.{Stored.BreaksStated, Stored.stated_pair, declared.stated.StatedPosting.StatedPosting}
-use Rattle.report_lines.specs.Written.{AppendsPart}
-use Rattle.report_lines.proofs.Written.{first_part, same_all, same_part}
+use Rattle.report_contents.specs.Written.{AppendsPart}
+use Rattle.report_contents.proofs.Written.{first_part, same_all, same_part}
 use Rattle.bank_reports.specs.declared.fault.ReportFault.{ReportFault, TheVariants.Bank}
-use Rattle.bank_reports.specs.Behind.{is_posted_to, postings_to, stated_of, statement_behind}
+use Rattle.bank_reports.specs.StatedLines.{is_posted_to, postings_to, stated_of, statement_after}
 use Rattle.bank_reports.specs.Postings.{StopsAtBalance, StopsAtRow, WhyDamaged, WritesStatement, delta_of, sum_of}
 use Rattle.bank_reports.specs.Postings.{text_so_far}
 use Rattle.bank_reports.proofs.{LogHistory.each_within, RisingRows.all-append}
 use Rattle.bank_reports.proofs.Lined.{AllRunWithin, few_postings, never_beyond, runs_within}
-use Rattle.bank_reports.proofs.OnLogs.{beginning, one_entry, text_begins, text_ends}
+use Rattle.bank_reports.proofs.OnLogs.{prefix, one_entry, text_begins, text_ends}
 
 -- ---- the rows can be read
 
@@ -62,10 +62,10 @@ not_broken s broken can (inl own) = elim own.1 [
 ]
 not_broken s broken can (inr beside) = is_read s.posting.ordinal broken s.reference can.3 beside
 
-pub all_behind : {X : Type 0} (P : X → Type 0) (xs ys : List X) → AllByRecursion P (xs ++ ys)
+pub all_after : {X : Type 0} (P : X → Type 0) (xs ys : List X) → AllByRecursion P (xs ++ ys)
     → AllByRecursion P ys
-all_behind P [] ys all = all
-all_behind P (x ∷ xs) ys all = all_behind P xs ys all.1
+all_after P [] ys all = all
+all_after P (x ∷ xs) ys all = all_after P xs ys all.1
 
 first_head : {X : Type 0} (x y : X) (xs ys : List X) → x ∷ xs ≡ y ∷ ys → x ≡ y
 first_head {X} x y xs ys same = ap head same
@@ -86,9 +86,9 @@ module _ (a : ℕ) (log : List Command) (are : AreCommands log) (given more : Li
       first_head stops.0 (stated_pair s) stops.1 (map stated_pair left) (sym stops.2 ∙ read) in
       let all = subst (λ ss. AllByRecursion IsReadable ss) is
       (readable a (decided log) (are_sound log are)) in
-      let behind : AllByRecursion IsReadable (s ∷ left) =
-      subst (λ ss. AllByRecursion IsReadable ss) (sym same) (all_behind IsReadable given more all) in
-      not_broken s broken behind.0 (subst (λ p. BreaksStated broken p) e stops.3)
+      let after : AllByRecursion IsReadable (s ∷ left) =
+      subst (λ ss. AllByRecursion IsReadable ss) (sym same) (all_after IsReadable given more all) in
+      not_broken s broken after.0 (subst (λ p. BreaksStated broken p) e stops.3)
 
   not_many : 2 ^ 64 - 1 ≤ length given → ⊥
   not_many many =
@@ -121,7 +121,7 @@ module _ (a : ℕ) (log : List Command) (are : AreCommands log) (given more : Li
 -- ---- what is told of the whole
 
 -- an open account has its balance
-pub balance_is : (log : List Command) (a : ℕ) (z : ℤ) → Some z ≡ balance_behind log a → z
+pub balance_is : (log : List Command) (a : ℕ) (z : ℤ) → Some z ≡ balance_after log a → z
     ≡ account_balance (decided log) a
 balance_is log a z is = by_test (is_account_open (λ b. opened log b) a) is
   where
@@ -134,18 +134,18 @@ module _ (a : ℕ) (balance : ℤ) (log : List Command) (is : balance ≡ accoun
     (all : List Pair)
     (rows : all ≡ map stated_pair (postings_to a (decided log))) (old new : Option (List ℕ)) where
   -- the statement is that of the log
-  pub told_whole : WritesStatement a balance all old new (Ok tt) → Appends old new (statement_behind log a)
+  pub told_whole : WritesStatement a balance all old new (Ok tt) → Appends old new (statement_after log a)
   told_whole w =
-      let b = beginning w.given (postings_to a (decided log)) w.rest (w.are ∙ rows) in
+      let b = prefix w.given (postings_to a (decided log)) w.rest (w.are ∙ rows) in
       same_all old new
       (ap (λ r. text_so_far a balance w.given r) w.why ∙ ap (λ (z : ℤ). text_so_far a z w.given []) is
       ∙ text_ends a log w.given b.0 b.1 (sym w.why ∙ b.2)) w.wrote
 
-  -- at a fault a beginning of it was written
+  -- at a fault a prefix of it was written
   pub told_part : (fault : ReportFault) → WritesStatement a balance all old new (Err fault)
-      → AppendsPart old new (statement_behind log a)
+      → AppendsPart old new (statement_after log a)
   told_part fault w =
-      let b = beginning w.given (postings_to a (decided log)) w.rest (w.are ∙ rows) in
+      let b = prefix w.given (postings_to a (decided log)) w.rest (w.are ∙ rows) in
       let it = text_begins a log w.given b.0 w.rest b.1 b.2 in
       same_part old new it.1
       (first_part old new _ it.0
@@ -155,14 +155,14 @@ module _ (a : ℕ) (balance : ℤ) (log : List Command) (is : balance ≡ accoun
   pub told_sound : AreCommands log → (rule : Rule)
       → WritesStatement a balance all old new (Err (Bank (Damaged rule))) → ⊥
   told_sound are rule w =
-      let b = beginning w.given (postings_to a (decided log)) w.rest (w.are ∙ rows) in
+      let b = prefix w.given (postings_to a (decided log)) w.rest (w.are ∙ rows) in
       no_damage a log are w.given b.0 b.1 w.rest rule b.2 w.why
 
 -- what is told of an account where the bank shows a log
 pub record ToldOfLog (a : ℕ) (log : List Command) (old new : Option (List ℕ))
     (answer : Result (Unit {0}) ReportFault) : Type 0 where
   pub balance : ℤ
-  pub is : Some balance ≡ balance_behind log a
+  pub is : Some balance ≡ balance_after log a
   pub all : List Pair
   pub rows : all ≡ map stated_pair (postings_to a (decided log))
   pub told : WritesStatement a balance all old new answer
@@ -174,11 +174,11 @@ module _ {a : ℕ} {log : List Command} {old new : Option (List ℕ)} {answer : 
       → WritesStatement a it.balance it.all old new other
   as_told other is = subst (λ r. WritesStatement a it.balance it.all old new r) is it.told
 
-  pub log_whole : answer ≡ Ok tt → Appends old new (statement_behind log a)
+  pub log_whole : answer ≡ Ok tt → Appends old new (statement_after log a)
   log_whole is =
       told_whole a it.balance log (balance_is log a it.balance it.is) it.all it.rows old new (as_told _ is)
 
-  pub log_part : (fault : ReportFault) → answer ≡ Err fault → AppendsPart old new (statement_behind log a)
+  pub log_part : (fault : ReportFault) → answer ≡ Err fault → AppendsPart old new (statement_after log a)
   log_part fault is =
       told_part a it.balance log (balance_is log a it.balance it.is) it.all it.rows old new fault (as_told _ is)
 

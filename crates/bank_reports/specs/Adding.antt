@@ -8,9 +8,9 @@ use Rattle.walked_rows.specs.declared.tellers.StoredTeller.{StoredTeller}
 use Rattle.walked_rows.specs.declared.postings.StoredPosting.{StoredPosting}
 use Rattle.walked_rows.specs.declared.requests.StoredRequest.{StoredRequest}
 use Rattle.walked_rows.specs.declared.joined.Joined.{Joined}
-use Rattle.report_lines.specs.Added.{IsSum, HasBeside, HasBranches, HasTellers}
-use Rattle.report_lines.specs.Audit.{account_balance}
-use Rattle.report_lines.specs.Beside.{AuditRows}
+use Rattle.report_contents.specs.Added.{IsSum, HasBeside, HasBranches, HasTellers}
+use Rattle.report_contents.specs.Audit.{account_balance}
+use Rattle.report_contents.specs.Beside.{AuditRows}
 use Rattle.bank_store.specs.Walks.{IsStill, IsUntouchedIfOpen}
 use Rattle.bank_reports.specs.declared.sums.Sums.{Sums}
 
@@ -53,7 +53,7 @@ AddsToSums with_rows old new given = (rows : AuditRows) → HasSums old (with_ro
 
 -- ---- what a pass leaves of a connection
 
--- A stop leaves what it could leave before. At Ok the connection sees what it saw, and at a fault too, as
+-- A crash leaves what it could leave before. At Ok the connection sees what it saw, and at a fault too, as
 -- long as the store is open.
 pub record IsPassed (old new : State) (result : Result (Unit {0}) Fault) : Type 0 where
   pub survives : Survives old new (λ _. ⊥)

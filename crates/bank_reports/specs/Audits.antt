@@ -13,10 +13,10 @@ use Rattle.posting_rules.specs.declared.fault.Fault.{Fault}
 use Rattle.posting_rules.specs.declared.fault.Fault.TheVariants.{Damaged, Store}
 use Rattle.posting_rules.specs.declared.fault.Rule.{Rule}
 use Rattle.posting_rules.specs.declared.fault.Rule.TheVariants.{Value}
-use Rattle.report_lines.specs.Audit.{audit_of, is_sound}
-use Rattle.report_lines.specs.Consistency.{IsSoundFile}
-use Rattle.report_lines.specs.Stored.{StoredTables, stored}
-use Rattle.report_lines.specs.declared.audit.Audit.{Audit}
+use Rattle.report_contents.specs.Audit.{audit_of, is_sound}
+use Rattle.report_contents.specs.Consistency.{IsSoundFile}
+use Rattle.report_contents.specs.Stored.{StoredTables, stored}
+use Rattle.report_contents.specs.declared.audit.Audit.{Audit}
 use Rattle.bank_store.specs.Seen.{connection_of, database_of}
 use Rattle.bank_store.specs.declared.bank.Bank.{Bank}
 use Rattle.bank_reports.specs.Differing.{EachPostedOnce}

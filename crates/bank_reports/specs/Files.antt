@@ -7,7 +7,7 @@ use Rattle.store_rows.specs.BankTables.{request as request_table, teller as tell
 use Rattle.walked_rows.specs.Rows.{HasStoredRows}
 use Rattle.walked_rows.specs.Stored.{account_entry, branch_entry, posting_entry, request_entry, teller_entry}
 use Rattle.walked_rows.specs.Stored.{IsNoAccount, IsNoBranch, IsNoPosting, IsNoRequest, IsNoTeller}
-use Rattle.report_lines.specs.Stored.{StoredTables}
+use Rattle.report_contents.specs.Stored.{StoredTables}
 
 -- the rows of five tables
 pub record FileRows : Type 0 where

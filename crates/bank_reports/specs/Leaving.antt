@@ -36,5 +36,5 @@ pub record ReadsRows {S : Type 0} (g : Ghosts S) (old new : Bank S g)
   -- the store is open
   pub still : HasCleanDisk (file_of new) → HasWritten told → IsStill (file_of old) (file_of new)
   pub undone : HasCleanDisk (file_of new) → IsUntouchedIfOpen (file_of old) (file_of new)
-  -- a stop leaves what it could leave before
+  -- a crash leaves what it could leave before
   pub survives : Survives (file_of old) (file_of new) (λ _. ⊥)

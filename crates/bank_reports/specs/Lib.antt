@@ -1,7 +1,7 @@
 -- What reports of a bank in a file write.
 pub mod Faults
 pub mod Postings
-pub mod Behind
+pub mod StatedLines
 pub mod Files
 pub mod Adding
 pub mod Failures

@@ -12,9 +12,9 @@ use Rattle.bank_transactions.specs.Stored.{IsStoredBalance}
 use Rattle.walked_rows.specs.declared.stated.StatedPosting.{StatedPosting}
 use Rattle.walked_rows.specs.Pairs.{Pair}
 use Rattle.walked_rows.specs.Stored.{BreaksStated, is_stated_of, stated_pair}
-use Rattle.report_lines.specs.Lines.{text_of}
-use Rattle.report_lines.specs.StatementText.{heading_line, names_line, posting_line, posting_lines, closing_line}
-use Rattle.report_lines.specs.Written.{AppendsPart}
+use Rattle.report_contents.specs.Lines.{text_of}
+use Rattle.report_contents.specs.StatementText.{heading_line, names_line, posting_line, posting_lines, closing_line}
+use Rattle.report_contents.specs.Written.{AppendsPart}
 use Rattle.bank_reports.specs.declared.fault.ReportFault.{ReportFault}
 use Rattle.bank_reports.specs.declared.fault.ReportFault.TheVariants.{NoAccount, Write, Bank}
 
@@ -25,7 +25,7 @@ delta_of s = s.posting.delta
 abbrev pub sum_of : List StatedPosting → ℤ
 sum_of rows = total (map delta_of rows)
 
--- The line of a posting was written, and this is the balance behind it; or a beginning of it was; or that
+-- The line of a posting was written, and this is the balance after it; or a prefix of it was; or that
 -- balance is out of its limits, and nothing was written.
 abbrev pub WritesLine : StatedPosting → ℤ → Option (List ℕ) → Option (List ℕ)
     → Result ℤ ReportFault → Type 0
@@ -40,7 +40,7 @@ WritesLine s before old new (Err _) = ⊥
 abbrev pub StopsAtRow : List Pair → Rule → Type 0
 StopsAtRow rest broken = (p : Pair) × (more : List Pair) × (rest ≡ p ∷ more) × BreaksStated broken p
 
--- the balance behind the first row that wasn't given is out of its limits
+-- the balance after the first row that wasn't given is out of its limits
 abbrev pub StopsAtBalance : List StatedPosting → List Pair → Type 0
 StopsAtBalance given rest =
     (s : StatedPosting) × (more : List Pair) × (rest ≡ stated_pair s ∷ more)
@@ -62,7 +62,7 @@ Why given rest (Err (Bank Store)) = ⊤
 Why given rest (Err (Bank Down)) = ⊤
 Why given rest (Err (Bank (Damaged rule))) = WhyDamaged given rest rule
 
--- all of a text was written, or at a fault a beginning of it
+-- all of a text was written, or at a fault a prefix of it
 abbrev pub WritesText : {E : Type 0} → List ℕ → Option (List ℕ) → Option (List ℕ)
     → Result (Unit {0}) E → Type 0
 WritesText text old new (Ok done) = Appends old new text
@@ -78,16 +78,16 @@ pub record WritesPostings (all : List Pair) (old new : Option (List ℕ))
   pub why : Why given rest result
   pub wrote : WritesText (text_of (posting_lines (pos 0) given)) old new result
 
--- the closing line is behind the last posting
-abbrev pub closing_behind : List Pair → ℤ → List (List ℕ)
-closing_behind [] balance = closing_line balance ∷ []
-closing_behind (p ∷ rest) balance = []
+-- the closing line is after the last posting
+abbrev pub closing_after : List Pair → ℤ → List (List ℕ)
+closing_after [] balance = closing_line balance ∷ []
+closing_after (p ∷ rest) balance = []
 
 -- the statement so far
 abbrev pub text_so_far : ℕ → ℤ → List StatedPosting → List Pair → List ℕ
 text_so_far account balance given rest =
     text_of (heading_line account ∷ names_line
-    ∷ (posting_lines (pos 0) given ++ closing_behind rest balance))
+    ∷ (posting_lines (pos 0) given ++ closing_after rest balance))
 
 -- the same of the whole statement
 pub record WritesStatement (account : ℕ) (balance : ℤ) (all : List Pair) (old new : Option (List ℕ))

@@ -4,7 +4,7 @@ use Rattle.std.specs.Io.KnownBytes.{Appends}
 use Rattle.sqlite_trees.specs.declared.store.Store.{Ghosts}
 use Rattle.posting_rules.specs.Commands.{Command}
 use Rattle.posting_rules.specs.Counter.{Seen, ShowsLog}
-use Rattle.posting_rules.specs.Entries.{balance_behind}
+use Rattle.posting_rules.specs.Entries.{balance_after}
 use Rattle.posting_rules.specs.Tables.{Tables}
 use Rattle.posting_rules.specs.declared.fault.Fault.{Fault}
 use Rattle.posting_rules.specs.declared.fault.Fault.TheVariants.{Damaged, Store}
@@ -14,13 +14,13 @@ use Rattle.store_rows.specs.BankTables.{history as history_table, reference as r
 use Rattle.store_rows.specs.View.{history_entry, reference_entry}
 use Rattle.bank_transactions.specs.Stored.{IsStoredBalance}
 use Rattle.walked_rows.specs.Pairs.{HasPairs, Pair, paired}
-use Rattle.report_lines.specs.Written.{AppendsPart}
+use Rattle.report_contents.specs.Written.{AppendsPart}
 use Rattle.bank_store.specs.Down.{KeepsCause, WasBroken}
 use Rattle.bank_store.specs.Seen.{bank_seen, connection_of, database_of, file_of}
 use Rattle.bank_store.specs.declared.bank.Bank.{Bank}
 use Rattle.bank_reports.specs.declared.fault.ReportFault.{ReportFault}
 use Rattle.bank_reports.specs.declared.fault.ReportFault.TheVariants.{Bank as OfBank, NoAccount, Write}
-use Rattle.bank_reports.specs.Behind.{statement_behind}
+use Rattle.bank_reports.specs.StatedLines.{statement_after}
 use Rattle.bank_reports.specs.Failures.{HasFailedToRead}
 use Rattle.bank_store.specs.Leaving.{TakesNone}
 use Rattle.bank_reports.specs.Postings.{HasAnswered, StatesRows}
@@ -28,19 +28,19 @@ use Rattle.bank_reports.specs.Postings.{HasAnswered, StatesRows}
 -- an account of a bank was stated; w and w' are the known bytes of the writer before and after
 pub record States (old new : Seen) (account : ℕ) (w w' : Option (List ℕ))
     (told : Result (Unit {0}) ReportFault) : Type 0 where
-  -- the statement behind the bank's log was written
+  -- the statement after the bank's log was written
   pub text : OnOk told (new.honest → (log : List Command) → ShowsLog old log
-      → Appends w w' (statement_behind log account))
+      → Appends w w' (statement_after log account))
   -- of an account that is open
   pub found : OnOk told (new.honest → (log : List Command) → ShowsLog old log
-      → IsSome (balance_behind log account))
+      → IsSome (balance_after log account))
   -- where it isn't that is told, and nothing was written
   pub missing : told ≡ Err NoAccount → new.honest → (log : List Command) → ShowsLog old log
-      → balance_behind log account ≡ None
+      → balance_after log account ≡ None
   pub silent : told ≡ Err NoAccount → w' ≡ w
-  -- at a fault a beginning of it was
+  -- at a fault a prefix of it was
   pub part : OnErr told (new.honest → (log : List Command) → ShowsLog old log
-      → AppendsPart w w' (statement_behind log account))
+      → AppendsPart w w' (statement_after log account))
   -- a bank that shows a log is never told to be damaged
   pub sound : (rule : Rule) → told ≡ Err (OfBank (Damaged rule)) → new.honest → (log : List Command)
       → ShowsLog old log → ⊥
@@ -68,7 +68,7 @@ pub record StatesFile {S : Type 0} (g : Ghosts S) (old new : Bank S g) (account 
   -- as long as the store is open, the file holds what it held
   pub still : IsTrue (file_of new).is_open → database_of g new ≡ database_of g old
 
--- the bank is down behind a statement: it refused the balance, or was down before
+-- the bank is down after a statement: it refused the balance, or was down before
 pub record RefusesBalance {S : Type 0} (g : Ghosts S) (old new : Bank S g)
     (told : Result (Unit {0}) ReportFault) : Type 0 where
   -- a fault of the bank is told

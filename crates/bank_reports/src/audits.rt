@@ -11,7 +11,7 @@ use crate::additions::add_all;
 use crate::sums::Sums;
 use bank_store::Bank;
 use posting_rules::Fault;
-use report_lines::Audit;
+use report_contents::Audit;
 use sqlite::Alter;
 
 /// Audits a bank, whatever rows its file has: how many there are, what they add up to, and whether they are

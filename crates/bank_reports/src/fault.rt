@@ -3,7 +3,7 @@ ghost use Rattle.std.specs.Prelude.{◌≡◌};
 ghost use Rattle.bank_reports.specs.declared.fault.ReportFault.TheVariants.{Bank, Write};
 
 use posting_rules::Fault;
-use report_lines::WriteFault;
+use report_contents::WriteFault;
 use std::fmt;
 
 /// Why a statement wasn't written, or not all of it.
@@ -11,9 +11,9 @@ use std::fmt;
 pub enum ReportFault {
     /// The account isn't open. Nothing was written.
     NoAccount,
-    /// The writer failed, or took no byte. A beginning of the text was written.
+    /// The writer failed, or took no byte. A prefix of the text was written.
     Write,
-    /// The bank refused a read. A beginning of the text was written.
+    /// The bank refused a read. A prefix of the text was written.
     Bank(Fault),
 }
 

@@ -2,7 +2,7 @@
 ghost use Rattle.std.specs.Prelude.{◌≡◌, ◌≢◌, [], List, Err, IfErr, IfOk, map};
 ghost use Rattle.sqlite.specs.State.{HasCleanDisk};
 ghost use Rattle.posting_rules.specs.declared.fault.Fault.TheVariants.{Down, Memory};
-ghost use Rattle.report_lines.specs.Beside.{AuditRows};
+ghost use Rattle.report_contents.specs.Beside.{AuditRows};
 ghost use Rattle.walked_rows.specs.Rows.{LEAST};
 ghost use Rattle.bank_store.specs.Seen.{connection_of, fault_of};
 ghost use Rattle.bank_store.specs.Walking.{ComesFrom, HasToldFault, items_to_come, lent, lent_state, loan_of};

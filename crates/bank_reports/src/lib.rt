@@ -1,7 +1,7 @@
 //! The audit of a bank in a file, and the statement of one of its accounts.
 //!
 //! [`audit`] reads every row of the bank once and returns the numbers that TPC-B clause 2 compares.
-//! [`write_statement`] writes the postings of an account by their ordinals, each with the balance behind it
+//! [`write_statement`] writes the postings of an account by their ordinals, each with the balance after it
 //! and the reference of its request.
 //! Both take the rows as the file has them, damaged or not, and change none. The function `first_reports` of
 //! `store_tests`, which a test runs, writes the statement of account 1 and the audit, and returns whether
@@ -37,11 +37,11 @@
 //! | `Damaged(Balance)` | of a statement alone: a balance of the account is out of its limits |
 //! | `Damaged(Reference)` | of a statement alone: the reference of a posting of the account is none |
 //! | [`ReportFault::NoAccount`] | the account isn't open; nothing was written |
-//! | [`ReportFault::Write`] | the writer failed, or took no byte; a beginning of the text was written |
+//! | [`ReportFault::Write`] | the writer failed, or took no byte; a prefix of the text was written |
 //!
 //! A damaged bank is no error of `audit` as long as its rows can be read: `is_consistent` of its answer says
 //! so. `specs/Audits` and `specs/Statements` say what the two promise, of a bank and of any file,
-//! `specs/Files` which rows are read, and `specs/Behind` what a statement is.
+//! `specs/Files` which rows are read, and `specs/StatedLines` what a statement is.
 #![tactic(auto)]
 
 mod additions;
@@ -56,5 +56,5 @@ mod sums;
 
 pub use audits::audit;
 pub use fault::ReportFault;
-pub use report_lines::{Audit, BranchLine, BranchLines, WriteFault, write_audit};
+pub use report_contents::{Audit, BranchLine, BranchLines, WriteFault, write_audit};
 pub use statement::write_statement;

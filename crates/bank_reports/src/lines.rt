@@ -9,10 +9,10 @@ use crate::fault::ReportFault;
 use message_records::Cents;
 use posting_core::Sink;
 use posting_rules::{Fault, Rule};
-use report_lines::{put, statement_line};
+use report_contents::{put, statement_line};
 use walked_rows::StatedPosting;
 
-// The balance behind one more posting, none where it is out of its limits.
+// The balance after one more posting, none where it is out of its limits.
 fn with_delta(before: Cents, delta: i64) -> Option<Cents>
     ensures within { IfSome result (λ after. after ≡ before +ℤ delta) }
     ensures beyond { IfNone result (MAX_BALANCE < nat_abs (before +ℤ delta)) }
@@ -21,7 +21,7 @@ fn with_delta(before: Cents, delta: i64) -> Option<Cents>
     Cents::new(after)
 }
 
-/// Writes the line of a posting, and gives the running balance behind it.
+/// Writes the line of a posting, and gives the running balance after it.
 pub(crate) fn write_line<W: Sink>(
     row: &StatedPosting,
     before: Cents,

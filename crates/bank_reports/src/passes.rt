@@ -2,7 +2,7 @@
 ghost use Rattle.std.specs.Prelude.{◌≡◌, ◌≢◌, [], List, Err, IfErr, IfOk, map};
 ghost use Rattle.sqlite.specs.State.{HasCleanDisk};
 ghost use Rattle.posting_rules.specs.declared.fault.Fault.TheVariants.{Down, Memory};
-ghost use Rattle.report_lines.specs.Beside.{AuditRows};
+ghost use Rattle.report_contents.specs.Beside.{AuditRows};
 ghost use Rattle.bank_store.specs.Seen.{bank_seen, connection_of, database_of, fault_of, file_of};
 ghost use Rattle.bank_reports.specs.Adding.{AddsToSums, HasSums, IsPassed};
 ghost use Rattle.bank_reports.specs.Failures.{HasFailedToRead, SaysOf};

@@ -20,7 +20,7 @@ use bank_store::Bank;
 use message_records::{Account, Cents};
 use posting_core::Sink;
 use posting_rules::{Counter, Fault};
-use report_lines::{put, put_last, statement_closing, statement_heading, statement_names};
+use report_contents::{put, put_last, statement_closing, statement_heading, statement_names};
 use sqlite::Alter;
 
 // Writes the statement of an account that has this balance.
@@ -51,7 +51,7 @@ fn write_lines<S: Alter, W: Sink>(
 ///
 /// # Errors
 ///
-/// At each but the first a beginning of the text was written. Of the bank's faults only those of its
+/// At each but the first a prefix of the text was written. Of the bank's faults only those of its
 /// `balance`, which is read first, bring it down; then nothing was written.
 ///
 /// | Error | What happened |

@@ -1,10 +1,10 @@
 //! What an audit adds up.
 ghost use Rattle.std.specs.Prelude.{◌≡◌, ◌≤◌, ◌<◌, ◌++◌, ◌∷◌, ℕ, [], List, IfErr, IfOk, length, pos};
-ghost use Rattle.report_lines.specs.Beside.{AuditRows, audit_of_rows, no_rows};
+ghost use Rattle.report_contents.specs.Beside.{AuditRows, audit_of_rows, no_rows};
 ghost use Rattle.bank_reports.specs.Adding.{HasSums};
 ghost use Rattle.bank_store.specs.Room.{TakesFewBytes};
 
-use report_lines::{Audit, BranchSums, MAX_ROWS, OrdinalSums, Sum, TellerSums, audit_of_sums};
+use report_contents::{Audit, BranchSums, MAX_ROWS, OrdinalSums, Sum, TellerSums, audit_of_sums};
 use std::alloc::{AllocError, Global};
 use walked_rows::{
     Joined, StoredAccount, StoredBranch, StoredPosting, StoredRequest, StoredTeller, WalkedRow,
@@ -135,7 +135,7 @@ impl Summed for StoredAccount {
 impl Summed for Joined<StoredRequest, StoredPosting> {
     ghost use Rattle.std.proofs.Common.{lit<};
     ghost use Rattle.bank_reports.specs.Adding.{with_requests};
-    ghost use Rattle.report_lines.specs.declared.limits.TheConstants.{MAX_ROWS};
+    ghost use Rattle.report_contents.specs.declared.limits.TheConstants.{MAX_ROWS};
 
     ghost with_rows = { with_requests };
 
@@ -156,7 +156,7 @@ impl Summed for Joined<StoredRequest, StoredPosting> {
 impl Summed for Joined<StoredPosting, StoredRequest> {
     ghost use Rattle.std.proofs.Common.{lit<};
     ghost use Rattle.bank_reports.specs.Adding.{with_history};
-    ghost use Rattle.report_lines.specs.declared.limits.TheConstants.{MAX_ROWS};
+    ghost use Rattle.report_contents.specs.declared.limits.TheConstants.{MAX_ROWS};
 
     ghost with_rows = { with_history };
 

@@ -65,7 +65,7 @@ pub fn make_call<C: Counter>(
     Ok(answers)
 }
 
-// Adds an answer behind the others.
+// Adds an answer after the others.
 fn add(answers: &mut String, said: Result<String, AllocError>) -> Result<(), AllocError> {
     let said = said?;
     if !answers.is_empty() {

@@ -12,7 +12,7 @@ use posting_core::{Counter, PlainBank};
 use sqlite::Alter;
 use std::alloc::{AllocError, Global};
 
-/// How many groups of records a run has. Behind each the bank in tables is given back, and taken up again.
+/// How many groups of records a run has. After each the bank in tables is given back, and taken up again.
 const GROUPS: u16 = 20;
 
 /// The branches that the records name, and how many accounts each has.
@@ -64,7 +64,7 @@ pub struct Run {
 }
 
 impl Run {
-    /// The run that a step says behind its word, as `1 one by one`, `2 in batches` or `5 in batches beside one
+    /// The run that a step says after its word, as `1 one by one`, `2 in batches` or `5 in batches beside one
     /// by one`, none where it says no run.
     pub fn of(drawn: Drawn, text: &str) -> Option<Self> {
         let (seed, way) = text.split_once(' ')?;
@@ -102,7 +102,7 @@ fn replies_of<C: Counter>(
     Ok(replies)
 }
 
-// The balances of a branch's accounts, and of the one behind them.
+// The balances of a branch's accounts, and of the one after them.
 fn balances_of<C: Counter>(
     alloc: Global,
     bank: &mut C,
@@ -176,7 +176,7 @@ impl Drawing {
         }
     }
 
-    // Puts a group of so many records behind those that were sent.
+    // Puts a group of so many records after those that were sent.
     fn draw(&mut self, count: u32, sent: &mut Vec<[u8; REQUEST_BYTES]>) -> Result<()> {
         match self {
             Drawing::Mixed(draws) => draw_group(draws, count, sent),
@@ -230,7 +230,7 @@ impl Course {
         note(&mut self.outcomes, replies.as_slice())
     }
 
-    // Plays the groups, and asks for the balances that they may have changed behind each.
+    // Plays the groups, and asks for the balances that they may have changed after each.
     fn play<S: Alter + Drop>(
         &mut self,
         plain: &mut PlainBank,

@@ -107,7 +107,7 @@ fn again(draws: &mut Draws, sent: &[[u8; REQUEST_BYTES]]) -> Option<[u8; REQUEST
     Some(bytes)
 }
 
-/// Puts a group of so many records behind those that were sent.
+/// Puts a group of so many records after those that were sent.
 pub fn draw_group(
     draws: &mut Draws,
     count: u32,

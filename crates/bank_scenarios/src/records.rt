@@ -13,7 +13,7 @@ pub struct Record {
     is_request: bool,
 }
 
-// The text, and spaces behind it; none where it is too long.
+// The text, and spaces after it; none where it is too long.
 fn padded<const SIZE: usize>(text: &str) -> Option<[u8; SIZE]> {
     if text.len() > SIZE {
         return None;
@@ -43,13 +43,13 @@ pub fn bytes_of(
     Some(encode_request(&request))
 }
 
-// The reference of a text, with spaces behind it.
+// The reference of a text, with spaces after it.
 fn reference_of(text: &str) -> Option<Reference> {
     let bytes: [u8; REFERENCE_BYTES] = padded(text)?;
     Reference::new(&bytes)
 }
 
-// The record of a request's five numbers, and of a reference behind the word `for`.
+// The record of a request's five numbers, and of a reference after the word `for`.
 fn bytes_of_numbers(text: &str) -> Option<[u8; REQUEST_BYTES]> {
     let (numbers, reference) = match text.split_once(" for ") {
         Some((numbers, reference)) => (numbers, Some(reference_of(reference)?)),
@@ -66,7 +66,7 @@ fn bytes_of_numbers(text: &str) -> Option<[u8; REQUEST_BYTES]> {
 }
 
 impl Record {
-    /// The record that a text writes: its bytes, with spaces behind them, or the five numbers of a request and
+    /// The record that a text writes: its bytes, with spaces after them, or the five numbers of a request and
     /// its reference.
     pub fn of(text: &str) -> Option<Self> {
         let is_request = !text.starts_with("DC");

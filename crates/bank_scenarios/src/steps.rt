@@ -36,7 +36,7 @@ pub enum Step {
 }
 
 impl Step {
-    /// The step of a word and the text behind it.
+    /// The step of a word and the text after it.
     pub fn of(word: &str, rest: &str) -> Self {
         match word {
             "mixed" => run_of(Drawn::Mixed, rest),
@@ -61,7 +61,7 @@ fn run_of(drawn: Drawn, text: &str) -> Step {
     }
 }
 
-/// Whether a line goes on with the bank as the step before left it, its word, and the text behind that.
+/// Whether a line goes on with the bank as the step before left it, its word, and the text after that.
 pub fn parts_of(line: &str) -> (bool, &str, &str) {
     let (goes_on, line) = match line.strip_prefix("then ") {
         Some(rest) => (true, rest),

@@ -127,7 +127,7 @@ module _ {S : Type 0} (g : Ghosts S) (old new : Held S) where
 
 -- ---- one call after another
 
--- a call behind a look, and what is answered then
+-- a call after a look, and what is answered then
 module _ {S X Y : Type 0} (g : Ghosts S) (old mid new : Held S) (told : Result X OpenFault)
     (result : Result Y OpenFault) (answers : IfErr told (KnowsCause g old new) → IfErr result (KnowsCause g old new))
     (first : Survives (state g old) (state g mid) (λ _. ⊥)) where
@@ -145,7 +145,7 @@ module _ {S X Y : Type 0} (g : Ghosts S) (old mid new : Held S) (told : Result X
   pub looks_then : LooksIn g mid new told → LooksIn g old new result
   looks_then = call_then (λ _. ⊥) (λ _. ⊥) (λ clean left none. none)
 
--- a probe behind a call
+-- a probe after a call
 module _ {S X : Type 0} (g : Ghosts S) (old mid new : Held S) (Commits : Trees → Type 0) (told : Result X OpenFault)
     (it : IsOpenCall g old mid Commits told) (probe : List ℕ × Table) where
   then_asked : {Y : Type 0} (answer : Result Bool Error) (result : Result Y OpenFault)

@@ -7,30 +7,30 @@ use Rattle.sqlite.specs.{Effect.Database, declared.error.Error.Error, Held.Held,
 use Rattle.sqlite.specs.State.{State, HasCleanDisk, Survives}
 use Rattle.sqlite_trees.specs.declared.store.Store.{Ghosts}
 use Rattle.sqlite.proofs.StateLemmas.{survives_then}
-use Rattle.posting_rules.specs.{declared.fault.Fault.Fault, declared.fault.Rule.Rule, Runs.behind}
+use Rattle.posting_rules.specs.{declared.fault.Fault.Fault, declared.fault.Rule.Rule, Runs.followed_by}
 use Rattle.posting_rules.specs.declared.fault.Fault.TheVariants as told
 use Rattle.posting_rules.specs.Commands.{Command, AreCommands}
-use Rattle.posting_rules.specs.Counter.{ShowsLog, ShowsBeginning, Takes, IsCutShort, IsDamaged, Refuses, TellsDamage}
+use Rattle.posting_rules.specs.Counter.{ShowsLog, ShowsPrefix, Takes, IsCutShort, IsDamaged, Refuses, TellsDamage}
 use Rattle.posting_rules.specs.Tables.{Tables, AreTablesOf as Show}
-use Rattle.posting_rules.proofs.{Calls.IsChange, Sequence.commands_behind}
+use Rattle.posting_rules.proofs.{Calls.IsChange, Sequence.commands_after}
 use Rattle.store_rows.specs.{View.Shows, declared.fault.TableFault.TableFault, Failures.Committing}
 use Rattle.store_rows.specs.declared.fault.TableFault.TheVariants.{Sqlite, Damaged}
 use Rattle.bank_transactions.specs.{Causes.Damage, Causes.HasFailedBetween, Doing.MayLeaveAfter, Doing.TransactsBy}
 use Rattle.bank_transactions.proofs.Blamed.{comes, failed_within, same_moment}
 use Rattle.bank_store.specs.{Down.GoesDown, NoneOrAll.LeavesNoneOrAll, Seen.error_in, Seen.seen_in}
 
--- what the commands lead to is a beginning of them, and so is what was there
-all_of_them : (t : Tables) (log cs : List Command) → AreCommands (behind log cs) → Show t (behind log cs)
-    → ShowsBeginning log cs 0 t
+-- what the commands lead to is a prefix of them, and so is what was there
+all_of_them : (t : Tables) (log cs : List Command) → AreCommands (followed_by log cs) → Show t (followed_by log cs)
+    → ShowsPrefix log cs 0 t
 all_of_them t log cs are shows = record {
   count = length cs;
   holds = omega arith;
   within = omega arith;
-  are = subst (λ ds. AreCommands (behind log ds)) (sym (take-length cs)) are;
-  shows = subst (λ ds. Show t (behind log ds)) (sym (take-length cs)) shows;
+  are = subst (λ ds. AreCommands (followed_by log ds)) (sym (take-length cs)) are;
+  shows = subst (λ ds. Show t (followed_by log ds)) (sym (take-length cs)) shows;
 }
 
-none_of_them : (t : Tables) (log cs : List Command) → AreCommands log → Show t log → ShowsBeginning log cs 0 t
+none_of_them : (t : Tables) (log cs : List Command) → AreCommands log → Show t log → ShowsPrefix log cs 0 t
 none_of_them t log cs are shows =
     record { count = 0; holds = omega arith; within = omega arith; are = are; shows = shows }
 
@@ -42,7 +42,7 @@ module _ {S X : Type 0} {So : Tables → Type 0} {after : Tables → Tables} {wa
     {old new : Held S} {r : Result X TableFault} {Met : Damage S}
     (holds : HoldsOfLogs So) (cs : List Command) (is : IsChange after cs)
     (does : TransactsBy Met g old new So after wanted r) where
-  -- a call that a fault ended: what a stop leaves is what it could leave before, or all of the call
+  -- a call that a fault ended: what a crash leaves is what it could leave before, or all of the call
   pub cut_short : AreCommands cs → (end : State) (D E : Type 0) → E
       → Survives (state g old) end (MayLeaveAfter (state g old) So after)
       → IsCutShort (seen_in (state g old) D) (seen_in end E) cs
@@ -56,13 +56,13 @@ module _ {S X : Type 0} {So : Tables → Type 0} {after : Tables → Tables} {wa
           | inr made ↦ (
             after s.tables,
             made s.tables s.are (holds s.tables log s.commands s.shows),
-            all_of_them (after s.tables) log cs (commands_behind log cs s.commands are)
+            all_of_them (after s.tables) log cs (commands_after log cs s.commands are)
                 (is s.tables log s.shows),
           )
         ];
   }
 
-  -- whatever ended the call, a stop leaves none of the commands or all of them
+  -- whatever ended the call, a crash leaves none of the commands or all of them
   pub none_or_all : (end : State) (D E : Type 0)
       → Survives (state g old) end (MayLeaveAfter (state g old) So after)
       → LeavesNoneOrAll (seen_in (state g old) D) (seen_in end E) cs
@@ -104,8 +104,8 @@ takes {S} {X} {So} {after} {wanted} {g} {old} {new} {x} {Met} holds cs is are D 
     does.told clean s.tables s.are (holds s.tables log s.commands s.shows) in
     let shows =
     λ (clean : HasCleanDisk (state g new)) (log : List Command) (s : ShowsLog (seen_in (state g old) D) log).
-    let it : ShowsLog (seen_in (state g new) E) (behind log cs) = record {
-      commands = commands_behind log cs s.commands are;
+    let it : ShowsLog (seen_in (state g new) E) (followed_by log cs) = record {
+      commands = commands_after log cs s.commands are;
       tables = after s.tables;
       are = (told clean log s).1;
       shows = is s.tables log s.shows;

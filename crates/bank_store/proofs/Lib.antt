@@ -11,7 +11,7 @@ pub mod Refusing
 pub mod Moved
 pub mod NewBank
 pub mod OnlyRow
-pub mod Opened
+pub mod JustOpened
 pub mod OtherTables
 pub mod Settled
 pub mod TakenUp

@@ -122,7 +122,7 @@ module _ {S : Type 0} (from : ℕ) (g : Ghosts S) (old begun last new : Held S)
   changed_at changed clean =
       from_begun (λ (db : Database). ChangesTables from db (state g last).now (Ok tt)) (changed clean live)
 
-  -- a stop leaves what it could leave before, or the moved bank
+  -- a crash leaves what it could leave before, or the moved bank
   pub stops : Survives (state g begun) (state g last) (λ _. ⊥)
       → Survives (state g last) (state g new) (MayLeave (state g last).now)
       → (HasCleanDisk (state g last) → IsTrue (state g begun).in_transaction

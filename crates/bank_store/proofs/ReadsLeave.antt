@@ -76,11 +76,11 @@ idle_takes seen answered = record {
 }
 
 -- a call of no command, and then reads
-pub reads_behind : (old mid new : State) (D E F answered : Type 0) → Takes (seen_in old D) (seen_in mid E) []
+pub reads_after : (old mid new : State) (D E F answered : Type 0) → Takes (seen_in old D) (seen_in mid E) []
     → (HasCleanDisk mid → HasCleanDisk old)
     → (answered → HasCleanDisk new → IsStill mid new) → Survives mid new (λ _. ⊥) → (F → E)
     → TakesNone (seen_in old D) (seen_in new F) answered
-reads_behind old mid new D E F answered takes before still quiet up = record {
+reads_after old mid new D E F answered takes before still quiet up = record {
   done = λ yes. takes_then old mid new D E F takes (still yes) quiet up;
   survives = λ clean log at.
       quiet_leaves mid new E quiet clean log
@@ -93,5 +93,5 @@ pub reads_take_none : (old new : State) (D E answered : Type 0)
     → (answered → HasCleanDisk new → IsStill old new) → Survives old new (λ _. ⊥) → (E → D)
     → TakesNone (seen_in old D) (seen_in new E) answered
 reads_take_none old new D E answered still quiet up =
-    reads_behind old old new D D E answered
+    reads_after old old new D D E answered
     (record { shows = λ clean log s. s; stands = λ clean log at. at }) (λ clean. clean) still quiet up

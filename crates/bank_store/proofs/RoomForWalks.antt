@@ -8,7 +8,7 @@ use prog.Memory.{align, size, up}
 use denote.Param.{layout}
 use denote.RattleType.{RattleType}
 
--- what is put at a multiple of k lies at most k behind
+-- what is put at a multiple of k lies at most k after
 put_at : (k : ℕ) {e most : ℕ} → k < 2 ^ 9 → e < most → up k e < most + 2 ^ 9
 put_at k {e} {most} small low =
     let pad = mod-le (k - e % k) k in
@@ -23,7 +23,7 @@ one_and_other {n} {m} {most} {others} one other = omega (arith, one, other)
 less_still : {n most : ℕ} → n < most → most < 2 ^ 63 → n < 2 ^ 63
 less_still {n} {most} low fits = omega (arith, low, fits)
 
--- how many bytes a walk takes, its fields one behind another, where a row takes so many at multiples of a
+-- how many bytes a walk takes, its fields one after another, where a row takes so many at multiples of a
 abbrev pub walk_size : ℕ → ℕ → ℕ
 walk_size a bytes =
     up (max 8 (max 8 (max (max (max a 1) 8) 8)))

@@ -37,7 +37,7 @@ still_undone old new a is_open =
       mode = a.2;
     }
 
--- a stop leaves what it could leave before
+-- a crash leaves what it could leave before
 pub quiet_then : (old mid new : State) → Survives old mid (λ _. ⊥) → Survives mid new (λ _. ⊥)
     → Survives old new (λ _. ⊥)
 quiet_then old mid new a b =

@@ -1,4 +1,4 @@
--- What is shown over a connection that is given back, in a bank or alone, and what a stop leaves of it.
+-- What is shown over a connection that is given back, in a bank or alone, and what a crash leaves of it.
 use Rattle.std.proofs.Common.{List, sym, subst, inl, inr}
 use Rattle.sqlite.specs.{Held.Held, Held.state, State.State, State.HasCleanDisk, State.Survives, Tree.Trees}
 use Rattle.sqlite_trees.specs.declared.store.Store.{Ghosts}
@@ -17,7 +17,7 @@ module _ (old new : State) (D E : Type 0) where
     shows = s.shows;
   }
 
-  -- where a stop can leave no more
+  -- where a crash can leave no more
   pub still_left : (More : Trees → Type 0) (P : Tables → Type 0) → Survives old new More
       → ((left : Trees) → More left → ⊥) → HasCleanDisk new → LeavesOnly (seen_in old D) P
       → LeavesOnly (seen_in new E) P

@@ -5,7 +5,7 @@ use Rattle.posting_rules.specs.declared.fault.{Fault.Fault, Rule.Rule}
 use Rattle.posting_rules.specs.declared.fault.Fault.TheVariants as fault
 use Rattle.sqlite.specs.declared.error.Error.{Error}
 use Rattle.store_rows.specs.declared.fault.TableFault.{TableFault, TheVariants.Sqlite, TheVariants.Damaged}
-use Rattle.walked_rows.specs.{StepOutcomes.BreaksFirst, Rising.RisesFrom, Rows.items_behind, Rows.items_from}
+use Rattle.walked_rows.specs.{StepOutcomes.BreaksFirst, Rising.RisesFrom, Rows.items_after, Rows.items_from}
 use Rattle.walked_rows.proofs.Rises.{from_lower}
 use Rattle.bank_store.specs.{Walks.TellsFault, declared.walks.Stage.Stage}
 use Rattle.bank_store.specs.Walking.{IsToldFault, Steps, coming}
@@ -55,9 +55,9 @@ err_not_ok r f a fault is = let it = sym fault ∙ is in cc
 pub same_fault : {A : Type 0} (r : Result A Fault) (f other : Fault) → r ≡ Err f → r ≡ Err other → f ≡ other
 same_fault r f other is that = let it = sym is ∙ that in cc
 
--- behind the last row none is to come
-pub none_behind_end : {X : Type 0} (stage : Stage) → stage ≡ Ended → (items : List X) → coming stage items ≡ []
-none_behind_end stage is items = ap (λ s. coming s items) is
+-- after the last row none is to come
+pub none_after_end : {X : Type 0} (stage : Stage) → stage ≡ Ended → (items : List X) → coming stage items ≡ []
+none_after_end stage is items = ap (λ s. coming s items) is
 
 -- a list of no length holds nothing
 pub nothing_read : {R : Type 0} (rs : List R) → length rs ≤ 0 → rs ≡ []
@@ -82,7 +82,7 @@ none_of zero (y ∷ ys) is = absurd (cc)
 none_of (suc n) (y ∷ ys) is = let it = none_of n ys is in omega arith
 
 module _ {R X : Type 0} (key : X → ℤ) (entry : R → X) (stage : Stage) (going : stage ≡ Going) where
-  -- where nothing that was read is left, those to come are those behind
+  -- where nothing that was read is left, those to come are those after
   pub only_rest : (rs : List R) (given : ℕ) (rest : List X) → length rs ≤ given
       → coming stage (map entry (drop given rs) ++ rest) ≡ rest
   only_rest rs given rest low =
@@ -103,40 +103,40 @@ module _ {R X : Type 0} (key : X → ℤ) (entry : R → X) (stage : Stage) (goi
   -- the rows that were read in their place are those to come
   pub refilled : (rs : List R) (given : ℕ) (rest : Option ℤ) (from : ℤ) (all : List X) → length rs ≤ given
       → rest ≡ Some from
-      → (read : List R) (behind : Option ℤ)
-      → items_from key from all ≡ map entry read ++ items_behind key behind all
-      → coming stage (map entry read ++ items_behind key behind all)
-      ≡ coming stage (map entry (drop given rs) ++ items_behind key rest all)
-  refilled rs given rest from all low is read behind told =
-      ap (λ s. coming s (map entry read ++ items_behind key behind all)) going ∙ sym told
-      ∙ sym (ap (λ o. items_behind key o all) is)
-      ∙ sym (only_rest rs given (items_behind key rest all) low)
+      → (read : List R) (beyond : Option ℤ)
+      → items_from key from all ≡ map entry read ++ items_after key beyond all
+      → coming stage (map entry read ++ items_after key beyond all)
+      ≡ coming stage (map entry (drop given rs) ++ items_after key rest all)
+  refilled rs given rest from all low is read beyond told =
+      ap (λ s. coming s (map entry read ++ items_after key beyond all)) going ∙ sym told
+      ∙ sym (ap (λ o. items_after key o all) is)
+      ∙ sym (only_rest rs given (items_after key rest all) low)
 
   -- those from a number on are to come
   pub from_rest : (rs : List R) (given : ℕ) (rest : Option ℤ) (from : ℤ) (all : List X) → length rs ≤ given
       → rest ≡ Some from
-      → items_from key from all ≡ coming stage (map entry (drop given rs) ++ items_behind key rest all)
+      → items_from key from all ≡ coming stage (map entry (drop given rs) ++ items_after key rest all)
   from_rest rs given rest from all low is =
-      sym (ap (λ o. items_behind key o all) is) ∙ sym (only_rest rs given (items_behind key rest all) low)
+      sym (ap (λ o. items_after key o all) is) ∙ sym (only_rest rs given (items_after key rest all) low)
 
   -- none is to come
   pub none_to_come : (rs : List R) (given : ℕ) (rest : Option ℤ) (all : List X) → slice_get rs given ≡ None
       → (length rs ≤ given → rest ≡ None)
-      → coming stage (map entry (drop given rs) ++ items_behind key rest all) ≡ []
+      → coming stage (map entry (drop given rs) ++ items_after key rest all) ≡ []
   none_to_come rs given rest all is left =
       let low = none_of given rs is in
-      only_rest rs given (items_behind key rest all) low ∙ ap (λ o. items_behind key o all) (left low)
+      only_rest rs given (items_after key rest all) low ∙ ap (λ o. items_after key o all) (left low)
 
 -- those from the number on where all was given that was read
 pub rises_on : {R : Type 0} (key : R → ℤ) (k from : ℤ) (rs : List R) (given : ℕ) (rest : Option ℤ)
     → length rs ≤ given → rest ≡ Some from
-    → RisesFrom k (map key (drop given rs)) rest → (read : List R) (behind : Option ℤ)
-    → RisesFrom from (map key read) behind
-    → RisesFrom k (map key read) behind
-rises_on key k from rs given rest low is before read behind after =
+    → RisesFrom k (map key (drop given rs)) rest → (read : List R) (beyond : Option ℤ)
+    → RisesFrom from (map key read) beyond
+    → RisesFrom k (map key read) beyond
+rises_on key k from rs given rest low is before read beyond after =
     let below : k ≤ℤ from =
     subst (RisesFrom k []) is (subst (λ l. RisesFrom k (map key l) rest) (drop_all given rs low) before) in
-    from_lower key k from read behind below after
+    from_lower key k from read beyond below after
 
 -- the next of those that were read ahead
 pub rises_next : {R : Type 0} (key : R → ℤ) (k : ℤ) (rs : List R) (given : ℕ) (rest : Option ℤ) (r : R)

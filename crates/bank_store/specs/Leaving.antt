@@ -11,7 +11,7 @@ use Rattle.bank_store.specs.declared.bank.Bank.{Bank}
 pub record TakesNone (old new : Seen) (answered : Type 0) : Type 0 where
   -- where it was answered, the bank shows what it showed, and stands where it stood
   pub done : answered → Takes old new []
-  -- whatever was answered, a stop leaves what shows the log
+  -- whatever was answered, a crash leaves what shows the log
   pub survives : new.honest → (log : List Command) → StandsAt old log
       → LeavesOnly new (λ t. AreTablesOf t log)
   -- a disk that is honest yet was so before

@@ -1,4 +1,4 @@
--- A bank in the tables of a SQLite file: what its calls do to the tables, and what a stop leaves.
+-- A bank in the tables of a SQLite file: what its calls do to the tables, and what a crash leaves.
 pub mod Down
 pub mod Connections
 pub mod TablePresence

@@ -52,7 +52,7 @@ abbrev pub ShowsEarlierTrees : ℕ → Trees → List Command → Type 0
 ShowsEarlierTrees from trees log =
     (schema : Schema) × ShowsEarlier from (record { schema = schema; trees = trees }) log
 
--- and so does everything that a stop may leave
+-- and so does everything that a crash may leave
 pub record StandsEarlier (from : ℕ) (s : State) (log : List Command) : Type 0 where
   pub shows : ShowsEarlier from s.now log
   pub survives : (left : Trees) → s.may_leave left → ShowsEarlierTrees from left log
@@ -67,7 +67,7 @@ IsOfEarlier from old = IsEarlier from × Misses old (Version (pos from))
 
 -- ---- the tables are changed
 
--- These tables are shown now, also by whatever a stop leaves, and every table but `meta` that has a tree of its
+-- These tables are shown now, also by whatever a crash leaves, and every table but `meta` that has a tree of its
 -- own is as it was.
 pub record IsMoved (old : Database) (new : State) (t : Tables) : Type 0 where
   pub shows : Shows new.now t
@@ -88,7 +88,7 @@ LeavesRows old left = (after : Database) × (left ≡ after.trees) × KeepsRows 
 abbrev pub BankIsMoved : ℕ → Database → State → Type 0
 BankIsMoved from old new = ((t : Tables) → ShowsLess from old t → IsMoved old new t) × KeepsRows old new.now
 
--- the same of what a stop may leave
+-- the same of what a crash may leave
 abbrev pub HasMoved : ℕ → Database → Trees → Type 0
 HasMoved from old left = ((t : Tables) → ShowsLess from old t → ShowsTrees left t) × LeavesRows old left
 
@@ -107,7 +107,7 @@ ChangesTables from old new (Ok done) =
 ChangesTables from old new (Err fault) = IsUnmoved from old fault
 
 -- What a call that changes the tables comes to: a bank is moved, or, as long as the store is open, nothing has
--- changed. A stop leaves what it could leave before, or the moved bank.
+-- changed. A crash leaves what it could leave before, or the moved bank.
 pub record MovesBank {S : Type 0} (from : ℕ) (g : Ghosts S) (old new : Held S)
     (result : Result (Unit {0}) OpenFault) : Type 0 where
   pub moved : HasCleanDisk (state g new) → OnOk result (BankIsMoved from (state g old).now (state g new))
@@ -184,7 +184,7 @@ abbrev pub IsFromEarlier : Migrated → Type 0
 IsFromEarlier Already = ⊤
 IsFromEarlier (Moved told) = (from : ℕ) × IsFrom told from
 
--- what a stop may leave more: a moved bank, where one of an earlier version was
+-- what a crash may leave more: a moved bank, where one of an earlier version was
 abbrev pub HasCarriedOver : State → Trees → Type 0
 HasCarriedOver old left = (from : ℕ) × IsOfEarlier from old × HasMoved from old.now left
 

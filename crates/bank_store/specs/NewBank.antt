@@ -22,7 +22,7 @@ use Rattle.bank_store.specs.declared.presence.Presence.TheVariants.{Absent}
 use Rattle.posting_rules.specs.declared.open_fault.OpenFault.{OpenFault}
 use Rattle.posting_rules.specs.declared.open_fault.OpenFault.TheVariants.{NotBlank}
 
--- a bank with nothing in it is there, whatever a stop leaves, and every table that was there is there, with
+-- a bank with nothing in it is there, whatever a crash leaves, and every table that was there is there, with
 -- its rows, and nothing else is
 pub record BankIsMade (old new : State) : Type 0 where
   pub shows : Shows new.now new_tables
@@ -53,7 +53,7 @@ abbrev pub LeavesAll : State → State → OpenFault → Type 0
 LeavesAll old new fault = fault ≡ NotBlank → IsAsBefore old new
 
 -- What a call that makes the tables comes to: a bank is made, or, as long as the store is open, nothing has
--- changed. `Taken` says why there is something already. A stop leaves what it could leave before, or the new
+-- changed. `Taken` says why there is something already. A crash leaves what it could leave before, or the new
 -- bank.
 pub record MakesBank {S : Type 0} (g : Ghosts S) (old new : Held S) (Taken : State → Type 0)
     (result : Result (Unit {0}) OpenFault) : Type 0 where

@@ -1,4 +1,4 @@
--- What a bank in a file shows, and what a stop may leave of it.
+-- What a bank in a file shows, and what a crash may leave of it.
 use Rattle.std.specs.Prelude.{Option, Some, None, IsSome}
 use Rattle.std.specs.declared.alloc.Global.{Global}
 use Rattle.sqlite.specs.Tree.{Trees}
@@ -13,7 +13,7 @@ use Rattle.store_rows.specs.declared.fault.TableFault.{TableFault}
 use Rattle.store_rows.specs.declared.fault.TableFault.TheVariants.{Sqlite, Damaged}
 use Rattle.bank_store.specs.declared.bank.Bank.{Bank}
 
--- its tables are those that its database shows, and what a stop leaves are the trees of its files
+-- its tables are those that its database shows, and what a crash leaves are the trees of its files
 abbrev pub seen_in : State → Type 0 → Seen
 seen_in s is_down = record {
   tables = λ t. Shows s.now t;
@@ -28,7 +28,7 @@ seen_in s is_down = record {
 abbrev pub connection_of : {S : Type 0} {g : Ghosts S} → Bank S g → Held S
 connection_of bank = bank.conn
 
--- the state of its file: what its connection shows, what a stop may leave, and whether the disk is clean
+-- the state of its file: what its connection shows, what a crash may leave, and whether the disk is clean
 abbrev pub file_of : {S : Type 0} {g : Ghosts S} → Bank S g → State
 file_of {g = g} bank = state g bank.conn
 

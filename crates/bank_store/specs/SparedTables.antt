@@ -1,4 +1,4 @@
--- The tables of other products are spared where nothing was called, and behind two calls.
+-- The tables of other products are spared where nothing was called, and after two calls.
 use Rattle.std.specs.Prelude.{◌⊎◌, ◌≤◌, Option, IsSome, is_some}
 use Rattle.std.proofs.Common.{inl, inr, refl, subst, sym}
 use Rattle.std.proofs.Math.Arith.{le-zero}

@@ -15,13 +15,13 @@ pub record SparesTables {B : Type 0} (is_down : B → Type 0) (file : B → Stat
   -- the tables are as they were, where the bank is down as long as its store is open
   pub now : HasCleanDisk (file new) → (is_down new → IsTrue (file new).is_open)
       → SparesOthers (file old).now (file new).now
-  -- a stop leaves what it could leave before, or them as they were
+  -- a crash leaves what it could leave before, or them as they were
   pub left : Survives (file old) (file new) (LeavesOthers (file old).now)
 
 abbrev pub SparesOtherTables : {S : Type 0} (g : Ghosts S) → Bank S g → Bank S g → Type 0
 SparesOtherTables g old new = SparesTables (λ bank. (bank_seen g bank).is_down) file_of old new
 
--- From a connection to the connection that comes of it: they are as they were, as long as the store is open. A stop
+-- From a connection to the connection that comes of it: they are as they were, as long as the store is open. A crash
 -- leaves what it could leave before, or them as they were.
 pub record SparesWhileOpen {S : Type 0} (g : Ghosts S) (old new : Held S) : Type 0 where
   pub now : HasCleanDisk (state g new) → IsTrue (state g new).is_open

@@ -27,7 +27,7 @@ pub record IsOpenCall {S X : Type 0} (g : Ghosts S) (old new : Held S) (Commits 
   pub cause : IfErr result (KnowsCause g old new)
   -- the connection is outside a transaction
   pub mode : new.in_transaction ≡ false
-  -- a stop leaves what it could leave before, or what the call commits
+  -- a crash leaves what it could leave before, or what the call commits
   pub survives : Survives (state g old) (state g new) Commits
 
 -- the same of a call that only looks

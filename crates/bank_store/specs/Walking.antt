@@ -14,7 +14,7 @@ use Rattle.posting_rules.specs.declared.fault.Rule.{Rule}
 use Rattle.sql_meanings.specs.StatementAnswers.{IsStoreError}
 use Rattle.walked_rows.specs.Pairs.{Pair, pair_key}
 use Rattle.walked_rows.specs.Rising.{RisesFrom}
-use Rattle.walked_rows.specs.Rows.{LEAST, items_behind}
+use Rattle.walked_rows.specs.Rows.{LEAST, items_after}
 use Rattle.walked_rows.specs.Stored.{is_stated_of, stated_pair}
 use Rattle.walked_rows.specs.declared.stated.StatedPosting.{StatedPosting}
 use Rattle.bank_store.specs.Seen.{bank_seen, connection_of, database_of, fault_of}
@@ -51,11 +51,11 @@ abbrev pub given_of : {X : Type 0} → (Option ℕ → X → Bool) → Option �
 given_of is_given None items = items
 given_of is_given (Some account) items = filter (is_given (Some account)) items
 
--- those that were read ahead and not given yet, and those behind them
+-- those that were read ahead and not given yet, and those after them
 abbrev pub items_to_come : {S R X : Type 0} {g : Ghosts S} → (X → ℤ) → (R → X) → (Option ℕ → X → Bool)
     → List X → Walk S R g → List X
 items_to_come key item is_given items w =
-    coming w.stage (map item (drop w.given w.rows.items) ++ items_behind key w.rest
+    coming w.stage (map item (drop w.given w.rows.items) ++ items_after key w.rest
     (filter (is_given w.of) items))
 
 -- the same of an account's postings, each with the reference of its request
@@ -79,7 +79,7 @@ IsEnded w = w.stage ≡ Ended
 abbrev pub HasToldFault : {S R : Type 0} {g : Ghosts S} → Walk S R g → Type 0
 HasToldFault w = w.stage ≡ Failed
 
--- ---- its beginning
+-- ---- its prefix
 
 -- A walk over such items, all of them or those of an account, begins over a bank that is not down, and borrows
 -- it under this name; no other fault is reported.
@@ -110,7 +110,7 @@ Steps item Breaks old new (Err told.Down) = new ≡ old
 Steps item Breaks old new (Err told.Memory) = ⊥
 
 -- What a step leaves of the bank that the walk borrows: the walk still borrows it, it is no more down than it
--- was, its connection sees what it saw, where the step failed as long as the store is open, and a stop leaves
+-- was, its connection sees what it saw, where the step failed as long as the store is open, and a crash leaves
 -- nothing new.
 pub record LeavesLent {S R A : Type 0} (g : Ghosts S) (old new : Walk S R g) (result : Result A Fault) : Type 0
   where
@@ -120,7 +120,7 @@ pub record LeavesLent {S R A : Type 0} (g : Ghosts S) (old new : Walk S R g) (re
     pub up : fault_of (lent new) ≡ fault_of (lent old)
     pub survives : Survives (lent_state g old) (lent_state g new) (λ _. ⊥)
 
--- How far a step leaves the walk: behind the last row it has ended and stays so, behind a fault it is over, and
+-- How far a step leaves the walk: after the last row it has ended and stays so, after a fault it is over, and
 -- each step from then on says so and changes nothing.
 pub record GoesOn {S R : Type 0} {g : Ghosts S} (old new : Walk S R g) (result : Result (Option R) Fault)
     : Type 0 where

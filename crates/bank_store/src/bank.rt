@@ -7,8 +7,8 @@ ghost use Rattle.sqlite.specs.Held.{state};
 ghost use Rattle.message_records.specs.Spelling.{reply_spelling};
 ghost use Rattle.posting_rules.specs.Branches.{IsNextBranch, IsLineAbove};
 ghost use Rattle.posting_rules.specs.Commands.{Command, Open, Post, opened_with};
-ghost use Rattle.posting_rules.specs.Counter.{StandsAt, opening_behind};
-ghost use Rattle.posting_rules.specs.Entries.{reply, balance_behind};
+ghost use Rattle.posting_rules.specs.Counter.{StandsAt, opening_after};
+ghost use Rattle.posting_rules.specs.Entries.{reply, balance_after};
 ghost use Rattle.posting_rules.specs.Runs.{posts, replies_to};
 ghost use Rattle.posting_rules.specs.Tables.{Tables};
 
@@ -151,7 +151,7 @@ impl<S: Alter> Bank<S> {
     ghost use Rattle.sql_meanings.specs.StatementAnswers.{IsStoreError};
     ghost use Rattle.walked_rows.specs.StepOutcomes.{BreaksFirst};
     ghost use Rattle.walked_rows.specs.Rising.{RisesFrom};
-    ghost use Rattle.walked_rows.specs.Rows.{items_behind, items_from};
+    ghost use Rattle.walked_rows.specs.Rows.{items_after, items_from};
     ghost use Rattle.bank_store.specs.Seen.{alloc_of};
     ghost use Rattle.bank_store.specs.Walks.{IsStill, IsUntouchedIfOpen};
 
@@ -183,7 +183,7 @@ impl<S: Alter> Bank<S> {
             → R.WalkedRow.HasItems (state S.Store self.old.conn).now all
             → let given = filter (R.WalkedRow.is_given of) all in MatchResult result
             (λ rest. items_from R.WalkedRow.key from given
-            ≡ map R.WalkedRow.item rows.new.items ++ items_behind R.WalkedRow.key rest given)
+            ≡ map R.WalkedRow.item rows.new.items ++ items_after R.WalkedRow.key rest given)
             (BreaksFirst (IsStoreError (state S.Store self.old.conn) (state S.Store self.new.conn))
             R.WalkedRow.Breaks (items_from R.WalkedRow.key from given)) }
         ensures ended { IfOk result (λ rest. rows.new.items ≡ [] → rest ≡ None) }
@@ -275,7 +275,7 @@ impl<S: Alter + Drop> Counter for Bank<S> {
 
     // All room is made before the store is asked, so that `Memory` changes nothing. Each row that the records
     // touch is read once, and each that they change is written once. They are committed together or not at
-    // all. A batch in which nothing is decided changes no table, and a stop in it leaves nothing else.
+    // all. A batch in which nothing is decided changes no table, and a crash in it leaves nothing else.
     fn submit_all(
         &mut self,
         moment: Moment,
@@ -289,7 +289,7 @@ impl<S: Alter + Drop> Counter for Bank<S> {
         ensures call { IsBankCall S.Store self.old self.new (posts moment records.now) result }
         ensures none_or_all { LeavesNoneOrAll (bank_seen S.Store self.old) (bank_seen S.Store self.new)
             (posts moment records.now) }
-        // A batch in which no record is decided changes nothing, nor what a stop leaves.
+        // A batch in which no record is decided changes nothing, nor what a crash leaves.
         ensures idle { OnOk result ((bank_seen S.Store self.new).honest → (t : Tables)
             → (bank_seen S.Store self.old).tables t → AreOfALog t → DecidesNone t moment records.now
             → IsIdle S.Store self.old self.new t) }
@@ -323,7 +323,7 @@ impl<S: Alter + Drop> Counter for Bank<S> {
         requires few { count ≤ MAX_ACCOUNTS }
         requires floor { IfSome floor (λ z. z ≤ℤ pos 0) }
         ensures answer { AnswersBy S.Store self.old self.new result
-            (λ log opening. opening ≡ opening_behind log branch (opened_with count floor)) }
+            (λ log opening. opening ≡ opening_after log branch (opened_with count floor)) }
         ensures call { IsBankCall S.Store self.old self.new (Open branch (opened_with count floor) ∷ []) result }
         ensures frugal { result ≢ Err fault.Memory }
         // Whatever rows the file holds.
@@ -347,7 +347,7 @@ impl<S: Alter + Drop> Counter for Bank<S> {
 
     fn balance(&mut self, account: Account) -> Result<Option<Cents>, Fault>
         ensures answer { AnswersBy S.Store self.old self.new result
-            (λ log balance. balance ≡ balance_behind log account) }
+            (λ log balance. balance ≡ balance_after log account) }
         ensures call { IsBankCall S.Store self.old self.new [] result }
         ensures frugal { result ≢ Err fault.Memory }
         // Whatever rows the file holds.

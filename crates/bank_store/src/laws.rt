@@ -32,7 +32,7 @@ pub(crate) fn floor_law(floor: &Option<Cents>)
     }
 }
 
-/// What a connection shows as it is opened, a stop leaves too: it stands at whatever log its trees show.
+/// What a connection shows as it is opened, a crash leaves too: it stands at whatever log its trees show.
 pub fn opened_law<S: Alter>(conn: &Connection<S>)
     ensures { Opens (state S.Store conn.now) → (tables : Tables) (log : List Command) → AreCommands log
         → ShowsTrees (state S.Store conn.now).now.trees tables → AreTablesOf tables log

@@ -1,5 +1,5 @@
 //! A bank in a SQLite file. [`Bank`] is a [`Counter`] over a connection: each call is one transaction, and
-//! what it answered is found again after a stop of the machine (TPC-B, clauses 1 and 2).
+//! what it answered is found again after a crash of the machine (TPC-B, clauses 1 and 2).
 //!
 //! [`create`] makes a bank, [`adopt`] takes up the one that a file has, and [`Bank::release`] gives the
 //! connection back. [`migrate`] first carries a bank of an earlier version over, which [`adopt`] refuses with
@@ -52,7 +52,7 @@
 //! its ten neighbours walk over the rows, one `next` a row.
 //!
 //! Read next: [`Bank`], with what holds after each fault; [`Counter`], with the five calls; [`Walk`], to read
-//! the rows. `specs/Seen` says what a bank shows, and the crate `bank_lives` what is found after a stop.
+//! the rows. `specs/Seen` says what a bank shows, and the crate `bank_lives` what is found after a crash.
 #![tactic(auto)]
 
 mod adoption;

@@ -22,7 +22,7 @@ use posting_rules::{OpenFault, Rule};
 use sqlite::{Alter, Connection, Transaction};
 use std::alloc::Global;
 use store_rows::{
-    BEHIND_META, BankTable, EARLIEST, VERSION, commit, make_lacking, probe_table, set_version,
+    AFTER_META, BankTable, EARLIEST, VERSION, commit, make_lacking, probe_table, set_version,
 };
 
 /// What was done so that a file has a bank of this version.
@@ -99,12 +99,12 @@ fn move_settled<S: Alter>(conn: &mut Connection<S>, from: u64) -> Result<(), Ope
     Err(fault)
 }
 
-// The tables behind `meta` of a bank of that version.
-fn behind_meta(from: u64) -> &'static [BankTable]
+// The tables after `meta` of a bank of that version.
+fn after_meta(from: u64) -> &'static [BankTable]
     requires { IsEarlier from }
     ensures { result.now ≡ take (4 + from) (drop 1 all_tables) }
 {
-    &BEHIND_META[..4 + from as usize]
+    &AFTER_META[..4 + from as usize]
 }
 
 // Looks for the tables of a bank of that version, and then for its count of requests.
@@ -115,7 +115,7 @@ fn find_earlier<S: Alter>(conn: &mut Connection<S>, from: u64) -> Result<(), Ope
         → SeeksEarlier from (state S.Store conn.old) (state S.Store conn.new) result }
     ensures looks { LooksIn S.Store conn.old conn.new result }
 {
-    let Presence::Whole = count_tables(conn, BankTable::Meta, behind_meta(from))? else {
+    let Presence::Whole = count_tables(conn, BankTable::Meta, after_meta(from))? else {
         return Err(OpenFault::Foreign);
     };
     match settled_meta(conn)? {
@@ -160,7 +160,7 @@ fn find_or_move<S: Alter>(conn: &mut Connection<S>) -> Result<Migrated, OpenFaul
 
 /// Makes sure that the connection's file has a bank of this version: takes up one of this version, as `adopt`
 /// does, and carries one of an earlier version over to it, in one transaction. All its rows stay, so it shows what
-/// it showed, and the tables that its version lacked are empty. A stop in the call leaves the bank as it was or
+/// it showed, and the tables that its version lacked are empty. A crash in the call leaves the bank as it was or
 /// carried over.
 ///
 /// The connection has to be outside a transaction, as a new one is.

@@ -71,7 +71,7 @@ fn make_bank<S: Alter>(conn: &mut Connection<S>) -> Result<(), OpenFault>
 }
 
 /// Makes a bank with no branch, in one transaction, beside whatever other tables the file has. These keep
-/// their rows. A stop in the call leaves the file as it was or with the new bank.
+/// their rows. A crash in the call leaves the file as it was or with the new bank.
 ///
 /// The connection has to be outside a transaction, as a new one is.
 ///

@@ -9,7 +9,7 @@ ghost use Rattle.bank_store.specs.TablePresence.{joined, presence_of, TellsPrese
 use bank_transactions::note_settled;
 use posting_rules::OpenFault;
 use sqlite::{Alter, Connection};
-use store_rows::{BEHIND_META, BankTable, probe_table};
+use store_rows::{AFTER_META, BankTable, probe_table};
 
 /// How many of some tables are there.
 #[derive(Clone, Copy)]
@@ -75,5 +75,5 @@ pub(crate) fn tables_there<S: Alter>(conn: &mut Connection<S>) -> Result<Presenc
     ensures fault { IfErr result (λ fault. fault ≡ OpenFault.Store) }
     ensures looks { LooksIn S.Store conn.old conn.new result }
 {
-    count_tables(conn, BankTable::Meta, BEHIND_META)
+    count_tables(conn, BankTable::Meta, AFTER_META)
 }

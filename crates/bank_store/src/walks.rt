@@ -9,7 +9,7 @@ ghost use Rattle.posting_rules.specs.declared.fault.Fault.TheVariants as fault;
 ghost use Rattle.sql_meanings.specs.StatementAnswers.{IsStoreError};
 ghost use Rattle.walked_rows.specs.StepOutcomes.{BreaksFirst};
 ghost use Rattle.walked_rows.specs.Rising.{RisesFrom};
-ghost use Rattle.walked_rows.specs.Rows.{items_behind, items_from};
+ghost use Rattle.walked_rows.specs.Rows.{items_after, items_from};
 ghost use Rattle.bank_store.specs.Walks.{IsStill, IsUntouchedIfOpen, TellsFault};
 
 use crate::bank::Bank;
@@ -25,7 +25,7 @@ use walked_rows::{
     StoredMeta, StoredPosting, StoredReference, StoredRequest, StoredTeller, WalkedRow,
 };
 
-// How far a walk is: on its way, behind its last row, or behind a fault.
+// How far a walk is: on its way, after its last row, or after a fault.
 #[derive(Clone, Copy, Debug)]
 pub(crate) enum Stage {
     Going,
@@ -105,7 +105,7 @@ pub(crate) fn read_outside<S: Alter, R: WalkedRow>(
         → R.WalkedRow.HasItems (state S.Store conn.old).now all
         → let given = filter (R.WalkedRow.is_given of) all in MatchResult result
         (λ rest. items_from R.WalkedRow.key from given
-        ≡ map R.WalkedRow.item rows.new.items ++ items_behind R.WalkedRow.key rest given)
+        ≡ map R.WalkedRow.item rows.new.items ++ items_after R.WalkedRow.key rest given)
         (BreaksFirst (IsStoreError (state S.Store conn.old) (state S.Store conn.new)) R.WalkedRow.Breaks
         (items_from R.WalkedRow.key from given)) }
     ensures ended { IfOk result (λ rest. rows.new.items ≡ [] → rest ≡ None) }
@@ -119,7 +119,7 @@ pub(crate) fn read_outside<S: Alter, R: WalkedRow>(
     ensures survives { Survives (state S.Store conn.old) (state S.Store conn.new) (λ _. ⊥) }
 {
     note_settled(conn);
-    R::fill(conn, of, from, rows)
+    R::read_some(conn, of, from, rows)
 }
 
 impl<'bank, S: Alter, R: WalkedRow> Walk<'bank, S, R> {
@@ -195,7 +195,7 @@ impl<'bank, S: Alter, R: WalkedRow> Walk<'bank, S, R> {
         }
     }
 
-    /// The next row, whose key is above those before it; none behind the last row, and from then on.
+    /// The next row, whose key is above those before it; none after the last row, and from then on.
     ///
     /// # Errors
     ///

@@ -46,7 +46,7 @@ failed_here g old new e failed =
       after = same_moment (state g new);
     }
 
--- a part that failed, behind others and before others
+-- a part that failed, after others and before others
 pub failed_within : {S : Type 0} (g : Ghosts S) (old mid end new : Held S) (e : Error)
     → IsBefore (state g old) (state g mid)
     → IsBefore (state g end) (state g new) → HasFailedBetween g mid end e → HasFailedBetween g old new e

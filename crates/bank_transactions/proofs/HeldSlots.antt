@@ -22,8 +22,8 @@ use Rattle.bank_transactions.specs.Filling.{BranchHeld, FloorHeld, HoldsBranch, 
 use Rattle.bank_transactions.specs.Filling.{emptied_account}
 use Rattle.bank_transactions.specs.Filling.{emptied_branch, emptied_floor, emptied_request, emptied_teller}
 use Rattle.bank_transactions.specs.Stored.{HoldsFloor}
-use Rattle.bank_transactions.proofs.Whole.{with_accounts, with_branches, with_count, with_floors, with_kept}
-use Rattle.bank_transactions.proofs.Whole.{with_tellers}
+use Rattle.bank_transactions.proofs.FilledBatch.{with_accounts, with_branches, with_count, with_floors, with_kept}
+use Rattle.bank_transactions.proofs.FilledBatch.{with_tellers}
 
 -- what is so of each slot under its own key is so of the one that is found under a key
 pub at_key : {S : Type 0} (key : S → ℕ) (P : ℕ → S → Type 0) (slots : List S)

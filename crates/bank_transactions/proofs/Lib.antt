@@ -8,7 +8,7 @@ pub mod FittingAccounts
 pub mod HeldRows
 pub mod HeldSlots
 pub mod NextRow
-pub mod Opened
+pub mod OpeningRows
 pub mod ReadsInTurn
 pub mod SoundRows
 pub mod Statements
@@ -20,10 +20,10 @@ pub mod Loops
 pub mod Partly
 pub mod FilledSlots
 pub mod Rows
-pub mod Whole
+pub mod FilledBatch
 pub mod Together
 pub mod HeldBatch
-pub mod Answered
+pub mod JudgedSlots
 pub mod Idle
 pub mod Added
 pub mod NewRequests

@@ -96,9 +96,9 @@ has_first (x ∷ some) rest y (inl same) = inl same
 has_first (x ∷ some) rest y (inr more) = inr (has_first some rest y more)
 has_first [] rest y none = absurd none
 
-has_behind : {A : Type 0} (front rest : List A) (y : A) → Has rest y → Has (front ++ rest) y
-has_behind [] rest y has = has
-has_behind (x ∷ front) rest y has = inr (has_behind front rest y has)
+has_after : {A : Type 0} (front rest : List A) (y : A) → Has rest y → Has (front ++ rest) y
+has_after [] rest y has = has
+has_after (x ∷ front) rest y has = inr (has_after front rest y has)
 
 -- one more of the changes that are made one after another
 pub make_more : {S A : Type 0} {g : Ghosts S} {Adds : List A → Additions} {old mid new : Transaction S} {r : Result (Unit {0}) TableFault}
@@ -144,7 +144,7 @@ some_more {S} {A} {g} {Adds} {old} {mid} {new} {r} {made} {May} {rows} {left} la
     λ t may. law.next stands.front some rest t (subst (λ (l : List A). May l t) all may) in
     let among : (y : A) → Has some y → Has rows y =
     λ y has. subst (λ (l : List A). Has l y) (sym all)
-    (has_behind stands.front (some ++ rest) y (has_first some rest y has)) in
+    (has_after stands.front (some ++ rest) y (has_first some rest y has)) in
     does_for (does_then stands.so_far (does_adds (λ clean. alike.more some rows among) next)
     (λ t may. (so t may).0)) (λ t may. (may, (so t may).1, refl))
 

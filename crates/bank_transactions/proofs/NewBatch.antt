@@ -1,5 +1,6 @@
 -- A batch whose requests were put in first: none of them was kept, so that its slots have what the tables have.
-use Rattle.std.proofs.Common.{◌≡◌, ◌∙◌, ℕ, eqb, pos, true, false, Bool, List, [], ◌∷◌, map, Option, Some, None, Result}
+use Rattle.std.proofs.Common.{◌≡◌, ◌∙◌, ℕ, eqb, pos, true, false, Bool, List, [], ◌∷◌, map, Option, Some, None}
+use Rattle.std.proofs.Common.{Result}
 use Rattle.std.proofs.Common.{Ok, Err, find, option_map, refl, sym, ap, subst, arith, inl, inr}
 use Rattle.std.proofs.lemmas.Bool.{eqb-true}
 use Rattle.std.specs.Prelude.{◌&&◌, ◌||◌, IfSome, IsSome, IsTrue, is_none}
@@ -46,7 +47,7 @@ use Rattle.bank_transactions.specs.Doing.{Acts, CommitsNothing, Does, DoesBy}
 use Rattle.bank_transactions.specs.Filling.{AreHeld, AreKnown, ReadsWhere, RequestHeld, emptied, known}
 use Rattle.bank_transactions.specs.Stored.{HoldsKept}
 use Rattle.bank_transactions.specs.Writing.{MayAddRequests}
-use Rattle.bank_transactions.proofs.Answered.{Judging, Ready, Written}
+use Rattle.bank_transactions.proofs.JudgedSlots.{Judging, Ready, Written}
 use Rattle.bank_transactions.proofs.Chained.{acts_wrote, does_for, does_then, same_fault, still_in}
 use Rattle.bank_transactions.proofs.HeldBatch.{map_twice}
 

@@ -31,10 +31,10 @@ new_before some all within (r ∷ news) are = (
   new_before some all within news are.1,
 )
 
-behind : (rows : List Entry) (front news : List RequestRow) → AllByRecursion (IsNew rows) front
+after : (rows : List Entry) (front news : List RequestRow) → AllByRecursion (IsNew rows) front
     → AllByRecursion (IsNew rows) news → AllByRecursion (IsNew rows) (front ++ news)
-behind rows [] news one two = two
-behind rows (r ∷ front) news one two = (one.0, behind rows front news one.1 two)
+after rows [] news one two = two
+after rows (r ∷ front) news one two = (one.0, after rows front news one.1 two)
 
 -- nothing yet
 pub news_none : (db : Database) → PutsNew db db []
@@ -46,7 +46,7 @@ pub news_then : (old mid new : Database) (front news : List RequestRow) → Puts
 news_then old mid new front news one two rows holds =
     let first = one rows holds in
     let last = two first.1.all first.1.holds in (
-      behind rows front news first.0 (new_before rows first.1.all first.1.still news last.0),
+      after rows front news first.0 (new_before rows first.1.all first.1.still news last.0),
       record {
         all = last.1.all;
         holds = last.1.holds;

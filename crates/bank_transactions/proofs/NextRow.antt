@@ -30,21 +30,21 @@ is_above a b h = grind (arith, nat_tests)
 not_above : (a b : ℕ) → nat_lt a b ≡ false → b ≤ a
 not_above a b h = grind (arith, nat_tests)
 
--- the rows behind the first are above it
-behind_first : (row : BranchRow) (rows : List BranchRow) (after : ℕ)
+-- the rows after the first are above it
+after_first : (row : BranchRow) (rows : List BranchRow) (after : ℕ)
     → AllByRecursion (λ e. int_cmp (pos row.branch) e.key ≡ Less) (map branch_entry rows)
     → All (λ r. after < r.branch → row.branch ≤ r.branch) rows
-behind_first row [] after h = All-nil (λ r. after < r.branch → row.branch ≤ r.branch)
-behind_first row (r ∷ rows) after h =
+after_first row [] after h = All-nil (λ r. after < r.branch → row.branch ≤ r.branch)
+after_first row (r ∷ rows) after h =
     All-cons (λ x. after < x.branch → row.branch ≤ x.branch) r rows
-    (λ high. let lt = rising row.branch r.branch h.0 in omega arith) (behind_first row rows after h.1)
+    (λ high. let lt = rising row.branch r.branch h.0 in omega arith) (after_first row rows after h.1)
 
 -- a row that isn't above the number, in front of the others
-next_behind : (row : BranchRow) (rows : List BranchRow) (after : ℕ) (next : Option BranchRow)
+next_after : (row : BranchRow) (rows : List BranchRow) (after : ℕ) (next : Option BranchRow)
     → row.branch ≤ after
     → IsNextIn rows after next → IsNextIn (row ∷ rows) after next
-next_behind row rows after None low is = All-cons (λ r. r.branch ≤ after) row rows low is
-next_behind row rows after (Some found) low is =
+next_after row rows after None low is = All-cons (λ r. r.branch ≤ after) row rows low is
+next_after row rows after (Some found) low is =
     let place = is.stands in
     let lt = place.1 in
     record {
@@ -65,9 +65,9 @@ first_above (row ∷ rows) after rise =
         above = is_above after row.branch high;
         least =
             All-cons (λ r. after < r.branch → row.branch ≤ r.branch) row rows (λ _. omega arith)
-            (behind_first row rows after rise.0);
+            (after_first row rows after rise.0);
       })
-      | inr low ↦ rw low (next_behind row rows after (find (λ r. nat_lt after r.branch) rows)
+      | inr low ↦ rw low (next_after row rows after (find (λ r. nat_lt after r.branch) rows)
           (not_above after row.branch low) (first_above rows after rise.1))
     ]
 

@@ -59,11 +59,11 @@ pub read_failed : {S : Type 0} (g : Ghosts S) (old new : Held S) (fault : TableF
 read_failed g old new fault of it =
     (not_committed (state g old) (state g new) it.0, first_fault g old new fault of it.1)
 
-pub behind : {S : Type 0} (g : Ghosts S) (old mid new : Held S) (fault : TableFault)
+pub after : {S : Type 0} (g : Ghosts S) (old mid new : Held S) (fault : TableFault)
     → IsBefore (state g old) (state g mid)
     → (state g mid).now ≡ (state g old).now → IsFault (IsFirstBroken g) g mid new fault
     → IsFault (IsFirstBroken g) g old new fault
-behind g old mid new fault one same it =
+after g old mid new fault one same it =
     fault_within (IsFirstBroken g) g old mid new new fault (λ rule. subst (IsBroken rule) same) one
     (same_moment (state g new)) it
 
@@ -75,7 +75,7 @@ pub second_failed : {S : Type 0} (g : Ghosts S) (old mid new : Held S) (fault : 
     → KeepsCommit (state g old) (state g new) × IsFault (IsFirstBroken g) g old new fault
 second_failed g old mid new fault one same it = (
   record { was_open = λ h. same.0.was_open; committed = λ h. it.0.committed h ∙ same.0.committed_is },
-  behind g old mid new fault one same.0.now_is it.1,
+  after g old mid new fault one same.0.now_is it.1,
 )
 
 -- what is looked for under a key, and couldn't be read: the tables don't have it so, or the rows that were
@@ -204,16 +204,16 @@ reads_but {S} {X} {g} {old} {mid} {new} {w} {x} e one two =
         was_open = λ h. kept.0.goes_on.opened (kept'.0.was_open h);
         committed = λ h. kept'.0.committed h ∙ kept.0.goes_on.committed;
       },
-      behind g old.conn.now mid.conn.now new.conn.now e (comes one.survives) kept.0.now kept'.1,
+      after g old.conn.now mid.conn.now new.conn.now e (comes one.survives) kept.0.now kept'.1,
     ))
 
--- the same, behind a statement that changed nothing
-pub behind_found : {S : Type 0} {g : Ghosts S} {old mid new : Transaction S}
+-- the same, after a statement that changed nothing
+pub after_found : {S : Type 0} {g : Ghosts S} {old mid new : Transaction S}
     {Told Rows : State → State → Type 0} (e : TableFault)
     → Says g old mid Told (λ before now. IsUnchanged before now × Rows before now)
     → Reads {X = Unit {0}} g mid new (λ t. tt {0}) (Err e)
     → Reads {X = Unit {0}} g old new (λ t. tt {0}) (Err e)
-behind_found {S} {g} {old} {mid} {new} {Told} {Rows} e one two =
+after_found {S} {g} {old} {mid} {new} {Told} {Rows} e one two =
     says_then g old mid new one two
     (λ told same told' t shows sound.
     still_fails (state g old.conn.now) (state g mid.conn.now) (state g new.conn.now) e

@@ -35,7 +35,7 @@ use Rattle.bank_transactions.proofs.Chained.{does_for}
 use Rattle.bank_transactions.proofs.Statements.{does_add}
 use Rattle.posting_rules.specs.Changes.{row_changed, row_put, with_branch_balance, with_teller_balance}
 use Rattle.posting_rules.specs.Changes.{with_account_balance}
-use Rattle.posting_rules.specs.Steps as steps
+use Rattle.posting_rules.specs.ChangesByKey as steps
 use Rattle.posting_rules.specs.Tables.{Tables, row_at, branch_key, teller_key, account_key}
 use Rattle.posting_rules.specs.Tables.{history_key, request_key}
 use Rattle.posting_batch.specs.declared.slots.AccountSlot.{AccountSlot}
@@ -44,7 +44,7 @@ use Rattle.posting_batch.specs.declared.slots.BranchSlot.{BranchSlot}
 use Rattle.posting_batch.specs.Overlay.{changed_to, over, accounts_over, tellers_over, branches_over}
 use Rattle.posting_batch.specs.Slots.{account_slot_key, teller_slot_key, branch_slot_key}
 use Rattle.posting_batch.proofs.NewRows.{account_same, teller_same, branch_same}
-use Rattle.posting_batch.proofs.Written.{over_changed, over_unchanged}
+use Rattle.posting_batch.proofs.SlotsWritten.{over_changed, over_unchanged}
 use Rattle.bank_transactions.specs.InTurn.{ArePlaced}
 use Rattle.bank_transactions.specs.Writing.{MayAddPostings, MayAddRequests, by_change}
 

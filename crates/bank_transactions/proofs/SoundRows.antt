@@ -1,5 +1,6 @@
 -- The rows of undamaged tables are sound: nothing that is read of them is told to be damaged.
-use Rattle.std.proofs.Common.{◌≡◌, ◌⊎◌, ℕ, suc, ◌≤◌, ◌≤ℤ◌, ◌∙◌, ap, Bool, true, false, leb, List, [], ◌∷◌, Option, Some}
+use Rattle.std.proofs.Common.{◌≡◌, ◌⊎◌, ℕ, suc, ◌≤◌, ◌≤ℤ◌, ◌∙◌, ap, Bool, true, false, leb, List, [], ◌∷◌, Option}
+use Rattle.std.proofs.Common.{Some}
 use Rattle.std.proofs.Common.{None, Err, refl, sym, subst, arith, inl, inr}
 use Rattle.std.specs.Prelude.{ℤ, nat_abs, nat_eq, IsSome, is_some, ◌&&◌}
 use Rattle.std.specs.List.{find, Contains}

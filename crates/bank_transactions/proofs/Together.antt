@@ -28,7 +28,7 @@ use Rattle.bank_transactions.proofs.Chained.{does_adds, does_for, does_then}
 use Rattle.bank_transactions.proofs.SoundRows.{no_branch_beyond}
 use Rattle.bank_transactions.specs.Writing.{AreBranchNumbers, MayChangeAccounts, MayChangeTellers}
 use Rattle.bank_transactions.specs.Writing.{MayAddPostings, MayAddReferences, MayAddRequests}
-use Rattle.bank_transactions.specs.Writing.{MayChangeBranches, MayWriteBehind, behind_requests}
+use Rattle.bank_transactions.specs.Writing.{MayChangeBranches, MayWriteAfter, after_requests}
 
 -- ---- the numbers of branches that have a row
 
@@ -61,11 +61,11 @@ numbers t (s ∷ slots) sound all = (one s.changed all.0, numbers t slots sound 
 -- ---- the tables one after another
 
 abbrev So : Overlay → Tables → Type 0
-So o t = MayWriteBehind o t
+So o t = MayWriteAfter o t
 
--- Changes of one table: how they are made of tables and when they may be, and that these may be made behind
+-- Changes of one table: how they are made of tables and when they may be, and that these may be made after
 -- what stands so far.
-pub record Behind {A : Type 0} (o : Overlay) (before : Tables → Tables) (made : List A → Tables → Tables)
+pub record GoesAfter {A : Type 0} (o : Overlay) (before : Tables → Tables) (made : List A → Tables → Tables)
     (May : List A → Tables → Type 0) (Adds : List A → Additions) (changes : List A) : Type 0 where
   pub may : (t : Tables) → So o t → May changes (before t)
   pub adds : (text : List ℕ) (values : Row) → Adds changes text values → AddsNew o text values
@@ -84,29 +84,29 @@ to_branches o t = branches_over o.branches (to_tellers o t)
 abbrev pub to_postings : Overlay → Tables → Tables
 to_postings o t = history_put o.history (to_branches o t)
 
-pub accounts : (o : Overlay) → Behind o (λ t. t) accounts_over MayChangeAccounts (λ slots. NoRow) o.accounts
+pub accounts : (o : Overlay) → GoesAfter o (λ t. t) accounts_over MayChangeAccounts (λ slots. NoRow) o.accounts
 accounts o = record {
   may = λ t so. (rising_keys account_slot_key o.accounts so.0.accounts, so.1.accounts);
   adds = λ text values none. absurd none;
 }
 
-pub tellers : (o : Overlay) → Behind o (to_accounts o) tellers_over MayChangeTellers (λ slots. NoRow) o.tellers
+pub tellers : (o : Overlay) → GoesAfter o (to_accounts o) tellers_over MayChangeTellers (λ slots. NoRow) o.tellers
 tellers o = record {
   may = λ t so. (rising_keys teller_slot_key o.tellers so.0.tellers, so.1.tellers);
   adds = λ text values none. absurd none;
 }
 
-pub branches : (o : Overlay) → Behind o (to_tellers o) branches_over MayChangeBranches (λ slots. NoRow) o.branches
+pub branches : (o : Overlay) → GoesAfter o (to_tellers o) branches_over MayChangeBranches (λ slots. NoRow) o.branches
 branches o = record {
   may = λ t so. ((rising_keys branch_slot_key o.branches so.0.branches, so.1.branches), so.2);
   adds = λ text values none. absurd none;
 }
 
-pub postings : (o : Overlay) → Behind o (to_branches o) history_put MayAddPostings (λ rows. AddsPostings (Has rows))
+pub postings : (o : Overlay) → GoesAfter o (to_branches o) history_put MayAddPostings (λ rows. AddsPostings (Has rows))
     o.history
 postings o = record { may = λ t so. so.3; adds = λ text values it. inl it }
 
-pub references : (o : Overlay) → Behind o (to_postings o) references_put MayAddReferences
+pub references : (o : Overlay) → GoesAfter o (to_postings o) references_put MayAddReferences
     (λ rows. AddsReferences (Has rows)) o.references
 references o = record { may = λ t so. so.4; adds = λ text values it. inr (inr it) }
 
@@ -114,24 +114,24 @@ references o = record { may = λ t so. so.4; adds = λ text values it. inr (inr 
 pub step : {S A : Type 0} {g : Ghosts S} {a b c : Transaction S} {r : Result (Unit {0}) TableFault}
     {o : Overlay} {before : Tables → Tables} {made : List A → Tables → Tables}
     {May : List A → Tables → Type 0} {Adds : List A → Additions} {changes : List A} {xs : List A}
-    → Behind o before made May Adds changes → xs ≡ changes
+    → GoesAfter o before made May Adds changes → xs ≡ changes
     → Does {X = Unit {0}} g (AddsNew o) a b (So o) before (λ _. tt {0}) (Ok (tt {0}))
     → Does {X = Unit {0}} g (Adds xs) b c (May xs) (made xs) (λ _. tt {0}) r
     → Does {X = Unit {0}} g (AddsNew o) a c (So o) (λ t. made changes (before t)) (λ _. tt {0}) r
-step {S} {A} {g} {a} {b} {c} {r} {o} {before} {made} {May} {Adds} behind same first second =
+step {S} {A} {g} {a} {b} {c} {r} {o} {before} {made} {May} {Adds} after same first second =
     does_then first
-    (does_adds (λ clean. behind.adds)
+    (does_adds (λ clean. after.adds)
     (subst (λ (ys : List A). Does {X = Unit {0}} g (Adds ys) b c (May ys) (made ys) (λ _. tt {0}) r) same second))
-    behind.may
+    after.may
 
 -- ---- the requests first
 
 abbrev pub Written : Overlay → Tables → Type 0
 Written o t = IsUndamaged t × HasRisingSlots o × ChangesRows o t × AddsFreeRows o t
 
--- the rest may be written behind the requests
-behind : (o : Overlay) (t : Tables) → Written o t → MayWriteBehind o (requests_put o.requests t)
-behind o t so = (
+-- the rest may be written after the requests
+after : (o : Overlay) (t : Tables) → Written o t → MayWriteAfter o (requests_put o.requests t)
+after o t so = (
   so.1,
   record { branches = so.2.branches; tellers = so.2.tellers; accounts = so.2.accounts },
   numbers t o.branches so.0 so.2.branches,
@@ -155,6 +155,6 @@ requests_first {S} {g} {old} {new} {r} o same puts =
 pub all_written : {S : Type 0} {g : Ghosts S} {old mid new : Transaction S} {r : Result (Unit {0}) TableFault}
     (o : Overlay)
     → Does {X = Unit {0}} g (AddsNew o) old mid (Written o) (requests_put o.requests) (λ _. tt {0}) (Ok (tt {0}))
-    → Does {X = Unit {0}} g (AddsNew o) mid new (MayWriteBehind o) (behind_requests o) (λ _. tt {0}) r
+    → Does {X = Unit {0}} g (AddsNew o) mid new (MayWriteAfter o) (after_requests o) (λ _. tt {0}) r
     → Does {X = Unit {0}} g (AddsNew o) old new (Written o) (λ t. tables_over o t) (λ _. tt {0}) r
-all_written o first second = does_for (does_then first second (behind o)) (λ t so. (so, refl, refl))
+all_written o first second = does_for (does_then first second (after o)) (λ t so. (so, refl, refl))

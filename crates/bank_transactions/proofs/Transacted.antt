@@ -1,4 +1,4 @@
--- A transaction from its beginning to its end: what it tells, what a stop may leave of it, and why it failed.
+-- A transaction from its start to its end: what it tells, what a crash may leave of it, and why it failed.
 use Rattle.std.proofs.Common.{◌≡◌, ℕ, Result, Ok, Err, refl, sym, subst, arith, inl, inr, ◌∙◌}
 use Rattle.std.specs.Prelude.{true, IfOk, IsTrue, OnOk}
 use Rattle.sqlite.specs.State.{State, HasCleanDisk, IsRolledBack, KeepsCommit, Survives}

@@ -22,7 +22,7 @@ pub record WritesNothing (old new : State) (t : Tables) (moment : ℕ) (records 
   pub leads : tables_past_all t moment records ≡ t
   pub stays : Stays old new
 
--- all is as it was, these tables are there, and everything that a stop may leave has them
+-- all is as it was, these tables are there, and everything that a crash may leave has them
 pub record KeepsOnly (old new : State) (t : Tables) : Type 0 where
   pub same : new.now ≡ old.now
   pub shows : Shows new.now t

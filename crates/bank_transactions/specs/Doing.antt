@@ -110,7 +110,7 @@ MayCommit last (Ok x) left = (left ≡ last.now.trees)
     × ((tables : Tables) → Shows last.now tables → ShowsTrees left tables)
 MayCommit last (Err fault) left = ⊥
 
--- an answer is committed, and a stop leaves its tables; or its commit fails; after a fault all is rolled back
+-- an answer is committed, and a crash leaves its tables; or its commit fails; after a fault all is rolled back
 abbrev pub EndsBy : {X : Type 0} → State → State → Result X TableFault → Result X TableFault → Type 0
 EndsBy last new (Ok x) (Ok y) = (new.now ≡ last.now)
     × ((tables : Tables) → Shows last.now tables
@@ -129,7 +129,7 @@ pub record Ends {S X : Type 0} (g : Ghosts S) (last new : Held S)
 
 -- ---- a transaction
 
--- the tables are these now, and a stop leaves them; the answer is this one; they are never reported as
+-- the tables are these now, and a crash leaves them; the answer is this one; they are never reported as
 -- damaged
 abbrev pub Completes : {X : Type 0} → State → Tables → X → Result X TableFault → Type 0
 Completes new after wanted (Ok x) = (x ≡ wanted) × Shows new.now after
@@ -142,24 +142,24 @@ abbrev pub Undoes : {X : Type 0} → State → State → Result X TableFault →
 Undoes old new (Err (Damaged rule)) = IsTrue new.is_open → IsTrue old.is_open × (new.now ≡ old.now)
 Undoes old new _ = ⊤
 
--- what a stop may leave besides what it could leave before: tables that are so, as the transaction leaves
+-- what a crash may leave besides what it could leave before: tables that are so, as the transaction leaves
 -- them
 abbrev pub MayLeaveAfter : State → (Tables → Type 0) → (Tables → Tables) → Trees → Type 0
 MayLeaveAfter old So after left = (tables : Tables) → Shows old.now tables → So tables
     → ShowsTrees left (after tables)
 
--- what a stop may leave has the tables of other products as the database had them
+-- what a crash may leave has the tables of other products as the database had them
 abbrev pub LeavesOthers : Database → Trees → Type 0
 LeavesOthers old left = (after : Database) × (left ≡ after.trees) × SparesOthers old after
 
--- Whatever rows the file holds: after `Ok` the tables of other products are as they were, and a stop leaves what
+-- Whatever rows the file holds: after `Ok` the tables of other products are as they were, and a crash leaves what
 -- it could leave before, or them as they were.
 pub record SparesTheirs {S X : Type 0} (g : Ghosts S) (old new : Held S) (result : Result X TableFault)
     : Type 0 where
   pub now : HasCleanDisk (state g new) → OnOk result (SparesOthers (state g old).now (state g new).now)
   pub left : Survives (state g old) (state g new) (LeavesOthers (state g old).now)
 
--- Tables that are so become these, and the answer is this one. Damage undoes all. A stop leaves what it could
+-- Tables that are so become these, and the answer is this one. Damage undoes all. A crash leaves what it could
 -- leave before, or what the transaction leaves. An error of `sqlite` is one with which a call of it failed,
 -- and damage says this. No transaction goes on. The tables of other products are spared.
 pub record TransactsBy {S X : Type 0} (Met : Damage S) (g : Ghosts S) (old new : Held S)

@@ -1,4 +1,4 @@
--- New rows of one table are put in several at a time: what is so of all is so of the next ones, behind those
+-- New rows of one table are put in several at a time: what is so of all is so of the next ones, after those
 -- before them.
 use Rattle.std.proofs.Common.{◌≡◌, ℕ, List, [], ◌∷◌, ◌++◌, refl, sym, ap, subst, ◌∙◌}
 use Rattle.posting_rules.specs.Changes.{row_put}
@@ -19,15 +19,15 @@ module _ {R : Type 0} (key : R → ℕ) where
   free_first [] rest rows free = tt
   free_first (r ∷ some) rest rows free = (free.0, free_first some rest (row_put key r rows) free.1)
 
-  free_behind : (front rest rows : List R) → PutsFree key (front ++ rest) rows
+  free_after : (front rest rows : List R) → PutsFree key (front ++ rest) rows
       → PutsFree key rest (each_put key front rows)
-  free_behind [] rest rows free = free
-  free_behind (r ∷ front) rest rows free = free_behind front rest (row_put key r rows) free.1
+  free_after [] rest rows free = free
+  free_after (r ∷ front) rest rows free = free_after front rest (row_put key r rows) free.1
 
-  put_behind : (front some rows : List R)
+  put_after : (front some rows : List R)
       → each_put key some (each_put key front rows) ≡ each_put key (front ++ some) rows
-  put_behind [] some rows = refl
-  put_behind (r ∷ front) some rows = put_behind front some (row_put key r rows)
+  put_after [] some rows = refl
+  put_after (r ∷ front) some rows = put_after front some (row_put key r rows)
 
   rows_in_parts : (rows : Tables → List R) (with_rows : Tables → List R → Tables) → ArePlaced rows with_rows
       → InParts (λ news t. with_rows t (each_put key news (rows t))) (λ news t. PutsFree key news (rows t))
@@ -35,10 +35,10 @@ module _ {R : Type 0} (key : R → ℕ) where
     next = λ front some rest t free.
         let before = each_put key front (rows t) in (
           subst (λ (rs : List R). PutsFree key some rs) (sym (placed.held t before))
-              (free_first some rest before (free_behind front (some ++ rest) (rows t) free)),
+              (free_first some rest before (free_after front (some ++ rest) (rows t) free)),
           placed.again t before (each_put key some (rows (with_rows t before)))
               ∙ ap (λ (rs : List R). with_rows t (each_put key some rs)) (placed.held t before)
-              ∙ ap (with_rows t) (put_behind front some (rows t)),
+              ∙ ap (with_rows t) (put_after front some (rows t)),
         );
   }
 

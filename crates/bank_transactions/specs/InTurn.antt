@@ -1,10 +1,10 @@
--- Changes of one table are made one after another: what is so of all is so of the next one, behind those
+-- Changes of one table are made one after another: what is so of all is so of the next one, after those
 -- before it.
 use Rattle.std.proofs.Common.{◌≡◌, ℕ, List, [], ◌∷◌, ◌++◌, Option, Some, None, refl, sym, ap, subst, ◌∙◌}
 use Rattle.std.specs.Prelude.{ℤ, IsSome, IfSome}
 use Rattle.std.specs.List.{AllByRecursion, IsDistinct}
 use Rattle.posting_rules.specs.Changes.{row_put}
-use Rattle.posting_rules.specs.Steps.{with_branch_balance, with_teller_balance, with_account_balance}
+use Rattle.posting_rules.specs.ChangesByKey.{with_branch_balance, with_teller_balance, with_account_balance}
 use Rattle.posting_rules.specs.Tables.{Tables, HasKeys, row_at, branch_key, teller_key, account_key}
 use Rattle.posting_rules.specs.Tables.{history_key, request_key, reference_key}
 use Rattle.posting_batch.specs.Batch.{PutsFree}
@@ -13,7 +13,7 @@ use Rattle.posting_batch.specs.Overlay.{branches_over, history_put, requests_put
 use Rattle.posting_batch.specs.Slots.{account_slot_key, teller_slot_key, branch_slot_key}
 use Rattle.posting_batch.proofs.NewRows.{account_same, teller_same, branch_same}
 use Rattle.posting_batch.proofs.Overlaid.{each_put-append}
-use Rattle.posting_batch.proofs.Written.{not_before, over_none, over_more, over_there}
+use Rattle.posting_batch.proofs.SlotsWritten.{not_before, over_none, over_more, over_there}
 use Rattle.bank_transactions.specs.Writing.{MayChange, MayChangeAccounts, MayChangeTellers, MayChangeBranches}
 use Rattle.bank_transactions.specs.Writing.{MayAddPostings, MayAddRequests, MayAddReferences}
 
@@ -32,10 +32,10 @@ pub record ArePlaced {R : Type 0} (rows : Tables → List R)
   pub held : (t : Tables) (rs : List R) → rows (with_rows t rs) ≡ rs
   pub again : (t : Tables) (rs others : List R) → with_rows (with_rows t rs) others ≡ with_rows t others
 
-all_behind : {A : Type 0} (P : A → Type 0) (front : List A) (x : A) (rest : List A)
+all_after : {A : Type 0} (P : A → Type 0) (front : List A) (x : A) (rest : List A)
     → AllByRecursion P (front ++ x ∷ rest) → P x
-all_behind P [] x rest all = all.0
-all_behind P (y ∷ front) x rest all = all_behind P front x rest all.1
+all_after P [] x rest all = all.0
+all_after P (y ∷ front) x rest all = all_after P front x rest all.1
 
 -- ---- slots
 
@@ -58,7 +58,7 @@ module _ {A R : Type 0} (slot_key : A → ℕ) (key : R → ℕ) (changed : A �
       → MayChange slot_key changed key rows (front ++ s ∷ rest)
       → MayChange slot_key changed key (under front rows) (s ∷ [])
   may_next front s rest rows may =
-      let asked = all_behind
+      let asked = all_after
       (λ x. IfSome (changed x) (λ z. IsSome (row_at key rows (slot_key x)))) front s rest may.1 in
       (one_key slot_key s, (there (changed s) front rows (slot_key s) asked, tt))
 
@@ -106,7 +106,7 @@ branches_in_turn =
       none = slots.none;
       next = λ front s rest t may.
           let it = slots.next front s rest t may.0 in
-          ((it.0, (all_behind _ front s rest may.1, tt)), it.1);
+          ((it.0, (all_after _ front s rest may.1, tt)), it.1);
     }
 
 -- ---- new rows

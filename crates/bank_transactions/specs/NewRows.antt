@@ -1,6 +1,7 @@
 -- The rows that come with a branch, one by one.
 use Rattle.std.specs.Prelude.{ℕ, zero, suc, ◌+◌, pos, Bool, None, is_some}
-use Rattle.posting_rules.specs.Changes.{with_account, with_accounts, with_branch, with_teller, with_tellers, new_teller, new_account}
+use Rattle.posting_rules.specs.Changes.{with_account, with_accounts, with_branch, with_teller, with_tellers}
+use Rattle.posting_rules.specs.Changes.{new_teller, new_account}
 use Rattle.posting_rules.specs.Commands.{opened_with}
 use Rattle.posting_rules.specs.Numbering.{first_account, first_teller}
 use Rattle.posting_rules.specs.Tables.{Tables, branch_row_of, row_at, teller_key, account_key}

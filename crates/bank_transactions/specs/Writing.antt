@@ -55,12 +55,12 @@ MayAddReferences rows t = PutsFree reference_key rows t.references
 -- ---- a batch
 
 -- the tables with what it changes, but for its requests
-abbrev pub behind_requests : Overlay → Tables → Tables
-behind_requests o t =
+abbrev pub after_requests : Overlay → Tables → Tables
+after_requests o t =
     decided_put o.decided (references_put o.references (history_put o.history
     (branches_over o.branches (tellers_over o.tellers (accounts_over o.accounts t)))))
 
 -- it may be written
-abbrev pub MayWriteBehind : Overlay → Tables → Type 0
-MayWriteBehind o t = HasRisingSlots o × ChangesRows o t × AreBranchNumbers o.branches
+abbrev pub MayWriteAfter : Overlay → Tables → Type 0
+MayWriteAfter o t = HasRisingSlots o × ChangesRows o t × AreBranchNumbers o.branches
     × MayAddPostings o.history t × MayAddReferences o.references t

@@ -21,7 +21,7 @@ ghost use Rattle.bank_transactions.specs.InTurn.{postings_in_turn, references_in
 ghost use Rattle.bank_transactions.specs.InParts.{InParts, postings_in_parts};
 ghost use Rattle.bank_transactions.specs.Writing.{MayChangeAccounts, MayChangeTellers, MayChangeBranches};
 ghost use Rattle.bank_transactions.specs.Writing.{MayAddPostings, MayAddRequests, MayAddReferences};
-ghost use Rattle.bank_transactions.specs.Writing.{MayWriteBehind, behind_requests, by_change};
+ghost use Rattle.bank_transactions.specs.Writing.{MayWriteAfter, after_requests, by_change};
 
 use crate::{write_balance, write_decided};
 use message_records::{Branch, Cents};
@@ -241,12 +241,12 @@ pub(crate) fn put_requests<S: Alter>(
 }
 
 /// Writes the rest of what a batch has changed, each row once, and how many requests are decided.
-pub(crate) fn write_behind<S: Alter>(
+pub(crate) fn write_after<S: Alter>(
     tx: &mut Transaction<'_, S>,
     overlay: &Overlay,
 ) -> Result<(), TableFault>
-    ensures { Does S.Store (AddsNew (view overlay.now)) tx.old tx.new (MayWriteBehind (view overlay.now))
-        (behind_requests (view overlay.now)) (λ _. tt) result }
+    ensures { Does S.Store (AddsNew (view overlay.now)) tx.old tx.new (MayWriteAfter (view overlay.now))
+        (after_requests (view overlay.now)) (λ _. tt) result }
 {
     make_all(tx, &overlay.accounts)?;
     make_all(tx, &overlay.tellers)?;
@@ -264,5 +264,5 @@ pub fn write<S: Alter>(tx: &mut Transaction<'_, S>, overlay: &Overlay) -> Result
         (λ tables. tables_over (view overlay.now) tables) (λ _. tt) result }
 {
     put_requests(tx, &overlay.requests)?;
-    write_behind(tx, overlay)
+    write_after(tx, overlay)
 }

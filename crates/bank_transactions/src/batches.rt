@@ -86,7 +86,7 @@ pub fn answer_batch<S: Alter>(
 }
 
 /// Answers the records that a batch is made of, in order. They stand together or not at all. Where none of
-/// them is decided, the tables are as they were, and a stop leaves nothing else.
+/// them is decided, the tables are as they were, and a crash leaves nothing else.
 pub fn post_all<S: Alter>(
     conn: &mut Connection<S>,
     moment: Moment,

@@ -44,7 +44,7 @@
 //!
 //! The reply has the request's outcome, be it posted or refused. A `TableFault` says that there is no
 //! answer: `Sqlite` that a call of `sqlite` failed, with its error, and `Damaged` which rule the stored rows
-//! break. Either way nothing of the call is kept, unless it is the commit that failed: then a stop may show
+//! break. Either way nothing of the call is kept, unless it is the commit that failed: then a crash may show
 //! later that it was kept after all. What the calls come to is said in `specs/Doing`; start with
 //! `Transacts`. What they answer of whatever rows a file holds is said in `specs/Stored`.
 #![tactic(auto)]

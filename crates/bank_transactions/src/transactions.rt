@@ -66,13 +66,13 @@ pub fn finish<S: Alter, X: Drop>(
 }
 
 /// Answers a request, in one transaction (TPC-B 1.2): the 200 bytes of its reply, whether it was posted or
-/// refused. The moment is that of the posting. What was answered is there after a stop. It takes no memory of
+/// refused. The moment is that of the posting. What was answered is there after a crash. It takes no memory of
 /// the allocator, which its slots only name.
 ///
 /// # Errors
 ///
 /// - `TableFault::Sqlite`: a call of `sqlite` failed with this error. Nothing of the request is kept, unless
-///   it was the commit that failed: then a stop may show later that it was.
+///   it was the commit that failed: then a crash may show later that it was.
 /// - `TableFault::Damaged`: the rows that were looked up break this rule, or a statement met that they do as
 ///   it wrote.
 ///

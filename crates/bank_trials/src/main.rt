@@ -4,7 +4,7 @@
 //! answer. The head of `stdin` has the words of its lines.
 //!
 //! The second, below the line `runs`, has runs of the program over files, and what came of each. A line is a
-//! word and what it takes. It is printed, and below it, behind two spaces, what it led to:
+//! word and what it takes. It is printed, and below it, after two spaces, what it led to:
 //!
 //!   `# TEXT`            is a heading
 //!   `write FILE LINE..` writes a file of these lines

@@ -31,7 +31,7 @@ pub struct Script {
 }
 
 impl Script {
-    /// A script at its beginning: the next run has no input, and neither of its ends fails.
+    /// A script at its prefix: the next run has no input, and neither of its ends fails.
     pub fn new(alloc: Global) -> Self {
         Script {
             input: Vec::new(alloc),

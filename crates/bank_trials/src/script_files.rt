@@ -5,7 +5,7 @@ use std::alloc::Global;
 use std::fs;
 use std::io::Result;
 
-// A file's name, and what stands behind it.
+// A file's name, and what stands after it.
 fn named(rest: &str) -> (&str, &str) {
     rest.split_once(' ').unwrap_or((rest, ""))
 }

@@ -5,7 +5,7 @@ use std::io::Result;
 const LONGEST: usize = 200;
 
 /// Prints each line of what a stream got, and bytes that end no line in pieces of up to 200. The stream's name
-/// comes before each, and how many spaces it ends with behind it.
+/// comes before each, and how many spaces it ends with after it.
 pub fn tell(rt: &HostRuntime, stream: &str, bytes: &[u8]) -> Result<()> {
     for line in bytes.split_inclusive(|byte| *byte == b'\n') {
         match line.strip_suffix(b"\n") {

@@ -1,11 +1,11 @@
-//! Simulations over files in memory that stop at a call: what wasn't synced then is lost, kept, or torn.
+//! Simulations over files in memory that crash at a call: what wasn't synced then is lost, kept, or torn.
 use anyhow::{Context, Result, bail, ensure};
 use bank_scenarios::{Counts, End, Simulation};
 use sqlite::{Connection, Files, Options};
 use sqlite_disk::{Crash, Disk, Fuse, Memory};
 use std::alloc::{AllocError, Global};
 
-// A file that passes so many calls on, and fails each one behind them. That simulations are over any such file keeps
+// A file that passes so many calls on, and fails each one after them. That simulations are over any such file keeps
 // their proof short.
 trait Stopping: Disk + Drop {
     // A file with these bytes.
@@ -221,12 +221,12 @@ fn play<F: Stopping>(alloc: Global, seed: u64) -> Result<Counts> {
     let mut simulation = Simulation::new(alloc, seed)?;
     let mut left = Image::new(alloc);
     for _ in 0..100u32 {
-        let (end, behind) = life::<F>(alloc, &mut simulation, &left)?;
-        replay_left::<F>(alloc, &mut simulation, &behind)?;
+        let (end, after) = life::<F>(alloc, &mut simulation, &left)?;
+        replay_left::<F>(alloc, &mut simulation, &after)?;
         if simulation.is_done(end)? {
             return Ok(*simulation.counts());
         }
-        left = behind;
+        left = after;
     }
     bail!("lives that don't end")
 }

@@ -7,28 +7,28 @@ use Rattle.std.proofs.lemmas.List.{drop-map, drop_more, length-append, length-ma
 use Rattle.std.proofs.lemmas.List.{take-append-drop, take-map}
 use Rattle.std.proofs.lemmas.List.Sums.{sum_by-append}
 use Rattle.posting_rules.specs.Commands.{Command, Open, AreCommands}
-use Rattle.posting_rules.specs.Counter.{Seen, ShowsLog, ShowsBeginning, Takes, Refuses, opening_behind}
-use Rattle.posting_rules.specs.{Runs.behind, Tables.Tables, Tables.AreTablesOf}
+use Rattle.posting_rules.specs.Counter.{Seen, ShowsLog, ShowsPrefix, Takes, Refuses, opening_after}
+use Rattle.posting_rules.specs.{Runs.followed_by, Tables.Tables, Tables.AreTablesOf}
 use Rattle.posting_rules.proofs.{CounterCalls.Takes-append, Remaining.leaves_still, Remaining.leaves_weaker}
-use Rattle.posting_rules.proofs.Sequence.{behind-append}
+use Rattle.posting_rules.proofs.Sequence.{after-append}
 use Rattle.posting_core.proofs.Refused.{still_down}
 use Rattle.posting_rules.specs.declared.{counter.Opening.Opening, fault.Fault.Fault}
 use Rattle.posting_rules.specs.declared.counter.Opening.TheVariants.{Opened, Already, Differs}
 use Rattle.posting_rules.specs.declared.fault.Fault.TheVariants.{Memory, Store, Down, Damaged}
 use Rattle.branch_loader.specs.Plans.{openings, terms_of, Rows, Row}
-use Rattle.branch_loader.specs.Loading.{IsRefusedAfter, LeavesBeginning, LoadsAll, answers, counted, total}
+use Rattle.branch_loader.specs.Loading.{IsRefusedAfter, LeavesPrefix, LoadsAll, answers, counted, total}
 use Rattle.branch_loader.specs.Loading.{with_answer, is_opened, is_already, is_differs}
 use Rattle.branch_loader.specs.declared.loader.Loaded.{Loaded}
 
 -- ---- answers
 
 answers-push : (log : List Command) (rows : Rows) (p : Row)
-    → answers log (rows ++ p ∷ []) ≡ answers log rows ++ opening_behind
-    (behind log (openings rows)) p.0 (terms_of p) ∷ []
+    → answers log (rows ++ p ∷ []) ≡ answers log rows ++ opening_after
+    (followed_by log (openings rows)) p.0 (terms_of p) ∷ []
 unfolding answers
 answers-push log [] p = refl
 answers-push log (q ∷ rows) p =
-    ap (λ (given : List Opening). opening_behind log q.0 (terms_of q) ∷ given)
+    ap (λ (given : List Opening). opening_after log q.0 (terms_of q) ∷ given)
     (answers-push (Open q.0 (terms_of q) ∷ log) rows p)
 
 count_by-push : (test : Opening → Bool) (given : List Opening) (o : Opening)
@@ -66,14 +66,14 @@ with_answer-total loaded Opened = omega arith
 with_answer-total loaded Already = omega arith
 with_answer-total loaded Differs = omega arith
 
--- ---- what a stop may leave
+-- ---- what a crash may leave
 
--- after the commands were taken a stop leaves them all
+-- after the commands were taken a crash leaves them all
 pub left-all : (old new : Seen) (commands : List Command) → Takes old new commands
-    → LeavesBeginning old new commands (length commands)
+    → LeavesPrefix old new commands (length commands)
 left-all old new commands taken h log stood =
-    leaves_weaker new (λ t. AreTablesOf t (behind log commands))
-    (ShowsBeginning log commands (length commands))
+    leaves_weaker new (λ t. AreTablesOf t (followed_by log commands))
+    (ShowsPrefix log commands (length commands))
     (λ t shown. record {
       count = length commands;
       holds = omega arith;
@@ -83,22 +83,22 @@ left-all old new commands taken h log stood =
     })
     (taken.stands h log stood).survives
 
--- a beginning of one command more
+-- a prefix of one command more
 one_more : (log xs rest : List Command) (c : Command) (t : Tables)
-    → ShowsBeginning (behind log xs) (c ∷ []) 0 t
-    → ShowsBeginning log (xs ++ c ∷ rest) (length xs) t
+    → ShowsPrefix (followed_by log xs) (c ∷ []) 0 t
+    → ShowsPrefix log (xs ++ c ∷ rest) (length xs) t
 one_more log xs rest c t b = record {
   count = length xs + b.count;
   holds = omega arith;
   within = let most = b.within in omega (arith, length-append xs (c ∷ rest));
-  are = rw (take-append-add xs (c ∷ rest) b.count, behind-append log xs (take b.count (c ∷ rest)))
+  are = rw (take-append-add xs (c ∷ rest) b.count, after-append log xs (take b.count (c ∷ rest)))
       (by AreCommands b.count b.within b.are);
-  shows = rw (take-append-add xs (c ∷ rest) b.count, behind-append log xs (take b.count (c ∷ rest)))
+  shows = rw (take-append-add xs (c ∷ rest) b.count, after-append log xs (take b.count (c ∷ rest)))
       (by (λ cs. AreTablesOf t cs) b.count b.within b.shows);
 }
   where
-    by : (P : List Command → Type 0) (k : ℕ) → k ≤ 1 → P (behind (behind log xs) (take k (c ∷ [])))
-        → P (behind (behind log xs) (take k (c ∷ rest)))
+    by : (P : List Command → Type 0) (k : ℕ) → k ≤ 1 → P (followed_by (followed_by log xs) (take k (c ∷ [])))
+        → P (followed_by (followed_by log xs) (take k (c ∷ rest)))
     by P zero small holds = holds
     by P (suc zero) small holds = holds
     by P (suc (suc k)) small holds = absurd (omega arith)
@@ -107,9 +107,9 @@ one_more log xs rest c t b = record {
 pub left-refused : (fault : Fault) (old now new : Seen) (xs : List Command) (c : Command)
     (rest : List Command)
     → Takes old now xs → Refuses fault now new (c ∷ []) → (new.honest → now.honest)
-    → LeavesBeginning old new (xs ++ c ∷ rest) (length xs)
+    → LeavesPrefix old new (xs ++ c ∷ rest) (length xs)
 left-refused Memory old now new xs c rest taken refused honest h log stood =
-    leaves_weaker new (λ t. AreTablesOf t (behind log xs)) (ShowsBeginning log (xs ++ c ∷ rest) (length xs))
+    leaves_weaker new (λ t. AreTablesOf t (followed_by log xs)) (ShowsPrefix log (xs ++ c ∷ rest) (length xs))
     (λ t shown. record {
       count = length xs;
       holds = omega arith;
@@ -117,21 +117,21 @@ left-refused Memory old now new xs c rest taken refused honest h log stood =
       are = rw (take-append_seam xs (c ∷ rest)) (taken.stands (honest h) log stood).shows.commands;
       shows = rw (take-append_seam xs (c ∷ rest)) shown;
     })
-    (leaves_still now new (λ t. AreTablesOf t (behind log xs)) refused.left
+    (leaves_still now new (λ t. AreTablesOf t (followed_by log xs)) refused.left
     (taken.stands (honest h) log stood).survives)
 left-refused Store old now new xs c rest taken refused honest h log stood =
-    leaves_weaker new (ShowsBeginning (behind log xs) (c ∷ []) 0)
-    (ShowsBeginning log (xs ++ c ∷ rest) (length xs)) (one_more log xs rest c)
-    (refused.survives h (behind log xs) (taken.stands (honest h) log stood))
+    leaves_weaker new (ShowsPrefix (followed_by log xs) (c ∷ []) 0)
+    (ShowsPrefix log (xs ++ c ∷ rest) (length xs)) (one_more log xs rest c)
+    (refused.survives h (followed_by log xs) (taken.stands (honest h) log stood))
 left-refused Down old now new xs c rest taken refused honest h log stood =
     absurd ((taken.stands (honest h) log stood).up refused.before)
 left-refused (Damaged rule) old now new xs c rest taken refused honest h log stood =
-    absurd (refused.never_shown h (behind log xs) (taken.stands (honest h) log stood).shows)
+    absurd (refused.never_shown h (followed_by log xs) (taken.stands (honest h) log stood).shows)
 
 -- ---- the counter after some rows
 
 -- how a counter stands after the openings of some rows, whose answers were counted
-pub record IsBehind {C : Type 0} (seen : C → Seen) (old now : C) (rows : Rows)
+pub record IsAfter {C : Type 0} (seen : C → Seen) (old now : C) (rows : Rows)
     (loaded : Loaded) : Type 0 where
   pub taken : Takes (seen old) (seen now) (openings rows)
   pub first : length rows ≡ 0 → now ≡ old
@@ -143,10 +143,10 @@ pub record IsBehind {C : Type 0} (seen : C → Seen) (old now : C) (rows : Rows)
   pub sum : total loaded ≡ length rows
 
 -- before the first
-pub behind-none : {C : Type 0} (seen : C → Seen) (c : C)
-    → IsBehind seen c c [] (record { opened = 0; already = 0; differs = 0 })
+pub after-none : {C : Type 0} (seen : C → Seen) (c : C)
+    → IsAfter seen c c [] (record { opened = 0; already = 0; differs = 0 })
 unfolding answers
-behind-none seen c = record {
+after-none seen c = record {
   taken = record { shows = λ h log shown. shown; stands = λ h log stood. stood };
   first = λ e. refl;
   begun = λ h down. absurd (omega arith);
@@ -163,21 +163,21 @@ was_down seen old now [] first begun is_up down = is_up (rw (first refl) down)
 was_down seen old now (p ∷ rows) first begun is_up down = begun (omega arith) down
 
 -- a counter that was down is the one that it was
-pub behind-idle : {C : Type 0} (seen : C → Seen) (old now : C) (rows : Rows) (loaded : Loaded)
-    → IsBehind seen old now rows loaded → (seen old).is_down → now ≡ old
-behind-idle seen old now [] loaded b down = b.first refl
-behind-idle seen old now (p ∷ rows) loaded b down = absurd (b.begun (omega arith) down)
+pub after-idle : {C : Type 0} (seen : C → Seen) (old now : C) (rows : Rows) (loaded : Loaded)
+    → IsAfter seen old now rows loaded → (seen old).is_down → now ≡ old
+after-idle seen old now [] loaded b down = b.first refl
+after-idle seen old now (p ∷ rows) loaded b down = absurd (b.begun (omega arith) down)
 
 -- after one more
-pub behind-more : {C : Type 0} (seen : C → Seen) (old now new : C) (rows : Rows) (p : Row) (loaded : Loaded)
+pub after-more : {C : Type 0} (seen : C → Seen) (old now new : C) (rows : Rows) (p : Row) (loaded : Loaded)
     (opening : Opening)
-    → IsBehind seen old now rows loaded
+    → IsAfter seen old now rows loaded
     → Takes (seen now) (seen new) (Open p.0 (terms_of p) ∷ [])
     → ((seen new).honest → (log : List Command) → ShowsLog (seen now) log
-    → opening ≡ opening_behind log p.0 (terms_of p))
+    → opening ≡ opening_after log p.0 (terms_of p))
     → ((seen now).is_down → ⊥) → ((seen new).is_down → ⊥) → ((seen new).honest → (seen now).honest)
-    → IsBehind seen old new (rows ++ p ∷ []) (with_answer loaded opening)
-behind-more seen old now new rows p loaded opening b takes answer was_up is_up honest = record {
+    → IsAfter seen old new (rows ++ p ∷ []) (with_answer loaded opening)
+after-more seen old now new rows p loaded opening b takes answer was_up is_up honest = record {
   taken = rw (map-append (λ (q : Row). Open q.0 (terms_of q)) rows (p ∷ []))
       (Takes-append (seen old) (seen now) (seen new) (openings rows) (Open p.0 (terms_of p) ∷ []) b.taken takes
       honest);
@@ -186,13 +186,13 @@ behind-more seen old now new rows p loaded opening b takes answer was_up is_up h
   up = λ down. absurd (is_up down);
   honest = λ h. b.honest (honest h);
   counts = λ h log shown.
-      let given : opening ≡ opening_behind (behind log (openings rows)) p.0 (terms_of p) =
-      answer h (behind log (openings rows)) (b.taken.shows (honest h) log shown) in
+      let given : opening ≡ opening_after (followed_by log (openings rows)) p.0 (terms_of p) =
+      answer h (followed_by log (openings rows)) (b.taken.shows (honest h) log shown) in
       let before : loaded ≡ counted (answers log rows) = b.counts (honest h) log shown in
       ap (λ (l : Loaded). with_answer l opening) before ∙ ap
       (λ (o : Opening). with_answer (counted (answers log rows)) o) given
       ∙ sym (counted-push (answers log rows)
-      (opening_behind (behind log (openings rows)) p.0 (terms_of p)))
+      (opening_after (followed_by log (openings rows)) p.0 (terms_of p)))
       ∙ ap counted (sym (answers-push log rows p));
   sum = with_answer-total loaded opening ∙ ap (λ (n : ℕ). n + 1) b.sum ∙ sym (length-append rows (p ∷ []));
 }
@@ -202,12 +202,12 @@ none_before [] h = refl
 none_before (x ∷ xs) h = absurd (h (omega arith))
 
 -- the next opening refused
-pub behind-refused : {C : Type 0} (seen : C → Seen) (old now new : C) (rows : Rows) (i : ℕ) (p : Row)
+pub after-refused : {C : Type 0} (seen : C → Seen) (old now new : C) (rows : Rows) (i : ℕ) (p : Row)
     (loaded : Loaded) (fault : Fault)
-    → IsBehind seen old now (take i rows) loaded → i < length rows → p ≡ get_or rows i p
+    → IsAfter seen old now (take i rows) loaded → i < length rows → p ≡ get_or rows i p
     → Refuses fault (seen now) (seen new) (Open p.0 (terms_of p) ∷ []) → ((seen new).honest → (seen now).honest)
     → ((seen now).is_down → fault ≡ Down) → IsRefusedAfter seen old new (openings rows) fault i
-behind-refused seen old now new rows i p loaded fault b within read refused honest down =
+after-refused seen old now new rows i p loaded fault b within read refused honest down =
     let front : length (take i rows) ≡ i = length-take-le i rows (omega arith) in
     let rest : drop i rows ≡ p ∷ drop (i + 1) rows = drop_more rows i p within ∙ rw (← read) refl in
     let taken : take i (openings rows) ≡ openings (take i rows) = take-map
@@ -217,7 +217,7 @@ behind-refused seen old now new rows i p loaded fault b within read refused hone
     let whole : openings rows ≡ openings (take i rows) ++ Open p.0 (terms_of p) ∷ openings (drop (i + 1) rows) =
     sym (take-append-drop i (openings rows)) ∙ rw (taken, dropped) refl in
     let count : length (openings (take i rows)) ≡ i = rw length-map front in
-    let behind_all = openings (take i rows) ++ Open p.0 (terms_of p) ∷ openings (drop (i + 1) rows) in
+    let after_all = openings (take i rows) ++ Open p.0 (terms_of p) ∷ openings (drop (i + 1) rows) in
     let left =
     left-refused fault (seen old) (seen now) (seen new) (openings (take i rows)) (Open p.0 (terms_of p))
     (openings (drop (i + 1) rows)) b.taken
@@ -232,13 +232,13 @@ behind-refused seen old now new rows i p loaded fault b within read refused hone
       up = λ d. (b.up d, sym front ∙ none_before (take i rows) (λ some. b.begun some (b.up d)));
       tried = down;
       down = λ d. still_down fault (seen now) (seen new) (Open p.0 (terms_of p) ∷ []) refused (down d);
-      left = subst (λ (cs : List Command). LeavesBeginning (seen old) (seen new) cs i) (sym whole)
-          (subst (λ (n : ℕ). LeavesBeginning (seen old) (seen new) behind_all n) count left);
+      left = subst (λ (cs : List Command). LeavesPrefix (seen old) (seen new) cs i) (sym whole)
+          (subst (λ (n : ℕ). LeavesPrefix (seen old) (seen new) after_all n) count left);
     }
 
 -- at the end of the rows it took them all
 pub loaded_all : {C : Type 0} (seen : C → Seen) (old now : C) (rows plan : Rows) (i : ℕ)
-    (loaded : Loaded) → IsBehind seen old now (take i rows) loaded → length rows ≤ i → rows ≡ plan
+    (loaded : Loaded) → IsAfter seen old now (take i rows) loaded → length rows ≤ i → rows ≡ plan
     → LoadsAll (seen old) (seen now) plan
 loaded_all seen old now rows plan i loaded b all is =
     let whole : take i rows ≡ plan = take_all i rows all ∙ is in
@@ -247,7 +247,7 @@ loaded_all seen old now rows plan i loaded b all is =
     let count : length (openings plan) ≡ length plan = rw length-map refl in
     record {
       takes = taken;
-      survives = subst (λ (n : ℕ). LeavesBeginning (seen old) (seen now) (openings plan) n) count
+      survives = subst (λ (n : ℕ). LeavesPrefix (seen old) (seen now) (openings plan) n) count
           (left-all (seen old) (seen now) (openings plan) taken);
       up = b.up;
     }

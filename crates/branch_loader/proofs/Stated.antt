@@ -47,7 +47,7 @@ pub plan-no_header : (fields : Fields) (rest : Records) → header_of fields ≡
 unfolding plan_of_records
 plan-no_header fields rest e = rw e refl
 
--- a header, and the rows behind it
+-- a header, and the rows after it
 pub plan-header : (has_floors : Bool) (fields : Fields) (rest : Records) → header_of fields ≡ Some has_floors
     → plan_of_records (fields ∷ rest) ≡ rows_by (row_of_fields has_floors) [] rest
 unfolding plan_of_records

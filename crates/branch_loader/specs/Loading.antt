@@ -1,7 +1,7 @@
 -- What loading a plan into a counter does.
 use Rattle.std.specs.Prelude.{◌≡◌, ℕ, ◌+◌, ◌<◌, List, [], ◌∷◌, Bool, true, false, count_by, length, take, drop}
 use Rattle.posting_rules.specs.Commands.{Command, Open}
-use Rattle.posting_rules.specs.Counter.{Seen, StandsAt, LeavesOnly, ShowsBeginning, Takes, Refuses, opening_behind}
+use Rattle.posting_rules.specs.Counter.{Seen, StandsAt, LeavesOnly, ShowsPrefix, Takes, Refuses, opening_after}
 use Rattle.posting_rules.specs.declared.counter.Opening.{Opening}
 use Rattle.posting_rules.specs.declared.counter.Opening.TheVariants.{Opened, Already, Differs}
 use Rattle.posting_rules.specs.declared.fault.Fault.{Fault}
@@ -9,11 +9,11 @@ use Rattle.posting_rules.specs.declared.fault.Fault.TheVariants.{Down}
 use Rattle.branch_loader.specs.declared.loader.Loaded.{Loaded}
 use Rattle.branch_loader.specs.Plans.{Rows, openings, terms_of}
 
--- the answers to a plan's openings, each behind the log and the openings before it
+-- the answers to a plan's openings, each after the log and the openings before it
 unfoldable pub answers : List Command → Rows → List Opening
 answers log [] = []
 answers log (p ∷ rows) =
-    opening_behind log p.0 (terms_of p) ∷ answers (Open p.0 (terms_of p) ∷ log) rows
+    opening_after log p.0 (terms_of p) ∷ answers (Open p.0 (terms_of p) ∷ log) rows
 
 -- the branch was opened now
 abbrev pub is_opened : Opening → Bool
@@ -48,16 +48,16 @@ with_answer loaded Differs = record loaded { differs = loaded.differs + 1 }
 abbrev pub total : Loaded → ℕ
 total loaded = loaded.opened + loaded.already + loaded.differs
 
--- wherever the counter stood at a log, a stop may leave the log and then a beginning of the commands, so many
+-- wherever the counter stood at a log, a crash may leave the log and then a prefix of the commands, so many
 -- of them at least
-abbrev pub LeavesBeginning : Seen → Seen → List Command → ℕ → Type 0
-LeavesBeginning old new commands least =
-    new.honest → (log : List Command) → StandsAt old log → LeavesOnly new (ShowsBeginning log commands least)
+abbrev pub LeavesPrefix : Seen → Seen → List Command → ℕ → Type 0
+LeavesPrefix old new commands least =
+    new.honest → (log : List Command) → StandsAt old log → LeavesOnly new (ShowsPrefix log commands least)
 
--- it took the openings of all rows, a stop leaves them all, and the counter is up if it was
+-- it took the openings of all rows, a crash leaves them all, and the counter is up if it was
 pub record LoadsAll (old new : Seen) (rows : Rows) : Type 0 where
   pub takes : Takes old new (openings rows)
-  pub survives : LeavesBeginning old new (openings rows) (length rows)
+  pub survives : LeavesPrefix old new (openings rows) (length rows)
   pub up : new.is_down → old.is_down
 
 -- The counter answered so many of the commands, stood there, and refused the next one. Where it stood it was
@@ -75,5 +75,5 @@ pub record IsRefusedAfter {C : Type 0} (seen : C → Seen) (old new : C) (comman
   pub up : (seen stood).is_down → (seen old).is_down × (answered ≡ 0)
   pub tried : (seen stood).is_down → fault ≡ Down
   pub down : (seen stood).is_down → (seen new).is_down
-  -- a stop may leave no less than what was answered
-  pub left : LeavesBeginning (seen old) (seen new) commands answered
+  -- a crash may leave no less than what was answered
+  pub left : LeavesPrefix (seen old) (seen new) commands answered

@@ -65,7 +65,7 @@ abbrev pub floor_within : Option ℤ → Option (Option ℤ)
 floor_within None = Some None
 floor_within (Some z) = if int_le z (pos 0) then Some (Some z) else None
 
--- the row of a branch, a count and a floor behind the rows before it
+-- the row of a branch, a count and a floor after the rows before it
 abbrev pub row_of : Rows → Option ℕ → Option ℕ → Option (Option ℤ) → Result Row PlanFault
 row_of before None accounts floor = Err (Branch (length before + 1))
 row_of before (Some branch) None floor = Err (Accounts (length before + 1))
@@ -110,7 +110,7 @@ row_of_fields has_floors before fields = row_of_parts before (parts_of has_floor
 
 -- ---- the plan
 
--- the rows before, and those that come behind them one by one, or the first fault
+-- the rows before, and those that come after them one by one, or the first fault
 unfoldable pub rows_by : {A : Type 0} → (Rows → A → Result Row PlanFault) → Rows → List A
     → Result Rows PlanFault
 rows_by row before [] = Ok before
@@ -129,15 +129,15 @@ header_of fields =
     else if are_names (codes "floor") (parts_of true fields) then Some true
     else None
 
--- the rows behind a header
-abbrev pub rows_behind : Option Bool → Records → Result Rows PlanFault
-rows_behind None rest = Err Header
-rows_behind (Some has_floors) rest = rows_by (row_of_fields has_floors) [] rest
+-- the rows after a header
+abbrev pub rows_after : Option Bool → Records → Result Rows PlanFault
+rows_after None rest = Err Header
+rows_after (Some has_floors) rest = rows_by (row_of_fields has_floors) [] rest
 
 -- the plan that records state, the header first
 unfoldable pub plan_of_records : Records → Result Rows PlanFault
 plan_of_records [] = Err Header
-plan_of_records (first ∷ rest) = rows_behind (header_of first) rest
+plan_of_records (first ∷ rest) = rows_after (header_of first) rest
 
 -- the plan that a text states: csv's records of it, a byte order mark dropped
 abbrev pub plan_of : List ℕ → Result Rows PlanFault
@@ -170,7 +170,7 @@ TellsPlan stated answer = stated ≡ answer
 
 -- ---- what csv returned, where the answer is none of a plan
 
--- Csv failed, or memory was refused behind a record for the room of its row. Every other answer is stated.
+-- Csv failed, or memory was refused after a record for the room of its row. Every other answer is stated.
 abbrev pub IsToldSo : Result Rows PlanFault → Option (List RecordTold) → Option (List RecordTold) → Type 0
 IsToldSo (Err Csv) old new = ⊥
 IsToldSo (Err Memory) old new = EndsWith WasFailure old new ⊎ EndsWith WasRecord old new

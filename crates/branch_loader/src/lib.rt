@@ -1,5 +1,5 @@
 //! The plan of the branches that a bank is to have, read from CSV, and the loading of a plan into a counter.
-//! The first row is the header `branch,accounts`; each row behind it has the number of a branch, 1 to
+//! The first row is the header `branch,accounts`; each row after it has the number of a branch, 1 to
 //! 9,999 (`LAST_BRANCH`), and how many accounts it is to have, 1 to 100,000 (`MAX_ACCOUNTS`). The test
 //! `first_plan` of `counter_tests` loads a plan into a bank in memory, twice:
 //!

@@ -127,7 +127,7 @@ fn floor_of(field: &[u8]) -> Option<Option<Cents>>
     }
 }
 
-// The row that a record states behind the rows before it.
+// The row that a record states after the rows before it.
 fn row_of_fields(
     has_floors: bool,
     before: &[PlanRow],

@@ -5,7 +5,7 @@ use Rattle.std.proofs.KnownBytes.{Keeps-refl}
 use Rattle.posting_rules.specs.{declared.fault.Fault.Fault, Counter.Seen}
 use Rattle.posting_rules.specs.declared.fault.Fault.TheVariants as bank
 use Rattle.posting_core.specs.Told.{HasWriteFailed, ReadTold, WriteTold}
-use Rattle.report_lines.specs.Written.{AppendsPart}
+use Rattle.report_contents.specs.Written.{AppendsPart}
 use Rattle.branch_loader.specs.Plans.{ReadsPlan, Rows}
 use Rattle.branch_loader.specs.declared.{fault.PlanFault.PlanFault, loader.Loaded.Loaded}
 use Rattle.branch_loader.specs.declared.fault.PlanFault.TheVariants.{Header, Columns, Branch, Accounts, Floor, Twice}

@@ -7,7 +7,7 @@ use Rattle.std.specs.{declared.net.socket_addr.SocketAddr.SocketAddr}
 use Rattle.posting_rules.specs.{Counter.Seen, declared.fault.Fault.Fault}
 use Rattle.posting_core.proofs.Telling.{adds-none}
 use Rattle.posting_core.specs.Told.{EndsWith, HasWriteFailed, IsFlush, WriteTold}
-use Rattle.report_lines.specs.Written.{AppendsPart}
+use Rattle.report_contents.specs.Written.{AppendsPart}
 use Rattle.load_driver.specs.{Drives.Drives, declared.drive.Driven.Driven}
 use Rattle.command_line.specs.Lines.{PrintsLine, WritesOut, driven_line, listening_line}
 use Rattle.command_line.specs.declared.fault.CommandFault.{CommandFault, TheVariants.Memory, TheVariants.Write}

@@ -1,4 +1,4 @@
--- What clap makes of the words behind a command's name: values of its arguments, and options before theirs.
+-- What clap makes of the words after a command's name: values of its arguments, and options before theirs.
 use Rattle.std.proofs.Common.{◌≡◌, ◌∙◌, ◌&&◌, ◌==◌, ℕ, Bool, true, false, refl, arith, subst, ap, ap₂, List, [], ◌∷◌}
 use Rattle.std.proofs.Common.{Some, None, codes}
 use Rattle.std.specs.{Prelude.fold, Str.Parse.IsNumeral, Str.Parse.without_leading_plus, List.list_all}

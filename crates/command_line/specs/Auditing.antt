@@ -2,10 +2,10 @@
 use Rattle.std.specs.Prelude.{◌≡◌, ℕ, List, Option, Result, Ok, Err, if◌then◌else◌}
 use Rattle.std.specs.Io.KnownBytes.{Appends, Keeps}
 use Rattle.posting_rules.specs.declared.fault.Fault.{Fault}
-use Rattle.report_lines.specs.Audit.{is_sound}
-use Rattle.report_lines.specs.AuditText.{audit_text}
-use Rattle.report_lines.specs.Written.{AppendsPart}
-use Rattle.report_lines.specs.declared.audit.Audit.{Audit}
+use Rattle.report_contents.specs.Audit.{is_sound}
+use Rattle.report_contents.specs.AuditText.{audit_text}
+use Rattle.report_contents.specs.Written.{AppendsPart}
+use Rattle.report_contents.specs.declared.audit.Audit.{Audit}
 use Rattle.command_line.specs.Faults.{fault_of_bank}
 use Rattle.command_line.specs.declared.fault.CommandFault.{CommandFault}
 use Rattle.command_line.specs.declared.fault.CommandFault.TheVariants.{Write}
@@ -16,7 +16,7 @@ use Rattle.command_line.specs.declared.status.Status.TheVariants.{Done, Inconsis
 abbrev pub status_of_audit : Audit → Status
 status_of_audit a = if is_sound a then Done else Inconsistent
 
--- The text of the audit was printed, or where the writer failed a beginning of it. Nothing was where the
+-- The text of the audit was printed, or where the writer failed a prefix of it. Nothing was where the
 -- bank returned a fault.
 abbrev pub Prints : Result Audit Fault → Option (List ℕ) → Option (List ℕ) → Result Status CommandFault
     → Type 0

@@ -12,7 +12,7 @@ use Rattle.branch_loader.specs.declared.loader.Loaded.{Loaded}
 use Rattle.clap.specs.declared.error.kind.ErrorKind.{ErrorKind}
 use Rattle.clap.specs.declared.error.kind.ErrorKind.TheVariants as kind
 use Rattle.posting_core.specs.Told.{EndsWith, HasWriteFailed, IsFlush, IsThrough, WriteTold}
-use Rattle.report_lines.specs.Written.{AppendsPart}
+use Rattle.report_contents.specs.Written.{AppendsPart}
 use Rattle.command_line.specs.Faults.{fault_text}
 use Rattle.command_line.specs.declared.fault.CommandFault.{CommandFault}
 use Rattle.command_line.specs.declared.fault.CommandFault.TheVariants.{Memory}
@@ -68,7 +68,7 @@ pub record PrintsLine (text : List ℕ) (w w' : Option (List ℕ)) (t t' : Optio
   pub line : OnOk told (Appends w w' text)
   -- and flushed after all else
   pub flushed : OnOk told (EndsWith IsFlush t t')
-  -- at a fault a beginning of it is written
+  -- at a fault a prefix of it is written
   pub part : OnErr told ((n : ℕ) × (n ≤ length text) × Appends w w' (take n text))
 
 -- A text is written and flushed, or none is due; or the output failed, and a prefix of it is written.

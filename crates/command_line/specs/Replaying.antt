@@ -6,8 +6,8 @@ use Rattle.std.specs.Fmt.{decimal}
 use Rattle.std.specs.Io.KnownBytes.{Appends, Keeps}
 use Rattle.hex.specs.Hex.{encode_lower}
 use Rattle.posting_core.specs.Told.{EndsWith, HasWriteFailed, IsFlush, WriteTold}
-use Rattle.report_lines.specs.Lines.{right_in}
-use Rattle.report_lines.specs.Written.{AppendsPart}
+use Rattle.report_contents.specs.Lines.{right_in}
+use Rattle.report_contents.specs.Written.{AppendsPart}
 use Rattle.command_line.specs.declared.fault.CommandFault.{CommandFault}
 use Rattle.command_line.specs.declared.fault.CommandFault.TheVariants.{Memory, Write}
 

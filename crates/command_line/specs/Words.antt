@@ -131,7 +131,7 @@ abbrev pub begins_with_dash : Text → Bool
 begins_with_dash [] = false
 begins_with_dash (byte ∷ rest) = byte == 45
 
--- the words are `NAME FILE`, behind the program's name, with a file that doesn't begin with a dash
+-- the words are `NAME FILE`, after the program's name, with a file that doesn't begin with a dash
 abbrev pub AskWithFile : Text → List Text → Type 0
 AskWithFile name words = (program : Text) × (file : Text) × (begins_with_dash file ≡ false)
     × (words ≡ program ∷ name ∷ file ∷ [])

@@ -6,7 +6,7 @@ ghost use Rattle.command_line.specs.Auditing.{Prints, status_of_audit};
 
 use crate::{CommandFault, Status};
 use posting_core::{Fault, Sink};
-use report_lines::{Audit, write_audit};
+use report_contents::{Audit, write_audit};
 
 /// Prints an audit, and returns how the program ends.
 pub fn print_audit<W: Sink>(

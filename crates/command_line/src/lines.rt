@@ -9,7 +9,7 @@ ghost use Rattle.command_line.specs.Lines.{IsHelpOrVersion, IsShown, PrintsLine,
 ghost use Rattle.command_line.specs.Lines.{created_line, driven_line, fault_line, listening_line, loaded_line};
 ghost use Rattle.command_line.specs.Lines.{migrated_line, no_words_line};
 ghost use Rattle.command_line.specs.Statuses.{status_of_no_words};
-ghost use Rattle.report_lines.specs.Written.{AppendsPart};
+ghost use Rattle.report_contents.specs.Written.{AppendsPart};
 
 use crate::fault::CommandFault;
 use crate::status::Status;
@@ -32,7 +32,7 @@ const LINE: usize = 160;
 ///
 /// # Errors
 ///
-/// Of each of them only [`CommandFault::Write`]: a write or the flush failed, and a beginning of the line may
+/// Of each of them only [`CommandFault::Write`]: a write or the flush failed, and a prefix of the line may
 /// be out.
 pub fn print_created<W: Sink>(output: &mut W) -> Result<(), CommandFault>
     ensures prints { PrintsLine created_line (W.contents output.old) (W.contents output.new)

@@ -6,7 +6,7 @@ ghost use Rattle.command_line.specs.Lines.{listening_line};
 ghost use Rattle.command_line.specs.Working.{MayTellListening, ServesOver, TellsListening};
 ghost use Rattle.command_line.specs.Working.{TellsListeningInPart, done_after};
 ghost use Rattle.posting_core.specs.Told.{HasWriteFailed};
-ghost use Rattle.report_lines.specs.Written.{AppendsPart};
+ghost use Rattle.report_contents.specs.Written.{AppendsPart};
 
 use crate::{CommandFault, ListeningLine, print_listening};
 use counter_http::serve_connections;

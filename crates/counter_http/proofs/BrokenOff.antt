@@ -3,9 +3,9 @@ use Rattle.std.proofs.Common.{◌≡◌, ℕ, inl, inr, List, [], ◌∷◌, ◌
 use Rattle.std.proofs.Common.{sym, ap, subst, ◌∙◌, append-nil}
 use Rattle.std.specs.Io.KnownBytes.{Appends, Consumes}
 use Rattle.std.proofs.{KnownBytes.Appends-trans, lemmas.List.Concat.flat_map-append}
-use Rattle.posting_rules.specs.{declared.fault.Fault.Fault, Commands.Command, Runs.behind}
+use Rattle.posting_rules.specs.{declared.fault.Fault.Fault, Commands.Command, Runs.followed_by}
 use Rattle.posting_rules.specs.Counter.{Seen, Takes, Refuses}
-use Rattle.posting_rules.proofs.CounterCalls.{idle_behind}
+use Rattle.posting_rules.proofs.CounterCalls.{idle_after}
 use Rattle.posting_core.specs.{Clock.AreReadings, Told.ReadTold, Told.WriteTold, Batches.joined}
 use Rattle.counter_http.specs.{declared.fault.ServeFault.ServeFault, declared.next.Whole.Whole, Ends.HasEnded}
 use Rattle.counter_http.specs.{Messages.IsMessage, Next.asked, Next.IsWhole}
@@ -73,12 +73,12 @@ answer_begun seen {r = r} {r' = r'} {w = w} {w' = w'} {w'' = w''} {k = k} {k' = 
       }) refl;
       answers = λ h log s.
           written_part g.answered.written a.written _ _ (g.answered.answers (honest h) log s)
-          (a.answer h (behind log (commands_of before)) (g.answered.takes.shows (honest h) log s))
+          (a.answer h (followed_by log (commands_of before)) (g.answered.takes.shows (honest h) log s))
           ∙ ap (λ (x : List ℕ). take (length (g.answered.written ++ a.written)) x)
           (ap (λ (x : List ℕ). joined (answers_to log before) ++ x)
-          (sym (append-nil (answer_of (behind log (commands_of before)) (asked_by t.message))))
+          (sym (append-nil (answer_of (followed_by log (commands_of before)) (asked_by t.message))))
           ∙ sym (joined-append (answers_to log before)
-          (answers_to (behind log (commands_of before)) (t ∷ [])))
+          (answers_to (followed_by log (commands_of before)) (t ∷ [])))
           ∙ ap joined (sym (answers-append log before (t ∷ [])) ∙ sym (append-nil (answers_to log ts))));
       survives = λ h log s. stop_all (seen new) log (commands_of (ts ++ [])) (commands_of ts)
           (ap commands_of none) (takes.stands h log s);
@@ -133,7 +133,7 @@ bank_failed seen {r = r} {r' = r'} {w = w} {w' = w'} {w'' = w''} {k = k} {k' = k
           ∙ sym (joined-append (answers_to log before) last)) (writes g.answered.written);
       survives = λ h log s. stop_part (seen new) log (commands_of before) (commands_in t)
           (commands_of (before ++ t ∷ [])) commands
-          (refused_stop fault (seen b.stood) (seen new) (behind log (commands_of before)) (commands_in t)
+          (refused_stop fault (seen b.stood) (seen new) (followed_by log (commands_of before)) (commands_in t)
           b.refuses h (takes.stands (b.honest h) log s));
       idle = idle;
     }
@@ -182,4 +182,4 @@ end_broken seen {reason = reason} fault {w' = w'} {w'' = w''} {k' = k'} {k'' = k
     subst (λ (x : Asked). TurnIsDealtWith seen reason w' w'' v v' k' k'' now new x (Err fault)) is.asks
     dealt in
     broken_at seen fault old now new (turn_of d.moment is) all (drop p.length all) g is.whole is.front d.clock
-    d.dealt.honest d.dealt.answers (idle_behind seen old now idle new d.dealt.idle)
+    d.dealt.honest d.dealt.answers (idle_after seen old now idle new d.dealt.idle)

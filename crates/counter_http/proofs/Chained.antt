@@ -1,4 +1,4 @@
--- Connections behind others.
+-- Connections after others.
 use Rattle.std.proofs.Common.{◌≡◌, ◌<◌, ◌+◌, ℕ, List, [], ◌∷◌, ◌++◌, length, map, Option, Result, Ok, Err, refl, sym}
 use Rattle.std.proofs.Common.{ap, subst, ◌∙◌, arith, length-append, append-nil}
 use Rattle.std.specs.{List.AllByRecursion, List.flat_map, declared.io.ErrorKind.ErrorKind}

@@ -7,7 +7,7 @@ use Rattle.std.specs.Io.KnownBytes.{Appends, Consumes, IsAtEnd}
 use Rattle.std.proofs.KnownBytes.{Appends-trans, Appends-nil, Consumes-nil}
 use Rattle.std.proofs.lemmas.List.{length-take-le, length-append, take_all}
 use Rattle.posting_rules.specs.{declared.fault.Fault.Fault, Counter.Seen}
-use Rattle.posting_rules.proofs.CounterCalls.{idle_behind}
+use Rattle.posting_rules.proofs.CounterCalls.{idle_after}
 use Rattle.posting_core.specs.{Clock.AreReadings, Batches.joined}
 use Rattle.posting_core.specs.Told.{ReadTold, WriteTold, GrowsBy, read_told}
 use Rattle.counter_http.specs.{declared.fault.ServeFault.ServeFault, declared.next.Whole.Whole, Ends.HasEnded}
@@ -20,7 +20,7 @@ use Rattle.counter_http.specs.Turns.{Turn, text_in, commands_of, moments_of, mes
 use Rattle.counter_http.specs.Turns.{AreAnswered, TurnIsDealtWith}
 use Rattle.posting_core.proofs.{Batched.joined-append, Streaming.at_ok, Telling.HasMade}
 use Rattle.posting_core.proofs.Stops.{stop_all, written_part}
-use Rattle.counter_http.proofs.Walking.{walks_behind, walks_end, walks_always, walks_closed}
+use Rattle.counter_http.proofs.Walking.{walks_after, walks_end, walks_always, walks_closed}
 use Rattle.counter_http.proofs.{Sent.ended_at, PartsWritten.front_of}
 use Rattle.counter_http.proofs.Turning.{answered_none, answered_more, answered_one}
 use Rattle.counter_http.proofs.ConnectionLoop.{Going, turn_of, read_one_more, texts_one_more, same_front}
@@ -107,7 +107,7 @@ end_closed seen {r = r} {r' = r'} {w'' = w''} old now new all count' p g idle is
     let rest = drop p.length all in
     let closed : closes t.message.head ≡ true = sym (ap (λ (x : Asked). x.closes) is.asks) ∙ last in
     let walks : (more : List ℕ) → Walks (texts_of g.turns ++ (text_in t ++ more)) (messages_of ts) Closed =
-    λ more. walks_behind g.turns (t ∷ []) (text_in t ++ more) Closed g.stays
+    λ more. walks_after g.turns (t ∷ []) (text_in t ++ more) Closed g.stays
     (walks_closed t more is.whole closed) in
     end_with seen old new (Ok count') ts rest [] [] (read_one_more r r' g.turns t all rest g.read is.front)
     (answered_more g.turns (t ∷ []) g.answered
@@ -127,7 +127,7 @@ end_closed seen {r = r} {r' = r'} {w'' = w''} old now new all count' p g idle is
       },
       omega (arith, n, g.count_is, length-append g.turns (t ∷ [])),
       refl,
-    ) (λ text. refl) (idle_behind seen old now idle new d.dealt.idle)
+    ) (λ text. refl) (idle_after seen old now idle new d.dealt.idle)
 
 -- ---- a 400
 
@@ -178,7 +178,7 @@ short_front {shown = shown} old new filled n going got none many fits fits' wait
           some,
     )
 
--- the input ended behind what stands at the front of the buffer
+-- the input ended after what stands at the front of the buffer
 pub short_read : {r r' r'' w w' k k' : Option (List ℕ)} {q q' q'' : Option (List ReadTold)} {c c' : Seen}
     {count calls : ℕ} {shown : Bool} (old new : List ℕ) (filled n : ℕ) (told : Result ℕ Error)
     → Going r r' w w' k k' c c' (take filled old) count → told ≡ Ok n → n ≡ 0

@@ -17,7 +17,7 @@ use Rattle.counter_http.proofs.Turning.{answered_none, answered_more, answered_o
 
 -- ---- where the loop stands
 
--- what was done so far, with what was read behind the last message and how many were answered
+-- what was done so far, with what was read after the last message and how many were answered
 pub record Going (r r' w w' k k' : Option (List ℕ)) (c c' : Seen) (rest : List ℕ) (count : ℕ) : Type 0 where
   pub turns : List Turn
   pub read : Consumes r r' (texts_of turns ++ rest)

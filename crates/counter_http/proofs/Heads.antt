@@ -53,8 +53,8 @@ pub too_long : (buf : List ℕ) (headers : List HeaderSpan) (r : RequestSpans) �
     → AlwaysEnds No_head buf
 too_long buf headers r within found long more = (
   some_more buf more (omega (arith, within.section.len_fits)),
-  λ h behind is e.
-      let same = request_prefix_free buf more found.0 h (drop r.len buf) behind found.1.reads (is.head, e) in
+  λ h after is e.
+      let same = request_prefix_free buf more found.0 h (drop r.len buf) after found.1.reads (is.head, e) in
       let len : length (print_request found.0) ≡ length (print_request h) =
       ap (λ (x : RequestHead). length (print_request x)) same.0 in
       absurd (omega (arith, is.bytes, found.1.len, len)),
@@ -64,11 +64,11 @@ too_long buf headers r within found long more = (
 pub too_far : (buf : List ℕ) → HasNoRequest buf → 8192 ≤ length buf → AlwaysEnds No_head buf
 too_far buf none long more = (
   some_more buf more (omega arith),
-  λ h behind is e.
+  λ h after is e.
       let text = print_request h in
       let fits : length text ≤ length buf = omega (arith, is.bytes) in
       let front : take (length text) buf ≡ text = sym (take-append-le (length text) buf more fits)
-      ∙ ap (take (length text)) e ∙ take-append_seam text behind in
+      ∙ ap (take (length text)) e ∙ take-append_seam text after in
       none h (drop (length text) buf) (
         is.head,
         sym (take-append-drop (length text) buf)
@@ -80,10 +80,10 @@ too_far buf none long more = (
 pub too_many : (buf : List ℕ) → RequestOverflows 32 buf → 0 < length buf → AlwaysEnds No_head buf
 too_many buf over some more = (
   some_more buf more some,
-  λ h behind is e. absurd (omega (arith, is.fields, over more h behind (is.head, e))),
+  λ h after is e. absurd (omega (arith, is.fields, over more h after (is.head, e))),
 )
 
--- ---- a head, and what stands behind it
+-- ---- a head, and what stands after it
 
 -- what the fields say is read off their spans
 pub fields_say : {X : Type 0} (F : List NamedValue → X) (buf : List ℕ) (headers : List HeaderSpan)

@@ -54,12 +54,12 @@ on_stated (Some n) new go = None
 on_stated None None go = None
 on_stated None (Some n) go = go (Some n)
 
-abbrev pub length_behind : Option ℕ → List NamedValue → Option ℕ
-length_behind stated [] = Some (unwrap_or stated 0)
-length_behind stated (f ∷ fs) =
+abbrev pub length_after : Option ℕ → List NamedValue → Option ℕ
+length_after stated [] = Some (unwrap_or stated 0)
+length_after stated (f ∷ fs) =
     cond (is_named (codes "transfer-encoding") f) None
     (cond (is_named (codes "content-length") f)
-    (on_stated stated (stated_length f.1) (λ o. length_behind o fs)) (length_behind stated fs))
+    (on_stated stated (stated_length f.1) (λ o. length_after o fs)) (length_after stated fs))
 
 abbrev only : ℕ → List (List ℕ) → Option ℕ
 only n [] = Some n
@@ -78,33 +78,33 @@ none_either : (b : Bool) → none ≡ cond b none none
 none_either true = refl
 none_either false = refl
 
-behind_stated : (n : ℕ) (fs : List NamedValue)
-    → length_behind (Some n) fs ≡ cond (coded fs) None (only n (lengths fs))
-behind_stated n [] = refl
-behind_stated n (f ∷ fs) = elim (cases_Bool (is_named (codes "transfer-encoding") f)) [
+after_stated : (n : ℕ) (fs : List NamedValue)
+    → length_after (Some n) fs ≡ cond (coded fs) None (only n (lengths fs))
+after_stated n [] = refl
+after_stated n (f ∷ fs) = elim (cases_Bool (is_named (codes "transfer-encoding") f)) [
   | inl t ↦ rw t refl
   | inr u ↦ elim (cases_Bool (is_named (codes "content-length") f)) [
     | inl t ↦ rw (u, t) (none_either (coded fs))
-    | inr v ↦ rw (u, v) (behind_stated n fs)
+    | inr v ↦ rw (u, v) (after_stated n fs)
   ]
 ]
 
--- one value: the fields behind it state none
+-- one value: the fields after it state none
 one_value : (f : NamedValue) (fs : List NamedValue) (o : Option ℕ) → stated_length f.1 ≡ o
-    → on_stated None o (λ p. length_behind p fs) ≡ cond (coded fs) None (length_by (f.1 ∷ lengths fs))
+    → on_stated None o (λ p. length_after p fs) ≡ cond (coded fs) None (length_by (f.1 ∷ lengths fs))
 one_value f fs None e = refused (lengths fs) (coded fs)
   where
     refused : (vs : List (List ℕ)) (b : Bool) → None ≡ cond b None (length_by (f.1 ∷ vs))
     refused [] b = rw e (none_either b)
     refused (v ∷ vs) b = none_either b
 one_value f fs (Some n) e =
-    behind_stated n fs ∙ ap (λ (o : Option ℕ). cond (coded fs) None o) (same (lengths fs))
+    after_stated n fs ∙ ap (λ (o : Option ℕ). cond (coded fs) None o) (same (lengths fs))
   where
     same : (vs : List (List ℕ)) → only n vs ≡ length_by (f.1 ∷ vs)
     same [] = sym e
     same (v ∷ vs) = refl
 
-pub length_is : (fs : List NamedValue) → body_length fs ≡ length_behind None fs
+pub length_is : (fs : List NamedValue) → body_length fs ≡ length_after None fs
 length_is [] = refl
 length_is (f ∷ fs) = elim (cases_Bool (is_named (codes "transfer-encoding") f)) [
   | inl t ↦ rw t refl
@@ -116,12 +116,12 @@ length_is (f ∷ fs) = elim (cases_Bool (is_named (codes "transfer-encoding") f)
 
 -- ---- one more field
 
--- the field at a place, and those behind it
+-- the field at a place, and those after it
 pub at_field : {X : Type 0} (all stated : Option ℕ) (field : X → NamedValue) (xs : List X) (i : ℕ) (d : X)
-    → i < length xs → all ≡ length_behind stated (map field (drop i xs))
-    → all ≡ length_behind stated (field (get_or xs i d) ∷ map field (drop (i + 1) xs))
+    → i < length xs → all ≡ length_after stated (map field (drop i xs))
+    → all ≡ length_after stated (field (get_or xs i d) ∷ map field (drop (i + 1) xs))
 at_field all stated field xs i d within is =
-    is ∙ at_drop_more (λ ys. length_behind stated (map field ys)) xs i d within
+    is ∙ at_drop_more (λ ys. length_after stated (map field ys)) xs i d within
 
 -- a test compared its name
 pub named_so : (text name : List ℕ) (f : NamedValue) (tested so : Bool) → text ≡ f.0
@@ -129,23 +129,23 @@ pub named_so : (text name : List ℕ) (f : NamedValue) (tested so : Bool) → te
 named_so text name f tested so same test is = ap (λ t. is_alike t name) (sym same) ∙ sym test ∙ is
 
 pub one_coded : (all stated : Option ℕ) (f : NamedValue) (fs : List NamedValue)
-    → all ≡ length_behind stated (f ∷ fs) → is_named (codes "transfer-encoding") f ≡ true → None ≡ all
+    → all ≡ length_after stated (f ∷ fs) → is_named (codes "transfer-encoding") f ≡ true → None ≡ all
 one_coded all stated f fs is t = sym (rw t at is)
 
 pub one_other : (all stated : Option ℕ) (f : NamedValue) (fs : List NamedValue)
-    → all ≡ length_behind stated (f ∷ fs) → is_named (codes "transfer-encoding") f ≡ false
-    → is_named (codes "content-length") f ≡ false → all ≡ length_behind stated fs
+    → all ≡ length_after stated (f ∷ fs) → is_named (codes "transfer-encoding") f ≡ false
+    → is_named (codes "content-length") f ≡ false → all ≡ length_after stated fs
 one_other all stated f fs is u v = rw (u, v) at is
 
 pub one_again : (all stated : Option ℕ) (f : NamedValue) (fs : List NamedValue)
-    → all ≡ length_behind stated (f ∷ fs) → is_named (codes "transfer-encoding") f ≡ false
+    → all ≡ length_after stated (f ∷ fs) → is_named (codes "transfer-encoding") f ≡ false
     → is_named (codes "content-length") f ≡ true → is_some stated ≡ true → None ≡ all
 one_again all None f fs is u t some = absurd (false≢true some)
 one_again all (Some n) f fs is u t some = sym (rw (u, t) at is)
 
 pub one_length : (all stated : Option ℕ) (f : NamedValue) (fs : List NamedValue)
-    → all ≡ length_behind stated (f ∷ fs) → is_named (codes "transfer-encoding") f ≡ false
+    → all ≡ length_after stated (f ∷ fs) → is_named (codes "transfer-encoding") f ≡ false
     → is_named (codes "content-length") f ≡ true → is_some stated ≡ false
-    → all ≡ on_stated None (stated_length f.1) (λ o. length_behind o fs)
+    → all ≡ on_stated None (stated_length f.1) (λ o. length_after o fs)
 one_length all (Some n) f fs is u t first = absurd (false≢true (sym first))
 one_length all None f fs is u t first = rw (u, t) at is

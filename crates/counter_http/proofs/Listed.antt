@@ -8,7 +8,7 @@ use Rattle.posting_rules.specs.{declared.fault.Fault.Fault, declared.fault.Fault
 use Rattle.posting_rules.specs.{declared.limits.TheConstants.LAST_BRANCH, Branches.IsNextBranch}
 use Rattle.posting_rules.specs.Commands.{Command, opened, Terms, opened_with}
 use Rattle.posting_rules.specs.Counter.{Seen, IsCounterCall, Takes, Refuses}
-use Rattle.posting_rules.proofs.CounterCalls.{Takes-append, call_idle_behind}
+use Rattle.posting_rules.proofs.CounterCalls.{Takes-append, call_idle_after}
 use Rattle.std.specs.{List.repeat, Int.is_negative}
 use lib.IntN.{nat_abs}
 use lib.Utf8.{encode}
@@ -32,7 +32,7 @@ asking_more seen contents reason old now new x a call = record {
   honest = λ h. a.honest (call.honest h);
   up = λ d. absurd (call.up d);
   takes = Takes-append (seen old) (seen now) (seen new) [] [] a.takes call.done call.honest;
-  idle = call_idle_behind seen old now a.idle contents reason new [] (Ok x) call;
+  idle = call_idle_after seen old now a.idle contents reason new [] (Ok x) call;
 }
 
 -- the next one was refused

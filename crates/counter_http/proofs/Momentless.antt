@@ -3,12 +3,12 @@ use Rattle.std.proofs.Common.{◌≡◌, ℕ, zero, suc, Bool, true, false, cond
 use Rattle.std.proofs.Common.{Some, None, refl, sym, ap, ◌∙◌}
 use Rattle.std.specs.Prelude.{ℤ, codes, bytes_eq}
 use Rattle.message_records.specs.{Records.ReplyFields, Reading.request_of, Spelling.reply_spelling}
-use Rattle.posting_rules.specs.{declared.limits.TheConstants.LAST_BRANCH, Runs.behind}
+use Rattle.posting_rules.specs.{declared.limits.TheConstants.LAST_BRANCH, Runs.followed_by}
 use Rattle.posting_rules.specs.Commands.{Command, Post, opened, is_account_open, Terms}
 use Rattle.posting_rules.specs.Entries.{DecidedRequest, account_balance, branch_balance, with_record, decided}
-use Rattle.posting_rules.specs.Entries.{reply_given, reply, balance_behind}
+use Rattle.posting_rules.specs.Entries.{reply_given, reply, balance_after}
 use Rattle.posting_core.proofs.Timeless.{zeroed, sum_zeroed, reply_zeroed, record_zeroed}
-use Rattle.counter_http.specs.{declared.routes.Route.Route, Outputs.answers_behind}
+use Rattle.counter_http.specs.{declared.routes.Route.Route, Outputs.answers_after}
 use Rattle.counter_http.specs.declared.routes.Route.TheVariants.{Posting, Account, Branches}
 use Rattle.counter_http.specs.Paths.{account_in, path_of, route_of}
 use Rattle.counter_http.specs.Answers.{Asked, Answer, asked_by, account_answer, account_named, answer_of, answer_on}
@@ -34,7 +34,7 @@ reply_alike a b bytes h =
     ∙ reply_zeroed (λ n. opened b n) (decided b) (request_of bytes)
 
 balance_alike : (a b : List Command) (account : ℕ) → IsAlike a b
-    → balance_behind a account ≡ balance_behind b account
+    → balance_after a account ≡ balance_after b account
 balance_alike a b account h =
     let sum : account_balance (decided a) account ≡ account_balance (decided b) account =
     sym (sum_zeroed (λ r. eqb r.account account) (decided a))
@@ -92,7 +92,7 @@ answer_alike a b asked h =
     ap (λ (x : Answer). answer_text x (shows asked) asked.closes)
     (on_alike a b (route_of (path_of asked.target)) asked h)
 
--- ---- what stands behind
+-- ---- what stands after
 
 post_alike : (a b : List Command) (m k : ℕ) (bytes : List ℕ) → IsAlike a b
     → IsAlike (Post m bytes ∷ a) (Post k bytes ∷ b)
@@ -104,21 +104,21 @@ post_alike a b m k bytes h = record {
       ∙ sym (record_zeroed k (λ n. opened b n) (decided b) (request_of bytes));
 }
 
-behind_alike : (a b : List Command) (m k : ℕ) (posts : Bool) (bytes : List ℕ) → IsAlike a b
-    → IsAlike (behind a (commands_if posts m bytes)) (behind b (commands_if posts k bytes))
-behind_alike a b m k true bytes h = post_alike a b m k bytes h
-behind_alike a b m k false bytes h = h
+after_alike : (a b : List Command) (m k : ℕ) (posts : Bool) (bytes : List ℕ) → IsAlike a b
+    → IsAlike (followed_by a (commands_if posts m bytes)) (followed_by b (commands_if posts k bytes))
+after_alike a b m k true bytes h = post_alike a b m k bytes h
+after_alike a b m k false bytes h = h
 
 answers_alike : (a b : List Command) (ts : List Turn) → IsAlike a b
-    → answers_to a ts ≡ answers_behind b (messages_of ts)
+    → answers_to a ts ≡ answers_after b (messages_of ts)
 answers_alike a b [] h = refl
 answers_alike a b (t ∷ ts) h =
     let asked = asked_by t.message in
-    let more = answers_alike (behind a (commands_in t)) (behind b (commands_for 0 asked)) ts
-    (behind_alike a b t.moment 0 (is_posting asked) asked.body h) in
-    ap (λ (x : List ℕ). x ∷ answers_to (behind a (commands_in t)) ts) (answer_alike a b asked h)
+    let more = answers_alike (followed_by a (commands_in t)) (followed_by b (commands_for 0 asked)) ts
+    (after_alike a b t.moment 0 (is_posting asked) asked.body h) in
+    ap (λ (x : List ℕ). x ∷ answers_to (followed_by a (commands_in t)) ts) (answer_alike a b asked h)
     ∙ ap (λ (xs : List (List ℕ)). answer_of b asked ∷ xs) more
 
 pub momentless : (log : List Command) (ts : List Turn)
-    → answers_to log ts ≡ answers_behind log (messages_of ts)
+    → answers_to log ts ≡ answers_after log (messages_of ts)
 momentless log ts = answers_alike log log ts (record { opens = refl; entries = refl })

@@ -26,7 +26,7 @@ on_ok_also : {A E : Type 0} {P Q : Type 0} (r : Result A E) → OnOk r P → (P 
 on_ok_also (Ok x) p f = f p
 on_ok_also (Err x) p f = tt
 
--- a beginning of a text is one of a longer text
+-- a prefix of a text is one of a longer text
 longer : (text more done : List ℕ) → done ≡ take (length done) text → done ≡ take (length done) (text ++ more)
 longer text more done e =
     let len = ap length e in
@@ -59,13 +59,13 @@ told_held held held' text more e t = record {
       ∙ ap (λ (x : List ℕ). t.written ++ x) (sym e);
 }
 
--- what is taken of a text is a beginning of it
+-- what is taken of a text is a prefix of it
 pub front_of : (n : ℕ) (xs : List ℕ) → take n xs ≡ take (length (take n xs)) xs
 front_of n xs =
     sym (ap (take (length (take n xs))) (sym (take-append-drop n xs))
     ∙ take-append_seam (take n xs) (drop n xs))
 
--- a beginning of what was held was written
+-- a prefix of what was held was written
 front_take : (n : ℕ) (a b : List ℕ) → n ≤ length b → a ++ take n b ≡ take (length (a ++ take n b)) (a ++ b)
 front_take n a b fits =
     let len : length (a ++ take n b) ≡ length a + n =
@@ -197,7 +197,7 @@ told_all a b c held text r t w =
       on_ok_also r w.3 (λ e. omega (arith, e, len)),
     )
 
--- ---- the lines behind the length
+-- ---- the lines after the length
 
 pub three : (t a b c : List ℕ) → ((t ++ a) ++ b) ++ c ≡ t ++ ((a ++ b) ++ c)
 three t a b c = simp append_assoc

@@ -14,7 +14,7 @@ use Rattle.counter_http.specs.{Outputs.AnswersWhole, Prompt.AnswersBeforeReads, 
 use Rattle.counter_http.specs.{Serving.BeginsWithNoMessage, Next.asked, Next.IsWhole, declared.next.Whole.Whole}
 use Rattle.counter_http.specs.Turns.{Turn, TurnIsDealtWith, answers_to, messages_of, text_in, texts_of}
 use Rattle.counter_http.proofs.ConnectionLoop.{Going, going_first, going_message, going_read, texts_one_more, turn_of}
-use Rattle.counter_http.proofs.{Momentless.momentless, Written.stays_all, Written.texts_are}
+use Rattle.counter_http.proofs.{Momentless.momentless, Outputs.stays_all, Outputs.texts_are}
 
 -- ---- what stands written
 

@@ -154,8 +154,8 @@ mapped : (b : Bool) (k : RouteOf Route)
 mapped true k = refl
 mapped false k = refl
 
-abbrev behind_slash : Rs
-behind_slash = (codes "account/" ++ 256 ∷ [], account_row.1)
+abbrev after_slash : Rs
+after_slash = (codes "account/" ++ 256 ∷ [], account_row.1)
     ∷ (codes "branches", (fixed (codes "/branches") Branches).1)
     ∷ (codes "post", (fixed (codes "/post") Posting).1) ∷ []
 
@@ -163,49 +163,49 @@ ltb_nine : (n : ℕ) → ltb 9 (suc (suc n)) ≡ ltb 7 n
 ltb_nine n = ltb_suc 8 (suc n) ∙ ltb_suc 7 n
 
 second_account : (q : List ℕ) → AreBytes q
-    → option_map value_in (seek 0 behind_slash (97 ∷ q)) ≡ route_named (47 ∷ 97 ∷ q)
+    → option_map value_in (seek 0 after_slash (97 ∷ q)) ≡ route_named (47 ∷ 97 ∷ q)
 second_account q bytes =
-    ap (option_map value_in) (literal_step behind_slash 97 q refl refl
+    ap (option_map value_in) (literal_step after_slash 97 q refl refl
     ∙ seek_account (codes "ccount/") account_row.1 q
     (lit< tt, (lit< tt, (lit< tt, (lit< tt, (lit< tt, (lit< tt, (lit< tt, tt))))))) bytes)
     ∙ mapped (leads (codes "ccount/") q) account_row.1 ∙ (rw ltb_nine refl)
 
 second_branches : (q : List ℕ)
-    → option_map value_in (seek 0 behind_slash (98 ∷ q)) ≡ route_named (47 ∷ 98 ∷ q)
+    → option_map value_in (seek 0 after_slash (98 ∷ q)) ≡ route_named (47 ∷ 98 ∷ q)
 second_branches q =
-    ap (option_map value_in) (literal_step behind_slash 98 q refl refl
+    ap (option_map value_in) (literal_step after_slash 98 q refl refl
     ∙ seek_row (codes "ranches") (fixed (codes "/branches") Branches).1 q
     (lit< tt, (lit< tt, (lit< tt, (lit< tt, (lit< tt, (lit< tt, (lit< tt, tt))))))))
     ∙ mapped (bytes_eq q (codes "ranches")) (fixed (codes "/branches") Branches).1
 
-second_post : (q : List ℕ) → option_map value_in (seek 0 behind_slash (112 ∷ q)) ≡ route_named (47 ∷ 112 ∷ q)
+second_post : (q : List ℕ) → option_map value_in (seek 0 after_slash (112 ∷ q)) ≡ route_named (47 ∷ 112 ∷ q)
 second_post q =
-    ap (option_map value_in) (literal_step behind_slash 112 q refl refl
+    ap (option_map value_in) (literal_step after_slash 112 q refl refl
     ∙ seek_row (codes "ost") (fixed (codes "/post") Posting).1 q (lit< tt, (lit< tt, (lit< tt, tt))))
     ∙ mapped (bytes_eq q (codes "ost")) (fixed (codes "/post") Posting).1
 
 second_other : (c : ℕ) (q : List ℕ) → eqb c 97 ≡ false → eqb c 98 ≡ false → eqb c 112 ≡ false
-    → option_map value_in (seek 0 behind_slash (c ∷ q)) ≡ route_named (47 ∷ c ∷ q)
+    → option_map value_in (seek 0 after_slash (c ∷ q)) ≡ route_named (47 ∷ c ∷ q)
 second_other c q a b p =
     let a' : eqb 97 c ≡ false = eqb_sym 97 c ∙ a in
     let b' : eqb 98 c ≡ false = eqb_sym 98 c ∙ b in
     let p' : eqb 112 c ≡ false = eqb_sym 112 c ∙ p in
-    let none : step c behind_slash ≡ no_rows = rw (a', b', p') refl in
-    ap (option_map value_in) (literal_step behind_slash c q refl refl ∙ ap (λ (rs : Rs). seek 0 rs q) none
+    let none : step c after_slash ≡ no_rows = rw (a', b', p') refl in
+    ap (option_map value_in) (literal_step after_slash c q refl refl ∙ ap (λ (rs : Rs). seek 0 rs q) none
     ∙ seek_none 0 q)
     ∙ (rw (a, b, p) refl)
 
-second : (p : List ℕ) → AreBytes p → option_map value_in (seek 0 behind_slash p) ≡ route_named (47 ∷ p)
+second : (p : List ℕ) → AreBytes p → option_map value_in (seek 0 after_slash p) ≡ route_named (47 ∷ p)
 unfolding seek
 second [] bytes = refl
 second (c ∷ q) bytes = elim (cases_eq c 97) [
-  | inl e ↦ subst (λ (x : ℕ). option_map value_in (seek 0 behind_slash (x ∷ q)) ≡ route_named (47 ∷ x ∷ q))
+  | inl e ↦ subst (λ (x : ℕ). option_map value_in (seek 0 after_slash (x ∷ q)) ≡ route_named (47 ∷ x ∷ q))
       (sym e) (second_account q bytes.1)
   | inr a ↦ elim (cases_eq c 98) [
-    | inl e ↦ subst (λ (x : ℕ). option_map value_in (seek 0 behind_slash (x ∷ q)) ≡ route_named (47 ∷ x ∷ q))
+    | inl e ↦ subst (λ (x : ℕ). option_map value_in (seek 0 after_slash (x ∷ q)) ≡ route_named (47 ∷ x ∷ q))
         (sym e) (second_branches q)
     | inr b ↦ elim (cases_eq c 112) [
-      | inl e ↦ subst (λ (x : ℕ). option_map value_in (seek 0 behind_slash (x ∷ q))
+      | inl e ↦ subst (λ (x : ℕ). option_map value_in (seek 0 after_slash (x ∷ q))
           ≡ route_named (47 ∷ x ∷ q)) (sym e) (second_post q)
       | inr p ↦ second_other c q (ne_eqb c 97 a) (ne_eqb c 98 b) (ne_eqb c 112 p)
     ]

@@ -32,14 +32,14 @@ taken_each a b c done (Ok x) h more failed e = rw e (more_more h more)
 taken_each a b c done (Err x) h more failed e = rw e (more_failed IsWriteFailure h failed)
 
 -- the rest is written and flushed
-pub sent_behind : {E : Type 0} (a b c : Option (List WriteTold)) (r : Result (Unit {0}) E) → HasMore a b
+pub sent_after : {E : Type 0} (a b c : Option (List WriteTold)) (r : Result (Unit {0}) E) → HasMore a b
     → OnOk r (EndsWith IsFlush b c) → OnErr r (HasWriteFailed b c) → HasSent r a c
-sent_behind a b c (Ok x) h flushed failed = more_last IsFlush h flushed
-sent_behind a b c (Err x) h flushed failed = more_failed IsWriteFailure h failed
+sent_after a b c (Ok x) h flushed failed = more_last IsFlush h flushed
+sent_after a b c (Err x) h flushed failed = more_failed IsWriteFailure h failed
 
 -- ---- answers one after another
 
--- a fault behind them
+-- a fault after them
 pub sent_broken : (fault : ServeFault) (r r' : Option (List ReadTold)) (w w' w'' : Option (List WriteTold))
     → IsThrough w w'
     → SendsAs (Err fault) w' w'' → ServeFaultIsOfItsEnd (Err fault) r r' w w''

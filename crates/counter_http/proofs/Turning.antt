@@ -1,10 +1,10 @@
 -- Messages that are answered one after another.
 use Rattle.std.proofs.Common.{◌≡◌, ℕ, List, [], ◌∷◌, ◌++◌, Option, refl, sym, ap, subst, ◌∙◌, append-nil}
 use Rattle.std.proofs.{KnownBytes.Appends-trans, KnownBytes.Appends-nil, lemmas.List.Concat.flat_map-append}
-use Rattle.posting_rules.specs.{Commands.Command, Runs.behind}
+use Rattle.posting_rules.specs.{Commands.Command, Runs.followed_by}
 use Rattle.posting_rules.specs.Counter.{Seen, ShowsLog, StandsAt, Takes}
 use Rattle.posting_core.specs.{Clock.after_one, Clock.AreReadings, Batches.joined}
-use Rattle.posting_rules.proofs.Sequence.{behind-append}
+use Rattle.posting_rules.proofs.Sequence.{after-append}
 use Rattle.counter_http.specs.Answers.{Asked, asked_by, answer_of}
 use Rattle.posting_core.proofs.Batched.{joined-append}
 use Rattle.counter_http.specs.Turns.{Turn, commands_for, readings_for, commands_in, moments_in, commands_of}
@@ -19,22 +19,22 @@ pub takes_append : (c c' c'' : Seen) (cs ds : List Command) → (c''.honest → 
     → Takes c' c'' ds → Takes c c'' (cs ++ ds)
 takes_append c c' c'' cs ds honest a b =
     let same : (log : List Command)
-    → behind (behind log cs) ds ≡ behind log (cs ++ ds) = λ log. sym (behind-append log cs ds) in
+    → followed_by (followed_by log cs) ds ≡ followed_by log (cs ++ ds) = λ log. sym (after-append log cs ds) in
     record {
       shows = λ h log s. subst (λ (l : List Command). ShowsLog c'' l) (same log)
-          (b.shows h (behind log cs) (a.shows (honest h) log s));
+          (b.shows h (followed_by log cs) (a.shows (honest h) log s));
       stands = λ h log s. subst (λ (l : List Command). StandsAt c'' l) (same log)
-          (b.stands h (behind log cs) (a.stands (honest h) log s));
+          (b.stands h (followed_by log cs) (a.stands (honest h) log s));
     }
 
 pub answers-append : (log : List Command) (ts us : List Turn)
-    → answers_to log (ts ++ us) ≡ answers_to log ts ++ answers_to (behind log (commands_of ts)) us
+    → answers_to log (ts ++ us) ≡ answers_to log ts ++ answers_to (followed_by log (commands_of ts)) us
 answers-append log [] us = refl
 answers-append log (t ∷ ts) us =
     ap (λ (xs : List (List ℕ)). answer_of log (asked_by t.message) ∷ xs)
-    (answers-append (behind log (commands_in t)) ts us
-    ∙ ap (λ (l : List Command). answers_to (behind log (commands_in t)) ts ++ answers_to l us)
-    (sym (behind-append log (commands_in t) (commands_of ts))))
+    (answers-append (followed_by log (commands_in t)) ts us
+    ∙ ap (λ (l : List Command). answers_to (followed_by log (commands_in t)) ts ++ answers_to l us)
+    (sym (after-append log (commands_in t) (commands_of ts))))
 
 pub answered_none : {w k : Option (List ℕ)} {c : Seen} → AreAnswered w w k k c c []
 answered_none {w = w} = record {
@@ -64,8 +64,8 @@ answered_more {w = w} {w' = w'} {w'' = w''} {k = k} {k' = k'} {k'' = k''} {c = c
       answers = λ h log s.
           ap (λ (t : List ℕ). t ++ b.written) (a.answers (b.honest h) log s)
           ∙ ap (λ (t : List ℕ). joined (answers_to log ts) ++ t)
-          (b.answers h (behind log (commands_of ts)) (a.takes.shows (b.honest h) log s))
-          ∙ sym (joined-append (answers_to log ts) (answers_to (behind log (commands_of ts)) us))
+          (b.answers h (followed_by log (commands_of ts)) (a.takes.shows (b.honest h) log s))
+          ∙ sym (joined-append (answers_to log ts) (answers_to (followed_by log (commands_of ts)) us))
           ∙ ap joined (sym (answers-append log ts us));
     }
 

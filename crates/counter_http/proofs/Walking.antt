@@ -1,4 +1,4 @@
--- The walk over messages one behind another.
+-- The walk over messages one after another.
 use Rattle.std.proofs.Common.{◌≡◌, ℕ, ◌<◌, true, List, [], ◌∷◌, ◌++◌, length, Option, refl, sym, ap, subst, ◌∙◌}
 use Rattle.std.proofs.Common.{append_assoc, append-nil, arith}
 use Rattle.std.specs.List.{AllByRecursion}
@@ -10,18 +10,18 @@ use Rattle.counter_http.specs.{Turns.texts_of, Serving.KeepsConnection, Serving.
 use Rattle.counter_http.specs.Messages.{Message, message_text, IsMessage, closes, Ending, Finished, Closed, No_head}
 use Rattle.counter_http.specs.Messages.{No_body, EndsWalk, AlwaysEnds, LacksBody, Walks}
 
--- a walk behind messages after which the connection goes on
-pub walks_behind : (ts us : List Turn) (rest : List ℕ) (ending : Ending)
+-- a walk after messages after which the connection goes on
+pub walks_after : (ts us : List Turn) (rest : List ℕ) (ending : Ending)
     → AllByRecursion (λ (u : Turn). KeepsConnection u.message) ts → Walks rest (messages_of us) ending
     → Walks (texts_of ts ++ rest) (messages_of (ts ++ us)) ending
-walks_behind [] us rest ending all w = w
-walks_behind (t ∷ ts) us rest ending all w = (
+walks_after [] us rest ending all w = w
+walks_after (t ∷ ts) us rest ending all w = (
   all.0.whole,
   (
     texts_of ts ++ rest,
     append_assoc (text_in t) (texts_of ts) rest,
     λ last. absurd (true≢false (sym last ∙ all.0.stays)),
-    λ on. walks_behind ts us rest ending all.1 w,
+    λ on. walks_after ts us rest ending all.1 w,
   ),
 )
 
@@ -31,7 +31,7 @@ pub walks_end : (ts : List Turn) (rest : List ℕ) (ending : Ending)
     → Walks (texts_of ts ++ rest) (messages_of ts) ending
 walks_end ts rest ending all ends =
     subst (λ (us : List Turn). Walks (texts_of ts ++ rest) (messages_of us) ending) (append-nil ts)
-    (walks_behind ts [] rest ending all ends)
+    (walks_after ts [] rest ending all ends)
 
 -- whatever follows
 pub walks_always : (ts : List Turn) (rest : List ℕ) (ending : Ending)
@@ -42,10 +42,10 @@ walks_always ts rest ending all ends more =
     (sym (append_assoc (texts_of ts) rest more)) (walks_end ts (rest ++ more) ending all (ends more))
 
 -- a walk that ends with a message
-pub walks_closed : (t : Turn) (behind : List ℕ) → IsMessage t.message → closes t.message.head ≡ true
-    → Walks (message_text t.message ++ behind) (messages_of (t ∷ [])) Closed
-walks_closed t behind is last =
-    (is, (behind, refl, λ _. (refl, refl), λ on. absurd (true≢false (sym last ∙ on))))
+pub walks_closed : (t : Turn) (beyond : List ℕ) → IsMessage t.message → closes t.message.head ≡ true
+    → Walks (message_text t.message ++ beyond) (messages_of (t ∷ [])) Closed
+walks_closed t beyond is last =
+    (is, (beyond, refl, λ _. (refl, refl), λ on. absurd (true≢false (sym last ∙ on))))
 
 -- ---- no message stands where the walk ends
 
@@ -54,28 +54,28 @@ pub head_some : (h : RequestHead) → IsRequestHead h → 0 < length (print_requ
 unfolding print_request
 head_some h is = omega (arith, is.method.0, length-append {A = ℕ})
 
-cut_short : (m : Message) (behind after : List ℕ) → IsMessage m
-    → LacksBody (body_length (named_values m.head)) after → after ≡ m.body ++ behind → ⊥
-cut_short m behind after is lacks e =
+cut_short : (m : Message) (beyond after : List ℕ) → IsMessage m
+    → LacksBody (body_length (named_values m.head)) after → after ≡ m.body ++ beyond → ⊥
+cut_short m beyond after is lacks e =
     let short : length after < length m.body = subst (λ (o : Option ℕ). LacksBody o after) is.body lacks in
     let len = ap length e in
-    absurd (omega (arith, len, length-append m.body behind))
+    absurd (omega (arith, len, length-append m.body beyond))
 
 pub no_message : (ending : Ending) (rest : List ℕ) → EndsWalk ending rest → BeginsWithNoMessage rest
-no_message Finished rest ends m behind is e =
-    let len = ap length (sym ends ∙ e ∙ append_assoc (print_request m.head) m.body behind) in
+no_message Finished rest ends m beyond is e =
+    let len = ap length (sym ends ∙ e ∙ append_assoc (print_request m.head) m.body beyond) in
     absurd (omega (
       arith,
       len,
-      length-append (print_request m.head) (m.body ++ behind),
+      length-append (print_request m.head) (m.body ++ beyond),
       head_some m.head
           is.head.head,
     ))
-no_message Closed rest ends m behind is e = absurd ends
-no_message No_head rest ends m behind is e =
-    ends.1 m.head (m.body ++ behind) is.head (e ∙ append_assoc (print_request m.head) m.body behind)
-no_message (No_body h) rest ends m behind is e =
-    let same = request_unique rest h m.head ends.1.0 (m.body ++ behind) (ends.0.head, ends.1.1)
-    (is.head.head, e ∙ append_assoc (print_request m.head) m.body behind) in
-    cut_short m behind ends.1.0 is (subst
+no_message Closed rest ends m beyond is e = absurd ends
+no_message No_head rest ends m beyond is e =
+    ends.1 m.head (m.body ++ beyond) is.head (e ∙ append_assoc (print_request m.head) m.body beyond)
+no_message (No_body h) rest ends m beyond is e =
+    let same = request_unique rest h m.head ends.1.0 (m.body ++ beyond) (ends.0.head, ends.1.1)
+    (is.head.head, e ∙ append_assoc (print_request m.head) m.body beyond) in
+    cut_short m beyond ends.1.0 is (subst
     (λ (k : RequestHead). LacksBody (body_length (named_values k)) ends.1.0) same.0 ends.1.2) same.1

@@ -11,7 +11,7 @@ use Rattle.message_records.specs.Reading.{number_of}
 use Rattle.message_records.specs.Spelling.{reply_spelling}
 use Rattle.posting_rules.specs.declared.limits.TheConstants.{LAST_BRANCH}
 use Rattle.posting_rules.specs.Commands.{Command, opened, Terms}
-use Rattle.posting_rules.specs.Entries.{reply, balance_behind, branch_balance, decided}
+use Rattle.posting_rules.specs.Entries.{reply, balance_after, branch_balance, decided}
 use Rattle.message_records.specs.declared.limits.TheConstants.{REQUEST_BYTES}
 use Rattle.counter_http.specs.declared.limits.TheConstants.{ACCOUNT_DIGITS}
 use Rattle.counter_http.specs.declared.routes.Route.{Route}
@@ -85,7 +85,7 @@ balance_answer account (Some balance) = plain (account_line account balance)
 
 abbrev pub account_answer : List Command → Option ℕ → Answer
 account_answer log None = bare 404
-account_answer log (Some account) = balance_answer account (balance_behind log account)
+account_answer log (Some account) = balance_answer account (balance_after log account)
 
 abbrev pub spaces : ℕ → List ℕ
 spaces n = replicate n 32

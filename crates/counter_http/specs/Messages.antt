@@ -1,4 +1,4 @@
--- The messages of an input, one behind another, and how the walk over them ends.
+-- The messages of an input, one after another, and how the walk over them ends.
 use Rattle.std.specs.Prelude.{◌≡◌, ◌≢◌, ℕ, ◌≤◌, ◌<◌, List, [], ◌∷◌, ◌++◌, length, Option, Some, None, Bool}
 use Rattle.std.specs.Prelude.{true, false, ◌||◌, ◌==◌, codes, bytes_eq, ⊤}
 use Rattle.httparse.specs.Grammar.{RequestHead, print_request, IsRequestHead}
@@ -46,12 +46,12 @@ pub data Ending : Type 0 where
 
 -- no head within the limits stands at the front
 abbrev pub BeginsWithNoHead : List ℕ → Type 0
-BeginsWithNoHead rest = (h : RequestHead) (behind : List ℕ) → IsHead h → rest ≢ print_request h ++ behind
+BeginsWithNoHead rest = (h : RequestHead) (after : List ℕ) → IsHead h → rest ≢ print_request h ++ after
 
 -- fewer bytes than the body's length, or no length
 abbrev pub LacksBody : Option ℕ → List ℕ → Type 0
-LacksBody None behind = ⊤
-LacksBody (Some n) behind = length behind < n
+LacksBody None after = ⊤
+LacksBody (Some n) after = length after < n
 
 -- the walk ends so, with what remains
 abbrev pub EndsWalk : Ending → List ℕ → Type 0
@@ -60,8 +60,8 @@ EndsWalk Closed rest = ⊥
 EndsWalk No_head rest = (rest ≢ []) × BeginsWithNoHead rest
 EndsWalk (No_body h) rest =
     IsHead h
-    × ((behind : List ℕ) × (rest ≡ print_request h ++ behind)
-    × LacksBody (body_length (named_values h)) behind)
+    × ((after : List ℕ) × (rest ≡ print_request h ++ after)
+    × LacksBody (body_length (named_values h)) after)
 
 -- the input is these messages, and then the walk ends so: after a message that closes the connection,
 -- whatever follows

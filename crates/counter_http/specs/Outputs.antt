@@ -1,11 +1,11 @@
--- What a connection writes, said of the bytes that it reads alone, however they were cut, and what a stop
+-- What a connection writes, said of the bytes that it reads alone, however they were cut, and what a crash
 -- leaves.
 use Rattle.std.specs.Prelude.{◌≡◌, ◌⊎◌, ℕ, List, [], ◌∷◌, ◌++◌, length, map, take, Option, Result, Ok, Err}
 use Rattle.std.specs.Prelude.{OnOk}
 use Rattle.std.specs.List.{AllByRecursion, flat_map}
 use Rattle.std.specs.Io.KnownBytes.{Appends, Consumes}
 use Rattle.posting_rules.specs.Commands.{Command}
-use Rattle.posting_rules.specs.Counter.{Seen, ShowsLog, StandsAt, LeavesOnly, ShowsBeginning}
+use Rattle.posting_rules.specs.Counter.{Seen, ShowsLog, StandsAt, LeavesOnly, ShowsPrefix}
 use Rattle.posting_core.specs.Batches.{joined}
 use Rattle.posting_core.specs.Stream.{acknowledged}
 use Rattle.posting_core.specs.Told.{ReadTold}
@@ -24,18 +24,18 @@ texts_of_all ms = flat_map message_text ms
 abbrev pub at_no_moment : Message → Turn
 at_no_moment m = record { message = m; moment = 0 }
 
--- the answers to messages behind a log; none depends on a moment
-abbrev pub answers_behind : List Command → List Message → List (List ℕ)
-answers_behind log ms = answers_to log (map at_no_moment ms)
+-- the answers to messages after a log; none depends on a moment
+abbrev pub answers_after : List Command → List Message → List (List ℕ)
+answers_after log ms = answers_to log (map at_no_moment ms)
 
--- ---- texts behind a log
+-- ---- texts after a log
 
 -- the walk over the input gives this text
 pub record AnswersInput (log : List Command) (input text : List ℕ) : Type 0 where
   pub messages : List Message
   pub ending : Ending
   pub walks : Walks input messages ending
-  pub text_is : text ≡ joined (answers_behind log messages ++ final_answer ending)
+  pub text_is : text ≡ joined (answers_after log messages ++ final_answer ending)
 
 -- the whole messages at the front of the input have these answers
 pub record AnswersWhole (log : List Command) (input text : List ℕ) : Type 0 where
@@ -44,7 +44,7 @@ pub record AnswersWhole (log : List Command) (input text : List ℕ) : Type 0 wh
   pub input_is : input ≡ texts_of_all messages ++ rest
   pub stays : AllByRecursion KeepsConnection messages
   pub no_more : BeginsWithNoMessage rest
-  pub text_is : text ≡ joined (answers_behind log messages)
+  pub text_is : text ≡ joined (answers_after log messages)
 
 -- the input begins with some messages and then this one
 pub record BeginsWith (input : List ℕ) (before : List Message) (message : Message) : Type 0 where
@@ -58,14 +58,14 @@ pub record AnswersFirst (log : List Command) (input text : List ℕ) : Type 0 wh
   pub before : List Message
   pub message : Message
   pub begins : BeginsWith input before message
-  pub text_is : text ≡ joined (answers_behind log (before ++ message ∷ []))
+  pub text_is : text ≡ joined (answers_after log (before ++ message ∷ []))
 
 -- its first messages have these answers, but for the last of them, at which the bank fails
 pub record AnswersBroken (log : List Command) (input text : List ℕ) : Type 0 where
   pub before : List Message
   pub message : Message
   pub begins : BeginsWith input before message
-  pub text_is : text ≡ joined (answers_behind log before ++ unavailable (asked_by message) ∷ [])
+  pub text_is : text ≡ joined (answers_after log before ++ unavailable (asked_by message) ∷ [])
 
 -- ---- what is written
 
@@ -78,7 +78,7 @@ IsTextFor (Err Write) log input text =
 IsTextFor (Err (Bank fault)) log input text = AnswersBroken log input text
 IsTextFor (Err Memory) log input text = (input ≡ []) × (text ≡ [])
 
--- all of the text was written, or a beginning of it where the writer failed
+-- all of the text was written, or a prefix of it where the writer failed
 abbrev pub WritesAnswers : Result ℕ ServeFault → (w w' : Option (List ℕ)) → List ℕ → Type 0
 WritesAnswers (Err Write) w w' text = (n : ℕ) × Appends w w' (take n text)
 WritesAnswers _ w w' text = Appends w w' text
@@ -104,17 +104,17 @@ pub record OutputsAnswers (r r' : Option (List ℕ)) (q q' : Option (List ReadTo
   pub one_front : (log : List Command) (text other : List ℕ)
       → AnswersWhole log input text → AnswersWhole log input other → text ≡ other
 
--- ---- what a stop leaves
+-- ---- what a crash leaves
 
 -- how many records had a byte of their answer accepted, when so many bytes of the answers to these messages
 -- were
 abbrev pub acknowledged_records : List Command → List Turn → ℕ → ℕ
 acknowledged_records log turns n = length (commands_of (take (acknowledged (answers_to log turns) n) turns))
 
--- everything that a stop may leave shows the log and a beginning of what was submitted, which holds all
+-- everything that a crash may leave shows the log and a prefix of what was submitted, which holds all
 -- records that were acknowledged
 pub record SurvivesServing (r r' w w' : Option (List ℕ)) (c c' : Seen) : Type 0 where
-  -- the messages that the bank took, the one that it refused, and what was read behind them
+  -- the messages that the bank took, the one that it refused, and what was read after them
   pub taken : List Turn
   pub refused : List Turn
   pub rest : List ℕ
@@ -123,4 +123,4 @@ pub record SurvivesServing (r r' w w' : Option (List ℕ)) (c c' : Seen) : Type 
   pub wrote : Appends w w' written
   pub survives : c'.honest → (log : List Command) → StandsAt c log
       → LeavesOnly c'
-      (ShowsBeginning log (commands_of (taken ++ refused)) (acknowledged_records log taken (length written)))
+      (ShowsPrefix log (commands_of (taken ++ refused)) (acknowledged_records log taken (length written)))

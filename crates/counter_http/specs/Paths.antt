@@ -16,7 +16,7 @@ path_of target = before_first (λ b. b == 63) target
 abbrev pub is_slash : ℕ → Bool
 is_slash b = b == 47
 
--- `/account/`, and behind it one part that isn't empty: a number as it is printed, so that 01 names no account
+-- `/account/`, and after it one part that isn't empty: a number as it is printed, so that 01 names no account
 abbrev pub is_account_path : List ℕ → Bool
 is_account_path path =
     bytes_eq (take 9 path) (codes "/account/") &&

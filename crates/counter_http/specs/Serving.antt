@@ -1,4 +1,4 @@
--- A connection, message by message: what is read, what is written, what the bank shows, what a stop may
+-- A connection, message by message: what is read, what is written, what the bank shows, what a crash may
 -- leave. The reader's known bytes before and after are r and r', what its reads returned q and q', the
 -- writer's known bytes w and w', the clock's known readings k and k'. The bank is old before and new after,
 -- and seen says what is seen of it.
@@ -8,7 +8,7 @@ use Rattle.std.specs.List.{AllByRecursion}
 use Rattle.std.specs.Io.KnownBytes.{Appends, Consumes}
 use Rattle.posting_rules.specs.declared.fault.Fault.{Fault}
 use Rattle.posting_rules.specs.Commands.{Command}
-use Rattle.posting_rules.specs.Counter.{Seen, ShowsLog, StandsAt, LeavesOnly, ShowsBeginning, Takes, Refuses}
+use Rattle.posting_rules.specs.Counter.{Seen, ShowsLog, StandsAt, LeavesOnly, ShowsPrefix, Takes, Refuses}
 use Rattle.posting_core.specs.Batches.{joined}
 use Rattle.posting_core.specs.Clock.{AreReadings}
 use Rattle.posting_core.specs.Told.{ReadTold}
@@ -26,7 +26,7 @@ pub record KeepsConnection (m : Message) : Type 0 where
 
 -- no whole message stands at the front
 abbrev pub BeginsWithNoMessage : List ℕ → Type 0
-BeginsWithNoMessage rest = (m : Message) (behind : List ℕ) → IsMessage m → rest ≢ message_text m ++ behind
+BeginsWithNoMessage rest = (m : Message) (after : List ℕ) → IsMessage m → rest ≢ message_text m ++ after
 
 -- ---- what was answered last
 
@@ -103,7 +103,7 @@ Exits seen (Err (Bank fault)) has_ended old stood new taken refused rest last =
 Exits seen (Err Memory) has_ended old stood new taken refused rest last =
     ServingIsUntouched taken refused rest last × (new ≡ old)
 
--- what was written of the answers: a beginning where the writer failed, and all of them elsewhere
+-- what was written of the answers: a prefix where the writer failed, and all of them elsewhere
 abbrev pub AnswersAreWritten : Result ℕ ServeFault → List ℕ → List ℕ → Type 0
 AnswersAreWritten (Err Write) written text = written ≡ take (length written) text
 AnswersAreWritten _ written text = written ≡ text
@@ -113,7 +113,7 @@ AnswersAreWritten _ written text = written ≡ text
 pub record ServesConnection {C : Type 0} (seen : C → Seen) (r r' : Option (List ℕ))
     (q q' : Option (List ReadTold))
     (w w' k k' : Option (List ℕ)) (old new : C) (result : Result ℕ ServeFault) : Type 0 where
-  -- the messages that the bank took, the one that it refused, what was read behind them, and the answer to
+  -- the messages that the bank took, the one that it refused, what was read after them, and the answer to
   -- what is no message or was refused
   pub taken : List Turn
   pub refused : List Turn
@@ -134,9 +134,9 @@ pub record ServesConnection {C : Type 0} (seen : C → Seen) (r r' : Option (Lis
   -- the answers are those to what the bank took
   pub answers : (seen new).honest → (log : List Command) → ShowsLog (seen old) log
       → AnswersAreWritten result written (joined (answers_to log taken ++ last))
-  -- a stop leaves all that it took
+  -- a crash leaves all that it took
   pub survives : (seen new).honest → (log : List Command) → StandsAt (seen old) log
       → LeavesOnly (seen new)
-      (ShowsBeginning log (commands_of (taken ++ refused)) (length (commands_of taken)))
-  -- a bank that was down is the one that it was, and so is what a stop may leave of it
+      (ShowsPrefix log (commands_of (taken ++ refused)) (length (commands_of taken)))
+  -- a bank that was down is the one that it was, and so is what a crash may leave of it
   pub idle : (seen old).is_down → new ≡ old

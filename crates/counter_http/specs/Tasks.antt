@@ -1,7 +1,7 @@
 -- What is to be done for a message.
 use Rattle.std.specs.Prelude.{◌≡◌, List, Option, true, false}
 use Rattle.posting_rules.specs.Commands.{Command}
-use Rattle.posting_rules.specs.Entries.{balance_behind}
+use Rattle.posting_rules.specs.Entries.{balance_after}
 use Rattle.counter_http.specs.Answers.{Asked, answer_on, balance_answer, branch_lines, plain, submits}
 use Rattle.counter_http.specs.Paths.{path_of, route_of}
 use Rattle.counter_http.specs.Telling.{said}
@@ -16,7 +16,7 @@ IsTaskOn route asked (Say response) =
 IsTaskOn route asked (Submit bytes) = (submits route asked ≡ true) × (bytes.now ≡ asked.body)
 IsTaskOn route asked (Balance account) =
     (submits route asked ≡ false)
-    × ((log : List Command) → answer_on log route asked ≡ balance_answer account (balance_behind log account))
+    × ((log : List Command) → answer_on log route asked ≡ balance_answer account (balance_after log account))
 IsTaskOn route asked Branches =
     (submits route asked ≡ false)
     × ((log : List Command) → answer_on log route asked ≡ plain (branch_lines log))

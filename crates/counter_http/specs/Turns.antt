@@ -10,7 +10,7 @@ use Rattle.std.specs.Io.KnownBytes.{Appends}
 use Rattle.posting_rules.specs.declared.fault.Fault.{Fault}
 use Rattle.posting_rules.specs.Commands.{Command, Post}
 use Rattle.posting_rules.specs.Counter.{Seen, ShowsLog, Takes, Refuses}
-use Rattle.posting_rules.specs.Runs.{behind}
+use Rattle.posting_rules.specs.Runs.{followed_by}
 use Rattle.posting_core.specs.Batches.{joined}
 use Rattle.posting_core.specs.Clock.{AreReadings}
 use Rattle.posting_core.specs.Stream.{IsOfCall}
@@ -66,10 +66,10 @@ commands_of ts = flat_map commands_in ts
 abbrev pub moments_of : List Turn → List ℕ
 moments_of ts = flat_map moments_in ts
 
--- the answers behind a log
+-- the answers after a log
 abbrev pub answers_to : List Command → List Turn → List (List ℕ)
 answers_to log [] = []
-answers_to log (t ∷ ts) = answer_of log (asked_by t.message) ∷ answers_to (behind log (commands_in t)) ts
+answers_to log (t ∷ ts) = answer_of log (asked_by t.message) ∷ answers_to (followed_by log (commands_in t)) ts
 
 -- ---- what became of messages
 
@@ -94,7 +94,7 @@ pub record TurnIsAnswered (w w' : Option (List ℕ)) (c c' : Seen) (asked : Aske
   pub takes : Takes c c' commands
   pub answer : c'.honest → (log : List Command) → ShowsLog c log → written ≡ answer_of log asked
 
--- the bank took its command, and a beginning of its answer was written
+-- the bank took its command, and a prefix of its answer was written
 pub record TurnIsAnsweredInPart (w w' : Option (List ℕ)) (c c' : Seen) (asked : Asked)
     (commands : List Command) : Type 0 where
   pub written : List ℕ
@@ -121,7 +121,7 @@ pub record IsTurnedAway {C : Type 0} (seen : C → Seen) (w w' : Option (List �
   pub wrote : Appends w w' (unavailable asked)
   pub refused : IsRefusedAt seen old new fault commands
 
--- the bank refused it, and a beginning of a 503 was written
+-- the bank refused it, and a prefix of a 503 was written
 pub record IsRefusedInPart {C : Type 0} (seen : C → Seen) (w w' : Option (List ℕ)) (old new : C)
     (asked : Asked) (commands : List Command) : Type 0 where
   pub written : List ℕ

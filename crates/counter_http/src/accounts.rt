@@ -6,7 +6,7 @@ ghost use Rattle.counter_http.specs.Paths.{account_in};
 use crate::limits::ACCOUNT_DIGITS;
 use message_records::{Account, read_digits};
 
-// Where the account is in its path, behind `/account/`.
+// Where the account is in its path, after `/account/`.
 const ID_START: usize = 9;
 
 // The account that 1 to 12 digits name, the first not 0.

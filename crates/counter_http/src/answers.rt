@@ -2,7 +2,7 @@
 ghost use Rattle.std.specs.Prelude.{◌≡◌, ℕ, List, take, true, [], Err};
 ghost use Rattle.std.specs.Io.KnownBytes.{Appends};
 ghost use Rattle.posting_rules.specs.Commands.{Command};
-ghost use Rattle.posting_rules.specs.Entries.{balance_behind};
+ghost use Rattle.posting_rules.specs.Entries.{balance_after};
 ghost use Rattle.counter_http.specs.Answers.{refusal, answer_text, shows, unavailable, is_posting};
 ghost use Rattle.counter_http.specs.Answers.{answer_to, balance_answer, branch_lines, plain};
 ghost use Rattle.counter_http.specs.Ends.{SendsAs};
@@ -116,7 +116,7 @@ fn answer_account<W: Sink, C: Counter>(
     bank: &mut C,
 ) -> Result<(), ServeFault>
     requires { (log : List Command) → answer_to log (asked message.now)
-        ≡ balance_answer account (balance_behind log account) }
+        ≡ balance_answer account (balance_after log account) }
     ensures answers { IsDealtWith C.seen C.reason (W.contents writer.old) (W.contents writer.new)
         (W.told writer.old) (W.told writer.new) bank.old bank.new (asked message.now) [] result }
     ensures spares { C.spares bank.old bank.new }

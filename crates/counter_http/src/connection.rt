@@ -12,7 +12,7 @@ use crate::fault::ServeFault;
 use crate::limits::BUFFER;
 use crate::next::{Next, next_message};
 use crate::routes::Routes;
-use posting_core::transfer::{fill_beside, move_to_front};
+use posting_core::transfer::{fill_buffer_beside, move_to_front};
 use posting_core::{Clock, Counter, Sink, Source};
 use std::alloc::Global;
 use std::io::ErrorKind;
@@ -46,7 +46,7 @@ fn serve<R: Source, W: Sink, K: Clock, C: Counter>(
     let mut served = 0;
     let mut shows_body = true;
     'reads: for _ in 0..u64::MAX {
-        match fill_beside(reader, buffer, filled, writer) {
+        match fill_buffer_beside(reader, buffer, filled, writer) {
             Ok(0) if filled == 0 => return Ok(served),
             Ok(0) => {
                 refuse(writer, shows_body)?;

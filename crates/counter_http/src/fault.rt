@@ -7,10 +7,10 @@ use std::fmt;
 pub enum ServeFault {
     /// The reader failed. The whole messages that were read were answered.
     Read,
-    /// The writer failed, or took no byte. Of the answers a beginning was written.
+    /// The writer failed, or took no byte. Of the answers a prefix was written.
     Write,
     /// The bank refused a call, and its fault says what holds then. A 503 was written to the message that
-    /// made it, behind the answers to those before.
+    /// made it, after the answers to those before.
     Bank(Fault),
     /// Memory was refused before anything was read, and nothing was done.
     Memory,

@@ -1,6 +1,6 @@
 //! The limits of what a connection is asked. Code, contracts and definitions take them from here.
 
-/// The length in bytes of the longest head that is taken, with the empty line behind it.
+/// The length in bytes of the longest head that is taken, with the empty line after it.
 pub const MAX_HEAD: usize = 8192;
 
 /// How many fields a head may have.

@@ -41,7 +41,7 @@ pub(crate) fn next_message<'b>(buf: &'b [u8]) -> Next<'b>
     }
     let mut fields = [EMPTY_HEADER_SPAN; MAX_FIELDS];
     match parse_request(buf, &mut fields) {
-        Ok(Status::Complete(head)) if head.len <= MAX_HEAD => { behind_head(buf, head, &fields) }
+        Ok(Status::Complete(head)) if head.len <= MAX_HEAD => { after_head(buf, head, &fields) }
         Ok(Status::Partial) if buf.len() < MAX_HEAD => Next::Unfinished(true),
         _ => Next::Refused(true),
     }
@@ -54,8 +54,8 @@ pub(crate) fn is_head(method: &[u8]) -> bool
     method == b"HEAD".as_slice()
 }
 
-// What is behind a head.
-fn behind_head<'b>(buf: &'b [u8], head: RequestSpans, fields: &[HeaderSpan]) -> Next<'b>
+// What is after a head.
+fn after_head<'b>(buf: &'b [u8], head: RequestSpans, fields: &[HeaderSpan]) -> Next<'b>
     requires within { IsRequestWithin buf.now fields.now head }
     requires head { IsRequestOf buf.now fields.now head }
     requires room { length fields.now ≡ MAX_FIELDS }
@@ -68,14 +68,14 @@ fn behind_head<'b>(buf: &'b [u8], head: RequestSpans, fields: &[HeaderSpan]) -> 
     let Some(length) = length_of_body(buf, fields) else {
         return Next::Refused(shows_body);
     };
-    let behind = &buf[head.len..];
-    if behind.len() < length {
+    let after = &buf[head.len..];
+    if after.len() < length {
         return Next::Unfinished(shows_body);
     }
     Next::Message(Whole {
         method,
         target: head.path.of(buf),
-        body: &behind[..length],
+        body: &after[..length],
         closes: head.version == 0 || ask_to_close(buf, fields),
         length: head.len + length,
     })

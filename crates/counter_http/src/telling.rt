@@ -25,7 +25,7 @@ pub(crate) struct Response<'a> {
 }
 
 // Tells more of a text, where the writer took all of it so far, and answers whether it still does. What has
-// no room is written at once, behind what was held.
+// no room is written at once, after what was held.
 fn put<W: Sink>(writer: &mut W, held: &mut ArrayVec<u8, HELD>, going: bool, bytes: &[u8]) -> bool
     ensures text { (before : Option (List ℕ)) (text : List ℕ) → IsWrittenOrHeld before
         (W.contents writer.old) going held.old.items text
@@ -68,7 +68,7 @@ fn put_first<W: Sink>(
     put(writer, held, going, b"\r\nContent-Length: ")
 }
 
-// Tells the lines behind a body's length, where the writer took all before them.
+// Tells the lines after a body's length, where the writer took all before them.
 fn put_last<W: Sink>(
     writer: &mut W,
     held: &mut ArrayVec<u8, HELD>,

@@ -36,7 +36,7 @@ pub const WHOLE_ANSWER: Limit = Limit {
     beside_others: 500,
 };
 
-/// What a client sends behind its last answer, until it ends its side.
+/// What a client sends after its last answer, until it ends its side.
 pub const CLOSING: Limit = Limit {
     alone: 500,
     beside_others: 50,

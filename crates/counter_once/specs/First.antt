@@ -30,7 +30,7 @@ pub record FirstEndsShort (r r' w w' : Option (List ℕ)) : Type 0 where
   pub ended : IsAtEnd r'
   pub written : Keeps w w'
 
--- 100 bytes are read, and a beginning of the reply is written
+-- 100 bytes are read, and a prefix of the reply is written
 pub record FirstIsCutOff (r r' w w' : Option (List ℕ)) : Type 0 where
   pub bytes : List ℕ
   pub whole : length bytes ≡ 100

@@ -32,7 +32,7 @@ fn two_branches(alloc: Global) -> Result<PlainBank, Fault>
 ///
 /// - [`OnceFault::Short`]: the input ended within the record, and nothing was written.
 /// - [`OnceFault::Read`]: a read failed, and nothing was written.
-/// - [`OnceFault::Write`]: a write or the flush failed, and a beginning of the reply may be written.
+/// - [`OnceFault::Write`]: a write or the flush failed, and a prefix of the reply may be written.
 /// - [`OnceFault::Bank`]: the bank was refused memory, and nothing was written.
 pub fn answer_first<R: Source, W: Sink>(
     alloc: Global,

@@ -1,4 +1,4 @@
-//! What no scenario shows of judging: the verdict at the last free ordinal and behind it, and the laws.
+//! What no scenario shows of judging: the verdict at the last free ordinal and after it, and the laws.
 use message_records::{Account, Branch, Cents, Number, Outcome, Request, Teller};
 use posting_core::{
     Found, Verdict, balances_stay_within, cases_are_as_stated, each_request_once,

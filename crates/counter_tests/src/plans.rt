@@ -11,7 +11,7 @@ fn rows_in<R: Read + Drop>(alloc: Global, mut source: R) -> Result<usize, PlanFa
     Ok(read_plan(alloc, &mut source)?.rows().len())
 }
 
-// Writes the source behind a byte order mark, if there is to be one, and with these line ends.
+// Writes the source after a byte order mark, if there is to be one, and with these line ends.
 pub fn write(
     text: &mut Vec<u8>,
     mark: bool,
@@ -33,7 +33,7 @@ pub fn write(
 
 pub const LINE_ENDS: [&[u8]; 3] = [b"\n", b"\r\n", b"\r"];
 
-// The source gives this with each line end, behind a byte order mark or with none.
+// The source gives this with each line end, after a byte order mark or with none.
 fn gives(
     rt: &(impl Abort + Alloc<A = Global>),
     mark: bool,
@@ -126,7 +126,7 @@ fn rows_in_their_order(rt: HostRuntime) {
     assert_eq!(rt; plan.rows(), rows.as_slice());
 }
 
-// Gives a part of its text at a time, and fails behind it.
+// Gives a part of its text at a time, and fails after it.
 #[derive(Drop)]
 struct Failing<'a> {
     text: &'a [u8],

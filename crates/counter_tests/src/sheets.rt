@@ -203,11 +203,11 @@ fn an_unread_sheet(rt: HostRuntime) {
             (ErrorKind::BrokenPipe, Err(SheetFault::Read), 0),
             (ErrorKind::Interrupted, Ok(2), 2),
         ] {
-            let (before, behind) = TWO_ROWS.split_at(i);
+            let (before, after) = TWO_ROWS.split_at(i);
             let mut source = CutReader {
                 before,
                 fault: Some(fault),
-                behind,
+                after,
             };
             let (end, records) = encoded(&rt, &mut source);
             assert_eq!(rt; end, want);
@@ -289,7 +289,7 @@ fn replies_cut_off(rt: HostRuntime) {
             let mut source = CutReader {
                 before: &replies[..i],
                 fault,
-                behind: b"",
+                after: b"",
             };
             let (end, sheet) = decoded(&rt, &mut source);
             assert_eq!(rt; end, want);

@@ -111,7 +111,7 @@ fn a_long_stream(rt: HostRuntime) {
     ends(&rt, &mut input.as_slice(), (Ok(130), (500, 0)), &replies);
 }
 
-// How a stream of two records and a part ends whose reader fails behind so many bytes, and how many records
+// How a stream of two records and a part ends whose reader fails after so many bytes, and how many records
 // are answered. A read that was interrupted is made again.
 fn ended_at(at: usize, fault: ErrorKind) -> (StreamFault, usize) {
     match fault {
@@ -120,8 +120,8 @@ fn ended_at(at: usize, fault: ErrorKind) -> (StreamFault, usize) {
     }
 }
 
-// The balances behind so many of the two records, and their replies.
-fn balances_behind(count: usize, replies: &[u8; 400]) -> ((i64, i64), &[u8]) {
+// The balances after so many of the two records, and their replies.
+fn balances_after(count: usize, replies: &[u8; 400]) -> ((i64, i64), &[u8]) {
     match count {
         0 => ((0, 0), b""),
         1 => ((500, 0), &replies[..200]),
@@ -133,17 +133,17 @@ fn balances_behind(count: usize, replies: &[u8; 400]) -> ((i64, i64), &[u8]) {
 fn read_in_two(
     rt: &(impl Abort + Alloc<A = Global>),
     before: &[u8],
-    behind: &[u8],
+    after: &[u8],
     fault: ErrorKind,
     replies: &[u8; 400],
 ) {
     let mut reader = CutReader {
         before,
         fault: Some(fault),
-        behind,
+        after,
     };
     let (result, count) = ended_at(before.len(), fault);
-    let (balances, answers) = balances_behind(count, replies);
+    let (balances, answers) = balances_after(count, replies);
     ends(rt, &mut reader, (Err(result), balances), answers);
 }
 
@@ -152,9 +152,9 @@ fn a_reader_that_fails_at_each_byte(rt: HostRuntime) {
     let input = truncated_input();
     let replies = two_replies();
     for at in 0..=input.len() {
-        let (before, behind) = input.split_at(at);
-        read_in_two(&rt, before, behind, ErrorKind::BrokenPipe, &replies);
-        read_in_two(&rt, before, behind, ErrorKind::Interrupted, &replies);
+        let (before, after) = input.split_at(at);
+        read_in_two(&rt, before, after, ErrorKind::BrokenPipe, &replies);
+        read_in_two(&rt, before, after, ErrorKind::Interrupted, &replies);
     }
 }
 
@@ -188,7 +188,7 @@ fn a_writer_that_fails_at_each_byte(rt: HostRuntime) {
         written_in_part(&rt, &input, part, None, StreamFault::Write);
         written_in_part(&rt, &input, part, fault, StreamFault::Write);
     }
-    // Behind the last byte only the flush can fail.
+    // After the last byte only the flush can fail.
     written_in_part(&rt, &input, &replies, None, StreamFault::Truncated(50));
     written_in_part(&rt, &input, &replies, fault, StreamFault::Write);
 }

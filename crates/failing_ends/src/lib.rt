@@ -9,7 +9,7 @@ use std::io::{ErrorKind, Read, Write};
 pub struct CutReader<'a> {
     pub before: &'a [u8],
     pub fault: Option<ErrorKind>,
-    pub behind: &'a [u8],
+    pub after: &'a [u8],
 }
 
 impl<'a> Read for CutReader<'a> {
@@ -19,7 +19,7 @@ impl<'a> Read for CutReader<'a> {
         }
         match self.fault.take() {
             Some(kind) => Err(io::Error::from(kind)),
-            None => self.behind.read(buf),
+            None => self.after.read(buf),
         }
     }
 }

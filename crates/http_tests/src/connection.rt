@@ -14,14 +14,14 @@ pub struct Connection<'a> {
     pub before: &'a [u8],
     pub read_fault: Option<ErrorKind>,
     /// What is read then.
-    pub behind: &'a [u8],
+    pub after: &'a [u8],
     /// The writer takes so many bytes, and then fails, or takes none.
     pub most: usize,
     pub write_fault: Option<ErrorKind>,
     /// The bank has memory for so many calls.
     pub calls: u64,
     pub ended: Result<Served, ServeFault>,
-    /// What is written: one answer behind another.
+    /// What is written: one answer after another.
     pub answers: [&'a [u8]; 2],
     /// Of account 1 and of account 100001.
     pub balances: (i64, i64),
@@ -38,7 +38,7 @@ impl<'a> Connection<'a> {
         Connection {
             before: input,
             read_fault: None,
-            behind: b"",
+            after: b"",
             most: 1000,
             write_fault: None,
             calls: u64::MAX,
@@ -72,7 +72,7 @@ fn serve<C: Counter>(rt: &(impl Abort + Alloc<A = Global>), connection: &Connect
     let mut reader = CutReader {
         before: connection.before,
         fault: connection.read_fault,
-        behind: connection.behind,
+        after: connection.after,
     };
     let mut writer = CutWriter {
         taken: Vec::new(rt.alloc()),

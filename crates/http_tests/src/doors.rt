@@ -38,7 +38,7 @@ impl<'a> Door for MemoryDoor<'a> {
         let reader = CutReader {
             before: client.sends,
             fault: client.read_fault,
-            behind: b"",
+            after: b"",
         };
         let writer = CutWriter {
             taken: Vec::new(self.alloc),
@@ -54,7 +54,7 @@ impl<'a> Door for MemoryDoor<'a> {
     }
 }
 
-fn given_up_behind<'a>(sends: &'a [u8]) -> Client<'a> {
+fn given_up_after<'a>(sends: &'a [u8]) -> Client<'a> {
     Client {
         sends,
         read_fault: Some(ErrorKind::TimedOut),
@@ -74,12 +74,12 @@ fn clients_that_keep_the_bank_waiting(rt: HostRuntime) {
         most: 0,
     };
     let clients = [
-        given_up_behind(b""),
-        given_up_behind(&FIRST_TWICE[..10]),
-        given_up_behind(&FIRST_TWICE[..100]),
+        given_up_after(b""),
+        given_up_after(&FIRST_TWICE[..10]),
+        given_up_after(&FIRST_TWICE[..100]),
         takes_none,
-        given_up_behind(&FIRST_TWICE[..144]),
-        given_up_behind(&FIRST_AND_REMOTE[144..]),
+        given_up_after(&FIRST_TWICE[..144]),
+        given_up_after(&FIRST_AND_REMOTE[144..]),
     ];
     let mut door = MemoryDoor {
         alloc: rt.alloc(),

@@ -12,7 +12,7 @@ use std::test::Fail;
 fn cut_between<'a>(
     before: &'a [u8],
     fault: ErrorKind,
-    behind: &'a [u8],
+    after: &'a [u8],
     answered: usize,
 ) -> Connection<'a> {
     let none: &[u8] = b"";
@@ -23,33 +23,30 @@ fn cut_between<'a>(
     };
     Connection {
         read_fault: Some(fault),
-        behind,
+        after,
         ..Connection::new(before, answered as u128, answers, balances)
     }
 }
 
 // The reader breaks between these bytes, or nothing comes in time. Where it was interrupted, the read is made
 // again.
-fn read_in_two<'a>(rt: &(impl Abort + Alloc<A = Global>), before: &'a [u8], behind: &'a [u8]) {
+fn read_in_two<'a>(rt: &(impl Abort + Alloc<A = Global>), before: &'a [u8], after: &'a [u8]) {
     for fault in [ErrorKind::BrokenPipe, ErrorKind::TimedOut] {
         let broken = Connection {
             ended: Err(ServeFault::Read),
-            ..cut_between(before, fault, behind, before.len() / 144)
+            ..cut_between(before, fault, after, before.len() / 144)
         };
         play(rt, &[broken]);
     }
-    play(
-        rt,
-        &[cut_between(before, ErrorKind::Interrupted, behind, 2)],
-    );
+    play(rt, &[cut_between(before, ErrorKind::Interrupted, after, 2)]);
 }
 
 #[test]
 fn a_reader_that_fails_at_each_byte(rt: HostRuntime) {
     assert_eq!(rt; FIRST_AND_REMOTE.len(), 288);
     for at in 0..=FIRST_AND_REMOTE.len() {
-        let (before, behind) = FIRST_AND_REMOTE.split_at(at);
-        read_in_two(&rt, before, behind);
+        let (before, after) = FIRST_AND_REMOTE.split_at(at);
+        read_in_two(&rt, before, after);
     }
 }
 
@@ -70,7 +67,7 @@ fn written_in_part(
     play(rt, &[connection]);
 }
 
-// What was not answered wholly is submitted, and what is behind it isn't.
+// What was not answered wholly is submitted, and what is after it isn't.
 #[test]
 fn a_writer_that_fails_at_each_byte(rt: HostRuntime) {
     let broken = Some(ErrorKind::BrokenPipe);
@@ -83,7 +80,7 @@ fn a_writer_that_fails_at_each_byte(rt: HostRuntime) {
         let most = FIRST_ANSWER.len() + more;
         let answers = [FIRST_ANSWER, &REMOTE_ANSWER[..more]];
         written_in_part(&rt, most, None, answers, -700);
-        // Where the flush behind the first answer fails, it isn't answered wholly.
+        // Where the flush after the first answer fails, it isn't answered wholly.
         written_in_part(&rt, most, broken, answers, if more == 0 { 0 } else { -700 });
     }
 }

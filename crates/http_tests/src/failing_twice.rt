@@ -18,17 +18,17 @@ fn answered<'a>(input: &'a [u8], count: usize) -> Connection<'a> {
 }
 
 // The reader breaks between these bytes. Where it was interrupted, the read is made again.
-fn read_in_two<'a>(rt: &(impl Abort + Alloc<A = Global>), before: &'a [u8], behind: &'a [u8]) {
+fn read_in_two<'a>(rt: &(impl Abort + Alloc<A = Global>), before: &'a [u8], after: &'a [u8]) {
     let broken = Connection {
         read_fault: Some(ErrorKind::BrokenPipe),
-        behind,
+        after,
         ended: Err(ServeFault::Read),
         ..answered(before, before.len() / 144)
     };
     play(rt, &[broken]);
     let interrupted = Connection {
         read_fault: Some(ErrorKind::Interrupted),
-        behind,
+        after,
         ..answered(before, 2)
     };
     play(rt, &[interrupted]);
@@ -38,8 +38,8 @@ fn read_in_two<'a>(rt: &(impl Abort + Alloc<A = Global>), before: &'a [u8], behi
 fn a_reader_that_fails_at_each_byte(rt: HostRuntime) {
     assert_eq!(rt; FIRST_TWICE.len(), 288);
     for at in 0..=FIRST_TWICE.len() {
-        let (before, behind) = FIRST_TWICE.split_at(at);
-        read_in_two(&rt, before, behind);
+        let (before, after) = FIRST_TWICE.split_at(at);
+        read_in_two(&rt, before, after);
     }
 }
 

@@ -53,7 +53,7 @@ const FIELDS: &[&[u8]] = &[
 const RECORD: &[u8; REQUEST_BYTES] =
     b"DC01000000000001000000010000010000000001+0000000500                                                 ";
 
-// A whole record is behind each of these heads. It isn't posted.
+// A whole record is after each of these heads. It isn't posted.
 #[test]
 fn fields_that_are_refused(rt: HostRuntime) -> Result<(), Fail> {
     for fields in FIELDS {

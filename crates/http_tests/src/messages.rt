@@ -26,16 +26,16 @@ fn a_record_in_a_message(rt: HostRuntime) {
 fn two_messages_in_a_row(rt: HostRuntime) {
     let answers = [FIRST_ANSWER, FIRST_ANSWER];
     for at in 0..=FIRST_TWICE.len() {
-        let (before, behind) = FIRST_TWICE.split_at(at);
+        let (before, after) = FIRST_TWICE.split_at(at);
         let connection = Connection {
-            behind,
+            after,
             ..Connection::new(before, 2, answers, (500, 0))
         };
         play(&rt, &[connection]);
     }
 }
 
-// The input ends behind one whole message, or behind none, and within the next.
+// The input ends after one whole message, or after none, and within the next.
 fn ends_at(rt: &(impl Abort + Alloc<A = Global>), input: &[u8]) {
     let (first, count, balance): (&[u8], _, _) = match input.len() / 144 {
         0 => (b"", 0, 0),
@@ -57,7 +57,7 @@ fn an_input_that_ends_at_each_byte(rt: HostRuntime) {
     }
 }
 
-// What a bank answers to an input behind the first postings.
+// What a bank answers to an input after the first postings.
 fn expect<'a>(
     rt: &(impl Abort + Alloc<A = Global>),
     input: &'a [u8],

@@ -4,7 +4,7 @@ use crate::texts::{BAD, BAD_HEAD};
 use std::alloc::{Alloc, AllocError, Global};
 use std::process::Abort;
 
-// The input has one answer, and behind it the connection ends.
+// The input has one answer, and after it the connection ends.
 fn refused<'a>(rt: &(impl Abort + Alloc<A = Global>), input: &'a [u8], answer: &'a [u8]) {
     play(rt, &[Connection::new(input, 1, [answer, b""], (0, 0))]);
 }

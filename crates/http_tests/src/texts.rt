@@ -36,7 +36,7 @@ pub const BAD_HEAD: &[u8] =
     b"HTTP/1.1 400 Bad Request\r\nContent-Type: text/plain\r\nContent-Length: 16\r\n\
     Connection: close\r\n\r\n";
 
-/// The texts, one behind another.
+/// The texts, one after another.
 pub fn joined(rt: &impl Alloc<A = Global>, texts: &[&[u8]]) -> Result<Vec<u8>, Fail> {
     let mut all = Vec::new(rt.alloc());
     for text in texts {

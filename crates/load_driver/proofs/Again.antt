@@ -2,8 +2,8 @@
 use Rattle.std.proofs.Common.{◌≡◌, ◌+◌, ℕ, cond, List, [], ◌∷◌, ◌++◌, refl, sym, ap, ◌∙◌, append_assoc, inl}
 use Rattle.message_records.specs.{Outcomes.has_balance, Records.ReplyFields}
 use Rattle.posting_rules.specs.Commands.{Command, Open, Post}
-use Rattle.posting_rules.specs.{Entries.reply, Resends.Place, Resends.Skips, Runs.behind, Runs.ArePosts}
-use Rattle.posting_rules.proofs.{Resends.adds_nothing, Resends.posts_both, Sequence.behind-append}
+use Rattle.posting_rules.specs.{Entries.reply, Resends.Place, Resends.Skips, Runs.followed_by, Runs.ArePosts}
+use Rattle.posting_rules.proofs.{Resends.adds_nothing, Resends.posts_both, Sequence.after-append}
 use Rattle.posting_core.specs.Stream.{posted_records}
 use Rattle.load_driver.specs.Records.{posted_among}
 
@@ -35,11 +35,11 @@ module _ (log p : List Command) (posts : ArePosts p) where
         skips_again (before ++ Post m one ∷ []) rest r (next before rest (Post m one) is) hrest hr cc,
       )
 
-  -- behind p and the posts q they get the replies that the rest got
+  -- after p and the posts q they get the replies that the rest got
   pub posted_again : (before rest q r : List Command) → p ≡ before ++ rest → ArePosts rest → ArePosts q
       → ArePosts r
       → posted_records rest ≡ posted_records r
-      → posted_among (behind (behind log p) q) r ≡ posted_among (behind log before) rest
+      → posted_among (followed_by (followed_by log p) q) r ≡ posted_among (followed_by log before) rest
   unfolding posted_among place
   posted_again before [] q [] is hrest hq hr same = refl
   posted_again before (Open b n ∷ rest) q r is hrest hq hr same = absurd hrest
@@ -49,14 +49,14 @@ module _ (log p : List Command) (posts : ArePosts p) where
   posted_again before (Post m one ∷ rest) q (Post k two ∷ r) is hrest hq hr same =
       let equal : one ≡ two = cc in
       let count : ReplyFields → ℕ = λ f. cond (has_balance f.outcome) 1 0 in
-      let now = behind (behind log p) q in
+      let now = followed_by (followed_by log p) q in
       let later = posted_among (Post k two ∷ now) r in
-      let given : reply now two ≡ reply (behind log before) two =
+      let given : reply now two ≡ reply (followed_by log before) two =
       (adds_nothing log p q k two (place before rest m one two is equal) posts hq).0 in
       let more = posted_again (before ++ Post m one ∷ []) rest (q ++ Post k two ∷ []) r
       (next before rest (Post m one) is)
       hrest (posts_both q (Post k two ∷ []) hq tt) hr cc in
-      ap (λ (f : ReplyFields). count f + later) (given ∙ ap (reply (behind log before)) (sym equal))
-      ∙ ap (λ (n : ℕ). count (reply (behind log before) one) + n)
-      (ap (λ (l : List Command). posted_among l r) (sym (behind-append (behind log p) q (Post k two ∷ [])))
-      ∙ more ∙ ap (λ (l : List Command). posted_among l rest) (behind-append log before (Post m one ∷ [])))
+      ap (λ (f : ReplyFields). count f + later) (given ∙ ap (reply (followed_by log before)) (sym equal))
+      ∙ ap (λ (n : ℕ). count (reply (followed_by log before) one) + n)
+      (ap (λ (l : List Command). posted_among l r) (sym (after-append (followed_by log p) q (Post k two ∷ [])))
+      ∙ more ∙ ap (λ (l : List Command). posted_among l rest) (after-append log before (Post m one ∷ [])))

@@ -9,7 +9,7 @@ use Rattle.message_records.specs.declared.records.Outcome.TheVariants.{Posted, N
 use Rattle.message_records.specs.declared.records.Outcome.TheVariants.{BelowFloor, OverLimit, ReusedNumber, Full}
 use Rattle.message_records.specs.declared.records.Outcome.TheVariants.{Malformed}
 use Rattle.posting_rules.specs.Commands.{Command, Open, Post}
-use Rattle.posting_rules.specs.{Entries.reply, Runs.behind, Runs.replies_to}
+use Rattle.posting_rules.specs.{Entries.reply, Runs.followed_by, Runs.replies_to}
 use Rattle.load_driver.specs.{Counted.is_posted, Records.posted_among}
 
 by_outcome : (outcome : Outcome) (rest : List ℕ)
@@ -44,7 +44,7 @@ counted log (Post moment bytes ∷ commands) =
 
 -- the posts among commands, and then among others
 pub posted_among-append : (log cs ds : List Command)
-    → posted_among log (cs ++ ds) ≡ posted_among log cs + posted_among (behind log cs) ds
+    → posted_among log (cs ++ ds) ≡ posted_among log cs + posted_among (followed_by log cs) ds
 unfolding posted_among
 posted_among-append log [] ds = sym (zero-add (posted_among log ds))
 posted_among-append log (Open branch count ∷ cs) ds = posted_among-append (Open branch count ∷ log) cs ds
@@ -52,4 +52,4 @@ posted_among-append log (Post moment bytes ∷ cs) ds =
     let one = cond (has_balance (reply log bytes).outcome) 1 0 in
     ap (λ (n : ℕ). one + n) (posted_among-append (Post moment bytes ∷ log) cs ds)
     ∙ sym (add_assoc one (posted_among (Post moment bytes ∷ log) cs)
-    (posted_among (behind (Post moment bytes ∷ log) cs) ds))
+    (posted_among (followed_by (Post moment bytes ∷ log) cs) ds))

@@ -7,9 +7,9 @@ use Rattle.posting_rules.specs.{declared.fault.Fault.Fault, declared.limits.TheC
 use Rattle.posting_rules.specs.declared.fault.Fault.TheVariants.{Memory, Store, Down, Damaged}
 use Rattle.posting_rules.specs.Commands.{Command, Open, IsCommand, AreCommands, opened, Terms}
 use Rattle.posting_rules.specs.Counter.{Seen, ShowsLog, Takes, Refuses}
-use Rattle.posting_rules.specs.Runs.{behind, ArePosts}
+use Rattle.posting_rules.specs.Runs.{followed_by, ArePosts}
 use Rattle.posting_rules.proofs.{Resends.shows_log_left_out, SoundEntries.open_within}
-use Rattle.posting_rules.proofs.CounterCalls.{Takes-append, refused_behind}
+use Rattle.posting_rules.proofs.CounterCalls.{Takes-append, refused_after}
 use Rattle.posting_core.specs.{Batches.Batch, Batches.posts_of, Batches.records_of, Stream.IfUp, Stream.IsOfCall}
 use Rattle.posting_core.proofs.{Batched.all_posts, Batched.posted_is, Stops.refused_stop, Stops.stop_all}
 use Rattle.branch_loader.specs.Plans.{Row, Rows}
@@ -132,7 +132,7 @@ module _ {C : Type 0} (seen : C → Seen) (old new : C) (k : Option (List ℕ)) 
         idle = idle;
       })
 
--- ---- what was submitted behind the listing
+-- ---- what was submitted after the listing
 
 if_listed : (result : Result Driven DriveFault) (bs : List Batch) (P : Type 0) → P → IfListed result bs P
 if_listed (Ok driven) bs P p = p
@@ -148,23 +148,23 @@ module _ {C : Type 0} (seen : C → Seen) (old mid new : C) (k k' : Option (List
     (seed count : ℕ)
     (listing : Takes (seen old) (seen mid) []) (honest_first : (seen mid).honest → (seen old).honest)
     (honest : (seen new).honest → (seen mid).honest) where
-  ends_behind : (stood : C) (taken refused : List Batch) (result : Result Driven DriveFault)
+  ends_after : (stood : C) (taken refused : List Batch) (result : Result Driven DriveFault)
       → EndsDrive seen mid stood new rows count taken refused result
       → EndsDrive seen old stood new rows count taken refused result
-  ends_behind stood taken refused (Ok driven) e = record {
+  ends_after stood taken refused (Ok driven) e = record {
     none_refused = e.none_refused;
     stays = e.stays;
     whole = e.whole;
     total = e.total;
     posted = λ h log s. e.posted h log (listing.shows (honest h) log s);
   }
-  ends_behind stood taken refused (Err NoBranches) e = e
-  ends_behind stood taken refused (Err (Bank fault)) e = e
+  ends_after stood taken refused (Err NoBranches) e = e
+  ends_after stood taken refused (Err (Bank fault)) e = e
 
   -- the listing changed nothing
-  behind_listing : (result : Result Driven DriveFault) → Submits seen mid new k k' rows seed count result
+  after_listing : (result : Result Driven DriveFault) → Submits seen mid new k k' rows seed count result
       → Submits seen old new k k' rows seed count result
-  behind_listing result s = record {
+  after_listing result s = record {
     taken = s.taken;
     refused = s.refused;
     records = s.records;
@@ -176,7 +176,7 @@ module _ {C : Type 0} (seen : C → Seen) (old mid new : C) (k k' : Option (List
     honest = s.honest;
     takes = Takes-append (seen old) (seen mid) (seen s.stood) [] (posts_of s.taken) listing s.takes
         s.honest_first;
-    ends = ends_behind s.stood s.taken s.refused result s.ends;
+    ends = ends_after s.stood s.taken s.refused result s.ends;
     survives = λ h log stood. s.survives h log (listing.stands (honest h) log stood);
   }
 
@@ -184,10 +184,10 @@ module _ {C : Type 0} (seen : C → Seen) (old mid new : C) (k k' : Option (List
       → Submits seen mid new k k' rows seed count result
       → ((seen mid).honest → (log : List Command) → ShowsLog (seen old) log → plan ≡ open_branches log)
       → IsAscending plan rows → ((seen old).is_down → new ≡ old) → Drives seen old new k k' seed count result
-  unfolding behind_listing
+  unfolding after_listing
   drives plan result s listed ascending idle = record {
     rows = rows;
-    submits = behind_listing result s;
+    submits = after_listing result s;
     listed = λ h log shows. if_listed result (s.taken ++ s.refused) (IsAscending (open_branches log) rows)
         (subst (λ (p : Rows). IsAscending p rows) (listed (honest h) log shows) ascending);
     idle = idle;
@@ -221,22 +221,22 @@ up_after Store D E up = tt
 up_after Down D E up = tt
 up_after (Damaged rule) D E up = tt
 
-pub up_behind : (result : Result Driven DriveFault) (D E : Type 0) → UnlessDown result (D → ⊥)
+pub up_of_drive : (result : Result Driven DriveFault) (D E : Type 0) → UnlessDown result (D → ⊥)
     → UnlessDown result (D → E)
-up_behind (Ok driven) D E up = λ down. absurd (up down)
-up_behind (Err NoBranches) D E up = λ down. absurd (up down)
-up_behind (Err (Bank fault)) D E up = up_after fault D E up
+up_of_drive (Ok driven) D E up = λ down. absurd (up down)
+up_of_drive (Err NoBranches) D E up = λ down. absurd (up down)
+up_of_drive (Err (Bank fault)) D E up = up_after fault D E up
 
-pub why_behind : {C : Type 0} (seen : C → Seen) (reason : Fault → C → C → Type 0) (old mid new : C)
+pub why_after : {C : Type 0} (seen : C → Seen) (reason : Fault → C → C → Type 0) (old mid new : C)
     → Takes (seen old) (seen mid) [] → ((seen mid).honest → (seen old).honest)
     → ((seen old).is_down → mid ≡ old) → (result : Result Driven DriveFault)
     → IfErr result (λ fault. IfRefused fault (IsOfCall seen reason mid new))
     → IfErr result (λ fault. IfRefused fault (IsOfCall seen reason old new))
-why_behind seen reason old mid new takes honest idle (Ok driven) why = tt
-why_behind seen reason old mid new takes honest idle (Err NoBranches) why = tt
-why_behind seen reason old mid new takes honest idle (Err (Bank fault)) (inl call) =
-    inl (refused_behind seen reason old mid new [] takes honest idle fault call)
-why_behind seen reason old mid new takes honest idle (Err (Bank fault)) (inr own) = inr own
+why_after seen reason old mid new takes honest idle (Ok driven) why = tt
+why_after seen reason old mid new takes honest idle (Err NoBranches) why = tt
+why_after seen reason old mid new takes honest idle (Err (Bank fault)) (inl call) =
+    inl (refused_after seen reason old mid new [] takes honest idle fault call)
+why_after seen reason old mid new takes honest idle (Err (Bank fault)) (inr own) = inr own
 
 -- ---- records that come again
 
@@ -253,11 +253,11 @@ resends {C} seen old new k k' seed count (Ok driven) d =
     ap (λ (bs : List Batch). length (records_of bs)) all ∙ e.whole in
     let left : (seen new).honest → (log p added : List Command) → ArePosts p
     → Skips p (posts_of s.taken) added
-    → ShowsLog (seen old) (behind log p) → ShowsLog (seen new) (behind (behind log p) added) =
+    → ShowsLog (seen old) (followed_by log p) → ShowsLog (seen new) (followed_by (followed_by log p) added) =
     λ h log p added posts skips shows.
     shows_log_left_out (seen new) log p (posts_of s.taken) added posts (all_posts s.taken) skips
-    (subst (λ (c : C). ShowsLog (seen c) (behind (behind log p) (posts_of s.taken))) (sym e.stays)
-    (s.takes.shows (s.honest h) (behind log p) shows)) in
+    (subst (λ (c : C). ShowsLog (seen c) (followed_by (followed_by log p) (posts_of s.taken))) (sym e.stays)
+    (s.takes.shows (s.honest h) (followed_by log p) shows)) in
     record {
       rows = d.rows;
       commands = posts_of s.taken;
@@ -268,7 +268,7 @@ resends {C} seen old new k k' seed count (Ok driven) d =
       again = λ h log p posts same shows. (
         left h log p [] posts
             (skips_again log p posts [] p (posts_of s.taken) refl posts (all_posts s.taken) same) shows,
-        e.posted h (behind log p) shows
+        e.posted h (followed_by log p) shows
             ∙ posted_again log p posts [] p [] (posts_of s.taken) refl posts tt (all_posts s.taken) same,
       );
     }

@@ -3,7 +3,7 @@ use Rattle.std.proofs.Common.{◌≡◌, ◌≤◌, ◌<◌, ◌+◌, ◌-◌, �
 use Rattle.std.proofs.Common.{sym, ap, subst, ◌∙◌, arith, append-nil}
 use Rattle.std.specs.{Prelude.min, List.AllByRecursion}
 use Rattle.std.proofs.lemmas.List.{length-append, length-take-le}
-use Rattle.posting_rules.specs.{declared.fault.Fault.Fault, Commands.Command, Runs.behind, Runs.posts}
+use Rattle.posting_rules.specs.{declared.fault.Fault.Fault, Commands.Command, Runs.followed_by, Runs.posts}
 use Rattle.posting_rules.specs.declared.fault.Fault.TheVariants.{Memory, Store, Down, Damaged}
 use Rattle.posting_rules.specs.Counter.{Seen, ShowsLog, Takes, Refuses}
 use Rattle.posting_core.specs.Batches.{Batch, moments_of, posts_of, records_of}
@@ -127,7 +127,7 @@ module _ {C : Type 0} (seen : C → Seen) (old now new : C) (k k' k'' : Option (
         total = omega (arith, more, rest, given, g.total, most);
         posted = λ h log s.
             let before = g.posted (honest h) log s in
-            let one = counted.posted_is h (behind log (posts_of g.batches)) (g.takes.shows (honest h) log s)
+            let one = counted.posted_is h (followed_by log (posts_of g.batches)) (g.takes.shows (honest h) log s)
             in
             more ∙ ap (λ (n : ℕ). n + posted) before
             ∙ ap (λ (n : ℕ). posted_among log (posts_of g.batches) + n) one
@@ -158,7 +158,7 @@ module _ {C : Type 0} (seen : C → Seen) (old now new : C) (k k' k'' : Option (
         survives = λ h log s.
             stop_part (seen new) log (posts_of g.batches) (posts moment records) (posts_of all)
             (posts_of_one_more g.batches batch)
-            (refused_stop fault (seen now) (seen new) (behind log (posts_of g.batches))
+            (refused_stop fault (seen now) (seen new) (followed_by log (posts_of g.batches))
             (posts moment records) refuses h
             (g.takes.stands (honest h) log s));
       }

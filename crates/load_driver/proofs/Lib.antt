@@ -1,6 +1,6 @@
 pub mod Remote
 pub mod Totals
-pub mod Steps
+pub mod DrivenRecords
 pub mod Again
 pub mod Counted
 pub mod Drawn

@@ -31,7 +31,7 @@ row_is : (before : Rows) (p : Row) → IsRow p → names p.0 before ≡ false �
 row_is before p row new =
     rw (within LAST_BRANCH p.0 row.0 row.1, within MAX_ACCOUNTS p.1 row.2 row.3, lies p.2 row.4, new) refl
 
--- rows behind those that were read
+-- rows after those that were read
 rows_by-append : (before list after rows : Rows) → rows_by row_of_listed before list ≡ Ok rows
     → rows_by row_of_listed before (list ++ after) ≡ rows_by row_of_listed rows after
 unfolding rows_by
@@ -155,7 +155,7 @@ listing_more seen old now new rows after line l in_range takes next up_now is_up
       idle = λ d. absurd (was_up seen old now l.idle up_now d);
     }
 
--- no branch stands behind the last one
+-- no branch stands after the last one
 pub listing_all : {C : Type 0} (seen : C → Seen) (old now : C) (rows : Rows) (after : ℕ) (log : List Command)
     → Listing seen old now rows after → IsNextBranch log after None → (seen now).honest
     → ShowsLog (seen old) log

@@ -24,10 +24,10 @@ at-other branch p rest left e here =
     rw t (get_or_append_left (accounts_of p) (remote_accounts branch rest) 0 left (omega arith)
     ∙ get_or-range_with_len (first_account p.0) p.1 left 0 here)
 
--- an account behind another row
-pub at-behind : (branch : ℕ) (p : Row) (rest : Rows) (left : ℕ) → ¬ (p.0 ≡ branch) → p.1 ≤ left
+-- an account after another row
+pub at-after : (branch : ℕ) (p : Row) (rest : Rows) (left : ℕ) → ¬ (p.0 ≡ branch) → p.1 ≤ left
     → get_or (remote_accounts branch (p ∷ rest)) left 0 ≡ get_or (remote_accounts branch rest) (left - p.1) 0
-at-behind branch p rest left e past =
+at-after branch p rest left e past =
     let t : nat_eq p.0 branch ≡ false = grind (arith, nat_tests, e) in
     rw t (get_or-append_right (accounts_of p) (remote_accounts branch rest) p.1 left 0
     (length-range_with_len (first_account p.0) p.1) past)
@@ -63,13 +63,13 @@ go-home rows i x branch place left within read e states =
     (ap (λ (l : List ℕ). get_or l left 0) (at-home branch x (drop (i + 1) rows) e))
 
 -- it passes over a row whose accounts are all before the place
-pub go-behind : (rows : Rows) (i : ℕ) (x : Row) (branch place left : ℕ) → i < length rows
+pub go-after : (rows : Rows) (i : ℕ) (x : Row) (branch place left : ℕ) → i < length rows
     → x ≡ get_or rows i x → ¬ (x.0 ≡ branch)
     → x.1 ≤ left
     → remote branch rows place ≡ remote branch (drop i rows) left
     → remote branch rows place ≡ remote branch (drop (i + 1) rows) (left - x.1)
-go-behind rows i x branch place left within read e past states =
-    states ∙ rw (here rows i x within read) (at-behind branch x (drop (i + 1) rows) left e past)
+go-after rows i x branch place left within read e past states =
+    states ∙ rw (here rows i x within read) (at-after branch x (drop (i + 1) rows) left e past)
 
 -- it ends at the row that has the place
 pub go-other : (rows : Rows) (i : ℕ) (x : Row) (branch place left : ℕ) → i < length rows → x ≡ get_or rows i x

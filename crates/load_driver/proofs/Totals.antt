@@ -11,7 +11,7 @@ use Rattle.branch_loader.specs.Plans.{IsPlan, IsRow, Rows, Row}
 use Rattle.load_driver.specs.OfPlan.{IsAccountFor, IsAccountOf}
 use Rattle.load_driver.specs.Requests.{CountsOthers, accounts_of, count_of, home_of, others, remote_accounts}
 use Rattle.load_driver.specs.Requests.{teller_of}
-use Rattle.load_driver.proofs.Remote.{at-behind, at-home, at-other}
+use Rattle.load_driver.proofs.Remote.{at-after, at-home, at-other}
 
 -- an element is the first, or one of the rest
 first_or_rest : (p : Row) (rows : Rows) (q : Row) → Contains (p ∷ rows) q → (p ≡ q) ⊎ Contains rows q
@@ -75,7 +75,7 @@ count-others (p ∷ rows) home distinct there = by (first_or_rest p rows home th
         subst (λ (h : Row). count_of (p ∷ rows) ≡ h.1 + count_of (others h.0 (p ∷ rows))) e same
     by (inr rest) more =
         let t : nat_eq p.0 home.0 ≡ false = not-named p.0 rows home distinct.0 rest in
-        let behind = more rest in
+        let after = more rest in
         rw t (omega (arith, count-cons p rows, count-cons p (others home.0 rows)))
 
 -- the others' accounts are all but the branch's own
@@ -153,13 +153,13 @@ elsewhere branch (p ∷ rows) place all within =
           other = other;
           within = within-row p place (all 0 p (omega arith)) small;
         })
-    by (inr apart) (inr behind) more =
+    by (inr apart) (inr after) more =
         let other : p.0 ≢ branch = grind (arith, nat_tests, apart) in
-        let large : p.1 ≤ place = grind (arith, nat_tests, behind) in
+        let large : p.1 ≤ place = grind (arith, nat_tests, after) in
         let rest : place < count_of (p ∷ others branch rows) = rw apart at within in
         let left : place - p.1 < count_of (others branch rows) = omega
         (arith, count-cons p (others branch rows)) in
-        rw (at-behind branch p rows place other large)
+        rw (at-after branch p rows place other large)
         (elsewhere-more p rows branch _ (more (place - p.1) left))
 
 -- an account of another branch

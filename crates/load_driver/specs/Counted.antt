@@ -4,7 +4,7 @@ use Rattle.posting_rules.specs.Commands.{Command}
 use Rattle.posting_rules.specs.Counter.{Seen, ShowsLog, Takes}
 use Rattle.load_driver.specs.Records.{posted_among}
 
--- the outcome behind the tag of a reply is that of a posting
+-- the outcome after the tag of a reply is that of a posting
 abbrev pub is_posted : List ℕ → Bool
 is_posted reply = bytes_eq (slice_range reply 4 6) (codes "00")
 

@@ -1,12 +1,12 @@
--- What a drive does to a counter, and what a stop may leave of it.
+-- What a drive does to a counter, and what a crash may leave of it.
 -- The clock's known readings before and after are k and k', and seen gives what is seen of a counter.
 use Rattle.std.specs.Prelude.{◌≡◌, ◌≤◌, ◌+◌, ⊤, ℕ, List, [], ◌++◌, length, Option, Result, Ok, Err}
 use Rattle.posting_rules.specs.declared.fault.Fault.{Fault}
 use Rattle.posting_rules.specs.declared.fault.Fault.TheVariants.{Memory}
 use Rattle.posting_rules.specs.Commands.{Command}
-use Rattle.posting_rules.specs.Counter.{Seen, ShowsLog, StandsAt, LeavesOnly, ShowsBeginning, Takes, Refuses}
+use Rattle.posting_rules.specs.Counter.{Seen, ShowsLog, StandsAt, LeavesOnly, ShowsPrefix, Takes, Refuses}
 use Rattle.posting_rules.specs.Resends.{Skips}
-use Rattle.posting_rules.specs.Runs.{behind, ArePosts}
+use Rattle.posting_rules.specs.Runs.{followed_by, ArePosts}
 use Rattle.posting_core.specs.Batches.{Batch, moments_of, posts_of, records_of}
 use Rattle.posting_core.specs.Clock.{AreReadings}
 use Rattle.posting_core.specs.Stream.{IfUp, posted_records}
@@ -93,9 +93,9 @@ pub record Submits {C : Type 0} (seen : C
   pub honest : (seen new).honest → (seen stood).honest
   pub takes : Takes (seen old) (seen stood) (posts_of taken)
   pub ends : EndsDrive seen old stood new rows count taken refused result
-  -- a stop leaves all that it took
+  -- a crash leaves all that it took
   pub survives : (seen new).honest → (log : List Command) → StandsAt (seen old) log
-      → LeavesOnly (seen new) (ShowsBeginning log (posts_of (taken ++ refused)) (length (posts_of taken)))
+      → LeavesOnly (seen new) (ShowsPrefix log (posts_of (taken ++ refused)) (length (posts_of taken)))
 
 -- wherever the branches were listed: not where the bank refused a call before the first batch
 abbrev pub IfListed : Result Driven DriveFault → List Batch → Type 0 → Type 0
@@ -109,7 +109,7 @@ pub record Drives {C : Type 0} (seen : C → Seen) (old new : C) (k k' : Option 
   pub submits : Submits seen old new k k' rows seed count result
   pub listed : (seen new).honest → (log : List Command) → ShowsLog (seen old) log
       → IfListed result (submits.taken ++ submits.refused) (IsAscending (open_branches log) rows)
-  -- a counter that was down is the one that it was, and so is what a stop may leave of it
+  -- a counter that was down is the one that it was, and so is what a crash may leave of it
   pub idle : (seen old).is_down → new ≡ old
 
 -- ---- the fault that ended it
@@ -126,7 +126,7 @@ IfRefused (Bank fault) P = P fault
 
 -- ---- records that come again
 
--- where a counter showed posts p behind a log, it shows p and then those of the records that p hasn't
+-- where a counter showed posts p after a log, it shows p and then those of the records that p hasn't
 pub record DrivesAgain (c c' : Seen) (seed count : ℕ) (driven : Driven) : Type 0 where
   pub rows : Rows
   pub commands : List Command
@@ -134,8 +134,8 @@ pub record DrivesAgain (c c' : Seen) (seed count : ℕ) (driven : Driven) : Type
   pub records : posted_records commands ≡ first_drawn rows seed count
   pub listed : c'.honest → (log : List Command) → ShowsLog c log → IsAscending (open_branches log) rows
   pub tables : c'.honest → (log p added : List Command) → ArePosts p → Skips p commands added
-      → ShowsLog c (behind log p) → ShowsLog c' (behind (behind log p) added)
+      → ShowsLog c (followed_by log p) → ShowsLog c' (followed_by (followed_by log p) added)
   -- where p are posts of these very records, such as a drive made before, none is added, and p's replies are
   -- counted
   pub again : c'.honest → (log p : List Command) → ArePosts p → posted_records p ≡ posted_records commands
-      → ShowsLog c (behind log p) → ShowsLog c' (behind log p) × (driven.posted ≡ posted_among log p)
+      → ShowsLog c (followed_by log p) → ShowsLog c' (followed_by log p) × (driven.posted ≡ posted_among log p)

@@ -42,7 +42,7 @@ drawn rows seed from (suc n) =
 abbrev pub first_drawn : Rows → ℕ → ℕ → List (List ℕ)
 first_drawn rows seed n = drawn rows seed 0 n
 
--- a batch has 64 records, and fewer where none comes behind it
+-- a batch has 64 records, and fewer where none comes after it
 abbrev pub IsFull : Batch → List Batch → Type 0
 IsFull batch [] = (1 ≤ length batch.records) × (length batch.records ≤ RECORDS_PER_BATCH)
 IsFull batch (next ∷ batches) = length batch.records ≡ RECORDS_PER_BATCH
@@ -54,7 +54,7 @@ AreFull (batch ∷ batches) = IsFull batch batches × AreFull batches
 
 -- ---- the replies
 
--- how many of the posts, each behind those before it, are replied to with POSTED
+-- how many of the posts, each after those before it, are replied to with POSTED
 unfoldable pub posted_among : List Command → List Command → ℕ
 posted_among log [] = 0
 posted_among log (Open branch count ∷ commands) = posted_among (Open branch count ∷ log) commands

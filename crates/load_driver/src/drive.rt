@@ -14,7 +14,7 @@
 //! ```
 //!
 //! Read next: [`drive_records`], with its errors; [`Driver`](crate::Driver), which draws the records;
-//! `specs/Drives`, what a drive does, and what a stop in it leaves.
+//! `specs/Drives`, what a drive does, and what a crash in it leaves.
 ghost use Rattle.std.specs.Prelude.{◌≡◌, ◌≤◌, ◌↔◌, [], List, IfOk, IfErr, OnOk, Err};
 ghost use Rattle.std.specs.Result.{IsErrOf};
 ghost use Rattle.posting_rules.specs.Commands.{Command};
@@ -107,7 +107,7 @@ fn drive<C: Counter, K: Clock>(
 ///
 /// # Errors
 ///
-/// The batches that were answered before a fault are kept, and a stop leaves all of them.
+/// The batches that were answered before a fault are kept, and a crash leaves all of them.
 ///
 /// - [`DriveFault::NoBranches`]: no branch is open, and nothing was submitted.
 /// - [`DriveFault::Bank`]: the counter refused to list its branches or to take a batch, and what holds of it

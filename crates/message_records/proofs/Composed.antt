@@ -1,4 +1,4 @@
--- The fields that are put one behind another are the record.
+-- The fields that are put one after another are the record.
 use Rattle.std.proofs.Common.{◌≡◌, ℕ, zero, suc, ◌+◌, ◌-◌, ◌≤◌, List, [], ◌∷◌, ◌++◌, length, replicate, refl, sym, ap}
 use Rattle.std.proofs.Common.{◌∙◌, append_assoc, zero-add, lit≤, arith}
 use Rattle.std.specs.Prelude.{ℤ, pos, codes, unwrap_or}
@@ -14,7 +14,7 @@ use Rattle.message_records.specs.Spelling.{request_spelling, reply_spelling}
 
 -- ---- the five fields
 
--- five fields, each put behind the one before, are the fields of the request
+-- five fields, each put after the one before, are the fields of the request
 pub fields_put : (r : RequestFields) (a t b n : ℕ) (z : ℤ) (d0 d1 d2 d3 d4 d5 : List ℕ)
     → a ≡ r.account → t ≡ r.teller → b ≡ r.branch → n ≡ r.number → z ≡ r.delta
     → d1 ≡ d0 ++ digits 12 a → d2 ≡ d1 ++ digits 8 t → d3 ≡ d2 ++ digits 6 b → d4 ≡ d3 ++ digits 10 n
@@ -69,7 +69,7 @@ name_short ReusedNumber = lit≤ tt
 name_short Full = lit≤ tt
 name_short Malformed = lit≤ tt
 
--- the spaces behind a name are those that fill it and those that fill the record
+-- the spaces after a name are those that fill it and those that fill the record
 name_filled : (name : List ℕ) (n : ℕ) → n ≡ 66 + length name → length name ≤ 16
     → name ++ spaces (REPLY_BYTES - n) ≡ filled 16 name ++ spaces 118
 name_filled name n e le =
@@ -78,7 +78,7 @@ name_filled name n e le =
     ∙ ap (λ (t : List ℕ). name ++ t) (sym (spaces-add (16 - length name) 118))
     ∙ sym (append_assoc name (spaces (16 - length name)) (spaces 118))
 
--- the fields, each put behind the one before and filled with spaces, are the reply
+-- the fields, each put after the one before and filled with spaces, are the reply
 pub reply_put : (r : ReplyFields) (code : ℕ) (name d0 d1 d2 d3 d4 d5 out : List ℕ) → code ≡ code_of r.outcome
     → name ≡ name_of r.outcome
     → d0 ≡ [] → d1 ≡ d0 ++ codes "DR01" → d2 ≡ d1 ++ digits 2 code

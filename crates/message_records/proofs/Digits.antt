@@ -23,7 +23,7 @@ chosen false x y z e = inr (refl, e)
 
 -- ---- what is written is read again
 
--- reading goes on behind a front
+-- reading goes on after a front
 number_after-append : (a b : ℕ) (xs ys : List ℕ) → number_after a xs ≡ Some b
     → number_after a (xs ++ ys) ≡ number_after b ys
 number_after-append a b [] ys e = let h : a ≡ b = cc in ap (λ n. number_after n ys) h
@@ -36,7 +36,7 @@ number_after-append a b (x ∷ xs) ys e =
 is_digit : (d : ℕ) → d < 10 → (leb 48 (48 + d) && leb (48 + d) 57) ≡ true
 is_digit d lt = grind (arith, nat_tests)
 
--- digits behind a front add so many places
+-- digits after a front add so many places
 number_after-digits : (k a n : ℕ) → n < 10 ^ k → number_after a (digits k n) ≡ Some (a * 10 ^ k + n)
 unfolding digits
 number_after-digits zero a n lt = ap Some (omega arith)
@@ -70,7 +70,7 @@ digits-first (suc k) n =
     ap (λ (t : List ℕ). t ++ (48 + n % 10) ∷ []) (digits-first k (n / 10))
     ∙ ap (λ (d : ℕ). (48 + d % 10) ∷ (digits k (n / 10) ++ (48 + n % 10) ∷ [])) (div_twice n k)
 
--- bytes that are read behind a front are the last digits of the number, and the front is the rest of it
+-- bytes that are read after a front are the last digits of the number, and the front is the rest of it
 digits_again : (a x : ℕ) (cs : List ℕ) → number_after a cs ≡ Some x
     → (cs ≡ digits (length cs) x) × (x / 10 ^ length cs ≡ a)
 unfolding digits

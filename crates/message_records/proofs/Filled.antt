@@ -1,4 +1,4 @@
--- A text that is filled with spaces: the text, and spaces behind it.
+-- A text that is filled with spaces: the text, and spaces after it.
 use Rattle.std.proofs.Common.{◌≡◌, ℕ, ◌-◌, true, false, List, ◌++◌, length, take, drop, replicate, refl, sym, ap, ◌∙◌}
 use Rattle.std.proofs.Common.{arith}
 use Rattle.std.specs.Str.{bytes_eq}
@@ -7,7 +7,7 @@ use Rattle.std.proofs.lemmas.List.{length-drop, length-replicate, take_all, take
 use Rattle.std.proofs.lemmas.List.{drop-replicate}
 use Rattle.message_records.specs.Spelling.{filled}
 
--- what stands behind the text, as the test sees it
+-- what stands after the text, as the test sees it
 rest_is : (n : ℕ) (bytes : List ℕ) → take (length bytes - n) (drop n bytes) ≡ drop n bytes
 rest_is n bytes = take_all (length bytes - n) (drop n bytes) (omega (arith, length-drop n bytes))
 
@@ -16,7 +16,7 @@ spaces_are n =
     ap (take {A = ℕ} (16 - n)) (drop-replicate n 16 32)
     ∙ take_all (16 - n) (replicate (16 - n) 32) (omega (arith, length-replicate {A = ℕ} (16 - n) 32))
 
--- where the text stands in front, the bytes are filled just where spaces stand behind it
+-- where the text stands in front, the bytes are filled just where spaces stand after it
 pub filled_where_spaces : (bytes text : List ℕ) → bytes_eq (take (length text) bytes) text ≡ true
     → bytes_eq (take (length bytes - length text) (drop (length text) bytes))
     (take (16 - length text) (drop (length text) (replicate 16 32)))

@@ -10,6 +10,6 @@ pub mod Requests
 pub mod SpelledReplies
 pub mod ReadReplies
 pub mod FirstFaults
-pub mod Beginnings
-pub mod Written
+pub mod Prefixes
+pub mod DraftedFields
 pub mod Composed

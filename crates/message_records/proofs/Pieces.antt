@@ -9,7 +9,7 @@ use Rattle.message_records.proofs.Digits.{chosen}
 
 -- ---- where a field stands
 
--- the field that stands here, and what stands behind it
+-- the field that stands here, and what stands after it
 pub field_next : (i n : ℕ) (bytes field rest : List ℕ) → drop i bytes ≡ field ++ rest → length field ≡ n
     → (take n (drop i bytes) ≡ field) × (drop (i + n) bytes ≡ rest)
 field_next i n bytes field rest e len = (
@@ -18,7 +18,7 @@ field_next i n bytes field rest e len = (
       ∙ drop_at field rest n len,
 )
 
--- a field and what stands behind it are what stands here
+-- a field and what stands after it are what stands here
 pub field_joined : (i n : ℕ) (bytes field rest : List ℕ) → take n (drop i bytes) ≡ field
     → drop (i + n) bytes ≡ rest
     → drop i bytes ≡ field ++ rest
@@ -27,7 +27,7 @@ field_joined i n bytes field rest f r =
     ∙ ap (λ (t : List ℕ). t ++ drop n (drop i bytes)) f
     ∙ ap (λ (t : List ℕ). field ++ t) (drop-drop n i bytes ∙ r)
 
--- the last field, behind which nothing stands
+-- the last field, after which nothing stands
 pub last_field : (i n : ℕ) (bytes field : List ℕ) → drop i bytes ≡ field → length field ≡ n
     → take n (drop i bytes) ≡ field
 last_field i n bytes field e len = ap (take n) e ∙ take_all n field (omega (arith, len))
@@ -74,7 +74,7 @@ pub ok_or_some : {A E : Type 0} (o : Option A) (fault : E) (x : A) → ok_or o f
 ok_or_some None fault x e = absurd cc
 ok_or_some (Some y) fault x e = let same : y ≡ x = cc in ap Some same
 
--- a text that was there, and the next step behind it
+-- a text that was there, and the next step after it
 pub text_step : {B E : Type 0} (text : List ℕ) (fault : E) (cs : List ℕ) (f : List ℕ → Result B E) (y : B)
     → (text_at text fault cs >>= f) ≡ Ok y → (cs ≡ text) × (f text ≡ Ok y)
 text_step {B} {E} text fault cs f y e =

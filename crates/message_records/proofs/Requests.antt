@@ -65,9 +65,9 @@ plain_again r bytes h none e =
       text_again (replicate 49 32) bad.Filler (take 49 (drop 51 bytes)) filler,
     ) (ap Ok (unreferenced_same r none))
 
--- behind a reference are so many spaces
-filler_behind : (text : List ℕ) → IsReference text → filled 49 text ≡ text ++ replicate 29 32
-filler_behind text is = ap (λ (k : ℕ). text ++ replicate (49 - k) 32) is.0
+-- after a reference are so many spaces
+filler_after : (text : List ℕ) → IsReference text → filled 49 text ≡ text ++ replicate 29 32
+filler_after text is = ap (λ (k : ℕ). text ++ replicate (49 - k) 32) is.0
 
 -- a request with a reference
 referenced_again : (r : RequestFields) (text bytes : List ℕ) → IsRequest r → r.reference ≡ Some text
@@ -77,10 +77,10 @@ unfolding referenced_request_of
 referenced_again r text bytes h some is e =
     let whole : bytes ≡ codes "DC02" ++ (fields_spelling r ++ (text ++ replicate 29 32)) =
     e ∙ spelled r (Some text) some
-    ∙ ap (λ (t : List ℕ). codes "DC02" ++ (fields_spelling r ++ t)) (filler_behind text is) in
-    let behind = text ++ replicate 29 32 in
-    let tag = field_next 0 4 bytes (codes "DC02") (fields_spelling r ++ behind) whole refl in
-    let fields = field_next 4 47 bytes (fields_spelling r) behind tag.1 (length-fields r) in
+    ∙ ap (λ (t : List ℕ). codes "DC02" ++ (fields_spelling r ++ t)) (filler_after text is) in
+    let after = text ++ replicate 29 32 in
+    let tag = field_next 0 4 bytes (codes "DC02") (fields_spelling r ++ after) whole refl in
+    let fields = field_next 4 47 bytes (fields_spelling r) after tag.1 (length-fields r) in
     let reference = field_next 51 20 bytes text (replicate 29 32) fields.1 is.0 in
     let filler = last_field 71 29 bytes (replicate 29 32) reference.1 refl in
     let read : reference_from (take 20 (drop 51 bytes)) ≡ Some text =
@@ -149,7 +149,7 @@ referenced_takes r bytes len e =
     (ok_or_some (reference_from (take 20 (drop 51 bytes))) bad.Reference text reference.1) in
     let from_filler = last_joined 71 29 bytes (replicate 29 32) len filler.0 in
     let from_reference = field_joined 51 20 bytes text (replicate 29 32) read.0 from_filler
-    ∙ sym (filler_behind text read.1) in
+    ∙ sym (filler_after text read.1) in
     let from_fields = field_joined 4 47 bytes (fields_spelling made) (filled 49 text)
     (taken.0 ∙ sym (fields_alike fields.0 text)) from_reference in
     let from_tag = field_joined 0 4 bytes (codes "DC02") _ tag.0 from_fields in

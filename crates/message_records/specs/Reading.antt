@@ -27,7 +27,7 @@ abbrev pub ◌>>=◌ : {A B E : Type 0} → Result A E → (A → Result B E) �
 
 -- ---- numbers and amounts
 
--- the number that digits write behind those of a front, none where a byte is no digit
+-- the number that digits write after those of a front, none where a byte is no digit
 abbrev pub number_after : ℕ → List ℕ → Option ℕ
 number_after n [] = Some n
 number_after n (c ∷ cs) = if (nat_le 48 c && nat_le c 57) then number_after (n * 10 + (c - 48)) cs else None

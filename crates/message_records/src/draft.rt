@@ -4,7 +4,7 @@ ghost use Rattle.message_records.specs.Spelling.{digits, signed};
 
 use std::marker::Model;
 
-/// A record of `SIZE` bytes, with spaces behind what is written so far.
+/// A record of `SIZE` bytes, with spaces after what is written so far.
 pub(crate) struct Draft<const SIZE: usize> {
     bytes: [u8; SIZE],
     written: usize,

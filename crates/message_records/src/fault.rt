@@ -45,7 +45,7 @@ pub enum BadReply {
     Delta,
     /// Bytes 53..66 aren't a sign and twelve digits, or aren't zero where the request wasn't posted.
     Balance,
-    /// Bytes 66..82 aren't the outcome's name with spaces behind it.
+    /// Bytes 66..82 aren't the outcome's name with spaces after it.
     Name,
     /// Bytes 82..200 aren't spaces.
     Filler,

@@ -1,5 +1,5 @@
 //! The records of a bank, and the types of their fields. A request is [`REQUEST_BYTES`] bytes of ASCII, and
-//! its reply is [`REPLY_BYTES`] (TPC-A, contents of the messages). A request may have a [`Reference`] behind
+//! its reply is [`REPLY_BYTES`] (TPC-A, contents of the messages). A request may have a [`Reference`] after
 //! its amount, [`REFERENCE_BYTES`] bytes of printable ASCII; its reply shows it without. Each value has one
 //! spelling: what is written is read again as the same value, and no other bytes are read as it. The test
 //! `first_record` of `counter_tests` writes a request and reads it:

@@ -1,10 +1,10 @@
 //! The lengths of records, and the greatest values of their fields. Code, contracts and definitions take them
 //! from here.
 
-/// The length in bytes of a request: its fields, and spaces behind them.
+/// The length in bytes of a request: its fields, and spaces after them.
 pub const REQUEST_BYTES: usize = 100;
 
-/// The length in bytes of a reply: its fields, and spaces behind them.
+/// The length in bytes of a reply: its fields, and spaces after them.
 pub const REPLY_BYTES: usize = 200;
 
 /// The length in bytes of a reference.

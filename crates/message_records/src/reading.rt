@@ -72,7 +72,7 @@ fn read_plain(bytes: &[u8; REQUEST_BYTES]) -> Result<Request, Bad>
     Ok(request)
 }
 
-// Field by field from the left, up to the first faulty one, with a reference behind the amount.
+// Field by field from the left, up to the first faulty one, with a reference after the amount.
 #[tactic(auto, unfolding(crate::specs::Reading::referenced_request_of))]
 fn read_referenced(bytes: &[u8; REQUEST_BYTES]) -> Result<Request, Bad>
     ensures { result ≡ referenced_request_of bytes.now }

@@ -15,7 +15,7 @@ use crate::records::{Reply, Request};
 // Zeros in the place of each field of a request.
 const NO_FIELDS: &[u8; 47] = b"000000000000000000000000000000000000+0000000000";
 
-/// The bytes of the request: ASCII, with spaces behind the fields.
+/// The bytes of the request: ASCII, with spaces after the fields.
 #[must_use]
 pub fn encode_request(request: &Request) -> [u8; REQUEST_BYTES]
     ensures spelling { result ≡ request_spelling request.now }
@@ -51,7 +51,7 @@ fn put_reference<const SIZE: usize>(draft: &mut Draft<SIZE>, request: &Request)
     }
 }
 
-/// The bytes of the reply: ASCII, with spaces behind the fields.
+/// The bytes of the reply: ASCII, with spaces after the fields.
 #[must_use]
 pub fn encode_reply(reply: &Reply) -> [u8; REPLY_BYTES]
     ensures spelling { result ≡ reply_spelling reply.now }

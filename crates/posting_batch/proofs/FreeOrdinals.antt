@@ -17,7 +17,7 @@ use Rattle.posting_rules.specs.LookUps.{found_in}
 use Rattle.posting_rules.specs.Tables.{Tables, AreTablesOf, row_at, request_key, reference_key}
 use Rattle.posting_rules.specs.Tables.{request_row_of, reference_row_of}
 use Rattle.posting_rules.proofs.RowChanges.{row_at-put}
-use Rattle.posting_rules.proofs.Stepped.{request_row_past, reference_row_past}
+use Rattle.posting_rules.proofs.TablesWithRecord.{request_row_past, reference_row_past}
 use Rattle.posting_batch.specs.Batch.{HasFreeOrdinals}
 
 -- in the tables of a log they are free

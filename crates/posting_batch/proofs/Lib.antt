@@ -13,7 +13,7 @@ pub mod InOrder
 pub mod NewRows
 pub mod Idle
 pub mod Examples
-pub mod Written
+pub mod SlotsWritten
 pub mod ToldTables
 pub mod OneRecord
 pub mod NextOrdinals

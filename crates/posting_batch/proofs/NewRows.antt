@@ -22,20 +22,20 @@ use Rattle.posting_rules.specs.Commands.{Command, Post}
 use Rattle.posting_rules.specs.Numbering.{branch_of_teller}
 use Rattle.posting_rules.specs.Entries.{refused_entry, posted_entry}
 use Rattle.posting_rules.specs.LookUps.{balance_of_branch, balance_of_teller, balance_of_account}
-use Rattle.posting_rules.specs.Steps as steps
+use Rattle.posting_rules.specs.ChangesByKey as steps
 use Rattle.posting_rules.specs.Tables.{Tables, AreTablesOf, row_at, branch_key, teller_key, account_key}
 use Rattle.posting_rules.specs.Tables.{history_key, request_key, request_row_of, history_row_of}
 use Rattle.posting_rules.specs.Tables.{reference_key, reference_row_of}
 use Rattle.posting_rules.proofs.Keyed.{by_test}
 use Rattle.posting_rules.proofs.Ready.{AreReady, ready_shown}
 use Rattle.posting_rules.proofs.Records.{past_shown}
-use Rattle.posting_rules.proofs.Stepping.{posted_rows}
+use Rattle.posting_rules.proofs.ChangesByKey.{posted_rows}
 use Rattle.posting_batch.specs.declared.slots.AccountSlot.{AccountSlot}
 use Rattle.posting_batch.specs.declared.slots.TellerSlot.{TellerSlot}
 use Rattle.posting_batch.specs.declared.slots.BranchSlot.{BranchSlot}
 use Rattle.posting_batch.specs.Batch.{CoversRead, CoversAll, HasNoChange, ChangesRows, PutsFree, AddsFreeRows}
 use Rattle.posting_batch.specs.Batch.{HasFreeOrdinals}
-use Rattle.posting_batch.specs.Judging.{found_over, reference_behind, overlay_after, overlay_with}
+use Rattle.posting_batch.specs.Judging.{found_over, reference_after, overlay_after, overlay_with}
 use Rattle.posting_batch.specs.Judging.{overlay_with_all}
 use Rattle.posting_batch.specs.Overlay.{Overlay, by_slot, over, put_account, put_teller, put_branch, each_put}
 use Rattle.posting_batch.specs.Overlay.{tables_over}
@@ -175,7 +175,7 @@ puts_more key (x ∷ rs) r rows free next = (free.0, puts_more key rs r (row_put
 
 references_more : (ordinal : ℕ) (reference : Option (List ℕ)) (rs rows : List ReferenceRow)
     → PutsFree reference_key rs rows → row_at reference_key (each_put reference_key rs rows) ordinal ≡ None
-    → PutsFree reference_key (reference_behind ordinal reference rs) rows
+    → PutsFree reference_key (reference_after ordinal reference rs) rows
 references_more ordinal None rs rows free next = free
 references_more ordinal (Some text) rs rows free next =
     puts_more reference_key rs (reference_row_of ordinal text) rows free next

@@ -10,7 +10,7 @@ use Rattle.posting_rules.specs.declared.rows.ReferenceRow.{ReferenceRow}
 use Rattle.posting_rules.specs.Cases.{case_of}
 use Rattle.posting_batch.specs.Batch.{HasNextOrdinals, IsNextOrdinal, covering, covering_all}
 use Rattle.posting_batch.specs.Judging.{found_over, overlay_after, overlay_with, overlay_with_all}
-use Rattle.posting_batch.specs.Judging.{reference_behind}
+use Rattle.posting_batch.specs.Judging.{reference_after}
 use Rattle.posting_batch.specs.Overlay.{Overlay}
 
 -- ---- lists
@@ -20,10 +20,10 @@ each_also : {R : Type 0} (P Q : R → Type 0) → ((r : R) → P r → Q r) → 
 each_also P Q also [] all = tt
 each_also P Q also (r ∷ rows) all = (also r all.0, each_also P Q also rows all.1)
 
-behind : {R : Type 0} (P : R → Type 0) (rows : List R) (r : R) → AllByRecursion P rows → P r
+after : {R : Type 0} (P : R → Type 0) (rows : List R) (r : R) → AllByRecursion P rows → P r
     → AllByRecursion P (rows ++ r ∷ [])
-behind P [] r all one = (one, tt)
-behind P (x ∷ rows) r all one = (all.0, behind P rows r all.1 one)
+after P [] r all one = (one, tt)
+after P (x ∷ rows) r all one = (all.0, after P rows r all.1 one)
 
 -- ---- the ordinals of an overlay whose records are judged one after another
 
@@ -52,18 +52,18 @@ one_wider first count o it = record {
   most = let most = it.most in omega arith;
 }
 
-one_behind : {R : Type 0} (ordinal : R → ℕ) (first count : ℕ) (rows : List R) (r : R)
+one_after : {R : Type 0} (ordinal : R → ℕ) (first count : ℕ) (rows : List R) (r : R)
     → AllByRecursion (λ x. IsNextOrdinal first count (ordinal x)) rows
     → IsNextOrdinal first (suc count) (ordinal r)
     → AllByRecursion (λ x. IsNextOrdinal first (suc count) (ordinal x)) (rows ++ r ∷ [])
-one_behind ordinal first count rows r all one =
-    behind (λ x. IsNextOrdinal first (suc count) (ordinal x)) rows r (wider ordinal first count rows all) one
+one_after ordinal first count rows r all one =
+    after (λ x. IsNextOrdinal first (suc count) (ordinal x)) rows r (wider ordinal first count rows all) one
 
 referred : (first count next : ℕ) (reference : Option (List ℕ)) (rows : List ReferenceRow)
     → AllByRecursion (λ r. IsNextOrdinal first count r.ordinal) rows → IsNextOrdinal first (suc count) next
-    → AllByRecursion (λ r. IsNextOrdinal first (suc count) r.ordinal) (reference_behind next reference rows)
+    → AllByRecursion (λ r. IsNextOrdinal first (suc count) r.ordinal) (reference_after next reference rows)
 referred first count next None rows all one = wider (λ r. r.ordinal) first count rows all
-referred first count next (Some text) rows all one = one_behind (λ r. r.ordinal) first count rows _ all one
+referred first count next (Some text) rows all one = one_after (λ r. r.ordinal) first count rows _ all one
 
 next_is : (first count : ℕ) (o : Overlay) → Within first count o
     → IsNextOrdinal first (suc count) (o.decided + 1)
@@ -81,7 +81,7 @@ after_one first count o m r (Refused x) it =
     record {
       rows = record {
         history = wider (λ r. r.ordinal) first count o.history it.rows.history;
-        requests = one_behind (λ r. r.ordinal) first count o.requests _ it.rows.requests next;
+        requests = one_after (λ r. r.ordinal) first count o.requests _ it.rows.requests next;
         references = referred first count (o.decided + 1) r.reference o.references it.rows.references next;
       };
       least = let least = it.least in omega arith;
@@ -91,8 +91,8 @@ after_one first count o m r (Posted account teller branch) it =
     let next = next_is first count o it in
     record {
       rows = record {
-        history = one_behind (λ r. r.ordinal) first count o.history _ it.rows.history next;
-        requests = one_behind (λ r. r.ordinal) first count o.requests _ it.rows.requests next;
+        history = one_after (λ r. r.ordinal) first count o.history _ it.rows.history next;
+        requests = one_after (λ r. r.ordinal) first count o.requests _ it.rows.requests next;
         references = referred first count (o.decided + 1) r.reference o.references it.rows.references next;
       };
       least = let least = it.least in omega arith;

@@ -23,7 +23,7 @@ use Rattle.posting_rules.specs.Entries.{DecidedRequest, refused_entry, posted_en
 use Rattle.posting_rules.specs.Kept.{KeptFields}
 use Rattle.posting_rules.specs.LookUps.{both_of, kept_in, account_balance_in, balance_of_account}
 use Rattle.posting_rules.specs.LookUps.{balance_of_teller, balance_of_branch, floor_in, found_in}
-use Rattle.posting_rules.specs.Steps as steps
+use Rattle.posting_rules.specs.ChangesByKey as steps
 use Rattle.posting_rules.specs.Tables.{Tables, row_at, branch_key, teller_key, account_key, history_key}
 use Rattle.posting_rules.specs.Tables.{request_key, request_row_of, history_row_of, reference_key}
 use Rattle.posting_rules.specs.Tables.{reference_row_of}
@@ -33,7 +33,7 @@ use Rattle.posting_batch.specs.declared.slots.BranchSlot.{BranchSlot}
 use Rattle.posting_batch.specs.declared.slots.FloorSlot.{FloorSlot}
 use Rattle.posting_batch.specs.declared.slots.RequestSlot.{RequestSlot}
 use Rattle.posting_batch.specs.Batch.{Covers}
-use Rattle.posting_batch.specs.Judging.{found_over, reference_behind, overlay_kept, overlay_posted}
+use Rattle.posting_batch.specs.Judging.{found_over, reference_after, overlay_kept, overlay_posted}
 use Rattle.posting_batch.specs.Judging.{overlay_after}
 use Rattle.posting_batch.specs.Overlay.{Overlay, changed_to, each_put, tables_over}
 use Rattle.posting_batch.specs.Slots.{in_slot, slot_balance, kept_in_slots, kept_of_slot, is_for}
@@ -129,7 +129,7 @@ found_is o t r fits covers =
 
 -- ---- a verdict
 
--- one row more that is put in behind the others
+-- one row more that is put in after the others
 pub each_put-append : {R : Type 0} (key : R → ℕ) (rs : List R) (r : R) (rows : List R)
     → each_put key (rs ++ r ∷ []) rows ≡ row_put key r (each_put key rs rows)
 each_put-append key [] r rows = refl
@@ -137,7 +137,7 @@ each_put-append key (x ∷ rs) r rows = each_put-append key rs r (row_put key x 
 
 -- the reference of one request more
 pub reference_put-append : (ordinal : ℕ) (reference : Option (List ℕ)) (rs rows : List ReferenceRow)
-    → each_put reference_key (reference_behind ordinal reference rs) rows ≡ reference_put ordinal reference
+    → each_put reference_key (reference_after ordinal reference rs) rows ≡ reference_put ordinal reference
     (each_put reference_key rs rows)
 reference_put-append ordinal None rs rows = refl
 reference_put-append ordinal (Some text) rs rows = each_put-append reference_key rs

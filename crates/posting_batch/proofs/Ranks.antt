@@ -42,7 +42,7 @@ module _ {S : Type 0} (below same : S → S → Bool) (e : S) where
             ap (λ (j : ℕ). insert (y ∷ ys) j e) first ∙ rw (f, u) refl
       ]
 
-  -- there is none: the new one goes behind all
+  -- there is none: the new one goes after all
   pub placed_last : (xs : List S) (b : ℕ) → b ≡ rank below e xs → length xs ≤ b
       → insert xs b e ≡ placed below same e xs
   placed_last [] b at le = ap (λ (j : ℕ). insert [] j e) at

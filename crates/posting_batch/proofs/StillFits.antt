@@ -141,7 +141,7 @@ with_fits o t m (Ok r) count free fits covers =
     (subst (λ (f : Found). IsNewIn (found_in (tables_over o t) r) (case_of f r))
     (sym (found_is o t r fits covers)) (new_case_of (found_in (tables_over o t) r) r))
 
--- and the ordinals behind it are as free as before
+-- and the ordinals after it are as free as before
 pub still_free : (o : Overlay) (t : Tables) (m : ℕ) (read : Result RequestFields Bad) (count : ℕ)
     → HasFreeOrdinals (tables_over o t) (suc count) → Fits o t → CoversRead o read
     → HasFreeOrdinals (tables_over (overlay_with o m read) t) count

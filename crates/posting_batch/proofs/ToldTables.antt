@@ -65,12 +65,12 @@ module _ {S R : Type 0} (row : S → Option R) (is : S → R → Bool) where
     misses_all x [] above = tt
     misses_all x (s ∷ slots) above = ((apart x s above.0).0, misses_all x slots above.1)
 
-    behind_one : (x : S) (rows : List R) (slots : List S) → AllByRecursion (λ s. IsTrue (below x s)) slots
+    after_one : (x : S) (rows : List R) (slots : List S) → AllByRecursion (λ s. IsTrue (below x s)) slots
         → AllByRecursion (λ s. find (is s) rows ≡ row s) slots
         → AllByRecursion (λ s. find (is s) (with_told (row x) rows) ≡ row s) slots
-    behind_one x rows [] above all = tt
-    behind_one x rows (s ∷ slots) above all =
-        (passes_one s (row x) rows (apart x s above.0).1 ∙ all.0, behind_one x rows slots above.1 all.1)
+    after_one x rows [] above all = tt
+    after_one x rows (s ∷ slots) above all =
+        (passes_one s (row x) rows (apart x s above.0).1 ∙ all.0, after_one x rows slots above.1 all.1)
 
     -- each slot finds the row that it tells
     pub all_found : (slots : List S) → IsRising below slots
@@ -78,7 +78,7 @@ module _ {S R : Type 0} (row : S → Option R) (is : S → R → Bool) where
     all_found [] rises = tt
     all_found (x ∷ slots) rises = (
       first_found x (row x) (rows_told row slots) (own x) (passes_all x slots (misses_all x slots rises.0)),
-      behind_one x (rows_told row slots) slots rises.0 (all_found slots rises.1),
+      after_one x (rows_told row slots) slots rises.0 (all_found slots rises.1),
     )
 
 -- ---- slots under a number

@@ -9,7 +9,7 @@ use Rattle.posting_rules.specs.Changes.{row_put, tables_past_all, replies_past_a
 use Rattle.posting_rules.specs.Commands.{Command}
 use Rattle.posting_rules.specs.Numbering.{branch_of_teller, branch_of_account}
 use Rattle.posting_rules.specs.LookUps.{kept_in, account_balance_in, balance_of_teller, floor_in}
-use Rattle.posting_rules.specs.Runs.{behind, replies_to}
+use Rattle.posting_rules.specs.Runs.{followed_by, replies_to}
 use Rattle.posting_rules.specs.Tables.{Tables, AreTablesOf, row_at, branch_key, teller_key, account_key}
 use Rattle.posting_rules.specs.Tables.{history_key, request_key, reference_key}
 use Rattle.posting_rules.specs.declared.rows.RequestRow.{RequestRow}
@@ -191,11 +191,11 @@ pub record IsJudged (o : Overlay) (replies : List (List ℕ)) (t : Tables) (mome
   pub answers : replies ≡ replies_past_all t moment records
   pub changes : ChangesRows o t
 
--- it comes to the log with these commands behind it, and answers their replies; the keys of the new rows are
+-- it comes to the log with these commands after it, and answers their replies; the keys of the new rows are
 -- free
 pub record IsShown (o : Overlay) (replies : List (List ℕ)) (t : Tables) (log : List Command)
     (commands : List Command) : Type 0 where
-  pub shows : AreTablesOf (tables_over o t) (behind log commands)
+  pub shows : AreTablesOf (tables_over o t) (followed_by log commands)
   pub answers : replies ≡ replies_to log commands
   pub adds : AddsFreeRows o t
 

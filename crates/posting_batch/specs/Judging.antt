@@ -30,10 +30,10 @@ found_over o r = record {
   floor = slot_floor o.floors (branch_of_account r.account);
 }
 
--- the reference of a decided request is behind the others, where it has one
-abbrev pub reference_behind : ℕ → Option (List ℕ) → List ReferenceRow → List ReferenceRow
-reference_behind ordinal None rows = rows
-reference_behind ordinal (Some text) rows = rows ++ reference_row_of ordinal text ∷ []
+-- the reference of a decided request is after the others, where it has one
+abbrev pub reference_after : ℕ → Option (List ℕ) → List ReferenceRow → List ReferenceRow
+reference_after ordinal None rows = rows
+reference_after ordinal (Some text) rows = rows ++ reference_row_of ordinal text ∷ []
 
 -- a decided request is kept under the next ordinal, posted or not, with its reference, and counted
 abbrev pub overlay_kept : Overlay → DecidedRequest → Overlay
@@ -41,7 +41,7 @@ overlay_kept o e = record o {
   kept = slots_kept e.request.teller e.request.number (kept_fields e) o.kept;
   decided = o.decided + 1;
   requests = o.requests ++ request_row_of (o.decided + 1) e ∷ [];
-  references = reference_behind (o.decided + 1) e.request.reference o.references;
+  references = reference_after (o.decided + 1) e.request.reference o.references;
 }
 
 -- and a posting changes three balances, and has a row of history under the same ordinal (TPC-B 1.2)
@@ -56,7 +56,7 @@ overlay_posted o e teller branch = record {
   decided = o.decided + 1;
   history = o.history ++ history_row_of (o.decided + 1) e ∷ [];
   requests = o.requests ++ request_row_of (o.decided + 1) e ∷ [];
-  references = reference_behind (o.decided + 1) e.request.reference o.references;
+  references = reference_after (o.decided + 1) e.request.reference o.references;
 }
 
 -- what a verdict on a request leaves

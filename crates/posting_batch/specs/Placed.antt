@@ -36,7 +36,7 @@ abbrev pub rank : {S : Type 0} → (S → S → Bool) → S → List S → ℕ
 rank below x [] = zero
 rank below x (s ∷ slots) = if below s x then suc (rank below x slots) else zero
 
--- each slot is below all behind it, so that no two have one key
+-- each slot is below all after it, so that no two have one key
 abbrev pub IsRising : {S : Type 0} → (S → S → Bool) → List S → Type 0
 IsRising below [] = Unit {0}
 IsRising below (s ∷ slots) = AllByRecursion (λ x. IsTrue (below s x)) slots × IsRising below slots

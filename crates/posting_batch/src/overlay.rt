@@ -7,7 +7,7 @@ ghost use Rattle.posting_rules.specs.declared.limits.TheConstants.{MAX_DECIDED, 
 ghost use Rattle.posting_rules.specs.Cases.{IsProper};
 ghost use Rattle.posting_rules.specs.Entries.{posted_entry};
 ghost use Rattle.posting_rules.specs.Kept.{is_kept_with};
-ghost use Rattle.posting_batch.specs.Judging.{reference_behind};
+ghost use Rattle.posting_batch.specs.Judging.{reference_after};
 
 use crate::changes::{change_at, keep_at};
 use crate::search::{balance_at, kept_at, stored_floor};
@@ -20,7 +20,7 @@ use posting_rules::{
 use smallvec::SmallVec;
 use std::alloc::{AllocError, Global};
 
-// Puts a row behind the others, for which there is room.
+// Puts a row after the others, for which there is room.
 fn put_row<T: Drop, const N: usize>(rows: &mut SmallVec<T, N>, row: T)
     requires { HasRoomFor rows.old 1 }
     ensures items { rows.new.items ≡ rows.old.items ++ row ∷ [] }
@@ -30,14 +30,14 @@ fn put_row<T: Drop, const N: usize>(rows: &mut SmallVec<T, N>, row: T)
     rows.push_reserved(row);
 }
 
-// Puts the reference of a decided request behind the others, where it has one, for which there is room.
+// Puts the reference of a decided request after the others, where it has one, for which there is room.
 fn put_reference<const N: usize>(
     rows: &mut SmallVec<ReferenceRow, N>,
     ordinal: Ordinal,
     reference: Option<Reference>,
 )
     requires { HasRoomFor rows.old 1 }
-    ensures items { rows.new.items ≡ reference_behind ordinal reference rows.old.items }
+    ensures items { rows.new.items ≡ reference_after ordinal reference rows.old.items }
     ensures len { small_vec_len rows.new ≤ small_vec_len rows.old + 1 }
     ensures capacity { rows.new.capacity ≡ rows.old.capacity }
 {
@@ -46,7 +46,7 @@ fn put_reference<const N: usize>(
     }
 }
 
-// Puts something behind the others, for which there is room.
+// Puts something after the others, for which there is room.
 pub(crate) fn put<T: Drop>(items: &mut Vec<T>, item: T)
     requires { vec_len items.old < vec_capacity items.old }
     ensures items { items.new.items ≡ items.old.items ++ item ∷ [] }
@@ -230,7 +230,7 @@ impl Overlay {
     }
 
     /// Judges a request by its slots, for which there is room, and answers it (TPC-B 1.2). What it changes is in
-    /// the slots then, and what is new behind the other rows.
+    /// the slots then, and what is new after the other rows.
     pub fn judge(&mut self, moment: Moment, request: &Request) -> [u8; REPLY_BYTES]
         requires requests { HasRoomFor self.old.requests 1 }
         requires history { HasRoomFor self.old.history 1 }
@@ -250,7 +250,7 @@ impl Overlay {
         encode_reply(&reply_to(&found, request, &verdict))
     }
 
-    /// Judges records in order, for which there is room, and puts the replies behind the others.
+    /// Judges records in order, for which there is room, and puts the replies after the others.
     pub(crate) fn judge_records(
         &mut self,
         moment: Moment,

@@ -1,18 +1,19 @@
 -- A record that comes again gets the reply that it got.
 use Rattle.std.proofs.Common.{◌≡◌, ◌⊎◌, ◌<◌, ◌≤◌, ℕ, zero, suc, ◌+◌, ◌-◌, ◌*◌, true, false, leb, List, []}
-use Rattle.std.proofs.Common.{◌∷◌, ◌++◌, length, get_or, take, drop, Result, Ok, Err, Vec, inl, inr, refl, sym, ap, ◌∙◌, arith}
+use Rattle.std.proofs.Common.{◌∷◌, ◌++◌, length, get_or, take, drop, Result, Ok, Err, Vec, inl, inr, refl, sym, ap}
+use Rattle.std.proofs.Common.{◌∙◌, arith}
 use Rattle.std.specs.{Prelude.IfOk, List.AllByRecursion}
 use Rattle.std.specs.declared.alloc.Global.{Global}
 use Rattle.std.proofs.lemmas.List.{take_at, drop_at, drop_all, drop-drop, drop-take, length-take}
 use Rattle.std.proofs.lemmas.Bool.Decides.{leb_tells}
 use Rattle.message_records.specs.Spelling.{reply_spelling}
 use Rattle.message_records.specs.declared.limits.TheConstants.{REPLY_BYTES}
-use Rattle.message_records.proofs.Beginnings.{length-reply}
+use Rattle.message_records.proofs.Prefixes.{length-reply}
 use Rattle.posting_rules.specs.declared.fault.Fault.{Fault}
 use Rattle.posting_rules.specs.Commands.{Command, Open, Post}
 use Rattle.posting_rules.specs.Counter.{Answers, IsCounterCall, Seen, ShowsLog, Takes}
 use Rattle.posting_rules.specs.{Entries.reply, Resends.Place}
-use Rattle.posting_rules.specs.Runs.{behind, posts, replies_to, ArePosts}
+use Rattle.posting_rules.specs.Runs.{followed_by, posts, replies_to, ArePosts}
 use Rattle.posting_rules.proofs.Resends.{replies_in_place, shows_log_left_out}
 use Rattle.posting_core.specs.{Again.AnswersAgain, Batches.joined, Stream.reply_at}
 
@@ -25,10 +26,10 @@ pub again_of : (c c' : Seen) (commands : List Command) (answers : List (List ℕ
     → AnswersAgain c c' commands answers
 again_of c c' commands answers hc takes are = record {
   replies = λ h log p hp shows bytes first again.
-      ap (λ (xs : List (List ℕ)). get_or xs (length again.before) []) (are h (behind log p) shows)
+      ap (λ (xs : List (List ℕ)). get_or xs (length again.before) []) (are h (followed_by log p) shows)
       ∙ replies_in_place log p commands bytes first again hp hc;
   tables = λ h log p added hp skips shows.
-      shows_log_left_out c' log p commands added hp hc skips (takes.shows h (behind log p) shows);
+      shows_log_left_out c' log p commands added hp hc skips (takes.shows h (followed_by log p) shows);
 }
 
 pub posts_are : (moment : ℕ) (records : List (List ℕ)) → ArePosts (posts moment records)
@@ -81,13 +82,13 @@ at_place (r ∷ rs) (suc place) h =
 -- in the text of the replies, at its place, stands the reply that it got
 pub reply_stands : (log p r : List Command) (one : List ℕ) (first : Place one p) (again : Place one r)
     → ArePosts p → ArePosts r
-    → reply_at (length again.before) (joined (replies_to (behind log p) r))
-    ≡ reply_spelling (reply (behind log first.before) one)
+    → reply_at (length again.before) (joined (replies_to (followed_by log p) r))
+    ≡ reply_spelling (reply (followed_by log first.before) one)
 reply_stands log p r one first again hp hr =
-    at_place (replies_to (behind log p) r) (length again.before) (whole_replies (behind log p) r)
+    at_place (replies_to (followed_by log p) r) (length again.before) (whole_replies (followed_by log p) r)
     ∙ replies_in_place log p r one first again hp hr
 
--- ---- a beginning of it
+-- ---- a prefix of it
 
 both_begin : (a b : ℕ) (xs : List ℕ) → take a (take b xs) ≡ take (length (take a (take b xs))) (take a xs)
 both_begin zero b xs = refl

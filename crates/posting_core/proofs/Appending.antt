@@ -1,4 +1,4 @@
--- Rows in the order in which they came: one is put in behind the others, and tables with a branch more show the
+-- Rows in the order in which they came: one is put in after the others, and tables with a branch more show the
 -- log with its opening.
 use Rattle.std.proofs.Common.{◌≡◌, ℕ, ◌+◌, ◌≤◌, ltb, true, List, [], ◌∷◌, ◌++◌, Option, Some, None}
 use Rattle.std.proofs.Common.{refl, sym, ap, ◌∙◌, arith}
@@ -15,50 +15,50 @@ use Rattle.posting_rules.specs.Tables.{Tables, AreTablesOf, row_at, branch_key, 
 use Rattle.posting_rules.specs.Tables.{request_key, branch_row_of, history_row_of, request_row_of, HasKeys, floor_key}
 use Rattle.posting_rules.specs.Tables.{floor_row_of, reference_key, reference_row_of}
 use Rattle.posting_rules.specs.LookUps.{floor_in, terms_of_branch}
-use Rattle.posting_rules.specs.Steps.{AddsFloor}
-use Rattle.posting_rules.specs.Steps as steps
+use Rattle.posting_rules.specs.ChangesByKey.{AddsFloor}
+use Rattle.posting_rules.specs.ChangesByKey as steps
 use Rattle.posting_rules.specs.Numbering.{branch_of_teller, first_teller, first_account}
-use Rattle.posting_batch.specs.Judging.{reference_behind}
-use Rattle.posting_core.specs.Appended.{HasOrdinalsTo, appended_opened, floor_behind}
-use Rattle.posting_rules.proofs.{Looked.terms_shown, Opened.opening_shown}
+use Rattle.posting_batch.specs.Judging.{reference_after}
+use Rattle.posting_core.specs.Appended.{HasOrdinalsTo, appended_opened, floor_after}
+use Rattle.posting_rules.proofs.{Looked.terms_shown, TablesWithBranch.opening_shown}
 use Rattle.posting_rules.proofs.Ready.{ready_shown, no_teller, no_account}
-use Rattle.posting_core.proofs.Behind.{row_behind, rows_behind}
+use Rattle.posting_core.proofs.RowsAfter.{row_after, rows_after}
 
 -- ---- rows of requests
 
 lower : (n last k : ℕ) → n ≤ last → k ≡ last + 1 → ltb n k ≡ true
 lower n last k le is = grind (arith, nat_tests)
 
--- behind the others is where a row under the next ordinal is put in
+-- after the others is where a row under the next ordinal is put in
 put_next : {R : Type 0} (key : R → ℕ) (last : ℕ) (x : R) (rows : List R)
     → AllByRecursion (λ r. key r ≤ last) rows → key x ≡ last + 1 → rows ++ x ∷ [] ≡ row_put key x rows
 put_next key last x [] all next = refl
 put_next key last x (r ∷ rows) all next =
     rw (lower (key r) last (key x) all.0 next) (ap (λ xs. r ∷ xs) (put_next key last x rows all.1 next))
 
-next_behind : {R : Type 0} (key : R → ℕ) (last : ℕ) (x : R) (rows : List R) → All (λ r. key r ≤ last) rows
+next_after : {R : Type 0} (key : R → ℕ) (last : ℕ) (x : R) (rows : List R) → All (λ r. key r ≤ last) rows
     → key x ≡ last + 1 → rows ++ x ∷ [] ≡ row_put key x rows
-next_behind key last x rows all next =
+next_after key last x rows all next =
     put_next key last x rows (recursion_from_All (λ r. key r ≤ last) rows all) next
 
 reference_next : (last : ℕ) (reference : Option (List ℕ)) (rows : List ReferenceRow)
     → All (λ r. r.ordinal ≤ last) rows
-    → reference_behind (last + 1) reference rows ≡ reference_put (last + 1) reference rows
+    → reference_after (last + 1) reference rows ≡ reference_put (last + 1) reference rows
 reference_next last None rows all = refl
 reference_next last (Some text) rows all =
-    next_behind reference_key last (reference_row_of (last + 1) text) rows all refl
+    next_after reference_key last (reference_row_of (last + 1) text) rows all refl
 
 -- where a request is kept, and where it is posted with these new balances
 pub kept_is : (t : Tables) (e : DecidedRequest) → HasOrdinalsTo t.decided t.history t.requests t.references
     → (let u : Tables = record t {
       decided = t.decided + 1;
       requests = t.requests ++ request_row_of (t.decided + 1) e ∷ [];
-      references = reference_behind (t.decided + 1) e.request.reference t.references;
+      references = reference_after (t.decided + 1) e.request.reference t.references;
     } in u) ≡ tables_kept t (t.decided + 1) e
 unfolding with_decided with_request with_reference
 kept_is t e to =
     rw (
-      next_behind request_key t.decided (request_row_of (t.decided + 1) e) t.requests to.requests refl,
+      next_after request_key t.decided (request_row_of (t.decided + 1) e) t.requests to.requests refl,
       reference_next t.decided e.request.reference t.references to.references,
     ) refl
 
@@ -73,24 +73,24 @@ pub posted_is : (t : Tables) (e : DecidedRequest) (te b : ℤ)
       history = t.history ++ history_row_of (t.decided + 1) e ∷ [];
       requests = t.requests ++ request_row_of (t.decided + 1) e ∷ [];
       floors = t.floors;
-      references = reference_behind (t.decided + 1) e.request.reference t.references;
+      references = reference_after (t.decided + 1) e.request.reference t.references;
     } in u) ≡ tables_posted t (t.decided + 1) e te b
 unfolding with_decided with_request with_reference with_history
     with_branch_balance with_teller_balance with_account_balance
 posted_is t e te b to =
     rw (
-      next_behind history_key t.decided (history_row_of (t.decided + 1) e) t.history to.history refl,
-      next_behind request_key t.decided (request_row_of (t.decided + 1) e) t.requests to.requests refl,
+      next_after history_key t.decided (history_row_of (t.decided + 1) e) t.history to.history refl,
+      next_after request_key t.decided (request_row_of (t.decided + 1) e) t.requests to.requests refl,
       reference_next t.decided e.request.reference t.references to.references,
     ) refl
 
 -- ---- an opening
 
--- the floor that is put behind the others
+-- the floor that is put after the others
 floor_adds : (b : ℕ) (floor : Option ℤ) (rows : List FloorRow) → HasKeys floor_key rows
-    → row_at floor_key rows b ≡ None → AddsFloor b floor rows (floor_behind b floor rows)
+    → row_at floor_key rows b ≡ None → AddsFloor b floor rows (floor_after b floor rows)
 floor_adds b None rows keys free = refl
-floor_adds b (Some lowest) rows keys free = row_behind floor_key rows (floor_row_of b lowest) keys free
+floor_adds b (Some lowest) rows keys free = row_after floor_key rows (floor_row_of b lowest) keys free
 
 -- the tables with a branch that wasn't open show the log with its opening
 pub opened_shown : (t : Tables) (log : List Command) (b : ℕ) (terms : Terms)
@@ -103,11 +103,11 @@ opened_shown t log b terms closed hb hc s =
     ∙ ap (option_map (terms_of_branch (floor_in t b))) closed) hb hc s
     (record {
       decided = refl;
-      branches = row_behind branch_key t.branches
+      branches = row_after branch_key t.branches
           (branch_row_of b (pos 0) terms) ready.branches closed;
-      tellers = rows_behind teller_key new_teller (first_teller b) 10 t.tellers (λ _. refl) ready.tellers
+      tellers = rows_after teller_key new_teller (first_teller b) 10 t.tellers (λ _. refl) ready.tellers
           (λ n lt. no_teller t b n ready hb closed lt);
-      accounts = rows_behind account_key new_account (first_account b) terms.accounts t.accounts
+      accounts = rows_after account_key new_account (first_account b) terms.accounts t.accounts
           (λ _. refl) ready.accounts
           (λ n lt. no_account t b n ready hb closed (omega arith));
       history = refl;

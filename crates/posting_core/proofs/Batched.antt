@@ -7,7 +7,7 @@ use Rattle.std.proofs.{Math.Nat.suc-mul, lemmas.List.Concat.flat_map-append}
 use Rattle.std.proofs.lemmas.List.{take_at, drop_at, length-take-le, drop-take, drop-drop, length-append}
 use Rattle.std.proofs.lemmas.List.{length-drop, take-append-drop}
 use Rattle.posting_rules.specs.Commands.{Command}
-use Rattle.posting_rules.specs.Runs.{behind, posts, replies_to, ArePosts}
+use Rattle.posting_rules.specs.Runs.{followed_by, posts, replies_to, ArePosts}
 use Rattle.posting_core.specs.Batches.{Batch, IsRecord, joined, records_in, posts_in, records_of, posts_of}
 use Rattle.posting_core.specs.Stream.{whole_records, posted_records}
 use Rattle.posting_rules.proofs.Sequence.{replies_to-append}
@@ -25,7 +25,7 @@ pub posts_of_one_more : (bs : List Batch) (b : Batch) → posts_of (bs ++ b ∷ 
 posts_of_one_more bs b = flat_map-append posts_in bs (b ∷ []) ∙ ap (λ (t : List Command). posts_of bs ++ t)
     (append-nil (posts_in b))
 
--- the bytes of its records behind those of the others
+-- the bytes of its records after those of the others
 pub joined_one_more : (bs : List Batch) (b : Batch) (rest : List ℕ)
     → joined (records_of (bs ++ b ∷ [])) ++ rest ≡ joined (records_of bs) ++ (joined b.records ++ rest)
 joined_one_more bs b rest =
@@ -33,14 +33,14 @@ joined_one_more bs b rest =
     (joined-append (records_of bs) b.records)
     ∙ append_assoc (joined (records_of bs)) (joined b.records) rest
 
--- its replies behind those to the others
+-- its replies after those to the others
 pub replies_of_one_more : (log : List Command) (bs : List Batch) (b : Batch)
     → joined (replies_to log (posts_of (bs ++ b ∷ []))) ≡ joined (replies_to log (posts_of bs)) ++ joined
-    (replies_to (behind log (posts_of bs)) (posts_in b))
+    (replies_to (followed_by log (posts_of bs)) (posts_in b))
 replies_of_one_more log bs b =
     ap (λ (t : List Command). joined (replies_to log t)) (posts_of_one_more bs b) ∙ ap joined
     (replies_to-append log (posts_of bs) (posts_in b))
-    ∙ joined-append (replies_to log (posts_of bs)) (replies_to (behind log (posts_of bs)) (posts_in b))
+    ∙ joined-append (replies_to log (posts_of bs)) (replies_to (followed_by log (posts_of bs)) (posts_in b))
 
 -- ---- what batches post
 
@@ -66,7 +66,7 @@ posted_is (b ∷ bs) = posted_more b.moment b.records (posts_of bs) ∙ ap (λ (
 
 -- ---- bytes and records
 
--- chunks and what is behind them are the bytes again
+-- chunks and what is after them are the bytes again
 chunks_joined : (n k : ℕ) (xs : List ℕ) → k * n ≤ length xs
     → joined (first_chunks n k xs) ++ drop (k * n) xs ≡ xs
 chunks_joined n zero xs le = let z : 0 * n ≡ 0 = omega arith in ap (λ (j : ℕ). drop j xs) z

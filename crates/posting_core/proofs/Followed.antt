@@ -1,5 +1,6 @@
 -- Batches follow reads: each has all whole records that a read completed.
-use Rattle.std.proofs.Common.{◌≡◌, ◌≤◌, ◌<◌, ◌+◌, ◌*◌, ◌/◌, ℕ, min, true, false, leb, List, [], ◌∷◌, ◌++◌, length, take, Option}
+use Rattle.std.proofs.Common.{◌≡◌, ◌≤◌, ◌<◌, ◌+◌, ◌*◌, ◌/◌, ℕ, min, true, false, leb, List, [], ◌∷◌, ◌++◌, length}
+use Rattle.std.proofs.Common.{take, Option}
 use Rattle.std.proofs.Common.{Result, Ok, Err, refl, sym, ap, subst, ◌∙◌, append-nil, arith, inl, inr, ◌⊎◌}
 use Rattle.std.proofs.{lemmas.Bool.Decides.leb_tells, lemmas.List.Concat.flat_map-append}
 use Rattle.std.proofs.lemmas.List.{length-append, take_all, take_min, take-append-le}
@@ -12,7 +13,7 @@ use Rattle.posting_rules.specs.Counter.{Seen}
 use Rattle.posting_core.proofs.{Streaming.Going, Telling.adds-more, Telling.adds-none}
 use Rattle.posting_core.proofs.Prompt.{prompt_first, prompt_read, prompt_written}
 
--- the batches follow the reads, which gave their records and so many bytes behind them; no reply waits for the
+-- the batches follow the reads, which gave their records and so many bytes after them; no reply waits for the
 -- next read
 pub record Following (q q' : Option (List ReadTold)) (b b' : Option (List Beside)) (w : Option (List ℕ))
     (t : Option (List WriteTold)) (batches : List Batch) (rest : ℕ) (written : List ℕ) : Type 0 where
@@ -47,7 +48,7 @@ gave_some r n is = rw is (omega arith)
 pub gave_none : (r : Result ℕ Error) (e : Error) → r ≡ Err e → given (read_told r ∷ []) ≡ 0
 gave_none r e is = rw is refl
 
--- ---- a beginning of what there was, where there is more now
+-- ---- a prefix of what there was, where there is more now
 
 first_of : {A : Type 0} (n : ℕ) (xs ys : List A) → take (min n (length xs)) (xs ++ ys) ≡ take n xs
 first_of n xs ys = take-append-le (min n (length xs)) xs ys (omega arith) ∙ take_min n xs

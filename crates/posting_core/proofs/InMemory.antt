@@ -7,14 +7,14 @@ use Rattle.posting_rules.specs.declared.{rows.RequestRow.RequestRow, rows.FloorR
 use Rattle.posting_rules.specs.declared.{rows.ReferenceRow.ReferenceRow}
 use Rattle.posting_rules.specs.declared.fault.Fault.TheVariants.{Memory}
 use Rattle.posting_rules.specs.Commands.{Command, AreCommands}
-use Rattle.posting_rules.specs.Runs.{behind}
+use Rattle.posting_rules.specs.Runs.{followed_by}
 use Rattle.posting_rules.specs.Tables.{Tables, AreTablesOf}
 use Rattle.posting_rules.specs.Counter.{IsCounterCall, IsSeenUnchanged, ShowsLog, StandsAt, Takes}
 use Rattle.posting_batch.specs.Slots.{in_slot}
 use Rattle.posting_core.specs.declared.plain_bank.PlainBank.{PlainBank}
 use Rattle.posting_core.specs.Plain.{plain_reason, plain_tables, plain_seen}
 use Rattle.posting_rules.proofs.{CounterCalls.call_answered, CounterCalls.call_spared}
-use Rattle.posting_rules.proofs.Sequence.{commands_behind}
+use Rattle.posting_rules.proofs.Sequence.{commands_after}
 
 -- a row that is found tells its balance
 pub row_told : {R : Type 0} (balance : R → ℤ) (o : Option R)
@@ -46,7 +46,7 @@ pub unmapped : {A B : Type 0} (f : A → B) (o : Option A) → option_map f o �
 unmapped f None e = refl
 unmapped f (Some x) e = absurd cc
 
--- ---- what the bank shows, whose rows are all that a stop leaves
+-- ---- what the bank shows, whose rows are all that a crash leaves
 
 pub plain_shows : (bank : PlainBank) (log : List Command) → ShowsLog (plain_seen bank) log
     → AreTablesOf (plain_tables bank) log
@@ -73,24 +73,24 @@ stands_plain bank log commands s = record {
 -- commands that its rows took
 pub takes_plain : (old new : PlainBank) (cs : List Command) → AreCommands cs
     → ((log : List Command) → AreTablesOf (plain_tables old) log
-    → AreTablesOf (plain_tables new) (behind log cs))
+    → AreTablesOf (plain_tables new) (followed_by log cs))
     → Takes (plain_seen old) (plain_seen new) cs
 takes_plain old new cs valid s = record {
-  shows = λ h log l. shows_plain new (behind log cs) (commands_behind log cs l.commands valid)
+  shows = λ h log l. shows_plain new (followed_by log cs) (commands_after log cs l.commands valid)
       (s log (plain_shows old log l));
-  stands = λ h log st. stands_plain new (behind log cs) (commands_behind log cs st.shows.commands valid)
+  stands = λ h log st. stands_plain new (followed_by log cs) (commands_after log cs st.shows.commands valid)
       (s log (plain_shows old log st.shows));
 }
 
 -- they lead from its rows to those that a change leaves
-pub behind_plain : (old new : PlainBank) (cs : List Command) (change : Tables → Tables) → AreCommands cs
+pub after_plain : (old new : PlainBank) (cs : List Command) (change : Tables → Tables) → AreCommands cs
     → plain_tables new ≡ change (plain_tables old)
     → ((log : List Command) → AreTablesOf (plain_tables old) log
-    → AreTablesOf (change (plain_tables old)) (behind log cs))
+    → AreTablesOf (change (plain_tables old)) (followed_by log cs))
     → Takes (plain_seen old) (plain_seen new) cs
-behind_plain old new cs change valid is shows =
+after_plain old new cs change valid is shows =
     takes_plain old new cs valid
-    (λ log s. subst (λ (t : Tables). AreTablesOf t (behind log cs)) (sym is) (shows log s))
+    (λ log s. subst (λ (t : Tables). AreTablesOf t (followed_by log cs)) (sym is) (shows log s))
 
 -- ---- a call
 

@@ -1,4 +1,4 @@
-pub mod Behind
+pub mod RowsAfter
 mod NextBranch
 pub mod Telling
 pub mod Appending

@@ -1,4 +1,4 @@
--- What a stream did, said of what was read and written alone: its text, what a stop may leave, and records
+-- What a stream did, said of what was read and written alone: its text, what a crash may leave, and records
 -- that come again.
 use Rattle.std.proofs.Common.{◌≡◌, ℕ, zero, suc, ◌-◌, ◌<◌, ◌≤◌, List, [], ◌∷◌, ◌++◌, length, take, Option}
 use Rattle.std.proofs.Common.{Result, Ok, Err, sym, ap, subst, ◌∙◌, append-nil, arith}
@@ -9,7 +9,7 @@ use Rattle.posting_core.specs.declared.stream.StreamFault.{StreamFault}
 use Rattle.posting_core.specs.declared.stream.StreamFault.TheVariants.{Truncated, Read, Write, Bank}
 use Rattle.posting_rules.specs.{Commands.Command, Counter.Seen, Counter.ShowsLog, Entries.reply, Resends.Place}
 use Rattle.posting_rules.specs.Resends.{Skips}
-use Rattle.posting_rules.specs.Runs.{behind, posts, replies_to, ArePosts}
+use Rattle.posting_rules.specs.Runs.{followed_by, posts, replies_to, ArePosts}
 use Rattle.message_records.specs.Spelling.{reply_spelling}
 use Rattle.posting_core.specs.Batches.{Batch, IsRecord, joined, records_of, posts_in, posts_of}
 use Rattle.posting_core.specs.Stream.{replies_text, acknowledged, IfTaken, Streamed, OutputsReplies, SurvivesStream}
@@ -32,20 +32,20 @@ text_is log bs rest whole few =
 -- the replies to batches, and to further ones
 replies_split : (log : List Command) (bs more : List Batch)
     → replies_to log (posts_of (bs ++ more)) ≡ replies_to log (posts_of bs) ++ replies_to
-    (behind log (posts_of bs)) (posts_of more)
+    (followed_by log (posts_of bs)) (posts_of more)
 replies_split log bs more = ap (replies_to log) (flat_map-append posts_in bs more) ∙ replies_to-append log
     (posts_of bs) (posts_of more)
 
--- those to the first ones are a beginning
+-- those to the first ones are a prefix
 text_begins : (log : List Command) (bs more : List Batch)
     → joined (replies_to log (posts_of bs)) ≡ take (length (joined (replies_to log (posts_of bs))))
     (joined (replies_to log (posts_of (bs ++ more))))
 text_begins log bs more =
     let first = joined (replies_to log (posts_of bs)) in
-    let rest = joined (replies_to (behind log (posts_of bs)) (posts_of more)) in
+    let rest = joined (replies_to (followed_by log (posts_of bs)) (posts_of more)) in
     let split : joined (replies_to log (posts_of (bs ++ more))) ≡ first ++ rest =
     ap joined (replies_split log bs more) ∙ joined-append (replies_to log (posts_of bs))
-    (replies_to (behind log (posts_of bs)) (posts_of more)) in
+    (replies_to (followed_by log (posts_of bs)) (posts_of more)) in
     sym (ap (take (length first)) split ∙ take-append_seam first rest)
 
 -- none was refused
@@ -110,7 +110,7 @@ output_of {w = w} {w' = w'} (Err (Bank fault)) s = record {
       );
 }
 
--- ---- what a stop leaves
+-- ---- what a crash leaves
 
 -- the bytes of so many replies acknowledge no more than these
 few_acknowledged : (xs ys : List (List ℕ)) (n : ℕ) → n ≤ length (joined xs)
@@ -144,7 +144,7 @@ acknowledged_taken : (log : List Command) (bs refused : List Batch) (n : ℕ)
     → acknowledged (replies_to log (posts_of (bs ++ refused))) n ≤ length (posts_of bs)
 acknowledged_taken log bs refused n le =
     let first = replies_to log (posts_of bs) in
-    let rest = replies_to (behind log (posts_of bs)) (posts_of refused) in
+    let rest = replies_to (followed_by log (posts_of bs)) (posts_of refused) in
     let each : length first ≡ length (posts_of bs) = one_reply_each log (posts_of bs) (all_posts bs) in
     subst (λ (rs : List (List ℕ)). acknowledged rs n ≤ length (posts_of bs))
     (sym (replies_split log bs refused))
@@ -176,69 +176,69 @@ survives_of {c' = c'} result s =
 -- a bank that shows what was taken shows it without those that stand in p
 tables_left : (c : Seen) (log p added : List Command) (bs refused : List Batch) → refused ≡ [] → ArePosts p
     → Skips p (posts_of (bs ++ refused)) added
-    → ShowsLog c (behind (behind log p) (posts_of bs)) → ShowsLog c (behind (behind log p) added)
+    → ShowsLog c (followed_by (followed_by log p) (posts_of bs)) → ShowsLog c (followed_by (followed_by log p) added)
 tables_left c log p added bs refused none hp skips shows =
     shows_log_left_out c log p (posts_of bs) added hp (all_posts bs)
     (subst (λ (x : List Batch). Skips p (posts_of x) added) (sym (all_taken bs refused none)) skips) shows
 
 tables_again : {r r' w w' k k' : Option (List ℕ)} {c c' : Seen} (result : Result ℕ StreamFault)
     (s : Streamed r r' w w' k k' c c' result) (log p added : List Command)
-    → c'.honest → ArePosts p → Skips p (posts_of (s.taken ++ s.refused)) added → ShowsLog c (behind log p)
-    → IfTaken result (ShowsLog c' (behind (behind log p) added))
+    → c'.honest → ArePosts p → Skips p (posts_of (s.taken ++ s.refused)) added → ShowsLog c (followed_by log p)
+    → IfTaken result (ShowsLog c' (followed_by (followed_by log p) added))
 tables_again {c' = c'} (Ok count) s log p added h hp skips shows =
-    tables_left c' log p added s.taken s.refused s.ends.all_taken hp skips (s.shows h (behind log p) shows)
+    tables_left c' log p added s.taken s.refused s.ends.all_taken hp skips (s.shows h (followed_by log p) shows)
 tables_again {c' = c'} (Err (Truncated n)) s log p added h hp skips shows =
-    tables_left c' log p added s.taken s.refused s.ends.all_taken hp skips (s.shows h (behind log p) shows)
+    tables_left c' log p added s.taken s.refused s.ends.all_taken hp skips (s.shows h (followed_by log p) shows)
 tables_again {c' = c'} (Err Read) s log p added h hp skips shows =
-    tables_left c' log p added s.taken s.refused s.ends hp skips (s.shows h (behind log p) shows)
+    tables_left c' log p added s.taken s.refused s.ends hp skips (s.shows h (followed_by log p) shows)
 tables_again {c' = c'} (Err Write) s log p added h hp skips shows =
-    tables_left c' log p added s.taken s.refused s.ends hp skips (s.shows h (behind log p) shows)
+    tables_left c' log p added s.taken s.refused s.ends hp skips (s.shows h (followed_by log p) shows)
 tables_again (Err (Bank fault)) s log p added h hp skips shows = tt
 
 -- what was written at the place of a record that is in p, where none was refused
 stands_whole : (log p : List Command) (one : List ℕ) (bs refused : List Batch) (written : List ℕ)
     (first : Place one p) (again : Place one (posts_of (bs ++ refused))) → refused ≡ [] → ArePosts p
-    → written ≡ joined (replies_to (behind log p) (posts_of bs))
-    → reply_at (length again.before) written ≡ reply_spelling (reply (behind log first.before) one)
+    → written ≡ joined (replies_to (followed_by log p) (posts_of bs))
+    → reply_at (length again.before) written ≡ reply_spelling (reply (followed_by log first.before) one)
 stands_whole log p one bs refused written first again none hp is =
     let k = length again.before in
-    ap (reply_at k) (is ∙ ap (λ (x : List Batch). joined (replies_to (behind log p) (posts_of x)))
+    ap (reply_at k) (is ∙ ap (λ (x : List Batch). joined (replies_to (followed_by log p) (posts_of x)))
     (all_taken bs refused none))
     ∙ reply_stands log p (posts_of (bs ++ refused)) one first again hp (all_posts (bs ++ refused))
 
--- and where a beginning of the text was written
+-- and where a prefix of the text was written
 stands_begun : (log p : List Command) (one : List ℕ) (bs : List Batch) (n : ℕ) (written : List ℕ)
     (first : Place one p) (again : Place one (posts_of bs)) → ArePosts p
-    → written ≡ take n (joined (replies_to (behind log p) (posts_of bs)))
+    → written ≡ take n (joined (replies_to (followed_by log p) (posts_of bs)))
     → reply_at (length again.before) written ≡ take (length (reply_at (length again.before) written))
-    (reply_spelling (reply (behind log first.before) one))
+    (reply_spelling (reply (followed_by log first.before) one))
 stands_begun log p one bs n written first again hp is =
-    reply_begins (length again.before) n written (joined (replies_to (behind log p) (posts_of bs))) _ is
+    reply_begins (length again.before) n written (joined (replies_to (followed_by log p) (posts_of bs))) _ is
     (reply_stands log p (posts_of bs) one first again hp (all_posts bs))
 
 replied : {r r' w w' k k' : Option (List ℕ)} {c c' : Seen} (result : Result ℕ StreamFault)
     (s : Streamed r r' w w' k k' c c' result) (log p : List Command) (one : List ℕ) (first : Place one p)
     (again : Place one (posts_of (s.taken ++ s.refused)))
-    → c'.honest → ArePosts p → ShowsLog c (behind log p)
+    → c'.honest → ArePosts p → ShowsLog c (followed_by log p)
     → IsReplied result (reply_at (length again.before) s.written)
-    (reply_spelling (reply (behind log first.before) one))
+    (reply_spelling (reply (followed_by log first.before) one))
 replied (Ok count) s log p one first again h hp shows =
     stands_whole log p one s.taken s.refused s.written first again s.ends.all_taken hp
-    (s.replies h (behind log p) shows)
+    (s.replies h (followed_by log p) shows)
 replied (Err (Truncated n)) s log p one first again h hp shows =
     stands_whole log p one s.taken s.refused s.written first again s.ends.all_taken hp
-    (s.replies h (behind log p) shows)
+    (s.replies h (followed_by log p) shows)
 replied (Err Read) s log p one first again h hp shows =
     stands_whole log p one s.taken s.refused s.written first again s.ends hp
-    (s.replies h (behind log p) shows)
+    (s.replies h (followed_by log p) shows)
 replied (Err Write) s log p one first again h hp shows =
     stands_begun log p one (s.taken ++ s.refused) (length s.written) s.written first again hp
-    (s.replies h (behind log p) shows
-    ∙ ap (λ (x : List Batch). take (length s.written) (joined (replies_to (behind log p) (posts_of x))))
+    (s.replies h (followed_by log p) shows
+    ∙ ap (λ (x : List Batch). take (length s.written) (joined (replies_to (followed_by log p) (posts_of x))))
     (all_taken s.taken s.refused s.ends))
 replied (Err (Bank fault)) s log p one first again h hp shows =
     stands_begun log p one (s.taken ++ s.refused) _ s.written first again hp
-    (s.replies h (behind log p) shows ∙ text_begins (behind log p) s.taken s.refused)
+    (s.replies h (followed_by log p) shows ∙ text_begins (followed_by log p) s.taken s.refused)
 
 pub resends_of : {r r' w w' k k' : Option (List ℕ)} {c c' : Seen} (result : Result ℕ StreamFault)
     → Streamed r r' w w' k k' c c' result → Resends r r' w w' c c' result

@@ -10,7 +10,8 @@ use Rattle.posting_core.specs.declared.stream.StreamFault.TheVariants.{Truncated
 use Rattle.posting_rules.specs.{Commands.Command, Commands.Post, Counter.Seen, Counter.Refuses, Runs.posts}
 use Rattle.posting_rules.specs.Runs.{ArePosts}
 use Rattle.posting_core.specs.Batches.{Batch, IsRecord, joined, records_of, posts_of, BreaksOff}
-use Rattle.posting_core.specs.Stream.{IfBank, IfTaken, IsRefusedBehind, UnlessDown, posted_records, whole_records}
+use Rattle.posting_core.specs.Stream.{IfBank, IfTaken, IsRefusedAfterBatches, UnlessDown, posted_records}
+use Rattle.posting_core.specs.Stream.{whole_records}
 use Rattle.posting_core.proofs.Batched.{all_posts, posted_is, posts_of_one_more, whole_records_are}
 use Rattle.posting_core.proofs.{Streaming.Going, StreamedBatches.read_batch, StreamedBatches.whole_batch}
 
@@ -48,7 +49,7 @@ pub refused_broken : {C : Type 0} (seen : C → Seen) (reason : Fault → C → 
     → ((seen new).honest → (seen stood).honest)
     → BreaksOff fault v v' (seen stood) (seen new) (posts m rs) → ((seen stood).is_down → fault ≡ Bank Down)
     → IfBank fault (λ told. reason told stood new)
-    → IfBank fault (IsRefusedBehind seen reason old new r r')
+    → IfBank fault (IsRefusedAfterBatches seen reason old new r r')
 refused_broken seen reason old stood new {r = r} {r' = r'} {done = done} {count = count} v v'
     (Bank fault) m all rest rs g cut few some most first up honest a down why =
     let b : Batch = record { moment = m; records = rs } in

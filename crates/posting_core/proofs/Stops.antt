@@ -1,32 +1,32 @@
--- What a stop leaves of commands that were given, and what a text holds of others.
+-- What a crash leaves of commands that were given, and what a text holds of others.
 use Rattle.std.proofs.Common.{◌≡◌, ℕ, ◌+◌, ◌≤◌, List, ◌++◌, length, take, sym, ap, subst, ◌∙◌, arith}
 use Rattle.std.proofs.{Math.Seq.take-append-add, lemmas.List.length-append, lemmas.List.take_all}
 use Rattle.posting_rules.specs.declared.fault.Fault.{Fault}
 use Rattle.posting_rules.specs.declared.fault.Fault.TheVariants.{Memory, Store, Down, Damaged}
 use Rattle.posting_rules.specs.{Commands.Command, Commands.AreCommands, Tables.Tables, Tables.AreTablesOf}
-use Rattle.posting_rules.specs.Runs.{behind}
-use Rattle.posting_rules.specs.Counter.{Seen, LeavesOnly, StandsAt, ShowsBeginning, Refuses}
-use Rattle.posting_rules.proofs.{Remaining.leaves_still, Remaining.leaves_weaker, Sequence.behind-append}
+use Rattle.posting_rules.specs.Runs.{followed_by}
+use Rattle.posting_rules.specs.Counter.{Seen, LeavesOnly, StandsAt, ShowsPrefix, Refuses}
+use Rattle.posting_rules.proofs.{Remaining.leaves_still, Remaining.leaves_weaker, Sequence.after-append}
 
--- a stop leaves all that was taken
-pub stop_all : (c : Seen) (log cs ds : List Command) → cs ≡ ds → StandsAt c (behind log ds)
-    → LeavesOnly c (ShowsBeginning log cs (length ds))
-stop_all c log cs ds e s = leaves_weaker c (λ t. AreTablesOf t (behind log ds))
-    (ShowsBeginning log cs (length ds))
+-- a crash leaves all that was taken
+pub stop_all : (c : Seen) (log cs ds : List Command) → cs ≡ ds → StandsAt c (followed_by log ds)
+    → LeavesOnly c (ShowsPrefix log cs (length ds))
+stop_all c log cs ds e s = leaves_weaker c (λ t. AreTablesOf t (followed_by log ds))
+    (ShowsPrefix log cs (length ds))
     (λ t shown.
     let all : take (length ds) cs ≡ ds = ap (take (length ds)) e ∙ take_all (length ds) ds (omega arith) in
     record {
       count = length ds;
       holds = omega arith;
       within = omega (arith, ap length e);
-      are = subst (λ (l : List Command). AreCommands (behind log l)) (sym all) s.shows.commands;
-      shows = subst (λ (l : List Command). AreTablesOf t (behind log l)) (sym all) shown;
+      are = subst (λ (l : List Command). AreCommands (followed_by log l)) (sym all) s.shows.commands;
+      shows = subst (λ (l : List Command). AreTablesOf t (followed_by log l)) (sym all) shown;
     })
     s.survives
 
 -- who finds so many of the commands finds fewer too
-pub at_least : (log cs : List Command) (n k : ℕ) (t : Tables) → k ≤ n → ShowsBeginning log cs n t
-    → ShowsBeginning log cs k t
+pub at_least : (log cs : List Command) (n k : ℕ) (t : Tables) → k ≤ n → ShowsPrefix log cs n t
+    → ShowsPrefix log cs k t
 at_least log cs n k t le b = record {
   count = b.count;
   holds = omega (arith, b.holds);
@@ -35,17 +35,17 @@ at_least log cs n k t le b = record {
   shows = b.shows;
 }
 
--- what a stop leaves where the last commands were refused
+-- what a crash leaves where the last commands were refused
 pub stop_part : (c : Seen) (log cs ds es : List Command) → es ≡ cs ++ ds
-    → LeavesOnly c (ShowsBeginning (behind log cs) ds 0)
-    → LeavesOnly c (ShowsBeginning log es (length cs))
-stop_part c log cs ds es e stop = leaves_weaker c (ShowsBeginning (behind log cs) ds 0)
-    (ShowsBeginning log es (length cs))
+    → LeavesOnly c (ShowsPrefix (followed_by log cs) ds 0)
+    → LeavesOnly c (ShowsPrefix log es (length cs))
+stop_part c log cs ds es e stop = leaves_weaker c (ShowsPrefix (followed_by log cs) ds 0)
+    (ShowsPrefix log es (length cs))
     (λ t b.
     let begins : take (length cs + b.count) es ≡ cs ++ take b.count ds = ap (take (length cs + b.count)) e
     ∙ take-append-add cs ds b.count in
-    let same : behind log (take (length cs + b.count) es) ≡ behind (behind log cs) (take b.count ds) =
-    ap (behind log) begins ∙ behind-append log cs (take b.count ds) in
+    let same : followed_by log (take (length cs + b.count) es) ≡ followed_by (followed_by log cs) (take b.count ds) =
+    ap (followed_by log) begins ∙ after-append log cs (take b.count ds) in
     record {
       count = length cs + b.count;
       holds = omega arith;
@@ -55,10 +55,10 @@ stop_part c log cs ds es e stop = leaves_weaker c (ShowsBeginning (behind log cs
     })
     stop
 
--- refused commands leave a beginning of them
+-- refused commands leave a prefix of them
 pub refused_stop : (fault : Fault) (c c' : Seen) (log cs : List Command) → Refuses fault c c' cs → c'.honest
-    → StandsAt c log → LeavesOnly c' (ShowsBeginning log cs 0)
-refused_stop Memory c c' log cs u h s = leaves_weaker c' (λ t. AreTablesOf t log) (ShowsBeginning log cs 0)
+    → StandsAt c log → LeavesOnly c' (ShowsPrefix log cs 0)
+refused_stop Memory c c' log cs u h s = leaves_weaker c' (λ t. AreTablesOf t log) (ShowsPrefix log cs 0)
     (λ t shown. record {
       count = 0;
       holds = omega arith;
@@ -71,7 +71,7 @@ refused_stop Store c c' log cs u h s = u.survives h log s
 refused_stop Down c c' log cs u h s = absurd (s.up u.before)
 refused_stop (Damaged rule) c c' log cs u h s = absurd (u.never_shown h log s.shows)
 
--- all of one text and a beginning of the next are a beginning of both
+-- all of one text and a prefix of the next are a prefix of both
 pub written_part : (a b t u : List ℕ) → a ≡ t → b ≡ take (length b) u
     → a ++ b ≡ take (length (a ++ b)) (t ++ u)
 written_part a b t u ea eb =

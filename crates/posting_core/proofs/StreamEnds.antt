@@ -9,7 +9,7 @@ use Rattle.posting_core.specs.declared.stream.StreamFault.{StreamFault}
 use Rattle.posting_core.specs.declared.stream.StreamFault.TheVariants.{Truncated, Read, Write, Bank}
 use Rattle.posting_rules.specs.{Commands.Command, Tables.AreTablesOf}
 use Rattle.posting_rules.specs.Counter.{Seen, ShowsLog, StandsAt, Refuses, IsSeenUnchanged}
-use Rattle.posting_rules.specs.Runs.{behind, posts, replies_to}
+use Rattle.posting_rules.specs.Runs.{followed_by, posts, replies_to}
 use Rattle.posting_core.specs.Clock.{IsReading, AreReadings}
 use Rattle.posting_core.specs.Batches.{Batch, IsBatch, IsRecord, joined, moments_of, records_of, posts_of, BreaksOff}
 use Rattle.posting_core.specs.Stream.{EndsStream, FollowReads, RepliesAreWritten, IfUp, StreamsAsRead}
@@ -65,8 +65,8 @@ end_of {r = r} {r' = r'} {k = k} {k' = k'} {c' = c'} {done = done} {rest = rest}
         honest = g.honest;
         replies = λ h log s. fits.written written (joined (replies_to log (posts_of done)))
             (g.replies h log s);
-        shows = λ h log s. fits.up (ShowsLog c' (behind log (posts_of done))) (g.takes.shows h log s);
-        stands = λ h log s. fits.up (StandsAt c' (behind log (posts_of done))) (g.takes.stands h log s);
+        shows = λ h log s. fits.up (ShowsLog c' (followed_by log (posts_of done))) (g.takes.shows h log s);
+        stands = λ h log s. fits.up (StandsAt c' (followed_by log (posts_of done))) (g.takes.stands h log s);
         survives = λ h log s. stop_all c' log (posts_of (done ++ [])) (posts_of done)
             (ap posts_of none)
             (g.takes.stands h log s);
@@ -172,7 +172,7 @@ end_broken Write {r = r} {r' = r'} {w = w} {w' = w'} {w'' = w''} {k = k} {k' = k
         honest = λ h. g.honest (honest h);
         replies = λ h log s.
             written_part written a.written _ _ (g.replies (honest h) log s)
-            (a.replies h (behind log (posts_of done)) (g.takes.shows (honest h) log s))
+            (a.replies h (followed_by log (posts_of done)) (g.takes.shows (honest h) log s))
             ∙ ap (λ (x : List ℕ). take (length (written ++ a.written)) x)
             (sym (replies_of_one_more log done b));
         shows = λ h log s. takes.shows h log s;
@@ -201,14 +201,14 @@ end_broken (Bank fault) {r = r} {r' = r'} {w = w} {w' = w'} {w'' = w''} {k = k} 
         ends = refl;
         honest = λ h. g.honest (honest h);
         replies = λ h log s. g.replies (honest h) log s;
-        shows = λ h log s. refused_shows fault c' c'' (behind log (posts_of done)) (posts m rs) a.refuses
+        shows = λ h log s. refused_shows fault c' c'' (followed_by log (posts_of done)) (posts m rs) a.refuses
             (g.takes.shows (honest h) log s);
-        stands = λ h log s. refused_stands fault c' c'' (behind log (posts_of done)) (posts m rs) a.refuses
+        stands = λ h log s. refused_stands fault c' c'' (followed_by log (posts_of done)) (posts m rs) a.refuses
             (g.takes.stands (honest h) log s);
         survives = λ h log s. stop_part c'' log (posts_of done) (posts m rs)
             (posts_of (done ++ b ∷ []))
             (posts_of_one_more done b)
-            (refused_stop fault c' c'' (behind log (posts_of done)) (posts m rs) a.refuses h
+            (refused_stop fault c' c'' (followed_by log (posts_of done)) (posts m rs) a.refuses h
             (g.takes.stands (honest h) log s));
       };
       follow = follow.follow;

@@ -6,11 +6,11 @@ use Rattle.std.proofs.lemmas.List.{length-append, length-map, map-append}
 use Rattle.posting_rules.specs.declared.limits.TheConstants.{RECORDS_PER_BATCH}
 use Rattle.posting_rules.specs.Commands.{Command, Post}
 use Rattle.posting_rules.specs.Counter.{Seen, ShowsLog, StandsAt, Takes}
-use Rattle.posting_rules.specs.Runs.{behind, posts, replies_to}
+use Rattle.posting_rules.specs.Runs.{followed_by, posts, replies_to}
 use Rattle.posting_core.specs.Clock.{after_one, IsNextReading, IsReading, AreReadings}
 use Rattle.posting_core.specs.Batches.{Batch, IsBatch, IsRecord, joined, moment_of, moments_of, records_of, posts_in}
 use Rattle.posting_core.specs.Batches.{posts_of, BatchIsAnswered}
-use Rattle.posting_rules.proofs.Sequence.{behind-append}
+use Rattle.posting_rules.proofs.Sequence.{after-append}
 use Rattle.posting_core.proofs.Batched.{joined_one_more, records_one_more, posts_of_one_more, replies_of_one_more}
 use Rattle.posting_core.proofs.Streaming.{Going}
 
@@ -29,13 +29,13 @@ readings_more k k' k'' (x ∷ ms) m e r = (e.0, readings_more (after_one k) k' k
 takes_more : (c c' c'' : Seen) (cs ds : List Command) → (c''.honest → c'.honest) → Takes c c' cs
     → Takes c' c'' ds → Takes c c'' (cs ++ ds)
 takes_more c c' c'' cs ds honest a b =
-    let same : (log : List Command) → behind (behind log cs) ds ≡ behind log (cs ++ ds) = λ log. sym
-    (behind-append log cs ds) in
+    let same : (log : List Command) → followed_by (followed_by log cs) ds ≡ followed_by log (cs ++ ds) = λ log. sym
+    (after-append log cs ds) in
     record {
       shows = λ h log s. subst (λ (l : List Command). ShowsLog c'' l) (same log)
-          (b.shows h (behind log cs) (a.shows (honest h) log s));
+          (b.shows h (followed_by log cs) (a.shows (honest h) log s));
       stands = λ h log s. subst (λ (l : List Command). StandsAt c'' l) (same log)
-          (b.stands h (behind log cs) (a.stands (honest h) log s));
+          (b.stands h (followed_by log cs) (a.stands (honest h) log s));
     }
 
 pub takes_batch : (c c' c'' : Seen) (bs : List Batch) (b : Batch) → (c''.honest → c'.honest)
@@ -102,6 +102,6 @@ going_batch {r = r} {r' = r'} {w = w} {w' = w'} {w'' = w''} {k = k} {k' = k'} {k
       takes = takes_batch c c' c'' bs b honest g.takes a.takes;
       replies = λ h log s. ap (λ (t : List ℕ). t ++ a.written) (g.replies (honest h) log s)
           ∙ ap (λ (t : List ℕ). joined (replies_to log (posts_of bs)) ++ t)
-          (a.replies h (behind log (posts_of bs)) (g.takes.shows (honest h) log s))
+          (a.replies h (followed_by log (posts_of bs)) (g.takes.shows (honest h) log s))
           ∙ sym (replies_of_one_more log bs b);
     }

@@ -14,7 +14,7 @@ use Rattle.posting_core.specs.Batches.{Batch, IsBatch, IsRecord, joined, moments
 
 -- ---- where the loop stands
 
--- what the loop did so far: its batches, with what was read behind the last record, how many were answered, and
+-- what the loop did so far: its batches, with what was read after the last record, how many were answered, and
 -- what was written
 pub record Going (r r' w w' k k' : Option (List ℕ)) (c c' : Seen) (done : List Batch) (rest : List ℕ)
     (count : ℕ) (written : List ℕ) : Type 0 where
@@ -70,7 +70,7 @@ going_read {r = r} {r' = r'} {r'' = r''} {done = done} rest more all g got e =
       replies = g.replies;
     }
 
--- they stand behind the rest in the buffer
+-- they stand after the rest in the buffer
 pub going_filled : {r r' r'' w w' k k' : Option (List ℕ)} {c c' : Seen} {done : List Batch} {count : ℕ}
     {written : List ℕ} (old new : List ℕ)
     (filled filled' n : ℕ)

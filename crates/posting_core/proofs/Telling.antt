@@ -55,7 +55,7 @@ pub made_many : {A : Type 0} {a b : Option (List A)} {count : ℕ} → HasMade a
     → IsWornOut a b
 made_many h le = record { calls = h.calls; made = h.made; many = omega (arith, h.count_is) }
 
--- ---- behind calls that were made before
+-- ---- after calls that were made before
 
 pub more_none : {A : Type 0} (a : Option (List A)) → HasMore a a
 more_none a = record { calls = []; made = adds-none a }
@@ -88,7 +88,7 @@ more_many {A} P {a = a} {b = b} {c = c} h e = record {
   are = e.are;
 }
 
--- a failure behind them is one of all
+-- a failure after them is one of all
 pub more_failed : {A : Type 0} (P : A → Type 0) {Q : A → Type 0} {a b c : Option (List A)} → HasMore a b
     → EndsWith P b c ⊎ EndsWithMany Q b c → EndsWith P a c ⊎ EndsWithMany Q a c
 more_failed P h (inl e) = inl (more_last P h e)

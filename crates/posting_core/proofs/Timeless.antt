@@ -13,7 +13,7 @@ use Rattle.posting_rules.specs.Cases.{case_of}
 use Rattle.posting_rules.specs.Commands.{Command, Post, opened, is_teller_open, is_account_open, Terms, floor_of}
 use Rattle.posting_rules.specs.Entries.{DecidedRequest, is_posted, facts, kept, kept_fields, posted_sum, with_verdict}
 use Rattle.posting_rules.specs.Entries.{with_record, decided, reply_given, reply}
-use Rattle.posting_rules.specs.Runs.{behind, posts, replies_to}
+use Rattle.posting_rules.specs.Runs.{followed_by, posts, replies_to}
 use Rattle.posting_core.specs.Batches.{Batch, posts_in, posts_of, records_of}
 use Rattle.posting_rules.proofs.Sequence.{replies_to-append}
 
@@ -90,34 +90,34 @@ record_zeroed m opened es (Err e) = refl
 
 -- ---- records from what is open and decided
 
--- their replies, and what is decided behind them
+-- their replies, and what is decided after them
 replies_from : (ℕ → Option Terms) → List DecidedRequest → List (List ℕ) → List (List ℕ)
 replies_from opened es [] = []
 replies_from opened es (r ∷ rs) = reply_spelling (reply_given (request_of r) opened es) ∷ replies_from opened
     (with_record 0 (request_of r) opened es) rs
 
-entries_behind : (ℕ → Option Terms) → List DecidedRequest → List (List ℕ) → List DecidedRequest
-entries_behind opened es [] = es
-entries_behind opened es (r ∷ rs) = entries_behind opened (with_record 0 (request_of r) opened es) rs
+entries_after : (ℕ → Option Terms) → List DecidedRequest → List (List ℕ) → List DecidedRequest
+entries_after opened es [] = es
+entries_after opened es (r ∷ rs) = entries_after opened (with_record 0 (request_of r) opened es) rs
 
 replies_from-append : (opened : ℕ → Option Terms) (es : List DecidedRequest) (rs ss : List (List ℕ))
     → replies_from opened es (rs ++ ss) ≡ replies_from opened es rs ++ replies_from opened
-    (entries_behind opened es rs) ss
-unfolding replies_from entries_behind
+    (entries_after opened es rs) ss
+unfolding replies_from entries_after
 replies_from-append opened es [] ss = refl
 replies_from-append opened es (r ∷ rs) ss =
     ap (λ (t : List (List ℕ)). reply_spelling (reply_given (request_of r) opened es) ∷ t)
     (replies_from-append opened (with_record 0 (request_of r) opened es) rs ss)
 
--- what is open behind a log, and what is decided there but for the moments
-abbrev open_behind : List Command → ℕ → Option Terms
-open_behind log b = opened log b
+-- what is open after a log, and what is decided there but for the moments
+abbrev open_after : List Command → ℕ → Option Terms
+open_after log b = opened log b
 
 abbrev entries_of : List Command → List DecidedRequest
 entries_of log = zeroed (decided log)
 
 posts_replied : (log : List Command) (m : ℕ) (rs : List (List ℕ))
-    → replies_to log (posts m rs) ≡ replies_from (λ b. open_behind log b) (entries_of log) rs
+    → replies_to log (posts m rs) ≡ replies_from (λ b. open_after log b) (entries_of log) rs
 unfolding replies_from
 posts_replied log m [] = refl
 posts_replied log m (r ∷ rs) =
@@ -130,27 +130,27 @@ posts_replied log m (r ∷ rs) =
     (sym (reply_zeroed (λ b. opened log b) (decided log) (request_of r)))
 
 posts_decided : (log : List Command) (m : ℕ) (rs : List (List ℕ))
-    → entries_of (behind log (posts m rs)) ≡ entries_behind (λ b. open_behind log b) (entries_of log) rs
-unfolding entries_behind
+    → entries_of (followed_by log (posts m rs)) ≡ entries_after (λ b. open_after log b) (entries_of log) rs
+unfolding entries_after
 posts_decided log m [] = refl
 posts_decided log m (r ∷ rs) =
     posts_decided (Post m r ∷ log) m rs
-    ∙ ap (λ (es : List DecidedRequest). entries_behind (λ b. opened log b) es rs)
+    ∙ ap (λ (es : List DecidedRequest). entries_after (λ b. opened log b) es rs)
     (record_zeroed m (λ b. opened log b) (decided log) (request_of r))
 
 posts_opened : (log : List Command) (m : ℕ) (rs : List (List ℕ)) → ◌≡◌ {A = ℕ → Option Terms}
-    (λ b. opened (behind log (posts m rs)) b) (λ b. opened log b)
+    (λ b. opened (followed_by log (posts m rs)) b) (λ b. opened log b)
 posts_opened log m [] = refl
 posts_opened log m (r ∷ rs) = posts_opened (Post m r ∷ log) m rs
 
 -- ---- batches
 
 batches_replied : (log : List Command) (bs : List Batch)
-    → replies_to log (posts_of bs) ≡ replies_from (λ b. open_behind log b) (entries_of log) (records_of bs)
+    → replies_to log (posts_of bs) ≡ replies_from (λ b. open_after log b) (entries_of log) (records_of bs)
 unfolding replies_from
 batches_replied log [] = refl
 batches_replied log (b ∷ bs) =
-    let now = behind log (posts_in b) in
+    let now = followed_by log (posts_in b) in
     let first = replies_from (λ x. opened log x) (zeroed (decided log)) b.records in
     replies_to-append log (posts_in b) (posts_of bs)
     ∙ ap (λ (t : List (List ℕ)). t ++ replies_to now (posts_of bs)) (posts_replied log b.moment b.records)

@@ -53,7 +53,7 @@ wrote_write u v w bs done n after x y e =
     subst (λ (k : ℕ). Appends u w (take k bs)) (sym e) (wrote_more u v w bs done n x
     (subst (λ (t : List ℕ). Appends v w (take n t)) (between_to_end bs done (length bs) (omega arith)) y))
 
--- a beginning of a text that was written, and all of it
+-- a prefix of a text that was written, and all of it
 pub wrote_some : (w w' : Option (List ℕ)) (xs text : List ℕ) (n : ℕ) → Appends w w' (take n xs) → xs ≡ text
     → Appends w w' (take n text)
 wrote_some w w' xs text n wrote is = subst (λ (t : List ℕ). Appends w w' (take n t)) is wrote

@@ -25,10 +25,10 @@ pub record HasOrdinalsTo (last : ℕ) (hs : List HistoryRow) (rs : List RequestR
 
 -- ---- what an opening does to the rows
 
--- the floor of a branch is behind the others, where it has one
-abbrev pub floor_behind : ℕ → Option ℤ → List FloorRow → List FloorRow
-floor_behind b None rows = rows
-floor_behind b (Some lowest) rows = rows ++ floor_row_of b lowest ∷ []
+-- the floor of a branch is after the others, where it has one
+abbrev pub floor_after : ℕ → Option ℤ → List FloorRow → List FloorRow
+floor_after b None rows = rows
+floor_after b (Some lowest) rows = rows ++ floor_row_of b lowest ∷ []
 
 abbrev pub appended_opened : Tables → ℕ → Terms → Tables
 appended_opened t b terms = record {
@@ -38,6 +38,6 @@ appended_opened t b terms = record {
   accounts = t.accounts ++ rows_from new_account (first_account b) terms.accounts;
   history = t.history;
   requests = t.requests;
-  floors = floor_behind b terms.floor t.floors;
+  floors = floor_after b terms.floor t.floors;
   references = t.references;
 }

@@ -57,7 +57,7 @@ pub record BatchIsAnswered (w w' : Option (List ℕ)) (c c' : Seen) (commands : 
   pub takes : Takes c c' commands
   pub replies : c'.honest → (log : List Command) → ShowsLog c log → written ≡ joined (replies_to log commands)
 
--- the bank took them, and a beginning of their replies was written
+-- the bank took them, and a prefix of their replies was written
 pub record IsAnsweredInPart (w w' : Option (List ℕ)) (c c' : Seen) (commands : List Command) : Type 0 where
   pub written : List ℕ
   pub wrote : Appends w w' written

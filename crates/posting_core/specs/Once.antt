@@ -37,7 +37,7 @@ pub record IsUnread (w w' : Option (List ℕ)) (c c' : Seen) : Type 0 where
   pub written : Keeps w w'
   pub unchanged : IsSeenUnchanged c c'
 
--- the record was read and posted, and a beginning of its reply was written
+-- the record was read and posted, and a prefix of its reply was written
 pub record IsCutOff (r r' w w' : Option (List ℕ)) (c c' : Seen) (moment : ℕ) : Type 0 where
   pub bytes : List ℕ
   pub whole : length bytes ≡ REQUEST_BYTES

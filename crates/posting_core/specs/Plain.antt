@@ -19,7 +19,7 @@ plain_tables bank = record {
   references = bank.references.items;
 }
 
--- it is never down, and what a stop leaves are its rows
+-- it is never down, and what a crash leaves are its rows
 abbrev pub plain_seen : PlainBank → Seen
 plain_seen bank = record {
   tables = λ t. t ≡ plain_tables bank;

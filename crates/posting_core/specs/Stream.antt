@@ -1,5 +1,6 @@
--- A stream of records: what is read, what is written, what the bank shows, and what a stop may leave.
-use Rattle.std.specs.Prelude.{◌≡◌, ◌⊎◌, ℕ, zero, suc, ◌+◌, ◌-◌, ◌*◌, ◌≤◌, ◌<◌, ◌/◌, List, [], ◌∷◌, ◌++◌, length, take, drop, get_or, ⊤}
+-- A stream of records: what is read, what is written, what the bank shows, and what a crash may leave.
+use Rattle.std.specs.Prelude.{◌≡◌, ◌⊎◌, ℕ, zero, suc, ◌+◌, ◌-◌, ◌*◌, ◌≤◌, ◌<◌, ◌/◌, List, [], ◌∷◌, ◌++◌, length, take}
+use Rattle.std.specs.Prelude.{drop, get_or, ⊤}
 use Rattle.std.specs.Prelude.{Option, Result, Ok, Err}
 use Rattle.std.specs.List.{AllByRecursion}
 use Rattle.std.specs.Simd.{first_chunks}
@@ -12,9 +13,9 @@ use Rattle.posting_rules.specs.declared.limits.TheConstants.{RECORDS_PER_BATCH}
 use Rattle.posting_core.specs.declared.stream.StreamFault.{StreamFault}
 use Rattle.posting_core.specs.declared.stream.StreamFault.TheVariants.{Truncated, Read, Write, Bank}
 use Rattle.posting_rules.specs.Commands.{Command, Open, Post}
-use Rattle.posting_rules.specs.Counter.{Seen, ShowsLog, LeavesOnly, StandsAt, ShowsBeginning, Takes, Refuses}
+use Rattle.posting_rules.specs.Counter.{Seen, ShowsLog, LeavesOnly, StandsAt, ShowsPrefix, Takes, Refuses}
 use Rattle.posting_rules.specs.Counter.{HasRefused}
-use Rattle.posting_rules.specs.Runs.{behind, posts, replies_to, ArePosts}
+use Rattle.posting_rules.specs.Runs.{followed_by, posts, replies_to, ArePosts}
 use Rattle.posting_core.specs.Clock.{AreReadings}
 use Rattle.posting_core.specs.Told.{ReadTold, Gave, Failed, WriteTold, GrowsBy, EndsWith, HasReadFailed}
 use Rattle.posting_core.specs.Told.{Beside, HasWriteFailed, HoldsFlushed, IsEndOfInput, IsThrough, unknown}
@@ -50,7 +51,7 @@ EndsStream (Err Read) r' taken refused rest = refused ≡ []
 EndsStream (Err Write) r' taken refused rest = refused ≡ []
 EndsStream (Err (Bank fault)) r' taken refused rest = length refused ≡ 1
 
--- what was written of the replies to what the bank took: a beginning where the writer failed, and all of them
+-- what was written of the replies to what the bank took: a prefix where the writer failed, and all of them
 -- elsewhere
 abbrev pub RepliesAreWritten : Result ℕ StreamFault → List ℕ → List ℕ → Type 0
 RepliesAreWritten (Err Write) written replies = written ≡ take (length written) replies
@@ -68,7 +69,7 @@ UnlessDown _ P = P
 -- what a call did, whatever its result
 pub record Streamed (r r' w w' k k' : Option (List ℕ)) (c c' : Seen)
     (result : Result ℕ StreamFault) : Type 0 where
-  -- the batches that the bank took, the one that it refused, and what was read behind them
+  -- the batches that the bank took, the one that it refused, and what was read after them
   pub taken : List Batch
   pub refused : List Batch
   pub rest : List ℕ
@@ -86,12 +87,12 @@ pub record Streamed (r r' w w' k k' : Option (List ℕ)) (c c' : Seen)
   pub replies : c'.honest → (log : List Command) → ShowsLog c log
       → RepliesAreWritten result written (joined (replies_to log (posts_of taken)))
   pub shows : c'.honest → (log : List Command) → ShowsLog c log
-      → UnlessDown result (ShowsLog c' (behind log (posts_of taken)))
+      → UnlessDown result (ShowsLog c' (followed_by log (posts_of taken)))
   pub stands : c'.honest → (log : List Command) → StandsAt c log
-      → UnlessDown result (StandsAt c' (behind log (posts_of taken)))
-  -- a stop leaves all that it took
+      → UnlessDown result (StandsAt c' (followed_by log (posts_of taken)))
+  -- a crash leaves all that it took
   pub survives : c'.honest → (log : List Command) → StandsAt c log
-      → LeavesOnly c' (ShowsBeginning log (posts_of (taken ++ refused)) (length (posts_of taken)))
+      → LeavesOnly c' (ShowsPrefix log (posts_of (taken ++ refused)) (length (posts_of taken)))
 
 -- ---- which records go together: q and q' are what the source's reads are known to have returned
 
@@ -143,11 +144,11 @@ pub record StreamsAsRead (r r' : Option (List ℕ)) (q q' : Option (List ReadTol
 abbrev pub whole_records : List ℕ → List (List ℕ)
 whole_records bytes = first_chunks REQUEST_BYTES (length bytes / REQUEST_BYTES) bytes
 
--- the replies to them behind a log; no reply depends on a moment
+-- the replies to them after a log; no reply depends on a moment
 abbrev pub replies_text : List Command → List ℕ → List ℕ
 replies_text log bytes = joined (replies_to log (posts 0 (whole_records bytes)))
 
--- all of the text was written, or a beginning of it where the writer failed or the bank refused a batch
+-- all of the text was written, or a prefix of it where the writer failed or the bank refused a batch
 abbrev pub WritesReplies : Result ℕ StreamFault → Option (List ℕ) → Option (List ℕ) → List ℕ → Type 0
 WritesReplies (Err Write) w w' text = (n : ℕ) × Appends w w' (take n text)
 WritesReplies (Err (Bank fault)) w w' text = (n : ℕ) × Appends w w' (take n text)
@@ -177,7 +178,7 @@ abbrev pub TellsBreak : StreamFault → Option (List WriteTold) → Option (List
 TellsBreak Write w w' = HasWriteFailed w w'
 TellsBreak _ w w' = w' ≡ w
 
--- ---- what a stop leaves
+-- ---- what a crash leaves
 
 -- the records that are posted
 abbrev pub posted_records : List Command → List (List ℕ)
@@ -192,7 +193,7 @@ acknowledged [] n = 0
 acknowledged (reply ∷ replies) zero = 0
 acknowledged (reply ∷ replies) (suc n) = suc (acknowledged replies (suc n - length reply))
 
--- everything that a stop may leave shows the log and a beginning of what was read, which holds all that was
+-- everything that a crash may leave shows the log and a prefix of what was read, which holds all that was
 -- acknowledged
 pub record SurvivesStream (r r' w w' : Option (List ℕ)) (c c' : Seen) : Type 0 where
   pub bytes : List ℕ
@@ -203,7 +204,7 @@ pub record SurvivesStream (r r' w w' : Option (List ℕ)) (c c' : Seen) : Type 0
   pub posts : ArePosts commands
   pub records : posted_records commands ≡ whole_records bytes
   pub survives : c'.honest → (log : List Command) → StandsAt c log
-      → LeavesOnly c' (ShowsBeginning log commands (acknowledged (replies_to log commands) (length written)))
+      → LeavesOnly c' (ShowsPrefix log commands (acknowledged (replies_to log commands) (length written)))
 
 -- ---- records that come again
 
@@ -216,13 +217,13 @@ IfTaken _ P = P
 abbrev pub reply_at : ℕ → List ℕ → List ℕ
 reply_at place written = take REPLY_BYTES (drop (REPLY_BYTES * place) written)
 
--- it is that reply, or a beginning of it where the writer failed or the bank refused a batch
+-- it is that reply, or a prefix of it where the writer failed or the bank refused a batch
 abbrev pub IsReplied : Result ℕ StreamFault → (part whole : List ℕ) → Type 0
 IsReplied (Err Write) part whole = part ≡ take (length part) whole
 IsReplied (Err (Bank fault)) part whole = part ≡ take (length part) whole
 IsReplied _ part whole = part ≡ whole
 
--- records were read where a bank showed posts p behind a log
+-- records were read where a bank showed posts p after a log
 pub record Resends (r r' w w' : Option (List ℕ)) (c c' : Seen) (result : Result ℕ StreamFault) : Type 0 where
   pub bytes : List ℕ
   pub read : Consumes r r' bytes
@@ -232,14 +233,14 @@ pub record Resends (r r' w w' : Option (List ℕ)) (c c' : Seen) (result : Resul
   pub posts : ArePosts commands
   pub records : posted_records commands ≡ whole_records bytes
   -- one that is in p gets the reply that it got there
-  pub replies : c'.honest → (log p : List Command) → ArePosts p → ShowsLog c (behind log p)
+  pub replies : c'.honest → (log p : List Command) → ArePosts p → ShowsLog c (followed_by log p)
       → (one : List ℕ) → (first : Place one p) → (again : Place one commands)
       → IsReplied result (reply_at (length again.before) written)
-      (reply_spelling (reply (behind log first.before) one))
+      (reply_spelling (reply (followed_by log first.before) one))
   -- where the bank took all that was read, it shows p and then what was read less those that are in p
   pub tables : c'.honest → (log p added : List Command) → ArePosts p → Skips p commands added
-      → ShowsLog c (behind log p)
-      → IfTaken result (ShowsLog c' (behind (behind log p) added))
+      → ShowsLog c (followed_by log p)
+      → IfTaken result (ShowsLog c' (followed_by (followed_by log p) added))
 
 -- ---- whether the bank is down afterwards
 
@@ -262,7 +263,7 @@ IsOfCall seen reason old new fault =
     HasRefused seen reason old new fault ⊎ ((fault ≡ Memory) × ((seen new).is_down → ⊥))
 
 -- the bank took some of the records that were read, stood there, and refused the next batch
-pub record IsRefusedBehind {C : Type 0} (seen : C → Seen) (reason : Fault → C → C → Type 0) (old new : C)
+pub record IsRefusedAfterBatches {C : Type 0} (seen : C → Seen) (reason : Fault → C → C → Type 0) (old new : C)
     (r r' : Option (List ℕ)) (fault : Fault) : Type 0 where
   pub bytes : List ℕ
   pub read : Consumes r r' bytes

@@ -5,7 +5,7 @@ ghost use Rattle.posting_rules.specs.declared.rows.BranchRow.{BranchRow};
 ghost use Rattle.posting_rules.specs.Branches.{IsAtMostZero, IsNextIn};
 ghost use Rattle.posting_rules.specs.Tables.{branch_key, floor_key, row_at};
 ghost use Rattle.posting_rules.specs.LookUps.{count_of_branch, lowest_of};
-ghost use Rattle.posting_core.specs.Appended.{floor_behind};
+ghost use Rattle.posting_core.specs.Appended.{floor_after};
 
 use crate::walking::put;
 use message_records::{Branch, Cents};
@@ -30,10 +30,10 @@ pub(crate) fn floor_at(rows: &[FloorRow], number: u64) -> Option<Cents>
         .map(|row| row.lowest)
 }
 
-/// Puts the floor of a branch behind the others, for which there is room.
+/// Puts the floor of a branch after the others, for which there is room.
 pub(crate) fn put_floor(rows: &mut Vec<FloorRow>, branch: Branch, floor: Option<Cents>)
     requires room { vec_len rows.old < vec_capacity rows.old }
-    ensures items { rows.new.items ≡ floor_behind branch floor rows.old.items }
+    ensures items { rows.new.items ≡ floor_after branch floor rows.old.items }
 {
     if let Some(lowest) = floor {
         put(rows, FloorRow { branch, lowest });

@@ -18,7 +18,7 @@ pub enum OnceFault {
     Short,
     /// The reader failed. Nothing was submitted.
     Read,
-    /// The writer failed, or took no byte. The record was submitted, and a beginning of the reply was
+    /// The writer failed, or took no byte. The record was submitted, and a prefix of the reply was
     /// written.
     Write,
     /// The counter refused the record, and its fault says what holds. Nothing was written.
@@ -52,7 +52,7 @@ impl std::error::Error for OnceFault {}
 /// - [`OnceFault::Read`]: a read failed, or 2^64 - 1 reads were made. Nothing was submitted, and nothing
 ///   written.
 /// - [`OnceFault::Write`]: a write or the flush failed, a write took no byte, or it was interrupted 2^64 - 1
-///   times in a row. The record was submitted, and a beginning of its reply was written.
+///   times in a row. The record was submitted, and a prefix of its reply was written.
 /// - [`OnceFault::Bank`]: the counter refused the record, and its [`Fault`] says what holds of it. Nothing
 ///   was written.
 pub fn answer_once<R: Source, W: Sink, C: Counter>(

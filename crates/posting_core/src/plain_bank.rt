@@ -7,7 +7,7 @@ ghost use Rattle.posting_rules.specs.Commands.{IsFloor};
 ghost use Rattle.posting_rules.specs.Kept.{is_kept_with};
 ghost use Rattle.posting_rules.specs.Entries.{DecidedRequest};
 ghost use Rattle.posting_rules.specs.Tables.{request_row_of};
-ghost use Rattle.posting_batch.specs.Judging.{reference_behind};
+ghost use Rattle.posting_batch.specs.Judging.{reference_after};
 ghost use Rattle.posting_core.specs.Appended.{HasOrdinalsTo, rows_from};
 
 use crate::branches::{count_at, floor_at, next_at, put_floor};
@@ -25,7 +25,7 @@ use posting_rules::{
 };
 use std::alloc::Global;
 
-// Keeps a decided request behind the others, with its reference, for which there is room.
+// Keeps a decided request after the others, with its reference, for which there is room.
 fn keep(
     requests: &mut Vec<RequestRow>,
     references: &mut Vec<ReferenceRow>,
@@ -43,7 +43,7 @@ fn keep(
     ensures len { vec_len requests.new ≡ vec_len requests.old + 1 }
     ensures capacity { vec_capacity requests.old ≤ vec_capacity requests.new }
     ensures references { references.new.items
-        ≡ reference_behind (length requests.old.items + 1) request.now.reference references.old.items }
+        ≡ reference_after (length requests.old.items + 1) request.now.reference references.old.items }
     ensures references_len { vec_len references.new ≤ vec_len references.old + 1 }
     ensures references_capacity { vec_capacity references.old ≤ vec_capacity references.new }
 {
@@ -87,7 +87,7 @@ impl NewRow for AccountRow {
     }
 }
 
-// Puts new rows behind the others, for which there is room.
+// Puts new rows after the others, for which there is room.
 fn put_new<R: NewRow + Drop>(rows: &mut Vec<R>, first: u64, count: u64)
     requires room { vec_len rows.old + count ≤ vec_capacity rows.old }
     requires above { 1 ≤ first }
@@ -261,7 +261,7 @@ impl PlainBank {
         encode_reply(&reply_to(&found, &request, &verdict))
     }
 
-    // Submits records in order, for which there is room, and puts the replies behind the others.
+    // Submits records in order, for which there is room, and puts the replies after the others.
     fn submit_all_within_capacity(
         &mut self,
         moment: Moment,
@@ -325,7 +325,7 @@ impl PlainBank {
 impl Counter for PlainBank {
     ghost use Rattle.std.specs.Prelude.{IsOk, IfOk, IfSome, refl};
     ghost use Rattle.posting_rules.specs.Branches.{IsNextBranch, IsLineAbove};
-    ghost use Rattle.posting_rules.specs.Entries.{balance_behind};
+    ghost use Rattle.posting_rules.specs.Entries.{balance_after};
     ghost use Rattle.posting_rules.specs.Tables.{Tables};
     ghost use Rattle.posting_rules.specs.Counter.{Answers, IsCounterCall};
     ghost use Rattle.posting_core.specs.Plain.{plain_reason, plain_seen, plain_spares, plain_tables};
@@ -400,7 +400,7 @@ impl Counter for PlainBank {
     fn balance(&mut self, account: Account) -> Result<Option<Cents>, Fault>
         ensures ok { IsOk result }
         ensures answer { Answers (plain_seen self.old) (plain_seen self.new) result
-            (λ log balance. balance ≡ balance_behind log account) }
+            (λ log balance. balance ≡ balance_after log account) }
         ensures call { IsCounterCall plain_seen plain_tables plain_reason self.old self.new [] result }
         ensures stays { plain_tables self.new ≡ plain_tables self.old }
     {

@@ -6,12 +6,12 @@ ghost use Rattle.posting_rules.specs.Runs.{posts};
 ghost use Rattle.posting_core.specs.Batches.{BatchIsAnswered, BreaksOff};
 ghost use Rattle.posting_core.specs.Stream.{OutputsReplies, SurvivesStream, Resends};
 ghost use Rattle.posting_core.specs.Stream.{StreamFaultIsOfItsEnd, StreamsAsRead};
-ghost use Rattle.posting_core.specs.Stream.{IfBank, IfTaken, IsDownAsBefore, IsRefusedBehind, TellsBreak};
+ghost use Rattle.posting_core.specs.Stream.{IfBank, IfTaken, IsDownAsBefore, IsRefusedAfterBatches, TellsBreak};
 ghost use Rattle.posting_core.specs.Told.{EndsWith, IsFlush};
 
 use crate::clock::Clock;
 use crate::ends::{Sink, Source};
-use crate::transfer::{fill_beside, move_to_front, write_out};
+use crate::transfer::{fill_buffer_beside, move_to_front, write_out};
 use message_records::REQUEST_BYTES;
 use posting_rules::{Counter, Fault, RECORDS_PER_BATCH};
 use std::fmt;
@@ -30,7 +30,7 @@ pub enum StreamFault {
     Truncated(u8),
     /// The reader failed. The whole records that were read before were answered.
     Read,
-    /// The writer failed, or took no byte. What was read was submitted, and of the replies a beginning was
+    /// The writer failed, or took no byte. What was read was submitted, and of the replies a prefix was
     /// written.
     Write,
     /// The bank refused a batch, to which nothing was replied, and its fault says what holds.
@@ -103,7 +103,7 @@ fn reply_to_batch<W: Sink, K: Clock, C: Counter>(
 /// - [`StreamFault::Read`]: a read failed, or 2^64 - 1 reads were made. The whole records that were read
 ///   before were answered.
 /// - [`StreamFault::Write`]: a write or a flush failed, a write took no byte, or it was interrupted 2^64 - 1
-///   times in a row. What was read was submitted, and a beginning of the replies was written.
+///   times in a row. What was read was submitted, and a prefix of the replies was written.
 /// - [`StreamFault::Bank`]: the bank refused a batch, and its [`Fault`] says what holds of that batch. The
 ///   batches before it were answered, and nothing was replied to this one.
 pub fn post_stream<R: Source, W: Sink, K: Clock, C: Counter>(
@@ -126,7 +126,7 @@ pub fn post_stream<R: Source, W: Sink, K: Clock, C: Counter>(
     ensures resend { Resends (R.remaining reader.old) (R.remaining reader.new) (W.contents writer.old)
         (W.contents writer.new) (C.seen bank.old) (C.seen bank.new) result }
     ensures refused { IfErr result (λ fault. IfBank fault
-        (IsRefusedBehind C.seen C.reason bank.old bank.new (R.remaining reader.old)
+        (IsRefusedAfterBatches C.seen C.reason bank.old bank.new (R.remaining reader.old)
         (R.remaining reader.new))) }
     ensures down { IsDownAsBefore C.seen bank.old bank.new result }
     ensures ends { StreamFaultIsOfItsEnd result (R.told reader.old) (R.told reader.new)
@@ -137,7 +137,7 @@ pub fn post_stream<R: Source, W: Sink, K: Clock, C: Counter>(
     let mut filled = 0;
     let mut count = 0;
     'reads: for _ in 0..u64::MAX {
-        match fill_beside(reader, &mut buffer, filled, writer) {
+        match fill_buffer_beside(reader, &mut buffer, filled, writer) {
             Ok(0) if filled == 0 => return Ok(count),
             Ok(0) => return Err(StreamFault::Truncated(filled as u8)),
             Ok(n) => filled += n,

@@ -25,7 +25,7 @@ impl fmt::Display for ReadFailed {
 
 impl std::error::Error for ReadFailed {}
 
-/// The writer failed, or took no byte. A beginning of what was to be written may have been taken.
+/// The writer failed, or took no byte. A prefix of what was to be written may have been taken.
 #[derive(Clone, Copy, Debug, PartialEq, Eq)]
 pub struct WriteFailed;
 
@@ -42,7 +42,7 @@ impl fmt::Display for WriteFailed {
 impl std::error::Error for WriteFailed {}
 
 /// One read into what is left of a buffer.
-pub fn fill<R: Source>(reader: &mut R, buffer: &mut [u8], filled: usize) -> io::Result<usize>
+pub fn fill_buffer<R: Source>(reader: &mut R, buffer: &mut [u8], filled: usize) -> io::Result<usize>
     requires { filled < length buffer.old }
     ensures fits { IfOk result (λ n. filled + n ≤ length buffer.new) }
     ensures ok { IfOk result (λ n. (bytes : List ℕ)
@@ -57,7 +57,7 @@ pub fn fill<R: Source>(reader: &mut R, buffer: &mut [u8], filled: usize) -> io::
 }
 
 /// One read into what is left of a buffer, made beside a sink.
-pub fn fill_beside<R: Source, W: Sink>(
+pub fn fill_buffer_beside<R: Source, W: Sink>(
     reader: &mut R,
     buffer: &mut [u8],
     filled: usize,
@@ -103,7 +103,7 @@ pub fn read_full<R: Source>(reader: &mut R, buffer: &mut [u8]) -> Result<usize, 
         if filled == buffer.len() {
             return Ok(filled);
         }
-        match fill(reader, buffer, filled) {
+        match fill_buffer(reader, buffer, filled) {
             Ok(0) => return Ok(filled),
             Ok(n) => filled += n,
             Err(e) if e.kind() == ErrorKind::Interrupted => {}

@@ -1,7 +1,7 @@
 //! Rows in vectors, which are found by walking.
 ghost use Rattle.std.specs.Prelude.{◌≡◌, ◌<◌, ◌≤◌, ◌+◌, ◌++◌, ◌∷◌, [], ℕ, vec_len, vec_capacity};
 ghost use Rattle.posting_rules.specs.LookUps.{kept_in, reference_in};
-ghost use Rattle.posting_batch.specs.Judging.{reference_behind};
+ghost use Rattle.posting_batch.specs.Judging.{reference_after};
 
 use message_records::{Number, Reference, Teller};
 use posting_rules::{Kept, Ordinal, ReferenceRow, RequestRow};
@@ -45,7 +45,7 @@ pub(crate) fn kept_at(
             .kept_with(reference_at(references, row.ordinal)))
 }
 
-/// Puts a row behind the others, for which there is room, so that the push takes no memory and succeeds.
+/// Puts a row after the others, for which there is room, so that the push takes no memory and succeeds.
 pub(crate) fn put<T: Drop>(rows: &mut Vec<T>, row: T)
     requires { vec_len rows.old < vec_capacity rows.old }
     ensures items { rows.new.items ≡ rows.old.items ++ row ∷ [] }
@@ -55,14 +55,14 @@ pub(crate) fn put<T: Drop>(rows: &mut Vec<T>, row: T)
     let _ = rows.push(row);
 }
 
-/// Puts the reference of a decided request behind the others, where it has one, for which there is room.
+/// Puts the reference of a decided request after the others, where it has one, for which there is room.
 pub(crate) fn put_reference(
     rows: &mut Vec<ReferenceRow>,
     ordinal: Ordinal,
     reference: Option<Reference>,
 )
     requires { vec_len rows.old < vec_capacity rows.old }
-    ensures items { rows.new.items ≡ reference_behind ordinal reference rows.old.items }
+    ensures items { rows.new.items ≡ reference_after ordinal reference rows.old.items }
     ensures len { vec_len rows.new ≤ vec_len rows.old + 1 }
     ensures capacity { vec_capacity rows.old ≤ vec_capacity rows.new }
 {

@@ -5,24 +5,24 @@ use Rattle.posting_rules.specs.declared.counter.BranchLine.{BranchLine}
 use Rattle.posting_rules.specs.Branches.{IsNextBranch}
 use Rattle.posting_rules.specs.Changes.{tables_past, tables_with_branch}
 use Rattle.posting_rules.specs.Commands.{Command, Open, Post, AreCommands, opened, Terms, opened_with}
-use Rattle.posting_rules.specs.Counter.{opening_for, opening_behind}
-use Rattle.posting_rules.specs.Entries.{balance_behind, branch_balance, decided}
+use Rattle.posting_rules.specs.Counter.{opening_for, opening_after}
+use Rattle.posting_rules.specs.Entries.{balance_after, branch_balance, decided}
 use Rattle.posting_rules.specs.LookUps.{balance_of_branch}
-use Rattle.posting_rules.specs.Runs.{behind}
+use Rattle.posting_rules.specs.Runs.{followed_by}
 use Rattle.posting_rules.specs.Tables.{Tables, AreTablesOf}
 use Rattle.posting_rules.specs.Alike.{AreAlike}
 use Rattle.posting_rules.proofs.Calls.{opens}
 use Rattle.posting_rules.proofs.Looked.{balance_shown, terms_shown}
 use Rattle.posting_rules.proofs.Records.{past_shown}
 
--- tables that show both logs with the commands behind them
+-- tables that show both logs with the commands after them
 record BothShown (one two : List Command) : Type 0 where
   tables : Tables
   first : AreTablesOf tables one
   second : AreTablesOf tables two
 
 both_shown : (t : Tables) (one two cs : List Command) → AreTablesOf t one → AreTablesOf t two → AreCommands cs
-    → BothShown (behind one cs) (behind two cs)
+    → BothShown (followed_by one cs) (followed_by two cs)
 both_shown t one two [] s u valid = record { tables = t; first = s; second = u }
 both_shown t one two (Post m bytes ∷ cs) s u valid =
     both_shown (tables_past t m bytes) (Post m bytes ∷ one) (Post m bytes ∷ two) cs
@@ -63,24 +63,24 @@ next_alike one two x after (Some line) h = record {
 -- ---- whatever commands follow
 
 both_of : (t : Tables) (one two cs : List Command) → AreAlike t one two cs
-    → BothShown (behind one cs) (behind two cs)
+    → BothShown (followed_by one cs) (followed_by two cs)
 both_of t one two cs a = both_shown t one two cs a.first a.second a.valid
 
 pub openings_alike : (t : Tables) (one two cs : List Command) → AreAlike t one two cs → (b : ℕ) (terms : Terms)
-    → opening_behind (behind one cs) b terms ≡ opening_behind (behind two cs) b terms
+    → opening_after (followed_by one cs) b terms ≡ opening_after (followed_by two cs) b terms
 openings_alike t one two cs a b terms =
     ap (λ (o : Option Terms). opening_for o terms)
-    (opened_alike (behind one cs) (behind two cs) (both_of t one two cs a) b)
+    (opened_alike (followed_by one cs) (followed_by two cs) (both_of t one two cs a) b)
 
 pub balances_alike : (t : Tables) (one two cs : List Command) → AreAlike t one two cs → (account : ℕ)
-    → balance_behind (behind one cs) account ≡ balance_behind (behind two cs) account
+    → balance_after (followed_by one cs) account ≡ balance_after (followed_by two cs) account
 balances_alike t one two cs a account =
     let x = both_of t one two cs a in
-    sym (balance_shown x.tables (behind one cs) account x.first) ∙ balance_shown x.tables
-    (behind two cs) account x.second
+    sym (balance_shown x.tables (followed_by one cs) account x.first) ∙ balance_shown x.tables
+    (followed_by two cs) account x.second
 
 pub branches_alike : (t : Tables) (one two cs : List Command) → AreAlike t one two cs
     → (after : ℕ) (line : Option BranchLine)
-    → IsNextBranch (behind one cs) after line → IsNextBranch (behind two cs) after line
-branches_alike t one two cs a after line = next_alike (behind one cs) (behind two cs)
+    → IsNextBranch (followed_by one cs) after line → IsNextBranch (followed_by two cs) after line
+branches_alike t one two cs a after line = next_alike (followed_by one cs) (followed_by two cs)
     (both_of t one two cs a) after line

@@ -6,23 +6,23 @@ use Rattle.message_records.specs.Reading.{request_of}
 use Rattle.message_records.specs.Spelling.{reply_spelling}
 use Rattle.posting_rules.specs.declared.rows.BranchRow.{BranchRow}
 use Rattle.posting_rules.specs.Commands.{Command, Open, Post, opened, Terms}
-use Rattle.posting_rules.specs.Runs.{behind}
-use Rattle.posting_rules.specs.Counter.{opening_for, opening_behind}
+use Rattle.posting_rules.specs.Runs.{followed_by}
+use Rattle.posting_rules.specs.Counter.{opening_for, opening_after}
 use Rattle.posting_rules.specs.Entries.{decided, reply}
 use Rattle.posting_rules.specs.LookUps.{floor_in, terms_in, terms_of_branch}
 use Rattle.posting_rules.specs.Tables.{Tables, row_at, branch_key}
 use Rattle.posting_rules.specs.Tables.{AreTablesOf as Show}
 use Rattle.posting_rules.proofs.Looked.{terms_shown}
-use Rattle.posting_rules.proofs.Opened.{opening_shown, already_open_shown}
-use Rattle.posting_rules.proofs.Stepped.{post_shown, reply_shown}
+use Rattle.posting_rules.proofs.TablesWithBranch.{opening_shown, already_open_shown}
+use Rattle.posting_rules.proofs.TablesWithRecord.{post_shown, reply_shown}
 use Rattle.posting_rules.specs.Changes.{tables_with, reply_bytes, opened_where, tables_with_branch}
 use Rattle.posting_rules.proofs.Ready.{ready_shown}
-use Rattle.posting_rules.proofs.Stepping.{opens_is}
+use Rattle.posting_rules.proofs.ChangesByKey.{opens_is}
 use Rattle.posting_rules.specs.declared.limits.TheConstants.{MAX_ACCOUNTS}
 
 -- the change is that of the commands
 abbrev pub IsChange : (Tables → Tables) → List Command → Type 0
-IsChange after cs = (t : Tables) (log : List Command) → Show t log → Show (after t) (behind log cs)
+IsChange after cs = (t : Tables) (log : List Command) → Show t log → Show (after t) (followed_by log cs)
 
 -- ---- a request
 
@@ -53,7 +53,7 @@ opens b terms above few t log shows = by_row (row_at branch_key t.branches b) re
         (sym counted ∙ ap (option_map (terms_of_branch (floor_in t b))) e) shows
 
 pub answers : (t : Tables) (log : List Command) (b : ℕ) (terms : Terms) → Show t log
-    → opening_for (terms_in t b) terms ≡ opening_behind log b terms
+    → opening_for (terms_in t b) terms ≡ opening_after log b terms
 answers t log b terms shows = ap (λ o. opening_for o terms)
     (terms_shown t (λ x. opened log x) (decided log) b shows.rows)
 

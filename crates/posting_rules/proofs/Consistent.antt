@@ -61,7 +61,7 @@ history_has t opened es s =
     (λ r e. row_has_delta es r.ordinal r (sym (s.history r.ordinal) ∙ e))
     (each_under_its_key history_key t.history s.history_keys)
 
--- each posting has a row, also behind further requests
+-- each posting has a row, also after further requests
 posted_has_row : (es : List DecidedRequest) (e : DecidedRequest) → is_posted e ≡ true
     → is_some (history_row (e ∷ es) (length es + 1)) ≡ true
 posted_has_row es e p = rw (p, eq-eqb (length es + 1) (length es + 1) refl) refl

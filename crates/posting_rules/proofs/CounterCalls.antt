@@ -6,8 +6,8 @@ use Rattle.posting_rules.specs.declared.fault.Fault.TheVariants.{Memory, Down}
 use Rattle.posting_rules.specs.Commands.{Command}
 use Rattle.posting_rules.specs.Counter.{Seen, HasRefused, IsCounterCall, IsSeenUnchanged, Refuses, Takes}
 use Rattle.posting_rules.specs.Counter.{TellsDamage}
-use Rattle.posting_rules.specs.Runs.{behind}
-use Rattle.posting_rules.proofs.Sequence.{behind-append}
+use Rattle.posting_rules.specs.Runs.{followed_by}
+use Rattle.posting_rules.proofs.Sequence.{after-append}
 
 -- an answer is no fault, and one fault isn't another
 no_fault : {X : Type 0} (x : X) (fault : Fault) → (let r : Result X Fault = Ok x in r ≡ Err fault) → ⊥
@@ -111,16 +111,16 @@ module _ {C : Type 0} (seen : C → Seen) (old mid : C) (idle : (seen old).is_do
   pub was_up : ((seen mid).is_down → ⊥) → (seen old).is_down → ⊥
   was_up up down = up (still_down down)
 
-  -- what leaves it as it was does so behind what left it as it was
-  pub idle_behind : (new : C) → ((seen mid).is_down → new ≡ mid) → (seen old).is_down → new ≡ old
-  idle_behind new more down = more (still_down down) ∙ idle down
+  -- what leaves it as it was does so after what left it as it was
+  pub idle_after : (new : C) → ((seen mid).is_down → new ≡ mid) → (seen old).is_down → new ≡ old
+  idle_after new more down = more (still_down down) ∙ idle down
 
   -- so does every call
-  pub call_idle_behind : {K X : Type 0} (contents : C → K) (reason : Fault → C → C → Type 0) (new : C)
+  pub call_idle_after : {K X : Type 0} (contents : C → K) (reason : Fault → C → C → Type 0) (new : C)
       (cs : List Command) (result : Result X Fault)
       → IsCounterCall seen contents reason mid new cs result → (seen old).is_down → new ≡ old
-  call_idle_behind contents reason new cs result call =
-      idle_behind new (λ down. call.untried (call.down down))
+  call_idle_after contents reason new cs result call =
+      idle_after new (λ down. call.untried (call.down down))
 
 -- ---- calls one after another
 
@@ -128,10 +128,10 @@ module _ {C : Type 0} (seen : C → Seen) (old mid : C) (idle : (seen old).is_do
 pub Takes-append : (a b c : Seen) (xs ys : List Command) → Takes a b xs → Takes b c ys → (c.honest → b.honest)
     → Takes a c (xs ++ ys)
 Takes-append a b c xs ys p q honest = record {
-  shows = λ h log shown. rw (behind-append log xs ys)
-      (q.shows h (behind log xs) (p.shows (honest h) log shown));
-  stands = λ h log stood. rw (behind-append log xs ys)
-      (q.stands h (behind log xs) (p.stands (honest h) log stood));
+  shows = λ h log shown. rw (after-append log xs ys)
+      (q.shows h (followed_by log xs) (p.shows (honest h) log shown));
+  stands = λ h log stood. rw (after-append log xs ys)
+      (q.stands h (followed_by log xs) (p.stands (honest h) log stood));
 }
 
 module _ {C : Type 0} (seen : C → Seen) (reason : Fault → C → C → Type 0) (old mid new : C)
@@ -139,9 +139,9 @@ module _ {C : Type 0} (seen : C → Seen) (reason : Fault → C → C → Type 0
     (honest : (seen mid).honest → (seen old).honest) (idle : (seen old).is_down → mid ≡ old)
     (fault : Fault) where
   -- a call was refused where some commands had been taken
-  pub call_refused_behind : {K X : Type 0} (contents : C → K) (cs : List Command)
+  pub call_refused_after : {K X : Type 0} (contents : C → K) (cs : List Command)
       → IsCounterCall {X = X} seen contents reason mid new cs (Err fault) → HasRefused seen reason old new fault
-  call_refused_behind {X = X} contents cs call = record {
+  call_refused_after {X = X} contents cs call = record {
     taken = before;
     stood = mid;
     takes = takes;
@@ -153,9 +153,9 @@ module _ {C : Type 0} (seen : C → Seen) (reason : Fault → C → C → Type 0
     idle = idle;
   }
 
-  -- what was refused later was refused behind all that was taken
-  pub refused_behind : HasRefused seen reason mid new fault → HasRefused seen reason old new fault
-  refused_behind it = record {
+  -- what was refused later was refused after all that was taken
+  pub refused_after : HasRefused seen reason mid new fault → HasRefused seen reason old new fault
+  refused_after it = record {
     taken = before ++ it.taken;
     stood = it.stood;
     takes = Takes-append (seen old) (seen mid) (seen it.stood) before it.taken takes it.takes it.honest_first;
@@ -164,7 +164,7 @@ module _ {C : Type 0} (seen : C → Seen) (reason : Fault → C → C → Type 0
     why = it.why;
     tried = it.tried;
     untried = it.untried;
-    idle = idle_behind seen old mid idle it.stood it.idle;
+    idle = idle_after seen old mid idle it.stood it.idle;
   }
 
 -- no command is taken by doing nothing

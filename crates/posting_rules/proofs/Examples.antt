@@ -243,7 +243,7 @@ limit_above_the_floor : case_of (facts (λ b. opened floored b) drained (on_bran
 unfolding floored drained drained_by on_branch_two on_branch_one case_of
 limit_above_the_floor = refl
 
--- ---- references: a posting for rent, behind the opening of both branches
+-- ---- references: a posting for rent, after the opening of both branches
 
 rent_may : List ℕ
 rent_may = spaced (codes "DC02000000000001000000010000010000000001+0000000500RENT MAY") 41

@@ -12,7 +12,7 @@ pub by_test : (b : Bool) → (b ≡ true) ⊎ (b ≡ false)
 by_test true = inl refl
 by_test false = inr refl
 
--- no row behind has the key of the one in front
+-- no row after has the key of the one in front
 apart : {R : Type 0} (key : R → ℕ) (r : R) (rows : List R) (x : R)
     → AllByRecursion (λ k. nat_eq (key r) k ≡ false) (map key rows) → row_at key rows (key x) ≡ Some x
     → eqb (key r) (key x) ≡ false

@@ -3,11 +3,11 @@ pub mod Keyed
 pub mod Verdicts
 pub mod Requests
 pub mod Looked
-pub mod Stepped
+pub mod TablesWithRecord
 pub mod NamedOpen
 pub mod NoBalance
 pub mod NumbersInARow
-pub mod Opened
+pub mod TablesWithBranch
 pub mod Totals
 pub mod BalanceLimits
 pub mod AboveFloors
@@ -30,7 +30,7 @@ pub mod NextBranch
 pub mod RowChanges
 pub mod Ready
 pub mod Empty
-pub mod Stepping
+pub mod ChangesByKey
 pub mod Calls
 pub mod CounterCalls
 pub mod Records

@@ -9,7 +9,7 @@ use Rattle.posting_rules.specs.Numbering.{branch_of_teller, branch_of_account}
 use Rattle.posting_rules.specs.Kept.{KeptFields}
 use Rattle.posting_rules.specs.Entries.{DecidedRequest, facts, teller_balance, branch_balance}
 use Rattle.posting_rules.specs.Entries.{account_balance}
-use Rattle.posting_rules.specs.Entries.{decided, balance_behind}
+use Rattle.posting_rules.specs.Entries.{decided, balance_after}
 use Rattle.posting_rules.specs.Tables.{Tables, HasRows, AreTablesOf, row_at, branch_key, branch_row_of}
 use Rattle.posting_rules.specs.Tables.{teller_row}
 use Rattle.posting_rules.specs.Tables.{teller_row_of, account_row_of, floor_row_of}
@@ -91,7 +91,7 @@ found_shown t opened es r new s =
         record { teller = a'; kept = k'; decided = n'; account = b'; floor = l' }
     made a a' k k' n n' b b' l l' ea ek en eb el = rw (ea, ek, en, eb, el) refl
 
--- the balance that an account shows is its balance behind the log
+-- the balance that an account shows is its balance after the log
 pub balance_shown : (t : Tables) (log : List Command) (a : ℕ) → AreTablesOf t log
-    → account_balance_in t a ≡ balance_behind log a
+    → account_balance_in t a ≡ balance_after log a
 balance_shown t log a s = account_balance_shown t (λ b. opened log b) (decided log) a s.rows

@@ -4,7 +4,7 @@ use Rattle.std.proofs.Common.{refl, sym, arith}
 use Rattle.std.specs.Prelude.{◌&&◌}
 use Rattle.std.proofs.lemmas.Bool.{eqb-true, eq-eqb, leb-true, ltb-true, le-leb, lt-ltb}
 use Rattle.posting_rules.specs.declared.limits.TheConstants.{MAX_ACCOUNTS, ACCOUNTS_PER_BRANCH}
-use Rattle.posting_rules.specs.Steps.{is_from}
+use Rattle.posting_rules.specs.ChangesByKey.{is_from}
 use Rattle.posting_rules.specs.Numbering.{branch_of_teller, branch_of_account, place_of_account, first_teller}
 use Rattle.posting_rules.specs.Numbering.{first_account}
 use Rattle.posting_rules.proofs.NamedOpen.{both}

@@ -15,7 +15,7 @@ use Rattle.posting_rules.specs.Sound.{AreSound}
 use Rattle.posting_rules.specs.Numbering.{branch_of_teller, branch_of_account, place_of_account, first_teller}
 use Rattle.posting_rules.specs.Numbering.{first_account}
 use Rattle.posting_rules.proofs.Looked.{terms_shown}
-use Rattle.posting_rules.proofs.Stepped.{next_request, next_posting, next_reference}
+use Rattle.posting_rules.proofs.TablesWithRecord.{next_request, next_posting, next_reference}
 use Rattle.posting_rules.specs.declared.limits.TheConstants.{ACCOUNTS_PER_BRANCH}
 
 -- the next ordinal is free, the tellers and the accounts are those of the branches, and only these have floors

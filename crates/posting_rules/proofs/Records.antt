@@ -1,4 +1,4 @@
--- Records one after another: the tables that they lead to are those of the log with them behind it.
+-- Records one after another: the tables that they lead to are those of the log with them after it.
 use Rattle.std.proofs.Common.{◌≡◌, ℕ, suc, ◌<◌, ◌≤◌, List, [], ◌∷◌, length, get_or, Ok, Err, Result, refl}
 use Rattle.std.proofs.Common.{sym, ap, ◌∙◌, arith}
 use Rattle.message_records.specs.declared.limits.TheConstants.{MAX_MOMENT, REQUEST_BYTES}
@@ -8,10 +8,10 @@ use Rattle.message_records.specs.Reading.{request_of}
 use Rattle.message_records.specs.Spelling.{reply_spelling}
 use Rattle.posting_rules.specs.Commands.{Command, Post, AreCommands, opened}
 use Rattle.posting_rules.specs.Entries.{reply, reply_given, decided}
-use Rattle.posting_rules.specs.Runs.{behind, posts, replies_to}
+use Rattle.posting_rules.specs.Runs.{followed_by, posts, replies_to}
 use Rattle.posting_rules.specs.Tables.{Tables}
 use Rattle.posting_rules.specs.Tables.{AreTablesOf as Show}
-use Rattle.posting_rules.proofs.Stepped.{malformed_shown}
+use Rattle.posting_rules.proofs.TablesWithRecord.{malformed_shown}
 use Rattle.posting_rules.specs.Changes.{tables_read, tables_past, tables_past_all, reply_read, reply_past}
 use Rattle.posting_rules.specs.Changes.{replies_past_all}
 use Rattle.posting_rules.proofs.Calls.{posts as posts_shown}
@@ -27,7 +27,7 @@ past_shown t log m bytes shows = by_reading (request_of bytes) refl
     by_reading (Err fault) read = malformed_shown t log m bytes fault read shows
 
 pub all_past : (t : Tables) (log : List Command) (m : ℕ) (records : List (List ℕ)) → Show t log
-    → Show (tables_past_all t m records) (behind log (posts m records))
+    → Show (tables_past_all t m records) (followed_by log (posts m records))
 all_past t log m [] shows = shows
 all_past t log m (bytes ∷ records) shows =
     all_past (tables_past t m bytes) (Post m bytes ∷ log) m records (past_shown t log m bytes shows)
@@ -37,7 +37,7 @@ pub posts_all : (m : ℕ) (records : List (List ℕ))
     → IsChange (λ t. tables_past_all t m records) (posts m records)
 posts_all m records t log shows = all_past t log m records shows
 
--- the reply to a record by the tables is the reply behind the log
+-- the reply to a record by the tables is the reply after the log
 pub past_reply : (t : Tables) (log : List Command) (bytes : List ℕ) → Show t log
     → reply_past t bytes ≡ reply_spelling (reply log bytes)
 past_reply t log bytes shows = by_reading (request_of bytes) refl

@@ -1,8 +1,8 @@
--- What a stop may leave, said of more tables, and of a counter that leaves no more.
+-- What a crash may leave, said of more tables, and of a counter that leaves no more.
 use Rattle.posting_rules.specs.Tables.{Tables}
 use Rattle.posting_rules.specs.Counter.{Seen, LeavesNoMore, LeavesOnly}
 
--- what holds of all that a stop may leave may be said more weakly
+-- what holds of all that a crash may leave may be said more weakly
 pub leaves_weaker : (c : Seen) (P Q : Tables → Type 0) → ((t : Tables) → P t → Q t) → LeavesOnly c P
     → LeavesOnly c Q
 leaves_weaker c P Q f all remains left = let it = all remains left in (it.0, it.1, f it.0 it.2)

@@ -8,26 +8,26 @@ use Rattle.posting_rules.specs.Commands.{Command, Open, Post, AreCommands, opene
 use Rattle.posting_rules.specs.Entries.{DecidedRequest, decided, with_record, reply}
 use Rattle.posting_rules.specs.Tables.{Tables, HasRows, AreTablesOf}
 use Rattle.posting_rules.specs.Counter.{Seen, ShowsLog}
-use Rattle.posting_rules.specs.Runs.{behind, replies_to, ArePosts}
+use Rattle.posting_rules.specs.Runs.{followed_by, replies_to, ArePosts}
 use Rattle.posting_rules.specs.Resends.{Place, Skips}
-use Rattle.posting_rules.proofs.Sequence.{commands_behind, commands_apart, behind-append, replies_to-append}
+use Rattle.posting_rules.proofs.Sequence.{commands_after, commands_apart, after-append, replies_to-append}
 use Rattle.posting_rules.proofs.Sequence.{one_reply_each}
 use Rattle.posting_rules.proofs.Settled.{again}
 
 -- ---- posts
 
 -- posts open nothing
-opened_behind : (log cs : List Command) → ArePosts cs
-    → ◌≡◌ {A = ℕ → Option Terms} (λ b. opened (behind log cs) b)
+opened_after : (log cs : List Command) → ArePosts cs
+    → ◌≡◌ {A = ℕ → Option Terms} (λ b. opened (followed_by log cs) b)
     (λ b. opened log b)
-opened_behind log [] h = refl
-opened_behind log (Open b terms ∷ cs) h = absurd h
-opened_behind log (Post m r ∷ cs) h = opened_behind (Post m r ∷ log) cs h
+opened_after log [] h = refl
+opened_after log (Open b terms ∷ cs) h = absurd h
+opened_after log (Post m r ∷ cs) h = opened_after (Post m r ∷ log) cs h
 
--- what is decided behind a log depends on what is open and decided there
+-- what is decided after a log depends on what is open and decided there
 decided_same : (one two cs : List Command) → ArePosts cs → ◌≡◌ {A = ℕ → Option Terms} (λ b. opened one b)
     (λ b. opened two b) → decided one ≡ decided two
-    → decided (behind one cs) ≡ decided (behind two cs)
+    → decided (followed_by one cs) ≡ decided (followed_by two cs)
 decided_same one two [] h eo ed = ed
 decided_same one two (Open b terms ∷ cs) h eo ed = absurd h
 decided_same one two (Post m r ∷ cs) h eo ed =
@@ -54,22 +54,22 @@ posts_skip p (Post m bytes ∷ r) f h (inr s) = subst ArePosts (sym s.1) (posts_
 
 -- ---- records that stand in p
 
--- a record that stands in p adds nothing behind p and further posts
+-- a record that stands in p adds nothing after p and further posts
 pub adds_nothing : (log p q : List Command) (m : ℕ) (bytes : List ℕ) (at : Place bytes p) → ArePosts p
     → ArePosts q
-    → (reply (behind (behind log p) q) bytes ≡ reply (behind log at.before) bytes)
-    × (decided (Post m bytes ∷ behind (behind log p) q) ≡ decided (behind (behind log p) q))
+    → (reply (followed_by (followed_by log p) q) bytes ≡ reply (followed_by log at.before) bytes)
+    × (decided (Post m bytes ∷ followed_by (followed_by log p) q) ≡ decided (followed_by (followed_by log p) q))
 adds_nothing log p q m bytes at hp hq =
     let first = Post at.moment bytes in
     let split : p ≡ (at.before ++ first ∷ []) ++ at.after = at.is ∙ sym
     (append_assoc at.before (first ∷ []) at.after) in
     let rest : ArePosts at.after = posts_end (at.before ++ first ∷ []) at.after (subst ArePosts split hp) in
-    let law = again (behind log at.before) (at.after ++ q) at.moment m bytes
+    let law = again (followed_by log at.before) (at.after ++ q) at.moment m bytes
     (posts_both at.after q rest hq) in
-    let same : behind (behind log p) q ≡ behind (first ∷ behind log at.before) (at.after ++ q) =
-    ap (λ (x : List Command). behind (behind log x) q) at.is ∙ ap (λ (x : List Command). behind x q)
-    (behind-append log at.before (first ∷ at.after))
-    ∙ sym (behind-append (first ∷ behind log at.before) at.after q) in
+    let same : followed_by (followed_by log p) q ≡ followed_by (first ∷ followed_by log at.before) (at.after ++ q) =
+    ap (λ (x : List Command). followed_by (followed_by log x) q) at.is ∙ ap (λ (x : List Command). followed_by x q)
+    (after-append log at.before (first ∷ at.after))
+    ∙ sym (after-append (first ∷ followed_by log at.before) at.after q) in
     rw same law
 
 posts_start : (xs ys : List Command) → ArePosts (xs ++ ys) → ArePosts xs
@@ -80,16 +80,16 @@ posts_start (Post m r ∷ xs) ys h = posts_start xs ys h
 -- it gets its reply again, at its place
 pub replies_in_place : (log p r : List Command) (bytes : List ℕ) (at : Place bytes p) (again : Place bytes r)
     → ArePosts p → ArePosts r
-    → get_or (replies_to (behind log p) r) (length again.before) [] ≡ reply_spelling
-    (reply (behind log at.before) bytes)
+    → get_or (replies_to (followed_by log p) r) (length again.before) [] ≡ reply_spelling
+    (reply (followed_by log at.before) bytes)
 replies_in_place log p r bytes at again hp hr =
     let front = again.before in
     let one = Post again.moment bytes in
-    let now = behind log p in
+    let now = followed_by log p in
     let posts : ArePosts front = posts_start front (one ∷ again.after) (subst ArePosts again.is hr) in
     let before = replies_to now front in
-    let out = reply_spelling (reply (behind now front) bytes) in
-    let rest = replies_to (one ∷ behind now front) again.after in
+    let out = reply_spelling (reply (followed_by now front) bytes) in
+    let rest = replies_to (one ∷ followed_by now front) again.after in
     let split : replies_to now r ≡ before ++ out ∷ rest = ap (replies_to now) again.is
     ∙ replies_to-append now front (one ∷ again.after) in
     ap (λ (xs : List (List ℕ)). get_or xs (length front) []) split
@@ -99,36 +99,36 @@ replies_in_place log p r bytes at again hp hr =
 
 -- they may be left out, in whatever order and number they come
 left_out : (log p q r f : List Command) → ArePosts p → ArePosts q → ArePosts r → Skips p r f
-    → decided (behind (behind (behind log p) q) r) ≡ decided (behind (behind (behind log p) q) f)
-left_out log p q [] f hp hq hr s = ap (λ (x : List Command). decided (behind (behind (behind log p) q) x))
+    → decided (followed_by (followed_by (followed_by log p) q) r) ≡ decided (followed_by (followed_by (followed_by log p) q) f)
+left_out log p q [] f hp hq hr s = ap (λ (x : List Command). decided (followed_by (followed_by (followed_by log p) q) x))
     (sym s)
 left_out log p q (Open b terms ∷ r) f hp hq hr s = absurd hr
 left_out log p q (Post m bytes ∷ r) f hp hq hr (inl s) =
-    let now = behind (behind log p) q in
+    let now = followed_by (followed_by log p) q in
     decided_same (Post m bytes ∷ now) now r hr refl ((adds_nothing log p q m bytes s.0 hp hq).1)
     ∙ left_out log p q r f hp hq hr s.1
 left_out log p q (Post m bytes ∷ r) f hp hq hr (inr s) =
-    let now = behind (behind log p) q in
+    let now = followed_by (followed_by log p) q in
     let more = q ++ Post m bytes ∷ [] in
-    let one : behind (behind log p) more ≡ Post m bytes ∷ now = behind-append (behind log p) q
+    let one : followed_by (followed_by log p) more ≡ Post m bytes ∷ now = after-append (followed_by log p) q
     (Post m bytes ∷ []) in
-    ap (λ (x : List Command). decided (behind x r)) (sym one) ∙ left_out log p more r s.0 hp
+    ap (λ (x : List Command). decided (followed_by x r)) (sym one) ∙ left_out log p more r s.0 hp
     (posts_both q (Post m bytes ∷ []) hq tt) hr s.2
-    ∙ ap (λ (x : List Command). decided (behind x s.0)) one ∙ ap
-    (λ (x : List Command). decided (behind now x)) (sym s.1)
+    ∙ ap (λ (x : List Command). decided (followed_by x s.0)) one ∙ ap
+    (λ (x : List Command). decided (followed_by now x)) (sym s.1)
 
 -- tables that show them show what is left without them
 pub shows_left_out : (t : Tables) (log p r f : List Command) → ArePosts p → ArePosts r → Skips p r f
-    → AreTablesOf t (behind (behind log p) r)
-    → AreTablesOf t (behind (behind log p) f)
+    → AreTablesOf t (followed_by (followed_by log p) r)
+    → AreTablesOf t (followed_by (followed_by log p) f)
 shows_left_out t log p r f hp hr s shows =
-    let after = behind (behind log p) f in
-    let all = opened_behind (behind log p) r hr in
-    let less = opened_behind (behind log p) f (posts_skip p r f hr s) in
+    let after = followed_by (followed_by log p) f in
+    let all = opened_after (followed_by log p) r hr in
+    let less = opened_after (followed_by log p) f (posts_skip p r f hr s) in
     record {
       rows = subst (λ (es : List DecidedRequest). HasRows t (λ b. opened after b) es)
           (left_out log p [] r f hp tt hr s)
-          (subst (λ (o : ℕ → Option Terms). HasRows t o (decided (behind (behind log p) r))) (all ∙ sym less)
+          (subst (λ (o : ℕ → Option Terms). HasRows t o (decided (followed_by (followed_by log p) r))) (all ∙ sym less)
           shows.rows);
     }
 
@@ -140,16 +140,16 @@ skip_are p (Open b terms ∷ r) f s are = absurd s
 skip_are p (Post m bytes ∷ r) f (inl s) are = skip_are p r f s.1 are.1
 skip_are p (Post m bytes ∷ r) f (inr s) are = subst AreCommands (sym s.1) (are.0, skip_are p r s.0 s.2 are.1)
 
-pub commands_left_out : (log p r f : List Command) → Skips p r f → AreCommands (behind (behind log p) r)
-    → AreCommands (behind (behind log p) f)
+pub commands_left_out : (log p r f : List Command) → Skips p r f → AreCommands (followed_by (followed_by log p) r)
+    → AreCommands (followed_by (followed_by log p) f)
 commands_left_out log p r f s are =
-    let each = commands_apart (behind log p) r are in
-    commands_behind (behind log p) f each.0 (skip_are p r f s each.1)
+    let each = commands_apart (followed_by log p) r are in
+    commands_after (followed_by log p) f each.0 (skip_are p r f s each.1)
 
 -- a counter that shows them shows what is left without them
 pub shows_log_left_out : (seen : Seen) (log p r f : List Command) → ArePosts p → ArePosts r → Skips p r f
-    → ShowsLog seen (behind (behind log p) r)
-    → ShowsLog seen (behind (behind log p) f)
+    → ShowsLog seen (followed_by (followed_by log p) r)
+    → ShowsLog seen (followed_by (followed_by log p) f)
 shows_log_left_out seen log p r f hp hr s shows = record {
   commands = commands_left_out log p r f s shows.commands;
   tables = shows.tables;

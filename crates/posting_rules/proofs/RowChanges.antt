@@ -8,7 +8,7 @@ use Rattle.std.proofs.lemmas.Bool.{eqb-true}
 use Rattle.std.proofs.lemmas.Bool.Decides.{nat_tests}
 use Rattle.std.proofs.lemmas.Map.Keys.{IsDistinct-cons, IsDistinct-head, IsDistinct-tail}
 use Rattle.posting_rules.specs.Tables.{row_at, HasKeys}
-use Rattle.posting_rules.specs.Steps.{ChangesRow, GainsRow, AddsRows, is_from}
+use Rattle.posting_rules.specs.ChangesByKey.{ChangesRow, GainsRow, AddsRows, is_from}
 use Rattle.posting_rules.proofs.Keyed.{by_test}
 use Rattle.posting_rules.specs.Changes.{row_changed, row_put, rows_put}
 
@@ -119,13 +119,13 @@ keys-put key x (r ∷ rows) keys none =
     elim (by_test (ltb (key r) (key x))) [
       | inl t ↦
           let apart : eqb (key r) (key x) ≡ false = eqb-apart (key r) (key x) t in
-          let behind : AllByRecursion (λ j. nat_eq (key r) j ≡ false) (map key (row_put key x rows)) =
+          let after : AllByRecursion (λ j. nat_eq (key r) j ≡ false) (map key (row_put key x rows)) =
           all-put (λ j. nat_eq (key r) j ≡ false) key x rows apart
           (IsDistinct-head nat_eq (key r) (map key rows) keys) in
           let rest : HasKeys key (row_put key x rows) =
           keys-put key x rows (IsDistinct-tail nat_eq (key r) (map key rows) keys)
           (let h = rw apart at none in h) in
-          rw t (IsDistinct-cons nat_eq (key r) (map key (row_put key x rows)) behind rest)
+          rw t (IsDistinct-cons nat_eq (key r) (map key (row_put key x rows)) after rest)
       | inr f ↦ rw f (IsDistinct-cons nat_eq (key x) (map key (r ∷ rows))
           (free_apart key (r ∷ rows) (key x) none) keys)
     ]
@@ -175,7 +175,7 @@ rows_none key row first rows keys = record {
 not_yet : (first count : ℕ) → is_from first count (first + count) ≡ false
 not_yet first count = grind (arith, nat_tests)
 
--- the number behind them is as free as before
+-- the number after them is as free as before
 pub next_is_free : {R : Type 0} (key : R → ℕ) (row : ℕ → R) (first count : ℕ) (old mid : List R)
     → AddsRows key row first count old mid
     → row_at key old (first + count) ≡ None → row_at key mid (first + count) ≡ None

@@ -3,19 +3,19 @@ use Rattle.std.proofs.Common.{◌≡◌, ℕ, suc, List, [], ◌∷◌, ◌++◌
 use Rattle.message_records.specs.Spelling.{reply_spelling}
 use Rattle.posting_rules.specs.Commands.{Command, Open, Post, AreCommands}
 use Rattle.posting_rules.specs.Entries.{reply}
-use Rattle.posting_rules.specs.Runs.{behind, replies_to, ArePosts}
+use Rattle.posting_rules.specs.Runs.{followed_by, replies_to, ArePosts}
 
--- commands and then others behind a log
-pub behind-append : (log cs ds : List Command) → behind log (cs ++ ds) ≡ behind (behind log cs) ds
-behind-append log [] ds = refl
-behind-append log (c ∷ cs) ds = behind-append (c ∷ log) cs ds
+-- commands and then others after a log
+pub after-append : (log cs ds : List Command) → followed_by log (cs ++ ds) ≡ followed_by (followed_by log cs) ds
+after-append log [] ds = refl
+after-append log (c ∷ cs) ds = after-append (c ∷ log) cs ds
 
 -- they are commands of the bank where both are
-pub commands_behind : (log cs : List Command) → AreCommands log → AreCommands cs → AreCommands (behind log cs)
-commands_behind log [] are all = are
-commands_behind log (c ∷ cs) are all = commands_behind (c ∷ log) cs (all.0, are) all.1
+pub commands_after : (log cs : List Command) → AreCommands log → AreCommands cs → AreCommands (followed_by log cs)
+commands_after log [] are all = are
+commands_after log (c ∷ cs) are all = commands_after (c ∷ log) cs (all.0, are) all.1
 
-pub commands_apart : (log cs : List Command) → AreCommands (behind log cs) → AreCommands log × AreCommands cs
+pub commands_apart : (log cs : List Command) → AreCommands (followed_by log cs) → AreCommands log × AreCommands cs
 commands_apart log [] are = (are, tt)
 commands_apart log (c ∷ cs) are = let each = commands_apart (c ∷ log) cs are in (each.0.1, (each.0.0, each.1))
 
@@ -25,7 +25,7 @@ commands_both (c ∷ cs) ds all more = (all.0, commands_both cs ds all.1 more)
 
 -- the replies to commands and then others
 pub replies_to-append : (log cs ds : List Command)
-    → replies_to log (cs ++ ds) ≡ replies_to log cs ++ replies_to (behind log cs) ds
+    → replies_to log (cs ++ ds) ≡ replies_to log cs ++ replies_to (followed_by log cs) ds
 replies_to-append log [] ds = refl
 replies_to-append log (Open b terms ∷ cs) ds = replies_to-append (Open b terms ∷ log) cs ds
 replies_to-append log (Post m r ∷ cs) ds = ap (λ (t : List (List ℕ)). reply_spelling (reply log r) ∷ t)

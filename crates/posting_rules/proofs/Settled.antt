@@ -19,7 +19,7 @@ use Rattle.posting_rules.specs.Cases.{new_case, account_case, plus_within, is_sa
 use Rattle.posting_rules.specs.Cases.{balance_shown}
 use Rattle.posting_rules.specs.Entries.{DecidedRequest, facts, kept, with_verdict, with_record, decided}
 use Rattle.posting_rules.specs.Entries.{kept_fields, reply_given, reply}
-use Rattle.posting_rules.specs.Runs.{behind, ArePosts}
+use Rattle.posting_rules.specs.Runs.{followed_by, ArePosts}
 use Rattle.posting_rules.proofs.Keyed.{by_test}
 use Rattle.posting_rules.proofs.Verdicts.{by_account, by_posting}
 use Rattle.posting_rules.proofs.VerdictsStated.{same_content}
@@ -150,23 +150,23 @@ read_says : (opened : ℕ → Option Terms) (es : List DecidedRequest) (read : R
 read_says opened es (Ok r) out h = settled_says opened es r out h
 read_says opened es (Err e) out h = (sym h, λ m. refl)
 
-stays_behind : (log after : List Command) (bytes : List ℕ) (out : ReplyFields) → ArePosts after
+stays_after : (log after : List Command) (bytes : List ℕ) (out : ReplyFields) → ArePosts after
     → IsReadSettled (λ b. opened log b) (decided log) (request_of bytes) out
-    → IsReadSettled (λ b. opened (behind log after) b) (decided (behind log after)) (request_of bytes) out
-stays_behind log [] bytes out posts h = h
-stays_behind log (Open b terms ∷ after) bytes out posts h = absurd posts
-stays_behind log (Post m other ∷ after) bytes out posts h =
-    stays_behind (Post m other ∷ log) after bytes out posts
+    → IsReadSettled (λ b. opened (followed_by log after) b) (decided (followed_by log after)) (request_of bytes) out
+stays_after log [] bytes out posts h = h
+stays_after log (Open b terms ∷ after) bytes out posts h = absurd posts
+stays_after log (Post m other ∷ after) bytes out posts h =
+    stays_after (Post m other ∷ log) after bytes out posts
     (read_stays (λ b. opened log b) (decided log) (request_of bytes) (request_of other) out m h)
 
 -- a record that was posted gets the same reply from then on, and decides nothing
 pub again : (log after : List Command) (m later : ℕ) (bytes : List ℕ) → ArePosts after
-    → (reply (behind (Post m bytes ∷ log) after) bytes ≡ reply log bytes)
-    × (decided (Post later bytes ∷ behind (Post m bytes ∷ log) after) ≡
-    decided (behind (Post m bytes ∷ log) after))
+    → (reply (followed_by (Post m bytes ∷ log) after) bytes ≡ reply log bytes)
+    × (decided (Post later bytes ∷ followed_by (Post m bytes ∷ log) after) ≡
+    decided (followed_by (Post m bytes ∷ log) after))
 again log after m later bytes posts =
-    let now = behind (Post m bytes ∷ log) after in
-    let h = stays_behind (Post m bytes ∷ log) after bytes (reply log bytes) posts
+    let now = followed_by (Post m bytes ∷ log) after in
+    let h = stays_after (Post m bytes ∷ log) after bytes (reply log bytes) posts
     (read_settles (λ b. opened log b) (decided log) (request_of bytes) m) in
     let says = read_says (λ b. opened now b) (decided now) (request_of bytes) (reply log bytes) h in
     (says.0, says.1 later)

@@ -36,10 +36,10 @@ other_number es x r k none some =
       | inr f ↦ f
     ]
 
-kept_behind : (es : List DecidedRequest) (e : DecidedRequest) (r : RequestFields) (k : KeptFields)
+kept_after : (es : List DecidedRequest) (e : DecidedRequest) (r : RequestFields) (k : KeptFields)
     → ((eqb e.request.teller r.teller) && (eqb e.request.number r.number)) ≡ false
     → kept es r.teller r.number ≡ Some k → kept (e ∷ es) r.teller r.number ≡ Some k
-kept_behind es e r k other is = rw other is
+kept_after es e r k other is = rw other is
 
 -- what is kept stays kept
 kept_stays : (opened : ℕ → Option Terms) (es : List DecidedRequest) (x r : RequestFields) (k : KeptFields)
@@ -48,8 +48,8 @@ kept_stays : (opened : ℕ → Option Terms) (es : List DecidedRequest) (x r : R
     → kept es r.teller r.number ≡ Some k → kept (with_verdict m x v es) r.teller r.number ≡ Some k
 kept_stays opened es x r k m (Unkept o) h is = is
 kept_stays opened es x r k m (Again a) h is = is
-kept_stays opened es x r k m (Refused o) h is = kept_behind es _ r k (other_number es x r k h.new is) is
-kept_stays opened es x r k m (Posted a t b) h is = kept_behind es _ r k (other_number es x r k h.new is) is
+kept_stays opened es x r k m (Refused o) h is = kept_after es _ r k (other_number es x r k h.new is) is
+kept_stays opened es x r k m (Posted a t b) h is = kept_after es _ r k (other_number es x r k h.new is) is
 
 -- where no more are decided, nothing changes
 full_stays : (opened : ℕ → Option Terms) (es : List DecidedRequest) (x : RequestFields) (m : ℕ) (v : Verdict)

@@ -111,19 +111,19 @@ filter_all (r ∷ rows) = ap (λ rs. r ∷ rs) (filter_all rows)
 
 -- ---- each row is the one under its key
 
-all_behind : {R : Type 0} (key : R → ℕ) (r : R) (rows more : List R)
+all_after : {R : Type 0} (key : R → ℕ) (r : R) (rows more : List R)
     → AllByRecursion (λ k. nat_eq (key r) k ≡ false) (map key more)
     → AllByRecursion (λ x. row_at key rows (key x) ≡ Some x) more
     → AllByRecursion (λ x. row_at key (r ∷ rows) (key x) ≡ Some x) more
-all_behind key r rows [] apart h = tt
-all_behind key r rows (x ∷ more) apart h = (rw apart.0 h.0, all_behind key r rows more apart.1 h.1)
+all_after key r rows [] apart h = tt
+all_after key r rows (x ∷ more) apart h = (rw apart.0 h.0, all_after key r rows more apart.1 h.1)
 
 pub each_under_its_key : {R : Type 0} (key : R → ℕ) (rows : List R) → HasKeys key rows
     → AllByRecursion (λ r. row_at key rows (key r) ≡ Some r) rows
 each_under_its_key key [] keys = tt
 each_under_its_key key (r ∷ rows) keys = (
   rw (eq-eqb (key r) (key r) refl) refl,
-  all_behind key r rows rows (IsDistinct-head nat_eq (key r) (map key rows) keys)
+  all_after key r rows rows (IsDistinct-head nat_eq (key r) (map key rows) keys)
       (each_under_its_key key rows (IsDistinct-tail nat_eq (key r) (map key rows) keys)),
 )
 

@@ -1,4 +1,4 @@
--- What the table of cases says of a request behind a log, by what stands before it.
+-- What the table of cases says of a request after a log, by what stands before it.
 use Rattle.std.proofs.Common.{◌≡◌, ◌≢◌, ℕ, ◌<◌, ◌≤◌, Bool, true, false, cond, eqb, leb, List, length, Some}
 use Rattle.std.proofs.Common.{None, refl, sym, ap, subst, ◌∙◌, arith, inl, inr}
 use Rattle.std.specs.Prelude.{ℤ, ◌+ℤ◌, ◌≤ℤ◌, nat_abs, ◌⊎◌, ◌&&◌, Option, IfSome, int_lt}

@@ -1,5 +1,5 @@
 -- The commands of a bank, and which branches, tellers and accounts they open. A log is the list of the
--- commands so far, the newest first: what came before a command is the list behind it.
+-- commands so far, the newest first: what came before a command is the list after it.
 use Rattle.std.specs.Prelude.{◌≡◌, ◌≤◌, ℕ, ℤ, pos, ◌≤ℤ◌, nat_abs, length, List, [], ◌∷◌, Option, Some, None}
 use Rattle.std.specs.Prelude.{Bool, false, is_some, ◌==◌, ◌&&◌, nat_le, if◌then◌else◌, IfSome, option_and_then}
 use Rattle.std.specs.List.{AllByRecursion}

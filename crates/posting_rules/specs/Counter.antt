@@ -1,4 +1,4 @@
--- What a counter shows, what a stop may leave of it, and what a call does to both.
+-- What a counter shows, what a crash may leave of it, and what a call does to both.
 use Rattle.std.specs.Prelude.{⊤, ◌≡◌, ℕ, ◌≤◌, List, length, take, Option, Some, None, Bool, ◌==◌, ◌&&◌}
 use Rattle.std.specs.Prelude.{if◌then◌else◌, Result, IfOk, OnOk, IfErr}
 use Rattle.std.specs.Option.{option_eq}
@@ -10,7 +10,7 @@ use Rattle.posting_rules.specs.declared.counter.Opening.{Opening}
 use Rattle.posting_rules.specs.declared.counter.Opening.TheVariants.{Opened, Already, Differs}
 use Rattle.posting_rules.specs.Commands.{Command, AreCommands, Terms, opened}
 use Rattle.posting_rules.specs.Tables.{Tables, AreTablesOf}
-use Rattle.posting_rules.specs.Runs.{behind}
+use Rattle.posting_rules.specs.Runs.{followed_by}
 
 -- what is known of a counter at one moment
 pub record Seen : Type 1 where
@@ -20,7 +20,7 @@ pub record Seen : Type 1 where
   pub is_down : Type 0
   -- what is found where it was stopped, such as a file
   pub Remains : Type 0
-  -- a stop at this moment may leave this
+  -- a crash at this moment may leave this
   pub left : Remains → Type 0
   -- this is a bank, with these tables
   pub found : Remains → Tables → Type 0
@@ -34,44 +34,44 @@ pub record ShowsLog (seen : Seen) (log : List Command) : Type 0 where
   pub are : seen.tables tables
   pub shows : AreTablesOf tables log
 
--- where it is honest, a stop leaves something
+-- where it is honest, a crash leaves something
 abbrev pub LeavesSomething : Seen → Type 0
 LeavesSomething seen = seen.honest → ∥ ((remains : seen.Remains) × seen.left remains) ∥₁
 
--- everything that a stop may leave is a bank, of whose tables P holds
+-- everything that a crash may leave is a bank, of whose tables P holds
 abbrev pub LeavesOnly : Seen → (Tables → Type 0) → Type 0
 LeavesOnly seen P = (remains : seen.Remains) → seen.left remains → (t : Tables) × seen.found remains t × P t
 
--- whatever a stop may leave now is the bank that it could leave before
+-- whatever a crash may leave now is the bank that it could leave before
 abbrev pub LeavesNoMore : Seen → Seen → Type 0
 LeavesNoMore old new = (remains : new.Remains) → new.left remains
     → (before : old.Remains) × old.left before × ((t : Tables) → old.found before t → new.found remains t)
 
--- it shows the log, and so does everything that a stop may leave
+-- it shows the log, and so does everything that a crash may leave
 pub record StandsAt (seen : Seen) (log : List Command) : Type 0 where
   pub shows : ShowsLog seen log
   pub up : seen.is_down → ⊥
   pub survives : LeavesOnly seen (λ t. AreTablesOf t log)
 
--- the tables show the log and then a beginning of the commands, so many of them at least, all of them the
+-- the tables show the log and then a prefix of the commands, so many of them at least, all of them the
 -- bank's
-pub record ShowsBeginning (log commands : List Command) (least : ℕ) (tables : Tables) : Type 0 where
+pub record ShowsPrefix (log commands : List Command) (least : ℕ) (tables : Tables) : Type 0 where
   pub count : ℕ
   pub holds : least ≤ count
   pub within : count ≤ length commands
-  pub are : AreCommands (behind log (take count commands))
-  pub shows : AreTablesOf tables (behind log (take count commands))
+  pub are : AreCommands (followed_by log (take count commands))
+  pub shows : AreTablesOf tables (followed_by log (take count commands))
 
 -- ---- what a call that was given some commands did
 
--- whatever log was shown, it is shown with the commands behind it
+-- whatever log was shown, it is shown with the commands after it
 abbrev pub ShowMore : Seen → Seen → List Command → Type 0
-ShowMore old new commands = (log : List Command) → ShowsLog old log → ShowsLog new (behind log commands)
+ShowMore old new commands = (log : List Command) → ShowsLog old log → ShowsLog new (followed_by log commands)
 
 -- it took them all
 pub record Takes (old new : Seen) (commands : List Command) : Type 0 where
   pub shows : new.honest → ShowMore old new commands
-  pub stands : new.honest → (log : List Command) → StandsAt old log → StandsAt new (behind log commands)
+  pub stands : new.honest → (log : List Command) → StandsAt old log → StandsAt new (followed_by log commands)
 
 -- it changed nothing
 pub record IsSeenUnchanged (old new : Seen) : Type 0 where
@@ -79,11 +79,11 @@ pub record IsSeenUnchanged (old new : Seen) : Type 0 where
   pub down : new.is_down → old.is_down
   pub left : LeavesNoMore old new
 
--- the store failed in it: a stop may leave any beginning of the commands
+-- the store failed in it: a crash may leave any prefix of the commands
 pub record IsCutShort (old new : Seen) (commands : List Command) : Type 0 where
   pub down : new.is_down
   pub survives : new.honest → (log : List Command) → StandsAt old log
-      → LeavesOnly new (ShowsBeginning log commands 0)
+      → LeavesOnly new (ShowsPrefix log commands 0)
 
 -- it tried nothing, since the counter was down
 pub record WasDown (old new : Seen) : Type 0 where
@@ -161,5 +161,5 @@ abbrev pub opening_for : Option Terms → Terms → Opening
 opening_for None terms = Opened
 opening_for (Some first) terms = if are_same first terms then Already else Differs
 
-abbrev pub opening_behind : List Command → ℕ → Terms → Opening
-opening_behind log branch terms = opening_for (opened log branch) terms
+abbrev pub opening_after : List Command → ℕ → Terms → Opening
+opening_after log branch terms = opening_for (opened log branch) terms

@@ -103,11 +103,11 @@ abbrev pub reply_given : Result RequestFields Bad → (ℕ → Option Terms) →
 reply_given (Err fault) opened es = malformed_reply
 reply_given (Ok r) opened es = reply_in (case_of (facts opened es r) r) r
 
--- the reply to a record behind a log
+-- the reply to a record after a log
 abbrev pub reply : List Command → List ℕ → ReplyFields
 reply log bytes = reply_given (request_of bytes) (λ b. opened log b) (decided log)
 
--- the balance of an open account behind a log
-abbrev pub balance_behind : List Command → ℕ → Option ℤ
-balance_behind log a = if is_account_open (λ b. opened log b) a then Some
+-- the balance of an open account after a log
+abbrev pub balance_after : List Command → ℕ → Option ℤ
+balance_after log a = if is_account_open (λ b. opened log b) a then Some
     (account_balance (decided log) a) else None

@@ -7,7 +7,7 @@ pub mod Entries
 pub mod Tables
 pub mod Editions
 pub mod LookUps
-pub mod Steps
+pub mod ChangesByKey
 pub mod Runs
 pub mod Stated
 pub mod Laws

@@ -1,5 +1,5 @@
 -- How the tellers and the accounts of a bank are numbered: those of branch 1 first, then those of branch 2,
--- and so on (the scaling of TPC-B). The nth of a branch, from 0 on, is n behind its first.
+-- and so on (the scaling of TPC-B). The nth of a branch, from 0 on, is n after its first.
 use Rattle.std.specs.Prelude.{ℕ, ◌+◌, ◌-◌, ◌*◌, ◌/◌, ◌%◌}
 use Rattle.posting_rules.specs.declared.limits.TheConstants.{ACCOUNTS_PER_BRANCH, TELLERS_PER_BRANCH}
 

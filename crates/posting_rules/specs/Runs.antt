@@ -4,10 +4,10 @@ use Rattle.message_records.specs.Spelling.{reply_spelling}
 use Rattle.posting_rules.specs.Commands.{Command, Open, Post}
 use Rattle.posting_rules.specs.Entries.{reply}
 
--- the log with these commands behind it, the first of them first
-abbrev pub behind : List Command → List Command → List Command
-behind log [] = log
-behind log (c ∷ cs) = behind (c ∷ log) cs
+-- the log with these commands after it, the first of them first
+abbrev pub followed_by : List Command → List Command → List Command
+followed_by log [] = log
+followed_by log (c ∷ cs) = followed_by (c ∷ log) cs
 
 -- records that are posted at one moment
 abbrev pub posts : ℕ → List (List ℕ) → List Command

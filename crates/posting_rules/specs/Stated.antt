@@ -117,7 +117,7 @@ pub record RepliesAsStated (before : List Command) (bytes : List ℕ) : Type 0 w
         balance = Some (account_balance (decided before) r.account +ℤ r.delta);
       }
 
--- of every record behind every log
+-- of every record after every log
 abbrev pub DecidedAsStated : Type 0
 DecidedAsStated = (before : List Command) (moment : ℕ) (bytes : List ℕ) → DecidesAsStated before moment bytes
 

@@ -3,9 +3,9 @@ ghost use Rattle.std.specs.Prelude.{◌≡◌, ◌≤◌, ◌≤ℤ◌, pos, [],
 ghost use Rattle.message_records.specs.Spelling.{reply_spelling};
 ghost use Rattle.posting_rules.specs.Branches.{IsNextBranch, IsLineAbove};
 ghost use Rattle.posting_rules.specs.Commands.{Open, Post, opened_with};
-ghost use Rattle.posting_rules.specs.Entries.{reply, balance_behind};
+ghost use Rattle.posting_rules.specs.Entries.{reply, balance_after};
 ghost use Rattle.posting_rules.specs.Tables.{Tables};
-ghost use Rattle.posting_rules.specs.Counter.{Seen, Answers, IsCounterCall, LeavesSomething, opening_behind};
+ghost use Rattle.posting_rules.specs.Counter.{Seen, Answers, IsCounterCall, LeavesSomething, opening_after};
 ghost use Rattle.posting_rules.specs.Runs.{posts, replies_to};
 ghost use Rattle.posting_rules.specs.declared.fault.Fault.{Fault as Told};
 
@@ -43,10 +43,10 @@ pub struct BranchLine {
 /// What every call promises is one record, `IsCounterCall`, so that what holds after a fault is the same for
 /// each. After `Memory` nothing has changed, and the counter can be used. After `Store`, `Down` and `Damaged`
 /// it is down, and every later call answers `Down` and changes nothing. After `Store` what is found is what
-/// stood before, with a beginning of the call's commands behind it; after `Damaged` no row has changed.
+/// stood before, with a prefix of the call's commands after it; after `Damaged` no row has changed.
 /// Whatever a call answers, what no call touches is as it was (`spares`).
 pub trait Counter {
-    /// Its tables, whether it is down, what a stop at this moment may leave, and whether the disk is honest.
+    /// Its tables, whether it is down, what a crash at this moment may leave, and whether the disk is honest.
     ghost seen: { Self → Seen };
 
     /// All that it keeps, whether or not that is a bank: of a bank in a file its whole database.
@@ -105,7 +105,7 @@ pub trait Counter {
         requires few { count ≤ MAX_ACCOUNTS }
         requires floor { IfSome floor (λ z. z ≤ℤ pos 0) }
         ensures answer { Answers (seen self.old) (seen self.new) result
-            (λ log opening. opening ≡ opening_behind log branch (opened_with count floor)) }
+            (λ log opening. opening ≡ opening_after log branch (opened_with count floor)) }
         ensures call { IsCounterCall seen contents reason self.old self.new
             (Open branch (opened_with count floor) ∷ []) result }
         ensures spares { spares self.old self.new };
@@ -113,7 +113,7 @@ pub trait Counter {
     /// The balance of an account in cents; none where it isn't open. It changes nothing.
     fn balance(&mut self, account: Account) -> Result<Option<Cents>, Fault>
         ensures answer { Answers (seen self.old) (seen self.new) result
-            (λ log balance. balance ≡ balance_behind log account) }
+            (λ log balance. balance ≡ balance_after log account) }
         ensures call { IsCounterCall seen contents reason self.old self.new [] result }
         ensures tables { OnOk result ((seen self.new).honest → (t : Tables) → (seen self.old).tables t
             → (seen self.new).tables t) }
@@ -131,10 +131,10 @@ pub trait Counter {
             → (seen self.new).tables t) }
         ensures spares { spares self.old self.new };
 
-    // What is said of everything that a stop may leave is said of something.
+    // What is said of everything that a crash may leave is said of something.
     ghost leaves_something: { (counter : Self) → LeavesSomething (seen counter) };
 
-    // So it is where nothing was called, and behind two calls.
+    // So it is where nothing was called, and after two calls.
     ghost spares_itself: { (counter : Self) → spares counter counter };
 
     ghost spares_then: { (old mid new : Self) → spares old mid → spares mid new → spares old new };

@@ -106,7 +106,7 @@ impl Decision {
         self.outcome
     }
 
-    /// The account's balance in cents behind the posting, and zero where there was none.
+    /// The account's balance in cents after the posting, and zero where there was none.
     pub fn balance(&self) -> Cents
         ensures { result ≡ self.now.balance }
     {

@@ -1,5 +1,5 @@
 //! How the tellers and the accounts of a bank are numbered: those of branch 1 first, then those of branch 2,
-//! and so on (the scaling of TPC-B). The nth of a branch, from 0 on, is n behind its first.
+//! and so on (the scaling of TPC-B). The nth of a branch, from 0 on, is n after its first.
 ghost use Rattle.std.specs.Prelude.{◌≡◌, ◌≤◌};
 ghost use Rattle.message_records.specs.declared.limits.TheConstants.{MAX_BRANCH};
 ghost use Rattle.posting_rules.specs.Numbering.{first_teller, first_account, branch_of_teller};

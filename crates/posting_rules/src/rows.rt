@@ -105,7 +105,7 @@ pub struct RequestRow {
 }
 
 impl RequestRow {
-    /// The row of a request that is decided with this outcome, and with the account's balance behind a posting
+    /// The row of a request that is decided with this outcome, and with the account's balance after a posting
     /// or zero, whenever that is.
     #[must_use]
     pub fn decided(ordinal: Ordinal, request: &Request, outcome: Outcome, balance: Cents) -> Self

@@ -5,7 +5,7 @@ ghost use Rattle.posting_sheets.specs.Replies.{Decodes, IsLineSo, RepliesFaultIs
 use crate::fault::RepliesFault;
 use crate::line::line_of;
 use message_records::{REPLY_BYTES, decode_reply};
-use posting_core::transfer::fill;
+use posting_core::transfer::fill_buffer;
 use posting_core::{Sink, Source, write_out};
 use std::alloc::Global;
 use std::io::ErrorKind;
@@ -65,7 +65,7 @@ pub fn decode_replies<R: Source, W: Sink>(
     let mut filled = 0;
     let mut count = 0;
     'reads: for _ in 0..u64::MAX {
-        match fill(reader, &mut buffer, filled) {
+        match fill_buffer(reader, &mut buffer, filled) {
             Ok(0) if filled == 0 => return Ok(count),
             Ok(0) => return Err(RepliesFault::Truncated(filled as u8)),
             Ok(n) => filled += n,

@@ -5,7 +5,8 @@ use Rattle.sql_meanings.proofs.Names.{inl, inr, zero, suc, refl, sym, subst, ari
 use Rattle.std.proofs.{Common.slice_set, lemmas.Slice.Eq.bytes_eq-Decides}
 use Rattle.sql_meanings.specs.Contents.{HoldsEach, has_other_names, is_free, stand_apart}
 use Rattle.sql_meanings.specs.{Entries.Entry, Tables.Defines, Tables.Holds}
-use Rattle.sql_meanings.proofs.{Steps.stayed, Steps.stepped, TableWrites.Leaves, Tests.and_both, Trees.Holds-prop}
+use Rattle.sql_meanings.proofs.{TablesBeside.stayed, TablesBeside.stepped, TableWrites.Leaves, Tests.and_both}
+use Rattle.sql_meanings.proofs.{Trees.Holds-prop}
 use Rattle.std.specs.Prelude.{◌≡◌, ◌≢◌, ◌==◌, ◌&&◌, ◌∷◌}
 
 -- ---- what the tests say

@@ -52,7 +52,7 @@ pub mod Sparing
 pub mod TableStands
 pub mod Statements
 pub mod StayHeld
-pub mod Steps
+pub mod TablesBeside
 pub mod Stopping
 pub mod TableWrites
 pub mod TestedAnswers

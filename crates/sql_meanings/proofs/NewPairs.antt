@@ -1,4 +1,4 @@
--- Rows that are put in where two columns behind the key are UNIQUE together: no row had their numbers there.
+-- Rows that are put in where two columns after the key are UNIQUE together: no row had their numbers there.
 use Rattle.sql_meanings.specs.Names.{ℤ, List, [], find, is_some, Bool, true, false, Some, None, Option, cond}
 use Rattle.sql_meanings.specs.Names.{AllByRecursion, Has, is_eq, match_ordering}
 use Rattle.sql_meanings.proofs.Names.{inl, inr, refl, sym, ap, ◌∙◌, Less, Equal, Greater, Ordering, int_cmp}
@@ -80,7 +80,7 @@ never_both all one two e x clear he hx apart p q = go (int_cmp e.key x.key) refl
     go Equal is apart = absurd cc
     go Greater is apart = not_both all one two x e clear hx he (flip e.key x.key is) q p
 
--- rows are put in behind others: none of the first ones had the numbers of one that is put in
+-- rows are put in after others: none of the first ones had the numbers of one that is put in
 pub none_had : (first news es : List Entry) → ((x : Entry) → Has first x → Has es x) → meets_key news es ≡ false
     → Clear (put_each news es)
     → AllByRecursion (λ r. (one two : ℤ) → has_two one two r ≡ true → find (has_two one two) first ≡ None) news

@@ -24,7 +24,7 @@ all_more P [] n x is all one = absurd cc
 all_more P (y ∷ xs) zero x is all one = let same : y ≡ x = cc in (subst P (sym same) one, tt)
 all_more P (y ∷ xs) (suc n) x is all one = (all.0, all_more P xs n x is all.1 one)
 
--- behind the first so many
+-- after the first so many
 pub later_at : {X : Type 0} (xs : List X) (n at : ℕ) → slice_get (drop n xs) at ≡ slice_get xs (n + at)
 later_at [] zero at = refl
 later_at [] (suc n) at = refl
@@ -32,7 +32,7 @@ later_at (y ∷ xs) zero at = let same : at ≡ 0 + at = omega arith in ap (slic
 later_at (y ∷ xs) (suc n) at =
     let same : suc (n + at) ≡ suc n + at = omega arith in later_at xs n at ∙ ap (slice_get (y ∷ xs)) same
 
--- of each behind the first so many
+-- of each after the first so many
 pub all_later : {X : Type 0} (P : X → Type 0) (xs : List X) (n : ℕ) → AllByRecursion P xs
     → AllByRecursion P (drop n xs)
 all_later P [] zero all = tt

@@ -14,7 +14,7 @@ use Rattle.sqlite_resolve.specs.Program.{alone}
 use Rattle.sql_meanings.specs.StatementAnswers.{is_text_refused, IsThere, IsUnderstood, OnlyShows, TellsProbe}
 use Rattle.sql_meanings.specs.StatementAnswers.{TellsUnderstood}
 use Rattle.sql_meanings.specs.{Tables.Defines, Tables.placed_at, Tables.tree_of, Queries.no_limit}
-use Rattle.sql_meanings.proofs.{Steps.standing, Expressions.st, OneTable.IsSelectOf, Statements.HasTable}
+use Rattle.sql_meanings.proofs.{TablesBeside.standing, Expressions.st, OneTable.IsSelectOf, Statements.HasTable}
 use Rattle.sqlite_ast.specs.declared.Select as written_select
 use Rattle.sqlite_ast.specs.declared.Origin.TheVariants as origin
 use Rattle.sqlite_ast.specs.declared.Statement.TheVariants as written

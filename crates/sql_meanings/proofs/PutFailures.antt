@@ -14,7 +14,8 @@ use Rattle.sql_meanings.specs.{Entries.Entry, Entries.has_key, Entries.put, Entr
 use Rattle.sql_meanings.specs.{SeveralRows.put_each, Tables.Holds, Tables.placed_at, Tables.tree_of}
 use Rattle.sql_meanings.specs.StatementAnswers.{Forbids, HasWideIndex, IsInterrupted, PutFails}
 use Rattle.sql_meanings.proofs.{Means.Means, Means.no_refusal, Referring.asks_none, Referring.refers_after}
-use Rattle.sql_meanings.proofs.{Steps.Standing, Steps.standing, TableWrites.IsPlain, TableWrites.plain_at}
+use Rattle.sql_meanings.proofs.{TablesBeside.Standing, TablesBeside.standing, TableWrites.IsPlain}
+use Rattle.sql_meanings.proofs.{TableWrites.plain_at}
 use Rattle.sql_meanings.proofs.PutRows.{PutsAs, PutsEachAs, news_are, put_are, puts_one, taken_are}
 use Rattle.sql_meanings.proofs.SeveralRows.{IsKey, fit_at, or_nothing}
 use Rattle.sql_meanings.proofs.Refusals.{EditStops, IsFit, edit_stops, forbids}

@@ -3,7 +3,7 @@ use Rattle.sql_meanings.specs.Names.{ℕ, ℤ, List, [], find, slice_get, Some, 
 use Rattle.sql_meanings.specs.Names.{overlay, Table, Term, eval_all, IsDatabase, State, QueriesRowInside, Error}
 use Rattle.sql_meanings.specs.Names.{plain}
 use Rattle.sql_meanings.proofs.{Names.get_or, Names.∥∥₁_elim, KeyedAnswers.keyed_answer, OrderedAnswers.next_answer}
-use Rattle.sql_meanings.proofs.{TwoColumns.Clear, TwoColumns.clear, TwoColumns.two_answer, Steps.standing}
+use Rattle.sql_meanings.proofs.{TwoColumns.Clear, TwoColumns.clear, TwoColumns.two_answer, TablesBeside.standing}
 use Rattle.sql_meanings.specs.Entries.{Entry, has_key, has_two, is_above, stored}
 use Rattle.sql_meanings.specs.{Tables.Holds, Tables.placed_at, Tables.tree_of, StatementAnswers.TellsRow}
 use Rattle.sql_meanings.specs.Queries.{by_key, by_two, next_above}
@@ -48,7 +48,7 @@ module _ (old new : State) (table : Table) (free : table.references ≡ []) (sou
       ∥∥₁_elim sound (Bool-set _ _) (λ it. clear old.now.schema old.now.trees (placed_at table tree) es it
       (standing old.now table free sound holds.defined).stands.listed unique order holds.rows.are e h)
 
-  -- the row with two given numbers behind its key, where these are UNIQUE together
+  -- the row with two given numbers after its key, where these are UNIQUE together
   pub reads_two : (one two : ℤ) → slice_get table.uniques 0 ≡ Some (2 ∷ 3 ∷ [])
       → get_or table.orders 0 plain ≡ plain
       → ReadsAs table text (Int one ∷ Int two ∷ []) (λ t. by_two 2 3 t project) → (r : Result Row Error)

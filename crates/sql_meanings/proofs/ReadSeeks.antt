@@ -4,7 +4,7 @@ use Rattle.sql_meanings.specs.Names.{overlay, Query, IsSureAnswer, page, Table, 
 use Rattle.sql_meanings.specs.Names.{IsDatabase, State, FailsToQuery, IsNotRun, Survives, Error, IsSome}
 use Rattle.sql_meanings.proofs.{Names.inl, Names.inr, Names.refl, Names.nat_le, Names.subst, PlainReads.fails_reading}
 use Rattle.sql_meanings.proofs.{PlainReads.shown_answers, ReadTables.ReadsAs, ReadTables.under_overlay}
-use Rattle.sql_meanings.proofs.{SeekAnswers.from_answer, SeekAnswers.of_from_answer, Steps.standing}
+use Rattle.sql_meanings.proofs.{SeekAnswers.from_answer, SeekAnswers.of_from_answer, TablesBeside.standing}
 use Rattle.sqlite.specs.State.{CommitsShowing, Shown}
 use Rattle.sqlite.proofs.StateLemmas.{survives_weaker}
 use Rattle.sql_meanings.specs.{Entries.Entry, Entries.stored, Tables.Defines, Tables.Holds, Tables.tree_of}
@@ -60,7 +60,7 @@ module _ (old new : State) (table : Table) (free : table.references ≡ []) (sou
       (λ low rows sure. from_answer Null most tree project (overlay old.now.trees []) k rows es
       (under_overlay old.now.trees tree low holds.rows) (sure Null))
 
-  -- the same of those with a number behind their keys
+  -- the same of those with a number after their keys
   pub reads_of_from : (one k : ℤ)
       → ReadsAs table text (Int one ∷ Int k ∷ []) (λ t. next_of_from most t project)
       → (r : Result (List Row) Error) → QueriesAll text (Int one ∷ Int k ∷ []) old new r

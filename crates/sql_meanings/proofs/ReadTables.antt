@@ -6,7 +6,7 @@ use Rattle.sql_meanings.proofs.Names.{inl, inr, refl, sym, subst, nat_le}
 use Rattle.sqlite.specs.Command.TheVariants.{Select}
 use Rattle.sql_meanings.specs.Entries.{Entry, IsTree, listed}
 use Rattle.sql_meanings.specs.{Tables.Defines, Tables.placed_at, Tables.tree_of, StatementAnswers.TellsRow}
-use Rattle.sql_meanings.proofs.{Statements.HasTable, Means.Means, Steps.standing}
+use Rattle.sql_meanings.proofs.{Statements.HasTable, Means.Means, TablesBeside.standing}
 use Rattle.sql_meanings.proofs.PlainReads.{first_answers, none_or_fails}
 use Rattle.std.specs.Prelude.{◌≡◌, ◌^◌, ◌∷◌}
 

@@ -59,7 +59,7 @@ module _ {X : Type 0} (cmp : X → X → Ordering) (total : IsTotalOrder cmp) wh
   no_equal x [] h = refl
   no_equal x (z ∷ zs) h = rw (h.0) (no_equal x zs h.1)
 
-  -- the elements behind the first are those that are above it
+  -- the elements after the first are those that are above it
   above_first : (x : X) (ys : List X) → AllByRecursion (λ z. is_lt (cmp x z) ≡ true) ys
       → filter (λ z. is_lt (cmp x z)) (x ∷ ys) ≡ ys
   above_first x ys h = rw (same_is_equal x) (filter_all (λ z. is_lt (cmp x z)) ys h)

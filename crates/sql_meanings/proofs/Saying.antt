@@ -4,7 +4,7 @@ use Rattle.sql_meanings.proofs.Names.{◌∙◌, arith}
 use Rattle.sqlite.proofs.StateLemmas.{survives_then}
 use Rattle.sql_meanings.specs.Calls.{Says}
 
--- neither leaves anything new at a stop
+-- neither leaves anything new at a crash
 pub survives_both : (old mid new : State) → Survives old mid (λ _. ⊥) → Survives mid new (λ _. ⊥)
     → Survives old new (λ _. ⊥)
 survives_both old mid new one two = survives_then old mid new (λ _. ⊥) (λ _. ⊥) (λ _. ⊥) (λ clean db h. h)

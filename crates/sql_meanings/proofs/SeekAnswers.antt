@@ -62,7 +62,7 @@ from_answer lost most t project db k rows es tree a =
     ordered_answer (inner t end) key_from project _ f (λ e. refl) lost db params rows kept
     (rise_filter (is_from k) es tree.rise) matched a
 
--- the same of those with the first parameter behind their keys
+-- the same of those with the first parameter after their keys
 pub of_from_answer : (lost : Value) {width : ℕ × ℕ} (most t : ℕ) (project : List Term) (db : Trees) (one k : ℤ)
     (rows : List Row)
     (es : List Entry) → IsTree width (db t) es

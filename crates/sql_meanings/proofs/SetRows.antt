@@ -8,7 +8,7 @@ use Rattle.sql_meanings.specs.Entries.{HasWidth, Entry, IsTree, changed, has_key
 use Rattle.sql_meanings.specs.Tables.{Holds, placed_at, tree_of, width_of, texts_of}
 use Rattle.sql_meanings.specs.Queries.{by_key}
 use Rattle.sql_meanings.proofs.{Statements.HasTable, Means.Means, KeyedAnswers.keyed_answer, ReadTables.under_overlay}
-use Rattle.sql_meanings.proofs.{Steps.standing, Writing.updates}
+use Rattle.sql_meanings.proofs.{TablesBeside.standing, Writing.updates}
 use Rattle.sql_meanings.proofs.Changes.{none_changed, put_changed, tree_put, found_all}
 use Rattle.sql_meanings.proofs.EntryLists.{put_stored, put_without, without, without_stored}
 use Rattle.sql_meanings.proofs.TableWrites.{cast_is, none_short, IsPlain, Leaves, steps_by}

@@ -54,7 +54,7 @@ abbrev pub spent : ℕ → List Output → ℕ
 spent budget [] = budget
 spent budget (o ∷ os) = spent (budget - 1) os
 
--- what the last of them leaves behind
+-- what the last of them leaves after
 abbrev pub last_of : Carried → List Output → Carried
 last_of l [] = l
 last_of l (o ∷ os) = last_of o.carried os

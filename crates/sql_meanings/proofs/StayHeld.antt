@@ -39,11 +39,11 @@ module _ (old new : Database) (sound : IsDatabase new) (keeps : KeepsWhatStood o
       let f = and_both (is_free t) (has_other_names t tables) s.0 in
       (still_held t es (no_references t f.0) each.0, still_hold tables contents s.1 each.1)
 
--- some tables, and more behind them
-pub held_behind : (db : Database) (tables more : List Table) (contents rows : List (List Entry))
+-- some tables, and more after them
+pub held_after : (db : Database) (tables more : List Table) (contents rows : List (List Entry))
     → HoldsEach db tables contents → HoldsEach db more rows → HoldsEach db (tables ++ more) (contents ++ rows)
-held_behind db [] more [] rows each then = then
-held_behind db [] more (es ∷ contents) rows each then = absurd each
-held_behind db (t ∷ tables) more [] rows each then = absurd each
-held_behind db (t ∷ tables) more (es ∷ contents) rows each then =
-    (each.0, held_behind db tables more contents rows each.1 then)
+held_after db [] more [] rows each then = then
+held_after db [] more (es ∷ contents) rows each then = absurd each
+held_after db (t ∷ tables) more [] rows each then = absurd each
+held_after db (t ∷ tables) more (es ∷ contents) rows each then =
+    (each.0, held_after db tables more contents rows each.1 then)

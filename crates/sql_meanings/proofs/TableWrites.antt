@@ -3,7 +3,8 @@ use Rattle.sql_meanings.specs.Names.{length, ℕ, Some, List, [], map, Row, Tabl
 use Rattle.sql_meanings.specs.Names.{cast_row}
 use Rattle.sql_meanings.proofs.Names.{sym, ap, subst, ◌∙◌, arith}
 use Rattle.sql_meanings.specs.Entries.{Entry, IsTree, HasWidth, AreShort, numbers, texts_held, stored}
-use Rattle.sql_meanings.proofs.{Casting.AreFor, Casting.all_for, Casting.cast_stored, Steps.Steps, Writing.Wrote}
+use Rattle.sql_meanings.proofs.{Casting.AreFor, Casting.all_for, Casting.cast_stored, TablesBeside.ChangesOneTable}
+use Rattle.sql_meanings.proofs.{Writing.Wrote}
 use Rattle.sql_meanings.specs.Making.{SparesStanding, Stands}
 use Rattle.sql_meanings.specs.Tables.{placed_at, tree_of, width_of, texts_of}
 use Rattle.sql_meanings.specs.Plain.{key_column, number_column, text_column}
@@ -12,12 +13,12 @@ use Rattle.std.specs.Prelude.{◌≡◌, ◌≤◌, ◌+◌, ◌++◌, ◌∷◌
 -- what a write of one table leaves: the table has these rows now, and each other table what it had
 pub record Leaves (old new : State) (table : Table) (es : List Entry) : Type 0 where
   pub rows : List Row
-  pub steps : Steps old.now new.now table.name rows
+  pub steps : ChangesOneTable old.now new.now table.name rows
   pub tree : IsTree (width_of table) rows es
   pub sound : IsDatabase new.now
   pub marks : new.marks ≡ old.marks
 
--- a table of a key, and of at most 1999 whole numbers and texts behind it, with no foreign key of its own and
+-- a table of a key, and of at most 1999 whole numbers and texts after it, with no foreign key of its own and
 -- no AUTOINCREMENT
 pub record IsPlain (table : Table) : Type 0 where
   pub free : table.references ≡ []
@@ -60,7 +61,7 @@ cast_is table is e wide short = cast_stored table is.key _ e is.columns (fits_co
 -- what a write that is done leaves of every table
 pub steps_by : (old new : State) (edit : Edit) (count : ℕ) (name : List ℕ)
     → edit.table.tree ≡ tree_of old.now.schema name
-    → Wrote old new edit count → Steps old.now new.now name (edited old.now.trees edit)
+    → Wrote old new edit count → ChangesOneTable old.now new.now name (edited old.now.trees edit)
 steps_by old new edit count name at wrote = record {
   schema = wrote.schema;
   now = ap (λ t. new.now.trees t) (sym at) ∙ wrote.leaves.rows;

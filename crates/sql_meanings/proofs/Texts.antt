@@ -163,7 +163,7 @@ abbrev parameters : ℕ → ℕ → List Term
 parameters first zero = []
 parameters first (suc count) = col 0 first ∷ parameters (suc first) count
 
--- the key, and behind it so many numbers
+-- the key, and after it so many numbers
 abbrev pub put_terms : ℕ → List Term
 put_terms count = col 0 0 ∷ lit Null ∷ parameters 1 count
 
@@ -198,7 +198,7 @@ puts_by table text params new count P columns rows parsed is plain untimed made 
       passes = passes;
     }
 
--- so many rows, each a key and behind it so many numbers, from this parameter on
+-- so many rows, each a key and after it so many numbers, from this parameter on
 abbrev pub each_terms : ℕ → ℕ → ℕ → List Term
 each_terms count first zero = []
 each_terms count first (suc rows) =

@@ -1,4 +1,4 @@
--- Where two columns behind the key are UNIQUE together, one row at most has two given numbers there.
+-- Where two columns after the key are UNIQUE together, one row at most has two given numbers there.
 use Rattle.sql_meanings.specs.Names.{ℕ, ℤ, List, [], map, filter, find, Some, Bool, cond, slice_get, true, false}
 use Rattle.sql_meanings.specs.Names.{list_any, list_all, int_eq, is_eq, Value, Int, plain, Binary, is_true}
 use Rattle.sql_meanings.specs.Names.{from_truth, binary, Compare, clashes, Row, IsAnswerAs, inner, end, Trees, Table}

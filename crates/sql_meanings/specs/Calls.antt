@@ -3,7 +3,7 @@ use Rattle.sql_meanings.specs.Names.{IsTrue, State, HasCleanDisk, Survives, stat
 use Rattle.std.specs.Prelude.{◌≡◌}
 
 -- The connection is the same. On an honest disk: what it says of the rows, and what holds whatever the rows.
--- Only a fault shuts the store, and a stop leaves nothing new.
+-- Only a fault shuts the store, and a crash leaves nothing new.
 pub record Says {S : Type 0} (g : Ghosts S) (old new : Transaction S)
     (Told Kept : State → State → Type 0) : Type 0 where
   pub same_reference : new.conn.ghost_name ≡ old.conn.ghost_name

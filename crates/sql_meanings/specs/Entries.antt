@@ -6,7 +6,7 @@ use Rattle.std.specs.Ordering.{int_cmp}
 use Rattle.std.specs.declared.cmp.Ordering.TheVariants.{Less}
 use Rattle.std.specs.Prelude.{◌≡◌, ◌≤◌, ◌&&◌, ◌++◌, ◌∷◌}
 
--- a row: its key, its other numbers and behind them its texts, each in the order of the columns
+-- a row: its key, its other numbers and after them its texts, each in the order of the columns
 pub record Entry : Type 0 where
   pub key : ℤ
   pub values : List ℤ
@@ -53,7 +53,7 @@ Rise = IsAscending (λ a b. int_cmp a.key b.key ≡ Less)
 abbrev pub AreShort : List (List ℕ) → Type 0
 AreShort texts = AllByRecursion (λ t. length t ≤ 1000) texts
 
--- the row has so many numbers and so many texts behind its key
+-- the row has so many numbers and so many texts after its key
 abbrev pub HasWidth : ℕ × ℕ → Entry → Type 0
 HasWidth width e = (length e.values ≡ width.0) × (length e.texts ≡ width.1)
 
@@ -68,12 +68,12 @@ abbrev pub listed : {X : Type 0} → Option X → List X
 listed None = []
 listed (Some x) = x ∷ []
 
--- the first two numbers behind the key are these
+-- the first two numbers after the key are these
 abbrev pub begins_with : ℤ → ℤ → List ℤ → Bool
 begins_with one two [] = false
 begins_with one two (a ∷ []) = false
 begins_with one two (a ∷ b ∷ more) = int_eq a one && int_eq b two
 
--- the row has these two numbers behind its key
+-- the row has these two numbers after its key
 abbrev pub has_two : ℤ → ℤ → Entry → Bool
 has_two one two e = begins_with one two e.values

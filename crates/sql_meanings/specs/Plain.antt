@@ -27,7 +27,7 @@ number_column = strict_column Integer true
 abbrev pub text_column : List ℕ → Column
 text_column = strict_column Text true
 
--- the table of this name and key, with columns of numbers and of texts behind them, and no other rule; its tree
+-- the table of this name and key, with columns of numbers and of texts after them, and no other rule; its tree
 -- is chosen as it is made
 abbrev pub text_table : List ℕ → List ℕ → List (List ℕ) → List (List ℕ) → Table
 text_table name key columns texts = record {

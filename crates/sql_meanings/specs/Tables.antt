@@ -27,7 +27,7 @@ pub record Defines (schema : Schema) (table : Table) : Type 0 where
 abbrev pub texts_of : Table → ℕ
 texts_of table = length (filter (λ c. kind_code c.kind == 3) table.columns)
 
--- how many columns of numbers it has beside its key, and how many of texts behind them
+-- how many columns of numbers it has beside its key, and how many of texts after them
 abbrev pub width_of : Table → ℕ × ℕ
 width_of table = (length table.columns - 1 - texts_of table, texts_of table)
 

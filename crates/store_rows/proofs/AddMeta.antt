@@ -54,7 +54,7 @@ starts old new (Err e) made h =
           (λ db shows. holds_one db new_tables shows)) fails
     ]
 
--- ---- behind the tables that were made
+-- ---- after the tables that were made
 
 module _ (old mid new : State) (e : Error) (made : TablesAreMade all_texts old.now mid.now)
     (going : GoesOn old mid) (counts : KeepsCounts old mid) (limit : mid.step_limit ≡ old.step_limit) where

@@ -11,7 +11,7 @@ use Rattle.sqlite_rules.proofs.RuleLemmas.{keeps_at}
 use Rattle.sqlite_schema.specs.declared.schema.Constraint.TheVariants.{Check}
 use Rattle.sql_meanings.specs.Entries.{Entry, numbers, stored, texts_held}
 use Rattle.sql_meanings.specs.Tables.{placed_at, tree_of}
-use Rattle.sql_meanings.proofs.Steps.{standing}
+use Rattle.sql_meanings.proofs.TablesBeside.{standing}
 use Rattle.store_rows.specs.View.{HoldsRows}
 use Rattle.sqlite.specs.Order.{Row}
 use Rattle.sqlite.specs.declared.types.Value.TheVariants.{Null, Int}

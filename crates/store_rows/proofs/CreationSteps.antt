@@ -18,7 +18,8 @@ use Rattle.sql_meanings.proofs.Makings.{holds_none, kept}
 use Rattle.sql_meanings.proofs.Places.{all_more}
 use Rattle.sql_meanings.proofs.TableStands.{then_keeps}
 use Rattle.store_rows.specs.Creation.{AreGrown, IsApart, TablesAreMade, MakesAll}
-use Rattle.store_rows.proofs.MadeSoFar.{Begun, IsNew, Reached, grows_alone, grows_more, keeps_itself, made_new, stay_new}
+use Rattle.store_rows.proofs.MadeSoFar.{Begun, IsNew, Reached, grows_alone, grows_more, keeps_itself, made_new}
+use Rattle.store_rows.proofs.MadeSoFar.{stay_new}
 
 -- what changed nothing leaves a transaction that went on as it was
 pub still_on : (old mid new : State) → GoesOn old mid → KeepsCounts old mid → IsUnchanged mid new

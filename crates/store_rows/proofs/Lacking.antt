@@ -24,7 +24,7 @@ use Rattle.sql_meanings.proofs.Contents.{HoldsEach-prop}
 use Rattle.sql_meanings.proofs.FreeNames.{free_beside, free_understood, needs_none, only_full}
 use Rattle.sql_meanings.proofs.ListedTexts.{listing_tests}
 use Rattle.sql_meanings.proofs.Places.{all_later}
-use Rattle.sql_meanings.proofs.StayHeld.{held_behind, same_place, still_held, still_hold}
+use Rattle.sql_meanings.proofs.StayHeld.{held_after, same_place, still_held, still_hold}
 use Rattle.sql_meanings.proofs.Tests.{and_both}
 use Rattle.sql_meanings.proofs.Trees.{Holds-prop, nat_set}
 use Rattle.store_rows.specs.BankTables as bank
@@ -62,12 +62,12 @@ apart_first (t ∷ tables) (suc n) apart =
     ) refl
 
 module _ (from : ℕ) (old new : Database) (made : TablesAreMade (lacking from) old new) where
-  -- the tables of the version, and behind them those that it lacks
-  behind : (t : Tables) → ShowsLess from old t → IsDatabase new
+  -- the tables of the version, and after them those that it lacks
+  after : (t : Tables) → ShowsLess from old t → IsDatabase new
       → HoldsEach new (tables_of from ++ map (λ it. it.1) (lacking from))
       (contents_of from t ++ drop (4 + from) (rows_of t))
-  behind t was sound =
-      held_behind new (tables_of from) (map (λ it. it.1) (lacking from)) (contents_of from t)
+  after t was sound =
+      held_after new (tables_of from) (map (λ it. it.1) (lacking from)) (contents_of from t)
       (drop (4 + from) (rows_of t))
       (still_hold old new sound made.keeps (tables_of from) (contents_of from t)
       (apart_first bank_tables (5 + from) refl) was.shows.each)
@@ -87,7 +87,7 @@ module _ (from : ℕ) (old new : Database) (made : TablesAreMade (lacking from) 
   each t was sound =
       subst (HoldsEach new bank_tables) (all_rows t)
       (subst (λ ts. HoldsEach new ts (contents_of from t ++ drop (4 + from) (rows_of t))) all_tables
-      (behind t was sound))
+      (after t was sound))
 
   pub lacking_made : LackingAreMade from old new
   lacking_made = record {
@@ -170,8 +170,8 @@ apart_later [] (suc n) apart = tt
 apart_later (it ∷ its) zero apart = apart
 apart_later (it ∷ its) (suc n) apart = apart_later its n apart.1
 
-behind_first : (n : ℕ) → lacking (suc n) ≡ drop n (lacking 1)
-behind_first n =
+after_first : (n : ℕ) → lacking (suc n) ≡ drop n (lacking 1)
+after_first n =
     let places : 5 + suc n ≡ suc (suc (suc (suc (suc (suc n))))) = omega arith in
     ap (λ places. drop places all_texts) places
 
@@ -179,7 +179,7 @@ pub lacking_refused : (from : ℕ) → IsEarlier from → (schema : Schema) → 
     → RefusesLacking from schema e → e ≡ SqliteFailure SchemaTooBig
 lacking_refused zero earlier schema takes e (now, refuses) = absurd (omega (arith, earlier.0))
 lacking_refused (suc n) earlier schema takes e (now, refuses) =
-    let same = behind_first n in
+    let same = after_first n in
     full (lacking (suc n)) (rw same (all_later IsPlain (lacking 1) n (floor_plain, (reference_plain, tt))))
     (rw same (apart_later (lacking 1) n all_apart)) schema now takes.free takes.counts refuses.made refuses.next refuses.is_next
     refuses.grown e refuses.refused

@@ -18,7 +18,7 @@ use Rattle.sql_meanings.specs.StatementAnswers.{is_taken_key}
 use Rattle.sql_meanings.specs.Tables.{Holds, placed_at, tree_of}
 use Rattle.sql_meanings.proofs.NewPairs.{has_each, none_had}
 use Rattle.sql_meanings.proofs.PutRows.{PutsEachAs, puts_rows}
-use Rattle.sql_meanings.proofs.Steps.{standing, stepped}
+use Rattle.sql_meanings.proofs.TablesBeside.{standing, stepped}
 use Rattle.sql_meanings.proofs.TwoColumns.{Clear, clear}
 use Rattle.store_rows.specs.BankTables.{request}
 use Rattle.store_rows.specs.Faults.{added}

@@ -13,7 +13,7 @@ use Rattle.store_rows.specs.declared.texts.TheConstants.{SET_ACCOUNT, SET_VERSIO
 use Rattle.store_rows.proofs.Checked.{meta_checked}
 use Rattle.store_rows.proofs.Getting.{keys}
 
--- ---- the one number behind the key
+-- ---- the one number after the key
 
 abbrev pub set_first : ℤ → Entry → Entry
 set_first v e = record e { values = v ∷ []; texts = [] }

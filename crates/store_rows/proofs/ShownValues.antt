@@ -20,9 +20,9 @@ places_are none zero (x ∷ xs) wide = absurd (omega arith)
 places_are none (suc n) [] wide = absurd (omega arith)
 places_are none (suc n) (x ∷ xs) wide = ap (λ l. x ∷ l) (places_are none n xs (omega arith))
 
--- the columns behind the key
-abbrev pub behind_key : Entry → Row
-behind_key e = numbers e.values ++ texts_held e.texts
+-- the columns after the key
+abbrev pub after_key : Entry → Row
+after_key e = numbers e.values ++ texts_held e.texts
 
 no_texts : (row : Row) (texts : List (List ℕ)) → length texts ≡ 0 → row ++ texts_held texts ≡ row
 no_texts row [] none = append-nil row
@@ -34,7 +34,7 @@ counted (v ∷ values) = ap suc (counted values)
 
 -- a row without texts is shown as its numbers
 pub values_shown : (n : ℕ) (e : Entry) → HasWidth (n, 0) e
-    → places n (λ i. slice_index_or (behind_key e) i Null) ≡ numbers e.values
+    → places n (λ i. slice_index_or (after_key e) i Null) ≡ numbers e.values
 values_shown n e wide =
     let same = no_texts (numbers e.values) e.texts wide.1 in
     ap (λ (row : Row). places n (λ i. slice_index_or row i Null)) same
@@ -48,7 +48,7 @@ number_shown zero (v ∷ values) texts low = refl
 number_shown (suc at) (v ∷ values) texts low = number_shown at values texts (omega arith)
 
 -- so is the text of a row of one text
-pub text_shown : (e : Entry) → HasWidth (0, 1) e → slice_index_or (behind_key e) 0 Null ≡ Text (text_at 0 e)
+pub text_shown : (e : Entry) → HasWidth (0, 1) e → slice_index_or (after_key e) 0 Null ≡ Text (text_at 0 e)
 text_shown e wide = go e.values e.texts wide.0 wide.1
   where
     go : (values : List ℤ) (texts : List (List ℕ)) → length values ≡ 0 → length texts ≡ 1

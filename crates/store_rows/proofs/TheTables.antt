@@ -10,7 +10,8 @@ use Rattle.posting_rules.specs.declared.rows.RequestRow.{RequestRow}
 use Rattle.posting_rules.specs.declared.rows.FloorRow.{FloorRow}
 use Rattle.posting_rules.specs.declared.rows.ReferenceRow.{ReferenceRow}
 use Rattle.store_rows.specs.BankTables as bank
-use Rattle.store_rows.specs.View.{branch_entry, teller_entry, account_entry, history_entry, request_entry, floor_entry}
+use Rattle.store_rows.specs.View.{branch_entry, teller_entry, account_entry, history_entry, request_entry}
+use Rattle.store_rows.specs.View.{floor_entry}
 use Rattle.store_rows.specs.View.{reference_entry}
 use Rattle.store_rows.proofs.TableKinds.{Kind, kind_of}
 

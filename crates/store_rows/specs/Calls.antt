@@ -58,7 +58,7 @@ AddsRow g old new text values table taken after result =
     (Inside (λ old new. Puts text values old new result × SparesIfOk old new result))
 
 -- Whether the probe of a table is understood, on an honest disk, and so what is there of the table. Only a
--- fault shuts the store, and a stop leaves nothing new.
+-- fault shuts the store, and a crash leaves nothing new.
 pub record Probes {S : Type 0} (g : Ghosts S) (old new : Held S) (probe : List ℕ × Table)
     (answer : Result Bool Error) : Type 0 where
   pub told : HasCleanDisk (state g new) → TellsProbe (state g old) (state g new) probe.1 answer

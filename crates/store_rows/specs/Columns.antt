@@ -42,11 +42,11 @@ reference_shown r = Int (pos r.ordinal) ∷ Text r.reference ∷ []
 
 -- ---- what is looked for
 
--- the number at this place behind the key of a row
+-- the number at this place after the key of a row
 abbrev pub number_at : ℕ → Entry → ℤ
 number_at place row = slice_index_or row.values place (pos 0)
 
--- the text at this place behind the numbers of a row
+-- the text at this place after the numbers of a row
 abbrev pub text_at : ℕ → Entry → List ℕ
 text_at place row = slice_index_or row.texts place []
 

@@ -32,7 +32,7 @@ pub record HoldsTables (written : ℤ) (db : Database) (t : Tables) : Type 0 whe
 abbrev pub IsEarlier : ℕ → Type 0
 IsEarlier from = (nat_abs EARLIEST ≤ from) × (from < nat_abs VERSION)
 
--- the tables that a version lacks, each with the text that makes it: those behind its own
+-- the tables that a version lacks, each with the text that makes it: those after its own
 abbrev pub lacking : ℕ → List (List ℕ × Table)
 lacking from = drop (5 + from) all_texts
 

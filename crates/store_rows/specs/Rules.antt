@@ -18,7 +18,8 @@ use Rattle.posting_rules.specs.declared.fault.Rule.{Rule}
 use Rattle.posting_rules.specs.declared.fault.Rule.TheVariants.{Meta, Teller, Account, Balance, Request}
 use Rattle.posting_rules.specs.declared.fault.Rule.TheVariants.{Value, Key, Floor, Reference}
 use Rattle.posting_rules.specs.declared.limits.TheConstants.{LAST_BRANCH, MAX_DECIDED, MAX_ACCOUNTS}
-use Rattle.posting_rules.specs.declared.limits.TheConstants.{ACCOUNTS_PER_BRANCH, RECORDS_PER_BATCH, TELLERS_PER_BRANCH}
+use Rattle.posting_rules.specs.declared.limits.TheConstants.{ACCOUNTS_PER_BRANCH, RECORDS_PER_BATCH}
+use Rattle.posting_rules.specs.declared.limits.TheConstants.{TELLERS_PER_BRANCH}
 use Rattle.sql_meanings.specs.Contents.{HoldsEach}
 use Rattle.sql_meanings.specs.Entries.{Entry, has_key}
 use Rattle.store_rows.specs.Columns.{number_at, text_at}

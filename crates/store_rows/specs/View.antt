@@ -77,7 +77,7 @@ rows_of t =
     ∷ map history_entry t.history ∷ map request_entry t.requests ∷ map floor_entry t.floors
     ∷ map reference_entry t.references ∷ []
 
--- the tables of a version: those of the version before it, and one more behind them
+-- the tables of a version: those of the version before it, and one more after them
 abbrev pub tables_of : ℕ → List Table
 tables_of version = take (5 + version) bank_tables
 
@@ -100,6 +100,6 @@ contents = contents_of (nat_abs VERSION)
 abbrev pub Shows : Database → Tables → Type 0
 Shows = ShowsAs (nat_abs VERSION)
 
--- the same of bare trees, which hold their schema: this is what a stop may leave
+-- the same of bare trees, which hold their schema: this is what a crash may leave
 abbrev pub ShowsTrees : Trees → Tables → Type 0
 ShowsTrees trees t = (schema : Schema) × Shows (record { schema = schema; trees = trees }) t

@@ -10,7 +10,7 @@ ghost use Rattle.store_rows.specs.View.{Shows, ShowsTrees};
 
 use sqlite::{Alter, Error, Transaction};
 
-/// Commits a transaction. Alone among these calls it adds to what a stop may leave, also where it fails. It
+/// Commits a transaction. Alone among these calls it adds to what a crash may leave, also where it fails. It
 /// fails where the store does, or where an earlier failure has ended the transaction.
 pub fn commit<S: Alter>(tx: Transaction<'_, S>) -> Result<(), Error>
     ensures ended { tx.exit.0.now.in_transaction ≡ false }

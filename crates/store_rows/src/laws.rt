@@ -7,7 +7,7 @@ ghost use Rattle.store_rows.specs.View.{Shows, ShowsTrees};
 
 use sqlite::{Alter, Connection};
 
-/// A connection shows what its trees show, and trees show one bank at most: so who opens what a stop left
+/// A connection shows what its trees show, and trees show one bank at most: so who opens what a crash left
 /// finds it.
 pub fn trees_show_law<S: Alter>(conn: &Connection<S>)
     ensures leaves { (tables : Tables) → Shows (state S.Store conn.now).now tables

@@ -74,6 +74,6 @@ pub use holders::{Holder, Member, add_member, balance_of, set_balance};
 pub use laws::trees_show_law;
 pub use metas::{StoredMeta, VERSION, read_meta, set_decided, set_version};
 pub use migration::{EARLIEST, make_lacking};
-pub use probes::{BEHIND_META, BankTable, probe_table};
+pub use probes::{AFTER_META, BankTable, probe_table};
 pub use references::{add_reference, find_reference};
 pub use requests::{add_eight_requests, add_request, find_request};

@@ -26,8 +26,8 @@ pub enum BankTable {
     Reference,
 }
 
-/// The tables of a bank behind `meta`, in their order.
-pub const BEHIND_META: &[BankTable] = &[
+/// The tables of a bank after `meta`, in their order.
+pub const AFTER_META: &[BankTable] = &[
     BankTable::Branch,
     BankTable::Teller,
     BankTable::Account,

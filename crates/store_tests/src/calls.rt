@@ -29,7 +29,7 @@ pub enum Asked<'a> {
     Balance,
 }
 
-/// The text, and spaces behind it.
+/// The text, and spaces after it.
 pub fn padded<const SIZE: usize>(text: &str) -> [u8; SIZE] {
     let mut bytes = [b' '; SIZE];
     for (place, byte) in bytes.iter_mut().zip(text.as_bytes()) {

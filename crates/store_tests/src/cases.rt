@@ -22,7 +22,7 @@ pub enum Way {
 }
 
 impl Way {
-    // Whether a stop may leave a part of it.
+    // Whether a crash may leave a part of it.
     fn is_in_parts(self) -> bool {
         matches!(self, Way::Load | Way::OneByOne | Way::Stream(_))
     }
@@ -36,13 +36,13 @@ pub struct Case<'a> {
     pub plan: &'a [(u64, u32)],
     pub records: &'a [[u8; REQUEST_BYTES]],
     pub replies: &'a [[u8; REPLY_BYTES]],
-    /// The sums over the tables before it, and behind each part of which a stop may leave it.
+    /// The sums over the tables before it, and after each part of which a crash may leave it.
     pub states: &'a [Sums],
 }
 
 impl<'a> Case<'a> {
-    /// The records behind so many that were answered.
-    pub fn behind(self, answered: usize) -> Case<'a> {
+    /// The records after so many that were answered.
+    pub fn after(self, answered: usize) -> Case<'a> {
         let from = answered.min(self.records.len()).min(self.replies.len());
         Case {
             records: &self.records[from..],
@@ -81,7 +81,7 @@ pub fn states_of(
     states
 }
 
-// The states behind the replies, each of which posts once.
+// The states after the replies, each of which posts once.
 fn add_replies(rt: &impl Abort, states: &mut Vec<Sums>, mut ledger: Ledger, case: &Case) {
     for place in 0..case.replies.len() {
         let reply = &case.replies[place];

@@ -25,7 +25,7 @@ impl Version {
     }
 }
 
-/// The tables as they were before floors, and a bank of branch 1 with three accounts and branch 2 with two, behind
+/// The tables as they were before floors, and a bank of branch 1 with three accounts and branch 2 with two, after
 /// the first posting and a remote one.
 pub const EARLIER: &str = "BEGIN; \
     CREATE TABLE meta (id INTEGER PRIMARY KEY CHECK (id = 1), version INTEGER NOT NULL, \
@@ -66,7 +66,7 @@ pub fn migrated<S: Alter + Drop>(
     Ok(bank)
 }
 
-/// The same of what a stop left: a bank of the version before, if it wasn't answered that it was carried over, or of
+/// The same of what a crash left: a bank of the version before, if it wasn't answered that it was carried over, or of
 /// the present one.
 pub fn migrated_again<S: Alter + Drop>(
     rt: &(impl Abort + Alloc<A = Global>),

@@ -12,7 +12,7 @@ fn is_unchanged(rt: &impl Abort, start: &Image, left: &Image) {
     assert!(rt; left.log.as_slice() == start.log.as_slice());
 }
 
-// Reads the files by a task, each of which fails behind so many calls.
+// Reads the files by a task, each of which fails after so many calls.
 fn read_by(
     rt: &(impl Abort + Alloc<A = Global>),
     start: &Image,
@@ -32,7 +32,7 @@ fn walk_until(rt: &(impl Abort + Alloc<A = Global>), start: &Image, calls: u64) 
     read_by(rt, start, Task::Read(Reading::History), passed)
 }
 
-// The least number of calls behind which a walk has begun.
+// The least number of calls after which a walk has begun.
 fn calls_to_begin(rt: &(impl Abort + Alloc<A = Global>), start: &Image) -> u64 {
     let mut low = 0u64;
     let mut high = 4_096u64;
@@ -47,10 +47,10 @@ fn calls_to_begin(rt: &(impl Abort + Alloc<A = Global>), start: &Image) -> u64 {
     high
 }
 
-// Lets the files fail behind more and more calls, from the first walk that begins up to one that ends: the others
+// Lets the files fail after more and more calls, from the first walk that begins up to one that ends: the others
 // stop late.
 #[test]
-fn a_walk_stops_behind_its_first_row(rt: HostRuntime) {
+fn a_walk_stops_after_its_first_row(rt: HostRuntime) {
     let start = made(&rt, &[Task::Make(BRANCHES), Task::Post]);
     let first = calls_to_begin(&rt, &start);
     for more in 0..1_000u64 {

@@ -1,4 +1,4 @@
-//! Files in memory that stop after so many calls, and what tasks leave in them. The store over them is named
+//! Files in memory that crash after so many calls, and what tasks leave in them. The store over them is named
 //! here alone.
 use crate::tasks::{NOT_BEGUN, Progress, Task, play};
 use sqlite::{Connection, Files, Options};
@@ -6,7 +6,7 @@ use sqlite_disk::{Crash, Disk, Fuse, Memory};
 use std::alloc::{Alloc, Global};
 use std::process::Abort;
 
-// A file that passes so many calls on, and fails each one behind them.
+// A file that passes so many calls on, and fails each one after them.
 type Fused = Fuse<Memory>;
 
 /// The bytes of the database file and of its log.

@@ -105,7 +105,7 @@ fn over_books<S: Alter + Drop>(
     Ok(())
 }
 
-// A bank was stopped, and its posting is found in what a stop may have left.
+// A bank was stopped, and its posting is found in what a crash may have left.
 fn over_lives<S: Alter + Drop>(
     rt: &(impl Abort + Alloc<A = Global>),
     stopped: &Bank<S>,

@@ -1,6 +1,6 @@
-//! The first program of `report_lines`: its page shows all of this file but the head.
+//! The first program of `report_contents`: its page shows all of this file but the head.
 use message_records::Whole;
-use report_lines::{BranchSums, OrdinalSums, Sum, TellerSums, audit_of_sums, write_audit};
+use report_contents::{BranchSums, OrdinalSums, Sum, TellerSums, audit_of_sums, write_audit};
 use std::test::Fail;
 use walked_rows::StoredTeller;
 

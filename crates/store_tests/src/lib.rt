@@ -1,4 +1,4 @@
-//! Tests of the bank in tables that no scenario reaches: machines that stop at each call on a file, life after
+//! Tests of the bank in tables that no scenario reaches: machines that crash at each call on a file, life after
 //! life, files of earlier versions, files that fail while a bank is read, reports that are cut, and the first
 //! programs of the libraries.
 #![tactic(auto)]

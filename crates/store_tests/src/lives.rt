@@ -9,7 +9,7 @@ use std::process::Abort;
 
 const MAX_LIVES: u32 = 60;
 
-// What is in the files behind lives that answered all, and how many were stopped before.
+// What is in the files after lives that answered all, and how many were stopped before.
 #[derive(Drop)]
 struct Lived {
     stopped: u32,
@@ -23,8 +23,8 @@ fn copied(rt: &(impl Abort + Alloc<A = Global>), image: &Image) -> Image {
     }
 }
 
-// Lives of which each is stopped behind so many calls, or answers the rest of the records. None if too many are
-// stopped. What wasn't synced is lost at a stop, or kept.
+// Lives of which each is stopped after so many calls, or answers the rest of the records. None if too many are
+// stopped. What wasn't synced is lost at a crash, or kept.
 fn lives(
     rt: &(impl Abort + Alloc<A = Global>),
     start: &Image,
@@ -35,7 +35,7 @@ fn lives(
     let mut left = copied(rt, start);
     let mut answered = 0usize;
     for stopped in 0..MAX_LIVES {
-        let task = Task::Work(case.behind(answered));
+        let task = Task::Work(case.after(answered));
         let Ended {
             progress,
             written,

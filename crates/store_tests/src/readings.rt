@@ -22,9 +22,9 @@ const POSTINGS: u64 = 1_000;
 pub enum Reading {
     /// The postings one after another, each with its request.
     History,
-    /// The text of an audit behind the first posting and a remote one.
+    /// The text of an audit after the first posting and a remote one.
     AuditText,
-    /// The text of the statement of account 1 behind them.
+    /// The text of the statement of account 1 after them.
     Statement,
 }
 
@@ -40,8 +40,8 @@ pub fn one_cent(account: u64, number: u64) -> Option<Request> {
     )
 }
 
-// The records of cents to account 1, under the numbers behind one.
-fn records_behind(last: u64) -> Option<[[u8; REQUEST_BYTES]; TOGETHER]> {
+// The records of cents to account 1, under the numbers after one.
+fn records_after(last: u64) -> Option<[[u8; REQUEST_BYTES]; TOGETHER]> {
     let mut number = last;
     let mut records = [[b' '; 100]; TOGETHER];
     for record in &mut records {
@@ -52,9 +52,9 @@ fn records_behind(last: u64) -> Option<[[u8; REQUEST_BYTES]; TOGETHER]> {
 }
 
 // Posts a batch. The answer is how many replies came.
-fn post_behind<C: Counter>(rt: &impl Abort, bank: &mut C, last: u64) -> Result<usize, Fault> {
+fn post_after<C: Counter>(rt: &impl Abort, bank: &mut C, last: u64) -> Result<usize, Fault> {
     let moment = Moment::new(1000).unwrap();
-    let records = records_behind(last).expect(rt, "request");
+    let records = records_after(last).expect(rt, "request");
     Ok(bank.submit_all(moment, &records)?.len())
 }
 
@@ -62,7 +62,7 @@ fn post_behind<C: Counter>(rt: &impl Abort, bank: &mut C, last: u64) -> Result<u
 pub fn post_many<C: Counter>(rt: &impl Abort, bank: &mut C) -> Result<(), Fault> {
     let mut number = 0u64;
     for _ in 0..BATCHES {
-        assert_eq!(rt; post_behind(rt, bank, number)?, TOGETHER);
+        assert_eq!(rt; post_after(rt, bank, number)?, TOGETHER);
         number = number.saturating_add(TOGETHER as u64);
     }
     assert_eq!(rt; number, POSTINGS);
@@ -83,7 +83,7 @@ fn next_posting<S: Alter>(walk: &mut Postings<'_, S>) -> Result<Option<Ordinals>
 }
 
 // The next posting has its own request.
-fn is_behind(rt: &impl Abort, count: u64, found: Ordinals) {
+fn is_after(rt: &impl Abort, count: u64, found: Ordinals) {
     let ordinal = count.saturating_add(1);
     assert_eq!(rt; found, (ordinal, Some(ordinal)));
 }
@@ -93,7 +93,7 @@ fn is_behind(rt: &impl Abort, count: u64, found: Ordinals) {
 fn given_by<S: Alter>(rt: &impl Abort, walk: &mut Postings<'_, S>) -> (u64, Option<Fault>) {
     for count in 0..=POSTINGS {
         match next_posting(walk) {
-            Ok(Some(found)) => is_behind(rt, count, found),
+            Ok(Some(found)) => is_after(rt, count, found),
             Ok(None) => return (count, None),
             Err(fault) => {
                 assert_eq!(rt; next_posting(walk), Err(Fault::Down));

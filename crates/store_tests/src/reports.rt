@@ -9,7 +9,7 @@ use message_records::{
     Account, Cents, Moment, Outcome, Reply, Request, encode_reply, encode_request,
 };
 use posting_core::{Counter, Fault};
-use report_lines::{Audit, WriteFault, write_audit};
+use report_contents::{Audit, WriteFault, write_audit};
 use sqlite::Alter;
 use std::alloc::{Alloc, Global};
 use std::io::ErrorKind;
@@ -113,7 +113,7 @@ pub fn audit_fault<S: Alter + Drop>(
     None
 }
 
-// What was written is the statement, or its beginning at a fault.
+// What was written is the statement, or its prefix at a fault.
 fn fault_of(rt: &impl Abort, text: &[u8], written: Result<(), ReportFault>) -> Option<Fault> {
     match written {
         Ok(()) => {
@@ -138,7 +138,7 @@ pub fn statement_fault<S: Alter + Drop>(
     fault_of(rt, &text, written)
 }
 
-// A writer that refuses behind these bytes of the statement took them.
+// A writer that refuses after these bytes of the statement took them.
 fn statement_is_cut_to<S: Alter + Drop>(
     rt: &(impl Abort + Alloc<A = Global>),
     bank: &mut Bank<S>,
@@ -153,7 +153,7 @@ fn statement_is_cut_to<S: Alter + Drop>(
 }
 
 // The statement of account 1 to a writer that refuses after so many bytes, for each number of them, and a
-// posting to account 2 behind it.
+// posting to account 2 after it.
 fn statement_is_cut<S: Alter + Drop>(
     rt: &(impl Abort + Alloc<A = Global>),
     bank: &mut Bank<S>,
@@ -168,7 +168,7 @@ fn statement_is_cut<S: Alter + Drop>(
     assert!(rt; count > 300);
 }
 
-// A writer that refuses behind these bytes of an audit's text took them.
+// A writer that refuses after these bytes of an audit's text took them.
 fn audit_is_cut_to(rt: &(impl Abort + Alloc<A = Global>), told: &Audit, text: &[u8]) {
     let mut writer = cut_after(rt.alloc(), text.len());
     let written = write_audit(told, &mut writer);

@@ -60,7 +60,7 @@ fn holds_whatever_is_left(rt: &(impl Abort + Alloc<A = Global>), ended: &Ended, 
 }
 
 // Does the task, until the machine stops, and again on whatever that leaves.
-fn stop_behind(
+fn stop_after(
     rt: &(impl Abort + Alloc<A = Global>),
     start: &Image,
     task: Task,
@@ -91,7 +91,7 @@ pub fn stops_at_each(
 ) -> u64 {
     let mut stops = 0u64;
     for calls in 0..10_000u64 {
-        let progress = stop_behind(rt, start, task, passed(stops_db, calls));
+        let progress = stop_after(rt, start, task, passed(stops_db, calls));
         if progress.is_done {
             return stops;
         }

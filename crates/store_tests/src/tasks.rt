@@ -51,7 +51,7 @@ pub enum Task<'a> {
 }
 
 impl<'a> Task<'a> {
-    /// What is done on what a stop in it left.
+    /// What is done on what a crash in it left.
     pub fn again(self, progress: Progress) -> Task<'a> {
         match self {
             Task::Create => Task::Recreate(progress.is_done),
@@ -110,7 +110,7 @@ struct Worked<S: Alter> {
     conn: Connection<S>,
 }
 
-// The tables are as they may be behind so many parts of the case.
+// The tables are as they may be after so many parts of the case.
 fn is_left<S: Alter>(rt: &impl Abort, conn: &mut Connection<S>, states: &[Sums], parts: usize) {
     let found = sums_of(conn).expect(rt, "the tables");
     let mut may_be = states.iter().skip(parts);
@@ -189,7 +189,7 @@ fn act<S: Alter + Drop>(
     DONE
 }
 
-// What is found in the tables behind it.
+// What is found in the tables after it.
 fn review<S: Alter>(rt: &impl Abort, conn: &mut Connection<S>, task: Task) {
     match task {
         Task::Again(case, _) => assert_eq!(rt; sums_of(conn).as_ref().ok(), case.last()),

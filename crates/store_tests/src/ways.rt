@@ -103,7 +103,7 @@ fn post_together<C: Counter>(rt: &impl Abort, bank: &mut C, case: &Case) -> Came
     }
 }
 
-// The bodies one behind another, each behind a head.
+// The bodies one after another, each after a head.
 fn joined<const SIZE: usize>(
     rt: &(impl Abort + Alloc<A = Global>),
     head: &[u8],
@@ -117,7 +117,7 @@ fn joined<const SIZE: usize>(
     all
 }
 
-// How many replies a stream wrote: a beginning of those that it has to.
+// How many replies a stream wrote: a prefix of those that it has to.
 fn streamed(
     rt: &(impl Abort + Alloc<A = Global>),
     case: &Case,
@@ -156,7 +156,7 @@ fn stream<C: Counter>(
     streamed(rt, case, output.as_slice(), ended)
 }
 
-// Whether a connection wrote answers: a beginning of those that it has to, and behind it that the bank failed, if
+// Whether a connection wrote answers: a prefix of those that it has to, and after it that the bank failed, if
 // that did.
 fn served(
     rt: &(impl Abort + Alloc<A = Global>),

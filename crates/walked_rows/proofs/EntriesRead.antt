@@ -15,7 +15,7 @@ use Rattle.walked_rows.specs.StepOutcomes.{ReadsEntry, Stores, all_numbers, entr
 module _ {R : Type 0} (kind : Kind R) (row : Row) where
   -- it has as many numbers
   all_of : (e : Entry) → HasWidth (width_of kind.table) e → length (all_numbers e) ≡ kind.columns
-  all_of e wide = let all = kind.are_all in let behind = wide.0 in omega arith
+  all_of e wide = let all = kind.are_all in let after = wide.0 in omega arith
 
   -- it is its numbers alone
   no_texts : (e : Entry) → HasWidth (width_of kind.table) e → entry_of (all_numbers e) ≡ e

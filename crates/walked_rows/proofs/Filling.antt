@@ -11,8 +11,8 @@ use Rattle.walked_rows.specs.StepOutcomes.{BreaksFirst}
 use Rattle.walked_rows.specs.Pairs.{AreJoined, BreaksPair, BreaksUnder, Pair, pair_key, pair_with}
 use Rattle.walked_rows.specs.Pairs.{paired, row_under}
 use Rattle.walked_rows.specs.Rising.{RisesFrom}
-use Rattle.walked_rows.specs.Rows.{items_behind, items_from, rows_behind, rows_from}
-use Rattle.walked_rows.proofs.Joining.{pairs_behind, pairs_from}
+use Rattle.walked_rows.specs.Rows.{items_after, items_from, rows_after, rows_from}
+use Rattle.walked_rows.proofs.Joining.{pairs_after, pairs_from}
 use Rattle.walked_rows.proofs.Rises.{from_lower, le_itself}
 use Rattle.walked_rows.proofs.Under.{from_its_key}
 
@@ -81,11 +81,11 @@ module _ (others base : List Entry) (from start : ℤ) (e : Entry) (more : List 
 -- where there were none, none follow
 pub nothing_joined : {R J : Type 0} (entry : R → Entry) (pair : J → Pair) (others base : List Entry)
     (from : ℤ) (own : List R) (rest : Option ℤ) (rows : List J)
-    → own ≡ [] → rest ≡ None → rows ≡ [] → rows_from from base ≡ map entry own ++ rows_behind rest base
+    → own ≡ [] → rest ≡ None → rows ≡ [] → rows_from from base ≡ map entry own ++ rows_after rest base
     → AreJoined pair others base from rows None
 nothing_joined entry pair others base from own rest rows empty ended cleared is =
     rw cleared (ap (paired others)
-    (is ∙ ap (λ l. map entry l ++ rows_behind rest base) empty ∙ ap (λ r. rows_behind r base) ended))
+    (is ∙ ap (λ l. map entry l ++ rows_after rest base) empty ∙ ap (λ r. rows_after r base) ended))
 
 -- something was joined
 pub none_joined : {J E : Type 0} (js : List J) (result : Result (Option ℤ) E) → OnOk result (js ≡ [] → ⊥)
@@ -102,10 +102,10 @@ module _ {J : Type 0} (pair : J → Pair) (others rows : List Entry) (q : Entry 
 
   -- as far as they were joined
   pub filled : (done : List J) (next : Option ℤ) → AreJoined pair others (filter q rows) from done next
-      → items_from pair_key from given ≡ map pair done ++ items_behind pair_key next given
+      → items_from pair_key from given ≡ map pair done ++ items_after pair_key next given
   filled done next h =
       pairs_from others rows q pairs are from ∙ h
-      ∙ ap (λ l. map pair done ++ l) (sym (pairs_behind others rows q pairs are next))
+      ∙ ap (λ l. map pair done ++ l) (sym (pairs_after others rows q pairs are next))
 
 module _ (others rows : List Entry) (q : Entry → Bool) (pairs : List Pair) (are : pairs ≡ paired others rows)
     (from : ℤ)

@@ -41,7 +41,7 @@ pub all_from : (k : ℤ) (x : Entry) (es : List Entry) → Above x es
 all_from k x [] above each = refl
 all_from k x (y ∷ ys) above each = rw (each y above.0) (ap (λ l. y ∷ l) (all_from k x ys above.1 each))
 
--- the row that was found is the first of those to come, and behind it come those above it
+-- the row that was found is the first of those to come, and after it come those above it
 pub first_left : (k : ℤ) (es : List Entry) (e : Entry) → Rise es → find (is_from k) es ≡ Some e
     → rows_from k es ≡ e ∷ rows_from (e.key +ℤ pos 1) es
 first_left k [] e rise some = absurd cc
@@ -63,10 +63,10 @@ first_left k (x ∷ xs) e rise some = elim (cases_Bool (is_from k x)) [
 fits : (a : ℕ) → a ≤ 1_000_000_000_000 → FitsSigned w64 (pos a +ℤ pos 1)
 fits a low = omega (arith, ints)
 
--- the number behind a key
-pub behind_key : (n : ℕ) (key : ℤ) → key ≡ pos n → n ≤ 1_000_000_000_000
+-- the number after a key
+pub after_key : (n : ℕ) (key : ℤ) → key ≡ pos n → n ≤ 1_000_000_000_000
     → to_z w64 (of_z w64 (to_z w64 n +ℤ pos 1)) ≡ key +ℤ pos 1
-behind_key n key same low =
+after_key n key same low =
     ap (λ z. to_z w64 (of_z w64 (z +ℤ pos 1))) (as_integer n n refl low)
     ∙ to_z-of_z w64 (pos n +ℤ pos 1) (fits n low)
     ∙ ap (λ z. z +ℤ pos 1) (sym same)
@@ -99,14 +99,14 @@ found_of p (x ∷ xs) e more is = elim (cases_Bool (p x)) [
   | inr away ↦ rw away (found_of p xs e more (rw away at is))
 ]
 
-first_of : (shown_as : Entry → Row) (most : ℕ) (before behind : List Entry) (d : Row)
-    → length before < length (map shown_as (take most (before ++ behind)))
-    → (e : Entry) × (more : List Entry) × (behind ≡ e ∷ more)
-    × (get_or (map shown_as (take most (before ++ behind))) (length before) d ≡ shown_as e)
-first_of shown_as zero before behind d low = absurd (omega arith)
+first_of : (shown_as : Entry → Row) (most : ℕ) (before after : List Entry) (d : Row)
+    → length before < length (map shown_as (take most (before ++ after)))
+    → (e : Entry) × (more : List Entry) × (after ≡ e ∷ more)
+    × (get_or (map shown_as (take most (before ++ after))) (length before) d ≡ shown_as e)
+first_of shown_as zero before after d low = absurd (omega arith)
 first_of shown_as (suc n) [] [] d low = absurd (omega arith)
 first_of shown_as (suc n) [] (e ∷ more) d low = (e, more, refl, refl)
-first_of shown_as (suc n) (x ∷ before) behind d low = first_of shown_as n before behind d (omega arith)
+first_of shown_as (suc n) (x ∷ before) after d low = first_of shown_as n before after d (omega arith)
 
 module _ {R : Type 0} (shown_as : Entry → Row) (entry : R → Entry) (Breaks : Rule → Entry → Type 0)
     (width : ℕ × ℕ) (most : ℕ) (found : List Row) (from : ℤ) (rows : List Entry)
@@ -150,11 +150,11 @@ module _ {R : Type 0} (shown_as : Entry → Row) (entry : R → Entry) (Breaks :
         so_far ∙ ap (λ l. map entry done ++ l) (first_left next rows it.0 rise it.1)
         ∙ ap (λ x. map entry done ++ (x ∷ rows_from (x.key +ℤ pos 1) rows)) (sym same)
         ∙ sym (append_assoc (map entry done) (entry r ∷ []) (rows_from ((entry r).key +ℤ pos 1) rows))
-        ∙ ap (λ l. l ++ rows_from ((entry r).key +ℤ pos 1) rows) (sym (map_behind done r))
+        ∙ ap (λ l. l ++ rows_from ((entry r).key +ℤ pos 1) rows) (sym (map_after done r))
       where
-        map_behind : (xs : List R) (x : R) → map entry (xs ++ x ∷ []) ≡ map entry xs ++ entry x ∷ []
-        map_behind [] x = refl
-        map_behind (y ∷ ys) x = ap (λ l. entry y ∷ l) (map_behind ys x)
+        map_after : (xs : List R) (x : R) → map entry (xs ++ x ∷ []) ≡ map entry xs ++ entry x ∷ []
+        map_after [] x = refl
+        map_after (y ∷ ys) x = ap (λ l. entry y ∷ l) (map_after ys x)
 
     -- a number of it is out of its range, and none was gathered before it
     pub gathers_none : (fault : TableFault) → done ≡ []

@@ -10,7 +10,7 @@ use Rattle.sql_meanings.specs.Entries.{Entry, Rise, has_key}
 use Rattle.sql_meanings.specs.Seeks.{is_from}
 use Rattle.walked_rows.specs.Pairs.{AreJoined, ComesBefore, Pair, pair_key, pair_with, paired}
 use Rattle.walked_rows.specs.Pairs.{row_under}
-use Rattle.walked_rows.specs.Rows.{items_behind, items_from, rows_behind, rows_from}
+use Rattle.walked_rows.specs.Rows.{items_after, items_from, rows_after, rows_from}
 use Rattle.walked_rows.proofs.Gathering.{first_left, found_of}
 
 -- ---- the row under a key
@@ -30,13 +30,13 @@ under_from start k (e ∷ es) low = elim (cases_Bool (is_from start e)) [
 ]
 
 -- isn't one of those from a higher number on
-not_behind : (behind : Option ℤ) (k : ℤ) (es : List Entry) → ComesBefore behind k
-    → row_under (rows_behind behind es) k ≡ None
-not_behind None k es decided = refl
-not_behind (Some b) k [] decided = refl
-not_behind (Some b) k (e ∷ es) decided = elim (cases_Bool (is_from b e)) [
-  | inl here ↦ rw (here, higher_key e.key b k here decided) (not_behind (Some b) k es decided)
-  | inr away ↦ rw away (not_behind (Some b) k es decided)
+not_after : (beyond : Option ℤ) (k : ℤ) (es : List Entry) → ComesBefore beyond k
+    → row_under (rows_after beyond es) k ≡ None
+not_after None k es decided = refl
+not_after (Some b) k [] decided = refl
+not_after (Some b) k (e ∷ es) decided = elim (cases_Bool (is_from b e)) [
+  | inl here ↦ rw (here, higher_key e.key b k here decided) (not_after (Some b) k es decided)
+  | inr away ↦ rw away (not_after (Some b) k es decided)
 ]
 
 find_left : (p : Entry → Bool) (xs ys : List Entry) → find p ys ≡ None → find p (xs ++ ys) ≡ find p xs
@@ -44,12 +44,12 @@ find_left p [] ys none = none
 find_left p (x ∷ xs) ys none = ap (λ t. cond (p x) (Some x) t) (find_left p xs ys none)
 
 -- is found among those that were read ahead, where they decide it
-pub beside_is : (others : List Entry) (start k : ℤ) (read : List Entry) (behind : Option ℤ)
-    → rows_from start others ≡ read ++ rows_behind behind others
-    → start ≤ℤ k → ComesBefore behind k → row_under others k ≡ row_under read k
-beside_is others start k read behind told low decided =
+pub beside_is : (others : List Entry) (start k : ℤ) (read : List Entry) (beyond : Option ℤ)
+    → rows_from start others ≡ read ++ rows_after beyond others
+    → start ≤ℤ k → ComesBefore beyond k → row_under others k ≡ row_under read k
+beside_is others start k read beyond told low decided =
     under_from start k others low ∙ ap (λ es. row_under es k) told
-    ∙ find_left (has_key k) read (rows_behind behind others) (not_behind behind k others decided)
+    ∙ find_left (has_key k) read (rows_after beyond others) (not_after beyond k others decided)
 
 -- ---- pairs
 
@@ -71,12 +71,12 @@ pairs_from others es q pairs are k =
     ∙ ap (items_from pair_key k) (paired_filter others q es)
     ∙ paired_filter others (is_from k) (filter q es)
 
-pub pairs_behind : (others es : List Entry) (q : Entry → Bool) (pairs : List Pair) → pairs ≡ paired others es
+pub pairs_after : (others es : List Entry) (q : Entry → Bool) (pairs : List Pair) → pairs ≡ paired others es
     → (rest : Option ℤ)
-    → items_behind pair_key rest (filter (λ p. q p.entry) pairs)
-    ≡ paired others (rows_behind rest (filter q es))
-pairs_behind others es q pairs are None = refl
-pairs_behind others es q pairs are (Some k) = pairs_from others es q pairs are k
+    → items_after pair_key rest (filter (λ p. q p.entry) pairs)
+    ≡ paired others (rows_after rest (filter q es))
+pairs_after others es q pairs are None = refl
+pairs_after others es q pairs are (Some k) = pairs_from others es q pairs are k
 
 -- ---- row by row
 
@@ -101,12 +101,12 @@ module _ {J : Type 0} (pair : J → Pair) (others base : List Entry) (rise : Ris
         same_rest e e after more (sym left ∙ is),
         so_far ∙ ap (λ l. map pair done ++ paired others l) left
             ∙ ap (λ p. map pair done ++ p ∷ paired others after) (sym same)
-            ∙ behind done (paired others after),
+            ∙ beyond done (paired others after),
       )
     where
-      behind : (xs : List J) (ps : List Pair) → map pair xs ++ pair j ∷ ps ≡ map pair (xs ++ j ∷ []) ++ ps
-      behind [] ps = refl
-      behind (x ∷ xs) ps = ap (λ l. pair x ∷ l) (behind xs ps)
+      beyond : (xs : List J) (ps : List Pair) → map pair xs ++ pair j ∷ ps ≡ map pair (xs ++ j ∷ []) ++ ps
+      beyond [] ps = refl
+      beyond (x ∷ xs) ps = ap (λ l. pair x ∷ l) (beyond xs ps)
 
 -- ---- ends
 
@@ -117,6 +117,6 @@ none_left zero (r ∷ rs) low = absurd (omega arith)
 none_left (suc n) [] low = refl
 none_left (suc n) (r ∷ rs) low = none_left n rs (omega arith)
 
-pub decided_by : (behind : Option ℤ) (k : ℤ) → IfSome behind (λ b. k <ℤ b) → ComesBefore behind k
+pub decided_by : (beyond : Option ℤ) (k : ℤ) → IfSome beyond (λ b. k <ℤ b) → ComesBefore beyond k
 decided_by None k h = tt
 decided_by (Some b) k h = h

@@ -13,7 +13,7 @@ use Rattle.walked_rows.specs.KeptRows.{AreKept, BreaksKept, KeptItem, asked_of, 
 use Rattle.walked_rows.specs.KeptRows.{kept_with}
 use Rattle.walked_rows.specs.Pairs.{Pair, pair_key, pair_with, paired, row_under}
 use Rattle.walked_rows.specs.References.{BreaksReference}
-use Rattle.walked_rows.specs.Rows.{items_behind, items_from, rows_behind, rows_from}
+use Rattle.walked_rows.specs.Rows.{items_after, items_from, rows_after, rows_from}
 use Rattle.walked_rows.specs.StepOutcomes.{BreaksFirst}
 use Rattle.walked_rows.specs.Stored.{BreaksAsked, asked_pair}
 use Rattle.walked_rows.specs.declared.joined.Joined.{Joined}
@@ -21,7 +21,7 @@ use Rattle.walked_rows.specs.declared.kept.KeptRequest.{KeptRequest}
 use Rattle.walked_rows.specs.declared.postings.StoredPosting.{StoredPosting}
 use Rattle.walked_rows.specs.declared.requests.StoredRequest.{StoredRequest}
 use Rattle.walked_rows.proofs.Gathering.{first_left, found_of}
-use Rattle.walked_rows.proofs.Joining.{pairs_behind, pairs_from}
+use Rattle.walked_rows.proofs.Joining.{pairs_after, pairs_from}
 
 first_of : {X : Type 0} (x y : X) (xs ys : List X) → x ∷ xs ≡ y ∷ ys → x ≡ y
 first_of x y xs ys e = cc
@@ -29,7 +29,7 @@ first_of x y xs ys e = cc
 rest_of : {X : Type 0} (x y : X) (xs ys : List X) → x ∷ xs ≡ y ∷ ys → xs ≡ ys
 rest_of x y xs ys e = cc
 
--- a row among those to come: it is the first, and the others follow behind its key
+-- a row among those to come: it is the first, and the others follow after its key
 first_asked : (postings base : List Entry) → Rise base → (next : ℤ) (p : Pair) (more : List Pair)
     → paired postings (rows_from next base) ≡ p ∷ more
     → (e : Entry) × (pair_with postings e ≡ p) × (rows_from next base ≡ e ∷ rows_from (e.key +ℤ pos 1) base)
@@ -82,13 +82,13 @@ module _ (postings others base : List Entry) (rise : Rise base) (start : ℤ) wh
             ∙ ap (λ x. map kept_item done ++ x ∷ after (it.0.key +ℤ pos 1))
             (kept_is it.0 p (kept_item r) it.1 asked under)
             ∙ ap (λ k. map kept_item done ++ kept_item r ∷ after k) key
-            ∙ behind done (after (p.entry.key +ℤ pos 1)),
+            ∙ beyond done (after (p.entry.key +ℤ pos 1)),
       )
     where
-      behind : (xs : List KeptRequest) (ks : List KeptItem)
+      beyond : (xs : List KeptRequest) (ks : List KeptItem)
           → map kept_item xs ++ kept_item r ∷ ks ≡ map kept_item (xs ++ r ∷ []) ++ ks
-      behind [] ks = refl
-      behind (x ∷ xs) ks = ap (λ l. kept_item x ∷ l) (behind xs ks)
+      beyond [] ks = refl
+      beyond (x ∷ xs) ks = ap (λ l. kept_item x ∷ l) (beyond xs ks)
 
   -- the reference of the first can't be read
   pub keeps_none : (Because : Error → Type 0) (done : List KeptRequest) (next : ℤ) (p : Pair) (more : List Pair)
@@ -147,17 +147,17 @@ module _ (postings others rows : List Entry) (all : List KeptItem) (are : all �
       ∙ ap (items_from kept_key k) (image_filter (kept_with postings others) (λ _. true) (λ _. true) (λ _. refl) rows)
       ∙ image_filter (kept_with postings others) (is_from k) _ (λ _. refl) base
 
-  pub kept_behind : (rest : Option ℤ)
-      → items_behind kept_key rest given ≡ kept_all postings others (rows_behind rest base)
-  kept_behind None = refl
-  kept_behind (Some k) = kept_from k
+  pub kept_from_next : (rest : Option ℤ)
+      → items_after kept_key rest given ≡ kept_all postings others (rows_after rest base)
+  kept_from_next None = refl
+  kept_from_next (Some k) = kept_from k
 
   module _ (from : ℤ) where
     -- as far as they were gathered
     pub kept_so_far : (done : List KeptRequest) (next : Option ℤ) → AreKept postings others base from done next
-        → items_from kept_key from given ≡ map kept_item done ++ items_behind kept_key next given
+        → items_from kept_key from given ≡ map kept_item done ++ items_after kept_key next given
     kept_so_far done next h =
-        kept_from from ∙ h ∙ ap (λ l. map kept_item done ++ l) (sym (kept_behind next))
+        kept_from from ∙ h ∙ ap (λ l. map kept_item done ++ l) (sym (kept_from_next next))
 
     module _ (Because : Error → Type 0) where
       -- the first row or its posting can't be read
@@ -191,13 +191,13 @@ module _ (postings rows : List Entry) (from : ℤ) where
   -- as far as they were
   pub asked_read : (done : List (Joined StoredRequest StoredPosting)) (rest : Option ℤ)
       → items_from pair_key from (filter (λ _. true) (paired postings rows))
-      ≡ map asked_pair done ++ items_behind pair_key rest (filter (λ _. true) (paired postings rows))
+      ≡ map asked_pair done ++ items_after pair_key rest (filter (λ _. true) (paired postings rows))
       → paired postings (rows_from from (filter (λ _. true) rows))
-      ≡ map asked_pair done ++ paired postings (rows_behind rest (filter (λ _. true) rows))
+      ≡ map asked_pair done ++ paired postings (rows_after rest (filter (λ _. true) rows))
   asked_read done rest read =
       sym (pairs_from postings rows (λ _. true) (paired postings rows) refl from) ∙ read
       ∙ ap (λ l. map asked_pair done ++ l)
-      (pairs_behind postings rows (λ _. true) (paired postings rows) refl rest)
+      (pairs_after postings rows (λ _. true) (paired postings rows) refl rest)
 
   -- the first can't be
   pub asked_breaks : (Because : Error → Type 0) (fault : TableFault)

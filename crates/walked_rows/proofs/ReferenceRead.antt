@@ -29,7 +29,7 @@ use Rattle.store_rows.specs.declared.fault.TableFault.{TableFault}
 use Rattle.store_rows.specs.declared.fault.TableFault.TheVariants.{Sqlite, Damaged}
 use Rattle.store_rows.proofs.ShownValues.{places_are, text_shown}
 use Rattle.walked_rows.specs.Pairs.{BreaksUnder, row_under}
-use Rattle.walked_rows.specs.References.{BreaksReference, ReadsFirst, text_behind, text_entry}
+use Rattle.walked_rows.specs.References.{BreaksReference, ReadsFirst, text_after, text_entry}
 use Rattle.walked_rows.specs.Rows.{HasStoredRows}
 use Rattle.walked_rows.specs.declared.texts.TheConstants.{REFERENCE_UNDER}
 use Rattle.walked_rows.proofs.Sought.{store_error}
@@ -57,7 +57,7 @@ only_references = only_reads gets.is
 abbrev shown_of : ℤ → Entry → Row
 shown_of k e = eval_all project ((Int k ∷ []) ∷ stored e ∷ [])
 
-shows_text : (k : ℤ) (e : Entry) → HasWidth (0, 1) e → shown_of k e ≡ Text (text_behind e) ∷ []
+shows_text : (k : ℤ) (e : Entry) → HasWidth (0, 1) e → shown_of k e ≡ Text (text_after e) ∷ []
 shows_text k e wide = ap (λ (v : Value). v ∷ []) (text_shown e wide)
 
 same_entry : (k key : ℤ) (vs values : List ℤ) (ts texts : List (List ℕ)) → k ≡ key → vs ≡ values → ts ≡ texts
@@ -65,9 +65,9 @@ same_entry : (k key : ℤ) (vs values : List ℤ) (ts texts : List (List ℕ)) �
     ≡ record { key = key; values = values; texts = texts }
 same_entry k key vs values ts texts one two three = cc
 
-is_text : (n : ℕ) (e : Entry) → HasWidth (0, 1) e → e.key ≡ pos n → text_entry n (text_behind e) ≡ e
+is_text : (n : ℕ) (e : Entry) → HasWidth (0, 1) e → e.key ≡ pos n → text_entry n (text_after e) ≡ e
 is_text n e wide at =
-    same_entry (pos n) e.key [] e.values (text_behind e ∷ []) e.texts (sym at)
+    same_entry (pos n) e.key [] e.values (text_after e ∷ []) e.texts (sym at)
     (places_are (pos 0) 0 e.values wide.0) (places_are [] 1 e.texts wide.1)
 
 -- ---- what is read of it
@@ -80,13 +80,13 @@ module _ (Because : Error → Type 0) (n : ℕ) where
   Tells under (Err (Damaged broken)) = IsSomeAnd under (BreaksReference broken)
 
   reads_row : (e : Entry) → HasWidth (0, 1) e → e.key ≡ pos n → (row : Row)
-      → column row 0 ≡ Text (text_behind e) → (r : Result (Option (List ℕ)) TableFault)
+      → column row 0 ≡ Text (text_after e) → (r : Result (Option (List ℕ)) TableFault)
       → ReadsFirst (row ∷ []) r → Tells (Some e) r
   reads_row e wide at row shows (Ok (Some text)) read =
-      ap Some (ap (text_entry n) (read (text_behind e) shows) ∙ is_text n e wide at)
+      ap Some (ap (text_entry n) (read (text_after e) shows) ∙ is_text n e wide at)
   reads_row e wide at row shows (Ok None) read = absurd read
   reads_row e wide at row shows (Err (Sqlite x)) read = absurd read
-  reads_row e wide at row shows (Err (Damaged broken)) read = read (text_behind e) shows
+  reads_row e wide at row shows (Err (Damaged broken)) read = read (text_after e) shows
 
   reads_none : (r : Result (Option (List ℕ)) TableFault) → r ≡ Ok None → Tells None r
   reads_none r is = rw is refl

@@ -26,12 +26,12 @@ module _ {R : Type 0} (key : R → ℤ) where
   one_more from (s ∷ rs) r next rises low = (rises.0, one_more (key s +ℤ pos 1) rs r next rises.1 low)
 
   -- the others follow from further on, or none do
-  pub rest_behind : (from : ℤ) (rs : List R) (next : ℤ) (rest : Option ℤ) → Rises from rs (Some next)
+  pub rest_after : (from : ℤ) (rs : List R) (next : ℤ) (rest : Option ℤ) → Rises from rs (Some next)
       → RisesFrom next [] rest → Rises from rs rest
-  rest_behind from [] next None rises more = tt
-  rest_behind from [] next (Some k) rises more = le_le from next k rises more
-  rest_behind from (s ∷ rs) next rest rises more =
-      (rises.0, rest_behind (key s +ℤ pos 1) rs next rest rises.1 more)
+  rest_after from [] next None rises more = tt
+  rest_after from [] next (Some k) rises more = le_le from next k rises more
+  rest_after from (s ∷ rs) next rest rises more =
+      (rises.0, rest_after (key s +ℤ pos 1) rs next rest rises.1 more)
 
   -- from a lower number on
   pub from_lower : (low from : ℤ) (rs : List R) (rest : Option ℤ) → low ≤ℤ from → Rises from rs rest

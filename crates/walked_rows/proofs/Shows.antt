@@ -1,4 +1,4 @@
--- What the statements show of a row: its numbers, the key first, or its text behind its key.
+-- What the statements show of a row: its numbers, the key first, or its text after its key.
 use Rattle.std.proofs.Common.{◌≡◌, [], ◌∷◌, ap}
 use Rattle.sqlite.specs.Order.{Row}
 use Rattle.sqlite.specs.Term.{col, eval_all}
@@ -9,7 +9,7 @@ use Rattle.store_rows.proofs.ShownValues.{text_shown as text_is, values_shown}
 use Rattle.walked_rows.specs.References.{text_shown}
 use Rattle.walked_rows.specs.StepOutcomes.{all_numbers}
 
--- one number behind the key
+-- one number after the key
 pub shows_one : (params : Row) (e : Entry) → HasWidth (1, 0) e
     → eval_all (col 1 0 ∷ col 1 2 ∷ []) (params ∷ stored e ∷ []) ≡ numbers (all_numbers e)
 shows_one params e wide = ap (λ (row : Row). Int e.key ∷ row) (values_shown 1 e wide)

@@ -105,7 +105,7 @@ module _ (old new : State) (table : Table) (free : table.references ≡ []) (row
       store_error old new e (reads_from old new table free has.sound rows has.holds text AHEAD project k reads
       (Err e) err)
 
-  -- the same of those with a number behind their keys
+  -- the same of those with a number after their keys
   pub tells_of_from : (one k : ℤ)
       → ReadsAs table text (Int one ∷ Int k ∷ []) (λ t. next_of_from AHEAD t project)
       → ((e : Entry) → HasWidth (width_of table) e

@@ -7,7 +7,7 @@ use Rattle.sql_meanings.specs.Entries.{Entry}
 use Rattle.store_rows.specs.BankTables.{history, reference, request}
 use Rattle.walked_rows.specs.Pairs.{Pair, row_under}
 use Rattle.walked_rows.specs.References.{BreaksReference, text_entry}
-use Rattle.walked_rows.specs.Rows.{HasStoredRows, rows_behind, rows_from}
+use Rattle.walked_rows.specs.Rows.{HasStoredRows, rows_after, rows_from}
 use Rattle.walked_rows.specs.Stored.{BreaksAsked, posting_entry, request_entry}
 use Rattle.walked_rows.specs.declared.kept.KeptRequest.{KeptRequest}
 
@@ -62,4 +62,4 @@ BreaksKept broken k = BreaksAsked broken (asked_of k) ⊎ IsSomeAnd k.reference 
 abbrev pub AreKept : List Entry → List Entry → List Entry → ℤ → List KeptRequest → Option ℤ → Type 0
 AreKept postings references rows from done rest =
     kept_all postings references (rows_from from rows)
-    ≡ map kept_item done ++ kept_all postings references (rows_behind rest rows)
+    ≡ map kept_item done ++ kept_all postings references (rows_after rest rows)

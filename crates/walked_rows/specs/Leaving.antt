@@ -6,7 +6,7 @@ use Rattle.sqlite_trees.specs.declared.store.Store.{Ghosts}
 use Rattle.sql_meanings.specs.StatementAnswers.{WriteFails}
 
 -- An answer leaves this of the connection; a fault leaves everything as it was, or the transaction is rolled
--- back. No transaction begins, and a stop leaves nothing new.
+-- back. No transaction begins, and a crash leaves nothing new.
 pub record ReadsBy {S X E : Type 0} (Same : Held S → Held S → Type 0) (g : Ghosts S) (old new : Held S)
     (result : Result X E) : Type 0 where
   pub same : HasCleanDisk (state g new) → OnOk result (Same old new)

@@ -29,7 +29,7 @@ abbrev pub TakesNumber : Value → Option ℤ → Type 0
 TakesNumber v (Some n) = (z : ℤ) → v ≡ Int z → n ≡ z
 TakesNumber v None = (z : ℤ) → v ≡ Int z → ⊥
 
--- the numbers behind the bank's id that the row shows, or it shows no row of the bank
+-- the numbers after the bank's id that the row shows, or it shows no row of the bank
 abbrev pub TakesRow : Row → Option StoredMeta → Type 0
 TakesRow row (Some m) = (key version decided : ℤ) → row ≡ Int key ∷ Int version ∷ Int decided ∷ []
     → (key ≡ pos 1) × (m.version ≡ version) × (m.decided ≡ decided)

@@ -9,7 +9,7 @@ use Rattle.posting_rules.specs.declared.fault.Rule.{Rule}
 use Rattle.store_rows.specs.declared.fault.TableFault.{TableFault}
 use Rattle.store_rows.specs.declared.fault.TableFault.TheVariants.{Sqlite, Damaged}
 use Rattle.walked_rows.specs.StepOutcomes.{IsRefusedMemory}
-use Rattle.walked_rows.specs.Rows.{HasStoredRows, rows_behind, rows_from}
+use Rattle.walked_rows.specs.Rows.{HasStoredRows, rows_after, rows_from}
 use Rattle.walked_rows.specs.declared.joined.Joined.{Joined}
 
 -- a row, and the one beside it
@@ -47,7 +47,7 @@ pair_of entry other j = record { entry = entry j.stored; beside = option_map oth
 -- these are the pairs of the rows from a number on, up to those that follow
 abbrev pub AreJoined : {J : Type 0} → (J → Pair) → List Entry → List Entry → ℤ → List J → Option ℤ → Type 0
 AreJoined pair others rows from done rest =
-    paired others (rows_from from rows) ≡ map pair done ++ paired others (rows_behind rest rows)
+    paired others (rows_from from rows) ≡ map pair done ++ paired others (rows_after rest rows)
 
 -- the row breaks the rule, or the one beside it does
 abbrev pub BreaksPair : (Rule → Entry → Type 0) → (Rule → Entry → Type 0) → Rule → Pair → Type 0
@@ -67,4 +67,4 @@ TellsKey e (Err (Damaged broken)) = ⊥
 -- the key is below the number from which on the others follow, if others do
 abbrev pub ComesBefore : Option ℤ → ℤ → Type 0
 ComesBefore None key = ⊤
-ComesBefore (Some behind) key = key <ℤ behind
+ComesBefore (Some after) key = key <ℤ after

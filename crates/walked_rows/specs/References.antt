@@ -23,16 +23,16 @@ abbrev pub text_entry : ℕ → List ℕ → Entry
 text_entry ordinal text = record { key = pos ordinal; values = []; texts = text ∷ [] }
 
 -- the text of such a row
-abbrev pub text_behind : Entry → List ℕ
-text_behind e = slice_index_or e.texts 0 []
+abbrev pub text_after : Entry → List ℕ
+text_after e = slice_index_or e.texts 0 []
 
 -- such a row as a statement shows it: its key and its text
 abbrev pub text_shown : Entry → Row
-text_shown e = Int e.key ∷ Text (text_behind e) ∷ []
+text_shown e = Int e.key ∷ Text (text_after e) ∷ []
 
 -- its text is no reference
 abbrev pub BreaksReference : Rule → Entry → Type 0
-BreaksReference broken e = (broken ≡ rule.Reference) × (reference_from (text_behind e) ≡ None)
+BreaksReference broken e = (broken ≡ rule.Reference) × (reference_from (text_after e) ≡ None)
 
 -- a row of it, with an ordinal in its range
 abbrev pub listed_entry : StoredReference → Entry

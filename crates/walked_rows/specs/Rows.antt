@@ -31,9 +31,9 @@ module _ {X : Type 0} (key : X → ℤ) where
   items_from k items = filter (λ x. is_ge (int_cmp (key x) k)) items
 
   -- those with keys from a number on, none if there is no number
-  abbrev pub items_behind : Option ℤ → List X → List X
-  items_behind None items = []
-  items_behind (Some k) items = items_from k items
+  abbrev pub items_after : Option ℤ → List X → List X
+  items_after None items = []
+  items_after (Some k) items = items_from k items
 
   -- each has a key of 64 bits
   abbrev pub HaveKeys : List X → Type 0
@@ -49,5 +49,5 @@ abbrev pub rows_from : ℤ → List Entry → List Entry
 rows_from = items_from entry_key
 
 -- the rows with keys from a number on, none if there is no number
-abbrev pub rows_behind : Option ℤ → List Entry → List Entry
-rows_behind = items_behind entry_key
+abbrev pub rows_after : Option ℤ → List Entry → List Entry
+rows_after = items_after entry_key

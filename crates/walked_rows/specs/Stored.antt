@@ -22,9 +22,9 @@ use Rattle.walked_rows.specs.declared.requests.StoredRequest.{StoredRequest}
 use Rattle.walked_rows.specs.declared.joined.Joined.{Joined}
 use Rattle.walked_rows.specs.declared.stated.StatedPosting.{StatedPosting}
 
--- one of the numbers behind the key
-abbrev pub number_behind : ℕ → Entry → ℤ
-number_behind at e = slice_index_or e.values at (pos 0)
+-- one of the numbers after the key
+abbrev pub number_after : ℕ → Entry → ℤ
+number_after at e = slice_index_or e.values at (pos 0)
 
 -- a row of `branch`
 abbrev pub branch_entry : StoredBranch → Entry
@@ -32,7 +32,7 @@ branch_entry r = record { key = pos r.branch; values = pos r.accounts ∷ r.bala
 
 -- no branch has this number, or it can't have so many accounts
 abbrev pub IsNoBranch : Entry → Type 0
-IsNoBranch e = IsOutside 1 LAST_BRANCH e.key ⊎ IsOutside 1 MAX_COUNTED (number_behind 0 e)
+IsNoBranch e = IsOutside 1 LAST_BRANCH e.key ⊎ IsOutside 1 MAX_COUNTED (number_after 0 e)
 
 -- a row of `teller`
 abbrev pub teller_entry : StoredTeller → Entry
@@ -60,7 +60,7 @@ posting_entry r = record {
 
 -- no posting has this ordinal, or this moment
 abbrev pub IsNoPosting : Entry → Type 0
-IsNoPosting e = IsOutside 1 MAX_DECIDED e.key ⊎ IsOutside 0 MAX_MOMENT (number_behind 4 e)
+IsNoPosting e = IsOutside 1 MAX_DECIDED e.key ⊎ IsOutside 0 MAX_MOMENT (number_after 4 e)
 
 -- a row of `request`
 abbrev pub request_entry : StoredRequest → Entry

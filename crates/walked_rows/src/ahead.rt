@@ -11,7 +11,7 @@ ghost use Rattle.walked_rows.specs.Leaving.{OnlyReads};
 ghost use Rattle.walked_rows.specs.StepOutcomes.{BreaksFirst, BreaksValue, IsRefusedMemory, ReadsEntryAs};
 ghost use Rattle.walked_rows.specs.StepOutcomes.{ReadsNext};
 ghost use Rattle.walked_rows.specs.Rising.{RisesFrom};
-ghost use Rattle.walked_rows.specs.Rows.{HasStoredRows, IsWide, entry_key, rows_behind, rows_from};
+ghost use Rattle.walked_rows.specs.Rows.{HasStoredRows, IsWide, entry_key, rows_after, rows_from};
 
 use crate::numbers::numbers;
 use crate::stored_row::StoredRow;
@@ -93,7 +93,7 @@ pub(crate) fn gather<R: ReadRow>(
     ensures told { (all : List Entry) → Rise all → IsWide R.ReadRow.width all
         → found.now ≡ map R.ReadRow.shown_as (take AHEAD (rows_from from all))
         → MatchResult result
-        (λ rest. rows_from from all ≡ map R.ReadRow.entry rows.new.items ++ rows_behind rest all)
+        (λ rest. rows_from from all ≡ map R.ReadRow.entry rows.new.items ++ rows_after rest all)
         (BreaksFirst IsRefusedMemory R.ReadRow.Breaks (rows_from from all)) }
     ensures ended { IfOk result (λ rest. rows.new.items ≡ [] → rest ≡ None) }
     ensures rises { IfOk result
@@ -133,7 +133,7 @@ pub(crate) fn read_ahead<S: Alter, R: StoredRow>(
     ensures told { HasCleanDisk (state S.Store conn.new) → (all : List Entry)
         → HasStoredRows (state S.Store conn.old).now R.StoredRow.kind.table all
         → let given = filter (R.StoredRow.kind.is_given of) all in MatchResult result
-        (λ rest. rows_from from given ≡ map R.StoredRow.kind.entry rows.new.items ++ rows_behind rest given)
+        (λ rest. rows_from from given ≡ map R.StoredRow.kind.entry rows.new.items ++ rows_after rest given)
         (BreaksFirst (IsStoreError (state S.Store conn.old) (state S.Store conn.new))
         (BreaksValue R.StoredRow.kind.Breaks) (rows_from from given)) }
     ensures ended { IfOk result (λ rest. rows.new.items ≡ [] → rest ≡ None) }

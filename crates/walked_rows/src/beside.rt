@@ -10,7 +10,7 @@ ghost use Rattle.sql_meanings.specs.Tables.{width_of};
 ghost use Rattle.walked_rows.specs.Leaving.{OnlyReads};
 ghost use Rattle.walked_rows.specs.StepOutcomes.{BreaksValue, IsRefusedMemory, all_numbers, shown};
 ghost use Rattle.walked_rows.specs.Pairs.{BreaksUnder, TellsKey, row_under};
-ghost use Rattle.walked_rows.specs.Rows.{HasStoredRows, IsWide, rows_behind, rows_from};
+ghost use Rattle.walked_rows.specs.Rows.{HasStoredRows, IsWide, rows_after, rows_from};
 
 use crate::ahead::{AHEAD, gather};
 use crate::numbers::number_at;
@@ -41,7 +41,7 @@ fn gather_beside<O: StoredRow>(
     ensures told { (all : List Entry) → Rise all → IsWide (width_of O.StoredRow.kind.table) all
         → found.now ≡ shown (take AHEAD (rows_from from all))
         → MatchResult result
-        (λ rest. rows_from from all ≡ map O.StoredRow.kind.entry rows.new.items ++ rows_behind rest all)
+        (λ rest. rows_from from all ≡ map O.StoredRow.kind.entry rows.new.items ++ rows_after rest all)
         (BreaksUnder IsRefusedMemory (BreaksValue O.StoredRow.kind.Breaks) from all) }
     ensures beyond { IfOk result (λ rest. IfSome rest (λ k. from <ℤ k)) }
 {
@@ -69,7 +69,7 @@ pub(crate) fn read_beside<S: Alter, O: StoredRow>(
     ensures told { HasCleanDisk (state S.Store conn.new) → (all : List Entry)
         → HasStoredRows (state S.Store conn.old).now O.StoredRow.kind.table all
         → MatchResult result
-        (λ rest. rows_from from all ≡ map O.StoredRow.kind.entry rows.new.items ++ rows_behind rest all)
+        (λ rest. rows_from from all ≡ map O.StoredRow.kind.entry rows.new.items ++ rows_after rest all)
         (BreaksUnder (IsStoreError (state S.Store conn.old) (state S.Store conn.new))
         (BreaksValue O.StoredRow.kind.Breaks) from all) }
     ensures beyond { IfOk result (λ rest. IfSome rest (λ k. from <ℤ k)) }

@@ -12,7 +12,7 @@ ghost use Rattle.walked_rows.specs.Pairs.{AreJoined, BreaksPair, BreaksUnder, Ha
 ghost use Rattle.walked_rows.specs.Pairs.{pair_key, pair_of, paired};
 ghost use Rattle.walked_rows.specs.Rising.{RisesFrom};
 ghost use Rattle.walked_rows.specs.Room.{RoomFits};
-ghost use Rattle.walked_rows.specs.Rows.{HasStoredRows, entry_key, items_behind, items_from, rows_behind};
+ghost use Rattle.walked_rows.specs.Rows.{HasStoredRows, entry_key, items_after, items_from, rows_after};
 ghost use Rattle.walked_rows.specs.Rows.{rows_from};
 
 use crate::ahead::{AHEAD, read_ahead};
@@ -43,12 +43,12 @@ impl<R: Default, O> Default for Joined<R, O> {
 }
 
 // The row under the key isn't decided by those that were read ahead.
-fn is_beyond(behind: Option<i64>, key: i64) -> bool
-    ensures decided { OnFalse result (ComesBefore behind key) }
-    ensures beyond { OnTrue result (ComesBefore behind key → ⊥) }
+fn is_beyond(after: Option<i64>, key: i64) -> bool
+    ensures decided { OnFalse result (ComesBefore after key) }
+    ensures beyond { OnTrue result (ComesBefore after key → ⊥) }
 {
-    match behind {
-        Some(behind) => behind <= key,
+    match after {
+        Some(after) => after <= key,
         None => false,
     }
 }
@@ -59,27 +59,27 @@ fn join<R: StoredRow, O: StoredRow>(
     own: &[R],
     rest: Option<i64>,
     beside: &[O],
-    behind: Option<i64>,
+    after: Option<i64>,
     start: i64,
     rows: &mut ArrayVec<Joined<R, O>, AHEAD>,
 ) -> Option<i64>
     requires few { length own.now ≤ AHEAD }
     requires rises { RisesFrom start (map (λ r. entry_key (R.StoredRow.kind.entry r)) own.now) rest }
     ensures told { (base others : List Entry) → Rise base
-        → rows_from start base ≡ map R.StoredRow.kind.entry own.now ++ rows_behind rest base
-        → rows_from start others ≡ map O.StoredRow.kind.entry beside.now ++ rows_behind behind others
+        → rows_from start base ≡ map R.StoredRow.kind.entry own.now ++ rows_after rest base
+        → rows_from start others ≡ map O.StoredRow.kind.entry beside.now ++ rows_after after others
         → AreJoined (pair_of R.StoredRow.kind.entry O.StoredRow.kind.entry) others base start
         rows.new.items result }
     ensures rises { RisesFrom start
         (map (λ j. entry_key (R.StoredRow.kind.entry j.stored)) rows.new.items) result }
     ensures some { (r : R) (more : List R) → own.now ≡ r ∷ more
-        → ComesBefore behind (entry_key (R.StoredRow.kind.entry r)) → rows.new.items ≡ [] → ⊥ }
+        → ComesBefore after (entry_key (R.StoredRow.kind.entry r)) → rows.new.items ≡ [] → ⊥ }
 {
     rows.clear();
     let mut next = start;
     for row in own {
         let key = row.key();
-        if is_beyond(behind, key as i64) {
+        if is_beyond(after, key as i64) {
             return Some(next);
         }
         rows.push(Joined {
@@ -104,7 +104,7 @@ fn join_ahead<S: Alter, R: StoredRow, O: StoredRow>(
     requires rises { RisesFrom start (map (λ r. entry_key (R.StoredRow.kind.entry r)) own.now) rest }
     ensures told { HasCleanDisk (state S.Store conn.new) → (base others : List Entry) → Rise base
         → HasStoredRows (state S.Store conn.old).now O.StoredRow.kind.table others
-        → rows_from start base ≡ map R.StoredRow.kind.entry own.now ++ rows_behind rest base
+        → rows_from start base ≡ map R.StoredRow.kind.entry own.now ++ rows_after rest base
         → MatchResult result
         (AreJoined (pair_of R.StoredRow.kind.entry O.StoredRow.kind.entry) others base start
         rows.new.items)
@@ -118,7 +118,7 @@ fn join_ahead<S: Alter, R: StoredRow, O: StoredRow>(
     ensures reads { OnlyReads S.Store conn.old conn.new result }
 {
     match read_beside::<S, O>(conn, start, beside) {
-        Ok(behind) => Ok(join(own, rest, beside.as_slice(), behind, start, rows)),
+        Ok(after) => Ok(join(own, rest, beside.as_slice(), after, start, rows)),
         Err(fault) => Err(fault),
     }
 }
@@ -137,7 +137,7 @@ fn join_first<S: Alter, R: StoredRow, O: StoredRow>(
         × RisesFrom from (map (λ r. entry_key (R.StoredRow.kind.entry r)) own.now) rest }
     ensures told { HasCleanDisk (state S.Store conn.new) → (base others : List Entry) → Rise base
         → HasStoredRows (state S.Store conn.old).now O.StoredRow.kind.table others
-        → (from : ℤ) → rows_from from base ≡ map R.StoredRow.kind.entry own.now ++ rows_behind rest base
+        → (from : ℤ) → rows_from from base ≡ map R.StoredRow.kind.entry own.now ++ rows_after rest base
         → MatchResult result
         (AreJoined (pair_of R.StoredRow.kind.entry O.StoredRow.kind.entry) others base from
         rows.new.items)
@@ -175,7 +175,7 @@ fn fill_joined<S: Alter, R: StoredRow, O: StoredRow>(
         → HasPairs (state S.Store conn.old).now R.StoredRow.kind.table O.StoredRow.kind.table all
         → let given = filter (λ p. R.StoredRow.kind.is_given of p.entry) all in MatchResult result
         (λ rest. items_from pair_key from given
-        ≡ map (pair_of R.StoredRow.kind.entry O.StoredRow.kind.entry) rows.new.items ++ items_behind pair_key
+        ≡ map (pair_of R.StoredRow.kind.entry O.StoredRow.kind.entry) rows.new.items ++ items_after pair_key
         rest
         given)
         (BreaksFirst (IsStoreError (state S.Store conn.old) (state S.Store conn.new))
@@ -232,7 +232,7 @@ impl<R: Paired, O: Paired> WalkedRow for Joined<R, O> {
 
     ghost all_given = { λ p. refl };
 
-    fn fill<S: Alter>(
+    fn read_some<S: Alter>(
         conn: &mut Connection<S>,
         _of: Option<Account>,
         from: i64,

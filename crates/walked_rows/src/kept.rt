@@ -9,7 +9,7 @@ ghost use Rattle.walked_rows.specs.KeptRows.{AreKept, BreaksKept, kept_all};
 ghost use Rattle.walked_rows.specs.Leaving.{ReadsIfAny};
 ghost use Rattle.walked_rows.specs.Pairs.{paired};
 ghost use Rattle.walked_rows.specs.Rising.{RisesFrom};
-ghost use Rattle.walked_rows.specs.Rows.{HasStoredRows, entry_key, rows_behind, rows_from};
+ghost use Rattle.walked_rows.specs.Rows.{HasStoredRows, entry_key, rows_after, rows_from};
 ghost use Rattle.walked_rows.specs.StepOutcomes.{BreaksFirst};
 ghost use Rattle.walked_rows.specs.Stored.{asked_pair, request_entry};
 
@@ -57,7 +57,7 @@ fn refer_each<S: Alter>(
     ensures told { HasCleanDisk (state S.Store conn.new) → (base postings others : List Entry) → Rise base
         → HasStoredRows (state S.Store conn.old).now reference_table others
         → paired postings (rows_from from base)
-        ≡ map asked_pair own.now ++ paired postings (rows_behind rest base)
+        ≡ map asked_pair own.now ++ paired postings (rows_after rest base)
         → MatchResult result (AreKept postings others base from rows.new.items)
         (BreaksFirst (IsStoreError (state S.Store conn.old) (state S.Store conn.new)) BreaksKept
         (kept_all postings others (rows_from from base))) }
@@ -110,14 +110,14 @@ impl WalkedRow for KeptRequest {
 
     ghost all_given = { λ k. refl };
 
-    fn fill<S: Alter>(
+    fn read_some<S: Alter>(
         conn: &mut Connection<S>,
         _of: Option<Account>,
         from: i64,
         rows: &mut ArrayVec<Self, AHEAD>,
     ) -> Result<Option<i64>, TableFault> {
         let mut own: ArrayVec<Joined<StoredRequest, StoredPosting>, AHEAD> = ArrayVec::new();
-        match Joined::fill(conn, None, from, &mut own) {
+        match Joined::read_some(conn, None, from, &mut own) {
             Ok(rest) => refer_each(conn, own.as_slice(), rest, from, rows),
             Err(fault) => Err(fault),
         }

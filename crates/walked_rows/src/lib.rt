@@ -3,7 +3,7 @@
 //! reference is none. The other numbers are given whatever they are, so that an audit sees rows that no bank
 //! writes.
 //!
-//! [`WalkedRow::fill`] puts the rows from a key on into room for [`AHEAD`] of them, and returns the key from
+//! [`WalkedRow::read_some`] puts the rows from a key on into room for [`AHEAD`] of them, and returns the key from
 //! which on the others follow, or none where no row was left. The function `first_accounts` of
 //! `store_tests`, which a test runs, adds up the balances of the first accounts. In a bank of three accounts
 //! with one posting of 500 cents it returns 500 and the key 4:
@@ -18,7 +18,7 @@
 //!     conn: &mut Connection<S>,
 //! ) -> Result<(i64, Option<i64>), TableFault> {
 //!     let mut rows: ArrayVec<StoredAccount, AHEAD> = ArrayVec::new();
-//!     let rest = StoredAccount::fill(conn, None, 1, &mut rows)?;
+//!     let rest = StoredAccount::read_some(conn, None, 1, &mut rows)?;
 //!     let mut sum = 0i64;
 //!     for row in rows.as_slice() {
 //!         sum = sum.saturating_add(row.balance);

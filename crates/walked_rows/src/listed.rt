@@ -82,7 +82,7 @@ impl WalkedRow for StoredReference {
 
     ghost all_given = { λ e. refl };
 
-    fn fill<S: Alter>(
+    fn read_some<S: Alter>(
         conn: &mut Connection<S>,
         _of: Option<Account>,
         from: i64,

@@ -9,7 +9,7 @@ ghost use Rattle.sql_meanings.specs.StatementAnswers.{IsStoreError};
 ghost use Rattle.walked_rows.specs.Leaving.{OnlyReads};
 ghost use Rattle.walked_rows.specs.StepOutcomes.{BreaksFirst};
 ghost use Rattle.walked_rows.specs.Rising.{RisesFrom};
-ghost use Rattle.walked_rows.specs.Rows.{HaveKeys, items_behind, items_from};
+ghost use Rattle.walked_rows.specs.Rows.{HaveKeys, items_after, items_from};
 
 use crate::ahead::{AHEAD, read_ahead};
 use crate::stored_row::StoredRow;
@@ -36,7 +36,7 @@ pub trait WalkedRow: Copy + Default {
     /// Puts the rows with the least keys from one on, those of an account if one is named, in place of those
     /// in `rows`, up to one that can't be read, if it isn't the first, and returns the key from which on the
     /// others follow.
-    fn fill<S: Alter>(
+    fn read_some<S: Alter>(
         conn: &mut Connection<S>,
         of: Option<Account>,
         from: i64,
@@ -45,7 +45,7 @@ pub trait WalkedRow: Copy + Default {
         ensures told { HasCleanDisk (state S.Store conn.new) → (all : List Item)
             → HasItems (state S.Store conn.old).now all
             → let given = filter (is_given of) all in MatchResult result
-            (λ rest. items_from key from given ≡ map item rows.new.items ++ items_behind key rest given)
+            (λ rest. items_from key from given ≡ map item rows.new.items ++ items_after key rest given)
             (BreaksFirst (IsStoreError (state S.Store conn.old) (state S.Store conn.new)) Breaks
             (items_from key from given)) }
         ensures ended { IfOk result (λ rest. rows.new.items ≡ [] → rest ≡ None) }
@@ -79,7 +79,7 @@ impl<R: StoredRow> WalkedRow for R {
 
     ghost all_given = { R.StoredRow.kind.all_given };
 
-    fn fill<S: Alter>(
+    fn read_some<S: Alter>(
         conn: &mut Connection<S>,
         of: Option<Account>,
         from: i64,

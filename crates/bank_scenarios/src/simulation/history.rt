@@ -26,7 +26,7 @@ pub struct Part {
     pub reply: [u8; REPLY_BYTES],
     /// What it decides, if it is a request that wasn't decided before.
     pub entry: Option<Entry>,
-    /// The sums over the tables behind it.
+    /// The sums over the tables after it.
     pub state: Sums,
 }
 
@@ -134,7 +134,7 @@ fn lower(record: &mut [u8; REQUEST_BYTES]) {
 }
 
 impl History {
-    /// Two rounds, each of branches that are opened and of mixed records behind them.
+    /// Two rounds, each of branches that are opened and of mixed records after them.
     pub fn draw(alloc: Global, draws: &mut Draws) -> Result<History> {
         let mut history = History {
             parts: Vec::new(alloc),
@@ -236,16 +236,16 @@ impl History {
 
     /// Up to so many records from a part on, as far as no branch is opened.
     pub fn records(&self, at: usize, most: usize) -> &[Part] {
-        let behind = self.parts.get(at..).unwrap_or(&[]);
-        let count = behind
+        let after = self.parts.get(at..).unwrap_or(&[]);
+        let count = after
             .iter()
             .take(most)
             .take_while(|part| matches!(part.given, Given::Record(_)))
             .count();
-        behind.get(..count).unwrap_or(&[])
+        after.get(..count).unwrap_or(&[])
     }
 
-    /// The sums over the tables behind so many parts.
+    /// The sums over the tables after so many parts.
     pub fn state(&self, count: usize) -> Sums {
         match count.checked_sub(1).and_then(|last| self.part(last)) {
             Some(part) => part.state,

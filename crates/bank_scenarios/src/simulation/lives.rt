@@ -4,7 +4,7 @@ use super::counts::{Counts, add};
 use super::history::{Given, History};
 use super::ledger::{Sums, sums_of};
 use super::messages::Script;
-use super::reports::{audit_behind, balance_behind, replay_between, state, statement_behind};
+use super::reports::{audit_after, balance_after, replay_between, state, statement_after};
 use crate::draws::Draws;
 use anyhow::{Result, bail};
 use bank_store::{Bank, OpenFault, Refused, adopt, create};
@@ -123,7 +123,7 @@ impl Simulation {
         End::Stopped
     }
 
-    // The tables are those that were found before or that an answer led to, or those behind a beginning of what was
+    // The tables are those that were found before or that an answer led to, or those after a prefix of what was
     // given since.
     fn find(&mut self, found: &Sums) -> bool {
         for count in self.held..=self.given {
@@ -157,7 +157,7 @@ impl Simulation {
         if let Some(what) = self.wrong(found) {
             return (End::Differs(what), conn.into_store());
         }
-        // A bank may be taken up from what was read before the stop. What it holds isn't known, so it is asked for nothing.
+        // A bank may be taken up from what was read before the crash. What it holds isn't known, so it is asked for nothing.
         if is_unread {
             return (End::Stopped, conn.into_store());
         }
@@ -313,19 +313,19 @@ impl Simulation {
             if let Some(part) = self.history.part(place) {
                 script.add_post(part)?;
             }
-            let behind = self.held.max(place.saturating_add(1));
+            let after = self.held.max(place.saturating_add(1));
             match self.draws.below(6) {
                 0 => script.add_short()?,
-                1 => self.add_get(&mut script, behind)?,
+                1 => self.add_get(&mut script, after)?,
                 _ => {}
             }
         }
         Ok(script)
     }
 
-    fn add_get(&mut self, script: &mut Script, behind: usize) -> Result<(), AllocError> {
+    fn add_get(&mut self, script: &mut Script, after: usize) -> Result<(), AllocError> {
         let account = self.account();
-        let balance = balance_behind(self.history.first(behind), account);
+        let balance = balance_after(self.history.first(after), account);
         script.add_get(self.alloc, account.get(), balance)
     }
 
@@ -342,17 +342,17 @@ impl Simulation {
         match self.draws.below(3) {
             0 => self.look_at_balance(bank, account),
             1 => self.look_at_statement(bank, account),
-            _ => audit_behind(bank, self.history.first(self.held)),
+            _ => audit_after(bank, self.history.first(self.held)),
         }
     }
 
     fn look_at_balance<S: Alter + Drop>(&self, bank: &mut Bank<S>, account: Account) -> End {
-        let wanted = balance_behind(self.history.first(self.held), account);
+        let wanted = balance_after(self.history.first(self.held), account);
         ask(self.alloc, bank, &Asked::Balance(account, wanted)).end
     }
 
     fn look_at_statement<S: Alter + Drop>(&self, bank: &mut Bank<S>, account: Account) -> End {
-        match statement_behind(self.alloc, self.history.first(self.held), account) {
+        match statement_after(self.alloc, self.history.first(self.held), account) {
             Ok(wanted) => state(self.alloc, bank, account, &wanted),
             Err(_) => NO_MEMORY.end,
         }
@@ -366,7 +366,7 @@ impl Simulation {
         if end != End::Done {
             return end;
         }
-        audit_behind(bank, self.history.first(self.held))
+        audit_after(bank, self.history.first(self.held))
     }
 
     /// A life ended so. Whether all was answered, and then found again; what differed is an error.

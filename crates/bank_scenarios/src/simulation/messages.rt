@@ -7,7 +7,7 @@ use std::alloc::{AllocError, Global};
 pub struct Script {
     pub input: Vec<u8>,
     pub output: Vec<u8>,
-    /// How long the output is behind each record's answer.
+    /// How long the output is after each record's answer.
     ends: Vec<usize>,
 }
 
@@ -91,7 +91,7 @@ impl Script {
         self.add([asked.as_bytes(), b""], [head.as_bytes(), line.as_bytes()])
     }
 
-    /// How many records are answered by these bytes, none where they are no beginning of the output.
+    /// How many records are answered by these bytes, none where they are no prefix of the output.
     pub fn answered_by(&self, output: &[u8]) -> Option<usize> {
         if !self.output.starts_with(output) {
             return None;

@@ -1,4 +1,4 @@
-//! What balances, statements, audits and replays have to say behind parts of a history.
+//! What balances, statements, audits and replays have to say after parts of a history.
 use super::asking::{End, end_of};
 use super::history::{Given, Part};
 use super::ledger::Entry;
@@ -10,7 +10,7 @@ use posting_core::first_account;
 use sqlite::Alter;
 use std::alloc::{AllocError, Global};
 
-// Whether an account is open behind these parts.
+// Whether an account is open after these parts.
 fn is_open(parts: &[Part], account: Account) -> bool {
     parts.iter().any(|part| match part.given {
         Given::Branch(branch, accounts, _) => {
@@ -33,7 +33,7 @@ fn posting<'a>(part: &'a Part, account: Account) -> Option<&'a Entry> {
 }
 
 /// The balance of an account, none if it isn't open.
-pub fn balance_behind(parts: &[Part], account: Account) -> Option<i64> {
+pub fn balance_after(parts: &[Part], account: Account) -> Option<i64> {
     if !is_open(parts, account) {
         return None;
     }
@@ -79,7 +79,7 @@ fn add_line(
 }
 
 /// The statement of an account, none if it isn't open.
-pub fn statement_behind(
+pub fn statement_after(
     alloc: Global,
     parts: &[Part],
     account: Account,
@@ -124,7 +124,7 @@ pub fn state<S: Alter + Drop>(
     stated(wanted, text.as_slice(), ended)
 }
 
-// How many requests are decided and posted behind these parts, and what all accounts have.
+// How many requests are decided and posted after these parts, and what all accounts have.
 fn totals(parts: &[Part]) -> (u64, u64, i128) {
     let mut requests = 0u64;
     let mut postings = 0u64;
@@ -140,7 +140,7 @@ fn totals(parts: &[Part]) -> (u64, u64, i128) {
 }
 
 /// Asks for an audit. The books agree, and have what the parts lead to.
-pub fn audit_behind<S: Alter>(bank: &mut Bank<S>, parts: &[Part]) -> End {
+pub fn audit_after<S: Alter>(bank: &mut Bank<S>, parts: &[Part]) -> End {
     match audit(bank) {
         Ok(told) => {
             let found = (told.requests, told.history, told.account_sum);

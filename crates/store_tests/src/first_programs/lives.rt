@@ -6,7 +6,7 @@ use bank_store::{Bank, OpenFault, Refused};
 use sqlite::{Alter, Connection};
 use std::alloc::Global;
 
-// `conn` was opened on what a stop left of the files of `stopped`.
+// `conn` was opened on what a crash left of the files of `stopped`.
 pub fn next_life<S: Alter + Drop, T: Alter + Drop>(
     alloc: Global,
     stopped: &Bank<S>,

@@ -8,7 +8,7 @@ pub fn first_accounts<S: Alter>(
     conn: &mut Connection<S>,
 ) -> Result<(i64, Option<i64>), TableFault> {
     let mut rows: ArrayVec<StoredAccount, AHEAD> = ArrayVec::new();
-    let rest = StoredAccount::fill(conn, None, 1, &mut rows)?;
+    let rest = StoredAccount::read_some(conn, None, 1, &mut rows)?;
     let mut sum = 0i64;
     for row in rows.as_slice() {
         sum = sum.saturating_add(row.balance);

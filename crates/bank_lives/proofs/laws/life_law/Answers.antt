@@ -1,6 +1,6 @@
--- What a stop leaves of a life.
+-- What a crash leaves of a life.
 use Rattle.std.proofs.Math.Logic.{∥∥₁_map}
-use Rattle.posting_rules.specs.{Counter.ShowsBeginning, Tables.Tables}
+use Rattle.posting_rules.specs.{Counter.ShowsPrefix, Tables.Tables}
 use Rattle.bank_lives.proofs.Lived.{life_leaves, life_given}
 use Rattle.bank_lives.proofs.laws.life_law.Goals as goal
 
@@ -13,6 +13,6 @@ returns g c = record {
       ∥∥₁_map (g.met.C.Counter.leaves_something c.args.counter.now honest) (λ left.
       let it = life_leaves g.C.Counter.seen first c.args.counter.now given least life honest log stood left.0
       left.1 in
-      let shown : (t : Tables) × ShowsBeginning log given least t = (it.0, it.2) in
+      let shown : (t : Tables) × ShowsPrefix log given least t = (it.0, it.2) in
       shown);
 }

@@ -1,7 +1,7 @@
--- The bank stands at what its connection found, and that is a beginning.
+-- The bank stands at what its connection found, and that is a prefix.
 use Rattle.std.proofs.Common.{◌∷◌, refl, take}
 use Rattle.sqlite.specs.Held.{state}
-use Rattle.posting_rules.specs.Runs.{behind}
+use Rattle.posting_rules.specs.Runs.{followed_by}
 use Rattle.bank_store.specs.Seen.{bank_seen}
 use Rattle.bank_store.proofs.Unmade.{if_err}
 use Rattle.bank_lives.specs.Moments.{Of_bank, seen_at}
@@ -35,7 +35,7 @@ returns-clause-kept g c =
     (life_leaves (seen_at g.S.Store) first last life.commands life.least lived stopped was.0 was.2
     (g.T.Store.view c.args.conn.store).trees left) in
     let at = taken.stands honest _ it.stands in
-    kept_at (bank_seen g.T.Store bank) start (life ∷ lives) (behind was.0 (take it.count life.commands))
+    kept_at (bank_seen g.T.Store bank) start (life ∷ lives) (followed_by was.0 (take it.count life.commands))
     (was.0, was.1, it.count, it.holds, it.within, refl)
     at
     (λ other shown. c.trees_show_law.ensures.once (g.T.Store.view bank.conn.store).trees other at.shows.tables

@@ -1,8 +1,8 @@
--- The records of all rows were written, or a beginning of them.
+-- The records of all rows were written, or a prefix of them.
 use Rattle.std.proofs.Common.{rules, ◌≡◌, Err, map, ap}
 use Rattle.walked_rows.specs.KeptRows.{kept_item}
-use Rattle.report_lines.proofs.Written.{later_failed, same_all, same_part}
-use Rattle.bank_replays.specs.{Writing.records_behind, declared.fault.ReplayFault.TheVariants.Write}
+use Rattle.report_contents.proofs.Written.{later_failed, same_all, same_part}
+use Rattle.bank_replays.specs.{Writing.records_after, declared.fault.ReplayFault.TheVariants.Write}
 use Rattle.bank_replays.proofs.Exported.{records_of_part}
 use Rattle.bank_replays.proofs.Wrote.{end_part, end_wrote, writer_err, writer_ok}
 use Rattle.bank_replays.proofs.exports.export_records.Goals as goal
@@ -19,7 +19,7 @@ pub returns-in_err-put_last-clause-rows : goal.returns-in_err-put_last-clause-ro
 returns-in_err-put_last-clause-rows g c clean all has =
     let same : c.from_residual-in_err-put_last.result ≡ Err Write = search rules in
     let it = c.in_ok-hand_all.ensures.hands in
-    rw same (same_part _ _ (ap (records_behind c.args.after) (it.2 clean all has))
+    rw same (same_part _ _ (ap (records_after c.args.after) (it.2 clean all has))
     (end_part _ _ _ _ it.1.0 c.in_err-put_last.ensures.err))
 
 pub returns-in_err-put_last-clause-writer : goal.returns-in_err-put_last-clause-writer
@@ -30,7 +30,7 @@ returns-in_err-put_last-clause-writer g c =
 pub returns-clause-rows : goal.returns-clause-rows
 returns-clause-rows g c clean all has =
     let it = c.in_ok-hand_all.ensures.hands in
-    same_all _ _ (ap (records_behind c.args.after) (it.2 clean all has))
+    same_all _ _ (ap (records_after c.args.after) (it.2 clean all has))
     (end_wrote _ _ _ _ it.1.0 c.in_ok-put_last.ensures.ok)
 
 pub returns-clause-writer : goal.returns-clause-writer

@@ -1,9 +1,9 @@
--- The plan was written, or a beginning of it.
+-- The plan was written, or a prefix of it.
 use Rattle.std.proofs.Common.{rules, ◌≡◌, Err, map, sym, subst}
 use Rattle.posting_core.proofs.Telling.{more_more}
 use Rattle.store_rows.specs.BankTables.{branch as branch_table}
 use Rattle.walked_rows.specs.{Rows.HasStoredRows, Stored.branch_entry, StoredBeside.floor_entry}
-use Rattle.report_lines.proofs.Written.{first_part, later_failed}
+use Rattle.report_contents.proofs.Written.{first_part, later_failed}
 use Rattle.bank_replays.specs.Writing.{plan_lines, plan_names}
 use Rattle.bank_replays.specs.declared.fault.ReplayFault.TheVariants.{Bank, Write}
 use Rattle.bank_replays.proofs.Planned.{plan_all, plan_end, plan_part}

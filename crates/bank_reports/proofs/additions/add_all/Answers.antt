@@ -2,12 +2,12 @@
 use Rattle.std.proofs.Common.{rules, ◌≡◌, Err}
 use Rattle.sqlite.specs.{State.HasCleanDisk, Held.state}
 use Rattle.walked_rows.specs.Pairs.{paired}
-use Rattle.report_lines.specs.Beside.{no_rows}
+use Rattle.report_contents.specs.Beside.{no_rows}
 use Rattle.bank_reports.specs.Adding.{with_accounts, with_branches, with_requests, with_tellers}
 use Rattle.bank_reports.specs.Failures.{HasFailedToRead}
 use Rattle.bank_reports.proofs.Broken.{broken_account, broken_asked, broken_branch, broken_posted, broken_teller}
 use Rattle.bank_reports.proofs.Passed.{asked_in, clean_mid, has_mid, passed_five, passed_four, passed_then}
-use Rattle.bank_reports.proofs.Passed.{passed_three, posted_in, says_any, says_behind}
+use Rattle.bank_reports.proofs.Passed.{passed_three, posted_in, says_any, says_after}
 use Rattle.bank_reports.proofs.Read.{read, read_is, read_sums}
 use Rattle.bank_reports.proofs.additions.add_all.Goals as goal
 
@@ -66,7 +66,7 @@ returns-in_err-add_each-2-clause-told g c clean f has =
     let late : HasCleanDisk (state g.S.Store c.add_each-2.new.bank.conn) = search rules in
     let passed = c.in_ok-add_each.ensures.passed in
     let there = has_mid f passed last.passed late has in
-    rw same (says_behind g.S.Store c.args.bank.now.conn c.add_each.new.bank.conn c.add_each-2.new.bank.conn
+    rw same (says_after g.S.Store c.args.bank.now.conn c.add_each.new.bank.conn c.add_each-2.new.bank.conn
     c.in_err-add_each-2.field-0.0 (broken_branch f) passed
     (last.told late f.branches there.branches))
 
@@ -84,7 +84,7 @@ returns-in_err-add_each-3-clause-told g c clean f has =
     let late : HasCleanDisk (state g.S.Store c.add_each-3.new.bank.conn) = search rules in
     let passed = passed_then c.in_ok-add_each.ensures.passed c.in_ok-add_each-2.ensures.passed in
     let there = has_mid f passed last.passed late has in
-    rw same (says_behind g.S.Store c.args.bank.now.conn c.add_each-2.new.bank.conn c.add_each-3.new.bank.conn
+    rw same (says_after g.S.Store c.args.bank.now.conn c.add_each-2.new.bank.conn c.add_each-3.new.bank.conn
     c.in_err-add_each-3.field-0.0 (broken_account f) passed
     (last.told late f.accounts there.accounts))
 
@@ -104,7 +104,7 @@ returns-in_err-add_each-4-clause-told g c clean f has =
     let passed = passed_three c.in_ok-add_each.ensures.passed c.in_ok-add_each-2.ensures.passed
     c.in_ok-add_each-3.ensures.passed in
     let there = has_mid f passed last.passed late has in
-    rw same (says_behind g.S.Store c.args.bank.now.conn c.add_each-3.new.bank.conn c.add_each-4.new.bank.conn
+    rw same (says_after g.S.Store c.args.bank.now.conn c.add_each-3.new.bank.conn c.add_each-4.new.bank.conn
     c.in_err-add_each-4.field-0.0 (broken_asked f) passed
     (last.told late (paired f.history f.requests) (asked_in _ f there)))
 
@@ -124,7 +124,7 @@ returns-in_err-add_each-5-clause-told g c clean f has =
     let passed = passed_four c.in_ok-add_each.ensures.passed c.in_ok-add_each-2.ensures.passed
     c.in_ok-add_each-3.ensures.passed c.in_ok-add_each-4.ensures.passed in
     let there = has_mid f passed last.passed late has in
-    rw same (says_behind g.S.Store c.args.bank.now.conn c.add_each-4.new.bank.conn c.add_each-5.new.bank.conn
+    rw same (says_after g.S.Store c.args.bank.now.conn c.add_each-4.new.bank.conn c.add_each-5.new.bank.conn
     c.in_err-add_each-5.field-0.0 (broken_posted f) passed
     (last.told late (paired f.requests f.history) (posted_in _ f there)))
 

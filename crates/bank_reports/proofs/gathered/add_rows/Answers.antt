@@ -18,7 +18,7 @@ rows-init g c = record {
   fresh = c.requires.fresh;
   still = λ clean. (refl, refl, refl, refl);
   gathered = record { given = []; many = refl; are = λ clean items has. refl; added = λ rows none. none };
-  along = record { next = LEAST; comes = c.requires.rises; behind = inl refl; few = omega arith };
+  along = record { next = LEAST; comes = c.requires.rises; after = inl refl; few = omega arith };
 }
 
 -- ---- a step that failed

@@ -1,8 +1,8 @@
--- The line was written, a beginning of it was, or the balance behind it is out of its limits.
+-- The line was written, a prefix of it was, or the balance after it is out of its limits.
 use Rattle.std.proofs.Common.{rules, ◌≡◌, Err, refl, ap, ◌∙◌, w64, to_z, of_z}
 use Rattle.std.proofs.lemmas.Int.{to_z-of_z}
-use Rattle.report_lines.specs.StatementText.{posting_line}
-use Rattle.report_lines.proofs.Written.{same_all, same_part}
+use Rattle.report_contents.specs.StatementText.{posting_line}
+use Rattle.report_contents.proofs.Written.{same_all, same_part}
 use Rattle.bank_reports.specs.declared.fault.ReportFault.TheVariants.{Write}
 use Rattle.bank_reports.proofs.ReportEnds.{not_ok}
 use Rattle.bank_reports.proofs.lines.write_line.Goals as goal

@@ -7,7 +7,7 @@ use Rattle.posting_rules.specs.declared.fault.Rule.TheVariants.{Value}
 use Rattle.posting_core.proofs.Telling.{more_more, more_none}
 use Rattle.store_rows.specs.BankTables.{history as history_table, reference as reference_table}
 use Rattle.bank_transactions.proofs.Blamed.{comes}
-use Rattle.report_lines.proofs.Written.{later_failed}
+use Rattle.report_contents.proofs.Written.{later_failed}
 use Rattle.bank_reports.specs.declared.fault.ReportFault.{ReportFault}
 use Rattle.bank_reports.specs.declared.fault.ReportFault.TheVariants.{Bank, NoAccount, Write}
 use Rattle.bank_reports.proofs.Further.{at_first, error_is, line_err, line_is, one_line, walk_end, walk_err, worn_out}

@@ -4,7 +4,7 @@ use Rattle.posting_rules.specs.declared.fault.Fault.TheVariants.{Down, Memory, S
 use Rattle.posting_core.specs.Told.{IsFlush}
 use Rattle.posting_core.proofs.Telling.{more_last, more_more}
 use Rattle.walked_rows.specs.Stored.{is_stated_of}
-use Rattle.report_lines.proofs.Written.{later_failed, same_all, same_part}
+use Rattle.report_contents.proofs.Written.{later_failed, same_all, same_part}
 use Rattle.bank_reports.specs.declared.fault.ReportFault.TheVariants.{Write}
 use Rattle.bank_reports.proofs.ReportEnds.{not_both, not_ok, not_write}
 use Rattle.bank_reports.proofs.Sections.{all_written, closing_err, heading_err, names_err, postings_err}

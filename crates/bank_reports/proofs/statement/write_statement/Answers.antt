@@ -7,7 +7,7 @@ use Rattle.posting_rules.specs.{declared.fault.Fault.TheVariants.Down, Commands.
 use Rattle.store_rows.specs.BankTables.{history as history_table, reference as reference_table}
 use Rattle.walked_rows.specs.{Pairs.HasPairs, Pairs.Pair, Stored.is_stated_of}
 use Rattle.bank_store.specs.{Down.OfDamage, Down.WasBroken, Down.bank_reason, Seen.bank_seen, Seen.database_of}
-use Rattle.bank_reports.specs.{declared.fault.ReportFault.TheVariants.Bank, Behind.statement_behind}
+use Rattle.bank_reports.specs.{declared.fault.ReportFault.TheVariants.Bank, StatedLines.statement_after}
 use Rattle.bank_reports.specs.{Postings.StatesRows}
 use Rattle.bank_reports.proofs.FaultsTold.{down_is_sound, unstated}
 use Rattle.bank_reports.proofs.{Further.nothing_written, Passed.failed_later, statement.write_statement.Given.Over}
@@ -15,7 +15,7 @@ use Rattle.bank_reports.proofs.OnLogs.{account_rows, has_stated, stated_rows}
 use Rattle.bank_reports.proofs.ReportEnds.{damaged_not_down, down_not_store, not_both, not_missing, not_write, of_err}
 use Rattle.bank_reports.proofs.ReportEnds.{of_ok, refused_before, refused_down, refused_leaves, refused_sound}
 use Rattle.bank_reports.proofs.ReportEnds.{same_fault, written_of}
-use Rattle.bank_store.proofs.ReadsLeave.{clean_before, idle_takes, reads_behind, untouched_stands}
+use Rattle.bank_store.proofs.ReadsLeave.{clean_before, idle_takes, reads_after, untouched_stands}
 use Rattle.bank_reports.proofs.StatementReports.{ToldOfLog, log_part, log_sound, log_whole}
 use Rattle.bank_reports.proofs.Spared.{call_spares, idle_spares, read_spares}
 use Rattle.bank_reports.proofs.statement.write_statement.Goals as goal
@@ -112,7 +112,7 @@ returns-in_default g c =
         found = tt;
         missing = λ none clean log s. sym (rw c.in_default.is at (says.answer clean log s));
         silent = λ none. refl;
-        part = λ clean log s. nothing_written _ (statement_behind log c.args.account);
+        part = λ clean log s. nothing_written _ (statement_after log c.args.account);
         sound = λ rule is clean log s. not_missing _ _ is refl;
         takes = record {
           done = λ answered. says.call.done;
@@ -203,7 +203,7 @@ returns g c =
         part = of_err c.write_lines.result
             (λ fault is clean log s. log_part (told_of g c clean log s) fault is);
         sound = λ rule is clean log s. log_sound (told_of g c clean log s) rule is;
-        takes = reads_behind (state g.S.Store c.args.bank.now.conn) mid new _ _ _ _ before.call.done before.call.honest
+        takes = reads_after (state g.S.Store c.args.bank.now.conn) mid new _ _ _ _ before.call.done before.call.honest
             (λ answered clean.
             says.reads.still clean (written_of c.write_lines.result says.reads.found answered))
             says.reads.survives says.reads.up;

@@ -1,6 +1,6 @@
--- What its trees show is what its database shows, and all that a stop may leave.
+-- What its trees show is what its database shows, and all that a crash may leave.
 use Rattle.sqlite.specs.Held.{state}
-use Rattle.bank_store.proofs.Opened.{stands_earlier}
+use Rattle.bank_store.proofs.JustOpened.{stands_earlier}
 use Rattle.bank_store.proofs.laws.opened_earlier_law.Goals as goal
 
 pub returns : goal.returns

@@ -25,8 +25,8 @@ returns-in_default g c =
     let new = state g.S.Store c.count_tables.new.conn in
     record {
       told = λ clean.
-          let told = of_earlier c.args.from c.behind_meta.result.now old new c.in_ok-count_tables.field-0
-          c.behind_meta.ensures (there.told clean) in
+          let told = of_earlier c.args.from c.after_meta.result.now old new c.in_ok-count_tables.field-0
+          c.after_meta.ensures (there.told clean) in
           (some_lacking c.args.from old.now c.in_ok-count_tables.field-0 c.in_default.not-Whole told.0, told.1);
       looks = record { cause = tt; mode = there.looks.mode; survives = there.looks.survives };
     }
@@ -42,7 +42,7 @@ returns-in_err-settled_meta g c =
       told = λ clean.
           let there =
           subst (λ (p : Presence). IsPresent old.now (earlier_probes c.args.from) p × IsAsBefore old mid) c.in-Whole.is
-          (of_earlier c.args.from c.behind_meta.result.now old mid c.in_ok-count_tables.field-0 c.behind_meta.ensures
+          (of_earlier c.args.from c.after_meta.result.now old mid c.in_ok-count_tables.field-0 c.after_meta.ensures
           (c.in_ok-count_tables.ensures.told (still_clean e.ensures.looks.survives clean))) in
           missed old mid new there.1 (MissesEarlier c.args.from old.now) tt (λ none other. (there.0, none, other))
           e.field-0.0 e.ensures.reads.fault (e.ensures.reads.told clean) (e.ensures.reads.other clean)
@@ -60,7 +60,7 @@ returns-in-Some-clause-told g c clean =
     let read = c.in_ok-settled_meta.ensures in
     let there =
     subst (λ (p : Presence). IsPresent old.now (earlier_probes c.args.from) p × IsAsBefore old mid) c.in-Whole.is
-    (of_earlier c.args.from c.behind_meta.result.now old mid c.in_ok-count_tables.field-0 c.behind_meta.ensures
+    (of_earlier c.args.from c.after_meta.result.now old mid c.in_ok-count_tables.field-0 c.after_meta.ensures
     (c.in_ok-count_tables.ensures.told (still_clean read.looks.survives clean))) in
     counted c.args.from old mid new there.0 there.1 (read.same clean) c.in-Some.meta
     (λ rows has. sym c.in-Some.is ∙ read.reads.told clean rows has) c.check_count.result c.check_count.ensures

@@ -11,7 +11,7 @@ use Rattle.bank_store.specs.Migration.{HasCarriedOver, HasMoved, IsFrom}
 use Rattle.bank_store.proofs.{Causes.call_then, Causes.still_clean, FoundEarlier.unmoved_at, FoundEarlier.was_earlier}
 use Rattle.bank_store.proofs.migration.find_or_move.Goals as goal
 
--- a bank is moved behind a look at its version
+-- a bank is moved after a look at its version
 moves_on : {S X Y : Type 0} (g : Ghosts S) (old mid new : Held S) (version : ℤ) (from : ℕ) → IsFrom version from
     → (fault : OpenFault) → fault ≡ Version version
     → (HasCleanDisk (state g mid) → SeeksBank (state g old) (state g mid) (Err fault))

@@ -14,4 +14,4 @@ returns-in_err-put_requests g c =
 pub returns : goal.returns
 returns g c =
     let o = view c.args.overlay.now in
-    all_written o (requests_first o c.deref.ensures c.in_ok-put_requests.ensures.puts) c.write_behind.ensures
+    all_written o (requests_first o c.deref.ensures c.in_ok-put_requests.ensures.puts) c.write_after.ensures

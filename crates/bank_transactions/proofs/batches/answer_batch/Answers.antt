@@ -5,8 +5,8 @@ use Rattle.sqlite.specs.Held.{state}
 use Rattle.posting_batch.specs.View.{view}
 use Rattle.bank_transactions.proofs.Chained.{acts_read, does_adds, does_err}
 use Rattle.bank_transactions.proofs.Added.{adds_of_batch}
-use Rattle.bank_transactions.proofs.Answered.{answered_idle, answered_not, answered_written, counts_none}
-use Rattle.bank_transactions.proofs.Answered.{judging_all, ready}
+use Rattle.bank_transactions.proofs.JudgedSlots.{answered_idle, answered_not, answered_written, counts_none}
+use Rattle.bank_transactions.proofs.JudgedSlots.{judging_all, ready}
 use Rattle.bank_transactions.proofs.HeldBatch.{homes_made, in_turn}
 use Rattle.bank_transactions.proofs.LookUps.{does_look}
 use Rattle.bank_transactions.proofs.batches.answer_batch.Goals.{then-judged-before+in_ok-write}

@@ -15,7 +15,7 @@ use Rattle.store_rows.specs.Rules.{HoldsBank, RequestKeeps, StoredRows}
 use Rattle.store_rows.specs.Stored.{FindsStored, IsSameRequest}
 use Rattle.bank_transactions.specs.Stored.{HoldsKept, HoldsReference}
 use Rattle.bank_transactions.proofs.Broken.{delta_broken, request_broken}
-use Rattle.bank_transactions.proofs.ReadsInTurn.{behind_found, find_failed, find_tells, reads_both}
+use Rattle.bank_transactions.proofs.ReadsInTurn.{after_found, find_failed, find_tells, reads_both}
 use Rattle.bank_transactions.proofs.ReadsInTurn.{reads_told}
 use Rattle.bank_transactions.proofs.SoundRows.{is_a_request, request_is, request_unbroken}
 use Rattle.message_records.specs.declared.limits.TheConstants.{MAX_DELTA}
@@ -56,7 +56,7 @@ returns-then-is_none-clause-says g c = record {
 pub returns-in_err-reference-clause-says : goal.returns-in_err-reference-clause-says
 returns-in_err-reference-clause-says g c =
     let same : c.from_residual-in_err-reference.result ≡ Err c.in_err-reference.field-0.0 = search rules in
-    rw same (behind_found c.in_err-reference.field-0.0 c.in_ok-row.ensures c.in_err-reference.ensures.says)
+    rw same (after_found c.in_err-reference.field-0.0 c.in_ok-row.ensures c.in_err-reference.ensures.says)
 
 pub returns-clause-says : goal.returns-clause-says
 returns-clause-says g c =

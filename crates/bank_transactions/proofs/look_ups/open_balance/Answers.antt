@@ -8,7 +8,7 @@ use Rattle.store_rows.specs.Stored.{FindsStored, IsBranch}
 use Rattle.bank_transactions.proofs.FittingAccounts.{fits}
 use Rattle.store_rows.specs.declared.holders.Member.TheVariants.{Account}
 use Rattle.bank_transactions.proofs.FailedBalances.{balance_failed}
-use Rattle.bank_transactions.proofs.ReadsInTurn.{behind_found}
+use Rattle.bank_transactions.proofs.ReadsInTurn.{after_found}
 use Rattle.bank_transactions.proofs.look_ups.open_balance.Goals as goal
 
 pub returns-in_err-balance-clause-says : goal.returns-in_err-balance-clause-says
@@ -32,7 +32,7 @@ returns-then-is_some-is_open-clause-stored g c = tt
 pub returns-in_err-branch-clause-says : goal.returns-in_err-branch-clause-says
 returns-in_err-branch-clause-says g c =
     let same : c.from_residual-in_err-branch.result ≡ Err c.in_err-branch.field-0.0 = search rules in
-    rw same (behind_found c.in_err-branch.field-0.0 c.in_ok-balance.ensures c.in_err-branch.ensures.says)
+    rw same (after_found c.in_err-branch.field-0.0 c.in_ok-balance.ensures c.in_err-branch.ensures.says)
 
 pub returns-clause-stored : goal.returns-clause-stored
 returns-clause-stored g c clean =

@@ -12,8 +12,9 @@ use Rattle.bank_transactions.specs.Stored.{IsStoredTeller}
 use Rattle.message_records.specs.declared.limits.TheConstants.{MAX_TELLER}
 use Rattle.store_rows.specs.declared.holders.Member.TheVariants as member
 use Rattle.bank_transactions.proofs.FailedBalances.{balance_failed}
-use Rattle.bank_transactions.proofs.ReadsInTurn.{behind_found, one_alone, teller_alone, teller_told}
-use Rattle.bank_transactions.proofs.look_ups.teller_balances.Goals.{in_default-via-in-Some+in_default, in_default-via-in-None+in_default}
+use Rattle.bank_transactions.proofs.ReadsInTurn.{after_found, one_alone, teller_alone, teller_told}
+use Rattle.bank_transactions.proofs.look_ups.teller_balances.Goals.{in_default-via-in-Some+in_default}
+use Rattle.bank_transactions.proofs.look_ups.teller_balances.Goals.{in_default-via-in-None+in_default}
 use Rattle.bank_transactions.proofs.look_ups.teller_balances.Goals as goal
 
 -- what was found of a teller, and then of the branch of its number, in a database that stayed as it was
@@ -84,7 +85,7 @@ returns-in_default-clause-says g c =
 pub returns-in_err-branch-clause-says : goal.returns-in_err-branch-clause-says
 returns-in_err-branch-clause-says g c =
     let same : c.from_residual-in_err-branch.result ≡ Err c.in_err-branch.field-0.0 = search rules in
-    rw same (behind_found c.in_err-branch.field-0.0 c.in_ok-balance.ensures c.in_err-branch.ensures.says)
+    rw same (after_found c.in_err-branch.field-0.0 c.in_ok-balance.ensures c.in_err-branch.ensures.says)
 
 -- ---- of the stored rows
 

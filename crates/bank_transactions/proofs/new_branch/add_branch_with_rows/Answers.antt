@@ -26,7 +26,7 @@ use Rattle.bank_transactions.specs.Doing.{Does}
 use Rattle.bank_transactions.specs.NewRows.{is_taken, with_new_rows}
 use Rattle.bank_transactions.specs.declared.new_branch.NewRows.TheVariants.{Accounts, Tellers}
 use Rattle.bank_transactions.proofs.Chained.{does_adds, does_then, does_err, does_for}
-use Rattle.bank_transactions.proofs.Opened.{opened_is, next_teller, next_account}
+use Rattle.bank_transactions.proofs.OpeningRows.{opened_is, next_teller, next_account}
 use Rattle.bank_transactions.proofs.Statements.{does_add}
 use Rattle.bank_transactions.proofs.Left.{leaves_add, leaves_err, leaves_for, leaves_then}
 use Rattle.bank_transactions.specs.Doing.{Leaves}
@@ -63,7 +63,7 @@ module _ (b count : ℕ) where
         (inl (refl, ap (λ (z : ℤ). given (branch_entry (row z))) zero)) (λ t new. ap is_some new.1))
         (λ t new. (new, ap (λ (z : ℤ). with_branch (row z) t) zero, refl))
 
-    -- and its tellers behind it
+    -- and its tellers after it
     staff : {z : Transaction S} {r : Result (Unit {0}) TableFault} (teller : ℕ) → teller ≡ first_teller b
         → 1 ≤ b
         → Does {X = Unit {0}} g Its x y IsNew branched (λ _. tt {0}) (Ok (tt {0}))

@@ -3,7 +3,7 @@ use Rattle.std.proofs.Common.{◌≡◌, None, ap, rules, refl}
 use Rattle.std.specs.Prelude.{is_some, Some}
 use Rattle.posting_rules.specs.Changes.{with_floor}
 use Rattle.posting_rules.specs.Tables.{row_at, floor_key}
-use Rattle.posting_rules.proofs.Stepping.{no_floor_more}
+use Rattle.posting_rules.proofs.ChangesByKey.{no_floor_more}
 use Rattle.store_rows.specs.BankTables.{floor}
 use Rattle.store_rows.specs.SeveralRows.{given}
 use Rattle.store_rows.specs.View.{floor_entry}

@@ -3,7 +3,7 @@ use Rattle.std.proofs.Common.{◌≡◌, ℕ, ℤ, List, Option, Err, None, rule
 use Rattle.sqlite.specs.Order.{Row}
 use Rattle.bank_transactions.specs.Additions.{AddsBranch}
 use Rattle.posting_rules.specs.Commands.{opened_with}
-use Rattle.posting_rules.proofs.Stepping.{opening_floor_is_free}
+use Rattle.posting_rules.proofs.ChangesByKey.{opening_floor_is_free}
 use Rattle.posting_rules.specs.declared.limits.TheConstants.{TELLERS_PER_BRANCH}
 use Rattle.bank_transactions.proofs.Chained.{does_adds, does_err, does_for, does_then}
 use Rattle.bank_transactions.proofs.Left.{leaves_err, leaves_then}

@@ -5,8 +5,8 @@ use Rattle.sqlite.specs.State.{HasCleanDisk}
 use Rattle.posting_batch.specs.Judging.{found_over}
 use Rattle.posting_batch.specs.View.{view}
 use Rattle.bank_transactions.specs.Filling.{emptied}
-use Rattle.bank_transactions.proofs.Answered.{answered_idle, answered_not, answered_written, homes_one}
-use Rattle.bank_transactions.proofs.Answered.{judging_one, ready_one}
+use Rattle.bank_transactions.proofs.JudgedSlots.{answered_idle, answered_not, answered_written, homes_one}
+use Rattle.bank_transactions.proofs.JudgedSlots.{judging_one, ready_one}
 use Rattle.bank_transactions.proofs.Chained.{acts_read, does_adds, does_err}
 use Rattle.bank_transactions.proofs.Added.{adds_of_one}
 use Rattle.bank_transactions.proofs.HeldBatch.{found_stored}

@@ -1,4 +1,4 @@
--- What is kept of requests is filled behind the rest.
+-- What is kept of requests is filled after the rest.
 use Rattle.std.proofs.Common.{◌≡◌, Err, List, map, rules, arith, sym, ap, subst, ◌∙◌}
 use Rattle.std.specs.List.{AllByRecursion}
 use Rattle.sqlite.specs.Effect.{Database}
@@ -11,7 +11,7 @@ use Rattle.store_rows.specs.Rules.{HoldsBank}
 use Rattle.bank_transactions.specs.Filling.{RequestHeld, emptied_request}
 use Rattle.bank_transactions.proofs.HeldSlots.{emptied_kept, put_back}
 use Rattle.bank_transactions.proofs.LookUps.{reads_but, reads_err, reads_so}
-use Rattle.bank_transactions.proofs.Whole.{kept_behind, nothing_asked, plain, with_kept}
+use Rattle.bank_transactions.proofs.FilledBatch.{kept_after, nothing_asked, plain, with_kept}
 use Rattle.bank_transactions.proofs.slots.fill.Goals as goal
 
 pub returns-in_err-fill_known-clause-says : goal.returns-in_err-fill_known-clause-says
@@ -29,7 +29,7 @@ returns-clause-says g c =
     let p = view c.fill_known.new.overlay in
     let kv = c.fill_known.new.overlay.kept in
     let kept = ap (λ (v : SmallVec RequestSlot). v.items) c.in_ok-fill_known.ensures.new_rows.3 in
-    let all = kept_behind c.in_ok-fill_known.ensures.says (c.deref_mut.ensures.value ∙ kept)
+    let all = kept_after c.in_ok-fill_known.ensures.says (c.deref_mut.ensures.value ∙ kept)
     c.in_ok-fill_all.ensures.says in
     let held = ap (λ (slots : List RequestSlot). with_kept slots p)
     (put_back kv _ c.fill_all.new.slots c.deref_mut.ensures.value c.fill_all.auto.slots) in

@@ -18,9 +18,9 @@ use Rattle.smallvec.specs.SmallVec.{with_items}
 use Rattle.posting_batch.specs.View.{view}
 use Rattle.sqlite_trees.proofs.ListLemmas.{all_both}
 use Rattle.bank_transactions.proofs.LookUps.{reads_but, reads_so}
-use Rattle.bank_transactions.proofs.Whole.{accounts_in, accounts_ready, branches_in, count_in, floors_in}
-use Rattle.bank_transactions.proofs.Whole.{plain}
-use Rattle.bank_transactions.proofs.Whole.{nothing_asked, same_known, tellers_in, tellers_ready}
+use Rattle.bank_transactions.proofs.FilledBatch.{accounts_in, accounts_ready, branches_in, count_in, floors_in}
+use Rattle.bank_transactions.proofs.FilledBatch.{plain}
+use Rattle.bank_transactions.proofs.FilledBatch.{nothing_asked, same_known, tellers_in, tellers_ready}
 use Rattle.bank_transactions.proofs.slots.fill_known.Goals as goal
 
 pub returns-in_err-fill_all-clause-says : goal.returns-in_err-fill_all-clause-says

@@ -1,13 +1,13 @@
 use Rattle.std.proofs.Common.{◌≡◌, ◌+◌, ◌∷◌, ◌++◌, ◌∙◌, [], take, arith, refl}
 use Rattle.std.proofs.{lemmas.List.length-take-le, lemmas.List.take_more, lemmas.Result.err_from_is_err_and}
-use Rattle.posting_rules.proofs.CounterCalls.{call_idle_behind, call_refused_behind}
-use Rattle.branch_loader.proofs.Openings.{behind-idle, behind-more, behind-none, behind-refused, loaded_all}
+use Rattle.posting_rules.proofs.CounterCalls.{call_idle_after, call_refused_after}
+use Rattle.branch_loader.proofs.Openings.{after-idle, after-more, after-none, after-refused, loaded_all}
 use Rattle.branch_loader.proofs.Rows.{plan-short}
 use Rattle.branch_loader.proofs.loader.load.Goals as goal
 
 pub loop-row-init : goal.loop-row-init
 loop-row-init g c = record {
-  behind = behind-none g.C.Counter.seen c.args.counter.now;
+  after = after-none g.C.Counter.seen c.args.counter.now;
   spares = g.met.C.Counter.spares_itself c.args.counter.now;
 }
 
@@ -16,7 +16,7 @@ with_answer-loaded-requires g c =
     let rows = c.rows-row-items.result.now in
     let short = plan-short rows c.rows-row-items.ensures.plan in
     let front = length-take-le c.loop-row.row-index rows (omega arith) in
-    let sum = c.loop-row.invariant.behind.sum in
+    let sum = c.loop-row.invariant.after.sum in
     omega arith
 
 pub loop-row-preserved : goal.loop-row-preserved
@@ -27,9 +27,9 @@ loop-row-preserved g c =
     let more : take (i + 1) rows ≡ take i rows ++ p ∷ [] = take_more rows i p (omega arith) ∙ rw
     (← c.row-item.is) refl in
     record {
-      behind = rw (more, c.with_answer-loaded.ensures)
-          (behind-more g.C.Counter.seen c.args.counter.now c.loop-row.counter c.open_branch.new.self
-          (take i rows) p c.loop-row.loaded c.in_ok-opening.opening c.loop-row.invariant.behind
+      after = rw (more, c.with_answer-loaded.ensures)
+          (after-more g.C.Counter.seen c.args.counter.now c.loop-row.counter c.open_branch.new.self
+          (take i rows) p c.loop-row.loaded c.in_ok-opening.opening c.loop-row.invariant.after
           c.in_ok-opening.ensures.call.done c.in_ok-opening.ensures.answer
           (λ down. cc (c.in_ok-opening.ensures.call.down down)) c.in_ok-opening.ensures.call.up
           c.in_ok-opening.ensures.call.honest);
@@ -41,9 +41,9 @@ pub returns-in_err-opening-clause-fault : goal.returns-in_err-opening-clause-fau
 returns-in_err-opening-clause-fault g c =
     let rows = c.rows-row-items.result.now in
     let refused =
-    behind-refused g.C.Counter.seen c.args.counter.now c.loop-row.counter c.open_branch.new.self rows
+    after-refused g.C.Counter.seen c.args.counter.now c.loop-row.counter c.open_branch.new.self rows
     c.loop-row.row-index
-    c.row-item.result c.loop-row.loaded c.in_err-opening.field-0.0 c.loop-row.invariant.behind
+    c.row-item.result c.loop-row.loaded c.in_err-opening.field-0.0 c.loop-row.invariant.after
     (omega arith) c.row-item.is
     c.in_err-opening.ensures.call.fault c.in_err-opening.ensures.call.honest
     (λ down. let e = c.in_err-opening.ensures.call.down down in cc e) in
@@ -54,36 +54,36 @@ pub returns-in_err-opening-clause-why : goal.returns-in_err-opening-clause-why
 returns-in_err-opening-clause-why g c =
     let p = err_from_is_err_and c.from_residual.result c.from_residual.ensures.1 in
     rw (p.1, p.2)
-    (call_refused_behind g.C.Counter.seen g.C.Counter.reason c.args.counter.now c.loop-row.counter
-    c.open_branch.new.self _ c.loop-row.invariant.behind.taken c.loop-row.invariant.behind.honest
-    (behind-idle g.C.Counter.seen c.args.counter.now c.loop-row.counter _ _ c.loop-row.invariant.behind)
+    (call_refused_after g.C.Counter.seen g.C.Counter.reason c.args.counter.now c.loop-row.counter
+    c.open_branch.new.self _ c.loop-row.invariant.after.taken c.loop-row.invariant.after.honest
+    (after-idle g.C.Counter.seen c.args.counter.now c.loop-row.counter _ _ c.loop-row.invariant.after)
     c.in_err-opening.field-0.0 g.C.Counter.contents _ c.in_err-opening.ensures.call)
 
 -- a counter that was down
 pub returns-in_err-opening-clause-idle : goal.returns-in_err-opening-clause-idle
 returns-in_err-opening-clause-idle g c =
-    call_idle_behind g.C.Counter.seen c.args.counter.now c.loop-row.counter
-    (behind-idle g.C.Counter.seen c.args.counter.now c.loop-row.counter _ _ c.loop-row.invariant.behind)
+    call_idle_after g.C.Counter.seen c.args.counter.now c.loop-row.counter
+    (after-idle g.C.Counter.seen c.args.counter.now c.loop-row.counter _ _ c.loop-row.invariant.after)
     g.C.Counter.contents g.C.Counter.reason c.open_branch.new.self _ _ c.open_branch.ensures.call
 
 pub returns-clause-idle : goal.returns-clause-idle
 returns-clause-idle g c =
-    behind-idle g.C.Counter.seen c.args.counter.now c.loop-row.counter _ _ c.loop-row.invariant.behind
+    after-idle g.C.Counter.seen c.args.counter.now c.loop-row.counter _ _ c.loop-row.invariant.after
 
 pub returns-clause-done : goal.returns-clause-done
 returns-clause-done g c =
     loaded_all g.C.Counter.seen c.args.counter.now c.loop-row.counter c.rows-row-items.result.now
     c.args.plan.now c.loop-row.row-index c.loop-row.loaded
-    c.loop-row.invariant.behind c.loop-row-test.false c.rows-row-items.ensures.rows
+    c.loop-row.invariant.after c.loop-row-test.false c.rows-row-items.ensures.rows
 
 -- what no call of the counter touches
 pub returns-in_err-opening-clause-spared : goal.returns-in_err-opening-clause-spared
 returns-in_err-opening-clause-spared g c = record {
-  honest = λ h. c.loop-row.invariant.behind.honest (c.in_err-opening.ensures.call.honest h);
+  honest = λ h. c.loop-row.invariant.after.honest (c.in_err-opening.ensures.call.honest h);
   others = g.met.C.Counter.spares_then c.args.counter.now c.loop-row.counter c.open_branch.new.self
       c.loop-row.invariant.spares c.in_err-opening.ensures.spares;
 }
 
 pub returns-clause-spared : goal.returns-clause-spared
 returns-clause-spared g c =
-    record { honest = c.loop-row.invariant.behind.honest; others = c.loop-row.invariant.spares }
+    record { honest = c.loop-row.invariant.after.honest; others = c.loop-row.invariant.spares }

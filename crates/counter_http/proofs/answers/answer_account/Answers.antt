@@ -2,7 +2,7 @@ use Rattle.std.proofs.Common.{◌∙◌, ap, [], Some, None, refl, inr}
 use Rattle.posting_rules.specs.declared.fault.Fault.TheVariants.{Memory}
 use Rattle.posting_rules.proofs.CounterCalls.{unchanged_seen}
 use Rattle.counter_http.specs.{Answers.plain, Next.asked, Telling.said}
-use Rattle.counter_http.proofs.Answered.{told_answer, account_told, told_refused, refused_first, why_first}
+use Rattle.counter_http.proofs.AnsweredTurns.{told_answer, account_told, told_refused, refused_first, why_first}
 use Rattle.counter_http.proofs.answers.answer_account.Goals as goal
 
 -- it isn't open
@@ -40,7 +40,7 @@ returns-in-Err-clause-answers g c =
     (why_first seen g.C.Counter.contents g.C.Counter.reason old new [] _ call)
     (λ down. call.untried (call.down down)) c.fail.ensures.written c.fail.ensures.ends
 
--- memory was refused behind it
+-- memory was refused after it
 pub returns-in-Err-line_of_account-clause-answers : goal.returns-in-Err-line_of_account-clause-answers
 returns-in-Err-line_of_account-clause-answers g c =
     let seen = g.C.Counter.seen in

@@ -1,6 +1,6 @@
 use Rattle.std.proofs.Common.{◌∙◌, ap, sym, []}
 use Rattle.counter_http.specs.{Answers.plain, Next.asked}
-use Rattle.counter_http.proofs.Answered.{told_answer, told_refused}
+use Rattle.counter_http.proofs.AnsweredTurns.{told_answer, told_refused}
 use Rattle.counter_http.proofs.answers.answer_branches.Goals as goal
 
 pub returns-in-Ok-clause-answers : goal.returns-in-Ok-clause-answers

@@ -4,7 +4,7 @@ use Rattle.std.specs.Int.{w128}
 use Rattle.std.proofs.lemmas.Result.{err_from_is_err_and}
 use Rattle.posting_core.proofs.{Streaming.at_ok, Streaming.nothing_read, Through.through_batch, Through.through_first}
 use Rattle.posting_core.proofs.Telling.{made_many, made_none, made_one, other_kind, read_failed}
-use Rattle.posting_rules.proofs.CounterCalls.{idle_behind}
+use Rattle.posting_rules.proofs.CounterCalls.{idle_after}
 use Rattle.counter_http.specs.{declared.fault.ServeFault.TheVariants.Write, Messages.No_head, Next.IsUnfinished}
 use Rattle.counter_http.proofs.ConnectionLoop.{going_filled, message_long, unfinished_none, range_all, range_next}
 use Rattle.counter_http.proofs.ConnectionLoop.{range_long}
@@ -12,7 +12,7 @@ use Rattle.counter_http.proofs.Prompts.{HasRead, has_failed, has_read, message_o
 use Rattle.counter_http.proofs.Prompts.{read_on}
 use Rattle.counter_http.proofs.Connected.{end_finished, end_unread, end_closed, short_read, hopeless_walk, end_told}
 use Rattle.counter_http.proofs.Connected.{end_untold}
-use Rattle.counter_http.proofs.{Answered.why_behind, BrokenOff.end_broken, Sent.ended_at, Sent.sent_broken}
+use Rattle.counter_http.proofs.{AnsweredTurns.why_after, BrokenOff.end_broken, Sent.ended_at, Sent.sent_broken}
 use Rattle.counter_http.proofs.connection.serve.Goals as goal
 use Rattle.counter_http.proofs.connection.serve.Goals.{in-Ok, in-Err}
 
@@ -91,9 +91,9 @@ returns-clause-served g c =
 pub returns-in-Err-2-clause-served : goal.returns-in-Err-2-clause-served
 returns-in-Err-2-clause-served g c =
     end_unread g.C.Counter.seen c.args.bank.now c.reads.bank _
-    (going_filled c.reads.buffer c.fill_beside.new.buffer c.reads.filled c.reads.filled 0
+    (going_filled c.reads.buffer c.fill_buffer_beside.new.buffer c.reads.filled c.reads.filled 0
     c.reads.invariant.prompted.going
-    (nothing_read _ _ c.reads.buffer c.fill_beside.new.buffer c.reads.filled c.in-Err.ensures.err)
+    (nothing_read _ _ c.reads.buffer c.fill_buffer_beside.new.buffer c.reads.filled c.in-Err.ensures.err)
     (same_place c.reads.filled c.reads.filled 0 refl refl))
     (unfinished_none _ (subst (λ (t : List ℕ). IsUnfinished t c.reads.shows_body) (sym c.in-Err.ensures.err.1)
     c.reads.invariant.waits)) c.reads.invariant.idle
@@ -104,37 +104,37 @@ returns-in-Ok-eq0-clause-served g c =
     let n = c.in-Ok-eq0.field-0 in
     let none : c.in-Ok-eq0.field-0 ≡ 0 = c.in-Ok-eq0.field-0-test in
     let empty : c.reads.filled ≡ 0 = c.if-filled-eq0.true in
-    end_finished g.C.Counter.seen c.args.bank.now c.reads.bank (take c.reads.filled c.fill_beside.new.buffer)
-    (going_filled c.reads.buffer c.fill_beside.new.buffer c.reads.filled c.reads.filled n
+    end_finished g.C.Counter.seen c.args.bank.now c.reads.bank (take c.reads.filled c.fill_buffer_beside.new.buffer)
+    (going_filled c.reads.buffer c.fill_buffer_beside.new.buffer c.reads.filled c.reads.filled n
     c.reads.invariant.prompted.going
-    (at_ok _ c.fill_beside.result n c.in-Ok-eq0.is c.fill_beside.ensures.ok)
+    (at_ok _ c.fill_buffer_beside.result n c.in-Ok-eq0.is c.fill_buffer_beside.ensures.ok)
     (same_place c.reads.filled c.reads.filled n refl none))
-    (ended_at c.fill_beside.result n c.reads.invariant.made c.fill_beside.ensures.tells c.in-Ok-eq0.is none
-    c.fill_beside.ensures.end) (rw empty refl) c.reads.invariant.idle
+    (ended_at c.fill_buffer_beside.result n c.reads.invariant.made c.fill_buffer_beside.ensures.tells c.in-Ok-eq0.is none
+    c.fill_buffer_beside.ensures.end) (rw empty refl) c.reads.invariant.idle
 
 pub returns-in-Ok-eq0-2-clause-served : goal.returns-in-Ok-eq0-2-clause-served
 returns-in-Ok-eq0-2-clause-served g c =
     let short =
-    short_read c.reads.buffer c.fill_beside.new.buffer c.reads.filled c.in-Ok-eq0.field-0 c.fill_beside.result
+    short_read c.reads.buffer c.fill_buffer_beside.new.buffer c.reads.filled c.in-Ok-eq0.field-0 c.fill_buffer_beside.result
     c.reads.invariant.prompted.going
-    c.in-Ok-eq0.is c.in-Ok-eq0.field-0-test c.fill_beside.ensures.ok c.fill_beside.ensures.end c.reads.invariant.made
-    c.fill_beside.ensures.tells (some_held c.reads.filled c.if-filled-eq0.false)
+    c.in-Ok-eq0.is c.in-Ok-eq0.field-0-test c.fill_buffer_beside.ensures.ok c.fill_buffer_beside.ensures.end c.reads.invariant.made
+    c.fill_buffer_beside.ensures.tells (some_held c.reads.filled c.if-filled-eq0.false)
     (held_within c.reads.filled (length c.reads.buffer) c.reads.invariant.few c.reads.invariant.room)
-    (sym c.fill_beside.auto.buffer)
+    (sym c.fill_buffer_beside.auto.buffer)
     c.reads.invariant.waits in
     end_told g.C.Counter.seen c.args.bank.now c.reads.bank c.reads.shows_body _
-    (take c.reads.filled c.fill_beside.new.buffer)
+    (take c.reads.filled c.fill_buffer_beside.new.buffer)
     short.0 short.1 c.in_ok-refuse-in-Ok-eq0-2.ensures.written refl c.reads.invariant.idle
 
 pub returns-in_err-refuse-in-Ok-eq0-2-clause-served : goal.returns-in_err-refuse-in-Ok-eq0-2-clause-served
 returns-in_err-refuse-in-Ok-eq0-2-clause-served g c =
     let short =
-    short_read c.reads.buffer c.fill_beside.new.buffer c.reads.filled c.in-Ok-eq0.field-0 c.fill_beside.result
+    short_read c.reads.buffer c.fill_buffer_beside.new.buffer c.reads.filled c.in-Ok-eq0.field-0 c.fill_buffer_beside.result
     c.reads.invariant.prompted.going
-    c.in-Ok-eq0.is c.in-Ok-eq0.field-0-test c.fill_beside.ensures.ok c.fill_beside.ensures.end c.reads.invariant.made
-    c.fill_beside.ensures.tells (some_held c.reads.filled c.if-filled-eq0.false)
+    c.in-Ok-eq0.is c.in-Ok-eq0.field-0-test c.fill_buffer_beside.ensures.ok c.fill_buffer_beside.ensures.end c.reads.invariant.made
+    c.fill_buffer_beside.ensures.tells (some_held c.reads.filled c.if-filled-eq0.false)
     (held_within c.reads.filled (length c.reads.buffer) c.reads.invariant.few c.reads.invariant.room)
-    (sym c.fill_beside.auto.buffer)
+    (sym c.fill_buffer_beside.auto.buffer)
     c.reads.invariant.waits in
     let told = err_from_is_err_and c.from_residual.result c.from_residual.ensures.1 in
     let w = c.in_err-refuse-in-Ok-eq0-2.ensures.written in
@@ -142,36 +142,36 @@ returns-in_err-refuse-in-Ok-eq0-2-clause-served g c =
     cc (c.in_err-refuse-in-Ok-eq0-2.ensures.fault) in
     rw (told.1, told.2, write) (end_untold g.C.Counter.seen c.args.bank.now c.reads.bank c.reads.shows_body
     w.0
-    (take c.reads.filled c.fill_beside.new.buffer) short.0 short.1 w.1 c.reads.invariant.idle)
+    (take c.reads.filled c.fill_buffer_beside.new.buffer) short.0 short.1 w.1 c.reads.invariant.idle)
 
 -- ---- messages
 
 pub messages-init : goal.messages-init
 messages-init g c =
-    let long : length c.fill_beside.new.buffer ≡ 12_288 = c.fill_beside.auto.buffer ∙ c.reads.invariant.room in
+    let long : length c.fill_buffer_beside.new.buffer ≡ 12_288 = c.fill_buffer_beside.auto.buffer ∙ c.reads.invariant.room in
     let held = held_within c.reads.filled (length c.reads.buffer) c.reads.invariant.few c.reads.invariant.room in
-    let read : HasRead (g.R.Source.remaining c.reads.reader) (g.R.Source.remaining c.fill_beside.new.reader)
-    c.fill_beside.result (take c.reads.filled c.reads.buffer)
-    (take c.match-fill_beside.filled c.fill_beside.new.buffer) =
-    elim c.match-fill_beside.branch [
-      | in-Ok w ↦ has_read c.reads.buffer c.fill_beside.new.buffer c.reads.filled c.match-fill_beside.filled
-          w.in-Ok.n c.fill_beside.result w.in-Ok.is w.in-Ok.ensures.fits held w.in-Ok.ensures.ok w.filled-is
-      | in-Err w ↦ has_failed c.reads.buffer c.fill_beside.new.buffer c.reads.filled
-          c.match-fill_beside.filled c.fill_beside.result w.in-Err.e w.in-Err.is w.in-Err.ensures.err w.filled-is
+    let read : HasRead (g.R.Source.remaining c.reads.reader) (g.R.Source.remaining c.fill_buffer_beside.new.reader)
+    c.fill_buffer_beside.result (take c.reads.filled c.reads.buffer)
+    (take c.match-fill_buffer_beside.filled c.fill_buffer_beside.new.buffer) =
+    elim c.match-fill_buffer_beside.branch [
+      | in-Ok w ↦ has_read c.reads.buffer c.fill_buffer_beside.new.buffer c.reads.filled c.match-fill_buffer_beside.filled
+          w.in-Ok.n c.fill_buffer_beside.result w.in-Ok.is w.in-Ok.ensures.fits held w.in-Ok.ensures.ok w.filled-is
+      | in-Err w ↦ has_failed c.reads.buffer c.fill_buffer_beside.new.buffer c.reads.filled
+          c.match-fill_buffer_beside.filled c.fill_buffer_beside.result w.in-Err.e w.in-Err.is w.in-Err.ensures.err w.filled-is
     ] in
-    let prompted = read_on _ (take c.match-fill_beside.filled c.fill_beside.new.buffer) c.fill_beside.result
+    let prompted = read_on _ (take c.match-fill_buffer_beside.filled c.fill_buffer_beside.new.buffer) c.fill_buffer_beside.result
     c.reads.invariant.prompted (unfinished_none _ c.reads.invariant.waits) c.reads.invariant.through read
-    c.fill_beside.ensures.tells c.fill_beside.ensures.beside in
-    let fits : c.match-fill_beside.filled ≤ 12_288 =
-    elim c.match-fill_beside.branch [
-      | in-Ok w ↦ read_fits c.reads.filled w.in-Ok.n c.match-fill_beside.filled
-          (length c.fill_beside.new.buffer) w.in-Ok.ensures.fits long w.filled-is
-      | in-Err w ↦ kept_fits c.reads.filled c.match-fill_beside.filled c.reads.invariant.few w.filled-is
+    c.fill_buffer_beside.ensures.tells c.fill_buffer_beside.ensures.beside in
+    let fits : c.match-fill_buffer_beside.filled ≤ 12_288 =
+    elim c.match-fill_buffer_beside.branch [
+      | in-Ok w ↦ read_fits c.reads.filled w.in-Ok.n c.match-fill_buffer_beside.filled
+          (length c.fill_buffer_beside.new.buffer) w.in-Ok.ensures.fits long w.filled-is
+      | in-Err w ↦ kept_fits c.reads.filled c.match-fill_buffer_beside.filled c.reads.invariant.few w.filled-is
     ] in
     record {
-      order = (from_none c.match-fill_beside.filled c.reads.served).0;
+      order = (from_none c.match-fill_buffer_beside.filled c.reads.served).0;
       fits = fits;
-      bound = (from_none c.match-fill_beside.filled c.reads.served).1;
+      bound = (from_none c.match-fill_buffer_beside.filled c.reads.served).1;
       prompted = rw range_all prompted;
       idle = c.reads.invariant.idle;
       spares = c.reads.invariant.spares;
@@ -181,20 +181,20 @@ messages-init g c =
 pub messages-smaller : goal.messages-smaller
 messages-smaller g c =
     let long = message_long c.in-Message.ensures in
-    let fits : c.match-fill_beside.filled ≤ length c.fill_beside.new.buffer =
-    rw (c.fill_beside.auto.buffer ∙ c.reads.invariant.room) c.messages.invariant.fits in
-    let all = range_long c.fill_beside.new.buffer c.messages.used c.match-fill_beside.filled fits in
-    fewer_left c.messages.used c.in-Message.message.length c.match-fill_beside.filled _ long.0 long.1 all
+    let fits : c.match-fill_buffer_beside.filled ≤ length c.fill_buffer_beside.new.buffer =
+    rw (c.fill_buffer_beside.auto.buffer ∙ c.reads.invariant.room) c.messages.invariant.fits in
+    let all = range_long c.fill_buffer_beside.new.buffer c.messages.used c.match-fill_buffer_beside.filled fits in
+    fewer_left c.messages.used c.in-Message.message.length c.match-fill_buffer_beside.filled _ long.0 long.1 all
     c.messages.invariant.order
 
 pub messages-preserved : goal.messages-preserved
 messages-preserved g c =
     let long = message_long c.in-Message.ensures in
-    let fits : c.match-fill_beside.filled ≤ length c.fill_beside.new.buffer =
-    rw (c.fill_beside.auto.buffer ∙ c.reads.invariant.room) c.messages.invariant.fits in
-    let all = range_long c.fill_beside.new.buffer c.messages.used c.match-fill_beside.filled fits in
-    let order : c.messages.used + c.in-Message.message.length ≤ c.match-fill_beside.filled =
-    message_within c.messages.used c.in-Message.message.length c.match-fill_beside.filled _ long.1 all
+    let fits : c.match-fill_buffer_beside.filled ≤ length c.fill_buffer_beside.new.buffer =
+    rw (c.fill_buffer_beside.auto.buffer ∙ c.reads.invariant.room) c.messages.invariant.fits in
+    let all = range_long c.fill_buffer_beside.new.buffer c.messages.used c.match-fill_buffer_beside.filled fits in
+    let order : c.messages.used + c.in-Message.message.length ≤ c.match-fill_buffer_beside.filled =
+    message_within c.messages.used c.in-Message.message.length c.match-fill_buffer_beside.filled _ long.1 all
     c.messages.invariant.order in
     let answered = c.in_ok-answer_message-in-Message.ensures.answers in
     record {
@@ -204,10 +204,10 @@ messages-preserved g c =
           c.messages.invariant.bound long.0;
       prompted = message_on g.C.Counter.seen c.messages.bank c.answer_message.new.bank _ _ _
           c.in-Message.message c.messages.invariant.prompted c.in-Message.ensures c.if-message.false
-          (range_next c.fill_beside.new.buffer c.messages.used c.in-Message.message.length
-          c.match-fill_beside.filled order)
+          (range_next c.fill_buffer_beside.new.buffer c.messages.used c.in-Message.message.length
+          c.match-fill_buffer_beside.filled order)
           refl answered;
-      idle = idle_behind g.C.Counter.seen c.args.bank.now c.messages.bank c.messages.invariant.idle
+      idle = idle_after g.C.Counter.seen c.args.bank.now c.messages.bank c.messages.invariant.idle
           c.answer_message.new.bank answered.dealt.idle;
       spares = g.met.C.Counter.spares_then c.args.bank.now c.messages.bank c.answer_message.new.bank
           c.messages.invariant.spares c.in_ok-answer_message-in-Message.ensures.spares;
@@ -250,21 +250,21 @@ returns-in-Refused-clause-served g c =
 
 pub reads-preserved : goal.reads-preserved
 reads-preserved g c =
-    let fits : c.match-fill_beside.filled ≤ length c.fill_beside.new.buffer =
-    rw (c.fill_beside.auto.buffer ∙ c.reads.invariant.room) c.messages.invariant.fits in
-    let all = range_long c.fill_beside.new.buffer c.messages.used c.match-fill_beside.filled fits in
+    let fits : c.match-fill_buffer_beside.filled ≤ length c.fill_buffer_beside.new.buffer =
+    rw (c.fill_buffer_beside.auto.buffer ∙ c.reads.invariant.room) c.messages.invariant.fits in
+    let all = range_long c.fill_buffer_beside.new.buffer c.messages.used c.match-fill_buffer_beside.filled fits in
     let moved = c.move_to_front.ensures in
     record {
-      few = few_left c.messages.used c.match-fill_beside.filled _ all c.in-Unfinished.ensures.room;
-      room = c.move_to_front.auto.buffer ∙ c.fill_beside.auto.buffer ∙ c.reads.invariant.room;
-      bound = after_read c.reads.served c.messages.served c.messages.used c.match-fill_beside.filled
+      few = few_left c.messages.used c.match-fill_buffer_beside.filled _ all c.in-Unfinished.ensures.room;
+      room = c.move_to_front.auto.buffer ∙ c.fill_buffer_beside.auto.buffer ∙ c.reads.invariant.room;
+      bound = after_read c.reads.served c.messages.served c.messages.used c.match-fill_buffer_beside.filled
           c.reads.counter c.messages.invariant.bound c.messages.invariant.order c.messages.invariant.fits
           c.reads.invariant.bound;
       waits = rw moved c.in-Unfinished.ensures;
       prompted = rw moved c.messages.invariant.prompted;
       idle = c.messages.invariant.idle;
       spares = c.messages.invariant.spares;
-      made = made_one _ _ c.reads.invariant.made c.fill_beside.ensures.tells refl;
+      made = made_one _ _ c.reads.invariant.made c.fill_buffer_beside.ensures.tells refl;
       through = c.messages.invariant.through;
     }
 
@@ -275,7 +275,7 @@ returns-clause-ends g c = (inr (made_many c.reads.invariant.made (omega arith)),
 
 pub returns-in-Err-2-clause-ends : goal.returns-in-Err-2-clause-ends
 returns-in-Err-2-clause-ends g c = (
-  read_failed c.fill_beside.result c.in-Err.e c.reads.invariant.made c.fill_beside.ensures.tells c.in-Err.is
+  read_failed c.fill_buffer_beside.result c.in-Err.e c.reads.invariant.made c.fill_buffer_beside.ensures.tells c.in-Err.is
       (other_kind c.kind.result c.in-Err.e c.if-eq.ensures c.kind.ensures),
   c.reads.invariant.through,
 )
@@ -325,53 +325,53 @@ returns-clause-prompt g c = prompt_so_far (λ h. h) c.reads.invariant.prompted
 pub returns-in-Err-2-clause-prompt : goal.returns-in-Err-2-clause-prompt
 returns-in-Err-2-clause-prompt g c =
     let old = c.reads.buffer in
-    let new = c.fill_beside.new.buffer in
-    prompt_so_far (λ h. h) (read_on _ (take c.reads.filled new) c.fill_beside.result c.reads.invariant.prompted
+    let new = c.fill_buffer_beside.new.buffer in
+    prompt_so_far (λ h. h) (read_on _ (take c.reads.filled new) c.fill_buffer_beside.result c.reads.invariant.prompted
     (unfinished_none _ c.reads.invariant.waits) c.reads.invariant.through
-    (has_failed old new c.reads.filled c.reads.filled c.fill_beside.result c.in-Err.e c.in-Err.is
-    c.in-Err.ensures.err refl) c.fill_beside.ensures.tells c.fill_beside.ensures.beside)
+    (has_failed old new c.reads.filled c.reads.filled c.fill_buffer_beside.result c.in-Err.e c.in-Err.is
+    c.in-Err.ensures.err refl) c.fill_buffer_beside.ensures.tells c.fill_buffer_beside.ensures.beside)
 
 pub returns-in-Ok-eq0-clause-prompt : goal.returns-in-Ok-eq0-clause-prompt
 returns-in-Ok-eq0-clause-prompt g c =
     let n = c.in-Ok-eq0.field-0 in
     let old = c.reads.buffer in
-    let new = c.fill_beside.new.buffer in
-    prompt_so_far (λ h. h) (read_on _ (take c.reads.filled new) c.fill_beside.result c.reads.invariant.prompted
+    let new = c.fill_buffer_beside.new.buffer in
+    prompt_so_far (λ h. h) (read_on _ (take c.reads.filled new) c.fill_buffer_beside.result c.reads.invariant.prompted
     (unfinished_none _ c.reads.invariant.waits) c.reads.invariant.through
-    (has_read old new c.reads.filled c.reads.filled n c.fill_beside.result c.in-Ok-eq0.is
-    (at_ok _ c.fill_beside.result n c.in-Ok-eq0.is c.fill_beside.ensures.fits)
+    (has_read old new c.reads.filled c.reads.filled n c.fill_buffer_beside.result c.in-Ok-eq0.is
+    (at_ok _ c.fill_buffer_beside.result n c.in-Ok-eq0.is c.fill_buffer_beside.ensures.fits)
     (held_within c.reads.filled (length old) c.reads.invariant.few c.reads.invariant.room)
-    (at_ok _ c.fill_beside.result n c.in-Ok-eq0.is c.fill_beside.ensures.ok)
+    (at_ok _ c.fill_buffer_beside.result n c.in-Ok-eq0.is c.fill_buffer_beside.ensures.ok)
     (same_place c.reads.filled c.reads.filled n refl c.in-Ok-eq0.field-0-test))
-    c.fill_beside.ensures.tells c.fill_beside.ensures.beside)
+    c.fill_buffer_beside.ensures.tells c.fill_buffer_beside.ensures.beside)
 
 pub returns-in-Ok-eq0-2-clause-prompt : goal.returns-in-Ok-eq0-2-clause-prompt
 returns-in-Ok-eq0-2-clause-prompt g c =
     let n = c.in-Ok-eq0.field-0 in
     let old = c.reads.buffer in
-    let new = c.fill_beside.new.buffer in
-    prompt_so_far (λ h. h) (read_on _ (take c.reads.filled new) c.fill_beside.result c.reads.invariant.prompted
+    let new = c.fill_buffer_beside.new.buffer in
+    prompt_so_far (λ h. h) (read_on _ (take c.reads.filled new) c.fill_buffer_beside.result c.reads.invariant.prompted
     (unfinished_none _ c.reads.invariant.waits) c.reads.invariant.through
-    (has_read old new c.reads.filled c.reads.filled n c.fill_beside.result c.in-Ok-eq0.is
-    (at_ok _ c.fill_beside.result n c.in-Ok-eq0.is c.fill_beside.ensures.fits)
+    (has_read old new c.reads.filled c.reads.filled n c.fill_buffer_beside.result c.in-Ok-eq0.is
+    (at_ok _ c.fill_buffer_beside.result n c.in-Ok-eq0.is c.fill_buffer_beside.ensures.fits)
     (held_within c.reads.filled (length old) c.reads.invariant.few c.reads.invariant.room)
-    (at_ok _ c.fill_beside.result n c.in-Ok-eq0.is c.fill_beside.ensures.ok)
+    (at_ok _ c.fill_buffer_beside.result n c.in-Ok-eq0.is c.fill_buffer_beside.ensures.ok)
     (same_place c.reads.filled c.reads.filled n refl c.in-Ok-eq0.field-0-test))
-    c.fill_beside.ensures.tells c.fill_beside.ensures.beside)
+    c.fill_buffer_beside.ensures.tells c.fill_buffer_beside.ensures.beside)
 
 pub returns-in_err-refuse-in-Ok-eq0-2-clause-prompt : goal.returns-in_err-refuse-in-Ok-eq0-2-clause-prompt
 returns-in_err-refuse-in-Ok-eq0-2-clause-prompt g c =
     let n = c.in-Ok-eq0.field-0 in
     let old = c.reads.buffer in
-    let new = c.fill_beside.new.buffer in
-    prompt_so_far (λ h. h) (read_on _ (take c.reads.filled new) c.fill_beside.result c.reads.invariant.prompted
+    let new = c.fill_buffer_beside.new.buffer in
+    prompt_so_far (λ h. h) (read_on _ (take c.reads.filled new) c.fill_buffer_beside.result c.reads.invariant.prompted
     (unfinished_none _ c.reads.invariant.waits) c.reads.invariant.through
-    (has_read old new c.reads.filled c.reads.filled n c.fill_beside.result c.in-Ok-eq0.is
-    (at_ok _ c.fill_beside.result n c.in-Ok-eq0.is c.fill_beside.ensures.fits)
+    (has_read old new c.reads.filled c.reads.filled n c.fill_buffer_beside.result c.in-Ok-eq0.is
+    (at_ok _ c.fill_buffer_beside.result n c.in-Ok-eq0.is c.fill_buffer_beside.ensures.fits)
     (held_within c.reads.filled (length old) c.reads.invariant.few c.reads.invariant.room)
-    (at_ok _ c.fill_beside.result n c.in-Ok-eq0.is c.fill_beside.ensures.ok)
+    (at_ok _ c.fill_buffer_beside.result n c.in-Ok-eq0.is c.fill_buffer_beside.ensures.ok)
     (same_place c.reads.filled c.reads.filled n refl c.in-Ok-eq0.field-0-test))
-    c.fill_beside.ensures.tells c.fill_beside.ensures.beside)
+    c.fill_buffer_beside.ensures.tells c.fill_buffer_beside.ensures.beside)
 
 pub returns-in_err-answer_message-in-Message-clause-prompt :
     goal.returns-in_err-answer_message-in-Message-clause-prompt
@@ -390,27 +390,27 @@ returns-in-Refused-clause-prompt g c = prompt_so_far (λ h. h) c.messages.invari
 
 -- ---- numbers that fit, and what the calls require
 
-pub fill_beside-requires : goal.fill_beside-requires
-fill_beside-requires g c = rw c.reads.invariant.room c.reads.invariant.few
+pub fill_buffer_beside-requires : goal.fill_buffer_beside-requires
+fill_buffer_beside-requires g c = rw c.reads.invariant.room c.reads.invariant.few
 
 pub overflow_add-result : goal.overflow_add-result
 overflow_add-result g c = next_fits c.reads.served c.reads.counter c.reads.invariant.bound c.reads-test.true
 
 pub overflow_add-filled : goal.overflow_add-filled
 overflow_add-filled g c =
-    place_fits (c.reads.filled + c.in-Ok.n) (length c.fill_beside.new.buffer) c.in-Ok.ensures.fits
-    (c.fill_beside.auto.buffer ∙ c.reads.invariant.room)
+    place_fits (c.reads.filled + c.in-Ok.n) (length c.fill_buffer_beside.new.buffer) c.in-Ok.ensures.fits
+    (c.fill_buffer_beside.auto.buffer ∙ c.reads.invariant.room)
 
 pub overflow_add-served : goal.overflow_add-served
 overflow_add-served g c =
     let m = c.messages.invariant in
-    message_fits c.reads.served c.messages.served c.messages.used c.match-fill_beside.filled c.reads.counter
+    message_fits c.reads.served c.messages.served c.messages.used c.match-fill_buffer_beside.filled c.reads.counter
     m.bound m.order m.fits c.reads.invariant.bound c.reads-test.true
 
 pub overflow_add-result-in-Refused : goal.overflow_add-result-in-Refused
 overflow_add-result-in-Refused g c =
     let m = c.messages.invariant in
-    message_fits c.reads.served c.messages.served c.messages.used c.match-fill_beside.filled c.reads.counter
+    message_fits c.reads.served c.messages.served c.messages.used c.match-fill_buffer_beside.filled c.reads.counter
     m.bound m.order m.fits c.reads.invariant.bound c.reads-test.true
 
 pub move_to_front-requires-clause-order : goal.move_to_front-requires-clause-order
@@ -418,18 +418,18 @@ move_to_front-requires-clause-order g c = c.messages.invariant.order
 
 pub move_to_front-requires-clause-within : goal.move_to_front-requires-clause-within
 move_to_front-requires-clause-within g c =
-    rw (c.fill_beside.auto.buffer ∙ c.reads.invariant.room) c.messages.invariant.fits
+    rw (c.fill_buffer_beside.auto.buffer ∙ c.reads.invariant.room) c.messages.invariant.fits
 
 pub overflow_sub-filled : goal.overflow_sub-filled
 overflow_sub-filled g c = c.messages.invariant.order
 
 pub overflow_add-used : goal.overflow_add-used
 overflow_add-used g c =
-    let fits : c.match-fill_beside.filled ≤ length c.fill_beside.new.buffer =
-    rw (c.fill_beside.auto.buffer ∙ c.reads.invariant.room) c.messages.invariant.fits in
-    used_fits c.messages.used c.in-Message.message.length c.match-fill_beside.filled _
+    let fits : c.match-fill_buffer_beside.filled ≤ length c.fill_buffer_beside.new.buffer =
+    rw (c.fill_buffer_beside.auto.buffer ∙ c.reads.invariant.room) c.messages.invariant.fits in
+    used_fits c.messages.used c.in-Message.message.length c.match-fill_buffer_beside.filled _
     (message_long c.in-Message.ensures).1
-    (range_long c.fill_beside.new.buffer c.messages.used c.match-fill_beside.filled fits)
+    (range_long c.fill_buffer_beside.new.buffer c.messages.used c.match-fill_buffer_beside.filled fits)
     c.messages.invariant.order c.messages.invariant.fits
 
 -- ---- why a call was refused
@@ -441,7 +441,7 @@ returns-in_err-answer_message-in-Message-clause-why g c =
     c.from_residual-in_err-answer_message-in-Message.ensures.1 in
     let before = c.messages.invariant.prompted.going.answered in
     rw (told.1, told.2)
-    (why_behind g.C.Counter.seen g.C.Counter.reason c.args.bank.now c.messages.bank c.answer_message.new.bank
+    (why_after g.C.Counter.seen g.C.Counter.reason c.args.bank.now c.messages.bank c.answer_message.new.bank
     _ before.takes before.honest c.messages.invariant.idle c.in_err-answer_message-in-Message.field-0.0
     c.in_err-answer_message-in-Message.ensures.answers.dealt.why)
 

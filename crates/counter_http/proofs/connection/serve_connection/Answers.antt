@@ -1,7 +1,7 @@
 use Rattle.std.proofs.Common.{Err}
 use Rattle.counter_http.specs.declared.fault.ServeFault.TheVariants.{Memory}
 use Rattle.posting_core.proofs.Telling.{adds-none}
-use Rattle.counter_http.proofs.{Connected.untouched, Prompts.prompt_none, Written.output_of, Written.survives_of}
+use Rattle.counter_http.proofs.{Connected.untouched, Prompts.prompt_none, Outputs.output_of, Outputs.survives_of}
 use Rattle.counter_http.proofs.connection.serve_connection.Goals as goal
 
 -- memory for the routes was refused

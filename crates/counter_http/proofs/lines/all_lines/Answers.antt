@@ -2,7 +2,7 @@ use Rattle.std.proofs.Common.{◌++◌, ℕ, List, [], Option, Some, refl, ap, s
 use Rattle.std.specs.Prelude.{IfSome}
 use Rattle.std.proofs.lemmas.Result.{err_from_is_err_and}
 use Rattle.posting_rules.specs.{declared.counter.BranchLine.BranchLine, Branches.IsNextBranch, Branches.IsLineAbove}
-use Rattle.posting_rules.proofs.CounterCalls.{call_idle_behind, call_refused_behind}
+use Rattle.posting_rules.proofs.CounterCalls.{call_idle_after, call_refused_after}
 use Rattle.counter_http.specs.Answers.{lines_up_to}
 use Rattle.counter_http.proofs.Listed.{asking_more, asking_refused, asking_full, next_line, all_listed}
 use Rattle.counter_http.proofs.lines.all_lines.Goals as goal
@@ -76,7 +76,7 @@ returns-in_err-line-clause-why g c =
     let asking = c.loop-body.invariant.asking in
     let p = err_from_is_err_and c.from_residual.result c.from_residual.ensures.1 in
     rw (p.1, p.2)
-    (inl (call_refused_behind g.C.Counter.seen g.C.Counter.reason c.args.bank.now c.loop-body.bank
+    (inl (call_refused_after g.C.Counter.seen g.C.Counter.reason c.args.bank.now c.loop-body.bank
     c.next_branch.new.self [] asking.takes asking.honest asking.idle c.in_err-line.field-0.0
     g.C.Counter.contents _ c.in_err-line.ensures.call))
 
@@ -96,22 +96,22 @@ returns-in_err-push_str-clause-why g c =
 
 pub returns-in_err-line-clause-idle : goal.returns-in_err-line-clause-idle
 returns-in_err-line-clause-idle g c =
-    call_idle_behind g.C.Counter.seen c.args.bank.now c.loop-body.bank c.loop-body.invariant.asking.idle
+    call_idle_after g.C.Counter.seen c.args.bank.now c.loop-body.bank c.loop-body.invariant.asking.idle
     g.C.Counter.contents g.C.Counter.reason c.next_branch.new.self _ _ c.next_branch.ensures.call
 
 pub returns-in_err-line_of_branch-clause-idle : goal.returns-in_err-line_of_branch-clause-idle
 returns-in_err-line_of_branch-clause-idle g c =
-    call_idle_behind g.C.Counter.seen c.args.bank.now c.loop-body.bank c.loop-body.invariant.asking.idle
+    call_idle_after g.C.Counter.seen c.args.bank.now c.loop-body.bank c.loop-body.invariant.asking.idle
     g.C.Counter.contents g.C.Counter.reason c.next_branch.new.self _ _ c.next_branch.ensures.call
 
 pub returns-in_err-push_str-clause-idle : goal.returns-in_err-push_str-clause-idle
 returns-in_err-push_str-clause-idle g c =
-    call_idle_behind g.C.Counter.seen c.args.bank.now c.loop-body.bank c.loop-body.invariant.asking.idle
+    call_idle_after g.C.Counter.seen c.args.bank.now c.loop-body.bank c.loop-body.invariant.asking.idle
     g.C.Counter.contents g.C.Counter.reason c.next_branch.new.self _ _ c.next_branch.ensures.call
 
 pub returns-clause-idle : goal.returns-clause-idle
 returns-clause-idle g c =
-    call_idle_behind g.C.Counter.seen c.args.bank.now c.loop-body.bank c.loop-body.invariant.asking.idle
+    call_idle_after g.C.Counter.seen c.args.bank.now c.loop-body.bank c.loop-body.invariant.asking.idle
     g.C.Counter.contents g.C.Counter.reason c.next_branch.new.self _ _ c.next_branch.ensures.call
 
 -- ---- what no call of the bank touches

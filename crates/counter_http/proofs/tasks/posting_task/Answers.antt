@@ -1,6 +1,6 @@
 use Rattle.std.proofs.Common.{◌∙◌, sym}
 use Rattle.counter_http.specs.Next.{asked}
-use Rattle.counter_http.proofs.Answered.{not_as_long}
+use Rattle.counter_http.proofs.AnsweredTurns.{not_as_long}
 use Rattle.counter_http.proofs.tasks.posting_task.Goals as goal
 
 pub returns-in-None : goal.returns-in-None

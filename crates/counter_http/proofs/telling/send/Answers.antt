@@ -1,5 +1,5 @@
 use Rattle.std.proofs.Common.{◌≡◌, sym, true, false}
-use Rattle.counter_http.proofs.Sent.{sent_behind, taken_as}
+use Rattle.counter_http.proofs.Sent.{sent_after, taken_as}
 use Rattle.counter_http.proofs.PartsWritten.{told_part, told_all, holding, telling}
 use Rattle.counter_http.proofs.telling.send.Goals as goal
 
@@ -19,5 +19,5 @@ returns-clause-text g c before text t =
 pub returns-clause-ends : goal.returns-clause-ends
 returns-clause-ends g c before h =
     let going : c.args.going ≡ true = cc c.if-not-going.false in
-    sent_behind _ _ _ c.write_out.result (taken_as _ _ going h) c.write_out.ensures.flushed
+    sent_after _ _ _ c.write_out.result (taken_as _ _ going h) c.write_out.ensures.flushed
     c.write_out.ensures.failed

@@ -1,5 +1,5 @@
 use Rattle.posting_core.proofs.InMemory.{shows_plain}
-use Rattle.counter_once.proofs.Answered.{two_are_commands, answered, faulted}
+use Rattle.counter_once.proofs.First.{two_are_commands, answered, faulted}
 use Rattle.counter_once.specs.First.{two_branches}
 use Rattle.counter_once.proofs.once.answer_first.Goals as goal
 

@@ -1,7 +1,7 @@
 use Rattle.std.proofs.Common.{◌≡◌, [], rules}
 use Rattle.posting_core.specs.Plain.{plain_tables}
 use Rattle.posting_core.proofs.InMemory.{plain_shows, shows_plain}
-use Rattle.counter_once.proofs.Answered.{numbered}
+use Rattle.counter_once.proofs.First.{numbered}
 use Rattle.counter_once.proofs.once.two_branches.Goals as goal
 
 pub returns-clause-shows : goal.returns-clause-shows

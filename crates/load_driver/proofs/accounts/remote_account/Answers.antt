@@ -1,5 +1,5 @@
 use Rattle.std.proofs.Common.{◌<◌, ◌≤◌, arith, sym}
-use Rattle.load_driver.proofs.Remote.{go-behind, go-home, go-other}
+use Rattle.load_driver.proofs.Remote.{go-after, go-home, go-other}
 use Rattle.load_driver.proofs.accounts.remote_account.Goals as goal
 use Rattle.load_driver.proofs.accounts.remote_account.Goals.{then-get+else-left-accounts, else-get}
 
@@ -18,7 +18,7 @@ loop-row-preserved c = elim c.if-get.branch [
       let ne = rw (c.get-in-loop-row.ensures.value, c.get.ensures.value) at w.if-get.true in
       let le : c.row-item.result.1 ≤ c.loop-row.left = omega arith in
       rw (w.left-is, c.from-accounts.ensures)
-      (go-behind c.args.rows.now c.loop-row.row-index c.row-item.result c.args.branch c.args.place
+      (go-after c.args.rows.now c.loop-row.row-index c.row-item.result c.args.branch c.args.place
       c.loop-row.left (omega arith)
       c.row-item.is ne le c.loop-row.invariant)
   | else-get w ↦

@@ -1,4 +1,4 @@
-use Rattle.load_driver.proofs.Steps.{four}
+use Rattle.load_driver.proofs.DrivenRecords.{four}
 use Rattle.load_driver.proofs.draws.take_words.Goals as goal
 
 pub returns : goal.returns

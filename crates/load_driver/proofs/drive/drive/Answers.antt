@@ -2,7 +2,7 @@ use Rattle.std.proofs.Common.{◌≡◌, ◌+◌, ℕ, length, drop, ap, ◌∙�
 use Rattle.std.proofs.lemmas.{List.length-append, List.length-drop, List.length-map, Result.err_from_is_err_and}
 use Rattle.posting_rules.specs.Runs.{posts}
 use Rattle.load_driver.specs.Counts.{Driving}
-use Rattle.posting_rules.proofs.CounterCalls.{refused_behind}
+use Rattle.posting_rules.proofs.CounterCalls.{refused_after}
 use Rattle.load_driver.proofs.DriveLoop.{end_done, end_refused, going_first, going_on, part_of, up_refused}
 use Rattle.load_driver.proofs.drive.drive.Goals as goal
 
@@ -88,7 +88,7 @@ returns-in_err-posted-clause-why g c =
     let going = c.loop-left.invariant.going in
     let p = err_from_is_err_and c.from_residual.result c.from_residual.ensures.1 in
     rw (p.1, p.2)
-    (inl (refused_behind g.C.Counter.seen g.C.Counter.reason c.args.counter.now c.loop-left.counter
+    (inl (refused_after g.C.Counter.seen g.C.Counter.reason c.args.counter.now c.loop-left.counter
     c.submit_batch.new.counter _ going.takes going.honest (λ down. absurd (c.requires.up down))
     c.in_err-posted.field-0.0
     c.in_err-posted.ensures.why))

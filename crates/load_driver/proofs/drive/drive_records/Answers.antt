@@ -2,7 +2,7 @@ use Rattle.std.proofs.Common.{◌≡◌, Err, sym, ap, subst, ◌∙◌}
 use Rattle.std.proofs.lemmas.Result.{err_from_is_err_and}
 use Rattle.load_driver.specs.{declared.drive_fault.DriveFault.TheVariants.NoBranches, Drives.MayRefuse}
 use Rattle.load_driver.proofs.DriveEnds.{drives, ended_empty, ended_unlisted, none_listed, none_open, on_ok, resends}
-use Rattle.load_driver.proofs.DriveEnds.{up_behind, up_empty, up_unlisted, why_behind, why_empty}
+use Rattle.load_driver.proofs.DriveEnds.{up_of_drive, up_empty, up_unlisted, why_after, why_empty}
 use Rattle.load_driver.proofs.drive.drive_records.Goals as goal
 
 -- the branches weren't listed
@@ -85,11 +85,11 @@ returns-in_err-driver-clause-why g c =
     c.in_ok-plan.ensures.done.up)
 
 pub returns-clause-up : goal.returns-clause-up
-returns-clause-up g c = up_behind c.drive.result _ _ c.drive.ensures.up
+returns-clause-up g c = up_of_drive c.drive.result _ _ c.drive.ensures.up
 
 pub returns-clause-why : goal.returns-clause-why
 returns-clause-why g c =
-    why_behind g.C.Counter.seen g.C.Counter.reason c.args.counter.now c.list_branches.new.counter
+    why_after g.C.Counter.seen g.C.Counter.reason c.args.counter.now c.list_branches.new.counter
     c.drive.new.counter c.in_ok-plan.ensures.done.takes c.in_ok-plan.ensures.done.honest
     (λ down. absurd (let e = c.in_ok-plan.ensures.down.1 down in cc e)) c.drive.result
     c.drive.ensures.why

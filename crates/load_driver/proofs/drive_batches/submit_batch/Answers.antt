@@ -2,7 +2,7 @@ use Rattle.std.proofs.Common.{◌≡◌, ◌≤◌, [], length, refl, ap, ◌∙
 use Rattle.std.specs.Prelude.{count_by}
 use Rattle.std.proofs.{lemmas.List.length-map, lemmas.List.Sums.count_by-le-length, lemmas.Result.err_from_is_err_and}
 use Rattle.posting_rules.specs.Runs.{posts}
-use Rattle.posting_rules.proofs.CounterCalls.{call_refused_behind, takes_none}
+use Rattle.posting_rules.proofs.CounterCalls.{call_refused_after, takes_none}
 use Rattle.load_driver.specs.Counted.{is_posted}
 use Rattle.load_driver.proofs.Counted.{counted}
 use Rattle.load_driver.proofs.drive_batches.submit_batch.Goals as goal
@@ -37,5 +37,5 @@ returns-in_err-replies-clause-why g c =
     let old = c.args.counter.now in
     let p = err_from_is_err_and c.from_residual.result c.from_residual.ensures.1 in
     rw (p.1, p.2)
-    (call_refused_behind seen g.C.Counter.reason old old c.submit_all.new.self [] (takes_none (seen old))
+    (call_refused_after seen g.C.Counter.reason old old c.submit_all.new.self [] (takes_none (seen old))
     (λ h. h) (λ down. refl) c.in_err-replies.field-0.0 g.C.Counter.contents _ c.in_err-replies.ensures.call)

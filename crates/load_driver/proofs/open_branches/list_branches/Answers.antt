@@ -3,7 +3,7 @@ use Rattle.std.proofs.lemmas.Result.{err_from_is_err_and}
 use Rattle.posting_rules.specs.{Branches.IsLineAbove, Branches.IsNextBranch, Counter.Refuses}
 use Rattle.branch_loader.specs.Plans.{Rows}
 use Rattle.posting_rules.specs.declared.fault.Fault.{Fault, TheVariants.Memory}
-use Rattle.posting_rules.proofs.CounterCalls.{Takes-append, call_idle_behind, call_refused_behind}
+use Rattle.posting_rules.proofs.CounterCalls.{Takes-append, call_idle_after, call_refused_after}
 use Rattle.load_driver.proofs.Listed.{Listing, listing_first, listing_more, listing_all}
 use Rattle.load_driver.proofs.open_branches.list_branches.Goals as goal
 
@@ -44,7 +44,7 @@ returns-in_err-push-clause-fault g c =
       honest = λ h. h;
       takes = takes;
       refuses = record { tables = λ t h. h; down = λ d. d; left = λ remains left. (remains, left, λ t h. h) };
-      idle = call_idle_behind seen c.args.counter.now c.loop-rows.counter c.loop-rows.invariant.listing.idle
+      idle = call_idle_after seen c.args.counter.now c.loop-rows.counter c.loop-rows.invariant.listing.idle
           g.C.Counter.contents g.C.Counter.reason c.next_branch.new.self _ _ c.next_branch.ensures.call;
     })
 
@@ -57,7 +57,7 @@ returns-in_err-line-clause-fault g c =
       honest = c.in_err-line.ensures.call.honest;
       takes = c.loop-rows.invariant.listing.takes;
       refuses = c.in_err-line.ensures.call.fault;
-      idle = call_idle_behind g.C.Counter.seen c.args.counter.now c.loop-rows.counter
+      idle = call_idle_after g.C.Counter.seen c.args.counter.now c.loop-rows.counter
           c.loop-rows.invariant.listing.idle g.C.Counter.contents g.C.Counter.reason c.next_branch.new.self _ _
           c.next_branch.ensures.call;
     })
@@ -107,7 +107,7 @@ pub returns-in_err-line-clause-why : goal.returns-in_err-line-clause-why
 returns-in_err-line-clause-why g c =
     let p = err_from_is_err_and c.from_residual.result c.from_residual.ensures.1 in
     rw (p.1, p.2)
-    (inl (call_refused_behind g.C.Counter.seen g.C.Counter.reason c.args.counter.now c.loop-rows.counter
+    (inl (call_refused_after g.C.Counter.seen g.C.Counter.reason c.args.counter.now c.loop-rows.counter
     c.next_branch.new.self [] c.loop-rows.invariant.listing.takes c.loop-rows.invariant.listing.honest
     c.loop-rows.invariant.listing.idle c.in_err-line.field-0.0 g.C.Counter.contents _ c.in_err-line.ensures.call))
 

@@ -1,6 +1,6 @@
 -- Writing digits from the last one.
 use Rattle.std.proofs.Common.{arith, ◌∙◌}
-use Rattle.message_records.proofs.Written.{digit_step, digits_done}
+use Rattle.message_records.proofs.DraftedFields.{digit_step, digits_done}
 use Rattle.message_records.proofs.draft.put_digits.Goals as goal
 
 pub loop-place-preserved : goal.loop-place-preserved

@@ -1,4 +1,4 @@
--- Two tests, of the text and of the spaces behind it, are one.
+-- Two tests, of the text and of the spaces after it, are one.
 use Rattle.std.proofs.Common.{sym, ◌∙◌}
 use Rattle.message_records.proofs.Filled.{filled_where_spaces, filled_nowhere}
 use Rattle.message_records.proofs.reading.is_filled.Goals as goal

@@ -1,4 +1,4 @@
--- Each field is read behind those before it, up to the first faulty one.
+-- Each field is read after those before it, up to the first faulty one.
 use Rattle.std.proofs.Common.{rules, ◌≡◌, ◌∙◌, Err}
 use Rattle.message_records.proofs.FirstFaults.{outcome_read, tag_faulty, outcome_faulty, request_faulty}
 use Rattle.message_records.proofs.FirstFaults.{balance_faulty, name_faulty, filler_faulty, parts_found}

@@ -1,4 +1,4 @@
--- Five fields, one behind another.
+-- Five fields, one after another.
 use Rattle.std.proofs.Common.{rules, ◌∙◌}
 use Rattle.std.proofs.lemmas.Int.{to_z-of_z}
 use mir.Val.{SFits}

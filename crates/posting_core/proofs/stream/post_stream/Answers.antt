@@ -8,7 +8,7 @@ use Rattle.posting_core.proofs.Followed.{following_batch, following_first, follo
 use Rattle.posting_core.proofs.Followed.{gave_none, gave_some, up_to}
 use Rattle.posting_core.specs.{Batches.Batch, Stream.given, Told.read_told}
 use Rattle.posting_rules.specs.declared.limits.TheConstants.{RECORDS_PER_BATCH}
-use Rattle.posting_rules.proofs.CounterCalls.{idle_behind}
+use Rattle.posting_rules.proofs.CounterCalls.{idle_after}
 use Rattle.posting_core.proofs.Streaming.{going_first, going_filled, going_on, nothing_read, at_ok, few_left}
 use Rattle.posting_core.proofs.StreamEnds.{end_whole, end_in_record, end_unread, end_broken}
 use Rattle.posting_core.proofs.Telling.{made_many, made_none, made_one, other_kind, read_ended, read_failed}
@@ -54,18 +54,18 @@ returns g c =
 -- the reader failed
 pub returns-in-Err-2 : goal.returns-in-Err-2
 returns-in-Err-2 g c =
-    let long : length c.fill_beside.new.buffer ≡ BUFFER = omega
-    (arith, c.fill_beside.auto.buffer, c.reads.invariant.room) in
+    let long : length c.fill_buffer_beside.new.buffer ≡ BUFFER = omega
+    (arith, c.fill_buffer_beside.auto.buffer, c.reads.invariant.room) in
     let s =
-    end_unread _ (going_filled c.reads.buffer c.fill_beside.new.buffer c.reads.filled c.reads.filled 0
+    end_unread _ (going_filled c.reads.buffer c.fill_buffer_beside.new.buffer c.reads.filled c.reads.filled 0
     c.reads.invariant.going
-    (nothing_read _ _ c.reads.buffer c.fill_beside.new.buffer c.reads.filled c.in-Err.ensures.err) (omega arith))
-    (few_left c.reads.filled c.fill_beside.new.buffer c.reads.invariant.few long)
+    (nothing_read _ _ c.reads.buffer c.fill_buffer_beside.new.buffer c.reads.filled c.in-Err.ensures.err) (omega arith))
+    (few_left c.reads.filled c.fill_buffer_beside.new.buffer c.reads.invariant.few long)
     (following_read _ _ _ c.reads.filled c.reads.filled c.reads.invariant.following (up_to c.reads.filled
     c.reads.invariant.going
     c.reads.invariant.few c.reads.invariant.through)
-    c.fill_beside.ensures.tells c.fill_beside.ensures.beside
-    (omega (arith, gave_none c.fill_beside.result c.in-Err.e c.in-Err.is)) c.reads.invariant.few) in
+    c.fill_buffer_beside.ensures.tells c.fill_buffer_beside.ensures.beside
+    (omega (arith, gave_none c.fill_buffer_beside.result c.in-Err.e c.in-Err.is)) c.reads.invariant.few) in
     record {
       batches = s;
       output = output_of _ s.did;
@@ -75,7 +75,7 @@ returns-in-Err-2 g c =
       down = record { up = λ down. (c.reads.invariant.up down).0; idle = c.reads.invariant.idle };
       spares = c.reads.invariant.spares;
       ends = (
-        read_failed c.fill_beside.result c.in-Err.e c.reads.invariant.made c.fill_beside.ensures.tells c.in-Err.is
+        read_failed c.fill_buffer_beside.result c.in-Err.e c.reads.invariant.made c.fill_buffer_beside.ensures.tells c.in-Err.is
             (other_kind c.kind.result c.in-Err.e c.if-eq.ensures c.kind.ensures),
         c.reads.invariant.through,
       );
@@ -86,19 +86,19 @@ pub returns-in-Ok-eq0 : goal.returns-in-Ok-eq0
 returns-in-Ok-eq0 g c =
     let n = c.in-Ok-eq0.field-0 in
     let none : c.in-Ok-eq0.field-0 ≡ 0 = c.in-Ok-eq0.field-0-test in
-    let ended = read_ended c.fill_beside.result n c.reads.invariant.made c.fill_beside.ensures.tells
+    let ended = read_ended c.fill_buffer_beside.result n c.reads.invariant.made c.fill_buffer_beside.ensures.tells
     c.in-Ok-eq0.is none in
     let empty : c.reads.filled ≡ 0 = c.if-filled-eq0.true in
     let s =
-    end_whole (take c.reads.filled c.fill_beside.new.buffer)
-    (going_filled c.reads.buffer c.fill_beside.new.buffer c.reads.filled c.reads.filled n c.reads.invariant.going
-    (at_ok _ c.fill_beside.result n c.in-Ok-eq0.is c.fill_beside.ensures.ok) (omega arith))
-    (at_ok _ c.fill_beside.result n c.in-Ok-eq0.is c.fill_beside.ensures.end none) (rw empty refl)
+    end_whole (take c.reads.filled c.fill_buffer_beside.new.buffer)
+    (going_filled c.reads.buffer c.fill_buffer_beside.new.buffer c.reads.filled c.reads.filled n c.reads.invariant.going
+    (at_ok _ c.fill_buffer_beside.result n c.in-Ok-eq0.is c.fill_buffer_beside.ensures.ok) (omega arith))
+    (at_ok _ c.fill_buffer_beside.result n c.in-Ok-eq0.is c.fill_buffer_beside.ensures.end none) (rw empty refl)
     (following_read _ _ _ c.reads.filled c.reads.filled c.reads.invariant.following (up_to c.reads.filled
     c.reads.invariant.going
     c.reads.invariant.few c.reads.invariant.through)
-    c.fill_beside.ensures.tells c.fill_beside.ensures.beside
-    (omega (arith, gave_some c.fill_beside.result n c.in-Ok-eq0.is)) c.reads.invariant.few) in
+    c.fill_buffer_beside.ensures.tells c.fill_buffer_beside.ensures.beside
+    (omega (arith, gave_some c.fill_buffer_beside.result n c.in-Ok-eq0.is)) c.reads.invariant.few) in
     record {
       batches = s;
       output = output_of _ s.did;
@@ -114,21 +114,21 @@ pub returns-in-Ok-eq0-2 : goal.returns-in-Ok-eq0-2
 returns-in-Ok-eq0-2 g c =
     let n = c.in-Ok-eq0.field-0 in
     let none : c.in-Ok-eq0.field-0 ≡ 0 = c.in-Ok-eq0.field-0-test in
-    let ended = read_ended c.fill_beside.result n c.reads.invariant.made c.fill_beside.ensures.tells
+    let ended = read_ended c.fill_buffer_beside.result n c.reads.invariant.made c.fill_buffer_beside.ensures.tells
     c.in-Ok-eq0.is none in
-    let within : c.reads.filled ≤ length c.fill_beside.new.buffer = omega
-    (arith, c.reads.invariant.few, c.fill_beside.auto.buffer, c.reads.invariant.room) in
+    let within : c.reads.filled ≤ length c.fill_buffer_beside.new.buffer = omega
+    (arith, c.reads.invariant.few, c.fill_buffer_beside.auto.buffer, c.reads.invariant.room) in
     let s =
-    end_in_record (take c.reads.filled c.fill_beside.new.buffer) c.reads.filled
-    (going_filled c.reads.buffer c.fill_beside.new.buffer c.reads.filled c.reads.filled n c.reads.invariant.going
-    (at_ok _ c.fill_beside.result n c.in-Ok-eq0.is c.fill_beside.ensures.ok) (omega arith))
-    (at_ok _ c.fill_beside.result n c.in-Ok-eq0.is c.fill_beside.ensures.end none)
-    (length-take-le c.reads.filled c.fill_beside.new.buffer within) (omega arith) c.reads.invariant.few
+    end_in_record (take c.reads.filled c.fill_buffer_beside.new.buffer) c.reads.filled
+    (going_filled c.reads.buffer c.fill_buffer_beside.new.buffer c.reads.filled c.reads.filled n c.reads.invariant.going
+    (at_ok _ c.fill_buffer_beside.result n c.in-Ok-eq0.is c.fill_buffer_beside.ensures.ok) (omega arith))
+    (at_ok _ c.fill_buffer_beside.result n c.in-Ok-eq0.is c.fill_buffer_beside.ensures.end none)
+    (length-take-le c.reads.filled c.fill_buffer_beside.new.buffer within) (omega arith) c.reads.invariant.few
     (following_read _ _ _ c.reads.filled c.reads.filled c.reads.invariant.following (up_to c.reads.filled
     c.reads.invariant.going
     c.reads.invariant.few c.reads.invariant.through)
-    c.fill_beside.ensures.tells c.fill_beside.ensures.beside
-    (omega (arith, gave_some c.fill_beside.result n c.in-Ok-eq0.is)) c.reads.invariant.few) in
+    c.fill_buffer_beside.ensures.tells c.fill_buffer_beside.ensures.beside
+    (omega (arith, gave_some c.fill_buffer_beside.result n c.in-Ok-eq0.is)) c.reads.invariant.few) in
     record {
       batches = s;
       output = output_of _ s.did;
@@ -146,23 +146,23 @@ returns-in_err-reply_to_batch g c =
     let fault = c.in_err-reply_to_batch.field-0.0 in
     let told = err_from_is_err_and c.from_residual.result c.from_residual.ensures.1 in
     let a = c.in_err-reply_to_batch.ensures.answers in
-    let long : length c.fill_beside.new.buffer ≡ BUFFER = omega
-    (arith, c.fill_beside.auto.buffer, c.reads.invariant.room) in
+    let long : length c.fill_buffer_beside.new.buffer ≡ BUFFER = omega
+    (arith, c.fill_buffer_beside.auto.buffer, c.reads.invariant.room) in
     let on =
-    going_on c.reads.buffer c.fill_beside.new.buffer c.reads.filled c.match-fill_beside.filled c.reads.invariant.going
+    going_on c.reads.buffer c.fill_buffer_beside.new.buffer c.reads.filled c.match-fill_buffer_beside.filled c.reads.invariant.going
     c.reads.invariant.few long
-    (elim c.match-fill_beside.branch [
+    (elim c.match-fill_buffer_beside.branch [
       | in-Ok w ↦ inl (w.in-Ok.n, w.in-Ok.ensures.ok, omega (arith, w.in-Ok.ensures.fits), w.filled-is)
       | in-Err w ↦ inr (w.in-Err.ensures.err, w.filled-is)
     ]) in
-    let len : length (take c.match-fill_beside.filled c.fill_beside.new.buffer) ≡ c.match-fill_beside.filled =
-    length-take-le c.match-fill_beside.filled c.fill_beside.new.buffer on.1 in
-    let cut = cut_into (take c.match-fill_beside.filled c.fill_beside.new.buffer) c.as_chunks.result.0.now
+    let len : length (take c.match-fill_buffer_beside.filled c.fill_buffer_beside.new.buffer) ≡ c.match-fill_buffer_beside.filled =
+    length-take-le c.match-fill_buffer_beside.filled c.fill_buffer_beside.new.buffer on.1 in
+    let cut = cut_into (take c.match-fill_buffer_beside.filled c.fill_buffer_beside.new.buffer) c.as_chunks.result.0.now
     c.as_chunks.result.1.now c.as_chunks.ensures.front c.as_chunks.ensures.back in
-    let gave : c.reads.filled + given (read_told c.fill_beside.result ∷ []) ≡ c.match-fill_beside.filled =
-    elim c.match-fill_beside.branch [
-      | in-Ok w ↦ omega (arith, gave_some c.fill_beside.result w.in-Ok.n w.in-Ok.is, w.filled-is)
-      | in-Err w ↦ omega (arith, gave_none c.fill_beside.result w.in-Err.e w.in-Err.is, w.filled-is)
+    let gave : c.reads.filled + given (read_told c.fill_buffer_beside.result ∷ []) ≡ c.match-fill_buffer_beside.filled =
+    elim c.match-fill_buffer_beside.branch [
+      | in-Ok w ↦ omega (arith, gave_some c.fill_buffer_beside.result w.in-Ok.n w.in-Ok.is, w.filled-is)
+      | in-Err w ↦ omega (arith, gave_none c.fill_buffer_beside.result w.in-Err.e w.in-Err.is, w.filled-is)
     ] in
     let rs = c.as_chunks.result.0.now in
     let left = length c.as_chunks.result.1.now in
@@ -170,12 +170,12 @@ returns-in_err-reply_to_batch g c =
     let few : length rs ≤ RECORDS_PER_BATCH = omega (arith, c.as_chunks.ensures.front_len, len, on.1, long) in
     let b : Batch = record { moment = a.0; records = rs } in
     let s =
-    end_broken fault a.0 (take c.match-fill_beside.filled c.fill_beside.new.buffer) c.as_chunks.result.1.now
+    end_broken fault a.0 (take c.match-fill_buffer_beside.filled c.fill_buffer_beside.new.buffer) c.as_chunks.result.1.now
     rs on.0 cut (some, few)
     (omega (arith, c.as_chunks.ensures.back_len)) a.1 c.in_err-reply_to_batch.ensures.honest a.2
     (following_batch _ b _ _ c.reads.filled left c.reads.invariant.following (up_to c.reads.filled
-    c.reads.invariant.going c.reads.invariant.few c.reads.invariant.through) c.fill_beside.ensures.tells
-    c.fill_beside.ensures.beside
+    c.reads.invariant.going c.reads.invariant.few c.reads.invariant.through) c.fill_buffer_beside.ensures.tells
+    c.fill_buffer_beside.ensures.beside
     (gave ∙ omega (arith, c.as_chunks.ensures.front_len, c.as_chunks.ensures.back_len, len))
     (omega (arith, c.as_chunks.ensures.back_len))) in
     rw (told.1, told.2) (record {
@@ -194,7 +194,7 @@ returns-in_err-reply_to_batch g c =
         up = up_broken _ _ (g.C.Counter.seen c.args.bank.now) (g.C.Counter.seen c.reads.bank)
             (g.C.Counter.seen c.reply_to_batch.new.bank) _ fault a.2 c.in_err-reply_to_batch.ensures.up
             (λ down. (c.reads.invariant.up down).0);
-        idle = idle_behind g.C.Counter.seen c.args.bank.now c.reads.bank c.reads.invariant.idle
+        idle = idle_after g.C.Counter.seen c.args.bank.now c.reads.bank c.reads.invariant.idle
             c.reply_to_batch.new.bank (λ down. (c.in_err-reply_to_batch.ensures.down down).1);
       };
       spares = g.met.C.Counter.spares_then c.args.bank.now c.reads.bank c.reply_to_batch.new.bank
@@ -205,19 +205,19 @@ returns-in_err-reply_to_batch g c =
 
 pub reads-preserved : goal.reads-preserved
 reads-preserved g c =
-    let long : length c.fill_beside.new.buffer ≡ BUFFER = omega
-    (arith, c.fill_beside.auto.buffer, c.reads.invariant.room) in
+    let long : length c.fill_buffer_beside.new.buffer ≡ BUFFER = omega
+    (arith, c.fill_buffer_beside.auto.buffer, c.reads.invariant.room) in
     let on =
-    going_on c.reads.buffer c.fill_beside.new.buffer c.reads.filled c.match-fill_beside.filled c.reads.invariant.going
+    going_on c.reads.buffer c.fill_buffer_beside.new.buffer c.reads.filled c.match-fill_buffer_beside.filled c.reads.invariant.going
     c.reads.invariant.few long
-    (elim c.match-fill_beside.branch [
+    (elim c.match-fill_buffer_beside.branch [
       | in-Ok w ↦ inl (w.in-Ok.n, w.in-Ok.ensures.ok, omega (arith, w.in-Ok.ensures.fits), w.filled-is)
       | in-Err w ↦ inr (w.in-Err.ensures.err, w.filled-is)
     ]) in
-    let gave : c.reads.filled + given (read_told c.fill_beside.result ∷ []) ≡ c.match-fill_beside.filled =
-    elim c.match-fill_beside.branch [
-      | in-Ok w ↦ omega (arith, gave_some c.fill_beside.result w.in-Ok.n w.in-Ok.is, w.filled-is)
-      | in-Err w ↦ omega (arith, gave_none c.fill_beside.result w.in-Err.e w.in-Err.is, w.filled-is)
+    let gave : c.reads.filled + given (read_told c.fill_buffer_beside.result ∷ []) ≡ c.match-fill_buffer_beside.filled =
+    elim c.match-fill_buffer_beside.branch [
+      | in-Ok w ↦ omega (arith, gave_some c.fill_buffer_beside.result w.in-Ok.n w.in-Ok.is, w.filled-is)
+      | in-Err w ↦ omega (arith, gave_none c.fill_buffer_beside.result w.in-Err.e w.in-Err.is, w.filled-is)
     ] in
     elim c.if-filled-ge-REQUEST_BYTES.branch [
       | then-filled-ge-REQUEST_BYTES+in_ok-reply_to_batch w ↦
@@ -225,9 +225,9 @@ reads-preserved g c =
           let rs = w.as_chunks.result.0.now in
           let left = length w.as_chunks.result.1.now in
           let after = w.move_to_front.new.buffer in
-          let len : length (take c.match-fill_beside.filled c.fill_beside.new.buffer) ≡ c.match-fill_beside.filled =
-          length-take-le c.match-fill_beside.filled c.fill_beside.new.buffer on.1 in
-          let cut = cut_and_moved c.fill_beside.new.buffer after c.match-fill_beside.filled left rs on.1
+          let len : length (take c.match-fill_buffer_beside.filled c.fill_buffer_beside.new.buffer) ≡ c.match-fill_buffer_beside.filled =
+          length-take-le c.match-fill_buffer_beside.filled c.fill_buffer_beside.new.buffer on.1 in
+          let cut = cut_and_moved c.fill_buffer_beside.new.buffer after c.match-fill_buffer_beside.filled left rs on.1
           w.as_chunks.ensures.front w.as_chunks.ensures.back_len w.move_to_front.ensures in
           rw (w.writer-is, w.clock-is, w.bank-is, w.buffer-is, w.filled-is, w.count-is) (record {
             few = omega (arith, w.as_chunks.ensures.back_len);
@@ -235,14 +235,14 @@ reads-preserved g c =
             bound = omega (arith, w.as_chunks.ensures.front_len, c.reads.invariant.bound, long);
             first = λ none. absurd (omega (arith, w.as_chunks.ensures.front_len));
             up = λ down. absurd (w.in_ok-reply_to_batch.ensures.up down);
-            idle = idle_behind g.C.Counter.seen c.args.bank.now c.reads.bank c.reads.invariant.idle
+            idle = idle_after g.C.Counter.seen c.args.bank.now c.reads.bank c.reads.invariant.idle
                 w.reply_to_batch.new.bank (λ down. (w.in_ok-reply_to_batch.ensures.down down).1);
             spares = g.met.C.Counter.spares_then c.args.bank.now c.reads.bank w.reply_to_batch.new.bank
                 c.reads.invariant.spares w.in_ok-reply_to_batch.ensures.spares;
-            made = made_one _ _ c.reads.invariant.made c.fill_beside.ensures.tells refl;
+            made = made_one _ _ c.reads.invariant.made c.fill_buffer_beside.ensures.tells refl;
             through = through_batch c.reads.invariant.through w.in_ok-reply_to_batch.ensures.told;
             done = _;
-            going = going_batch a.0 (take c.match-fill_beside.filled c.fill_beside.new.buffer)
+            going = going_batch a.0 (take c.match-fill_buffer_beside.filled c.fill_buffer_beside.new.buffer)
                 (take left after) _ rs on.0 cut (
                   omega (arith, w.as_chunks.ensures.front_len, len),
                   omega (arith, w.as_chunks.ensures.front_len, len, on.1, long),
@@ -252,7 +252,7 @@ reads-preserved g c =
             following = following_wrote _ a.2.written (following_batch _
                 (record { moment = a.0; records = rs }) _ _ c.reads.filled left c.reads.invariant.following
                 (up_to c.reads.filled c.reads.invariant.going c.reads.invariant.few c.reads.invariant.through)
-                c.fill_beside.ensures.tells c.fill_beside.ensures.beside
+                c.fill_buffer_beside.ensures.tells c.fill_buffer_beside.ensures.beside
                 (gave ∙ omega (arith, w.as_chunks.ensures.front_len, w.as_chunks.ensures.back_len, len))
                 (omega (arith, w.as_chunks.ensures.back_len)));
           })
@@ -265,14 +265,14 @@ reads-preserved g c =
             done = _;
             going = on.0;
             written = _;
-            following = following_read _ _ _ c.reads.filled c.match-fill_beside.filled c.reads.invariant.following
+            following = following_read _ _ _ c.reads.filled c.match-fill_buffer_beside.filled c.reads.invariant.following
                 (up_to c.reads.filled c.reads.invariant.going c.reads.invariant.few c.reads.invariant.through)
-                c.fill_beside.ensures.tells c.fill_beside.ensures.beside gave (omega arith);
+                c.fill_buffer_beside.ensures.tells c.fill_buffer_beside.ensures.beside gave (omega arith);
             first = c.reads.invariant.first;
             up = c.reads.invariant.up;
             idle = c.reads.invariant.idle;
             spares = c.reads.invariant.spares;
-            made = made_one _ _ c.reads.invariant.made c.fill_beside.ensures.tells refl;
+            made = made_one _ _ c.reads.invariant.made c.fill_buffer_beside.ensures.tells refl;
             through = c.reads.invariant.through;
           })
     ]

@@ -35,15 +35,15 @@ returns-in-Ok-eq0-clause-decodes g c =
     let n = c.in-Ok-eq0.field-0 in
     let none : c.in-Ok-eq0.field-0 ≡ 0 = c.in-Ok-eq0.field-0-test in
     let empty : c.reads.filled ≡ 0 = c.if-filled-eq0.true in
-    decoded-done (decoded-more (take (c.reads.filled + n) c.fill.new.buffer) c.reads.invariant.decoded
-    (at_ok _ c.fill.result n c.in-Ok-eq0.is c.fill.ensures.ok)) (rw (empty, none) refl)
+    decoded-done (decoded-more (take (c.reads.filled + n) c.fill_buffer.new.buffer) c.reads.invariant.decoded
+    (at_ok _ c.fill_buffer.result n c.in-Ok-eq0.is c.fill_buffer.ensures.ok)) (rw (empty, none) refl)
 
 pub returns-in-Ok-eq0-clause-ends : goal.returns-in-Ok-eq0-clause-ends
 returns-in-Ok-eq0-clause-ends g c =
     let n = c.in-Ok-eq0.field-0 in
     let none : c.in-Ok-eq0.field-0 ≡ 0 = c.in-Ok-eq0.field-0-test in (
-      at_ok _ c.fill.result n c.in-Ok-eq0.is c.fill.ensures.end none,
-      read_ended c.fill.result n c.reads.invariant.made c.fill.ensures.tells c.in-Ok-eq0.is none,
+      at_ok _ c.fill_buffer.result n c.in-Ok-eq0.is c.fill_buffer.ensures.end none,
+      read_ended c.fill_buffer.result n c.reads.invariant.made c.fill_buffer.ensures.tells c.in-Ok-eq0.is none,
       c.reads.invariant.flushed,
     )
 
@@ -52,34 +52,34 @@ pub returns-in-Ok-eq0-2-clause-decodes : goal.returns-in-Ok-eq0-2-clause-decodes
 returns-in-Ok-eq0-2-clause-decodes g c =
     let n = c.in-Ok-eq0.field-0 in
     let none : c.in-Ok-eq0.field-0 ≡ 0 = c.in-Ok-eq0.field-0-test in
-    let within : c.reads.filled + n ≤ length c.fill.new.buffer = omega
-    (arith, c.reads.invariant.few, c.fill.auto.buffer, c.reads.invariant.room) in
-    let len = length-take-le (c.reads.filled + n) c.fill.new.buffer within in
-    decoded-truncated c.reads.filled (decoded-more (take (c.reads.filled + n) c.fill.new.buffer)
-    c.reads.invariant.decoded (at_ok _ c.fill.result n c.in-Ok-eq0.is c.fill.ensures.ok)) (omega arith)
+    let within : c.reads.filled + n ≤ length c.fill_buffer.new.buffer = omega
+    (arith, c.reads.invariant.few, c.fill_buffer.auto.buffer, c.reads.invariant.room) in
+    let len = length-take-le (c.reads.filled + n) c.fill_buffer.new.buffer within in
+    decoded-truncated c.reads.filled (decoded-more (take (c.reads.filled + n) c.fill_buffer.new.buffer)
+    c.reads.invariant.decoded (at_ok _ c.fill_buffer.result n c.in-Ok-eq0.is c.fill_buffer.ensures.ok)) (omega arith)
     c.reads.invariant.few (omega (arith, len))
 
 pub returns-in-Ok-eq0-2-clause-ends : goal.returns-in-Ok-eq0-2-clause-ends
 returns-in-Ok-eq0-2-clause-ends g c =
     let n = c.in-Ok-eq0.field-0 in
     let none : c.in-Ok-eq0.field-0 ≡ 0 = c.in-Ok-eq0.field-0-test in (
-      at_ok _ c.fill.result n c.in-Ok-eq0.is c.fill.ensures.end none,
-      read_ended c.fill.result n c.reads.invariant.made c.fill.ensures.tells c.in-Ok-eq0.is none,
+      at_ok _ c.fill_buffer.result n c.in-Ok-eq0.is c.fill_buffer.ensures.end none,
+      read_ended c.fill_buffer.result n c.reads.invariant.made c.fill_buffer.ensures.tells c.in-Ok-eq0.is none,
       c.reads.invariant.flushed,
     )
 
 -- the source failed
 pub returns-in-Err-2-clause-decodes : goal.returns-in-Err-2-clause-decodes
 returns-in-Err-2-clause-decodes g c =
-    let within : c.reads.filled ≤ length c.fill.new.buffer = omega
-    (arith, c.reads.invariant.few, c.fill.auto.buffer, c.reads.invariant.room) in
-    let len = length-take-le c.reads.filled c.fill.new.buffer within in
-    decoded-unread (decoded-kept (take c.reads.filled c.fill.new.buffer) c.reads.invariant.decoded
+    let within : c.reads.filled ≤ length c.fill_buffer.new.buffer = omega
+    (arith, c.reads.invariant.few, c.fill_buffer.auto.buffer, c.reads.invariant.room) in
+    let len = length-take-le c.reads.filled c.fill_buffer.new.buffer within in
+    decoded-unread (decoded-kept (take c.reads.filled c.fill_buffer.new.buffer) c.reads.invariant.decoded
     c.in-Err.ensures.err) (omega (arith, len, c.reads.invariant.few))
 
 pub returns-in-Err-2-clause-ends : goal.returns-in-Err-2-clause-ends
 returns-in-Err-2-clause-ends g c = (
-  read_failed c.fill.result c.in-Err.e c.reads.invariant.made c.fill.ensures.tells c.in-Err.is
+  read_failed c.fill_buffer.result c.in-Err.e c.reads.invariant.made c.fill_buffer.ensures.tells c.in-Err.is
       (other_kind c.kind.result c.in-Err.e c.if-eq.ensures c.kind.ensures),
   c.reads.invariant.flushed,
 )
@@ -88,17 +88,17 @@ returns-in-Err-2-clause-ends g c = (
 pub returns-in_err-write_line-clause-decodes : goal.returns-in_err-write_line-clause-decodes
 returns-in_err-write_line-clause-decodes g c =
     let told = err_from_is_err_and c.from_residual.result c.from_residual.ensures.1 in
-    let len : length c.fill.new.buffer ≡ REPLY_BYTES = c.fill.auto.buffer ∙ c.reads.invariant.room in
-    let on = decoded-filled c.reads.buffer c.fill.new.buffer c.reads.filled c.match-fill.filled
+    let len : length c.fill_buffer.new.buffer ≡ REPLY_BYTES = c.fill_buffer.auto.buffer ∙ c.reads.invariant.room in
+    let on = decoded-filled c.reads.buffer c.fill_buffer.new.buffer c.reads.filled c.match-fill_buffer.filled
     c.reads.invariant.decoded
-    (elim c.match-fill.branch [
+    (elim c.match-fill_buffer.branch [
       | in-Ok w ↦ inl (w.in-Ok.n, w.in-Ok.ensures.ok, w.filled-is)
       | in-Err w ↦ inr (w.in-Err.ensures.err, w.filled-is)
     ]) in
-    let whole = decoded-full c.match-fill.filled c.fill.new.buffer on c.if-filled-eq-REPLY_BYTES.true len in
+    let whole = decoded-full c.match-fill_buffer.filled c.fill_buffer.new.buffer on c.if-filled-eq-REPLY_BYTES.true len in
     rw (told.1, told.2)
     (decoded-broken (g.W.Sink.contents c.write_line.new.writer) (g.W.Sink.told c.reads.writer)
-    (g.W.Sink.told c.write_line.new.writer) c.fill.new.buffer c.in_err-write_line.field-0.0 len whole
+    (g.W.Sink.told c.write_line.new.writer) c.fill_buffer.new.buffer c.in_err-write_line.field-0.0 len whole
     c.in_err-write_line.ensures)
 
 pub returns-in_err-write_line-clause-ends : goal.returns-in_err-write_line-clause-ends
@@ -107,35 +107,35 @@ returns-in_err-write_line-clause-ends g c =
     rw (told.1, told.2)
     (broken-ends (g.W.Sink.contents c.reads.writer) (g.W.Sink.contents c.write_line.new.writer)
     (g.W.Sink.told c.args.writer.now) (g.W.Sink.told c.reads.writer) (g.W.Sink.told c.write_line.new.writer)
-    c.reads.count c.fill.new.buffer c.in_err-write_line.field-0.0 (g.R.Source.remaining c.fill.new.reader)
-    (g.R.Source.told c.args.reader.now) (g.R.Source.told c.fill.new.reader) c.reads.invariant.flushed
+    c.reads.count c.fill_buffer.new.buffer c.in_err-write_line.field-0.0 (g.R.Source.remaining c.fill_buffer.new.reader)
+    (g.R.Source.told c.args.reader.now) (g.R.Source.told c.fill_buffer.new.reader) c.reads.invariant.flushed
     c.in_err-write_line.ensures)
 
 -- a read more, and a line if it completed a reply
 pub reads-preserved : goal.reads-preserved
 reads-preserved g c =
-    let len : length c.fill.new.buffer ≡ REPLY_BYTES = c.fill.auto.buffer ∙ c.reads.invariant.room in
-    let on = decoded-filled c.reads.buffer c.fill.new.buffer c.reads.filled c.match-fill.filled
+    let len : length c.fill_buffer.new.buffer ≡ REPLY_BYTES = c.fill_buffer.auto.buffer ∙ c.reads.invariant.room in
+    let on = decoded-filled c.reads.buffer c.fill_buffer.new.buffer c.reads.filled c.match-fill_buffer.filled
     c.reads.invariant.decoded
-    (elim c.match-fill.branch [
+    (elim c.match-fill_buffer.branch [
       | in-Ok w ↦ inl (w.in-Ok.n, w.in-Ok.ensures.ok, w.filled-is)
       | in-Err w ↦ inr (w.in-Err.ensures.err, w.filled-is)
     ]) in
-    let within : c.match-fill.filled ≤ length c.fill.new.buffer =
-    elim c.match-fill.branch [
+    let within : c.match-fill_buffer.filled ≤ length c.fill_buffer.new.buffer =
+    elim c.match-fill_buffer.branch [
       | in-Ok w ↦ omega (arith, w.in-Ok.ensures.fits, w.filled-is)
       | in-Err w ↦ omega (arith, c.reads.invariant.few, w.filled-is, len)
     ] in
     elim c.if-filled-eq-REPLY_BYTES.branch [
       | then-filled-eq-REPLY_BYTES+in_ok-write_line w ↦
-          let whole = decoded-full c.match-fill.filled c.fill.new.buffer on
+          let whole = decoded-full c.match-fill_buffer.filled c.fill_buffer.new.buffer on
           w.if-filled-eq-REPLY_BYTES.true len in
           rw (w.writer-is, w.filled-is, w.count-is) (record {
             few = omega arith;
             room = len;
             bound = omega (arith, c.reads.invariant.bound);
-            decoded = decoded-line c.fill.new.buffer (c.reads.count + 1) whole w.in_ok-write_line.ensures refl;
-            made = made_one _ _ c.reads.invariant.made c.fill.ensures.tells refl;
+            decoded = decoded-line c.fill_buffer.new.buffer (c.reads.count + 1) whole w.in_ok-write_line.ensures refl;
+            made = made_one _ _ c.reads.invariant.made c.fill_buffer.ensures.tells refl;
             flushed = more_last IsFlush (last_some IsFlush c.reads.invariant.flushed) w.in_ok-write_line.ensures.4;
           })
       | else-filled-eq-REPLY_BYTES w ↦
@@ -145,7 +145,7 @@ reads-preserved g c =
             room = len;
             bound = omega (arith, c.reads.invariant.bound);
             decoded = on;
-            made = made_one _ _ c.reads.invariant.made c.fill.ensures.tells refl;
+            made = made_one _ _ c.reads.invariant.made c.fill_buffer.ensures.tells refl;
             flushed = c.reads.invariant.flushed;
           })
     ]

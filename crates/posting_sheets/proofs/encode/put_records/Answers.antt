@@ -1,6 +1,7 @@
 use Rattle.std.proofs.Common.{◌≡◌, ◌+◌, ◌++◌, ◌∙◌, true, false, List, ℕ, is_ok, rules, refl, sym, ap}
 use Rattle.csv.specs.Records.{fields_of}
-use Rattle.posting_sheets.proofs.Sheeted.{put-all, put-fault, put-first, put-no_header, put-nothing, put-row, put-some}
+use Rattle.posting_sheets.proofs.Sheeted.{put-all, put-fault, put-first, put-no_header, put-nothing, put-row}
+use Rattle.posting_sheets.proofs.Sheeted.{put-some}
 use Rattle.posting_sheets.proofs.encode.put_records.Goals as goal
 
 pub returns-in_default : goal.returns-in_default

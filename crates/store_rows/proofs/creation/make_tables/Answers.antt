@@ -1,5 +1,6 @@
 -- One creation after another, and how each may fail.
-use Rattle.std.proofs.Common.{◌≡◌, ◌+◌, ◌-◌, ◌<◌, ◌≤◌, ℕ, List, length, length-drop, drop, slice_get, Some, Ok, Err, inl, inr}
+use Rattle.std.proofs.Common.{◌≡◌, ◌+◌, ◌-◌, ◌<◌, ◌≤◌, ℕ, List, length, length-drop, drop, slice_get, Some, Ok, Err}
+use Rattle.std.proofs.Common.{inl, inr}
 use Rattle.std.proofs.Common.{refl, ap, rules, subst, ◌∙◌, arith, false, IsTrue}
 use Rattle.std.specs.List.{AllByRecursion}
 use Rattle.sqlite.specs.State.{HasCleanDisk}
@@ -14,7 +15,7 @@ use Rattle.store_rows.proofs.CreationSteps.{begun_live, ends_made, makes_leave, 
 use Rattle.store_rows.proofs.MadeSoFar.{Reached}
 use Rattle.store_rows.proofs.creation.make_tables.Goals as goal
 
--- the text at a place is the one behind the first so many
+-- the text at a place is the one after the first so many
 text_at : (first at : ℕ) (it : List ℕ × Table) → first ≤ at → slice_get all_texts at ≡ Some it
     → slice_get (drop first all_texts) (at - first) ≡ Some it
 text_at first at it past is =

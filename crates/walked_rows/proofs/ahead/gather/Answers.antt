@@ -4,9 +4,9 @@ use Rattle.std.proofs.Common.{to_z, lit<, refl}
 use Rattle.std.proofs.lemmas.Int.{to_z-of_z}
 use Rattle.walked_rows.specs.Rows.{entry_key, rows_from}
 use Rattle.walked_rows.specs.declared.ahead.TheConstants.{AHEAD}
-use Rattle.walked_rows.proofs.Gathering.{behind_key, full_there, gathers_on, gathers_none, no_more}
+use Rattle.walked_rows.proofs.Gathering.{after_key, full_there, gathers_on, gathers_none, no_more}
 use Rattle.walked_rows.proofs.Gathering.{none_there, some_there}
-use Rattle.walked_rows.proofs.Rises.{le_from, one_more, rest_behind}
+use Rattle.walked_rows.proofs.Rises.{le_from, one_more, rest_after}
 use Rattle.walked_rows.proofs.ahead.gather.Goals as goal
 
 pub loop-row-preserved : goal.loop-row-preserved
@@ -20,7 +20,7 @@ loop-row-preserved g c =
     let next = to_z w64 c.loop-row.next-bits in
     let count = c.loop-row.invariant.count in
     let low = subst (λ n. n < length found) (sym count) c.loop-row-test.true in
-    let key = behind_key c.number.result (entry c.in-Ok.read).key c.number.ensures.key c.number.ensures.most in
+    let key = after_key c.number.result (entry c.in-Ok.read).key c.number.ensures.key c.number.ensures.most in
     let at = c.row-item.is ∙ ap (λ n. get_or found n row) (sym count) in
     rw same record {
       count = c.push.ensures.len ∙ ap (λ n. n + 1) count;
@@ -85,7 +85,7 @@ returns-then-is_empty-2 g c =
       told = λ rows rise wide is. rw none (no_more g.R.ReadRow.shown_as (rows_from from rows) c.args.found.now low is);
       ended = λ nothing. refl;
       rises =
-          rest_behind (λ r. entry_key (g.R.ReadRow.entry r)) from items (to_z w64 c.loop-row.next-bits)
+          rest_after (λ r. entry_key (g.R.ReadRow.entry r)) from items (to_z w64 c.loop-row.next-bits)
           None
           (rw same at c.loop-row.invariant.rises) tt;
     }

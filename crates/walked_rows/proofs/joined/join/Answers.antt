@@ -6,10 +6,10 @@ use Rattle.std.proofs.lemmas.Int.{ints, to_z-of_z}
 use Rattle.store_rows.proofs.Lookups.{as_integer}
 use Rattle.walked_rows.specs.Pairs.{ComesBefore, pair_of, paired, row_under}
 use Rattle.walked_rows.specs.Rising.{RisesFrom}
-use Rattle.walked_rows.specs.Rows.{entry_key, rows_behind}
-use Rattle.walked_rows.proofs.Gathering.{behind_key}
+use Rattle.walked_rows.specs.Rows.{entry_key, rows_after}
+use Rattle.walked_rows.proofs.Gathering.{after_key}
 use Rattle.walked_rows.proofs.Joining.{beside_is, joins_on, none_left, pair_beside}
-use Rattle.walked_rows.proofs.Rises.{one_more, rest_behind}
+use Rattle.walked_rows.proofs.Rises.{one_more, rest_after}
 use Rattle.walked_rows.proofs.joined.join.Goals as goal
 
 pub loop-row-preserved : goal.loop-row-preserved
@@ -21,7 +21,7 @@ loop-row-preserved g c =
     let at = c.loop-row.row-index in
     let next = to_z w64 c.loop-row.next-bits in
     let n = c.key-key.result in
-    let key = behind_key n (entry r).key c.key-key.ensures.key c.key-key.ensures.most in
+    let key = after_key n (entry r).key c.key-key.ensures.key c.key-key.ensures.most in
     let low : at < length c.args.own.now = search rules in
     let later : suc at ≡ at + 1 = omega arith in
     let left : drop at c.args.own.now ≡ r ∷ drop (at + 1) c.args.own.now =
@@ -31,8 +31,8 @@ loop-row-preserved g c =
     c.loop-row.invariant.ahead in
     let from : start ≤ℤ next = rw same at c.loop-row.invariant.low in
     let above : start ≤ℤ (entry r).key = let up = keys.0 in omega (arith, ints) in
-    let decided : ComesBefore c.args.behind (entry r).key =
-    subst (ComesBefore c.args.behind)
+    let decided : ComesBefore c.args.after (entry r).key =
+    subst (ComesBefore c.args.after)
     (as_integer n n refl c.key-key.ensures.most ∙ sym c.key-key.ensures.key) c.if-is_beyond.ensures.decided
     in
     rw (same, key) record {
@@ -47,12 +47,12 @@ loop-row-preserved g c =
           let both = (rw same at (c.loop-row.invariant.told base others rise)) own_is others_are in
           rw c.push.ensures.items
           (joins_on (pair_of entry g.O.StoredRow.kind.entry) others base rise start c.loop-row.rows.items next
-          _ (entry r) (map entry (drop (at + 1) c.args.own.now) ++ rows_behind c.args.rest base) both.1
-          (both.0 ∙ ap (λ l. map entry l ++ rows_behind c.args.rest base) left)
+          _ (entry r) (map entry (drop (at + 1) c.args.own.now) ++ rows_after c.args.rest base) both.1
+          (both.0 ∙ ap (λ l. map entry l ++ rows_after c.args.rest base) left)
           (ap (pair_beside (entry r)) (c.row_with.ensures
           ∙ sym (ap (λ k. row_under (map g.O.StoredRow.kind.entry c.args.beside.now) k) c.key-key.ensures.key)
           ∙ sym (beside_is others start (entry r).key
-          (map g.O.StoredRow.kind.entry c.args.beside.now) c.args.behind others_are above decided))));
+          (map g.O.StoredRow.kind.entry c.args.beside.now) c.args.after others_are above decided))));
     }
 
 pub returns-then-is_beyond : goal.returns-then-is_beyond
@@ -70,7 +70,7 @@ returns-then-is_beyond g c =
           c.row-item.is ∙ ap (λ k. get_or c.args.own.now k c.row-item.result) none_yet
           ∙ ap (λ l. get_or l 0 c.row-item.result) is in
           c.if-is_beyond.ensures.beyond
-          (subst (ComesBefore c.args.behind)
+          (subst (ComesBefore c.args.after)
           (sym (as_integer n n refl c.key-key.ensures.most ∙ sym c.key-key.ensures.key ∙ ap key first))
           before);
     }
@@ -87,9 +87,9 @@ returns g c =
       told = λ base others rise own_is others_are.
           let both = (rw same at (c.loop-row.invariant.told base others rise)) own_is others_are in
           both.1 ∙ ap (λ l. map (pair_of entry other) c.loop-row.rows.items ++ paired others l)
-          (both.0 ∙ ap (λ l. map entry l ++ rows_behind c.args.rest base) left);
+          (both.0 ∙ ap (λ l. map entry l ++ rows_after c.args.rest base) left);
       rises =
-          rest_behind (λ j. entry_key (entry j.stored)) start c.loop-row.rows.items next c.args.rest
+          rest_after (λ j. entry_key (entry j.stored)) start c.loop-row.rows.items next c.args.rest
           (rw same at c.loop-row.invariant.rises)
           (subst (λ l. RisesFrom next (map (λ x. entry_key (entry x)) l) c.args.rest) left
           c.loop-row.invariant.ahead);

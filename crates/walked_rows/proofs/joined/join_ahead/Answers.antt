@@ -8,7 +8,7 @@ use Rattle.walked_rows.proofs.joined.join_ahead.Goals as goal
 
 pub returns-in-Ok : goal.returns-in-Ok
 returns-in-Ok g c =
-    let behind = c.in-Ok.behind in
+    let after = c.in-Ok.after in
     let start = to_z-of_z w64 c.args.start c.ranges.start in
     record {
       told = λ clean base others rise has own_is.
@@ -17,8 +17,8 @@ returns-in-Ok g c =
       rises = rw start at c.join.ensures.rises;
       some = λ r more is at none.
           c.join.ensures.some r more is
-          (subst (ComesBefore behind) at
-          (decided_by behind c.args.start (rw start at c.in-Ok.ensures.beyond))) none;
+          (subst (ComesBefore after) at
+          (decided_by after c.args.start (rw start at c.in-Ok.ensures.beyond))) none;
       reads = reads_any c.in-Ok.ensures.reads _;
     }
 

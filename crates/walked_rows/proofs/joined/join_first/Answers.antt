@@ -6,7 +6,7 @@ use Rattle.store_rows.proofs.Lookups.{as_integer}
 use Rattle.sql_meanings.specs.StatementAnswers.{IsStoreError}
 use Rattle.walked_rows.specs.StepOutcomes.{BreaksValue}
 use Rattle.walked_rows.specs.Pairs.{pair_of}
-use Rattle.walked_rows.specs.Rows.{entry_key, rows_behind}
+use Rattle.walked_rows.specs.Rows.{entry_key, rows_after}
 use Rattle.walked_rows.proofs.Filling.{breaks_first, first_is, from_first, joined_first}
 use Rattle.walked_rows.proofs.Filling.{none_joined, nothing_is, nothing_joined, rises_itself, rises_too}
 use Rattle.walked_rows.proofs.Leaving.{if_any}
@@ -34,15 +34,15 @@ returns-in-Some g c =
     let first = first_is own row c.in-Some.ensures.value in
     record {
       told = λ clean base others rise has from told.
-          let behind = map entry more ++ rows_behind c.args.rest base in
-          let is = told ∙ ap (λ l. map entry l ++ rows_behind c.args.rest base) first in
+          let after = map entry more ++ rows_after c.args.rest base in
+          let is = told ∙ ap (λ l. map entry l ++ rows_after c.args.rest base) first in
           MatchResult-weaker c.join_ahead.result
           (c.join_ahead.ensures.told clean base others rise has
-          (sym (from_first base rise from start (entry row) behind is at) ∙ told))
-          (joined_first (pair_of entry g.O.StoredRow.kind.entry) others base rise from start (entry row) behind
+          (sym (from_first base rise from start (entry row) after is at) ∙ told))
+          (joined_first (pair_of entry g.O.StoredRow.kind.entry) others base rise from start (entry row) after
           is at
           c.join_ahead.new.rows.items)
-          (breaks_first others base from start (entry row) behind is at
+          (breaks_first others base from start (entry row) after is at
           (IsStoreError (state g.S.Store c.args.conn.now) (state g.S.Store c.join_ahead.new.conn))
           (BreaksValue g.R.StoredRow.kind.Breaks) (BreaksValue g.O.StoredRow.kind.Breaks));
       ended =

@@ -9,14 +9,14 @@ use Rattle.store_rows.specs.BankTables.{reference as reference_table}
 use Rattle.walked_rows.specs.KeptRows.{kept_item}
 use Rattle.walked_rows.specs.Pairs.{paired}
 use Rattle.walked_rows.specs.Rising.{RisesFrom}
-use Rattle.walked_rows.specs.Rows.{HasStoredRows, entry_key, rows_behind}
+use Rattle.walked_rows.specs.Rows.{HasStoredRows, entry_key, rows_after}
 use Rattle.walked_rows.specs.Stored.{asked_pair, request_entry}
-use Rattle.walked_rows.proofs.Gathering.{behind_key, none_there}
+use Rattle.walked_rows.proofs.Gathering.{after_key, none_there}
 use Rattle.walked_rows.proofs.Joining.{none_left}
 use Rattle.walked_rows.proofs.Keeping.{keeps_none, keeps_on, kept_after}
 use Rattle.walked_rows.proofs.Leaving.{clean_between, fails_too, if_any, kept_any, reads_any, reads_on}
 use Rattle.walked_rows.proofs.Leaving.{shows_same, store_on}
-use Rattle.walked_rows.proofs.Rises.{one_more, rest_behind}
+use Rattle.walked_rows.proofs.Rises.{one_more, rest_after}
 use Rattle.walked_rows.proofs.kept.refer_each.Goals as goal
 
 -- those to come begin with the posting
@@ -37,7 +37,7 @@ loop-asked-preserved g c =
     let at = c.loop-asked.asked-index in
     let own = c.args.own.now in
     let next = to_z w64 c.loop-asked.next-bits in
-    let key = behind_key c.get-ordinal.result (pos r.stored.ordinal) (ap (λ n. pos n) (sym c.get-ordinal.ensures.value))
+    let key = after_key c.get-ordinal.result (pos r.stored.ordinal) (ap (λ n. pos n) (sym c.get-ordinal.ensures.value))
     c.get-ordinal.ensures.most in
     let low : at < length own = search rules in
     let left = next_left own at r low c.asked-item.is in
@@ -58,8 +58,8 @@ loop-asked-preserved g c =
           (sym (shows_same g.S.Store c.args.conn.now mid (so_far.reads.same before))) has in
           rw c.push.ensures.items
           (keeps_on postings others base rise from c.loop-asked.rows.items next _ (asked_pair r)
-          (map asked_pair (drop (at + 1) own) ++ paired postings (rows_behind c.args.rest base)) both.1
-          (both.0 ∙ ap (λ l. map asked_pair l ++ paired postings (rows_behind c.args.rest base)) left)
+          (map asked_pair (drop (at + 1) own) ++ paired postings (rows_after c.args.rest base)) both.1
+          (both.0 ∙ ap (λ l. map asked_pair l ++ paired postings (rows_after c.args.rest base)) left)
           refl (rw c.get-ordinal.ensures.value at (c.in-Ok.ensures.told clean others there)));
     }
 
@@ -97,9 +97,9 @@ returns-then-is_empty-clause-told g c clean base postings others rise has own_is
     keeps_none postings others base rise c.args.from
     (IsStoreError (state g.S.Store c.args.conn.now) (state g.S.Store new)) c.loop-asked.rows.items
     (to_z w64 c.loop-asked.next-bits) (asked_pair r)
-    (map asked_pair (drop (at + 1) c.args.own.now) ++ paired postings (rows_behind c.args.rest base)) _ both.1
+    (map asked_pair (drop (at + 1) c.args.own.now) ++ paired postings (rows_after c.args.rest base)) _ both.1
     (none_there c.loop-asked.rows.items (sym c.if-is_empty.ensures))
-    (both.0 ∙ ap (λ l. map asked_pair l ++ paired postings (rows_behind c.args.rest base)) left)
+    (both.0 ∙ ap (λ l. map asked_pair l ++ paired postings (rows_after c.args.rest base)) left)
     (rw c.in-Err-Damaged.rule-is (rw (c.get-ordinal.ensures.value, c.in-Err-Damaged.field-0-is)
     at (c.in-Err-Damaged.ensures.told clean others there)))
 
@@ -124,15 +124,15 @@ returns-clause-told g c clean base postings others rise has own_is =
     let left = none_left c.loop-asked.asked-index c.args.own.now c.loop-asked-test.false in
     let both = (rw same at (c.loop-asked.invariant.told base postings others rise clean has)) own_is in
     both.1 ∙ ap (λ l. map kept_item c.loop-asked.rows.items ++ l)
-    (kept_after postings others base (rows_behind c.args.rest base) (to_z w64 c.loop-asked.next-bits)
-    (both.0 ∙ ap (λ l. map asked_pair l ++ paired postings (rows_behind c.args.rest base)) left))
+    (kept_after postings others base (rows_after c.args.rest base) (to_z w64 c.loop-asked.next-bits)
+    (both.0 ∙ ap (λ l. map asked_pair l ++ paired postings (rows_after c.args.rest base)) left))
 
 pub returns-clause-rises : goal.returns-clause-rises
 returns-clause-rises g c =
     let same = to_z-of_z w64 c.args.from c.ranges.from in
     let left = none_left c.loop-asked.asked-index c.args.own.now c.loop-asked-test.false in
     let next = to_z w64 c.loop-asked.next-bits in
-    rest_behind (λ k. entry_key (request_entry k.request)) c.args.from c.loop-asked.rows.items next c.args.rest
+    rest_after (λ k. entry_key (request_entry k.request)) c.args.from c.loop-asked.rows.items next c.args.rest
     (rw same at c.loop-asked.invariant.rises)
     (subst (λ l. RisesFrom next (map (λ j. entry_key (request_entry j.stored)) l) c.args.rest) left
     c.loop-asked.invariant.ahead)

@@ -9,7 +9,7 @@ use Rattle.walked_rows.specs.KeptRows.{AreKept}
 use Rattle.walked_rows.specs.Leaving.{ReadsIfAny}
 use Rattle.walked_rows.specs.Pairs.{paired}
 use Rattle.walked_rows.specs.Rising.{RisesFrom}
-use Rattle.walked_rows.specs.Rows.{HasStoredRows, entry_key, rows_behind, rows_from}
+use Rattle.walked_rows.specs.Rows.{HasStoredRows, entry_key, rows_after, rows_from}
 use Rattle.walked_rows.specs.Stored.{asked_pair, request_entry}
 use Rattle.walked_rows.proofs.kept.refer_each.Given as goal
 
@@ -26,8 +26,8 @@ invariant-loop-asked g l =
       told : (base postings others : List Entry) → Rise base → HasCleanDisk now
           → HasStoredRows old.now reference_table others
           → paired postings (rows_from l.fn.from base)
-          ≡ map asked_pair l.fn.own ++ paired postings (rows_behind l.fn.rest base)
+          ≡ map asked_pair l.fn.own ++ paired postings (rows_after l.fn.rest base)
           → (paired postings (rows_from l.next base)
-          ≡ map asked_pair (drop l.asked-index l.fn.own) ++ paired postings (rows_behind l.fn.rest base))
+          ≡ map asked_pair (drop l.asked-index l.fn.own) ++ paired postings (rows_after l.fn.rest base))
           × AreKept postings others base l.fn.from l.rows.items (Some l.next);
     }

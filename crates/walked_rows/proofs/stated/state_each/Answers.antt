@@ -6,13 +6,13 @@ use Rattle.std.proofs.lemmas.Int.{to_z-of_z}
 use Rattle.store_rows.specs.BankTables.{reference as reference_table}
 use Rattle.walked_rows.specs.Pairs.{pair_with, paired}
 use Rattle.walked_rows.specs.Rising.{RisesFrom}
-use Rattle.walked_rows.specs.Rows.{HasStoredRows, entry_key, rows_behind, rows_from}
+use Rattle.walked_rows.specs.Rows.{HasStoredRows, entry_key, rows_after, rows_from}
 use Rattle.walked_rows.specs.Stored.{posting_entry, stated_pair}
-use Rattle.walked_rows.proofs.Gathering.{behind_key, none_there}
+use Rattle.walked_rows.proofs.Gathering.{after_key, none_there}
 use Rattle.walked_rows.proofs.Joining.{joins_on, none_left, pair_beside}
 use Rattle.walked_rows.proofs.Leaving.{clean_between, fails_too, if_any, kept_any, reads_any, reads_on}
 use Rattle.walked_rows.proofs.Leaving.{shows_same, store_on}
-use Rattle.walked_rows.proofs.Rises.{one_more, rest_behind}
+use Rattle.walked_rows.proofs.Rises.{one_more, rest_after}
 use Rattle.walked_rows.proofs.stated.state_each.Goals as goal
 
 -- those to come begin with the posting
@@ -33,7 +33,7 @@ loop-posting-preserved g c =
     let at = c.loop-posting.posting-index in
     let own = c.args.own.now in
     let next = to_z w64 c.loop-posting.next-bits in
-    let key = behind_key c.get-ordinal.result (pos r.ordinal) (ap (λ n. pos n) (sym c.get-ordinal.ensures.value))
+    let key = after_key c.get-ordinal.result (pos r.ordinal) (ap (λ n. pos n) (sym c.get-ordinal.ensures.value))
     c.get-ordinal.ensures.most in
     let low : at < length own = search rules in
     let left = next_left own at r low c.posting-item.is in
@@ -54,8 +54,8 @@ loop-posting-preserved g c =
           (sym (shows_same g.S.Store c.args.conn.now mid (so_far.reads.same before))) has in
           rw c.push.ensures.items
           (joins_on stated_pair others base rise from c.loop-posting.rows.items next _ (posting_entry r)
-          (map posting_entry (drop (at + 1) own) ++ rows_behind c.args.rest base) both.1
-          (both.0 ∙ ap (λ l. map posting_entry l ++ rows_behind c.args.rest base) left)
+          (map posting_entry (drop (at + 1) own) ++ rows_after c.args.rest base) both.1
+          (both.0 ∙ ap (λ l. map posting_entry l ++ rows_after c.args.rest base) left)
           (ap (pair_beside (posting_entry r))
           (rw c.get-ordinal.ensures.value at (c.in-Ok.ensures.told clean others there))));
     }
@@ -91,13 +91,13 @@ returns-then-is_empty-clause-told g c clean base others rise has own_is =
     let at = c.loop-posting.posting-index in
     let low : at < length c.args.own.now = search rules in
     let left = next_left c.args.own.now at r low c.posting-item.is in
-    let behind = map posting_entry (drop (at + 1) c.args.own.now) ++ rows_behind c.args.rest base in (
+    let after = map posting_entry (drop (at + 1) c.args.own.now) ++ rows_after c.args.rest base in (
       pair_with others (posting_entry r),
-      paired others behind,
+      paired others after,
       both.1
           ∙ ap (λ l. map stated_pair l ++ paired others (rows_from (to_z w64 c.loop-posting.next-bits) base))
           (none_there c.loop-posting.rows.items (sym c.if-is_empty.ensures))
-          ∙ ap (paired others) (both.0 ∙ ap (λ l. map posting_entry l ++ rows_behind c.args.rest base) left),
+          ∙ ap (paired others) (both.0 ∙ ap (λ l. map posting_entry l ++ rows_after c.args.rest base) left),
       inr (rw c.in-Err-Damaged.rule-is (rw (c.get-ordinal.ensures.value, c.in-Err-Damaged.field-0-is)
           at (c.in-Err-Damaged.ensures.told clean others there))),
     )
@@ -123,14 +123,14 @@ returns-clause-told g c clean base others rise has own_is =
     let left = none_left c.loop-posting.posting-index c.args.own.now c.loop-posting-test.false in
     let both = (rw same at (c.loop-posting.invariant.told base others rise clean has)) own_is in
     both.1 ∙ ap (λ l. map stated_pair c.loop-posting.rows.items ++ paired others l)
-    (both.0 ∙ ap (λ l. map posting_entry l ++ rows_behind c.args.rest base) left)
+    (both.0 ∙ ap (λ l. map posting_entry l ++ rows_after c.args.rest base) left)
 
 pub returns-clause-rises : goal.returns-clause-rises
 returns-clause-rises g c =
     let same = to_z-of_z w64 c.args.from c.ranges.from in
     let left = none_left c.loop-posting.posting-index c.args.own.now c.loop-posting-test.false in
     let next = to_z w64 c.loop-posting.next-bits in
-    rest_behind (λ s. entry_key (posting_entry s.posting)) c.args.from c.loop-posting.rows.items next c.args.rest
+    rest_after (λ s. entry_key (posting_entry s.posting)) c.args.from c.loop-posting.rows.items next c.args.rest
     (rw same at c.loop-posting.invariant.rises)
     (subst (λ l. RisesFrom next (map (λ r. entry_key (posting_entry r)) l) c.args.rest) left
     c.loop-posting.invariant.ahead)

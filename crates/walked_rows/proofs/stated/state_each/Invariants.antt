@@ -8,7 +8,7 @@ use Rattle.store_rows.specs.declared.fault.TableFault.{TableFault}
 use Rattle.walked_rows.specs.Leaving.{ReadsIfAny}
 use Rattle.walked_rows.specs.Pairs.{AreJoined}
 use Rattle.walked_rows.specs.Rising.{RisesFrom}
-use Rattle.walked_rows.specs.Rows.{HasStoredRows, entry_key, rows_behind, rows_from}
+use Rattle.walked_rows.specs.Rows.{HasStoredRows, entry_key, rows_after, rows_from}
 use Rattle.walked_rows.specs.Stored.{posting_entry, stated_pair}
 use Rattle.walked_rows.proofs.stated.state_each.Given as goal
 
@@ -24,8 +24,8 @@ invariant-loop-posting g l =
       reads : ReadsIfAny {E = TableFault} g.S.Store l.fn.conn l.conn (Ok l.next);
       told : (base others : List Entry) → Rise base → HasCleanDisk now
           → HasStoredRows old.now reference_table others
-          → rows_from l.fn.from base ≡ map posting_entry l.fn.own ++ rows_behind l.fn.rest base
+          → rows_from l.fn.from base ≡ map posting_entry l.fn.own ++ rows_after l.fn.rest base
           → (rows_from l.next base
-          ≡ map posting_entry (drop l.posting-index l.fn.own) ++ rows_behind l.fn.rest base)
+          ≡ map posting_entry (drop l.posting-index l.fn.own) ++ rows_after l.fn.rest base)
           × AreJoined stated_pair others base l.fn.from l.rows.items (Some l.next);
     }

@@ -1,4 +1,4 @@
--- The line of a branch was written, or a beginning of it.
+-- The line of a branch was written, or a prefix of it.
 use Rattle.std.proofs.Common.{rules, ◌≡◌, ◌++◌, ℕ, ℤ, List, Ok, Err, Option, map, ap, ◌∙◌}
 use Rattle.std.specs.Prelude.{option_map}
 use Rattle.posting_rules.specs.Tables.{row_at}

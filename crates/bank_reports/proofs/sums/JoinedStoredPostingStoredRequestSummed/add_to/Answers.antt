@@ -1,7 +1,7 @@
 -- One more posting.
 use Rattle.std.proofs.Common.{[], ◌∷◌, map, sym, subst}
 use Rattle.std.proofs.lemmas.List.{map-append}
-use Rattle.report_lines.specs.Added.{HasBeside}
+use Rattle.report_contents.specs.Added.{HasBeside}
 use Rattle.bank_reports.specs.Adding.{both}
 use Rattle.bank_reports.proofs.sums.JoinedStoredPostingStoredRequestSummed.add_to.Goals as goal
 

@@ -1,7 +1,7 @@
 -- One more account.
 use Rattle.std.proofs.Common.{rules, w64, FitsSigned}
-use Rattle.report_lines.specs.Audit.{account_balance}
-use Rattle.report_lines.proofs.OneMore.{sum_more_64}
+use Rattle.report_contents.specs.Audit.{account_balance}
+use Rattle.report_contents.proofs.OneMore.{sum_more_64}
 use Rattle.bank_reports.proofs.sums.StoredAccountSummed.add_to.Goals as goal
 
 pub returns : goal.returns

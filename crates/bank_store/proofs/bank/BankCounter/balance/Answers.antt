@@ -2,7 +2,7 @@
 use Rattle.std.proofs.Common.{[], ◌∙◌}
 use Rattle.std.proofs.lemmas.Result.{err_from_is_err_and}
 use Rattle.std.specs.Prelude.{IsSome}
-use Rattle.posting_rules.proofs.{Calls.stays, Looked.balance_shown, Stepping.sound_tables}
+use Rattle.posting_rules.proofs.{Calls.stays, Looked.balance_shown, ChangesByKey.sound_tables}
 use Rattle.bank_store.proofs.{Countered.takes, Causes.still_clean, bank.BankCounter.balance.Given.Over}
 use Rattle.bank_store.proofs.OtherTables.{spares_done, spares_down, spares_untouched}
 use Rattle.bank_store.proofs.Refusing.{answered_call, consult_refused, refused_call, untried_call, Refusal}

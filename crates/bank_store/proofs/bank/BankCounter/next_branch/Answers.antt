@@ -2,7 +2,7 @@
 use Rattle.std.proofs.Common.{◌≡◌, [], ◌∙◌}
 use Rattle.std.specs.Prelude.{IsSome}
 use Rattle.std.proofs.lemmas.Result.{err_from_is_err_and}
-use Rattle.posting_rules.proofs.{Calls.stays, NextBranch.next_shown, Stepping.sound_tables}
+use Rattle.posting_rules.proofs.{Calls.stays, NextBranch.next_shown, ChangesByKey.sound_tables}
 use Rattle.store_rows.specs.Columns.{branch_above}
 use Rattle.bank_store.proofs.{Causes.still_clean, Countered.takes, bank.BankCounter.next_branch.Given.Over}
 use Rattle.bank_store.proofs.OtherTables.{spares_done, spares_down, spares_untouched}

@@ -6,7 +6,7 @@ use Rattle.message_records.specs.{Reading.request_of, Records.RequestFields, dec
 use Rattle.bank_transactions.specs.{Stored.RepliesToStored, Additions.AddsForRecords, Causes.IsBrokenOrMet}
 use Rattle.bank_store.specs.Seen.{database_of}
 use Rattle.posting_rules.specs.Commands.{Post, AreCommands}
-use Rattle.posting_rules.proofs.{Calls.posts, Calls.replies, Stepping.sound_tables}
+use Rattle.posting_rules.proofs.{Calls.posts, Calls.replies, ChangesByKey.sound_tables}
 use Rattle.bank_store.proofs.{Causes.still_clean, Countered.takes, bank.BankCounter.submit.Given.Over}
 use Rattle.bank_store.proofs.OtherTables.{spares_done, spares_down, spares_untouched}
 use Rattle.bank_store.proofs.Refusing.{answered_call, refused_call, transaction_refused, untried_call, Refusal}

@@ -1,8 +1,8 @@
 -- What a step gives.
 use Rattle.std.proofs.Common.{◌≡◌, None, Err, filter, refl, sym, rules, ◌∙◌}
-use Rattle.walked_rows.specs.Rows.{items_behind}
+use Rattle.walked_rows.specs.Rows.{items_after}
 use Rattle.bank_store.proofs.WalkSteps.{err_not_ok, failed_not_ended, faulty_step, gives_next}
-use Rattle.bank_store.proofs.WalkSteps.{none_behind_end, none_to_come, not_ended, not_failed, ok_no_err}
+use Rattle.bank_store.proofs.WalkSteps.{none_after_end, none_to_come, not_ended, not_failed, ok_no_err}
 use Rattle.bank_store.proofs.WalkSteps.{rises_next, same_fault, some_not_none, store_told}
 use Rattle.bank_store.proofs.walks.Walk.next.Goals as goal
 
@@ -39,7 +39,7 @@ returns-in-Ended g c = record {
   };
   told =
       λ clean rows has.
-      let none = none_behind_end c.args.self.now.stage c.in-Ended.is _ in
+      let none = none_after_end c.args.self.now.stage c.in-Ended.is _ in
       (none, none);
   store = λ clean rows has no. absurd (ok_no_err _ _ no);
   rises = λ k before. tt;
@@ -109,7 +109,7 @@ returns-in-Some g c =
           λ clean rows has.
           sym (says.told clean rows has)
           ∙ gives_next g.R.WalkedRow.key g.R.WalkedRow.item w.stage says.going w.rows.items w.given
-          (items_behind g.R.WalkedRow.key w.rest (given rows)) c.in-Some.row row;
+          (items_after g.R.WalkedRow.key w.rest (given rows)) c.in-Some.row row;
       store = λ clean rows has no. absurd (ok_no_err _ _ no);
       rises =
           λ k before.

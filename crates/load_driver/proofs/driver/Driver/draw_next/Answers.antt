@@ -1,7 +1,7 @@
 use Rattle.std.proofs.Common.{◌<◌, ◌*◌, ◌∙◌, ℕ, arith, ap, refl}
 use Rattle.posting_rules.specs.declared.limits.TheConstants.{TELLERS_PER_BRANCH}
 use Rattle.load_driver.specs.{declared.driver.TheConstants.MAX_RECORDS, Requests.request_at}
-use Rattle.load_driver.proofs.Steps.{stepped}
+use Rattle.load_driver.proofs.DrivenRecords.{stepped}
 use Rattle.load_driver.proofs.driver.Driver.draw_next.Goals as goal
 
 pub overflow_add-number : goal.overflow_add-number

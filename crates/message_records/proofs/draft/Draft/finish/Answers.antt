@@ -1,6 +1,6 @@
--- What is written, and spaces behind it.
+-- What is written, and spaces after it.
 use Rattle.std.proofs.Common.{◌≡◌, length}
-use Rattle.message_records.proofs.Written.{draft_done}
+use Rattle.message_records.proofs.DraftedFields.{draft_done}
 use Rattle.message_records.proofs.draft.Draft.finish.Goals as goal
 
 pub returns : goal.returns

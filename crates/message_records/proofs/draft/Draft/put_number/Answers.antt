@@ -1,7 +1,7 @@
--- The digits stand behind what was written, and spaces behind the digits.
+-- The digits stand after what was written, and spaces after the digits.
 use Rattle.std.proofs.Common.{◌≡◌, ◌≤◌, ◌+◌, List, ℕ, length, ap, ◌∙◌, arith}
 use Rattle.message_records.proofs.Digits.{length-digits}
-use Rattle.message_records.proofs.Written.{written_length, length_placed, digits_placed, field_rest}
+use Rattle.message_records.proofs.DraftedFields.{written_length, length_placed, digits_placed, field_rest}
 use Rattle.message_records.proofs.draft.Draft.put_number.Goals as goal
 
 pub invariant_of-self : goal.invariant_of-self

@@ -1,6 +1,6 @@
--- The text stands behind what was written, and spaces behind the text.
+-- The text stands after what was written, and spaces after the text.
 use Rattle.std.proofs.Common.{◌≡◌, ◌≤◌, ◌+◌, List, ℕ, length, ap, ◌∙◌, arith}
-use Rattle.message_records.proofs.Written.{written_length, length_placed, field_rest}
+use Rattle.message_records.proofs.DraftedFields.{written_length, length_placed, field_rest}
 use Rattle.message_records.proofs.draft.Draft.put_text.Goals as goal
 
 pub invariant_of-self : goal.invariant_of-self

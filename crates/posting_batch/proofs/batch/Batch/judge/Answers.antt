@@ -5,7 +5,7 @@ use Rattle.message_records.specs.Reading.{request_of}
 use Rattle.message_records.specs.Records.{RequestFields}
 use Rattle.message_records.specs.Spelling.{reply_spelling}
 use Rattle.posting_rules.specs.Changes.{tables_past_all, replies_past_all}
-use Rattle.posting_rules.specs.Runs.{behind, posts}
+use Rattle.posting_rules.specs.Runs.{followed_by, posts}
 use Rattle.posting_rules.specs.Tables.{Tables, AreTablesOf}
 use Rattle.posting_rules.proofs.Records.{all_past}
 use Rattle.posting_rules.proofs.Records as past
@@ -74,7 +74,7 @@ returns-clause-shown c t records is log shows =
     let after = judged m c.judge_records.ensures.overlay (c.deref.ensures.value ∙ is.reads) is.overlay in
     let so = returns-clause-judged c t records is (free_shown t log (length records) shows) in
     record {
-      shows = subst (λ (u : Tables). AreTablesOf u (behind log (posts m records))) (sym so.tables)
+      shows = subst (λ (u : Tables). AreTablesOf u (followed_by log (posts m records))) (sym so.tables)
           (all_past t log m records shows);
       answers = so.answers ∙ past.all_replies t log m records shows;
       adds = subst (λ (o : Overlay). AddsFreeRows o t) (sym after)

@@ -5,7 +5,7 @@ use Rattle.posting_rules.specs.LookUps.{count_of_branch}
 use Rattle.posting_core.specs.{Appended.appended_opened, Plain.plain_tables}
 use Rattle.std.specs.Option.{option_map}
 use Rattle.posting_core.proofs.Appending.{opened_shown}
-use Rattle.posting_core.proofs.InMemory.{answered_plain, behind_plain, branches_as_before, unmapped}
+use Rattle.posting_core.proofs.InMemory.{answered_plain, after_plain, branches_as_before, unmapped}
 use Rattle.posting_core.proofs.plain_bank.PlainBankCounter.open_branch.Goals as goal
 
 pub returns-clause-call : goal.returns-clause-call
@@ -22,7 +22,7 @@ returns-clause-call c =
     ∙ ap (λ (n : ℕ). option_map count_of_branch (row_at branch_key c.deref.result.now n))
     (sym c.get.ensures.value) ∙ sym c.count_at.ensures ∙ c.in_default.is) in
     answered_plain c.args.self.now c.add_branch.new.self (Open b terms ∷ []) Opened
-    (behind_plain c.args.self.now c.add_branch.new.self (Open b terms ∷ []) (λ u. appended_opened u b terms)
+    (after_plain c.args.self.now c.add_branch.new.self (Open b terms ∷ []) (λ u. appended_opened u b terms)
     ((c.add_branch.ensures.above, c.requires.branch, c.requires.some, c.requires.few, c.read_floor.ensures), tt)
     (c.add_branch.ensures.tables ∙ ap (λ (u : Tables). appended_opened u b terms) same)
     (λ log s. opened_shown t log b terms closed c.add_branch.ensures.above c.requires.few s))

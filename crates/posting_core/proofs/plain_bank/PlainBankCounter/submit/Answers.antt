@@ -2,7 +2,7 @@ use Rattle.std.proofs.Common.{[], ◌∷◌, refl, ap, ◌∙◌, rules}
 use Rattle.posting_rules.specs.{Commands.Post, Changes.reply_past, Changes.tables_past, Tables.Tables}
 use Rattle.posting_rules.proofs.Records.{past_shown, past_reply}
 use Rattle.posting_core.specs.Plain.{plain_tables}
-use Rattle.posting_core.proofs.InMemory.{answered_plain, behind_plain, plain_shows, requests_as_before, spared_plain}
+use Rattle.posting_core.proofs.InMemory.{answered_plain, after_plain, plain_shows, requests_as_before, spared_plain}
 use Rattle.posting_core.proofs.plain_bank.PlainBankCounter.submit.Goals as goal
 
 pub returns-clause-answer : goal.returns-clause-answer
@@ -22,7 +22,7 @@ returns-clause-call c =
     let bytes = c.args.bytes.now in
     answered_plain c.args.self.now c.submit_within_capacity.new.self (Post m bytes ∷ [])
     c.submit_within_capacity.result
-    (behind_plain c.args.self.now c.submit_within_capacity.new.self (Post m bytes ∷ [])
+    (after_plain c.args.self.now c.submit_within_capacity.new.self (Post m bytes ∷ [])
     (λ u. tables_past u m bytes) ((c.read_range.ensures, search rules), tt)
     (c.submit_within_capacity.ensures.tables ∙ ap (λ (u : Tables). tables_past u m bytes) same)
     (λ log s. past_shown t log m bytes s))

@@ -3,7 +3,7 @@ use Rattle.posting_rules.specs.{Changes.replies_past_all, Changes.tables_past, C
 use Rattle.posting_rules.specs.{Tables.Tables, Runs.posts}
 use Rattle.posting_rules.proofs.Records.{all_past, all_replies, are_posts}
 use Rattle.posting_core.specs.Plain.{plain_tables}
-use Rattle.posting_core.proofs.InMemory.{answered_plain, behind_plain, plain_shows, requests_as_before, spared_plain}
+use Rattle.posting_core.proofs.InMemory.{answered_plain, after_plain, plain_shows, requests_as_before, spared_plain}
 use Rattle.posting_core.proofs.plain_bank.PlainBankCounter.submit_all.Goals as goal
 
 replies_are : (u t : Tables) (m : ℕ) (rs before all : List (List ℕ)) → all ≡ before ++ replies_past_all u m rs
@@ -25,7 +25,7 @@ returns-clause-call c =
     let rs = c.args.records.now in
     answered_plain c.args.self.now c.submit_all_within_capacity.new.self (posts m rs)
     c.submit_all_within_capacity.new.replies
-    (behind_plain c.args.self.now c.submit_all_within_capacity.new.self (posts m rs)
+    (after_plain c.args.self.now c.submit_all_within_capacity.new.self (posts m rs)
     (λ u. tables_past_all u m rs) (are_posts m rs c.read_range.ensures c.told-records)
     (c.submit_all_within_capacity.ensures.tables ∙ ap (λ (u : Tables). tables_past_all u m rs) same)
     (λ log s. all_past t log m rs s))

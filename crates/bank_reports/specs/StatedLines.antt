@@ -1,0 +1,49 @@
+-- The statement of an account after a log: its posted requests in order, each with the balance after it.
+use Rattle.std.specs.Prelude.{ℕ, pos, ◌+◌, ◌==◌, ◌&&◌, Bool, List, [], ◌∷◌, ◌++◌, length, if◌then◌else◌}
+use Rattle.walked_rows.specs.declared.postings.StoredPosting.{StoredPosting}
+use Rattle.walked_rows.specs.declared.stated.StatedPosting.{StatedPosting}
+use Rattle.posting_rules.specs.Commands.{Command}
+use Rattle.posting_rules.specs.Entries.{DecidedRequest, is_posted, account_balance, decided}
+use Rattle.report_contents.specs.Lines.{text_of}
+use Rattle.report_contents.specs.StatementText.{heading_line, names_line, posting_line, closing_line}
+
+-- a posting under its ordinal, as a file has it
+abbrev pub posting_of : ℕ → DecidedRequest → StoredPosting
+posting_of ordinal e = record {
+  ordinal = ordinal;
+  account = pos e.request.account;
+  teller = pos e.request.teller;
+  branch = pos e.request.branch;
+  delta = e.request.delta;
+  moment = e.moment;
+}
+
+-- with the reference of its request
+abbrev pub stated_of : ℕ → DecidedRequest → StatedPosting
+stated_of ordinal e = record { posting = posting_of ordinal e; reference = e.request.reference }
+
+-- it was posted to this account
+abbrev pub is_posted_to : ℕ → DecidedRequest → Bool
+is_posted_to a e = is_posted e && (e.request.account == a)
+
+-- the postings to an account, the oldest first
+abbrev pub postings_to : ℕ → List DecidedRequest → List StatedPosting
+postings_to a [] = []
+postings_to a (e ∷ es) =
+    if is_posted_to a e
+    then postings_to a es ++ stated_of (length es + 1) e ∷ []
+    else postings_to a es
+
+-- their lines, each with the account's balance after it
+abbrev pub lines_to : ℕ → List DecidedRequest → List (List ℕ)
+lines_to a [] = []
+lines_to a (e ∷ es) =
+    if is_posted_to a e
+    then lines_to a es ++ posting_line (stated_of (length es + 1) e) (account_balance (e ∷ es) a) ∷ []
+    else lines_to a es
+
+-- the statement of an account after a log
+unfoldable pub statement_after : List Command → ℕ → List ℕ
+statement_after log a =
+    text_of (heading_line a ∷ names_line
+    ∷ (lines_to a (decided log) ++ closing_line (account_balance (decided log) a) ∷ []))

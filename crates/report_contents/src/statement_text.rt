@@ -1,0 +1,104 @@
+//! The lines of a statement.
+ghost use Rattle.std.specs.Prelude.{◌≡◌, ◌≤◌, ◌+◌, ◌++◌, length};
+ghost use Rattle.message_records.specs.declared.limits.TheConstants.{REFERENCE_BYTES};
+ghost use Rattle.report_contents.specs.StatementText.{after_others, heading_line, names_line, posting_line};
+ghost use Rattle.report_contents.specs.StatementText.{closing_line};
+
+use crate::lines::{push_delta, push_filled, push_number, push_text};
+use arrayvec::ArrayString;
+use itoa::Buffer;
+use message_records::{Account, Cents, Reference};
+use walked_rows::StatedPosting;
+
+/// The most that a line takes.
+pub const STATEMENT_LINE: usize = 341;
+
+/// A line of a statement, with its end.
+pub type StatementLine = ArrayString<STATEMENT_LINE>;
+
+// How many digits an account has.
+const ACCOUNT: usize = 12;
+
+// The widths of the columns.
+const ORDINAL: usize = 13;
+
+const MOMENT: usize = 12;
+
+const TELLER: usize = 8;
+
+const BRANCH: usize = 6;
+
+const DELTA: usize = 14;
+
+const BALANCE: usize = 14;
+
+/// The first line: which account it is, in twelve digits.
+pub fn statement_heading(account: Account) -> StatementLine
+    ensures { result.bytes ≡ heading_line account }
+{
+    let mut digits = Buffer::new();
+    let mut line = ArrayString::new();
+    line.push_str("STATEMENT ACCOUNT ");
+    push_filled(&mut line, '0', ACCOUNT, digits.format(account.get()));
+    line.push_str("\n");
+    line
+}
+
+/// The second line: the names of the columns.
+pub fn statement_names() -> StatementLine
+    ensures { result.bytes ≡ names_line }
+{
+    let mut line = ArrayString::new();
+    line.push_str(
+        "      ordinal       moment   teller branch          delta        balance reference\n",
+    );
+    line
+}
+
+// Appends a space and the reference, if there is one.
+fn push_reference(line: &mut StatementLine, reference: &Option<Reference>)
+    requires { length line.old.bytes + REFERENCE_BYTES + 1 ≤ STATEMENT_LINE }
+    ensures bytes { line.new.bytes ≡ line.old.bytes ++ after_others reference.now }
+    ensures len { length line.new.bytes ≤ length line.old.bytes + REFERENCE_BYTES + 1 }
+{
+    if let Some(reference) = reference {
+        line.push_str(" ");
+        push_text(line, reference.text());
+    }
+}
+
+/// The line of a posting with the reference of its request, and the running balance with it.
+pub fn statement_line(row: &StatedPosting, balance: Cents) -> StatementLine
+    ensures { result.bytes ≡ posting_line row.now balance }
+{
+    let StatedPosting {
+        posting: row,
+        reference,
+    } = row;
+    let mut line = ArrayString::new();
+    push_number(&mut line, ORDINAL, i128::from(row.ordinal.get()));
+    line.push_str(" ");
+    push_number(&mut line, MOMENT, i128::from(row.moment.get()));
+    line.push_str(" ");
+    push_number(&mut line, TELLER, i128::from(row.teller));
+    line.push_str(" ");
+    push_number(&mut line, BRANCH, i128::from(row.branch));
+    line.push_str(" ");
+    push_delta(&mut line, DELTA, row.delta);
+    line.push_str(" ");
+    push_number(&mut line, BALANCE, i128::from(balance.get()));
+    push_reference(&mut line, reference);
+    line.push_str("\n");
+    line
+}
+
+/// The last line: the balance of the account's row.
+pub fn statement_closing(balance: Cents) -> StatementLine
+    ensures { result.bytes ≡ closing_line balance }
+{
+    let mut line = ArrayString::new();
+    line.push_str("closing balance                                           ");
+    push_number(&mut line, BALANCE, i128::from(balance.get()));
+    line.push_str("\n");
+    line
+}
