@@ -2,7 +2,8 @@
 """Lists the definitions that a reader has to believe, for each of README's claims.
 
     tools/believed.py              prints docs/BELIEVE.md
-    tools/believed.py --check      ends with status 1 unless docs/BELIEVE.md is what it prints, and README has its numbers
+    tools/believed.py --check      ends with status 1 unless docs/BELIEVE.md is what it prints, README has its numbers, and
+                                   the folders specs/believed hold just what the promise and the calls need
     tools/believed.py CRATE NAME [CLAUSE..]      the list of one function's contract
 
 From the names of a function's clauses it walks through `specs/` until only names of the kit are left. A definition counts
@@ -191,8 +192,20 @@ def closure(contracts):
         take(WORD.findall(text), names, None)
     while todo:
         it = todo.pop()
-        take(it.words, it.module.names, it.module)
+        chained = {"◌>>=◌"} if "do" in it.words else set()  # what `do` stands for
+        take(it.words | chained, it.module.names, it.module)
     return list(seen.values()), rust, kit
+
+
+def misplaced():
+    """What the promise and the calls need outside a folder `believed`, and what else lies in one."""
+    needed = {(it.module.path, it.name) for it in closure(CALLS)[0]}
+    inside = {
+        (file, name)
+        for file in CRATES.glob("*/specs/believed/*.antt")
+        for name in module_at(f"Rattle.{file.relative_to(CRATES).parts[0]}.specs.believed.{file.stem}").definitions
+    }
+    return sorted(f"{path.relative_to(CRATES)}: {name}" for path, name in needed ^ inside)
 
 
 def order_of_crates():
@@ -242,7 +255,8 @@ def page():
         "",
         "A proof shows that the code keeps its contracts. That a contract says what it should is for a reader to see. This page is",
         "what `tools/believed.py` prints, and `.ci/run` fails where it isn't: for each contract below, all definitions of `specs/`",
-        "that its clauses need, down to the kit's own names.",
+        "that its clauses need, down to the kit's own names. What the promise and the calls of a counter need lies in the folders",
+        "`specs/believed`, with nothing else in them.",
         "",
         "| For | Definitions |",
         "|---|---|",
@@ -298,6 +312,8 @@ def main():
         said = counts(PROMISE)[3].split(" in ")[0]
         if said not in README.read_text():
             sys.exit(f"README.md doesn't say how much its promise needs: {said}")
+        if misplaced():
+            sys.exit("not where it belongs, by specs/believed: " + ", ".join(misplaced()))
         print("docs/BELIEVE.md: as tools/believed.py prints it")
     elif len(sys.argv) > 2:
         found, rust, kit, said = counts([(sys.argv[1], sys.argv[2], sys.argv[3:])])

@@ -7,8 +7,8 @@ use Rattle.sqlite.specs.Held.{Held, state}
 use Rattle.sqlite.specs.State.{HasCleanDisk}
 use Rattle.sqlite.proofs.StateLemmas.{survives_then}
 use Rattle.sqlite_trees.specs.declared.store.Store.{Ghosts}
-use Rattle.store_rows.specs.Sparing.{SparesOthers}
-use Rattle.bank_store.specs.Seen.{connection_of, database_of, file_of}
+use Rattle.store_rows.specs.believed.Sparing.{SparesOthers}
+use Rattle.bank_store.specs.believed.Seen.{connection_of, database_of, file_of}
 use Rattle.bank_store.specs.Sparing.{SparesWhileOpen}
 use Rattle.bank_store.specs.declared.bank.Bank.{Bank}
 use Rattle.bank_store.specs.declared.refused.Refused.{Refused}

@@ -10,11 +10,11 @@ use Rattle.std.proofs.lemmas.Result.{err_from_is_err_and}
 use Rattle.sqlite.specs.Held.{Held}
 use Rattle.sqlite_trees.specs.declared.store.Store.{Ghosts}
 use Rattle.posting_rules.specs.declared.fault.Fault.{Fault}
-use Rattle.posting_rules.specs.Counter.{Seen}
+use Rattle.posting_rules.specs.believed.Counter.{Seen}
 use Rattle.posting_rules.specs.declared.fault.Fault.TheVariants as bank
 use Rattle.posting_rules.specs.declared.open_fault.OpenFault.{OpenFault}
 use Rattle.posting_rules.specs.declared.open_fault.OpenFault.TheVariants as opening
-use Rattle.posting_core.specs.Stream.{Streamed}
+use Rattle.posting_core.specs.believed.Stream.{Streamed}
 use Rattle.posting_core.specs.declared.stream.StreamFault.{StreamFault}
 use Rattle.posting_core.specs.declared.stream.StreamFault.TheVariants as stream
 use Rattle.branch_loader.specs.declared.loader.Loaded.{Loaded}
@@ -38,7 +38,7 @@ use Rattle.command_line.specs.declared.reading.Command.{Command}
 use Rattle.command_line.specs.declared.reading.Command.TheVariants as commands
 use Rattle.command_line.specs.declared.status.Status.{Status}
 use Rattle.command_line.specs.declared.status.Status.TheVariants.{Differs, Done, Inconsistent, Input, System, Usage}
-use Rattle.load_driver.specs.Drives.{Drives}
+use Rattle.load_driver.specs.believed.Drives.{Drives}
 use Rattle.load_driver.specs.declared.drive.Driven.{Driven}
 use Rattle.load_driver.specs.declared.drive_fault.DriveFault.{DriveFault}
 use Rattle.command_line.specs.Lines.{driven_line, loaded_line}

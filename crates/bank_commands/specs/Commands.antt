@@ -8,16 +8,19 @@ use Rattle.sqlite.specs.Held.{Held}
 use Rattle.sqlite_trees.specs.declared.store.Store.{Ghosts}
 use Rattle.posting_rules.specs.declared.fault.Fault.{Fault}
 use Rattle.posting_rules.specs.declared.fault.Fault.TheVariants.{Memory}
-use Rattle.posting_core.specs.Stream.{IfBank, IsRefusedAfterBatches, OutputsReplies, Resends, StreamFaultIsOfItsEnd}
+use Rattle.posting_core.specs.believed.Stream.{IfBank, IsRefusedAfterBatches}
+use Rattle.posting_core.specs.Stream.{OutputsReplies, Resends, StreamFaultIsOfItsEnd}
 use Rattle.posting_core.specs.Stream.{StreamsAsRead, SurvivesStream}
-use Rattle.posting_core.specs.Told.{Beside, EndsWith, HasWriteFailed, IsFlush, ReadTold, WriteTold}
+use Rattle.posting_core.specs.believed.Told.{EndsWith, ReadTold}
+use Rattle.posting_core.specs.Told.{Beside, HasWriteFailed, IsFlush, WriteTold}
 use Rattle.posting_core.specs.declared.stream.StreamFault.{StreamFault}
 use Rattle.branch_loader.specs.declared.loader.Loaded.{Loaded}
 use Rattle.load_driver.specs.declared.drive.Driven.{Driven}
 use Rattle.report_contents.specs.Written.{AppendsPart}
 use Rattle.report_contents.specs.declared.audit.Audit.{Audit}
-use Rattle.bank_store.specs.Down.{bank_reason}
-use Rattle.bank_store.specs.Seen.{bank_seen, fault_of}
+use Rattle.bank_store.specs.believed.Down.{bank_reason}
+use Rattle.bank_store.specs.believed.Seen.{bank_seen}
+use Rattle.bank_store.specs.Seen.{fault_of}
 use Rattle.bank_store.specs.declared.bank.Bank.{Bank}
 use Rattle.bank_store.specs.declared.migration.Migrated.{Migrated}
 use Rattle.bank_store.specs.declared.migration.Migrated.TheVariants.{Already, Moved}

@@ -4,9 +4,9 @@ use Rattle.std.specs.Prelude.{◌≡◌, ◌⊎◌, List, Result, Err, IsErrAnd}
 use Rattle.sqlite.specs.Held.{Held, state}
 use Rattle.sqlite.specs.State.{HasCleanDisk, Survives}
 use Rattle.sqlite_trees.specs.declared.store.Store.{Ghosts}
-use Rattle.posting_rules.specs.Commands.{Command}
-use Rattle.posting_rules.specs.Counter.{LeavesOnly, ShowsLog, StandsAt}
-use Rattle.posting_rules.specs.Tables.{AreTablesOf}
+use Rattle.posting_rules.specs.believed.Commands.{Command}
+use Rattle.posting_rules.specs.believed.Counter.{LeavesOnly, ShowsLog, StandsAt}
+use Rattle.posting_rules.specs.believed.Tables.{AreTablesOf}
 use Rattle.posting_rules.specs.declared.open_fault.OpenFault.TheVariants.{NotBlank, Store}
 use Rattle.store_rows.specs.Creation.{HasNewBank, IsEmpty}
 use Rattle.bank_store.specs.Connections.{IsGivenBack, conn_seen}
@@ -14,7 +14,7 @@ use Rattle.bank_store.specs.FoundBank.{IsTakenUp, Misses}
 use Rattle.bank_store.specs.Migration.{HasCarriedOver, IsMigrated, KnowsAnswer, LeavesBank, Misplaces}
 use Rattle.bank_store.specs.NewBank.{IsNewBank, IsTaken}
 use Rattle.bank_store.specs.OpenFaults.{IsUnmade}
-use Rattle.bank_store.specs.Seen.{connection_of, file_of}
+use Rattle.bank_store.specs.believed.Seen.{connection_of, file_of}
 use Rattle.bank_store.specs.Sparing.{SparesWhileOpen}
 use Rattle.bank_store.specs.StoreFaults.{KnowsCause, KnowsWhyUnmade}
 use Rattle.bank_store.specs.declared.bank.Bank.{Bank}

@@ -5,16 +5,17 @@ use Rattle.std.specs.Prelude.{◌≡◌, ℕ, List, Option, Some, None, Result, 
 use Rattle.std.specs.Io.KnownBytes.{Keeps}
 use Rattle.sqlite.specs.Held.{Held}
 use Rattle.sqlite_trees.specs.declared.store.Store.{Ghosts}
-use Rattle.posting_rules.specs.Commands.{Command}
-use Rattle.posting_rules.specs.Counter.{ShowsLog}
+use Rattle.posting_rules.specs.believed.Commands.{Command}
+use Rattle.posting_rules.specs.believed.Counter.{ShowsLog}
 use Rattle.posting_rules.specs.declared.fault.Fault.{Fault}
 use Rattle.posting_core.specs.Told.{WriteTold}
-use Rattle.sql_meanings.specs.Entries.{Entry}
-use Rattle.store_rows.specs.BankTables.{branch as branch_table, floor as floor_table}
+use Rattle.sql_meanings.specs.believed.Entries.{Entry}
+use Rattle.store_rows.specs.believed.BankTables.{branch as branch_table, floor as floor_table}
 use Rattle.walked_rows.specs.KeptRows.{HasKept, KeptItem}
 use Rattle.walked_rows.specs.Rows.{HasStoredRows}
 use Rattle.bank_store.specs.Leaving.{StandsWhileOpen, TakesNone}
-use Rattle.bank_store.specs.Seen.{bank_seen, database_of, fault_of}
+use Rattle.bank_store.specs.believed.Seen.{bank_seen, database_of}
+use Rattle.bank_store.specs.Seen.{fault_of}
 use Rattle.bank_store.specs.declared.bank.Bank.{Bank}
 use Rattle.bank_replays.specs.Digests.{DigestsFirst, DigestsRows, IsDigestIn, IsDigestOf, answered_after}
 use Rattle.bank_replays.specs.FileTables.{FileTables, HasTables}

@@ -1,13 +1,16 @@
 -- What each call of a counter says, as a call of its life.
 use Rattle.std.proofs.Common.{◌≡◌, ◌≤◌, ◌⊎◌, ℕ, List, [], length, arith, refl, inl, inr}
 use Rattle.std.proofs.Math.Seq.{take-length}
-use Rattle.posting_rules.specs.{declared.fault.Fault.Fault, Commands.Command, Commands.AreCommands, Counter.Seen}
-use Rattle.posting_rules.specs.{Counter.StandsAt, Counter.LeavesOnly, Counter.LeavesNoMore, Counter.ShowsPrefix}
-use Rattle.posting_rules.specs.{Counter.ShowsLog, Counter.Takes, Counter.Refuses, Runs.followed_by}
-use Rattle.posting_rules.specs.{Tables.AreTablesOf}
+use Rattle.posting_rules.specs.{declared.fault.Fault.Fault, believed.Commands.Command, believed.Commands.AreCommands}
+use Rattle.posting_rules.specs.{believed.Counter.Seen}
+use Rattle.posting_rules.specs.{believed.Counter.StandsAt, believed.Counter.LeavesOnly, believed.Counter.LeavesNoMore}
+use Rattle.posting_rules.specs.{believed.Counter.ShowsPrefix}
+use Rattle.posting_rules.specs.{believed.Counter.ShowsLog, believed.Counter.Takes, believed.Counter.Refuses}
+use Rattle.posting_rules.specs.{believed.Runs.followed_by}
+use Rattle.posting_rules.specs.{believed.Tables.AreTablesOf}
 use Rattle.posting_rules.specs.declared.fault.Fault.TheVariants.{Memory, Store, Down, Damaged}
 use Rattle.posting_rules.proofs.Remaining.{leaves_still, leaves_weaker}
-use Rattle.bank_lives.specs.Lives.{IsCall, EndsLife, given_to}
+use Rattle.bank_lives.specs.believed.Lives.{IsCall, EndsLife, given_to}
 
 -- what leaves the log with all the commands leaves the longest prefix
 pub all_left : (c : Seen) (log commands : List Command) (least : ℕ) → least ≤ length commands

@@ -1,10 +1,10 @@
 -- What a crash leaves of a life.
 use Rattle.std.proofs.Common.{◌≡◌, ◌≤◌, ◌⊎◌, ◌+◌, ◌++◌, ℕ, zero, suc, List, length, take, arith, inl, inr}
 use Rattle.std.proofs.{Math.Seq.take-append-add, lemmas.List.length-append, lemmas.List.take-append-le}
-use Rattle.posting_rules.specs.{Commands.Command, Runs.followed_by, Tables.Tables}
-use Rattle.posting_rules.specs.Counter.{Seen, StandsAt, LeavesOnly, ShowsPrefix}
+use Rattle.posting_rules.specs.{believed.Commands.Command, believed.Runs.followed_by, believed.Tables.Tables}
+use Rattle.posting_rules.specs.believed.Counter.{Seen, StandsAt, LeavesOnly, ShowsPrefix}
 use Rattle.posting_rules.proofs.{Remaining.leaves_still, Remaining.leaves_weaker, Sequence.after-append}
-use Rattle.bank_lives.specs.Lives.{IsCall, EndsLife, Life, begins, goes_on, reached}
+use Rattle.bank_lives.specs.believed.Lives.{IsCall, EndsLife, Life, begins, goes_on, reached}
 use Rattle.bank_lives.proofs.Calls.{all_left, nothing_ends}
 
 -- all that was given before, and a prefix of one call more

@@ -1,14 +1,14 @@
 -- A connection that a call left as it was, but for what its store failed in.
 use Rattle.std.proofs.Common.{◌≡◌, [], List, sym, subst, arith, inl, inr}
 use Rattle.sqlite.specs.{Effect.Database, State.State, State.HasCleanDisk, State.Survives, Held.Held}
-use Rattle.posting_rules.specs.{Commands.Command, Tables.AreTablesOf}
-use Rattle.posting_rules.specs.Counter.{LeavesNoMore, LeavesOnly, StandsAt}
+use Rattle.posting_rules.specs.{believed.Commands.Command, believed.Tables.AreTablesOf}
+use Rattle.posting_rules.specs.believed.Counter.{LeavesNoMore, LeavesOnly, StandsAt}
 use Rattle.posting_rules.proofs.Remaining.{leaves_still}
-use Rattle.store_rows.specs.View.{Shows}
+use Rattle.store_rows.specs.believed.View.{Shows}
 use Rattle.sqlite_trees.specs.declared.store.Store.{Ghosts}
 use Rattle.bank_store.specs.{Connections.conn_seen, declared.bank.Bank.Bank, Walks.IsStill}
-use Rattle.bank_store.specs.Seen.{bank_seen, connection_of, seen_in}
-use Rattle.bank_lives.specs.Lives.{EndsLife, IsCall}
+use Rattle.bank_store.specs.believed.Seen.{bank_seen, connection_of, seen_in}
+use Rattle.bank_lives.specs.believed.Lives.{EndsLife, IsCall}
 use Rattle.bank_lives.proofs.Calls.{stood_is_call, told_is_call}
 
 module _ (old new : State) (quiet : Survives old new (λ _. ⊥)) where

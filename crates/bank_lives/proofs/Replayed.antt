@@ -3,13 +3,14 @@ use Rattle.std.proofs.Common.{◌≡◌, ◌∙◌, List, [], Option, refl, sym,
 use Rattle.std.specs.Prelude.{IsSome}
 use Rattle.sqlite.specs.{Effect.Database, Held.Held, Held.state, State.Opens, State.State, Tree.Trees}
 use Rattle.sqlite_trees.specs.declared.store.Store.{Ghosts}
-use Rattle.posting_rules.specs.{Commands.Command, Counter.ShowsLog, Counter.StandsAt}
-use Rattle.store_rows.specs.{View.Shows, View.ShowsTrees, declared.fault.TableFault.TableFault}
+use Rattle.posting_rules.specs.{believed.Commands.Command, believed.Counter.ShowsLog, believed.Counter.StandsAt}
+use Rattle.store_rows.specs.{believed.View.Shows, believed.View.ShowsTrees, declared.fault.TableFault.TableFault}
 use Rattle.bank_store.specs.{Connections.conn_seen, declared.bank.Bank.Bank}
-use Rattle.bank_store.specs.Seen.{bank_seen, file_of, seen_in}
-use Rattle.bank_lives.specs.Lives.{IsCall, Life, begins, goes_on}
-use Rattle.bank_lives.specs.ManyLives.{LeavesShown, Lives, replayed}
-use Rattle.bank_lives.specs.{Moments.Of_bank, Moments.Of_connection, Moments.seen_at, Replayed.IsReplayed}
+use Rattle.bank_store.specs.believed.Seen.{bank_seen, file_of, seen_in}
+use Rattle.bank_lives.specs.believed.Lives.{IsCall, Life, begins, goes_on}
+use Rattle.bank_lives.specs.believed.ManyLives.{LeavesShown, Lives, replayed}
+use Rattle.bank_lives.specs.{believed.Moments.Of_bank, believed.Moments.Of_connection, believed.Moments.seen_at}
+use Rattle.bank_lives.specs.{Replayed.IsReplayed}
 use Rattle.bank_lives.proofs.{Calls.taken_is_call, ManyLived.before_life, Quiet.call_of_nothing}
 
 opened_leaves : (s : State) (D : Type 0) → Opens s → ((db : Trees) → s.may_leave db → db ≡ s.committed.trees)

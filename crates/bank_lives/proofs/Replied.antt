@@ -1,9 +1,10 @@
 -- The reply that a record gets at its place.
 use Rattle.std.proofs.Common.{◌≡◌, ℕ, List, [], ◌∷◌, ◌++◌, length, get_or, sym, ap, subst, ◌∙◌}
 use Rattle.std.proofs.Math.Seq.{get_or-append_seam}
-use Rattle.message_records.specs.Spelling.{reply_spelling}
-use Rattle.posting_rules.specs.Commands.{Command, Open, Post}
-use Rattle.posting_rules.specs.{Entries.reply, Resends.Place, Runs.followed_by, Runs.replies_to, Runs.ArePosts}
+use Rattle.message_records.specs.believed.Spelling.{reply_spelling}
+use Rattle.posting_rules.specs.believed.Commands.{Command, Open, Post}
+use Rattle.posting_rules.specs.{believed.Entries.reply, Resends.Place, believed.Runs.followed_by}
+use Rattle.posting_rules.specs.{believed.Runs.replies_to, believed.Runs.ArePosts}
 use Rattle.posting_rules.proofs.{Resends.replies_in_place, Sequence.one_reply_each, Sequence.replies_to-append}
 
 front_posts : (front rest : List Command) → ArePosts (front ++ rest) → ArePosts front

@@ -2,11 +2,12 @@
 use Rattle.std.proofs.Common.{◌≡◌, ◌≤◌, ℕ, ◌+◌, List, [], ◌∷◌, ◌++◌, length, take, drop, refl, sym, ap, subst, ◌∙◌}
 use Rattle.std.proofs.Common.{arith, take_all, length-append, length-take}
 use Rattle.std.specs.Prelude.{max}
-use Rattle.posting_rules.specs.{Commands.Command, Counter.Seen, Counter.StandsAt, Resends.Skips, Tables.AreTablesOf}
-use Rattle.posting_rules.specs.Runs.{followed_by, posts, replies_to, ArePosts}
+use Rattle.posting_rules.specs.{believed.Commands.Command, believed.Counter.Seen, believed.Counter.StandsAt}
+use Rattle.posting_rules.specs.{Resends.Skips, believed.Tables.AreTablesOf}
+use Rattle.posting_rules.specs.believed.Runs.{followed_by, posts, replies_to, ArePosts}
 use Rattle.posting_rules.proofs.{Remaining.leaves_weaker, Sequence.after-append}
 use Rattle.posting_rules.proofs.Resends.{posts_both, shows_left_out, shows_log_left_out}
-use Rattle.bank_lives.specs.ManyLives.{Given, Keeps, Lives}
+use Rattle.bank_lives.specs.believed.ManyLives.{Given, Keeps, Lives}
 use Rattle.bank_lives.specs.Sending.{FindsSent, Sends, SendsFrom, begins, goes_on}
 use Rattle.bank_lives.proofs.ManyLived.{Begins, before_life, each_once, kept}
 use Rattle.bank_lives.proofs.Resent.{first_posts, first_replies, resend, within_front}

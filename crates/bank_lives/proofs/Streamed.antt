@@ -4,26 +4,26 @@ use Rattle.std.proofs.Common.{Ok, Err, refl, sym, ap, subst, ◌∙◌, arith, a
 use Rattle.std.proofs.Common.{inr}
 use Rattle.std.proofs.lemmas.List.Concat.{flat_map-append}
 use Rattle.std.specs.Prelude.{IfErr}
-use Rattle.posting_rules.specs.{declared.fault.Fault.Fault, Commands.Command, Tables.AreTablesOf}
+use Rattle.posting_rules.specs.{declared.fault.Fault.Fault, believed.Commands.Command, believed.Tables.AreTablesOf}
 use Rattle.posting_rules.specs.declared.fault.Fault.TheVariants.{Memory, Store, Down, Damaged}
-use Rattle.posting_rules.specs.Counter.{Seen, StandsAt, LeavesOnly, ShowsPrefix, ShowsLog, Takes, Refuses}
-use Rattle.posting_rules.specs.Counter.{IsSeenUnchanged}
-use Rattle.posting_rules.specs.Runs.{followed_by, replies_to, ArePosts}
+use Rattle.posting_rules.specs.believed.Counter.{Seen, StandsAt, LeavesOnly, ShowsPrefix, ShowsLog, Takes, Refuses}
+use Rattle.posting_rules.specs.believed.Counter.{IsSeenUnchanged}
+use Rattle.posting_rules.specs.believed.Runs.{followed_by, replies_to, ArePosts}
 use Rattle.posting_rules.proofs.{Remaining.leaves_still, Sequence.one_reply_each, Sequence.replies_to-append}
-use Rattle.posting_core.specs.Batches.{Batch, joined, posts_in, posts_of}
-use Rattle.posting_core.specs.Stream.{IfBank, IsRefusedAfterBatches, Streamed, acknowledged}
+use Rattle.posting_core.specs.believed.Batches.{Batch, joined, posts_in, posts_of}
+use Rattle.posting_core.specs.believed.Stream.{IfBank, IsRefusedAfterBatches, Streamed, acknowledged}
 use Rattle.posting_core.specs.declared.stream.StreamFault.{StreamFault}
 use Rattle.posting_core.specs.declared.stream.StreamFault.TheVariants as stream
 use Rattle.posting_core.proofs.Stops.{stop_part}
-use Rattle.counter_http.specs.{Outputs.acknowledged_records, declared.fault.ServeFault.ServeFault}
-use Rattle.counter_http.specs.Serving.{Exits, At_message, At_last, At_refusal}
-use Rattle.counter_http.specs.Turns.{Turn, commands_in, commands_of, answers_to}
+use Rattle.counter_http.specs.{believed.Outputs.acknowledged_records, declared.fault.ServeFault.ServeFault}
+use Rattle.counter_http.specs.believed.Serving.{Exits, At_message, At_last, At_refusal}
+use Rattle.counter_http.specs.believed.Turns.{Turn, commands_in, commands_of, answers_to}
 use Rattle.counter_http.specs.declared.fault.ServeFault.TheVariants as serving
-use Rattle.branch_loader.specs.Loading.{IsRefusedAfter}
-use Rattle.load_driver.specs.Drives.{Drives, EndsDrive}
+use Rattle.branch_loader.specs.believed.Loading.{IsRefusedAfter}
+use Rattle.load_driver.specs.believed.Drives.{Drives, EndsDrive}
 use Rattle.load_driver.specs.declared.{drive.Driven.Driven, drive_fault.DriveFault.DriveFault}
 use Rattle.load_driver.specs.declared.drive_fault.DriveFault.TheVariants as driving
-use Rattle.bank_lives.specs.Lives.{IsStream}
+use Rattle.bank_lives.specs.believed.Lives.{IsStream}
 use Rattle.bank_lives.proofs.Calls.{still, stood_is_call}
 
 -- ---- in general

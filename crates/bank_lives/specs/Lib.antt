@@ -1,6 +1,4 @@
 -- The life of a counter, and what is found after any number of them. Begin with `Lives`.
-pub mod Lives
-pub mod ManyLives
-pub mod Moments
+pub mod believed
 pub mod Replayed
 pub mod Sending

@@ -3,11 +3,12 @@ use Rattle.std.specs.Prelude.{◌≡◌, List, ⊤}
 use Rattle.sqlite.specs.Held.{Held, state}
 use Rattle.sqlite.specs.State.{Opens, Survives}
 use Rattle.sqlite_trees.specs.declared.store.Store.{Ghosts}
-use Rattle.posting_rules.specs.Commands.{Command}
-use Rattle.posting_rules.specs.Counter.{ShowsLog}
+use Rattle.posting_rules.specs.believed.Commands.{Command}
+use Rattle.posting_rules.specs.believed.Counter.{ShowsLog}
 use Rattle.bank_store.specs.FoundBank.{IsTakenUp}
 use Rattle.bank_store.specs.Leaving.{TakesNone}
-use Rattle.bank_store.specs.Seen.{bank_seen, fault_of, file_of}
+use Rattle.bank_store.specs.believed.Seen.{bank_seen, file_of}
+use Rattle.bank_store.specs.Seen.{fault_of}
 use Rattle.bank_store.specs.declared.bank.Bank.{Bank}
 
 -- A connection was just opened, `adopt` took up the bank over it, and `replay` said of that bank that it agrees and

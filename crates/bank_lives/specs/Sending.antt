@@ -1,12 +1,12 @@
 -- A sender of records, who goes on after a crash.
 use Rattle.std.specs.Prelude.{◌≡◌, ◌≤◌, ℕ, ◌+◌, List, [], ◌∷◌, length, take, drop, max, AllPairs}
-use Rattle.posting_rules.specs.Commands.{Command}
-use Rattle.posting_rules.specs.Counter.{Seen, StandsAt}
-use Rattle.posting_rules.specs.Entries.{decided}
-use Rattle.posting_rules.specs.Laws.{Differ}
-use Rattle.posting_rules.specs.Runs.{followed_by, posts, replies_to, ArePosts}
-use Rattle.posting_core.specs.Stream.{posted_records}
-use Rattle.bank_lives.specs.ManyLives.{Given}
+use Rattle.posting_rules.specs.believed.Commands.{Command}
+use Rattle.posting_rules.specs.believed.Counter.{Seen, StandsAt}
+use Rattle.posting_rules.specs.believed.Entries.{decided}
+use Rattle.posting_rules.specs.believed.Laws.{Differ}
+use Rattle.posting_rules.specs.believed.Runs.{followed_by, posts, replies_to, ArePosts}
+use Rattle.posting_core.specs.believed.Stream.{posted_records}
+use Rattle.bank_lives.specs.believed.ManyLives.{Given}
 
 -- they post the records of a list from a place on, at whatever moments
 pub record SendsFrom (records : List (List ℕ)) (place : ℕ) (commands : List Command) : Type 0 where

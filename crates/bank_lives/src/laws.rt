@@ -3,12 +3,13 @@
 ghost use Rattle.std.specs.Prelude.{◌≡◌, ◌≤◌, ℕ, List, length};
 ghost use Rattle.posting_rules.specs.declared.fault.Fault.{Fault as Told};
 ghost use Rattle.posting_rules.specs.declared.fault.Fault.TheVariants.{Down};
-ghost use Rattle.posting_rules.specs.Commands.{Command, AreCommands};
-ghost use Rattle.posting_rules.specs.Counter.{Takes, Refuses, StandsAt, LeavesOnly, ShowsPrefix};
-ghost use Rattle.posting_rules.specs.Tables.{Tables, AreTablesOf};
+ghost use Rattle.posting_rules.specs.believed.Commands.{Command, AreCommands};
+ghost use Rattle.posting_rules.specs.believed.Counter.{Takes, Refuses, StandsAt, LeavesOnly, ShowsPrefix};
+ghost use Rattle.posting_rules.specs.believed.Tables.{Tables, AreTablesOf};
 ghost use Rattle.posting_rules.specs.declared.fault.Rule.{Rule};
-ghost use Rattle.store_rows.specs.Rules.{KeepsRule, stored_rows};
-ghost use Rattle.bank_lives.specs.Lives.{IsCall, Life, given_to};
+ghost use Rattle.store_rows.specs.believed.Rules.{KeepsRule};
+ghost use Rattle.store_rows.specs.Rules.{stored_rows};
+ghost use Rattle.bank_lives.specs.believed.Lives.{IsCall, Life, given_to};
 
 use posting_rules::Counter;
 

@@ -32,8 +32,8 @@
 //! }
 //! ```
 //!
-//! Read next: `specs/Lives`, with a call of a life, a life, its end, and what is found after it;
-//! `specs/ManyLives`, with lives one after another; then [`lives_law`], and [`sender_law`] for a sender who goes
+//! Read next: `specs/believed/Lives`, with a call of a life, a life, its end, and what is found after it;
+//! `specs/believed/ManyLives`, with lives one after another; then [`lives_law`], and [`sender_law`] for a sender who goes
 //! on after a crash. The other laws say which steps there are: the calls of a counter ([`calls_law`]), walks and
 //! reports ([`walks_law`], [`reports_law`]), streams ([`streams_law`]), what joins two lives
 //! ([`reopenings_law`]), and how they begin with a file of anyone's that was replayed ([`replayed_law`]).

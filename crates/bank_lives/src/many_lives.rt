@@ -2,13 +2,13 @@
 ghost use Rattle.std.specs.Prelude.{◌≡◌, ◌∷◌, ◌++◌, [], ℕ, List};
 ghost use Rattle.sqlite.specs.Held.{state};
 ghost use Rattle.sqlite.specs.State.{Opens, Survives};
-ghost use Rattle.posting_rules.specs.Commands.{Command};
-ghost use Rattle.posting_rules.specs.Counter.{LeavesOnly, StandsAt};
+ghost use Rattle.posting_rules.specs.believed.Commands.{Command};
+ghost use Rattle.posting_rules.specs.believed.Counter.{LeavesOnly, StandsAt};
 ghost use Rattle.bank_store.specs.Connections.{conn_seen};
-ghost use Rattle.bank_store.specs.Seen.{bank_seen, connection_of};
-ghost use Rattle.bank_lives.specs.Lives.{EndsLife, IsCall, Life};
-ghost use Rattle.bank_lives.specs.ManyLives.{Given, IsKept, IsOpenedOn, Keeps, Lives, ShowsKept};
-ghost use Rattle.bank_lives.specs.Moments.{Moment, Of_bank, seen_at};
+ghost use Rattle.bank_store.specs.believed.Seen.{bank_seen, connection_of};
+ghost use Rattle.bank_lives.specs.believed.Lives.{EndsLife, IsCall, Life};
+ghost use Rattle.bank_lives.specs.believed.ManyLives.{Given, IsKept, IsOpenedOn, Keeps, Lives, ShowsKept};
+ghost use Rattle.bank_lives.specs.believed.Moments.{Moment, Of_bank, seen_at};
 ghost use Rattle.bank_lives.specs.Replayed.{IsReplayed};
 ghost use Rattle.bank_lives.specs.Sending.{FindsSent, Sends};
 

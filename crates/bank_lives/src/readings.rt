@@ -2,12 +2,13 @@
 ghost use Rattle.std.specs.Prelude.{◌≡◌, ◌⊎◌, [], List};
 ghost use Rattle.sqlite.specs.Held.{state};
 ghost use Rattle.sqlite.specs.State.{HasCleanDisk, Survives};
-ghost use Rattle.posting_rules.specs.Commands.{Command};
-ghost use Rattle.posting_rules.specs.Counter.{LeavesOnly, StandsAt};
-ghost use Rattle.posting_rules.specs.Tables.{AreTablesOf};
-ghost use Rattle.bank_store.specs.Seen.{bank_seen, connection_of, fault_of};
+ghost use Rattle.posting_rules.specs.believed.Commands.{Command};
+ghost use Rattle.posting_rules.specs.believed.Counter.{LeavesOnly, StandsAt};
+ghost use Rattle.posting_rules.specs.believed.Tables.{AreTablesOf};
+ghost use Rattle.bank_store.specs.believed.Seen.{bank_seen, connection_of};
+ghost use Rattle.bank_store.specs.Seen.{fault_of};
 ghost use Rattle.bank_store.specs.Walks.{IsStill};
-ghost use Rattle.bank_lives.specs.Lives.{EndsLife, IsCall};
+ghost use Rattle.bank_lives.specs.believed.Lives.{EndsLife, IsCall};
 
 use bank_store::Bank;
 use posting_rules::Counter;

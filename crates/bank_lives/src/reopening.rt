@@ -3,14 +3,14 @@ ghost use Rattle.std.specs.Prelude.{◌≡◌, ◌∷◌, ℕ, List, IfOk, IfErr
 ghost use Rattle.sqlite.specs.Held.{state};
 ghost use Rattle.sqlite.specs.State.{HasCleanDisk, Opens};
 ghost use Rattle.sqlite.specs.Tree.{Trees};
-ghost use Rattle.posting_rules.specs.Commands.{Command};
-ghost use Rattle.posting_rules.specs.Counter.{LeavesOnly, ShowsPrefix, StandsAt};
+ghost use Rattle.posting_rules.specs.believed.Commands.{Command};
+ghost use Rattle.posting_rules.specs.believed.Counter.{LeavesOnly, ShowsPrefix, StandsAt};
 ghost use Rattle.bank_store.specs.Connections.{conn_seen};
-ghost use Rattle.bank_store.specs.Seen.{bank_seen};
+ghost use Rattle.bank_store.specs.believed.Seen.{bank_seen};
 ghost use Rattle.bank_store.specs.StoreFaults.{KnowsCause};
-ghost use Rattle.bank_lives.specs.Lives.{IsFoundAgain, Life};
-ghost use Rattle.bank_lives.specs.ManyLives.{Given, IsKept, Lives};
-ghost use Rattle.bank_lives.specs.Moments.{Moment, Of_bank, seen_at};
+ghost use Rattle.bank_lives.specs.believed.Lives.{IsFoundAgain, Life};
+ghost use Rattle.bank_lives.specs.believed.ManyLives.{Given, IsKept, Lives};
+ghost use Rattle.bank_lives.specs.believed.Moments.{Moment, Of_bank, seen_at};
 
 use bank_store::{Bank, OpenFault, Refused, adopt};
 use sqlite::{Alter, Connection};

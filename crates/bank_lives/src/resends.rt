@@ -1,9 +1,9 @@
 //! Records that come again.
 ghost use Rattle.std.specs.Prelude.{◌≡◌, ℕ, [], List, get_or, length};
-ghost use Rattle.posting_rules.specs.Commands.{Command};
-ghost use Rattle.posting_rules.specs.Counter.{ShowMore, ShowsLog};
+ghost use Rattle.posting_rules.specs.believed.Commands.{Command};
+ghost use Rattle.posting_rules.specs.believed.Counter.{ShowMore, ShowsLog};
 ghost use Rattle.posting_rules.specs.Resends.{Place, Skips};
-ghost use Rattle.posting_rules.specs.Runs.{followed_by, replies_to, ArePosts};
+ghost use Rattle.posting_rules.specs.believed.Runs.{followed_by, replies_to, ArePosts};
 
 use posting_rules::Counter;
 

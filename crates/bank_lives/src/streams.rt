@@ -1,23 +1,23 @@
 //! Streams as calls of a life. A stream makes many calls; what its contract says of them all is here one call
 //! of its life (`IsStream`): it took some commands, and may then have been refused others.
 ghost use Rattle.std.specs.Prelude.{◌≡◌, ◌≤◌, ◌++◌, ℕ, List, Option, Result, IfErr, drop, length, take};
-ghost use Rattle.posting_rules.specs.Commands.{Command};
-ghost use Rattle.posting_rules.specs.Counter.{ShowsLog};
-ghost use Rattle.posting_rules.specs.Runs.{replies_to};
+ghost use Rattle.posting_rules.specs.believed.Commands.{Command};
+ghost use Rattle.posting_rules.specs.believed.Counter.{ShowsLog};
+ghost use Rattle.posting_rules.specs.believed.Runs.{replies_to};
 ghost use Rattle.posting_rules.specs.declared.fault.Fault.{Fault as Told};
-ghost use Rattle.posting_core.specs.Batches.{posts_of};
-ghost use Rattle.posting_core.specs.Stream.{IfBank, IsRefusedAfterBatches, Streamed, acknowledged};
-ghost use Rattle.posting_core.specs.Told.{ReadTold};
+ghost use Rattle.posting_core.specs.believed.Batches.{posts_of};
+ghost use Rattle.posting_core.specs.believed.Stream.{IfBank, IsRefusedAfterBatches, Streamed, acknowledged};
+ghost use Rattle.posting_core.specs.believed.Told.{ReadTold};
 ghost use Rattle.posting_core.specs.declared.stream.StreamFault.{StreamFault};
-ghost use Rattle.counter_http.specs.Outputs.{acknowledged_records};
-ghost use Rattle.counter_http.specs.Serving.{ServesConnection};
-ghost use Rattle.counter_http.specs.Turns.{Turn, commands_of};
+ghost use Rattle.counter_http.specs.believed.Outputs.{acknowledged_records};
+ghost use Rattle.counter_http.specs.believed.Serving.{ServesConnection};
+ghost use Rattle.counter_http.specs.believed.Turns.{Turn, commands_of};
 ghost use Rattle.counter_http.specs.declared.fault.ServeFault.{ServeFault};
-ghost use Rattle.branch_loader.specs.Loading.{IsRefusedAfter};
-ghost use Rattle.load_driver.specs.Drives.{Drives};
+ghost use Rattle.branch_loader.specs.believed.Loading.{IsRefusedAfter};
+ghost use Rattle.load_driver.specs.believed.Drives.{Drives};
 ghost use Rattle.load_driver.specs.declared.drive.Driven.{Driven};
 ghost use Rattle.load_driver.specs.declared.drive_fault.DriveFault.{DriveFault};
-ghost use Rattle.bank_lives.specs.Lives.{IsStream};
+ghost use Rattle.bank_lives.specs.believed.Lives.{IsStream};
 
 use posting_rules::Counter;
 

@@ -1,8 +1,8 @@
 -- The rows of two files are the same where they are in each table.
 use Rattle.std.proofs.Common.{◌≡◌, List}
 use Rattle.sqlite.specs.{Effect.Database, Table.Table}
-use Rattle.sql_meanings.specs.Entries.{Entry}
-use Rattle.store_rows.specs.BankTables.{account, branch, floor, history, meta, reference, request, teller}
+use Rattle.sql_meanings.specs.believed.Entries.{Entry}
+use Rattle.store_rows.specs.believed.BankTables.{account, branch, floor, history, meta, reference, request, teller}
 use Rattle.walked_rows.specs.Rows.{HasStoredRows}
 use Rattle.bank_replays.specs.{Comparing.Both, Comparing.SameRows, FileTables.FileTables, FileTables.SameTables}
 

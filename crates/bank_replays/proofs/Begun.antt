@@ -3,7 +3,7 @@ use Rattle.std.proofs.Common.{ℕ, ℤ, Bool, Option, None, List, Result, Ok, Er
 use Rattle.std.specs.Borrow.{GName}
 use Rattle.sqlite.specs.Effect.{Database}
 use Rattle.sqlite_trees.specs.declared.store.Store.{Ghosts}
-use Rattle.bank_store.specs.{Seen.database_of, declared.bank.Bank.Bank, declared.walks.Walk.Walk}
+use Rattle.bank_store.specs.{believed.Seen.database_of, declared.bank.Bank.Bank, declared.walks.Walk.Walk}
 use Rattle.bank_store.specs.Walking.{BeginsWalk, items_to_come, lent}
 use Rattle.bank_replays.specs.{Handing.HandsSome, declared.fault.ReplayFault.ReplayFault}
 

@@ -3,12 +3,12 @@ use Rattle.std.proofs.Common.{◌≡◌, ◌+◌, ◌++◌, ℕ, ℤ, pos, List,
 use Rattle.std.proofs.Common.{ap, subst, ◌∙◌, arith}
 use Rattle.std.specs.{Prelude.nat_abs, Prelude.option_map, Prelude.unwrap_or, List.AllByRecursion}
 use Rattle.std.proofs.lemmas.List.{length-append, length-map, map-append}
-use Rattle.message_records.specs.{declared.records.Outcome.Outcome, Outcomes.code_of, Reading.outcome_with}
+use Rattle.message_records.specs.{declared.records.Outcome.Outcome, believed.Outcomes.code_of, Reading.outcome_with}
 use Rattle.message_records.specs.declared.records.Outcome.TheVariants.{Posted, NoTeller, WrongBranch, NoAccount}
 use Rattle.message_records.specs.declared.records.Outcome.TheVariants.{BelowFloor, OverLimit, ReusedNumber, Full}
 use Rattle.message_records.specs.declared.records.Outcome.TheVariants.{Malformed}
-use Rattle.message_records.specs.Records.{ReplyFields, RequestFields, unreferenced}
-use Rattle.posting_rules.specs.Cases.{balance_shown}
+use Rattle.message_records.specs.believed.Records.{ReplyFields, RequestFields, unreferenced}
+use Rattle.posting_rules.specs.believed.Cases.{balance_shown}
 use Rattle.walked_rows.specs.{KeptRows.KeptItem, KeptRows.kept_item, Stored.posting_entry}
 use Rattle.walked_rows.specs.{declared.kept.KeptRequest.KeptRequest, declared.postings.StoredPosting.StoredPosting}
 use Rattle.walked_rows.specs.References.{text_after, text_entry}

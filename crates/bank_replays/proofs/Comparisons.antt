@@ -5,7 +5,7 @@ use Rattle.sqlite.specs.Effect.{Database}
 use Rattle.sqlite_trees.specs.declared.store.Store.{Ghosts}
 use Rattle.posting_rules.specs.declared.fault.{Fault.Fault, Rule.Rule}
 use Rattle.posting_rules.specs.declared.fault.Fault.TheVariants.{Down, Memory}
-use Rattle.bank_store.specs.{Walking.Steps, Seen.database_of, declared.bank.Bank.Bank}
+use Rattle.bank_store.specs.{Walking.Steps, believed.Seen.database_of, declared.bank.Bank.Bank}
 use Rattle.bank_replays.specs.{Comparing.Both, Comparing.Compares, declared.difference.Difference.Difference}
 use Rattle.bank_replays.proofs.Read.{clean_before, read_then}
 

@@ -5,7 +5,7 @@ use Rattle.std.specs.List.{flat_map}
 use Rattle.std.proofs.lemmas.List.{map-append, Concat.flat_map-append, Elements.filter-append}
 use Rattle.report_contents.specs.Written.{AppendsPart}
 use Rattle.report_contents.proofs.Written.{first_part, same_part}
-use Rattle.message_records.specs.Spelling.{request_spelling}
+use Rattle.message_records.specs.believed.Spelling.{request_spelling}
 use Rattle.walked_rows.specs.{KeptRows.KeptItem, KeptRows.kept_item, declared.kept.KeptRequest.KeptRequest}
 use Rattle.bank_replays.specs.{Requests.request_in, Writing.is_after, Writing.records_after}
 

@@ -5,11 +5,13 @@ use Rattle.std.specs.{Prelude.int_lt, Prelude.pos, List.flat_map}
 use Rattle.std.proofs.lemmas.{Bool.cases_Bool, Int.ints, List.Concat.flat_map-append}
 use Rattle.std.proofs.lemmas.List.{drop-append-le, drop_all, length-append, map-append}
 use Rattle.sqlite.specs.Effect.{Database}
-use Rattle.message_records.specs.Spelling.{request_spelling}
-use Rattle.posting_rules.specs.{Commands.Command, Entries.DecidedRequest, Entries.decided, Tables.AreTablesOf}
-use Rattle.posting_rules.specs.{Tables.Tables, Tables.request_row_of, declared.rows.RequestRow.RequestRow}
-use Rattle.sql_meanings.specs.Entries.{Entry}
-use Rattle.store_rows.specs.View.{Shows}
+use Rattle.message_records.specs.believed.Spelling.{request_spelling}
+use Rattle.posting_rules.specs.{believed.Commands.Command, believed.Entries.DecidedRequest, believed.Entries.decided}
+use Rattle.posting_rules.specs.{believed.Tables.AreTablesOf}
+use Rattle.posting_rules.specs.{believed.Tables.Tables, believed.Tables.request_row_of}
+use Rattle.posting_rules.specs.{declared.rows.RequestRow.RequestRow}
+use Rattle.sql_meanings.specs.believed.Entries.{Entry}
+use Rattle.store_rows.specs.believed.View.{Shows}
 use Rattle.walked_rows.specs.KeptRows.{KeptItem}
 use Rattle.bank_replays.specs.Digests.{answered_after, answered_of, each_answered}
 use Rattle.bank_replays.specs.{Requests.AnsweredRequest, declared.fault.ReplayFault.ReplayFault}

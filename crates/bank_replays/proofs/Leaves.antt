@@ -3,8 +3,9 @@ use Rattle.std.proofs.Common.{Result, Ok, Err, subst}
 use Rattle.std.specs.Prelude.{IsSome, OnOk}
 use Rattle.sqlite.specs.State.{HasCleanDisk}
 use Rattle.sqlite_trees.specs.declared.store.Store.{Ghosts}
-use Rattle.bank_store.specs.{Leaving.StandsWhileOpen, Leaving.TakesNone, Seen.bank_seen, Seen.connection_of}
-use Rattle.bank_store.specs.{Seen.file_of, Sparing.SparesWhileOpen, Walks.IsStill, declared.bank.Bank.Bank}
+use Rattle.bank_store.specs.{Leaving.StandsWhileOpen, Leaving.TakesNone, believed.Seen.bank_seen}
+use Rattle.bank_store.specs.{believed.Seen.connection_of}
+use Rattle.bank_store.specs.{believed.Seen.file_of, Sparing.SparesWhileOpen, Walks.IsStill, declared.bank.Bank.Bank}
 use Rattle.bank_store.proofs.ReadsLeave.{reads_take_none, untouched_stands}
 use Rattle.bank_reports.proofs.Spared.{idle_spares, read_spares as spared_by_reads}
 use Rattle.bank_replays.specs.{Reading.ReadsBank, Replays.HasAnswered}

@@ -5,15 +5,17 @@ use Rattle.std.specs.{Prelude.pos, Prelude.option_map, Prelude.unwrap_or, List.A
 use Rattle.std.proofs.lemmas.{Bool.cases_Bool, Bool.eq-eqb, Bool.eqb-true, Int.ints, List.map-append}
 use Rattle.sqlite.specs.Effect.{Database}
 use Rattle.message_records.specs.{declared.records.Outcome.Outcome, declared.records.Outcome.TheVariants.Malformed}
-use Rattle.message_records.specs.{Outcomes.code_of, Reading.outcome_with, Records.unreferenced}
-use Rattle.posting_rules.specs.{Cases.balance_shown, Cases.kept_reply, Commands.Command}
+use Rattle.message_records.specs.{believed.Outcomes.code_of, Reading.outcome_with, believed.Records.unreferenced}
+use Rattle.posting_rules.specs.{believed.Cases.balance_shown, believed.Cases.kept_reply, believed.Commands.Command}
 use Rattle.posting_rules.specs.{declared.rows.HistoryRow.HistoryRow, declared.rows.RequestRow.RequestRow}
-use Rattle.posting_rules.specs.Entries.{DecidedRequest, decided, is_posted, kept_fields}
-use Rattle.posting_rules.specs.Tables.{AreTablesOf, Tables, history_key, history_row, history_row_of, reference_key}
-use Rattle.posting_rules.specs.Tables.{reference_row, reference_row_of, request_key, request_row, request_row_of}
-use Rattle.posting_rules.specs.Tables.{row_at}
-use Rattle.sql_meanings.specs.Entries.{Entry, Rise}
-use Rattle.store_rows.specs.View.{Shows, history_entry, reference_entry, request_entry}
+use Rattle.posting_rules.specs.believed.Entries.{DecidedRequest, decided, is_posted, kept_fields}
+use Rattle.posting_rules.specs.believed.Tables.{AreTablesOf, Tables, history_key, history_row, history_row_of}
+use Rattle.posting_rules.specs.believed.Tables.{reference_key}
+use Rattle.posting_rules.specs.believed.Tables.{reference_row, reference_row_of, request_key, request_row}
+use Rattle.posting_rules.specs.believed.Tables.{request_row_of}
+use Rattle.posting_rules.specs.believed.Tables.{row_at}
+use Rattle.sql_meanings.specs.believed.Entries.{Entry, Rise}
+use Rattle.store_rows.specs.believed.View.{Shows, history_entry, reference_entry, request_entry}
 use Rattle.walked_rows.specs.KeptRows.{HasKept, KeptItem, kept_all, kept_with}
 use Rattle.walked_rows.specs.{Pairs.row_under, References.text_after}
 use Rattle.walked_rows.proofs.Shown.{has_history, has_references, has_requests}

@@ -2,8 +2,8 @@
 use Rattle.std.proofs.Common.{◌≡◌, ◌++◌, ℕ, pos, List, [], ◌∷◌, map, Option, Some, None, refl, sym, ap, subst, ◌∙◌}
 use Rattle.std.specs.{Prelude.option_map, Io.KnownBytes.Appends}
 use Rattle.std.proofs.{KnownBytes.Appends-trans, lemmas.List.map-append}
-use Rattle.posting_rules.specs.Tables.{row_at}
-use Rattle.sql_meanings.specs.Entries.{Entry}
+use Rattle.posting_rules.specs.believed.Tables.{row_at}
+use Rattle.sql_meanings.specs.believed.Entries.{Entry}
 use Rattle.walked_rows.specs.{Pairs.row_under, Stored.branch_entry, Stored.number_after, StoredBeside.floor_entry}
 use Rattle.walked_rows.specs.{declared.branches.StoredBranch.StoredBranch, declared.floors.StoredFloor.StoredFloor}
 use Rattle.report_contents.specs.{Lines.text_of, Written.AppendsPart}

@@ -4,7 +4,7 @@ use Rattle.std.specs.Prelude.{OnOk}
 use Rattle.sqlite.specs.State.{State, HasCleanDisk, Survives}
 use Rattle.sqlite_trees.specs.declared.store.Store.{Ghosts}
 use Rattle.posting_rules.specs.declared.fault.Fault.{Fault}
-use Rattle.bank_store.specs.{Seen.file_of, Walks.IsStill, declared.bank.Bank.Bank, declared.walks.Walk.Walk}
+use Rattle.bank_store.specs.{believed.Seen.file_of, Walks.IsStill, declared.bank.Bank.Bank, declared.walks.Walk.Walk}
 use Rattle.bank_store.specs.Walking.{LeavesLent, lent}
 use Rattle.bank_store.proofs.StepsKeep.{quiet_then, still_then, still_undone, undone_then}
 use Rattle.bank_replays.specs.Reading.{ReadsBank}

@@ -1,7 +1,7 @@
 -- A bank that is given commands shows a log after them, if it did before.
 use Rattle.std.proofs.Common.{List}
-use Rattle.posting_rules.specs.{Commands.Command, Runs.followed_by}
-use Rattle.posting_rules.specs.Counter.{Seen, ShowsLog, StandsAt, Takes}
+use Rattle.posting_rules.specs.{believed.Commands.Command, believed.Runs.followed_by}
+use Rattle.posting_rules.specs.believed.Counter.{Seen, ShowsLog, StandsAt, Takes}
 
 abbrev pub SeenSome : Seen → Type 0
 SeenSome seen = seen.honest → (log : List Command) × ShowsLog seen log

@@ -1,7 +1,7 @@
 -- Rows whose numbers are the same, one by one.
 use Rattle.std.proofs.Common.{◌≡◌, ◌&&◌, ℕ, ℤ, pos, Bool, true, false, [], ◌∷◌, eqb, int_eq, refl, arith}
 use Rattle.std.proofs.lemmas.{Bool.eqb-true, Int.ints}
-use Rattle.sql_meanings.specs.Entries.{Entry}
+use Rattle.sql_meanings.specs.believed.Entries.{Entry}
 
 both : (a b : Bool) → (a && b) ≡ true → (a ≡ true) × (b ≡ true)
 both true b h = (refl, h)

@@ -1,11 +1,11 @@
 -- Two files with the same rows show the same tables.
 use Rattle.std.proofs.Common.{List, subst}
 use Rattle.sqlite.specs.{Effect.Database, State.State}
-use Rattle.posting_rules.specs.{Commands.Command, Counter.ShowsLog, Tables.Tables}
-use Rattle.store_rows.specs.View.{Shows}
+use Rattle.posting_rules.specs.{believed.Commands.Command, believed.Counter.ShowsLog, believed.Tables.Tables}
+use Rattle.store_rows.specs.believed.View.{Shows}
 use Rattle.walked_rows.proofs.Shown.{has_accounts, has_branches, has_floors, has_history, has_meta, has_references}
 use Rattle.walked_rows.proofs.Shown.{has_requests, has_tellers}
-use Rattle.bank_store.specs.Seen.{seen_in}
+use Rattle.bank_store.specs.believed.Seen.{seen_in}
 use Rattle.bank_replays.specs.FileTables.{FileTables, HasTables, SameTables, rows_due}
 
 -- a file that shows tables has their rows

@@ -2,7 +2,8 @@
 use Rattle.std.proofs.Common.{◌≡◌, ◌++◌, ℕ, List, [], Option, Result, Ok, Err, append-nil}
 use Rattle.std.specs.{Prelude.IfErr, Prelude.OnOk, Io.KnownBytes.Appends}
 use Rattle.std.proofs.KnownBytes.{Appends-trans}
-use Rattle.posting_core.specs.Told.{EndsWith, HasMore, HasWriteFailed, IsFlush, WriteTold}
+use Rattle.posting_core.specs.believed.Told.{EndsWith}
+use Rattle.posting_core.specs.Told.{HasMore, HasWriteFailed, IsFlush, WriteTold}
 use Rattle.posting_core.proofs.Telling.{more_last, more_more}
 use Rattle.posting_rules.specs.declared.fault.Fault.{Fault}
 use Rattle.report_contents.specs.Written.{AppendsPart}

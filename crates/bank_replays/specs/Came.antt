@@ -1,8 +1,8 @@
 -- The request that a kept row came as, and the reply that it got.
 use Rattle.std.specs.Prelude.{◌≡◌, ℕ, pos, Option, Some, None}
-use Rattle.message_records.specs.Outcomes.{code_of}
-use Rattle.message_records.specs.Records.{ReplyFields, RequestFields, unreferenced}
-use Rattle.posting_rules.specs.Cases.{balance_shown}
+use Rattle.message_records.specs.believed.Outcomes.{code_of}
+use Rattle.message_records.specs.believed.Records.{ReplyFields, RequestFields, unreferenced}
+use Rattle.posting_rules.specs.believed.Cases.{balance_shown}
 use Rattle.walked_rows.specs.declared.kept.KeptRequest.{KeptRequest}
 use Rattle.walked_rows.specs.declared.postings.StoredPosting.{StoredPosting}
 

@@ -5,7 +5,7 @@ use Rattle.sqlite.specs.State.{HasCleanDisk}
 use Rattle.sqlite_trees.specs.declared.store.Store.{Ghosts}
 use Rattle.posting_rules.specs.declared.fault.Fault.{Fault}
 use Rattle.posting_rules.specs.declared.fault.Fault.TheVariants.{Down}
-use Rattle.bank_store.specs.Seen.{bank_seen, database_of, file_of}
+use Rattle.bank_store.specs.believed.Seen.{bank_seen, database_of, file_of}
 use Rattle.bank_store.specs.declared.bank.Bank.{Bank}
 use Rattle.bank_replays.specs.Reading.{ReadsBank}
 use Rattle.bank_replays.specs.declared.difference.Difference.{Difference}

@@ -4,10 +4,10 @@ use Rattle.std.specs.Prelude.{Option, Some, None, Result, Ok, Err, if◌then◌e
 use Rattle.std.specs.Int.{to_be_bytes, w64}
 use Rattle.std.specs.List.{AllByRecursion}
 use Rattle.sha2.specs.Sha256.{sha256}
-use Rattle.message_records.specs.Spelling.{reply_spelling, request_spelling}
-use Rattle.posting_rules.specs.Cases.{kept_reply}
-use Rattle.posting_rules.specs.Commands.{Command}
-use Rattle.posting_rules.specs.Entries.{DecidedRequest, decided, is_posted, kept_fields}
+use Rattle.message_records.specs.believed.Spelling.{reply_spelling, request_spelling}
+use Rattle.posting_rules.specs.believed.Cases.{kept_reply}
+use Rattle.posting_rules.specs.believed.Commands.{Command}
+use Rattle.posting_rules.specs.believed.Entries.{DecidedRequest, decided, is_posted, kept_fields}
 use Rattle.posting_rules.specs.declared.fault.Fault.{Fault}
 use Rattle.walked_rows.specs.KeptRows.{KeptItem}
 use Rattle.bank_replays.specs.Requests.{AnsweredRequest, IsRequestRow, answered_in}

@@ -1,10 +1,10 @@
 -- The rows of all eight tables of a file.
 use Rattle.std.specs.Prelude.{◌≡◌, List, [], ◌∷◌, map, nat_abs, pos}
 use Rattle.sqlite.specs.Effect.{Database}
-use Rattle.posting_rules.specs.Tables.{Tables}
-use Rattle.sql_meanings.specs.Entries.{Entry}
-use Rattle.store_rows.specs.BankTables.{account, branch, floor, history, meta, reference, request, teller}
-use Rattle.store_rows.specs.View as view
+use Rattle.posting_rules.specs.believed.Tables.{Tables}
+use Rattle.sql_meanings.specs.believed.Entries.{Entry}
+use Rattle.store_rows.specs.believed.BankTables.{account, branch, floor, history, meta, reference, request, teller}
+use Rattle.store_rows.specs.believed.View as view
 use Rattle.store_rows.specs.declared.metas.TheConstants.{VERSION}
 use Rattle.walked_rows.specs.Rows.{HasStoredRows}
 

@@ -2,7 +2,8 @@
 use Rattle.std.specs.Prelude.{◌≡◌, OnOk, Result}
 use Rattle.sqlite.specs.State.{HasCleanDisk, Survives}
 use Rattle.sqlite_trees.specs.declared.store.Store.{Ghosts}
-use Rattle.bank_store.specs.Seen.{fault_of, file_of}
+use Rattle.bank_store.specs.believed.Seen.{file_of}
+use Rattle.bank_store.specs.Seen.{fault_of}
 use Rattle.bank_store.specs.Walks.{IsStill, IsUntouchedIfOpen}
 use Rattle.bank_store.specs.declared.bank.Bank.{Bank}
 

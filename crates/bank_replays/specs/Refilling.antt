@@ -1,9 +1,9 @@
 -- A second bank, of which it isn't asked what it was given.
 use Rattle.sqlite_trees.specs.declared.store.Store.{Ghosts}
-use Rattle.posting_rules.specs.Commands.{Command}
-use Rattle.posting_rules.specs.Counter.{ShowsLog}
+use Rattle.posting_rules.specs.believed.Commands.{Command}
+use Rattle.posting_rules.specs.believed.Counter.{ShowsLog}
 use Rattle.std.specs.Prelude.{List}
-use Rattle.bank_store.specs.Seen.{bank_seen}
+use Rattle.bank_store.specs.believed.Seen.{bank_seen}
 use Rattle.bank_store.specs.declared.bank.Bank.{Bank}
 
 -- where its disk is honest, its tables are those of a log

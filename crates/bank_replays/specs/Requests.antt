@@ -4,9 +4,9 @@ use Rattle.std.specs.Prelude.{unwrap_or}
 use Rattle.message_records.specs.declared.records.Outcome.{Outcome}
 use Rattle.message_records.specs.declared.records.Outcome.TheVariants.{Malformed}
 use Rattle.message_records.specs.Reading.{outcome_with}
-use Rattle.message_records.specs.Records.{ReplyFields, RequestFields, unreferenced}
-use Rattle.posting_rules.specs.Cases.{balance_shown}
-use Rattle.sql_meanings.specs.Entries.{Entry}
+use Rattle.message_records.specs.believed.Records.{ReplyFields, RequestFields, unreferenced}
+use Rattle.posting_rules.specs.believed.Cases.{balance_shown}
+use Rattle.sql_meanings.specs.believed.Entries.{Entry}
 use Rattle.walked_rows.specs.KeptRows.{KeptItem}
 use Rattle.walked_rows.specs.References.{text_after}
 use Rattle.walked_rows.specs.Stored.{number_after}

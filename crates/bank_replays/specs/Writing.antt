@@ -4,11 +4,12 @@ use Rattle.std.specs.Prelude.{Option, Some, None, Result, Ok, Err, OnErr, OnOk, 
 use Rattle.std.specs.Fmt.{signed_decimal}
 use Rattle.std.specs.List.{flat_map}
 use Rattle.std.specs.Io.KnownBytes.{Appends}
-use Rattle.message_records.specs.Spelling.{request_spelling}
-use Rattle.posting_core.specs.Told.{EndsWith, HasMore, HasWriteFailed, IsFlush, WriteTold}
+use Rattle.message_records.specs.believed.Spelling.{request_spelling}
+use Rattle.posting_core.specs.believed.Told.{EndsWith}
+use Rattle.posting_core.specs.Told.{HasMore, HasWriteFailed, IsFlush, WriteTold}
 use Rattle.report_contents.specs.Lines.{text_of}
 use Rattle.report_contents.specs.Written.{AppendsPart}
-use Rattle.sql_meanings.specs.Entries.{Entry}
+use Rattle.sql_meanings.specs.believed.Entries.{Entry}
 use Rattle.walked_rows.specs.KeptRows.{KeptItem, kept_key}
 use Rattle.walked_rows.specs.Pairs.{row_under}
 use Rattle.walked_rows.specs.Stored.{number_after}

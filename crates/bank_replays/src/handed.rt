@@ -2,7 +2,7 @@
 ghost use Rattle.std.specs.Prelude.{◌≡◌, ◌++◌, ◌∷◌, [], List, IfErr, OnOk};
 ghost use Rattle.sqlite.specs.State.{HasCleanDisk};
 ghost use Rattle.bank_store.specs.Room.{TakesFewBytes};
-ghost use Rattle.bank_store.specs.Seen.{database_of, file_of};
+ghost use Rattle.bank_store.specs.believed.Seen.{database_of, file_of};
 ghost use Rattle.bank_store.specs.Walking.{HasToldFault, items_to_come, lent, lent_state, loan_of};
 ghost use Rattle.bank_replays.specs.Handing.{HandsAll, HandsSome};
 ghost use Rattle.bank_replays.specs.Reading.{ReadsBank};

@@ -1,6 +1,6 @@
 //! The request that a kept row came as, and the reply that it got.
 ghost use Rattle.std.specs.Prelude.{◌≡◌, pos, IfSome, MatchOption};
-ghost use Rattle.message_records.specs.Outcomes.{code_of};
+ghost use Rattle.message_records.specs.believed.Outcomes.{code_of};
 ghost use Rattle.walked_rows.specs.Reading.{IsOutside};
 ghost use Rattle.bank_replays.specs.Came.{CameAs, GotReply};
 

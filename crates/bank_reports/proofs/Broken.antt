@@ -1,7 +1,7 @@
 -- A broken row of one table is one of the file.
 use Rattle.std.proofs.Common.{◌≡◌, inl, inr, List}
 use Rattle.posting_rules.specs.declared.fault.Rule.{Rule, TheVariants.Value}
-use Rattle.sql_meanings.specs.Entries.{Entry}
+use Rattle.sql_meanings.specs.believed.Entries.{Entry}
 use Rattle.walked_rows.specs.{StepOutcomes.BreaksValue, Pairs.paired}
 use Rattle.walked_rows.specs.Stored.{BreaksAsked, BreaksPosted, IsNoAccount, IsNoBranch, IsNoPosting}
 use Rattle.walked_rows.specs.Stored.{IsNoRequest, IsNoTeller}

@@ -5,13 +5,14 @@ use Rattle.std.specs.{Prelude.nat_eq, Prelude.IsTrue, List.AllByRecursion, List.
 use Rattle.std.proofs.lemmas.{Bool.cases_Bool, Bool.eqb-true, Int.ints}
 use Rattle.std.proofs.lemmas.List.Elements.{All-contains_itself, recursion_from_All}
 use Rattle.sqlite.specs.Effect.{Database}
-use Rattle.posting_rules.specs.{Commands.Command, Commands.AreCommands, Damage.IsUndamaged, Laws.IsConsistent}
-use Rattle.posting_rules.specs.Tables.{Tables, AreTablesOf, history_key, request_key}
+use Rattle.posting_rules.specs.{believed.Commands.Command, believed.Commands.AreCommands, Damage.IsUndamaged}
+use Rattle.posting_rules.specs.{believed.Laws.IsConsistent}
+use Rattle.posting_rules.specs.believed.Tables.{Tables, AreTablesOf, history_key, request_key}
 use Rattle.posting_rules.proofs.{Consistent.consistent, Undamaged.undamaged}
-use Rattle.sql_meanings.specs.Entries.{Entry, Rise}
-use Rattle.store_rows.specs.BankTables as bank
-use Rattle.store_rows.specs.View as view
-use Rattle.store_rows.specs.View.{Shows}
+use Rattle.sql_meanings.specs.believed.Entries.{Entry, Rise}
+use Rattle.store_rows.specs.believed.BankTables as bank
+use Rattle.store_rows.specs.believed.View as view
+use Rattle.store_rows.specs.believed.View.{Shows}
 use Rattle.walked_rows.specs.Rows.{HasStoredRows}
 use Rattle.walked_rows.specs.Stored.{account_entry, branch_entry, posting_entry, request_entry, teller_entry}
 use Rattle.walked_rows.specs.Stored.{IsNoAccount, IsNoBranch, IsNoPosting, IsNoRequest, IsNoTeller}

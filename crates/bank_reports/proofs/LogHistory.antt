@@ -5,13 +5,15 @@ use Rattle.std.specs.Prelude.{nat_abs, if◌then◌else◌}
 use Rattle.std.specs.List.{AllByRecursion}
 use Rattle.std.proofs.lemmas.Bool.{eqb-true}
 use Rattle.message_records.specs.{declared.limits.TheConstants.MAX_BALANCE, declared.fault.Bad.Bad}
-use Rattle.message_records.specs.{Records.RequestFields, Reading.request_of}
+use Rattle.message_records.specs.{believed.Records.RequestFields, believed.Reading.request_of}
 use Rattle.posting_rules.specs.declared.{rows.HistoryRow.HistoryRow, judgments.Verdict.Verdict}
 use Rattle.posting_rules.specs.declared.judgments.Verdict.TheVariants.{Unkept, Again, Refused, Posted}
-use Rattle.posting_rules.specs.Commands.{Command, Open, Post, opened, Terms}
-use Rattle.posting_rules.specs.{Cases.case_of, Entries.DecidedRequest, Entries.is_posted, Entries.facts}
-use Rattle.posting_rules.specs.{Entries.account_balance, Entries.with_verdict, Entries.with_record, Entries.decided}
-use Rattle.posting_rules.specs.Tables.{row_at, history_key, history_row, history_row_of}
+use Rattle.posting_rules.specs.believed.Commands.{Command, Open, Post, opened, Terms}
+use Rattle.posting_rules.specs.{believed.Cases.case_of, believed.Entries.DecidedRequest, believed.Entries.is_posted}
+use Rattle.posting_rules.specs.{believed.Entries.facts}
+use Rattle.posting_rules.specs.{believed.Entries.account_balance, believed.Entries.with_verdict}
+use Rattle.posting_rules.specs.{believed.Entries.with_record, believed.Entries.decided}
+use Rattle.posting_rules.specs.believed.Tables.{row_at, history_key, history_row, history_row_of}
 use Rattle.posting_rules.proofs.BalanceLimits.{stays_within}
 use Rattle.bank_reports.proofs.RisingRows.{Rising, all-append, all_as, find_after, find_before, not_under}
 use Rattle.bank_reports.proofs.RisingRows.{rising_more}

@@ -8,14 +8,16 @@ use Rattle.std.proofs.{lemmas.Bool.cases_Bool, lemmas.Bool.eq-eqb, lemmas.Bool.e
 use Rattle.std.proofs.{lemmas.List.map-append, lemmas.List.Elements.filter-append, Math.IntN.+ℤ_assoc}
 use Rattle.sqlite.specs.Effect.{Database}
 use Rattle.posting_rules.specs.declared.rows.{HistoryRow.HistoryRow, ReferenceRow.ReferenceRow}
-use Rattle.posting_rules.specs.Commands.{Command}
-use Rattle.posting_rules.specs.Entries.{DecidedRequest, is_posted, decided, account_balance}
-use Rattle.posting_rules.specs.Tables.{Tables, AreTablesOf, history_key, history_row_of, reference_key, reference_row}
-use Rattle.posting_rules.specs.Tables.{reference_row_of, row_at}
-use Rattle.sql_meanings.specs.Entries.{Rise, Entry as Stored}
+use Rattle.posting_rules.specs.believed.Commands.{Command}
+use Rattle.posting_rules.specs.believed.Entries.{DecidedRequest, is_posted, decided, account_balance}
+use Rattle.posting_rules.specs.believed.Tables.{Tables, AreTablesOf, history_key, history_row_of, reference_key}
+use Rattle.posting_rules.specs.believed.Tables.{reference_row}
+use Rattle.posting_rules.specs.believed.Tables.{reference_row_of, row_at}
+use Rattle.sql_meanings.specs.believed.Entries.{Rise, Entry as Stored}
 use Rattle.sql_meanings.proofs.Contents.{held}
-use Rattle.store_rows.specs.BankTables.{bank_tables, history as history_table, reference as reference_table}
-use Rattle.store_rows.specs.View.{contents, history_entry, reference_entry, Shows}
+use Rattle.store_rows.specs.believed.BankTables.{bank_tables, history as history_table, reference as reference_table}
+use Rattle.store_rows.specs.believed.View.{history_entry, reference_entry, Shows}
+use Rattle.store_rows.specs.View.{contents}
 use Rattle.walked_rows.specs.{declared.stated.StatedPosting.StatedPosting, Pairs.HasPairs, Pairs.Pair, Pairs.paired}
 use Rattle.walked_rows.specs.{Pairs.row_under, References.text_after, References.text_entry}
 use Rattle.walked_rows.specs.Stored.{is_of, is_stated_of, posting_entry, stated_pair}

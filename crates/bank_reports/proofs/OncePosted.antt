@@ -4,9 +4,9 @@ use Rattle.std.proofs.Common.{ap, ◌∙◌, inl, inr, arith}
 use Rattle.std.specs.{Prelude.nat_eq, List.AllByRecursion, List.AllPairs, List.IsDistinct}
 use Rattle.std.proofs.lemmas.{Bool.cases_Bool, Bool.eqb-true, Bool.eq-eqb, List.Elements.All-from_recursion}
 use Rattle.std.proofs.lemmas.{List.Kept.AllPairs-cons, Map.Keys.IsDistinct-head, Map.Keys.IsDistinct-tail}
-use Rattle.posting_rules.specs.{declared.rows.RequestRow.RequestRow, Commands.Command}
-use Rattle.posting_rules.specs.Entries.{DecidedRequest, decided, kept}
-use Rattle.posting_rules.specs.Tables.{Tables, AreTablesOf, request_key, request_row, request_row_of, row_at}
+use Rattle.posting_rules.specs.{declared.rows.RequestRow.RequestRow, believed.Commands.Command}
+use Rattle.posting_rules.specs.believed.Entries.{DecidedRequest, decided, kept}
+use Rattle.posting_rules.specs.believed.Tables.{Tables, AreTablesOf, request_key, request_row, request_row_of, row_at}
 use Rattle.posting_rules.proofs.{Requests.AreNew, Requests.are_new, Totals.each_under_its_key}
 use Rattle.bank_reports.specs.Differing.{DifferIfPosted, EachPostedOnce}
 use Rattle.bank_reports.proofs.RisingRows.{all_as}

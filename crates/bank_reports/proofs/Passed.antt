@@ -7,10 +7,10 @@ use Rattle.sqlite.specs.{Effect.Database, State.State, State.HasCleanDisk, Held.
 use Rattle.posting_rules.specs.declared.fault.{Fault.Fault, Rule.Rule}
 use Rattle.posting_rules.specs.declared.fault.Fault.TheVariants as told
 use Rattle.sqlite_trees.specs.declared.store.Store.{Ghosts}
-use Rattle.sql_meanings.specs.Entries.{Entry}
-use Rattle.bank_transactions.specs.Causes.{IsBefore}
+use Rattle.sql_meanings.specs.believed.Entries.{Entry}
+use Rattle.bank_transactions.specs.believed.Causes.{IsBefore}
 use Rattle.bank_transactions.proofs.Blamed.{comes, then_moment}
-use Rattle.store_rows.specs.BankTables.{history as history_table, request as request_table}
+use Rattle.store_rows.specs.believed.BankTables.{history as history_table, request as request_table}
 use Rattle.bank_store.specs.Walks.{IsStill}
 use Rattle.walked_rows.specs.Pairs.{BreaksPair, HasPairs, pair_with, paired}
 use Rattle.bank_reports.specs.{Adding.IsPassed, Failures.HasFailedToRead, Failures.SaysOf}

@@ -4,8 +4,8 @@ use Rattle.std.proofs.Common.{inr, arith}
 use Rattle.std.specs.Prelude.{ℤ, pos, nat_abs, option_map}
 use Rattle.std.specs.{List.AllByRecursion, Ordering.int_eq}
 use Rattle.std.proofs.lemmas.{Bool.cases_Bool, Int.ints}
-use Rattle.posting_rules.specs.Tables.{row_at}
-use Rattle.sql_meanings.specs.Entries.{Entry, has_key}
+use Rattle.posting_rules.specs.believed.Tables.{row_at}
+use Rattle.sql_meanings.specs.believed.Entries.{Entry, has_key}
 use Rattle.walked_rows.specs.declared.{accounts.StoredAccount.StoredAccount, branches.StoredBranch.StoredBranch}
 use Rattle.walked_rows.specs.declared.{tellers.StoredTeller.StoredTeller, postings.StoredPosting.StoredPosting}
 use Rattle.walked_rows.specs.declared.{requests.StoredRequest.StoredRequest, joined.Joined.Joined}

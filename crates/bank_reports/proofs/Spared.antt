@@ -4,10 +4,11 @@ use Rattle.sqlite.specs.{Effect.Database, Held.Held, Held.state, State.HasCleanD
 use Rattle.sqlite.proofs.StateLemmas.{survives_then}
 use Rattle.sqlite_trees.specs.declared.store.Store.{Ghosts}
 use Rattle.sql_meanings.proofs.Sparing.{spares_itself}
-use Rattle.store_rows.specs.Sparing.{SparesOthers, bank_names}
-use Rattle.bank_transactions.specs.Doing.{LeavesOthers}
-use Rattle.bank_store.specs.{Seen.connection_of, Walks.IsUntouchedIfOpen, declared.bank.Bank.Bank}
-use Rattle.bank_store.specs.Sparing.{SparesOtherTables, SparesWhileOpen}
+use Rattle.store_rows.specs.believed.Sparing.{SparesOthers, bank_names}
+use Rattle.bank_transactions.specs.believed.Doing.{LeavesOthers}
+use Rattle.bank_store.specs.{believed.Seen.connection_of, Walks.IsUntouchedIfOpen, declared.bank.Bank.Bank}
+use Rattle.bank_store.specs.believed.Sparing.{SparesOtherTables}
+use Rattle.bank_store.specs.Sparing.{SparesWhileOpen}
 
 -- nothing was read
 pub idle_spares : {S : Type 0} (g : Ghosts S) (conn : Held S) → SparesWhileOpen g conn conn

@@ -5,12 +5,12 @@ use Rattle.std.specs.Prelude.{ℤ, pos, ◌+ℤ◌, ◌-◌, ◌^◌, nat_abs, o
 use Rattle.std.specs.{List.AllByRecursion, Io.KnownBytes.Appends}
 use Rattle.std.proofs.lemmas.{Int.ints, List.length-append}
 use Rattle.message_records.proofs.References.{reference_again}
-use Rattle.message_records.specs.Records.{IsReference, reference_from}
+use Rattle.message_records.specs.believed.Records.{IsReference, reference_from}
 use Rattle.message_records.specs.declared.limits.TheConstants.{MAX_BALANCE, MAX_MOMENT}
 use Rattle.posting_rules.specs.declared.limits.TheConstants.{MAX_DECIDED}
 use Rattle.posting_rules.specs.declared.fault.{Rule.Rule, Fault.TheVariants.Damaged}
-use Rattle.posting_rules.specs.Commands.{Command, AreCommands, is_account_open, opened}
-use Rattle.posting_rules.specs.Entries.{DecidedRequest, decided, account_balance, balance_after}
+use Rattle.posting_rules.specs.believed.Commands.{Command, AreCommands, is_account_open, opened}
+use Rattle.posting_rules.specs.believed.Entries.{DecidedRequest, decided, account_balance, balance_after}
 use Rattle.posting_rules.proofs.SoundEntries.{AreSound, are_sound, few_enough}
 use Rattle.walked_rows.specs.{Pairs.Pair, Reading.IsOutside, References.BreaksReference, References.text_entry}
 use Rattle.walked_rows.specs.{Stored.BreaksStated, Stored.stated_pair, declared.stated.StatedPosting.StatedPosting}

@@ -2,13 +2,13 @@
 use Rattle.std.specs.Prelude.{◌≡◌, ◌↔◌, ◌≤ℤ◌, List, Result, Ok, Err, IfOk, IfSome, IsTrue, OnOk, ⊤}
 use Rattle.std.specs.List.{Contains}
 use Rattle.sqlite_trees.specs.declared.store.Store.{Ghosts}
-use Rattle.posting_rules.specs.Commands.{Command, AreCommands}
-use Rattle.posting_rules.specs.Counter.{Seen, ShowsLog}
-use Rattle.posting_rules.specs.Laws.{IsConsistent}
-use Rattle.posting_rules.specs.LookUps.{floor_in}
-use Rattle.posting_rules.specs.Numbering.{branch_of_account}
+use Rattle.posting_rules.specs.believed.Commands.{Command, AreCommands}
+use Rattle.posting_rules.specs.believed.Counter.{Seen, ShowsLog}
+use Rattle.posting_rules.specs.believed.Laws.{IsConsistent}
+use Rattle.posting_rules.specs.believed.LookUps.{floor_in}
+use Rattle.posting_rules.specs.believed.Numbering.{branch_of_account}
 use Rattle.posting_rules.specs.declared.rows.AccountRow.{AccountRow}
-use Rattle.posting_rules.specs.Tables.{AreTablesOf, Tables}
+use Rattle.posting_rules.specs.believed.Tables.{AreTablesOf, Tables}
 use Rattle.posting_rules.specs.declared.fault.Fault.{Fault}
 use Rattle.posting_rules.specs.declared.fault.Fault.TheVariants.{Damaged, Store}
 use Rattle.posting_rules.specs.declared.fault.Rule.{Rule}
@@ -17,7 +17,7 @@ use Rattle.report_contents.specs.Audit.{audit_of, is_sound}
 use Rattle.report_contents.specs.Consistency.{IsSoundFile}
 use Rattle.report_contents.specs.Stored.{StoredTables, stored}
 use Rattle.report_contents.specs.declared.audit.Audit.{Audit}
-use Rattle.bank_store.specs.Seen.{connection_of, database_of}
+use Rattle.bank_store.specs.believed.Seen.{connection_of, database_of}
 use Rattle.bank_store.specs.declared.bank.Bank.{Bank}
 use Rattle.bank_reports.specs.Differing.{EachPostedOnce}
 use Rattle.bank_reports.specs.Failures.{HasFailedToRead}

@@ -1,9 +1,9 @@
 -- Requests that were posted once.
 use Rattle.std.specs.Prelude.{◌≡◌, true}
 use Rattle.std.specs.List.{AllPairs}
-use Rattle.message_records.specs.Outcomes.{has_balance}
+use Rattle.message_records.specs.believed.Outcomes.{has_balance}
 use Rattle.posting_rules.specs.declared.rows.RequestRow.{RequestRow}
-use Rattle.posting_rules.specs.Tables.{Tables}
+use Rattle.posting_rules.specs.believed.Tables.{Tables}
 
 -- if both are posted, they have different tellers or different numbers
 abbrev pub DifferIfPosted : RequestRow → RequestRow → Type 0

@@ -5,7 +5,7 @@ use Rattle.sqlite_trees.specs.declared.store.Store.{Ghosts}
 use Rattle.posting_rules.specs.declared.fault.Fault.{Fault}
 use Rattle.posting_rules.specs.declared.fault.Fault.TheVariants.{Memory, Store, Down, Damaged}
 use Rattle.posting_rules.specs.declared.fault.Rule.{Rule}
-use Rattle.bank_transactions.specs.Causes.{IsBefore}
+use Rattle.bank_transactions.specs.believed.Causes.{IsBefore}
 use Rattle.bank_store.specs.Walking.{StoreFailed}
 
 -- between these two moments of a connection a read failed, as the last of its calls: the store did, or it

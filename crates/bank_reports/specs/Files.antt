@@ -1,9 +1,10 @@
 -- The rows that an audit reads of a file.
 use Rattle.std.specs.Prelude.{◌≡◌, ◌⊎◌, ◌++◌, ◌∷◌, List, map}
 use Rattle.sqlite.specs.Effect.{Database}
-use Rattle.sql_meanings.specs.Entries.{Entry}
-use Rattle.store_rows.specs.BankTables.{account as account_table, branch as branch_table, history as history_table}
-use Rattle.store_rows.specs.BankTables.{request as request_table, teller as teller_table}
+use Rattle.sql_meanings.specs.believed.Entries.{Entry}
+use Rattle.store_rows.specs.believed.BankTables.{account as account_table, branch as branch_table}
+use Rattle.store_rows.specs.believed.BankTables.{history as history_table}
+use Rattle.store_rows.specs.believed.BankTables.{request as request_table, teller as teller_table}
 use Rattle.walked_rows.specs.Rows.{HasStoredRows}
 use Rattle.walked_rows.specs.Stored.{account_entry, branch_entry, posting_entry, request_entry, teller_entry}
 use Rattle.walked_rows.specs.Stored.{IsNoAccount, IsNoBranch, IsNoPosting, IsNoRequest, IsNoTeller}

@@ -7,8 +7,8 @@ use Rattle.message_records.specs.declared.limits.TheConstants.{MAX_BALANCE}
 use Rattle.posting_rules.specs.declared.fault.Fault.TheVariants.{Memory, Store, Down, Damaged}
 use Rattle.posting_rules.specs.declared.fault.Rule.{Rule}
 use Rattle.posting_rules.specs.declared.fault.Rule.TheVariants.{Balance, Value}
-use Rattle.posting_rules.specs.Laws.{total}
-use Rattle.bank_transactions.specs.Stored.{IsStoredBalance}
+use Rattle.posting_rules.specs.believed.Laws.{total}
+use Rattle.bank_transactions.specs.believed.Stored.{IsStoredBalance}
 use Rattle.walked_rows.specs.declared.stated.StatedPosting.{StatedPosting}
 use Rattle.walked_rows.specs.Pairs.{Pair}
 use Rattle.walked_rows.specs.Stored.{BreaksStated, is_stated_of, stated_pair}

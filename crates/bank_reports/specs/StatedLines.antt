@@ -2,8 +2,8 @@
 use Rattle.std.specs.Prelude.{ℕ, pos, ◌+◌, ◌==◌, ◌&&◌, Bool, List, [], ◌∷◌, ◌++◌, length, if◌then◌else◌}
 use Rattle.walked_rows.specs.declared.postings.StoredPosting.{StoredPosting}
 use Rattle.walked_rows.specs.declared.stated.StatedPosting.{StatedPosting}
-use Rattle.posting_rules.specs.Commands.{Command}
-use Rattle.posting_rules.specs.Entries.{DecidedRequest, is_posted, account_balance, decided}
+use Rattle.posting_rules.specs.believed.Commands.{Command}
+use Rattle.posting_rules.specs.believed.Entries.{DecidedRequest, is_posted, account_balance, decided}
 use Rattle.report_contents.specs.Lines.{text_of}
 use Rattle.report_contents.specs.StatementText.{heading_line, names_line, posting_line, closing_line}
 

@@ -2,21 +2,23 @@
 use Rattle.std.specs.Prelude.{◌≡◌, ◌≢◌, ◌⊎◌, ℕ, List, map, Option, None, Result, Err, IsSome, IsTrue, OnErr, OnOk}
 use Rattle.std.specs.Io.KnownBytes.{Appends}
 use Rattle.sqlite_trees.specs.declared.store.Store.{Ghosts}
-use Rattle.posting_rules.specs.Commands.{Command}
-use Rattle.posting_rules.specs.Counter.{Seen, ShowsLog}
-use Rattle.posting_rules.specs.Entries.{balance_after}
-use Rattle.posting_rules.specs.Tables.{Tables}
+use Rattle.posting_rules.specs.believed.Commands.{Command}
+use Rattle.posting_rules.specs.believed.Counter.{Seen, ShowsLog}
+use Rattle.posting_rules.specs.believed.Entries.{balance_after}
+use Rattle.posting_rules.specs.believed.Tables.{Tables}
 use Rattle.posting_rules.specs.declared.fault.Fault.{Fault}
 use Rattle.posting_rules.specs.declared.fault.Fault.TheVariants.{Damaged, Store}
 use Rattle.posting_rules.specs.declared.fault.Rule.{Rule}
-use Rattle.posting_core.specs.Told.{EndsWith, HasWriteFailed, IsFlush, WriteTold}
-use Rattle.store_rows.specs.BankTables.{history as history_table, reference as reference_table}
-use Rattle.store_rows.specs.View.{history_entry, reference_entry}
-use Rattle.bank_transactions.specs.Stored.{IsStoredBalance}
+use Rattle.posting_core.specs.believed.Told.{EndsWith}
+use Rattle.posting_core.specs.Told.{HasWriteFailed, IsFlush, WriteTold}
+use Rattle.store_rows.specs.believed.BankTables.{history as history_table, reference as reference_table}
+use Rattle.store_rows.specs.believed.View.{history_entry, reference_entry}
+use Rattle.bank_transactions.specs.believed.Stored.{IsStoredBalance}
 use Rattle.walked_rows.specs.Pairs.{HasPairs, Pair, paired}
 use Rattle.report_contents.specs.Written.{AppendsPart}
-use Rattle.bank_store.specs.Down.{KeepsCause, WasBroken}
-use Rattle.bank_store.specs.Seen.{bank_seen, connection_of, database_of, file_of}
+use Rattle.bank_store.specs.believed.Down.{KeepsCause}
+use Rattle.bank_store.specs.Down.{WasBroken}
+use Rattle.bank_store.specs.believed.Seen.{bank_seen, connection_of, database_of, file_of}
 use Rattle.bank_store.specs.declared.bank.Bank.{Bank}
 use Rattle.bank_reports.specs.declared.fault.ReportFault.{ReportFault}
 use Rattle.bank_reports.specs.declared.fault.ReportFault.TheVariants.{Bank as OfBank, NoAccount, Write}

@@ -5,7 +5,8 @@ ghost use Rattle.posting_rules.specs.declared.fault.Fault.TheVariants.{Down, Mem
 ghost use Rattle.posting_rules.specs.declared.fault.Rule.TheVariants.{Value};
 ghost use Rattle.report_contents.specs.Beside.{no_rows, rows_of};
 ghost use Rattle.report_contents.specs.Stored.{StoredTables};
-ghost use Rattle.bank_store.specs.Seen.{bank_seen, connection_of, database_of, fault_of, file_of};
+ghost use Rattle.bank_store.specs.believed.Seen.{bank_seen, connection_of, database_of, file_of};
+ghost use Rattle.bank_store.specs.Seen.{fault_of};
 ghost use Rattle.bank_reports.specs.Adding.{HasSums, IsPassed};
 ghost use Rattle.bank_reports.specs.Failures.{HasFailedToRead, SaysOf};
 ghost use Rattle.bank_reports.specs.Files.{FileRows, HasBrokenRow, HasFile, rows_in};

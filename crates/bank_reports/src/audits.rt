@@ -1,7 +1,8 @@
 //! The audit of a bank.
 ghost use Rattle.std.specs.Prelude.{◌≡◌, Err};
 ghost use Rattle.posting_rules.specs.declared.fault.Fault.TheVariants.{Down, Memory};
-ghost use Rattle.bank_store.specs.Seen.{bank_seen, connection_of, fault_of};
+ghost use Rattle.bank_store.specs.believed.Seen.{bank_seen, connection_of};
+ghost use Rattle.bank_store.specs.Seen.{fault_of};
 ghost use Rattle.bank_store.specs.Sparing.{SparesWhileOpen};
 ghost use Rattle.bank_reports.specs.Audits.{Audits, AuditsFile};
 ghost use Rattle.bank_reports.specs.Leaving.{TellsDown};

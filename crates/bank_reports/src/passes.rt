@@ -3,7 +3,8 @@ ghost use Rattle.std.specs.Prelude.{◌≡◌, ◌≢◌, [], List, Err, IfErr, 
 ghost use Rattle.sqlite.specs.State.{HasCleanDisk};
 ghost use Rattle.posting_rules.specs.declared.fault.Fault.TheVariants.{Down, Memory};
 ghost use Rattle.report_contents.specs.Beside.{AuditRows};
-ghost use Rattle.bank_store.specs.Seen.{bank_seen, connection_of, database_of, fault_of, file_of};
+ghost use Rattle.bank_store.specs.believed.Seen.{bank_seen, connection_of, database_of, file_of};
+ghost use Rattle.bank_store.specs.Seen.{fault_of};
 ghost use Rattle.bank_reports.specs.Adding.{AddsToSums, HasSums, IsPassed};
 ghost use Rattle.bank_reports.specs.Failures.{HasFailedToRead, SaysOf};
 ghost use Rattle.bank_reports.specs.Files.{HasBroken};

@@ -2,10 +2,10 @@
 ghost use Rattle.std.specs.Prelude.{◌≡◌, List, Err, OnOk, Some, filter};
 ghost use Rattle.sqlite.specs.State.{HasCleanDisk};
 ghost use Rattle.posting_core.specs.Told.{HasMore, HasWriteFailed};
-ghost use Rattle.store_rows.specs.BankTables.{history as history_table, reference as reference_table};
+ghost use Rattle.store_rows.specs.believed.BankTables.{history as history_table, reference as reference_table};
 ghost use Rattle.walked_rows.specs.Pairs.{HasPairs, Pair};
 ghost use Rattle.walked_rows.specs.Stored.{is_stated_of};
-ghost use Rattle.bank_store.specs.Seen.{database_of, file_of};
+ghost use Rattle.bank_store.specs.believed.Seen.{database_of, file_of};
 ghost use Rattle.bank_store.specs.Walking.{HasToldFault, lent, lent_state, loan_of, postings_to_come};
 ghost use Rattle.bank_reports.specs.declared.fault.ReportFault.TheVariants.{Write};
 ghost use Rattle.bank_reports.specs.Leaving.{ReadsRows};

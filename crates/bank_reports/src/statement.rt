@@ -2,11 +2,12 @@
 ghost use Rattle.std.specs.Prelude.{◌≡◌, ◌≢◌, List, Err, OnOk, Some, filter};
 ghost use Rattle.sqlite.specs.State.{HasCleanDisk};
 ghost use Rattle.posting_rules.specs.declared.fault.Fault.TheVariants.{Down, Memory};
-ghost use Rattle.posting_core.specs.Told.{EndsWith, HasWriteFailed, IsFlush};
-ghost use Rattle.store_rows.specs.BankTables.{history as history_table, reference as reference_table};
+ghost use Rattle.posting_core.specs.believed.Told.{EndsWith};
+ghost use Rattle.posting_core.specs.Told.{HasWriteFailed, IsFlush};
+ghost use Rattle.store_rows.specs.believed.BankTables.{history as history_table, reference as reference_table};
 ghost use Rattle.walked_rows.specs.Pairs.{HasPairs, Pair};
 ghost use Rattle.walked_rows.specs.Stored.{is_stated_of};
-ghost use Rattle.bank_store.specs.Seen.{bank_seen, connection_of, database_of, file_of};
+ghost use Rattle.bank_store.specs.believed.Seen.{bank_seen, connection_of, database_of, file_of};
 ghost use Rattle.bank_store.specs.Sparing.{SparesWhileOpen};
 ghost use Rattle.bank_reports.specs.declared.fault.ReportFault.TheVariants.{Bank as OfBank, NoAccount, Write};
 ghost use Rattle.bank_reports.specs.Leaving.{ReadsRows, TellsDown};

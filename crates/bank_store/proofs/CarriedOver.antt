@@ -2,11 +2,11 @@
 use Rattle.std.proofs.Common.{ℕ, pos, List, Ok, Err, refl, ap, subst, ◌∙◌, inl, inr}
 use Rattle.sqlite.specs.{Held.Held, Held.state, State.State, State.HasCleanDisk, State.Survives}
 use Rattle.sqlite_trees.specs.declared.store.Store.{Ghosts}
-use Rattle.posting_rules.specs.{Commands.Command, Counter.StandsAt, Editions.plain}
+use Rattle.posting_rules.specs.{believed.Commands.Command, believed.Counter.StandsAt, believed.Editions.plain}
 use Rattle.posting_rules.proofs.Editions.{plain_are_commands}
 use Rattle.bank_store.specs.Migration.{BankIsMoved, HasCarriedOver, HasMoved, IsFromEarlier, IsMigrated, KnowsAnswer}
 use Rattle.bank_store.specs.Migration.{LeavesBank, Migrates, Misplaces, ShowsEarlier}
-use Rattle.bank_store.specs.Seen.{bank_seen, file_of, seen_in}
+use Rattle.bank_store.specs.believed.Seen.{bank_seen, file_of, seen_in}
 use Rattle.bank_store.specs.declared.{bank.Bank.Bank, migration.Migrated.Migrated, refused.Refused.Refused}
 use Rattle.bank_store.specs.declared.migration.Migrated.TheVariants.{Moved, Already}
 use Rattle.bank_store.proofs.FoundEarlier.{not_earlier, not_found, not_misplaced, ours_misplaced, plainly}

@@ -6,10 +6,10 @@ use Rattle.sqlite.specs.{Table.Table, Tree.Trees, State.State, State.HasCleanDis
 use Rattle.sqlite.specs.{Held.state, Steps.FailsToCommit, declared.error.Error.Error}
 use Rattle.sqlite.proofs.StateLemmas.{survives_then}
 use Rattle.sqlite_trees.specs.declared.store.Store.{Ghosts}
-use Rattle.store_rows.specs.{Calls.Probes, Creation.CreatesBank, Failures.Committing, Failures.HasReason}
+use Rattle.store_rows.specs.{Calls.Probes, Creation.CreatesBank, believed.Failures.Committing, Failures.HasReason}
 use Rattle.store_rows.specs.{declared.fault.TableFault.TableFault, declared.metas.StoredMeta.StoredMeta}
 use Rattle.store_rows.specs.declared.fault.TableFault.TheVariants.{Sqlite, Damaged as Broken}
-use Rattle.bank_transactions.specs.Causes.{IsBefore}
+use Rattle.bank_transactions.specs.believed.Causes.{IsBefore}
 use Rattle.bank_transactions.proofs.Blamed.{comes, commit_fails, failed_here, failed_within, same_moment, then_moment}
 use Rattle.bank_store.specs.{MetaRow.ChecksMeta, OpenFaults.of_the_store, OpenFaults.unmade_by, OpenFaults.unread_by}
 use Rattle.bank_store.specs.StoreFaults.{CallFailed, IsOpenCall, KnowsCause, KnowsWhyUnmade, LooksIn, MakingFailed}

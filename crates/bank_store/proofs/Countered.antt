@@ -7,17 +7,20 @@ use Rattle.sqlite.specs.{Effect.Database, declared.error.Error.Error, Held.Held,
 use Rattle.sqlite.specs.State.{State, HasCleanDisk, Survives}
 use Rattle.sqlite_trees.specs.declared.store.Store.{Ghosts}
 use Rattle.sqlite.proofs.StateLemmas.{survives_then}
-use Rattle.posting_rules.specs.{declared.fault.Fault.Fault, declared.fault.Rule.Rule, Runs.followed_by}
+use Rattle.posting_rules.specs.{declared.fault.Fault.Fault, declared.fault.Rule.Rule, believed.Runs.followed_by}
 use Rattle.posting_rules.specs.declared.fault.Fault.TheVariants as told
-use Rattle.posting_rules.specs.Commands.{Command, AreCommands}
-use Rattle.posting_rules.specs.Counter.{ShowsLog, ShowsPrefix, Takes, IsCutShort, IsDamaged, Refuses, TellsDamage}
-use Rattle.posting_rules.specs.Tables.{Tables, AreTablesOf as Show}
+use Rattle.posting_rules.specs.believed.Commands.{Command, AreCommands}
+use Rattle.posting_rules.specs.believed.Counter.{ShowsLog, ShowsPrefix, Takes, IsCutShort, IsDamaged, Refuses}
+use Rattle.posting_rules.specs.believed.Counter.{TellsDamage}
+use Rattle.posting_rules.specs.believed.Tables.{Tables, AreTablesOf as Show}
 use Rattle.posting_rules.proofs.{Calls.IsChange, Sequence.commands_after}
-use Rattle.store_rows.specs.{View.Shows, declared.fault.TableFault.TableFault, Failures.Committing}
+use Rattle.store_rows.specs.{believed.View.Shows, declared.fault.TableFault.TableFault, believed.Failures.Committing}
 use Rattle.store_rows.specs.declared.fault.TableFault.TheVariants.{Sqlite, Damaged}
-use Rattle.bank_transactions.specs.{Causes.Damage, Causes.HasFailedBetween, Doing.MayLeaveAfter, Doing.TransactsBy}
+use Rattle.bank_transactions.specs.{believed.Causes.Damage, believed.Causes.HasFailedBetween, Doing.MayLeaveAfter}
+use Rattle.bank_transactions.specs.{Doing.TransactsBy}
 use Rattle.bank_transactions.proofs.Blamed.{comes, failed_within, same_moment}
-use Rattle.bank_store.specs.{Down.GoesDown, NoneOrAll.LeavesNoneOrAll, Seen.error_in, Seen.seen_in}
+use Rattle.bank_store.specs.{Down.GoesDown, believed.NoneOrAll.LeavesNoneOrAll, believed.Seen.error_in}
+use Rattle.bank_store.specs.{believed.Seen.seen_in}
 
 -- what the commands lead to is a prefix of them, and so is what was there
 all_of_them : (t : Tables) (log cs : List Command) → AreCommands (followed_by log cs) → Show t (followed_by log cs)

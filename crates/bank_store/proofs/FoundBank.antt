@@ -5,19 +5,21 @@ use Rattle.std.specs.Prelude.{◌⊎◌, ◌≢◌, ◌<ℤ◌}
 use Rattle.std.proofs.lemmas.Int.{ints}
 use Rattle.sqlite.specs.{Table.Table, Effect.Database, State.State}
 use Rattle.sqlite_rules.specs.Lists.{Has}
-use Rattle.posting_rules.specs.{Commands.Command, Commands.AreCommands, Damage.IsUndamaged}
+use Rattle.posting_rules.specs.{believed.Commands.Command, believed.Commands.AreCommands, Damage.IsUndamaged}
 use Rattle.posting_rules.specs.{declared.open_fault.OpenFault.OpenFault, declared.limits.TheConstants.MAX_DECIDED}
-use Rattle.posting_rules.specs.Tables.{Tables, AreTablesOf as Show}
+use Rattle.posting_rules.specs.believed.Tables.{Tables, AreTablesOf as Show}
 use Rattle.posting_rules.specs.declared.fault.Rule.TheVariants.{Meta, Teller, Account, Balance, Request, Value, Key}
 use Rattle.posting_rules.specs.declared.fault.Rule.TheVariants.{Floor, Reference}
 use Rattle.posting_rules.proofs.Undamaged.{undamaged}
 use Rattle.sql_meanings.proofs.Contents.{each_defined}
-use Rattle.sql_meanings.specs.Entries.{Entry}
-use Rattle.store_rows.specs.{Columns.meta_in, Probes.all_probes, Probes.probe_of, BankTables.bank_tables}
-use Rattle.store_rows.specs.{Statements.HasOtherValue, View.HoldsRows, View.Shows, View.contents, View.meta_entry}
+use Rattle.sql_meanings.specs.believed.Entries.{Entry}
+use Rattle.store_rows.specs.{believed.Columns.meta_in, Probes.all_probes, Probes.probe_of}
+use Rattle.store_rows.specs.{believed.BankTables.bank_tables}
+use Rattle.store_rows.specs.{Statements.HasOtherValue, View.HoldsRows, believed.View.Shows, View.contents}
+use Rattle.store_rows.specs.{believed.View.meta_entry}
 use Rattle.store_rows.specs.{declared.metas.StoredMeta.StoredMeta, declared.metas.TheConstants.VERSION}
 use Rattle.store_rows.specs.declared.probes.BankTable.TheVariants as table
-use Rattle.store_rows.specs.BankTables as bank
+use Rattle.store_rows.specs.believed.BankTables as bank
 use Rattle.bank_store.specs.Connections.{IsAsBefore, IsReadOnly}
 use Rattle.bank_store.specs.FoundBank.{HasNoOtherVersion, MetaIs, Misses, SeeksBank, SeeksTables, TablesAreFound}
 use Rattle.bank_store.specs.MetaRow.{IsOurs, IsOfVersion, IsNoCount, ChecksMeta, TellsMeta, IsOfOtherType, ChecksOnly}

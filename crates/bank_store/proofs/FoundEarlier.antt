@@ -5,8 +5,9 @@ use Rattle.std.specs.Prelude.{◌⊎◌, IfErr, OnOk}
 use Rattle.std.specs.List.{take-map}
 use Rattle.sqlite.specs.{Table.Table, Effect.Database, State.State}
 use Rattle.sqlite_rules.specs.Lists.{Has}
-use Rattle.posting_rules.specs.Commands.{Command, AreCommands}
-use Rattle.posting_rules.specs.{Editions.AreTablesIn, Editions.plain, Tables.Tables, Tables.AreTablesOf}
+use Rattle.posting_rules.specs.believed.Commands.{Command, AreCommands}
+use Rattle.posting_rules.specs.{Editions.AreTablesIn, believed.Editions.plain, believed.Tables.Tables}
+use Rattle.posting_rules.specs.{believed.Tables.AreTablesOf}
 use Rattle.posting_rules.specs.{declared.limits.TheConstants.MAX_DECIDED, declared.open_fault.OpenFault.OpenFault}
 use Rattle.posting_rules.specs.declared.fault.Rule.TheVariants.{Meta, Teller, Account, Balance, Request, Value, Key}
 use Rattle.posting_rules.specs.declared.fault.Rule.TheVariants.{Floor, Reference}
@@ -15,13 +16,14 @@ use Rattle.posting_rules.specs.declared.open_fault.OpenFault.TheVariants.{Damage
 use Rattle.posting_rules.proofs.Editions.{carries_over, has_no_floors, has_no_references, plain_are_commands}
 use Rattle.posting_rules.proofs.Undamaged.{undamaged}
 use Rattle.sql_meanings.proofs.Contents.{each_defined, held}
-use Rattle.sql_meanings.specs.Entries.{Entry}
-use Rattle.store_rows.specs.BankTables as bank
-use Rattle.store_rows.specs.{BankTables.bank_tables, Columns.meta_in, Creation.no_rows}
+use Rattle.sql_meanings.specs.believed.Entries.{Entry}
+use Rattle.store_rows.specs.believed.BankTables as bank
+use Rattle.store_rows.specs.{believed.BankTables.bank_tables, believed.Columns.meta_in, Creation.no_rows}
 use Rattle.store_rows.specs.{declared.metas.StoredMeta.StoredMeta, declared.metas.TheConstants.VERSION}
 use Rattle.store_rows.specs.Migration.{IsEarlier, ShowsLess, TakesLacking, lacking}
 use Rattle.store_rows.specs.Probes.{all_tables, probe_of}
-use Rattle.store_rows.specs.View.{HoldsRows, Shows, contents_of, meta_entry, rows_of, tables_of}
+use Rattle.store_rows.specs.believed.View.{Shows, contents_of, meta_entry, rows_of, tables_of}
+use Rattle.store_rows.specs.View.{HoldsRows}
 use Rattle.store_rows.specs.declared.probes.BankTable.TheVariants as table
 use Rattle.store_rows.proofs.Lacking.{lacking_refused}
 use Rattle.bank_store.specs.{Connections.IsAsBefore, Connections.IsReadOnly, FoundBank.BankIsFound, FoundBank.MetaIs}

@@ -1,12 +1,12 @@
 -- A connection that was just opened.
 use Rattle.std.proofs.Common.{◌≡◌, ◌∙◌, ℕ, List, sym, ap, subst}
 use Rattle.sqlite.specs.{Effect.Database, Effect.IsDatabase, Schema.Schema, State.State, State.Opens, Tree.Trees}
-use Rattle.posting_rules.specs.Commands.{Command, AreCommands}
-use Rattle.posting_rules.specs.{Counter.StandsAt, Tables.Tables, Tables.AreTablesOf}
+use Rattle.posting_rules.specs.believed.Commands.{Command, AreCommands}
+use Rattle.posting_rules.specs.{believed.Counter.StandsAt, believed.Tables.Tables, believed.Tables.AreTablesOf}
 use Rattle.sql_meanings.proofs.Trees.{same_schema}
-use Rattle.store_rows.specs.View.{Shows, ShowsTrees}
+use Rattle.store_rows.specs.believed.View.{Shows, ShowsTrees}
 use Rattle.bank_store.specs.Migration.{ShowsEarlier, ShowsEarlierTrees, StandsEarlier}
-use Rattle.bank_store.specs.Seen.{seen_in}
+use Rattle.bank_store.specs.believed.Seen.{seen_in}
 
 -- it stands at what its trees show
 pub stands_opened : (s : State) (D : Type 0) → (D → ⊥) → Opens s

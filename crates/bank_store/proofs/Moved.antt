@@ -7,14 +7,15 @@ use Rattle.sqlite.specs.{Effect.Database, Held.Held, Held.state, Tree.Trees, dec
 use Rattle.sqlite.specs.State.{State, HasCleanDisk, KeepsCommit, Survives, Shows as StateShows}
 use Rattle.sqlite.proofs.{Callers.survives_begin, StateLemmas.survives_then}
 use Rattle.sqlite_trees.specs.declared.store.Store.{Ghosts}
-use Rattle.posting_rules.specs.Tables.{Tables}
+use Rattle.posting_rules.specs.believed.Tables.{Tables}
 use Rattle.posting_rules.specs.declared.{open_fault.OpenFault.TheVariants.Damaged, fault.Rule.TheVariants.Meta}
-use Rattle.sql_meanings.specs.{Making.SparesStanding, Making.Stands, Sparing.SparesAllBut, Tables.tree_of}
+use Rattle.sql_meanings.specs.{Making.SparesStanding, believed.Making.Stands, believed.Sparing.SparesAllBut}
+use Rattle.sql_meanings.specs.{believed.Tables.tree_of}
 use Rattle.sql_meanings.proofs.Contents.{held}
-use Rattle.store_rows.specs.{BankTables.meta, Columns.meta_in, Failures.HasFailedAtLast}
+use Rattle.store_rows.specs.{believed.BankTables.meta, believed.Columns.meta_in, Failures.HasFailedAtLast}
 use Rattle.store_rows.specs.{declared.metas.StoredMeta.StoredMeta, declared.metas.TheConstants.VERSION}
 use Rattle.store_rows.specs.Migration.{LackingAreMade, MakesLacking, SetsVersion, ShowsLess}
-use Rattle.store_rows.specs.View.{Shows, ShowsTrees, contents_of, meta_entry, tables_of}
+use Rattle.store_rows.specs.believed.View.{Shows, ShowsTrees, contents_of, meta_entry, tables_of}
 use Rattle.bank_transactions.proofs.Blamed.{comes, same_moment}
 use Rattle.bank_store.specs.Migration.{BankIsMoved, ChangesTables, HasMoved, IsUnmoved, KeepsRows}
 use Rattle.bank_store.specs.{OpenFaults.of_the_store, OpenFaults.unmoved_by, StoreFaults.KnowsCause}

@@ -1,9 +1,9 @@
 -- Whether the row of the bank is the only row of `meta`.
 use Rattle.std.proofs.Common.{◌≡◌, ℤ, List, Some, Ok, Err, Result, sym, ap, ◌∙◌, inr}
 use Rattle.sqlite.specs.State.{State}
-use Rattle.sql_meanings.specs.Entries.{Entry}
+use Rattle.sql_meanings.specs.believed.Entries.{Entry}
 use Rattle.posting_rules.specs.declared.{limits.TheConstants.MAX_DECIDED, open_fault.OpenFault.OpenFault}
-use Rattle.store_rows.specs.{Columns.meta_in, declared.metas.StoredMeta.StoredMeta}
+use Rattle.store_rows.specs.{believed.Columns.meta_in, declared.metas.StoredMeta.StoredMeta}
 use Rattle.walked_rows.specs.OnlyMeta.{TellsOnly}
 use Rattle.bank_store.specs.{Connections.IsAsBefore, MetaRow.ChecksCount, MetaRow.ChecksOnly, MetaRow.OfAnyMeta}
 use Rattle.bank_store.proofs.FoundBank.{decided_in, not_outside}

@@ -7,12 +7,13 @@ use Rattle.sqlite_trees.specs.declared.store.Store.{Ghosts}
 use Rattle.posting_rules.specs.declared.fault.Fault.{Fault}
 use Rattle.sql_meanings.specs.StatementAnswers.{TellsProbe}
 use Rattle.sql_meanings.proofs.Sparing.{spares_same}
-use Rattle.store_rows.specs.Sparing.{bank_names}
+use Rattle.store_rows.specs.believed.Sparing.{bank_names}
 use Rattle.store_rows.specs.declared.fault.TableFault.{TableFault, TheVariants.Sqlite, TheVariants.Damaged}
-use Rattle.bank_transactions.specs.{Doing.LeavesOthers, Doing.SparesTheirs, Undone.UndoesFaults}
-use Rattle.bank_store.specs.{Connections.IsAsBefore, Down.GoesDown, Sparing.SparesOtherTables}
+use Rattle.bank_transactions.specs.{believed.Doing.LeavesOthers, Doing.SparesTheirs, Undone.UndoesFaults}
+use Rattle.bank_store.specs.{Connections.IsAsBefore, Down.GoesDown, believed.Sparing.SparesOtherTables}
 use Rattle.bank_store.specs.{Walks.IsUntouchedIfOpen, declared.bank.Bank.Bank, SparedTables.spared_itself}
-use Rattle.bank_store.specs.Seen.{bank_seen, connection_of, database_of, fault_of, file_of}
+use Rattle.bank_store.specs.believed.Seen.{bank_seen, connection_of, database_of, file_of}
+use Rattle.bank_store.specs.Seen.{fault_of}
 
 -- a call that tried nothing, or read nothing of the file
 pub spares_untouched : {S : Type 0} (g : Ghosts S) (bank : Bank S g) → SparesOtherTables g bank bank

@@ -2,10 +2,10 @@
 use Rattle.std.proofs.Common.{List, [], sym, subst, inl, inr, arith}
 use Rattle.std.specs.Prelude.{IsTrue}
 use Rattle.sqlite.specs.{Effect.Database, State.State, State.HasCleanDisk, State.Survives}
-use Rattle.posting_rules.specs.{Commands.Command, Tables.AreTablesOf}
-use Rattle.posting_rules.specs.Counter.{Seen, ShowsLog, StandsAt, Takes, LeavesOnly}
-use Rattle.store_rows.specs.View.{Shows}
-use Rattle.bank_store.specs.{Leaving.TakesNone, Seen.seen_in, Walks.IsStill, Walks.IsUntouchedIfOpen}
+use Rattle.posting_rules.specs.{believed.Commands.Command, believed.Tables.AreTablesOf}
+use Rattle.posting_rules.specs.believed.Counter.{Seen, ShowsLog, StandsAt, Takes, LeavesOnly}
+use Rattle.store_rows.specs.believed.View.{Shows}
+use Rattle.bank_store.specs.{Leaving.TakesNone, believed.Seen.seen_in, Walks.IsStill, Walks.IsUntouchedIfOpen}
 
 -- where the connection sees what it saw, all stands as it stood
 pub takes_then : (old mid new : State) (D E F : Type 0) → Takes (seen_in old D) (seen_in mid E) []

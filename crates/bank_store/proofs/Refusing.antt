@@ -3,19 +3,22 @@ use Rattle.std.proofs.Common.{◌≡◌, List, Option, None, Result, Ok, Err, ar
 use Rattle.std.specs.Prelude.{IsSome, ◌≢◌}
 use Rattle.sqlite.specs.{State.State, State.HasCleanDisk, State.Survives, Held.Held, Held.state}
 use Rattle.sqlite_trees.specs.declared.store.Store.{Ghosts}
-use Rattle.posting_rules.specs.{declared.fault.Fault.Fault, declared.fault.Rule.Rule, Tables.Tables}
+use Rattle.posting_rules.specs.{declared.fault.Fault.Fault, declared.fault.Rule.Rule, believed.Tables.Tables}
 use Rattle.posting_rules.specs.declared.fault.Fault.TheVariants.{Memory, Store, Down, Damaged as Broken}
-use Rattle.posting_rules.specs.Commands.{Command, AreCommands}
-use Rattle.posting_rules.specs.Counter.{Refuses, Takes, TellsDamage}
+use Rattle.posting_rules.specs.believed.Commands.{Command, AreCommands}
+use Rattle.posting_rules.specs.believed.Counter.{Refuses, Takes, TellsDamage}
 use Rattle.posting_rules.proofs.Calls.{IsChange}
 use Rattle.posting_rules.proofs.CounterCalls.{call_answered, call_refused, call_spared, call_untried, unchanged_seen}
-use Rattle.store_rows.specs.Failures.{Additions}
+use Rattle.store_rows.specs.believed.Failures.{Additions}
 use Rattle.store_rows.specs.declared.fault.TableFault.{TableFault, TheVariants.Sqlite, TheVariants.Damaged}
-use Rattle.bank_transactions.specs.{Additions.AnyRow, Doing.Transacts, Doing.TransactsBy}
-use Rattle.bank_transactions.specs.Causes.{Damage, IsBrokenOrMet, IsFirstBroken}
+use Rattle.bank_transactions.specs.{believed.Additions.AnyRow, Doing.Transacts, Doing.TransactsBy}
+use Rattle.bank_transactions.specs.believed.Causes.{Damage, IsBrokenOrMet}
+use Rattle.bank_transactions.specs.Causes.{IsFirstBroken}
 use Rattle.bank_transactions.proofs.Blamed.{between_also}
-use Rattle.bank_store.specs.Down.{GoesDown, IsBankCall, KeepsCause, OfDamage, WasBrokenOrMet, bank_reason}
-use Rattle.bank_store.specs.Seen.{bank_seen, cause_of, connection_of, database_of, fault_of}
+use Rattle.bank_store.specs.believed.Down.{IsBankCall, KeepsCause, OfDamage, WasBrokenOrMet, bank_reason}
+use Rattle.bank_store.specs.Down.{GoesDown}
+use Rattle.bank_store.specs.believed.Seen.{bank_seen, cause_of, connection_of, database_of}
+use Rattle.bank_store.specs.Seen.{fault_of}
 use Rattle.bank_store.specs.declared.bank.Bank.{Bank}
 use Rattle.bank_store.proofs.Broke.{consulted, transacted}
 use Rattle.bank_store.proofs.Countered.{HoldsOfLogs, failed_between, keeps_file, kept_error, no_error, refuses}

@@ -3,8 +3,8 @@ use Rattle.std.specs.Prelude.{◌≡◌, ◌≢◌, IsTrue, false, Result, Ok, E
 use Rattle.sqlite.specs.State.{State, HasCleanDisk, Shows as StateShows}
 use Rattle.sqlite.specs.Held.{Held, state}
 use Rattle.sqlite_trees.specs.declared.store.Store.{Ghosts}
-use Rattle.posting_rules.specs.Counter.{Seen}
-use Rattle.bank_store.specs.Seen.{seen_in}
+use Rattle.posting_rules.specs.believed.Counter.{Seen}
+use Rattle.bank_store.specs.believed.Seen.{seen_in}
 use Rattle.bank_store.specs.declared.bank.Bank.{Bank}
 use Rattle.posting_rules.specs.declared.open_fault.OpenFault.{OpenFault}
 use Rattle.posting_rules.specs.declared.open_fault.OpenFault.TheVariants.{Store}

@@ -4,20 +4,20 @@ use Rattle.sqlite.specs.Effect.{Database}
 use Rattle.sqlite.specs.State.{State, HasCleanDisk}
 use Rattle.sqlite.specs.Held.{Held, state}
 use Rattle.sqlite_trees.specs.declared.store.Store.{Ghosts}
-use Rattle.posting_rules.specs.Commands.{Command}
-use Rattle.posting_rules.specs.Counter.{ShowsLog, StandsAt}
+use Rattle.posting_rules.specs.believed.Commands.{Command}
+use Rattle.posting_rules.specs.believed.Counter.{ShowsLog, StandsAt}
 use Rattle.posting_rules.specs.declared.fault.Rule.TheVariants.{Meta, Value}
-use Rattle.sql_meanings.specs.Entries.{Entry}
-use Rattle.store_rows.specs.Columns.{meta_in}
+use Rattle.sql_meanings.specs.believed.Entries.{Entry}
+use Rattle.store_rows.specs.believed.Columns.{meta_in}
 use Rattle.store_rows.specs.Probes.{all_probes, probe_of}
 use Rattle.store_rows.specs.declared.probes.BankTable.TheVariants as table
-use Rattle.store_rows.specs.BankTables as bank
+use Rattle.store_rows.specs.believed.BankTables as bank
 use Rattle.store_rows.specs.Statements.{HasOtherValue}
 use Rattle.store_rows.specs.View.{HoldsRows}
 use Rattle.store_rows.specs.declared.metas.TheConstants.{VERSION}
 use Rattle.store_rows.specs.declared.metas.StoredMeta.{StoredMeta}
 use Rattle.bank_store.specs.Connections.{conn_seen, IsAsBefore, IsReadOnly}
-use Rattle.bank_store.specs.Seen.{bank_seen, file_of}
+use Rattle.bank_store.specs.believed.Seen.{bank_seen, file_of}
 use Rattle.bank_store.specs.declared.bank.Bank.{Bank}
 use Rattle.bank_store.specs.MetaRow.{HasOnlyRow, IsNoCount, IsOfOtherType, IsOfVersion, IsOurs, LacksOnlyRow}
 use Rattle.bank_store.specs.MetaRow.{TellsMeta}

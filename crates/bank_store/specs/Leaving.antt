@@ -1,10 +1,10 @@
 -- What reads leave of a bank, whatever they answered.
 use Rattle.std.specs.Prelude.{List, [], IsTrue}
 use Rattle.sqlite_trees.specs.declared.store.Store.{Ghosts}
-use Rattle.posting_rules.specs.Commands.{Command}
-use Rattle.posting_rules.specs.Counter.{Seen, LeavesOnly, StandsAt, Takes}
-use Rattle.posting_rules.specs.Tables.{AreTablesOf}
-use Rattle.bank_store.specs.Seen.{bank_seen, file_of}
+use Rattle.posting_rules.specs.believed.Commands.{Command}
+use Rattle.posting_rules.specs.believed.Counter.{Seen, LeavesOnly, StandsAt, Takes}
+use Rattle.posting_rules.specs.believed.Tables.{AreTablesOf}
+use Rattle.bank_store.specs.believed.Seen.{bank_seen, file_of}
 use Rattle.bank_store.specs.declared.bank.Bank.{Bank}
 
 -- the bank was given no command

@@ -1,4 +1,5 @@
 -- A bank in the tables of a SQLite file: what its calls do to the tables, and what a crash leaves.
+pub mod believed
 pub mod Down
 pub mod Connections
 pub mod TablePresence
@@ -9,7 +10,6 @@ pub mod Migration
 pub mod OpenFaults
 pub mod StoreFaults
 pub mod Seen
-pub mod NoneOrAll
 pub mod Walking
 pub mod Walks
 pub mod Leaving

@@ -6,9 +6,9 @@ use Rattle.sqlite.specs.State.{State}
 use Rattle.sqlite.specs.Term.{Term}
 use Rattle.posting_rules.specs.declared.fault.Rule.TheVariants.{Meta, Value}
 use Rattle.posting_rules.specs.declared.limits.TheConstants.{MAX_DECIDED}
-use Rattle.sql_meanings.specs.Entries.{Entry}
+use Rattle.sql_meanings.specs.believed.Entries.{Entry}
 use Rattle.store_rows.specs.Statements.{HasOtherValue}
-use Rattle.store_rows.specs.View.{meta_entry}
+use Rattle.store_rows.specs.believed.View.{meta_entry}
 use Rattle.store_rows.specs.declared.metas.TheConstants.{VERSION}
 use Rattle.store_rows.specs.declared.metas.StoredMeta.{StoredMeta}
 use Rattle.walked_rows.specs.OnlyMeta.{meta_with}

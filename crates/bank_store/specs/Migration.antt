@@ -9,26 +9,28 @@ use Rattle.sqlite.specs.Table.{Table}
 use Rattle.sqlite.specs.Tree.{Trees}
 use Rattle.sqlite.specs.declared.error.Error.{Error}
 use Rattle.sqlite_trees.specs.declared.store.Store.{Ghosts}
-use Rattle.posting_rules.specs.Commands.{Command, AreCommands}
-use Rattle.posting_rules.specs.Counter.{LeavesOnly, ShowsLog, StandsAt}
-use Rattle.posting_rules.specs.Editions.{AreTablesIn, plain}
-use Rattle.posting_rules.specs.Tables.{Tables, AreTablesOf}
+use Rattle.posting_rules.specs.believed.Commands.{Command, AreCommands}
+use Rattle.posting_rules.specs.believed.Counter.{LeavesOnly, ShowsLog, StandsAt}
+use Rattle.posting_rules.specs.believed.Editions.{plain}
+use Rattle.posting_rules.specs.Editions.{AreTablesIn}
+use Rattle.posting_rules.specs.believed.Tables.{Tables, AreTablesOf}
 use Rattle.posting_rules.specs.declared.fault.Rule.TheVariants.{Meta, Value}
 use Rattle.posting_rules.specs.declared.open_fault.OpenFault.{OpenFault}
 use Rattle.posting_rules.specs.declared.open_fault.OpenFault.TheVariants.{Store, Foreign, Version, Damaged}
-use Rattle.sql_meanings.specs.Making.{SparesStanding, Stands}
-use Rattle.sql_meanings.specs.Tables.{tree_of}
-use Rattle.store_rows.specs.BankTables.{meta}
+use Rattle.sql_meanings.specs.believed.Making.{Stands}
+use Rattle.sql_meanings.specs.Making.{SparesStanding}
+use Rattle.sql_meanings.specs.believed.Tables.{tree_of}
+use Rattle.store_rows.specs.believed.BankTables.{meta}
 use Rattle.store_rows.specs.Migration.{IsEarlier, RefusesLacking, ShowsLess, TakesLacking}
 use Rattle.store_rows.specs.Probes.{all_tables, probe_of}
 use Rattle.store_rows.specs.Statements.{HasOtherValue}
-use Rattle.store_rows.specs.View.{Shows, ShowsAs, ShowsTrees}
+use Rattle.store_rows.specs.believed.View.{Shows, ShowsAs, ShowsTrees}
 use Rattle.store_rows.specs.declared.metas.StoredMeta.{StoredMeta}
 use Rattle.bank_store.specs.Connections.{conn_seen, IsAsBefore, IsReadOnly, IsUndoneIfOpen}
 use Rattle.bank_store.specs.FoundBank.{BankIsFound, IsTakenUp, Misses, RowIs}
 use Rattle.bank_store.specs.MetaRow.{HasOnlyRow, IsOutside, IsWithin, LacksOnlyRow}
 use Rattle.bank_store.specs.OpenFaults.{of_the_store}
-use Rattle.bank_store.specs.Seen.{bank_seen, file_of}
+use Rattle.bank_store.specs.believed.Seen.{bank_seen, file_of}
 use Rattle.bank_store.specs.StoreFaults.{IsOpenCall}
 use Rattle.bank_store.specs.TablePresence.{IsPresent, Lacks, OneOf}
 use Rattle.bank_store.specs.declared.bank.Bank.{Bank}

@@ -6,16 +6,16 @@ use Rattle.sqlite.specs.State.{State, HasCleanDisk, Survives}
 use Rattle.sqlite.specs.Held.{Held, state}
 use Rattle.sqlite.specs.declared.error.Error.{Error}
 use Rattle.sqlite_trees.specs.declared.store.Store.{Ghosts}
-use Rattle.posting_rules.specs.Counter.{StandsAt}
-use Rattle.posting_rules.specs.Tables.{Tables}
+use Rattle.posting_rules.specs.believed.Counter.{StandsAt}
+use Rattle.posting_rules.specs.believed.Tables.{Tables}
 use Rattle.sql_meanings.specs.Making.{KeepsTables}
 use Rattle.store_rows.specs.Creation.{HasNewBank, IsAlone, RefusedIn, new_tables}
 use Rattle.store_rows.specs.Probes.{all_probes}
-use Rattle.store_rows.specs.View.{Shows, ShowsTrees}
+use Rattle.store_rows.specs.believed.View.{Shows, ShowsTrees}
 use Rattle.bank_store.specs.Connections.{IsAsBefore, IsUndoneIfOpen}
 use Rattle.bank_store.specs.OpenFaults.{of_the_store, IsUnmade}
 use Rattle.bank_store.specs.StoreFaults.{KnowsWhyUnmade}
-use Rattle.bank_store.specs.Seen.{bank_seen, file_of}
+use Rattle.bank_store.specs.believed.Seen.{bank_seen, file_of}
 use Rattle.bank_store.specs.TablePresence.{IsPresent, IsReadable, OneOf}
 use Rattle.bank_store.specs.declared.bank.Bank.{Bank}
 use Rattle.bank_store.specs.declared.presence.Presence.TheVariants.{Absent}

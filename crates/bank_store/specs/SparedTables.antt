@@ -9,9 +9,9 @@ use Rattle.sqlite.specs.Tree.{Trees}
 use Rattle.sqlite.proofs.StateLemmas.{survives_then}
 use Rattle.sqlite_trees.specs.View.{doubt}
 use Rattle.sql_meanings.proofs.Sparing.{spares_itself, spares_then}
-use Rattle.store_rows.specs.Sparing.{SparesOthers, bank_names}
-use Rattle.bank_transactions.specs.Doing.{LeavesOthers}
-use Rattle.bank_store.specs.Sparing.{SparesTables}
+use Rattle.store_rows.specs.believed.Sparing.{SparesOthers, bank_names}
+use Rattle.bank_transactions.specs.believed.Doing.{LeavesOthers}
+use Rattle.bank_store.specs.believed.Sparing.{SparesTables}
 
 -- nothing was done
 survives_itself : (s : State) (P : Trees → Type 0) → Survives s s P

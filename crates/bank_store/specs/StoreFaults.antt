@@ -5,7 +5,7 @@ use Rattle.sqlite.specs.Held.{Held, state}
 use Rattle.sqlite.specs.Tree.{Trees}
 use Rattle.sqlite.specs.declared.error.Error.{Error}
 use Rattle.sqlite_trees.specs.declared.store.Store.{Ghosts}
-use Rattle.bank_transactions.specs.Causes.{HasFailedBetween, IsBefore}
+use Rattle.bank_transactions.specs.believed.Causes.{HasFailedBetween, IsBefore}
 use Rattle.store_rows.specs.Creation.{CreatesBank}
 use Rattle.bank_store.specs.OpenFaults.{of_the_store}
 use Rattle.posting_rules.specs.declared.open_fault.OpenFault.{OpenFault}

@@ -6,7 +6,7 @@ use Rattle.sqlite.specs.Effect.{Database, IsDatabase}
 use Rattle.sqlite.specs.State.{State}
 use Rattle.sqlite_rules.specs.Lists.{Has}
 use Rattle.sql_meanings.specs.StatementAnswers.{IsThere, IsUnderstood}
-use Rattle.sql_meanings.specs.Tables.{Defines}
+use Rattle.sql_meanings.specs.believed.Tables.{Defines}
 use Rattle.store_rows.specs.Probes.{IsNotUnderstood}
 use Rattle.bank_store.specs.Connections.{IsAsBefore, IsUndoneIfOpen}
 use Rattle.bank_store.specs.declared.presence.Presence.{Presence}

@@ -17,7 +17,8 @@ use Rattle.walked_rows.specs.Rising.{RisesFrom}
 use Rattle.walked_rows.specs.Rows.{LEAST, items_after}
 use Rattle.walked_rows.specs.Stored.{is_stated_of, stated_pair}
 use Rattle.walked_rows.specs.declared.stated.StatedPosting.{StatedPosting}
-use Rattle.bank_store.specs.Seen.{bank_seen, connection_of, database_of, fault_of}
+use Rattle.bank_store.specs.believed.Seen.{bank_seen, connection_of, database_of}
+use Rattle.bank_store.specs.Seen.{fault_of}
 use Rattle.bank_store.specs.Walks.{IsStill, IsUntouchedIfOpen}
 use Rattle.bank_store.specs.declared.bank.Bank.{Bank}
 use Rattle.bank_store.specs.declared.walks.Walk.{Walk}

@@ -2,9 +2,9 @@
 ghost use Rattle.std.specs.Prelude.{◌≡◌, List, IfOk, IfErr, false};
 ghost use Rattle.sqlite.specs.State.{HasCleanDisk, Survives};
 ghost use Rattle.sqlite.specs.Held.{state};
-ghost use Rattle.posting_rules.specs.Commands.{Command};
-ghost use Rattle.posting_rules.specs.Counter.{ShowsLog, StandsAt, LeavesOnly};
-ghost use Rattle.posting_rules.specs.Tables.{AreTablesOf as Show};
+ghost use Rattle.posting_rules.specs.believed.Commands.{Command};
+ghost use Rattle.posting_rules.specs.believed.Counter.{ShowsLog, StandsAt, LeavesOnly};
+ghost use Rattle.posting_rules.specs.believed.Tables.{AreTablesOf as Show};
 ghost use Rattle.bank_store.specs.Connections.{conn_seen, state_in, IsGivenBack, IsReadOnly, IsUndoneIfOpen};
 ghost use Rattle.bank_store.specs.FoundBank.{HasNoOtherVersion, IsTakenUp, LooksAtVersion, Misses};
 ghost use Rattle.bank_store.specs.FoundBank.{ReadsMeta, SeeksBank, SeeksTables};

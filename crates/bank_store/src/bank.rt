@@ -4,13 +4,13 @@ ghost use Rattle.std.specs.Prelude.{◌≡◌, ◌≢◌, ◌≤◌, ◌≤ℤ�
 ghost use Rattle.std.specs.Prelude.{None, false, pos};
 ghost use Rattle.sqlite.specs.State.{Survives};
 ghost use Rattle.sqlite.specs.Held.{state};
-ghost use Rattle.message_records.specs.Spelling.{reply_spelling};
+ghost use Rattle.message_records.specs.believed.Spelling.{reply_spelling};
 ghost use Rattle.posting_rules.specs.Branches.{IsNextBranch, IsLineAbove};
-ghost use Rattle.posting_rules.specs.Commands.{Command, Open, Post, opened_with};
-ghost use Rattle.posting_rules.specs.Counter.{StandsAt, opening_after};
-ghost use Rattle.posting_rules.specs.Entries.{reply, balance_after};
-ghost use Rattle.posting_rules.specs.Runs.{posts, replies_to};
-ghost use Rattle.posting_rules.specs.Tables.{Tables};
+ghost use Rattle.posting_rules.specs.believed.Commands.{Command, Open, Post, opened_with};
+ghost use Rattle.posting_rules.specs.believed.Counter.{StandsAt, opening_after};
+ghost use Rattle.posting_rules.specs.believed.Entries.{reply, balance_after};
+ghost use Rattle.posting_rules.specs.believed.Runs.{posts, replies_to};
+ghost use Rattle.posting_rules.specs.believed.Tables.{Tables};
 
 use crate::laws::{floor_law, range_law};
 use crate::walks::read_outside;
@@ -60,7 +60,7 @@ pub struct Bank<S: Alter> {
 impl<S: Alter> Bank<S> {
     ghost use Rattle.bank_store.specs.Connections.{conn_seen};
     ghost use Rattle.bank_store.specs.Down.{GoesDown};
-    ghost use Rattle.bank_store.specs.Seen.{bank_seen, cause_of, connection_of};
+    ghost use Rattle.bank_store.specs.believed.Seen.{bank_seen, cause_of, connection_of};
     ghost use Rattle.bank_store.specs.Walks.{IsUntouchedIfOpen};
     ghost use Rattle.sqlite.specs.State.{HasCleanDisk};
 
@@ -212,21 +212,23 @@ impl<S: Alter> fmt::Debug for Bank<S> {
 /// Each call is one transaction. See [`Bank`] for what holds after each fault.
 impl<S: Alter + Drop> Counter for Bank<S> {
     ghost use Rattle.std.specs.Prelude.{Ok};
-    ghost use Rattle.message_records.specs.Reading.{request_of};
-    ghost use Rattle.message_records.specs.Records.{RequestFields};
-    ghost use Rattle.bank_transactions.specs.Additions.{AddsBranch, AddsForRecords};
-    ghost use Rattle.bank_transactions.specs.Causes.{IsBefore};
-    ghost use Rattle.bank_transactions.specs.Stored.{IsStoredBalance, IsStoredNext, OpensByStored};
-    ghost use Rattle.bank_transactions.specs.Stored.{RepliesToAllStored, RepliesToStored};
-    ghost use Rattle.bank_transactions.specs.Batches.{DecidesNone};
-    ghost use Rattle.bank_store.specs.Down.{AnswersBy, IsBankCall, OfDamage, WasBroken, WasBrokenOrMet};
-    ghost use Rattle.bank_store.specs.Down.{bank_reason};
-    ghost use Rattle.bank_store.specs.NoneOrAll.{LeavesNoneOrAll, IsIdle};
-    ghost use Rattle.bank_store.specs.Seen.{bank_seen, database_of, file_of};
-    ghost use Rattle.bank_store.specs.Sparing.{SparesOtherTables};
+    ghost use Rattle.message_records.specs.believed.Reading.{request_of};
+    ghost use Rattle.message_records.specs.believed.Records.{RequestFields};
+    ghost use Rattle.bank_transactions.specs.believed.Additions.{AddsBranch, AddsForRecords};
+    ghost use Rattle.bank_transactions.specs.believed.Causes.{IsBefore};
+    ghost use Rattle.bank_transactions.specs.believed.Stored.{IsStoredBalance, OpensByStored};
+    ghost use Rattle.bank_transactions.specs.Stored.{IsStoredNext};
+    ghost use Rattle.bank_transactions.specs.believed.Stored.{RepliesToAllStored, RepliesToStored};
+    ghost use Rattle.bank_transactions.specs.believed.Batches.{DecidesNone};
+    ghost use Rattle.bank_store.specs.believed.Down.{AnswersBy, IsBankCall, OfDamage, WasBrokenOrMet};
+    ghost use Rattle.bank_store.specs.Down.{WasBroken};
+    ghost use Rattle.bank_store.specs.believed.Down.{bank_reason};
+    ghost use Rattle.bank_store.specs.believed.NoneOrAll.{LeavesNoneOrAll, IsIdle};
+    ghost use Rattle.bank_store.specs.believed.Seen.{bank_seen, database_of, file_of};
+    ghost use Rattle.bank_store.specs.believed.Sparing.{SparesOtherTables};
     ghost use Rattle.bank_store.specs.SparedTables.{some_or_none, spared_itself, spared_then};
     ghost use Rattle.sqlite.specs.Effect.{Database};
-    ghost use Rattle.posting_rules.specs.Sound.{AreOfALog};
+    ghost use Rattle.posting_rules.specs.believed.Sound.{AreOfALog};
 
     ghost seen = { λ bank. bank_seen S.Store bank };
 

@@ -3,10 +3,10 @@
 ghost use Rattle.std.specs.Prelude.{◌≤◌, ◌≤ℤ◌, pos, IfSome, List, ℕ};
 ghost use Rattle.sqlite.specs.Held.{state};
 ghost use Rattle.sqlite.specs.State.{Opens};
-ghost use Rattle.posting_rules.specs.Commands.{Command, AreCommands, IsFloor};
-ghost use Rattle.posting_rules.specs.Counter.{StandsAt};
-ghost use Rattle.posting_rules.specs.Tables.{Tables, AreTablesOf};
-ghost use Rattle.store_rows.specs.View.{ShowsTrees};
+ghost use Rattle.posting_rules.specs.believed.Commands.{Command, AreCommands, IsFloor};
+ghost use Rattle.posting_rules.specs.believed.Counter.{StandsAt};
+ghost use Rattle.posting_rules.specs.believed.Tables.{Tables, AreTablesOf};
+ghost use Rattle.store_rows.specs.believed.View.{ShowsTrees};
 ghost use Rattle.bank_store.specs.Connections.{conn_seen};
 ghost use Rattle.bank_store.specs.Migration.{ShowsEarlierTrees, StandsEarlier};
 

@@ -52,7 +52,7 @@
 //! its ten neighbours walk over the rows, one `next` a row.
 //!
 //! Read next: [`Bank`], with what holds after each fault; [`Counter`], with the five calls; [`Walk`], to read
-//! the rows. `specs/Seen` says what a bank shows, and the crate `bank_lives` what is found after a crash.
+//! the rows. `specs/believed/Seen` says what a bank shows, and the crate `bank_lives` what is found after a crash.
 #![tactic(auto)]
 
 mod adoption;

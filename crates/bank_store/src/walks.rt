@@ -123,7 +123,7 @@ pub(crate) fn read_outside<S: Alter, R: WalkedRow>(
 }
 
 impl<'bank, S: Alter, R: WalkedRow> Walk<'bank, S, R> {
-    ghost use Rattle.bank_store.specs.Seen.{database_of};
+    ghost use Rattle.bank_store.specs.believed.Seen.{database_of};
     ghost use Rattle.bank_store.specs.Walking.{ComesFrom, GivesFrom, GoesOn, HasToldFault, IsToldFault};
     ghost use Rattle.bank_store.specs.Walking.{LeavesLent, Steps};
     ghost use Rattle.bank_store.specs.Walking.{StoreFailed, items_to_come, lent, lent_state, loan_of};
@@ -249,10 +249,10 @@ ghost use Rattle.walked_rows.specs.Pairs.{HasPairs, pair_key};
 ghost use Rattle.walked_rows.specs.Rows.{HasStoredRows, LEAST, entry_key};
 ghost use Rattle.walked_rows.specs.Stored.{account_entry, asked_pair, branch_entry, is_stated_of};
 ghost use Rattle.walked_rows.specs.Stored.{posted_pair, stated_pair, teller_entry};
-ghost use Rattle.store_rows.specs.BankTables.{account as account_table, branch as branch_table};
-ghost use Rattle.store_rows.specs.BankTables.{history as history_table, request as request_table};
-ghost use Rattle.store_rows.specs.BankTables.{reference as reference_table, teller as teller_table};
-ghost use Rattle.store_rows.specs.BankTables.{floor as floor_table, meta as meta_table};
+ghost use Rattle.store_rows.specs.believed.BankTables.{account as account_table, branch as branch_table};
+ghost use Rattle.store_rows.specs.believed.BankTables.{history as history_table, request as request_table};
+ghost use Rattle.store_rows.specs.believed.BankTables.{reference as reference_table, teller as teller_table};
+ghost use Rattle.store_rows.specs.believed.BankTables.{floor as floor_table, meta as meta_table};
 ghost use Rattle.walked_rows.specs.KeptRows.{HasKept, kept_item, kept_key};
 ghost use Rattle.walked_rows.specs.References.{listed_entry};
 ghost use Rattle.walked_rows.specs.StoredBeside.{floor_entry, meta_entry};

@@ -5,18 +5,20 @@ use Rattle.std.specs.List.{AllByRecursion}
 use Rattle.sqlite.specs.Effect.{Database}
 use Rattle.sqlite.specs.Order.{Row}
 use Rattle.sqlite_rules.specs.Lists.{Has}
-use Rattle.message_records.specs.Reading.{request_of}
-use Rattle.message_records.specs.Records.{RequestFields}
-use Rattle.posting_batch.specs.Batch.{HasNextOrdinals, IsNextOrdinal, covering, no_slots}
+use Rattle.message_records.specs.believed.Reading.{request_of}
+use Rattle.message_records.specs.believed.Records.{RequestFields}
+use Rattle.posting_batch.specs.believed.Batch.{IsNextOrdinal}
+use Rattle.posting_batch.specs.Batch.{HasNextOrdinals, covering, no_slots}
 use Rattle.posting_batch.specs.Judging.{overlay_with}
 use Rattle.posting_batch.specs.Overlay.{Overlay}
 use Rattle.posting_batch.specs.View.{IsMadeOf, reads_of, view}
 use Rattle.posting_batch.specs.declared.batch.Batch.{Batch}
 use Rattle.posting_batch.proofs.NextOrdinals.{HasNoRow, next_one, none_covered, none_new}
-use Rattle.store_rows.specs.Rules.{OfRows}
-use Rattle.bank_transactions.specs.Additions.{AddsForRecords, AddsNew, FollowsCount, adds_so}
+use Rattle.store_rows.specs.believed.Rules.{OfRows}
+use Rattle.bank_transactions.specs.believed.Additions.{AddsForRecords, FollowsCount}
+use Rattle.bank_transactions.specs.Additions.{AddsNew, adds_so}
 use Rattle.bank_transactions.specs.Filling.{emptied}
-use Rattle.bank_transactions.specs.Stored.{HoldsDecided}
+use Rattle.bank_transactions.specs.believed.Stored.{HoldsDecided}
 
 each_of : {R : Type 0} (P : R → Type 0) (rows : List R) (r : R) → AllByRecursion P rows → Has rows r → P r
 each_of P [] r all none = absurd none

@@ -8,13 +8,14 @@ use Rattle.sqlite.specs.Order.{Row}
 use Rattle.sqlite.specs.Tree.{Trees}
 use Rattle.sqlite.specs.declared.error.Error.{Error}
 use Rattle.sqlite_trees.specs.declared.store.Store.{Ghosts}
-use Rattle.store_rows.specs.Failures.{Additions, HasFailed, HasMet, Puts}
+use Rattle.store_rows.specs.believed.Failures.{Additions, HasFailed, HasMet}
+use Rattle.store_rows.specs.Failures.{Puts}
 use Rattle.store_rows.specs.declared.fault.TableFault.{TableFault}
 use Rattle.store_rows.specs.declared.fault.TableFault.TheVariants.{Sqlite, Damaged}
 use Rattle.posting_rules.specs.declared.fault.Rule.{Rule}
 use Rattle.posting_rules.specs.declared.fault.Rule.TheVariants.{Meta, Teller, Account, Balance, Request}
 use Rattle.posting_rules.specs.declared.fault.Rule.TheVariants.{Value, Key, Floor, Reference}
-use Rattle.bank_transactions.specs.Causes.{IsBefore, HasFailedBetween, HasMetBetween, Damage, IsBrokenOrMet}
+use Rattle.bank_transactions.specs.believed.Causes.{IsBefore, HasFailedBetween, HasMetBetween, Damage, IsBrokenOrMet}
 use Rattle.bank_transactions.specs.Causes.{IsFault, Blames}
 
 -- nothing is forgotten by a call

@@ -4,9 +4,9 @@ use Rattle.sqlite.specs.State.{HasCleanDisk}
 use Rattle.sqlite.specs.Held.{state}
 use Rattle.sqlite.specs.declared.transaction.Transaction.{Transaction}
 use Rattle.sqlite_trees.specs.declared.store.Store.{Ghosts}
-use Rattle.posting_rules.specs.Tables.{Tables}
-use Rattle.store_rows.specs.Failures.{Additions}
-use Rattle.bank_transactions.specs.Causes.{Damage}
+use Rattle.posting_rules.specs.believed.Tables.{Tables}
+use Rattle.store_rows.specs.believed.Failures.{Additions}
+use Rattle.bank_transactions.specs.believed.Causes.{Damage}
 use Rattle.bank_transactions.specs.Doing.{Does, DoesBy}
 use Rattle.bank_transactions.proofs.Chained.{knowing}
 

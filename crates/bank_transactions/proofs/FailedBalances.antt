@@ -4,15 +4,15 @@ use Rattle.sqlite.specs.State.{KeepsCommit}
 use Rattle.sqlite.specs.declared.transaction.Transaction.{Transaction}
 use Rattle.sqlite_trees.specs.declared.store.Store.{Ghosts}
 use Rattle.posting_rules.specs.Damage.{IsUndamaged}
-use Rattle.posting_rules.specs.Tables.{Tables}
+use Rattle.posting_rules.specs.believed.Tables.{Tables}
 use Rattle.sql_meanings.specs.Calls.{Says}
 use Rattle.sql_meanings.specs.StatementAnswers.{WriteFails}
 use Rattle.store_rows.specs.Calls.{OfTables}
 use Rattle.store_rows.specs.Failures.{HasReason}
 use Rattle.store_rows.specs.Holders.{balance_in, entry_under}
 use Rattle.store_rows.specs.TableAnswers.{Finds, BreaksBalance}
-use Rattle.store_rows.specs.Rules.{OfRows}
-use Rattle.store_rows.specs.Stored.{BalanceKeeps, FindsStored, IsBalance}
+use Rattle.store_rows.specs.believed.Rules.{OfRows}
+use Rattle.store_rows.specs.believed.Stored.{BalanceKeeps, FindsStored, IsBalance}
 use Rattle.store_rows.specs.declared.fault.TableFault.{TableFault}
 use Rattle.store_rows.specs.declared.holders.Member.{Member}
 use Rattle.bank_transactions.specs.Causes.{IsFault, IsFirstBroken}

@@ -5,12 +5,13 @@ use Rattle.sqlite.specs.Effect.{Database}
 use Rattle.sqlite.specs.State.{HasCleanDisk}
 use Rattle.sqlite.specs.Held.{Held, state}
 use Rattle.sqlite_trees.specs.declared.store.Store.{Ghosts}
-use Rattle.posting_rules.specs.Sound.{AreOfALog}
-use Rattle.posting_rules.specs.Tables.{Tables}
-use Rattle.store_rows.specs.View.{Shows}
+use Rattle.posting_rules.specs.believed.Sound.{AreOfALog}
+use Rattle.posting_rules.specs.believed.Tables.{Tables}
+use Rattle.store_rows.specs.believed.View.{Shows}
 use Rattle.store_rows.specs.declared.fault.TableFault.{TableFault}
 use Rattle.bank_transactions.specs.Doing.{Ends}
-use Rattle.bank_transactions.specs.Batches.{items_of, DecidesNone, WritesNothing, KeepsOnly}
+use Rattle.bank_transactions.specs.believed.Batches.{DecidesNone}
+use Rattle.bank_transactions.specs.Batches.{items_of, WritesNothing, KeepsOnly}
 
 -- the replies without where they lie in memory end the same way
 pub ends_items : {S Z : Type 0} (g : Ghosts S) (last new : Held S)

@@ -3,15 +3,16 @@ use Rattle.std.proofs.Common.{◌≡◌, ℕ, List, length, map, Result, Ok, Err
 use Rattle.sqlite.specs.Held.{state}
 use Rattle.sqlite.specs.declared.transaction.Transaction.{Transaction}
 use Rattle.sqlite_trees.specs.declared.store.Store.{Ghosts}
-use Rattle.message_records.specs.Reading.{request_of}
-use Rattle.message_records.specs.Records.{RequestFields}
-use Rattle.message_records.specs.Spelling.{reply_spelling}
-use Rattle.posting_rules.specs.Changes.{tables_past_all, replies_past_all, tables_with, reply_bytes}
-use Rattle.posting_rules.specs.Commands.{Command}
-use Rattle.posting_rules.specs.Runs.{posts}
+use Rattle.message_records.specs.believed.Reading.{request_of}
+use Rattle.message_records.specs.believed.Records.{RequestFields}
+use Rattle.message_records.specs.believed.Spelling.{reply_spelling}
+use Rattle.posting_rules.specs.believed.Changes.{tables_past_all, replies_past_all, tables_with, reply_bytes}
+use Rattle.posting_rules.specs.believed.Commands.{Command}
+use Rattle.posting_rules.specs.believed.Runs.{posts}
 use Rattle.posting_rules.specs.Damage.{IsUndamaged}
-use Rattle.posting_rules.specs.Sound.{AreOfALog, AreSound}
-use Rattle.posting_rules.specs.Tables.{Tables, AreTablesOf}
+use Rattle.posting_rules.specs.believed.Sound.{AreOfALog}
+use Rattle.posting_rules.specs.Sound.{AreSound}
+use Rattle.posting_rules.specs.believed.Tables.{Tables, AreTablesOf}
 use Rattle.posting_rules.proofs.Ready.{ready_sound}
 use Rattle.posting_rules.proofs.Undamaged.{undamaged}
 use Rattle.posting_batch.specs.declared.batch.Batch.{Batch}
@@ -24,10 +25,11 @@ use Rattle.posting_batch.proofs.Covered.{stands, homes_all}
 use Rattle.posting_batch.proofs.FreeOrdinals.{free_shown}
 use Rattle.posting_batch.proofs.OneRecord.{one_adds, one_back, one_changes, one_filled, one_homes, one_judged}
 use Rattle.posting_batch.proofs.OneRecord.{one_reply, one_rising, one_tables}
-use Rattle.store_rows.specs.Failures.{Additions}
-use Rattle.store_rows.specs.View as stored
+use Rattle.store_rows.specs.believed.Failures.{Additions}
+use Rattle.store_rows.specs.believed.View as stored
 use Rattle.store_rows.specs.declared.fault.TableFault.{TableFault}
-use Rattle.bank_transactions.specs.Causes.{Damage, IsFirstBroken}
+use Rattle.bank_transactions.specs.believed.Causes.{Damage}
+use Rattle.bank_transactions.specs.Causes.{IsFirstBroken}
 use Rattle.bank_transactions.specs.Doing.{Acts, Does, DoesBy}
 use Rattle.bank_transactions.proofs.Chained.{acts_read, acts_wrote, does_but, does_for}
 use Rattle.bank_transactions.proofs.Both.{does_both}

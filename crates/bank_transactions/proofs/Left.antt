@@ -7,14 +7,14 @@ use Rattle.sqlite.specs.State.{State, HasCleanDisk}
 use Rattle.sqlite.specs.Table.{Table}
 use Rattle.sqlite.specs.declared.transaction.Transaction.{Transaction}
 use Rattle.sqlite_trees.specs.declared.store.Store.{Ghosts}
-use Rattle.posting_rules.specs.Tables.{Tables}
+use Rattle.posting_rules.specs.believed.Tables.{Tables}
 use Rattle.sql_meanings.specs.Calls.{Inside, Says}
 use Rattle.store_rows.specs.Calls.{OfTables}
-use Rattle.store_rows.specs.Failures.{Additions}
+use Rattle.store_rows.specs.believed.Failures.{Additions}
 use Rattle.store_rows.specs.TableAnswers.{PutsOneRow}
-use Rattle.store_rows.specs.View.{Shows}
+use Rattle.store_rows.specs.believed.View.{Shows}
 use Rattle.store_rows.specs.declared.fault.TableFault.{TableFault}
-use Rattle.bank_transactions.specs.Causes.{Damage}
+use Rattle.bank_transactions.specs.believed.Causes.{Damage}
 use Rattle.bank_transactions.specs.Doing.{Does, DoesBy, Ends, Leaves}
 use Rattle.bank_transactions.proofs.Chained.{still_in}
 

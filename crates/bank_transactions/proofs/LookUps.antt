@@ -8,13 +8,13 @@ use Rattle.sqlite_trees.specs.declared.store.Store.{Ghosts}
 use Rattle.sql_meanings.specs.Calls.{Says}
 use Rattle.posting_rules.specs.Damage.{IsUndamaged}
 use Rattle.sql_meanings.proofs.Saying.{says_then}
-use Rattle.posting_rules.specs.Tables.{Tables}
+use Rattle.posting_rules.specs.believed.Tables.{Tables}
 use Rattle.sql_meanings.proofs.Sparing.{spares_itself}
-use Rattle.store_rows.specs.Sparing.{bank_names}
-use Rattle.store_rows.specs.View.{Shows}
+use Rattle.store_rows.specs.believed.Sparing.{bank_names}
+use Rattle.store_rows.specs.believed.View.{Shows}
 use Rattle.store_rows.specs.declared.fault.TableFault.{TableFault}
 use Rattle.store_rows.specs.declared.fault.TableFault.TheVariants.{Sqlite, Damaged}
-use Rattle.store_rows.specs.Rules.{IsBroken}
+use Rattle.store_rows.specs.believed.Rules.{IsBroken}
 use Rattle.bank_transactions.specs.Causes.{IsFirstBroken}
 use Rattle.bank_transactions.specs.Doing.{DoesBy, ChangesNothing, IsLookedUp, Reads, Stays}
 use Rattle.bank_transactions.proofs.Blamed.{blames_after, comes}

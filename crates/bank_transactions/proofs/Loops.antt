@@ -8,8 +8,8 @@ use Rattle.std.proofs.lemmas.List.Edits.{map_over_more}
 use Rattle.sqlite.specs.declared.transaction.Transaction.{Transaction}
 use Rattle.sqlite_trees.specs.declared.store.Store.{Ghosts}
 use Rattle.sqlite_rules.specs.Lists.{Has}
-use Rattle.posting_rules.specs.Tables.{Tables}
-use Rattle.store_rows.specs.Failures.{Additions}
+use Rattle.posting_rules.specs.believed.Tables.{Tables}
+use Rattle.store_rows.specs.believed.Failures.{Additions}
 use Rattle.store_rows.specs.declared.fault.TableFault.{TableFault}
 use Rattle.bank_transactions.specs.Additions.{AddsAlike}
 use Rattle.bank_transactions.specs.Doing.{Does}

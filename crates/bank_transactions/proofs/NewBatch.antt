@@ -10,10 +10,10 @@ use Rattle.sqlite.specs.Held.{state}
 use Rattle.sqlite.specs.State.{State, HasCleanDisk, KeepsCommit}
 use Rattle.sqlite.specs.declared.transaction.Transaction.{Transaction}
 use Rattle.sqlite_trees.specs.declared.store.Store.{Ghosts}
-use Rattle.message_records.specs.Reading.{request_of}
-use Rattle.posting_rules.specs.Kept.{KeptFields}
-use Rattle.posting_rules.specs.LookUps.{kept_in, kept_of_row}
-use Rattle.posting_rules.specs.Tables.{Tables}
+use Rattle.message_records.specs.believed.Reading.{request_of}
+use Rattle.posting_rules.specs.believed.Kept.{KeptFields}
+use Rattle.posting_rules.specs.believed.LookUps.{kept_in, kept_of_row}
+use Rattle.posting_rules.specs.believed.Tables.{Tables}
 use Rattle.posting_rules.specs.declared.rows.RequestRow.{RequestRow}
 use Rattle.posting_rules.proofs.Keyed.{by_test}
 use Rattle.posting_batch.specs.declared.batch.Batch.{Batch}
@@ -26,14 +26,15 @@ use Rattle.posting_batch.specs.View.{IsMadeOf, reads_of, view}
 use Rattle.posting_batch.proofs.Blanked.{blank_made, made_unkept}
 use Rattle.posting_batch.proofs.KeptSlots.{both_true}
 use Rattle.sql_meanings.specs.Calls.{Inside, Says}
-use Rattle.sql_meanings.specs.Entries.{Entry, has_two}
+use Rattle.sql_meanings.specs.believed.Entries.{Entry, has_two}
 use Rattle.sql_meanings.proofs.Changes.{found_all, found_passes}
 use Rattle.sql_meanings.proofs.NewPairs.{neither}
-use Rattle.store_rows.specs.BankTables.{request}
-use Rattle.store_rows.specs.Failures.{Additions}
-use Rattle.store_rows.specs.Rules.{HoldsBank, OfRows, StoredRows}
+use Rattle.store_rows.specs.believed.BankTables.{request}
+use Rattle.store_rows.specs.believed.Failures.{Additions}
+use Rattle.store_rows.specs.believed.Rules.{HoldsBank, OfRows, StoredRows}
 use Rattle.store_rows.specs.SeveralRows.{IsNew, PutsNew}
-use Rattle.store_rows.specs.View.{HoldsRows, Shows, request_entry}
+use Rattle.store_rows.specs.believed.View.{Shows, request_entry}
+use Rattle.store_rows.specs.View.{HoldsRows}
 use Rattle.store_rows.specs.declared.fault.TableFault.{TableFault}
 use Rattle.store_rows.proofs.GetRequest.{has_both}
 use Rattle.store_rows.proofs.RowLists.{found_by}
@@ -41,11 +42,12 @@ use Rattle.store_rows.proofs.StoredRows.{holds_list}
 use Rattle.store_rows.proofs.TableKinds.{holds}
 use Rattle.store_rows.proofs.TheTables.{requests}
 use Rattle.sqlite_rules.specs.Lists.{Has}
-use Rattle.bank_transactions.specs.Additions.{AddsRequests}
-use Rattle.bank_transactions.specs.Causes.{Damage, IsFirstBroken}
+use Rattle.bank_transactions.specs.believed.Additions.{AddsRequests}
+use Rattle.bank_transactions.specs.believed.Causes.{Damage}
+use Rattle.bank_transactions.specs.Causes.{IsFirstBroken}
 use Rattle.bank_transactions.specs.Doing.{Acts, CommitsNothing, Does, DoesBy}
 use Rattle.bank_transactions.specs.Filling.{AreHeld, AreKnown, ReadsWhere, RequestHeld, emptied, known}
-use Rattle.bank_transactions.specs.Stored.{HoldsKept}
+use Rattle.bank_transactions.specs.believed.Stored.{HoldsKept}
 use Rattle.bank_transactions.specs.Writing.{MayAddRequests}
 use Rattle.bank_transactions.proofs.JudgedSlots.{Judging, Ready, Written}
 use Rattle.bank_transactions.proofs.Chained.{acts_wrote, does_for, does_then, same_fault, still_in}

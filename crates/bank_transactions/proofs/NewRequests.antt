@@ -6,7 +6,7 @@ use Rattle.std.specs.Prelude.{OnOk, pos}
 use Rattle.sqlite.specs.Effect.{Database}
 use Rattle.sqlite_rules.specs.Lists.{Has}
 use Rattle.posting_rules.specs.declared.rows.RequestRow.{RequestRow}
-use Rattle.sql_meanings.specs.Entries.{Entry, has_two}
+use Rattle.sql_meanings.specs.believed.Entries.{Entry, has_two}
 use Rattle.sql_meanings.proofs.Changes.{found_passes}
 use Rattle.sql_meanings.proofs.NewPairs.{found_has, none_passes}
 use Rattle.store_rows.specs.SeveralRows.{IsNew, PutsNew}

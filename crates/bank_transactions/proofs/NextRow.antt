@@ -12,13 +12,13 @@ use Rattle.posting_rules.specs.declared.fault.Rule.{Rule}
 use Rattle.posting_rules.specs.declared.rows.BranchRow.{BranchRow}
 use Rattle.posting_rules.specs.Branches.{IsNextIn}
 use Rattle.posting_rules.specs.Damage.{IsSoundBranch, IsUndamaged}
-use Rattle.posting_rules.specs.Tables.{Tables}
+use Rattle.posting_rules.specs.believed.Tables.{Tables}
 use Rattle.posting_rules.proofs.Keyed.{by_test}
 use Rattle.sqlite.specs.Effect.{Database}
-use Rattle.sql_meanings.specs.Entries.{Rise}
+use Rattle.sql_meanings.specs.believed.Entries.{Rise}
 use Rattle.store_rows.specs.Columns.{branch_above}
 use Rattle.store_rows.specs.TableAnswers.{BreaksBranch}
-use Rattle.store_rows.specs.View.{Shows, branch_entry}
+use Rattle.store_rows.specs.believed.View.{Shows, branch_entry}
 use Rattle.bank_transactions.proofs.SoundRows.{found_within, sound_unbroken}
 
 rising : (a b : ℕ) → int_cmp (pos a) (pos b) ≡ Less → a < b

@@ -8,29 +8,31 @@ use Rattle.sqlite.specs.Held.{Held, state}
 use Rattle.sqlite.specs.declared.transaction.Transaction.{Transaction}
 use Rattle.sqlite_trees.specs.declared.store.Store.{Ghosts}
 use Rattle.message_records.specs.declared.limits.TheConstants.{MAX_TELLER}
-use Rattle.posting_rules.specs.Numbering.{branch_of_teller}
-use Rattle.posting_rules.specs.LookUps.{balance_of_branch, balance_of_teller, both_of, teller_balances_in}
-use Rattle.posting_rules.specs.Tables.{Tables, row_at, branch_key, teller_key}
+use Rattle.posting_rules.specs.believed.Numbering.{branch_of_teller}
+use Rattle.posting_rules.specs.believed.LookUps.{balance_of_branch, balance_of_teller, both_of, teller_balances_in}
+use Rattle.posting_rules.specs.believed.Tables.{Tables, row_at, branch_key, teller_key}
 use Rattle.posting_rules.specs.declared.fault.Rule.{Rule}
 use Rattle.posting_rules.specs.declared.fault.Rule.TheVariants as broken
 use Rattle.posting_rules.specs.declared.rows.BranchRow.{BranchRow}
 use Rattle.sql_meanings.specs.Calls.{Says}
 use Rattle.sql_meanings.specs.StatementAnswers.{WriteFails}
-use Rattle.sql_meanings.specs.Entries.{Entry}
+use Rattle.sql_meanings.specs.believed.Entries.{Entry}
 use Rattle.sql_meanings.proofs.Saying.{clean_between, says_then}
 use Rattle.sql_meanings.proofs.Sparing.{spares_same, spares_then}
-use Rattle.store_rows.specs.Sparing.{bank_names}
+use Rattle.store_rows.specs.believed.Sparing.{bank_names}
 use Rattle.store_rows.specs.Calls.{OfTables}
 use Rattle.store_rows.specs.Failures.{HasReason}
 use Rattle.store_rows.specs.Holders.{balance_in}
 use Rattle.store_rows.specs.TableAnswers.{Finds}
-use Rattle.store_rows.specs.View.{Shows}
+use Rattle.store_rows.specs.believed.View.{Shows}
 use Rattle.store_rows.specs.declared.fault.TableFault.{TableFault}
 use Rattle.store_rows.specs.declared.fault.TableFault.TheVariants.{Sqlite, Damaged}
 use Rattle.store_rows.specs.declared.holders.Member.TheVariants.{Teller}
-use Rattle.store_rows.specs.Rules.{BranchKeeps, HoldsBank, IsBroken, OfRows, branch_under, row_under}
-use Rattle.store_rows.specs.Stored.{BalanceKeeps, FindsStored, IsBalance, IsBranch}
-use Rattle.bank_transactions.specs.Causes.{IsBefore, IsFault, IsFirstBroken}
+use Rattle.store_rows.specs.believed.Rules.{BranchKeeps, HoldsBank, IsBroken, OfRows, branch_under, row_under}
+use Rattle.store_rows.specs.believed.Stored.{BalanceKeeps, FindsStored, IsBalance}
+use Rattle.store_rows.specs.Stored.{IsBranch}
+use Rattle.bank_transactions.specs.believed.Causes.{IsBefore}
+use Rattle.bank_transactions.specs.Causes.{IsFault, IsFirstBroken}
 use Rattle.bank_transactions.specs.Doing.{IsLookedUp, Reads, Stays}
 use Rattle.bank_transactions.proofs.Blamed.{comes, failed_here, fault_within, same_moment}
 use Rattle.bank_transactions.proofs.Broken.{IsOf}

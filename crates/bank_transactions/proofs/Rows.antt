@@ -12,32 +12,34 @@ use Rattle.sqlite_trees.specs.declared.store.Store.{Ghosts}
 use Rattle.posting_rules.specs.declared.rows.HistoryRow.{HistoryRow}
 use Rattle.posting_rules.specs.declared.rows.RequestRow.{RequestRow}
 use Rattle.posting_rules.specs.declared.rows.ReferenceRow.{ReferenceRow}
-use Rattle.posting_rules.specs.Changes.{with_history, with_reference, with_request}
+use Rattle.posting_rules.specs.believed.Changes.{with_history, with_reference, with_request}
 use Rattle.posting_batch.specs.Batch.{PutsFree}
 use Rattle.posting_batch.specs.Overlay.{each_put, history_put, requests_put, references_put}
 use Rattle.sql_meanings.specs.Calls.{Says, Inside}
-use Rattle.sql_meanings.specs.Entries.{Entry}
-use Rattle.store_rows.specs.BankTables as bank
+use Rattle.sql_meanings.specs.believed.Entries.{Entry}
+use Rattle.store_rows.specs.believed.BankTables as bank
 use Rattle.store_rows.specs.Calls.{OfTables}
-use Rattle.store_rows.specs.Failures.{Additions, Puts}
+use Rattle.store_rows.specs.believed.Failures.{Additions}
+use Rattle.store_rows.specs.Failures.{Puts}
 use Rattle.store_rows.specs.Holders.{with_balance}
-use Rattle.store_rows.specs.SeveralRows.{AddsRows, given, given_each, meets_key, with_each}
+use Rattle.store_rows.specs.believed.SeveralRows.{given, given_each}
+use Rattle.store_rows.specs.SeveralRows.{AddsRows, meets_key, with_each}
 use Rattle.store_rows.specs.Sparing.{SparesIfOk}
 use Rattle.store_rows.specs.TableAnswers.{PutsOneRow}
-use Rattle.store_rows.specs.View.{history_entry, reference_entry, request_entry}
+use Rattle.store_rows.specs.believed.View.{history_entry, reference_entry, request_entry}
 use Rattle.store_rows.specs.declared.fault.TableFault.{TableFault}
-use Rattle.store_rows.specs.Inserts.{eight_postings_insert, eight_requests_insert, posting_insert}
-use Rattle.store_rows.specs.Inserts.{reference_insert, request_insert}
+use Rattle.store_rows.specs.believed.Inserts.{eight_postings_insert, eight_requests_insert, posting_insert}
+use Rattle.store_rows.specs.believed.Inserts.{reference_insert, request_insert}
 use Rattle.store_rows.specs.declared.holders.Holder.TheVariants.{Account, Teller, Branch}
-use Rattle.bank_transactions.specs.Additions.{AddsPostings, AddsReferences, AddsRequests}
+use Rattle.bank_transactions.specs.believed.Additions.{AddsPostings, AddsReferences, AddsRequests}
 use Rattle.bank_transactions.specs.Doing.{Does}
 use Rattle.bank_transactions.proofs.Chained.{does_for}
 use Rattle.bank_transactions.proofs.Statements.{does_add}
-use Rattle.posting_rules.specs.Changes.{row_changed, row_put, with_branch_balance, with_teller_balance}
-use Rattle.posting_rules.specs.Changes.{with_account_balance}
+use Rattle.posting_rules.specs.believed.Changes.{row_changed, row_put, with_branch_balance, with_teller_balance}
+use Rattle.posting_rules.specs.believed.Changes.{with_account_balance}
 use Rattle.posting_rules.specs.ChangesByKey as steps
-use Rattle.posting_rules.specs.Tables.{Tables, row_at, branch_key, teller_key, account_key}
-use Rattle.posting_rules.specs.Tables.{history_key, request_key}
+use Rattle.posting_rules.specs.believed.Tables.{Tables, row_at, branch_key, teller_key, account_key}
+use Rattle.posting_rules.specs.believed.Tables.{history_key, request_key}
 use Rattle.posting_batch.specs.declared.slots.AccountSlot.{AccountSlot}
 use Rattle.posting_batch.specs.declared.slots.TellerSlot.{TellerSlot}
 use Rattle.posting_batch.specs.declared.slots.BranchSlot.{BranchSlot}

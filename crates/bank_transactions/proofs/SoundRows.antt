@@ -7,8 +7,9 @@ use Rattle.std.specs.List.{find, Contains}
 use Rattle.std.specs.Option.{option_map}
 use Rattle.std.proofs.lemmas.Bool.{eqb-true}
 use Rattle.std.proofs.lemmas.Bool.Decides.{nat_tests}
-use Rattle.message_records.specs.Ranges.{whole_within, cents_within}
-use Rattle.message_records.specs.Records.{IsReference, reference_from, request_from}
+use Rattle.message_records.specs.believed.Ranges.{whole_within, cents_within}
+use Rattle.message_records.specs.believed.Records.{IsReference, reference_from}
+use Rattle.message_records.specs.Records.{request_from}
 use Rattle.posting_rules.specs.declared.rows.BranchRow.{BranchRow}
 use Rattle.posting_rules.specs.declared.rows.RequestRow.{RequestRow}
 use Rattle.posting_rules.specs.declared.rows.TellerRow.{TellerRow}
@@ -18,10 +19,10 @@ use Rattle.posting_rules.specs.declared.rows.ReferenceRow.{ReferenceRow}
 use Rattle.posting_rules.specs.declared.fault.Rule.{Rule}
 use Rattle.posting_rules.specs.Damage.{IsUndamaged, IsSoundBranch, IsSoundTeller, IsSoundAccount}
 use Rattle.posting_rules.specs.Damage.{IsSoundFloor, IsSoundRequest}
-use Rattle.posting_rules.specs.LookUps.{account_balance_in, balance_of_account, balance_of_teller, floor_in}
-use Rattle.posting_rules.specs.Numbering.{branch_of_account}
-use Rattle.posting_rules.specs.Tables.{Tables, row_at, branch_key, teller_key, account_key, floor_key}
-use Rattle.posting_rules.specs.Tables.{reference_key}
+use Rattle.posting_rules.specs.believed.LookUps.{account_balance_in, balance_of_account, balance_of_teller, floor_in}
+use Rattle.posting_rules.specs.believed.Numbering.{branch_of_account}
+use Rattle.posting_rules.specs.believed.Tables.{Tables, row_at, branch_key, teller_key, account_key, floor_key}
+use Rattle.posting_rules.specs.believed.Tables.{reference_key}
 use Rattle.posting_rules.proofs.Keyed.{by_test, found_passes}
 use Rattle.store_rows.specs.Columns.{request_in}
 use Rattle.store_rows.specs.Holders.{balance_in}

@@ -10,19 +10,21 @@ use Rattle.sqlite.specs.declared.error.Error.{Error}
 use Rattle.sqlite.specs.declared.transaction.Transaction.{Transaction}
 use Rattle.sqlite_trees.specs.declared.store.Store.{Ghosts}
 use Rattle.posting_rules.specs.Damage.{IsUndamaged}
-use Rattle.posting_rules.specs.Tables.{Tables}
+use Rattle.posting_rules.specs.believed.Tables.{Tables}
 use Rattle.posting_rules.specs.declared.fault.Rule.{Rule}
 use Rattle.posting_rules.specs.declared.fault.Rule.TheVariants.{Meta, Teller, Account, Balance, Request}
 use Rattle.posting_rules.specs.declared.fault.Rule.TheVariants.{Value, Key, Floor, Reference}
 use Rattle.sql_meanings.specs.Calls.{Says, Inside}
 use Rattle.store_rows.specs.Calls.{OfTables}
-use Rattle.store_rows.specs.Failures.{Additions, Changes, HasMet, IsUpdateOf, MeetsNone, Puts}
+use Rattle.store_rows.specs.believed.Failures.{Additions, HasMet, IsUpdateOf, MeetsNone}
+use Rattle.store_rows.specs.Failures.{Changes, Puts}
 use Rattle.store_rows.specs.Sparing.{SparesIfOk}
 use Rattle.store_rows.specs.TableAnswers.{PutsOneRow, SetsRow}
-use Rattle.store_rows.specs.View.{Shows}
+use Rattle.store_rows.specs.believed.View.{Shows}
 use Rattle.store_rows.specs.declared.fault.TableFault.{TableFault}
 use Rattle.store_rows.specs.declared.fault.TableFault.TheVariants.{Sqlite, Damaged}
-use Rattle.bank_transactions.specs.Causes.{Blames, HasMetBetween, IsFirstBroken}
+use Rattle.bank_transactions.specs.believed.Causes.{HasMetBetween}
+use Rattle.bank_transactions.specs.Causes.{Blames, IsFirstBroken}
 use Rattle.bank_transactions.specs.Doing.{ChangesNothing, CommitsNothing, Does, DoesBy, LeavesAndAnswers}
 use Rattle.bank_transactions.specs.Doing.{IsLookedUp, Reads, expected}
 use Rattle.bank_transactions.proofs.Blamed.{blames_put, failed_here, met_here}

@@ -8,18 +8,20 @@ use Rattle.sqlite.specs.declared.transaction.Transaction.{Transaction}
 use Rattle.sqlite_trees.specs.declared.store.Store.{Ghosts}
 use Rattle.sqlite.proofs.Callers.{survives_begin}
 use Rattle.sqlite.proofs.StateLemmas.{survives_then}
-use Rattle.posting_rules.specs.Tables.{Tables}
+use Rattle.posting_rules.specs.believed.Tables.{Tables}
 use Rattle.posting_rules.specs.Sound.{AreSound}
-use Rattle.store_rows.specs.Sparing.{SparesOthers}
-use Rattle.store_rows.specs.View.{Shows, ShowsTrees}
-use Rattle.store_rows.specs.Failures.{Additions, Committing}
+use Rattle.store_rows.specs.believed.Sparing.{SparesOthers}
+use Rattle.store_rows.specs.believed.View.{Shows, ShowsTrees}
+use Rattle.store_rows.specs.believed.Failures.{Additions, Committing}
 use Rattle.store_rows.specs.declared.fault.TableFault.{TableFault}
 use Rattle.store_rows.specs.declared.fault.TableFault.TheVariants.{Sqlite, Damaged}
-use Rattle.bank_transactions.specs.Additions.{AddsForRecords}
-use Rattle.bank_transactions.specs.Causes.{Blames, Damage, IsBefore, IsFirstBroken}
+use Rattle.bank_transactions.specs.believed.Additions.{AddsForRecords}
+use Rattle.bank_transactions.specs.believed.Causes.{Damage, IsBefore}
+use Rattle.bank_transactions.specs.Causes.{Blames, IsFirstBroken}
 use Rattle.bank_transactions.specs.Doing.{Acts, LeavesAndAnswers, Completes, DoesBy, Ends, EndsBy}
 use Rattle.bank_transactions.specs.Doing.{CommitsNothing, MayLeaveAfter, MayCommit, Reads, Undoes, Consults}
-use Rattle.bank_transactions.specs.Doing.{LeavesOthers, SparesTheirs, Transacts, TransactsBy}
+use Rattle.bank_transactions.specs.believed.Doing.{LeavesOthers}
+use Rattle.bank_transactions.specs.Doing.{SparesTheirs, Transacts, TransactsBy}
 use Rattle.bank_transactions.proofs.Blamed.{Widens, comes, commit_fails, fault_within}
 use Rattle.bank_transactions.proofs.Blamed.{met_within, same_moment, then_moment}
 use Rattle.bank_transactions.proofs.Chained.{does_for}

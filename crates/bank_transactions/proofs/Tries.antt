@@ -10,21 +10,24 @@ use Rattle.sqlite.proofs.StateLemmas.{survives_then}
 use Rattle.sqlite.specs.declared.error.Error.{Error}
 use Rattle.sqlite.specs.declared.transaction.Transaction.{Transaction}
 use Rattle.sqlite_trees.specs.declared.store.Store.{Ghosts}
-use Rattle.posting_rules.specs.Sound.{AreOfALog}
-use Rattle.posting_rules.specs.Tables.{Tables}
+use Rattle.posting_rules.specs.believed.Sound.{AreOfALog}
+use Rattle.posting_rules.specs.believed.Tables.{Tables}
 use Rattle.posting_rules.specs.declared.fault.Rule.{Rule}
 use Rattle.sql_meanings.specs.Calls.{Inside, Says}
 use Rattle.sql_meanings.proofs.Saying.{survives_both}
-use Rattle.store_rows.specs.Failures.{Additions, Committing}
-use Rattle.store_rows.specs.Rules.{IsBroken}
-use Rattle.store_rows.specs.Sparing.{SparesOthers}
-use Rattle.store_rows.specs.View.{Shows}
+use Rattle.store_rows.specs.believed.Failures.{Additions, Committing}
+use Rattle.store_rows.specs.believed.Rules.{IsBroken}
+use Rattle.store_rows.specs.believed.Sparing.{SparesOthers}
+use Rattle.store_rows.specs.believed.View.{Shows}
 use Rattle.store_rows.specs.declared.fault.TableFault.{TableFault}
 use Rattle.store_rows.specs.declared.fault.TableFault.TheVariants.{Sqlite, Damaged}
-use Rattle.bank_transactions.specs.Additions.{AddsForRecords}
-use Rattle.bank_transactions.specs.Batches.{DecidesNone, KeepsOnly}
-use Rattle.bank_transactions.specs.Causes.{Blames, HasMetBetween, IsBefore, IsBrokenOrMet}
-use Rattle.bank_transactions.specs.Doing.{LeavesOthers, MayLeaveAfter, Transacts, Undoes}
+use Rattle.bank_transactions.specs.believed.Additions.{AddsForRecords}
+use Rattle.bank_transactions.specs.believed.Batches.{DecidesNone}
+use Rattle.bank_transactions.specs.Batches.{KeepsOnly}
+use Rattle.bank_transactions.specs.believed.Causes.{HasMetBetween, IsBefore, IsBrokenOrMet}
+use Rattle.bank_transactions.specs.Causes.{Blames}
+use Rattle.bank_transactions.specs.believed.Doing.{LeavesOthers}
+use Rattle.bank_transactions.specs.Doing.{MayLeaveAfter, Transacts, Undoes}
 use Rattle.bank_transactions.specs.Tries.{IsAsBefore}
 use Rattle.bank_transactions.specs.Undone.{IsUndone, UndoesFaults}
 use Rattle.bank_transactions.proofs.Blamed.{comes, failed_within, met_within, same_moment, then_moment}

@@ -6,10 +6,11 @@ use Rattle.sqlite.specs.State.{State, HasCleanDisk, IsRolledBack, KeepsCommit}
 use Rattle.sqlite.specs.declared.transaction.Transaction.{Transaction}
 use Rattle.sqlite_trees.specs.declared.store.Store.{Ghosts}
 use Rattle.posting_rules.specs.Sound.{AreSound}
-use Rattle.posting_rules.specs.Tables.{Tables}
+use Rattle.posting_rules.specs.believed.Tables.{Tables}
 use Rattle.store_rows.specs.declared.fault.TableFault.{TableFault}
 use Rattle.store_rows.specs.declared.fault.TableFault.TheVariants.{Sqlite, Damaged}
-use Rattle.bank_transactions.specs.Causes.{Damage, IsFirstBroken}
+use Rattle.bank_transactions.specs.believed.Causes.{Damage}
+use Rattle.bank_transactions.specs.Causes.{IsFirstBroken}
 use Rattle.bank_transactions.specs.Doing.{CommitsNothing, DoesBy, Ends, EndsBy, Reads}
 use Rattle.bank_transactions.specs.Undone.{IsUndone, UndoesFaults}
 use Rattle.bank_transactions.proofs.Chained.{does_for}

@@ -1,10 +1,10 @@
--- What a batch answers, and what one leaves in which nothing is decided.
+-- What a batch leaves in which nothing is decided.
 use Rattle.std.specs.Prelude.{◌≡◌, ℕ, List, Result, Ok, Err, Vec}
 use Rattle.sqlite.specs.Tree.{Trees}
 use Rattle.sqlite.specs.State.{State}
-use Rattle.posting_rules.specs.Changes.{tables_past_all}
-use Rattle.posting_rules.specs.Tables.{Tables}
-use Rattle.store_rows.specs.View.{Shows, ShowsTrees}
+use Rattle.posting_rules.specs.believed.Changes.{tables_past_all}
+use Rattle.posting_rules.specs.believed.Tables.{Tables}
+use Rattle.store_rows.specs.believed.View.{Shows, ShowsTrees}
 use Rattle.store_rows.specs.declared.fault.TableFault.{TableFault}
 use Rattle.bank_transactions.specs.Doing.{Stays}
 
@@ -12,10 +12,6 @@ use Rattle.bank_transactions.specs.Doing.{Stays}
 abbrev pub items_of : {Z : Type 0} → Result (Vec (List ℕ) Z) TableFault → Result (List (List ℕ)) TableFault
 items_of (Ok replies) = Ok replies.items
 items_of (Err e) = Err e
-
--- in these tables none of the records is decided
-abbrev pub DecidesNone : Tables → ℕ → List (List ℕ) → Type 0
-DecidesNone t moment records = (tables_past_all t moment records).decided ≡ t.decided
 
 -- nothing was written, and the records lead to the tables that were there
 pub record WritesNothing (old new : State) (t : Tables) (moment : ℕ) (records : List (List ℕ)) : Type 0 where

@@ -1,6 +1,5 @@
--- What the parts of a call do to the tables, and what a whole transaction does.
+-- What a statement, a look-up and a transaction do to a database, part by part.
 use Rattle.std.specs.Prelude.{◌≡◌, IsTrue, Bool, true, false, Result, Ok, Err, IfOk, OnOk, ⊤}
-use Rattle.sqlite.specs.Effect.{Database}
 use Rattle.sqlite.specs.Tree.{Trees}
 use Rattle.sqlite.specs.State.{State, KeepsCommit, HasCleanDisk, IsRolledBack, Survives}
 use Rattle.sqlite.specs.Steps.{FailsToCommit}
@@ -9,16 +8,18 @@ use Rattle.sqlite.specs.declared.error.Error.{Error}
 use Rattle.sqlite.specs.declared.transaction.Transaction.{Transaction}
 use Rattle.sqlite_trees.specs.declared.store.Store.{Ghosts}
 use Rattle.posting_rules.specs.Damage.{IsUndamaged}
-use Rattle.posting_rules.specs.Tables.{Tables}
+use Rattle.posting_rules.specs.believed.Tables.{Tables}
 use Rattle.posting_rules.specs.declared.fault.Rule.{Rule}
 use Rattle.sql_meanings.specs.Calls.{Says, Inside}
 use Rattle.store_rows.specs.Calls.{OfTables}
-use Rattle.store_rows.specs.Failures.{Additions}
-use Rattle.store_rows.specs.Sparing.{SparesOthers}
-use Rattle.store_rows.specs.View.{Shows, ShowsTrees}
+use Rattle.store_rows.specs.believed.Failures.{Additions}
+use Rattle.store_rows.specs.believed.Sparing.{SparesOthers}
+use Rattle.store_rows.specs.believed.View.{Shows, ShowsTrees}
 use Rattle.store_rows.specs.declared.fault.TableFault.{TableFault}
 use Rattle.store_rows.specs.declared.fault.TableFault.TheVariants.{Sqlite, Damaged}
-use Rattle.bank_transactions.specs.Causes.{HasMetBetween, Damage, IsFirstBroken, IsBrokenOrMet, Blames}
+use Rattle.bank_transactions.specs.believed.Causes.{HasMetBetween, Damage, IsBrokenOrMet}
+use Rattle.bank_transactions.specs.Causes.{IsFirstBroken, Blames}
+use Rattle.bank_transactions.specs.believed.Doing.{LeavesOthers}
 
 -- the transaction goes on, nothing is committed, and the tables of other products are as they were
 pub record GoesOnUncommitted (old new : State) : Type 0 where
@@ -147,10 +148,6 @@ Undoes old new _ = ⊤
 abbrev pub MayLeaveAfter : State → (Tables → Type 0) → (Tables → Tables) → Trees → Type 0
 MayLeaveAfter old So after left = (tables : Tables) → Shows old.now tables → So tables
     → ShowsTrees left (after tables)
-
--- what a crash may leave has the tables of other products as the database had them
-abbrev pub LeavesOthers : Database → Trees → Type 0
-LeavesOthers old left = (after : Database) × (left ≡ after.trees) × SparesOthers old after
 
 -- Whatever rows the file holds: after `Ok` the tables of other products are as they were, and a crash leaves what
 -- it could leave before, or them as they were.

@@ -1,8 +1,8 @@
 -- New rows of one table are put in several at a time: what is so of all is so of the next ones, after those
 -- before them.
 use Rattle.std.proofs.Common.{◌≡◌, ℕ, List, [], ◌∷◌, ◌++◌, refl, sym, ap, subst, ◌∙◌}
-use Rattle.posting_rules.specs.Changes.{row_put}
-use Rattle.posting_rules.specs.Tables.{Tables, history_key, request_key}
+use Rattle.posting_rules.specs.believed.Changes.{row_put}
+use Rattle.posting_rules.specs.believed.Tables.{Tables, history_key, request_key}
 use Rattle.posting_batch.specs.Batch.{PutsFree}
 use Rattle.posting_batch.specs.Overlay.{each_put, history_put, requests_put}
 use Rattle.bank_transactions.specs.InTurn.{ArePlaced}

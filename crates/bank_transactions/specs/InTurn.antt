@@ -3,10 +3,10 @@
 use Rattle.std.proofs.Common.{◌≡◌, ℕ, List, [], ◌∷◌, ◌++◌, Option, Some, None, refl, sym, ap, subst, ◌∙◌}
 use Rattle.std.specs.Prelude.{ℤ, IsSome, IfSome}
 use Rattle.std.specs.List.{AllByRecursion, IsDistinct}
-use Rattle.posting_rules.specs.Changes.{row_put}
+use Rattle.posting_rules.specs.believed.Changes.{row_put}
 use Rattle.posting_rules.specs.ChangesByKey.{with_branch_balance, with_teller_balance, with_account_balance}
-use Rattle.posting_rules.specs.Tables.{Tables, HasKeys, row_at, branch_key, teller_key, account_key}
-use Rattle.posting_rules.specs.Tables.{history_key, request_key, reference_key}
+use Rattle.posting_rules.specs.believed.Tables.{Tables, HasKeys, row_at, branch_key, teller_key, account_key}
+use Rattle.posting_rules.specs.believed.Tables.{history_key, request_key, reference_key}
 use Rattle.posting_batch.specs.Batch.{PutsFree}
 use Rattle.posting_batch.specs.Overlay.{each_put, over, changed_to, accounts_over, tellers_over}
 use Rattle.posting_batch.specs.Overlay.{branches_over, history_put, requests_put, references_put}

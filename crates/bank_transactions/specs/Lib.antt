@@ -1,4 +1,5 @@
 -- A bank in the tables of a SQLite file: what each transaction does to them.
+pub mod believed
 pub mod Causes
 pub mod Doing
 pub mod Undone

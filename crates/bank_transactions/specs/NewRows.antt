@@ -1,10 +1,11 @@
 -- The rows that come with a branch, one by one.
 use Rattle.std.specs.Prelude.{ℕ, zero, suc, ◌+◌, pos, Bool, None, is_some}
-use Rattle.posting_rules.specs.Changes.{with_account, with_accounts, with_branch, with_teller, with_tellers}
-use Rattle.posting_rules.specs.Changes.{new_teller, new_account}
-use Rattle.posting_rules.specs.Commands.{opened_with}
-use Rattle.posting_rules.specs.Numbering.{first_account, first_teller}
-use Rattle.posting_rules.specs.Tables.{Tables, branch_row_of, row_at, teller_key, account_key}
+use Rattle.posting_rules.specs.believed.Changes.{with_accounts, with_branch, with_tellers}
+use Rattle.posting_rules.specs.Changes.{with_account, with_teller}
+use Rattle.posting_rules.specs.believed.Changes.{new_teller, new_account}
+use Rattle.posting_rules.specs.believed.Commands.{opened_with}
+use Rattle.posting_rules.specs.believed.Numbering.{first_account, first_teller}
+use Rattle.posting_rules.specs.believed.Tables.{Tables, branch_row_of, row_at, teller_key, account_key}
 use Rattle.posting_rules.specs.declared.limits.TheConstants.{TELLERS_PER_BRANCH}
 use Rattle.bank_transactions.specs.declared.new_branch.NewRows.{NewRows}
 use Rattle.bank_transactions.specs.declared.new_branch.NewRows.TheVariants.{Tellers, Accounts}

@@ -1,7 +1,7 @@
 -- The next open branch of tables.
 use Rattle.std.specs.Prelude.{ℕ, Option, option_map}
 use Rattle.posting_rules.specs.Branches.{line_in}
-use Rattle.posting_rules.specs.Tables.{Tables}
+use Rattle.posting_rules.specs.believed.Tables.{Tables}
 use Rattle.posting_rules.specs.declared.counter.BranchLine.{BranchLine}
 use Rattle.store_rows.specs.Columns.{branch_above}
 

@@ -1,13 +1,13 @@
 -- Changes of the tables, and when they may be made.
 use Rattle.std.specs.Prelude.{◌≡◌, ℕ, ℤ, List, Option, Some, None, IsSome, IfSome}
 use Rattle.std.specs.List.{AllByRecursion}
-use Rattle.message_records.specs.Ranges.{whole_within}
+use Rattle.message_records.specs.believed.Ranges.{whole_within}
 use Rattle.message_records.specs.declared.limits.TheConstants.{MAX_BRANCH}
 use Rattle.posting_rules.specs.declared.rows.HistoryRow.{HistoryRow}
 use Rattle.posting_rules.specs.declared.rows.RequestRow.{RequestRow}
 use Rattle.posting_rules.specs.declared.rows.ReferenceRow.{ReferenceRow}
-use Rattle.posting_rules.specs.Tables.{Tables, HasKeys, row_at, branch_key, teller_key, account_key}
-use Rattle.posting_rules.specs.Tables.{history_key, request_key, reference_key}
+use Rattle.posting_rules.specs.believed.Tables.{Tables, HasKeys, row_at, branch_key, teller_key, account_key}
+use Rattle.posting_rules.specs.believed.Tables.{history_key, request_key, reference_key}
 use Rattle.posting_batch.specs.declared.slots.AccountSlot.{AccountSlot}
 use Rattle.posting_batch.specs.declared.slots.TellerSlot.{TellerSlot}
 use Rattle.posting_batch.specs.declared.slots.BranchSlot.{BranchSlot}

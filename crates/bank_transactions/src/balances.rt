@@ -1,8 +1,8 @@
 //! The balances that a posting changes are written. A row that is written was looked up, so it is there, or
 //! its rule is broken.
 ghost use Rattle.std.specs.Prelude.{◌≡◌, ◌≤◌, ⊤};
-ghost use Rattle.posting_rules.specs.Changes.{with_decided};
-ghost use Rattle.store_rows.specs.Failures.{IsUpdateOf};
+ghost use Rattle.posting_rules.specs.believed.Changes.{with_decided};
+ghost use Rattle.store_rows.specs.believed.Failures.{IsUpdateOf};
 ghost use Rattle.store_rows.specs.Holders.{HasRow, holder_update, with_balance};
 ghost use Rattle.bank_transactions.specs.Additions.{NoRow};
 ghost use Rattle.bank_transactions.specs.Doing.{Does, expected};

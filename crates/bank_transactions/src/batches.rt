@@ -36,15 +36,16 @@
 ghost use Rattle.std.specs.Prelude.{◌≡◌, ℕ, List, length, false, IfOk, OnOk};
 ghost use Rattle.sqlite.specs.State.{HasCleanDisk};
 ghost use Rattle.sqlite.specs.Held.{state};
-ghost use Rattle.posting_rules.specs.Changes.{tables_past_all, replies_past_all};
-ghost use Rattle.posting_rules.specs.Sound.{AreOfALog};
-ghost use Rattle.posting_rules.specs.Tables.{Tables};
+ghost use Rattle.posting_rules.specs.believed.Changes.{tables_past_all, replies_past_all};
+ghost use Rattle.posting_rules.specs.believed.Sound.{AreOfALog};
+ghost use Rattle.posting_rules.specs.believed.Tables.{Tables};
 ghost use Rattle.posting_batch.specs.View.{reads_of, IsMadeOf};
-ghost use Rattle.store_rows.specs.View.{Shows};
-ghost use Rattle.bank_transactions.specs.Additions.{AddsForRecords};
+ghost use Rattle.store_rows.specs.believed.View.{Shows};
+ghost use Rattle.bank_transactions.specs.believed.Additions.{AddsForRecords};
 ghost use Rattle.bank_transactions.specs.Doing.{Acts, Transacts};
-ghost use Rattle.bank_transactions.specs.Batches.{items_of, DecidesNone, WritesNothing, KeepsOnly};
-ghost use Rattle.bank_transactions.specs.Stored.{RepliesToAllStored};
+ghost use Rattle.bank_transactions.specs.believed.Batches.{DecidesNone};
+ghost use Rattle.bank_transactions.specs.Batches.{items_of, WritesNothing, KeepsOnly};
+ghost use Rattle.bank_transactions.specs.believed.Stored.{RepliesToAllStored};
 ghost use Rattle.bank_transactions.specs.Undone.{UndoesFaults};
 
 use crate::batch_changes::write;

@@ -1,13 +1,13 @@
 //! The floors of branches, each looked up beside what it binds.
 ghost use Rattle.std.specs.Prelude.{◌≡◌, ◌≤ℤ◌, pos, IfOk, IfSome};
-ghost use Rattle.posting_rules.specs.LookUps.{account_balance_in, floor_in};
-ghost use Rattle.posting_rules.specs.Numbering.{branch_of_account};
+ghost use Rattle.posting_rules.specs.believed.LookUps.{account_balance_in, floor_in};
+ghost use Rattle.posting_rules.specs.believed.Numbering.{branch_of_account};
 ghost use Rattle.sqlite.specs.Held.{state};
 ghost use Rattle.sqlite.specs.State.{HasCleanDisk};
 ghost use Rattle.bank_transactions.specs.Doing.{Reads};
 ghost use Rattle.bank_transactions.specs.Floors.{falls_below};
-ghost use Rattle.store_rows.specs.Rules.{OfRows};
-ghost use Rattle.bank_transactions.specs.Stored.{HoldsAccount, IsStoredFloor};
+ghost use Rattle.store_rows.specs.believed.Rules.{OfRows};
+ghost use Rattle.bank_transactions.specs.believed.Stored.{HoldsAccount, IsStoredFloor};
 
 use crate::look_ups::open_balance;
 use message_records::{Account, Branch, Cents};

@@ -46,7 +46,7 @@
 //! answer: `Sqlite` that a call of `sqlite` failed, with its error, and `Damaged` which rule the stored rows
 //! break. Either way nothing of the call is kept, unless it is the commit that failed: then a crash may show
 //! later that it was kept after all. What the calls come to is said in `specs/Doing`; start with
-//! `Transacts`. What they answer of whatever rows a file holds is said in `specs/Stored`.
+//! `Transacts`. What they answer of whatever rows a file holds is said in `specs/believed/Stored`.
 #![tactic(auto)]
 
 mod balances;

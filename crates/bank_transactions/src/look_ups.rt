@@ -1,16 +1,17 @@
 //! What is looked up in the tables. Rows that belong together are read together, and reported as damage where
 //! they differ.
 ghost use Rattle.std.specs.Prelude.{◌≡◌, ◌≤◌, IfOk};
-ghost use Rattle.posting_rules.specs.Numbering.{branch_of_account, place_of_account};
-ghost use Rattle.posting_rules.specs.LookUps.{teller_balances_in, account_balance_in, kept_in, reference_in};
-ghost use Rattle.posting_rules.specs.Tables.{row_at, branch_key};
+ghost use Rattle.posting_rules.specs.believed.Numbering.{branch_of_account, place_of_account};
+ghost use Rattle.posting_rules.specs.believed.LookUps.{teller_balances_in, account_balance_in, kept_in, reference_in};
+ghost use Rattle.posting_rules.specs.believed.Tables.{row_at, branch_key};
 ghost use Rattle.sqlite.specs.Held.{state};
 ghost use Rattle.sqlite.specs.State.{HasCleanDisk};
-ghost use Rattle.store_rows.specs.Rules.{branch_under, BranchKeeps, OfRows};
-ghost use Rattle.store_rows.specs.Stored.{FindsStored, IsBranch};
+ghost use Rattle.store_rows.specs.believed.Rules.{branch_under, BranchKeeps, OfRows};
+ghost use Rattle.store_rows.specs.believed.Stored.{FindsStored};
+ghost use Rattle.store_rows.specs.Stored.{IsBranch};
 ghost use Rattle.bank_transactions.specs.Doing.{Reads};
-ghost use Rattle.bank_transactions.specs.Stored.{HoldsDecided, HoldsKept, HoldsReference, IsStoredBalance};
-ghost use Rattle.bank_transactions.specs.Stored.{IsStoredTeller};
+ghost use Rattle.bank_transactions.specs.believed.Stored.{HoldsDecided, HoldsKept, HoldsReference, IsStoredBalance};
+ghost use Rattle.bank_transactions.specs.believed.Stored.{IsStoredTeller};
 
 use message_records::{Account, Branch, Cents, Number, Reference, Request, Teller};
 use posting_rules::{

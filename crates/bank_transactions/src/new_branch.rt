@@ -2,16 +2,17 @@
 ghost use Rattle.std.specs.Prelude.{◌≡◌, ◌≤◌, ◌<◌, ◌+◌, ℕ, IfOk, IsTrue, Some, None, false};
 ghost use Rattle.sqlite.specs.Held.{state};
 ghost use Rattle.sqlite.specs.State.{HasCleanDisk};
-ghost use Rattle.posting_rules.specs.Changes.{tables_opened, tables_with_branch, with_floor};
-ghost use Rattle.posting_rules.specs.Commands.{opened_with};
-ghost use Rattle.posting_rules.specs.Counter.{opening_for};
+ghost use Rattle.posting_rules.specs.believed.Changes.{tables_opened, with_floor};
+ghost use Rattle.posting_rules.specs.Changes.{tables_with_branch};
+ghost use Rattle.posting_rules.specs.believed.Commands.{opened_with};
+ghost use Rattle.posting_rules.specs.believed.Counter.{opening_for};
 ghost use Rattle.posting_rules.specs.LookUps.{terms_in};
 ghost use Rattle.posting_rules.specs.Sound.{AreSound};
-ghost use Rattle.posting_rules.specs.Tables.{row_at, branch_key, floor_key};
-ghost use Rattle.bank_transactions.specs.Additions.{AddsBranch, AddsFloor, AddsOne, AddsRange};
+ghost use Rattle.posting_rules.specs.believed.Tables.{row_at, branch_key, floor_key};
+ghost use Rattle.bank_transactions.specs.believed.Additions.{AddsBranch, AddsFloor, AddsOne, AddsRange};
 ghost use Rattle.bank_transactions.specs.Doing.{Acts, Does, Leaves, Reads};
 ghost use Rattle.bank_transactions.specs.NewRows.{tables_staffed, with_new, with_new_rows, is_taken, last_of};
-ghost use Rattle.bank_transactions.specs.Stored.{AnswersStored, OpensByStored};
+ghost use Rattle.bank_transactions.specs.believed.Stored.{AnswersStored, OpensByStored};
 
 use crate::floors::floor_at;
 use crate::look_ups::branch_at;

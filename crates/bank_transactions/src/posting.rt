@@ -1,13 +1,13 @@
 //! A single request is judged in slots of its own, as a batch is, and what changes is written. They lie in the
 //! value itself, so that it takes no memory.
-ghost use Rattle.posting_rules.specs.Changes.{tables_with, reply_bytes};
+ghost use Rattle.posting_rules.specs.believed.Changes.{tables_with, reply_bytes};
 ghost use Rattle.posting_rules.specs.Sound.{AreSound};
 ghost use Rattle.std.specs.Prelude.{IfOk};
 ghost use Rattle.sqlite.specs.Held.{state};
 ghost use Rattle.sqlite.specs.State.{HasCleanDisk};
-ghost use Rattle.bank_transactions.specs.Additions.{AddsForRecords};
+ghost use Rattle.bank_transactions.specs.believed.Additions.{AddsForRecords};
 ghost use Rattle.bank_transactions.specs.Doing.{Acts};
-ghost use Rattle.bank_transactions.specs.Stored.{RepliesToStored};
+ghost use Rattle.bank_transactions.specs.believed.Stored.{RepliesToStored};
 
 use crate::batch_changes::write;
 use crate::slots::fill;

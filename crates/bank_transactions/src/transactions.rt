@@ -2,14 +2,16 @@
 ghost use Rattle.std.specs.Prelude.{◌≡◌, ◌≤◌, IfOk, IsTrue, OnOk, true, false};
 ghost use Rattle.sqlite.specs.State.{HasCleanDisk};
 ghost use Rattle.sqlite.specs.Held.{state};
-ghost use Rattle.posting_rules.specs.Changes.{reply_bytes, tables_with, tables_with_branch};
-ghost use Rattle.posting_rules.specs.Commands.{opened_with};
-ghost use Rattle.posting_rules.specs.Counter.{opening_for};
-ghost use Rattle.posting_rules.specs.LookUps.{account_balance_in, terms_in};
+ghost use Rattle.posting_rules.specs.believed.Changes.{reply_bytes, tables_with};
+ghost use Rattle.posting_rules.specs.Changes.{tables_with_branch};
+ghost use Rattle.posting_rules.specs.believed.Commands.{opened_with};
+ghost use Rattle.posting_rules.specs.believed.Counter.{opening_for};
+ghost use Rattle.posting_rules.specs.believed.LookUps.{account_balance_in};
+ghost use Rattle.posting_rules.specs.LookUps.{terms_in};
 ghost use Rattle.posting_rules.specs.Sound.{AreSound};
-ghost use Rattle.bank_transactions.specs.Additions.{AddsBranch, AddsForRecords};
+ghost use Rattle.bank_transactions.specs.believed.Additions.{AddsBranch, AddsForRecords};
 ghost use Rattle.bank_transactions.specs.Doing.{Consults, Ends, Transacts};
-ghost use Rattle.bank_transactions.specs.Stored.{IsStoredBalance, OpensByStored, RepliesToStored};
+ghost use Rattle.bank_transactions.specs.believed.Stored.{IsStoredBalance, OpensByStored, RepliesToStored};
 ghost use Rattle.bank_transactions.specs.Undone.{UndoesFaults};
 
 use crate::look_ups::open_balance;

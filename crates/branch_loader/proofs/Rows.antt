@@ -8,10 +8,11 @@ use Rattle.std.proofs.{lemmas.Bool.Decides.nat_tests, lemmas.Int.ints, lemmas.Cm
 use Rattle.std.proofs.{lemmas.List.length-map, lemmas.List.map-append, lemmas.List.Elements.All-push}
 use Rattle.std.proofs.{lemmas.Map.Keys.IsDistinct-push, lemmas.Map.Steps.length-le_from_distinct_below}
 use Rattle.posting_rules.specs.declared.limits.TheConstants.{LAST_BRANCH, MAX_ACCOUNTS}
-use Rattle.message_records.specs.{Ranges.whole_within, Reading.number_of}
+use Rattle.message_records.specs.{believed.Ranges.whole_within, believed.Reading.number_of}
 use Rattle.branch_loader.specs.Plans.{IsPlan, IsRow, names, number_within, row_of, row_of_fields, row_of_listed}
 use Rattle.branch_loader.specs.Plans.{row_of_parts, parts_of, amount_of, below_zero, zero_alone, floor_of}
-use Rattle.branch_loader.specs.Plans.{floor_within, Rows, Row}
+use Rattle.branch_loader.specs.believed.Plans.{Rows, Row}
+use Rattle.branch_loader.specs.Plans.{floor_within}
 use Rattle.branch_loader.specs.declared.fault.PlanFault.TheVariants.{Twice}
 use Rattle.branch_loader.specs.Records.{Fields}
 

@@ -1,5 +1,4 @@
--- What a text of CSV states as a plan: branches, how many accounts each is to have and the floor of these, or
--- the first fault with its row.
+-- How a text of CSV is read as a plan.
 use Rattle.std.specs.Prelude.{◌≡◌, ◌≤◌, ◌≤ℤ◌, ◌+◌, ◌==◌, ◌&&◌, ◌⊎◌, ⊤, Bool, true, false, ℕ, zero, suc, ℤ, pos}
 use Rattle.std.specs.Prelude.{negsuc, List, [], ◌∷◌, ◌++◌, Option, Some, option_map, IfSome, int_le, None, Result, Ok}
 use Rattle.std.specs.Prelude.{Err, All, map, length, bytes_eq, codes, nat_eq, nat_le, if◌then◌else◌, option_and_then}
@@ -7,26 +6,20 @@ use Rattle.std.specs.List.{IsDistinct, list_any}
 use Rattle.std.specs.Io.KnownBytes.{Consumes, IsAtEnd}
 use Rattle.posting_rules.specs.declared.limits.TheConstants.{LAST_BRANCH, MAX_ACCOUNTS}
 use Rattle.csv.specs.Reading.{default_config, records, strip_bom}
-use Rattle.message_records.specs.Ranges.{whole_within}
-use Rattle.message_records.specs.Reading.{number_of}
-use Rattle.posting_rules.specs.Commands.{Command, Open, Terms, opened_with}
+use Rattle.message_records.specs.believed.Ranges.{whole_within}
+use Rattle.message_records.specs.believed.Reading.{number_of}
+use Rattle.posting_rules.specs.believed.Commands.{Command, Open, Terms, opened_with}
 use Rattle.branch_loader.specs.declared.fault.PlanFault.{PlanFault}
 use Rattle.branch_loader.specs.declared.fault.PlanFault.TheVariants.{Header, Columns, Branch, Accounts, Floor}
 use Rattle.branch_loader.specs.declared.fault.PlanFault.TheVariants.{Twice, Csv, Memory}
-use Rattle.posting_core.specs.Told.{EndsWith, HasReadFailed, IsEndOfInput, ReadTold}
+use Rattle.posting_core.specs.believed.Told.{EndsWith, IsEndOfInput, ReadTold}
+use Rattle.posting_core.specs.Told.{HasReadFailed}
 use Rattle.branch_loader.specs.Records.{Records, Fields, RecordTold, WasFailure, WasRecord}
-
--- a branch, how many accounts it is to have, and their floor, if they are to have one
-abbrev pub Row : Type 0
-Row = ℕ × ℕ × Option ℤ
+use Rattle.branch_loader.specs.believed.Plans.{Row, Rows}
 
 -- what its branch is to be opened with
 abbrev pub terms_of : Row → Terms
 terms_of p = opened_with p.1 p.2
-
--- a plan: rows in its order
-abbrev pub Rows : Type 0
-Rows = List Row
 
 -- ---- one row
 

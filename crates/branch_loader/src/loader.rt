@@ -1,8 +1,9 @@
 //! Loading a plan into a counter.
 ghost use Rattle.std.specs.Prelude.{◌≡◌, ◌≢◌, ◌+◌, ◌≤◌, ◌↔◌, ℕ, List, [], length, IfOk, IfErr, OnOk};
 ghost use Rattle.std.specs.Result.{IsErrOf};
-ghost use Rattle.posting_rules.specs.Commands.{Command};
-ghost use Rattle.posting_rules.specs.Counter.{HasRefused, ShowsLog};
+ghost use Rattle.posting_rules.specs.believed.Commands.{Command};
+ghost use Rattle.posting_rules.specs.believed.Counter.{ShowsLog};
+ghost use Rattle.posting_rules.specs.Counter.{HasRefused};
 ghost use Rattle.posting_core.specs.Sparing.{IsSpared};
 ghost use Rattle.branch_loader.specs.Plans.{openings};
 
@@ -20,7 +21,8 @@ pub struct Loaded {
     pub differs: u32,
 }
 
-ghost use Rattle.branch_loader.specs.Loading.{IsRefusedAfter, LoadsAll, answers, counted, total, with_answer};
+ghost use Rattle.branch_loader.specs.believed.Loading.{IsRefusedAfter};
+ghost use Rattle.branch_loader.specs.Loading.{LoadsAll, answers, counted, total, with_answer};
 
 // The counts with one answer more.
 fn with_answer(loaded: Loaded, opening: Opening) -> Loaded

@@ -1,6 +1,7 @@
 //! The plan: which branches, how many accounts each is to have, and their floor.
 ghost use Rattle.std.specs.Prelude.{◌≡◌, ◌≤◌, ◌+◌, List, length};
-ghost use Rattle.branch_loader.specs.Plans.{IsPlan, Row, floor_within, names, plan_of_list, row_of, row_of_listed};
+ghost use Rattle.branch_loader.specs.believed.Plans.{Row};
+ghost use Rattle.branch_loader.specs.Plans.{IsPlan, floor_within, names, plan_of_list, row_of, row_of_listed};
 
 use crate::fault::PlanFault;
 use message_records::{Branch, Cents};

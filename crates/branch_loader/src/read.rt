@@ -3,7 +3,7 @@ ghost use Rattle.std.specs.Prelude.{◌≡◌, ◌<◌, ◌≤◌, ◌+◌, ℕ,
 ghost use Rattle.std.specs.Prelude.{OnErr, OnOk};
 ghost use Rattle.message_records.specs.declared.limits.TheConstants.{MAX_BALANCE};
 ghost use Rattle.std.specs.Result.{IsErrOf};
-ghost use Rattle.posting_core.specs.Told.{EndsWith};
+ghost use Rattle.posting_core.specs.believed.Told.{EndsWith};
 ghost use Rattle.csv.specs.Records.{fields_of};
 ghost use Rattle.branch_loader.specs.Plans.{IsToldSo, ReadsPlan, TellsPlan, plan_of, plan_of_records};
 ghost use Rattle.branch_loader.specs.Plans.{amount_of, are_names, floor_of, header_of, number_within, parts_of};

@@ -2,7 +2,7 @@
 ghost use Rattle.std.specs.Prelude.{◌≡◌, true, List, [], ◌∷◌, Option, None, IfOk, IfErr, OnOk};
 ghost use Rattle.csv.specs.Reading.{error_kind, stops_reader};
 ghost use Rattle.csv.specs.Records.{fields_of};
-ghost use Rattle.posting_core.specs.Told.{GrowsBy};
+ghost use Rattle.posting_core.specs.believed.Told.{GrowsBy};
 ghost use Rattle.branch_loader.specs.Records.{Records, RecordTold, TakesRecord, record_told};
 
 use csv::{ByteRecord, Error, Reader};

@@ -1,7 +1,8 @@
 //! The text of a plan, or of another sheet of CSV.
 ghost use Rattle.std.specs.Prelude.{◌≡◌, ◌⊎◌, ℕ, List, IfErr, IfOk, OnOk};
 ghost use Rattle.std.specs.Io.KnownBytes.{Consumes, IsAtEnd};
-ghost use Rattle.posting_core.specs.Told.{EndsWith, HasReadFailed, IsEndOfInput};
+ghost use Rattle.posting_core.specs.believed.Told.{EndsWith, IsEndOfInput};
+ghost use Rattle.posting_core.specs.Told.{HasReadFailed};
 
 use crate::fault::PlanFault;
 use posting_core::Source;

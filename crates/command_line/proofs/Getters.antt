@@ -11,7 +11,7 @@ use Rattle.clap.specs.declared.parser.matches.{ArgMatches.ArgMatches, Found.Foun
 use Rattle.clap.proofs.WalkLemmas.{first_value-rows, one_text-rows}
 use Rattle.load_driver.specs.declared.drive.TheConstants.{MAX_DRIVEN}
 use Rattle.command_line.specs.CommandLine.{MAX_REQUESTS, MAX_SEED}
-use Rattle.message_records.specs.{Ranges.whole_within, declared.limits.TheConstants.MAX_ACCOUNT}
+use Rattle.message_records.specs.{believed.Ranges.whole_within, declared.limits.TheConstants.MAX_ACCOUNT}
 use Rattle.load_driver.proofs.Listed.{within}
 use Rattle.command_line.specs.declared.limits.TheConstants.{MAX_CONNECTIONS}
 use Rattle.command_line.specs.Words.{AreInRange, HasMoreValues, HasNumber, HasNumberIfAny, HasText, IsCommandOf}

@@ -2,11 +2,13 @@
 use Rattle.std.proofs.Common.{◌≡◌, ◌≢◌, refl, inl, inr, subst, ℕ, List, Option, Result, Ok, Err}
 use Rattle.std.specs.{Prelude.IfErr, Prelude.IfOk, Result.IsErrOf, Io.KnownBytes.Appends, Io.KnownBytes.Keeps}
 use Rattle.std.proofs.KnownBytes.{Keeps-refl}
-use Rattle.posting_rules.specs.{declared.fault.Fault.Fault, Counter.Seen}
+use Rattle.posting_rules.specs.{declared.fault.Fault.Fault, believed.Counter.Seen}
 use Rattle.posting_rules.specs.declared.fault.Fault.TheVariants as bank
-use Rattle.posting_core.specs.Told.{HasWriteFailed, ReadTold, WriteTold}
+use Rattle.posting_core.specs.believed.Told.{ReadTold}
+use Rattle.posting_core.specs.Told.{HasWriteFailed, WriteTold}
 use Rattle.report_contents.specs.Written.{AppendsPart}
-use Rattle.branch_loader.specs.Plans.{ReadsPlan, Rows}
+use Rattle.branch_loader.specs.believed.Plans.{Rows}
+use Rattle.branch_loader.specs.Plans.{ReadsPlan}
 use Rattle.branch_loader.specs.declared.{fault.PlanFault.PlanFault, loader.Loaded.Loaded}
 use Rattle.branch_loader.specs.declared.fault.PlanFault.TheVariants.{Header, Columns, Branch, Accounts, Floor, Twice}
 use Rattle.branch_loader.specs.declared.fault.PlanFault.TheVariants.{Csv, Memory}

@@ -4,11 +4,12 @@ use Rattle.std.proofs.Common.{OnOk, IfErr, arith, subst, sym}
 use Rattle.std.proofs.{lemmas.List.take_all, KnownBytes.Appends-nil, KnownBytes.Keeps-refl}
 use Rattle.std.specs.{Prelude.OnErr, Result.IsErrOf, Io.KnownBytes.Appends}
 use Rattle.std.specs.{declared.net.socket_addr.SocketAddr.SocketAddr}
-use Rattle.posting_rules.specs.{Counter.Seen, declared.fault.Fault.Fault}
+use Rattle.posting_rules.specs.{believed.Counter.Seen, declared.fault.Fault.Fault}
 use Rattle.posting_core.proofs.Telling.{adds-none}
-use Rattle.posting_core.specs.Told.{EndsWith, HasWriteFailed, IsFlush, WriteTold}
+use Rattle.posting_core.specs.believed.Told.{EndsWith}
+use Rattle.posting_core.specs.Told.{HasWriteFailed, IsFlush, WriteTold}
 use Rattle.report_contents.specs.Written.{AppendsPart}
-use Rattle.load_driver.specs.{Drives.Drives, declared.drive.Driven.Driven}
+use Rattle.load_driver.specs.{believed.Drives.Drives, declared.drive.Driven.Driven}
 use Rattle.command_line.specs.Lines.{PrintsLine, WritesOut, driven_line, listening_line}
 use Rattle.command_line.specs.declared.fault.CommandFault.{CommandFault, TheVariants.Memory, TheVariants.Write}
 use Rattle.command_line.specs.Replaying.{PrintsText}

@@ -11,7 +11,8 @@ use Rattle.load_driver.specs.declared.drive.Driven.{Driven}
 use Rattle.branch_loader.specs.declared.loader.Loaded.{Loaded}
 use Rattle.clap.specs.declared.error.kind.ErrorKind.{ErrorKind}
 use Rattle.clap.specs.declared.error.kind.ErrorKind.TheVariants as kind
-use Rattle.posting_core.specs.Told.{EndsWith, HasWriteFailed, IsFlush, IsThrough, WriteTold}
+use Rattle.posting_core.specs.believed.Told.{EndsWith}
+use Rattle.posting_core.specs.Told.{HasWriteFailed, IsFlush, IsThrough, WriteTold}
 use Rattle.report_contents.specs.Written.{AppendsPart}
 use Rattle.command_line.specs.Faults.{fault_text}
 use Rattle.command_line.specs.declared.fault.CommandFault.{CommandFault}

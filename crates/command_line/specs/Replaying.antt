@@ -5,7 +5,8 @@ use Rattle.std.specs.Result.{IsErrOf}
 use Rattle.std.specs.Fmt.{decimal}
 use Rattle.std.specs.Io.KnownBytes.{Appends, Keeps}
 use Rattle.hex.specs.Hex.{encode_lower}
-use Rattle.posting_core.specs.Told.{EndsWith, HasWriteFailed, IsFlush, WriteTold}
+use Rattle.posting_core.specs.believed.Told.{EndsWith}
+use Rattle.posting_core.specs.Told.{HasWriteFailed, IsFlush, WriteTold}
 use Rattle.report_contents.specs.Lines.{right_in}
 use Rattle.report_contents.specs.Written.{AppendsPart}
 use Rattle.command_line.specs.declared.fault.CommandFault.{CommandFault}

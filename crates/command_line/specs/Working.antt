@@ -3,19 +3,23 @@ use Rattle.std.specs.Prelude.{◌≡◌, ◌⊎◌, ◌+◌, ℕ, List, Option, 
 use Rattle.std.specs.Io.KnownBytes.{Appends, Keeps}
 use Rattle.std.specs.declared.net.socket_addr.SocketAddr.{SocketAddr}
 use Rattle.posting_rules.specs.declared.fault.Fault.{Fault}
-use Rattle.posting_rules.specs.Commands.{Command}
-use Rattle.posting_rules.specs.Counter.{HasRefused, Seen, ShowsLog, Takes}
-use Rattle.branch_loader.specs.Loading.{IsRefusedAfter, answers, counted, total}
-use Rattle.branch_loader.specs.Plans.{ReadsPlan, Rows, openings}
+use Rattle.posting_rules.specs.believed.Commands.{Command}
+use Rattle.posting_rules.specs.believed.Counter.{Seen, ShowsLog, Takes}
+use Rattle.posting_rules.specs.Counter.{HasRefused}
+use Rattle.branch_loader.specs.believed.Loading.{IsRefusedAfter}
+use Rattle.branch_loader.specs.Loading.{answers, counted, total}
+use Rattle.branch_loader.specs.believed.Plans.{Rows}
+use Rattle.branch_loader.specs.Plans.{ReadsPlan, openings}
 use Rattle.branch_loader.specs.declared.fault.PlanFault.{PlanFault}
 use Rattle.branch_loader.specs.declared.loader.Loaded.{Loaded}
-use Rattle.load_driver.specs.Drives.{Drives, IfRefused}
+use Rattle.load_driver.specs.believed.Drives.{Drives}
+use Rattle.load_driver.specs.Drives.{IfRefused}
 use Rattle.load_driver.specs.declared.drive.Driven.{Driven}
 use Rattle.load_driver.specs.declared.drive_fault.DriveFault.{DriveFault}
 use Rattle.counter_http.specs.Connections.{ServesConnections}
 use Rattle.counter_http.specs.declared.listen_fault.ListenFault.{ListenFault}
 use Rattle.posting_core.specs.Stream.{IsOfCall}
-use Rattle.posting_core.specs.Told.{ReadTold}
+use Rattle.posting_core.specs.believed.Told.{ReadTold}
 use Rattle.report_contents.specs.Written.{AppendsPart}
 use Rattle.command_line.specs.Faults.{fault_of_bank, fault_of_drive, fault_of_plan, fault_of_serving}
 use Rattle.command_line.specs.Lines.{driven_line, listening_line, loaded_line}

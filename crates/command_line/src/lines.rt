@@ -3,7 +3,8 @@ ghost use Rattle.std.specs.Prelude.{◌≡◌, ◌⊎◌, [], IfSome, IsErr, IsE
 ghost use Rattle.std.specs.Io.KnownBytes.{Keeps};
 ghost use Rattle.std.specs.IoError.{error_kind};
 ghost use Rattle.clap.specs.Words.{kind_of};
-ghost use Rattle.posting_core.specs.Told.{EndsWith, HasWriteFailed, IsFlush};
+ghost use Rattle.posting_core.specs.believed.Told.{EndsWith};
+ghost use Rattle.posting_core.specs.Told.{HasWriteFailed, IsFlush};
 ghost use Rattle.command_line.specs.Faults.{status_of};
 ghost use Rattle.command_line.specs.Lines.{IsHelpOrVersion, IsShown, PrintsLine, WritesOut, already_line};
 ghost use Rattle.command_line.specs.Lines.{created_line, driven_line, fault_line, listening_line, loaded_line};

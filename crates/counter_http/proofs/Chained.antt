@@ -3,8 +3,8 @@ use Rattle.std.proofs.Common.{◌≡◌, ◌<◌, ◌+◌, ℕ, List, [], ◌∷
 use Rattle.std.proofs.Common.{ap, subst, ◌∙◌, arith, length-append, append-nil}
 use Rattle.std.specs.{List.AllByRecursion, List.flat_map, declared.io.ErrorKind.ErrorKind}
 use Rattle.std.proofs.lemmas.List.{map-append, Concat.flat_map-append}
-use Rattle.posting_rules.specs.{declared.fault.Fault.Fault, Counter.Seen}
-use Rattle.posting_core.specs.Told.{GrowsBy}
+use Rattle.posting_rules.specs.{declared.fault.Fault.Fault, believed.Counter.Seen}
+use Rattle.posting_core.specs.believed.Told.{GrowsBy}
 use Rattle.posting_core.proofs.Telling.{adds-more, adds-none}
 use Rattle.counter_http.specs.{declared.fault.ServeFault.ServeFault, ListenFaults.after_connection}
 use Rattle.counter_http.specs.declared.fault.ServeFault.TheVariants as serve

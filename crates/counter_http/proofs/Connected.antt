@@ -6,17 +6,22 @@ use Rattle.std.specs.{Prelude.IfOk, declared.io.Error.Error}
 use Rattle.std.specs.Io.KnownBytes.{Appends, Consumes, IsAtEnd}
 use Rattle.std.proofs.KnownBytes.{Appends-trans, Appends-nil, Consumes-nil}
 use Rattle.std.proofs.lemmas.List.{length-take-le, length-append, take_all}
-use Rattle.posting_rules.specs.{declared.fault.Fault.Fault, Counter.Seen}
+use Rattle.posting_rules.specs.{declared.fault.Fault.Fault, believed.Counter.Seen}
 use Rattle.posting_rules.proofs.CounterCalls.{idle_after}
-use Rattle.posting_core.specs.{Clock.AreReadings, Batches.joined}
-use Rattle.posting_core.specs.Told.{ReadTold, WriteTold, GrowsBy, read_told}
-use Rattle.counter_http.specs.{declared.fault.ServeFault.ServeFault, declared.next.Whole.Whole, Ends.HasEnded}
-use Rattle.counter_http.specs.{Answers.Asked, Answers.refusal, Serving.BeginsWithNoMessage, Serving.IsWalked}
-use Rattle.counter_http.specs.{Serving.At_last, Serving.Exits, Serving.AnswersAreWritten, Serving.ServesConnection}
+use Rattle.posting_core.specs.{believed.Clock.AreReadings, believed.Batches.joined}
+use Rattle.posting_core.specs.believed.Told.{ReadTold, GrowsBy}
+use Rattle.posting_core.specs.Told.{WriteTold, read_told}
+use Rattle.counter_http.specs.{declared.fault.ServeFault.ServeFault, declared.next.Whole.Whole}
+use Rattle.counter_http.specs.{believed.Ends.HasEnded}
+use Rattle.counter_http.specs.{believed.Answers.Asked, believed.Answers.refusal, believed.Serving.BeginsWithNoMessage}
+use Rattle.counter_http.specs.{believed.Serving.IsWalked}
+use Rattle.counter_http.specs.{believed.Serving.At_last, believed.Serving.Exits, believed.Serving.AnswersAreWritten}
+use Rattle.counter_http.specs.{believed.Serving.ServesConnection}
 use Rattle.counter_http.specs.declared.fault.ServeFault.TheVariants.{Read, Write, Memory}
-use Rattle.counter_http.specs.Messages.{closes, Finished, Closed, EndsWalk, Walks}
+use Rattle.counter_http.specs.believed.Messages.{closes, Finished, Closed, EndsWalk, Walks}
 use Rattle.counter_http.specs.Next.{asked, IsWhole, IsUnfinished, IsHopeless}
-use Rattle.counter_http.specs.Turns.{Turn, text_in, commands_of, moments_of, messages_of, texts_of, answers_to}
+use Rattle.counter_http.specs.believed.Turns.{Turn, text_in, commands_of, moments_of, messages_of, texts_of}
+use Rattle.counter_http.specs.believed.Turns.{answers_to}
 use Rattle.counter_http.specs.Turns.{AreAnswered, TurnIsDealtWith}
 use Rattle.posting_core.proofs.{Batched.joined-append, Streaming.at_ok, Telling.HasMade}
 use Rattle.posting_core.proofs.Stops.{stop_all, written_part}

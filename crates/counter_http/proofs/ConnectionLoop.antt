@@ -5,13 +5,15 @@ use Rattle.std.proofs.Common.{append-nil, arith}
 use Rattle.std.specs.{List.AllByRecursion, Io.KnownBytes.Consumes}
 use Rattle.std.proofs.KnownBytes.{Consumes-trans, Consumes-nil}
 use Rattle.std.proofs.lemmas.List.{length-append, length-take-le, drop-take, nil_from_length, Concat.flat_map-append}
-use Rattle.posting_rules.specs.{declared.fault.Fault.Fault, Counter.Seen}
+use Rattle.posting_rules.specs.{declared.fault.Fault.Fault, believed.Counter.Seen}
 use Rattle.posting_core.specs.Told.{WriteTold}
 use Rattle.httparse.specs.Grammar.{print_request}
-use Rattle.counter_http.specs.{declared.next.Whole.Whole, Messages.message_text, Messages.Finished, Answers.Asked}
+use Rattle.counter_http.specs.{declared.next.Whole.Whole, believed.Messages.message_text, believed.Messages.Finished}
+use Rattle.counter_http.specs.{believed.Answers.Asked}
 use Rattle.counter_http.specs.Next.{asked, IsWhole, IsUnfinished}
-use Rattle.counter_http.specs.Turns.{Turn, text_in, texts_of, AreAnswered, TurnIsDealtWith}
-use Rattle.counter_http.specs.Serving.{KeepsConnection, BeginsWithNoMessage}
+use Rattle.counter_http.specs.believed.Turns.{Turn, text_in, texts_of}
+use Rattle.counter_http.specs.Turns.{AreAnswered, TurnIsDealtWith}
+use Rattle.counter_http.specs.believed.Serving.{KeepsConnection, BeginsWithNoMessage}
 use Rattle.counter_http.proofs.Walking.{no_message, head_some}
 use Rattle.counter_http.proofs.Turning.{answered_none, answered_more, answered_one}
 

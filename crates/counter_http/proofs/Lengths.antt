@@ -6,8 +6,8 @@ use Rattle.std.specs.{Option.is_some, List.list_any, List.list_all, Str.Parse.di
 use Rattle.std.specs.Char.{is_ascii_digit, digit_value}
 use Rattle.std.proofs.lemmas.Bool.{cases_Bool, cases_lt, and_parts, false≢true, leb-true, lt-leb, lt-ltb}
 use Rattle.std.proofs.lemmas.{List.at_drop_more, Str.digit_value_digit}
-use Rattle.counter_http.specs.Fields.{NamedValue, is_alike, is_named, values_of, stated_length, length_by}
-use Rattle.counter_http.specs.Fields.{body_length}
+use Rattle.counter_http.specs.believed.Fields.{NamedValue, is_alike, is_named, values_of, stated_length, length_by}
+use Rattle.counter_http.specs.believed.Fields.{body_length}
 
 -- ---- a number in digits, that stays at 4097 once it is too large
 

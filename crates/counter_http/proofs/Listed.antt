@@ -3,17 +3,19 @@ use Rattle.std.proofs.Common.{lit<, Bool, false, ◌≡◌, ℕ, zero, suc, ◌-
 use Rattle.std.proofs.Common.{length, Option, Some, None, refl, sym, ap, ◌∙◌, append_assoc, append-nil, arith, Ok}
 use Rattle.std.specs.Prelude.{codes, ℤ, pos, negsuc, replicate}
 use Rattle.std.proofs.lemmas.{Bool.cases_lt, Bool.le-ltb, Str.encode_ascii}
-use Rattle.posting_rules.specs.{declared.counter.BranchLine.BranchLine, Entries.branch_balance, Entries.decided}
+use Rattle.posting_rules.specs.{declared.counter.BranchLine.BranchLine, believed.Entries.branch_balance}
+use Rattle.posting_rules.specs.{believed.Entries.decided}
 use Rattle.posting_rules.specs.{declared.fault.Fault.Fault, declared.fault.Fault.TheVariants.Memory}
 use Rattle.posting_rules.specs.{declared.limits.TheConstants.LAST_BRANCH, Branches.IsNextBranch}
-use Rattle.posting_rules.specs.Commands.{Command, opened, Terms, opened_with}
-use Rattle.posting_rules.specs.Counter.{Seen, IsCounterCall, Takes, Refuses}
+use Rattle.posting_rules.specs.believed.Commands.{Command, opened, Terms, opened_with}
+use Rattle.posting_rules.specs.believed.Counter.{Seen, IsCounterCall, Takes, Refuses}
 use Rattle.posting_rules.proofs.CounterCalls.{Takes-append, call_idle_after}
 use Rattle.std.specs.{List.repeat, Int.is_negative}
 use lib.IntN.{nat_abs}
 use lib.Utf8.{encode}
 use Rattle.std.specs.Fmt.{padded_integral, format_spec, decimal, signed_decimal, char_count}
-use Rattle.counter_http.specs.Answers.{account_line, right_in, branch_line, line_if_open, lines_up_to, branch_lines}
+use Rattle.counter_http.specs.believed.Answers.{account_line, right_in, branch_line, line_if_open, lines_up_to}
+use Rattle.counter_http.specs.believed.Answers.{branch_lines}
 use Rattle.counter_http.specs.Turns.{IsRefusedAt}
 
 -- ---- what the bank did so far: it answered calls that change nothing

@@ -9,7 +9,7 @@ use Rattle.std.proofs.lemmas.List.{length-append, length-take, take_all, take-ap
 use Rattle.std.proofs.lemmas.List.{length-take-le}
 use Rattle.http.specs.StatusCode.{reason_phrase, code_digits}
 use Rattle.posting_core.specs.Told.{WriteTold}
-use Rattle.counter_http.specs.Answers.{Answer, status_words, allow_line, close_line, answer_text, bare}
+use Rattle.counter_http.specs.believed.Answers.{Answer, status_words, allow_line, close_line, answer_text, bare}
 use Rattle.counter_http.specs.{declared.fault.ServeFault.ServeFault, declared.fault.ServeFault.TheVariants.Write}
 use Rattle.counter_http.specs.{Ends.SendsAs, Turns.IsSentAs, Turns.IsWrittenTo}
 use Rattle.counter_http.specs.Telling.{IsWrittenOrHeld, first_lines, last_lines}

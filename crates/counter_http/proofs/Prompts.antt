@@ -6,13 +6,16 @@ use Rattle.std.specs.{Io.KnownBytes.Appends, Io.KnownBytes.Consumes, Io.KnownByt
 use Rattle.std.proofs.{KnownBytes.Consumes-kept, KnownBytes.Consumes-nil, lemmas.List.get_or_append_left}
 use Rattle.std.proofs.{lemmas.List.length-append, lemmas.List.length-take-le, lemmas.List.take-append-drop}
 use Rattle.std.proofs.{lemmas.List.take-append-le, Math.Seq.get_or-append_seam, Math.Seq.take-append_seam}
-use Rattle.posting_rules.specs.{Commands.Command, Counter.Seen, declared.fault.Fault.Fault}
-use Rattle.posting_core.specs.{Stream.given, Batches.joined}
-use Rattle.posting_core.specs.Told.{Beside, Failed, Gave, GrowsBy, IsThrough, ReadTold, WriteTold, read_told, unknown}
+use Rattle.posting_rules.specs.{believed.Commands.Command, believed.Counter.Seen, declared.fault.Fault.Fault}
+use Rattle.posting_core.specs.{Stream.given, believed.Batches.joined}
+use Rattle.posting_core.specs.believed.Told.{Failed, Gave, GrowsBy, ReadTold}
+use Rattle.posting_core.specs.Told.{Beside, IsThrough, WriteTold, read_told, unknown}
 use Rattle.posting_core.proofs.{Followed.gave_none, Followed.gave_some, Telling.adds-more, Telling.adds-none}
 use Rattle.counter_http.specs.{Outputs.AnswersWhole, Prompt.AnswersBeforeReads, Prompt.HoldsAnswers, Prompt.IsPrompt}
-use Rattle.counter_http.specs.{Serving.BeginsWithNoMessage, Next.asked, Next.IsWhole, declared.next.Whole.Whole}
-use Rattle.counter_http.specs.Turns.{Turn, TurnIsDealtWith, answers_to, messages_of, text_in, texts_of}
+use Rattle.counter_http.specs.{believed.Serving.BeginsWithNoMessage, Next.asked, Next.IsWhole}
+use Rattle.counter_http.specs.{declared.next.Whole.Whole}
+use Rattle.counter_http.specs.believed.Turns.{Turn, answers_to, messages_of, text_in, texts_of}
+use Rattle.counter_http.specs.Turns.{TurnIsDealtWith}
 use Rattle.counter_http.proofs.ConnectionLoop.{Going, going_first, going_message, going_read, texts_one_more, turn_of}
 use Rattle.counter_http.proofs.{Momentless.momentless, Outputs.stays_all, Outputs.texts_are}
 

@@ -10,7 +10,7 @@ use Rattle.std.proofs.lemmas.Bool.{cases_Bool, cases_eq, cases_lt, le-ltb, ne_eq
 use Rattle.matchit.specs.{Rows.RowsOf, Router.RouteOf}
 use Rattle.counter_http.specs.declared.routes.Route.{Route, TheVariants.Posting, TheVariants.Branches}
 use Rattle.matchit.specs.Seek.{step, or_else, param_step, seek, first, has_slash}
-use Rattle.counter_http.specs.Paths.{is_slash, route_named, route_of}
+use Rattle.counter_http.specs.believed.Paths.{is_slash, route_named, route_of}
 use Rattle.counter_http.specs.Rows.{fixed, account_row, all_routes}
 
 -- the bytes of a text are bytes

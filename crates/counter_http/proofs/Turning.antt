@@ -1,14 +1,15 @@
 -- Messages that are answered one after another.
 use Rattle.std.proofs.Common.{◌≡◌, ℕ, List, [], ◌∷◌, ◌++◌, Option, refl, sym, ap, subst, ◌∙◌, append-nil}
 use Rattle.std.proofs.{KnownBytes.Appends-trans, KnownBytes.Appends-nil, lemmas.List.Concat.flat_map-append}
-use Rattle.posting_rules.specs.{Commands.Command, Runs.followed_by}
-use Rattle.posting_rules.specs.Counter.{Seen, ShowsLog, StandsAt, Takes}
-use Rattle.posting_core.specs.{Clock.after_one, Clock.AreReadings, Batches.joined}
+use Rattle.posting_rules.specs.{believed.Commands.Command, believed.Runs.followed_by}
+use Rattle.posting_rules.specs.believed.Counter.{Seen, ShowsLog, StandsAt, Takes}
+use Rattle.posting_core.specs.{believed.Clock.after_one, believed.Clock.AreReadings, believed.Batches.joined}
 use Rattle.posting_rules.proofs.Sequence.{after-append}
-use Rattle.counter_http.specs.Answers.{Asked, asked_by, answer_of}
+use Rattle.counter_http.specs.believed.Answers.{Asked, asked_by, answer_of}
 use Rattle.posting_core.proofs.Batched.{joined-append}
-use Rattle.counter_http.specs.Turns.{Turn, commands_for, readings_for, commands_in, moments_in, commands_of}
-use Rattle.counter_http.specs.Turns.{moments_of, answers_to, AreAnswered, TurnIsAnswered}
+use Rattle.counter_http.specs.believed.Turns.{Turn, commands_for, readings_for, commands_in, moments_in, commands_of}
+use Rattle.counter_http.specs.believed.Turns.{moments_of, answers_to}
+use Rattle.counter_http.specs.Turns.{AreAnswered, TurnIsAnswered}
 
 pub readings_append : (k k' k'' : Option (List ℕ)) (xs ys : List ℕ) → AreReadings k k' xs
     → AreReadings k' k'' ys → AreReadings k k'' (xs ++ ys)

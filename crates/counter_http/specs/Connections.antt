@@ -6,14 +6,15 @@ use Rattle.std.specs.Prelude.{Err, IfErr}
 use Rattle.std.specs.List.{AllByRecursion, flat_map}
 use Rattle.std.specs.declared.io.ErrorKind.{ErrorKind}
 use Rattle.posting_rules.specs.declared.fault.Fault.{Fault}
-use Rattle.posting_rules.specs.Counter.{Seen}
+use Rattle.posting_rules.specs.believed.Counter.{Seen}
 use Rattle.posting_core.specs.Stream.{IsOfCall}
-use Rattle.posting_core.specs.Told.{Beside, GrowsBy, ReadTold, WriteTold}
+use Rattle.posting_core.specs.believed.Told.{GrowsBy, ReadTold}
+use Rattle.posting_core.specs.Told.{Beside, WriteTold}
 use Rattle.counter_http.specs.Doors.{DoorTold, Gave, Refused, Closed}
 use Rattle.counter_http.specs.Ends as ends
 use Rattle.counter_http.specs.Outputs.{OutputsAnswers, SurvivesServing}
 use Rattle.counter_http.specs.Prompt.{IsPrompt}
-use Rattle.counter_http.specs.Serving as http
+use Rattle.counter_http.specs.believed.Serving as http
 use Rattle.counter_http.specs.declared.fault.ServeFault.{ServeFault}
 use Rattle.counter_http.specs.declared.listen_fault.ListenFault.{ListenFault}
 use Rattle.counter_http.specs.declared.listen_fault.ListenFault.TheVariants.{Network, Bank}

@@ -1,15 +1,10 @@
--- What the ends of a connection returned: the reader from r to r', and the writer from w to w'.
+-- What was taken from a reader and sent to a writer, and which end failed.
 use Rattle.std.specs.Prelude.{ℕ, List, [], Option, Bool, true, false, Result, Ok, Err}
-use Rattle.std.specs.Io.KnownBytes.{IsAtEnd}
-use Rattle.posting_core.specs.Told.{ReadTold, WriteTold, GrowsBy, EndsWith, HasMore, HasReadFailed}
-use Rattle.posting_core.specs.Told.{HasWriteFailed, IsEndOfInput, IsFlush, IsThrough}
+use Rattle.posting_core.specs.believed.Told.{ReadTold, GrowsBy, EndsWith}
+use Rattle.posting_core.specs.Told.{WriteTold, HasMore, HasReadFailed}
+use Rattle.posting_core.specs.Told.{HasWriteFailed, IsFlush, IsThrough}
 use Rattle.counter_http.specs.declared.fault.ServeFault.{ServeFault}
 use Rattle.counter_http.specs.declared.fault.ServeFault.TheVariants.{Read, Write, Bank, Memory}
-
--- the input ended: no known byte remains, and the last read returned its end
-pub record HasEnded (remaining : Option (List ℕ)) (r r' : Option (List ReadTold)) : Type 0 where
-  pub none : IsAtEnd remaining
-  pub told : EndsWith IsEndOfInput r r'
 
 -- what was to be written was taken or is held, or the writer failed
 abbrev pub HasTaken : Bool → Option (List WriteTold) → Option (List WriteTold) → Type 0

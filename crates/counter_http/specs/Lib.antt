@@ -1,14 +1,12 @@
+pub mod believed
 pub mod Faults
 pub mod Ends
-pub mod Fields
 pub mod Messages
 pub mod Next
 pub mod Rows
 pub mod Paths
-pub mod Answers
 pub mod Telling
 pub mod Turns
-pub mod Serving
 pub mod Outputs
 pub mod Prompt
 pub mod ListenFaults

@@ -4,8 +4,9 @@ use Rattle.counter_http.specs.declared.next.Whole.{Whole}
 use Rattle.counter_http.specs.declared.next.Next.{Next}
 use Rattle.counter_http.specs.declared.next.Next.TheVariants as next
 use Rattle.counter_http.specs.declared.limits.TheConstants.{BUFFER}
-use Rattle.counter_http.specs.Answers.{Asked, asked_by, refusal, final_answer}
-use Rattle.counter_http.specs.Messages.{Message, message_text, IsMessage, Ending, EndsWalk, AlwaysEnds}
+use Rattle.counter_http.specs.believed.Answers.{Asked, asked_by, refusal, final_answer}
+use Rattle.counter_http.specs.believed.Messages.{Message, message_text, IsMessage, Ending, EndsWalk}
+use Rattle.counter_http.specs.Messages.{AlwaysEnds}
 
 -- what the parts of a message ask for
 abbrev pub asked : Whole → Asked

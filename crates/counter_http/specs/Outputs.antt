@@ -1,21 +1,20 @@
--- What a connection writes, said of the bytes that it reads alone, however they were cut, and what a crash
--- leaves.
+-- What a connection writes for the bytes that it reads.
 use Rattle.std.specs.Prelude.{◌≡◌, ◌⊎◌, ℕ, List, [], ◌∷◌, ◌++◌, length, map, take, Option, Result, Ok, Err}
 use Rattle.std.specs.Prelude.{OnOk}
 use Rattle.std.specs.List.{AllByRecursion, flat_map}
 use Rattle.std.specs.Io.KnownBytes.{Appends, Consumes}
-use Rattle.posting_rules.specs.Commands.{Command}
-use Rattle.posting_rules.specs.Counter.{Seen, ShowsLog, StandsAt, LeavesOnly, ShowsPrefix}
-use Rattle.posting_core.specs.Batches.{joined}
-use Rattle.posting_core.specs.Stream.{acknowledged}
-use Rattle.posting_core.specs.Told.{ReadTold}
+use Rattle.posting_rules.specs.believed.Commands.{Command}
+use Rattle.posting_rules.specs.believed.Counter.{Seen, ShowsLog, StandsAt, LeavesOnly, ShowsPrefix}
+use Rattle.posting_core.specs.believed.Batches.{joined}
+use Rattle.posting_core.specs.believed.Told.{ReadTold}
 use Rattle.counter_http.specs.declared.fault.ServeFault.{ServeFault}
 use Rattle.counter_http.specs.declared.fault.ServeFault.TheVariants.{Read, Write, Bank, Memory}
-use Rattle.counter_http.specs.Ends.{HasEnded}
-use Rattle.counter_http.specs.Messages.{Message, message_text, IsMessage, Ending, Walks}
-use Rattle.counter_http.specs.Answers.{asked_by, unavailable, final_answer}
-use Rattle.counter_http.specs.Turns.{Turn, commands_of, texts_of, answers_to}
-use Rattle.counter_http.specs.Serving.{KeepsConnection, BeginsWithNoMessage}
+use Rattle.counter_http.specs.believed.Ends.{HasEnded}
+use Rattle.counter_http.specs.believed.Messages.{Message, message_text, IsMessage, Ending, Walks}
+use Rattle.counter_http.specs.believed.Answers.{asked_by, unavailable, final_answer}
+use Rattle.counter_http.specs.believed.Turns.{Turn, commands_of, texts_of, answers_to}
+use Rattle.counter_http.specs.believed.Serving.{KeepsConnection, BeginsWithNoMessage}
+use Rattle.counter_http.specs.believed.Outputs.{acknowledged_records}
 
 -- the bytes of messages
 abbrev pub texts_of_all : List Message → List ℕ
@@ -103,13 +102,6 @@ pub record OutputsAnswers (r r' : Option (List ℕ)) (q q' : Option (List ReadTo
       → AnswersInput log input text → AnswersInput log input other → text ≡ other
   pub one_front : (log : List Command) (text other : List ℕ)
       → AnswersWhole log input text → AnswersWhole log input other → text ≡ other
-
--- ---- what a crash leaves
-
--- how many records had a byte of their answer accepted, when so many bytes of the answers to these messages
--- were
-abbrev pub acknowledged_records : List Command → List Turn → ℕ → ℕ
-acknowledged_records log turns n = length (commands_of (take (acknowledged (answers_to log turns) n) turns))
 
 -- everything that a crash may leave shows the log and a prefix of what was submitted, which holds all
 -- records that were acknowledged

@@ -3,10 +3,11 @@
 -- known bytes were w at first, and its calls had returned t. The bank is seen as c before and as c' after.
 use Rattle.std.specs.Prelude.{◌≡◌, ℕ, ◌<◌, List, length, take, get_or, Option}
 use Rattle.std.specs.Io.KnownBytes.{Appends, Consumes}
-use Rattle.posting_rules.specs.Commands.{Command}
-use Rattle.posting_rules.specs.Counter.{Seen, ShowsLog}
+use Rattle.posting_rules.specs.believed.Commands.{Command}
+use Rattle.posting_rules.specs.believed.Counter.{Seen, ShowsLog}
 use Rattle.posting_core.specs.Stream.{given}
-use Rattle.posting_core.specs.Told.{Beside, GrowsBy, IsThrough, ReadTold, WriteTold, unknown}
+use Rattle.posting_core.specs.believed.Told.{GrowsBy, ReadTold}
+use Rattle.posting_core.specs.Told.{Beside, IsThrough, WriteTold, unknown}
 use Rattle.counter_http.specs.Outputs.{AnswersWhole}
 
 -- the sink held the answers to the whole messages at the front of the input and no more, and they were flushed

@@ -1,9 +1,9 @@
 -- What is to be done for a message.
 use Rattle.std.specs.Prelude.{◌≡◌, List, Option, true, false}
-use Rattle.posting_rules.specs.Commands.{Command}
-use Rattle.posting_rules.specs.Entries.{balance_after}
-use Rattle.counter_http.specs.Answers.{Asked, answer_on, balance_answer, branch_lines, plain, submits}
-use Rattle.counter_http.specs.Paths.{path_of, route_of}
+use Rattle.posting_rules.specs.believed.Commands.{Command}
+use Rattle.posting_rules.specs.believed.Entries.{balance_after}
+use Rattle.counter_http.specs.believed.Answers.{Asked, answer_on, balance_answer, branch_lines, plain, submits}
+use Rattle.counter_http.specs.believed.Paths.{path_of, route_of}
 use Rattle.counter_http.specs.Telling.{said}
 use Rattle.counter_http.specs.declared.routes.Route.{Route}
 use Rattle.counter_http.specs.declared.tasks.Task.{Task}

@@ -5,7 +5,7 @@ use Rattle.std.specs.Io.KnownBytes.{Appends}
 use Rattle.std.specs.Option.{option_map}
 use Rattle.std.specs.Borrow.{Bor}
 use Rattle.counter_http.specs.declared.telling.Response.{Response}
-use Rattle.counter_http.specs.Answers.{Answer, status_words, allow_line, close_line}
+use Rattle.counter_http.specs.believed.Answers.{Answer, status_words, allow_line, close_line}
 
 -- a prefix of the text was written, and where the writer took all of it so far, the rest is held
 pub record IsWrittenOrHeld (before after : Option (List ℕ)) (going : Bool) (held text : List ℕ) : Type 0 where

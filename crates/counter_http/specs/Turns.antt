@@ -1,75 +1,20 @@
--- Messages one after another: each is answered in its turn, and a record is submitted under one reading of
--- the clock. The writer's known bytes before and after are w and w', what its calls returned v and v', the
--- clock's known readings k and k'. What is seen of a counter is given by seen, and what a fault says of a
--- call by reason; or the counter is seen as c before and as c' after.
-use Rattle.std.specs.Prelude.{◌≡◌, ◌⊎◌, ℕ, List, [], ◌∷◌, length, take, map, Option, Bool, true, false, ⊤}
+-- How one turn is answered, wholly or in part, or refused.
+use Rattle.std.specs.Prelude.{◌≡◌, ◌⊎◌, ℕ, List, [], length, take, Option, ⊤}
 use Rattle.std.specs.Prelude.{Result, MatchResult, OnOk, IfErr, OnErr}
-use Rattle.std.specs.List.{flat_map}
 use Rattle.std.specs.Result.{IsErrOf}
 use Rattle.std.specs.Io.KnownBytes.{Appends}
 use Rattle.posting_rules.specs.declared.fault.Fault.{Fault}
-use Rattle.posting_rules.specs.Commands.{Command, Post}
-use Rattle.posting_rules.specs.Counter.{Seen, ShowsLog, Takes, Refuses}
-use Rattle.posting_rules.specs.Runs.{followed_by}
-use Rattle.posting_core.specs.Batches.{joined}
-use Rattle.posting_core.specs.Clock.{AreReadings}
+use Rattle.posting_rules.specs.believed.Commands.{Command}
+use Rattle.posting_rules.specs.believed.Counter.{Seen, ShowsLog, Takes, Refuses}
+use Rattle.posting_core.specs.believed.Batches.{joined}
+use Rattle.posting_core.specs.believed.Clock.{AreReadings}
 use Rattle.posting_core.specs.Stream.{IsOfCall}
 use Rattle.posting_core.specs.Told.{WriteTold}
 use Rattle.counter_http.specs.declared.fault.ServeFault.{ServeFault}
 use Rattle.counter_http.specs.declared.fault.ServeFault.TheVariants.{Read, Write, Bank, Memory}
 use Rattle.counter_http.specs.Ends.{SendsAs}
-use Rattle.counter_http.specs.Messages.{Message, message_text}
-use Rattle.counter_http.specs.Answers.{Asked, asked_by, is_posting, answer_of, unavailable}
-
-abbrev pub commands_if : Bool → ℕ → List ℕ → List Command
-commands_if true moment body = Post moment body ∷ []
-commands_if false moment body = []
-
-abbrev pub readings_if : Bool → ℕ → List ℕ
-readings_if true moment = moment ∷ []
-readings_if false moment = []
-
--- the command that a message submits, and the reading of the clock for it
-abbrev pub commands_for : ℕ → Asked → List Command
-commands_for moment asked = commands_if (is_posting asked) moment asked.body
-
-abbrev pub readings_for : ℕ → Asked → List ℕ
-readings_for moment asked = readings_if (is_posting asked) moment
-
--- a message, and the moment that its record is submitted at, if it has one
-pub record Turn : Type 0 where
-  pub message : Message
-  pub moment : ℕ
-
-abbrev pub commands_in : Turn → List Command
-commands_in t = commands_for t.moment (asked_by t.message)
-
-abbrev pub moments_in : Turn → List ℕ
-moments_in t = readings_for t.moment (asked_by t.message)
-
-abbrev pub message_in : Turn → Message
-message_in t = t.message
-
-abbrev pub text_in : Turn → List ℕ
-text_in t = message_text t.message
-
--- of messages one after another: what they are, their bytes, the commands, and the readings of the clock
-abbrev pub messages_of : List Turn → List Message
-messages_of ts = map message_in ts
-
-abbrev pub texts_of : List Turn → List ℕ
-texts_of ts = flat_map text_in ts
-
-abbrev pub commands_of : List Turn → List Command
-commands_of ts = flat_map commands_in ts
-
-abbrev pub moments_of : List Turn → List ℕ
-moments_of ts = flat_map moments_in ts
-
--- the answers after a log
-abbrev pub answers_to : List Command → List Turn → List (List ℕ)
-answers_to log [] = []
-answers_to log (t ∷ ts) = answer_of log (asked_by t.message) ∷ answers_to (followed_by log (commands_in t)) ts
+use Rattle.counter_http.specs.believed.Answers.{Asked, answer_of, unavailable}
+use Rattle.counter_http.specs.believed.Turns.{Turn, answers_to, commands_for, commands_of, moments_of, readings_for}
 
 -- ---- what became of messages
 

@@ -1,7 +1,7 @@
 //! Which account a path names.
 ghost use Rattle.std.specs.Prelude.{◌≡◌};
-ghost use Rattle.counter_http.specs.Answers.{account_named};
-ghost use Rattle.counter_http.specs.Paths.{account_in};
+ghost use Rattle.counter_http.specs.believed.Answers.{account_named};
+ghost use Rattle.counter_http.specs.believed.Paths.{account_in};
 
 use crate::limits::ACCOUNT_DIGITS;
 use message_records::{Account, read_digits};

@@ -1,10 +1,10 @@
 //! The answer to each message.
 ghost use Rattle.std.specs.Prelude.{◌≡◌, ℕ, List, take, true, [], Err};
 ghost use Rattle.std.specs.Io.KnownBytes.{Appends};
-ghost use Rattle.posting_rules.specs.Commands.{Command};
-ghost use Rattle.posting_rules.specs.Entries.{balance_after};
-ghost use Rattle.counter_http.specs.Answers.{refusal, answer_text, shows, unavailable, is_posting};
-ghost use Rattle.counter_http.specs.Answers.{answer_to, balance_answer, branch_lines, plain};
+ghost use Rattle.posting_rules.specs.believed.Commands.{Command};
+ghost use Rattle.posting_rules.specs.believed.Entries.{balance_after};
+ghost use Rattle.counter_http.specs.believed.Answers.{refusal, answer_text, shows, unavailable, is_posting};
+ghost use Rattle.counter_http.specs.believed.Answers.{answer_to, balance_answer, branch_lines, plain};
 ghost use Rattle.counter_http.specs.Ends.{SendsAs};
 ghost use Rattle.counter_http.specs.Next.{asked};
 ghost use Rattle.counter_http.specs.Telling.{said};

@@ -4,7 +4,7 @@ ghost use Rattle.posting_core.specs.Stream.{IsOfCall};
 ghost use Rattle.counter_http.specs.Ends.{ServeFaultIsOfItsEnd};
 ghost use Rattle.counter_http.specs.Outputs.{OutputsAnswers, SurvivesServing};
 ghost use Rattle.counter_http.specs.Prompt.{IsPrompt};
-ghost use Rattle.counter_http.specs.Serving.{ServesConnection};
+ghost use Rattle.counter_http.specs.believed.Serving.{ServesConnection};
 ghost use Rattle.counter_http.specs.Turns.{IfRefused};
 
 use crate::answers::{answer_message, refuse};

@@ -1,6 +1,6 @@
 //! Where connections come in.
 ghost use Rattle.std.specs.Prelude.{◌∷◌, [], List, Option, None};
-ghost use Rattle.posting_core.specs.Told.{GrowsBy};
+ghost use Rattle.posting_core.specs.believed.Told.{GrowsBy};
 ghost use Rattle.counter_http.specs.Doors.{DoorTold, Closed, open_told};
 
 use crate::close::end;

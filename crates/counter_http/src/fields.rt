@@ -2,8 +2,8 @@
 ghost use Rattle.std.specs.Prelude.{◌≡◌, ◌≤◌, ◌==◌, All, length, map, codes, IfSome};
 ghost use Rattle.httparse.specs.Grammar.{is_ows, trim_ows};
 ghost use Rattle.httparse.specs.Spans.{IsHeaderWithin, header_bytes};
-ghost use Rattle.counter_http.specs.Fields.{stated_length, body_length, is_alike, is_close, has_close};
-ghost use Rattle.counter_http.specs.Fields.{asks_to_close};
+ghost use Rattle.counter_http.specs.believed.Fields.{stated_length, body_length, is_alike, is_close, has_close};
+ghost use Rattle.counter_http.specs.believed.Fields.{asks_to_close};
 
 use crate::limits::MAX_BODY;
 use httparse::spans::HeaderSpan;

@@ -1,6 +1,6 @@
 //! The answers that need no bank.
 ghost use Rattle.std.specs.Prelude.{◌≡◌, codes};
-ghost use Rattle.counter_http.specs.Answers.{bare as bare_answer, not_allowed};
+ghost use Rattle.counter_http.specs.believed.Answers.{bare as bare_answer, not_allowed};
 ghost use Rattle.counter_http.specs.Telling.{said};
 
 use crate::telling::Response;

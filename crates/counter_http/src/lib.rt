@@ -36,7 +36,7 @@
 //! [`ServeFault`] says why a connection ended before its input did: a read or a write failed, memory was
 //! refused, or the bank refused a call, which is answered by a 503.
 //!
-//! Read next: [`serve_connection`]; `specs/Messages`, what a message is, and `specs/Paths`, where each leads;
+//! Read next: [`serve_connection`]; `specs/believed/Messages`, what a message is, and `specs/believed/Paths`, where each leads;
 //! [`serve_connections`], which serves the connections of a listener.
 #![tactic(auto)]
 

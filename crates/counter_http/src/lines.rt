@@ -1,9 +1,9 @@
 //! The lines of accounts and branches.
 ghost use Rattle.std.specs.Prelude.{◌≡◌, ℕ, List, [], IfOk, OnOk, IfErr, OnErr, string_bytes};
 ghost use Rattle.posting_core.specs.Stream.{IsOfCall};
-ghost use Rattle.posting_rules.specs.Commands.{Command};
-ghost use Rattle.posting_rules.specs.Counter.{ShowsLog, Takes};
-ghost use Rattle.counter_http.specs.Answers.{account_line, branch_line, branch_lines};
+ghost use Rattle.posting_rules.specs.believed.Commands.{Command};
+ghost use Rattle.posting_rules.specs.believed.Counter.{ShowsLog, Takes};
+ghost use Rattle.counter_http.specs.believed.Answers.{account_line, branch_line, branch_lines};
 ghost use Rattle.counter_http.specs.Turns.{IsRefusedAt};
 
 use message_records::{Account, Cents};

@@ -1,6 +1,7 @@
 //! The routes, which are made once.
 ghost use Rattle.std.specs.Prelude.{◌≡◌, [], OnOk};
-ghost use Rattle.counter_http.specs.Paths.{route_of, path_of, path_end};
+ghost use Rattle.counter_http.specs.believed.Paths.{route_of, path_of};
+ghost use Rattle.counter_http.specs.Paths.{path_end};
 ghost use Rattle.counter_http.specs.Rows.{all_routes};
 
 use matchit::{InsertError, Router};

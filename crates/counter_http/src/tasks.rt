@@ -1,8 +1,8 @@
 //! What is to be done for a message, decided once by its path and its method.
 ghost use Rattle.std.specs.Prelude.{◌≡◌, codes, bytes_eq};
-ghost use Rattle.counter_http.specs.Answers.{is_reading};
+ghost use Rattle.counter_http.specs.believed.Answers.{is_reading};
 ghost use Rattle.counter_http.specs.Next.{asked};
-ghost use Rattle.counter_http.specs.Paths.{path_of};
+ghost use Rattle.counter_http.specs.believed.Paths.{path_of};
 ghost use Rattle.counter_http.specs.Tasks.{IsTaskOf, IsTaskOn};
 
 use crate::accounts::account_in;

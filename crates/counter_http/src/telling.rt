@@ -2,7 +2,7 @@
 ghost use Rattle.std.specs.Prelude.{◌≡◌, ◌++◌, ℕ, List, [], Option, length, take, OnOk};
 ghost use Rattle.std.specs.Io.KnownBytes.{Appends};
 ghost use Rattle.posting_core.specs.Told.{WriteTold};
-ghost use Rattle.counter_http.specs.Answers.{answer_text};
+ghost use Rattle.counter_http.specs.believed.Answers.{answer_text};
 ghost use Rattle.counter_http.specs.Ends.{HasSent, HasTaken};
 ghost use Rattle.counter_http.specs.Telling.{IsWrittenOrHeld, said, first_lines, last_lines};
 

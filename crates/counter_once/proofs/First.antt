@@ -7,9 +7,9 @@ use Rattle.posting_rules.specs.declared.fault.Fault.{Fault}
 use Rattle.posting_rules.specs.declared.fault.Fault.TheVariants.{Memory, Store, Down, Damaged}
 use Rattle.posting_core.specs.declared.plain_bank.PlainBank.{PlainBank}
 use Rattle.posting_core.specs.Plain.{plain_seen}
-use Rattle.posting_rules.specs.Commands.{Command, Open, AreCommands, opened_with}
-use Rattle.posting_rules.specs.Tables.{Tables, AreTablesOf}
-use Rattle.posting_rules.specs.Counter.{Seen, ShowsLog, Refuses}
+use Rattle.posting_rules.specs.believed.Commands.{Command, Open, AreCommands, opened_with}
+use Rattle.posting_rules.specs.believed.Tables.{Tables, AreTablesOf}
+use Rattle.posting_rules.specs.believed.Counter.{Seen, ShowsLog, Refuses}
 use Rattle.posting_core.specs.Once as once
 use Rattle.counter_once.specs.First.{two_branches, FirstIsAnswered, FirstLeaves}
 

@@ -1,13 +1,13 @@
 -- What answering the first record of a new bank reads and writes.
 use Rattle.std.specs.Prelude.{◌≡◌, ◌<◌, ℕ, List, [], ◌∷◌, length, take, Option, None}
 use Rattle.std.specs.Io.KnownBytes.{Keeps, Appends, Consumes, IsAtEnd}
-use Rattle.message_records.specs.Spelling.{reply_spelling}
+use Rattle.message_records.specs.believed.Spelling.{reply_spelling}
 use Rattle.posting_rules.specs.declared.fault.Fault.{Fault}
 use Rattle.posting_rules.specs.declared.fault.Fault.TheVariants.{Memory}
 use Rattle.posting_core.specs.declared.once.OnceFault.{OnceFault}
 use Rattle.posting_core.specs.declared.once.OnceFault.TheVariants.{Short, Read, Write, Bank}
-use Rattle.posting_rules.specs.Commands.{Command, Open, opened_with}
-use Rattle.posting_rules.specs.Entries.{reply}
+use Rattle.posting_rules.specs.believed.Commands.{Command, Open, opened_with}
+use Rattle.posting_rules.specs.believed.Entries.{reply}
 
 -- branch 1 is opened with three accounts, and then branch 2 with two, neither with a floor
 abbrev pub two_branches : List Command

@@ -2,9 +2,10 @@
 ghost use Rattle.std.specs.Prelude.{◌≡◌, OnOk, IfErr, IfOk};
 ghost use Rattle.std.specs.Result.{IsErrOf};
 ghost use Rattle.posting_rules.specs.declared.fault.Fault.TheVariants.{Memory};
-ghost use Rattle.posting_rules.specs.Tables.{AreTablesOf};
+ghost use Rattle.posting_rules.specs.believed.Tables.{AreTablesOf};
 ghost use Rattle.posting_core.specs.Plain.{plain_tables};
-ghost use Rattle.posting_core.specs.Told.{EndsWith, HasReadFailed, HasWriteFailed, IsEndOfInput, IsFlush};
+ghost use Rattle.posting_core.specs.believed.Told.{EndsWith, IsEndOfInput};
+ghost use Rattle.posting_core.specs.Told.{HasReadFailed, HasWriteFailed, IsFlush};
 ghost use Rattle.counter_once.specs.First.{two_branches, FirstIsAnswered, FirstLeaves};
 
 use message_records::{Branch, Moment};

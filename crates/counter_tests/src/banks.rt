@@ -19,7 +19,7 @@ pub struct FailingBank {
 
 impl Counter for FailingBank {
     ghost use Rattle.std.specs.Prelude.{◌≡◌, ⊤, true, refl};
-    ghost use Rattle.posting_rules.specs.Tables.{Tables};
+    ghost use Rattle.posting_rules.specs.believed.Tables.{Tables};
     ghost use Rattle.posting_core.specs.Plain.{plain_seen, plain_tables};
 
     ghost seen = { λ b. record (plain_seen b.bank) { is_down = b.down ≡ true } };

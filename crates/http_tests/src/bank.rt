@@ -26,7 +26,7 @@ pub struct FullBank {
 
 impl Counter for FullBank {
     ghost use Rattle.std.specs.Prelude.{⊤, refl};
-    ghost use Rattle.posting_rules.specs.Tables.{Tables};
+    ghost use Rattle.posting_rules.specs.believed.Tables.{Tables};
     ghost use Rattle.posting_core.specs.Plain.{plain_seen, plain_tables};
 
     ghost seen = { λ b. plain_seen b.bank };

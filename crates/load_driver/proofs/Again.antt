@@ -1,11 +1,12 @@
 -- Posts of the same records, made again: nothing is added, and they get the same replies.
 use Rattle.std.proofs.Common.{◌≡◌, ◌+◌, ℕ, cond, List, [], ◌∷◌, ◌++◌, refl, sym, ap, ◌∙◌, append_assoc, inl}
-use Rattle.message_records.specs.{Outcomes.has_balance, Records.ReplyFields}
-use Rattle.posting_rules.specs.Commands.{Command, Open, Post}
-use Rattle.posting_rules.specs.{Entries.reply, Resends.Place, Resends.Skips, Runs.followed_by, Runs.ArePosts}
+use Rattle.message_records.specs.{believed.Outcomes.has_balance, believed.Records.ReplyFields}
+use Rattle.posting_rules.specs.believed.Commands.{Command, Open, Post}
+use Rattle.posting_rules.specs.{believed.Entries.reply, Resends.Place, Resends.Skips, believed.Runs.followed_by}
+use Rattle.posting_rules.specs.{believed.Runs.ArePosts}
 use Rattle.posting_rules.proofs.{Resends.adds_nothing, Resends.posts_both, Sequence.after-append}
-use Rattle.posting_core.specs.Stream.{posted_records}
-use Rattle.load_driver.specs.Records.{posted_among}
+use Rattle.posting_core.specs.believed.Stream.{posted_records}
+use Rattle.load_driver.specs.believed.Records.{posted_among}
 
 -- the posts p, of which some stand before the rest
 module _ (log p : List Command) (posts : ArePosts p) where

@@ -1,9 +1,9 @@
 -- Records that are drawn one after another.
 use Rattle.std.proofs.Common.{◌≡◌, ◌+◌, ℕ, zero, suc, List, [], ◌∷◌, ◌++◌, refl, sym, ap, ◌∙◌, arith}
 use Rattle.std.proofs.Common.{add-one, append-nil, append_assoc}
-use Rattle.message_records.specs.Spelling.{request_spelling}
-use Rattle.branch_loader.specs.Plans.{Rows}
-use Rattle.load_driver.specs.{Requests.request_at, Records.drawn}
+use Rattle.message_records.specs.believed.Spelling.{request_spelling}
+use Rattle.branch_loader.specs.believed.Plans.{Rows}
+use Rattle.load_driver.specs.{believed.Requests.request_at, believed.Records.drawn}
 
 pub drawn_none : (rows : Rows) (seed from : ℕ) → drawn rows seed from 0 ≡ []
 unfolding drawn

@@ -5,10 +5,10 @@ use Rattle.std.specs.Prelude.{◌||◌}
 use Rattle.std.proofs.lemmas.Bool.Decides.{nat_tests}
 use Rattle.std.proofs.lemmas.List.{drop_more, get_or-append_right, get_or_append_left}
 use Rattle.std.proofs.lemmas.List.FromFn.{get_or-range_with_len, length-range_with_len}
-use Rattle.posting_rules.specs.Numbering.{first_account}
-use Rattle.load_driver.specs.Draw.{draw}
-use Rattle.load_driver.specs.Requests.{account_by, accounts_of, count_of, is_home, remote_accounts}
-use Rattle.branch_loader.specs.Plans.{Rows, Row}
+use Rattle.posting_rules.specs.believed.Numbering.{first_account}
+use Rattle.load_driver.specs.believed.Draw.{draw}
+use Rattle.load_driver.specs.believed.Requests.{account_by, accounts_of, count_of, is_home, remote_accounts}
+use Rattle.branch_loader.specs.believed.Plans.{Rows, Row}
 
 -- the row of the branch itself is passed over
 pub at-home : (branch : ℕ) (p : Row) (rest : Rows) → p.0 ≡ branch

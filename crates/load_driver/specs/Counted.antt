@@ -1,8 +1,8 @@
 -- How many of the replies to commands say that a request was posted.
 use Rattle.std.specs.Prelude.{◌≡◌, ◌≤◌, ℕ, Bool, List, length, bytes_eq, codes, slice_range}
-use Rattle.posting_rules.specs.Commands.{Command}
-use Rattle.posting_rules.specs.Counter.{Seen, ShowsLog, Takes}
-use Rattle.load_driver.specs.Records.{posted_among}
+use Rattle.posting_rules.specs.believed.Commands.{Command}
+use Rattle.posting_rules.specs.believed.Counter.{Seen, ShowsLog, Takes}
+use Rattle.load_driver.specs.believed.Records.{posted_among}
 
 -- the outcome after the tag of a reply is that of a posting
 abbrev pub is_posted : List ℕ → Bool

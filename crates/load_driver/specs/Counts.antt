@@ -2,10 +2,11 @@
 use Rattle.std.specs.Prelude.{◌≡◌, ◌<◌, ◌≤◌, ◌*◌, ℕ, List, get_or, length}
 use Rattle.posting_rules.specs.declared.limits.TheConstants.{TELLERS_PER_BRANCH}
 use Rattle.rand_pcg.specs.Lcg.{Lcg}
-use Rattle.branch_loader.specs.Plans.{IsPlan, Rows}
+use Rattle.branch_loader.specs.believed.Plans.{Rows}
+use Rattle.branch_loader.specs.Plans.{IsPlan}
 use Rattle.load_driver.specs.declared.driver.TheConstants.{MAX_RECORDS}
-use Rattle.load_driver.specs.Draw.{words_after}
-use Rattle.load_driver.specs.Requests.{earlier, teller_of}
+use Rattle.load_driver.specs.believed.Draw.{words_after}
+use Rattle.load_driver.specs.believed.Requests.{earlier, teller_of}
 
 -- a driver: its rows, its seed and how many records it gave
 pub record Driving : Type 0 where

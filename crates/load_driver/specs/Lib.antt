@@ -1,5 +1,5 @@
 -- The requests that a plan and a seed draw. Begin with `Requests`.
-pub mod Draw
+pub mod believed
 pub mod Words
 pub mod Requests
 pub mod OfPlan

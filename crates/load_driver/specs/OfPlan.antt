@@ -1,8 +1,8 @@
 -- What a request of a plan names.
 use Rattle.std.specs.Prelude.{◌≡◌, ◌≤◌, ◌↔◌, ℕ, Bool, IsTrue, Contains}
-use Rattle.message_records.specs.Records.{RequestFields}
-use Rattle.posting_rules.specs.Numbering.{branch_of_account, branch_of_teller, place_of_account}
-use Rattle.branch_loader.specs.Plans.{Rows, Row}
+use Rattle.message_records.specs.believed.Records.{RequestFields}
+use Rattle.posting_rules.specs.believed.Numbering.{branch_of_account, branch_of_teller, place_of_account}
+use Rattle.branch_loader.specs.believed.Plans.{Rows, Row}
 
 -- the account is one of the row's branch, within its count
 pub record IsAccountOf (row : Row) (account : ℕ) : Type 0 where

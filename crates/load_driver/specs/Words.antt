@@ -2,7 +2,7 @@
 use Rattle.std.specs.Prelude.{◌≡◌, ◌+◌, ◌*◌, ℕ}
 use Rattle.rand_pcg.specs.Lcg.{Lcg}
 use Rattle.load_driver.specs.declared.draws.Words.{Words}
-use Rattle.load_driver.specs.Draw.{word, words_after}
+use Rattle.load_driver.specs.believed.Draw.{word, words_after}
 
 -- these are the words of record n, and the generator goes on after them
 pub record TakesWords (seed n : ℕ) (words : Words) (after : Lcg) : Type 0 where

@@ -1,8 +1,8 @@
 //! Which account a request names (TPC-B 5.3, the 85/15 rule).
 ghost use Rattle.std.specs.Prelude.{◌≡◌, ◌≢◌, ◌<◌, ◌≤◌, ◌+◌, ◌*◌, ◌^◌, ◌-◌, Contains, get_or, length};
 ghost use Rattle.branch_loader.specs.Plans.{IsPlan};
-ghost use Rattle.load_driver.specs.Draw.{draw};
-ghost use Rattle.load_driver.specs.Requests.{account_by, count_of, is_home, remote_accounts};
+ghost use Rattle.load_driver.specs.believed.Draw.{draw};
+ghost use Rattle.load_driver.specs.believed.Requests.{account_by, count_of, is_home, remote_accounts};
 ghost use Rattle.load_driver.specs.OfPlan.{IsAccountFor};
 
 use crate::draws::draw;

@@ -1,6 +1,6 @@
 //! The words of a seed, and the number that a word draws.
 ghost use Rattle.std.specs.Prelude.{◌≡◌, ◌<◌, ◌+◌, ◌*◌, ℕ};
-ghost use Rattle.load_driver.specs.Draw.{draw, words_after};
+ghost use Rattle.load_driver.specs.believed.Draw.{draw, words_after};
 
 use rand::RngExt;
 use rand_core::SeedableRng;

@@ -14,14 +14,15 @@
 //! ```
 //!
 //! Read next: [`drive_records`], with its errors; [`Driver`](crate::Driver), which draws the records;
-//! `specs/Drives`, what a drive does, and what a crash in it leaves.
+//! `specs/believed/Drives`, what a drive does, and what a crash in it leaves.
 ghost use Rattle.std.specs.Prelude.{◌≡◌, ◌≤◌, ◌↔◌, [], List, IfOk, IfErr, OnOk, Err};
 ghost use Rattle.std.specs.Result.{IsErrOf};
-ghost use Rattle.posting_rules.specs.Commands.{Command};
-ghost use Rattle.posting_rules.specs.Counter.{ShowsLog};
+ghost use Rattle.posting_rules.specs.believed.Commands.{Command};
+ghost use Rattle.posting_rules.specs.believed.Counter.{ShowsLog};
 ghost use Rattle.posting_core.specs.Stream.{IsOfCall};
-ghost use Rattle.load_driver.specs.Requests.{IsAscending};
-ghost use Rattle.load_driver.specs.Drives.{Drives, MayRefuse, DrivesAgain, IfRefused, Submits, UnlessDown};
+ghost use Rattle.load_driver.specs.believed.Requests.{IsAscending};
+ghost use Rattle.load_driver.specs.believed.Drives.{Drives, Submits};
+ghost use Rattle.load_driver.specs.Drives.{MayRefuse, DrivesAgain, IfRefused, UnlessDown};
 ghost use Rattle.load_driver.specs.Records.{NoneOpen};
 
 use crate::drive_batches::submit_batch;

@@ -1,10 +1,11 @@
 //! A batch of records: they are drawn, submitted, and counted by their replies.
 ghost use Rattle.std.specs.Prelude.{◌≡◌, ◌≤◌, ◌+◌, ℕ, length, count_by, MatchResult, IfErr, OnOk};
-ghost use Rattle.posting_rules.specs.Counter.{HasRefused, Refuses};
-ghost use Rattle.posting_rules.specs.Runs.{posts};
+ghost use Rattle.posting_rules.specs.believed.Counter.{Refuses};
+ghost use Rattle.posting_rules.specs.Counter.{HasRefused};
+ghost use Rattle.posting_rules.specs.believed.Runs.{posts};
 ghost use Rattle.posting_core.specs.Clock.{IsReading};
 ghost use Rattle.load_driver.specs.Counted.{IsCounted, is_posted};
-ghost use Rattle.load_driver.specs.Records.{drawn};
+ghost use Rattle.load_driver.specs.believed.Records.{drawn};
 
 use crate::{Driver, MAX_RECORDS};
 use message_records::{REPLY_BYTES, REQUEST_BYTES};

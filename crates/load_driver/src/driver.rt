@@ -1,12 +1,14 @@
 //! The driver: its state, and the request that each step draws.
 ghost use Rattle.std.specs.Prelude.{◌≡◌, ◌<◌, ◌≤◌, ◌+◌, ◌*◌, ◌↔◌, pos, ◌-ℤ◌, ◌≤ℤ◌, neg_ℤ, nat_abs, []};
 ghost use Rattle.std.specs.Prelude.{length, get_or, map, IfOk, IfSome, IsErrOf, Ok, Err, Some, None};
-ghost use Rattle.message_records.specs.Spelling.{request_spelling};
-ghost use Rattle.message_records.specs.Reading.{request_of};
+ghost use Rattle.message_records.specs.believed.Spelling.{request_spelling};
+ghost use Rattle.message_records.specs.believed.Reading.{request_of};
 ghost use Rattle.branch_loader.specs.Plans.{IsPlan};
-ghost use Rattle.load_driver.specs.Draw.{draw};
-ghost use Rattle.load_driver.specs.Requests.{CountsOthers, IsAscending, amount_by, is_home, request_at};
-ghost use Rattle.load_driver.specs.Requests.{request_by, x_at};
+ghost use Rattle.load_driver.specs.believed.Draw.{draw};
+ghost use Rattle.load_driver.specs.believed.Requests.{IsAscending, amount_by, is_home, request_at};
+ghost use Rattle.load_driver.specs.Requests.{CountsOthers};
+ghost use Rattle.load_driver.specs.believed.Requests.{request_by};
+ghost use Rattle.load_driver.specs.Requests.{x_at};
 ghost use Rattle.load_driver.specs.OfPlan.{IsOfPlan};
 ghost use Rattle.load_driver.specs.Counts.{Driving, IsReady};
 

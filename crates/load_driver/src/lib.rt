@@ -19,7 +19,7 @@
 //! }
 //! ```
 //!
-//! Read next: [`Driver::new`] and [`Driver::next`]; `specs/Requests`, which says record n; [`drive_records`],
+//! Read next: [`Driver::new`] and [`Driver::next`]; `specs/believed/Requests`, which says record n; [`drive_records`],
 //! which submits such records to a counter and counts their replies.
 #![tactic(auto)]
 

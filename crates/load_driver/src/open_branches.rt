@@ -1,11 +1,11 @@
 //! The open branches of a counter.
 ghost use Rattle.std.specs.Prelude.{◌≡◌, ◌↔◌, List, IfOk, OnOk, IfErr};
 ghost use Rattle.std.specs.Result.{IsErrOf};
-ghost use Rattle.posting_rules.specs.Commands.{Command};
-ghost use Rattle.posting_rules.specs.Counter.{ShowsLog};
+ghost use Rattle.posting_rules.specs.believed.Commands.{Command};
+ghost use Rattle.posting_rules.specs.believed.Counter.{ShowsLog};
 ghost use Rattle.load_driver.specs.Drives.{IsListed, IsUnlisted};
 ghost use Rattle.posting_core.specs.Stream.{IsOfCall};
-ghost use Rattle.load_driver.specs.Records.{open_branches};
+ghost use Rattle.load_driver.specs.believed.Records.{open_branches};
 
 use branch_loader::Plan;
 use posting_core::{Counter, Fault};

@@ -3,8 +3,8 @@ use Rattle.std.proofs.Common.{◌≡◌, ℕ, zero, suc, ◌+◌, ◌^◌, ◌<�
 use Rattle.std.proofs.Common.{Some, None, refl, sym, ap, subst, ◌∙◌, arith, inl, inr}
 use Rattle.std.specs.Prelude.{ℤ, pos, negsuc, nat_abs, option_and_then}
 use Rattle.std.proofs.lemmas.Bool.{eqb-true}
-use Rattle.message_records.specs.Spelling.{digits, signed}
-use Rattle.message_records.specs.Reading.{number_of, signed_of, below_zero, not_below_zero}
+use Rattle.message_records.specs.believed.Spelling.{digits, signed}
+use Rattle.message_records.specs.believed.Reading.{number_of, signed_of, below_zero, not_below_zero}
 use Rattle.message_records.proofs.Digits.{length-digits, chosen, number_of-digits, number_takes}
 
 -- a sign is one byte more

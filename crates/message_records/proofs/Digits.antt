@@ -5,8 +5,8 @@ use Rattle.std.specs.Prelude.{◌⊎◌}
 use Rattle.std.proofs.lemmas.{List.length-append, Bool.Decides.nat_tests}
 use Rattle.std.proofs.Math.Nat.{pow-suc, pow-succ', pow-le-pow_right, div-div-eq-div-mul, lt-div-mul-add, one-le-pow}
 use Rattle.std.proofs.Math.Nat.{zero-mul}
-use Rattle.message_records.specs.{declared.limits.TheConstants.MAX_BALANCE, Spelling.digits}
-use Rattle.message_records.specs.Reading.{number_after, number_of}
+use Rattle.message_records.specs.{declared.limits.TheConstants.MAX_BALANCE, believed.Spelling.digits}
+use Rattle.message_records.specs.believed.Reading.{number_after, number_of}
 
 -- so many digits are so long
 pub length-digits : (k n : ℕ) → length (digits k n) ≡ k

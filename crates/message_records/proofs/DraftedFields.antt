@@ -5,7 +5,7 @@ use borrow.Rule.Slice.PartMut.{put_mid}
 use Rattle.std.proofs.lemmas.Slice.{take-put_mid, drop-put_mid}
 use Rattle.std.proofs.lemmas.List.{length-append, length-take, length-drop, take-append-drop, drop-drop}
 use Rattle.std.proofs.lemmas.List.{drop-set, drop-replicate}
-use Rattle.message_records.specs.Spelling.{digits}
+use Rattle.message_records.specs.believed.Spelling.{digits}
 
 -- one more digit, before the digits that are written
 pub digit_step : (k p rest : ℕ) (out : List ℕ) → p ≡ suc k → k < length out

@@ -5,9 +5,11 @@ use Rattle.std.specs.{Prelude.option_and_then, Option.ok_or}
 use Rattle.std.proofs.lemmas.{Bool.Decides.nat_tests, List.length-append}
 use Rattle.message_records.specs.declared.limits.TheConstants.{MAX_ACCOUNT, MAX_TELLER, MAX_BRANCH, MAX_NUMBER}
 use Rattle.message_records.specs.declared.fault.Bad.TheVariants as bad
-use Rattle.message_records.specs.{Ranges.whole_within, Spelling.digits, Spelling.signed, Spelling.fields_spelling}
-use Rattle.message_records.specs.Records.{RequestFields, IsRequest, IsShownRequest, unreferenced}
-use Rattle.message_records.specs.Reading.{number_of, signed_of, number_at, fields_of}
+use Rattle.message_records.specs.{believed.Ranges.whole_within, believed.Spelling.digits, believed.Spelling.signed}
+use Rattle.message_records.specs.{believed.Spelling.fields_spelling}
+use Rattle.message_records.specs.believed.Records.{RequestFields, unreferenced}
+use Rattle.message_records.specs.Records.{IsRequest, IsShownRequest}
+use Rattle.message_records.specs.believed.Reading.{number_of, signed_of, number_at, fields_of}
 use Rattle.message_records.proofs.Digits.{length-digits, chosen, number_of-digits, number_takes}
 use Rattle.message_records.proofs.Amounts.{length-signed, signed_again, signed_takes, and_then_some}
 use Rattle.message_records.proofs.Pieces.{field_next, field_joined, last_field, last_joined, field_length, step_takes}

@@ -5,7 +5,7 @@ use Rattle.std.specs.Str.{bytes_eq}
 use Rattle.std.proofs.lemmas.{Bool.Decides.same_from_decides, Slice.Eq.bytes_eq-Decides}
 use Rattle.std.proofs.lemmas.List.{length-drop, length-replicate, take_all, take_at, drop_at, take-append-drop}
 use Rattle.std.proofs.lemmas.List.{drop-replicate}
-use Rattle.message_records.specs.Spelling.{filled}
+use Rattle.message_records.specs.believed.Spelling.{filled}
 
 -- what stands after the text, as the test sees it
 rest_is : (n : ℕ) (bytes : List ℕ) → take (length bytes - n) (drop n bytes) ≡ drop n bytes

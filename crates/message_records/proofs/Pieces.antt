@@ -4,7 +4,7 @@ use Rattle.std.proofs.Common.{Err, refl, sym, ap, ◌∙◌, arith, inl, inr}
 use Rattle.std.specs.{Option.ok_or, Str.bytes_eq}
 use Rattle.std.proofs.lemmas.Slice.Eq.{bytes_eq-Decides}
 use Rattle.std.proofs.lemmas.List.{length-drop, drop-drop, take_at, drop_at, take_all, take-append-drop, length-take}
-use Rattle.message_records.specs.Reading.{◌>>=◌, text_at}
+use Rattle.message_records.specs.believed.Reading.{◌>>=◌, text_at}
 use Rattle.message_records.proofs.Digits.{chosen}
 
 -- ---- where a field stands

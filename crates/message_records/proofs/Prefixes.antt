@@ -4,10 +4,11 @@ use Rattle.std.proofs.Common.{refl, sym, ap, ◌∙◌, append-nil, arith}
 use Rattle.std.specs.Prelude.{pos, IfSome, unwrap_or}
 use Rattle.std.proofs.lemmas.List.{length-append, length-replicate}
 use Rattle.message_records.specs.declared.limits.TheConstants.{REPLY_BYTES, REQUEST_BYTES}
-use Rattle.message_records.specs.{Outcomes.code_of, Reading.request_of, Reading.reply_of}
-use Rattle.message_records.specs.Records.{RequestFields, IsRequest, IsReference, ReplyFields, IsReply}
-use Rattle.message_records.specs.Spelling.{no_fields, filled, tag_of, reference_text, request_spelling}
-use Rattle.message_records.specs.Spelling.{reply_spelling}
+use Rattle.message_records.specs.{believed.Outcomes.code_of, believed.Reading.request_of, Reading.reply_of}
+use Rattle.message_records.specs.believed.Records.{RequestFields, IsReference, ReplyFields}
+use Rattle.message_records.specs.Records.{IsRequest, IsReply}
+use Rattle.message_records.specs.believed.Spelling.{no_fields, filled, tag_of, reference_text, request_spelling}
+use Rattle.message_records.specs.believed.Spelling.{reply_spelling}
 use Rattle.message_records.proofs.{Digits.length-digits, Amounts.length-signed, Fields.length-fields}
 use Rattle.message_records.proofs.{Requests.request_again, SpelledReplies.length-name, SpelledReplies.reply_again}
 

@@ -4,10 +4,11 @@ use Rattle.std.proofs.Common.{Result, Ok, Err, refl, sym, ap, subst, ◌∙◌, 
 use Rattle.std.specs.{Prelude.codes, Prelude.IfOk, Prelude.IfSome, Option.ok_or, Str.bytes_eq}
 use Rattle.message_records.specs.declared.{limits.TheConstants.REQUEST_BYTES, fault.Bad.Bad}
 use Rattle.message_records.specs.declared.fault.Bad.TheVariants as bad
-use Rattle.message_records.specs.Records.{RequestFields, IsRequest, IsReference, reference_from, unreferenced}
-use Rattle.message_records.specs.Records.{referenced}
-use Rattle.message_records.specs.Spelling.{fields_spelling, filled, tag_of, reference_text, request_spelling}
-use Rattle.message_records.specs.Reading.{fields_of, plain_request_of, referenced_request_of, request_of}
+use Rattle.message_records.specs.believed.Records.{RequestFields, IsReference, reference_from, unreferenced}
+use Rattle.message_records.specs.Records.{IsRequest}
+use Rattle.message_records.specs.believed.Records.{referenced}
+use Rattle.message_records.specs.believed.Spelling.{fields_spelling, filled, tag_of, reference_text, request_spelling}
+use Rattle.message_records.specs.believed.Reading.{fields_of, plain_request_of, referenced_request_of, request_of}
 use Rattle.message_records.proofs.{Digits.chosen, Fields.length-fields, Fields.fields_again, Fields.fields_take}
 use Rattle.message_records.proofs.Pieces.{field_next, field_joined, last_field, last_joined, field_length, text_again}
 use Rattle.message_records.proofs.Pieces.{text_step, step_takes, ok_or_some}

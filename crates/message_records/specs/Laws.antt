@@ -1,8 +1,10 @@
 -- Each value has one spelling, and no spelling begins another.
 use Rattle.std.specs.Prelude.{◌≡◌, ℕ, List, [], ◌++◌, Ok}
-use Rattle.message_records.specs.Records.{RequestFields, IsRequest, ReplyFields, IsReply}
-use Rattle.message_records.specs.Spelling.{request_spelling, reply_spelling}
-use Rattle.message_records.specs.Reading.{plain_request_of, request_of, reply_of}
+use Rattle.message_records.specs.believed.Records.{RequestFields, ReplyFields}
+use Rattle.message_records.specs.Records.{IsRequest, IsReply}
+use Rattle.message_records.specs.believed.Spelling.{request_spelling, reply_spelling}
+use Rattle.message_records.specs.believed.Reading.{plain_request_of, request_of}
+use Rattle.message_records.specs.Reading.{reply_of}
 
 -- what was written is read again
 abbrev pub RequestIsReadAgain : Type 0

@@ -1,7 +1,6 @@
-pub mod Ranges
+pub mod believed
 pub mod Outcomes
 pub mod Records
-pub mod Spelling
 pub mod Reading
 pub mod Faults
 pub mod Laws

@@ -1,38 +1,9 @@
--- What becomes of a request: the code and the name that its reply carries.
-use Rattle.std.specs.Prelude.{ℕ, List, codes, Bool, true, false}
+-- Which replies show their request.
+use Rattle.std.specs.Prelude.{Bool, true, false}
 use Rattle.message_records.specs.declared.records.Outcome.{Outcome}
-use Rattle.message_records.specs.declared.records.Outcome.TheVariants.{Posted, NoTeller, WrongBranch}
-use Rattle.message_records.specs.declared.records.Outcome.TheVariants.{NoAccount, BelowFloor, OverLimit}
-use Rattle.message_records.specs.declared.records.Outcome.TheVariants.{ReusedNumber, Full, Malformed}
-
-abbrev pub code_of : Outcome → ℕ
-code_of Posted = 0
-code_of NoTeller = 11
-code_of WrongBranch = 12
-code_of NoAccount = 13
-code_of BelowFloor = 17
-code_of OverLimit = 14
-code_of ReusedNumber = 15
-code_of Full = 16
-code_of Malformed = 90
-
-abbrev pub name_of : Outcome → List ℕ
-name_of Posted = codes "POSTED"
-name_of NoTeller = codes "NO TELLER"
-name_of WrongBranch = codes "WRONG BRANCH"
-name_of NoAccount = codes "NO ACCOUNT"
-name_of BelowFloor = codes "BELOW FLOOR"
-name_of OverLimit = codes "OVER LIMIT"
-name_of ReusedNumber = codes "REUSED NUMBER"
-name_of Full = codes "FULL"
-name_of Malformed = codes "MALFORMED"
+use Rattle.message_records.specs.declared.records.Outcome.TheVariants.{Malformed}
 
 -- a reply shows the request, unless the bytes were none
 abbrev pub has_request : Outcome → Bool
 has_request Malformed = false
 has_request _ = true
-
--- a reply has the account's new balance where the request was posted
-abbrev pub has_balance : Outcome → Bool
-has_balance Posted = true
-has_balance _ = false

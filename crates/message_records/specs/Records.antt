@@ -1,39 +1,13 @@
--- What a request and a reply hold (TPC-A, contents of the messages).
+-- What a reply holds, and which values of types stand for requests and replies.
 use Rattle.std.specs.Prelude.{ℕ, ℤ, ◌≡◌, ◌≤◌, nat_le, nat_abs, Bool, true, false, is_some, not, ◌&&◌, Option}
-use Rattle.std.specs.Prelude.{Some, None, IfSome, if◌then◌else◌, IsTrue, List, [], ◌∷◌, length, nat_eq}
+use Rattle.std.specs.Prelude.{Some, None, IfSome, if◌then◌else◌, List}
 use Rattle.std.specs.Option.{option_map}
 use Rattle.message_records.specs.declared.records.Outcome.{Outcome}
 use Rattle.message_records.specs.declared.limits.TheConstants.{MAX_ACCOUNT, MAX_TELLER, MAX_BRANCH}
 use Rattle.message_records.specs.declared.limits.TheConstants.{MAX_NUMBER, MAX_BALANCE, MAX_DELTA}
-use Rattle.message_records.specs.declared.limits.TheConstants.{REFERENCE_BYTES}
-use Rattle.message_records.specs.Outcomes.{has_request, has_balance}
-
--- every byte is printable ASCII, from the space to the tilde
-abbrev pub is_printable : List ℕ → Bool
-is_printable [] = true
-is_printable (c ∷ cs) = (nat_le 32 c && nat_le c 126) && is_printable cs
-
--- what a request may be referred to by: so many printable bytes
-abbrev pub is_reference : List ℕ → Bool
-is_reference text = nat_eq (length text) REFERENCE_BYTES && is_printable text
-
-abbrev pub IsReference : List ℕ → Type 0
-IsReference text = (length text ≡ REFERENCE_BYTES) × IsTrue (is_printable text)
-
--- the reference that the bytes are
-abbrev pub reference_from : List ℕ → Option (List ℕ)
-reference_from text = if is_reference text then Some text else None
-
-pub record RequestFields : Type 0 where
-  pub account : ℕ
-  pub teller : ℕ
-  pub branch : ℕ
-  -- the teller's own number for the request
-  pub number : ℕ
-  -- what is to be added, in cents
-  pub delta : ℤ
-  -- what the request is referred to by, none where it has no reference
-  pub reference : Option (List ℕ)
+use Rattle.message_records.specs.believed.Outcomes.{has_balance}
+use Rattle.message_records.specs.Outcomes.{has_request}
+use Rattle.message_records.specs.believed.Records.{IsReference, ReplyFields, RequestFields, unreferenced}
 
 -- each field is in its range
 pub record IsRequest (r : RequestFields) : Type 0 where
@@ -48,14 +22,6 @@ pub record IsRequest (r : RequestFields) : Type 0 where
   pub delta : nat_abs r.delta ≤ MAX_DELTA
   pub reference : IfSome r.reference IsReference
 
--- the request without its reference, as its reply shows it
-abbrev pub unreferenced : RequestFields → RequestFields
-unreferenced r = record r { reference = None }
-
--- and with this one
-abbrev pub referenced : List ℕ → RequestFields → RequestFields
-referenced text r = record r { reference = Some text }
-
 -- the request of these fields, where the amount is within its limit
 abbrev pub request_from : ℕ → ℕ → ℕ → ℕ → ℤ → Option (List ℕ) → Option RequestFields
 request_from account teller branch number delta reference =
@@ -67,13 +33,6 @@ request_from account teller branch number delta reference =
       delta = delta;
       reference = reference;
     }) else None
-
-pub record ReplyFields : Type 0 where
-  pub outcome : Outcome
-  -- the request without its reference
-  pub request : Option RequestFields
-  -- the account's new balance, in cents
-  pub balance : Option ℤ
 
 -- a request in its ranges, as a reply shows it
 abbrev pub IsShownRequest : RequestFields → Type 0

@@ -1,6 +1,6 @@
 //! A record that is being written, from left to right.
 ghost use Rattle.std.specs.Prelude.{◌≡◌, ◌≤◌, ◌+◌, ◌-◌, length, replicate, [], ◌++◌};
-ghost use Rattle.message_records.specs.Spelling.{digits, signed};
+ghost use Rattle.message_records.specs.believed.Spelling.{digits, signed};
 
 use std::marker::Model;
 

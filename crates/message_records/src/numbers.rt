@@ -1,6 +1,6 @@
 //! Whole numbers and amounts that are kept in their ranges.
 ghost use Rattle.std.specs.Prelude.{◌≡◌, ◌≤◌, ◌≤ℤ◌, pos, neg_ℤ, nat_abs};
-ghost use Rattle.message_records.specs.Ranges.{whole_within, cents_within};
+ghost use Rattle.message_records.specs.believed.Ranges.{whole_within, cents_within};
 
 use crate::limits::{MAX_ACCOUNT, MAX_BALANCE, MAX_BRANCH, MAX_MOMENT, MAX_NUMBER, MAX_TELLER};
 use std::fmt;

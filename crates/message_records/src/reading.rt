@@ -2,12 +2,15 @@
 ghost use Rattle.std.specs.Prelude.{◌≡◌, ◌≤◌, ◌<◌, ◌^◌, ◌-◌, length, is_some, is_ok, IsNone, IfSome, IfOk};
 ghost use Rattle.std.specs.Prelude.{IfErr, Ok, nat_abs, option_and_then};
 ghost use Rattle.std.specs.Str.{bytes_eq};
-ghost use Rattle.message_records.specs.Ranges.{whole_within};
-ghost use Rattle.message_records.specs.Outcomes.{has_request, has_balance};
-ghost use Rattle.message_records.specs.Records.{RequestFields, IsRequest, ReplyFields, IsReply};
-ghost use Rattle.message_records.specs.Spelling.{request_spelling, filled, reply_spelling};
-ghost use Rattle.message_records.specs.Reading.{number_of, signed_of, fields_of, request_of, outcome_with};
-ghost use Rattle.message_records.specs.Reading.{plain_request_of, referenced_request_of};
+ghost use Rattle.message_records.specs.believed.Ranges.{whole_within};
+ghost use Rattle.message_records.specs.believed.Outcomes.{has_balance};
+ghost use Rattle.message_records.specs.Outcomes.{has_request};
+ghost use Rattle.message_records.specs.believed.Records.{RequestFields, ReplyFields};
+ghost use Rattle.message_records.specs.Records.{IsRequest, IsReply};
+ghost use Rattle.message_records.specs.believed.Spelling.{request_spelling, filled, reply_spelling};
+ghost use Rattle.message_records.specs.believed.Reading.{number_of, signed_of, fields_of, request_of};
+ghost use Rattle.message_records.specs.Reading.{outcome_with};
+ghost use Rattle.message_records.specs.believed.Reading.{plain_request_of, referenced_request_of};
 ghost use Rattle.message_records.specs.Reading.{no_fields_of, shown_request_of, balance_of, reply_of};
 
 use crate::fault::{Bad, BadReply};
@@ -46,7 +49,7 @@ pub fn decode_request(bytes: &[u8; REQUEST_BYTES]) -> Result<Request, Bad>
 }
 
 // The tag says whether it has a reference.
-#[tactic(auto, unfolding(crate::specs::Reading::request_of))]
+#[tactic(auto, unfolding(crate::specs::believed::Reading::request_of))]
 fn read_request(bytes: &[u8; REQUEST_BYTES]) -> Result<Request, Bad>
     ensures { result ≡ request_of bytes.now }
 {
@@ -58,7 +61,7 @@ fn read_request(bytes: &[u8; REQUEST_BYTES]) -> Result<Request, Bad>
 }
 
 // Field by field from the left, up to the first faulty one.
-#[tactic(auto, unfolding(crate::specs::Reading::plain_request_of))]
+#[tactic(auto, unfolding(crate::specs::believed::Reading::plain_request_of))]
 fn read_plain(bytes: &[u8; REQUEST_BYTES]) -> Result<Request, Bad>
     ensures { result ≡ plain_request_of bytes.now }
 {
@@ -73,7 +76,7 @@ fn read_plain(bytes: &[u8; REQUEST_BYTES]) -> Result<Request, Bad>
 }
 
 // Field by field from the left, up to the first faulty one, with a reference after the amount.
-#[tactic(auto, unfolding(crate::specs::Reading::referenced_request_of))]
+#[tactic(auto, unfolding(crate::specs::believed::Reading::referenced_request_of))]
 fn read_referenced(bytes: &[u8; REQUEST_BYTES]) -> Result<Request, Bad>
     ensures { result ≡ referenced_request_of bytes.now }
 {
@@ -207,7 +210,7 @@ fn is_filled(bytes: &[u8], text: &[u8]) -> bool
 }
 
 // The five fields that a request and a reply have in common, of a request without a reference.
-#[tactic(auto, unfolding(crate::specs::Reading::fields_of))]
+#[tactic(auto, unfolding(crate::specs::believed::Reading::fields_of))]
 fn read_fields(bytes: &[u8]) -> Result<Request, Bad>
     requires { length bytes.now ≡ 47 }
     ensures { result ≡ fields_of bytes.now }

@@ -1,6 +1,7 @@
 //! A request, what becomes of it, and the reply to it.
 ghost use Rattle.std.specs.Prelude.{◌≡◌, ◌≤◌, nat_abs, IfSome};
-ghost use Rattle.message_records.specs.Records.{request_from, referenced, unreferenced, IsReference};
+ghost use Rattle.message_records.specs.believed.Records.{referenced, unreferenced, IsReference};
+ghost use Rattle.message_records.specs.Records.{request_from};
 
 use crate::limits::MAX_DELTA;
 use crate::numbers::{Account, Branch, Cents, Number, Teller};
@@ -23,7 +24,7 @@ pub struct Request {
 impl Model for Request {
     ghost use Rattle.std.specs.Prelude.{◌≤◌, nat_abs};
     ghost use Rattle.message_records.specs.declared.limits.TheConstants.{MAX_DELTA};
-    ghost use Rattle.message_records.specs.Records.{RequestFields};
+    ghost use Rattle.message_records.specs.believed.Records.{RequestFields};
 
     ghost Value = { RequestFields };
 
@@ -173,7 +174,7 @@ pub enum Outcome {
 }
 
 impl Outcome {
-    ghost use Rattle.message_records.specs.Outcomes.{code_of, name_of};
+    ghost use Rattle.message_records.specs.believed.Outcomes.{code_of, name_of};
 
     /// The code in the reply: two digits, 0..=99.
     #[must_use]
@@ -216,7 +217,7 @@ impl Outcome {
 /// The outcome's name.
 impl fmt::Display for Outcome {
     ghost use Rattle.std.specs.Prelude.{Some};
-    ghost use Rattle.message_records.specs.Outcomes.{name_of};
+    ghost use Rattle.message_records.specs.believed.Outcomes.{name_of};
 
     ghost output = { λ o. Some (name_of o) };
 
@@ -237,8 +238,9 @@ pub struct Reply {
 
 impl Model for Reply {
     ghost use Rattle.std.specs.Prelude.{◌≡◌, is_some, IfSome, None};
-    ghost use Rattle.message_records.specs.Outcomes.{has_request, has_balance};
-    ghost use Rattle.message_records.specs.Records.{ReplyFields};
+    ghost use Rattle.message_records.specs.believed.Outcomes.{has_balance};
+    ghost use Rattle.message_records.specs.Outcomes.{has_request};
+    ghost use Rattle.message_records.specs.believed.Records.{ReplyFields};
 
     ghost Value = { ReplyFields };
 
@@ -253,7 +255,8 @@ impl Model for Reply {
 
 impl Reply {
     ghost use Rattle.std.specs.Prelude.{is_some, None};
-    ghost use Rattle.message_records.specs.Outcomes.{has_request, has_balance};
+    ghost use Rattle.message_records.specs.believed.Outcomes.{has_balance};
+    ghost use Rattle.message_records.specs.Outcomes.{has_request};
     ghost use Rattle.message_records.specs.Records.{reply_from};
 
     /// The reply of these parts; none where they don't belong together. A request belongs to every outcome

@@ -1,6 +1,6 @@
 //! What a request is referred to by.
 ghost use Rattle.std.specs.Prelude.{◌≡◌, length, IsTrue};
-ghost use Rattle.message_records.specs.Records.{is_printable, reference_from};
+ghost use Rattle.message_records.specs.believed.Records.{is_printable, reference_from};
 
 use crate::limits::REFERENCE_BYTES;
 use std::marker::Model;
@@ -15,7 +15,7 @@ pub struct Reference {
 impl Model for Reference {
     ghost use Rattle.std.specs.Prelude.{ℕ, List, ◌≡◌, length, IsTrue};
     ghost use Rattle.message_records.specs.declared.limits.TheConstants.{REFERENCE_BYTES};
-    ghost use Rattle.message_records.specs.Records.{is_printable};
+    ghost use Rattle.message_records.specs.believed.Records.{is_printable};
 
     ghost Value = { List ℕ };
 

@@ -1,10 +1,12 @@
 //! Writes the bytes of a request and of a reply.
 ghost use Rattle.std.specs.Prelude.{◌≡◌, ◌≤◌, ◌+◌, ◌++◌, pos, length, IfSome, Ok, nat_abs, unwrap_or};
-ghost use Rattle.message_records.specs.Records.{IsRequest, IsReference, unreferenced};
-ghost use Rattle.message_records.specs.Spelling.{signed, no_fields, fields_spelling, request_spelling};
-ghost use Rattle.message_records.specs.Spelling.{tag_of, reference_text};
-ghost use Rattle.message_records.specs.Spelling.{reply_spelling};
-ghost use Rattle.message_records.specs.Reading.{request_of, reply_of};
+ghost use Rattle.message_records.specs.believed.Records.{IsReference, unreferenced};
+ghost use Rattle.message_records.specs.Records.{IsRequest};
+ghost use Rattle.message_records.specs.believed.Spelling.{signed, no_fields, fields_spelling, request_spelling};
+ghost use Rattle.message_records.specs.believed.Spelling.{tag_of, reference_text};
+ghost use Rattle.message_records.specs.believed.Spelling.{reply_spelling};
+ghost use Rattle.message_records.specs.believed.Reading.{request_of};
+ghost use Rattle.message_records.specs.Reading.{reply_of};
 
 use crate::draft::Draft;
 use crate::limits::{MAX_BALANCE, REFERENCE_BYTES, REPLY_BYTES, REQUEST_BYTES};

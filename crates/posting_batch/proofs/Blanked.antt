@@ -4,11 +4,11 @@ use Rattle.std.proofs.Common.{Bool, cond, true, sym, ap, subst, ◌∙◌, inl, 
 use Rattle.std.specs.Prelude.{IfSome, IsSome, ◌&&◌}
 use Rattle.std.specs.List.{find, AllByRecursion}
 use Rattle.message_records.specs.declared.fault.Bad.{Bad}
-use Rattle.message_records.specs.Records.{RequestFields}
-use Rattle.posting_rules.specs.Cases.{case_of}
-use Rattle.posting_rules.specs.Changes.{row_changed}
-use Rattle.posting_rules.specs.Kept.{KeptFields}
-use Rattle.posting_rules.specs.Numbering.{branch_of_teller, branch_of_account}
+use Rattle.message_records.specs.believed.Records.{RequestFields}
+use Rattle.posting_rules.specs.believed.Cases.{case_of}
+use Rattle.posting_rules.specs.believed.Changes.{row_changed}
+use Rattle.posting_rules.specs.believed.Kept.{KeptFields}
+use Rattle.posting_rules.specs.believed.Numbering.{branch_of_teller, branch_of_account}
 use Rattle.posting_rules.specs.declared.judgments.Verdict.{Verdict}
 use Rattle.posting_rules.specs.declared.judgments.Verdict.TheVariants.{Unkept, Again, Refused, Posted}
 use Rattle.posting_rules.specs.declared.rows.HistoryRow.{HistoryRow}

@@ -3,19 +3,20 @@ use Rattle.std.proofs.Common.{◌≡◌, ℕ, zero, suc, ◌+◌, ◌<◌, false
 use Rattle.std.proofs.Common.{Result, Ok, Err, ap, ◌∙◌, arith}
 use Rattle.std.proofs.lemmas.Bool.Decides.{nat_tests}
 use Rattle.message_records.specs.declared.fault.Bad.{Bad}
-use Rattle.message_records.specs.Records.{RequestFields}
+use Rattle.message_records.specs.believed.Records.{RequestFields}
 use Rattle.posting_rules.specs.declared.judgments.Verdict.{Verdict}
 use Rattle.posting_rules.specs.declared.judgments.Verdict.TheVariants.{Unkept, Again, Refused, Posted}
 use Rattle.posting_rules.specs.declared.rows.ReferenceRow.{ReferenceRow}
-use Rattle.posting_rules.specs.Cases.{case_of}
-use Rattle.posting_rules.specs.Changes.{row_put, reference_put, tables_after, tables_read}
-use Rattle.posting_rules.specs.Changes.{with_account_balance, with_branch_balance, with_decided, with_history}
-use Rattle.posting_rules.specs.Changes.{with_reference, with_request, with_teller_balance}
-use Rattle.posting_rules.specs.Commands.{Command}
-use Rattle.posting_rules.specs.Entries.{decided, refused_entry, posted_entry}
-use Rattle.posting_rules.specs.LookUps.{found_in}
-use Rattle.posting_rules.specs.Tables.{Tables, AreTablesOf, row_at, request_key, reference_key}
-use Rattle.posting_rules.specs.Tables.{request_row_of, reference_row_of}
+use Rattle.posting_rules.specs.believed.Cases.{case_of}
+use Rattle.posting_rules.specs.believed.Changes.{row_put, reference_put, tables_after, tables_read}
+use Rattle.posting_rules.specs.believed.Changes.{with_account_balance, with_branch_balance, with_decided}
+use Rattle.posting_rules.specs.believed.Changes.{with_history}
+use Rattle.posting_rules.specs.believed.Changes.{with_reference, with_request, with_teller_balance}
+use Rattle.posting_rules.specs.believed.Commands.{Command}
+use Rattle.posting_rules.specs.believed.Entries.{decided, refused_entry, posted_entry}
+use Rattle.posting_rules.specs.believed.LookUps.{found_in}
+use Rattle.posting_rules.specs.believed.Tables.{Tables, AreTablesOf, row_at, request_key, reference_key}
+use Rattle.posting_rules.specs.believed.Tables.{request_row_of, reference_row_of}
 use Rattle.posting_rules.proofs.RowChanges.{row_at-put}
 use Rattle.posting_rules.proofs.TablesWithRecord.{request_row_past, reference_row_past}
 use Rattle.posting_batch.specs.Batch.{HasFreeOrdinals}

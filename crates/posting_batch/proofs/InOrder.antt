@@ -5,17 +5,17 @@ use Rattle.std.specs.Prelude.{IsSome}
 use Rattle.std.specs.List.{find}
 use Rattle.std.specs.Option.{option_map}
 use Rattle.message_records.specs.declared.fault.Bad.{Bad}
-use Rattle.message_records.specs.Reading.{request_of}
-use Rattle.message_records.specs.Records.{RequestFields}
-use Rattle.message_records.specs.Spelling.{reply_spelling}
+use Rattle.message_records.specs.believed.Reading.{request_of}
+use Rattle.message_records.specs.believed.Records.{RequestFields}
+use Rattle.message_records.specs.believed.Spelling.{reply_spelling}
 use Rattle.posting_rules.specs.declared.judgments.Found.{Found}
 use Rattle.posting_rules.specs.declared.judgments.Verdict.{Verdict}
 use Rattle.posting_rules.specs.declared.judgments.Verdict.TheVariants.{Unkept, Again, Refused, Posted}
-use Rattle.posting_rules.specs.Cases.{case_of, reply_in}
-use Rattle.posting_rules.specs.Changes.{row_changed, tables_past_all, reply_read, replies_past_all}
-use Rattle.posting_rules.specs.Numbering.{branch_of_teller, branch_of_account}
-use Rattle.posting_rules.specs.Kept.{KeptFields}
-use Rattle.posting_rules.specs.Tables.{Tables, row_at}
+use Rattle.posting_rules.specs.believed.Cases.{case_of, reply_in}
+use Rattle.posting_rules.specs.believed.Changes.{row_changed, tables_past_all, reply_read, replies_past_all}
+use Rattle.posting_rules.specs.believed.Numbering.{branch_of_teller, branch_of_account}
+use Rattle.posting_rules.specs.believed.Kept.{KeptFields}
+use Rattle.posting_rules.specs.believed.Tables.{Tables, row_at}
 use Rattle.posting_rules.proofs.Keyed.{by_test}
 use Rattle.posting_rules.proofs.RowChanges.{changed_at, key-changed_at, row_at-changed}
 use Rattle.posting_batch.specs.declared.slots.RequestSlot.{RequestSlot}

@@ -7,10 +7,10 @@ use Rattle.std.specs.Option.{option_map}
 use Rattle.std.proofs.lemmas.Bool.{eqb-true, eq-eqb}
 use Rattle.posting_rules.specs.declared.rows.ReferenceRow.{ReferenceRow}
 use Rattle.posting_rules.specs.declared.rows.RequestRow.{RequestRow}
-use Rattle.posting_rules.specs.Changes.{row_put, reference_put}
-use Rattle.posting_rules.specs.Kept.{KeptFields, kept_with}
-use Rattle.posting_rules.specs.LookUps.{kept_in, kept_of_row, reference_in, text_of_reference}
-use Rattle.posting_rules.specs.Tables.{row_at, request_key, reference_key, reference_row_of}
+use Rattle.posting_rules.specs.believed.Changes.{row_put, reference_put}
+use Rattle.posting_rules.specs.believed.Kept.{KeptFields, kept_with}
+use Rattle.posting_rules.specs.believed.LookUps.{kept_in, kept_of_row, reference_in, text_of_reference}
+use Rattle.posting_rules.specs.believed.Tables.{row_at, request_key, reference_key, reference_row_of}
 use Rattle.posting_rules.proofs.Keyed.{by_test, found_passes}
 use Rattle.posting_rules.proofs.RowChanges.{eqb-flip, row_at-put}
 use Rattle.posting_batch.specs.declared.slots.RequestSlot.{RequestSlot}

@@ -3,12 +3,13 @@ use Rattle.std.proofs.Common.{◌≡◌, ℕ, suc, ◌+◌, ◌≤◌, ◌++◌,
 use Rattle.std.proofs.Common.{Result, Ok, Err, sym, subst, arith}
 use Rattle.std.specs.List.{AllByRecursion}
 use Rattle.message_records.specs.declared.fault.Bad.{Bad}
-use Rattle.message_records.specs.Records.{RequestFields}
+use Rattle.message_records.specs.believed.Records.{RequestFields}
 use Rattle.posting_rules.specs.declared.judgments.Verdict.{Verdict}
 use Rattle.posting_rules.specs.declared.judgments.Verdict.TheVariants.{Unkept, Again, Refused, Posted}
 use Rattle.posting_rules.specs.declared.rows.ReferenceRow.{ReferenceRow}
-use Rattle.posting_rules.specs.Cases.{case_of}
-use Rattle.posting_batch.specs.Batch.{HasNextOrdinals, IsNextOrdinal, covering, covering_all}
+use Rattle.posting_rules.specs.believed.Cases.{case_of}
+use Rattle.posting_batch.specs.believed.Batch.{IsNextOrdinal}
+use Rattle.posting_batch.specs.Batch.{HasNextOrdinals, covering, covering_all}
 use Rattle.posting_batch.specs.Judging.{found_over, overlay_after, overlay_with, overlay_with_all}
 use Rattle.posting_batch.specs.Judging.{reference_after}
 use Rattle.posting_batch.specs.Overlay.{Overlay}

@@ -1,9 +1,9 @@
 -- A single request, judged in the slots that are placed for it and filled from tables.
 use Rattle.std.proofs.Common.{◌≡◌, ◌∙◌, ℕ, [], ◌∷◌, Ok, ap, sym, subst}
-use Rattle.message_records.specs.Records.{RequestFields}
-use Rattle.message_records.specs.Spelling.{reply_spelling}
-use Rattle.posting_rules.specs.Changes.{tables_read, tables_with, reply_bytes, reply_read}
-use Rattle.posting_rules.specs.Tables.{Tables}
+use Rattle.message_records.specs.believed.Records.{RequestFields}
+use Rattle.message_records.specs.believed.Spelling.{reply_spelling}
+use Rattle.posting_rules.specs.believed.Changes.{tables_read, tables_with, reply_bytes, reply_read}
+use Rattle.posting_rules.specs.believed.Tables.{Tables}
 use Rattle.posting_rules.proofs.Ready.{AreReady}
 use Rattle.posting_batch.specs.Batch.{AddsFreeRows, ChangesRows, HasHomes, HasRisingSlots, covering, filled, no_slots}
 use Rattle.posting_batch.specs.Judging.{overlay_with, reply_over}

@@ -5,7 +5,7 @@ use Rattle.std.specs.Prelude.{nat_eq, IsSome, IsTrue, ◌&&◌, ◌||◌}
 use Rattle.std.specs.List.{find, AllByRecursion, IsDistinct}
 use Rattle.std.proofs.lemmas.Bool.Decides.{nat_tests}
 use Rattle.std.proofs.lemmas.Map.Keys.{IsDistinct-cons}
-use Rattle.posting_rules.specs.Tables.{HasKeys}
+use Rattle.posting_rules.specs.believed.Tables.{HasKeys}
 use Rattle.posting_rules.proofs.Keyed.{by_test}
 use Rattle.posting_batch.specs.Placed.{placed, number_below, number_same, request_below, request_same}
 use Rattle.posting_batch.specs.Placed.{IsRising}

@@ -4,7 +4,7 @@ use Rattle.std.proofs.Common.{◌≡◌, ℕ, ◌+◌, List, [], ◌∷◌, ◌+
 use Rattle.std.specs.Prelude.{ℤ, IsSome, IfSome}
 use Rattle.std.specs.List.{find}
 use Rattle.std.specs.Option.{option_map}
-use Rattle.message_records.specs.Records.{RequestFields}
+use Rattle.message_records.specs.believed.Records.{RequestFields}
 use Rattle.posting_rules.specs.declared.judgments.Found.{Found}
 use Rattle.posting_rules.specs.declared.judgments.Verdict.{Verdict}
 use Rattle.posting_rules.specs.declared.judgments.Verdict.TheVariants.{Unkept, Again, Refused, Posted}
@@ -15,18 +15,18 @@ use Rattle.posting_rules.specs.declared.rows.HistoryRow.{HistoryRow}
 use Rattle.posting_rules.specs.declared.rows.RequestRow.{RequestRow}
 use Rattle.posting_rules.specs.declared.rows.FloorRow.{FloorRow}
 use Rattle.posting_rules.specs.declared.rows.ReferenceRow.{ReferenceRow}
-use Rattle.posting_rules.specs.Changes.{row_put, with_decided, with_branch_balance, with_teller_balance}
-use Rattle.posting_rules.specs.Changes.{with_account_balance, with_history, with_request, with_reference}
-use Rattle.posting_rules.specs.Changes.{reference_put, tables_kept, tables_posted, tables_after}
-use Rattle.posting_rules.specs.Numbering.{branch_of_teller, branch_of_account}
-use Rattle.posting_rules.specs.Entries.{DecidedRequest, refused_entry, posted_entry}
-use Rattle.posting_rules.specs.Kept.{KeptFields}
-use Rattle.posting_rules.specs.LookUps.{both_of, kept_in, account_balance_in, balance_of_account}
-use Rattle.posting_rules.specs.LookUps.{balance_of_teller, balance_of_branch, floor_in, found_in}
+use Rattle.posting_rules.specs.believed.Changes.{row_put, with_decided, with_branch_balance, with_teller_balance}
+use Rattle.posting_rules.specs.believed.Changes.{with_account_balance, with_history, with_request, with_reference}
+use Rattle.posting_rules.specs.believed.Changes.{reference_put, tables_kept, tables_posted, tables_after}
+use Rattle.posting_rules.specs.believed.Numbering.{branch_of_teller, branch_of_account}
+use Rattle.posting_rules.specs.believed.Entries.{DecidedRequest, refused_entry, posted_entry}
+use Rattle.posting_rules.specs.believed.Kept.{KeptFields}
+use Rattle.posting_rules.specs.believed.LookUps.{both_of, kept_in, account_balance_in, balance_of_account}
+use Rattle.posting_rules.specs.believed.LookUps.{balance_of_teller, balance_of_branch, floor_in, found_in}
 use Rattle.posting_rules.specs.ChangesByKey as steps
-use Rattle.posting_rules.specs.Tables.{Tables, row_at, branch_key, teller_key, account_key, history_key}
-use Rattle.posting_rules.specs.Tables.{request_key, request_row_of, history_row_of, reference_key}
-use Rattle.posting_rules.specs.Tables.{reference_row_of}
+use Rattle.posting_rules.specs.believed.Tables.{Tables, row_at, branch_key, teller_key, account_key, history_key}
+use Rattle.posting_rules.specs.believed.Tables.{request_key, request_row_of, history_row_of, reference_key}
+use Rattle.posting_rules.specs.believed.Tables.{reference_row_of}
 use Rattle.posting_batch.specs.declared.slots.AccountSlot.{AccountSlot}
 use Rattle.posting_batch.specs.declared.slots.TellerSlot.{TellerSlot}
 use Rattle.posting_batch.specs.declared.slots.BranchSlot.{BranchSlot}

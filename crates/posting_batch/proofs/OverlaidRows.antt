@@ -4,8 +4,8 @@ use Rattle.std.proofs.Common.{sym, ap, subst, ◌∙◌, inl, inr}
 use Rattle.std.specs.Prelude.{ℤ, IsSome, IfSome}
 use Rattle.std.specs.Option.{option_map, unwrap_or}
 use Rattle.std.proofs.lemmas.Bool.{eqb-true}
-use Rattle.posting_rules.specs.Changes.{row_changed}
-use Rattle.posting_rules.specs.Tables.{row_at}
+use Rattle.posting_rules.specs.believed.Changes.{row_changed}
+use Rattle.posting_rules.specs.believed.Tables.{row_at}
 use Rattle.posting_rules.proofs.Keyed.{by_test}
 use Rattle.posting_rules.proofs.RowChanges.{eqb-flip, row_at-changed}
 use Rattle.posting_batch.specs.Overlay.{by_slot, over, changed_to}

@@ -4,9 +4,9 @@ use Rattle.std.specs.Prelude.{IsSome}
 use Rattle.std.specs.List.{find}
 use Rattle.std.proofs.lemmas.Bool.{eq-eqb}
 use Rattle.message_records.specs.declared.fault.Bad.{Bad}
-use Rattle.message_records.specs.Records.{RequestFields}
-use Rattle.posting_rules.specs.Numbering.{branch_of_teller, branch_of_account}
-use Rattle.posting_rules.specs.Tables.{row_at}
+use Rattle.message_records.specs.believed.Records.{RequestFields}
+use Rattle.posting_rules.specs.believed.Numbering.{branch_of_teller, branch_of_account}
+use Rattle.posting_rules.specs.believed.Tables.{row_at}
 use Rattle.posting_batch.specs.declared.slots.RequestSlot.{RequestSlot}
 use Rattle.posting_batch.specs.Batch.{with_branch_slot, covering, covering_all, CoversRead, CoversAll}
 use Rattle.posting_batch.specs.Overlay.{Overlay}

@@ -1,8 +1,8 @@
 -- Slots that were placed for records stand in their order, and nothing is changed in them.
 use Rattle.std.proofs.Common.{◌≡◌, List, [], ◌∷◌, None, Result, Ok, Err, refl}
 use Rattle.message_records.specs.declared.fault.Bad.{Bad}
-use Rattle.message_records.specs.Records.{RequestFields}
-use Rattle.posting_rules.specs.Numbering.{branch_of_teller, branch_of_account}
+use Rattle.message_records.specs.believed.Records.{RequestFields}
+use Rattle.posting_rules.specs.believed.Numbering.{branch_of_teller, branch_of_account}
 use Rattle.posting_batch.specs.Batch.{with_branch_slot, covering, covering_all, no_slots, HasRisingSlots}
 use Rattle.posting_batch.specs.Batch.{HasNoChange}
 use Rattle.posting_batch.specs.Overlay.{Overlay}

@@ -7,8 +7,8 @@ use Rattle.std.specs.Option.{option_map, option_or}
 use Rattle.std.proofs.lemmas.Bool.{eqb-true}
 use Rattle.std.proofs.lemmas.List.Folds.{find-append}
 use Rattle.std.proofs.lemmas.Map.Keys.{IsDistinct-head, IsDistinct-tail}
-use Rattle.posting_rules.specs.Changes.{row_changed}
-use Rattle.posting_rules.specs.Tables.{HasKeys, row_at}
+use Rattle.posting_rules.specs.believed.Changes.{row_changed}
+use Rattle.posting_rules.specs.believed.Tables.{HasKeys, row_at}
 use Rattle.posting_rules.proofs.Keyed.{by_test}
 use Rattle.posting_rules.proofs.RowChanges.{eqb-flip}
 use Rattle.posting_batch.specs.Overlay.{by_slot, over, changed_to}

@@ -5,19 +5,19 @@ use Rattle.std.specs.Prelude.{IfSome}
 use Rattle.std.specs.List.{find}
 use Rattle.std.specs.Option.{option_map}
 use Rattle.message_records.specs.declared.fault.Bad.{Bad}
-use Rattle.message_records.specs.Records.{RequestFields}
+use Rattle.message_records.specs.believed.Records.{RequestFields}
 use Rattle.posting_rules.specs.declared.judgments.Found.{Found}
 use Rattle.posting_rules.specs.declared.judgments.Verdict.{Verdict}
 use Rattle.posting_rules.specs.declared.judgments.Verdict.TheVariants.{Unkept, Again, Refused, Posted}
 use Rattle.posting_rules.specs.declared.rows.ReferenceRow.{ReferenceRow}
 use Rattle.posting_rules.specs.declared.rows.RequestRow.{RequestRow}
-use Rattle.posting_rules.specs.Cases.{case_of, plus_within}
-use Rattle.posting_rules.specs.Changes.{row_changed, row_put, tables_after, tables_read}
-use Rattle.posting_rules.specs.Numbering.{branch_of_teller}
-use Rattle.posting_rules.specs.Entries.{DecidedRequest, refused_entry, posted_entry}
-use Rattle.posting_rules.specs.LookUps.{kept_in, account_balance_in, balance_of_teller, found_in}
-use Rattle.posting_rules.specs.Tables.{Tables, row_at, branch_key, teller_key, request_key, request_row_of}
-use Rattle.posting_rules.specs.Tables.{reference_key}
+use Rattle.posting_rules.specs.believed.Cases.{case_of, plus_within}
+use Rattle.posting_rules.specs.believed.Changes.{row_changed, row_put, tables_after, tables_read}
+use Rattle.posting_rules.specs.believed.Numbering.{branch_of_teller}
+use Rattle.posting_rules.specs.believed.Entries.{DecidedRequest, refused_entry, posted_entry}
+use Rattle.posting_rules.specs.believed.LookUps.{kept_in, account_balance_in, balance_of_teller, found_in}
+use Rattle.posting_rules.specs.believed.Tables.{Tables, row_at, branch_key, teller_key, request_key, request_row_of}
+use Rattle.posting_rules.specs.believed.Tables.{reference_key}
 use Rattle.posting_rules.proofs.RowChanges.{row_at-changed}
 use Rattle.posting_rules.proofs.Verdicts.{by_posting, by_account, by_new, by_known, by_teller}
 use Rattle.posting_batch.specs.Batch.{CoversRead, HasFreeOrdinals}

@@ -5,12 +5,13 @@ use Rattle.std.specs.Prelude.{◌&&◌, ◌||◌, ℤ, IsTrue, IfSome, option_an
 use Rattle.std.specs.List.{find, AllByRecursion}
 use Rattle.std.specs.Option.{option_map}
 use Rattle.std.proofs.lemmas.Bool.Decides.{nat_tests}
-use Rattle.posting_rules.specs.Kept.{KeptFields, kept_with}
-use Rattle.posting_rules.specs.LookUps.{balance_of_account, balance_of_teller}
-use Rattle.posting_rules.specs.LookUps.{kept_in, kept_of_row, lowest_of, text_of_reference}
-use Rattle.posting_rules.specs.Tables.{Tables, row_at, account_key, account_row_of, branch_key, floor_key}
-use Rattle.posting_rules.specs.Tables.{floor_row_of, reference_key, reference_row_of, request_key, teller_key}
-use Rattle.posting_rules.specs.Tables.{teller_row_of}
+use Rattle.posting_rules.specs.believed.Kept.{KeptFields, kept_with}
+use Rattle.posting_rules.specs.believed.LookUps.{balance_of_account, balance_of_teller}
+use Rattle.posting_rules.specs.believed.LookUps.{kept_in, kept_of_row, lowest_of, text_of_reference}
+use Rattle.posting_rules.specs.believed.Tables.{Tables, row_at, account_key, account_row_of, branch_key, floor_key}
+use Rattle.posting_rules.specs.believed.Tables.{floor_row_of, reference_key, reference_row_of, request_key}
+use Rattle.posting_rules.specs.believed.Tables.{teller_key}
+use Rattle.posting_rules.specs.believed.Tables.{teller_row_of}
 use Rattle.posting_rules.specs.declared.rows.AccountRow.{AccountRow}
 use Rattle.posting_rules.specs.declared.rows.BranchRow.{BranchRow}
 use Rattle.posting_rules.specs.declared.rows.FloorRow.{FloorRow}

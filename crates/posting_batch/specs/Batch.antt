@@ -1,17 +1,17 @@
--- A batch before its records are judged, and after.
+-- The slots of a batch: what they cover, and what its records change in them.
 use Rattle.std.specs.Prelude.{◌≡◌, ◌≤◌, ◌<◌, ℕ, ◌+◌, List, [], ◌∷◌, map, None, IfSome, IsSome, Result, Ok}
 use Rattle.std.specs.Prelude.{◌==◌, ◌&&◌, Bool, Err, is_none}
 use Rattle.std.specs.List.{find, list_any, AllByRecursion}
 use Rattle.std.specs.Option.{option_map}
 use Rattle.message_records.specs.declared.fault.Bad.{Bad}
-use Rattle.message_records.specs.Records.{RequestFields}
-use Rattle.posting_rules.specs.Changes.{row_put, tables_past_all, replies_past_all}
-use Rattle.posting_rules.specs.Commands.{Command}
-use Rattle.posting_rules.specs.Numbering.{branch_of_teller, branch_of_account}
-use Rattle.posting_rules.specs.LookUps.{kept_in, account_balance_in, balance_of_teller, floor_in}
-use Rattle.posting_rules.specs.Runs.{followed_by, replies_to}
-use Rattle.posting_rules.specs.Tables.{Tables, AreTablesOf, row_at, branch_key, teller_key, account_key}
-use Rattle.posting_rules.specs.Tables.{history_key, request_key, reference_key}
+use Rattle.message_records.specs.believed.Records.{RequestFields}
+use Rattle.posting_rules.specs.believed.Changes.{row_put, tables_past_all, replies_past_all}
+use Rattle.posting_rules.specs.believed.Commands.{Command}
+use Rattle.posting_rules.specs.believed.Numbering.{branch_of_teller, branch_of_account}
+use Rattle.posting_rules.specs.believed.LookUps.{kept_in, account_balance_in, balance_of_teller, floor_in}
+use Rattle.posting_rules.specs.believed.Runs.{followed_by, replies_to}
+use Rattle.posting_rules.specs.believed.Tables.{Tables, AreTablesOf, row_at, branch_key, teller_key, account_key}
+use Rattle.posting_rules.specs.believed.Tables.{history_key, request_key, reference_key}
 use Rattle.posting_rules.specs.declared.rows.RequestRow.{RequestRow}
 use Rattle.posting_batch.specs.declared.slots.AccountSlot.{AccountSlot}
 use Rattle.posting_batch.specs.declared.slots.TellerSlot.{TellerSlot}
@@ -24,6 +24,7 @@ use Rattle.posting_batch.specs.Placed.{IsRising}
 use Rattle.posting_batch.specs.Slots.{is_for, account_slot_key, teller_slot_key, branch_slot_key}
 use Rattle.posting_batch.specs.Slots.{empty_account, empty_teller, empty_branch, empty_floor, empty_request}
 use Rattle.posting_batch.specs.Slots.{floor_slot_key}
+use Rattle.posting_batch.specs.believed.Batch.{IsNextOrdinal}
 
 -- ---- a batch is made
 
@@ -173,10 +174,6 @@ pub record AddsFreeRows (o : Overlay) (t : Tables) : Type 0 where
   pub history : PutsFree history_key o.history t.history
   pub requests : PutsFree request_key o.requests t.requests
   pub references : PutsFree reference_key o.references t.references
-
--- the ordinal is one of so many that follow this count
-abbrev pub IsNextOrdinal : ℕ → ℕ → ℕ → Type 0
-IsNextOrdinal decided count ordinal = (decided < ordinal) × (ordinal ≤ decided + count)
 
 -- each row that is new is under one of them
 pub record HasNextOrdinals (decided count : ℕ) (o : Overlay) : Type 0 where

@@ -1,18 +1,18 @@
 -- A record is judged by an overlay, and changes it.
 use Rattle.std.specs.Prelude.{ℕ, ◌+◌, ℤ, List, [], ◌∷◌, ◌++◌, Option, Some, None, Result, Ok, Err}
 use Rattle.message_records.specs.declared.fault.Bad.{Bad}
-use Rattle.message_records.specs.Records.{RequestFields, ReplyFields}
+use Rattle.message_records.specs.believed.Records.{RequestFields, ReplyFields}
 use Rattle.posting_rules.specs.declared.judgments.Found.{Found}
 use Rattle.posting_rules.specs.declared.judgments.Verdict.{Verdict}
 use Rattle.posting_rules.specs.declared.judgments.Verdict.TheVariants.{Unkept, Again, Refused, Posted}
 use Rattle.posting_rules.specs.declared.rows.ReferenceRow.{ReferenceRow}
-use Rattle.posting_rules.specs.Cases.{case_of, reply_in}
-use Rattle.posting_rules.specs.Changes.{row_changed}
-use Rattle.posting_rules.specs.Numbering.{branch_of_teller, branch_of_account}
-use Rattle.posting_rules.specs.Entries.{DecidedRequest, refused_entry, posted_entry, kept_fields}
-use Rattle.posting_rules.specs.Entries.{malformed_reply}
-use Rattle.posting_rules.specs.LookUps.{both_of}
-use Rattle.posting_rules.specs.Tables.{request_row_of, history_row_of, reference_row_of}
+use Rattle.posting_rules.specs.believed.Cases.{case_of, reply_in}
+use Rattle.posting_rules.specs.believed.Changes.{row_changed}
+use Rattle.posting_rules.specs.believed.Numbering.{branch_of_teller, branch_of_account}
+use Rattle.posting_rules.specs.believed.Entries.{DecidedRequest, refused_entry, posted_entry, kept_fields}
+use Rattle.posting_rules.specs.believed.Entries.{malformed_reply}
+use Rattle.posting_rules.specs.believed.LookUps.{both_of}
+use Rattle.posting_rules.specs.believed.Tables.{request_row_of, history_row_of, reference_row_of}
 use Rattle.posting_batch.specs.Overlay.{Overlay}
 use Rattle.posting_batch.specs.Slots.{slot_balance, kept_in_slots, slots_kept, account_slot_key}
 use Rattle.posting_batch.specs.Slots.{account_slot_balance, with_account_changed, teller_slot_key}

@@ -1,4 +1,5 @@
 -- A batch of records, judged in memory.
+pub mod believed
 pub mod Slots
 pub mod Placed
 pub mod Overlay

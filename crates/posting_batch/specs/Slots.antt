@@ -3,9 +3,9 @@ use Rattle.std.specs.Prelude.{ℕ, ℤ, List, map, Option, Some, None, Bool, ◌
 use Rattle.std.specs.List.{find}
 use Rattle.std.specs.Option.{option_map, option_flatten, unwrap_or}
 use Rattle.posting_rules.specs.declared.rows.BranchRow.{BranchRow}
-use Rattle.posting_rules.specs.Kept.{KeptFields}
-use Rattle.posting_rules.specs.Tables.{row_at}
-use Rattle.posting_rules.specs.LookUps.{balance_of_branch}
+use Rattle.posting_rules.specs.believed.Kept.{KeptFields}
+use Rattle.posting_rules.specs.believed.Tables.{row_at}
+use Rattle.posting_rules.specs.believed.LookUps.{balance_of_branch}
 use Rattle.posting_batch.specs.declared.slots.AccountSlot.{AccountSlot}
 use Rattle.posting_batch.specs.declared.slots.TellerSlot.{TellerSlot}
 use Rattle.posting_batch.specs.declared.slots.BranchSlot.{BranchSlot}

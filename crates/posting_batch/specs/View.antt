@@ -1,9 +1,9 @@
 -- What a batch holds, without where it lies in memory.
 use Rattle.std.specs.Prelude.{◌≡◌, ◌*◌, ℕ, List, map, Result}
 use Rattle.message_records.specs.declared.fault.Bad.{Bad}
-use Rattle.message_records.specs.Reading.{request_of}
-use Rattle.message_records.specs.Records.{RequestFields}
-use Rattle.posting_rules.specs.Tables.{Tables}
+use Rattle.message_records.specs.believed.Reading.{request_of}
+use Rattle.message_records.specs.believed.Records.{RequestFields}
+use Rattle.posting_rules.specs.believed.Tables.{Tables}
 use Rattle.posting_batch.specs.declared.overlay.Overlay as held
 use Rattle.posting_batch.specs.declared.batch.Batch.{Batch}
 use Rattle.posting_batch.specs.declared.batch.Judged.{Judged}

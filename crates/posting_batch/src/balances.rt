@@ -1,8 +1,8 @@
 //! Rows in memory that have a balance under a number: the rows of a table, and the slots of a batch.
 ghost use Rattle.std.specs.Prelude.{◌≡◌, ℕ, ℤ, Option, Some};
-ghost use Rattle.posting_rules.specs.LookUps.{balance_of_account, balance_of_branch, balance_of_teller};
+ghost use Rattle.posting_rules.specs.believed.LookUps.{balance_of_account, balance_of_branch, balance_of_teller};
 ghost use Rattle.posting_rules.specs.ChangesByKey.{with_account_balance, with_branch_balance, with_teller_balance};
-ghost use Rattle.posting_rules.specs.Tables.{account_key, branch_key, teller_key};
+ghost use Rattle.posting_rules.specs.believed.Tables.{account_key, branch_key, teller_key};
 ghost use Rattle.posting_batch.specs.Slots.{account_slot_balance, account_slot_key, balance_now};
 ghost use Rattle.posting_batch.specs.Slots.{branch_slot_balance, branch_slot_key, teller_slot_balance};
 ghost use Rattle.posting_batch.specs.Slots.{teller_slot_key, with_account_changed, with_branch_changed};

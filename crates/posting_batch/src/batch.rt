@@ -2,11 +2,11 @@
 ghost use Rattle.std.specs.Prelude.{◌≡◌, ◌≤◌, ◌+◌, ◌++◌, ℕ, List, [], map, length, vec_len, vec_capacity};
 ghost use Rattle.std.specs.Prelude.{IfOk};
 ghost use Rattle.smallvec.specs.SmallVec.{HasRoomFor};
-ghost use Rattle.message_records.specs.Reading.{request_of};
+ghost use Rattle.message_records.specs.believed.Reading.{request_of};
 ghost use Rattle.posting_rules.specs.declared.limits.TheConstants.{RECORDS_PER_BATCH};
-ghost use Rattle.posting_rules.specs.Commands.{Command};
-ghost use Rattle.posting_rules.specs.Runs.{posts};
-ghost use Rattle.posting_rules.specs.Tables.{Tables, AreTablesOf};
+ghost use Rattle.posting_rules.specs.believed.Commands.{Command};
+ghost use Rattle.posting_rules.specs.believed.Runs.{posts};
+ghost use Rattle.posting_rules.specs.believed.Tables.{Tables, AreTablesOf};
 ghost use Rattle.posting_batch.specs.Batch.{CoversAll, HasFreeOrdinals, HasNextOrdinals, HasRisingSlots};
 ghost use Rattle.posting_batch.specs.Batch.{IsJudged, IsShown, KeepsNew, blanked};
 

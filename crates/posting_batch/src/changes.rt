@@ -1,6 +1,6 @@
 //! A row, or a slot, is changed under its key.
 ghost use Rattle.std.specs.Prelude.{◌≡◌};
-ghost use Rattle.posting_rules.specs.Changes.{row_changed};
+ghost use Rattle.posting_rules.specs.believed.Changes.{row_changed};
 ghost use Rattle.posting_batch.specs.Slots.{slots_kept};
 
 use crate::balances::BalanceRow;

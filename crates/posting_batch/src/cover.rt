@@ -2,7 +2,7 @@
 ghost use Rattle.std.specs.Prelude.{◌≡◌, ◌≤◌, ◌+◌, ◌++◌, map, length, vec_len, vec_capacity};
 ghost use Rattle.std.specs.Prelude.{Ok};
 ghost use Rattle.smallvec.specs.SmallVec.{HasRoomFor};
-ghost use Rattle.message_records.specs.Reading.{request_of};
+ghost use Rattle.message_records.specs.believed.Reading.{request_of};
 ghost use Rattle.posting_batch.specs.Batch.{covering, covering_all, no_slots, with_branch_slot};
 ghost use Rattle.posting_batch.specs.Room.{AddsAtMost, AddsSlots, HasRoomForSlots};
 ghost use Rattle.posting_batch.specs.View.{view};

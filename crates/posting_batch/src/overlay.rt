@@ -2,11 +2,11 @@
 ghost use Rattle.std.specs.Prelude.{◌≡◌, ◌≤◌, ◌<◌, ◌+◌, ◌++◌, [], ◌∷◌, map, length, vec_len, vec_capacity};
 ghost use Rattle.std.specs.Prelude.{IfOk, IsTrue, Ok};
 ghost use Rattle.smallvec.specs.SmallVec.{HasRoomFor, small_vec_len};
-ghost use Rattle.message_records.specs.Spelling.{reply_spelling};
+ghost use Rattle.message_records.specs.believed.Spelling.{reply_spelling};
 ghost use Rattle.posting_rules.specs.declared.limits.TheConstants.{MAX_DECIDED, RECORDS_PER_BATCH};
 ghost use Rattle.posting_rules.specs.Cases.{IsProper};
-ghost use Rattle.posting_rules.specs.Entries.{posted_entry};
-ghost use Rattle.posting_rules.specs.Kept.{is_kept_with};
+ghost use Rattle.posting_rules.specs.believed.Entries.{posted_entry};
+ghost use Rattle.posting_rules.specs.believed.Kept.{is_kept_with};
 ghost use Rattle.posting_batch.specs.Judging.{reference_after};
 
 use crate::changes::{change_at, keep_at};

@@ -2,7 +2,7 @@
 ghost use Rattle.std.specs.Prelude.{◌≡◌};
 ghost use Rattle.std.specs.List.{find};
 ghost use Rattle.std.specs.Option.{option_map};
-ghost use Rattle.posting_rules.specs.Tables.{row_at};
+ghost use Rattle.posting_rules.specs.believed.Tables.{row_at};
 ghost use Rattle.posting_batch.specs.Slots.{slot_balance, kept_in_slots, is_for, kept_of_slot, row_of_slot};
 ghost use Rattle.posting_batch.specs.Slots.{in_slot, branch_slot_key, floor_of_slot, floor_slot_key, slot_floor};
 

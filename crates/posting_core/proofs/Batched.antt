@@ -6,10 +6,10 @@ use Rattle.std.specs.{List.AllByRecursion, Simd.first_chunks}
 use Rattle.std.proofs.{Math.Nat.suc-mul, lemmas.List.Concat.flat_map-append}
 use Rattle.std.proofs.lemmas.List.{take_at, drop_at, length-take-le, drop-take, drop-drop, length-append}
 use Rattle.std.proofs.lemmas.List.{length-drop, take-append-drop}
-use Rattle.posting_rules.specs.Commands.{Command}
-use Rattle.posting_rules.specs.Runs.{followed_by, posts, replies_to, ArePosts}
-use Rattle.posting_core.specs.Batches.{Batch, IsRecord, joined, records_in, posts_in, records_of, posts_of}
-use Rattle.posting_core.specs.Stream.{whole_records, posted_records}
+use Rattle.posting_rules.specs.believed.Commands.{Command}
+use Rattle.posting_rules.specs.believed.Runs.{followed_by, posts, replies_to, ArePosts}
+use Rattle.posting_core.specs.believed.Batches.{Batch, IsRecord, joined, records_in, posts_in, records_of, posts_of}
+use Rattle.posting_core.specs.believed.Stream.{whole_records, posted_records}
 use Rattle.posting_rules.proofs.Sequence.{replies_to-append}
 
 -- ---- one batch more

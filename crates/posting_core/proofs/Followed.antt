@@ -5,11 +5,12 @@ use Rattle.std.proofs.Common.{Result, Ok, Err, refl, sym, ap, subst, ◌∙◌, 
 use Rattle.std.proofs.{lemmas.Bool.Decides.leb_tells, lemmas.List.Concat.flat_map-append}
 use Rattle.std.proofs.lemmas.List.{length-append, take_all, take_min, take-append-le}
 use Rattle.std.specs.declared.io.Error.{Error}
-use Rattle.posting_core.specs.Batches.{Batch, records_in, records_of}
+use Rattle.posting_core.specs.believed.Batches.{Batch, records_in, records_of}
 use Rattle.std.specs.Io.KnownBytes.{Appends}
 use Rattle.posting_core.specs.Stream.{FollowReads, RepliesBeforeReads, given, read_by, submitted_by}
-use Rattle.posting_core.specs.Told.{Beside, ReadTold, Gave, Failed, GrowsBy, IsThrough, WriteTold, read_told}
-use Rattle.posting_rules.specs.Counter.{Seen}
+use Rattle.posting_core.specs.believed.Told.{ReadTold, Gave, Failed, GrowsBy}
+use Rattle.posting_core.specs.Told.{Beside, IsThrough, WriteTold, read_told}
+use Rattle.posting_rules.specs.believed.Counter.{Seen}
 use Rattle.posting_core.proofs.{Streaming.Going, Telling.adds-more, Telling.adds-none}
 use Rattle.posting_core.proofs.Prompt.{prompt_first, prompt_read, prompt_written}
 

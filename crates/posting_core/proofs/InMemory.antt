@@ -6,10 +6,10 @@ use Rattle.posting_rules.specs.declared.{rows.AccountRow.AccountRow, rows.Histor
 use Rattle.posting_rules.specs.declared.{rows.RequestRow.RequestRow, rows.FloorRow.FloorRow}
 use Rattle.posting_rules.specs.declared.{rows.ReferenceRow.ReferenceRow}
 use Rattle.posting_rules.specs.declared.fault.Fault.TheVariants.{Memory}
-use Rattle.posting_rules.specs.Commands.{Command, AreCommands}
-use Rattle.posting_rules.specs.Runs.{followed_by}
-use Rattle.posting_rules.specs.Tables.{Tables, AreTablesOf}
-use Rattle.posting_rules.specs.Counter.{IsCounterCall, IsSeenUnchanged, ShowsLog, StandsAt, Takes}
+use Rattle.posting_rules.specs.believed.Commands.{Command, AreCommands}
+use Rattle.posting_rules.specs.believed.Runs.{followed_by}
+use Rattle.posting_rules.specs.believed.Tables.{Tables, AreTablesOf}
+use Rattle.posting_rules.specs.believed.Counter.{IsCounterCall, IsSeenUnchanged, ShowsLog, StandsAt, Takes}
 use Rattle.posting_batch.specs.Slots.{in_slot}
 use Rattle.posting_core.specs.declared.plain_bank.PlainBank.{PlainBank}
 use Rattle.posting_core.specs.Plain.{plain_reason, plain_tables, plain_seen}

@@ -7,12 +7,14 @@ use Rattle.std.proofs.{Math.Seq.take-append_seam, lemmas.List.length-append, lem
 use Rattle.std.proofs.lemmas.List.Concat.{flat_map-append}
 use Rattle.posting_core.specs.declared.stream.StreamFault.{StreamFault}
 use Rattle.posting_core.specs.declared.stream.StreamFault.TheVariants.{Truncated, Read, Write, Bank}
-use Rattle.posting_rules.specs.{Commands.Command, Counter.Seen, Counter.ShowsLog, Entries.reply, Resends.Place}
+use Rattle.posting_rules.specs.{believed.Commands.Command, believed.Counter.Seen, believed.Counter.ShowsLog}
+use Rattle.posting_rules.specs.{believed.Entries.reply, Resends.Place}
 use Rattle.posting_rules.specs.Resends.{Skips}
-use Rattle.posting_rules.specs.Runs.{followed_by, posts, replies_to, ArePosts}
-use Rattle.message_records.specs.Spelling.{reply_spelling}
-use Rattle.posting_core.specs.Batches.{Batch, IsRecord, joined, records_of, posts_in, posts_of}
-use Rattle.posting_core.specs.Stream.{replies_text, acknowledged, IfTaken, Streamed, OutputsReplies, SurvivesStream}
+use Rattle.posting_rules.specs.believed.Runs.{followed_by, posts, replies_to, ArePosts}
+use Rattle.message_records.specs.believed.Spelling.{reply_spelling}
+use Rattle.posting_core.specs.believed.Batches.{Batch, IsRecord, joined, records_of, posts_in, posts_of}
+use Rattle.posting_core.specs.believed.Stream.{acknowledged, Streamed}
+use Rattle.posting_core.specs.Stream.{replies_text, IfTaken, OutputsReplies, SurvivesStream}
 use Rattle.posting_core.specs.Stream.{IsReplied, Resends, reply_at}
 use Rattle.posting_core.proofs.{Again.reply_begins, Again.reply_stands, Stops.at_least, Timeless.timeless}
 use Rattle.posting_rules.proofs.{Sequence.replies_to-append, Sequence.one_reply_each, Resends.shows_log_left_out}

@@ -5,7 +5,8 @@ use Rattle.std.specs.Io.KnownBytes.{Appends}
 use Rattle.std.proofs.lemmas.Bool.Decides.{leb_tells}
 use Rattle.std.proofs.lemmas.List.{get_or_append_left, get_or_push, length-append, take_all, take-append-le}
 use Rattle.posting_core.specs.Stream.{RepliesBeforeReads, given, read_by}
-use Rattle.posting_core.specs.Told.{Beside, GrowsBy, HoldsFlushed, IsThrough, ReadTold, WriteTold, unknown}
+use Rattle.posting_core.specs.believed.Told.{GrowsBy, ReadTold}
+use Rattle.posting_core.specs.Told.{Beside, HoldsFlushed, IsThrough, WriteTold, unknown}
 use Rattle.posting_core.proofs.Telling.{adds-more, adds-none}
 
 -- at first no read was made

@@ -6,7 +6,8 @@ use Rattle.std.specs.{Prelude.nat_eq, Cmp.nat_eq_equiv, List.IsDistinct, Option.
 use Rattle.std.proofs.{lemmas.Bool.eqb-true, lemmas.List.map-append}
 use Rattle.std.proofs.{lemmas.List.Elements.All-from_recursion, lemmas.List.Folds.find-append}
 use Rattle.std.proofs.{lemmas.List.Folds.list_any_none, lemmas.Map.Keys.IsDistinct-push}
-use Rattle.posting_rules.specs.{Tables.row_at, Tables.HasKeys, ChangesByKey.GainsRow, ChangesByKey.AddsRows}
+use Rattle.posting_rules.specs.{believed.Tables.row_at, believed.Tables.HasKeys, ChangesByKey.GainsRow}
+use Rattle.posting_rules.specs.{ChangesByKey.AddsRows}
 use Rattle.posting_rules.proofs.RowChanges.{free_apart, rows_none, rows_more}
 use Rattle.posting_core.specs.Appended.{rows_from}
 

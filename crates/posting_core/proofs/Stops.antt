@@ -3,9 +3,10 @@ use Rattle.std.proofs.Common.{◌≡◌, ℕ, ◌+◌, ◌≤◌, List, ◌++◌
 use Rattle.std.proofs.{Math.Seq.take-append-add, lemmas.List.length-append, lemmas.List.take_all}
 use Rattle.posting_rules.specs.declared.fault.Fault.{Fault}
 use Rattle.posting_rules.specs.declared.fault.Fault.TheVariants.{Memory, Store, Down, Damaged}
-use Rattle.posting_rules.specs.{Commands.Command, Commands.AreCommands, Tables.Tables, Tables.AreTablesOf}
-use Rattle.posting_rules.specs.Runs.{followed_by}
-use Rattle.posting_rules.specs.Counter.{Seen, LeavesOnly, StandsAt, ShowsPrefix, Refuses}
+use Rattle.posting_rules.specs.{believed.Commands.Command, believed.Commands.AreCommands, believed.Tables.Tables}
+use Rattle.posting_rules.specs.{believed.Tables.AreTablesOf}
+use Rattle.posting_rules.specs.believed.Runs.{followed_by}
+use Rattle.posting_rules.specs.believed.Counter.{Seen, LeavesOnly, StandsAt, ShowsPrefix, Refuses}
 use Rattle.posting_rules.proofs.{Remaining.leaves_still, Remaining.leaves_weaker, Sequence.after-append}
 
 -- a crash leaves all that was taken

@@ -7,14 +7,19 @@ use Rattle.posting_rules.specs.declared.{fault.Fault.Fault, limits.TheConstants.
 use Rattle.posting_rules.specs.declared.fault.Fault.TheVariants.{Memory, Store, Down, Damaged}
 use Rattle.posting_core.specs.declared.stream.StreamFault.{StreamFault}
 use Rattle.posting_core.specs.declared.stream.StreamFault.TheVariants.{Truncated, Read, Write, Bank}
-use Rattle.posting_rules.specs.{Commands.Command, Tables.AreTablesOf}
-use Rattle.posting_rules.specs.Counter.{Seen, ShowsLog, StandsAt, Refuses, IsSeenUnchanged}
-use Rattle.posting_rules.specs.Runs.{followed_by, posts, replies_to}
-use Rattle.posting_core.specs.Clock.{IsReading, AreReadings}
-use Rattle.posting_core.specs.Batches.{Batch, IsBatch, IsRecord, joined, moments_of, records_of, posts_of, BreaksOff}
-use Rattle.posting_core.specs.Stream.{EndsStream, FollowReads, RepliesAreWritten, IfUp, StreamsAsRead}
-use Rattle.posting_core.specs.Stream.{UnlessDown, read_by, submitted_by}
-use Rattle.posting_core.specs.Told.{Beside, ReadTold, WriteTold}
+use Rattle.posting_rules.specs.{believed.Commands.Command, believed.Tables.AreTablesOf}
+use Rattle.posting_rules.specs.believed.Counter.{Seen, ShowsLog, StandsAt, Refuses, IsSeenUnchanged}
+use Rattle.posting_rules.specs.believed.Runs.{followed_by, posts, replies_to}
+use Rattle.posting_core.specs.believed.Clock.{AreReadings}
+use Rattle.posting_core.specs.Clock.{IsReading}
+use Rattle.posting_core.specs.believed.Batches.{Batch, IsBatch, IsRecord, joined, moments_of, records_of, posts_of}
+use Rattle.posting_core.specs.Batches.{BreaksOff}
+use Rattle.posting_core.specs.believed.Stream.{EndsStream, RepliesAreWritten, IfUp}
+use Rattle.posting_core.specs.Stream.{FollowReads, StreamsAsRead}
+use Rattle.posting_core.specs.believed.Stream.{UnlessDown}
+use Rattle.posting_core.specs.Stream.{read_by, submitted_by}
+use Rattle.posting_core.specs.believed.Told.{ReadTold}
+use Rattle.posting_core.specs.Told.{Beside, WriteTold}
 use Rattle.posting_core.proofs.{Followed.Following, Prompt.prompt_written, Batched.posts_of_one_more}
 use Rattle.posting_core.proofs.{Batched.replies_of_one_more, Streaming.Going}
 use Rattle.posting_rules.proofs.Remaining.{leaves_still}

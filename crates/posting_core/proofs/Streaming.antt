@@ -7,10 +7,10 @@ use Rattle.std.proofs.KnownBytes.{Appends-nil, Consumes-trans, Consumes-nil, Con
 use Rattle.std.proofs.lemmas.List.{length-take-le}
 use Rattle.message_records.specs.declared.limits.TheConstants.{REPLY_BYTES}
 use Rattle.posting_core.specs.declared.stream.TheConstants.{BUFFER}
-use Rattle.posting_rules.specs.{Commands.Command, Runs.replies_to}
-use Rattle.posting_rules.specs.Counter.{Seen, ShowsLog, Takes}
-use Rattle.posting_core.specs.Clock.{AreReadings}
-use Rattle.posting_core.specs.Batches.{Batch, IsBatch, IsRecord, joined, moments_of, records_of, posts_of}
+use Rattle.posting_rules.specs.{believed.Commands.Command, believed.Runs.replies_to}
+use Rattle.posting_rules.specs.believed.Counter.{Seen, ShowsLog, Takes}
+use Rattle.posting_core.specs.believed.Clock.{AreReadings}
+use Rattle.posting_core.specs.believed.Batches.{Batch, IsBatch, IsRecord, joined, moments_of, records_of, posts_of}
 
 -- ---- where the loop stands
 

@@ -8,8 +8,10 @@ use Rattle.std.specs.declared.{io.Error.Error, io.ErrorKind.ErrorKind}
 use denote.Enum.Bare.{sameb, same_true}
 use Rattle.std.specs.declared.io.ErrorKind.TheVariants.{Interrupted}
 use Rattle.std.specs.List.{AllByRecursion}
-use Rattle.posting_core.specs.Told.{GrowsBy, EndsWith, EndsWithMany, HasMore, HasReadFailed, HasWriteFailed}
-use Rattle.posting_core.specs.Told.{IsEndOfInput, IsInterrupted, IsReadFailure, IsWornOut, IsWriteFailure, ReadTold}
+use Rattle.posting_core.specs.believed.Told.{GrowsBy, EndsWith}
+use Rattle.posting_core.specs.Told.{EndsWithMany, HasMore, HasReadFailed, HasWriteFailed}
+use Rattle.posting_core.specs.believed.Told.{IsEndOfInput, ReadTold}
+use Rattle.posting_core.specs.Told.{IsInterrupted, IsReadFailure, IsWornOut, IsWriteFailure}
 use Rattle.posting_core.specs.Told.{WriteTold, read_told, write_told, flush_told, IsFlush}
 
 pub adds-more : {A : Type 0} (a b c : Option (List A)) (xs ys : List A) → GrowsBy a b xs → GrowsBy b c ys

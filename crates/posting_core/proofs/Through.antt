@@ -2,9 +2,10 @@
 use Rattle.std.proofs.Common.{ℕ, List, Option, Err, sym, subst, inl, inr}
 use Rattle.posting_core.specs.declared.stream.StreamFault.{StreamFault}
 use Rattle.posting_core.specs.declared.stream.StreamFault.TheVariants.{Truncated, Read, Write, Bank}
-use Rattle.posting_rules.specs.{Commands.Command, Counter.Seen}
+use Rattle.posting_rules.specs.{believed.Commands.Command, believed.Counter.Seen}
 use Rattle.posting_core.specs.{Batches.BreaksOff, Stream.StreamFaultIsOfItsEnd, Stream.TellsBreak}
-use Rattle.posting_core.specs.Told.{ReadTold, WriteTold, EndsWith, HasMore, IsFlush, IsThrough, IsWriteFailure}
+use Rattle.posting_core.specs.believed.Told.{ReadTold, EndsWith}
+use Rattle.posting_core.specs.Told.{WriteTold, HasMore, IsFlush, IsThrough, IsWriteFailure}
 use Rattle.posting_core.proofs.Telling.{adds-none, last_some, more_failed, more_last}
 
 pub through_first : (w : Option (List WriteTold)) → IsThrough w w

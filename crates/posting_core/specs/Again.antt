@@ -1,11 +1,11 @@
 -- Records that come again in one call of a counter.
 use Rattle.std.specs.Prelude.{◌≡◌, ℕ, List, [], length, get_or}
-use Rattle.message_records.specs.Spelling.{reply_spelling}
-use Rattle.posting_rules.specs.Commands.{Command}
-use Rattle.posting_rules.specs.Counter.{Seen, ShowsLog}
-use Rattle.posting_rules.specs.Entries.{reply}
+use Rattle.message_records.specs.believed.Spelling.{reply_spelling}
+use Rattle.posting_rules.specs.believed.Commands.{Command}
+use Rattle.posting_rules.specs.believed.Counter.{Seen, ShowsLog}
+use Rattle.posting_rules.specs.believed.Entries.{reply}
 use Rattle.posting_rules.specs.Resends.{Place, Skips}
-use Rattle.posting_rules.specs.Runs.{followed_by, ArePosts}
+use Rattle.posting_rules.specs.believed.Runs.{followed_by, ArePosts}
 
 -- commands were given where a counter showed posts p after a log, and these are the replies
 pub record AnswersAgain (c c' : Seen) (commands : List Command) (answers : List (List ℕ)) : Type 0 where

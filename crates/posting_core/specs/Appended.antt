@@ -4,10 +4,10 @@ use Rattle.posting_rules.specs.declared.rows.FloorRow.{FloorRow}
 use Rattle.posting_rules.specs.declared.rows.HistoryRow.{HistoryRow}
 use Rattle.posting_rules.specs.declared.rows.ReferenceRow.{ReferenceRow}
 use Rattle.posting_rules.specs.declared.rows.RequestRow.{RequestRow}
-use Rattle.posting_rules.specs.Commands.{Terms}
-use Rattle.posting_rules.specs.Tables.{Tables, branch_row_of, floor_row_of}
-use Rattle.posting_rules.specs.Numbering.{first_teller, first_account}
-use Rattle.posting_rules.specs.Changes.{new_teller, new_account}
+use Rattle.posting_rules.specs.believed.Commands.{Terms}
+use Rattle.posting_rules.specs.believed.Tables.{Tables, branch_row_of, floor_row_of}
+use Rattle.posting_rules.specs.believed.Numbering.{first_teller, first_account}
+use Rattle.posting_rules.specs.believed.Changes.{new_teller, new_account}
 
 -- a row for each of so many numbers from the first one on
 abbrev pub rows_from : {R : Type 0} → (ℕ → R) → ℕ → ℕ → List R

@@ -1,50 +1,14 @@
--- Batches of records: each is submitted under one reading of the clock, and its replies are written in order.
-use Rattle.std.specs.Prelude.{◌≡◌, ◌≤◌, ◌*◌, ℕ, List, length, map, take, Option}
-use Rattle.std.specs.List.{flat_map}
+-- How one batch of a stream is answered, wholly or in part, or refused.
+use Rattle.std.specs.Prelude.{◌≡◌, ◌*◌, ℕ, List, length, take, Option}
 use Rattle.std.specs.Io.KnownBytes.{Keeps, Appends}
-use Rattle.message_records.specs.declared.limits.TheConstants.{REPLY_BYTES, REQUEST_BYTES}
+use Rattle.message_records.specs.declared.limits.TheConstants.{REPLY_BYTES}
 use Rattle.posting_rules.specs.declared.fault.Fault.{Fault}
-use Rattle.posting_rules.specs.declared.limits.TheConstants.{RECORDS_PER_BATCH}
 use Rattle.posting_core.specs.declared.stream.StreamFault.{StreamFault}
 use Rattle.posting_core.specs.declared.stream.StreamFault.TheVariants.{Truncated, Read, Write, Bank}
-use Rattle.posting_rules.specs.Commands.{Command}
-use Rattle.posting_rules.specs.Counter.{Seen, ShowsLog, Takes, Refuses}
-use Rattle.posting_rules.specs.Runs.{posts, replies_to}
-
--- texts one after another
-abbrev pub joined : List (List ℕ) → List ℕ
-joined texts = flat_map (λ text. text) texts
-
-abbrev pub IsRecord : List ℕ → Type 0
-IsRecord bytes = length bytes ≡ REQUEST_BYTES
-
--- the records that were submitted under one reading of the clock
-pub record Batch : Type 0 where
-  pub moment : ℕ
-  pub records : List (List ℕ)
-
--- 1 to 64 records go together
-abbrev pub IsBatch : Batch → Type 0
-IsBatch b = (1 ≤ length b.records) × (length b.records ≤ RECORDS_PER_BATCH)
-
-abbrev pub moment_of : Batch → ℕ
-moment_of b = b.moment
-
-abbrev pub records_in : Batch → List (List ℕ)
-records_in b = b.records
-
-abbrev pub posts_in : Batch → List Command
-posts_in b = posts b.moment b.records
-
--- of batches one after another: the readings of the clock, the records and the commands
-abbrev pub moments_of : List Batch → List ℕ
-moments_of bs = map moment_of bs
-
-abbrev pub records_of : List Batch → List (List ℕ)
-records_of bs = flat_map records_in bs
-
-abbrev pub posts_of : List Batch → List Command
-posts_of bs = flat_map posts_in bs
+use Rattle.posting_rules.specs.believed.Commands.{Command}
+use Rattle.posting_rules.specs.believed.Counter.{Seen, ShowsLog, Takes, Refuses}
+use Rattle.posting_rules.specs.believed.Runs.{replies_to}
+use Rattle.posting_core.specs.believed.Batches.{joined}
 
 -- ---- what became of the commands of one batch; w and w' are the writer's known bytes, c and c' what is seen
 -- of the bank

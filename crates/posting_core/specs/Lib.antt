@@ -1,3 +1,4 @@
+pub mod believed
 pub mod Faults
 pub mod Plain
 pub mod Appended

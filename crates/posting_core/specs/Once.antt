@@ -2,13 +2,13 @@
 use Rattle.std.specs.Prelude.{◌≡◌, ◌<◌, ℕ, List, [], ◌∷◌, length, take, Option, ⊤}
 use Rattle.std.specs.Io.KnownBytes.{Keeps, Appends, Consumes, IsAtEnd}
 use Rattle.message_records.specs.declared.limits.TheConstants.{REQUEST_BYTES}
-use Rattle.message_records.specs.Spelling.{reply_spelling}
+use Rattle.message_records.specs.believed.Spelling.{reply_spelling}
 use Rattle.posting_rules.specs.declared.fault.Fault.{Fault}
 use Rattle.posting_core.specs.declared.once.OnceFault.{OnceFault}
 use Rattle.posting_core.specs.declared.once.OnceFault.TheVariants.{Short, Read, Write, Bank}
-use Rattle.posting_rules.specs.Commands.{Command, Post}
-use Rattle.posting_rules.specs.Entries.{reply}
-use Rattle.posting_rules.specs.Counter.{Seen, ShowsLog, Takes, IsSeenUnchanged, Refuses}
+use Rattle.posting_rules.specs.believed.Commands.{Command, Post}
+use Rattle.posting_rules.specs.believed.Entries.{reply}
+use Rattle.posting_rules.specs.believed.Counter.{Seen, ShowsLog, Takes, IsSeenUnchanged, Refuses}
 
 -- The reader's known bytes before and after are r and r', the writer's w and w', and the counter is seen as c
 -- and c'.

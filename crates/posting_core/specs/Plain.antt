@@ -3,8 +3,8 @@ use Rattle.std.specs.Prelude.{◌≡◌, length, ⊤}
 use Rattle.posting_core.specs.declared.plain_bank.PlainBank.{PlainBank}
 use Rattle.posting_rules.specs.declared.fault.Fault.{Fault}
 use Rattle.posting_rules.specs.declared.fault.Fault.TheVariants.{Memory}
-use Rattle.posting_rules.specs.Tables.{Tables}
-use Rattle.posting_rules.specs.Counter.{Seen}
+use Rattle.posting_rules.specs.believed.Tables.{Tables}
+use Rattle.posting_rules.specs.believed.Counter.{Seen}
 
 -- a request has the row whose place is its ordinal, so that the count of the rows is how many are decided
 abbrev pub plain_tables : PlainBank → Tables

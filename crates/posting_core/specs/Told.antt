@@ -1,6 +1,5 @@
--- What the calls of a source and of a sink returned, where it is known, when one of them counts as failed, and
--- what a sink held as a source was read.
-use Rattle.std.specs.Prelude.{◌≡◌, ◌≢◌, ◌≤◌, ◌⊎◌, ◌-◌, ◌^◌, ℕ, List, [], ◌∷◌, ◌++◌, length, ⊤, Option, Some}
+-- What the calls of a source and of a sink returned, call by call.
+use Rattle.std.specs.Prelude.{◌≡◌, ◌≢◌, ◌≤◌, ◌⊎◌, ◌-◌, ◌^◌, ℕ, List, [], ◌++◌, length, ⊤, Option}
 use Rattle.std.specs.Prelude.{None, Result, Ok, Err, take}
 use Rattle.std.specs.List.{AllByRecursion}
 use Rattle.std.specs.Io.KnownBytes.{Appends}
@@ -8,14 +7,7 @@ use Rattle.std.specs.IoError.{error_kind}
 use Rattle.std.specs.declared.io.Error.{Error}
 use Rattle.std.specs.declared.io.ErrorKind.{ErrorKind}
 use Rattle.std.specs.declared.io.ErrorKind.TheVariants.{Interrupted}
-
--- ---- what a call returned
-
-pub data ReadTold : Type 0 where
-  -- it gave so many bytes
-  Gave : ℕ → ReadTold
-  -- it gave none, with an error of this kind
-  Failed : ErrorKind → ReadTold
+use Rattle.posting_core.specs.believed.Told.{EndsWith, Failed, Gave, GrowsBy, ReadTold}
 
 pub data WriteTold : Type 0 where
   -- of so many bytes it took so many
@@ -37,21 +29,6 @@ write_told bytes (Err e) = Refused (error_kind e)
 abbrev pub flush_told : {A : Type 0} → Result A Error → WriteTold
 flush_told (Ok done) = Flushed
 flush_told (Err e) = Unflushed
-
--- ---- calls one after another
-
--- known calls grow by these
-abbrev pub GrowsBy : {A : Type 0} → Option (List A) → Option (List A) → List A → Type 0
-GrowsBy None new calls = ⊤
-GrowsBy (Some before) None calls = ⊥
-GrowsBy (Some before) (Some after) calls = after ≡ before ++ calls
-
--- calls were made, and P holds of what the last of them returned
-pub record EndsWith {A : Type 0} (P : A → Type 0) (old new : Option (List A)) : Type 0 where
-  pub earlier : List A
-  pub last : A
-  pub made : GrowsBy old new (earlier ++ last ∷ [])
-  pub is : P last
 
 -- some calls were made, or none
 pub record HasMore {A : Type 0} (old new : Option (List A)) : Type 0 where
@@ -78,10 +55,6 @@ pub record EndsWithMany {A : Type 0} (P : A → Type 0) (old new : Option (List 
 abbrev pub IsReadFailure : ReadTold → Type 0
 IsReadFailure (Gave n) = ⊥
 IsReadFailure (Failed kind) = kind ≢ Interrupted
-
-abbrev pub IsEndOfInput : ReadTold → Type 0
-IsEndOfInput (Gave n) = n ≡ 0
-IsEndOfInput (Failed kind) = ⊥
 
 -- the last read failed, or the source was asked too often
 abbrev pub HasReadFailed : Option (List ReadTold) → Option (List ReadTold) → Type 0

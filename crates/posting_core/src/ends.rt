@@ -3,7 +3,8 @@
 ghost use Rattle.std.specs.Prelude.{ℕ, List, [], ◌∷◌, Option, None};
 ghost use Rattle.std.specs.Io.{ReadsAtMost, WritesAtMost};
 ghost use Rattle.std.specs.Io.KnownBytes.{Keeps, ReadConsumes, WriteAppends};
-ghost use Rattle.posting_core.specs.Told.{Beside, GrowsBy, ReadTold, WriteTold, read_told, write_told, flush_told};
+ghost use Rattle.posting_core.specs.believed.Told.{GrowsBy, ReadTold};
+ghost use Rattle.posting_core.specs.Told.{Beside, WriteTold, read_told, write_told, flush_told};
 
 use std::io;
 use std::io::{Read, Write};

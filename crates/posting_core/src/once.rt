@@ -3,7 +3,8 @@ ghost use Rattle.std.specs.Prelude.{OnOk, IfErr};
 ghost use Rattle.std.specs.Result.{IsErrOf};
 ghost use Rattle.posting_core.specs.Once.{RecordIsAnswered, LeavesAfterFault, IfRefused};
 ghost use Rattle.posting_core.specs.Sparing.{IsSpared};
-ghost use Rattle.posting_core.specs.Told.{EndsWith, HasReadFailed, HasWriteFailed, IsEndOfInput, IsFlush};
+ghost use Rattle.posting_core.specs.believed.Told.{EndsWith, IsEndOfInput};
+ghost use Rattle.posting_core.specs.Told.{HasReadFailed, HasWriteFailed, IsFlush};
 
 use crate::ends::{Sink, Source};
 use crate::transfer::{read_full, write_out};

@@ -3,10 +3,10 @@ ghost use Rattle.std.specs.Prelude.{◌≡◌, ◌≤◌, ◌≤ℤ◌, ◌<◌,
 ghost use Rattle.std.specs.Prelude.{vec_capacity, All, IfSome, IsTrue};
 ghost use Rattle.posting_rules.specs.declared.limits.TheConstants.{MAX_DECIDED};
 ghost use Rattle.posting_rules.specs.Branches.{IsAtMostZero, IsInRange};
-ghost use Rattle.posting_rules.specs.Commands.{IsFloor};
-ghost use Rattle.posting_rules.specs.Kept.{is_kept_with};
-ghost use Rattle.posting_rules.specs.Entries.{DecidedRequest};
-ghost use Rattle.posting_rules.specs.Tables.{request_row_of};
+ghost use Rattle.posting_rules.specs.believed.Commands.{IsFloor};
+ghost use Rattle.posting_rules.specs.believed.Kept.{is_kept_with};
+ghost use Rattle.posting_rules.specs.believed.Entries.{DecidedRequest};
+ghost use Rattle.posting_rules.specs.believed.Tables.{request_row_of};
 ghost use Rattle.posting_batch.specs.Judging.{reference_after};
 ghost use Rattle.posting_core.specs.Appended.{HasOrdinalsTo, rows_from};
 
@@ -57,7 +57,7 @@ fn keep(
 
 impl NewRow for TellerRow {
     ghost use Rattle.message_records.specs.declared.limits.TheConstants.{MAX_TELLER};
-    ghost use Rattle.posting_rules.specs.Changes.{new_teller};
+    ghost use Rattle.posting_rules.specs.believed.Changes.{new_teller};
 
     ghost most = { MAX_TELLER };
 
@@ -73,7 +73,7 @@ impl NewRow for TellerRow {
 
 impl NewRow for AccountRow {
     ghost use Rattle.message_records.specs.declared.limits.TheConstants.{MAX_ACCOUNT};
-    ghost use Rattle.posting_rules.specs.Changes.{new_account};
+    ghost use Rattle.posting_rules.specs.believed.Changes.{new_account};
 
     ghost most = { MAX_ACCOUNT };
 
@@ -138,12 +138,12 @@ pub struct PlainBank {
 
 impl PlainBank {
     ghost use Rattle.posting_rules.specs.Cases.{IsProper};
-    ghost use Rattle.posting_rules.specs.Changes.{tables_after, tables_past, tables_past_all};
-    ghost use Rattle.posting_rules.specs.Changes.{reply_past, replies_past_all};
-    ghost use Rattle.posting_rules.specs.Tables.{AreTablesOf};
-    ghost use Rattle.posting_rules.specs.LookUps.{found_in};
+    ghost use Rattle.posting_rules.specs.believed.Changes.{tables_after, tables_past, tables_past_all};
+    ghost use Rattle.posting_rules.specs.believed.Changes.{reply_past, replies_past_all};
+    ghost use Rattle.posting_rules.specs.believed.Tables.{AreTablesOf};
+    ghost use Rattle.posting_rules.specs.believed.LookUps.{found_in};
     ghost use Rattle.posting_rules.specs.Branches.{line_in};
-    ghost use Rattle.posting_rules.specs.Commands.{opened_with};
+    ghost use Rattle.posting_rules.specs.believed.Commands.{opened_with};
     ghost use Rattle.posting_core.specs.Appended.{appended_opened};
     ghost use Rattle.posting_core.specs.Plain.{plain_tables};
 
@@ -325,9 +325,9 @@ impl PlainBank {
 impl Counter for PlainBank {
     ghost use Rattle.std.specs.Prelude.{IsOk, IfOk, IfSome, refl};
     ghost use Rattle.posting_rules.specs.Branches.{IsNextBranch, IsLineAbove};
-    ghost use Rattle.posting_rules.specs.Entries.{balance_after};
-    ghost use Rattle.posting_rules.specs.Tables.{Tables};
-    ghost use Rattle.posting_rules.specs.Counter.{Answers, IsCounterCall};
+    ghost use Rattle.posting_rules.specs.believed.Entries.{balance_after};
+    ghost use Rattle.posting_rules.specs.believed.Tables.{Tables};
+    ghost use Rattle.posting_rules.specs.believed.Counter.{Answers, IsCounterCall};
     ghost use Rattle.posting_core.specs.Plain.{plain_reason, plain_seen, plain_spares, plain_tables};
 
     ghost seen = { plain_seen };

@@ -1,11 +1,11 @@
 //! Records that come again.
 ghost use Rattle.std.specs.Prelude.{◌≡◌, ℕ, [], ◌∷◌, List, Result, Vec, IfOk};
 ghost use Rattle.std.specs.declared.alloc.Global.{Global as Memory};
-ghost use Rattle.message_records.specs.Spelling.{reply_spelling};
-ghost use Rattle.posting_rules.specs.Commands.{Post};
-ghost use Rattle.posting_rules.specs.Counter.{Answers, IsCounterCall};
-ghost use Rattle.posting_rules.specs.Entries.{reply};
-ghost use Rattle.posting_rules.specs.Runs.{posts, replies_to};
+ghost use Rattle.message_records.specs.believed.Spelling.{reply_spelling};
+ghost use Rattle.posting_rules.specs.believed.Commands.{Post};
+ghost use Rattle.posting_rules.specs.believed.Counter.{Answers, IsCounterCall};
+ghost use Rattle.posting_rules.specs.believed.Entries.{reply};
+ghost use Rattle.posting_rules.specs.believed.Runs.{posts, replies_to};
 ghost use Rattle.posting_rules.specs.declared.fault.Fault.{Fault};
 ghost use Rattle.posting_core.specs.Again.{AnswersAgain};
 

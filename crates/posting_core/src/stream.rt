@@ -2,12 +2,14 @@
 ghost use Rattle.std.specs.Prelude.{◌≡◌, ℕ, ◌≤◌, MatchResult, IfErr, length};
 ghost use Rattle.std.specs.Result.{IsErrOf};
 ghost use Rattle.posting_core.specs.Clock.{IsReading};
-ghost use Rattle.posting_rules.specs.Runs.{posts};
+ghost use Rattle.posting_rules.specs.believed.Runs.{posts};
 ghost use Rattle.posting_core.specs.Batches.{BatchIsAnswered, BreaksOff};
 ghost use Rattle.posting_core.specs.Stream.{OutputsReplies, SurvivesStream, Resends};
 ghost use Rattle.posting_core.specs.Stream.{StreamFaultIsOfItsEnd, StreamsAsRead};
-ghost use Rattle.posting_core.specs.Stream.{IfBank, IfTaken, IsDownAsBefore, IsRefusedAfterBatches, TellsBreak};
-ghost use Rattle.posting_core.specs.Told.{EndsWith, IsFlush};
+ghost use Rattle.posting_core.specs.believed.Stream.{IfBank, IsRefusedAfterBatches};
+ghost use Rattle.posting_core.specs.Stream.{IfTaken, IsDownAsBefore, TellsBreak};
+ghost use Rattle.posting_core.specs.believed.Told.{EndsWith};
+ghost use Rattle.posting_core.specs.Told.{IsFlush};
 
 use crate::clock::Clock;
 use crate::ends::{Sink, Source};

@@ -21,7 +21,7 @@
 //! asks once for each batch.
 ghost use Rattle.std.specs.Prelude.{◌≡◌, ℕ, List, [], ◌∷◌, Option, None};
 ghost use Rattle.posting_core.specs.Clock.{IsReading};
-ghost use Rattle.posting_core.specs.Told.{GrowsBy};
+ghost use Rattle.posting_core.specs.believed.Told.{GrowsBy};
 ghost use Rattle.posting_core.specs.Readings.{Reading, moment_at, reading_of, source_of};
 
 use crate::clock::Clock;

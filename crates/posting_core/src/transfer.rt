@@ -2,8 +2,10 @@
 ghost use Rattle.std.specs.Prelude.{◌≡◌, ◌≤◌, ◌<◌, ◌+◌, ◌-◌, ◌++◌, ◌∷◌, [], ℕ, List, IfOk, OnOk, OnErr, length};
 ghost use Rattle.std.specs.Prelude.{take, drop};
 ghost use Rattle.std.specs.Io.KnownBytes.{Keeps, Appends, Consumes, IsAtEnd};
-ghost use Rattle.posting_core.specs.Told.{GrowsBy, EndsWith, HasMore, HasReadFailed, HasWriteFailed};
-ghost use Rattle.posting_core.specs.Told.{IsEndOfInput, IsFlush, read_told};
+ghost use Rattle.posting_core.specs.believed.Told.{GrowsBy, EndsWith};
+ghost use Rattle.posting_core.specs.Told.{HasMore, HasReadFailed, HasWriteFailed};
+ghost use Rattle.posting_core.specs.believed.Told.{IsEndOfInput};
+ghost use Rattle.posting_core.specs.Told.{IsFlush, read_told};
 
 use crate::ends::{Sink, Source};
 use std::io::ErrorKind;

@@ -1,6 +1,6 @@
 //! Rows in vectors, which are found by walking.
 ghost use Rattle.std.specs.Prelude.{◌≡◌, ◌<◌, ◌≤◌, ◌+◌, ◌++◌, ◌∷◌, [], ℕ, vec_len, vec_capacity};
-ghost use Rattle.posting_rules.specs.LookUps.{kept_in, reference_in};
+ghost use Rattle.posting_rules.specs.believed.LookUps.{kept_in, reference_in};
 ghost use Rattle.posting_batch.specs.Judging.{reference_after};
 
 use message_records::{Number, Reference, Teller};

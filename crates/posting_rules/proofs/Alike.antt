@@ -1,11 +1,12 @@
 -- Logs with equal tables give equal replies to whatever follows.
 use Rattle.std.proofs.Common.{◌≡◌, ℕ, List, [], ◌∷◌, refl, sym, ap, ◌∙◌}
-use Rattle.message_records.specs.Spelling.{reply_spelling}
-use Rattle.posting_rules.specs.Commands.{Command, Open, Post, AreCommands}
-use Rattle.posting_rules.specs.Changes.{tables_past, tables_with_branch}
-use Rattle.posting_rules.specs.Entries.{reply}
-use Rattle.posting_rules.specs.Tables.{Tables, AreTablesOf}
-use Rattle.posting_rules.specs.Runs.{replies_to}
+use Rattle.message_records.specs.believed.Spelling.{reply_spelling}
+use Rattle.posting_rules.specs.believed.Commands.{Command, Open, Post, AreCommands}
+use Rattle.posting_rules.specs.believed.Changes.{tables_past}
+use Rattle.posting_rules.specs.Changes.{tables_with_branch}
+use Rattle.posting_rules.specs.believed.Entries.{reply}
+use Rattle.posting_rules.specs.believed.Tables.{Tables, AreTablesOf}
+use Rattle.posting_rules.specs.believed.Runs.{replies_to}
 use Rattle.posting_rules.proofs.Calls.{opens}
 use Rattle.posting_rules.proofs.Records.{past_reply, past_shown}
 

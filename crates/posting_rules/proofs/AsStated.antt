@@ -6,19 +6,21 @@ use Rattle.std.proofs.lemmas.Bool.{eqb-true, eq-eqb, leb-true, leb-false}
 use Rattle.posting_rules.specs.declared.limits.TheConstants.{MAX_DECIDED}
 use Rattle.message_records.specs.declared.records.Outcome.{Outcome}
 use Rattle.message_records.specs.declared.records.Outcome.TheVariants as outcome
-use Rattle.message_records.specs.Outcomes.{has_balance}
+use Rattle.message_records.specs.believed.Outcomes.{has_balance}
 use Rattle.message_records.specs.declared.fault.Bad.{Bad}
-use Rattle.message_records.specs.Records.{RequestFields}
-use Rattle.message_records.specs.Reading.{request_of}
+use Rattle.message_records.specs.believed.Records.{RequestFields}
+use Rattle.message_records.specs.believed.Reading.{request_of}
 use Rattle.posting_rules.specs.declared.judgments.Verdict.{Verdict}
 use Rattle.posting_rules.specs.declared.judgments.Verdict.TheVariants.{Unkept, Again, Refused}
-use Rattle.posting_rules.specs.Commands.{Command, Post, opened, is_teller_open, is_account_open}
-use Rattle.posting_rules.specs.Numbering.{branch_of_teller}
-use Rattle.posting_rules.specs.Kept.{KeptFields}
-use Rattle.posting_rules.specs.Cases.{balance_shown, is_same, kept_reply, reply_in}
-use Rattle.posting_rules.specs.Entries.{DecidedRequest, kept, account_balance, teller_balance, branch_balance}
-use Rattle.posting_rules.specs.Entries.{with_verdict, with_record, decided, reply_given, reply, refused_entry}
-use Rattle.posting_rules.specs.Entries.{posted_entry}
+use Rattle.posting_rules.specs.believed.Commands.{Command, Post, opened, is_teller_open, is_account_open}
+use Rattle.posting_rules.specs.believed.Numbering.{branch_of_teller}
+use Rattle.posting_rules.specs.believed.Kept.{KeptFields}
+use Rattle.posting_rules.specs.believed.Cases.{balance_shown, is_same, kept_reply, reply_in}
+use Rattle.posting_rules.specs.believed.Entries.{DecidedRequest, kept, account_balance, teller_balance}
+use Rattle.posting_rules.specs.believed.Entries.{branch_balance}
+use Rattle.posting_rules.specs.believed.Entries.{with_verdict, with_record, decided, reply_given, reply}
+use Rattle.posting_rules.specs.believed.Entries.{refused_entry}
+use Rattle.posting_rules.specs.believed.Entries.{posted_entry}
 use Rattle.posting_rules.specs.Stated.{IsDecided, IsPosted, StaysAbove, AddsEntry, DecidesAsStated}
 use Rattle.posting_rules.specs.Stated.{RepliesAsStated}
 use Rattle.posting_rules.proofs.Keyed.{by_test}

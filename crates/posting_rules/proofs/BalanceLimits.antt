@@ -5,14 +5,14 @@ use Rattle.std.specs.Prelude.{ℤ, ◌+ℤ◌, nat_abs, ◌&&◌, Option}
 use Rattle.std.proofs.lemmas.Bool.{eqb-true}
 use Rattle.message_records.specs.declared.limits.TheConstants.{MAX_BALANCE}
 use Rattle.message_records.specs.declared.fault.Bad.{Bad}
-use Rattle.message_records.specs.Records.{RequestFields}
-use Rattle.message_records.specs.Reading.{request_of}
+use Rattle.message_records.specs.believed.Records.{RequestFields}
+use Rattle.message_records.specs.believed.Reading.{request_of}
 use Rattle.posting_rules.specs.declared.judgments.Verdict.{Verdict}
 use Rattle.posting_rules.specs.declared.judgments.Verdict.TheVariants.{Unkept, Again, Refused, Posted}
-use Rattle.posting_rules.specs.Commands.{Command, Open, Post, opened, Terms}
-use Rattle.posting_rules.specs.Cases.{case_of}
-use Rattle.posting_rules.specs.Entries.{DecidedRequest, is_posted, facts, account_balance, teller_balance}
-use Rattle.posting_rules.specs.Entries.{branch_balance, refused_entry, with_verdict, with_record, decided}
+use Rattle.posting_rules.specs.believed.Commands.{Command, Open, Post, opened, Terms}
+use Rattle.posting_rules.specs.believed.Cases.{case_of}
+use Rattle.posting_rules.specs.believed.Entries.{DecidedRequest, is_posted, facts, account_balance, teller_balance}
+use Rattle.posting_rules.specs.believed.Entries.{branch_balance, refused_entry, with_verdict, with_record, decided}
 use Rattle.posting_rules.specs.Laws.{StaysWithin}
 use Rattle.posting_rules.proofs.Verdicts.{IsSum, IsVerdict, verdict_is}
 

@@ -1,21 +1,23 @@
 -- What a request, an opening and a look-up do to the tables is what the commands lead to.
 use Rattle.std.proofs.Common.{◌≡◌, ℕ, ◌≤◌, List, [], ◌∷◌, Option, Some, None, Ok, refl, sym, ap, ◌∙◌}
 use Rattle.std.specs.Option.{option_map}
-use Rattle.message_records.specs.Records.{RequestFields}
-use Rattle.message_records.specs.Reading.{request_of}
-use Rattle.message_records.specs.Spelling.{reply_spelling}
+use Rattle.message_records.specs.believed.Records.{RequestFields}
+use Rattle.message_records.specs.believed.Reading.{request_of}
+use Rattle.message_records.specs.believed.Spelling.{reply_spelling}
 use Rattle.posting_rules.specs.declared.rows.BranchRow.{BranchRow}
-use Rattle.posting_rules.specs.Commands.{Command, Open, Post, opened, Terms}
-use Rattle.posting_rules.specs.Runs.{followed_by}
-use Rattle.posting_rules.specs.Counter.{opening_for, opening_after}
-use Rattle.posting_rules.specs.Entries.{decided, reply}
-use Rattle.posting_rules.specs.LookUps.{floor_in, terms_in, terms_of_branch}
-use Rattle.posting_rules.specs.Tables.{Tables, row_at, branch_key}
-use Rattle.posting_rules.specs.Tables.{AreTablesOf as Show}
+use Rattle.posting_rules.specs.believed.Commands.{Command, Open, Post, opened, Terms}
+use Rattle.posting_rules.specs.believed.Runs.{followed_by}
+use Rattle.posting_rules.specs.believed.Counter.{opening_for, opening_after}
+use Rattle.posting_rules.specs.believed.Entries.{decided, reply}
+use Rattle.posting_rules.specs.believed.LookUps.{floor_in}
+use Rattle.posting_rules.specs.LookUps.{terms_in, terms_of_branch}
+use Rattle.posting_rules.specs.believed.Tables.{Tables, row_at, branch_key}
+use Rattle.posting_rules.specs.believed.Tables.{AreTablesOf as Show}
 use Rattle.posting_rules.proofs.Looked.{terms_shown}
 use Rattle.posting_rules.proofs.TablesWithBranch.{opening_shown, already_open_shown}
 use Rattle.posting_rules.proofs.TablesWithRecord.{post_shown, reply_shown}
-use Rattle.posting_rules.specs.Changes.{tables_with, reply_bytes, opened_where, tables_with_branch}
+use Rattle.posting_rules.specs.believed.Changes.{tables_with, reply_bytes}
+use Rattle.posting_rules.specs.Changes.{opened_where, tables_with_branch}
 use Rattle.posting_rules.proofs.Ready.{ready_shown}
 use Rattle.posting_rules.proofs.ChangesByKey.{opens_is}
 use Rattle.posting_rules.specs.declared.limits.TheConstants.{MAX_ACCOUNTS}

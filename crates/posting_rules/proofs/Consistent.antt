@@ -8,14 +8,14 @@ use Rattle.std.proofs.Math.IntN.{+ℤ_idl}
 use Rattle.std.proofs.lemmas.Bool.{eqb-true, eq-eqb}
 use Rattle.std.proofs.lemmas.Bool.Decides.{nat_tests}
 use Rattle.posting_rules.specs.declared.rows.HistoryRow.{HistoryRow}
-use Rattle.posting_rules.specs.Commands.{Command, opened, Terms}
-use Rattle.posting_rules.specs.Numbering.{branch_of_teller}
-use Rattle.posting_rules.specs.Entries.{DecidedRequest, is_posted, posted_sum, branch_balance, decided}
-use Rattle.posting_rules.specs.Tables.{Tables, HasRows, AreTablesOf, row_at, branch_key, teller_key}
-use Rattle.posting_rules.specs.Tables.{account_key}
-use Rattle.posting_rules.specs.Tables.{history_key, history_row, history_row_of, request_row}
-use Rattle.posting_rules.specs.LookUps.{balance_of_branch, balance_of_teller, balance_of_account}
-use Rattle.posting_rules.specs.Laws.{total, delta_of, tellers_of, Match, IsConsistent}
+use Rattle.posting_rules.specs.believed.Commands.{Command, opened, Terms}
+use Rattle.posting_rules.specs.believed.Numbering.{branch_of_teller}
+use Rattle.posting_rules.specs.believed.Entries.{DecidedRequest, is_posted, posted_sum, branch_balance, decided}
+use Rattle.posting_rules.specs.believed.Tables.{Tables, HasRows, AreTablesOf, row_at, branch_key, teller_key}
+use Rattle.posting_rules.specs.believed.Tables.{account_key}
+use Rattle.posting_rules.specs.believed.Tables.{history_key, history_row, history_row_of, request_row}
+use Rattle.posting_rules.specs.believed.LookUps.{balance_of_branch, balance_of_teller, balance_of_account}
+use Rattle.posting_rules.specs.believed.Laws.{total, delta_of, tellers_of, Match, IsConsistent}
 use Rattle.posting_rules.proofs.Keyed.{by_test}
 use Rattle.posting_rules.proofs.NamedOpen.{AllNameOpen, all_name_open, both}
 use Rattle.posting_rules.proofs.Totals.{sum_where, spread, values_are, filter_all, each_under_its_key}

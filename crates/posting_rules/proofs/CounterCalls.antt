@@ -3,10 +3,11 @@ use Rattle.std.proofs.Common.{◌≡◌, ◌++◌, List, [], Result, Ok, Err, re
 use Rattle.std.proofs.Common.{◌∙◌}
 use Rattle.posting_rules.specs.declared.fault.Fault.{Fault}
 use Rattle.posting_rules.specs.declared.fault.Fault.TheVariants.{Memory, Down}
-use Rattle.posting_rules.specs.Commands.{Command}
-use Rattle.posting_rules.specs.Counter.{Seen, HasRefused, IsCounterCall, IsSeenUnchanged, Refuses, Takes}
-use Rattle.posting_rules.specs.Counter.{TellsDamage}
-use Rattle.posting_rules.specs.Runs.{followed_by}
+use Rattle.posting_rules.specs.believed.Commands.{Command}
+use Rattle.posting_rules.specs.believed.Counter.{Seen, IsCounterCall, IsSeenUnchanged, Refuses, Takes}
+use Rattle.posting_rules.specs.Counter.{HasRefused}
+use Rattle.posting_rules.specs.believed.Counter.{TellsDamage}
+use Rattle.posting_rules.specs.believed.Runs.{followed_by}
 use Rattle.posting_rules.proofs.Sequence.{after-append}
 
 -- an answer is no fault, and one fault isn't another

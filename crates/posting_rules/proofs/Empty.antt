@@ -2,7 +2,7 @@
 use Rattle.std.proofs.Common.{◌≡◌, Bool, true, false, leb, [], refl}
 use Rattle.std.specs.Prelude.{nat_eq, ◌&&◌}
 use Rattle.std.specs.List.{IsDistinct}
-use Rattle.posting_rules.specs.Tables.{AreTablesOf}
+use Rattle.posting_rules.specs.believed.Tables.{AreTablesOf}
 
 none_distinct : IsDistinct nat_eq []
 unfolding IsDistinct

@@ -5,7 +5,7 @@ use Rattle.std.specs.Prelude.{nat_eq, ◌⊎◌}
 use Rattle.std.specs.List.{find, AllByRecursion}
 use Rattle.std.proofs.lemmas.Bool.{eqb-true, eq-eqb}
 use Rattle.std.proofs.lemmas.Map.Keys.{IsDistinct-head, IsDistinct-tail}
-use Rattle.posting_rules.specs.Tables.{row_at, HasKeys}
+use Rattle.posting_rules.specs.believed.Tables.{row_at, HasKeys}
 
 -- a test by cases
 pub by_test : (b : Bool) → (b ≡ true) ⊎ (b ≡ false)

@@ -6,15 +6,15 @@ use Rattle.std.specs.Prelude.{is_some, ◌&&◌}
 use Rattle.std.specs.List.{AllByRecursion}
 use Rattle.std.specs.Option.{option_or}
 use Rattle.message_records.specs.declared.fault.Bad.{Bad}
-use Rattle.message_records.specs.Records.{RequestFields}
-use Rattle.message_records.specs.Reading.{request_of}
+use Rattle.message_records.specs.believed.Records.{RequestFields}
+use Rattle.message_records.specs.believed.Reading.{request_of}
 use Rattle.posting_rules.specs.declared.judgments.Verdict.{Verdict}
 use Rattle.posting_rules.specs.declared.judgments.Verdict.TheVariants.{Unkept, Again, Refused, Posted}
-use Rattle.posting_rules.specs.Commands.{Command, Open, Post, opened, is_within, is_teller_open}
-use Rattle.posting_rules.specs.Commands.{is_account_open, Terms}
-use Rattle.posting_rules.specs.Numbering.{branch_of_teller, branch_of_account, place_of_account}
-use Rattle.posting_rules.specs.Cases.{case_of}
-use Rattle.posting_rules.specs.Entries.{DecidedRequest, is_posted, facts, with_verdict, with_record, decided}
+use Rattle.posting_rules.specs.believed.Commands.{Command, Open, Post, opened, is_within, is_teller_open}
+use Rattle.posting_rules.specs.believed.Commands.{is_account_open, Terms}
+use Rattle.posting_rules.specs.believed.Numbering.{branch_of_teller, branch_of_account, place_of_account}
+use Rattle.posting_rules.specs.believed.Cases.{case_of}
+use Rattle.posting_rules.specs.believed.Entries.{DecidedRequest, is_posted, facts, with_verdict, with_record, decided}
 use Rattle.posting_rules.proofs.Verdicts.{IsVerdict, verdict_is}
 
 pub record NamesOpen (opened : ℕ → Option Terms) (e : DecidedRequest) : Type 0 where

@@ -6,10 +6,11 @@ use Rattle.std.proofs.lemmas.Bool.{eqb-true}
 use Rattle.std.proofs.lemmas.List.Elements.{All-contains}
 use Rattle.posting_rules.specs.declared.rows.BranchRow.{BranchRow}
 use Rattle.posting_rules.specs.Branches.{IsNextIn, IsNextBranch, line_in}
-use Rattle.posting_rules.specs.Commands.{Command, opened}
-use Rattle.posting_rules.specs.Entries.{branch_balance, decided}
-use Rattle.posting_rules.specs.LookUps.{floor_in, terms_of_branch, balance_of_branch}
-use Rattle.posting_rules.specs.Tables.{Tables, AreTablesOf, row_at, branch_key, branch_row_of}
+use Rattle.posting_rules.specs.believed.Commands.{Command, opened}
+use Rattle.posting_rules.specs.believed.Entries.{branch_balance, decided}
+use Rattle.posting_rules.specs.believed.LookUps.{floor_in, balance_of_branch}
+use Rattle.posting_rules.specs.LookUps.{terms_of_branch}
+use Rattle.posting_rules.specs.believed.Tables.{Tables, AreTablesOf, row_at, branch_key, branch_row_of}
 use Rattle.posting_rules.proofs.Keyed.{by_test, found_passes}
 use Rattle.posting_rules.proofs.Looked.{terms_shown}
 use Rattle.posting_rules.proofs.Undamaged.{row_at-contained}

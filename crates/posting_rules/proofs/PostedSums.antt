@@ -4,16 +4,16 @@ use Rattle.std.proofs.Common.{Option, Some, None, refl, sym, ap, ◌∙◌, inl,
 use Rattle.std.specs.Prelude.{ℤ, ◌+ℤ◌, filter, is_some}
 use Rattle.std.specs.List.{AllByRecursion}
 use Rattle.std.specs.Option.{option_map}
-use Rattle.message_records.specs.Records.{RequestFields}
+use Rattle.message_records.specs.believed.Records.{RequestFields}
 use Rattle.posting_rules.specs.declared.rows.BranchRow.{BranchRow}
-use Rattle.posting_rules.specs.Commands.{opened, is_teller_open, is_account_open, Terms}
-use Rattle.posting_rules.specs.Entries.{DecidedRequest, is_posted, posted_sum, account_balance}
-use Rattle.posting_rules.specs.Entries.{teller_balance}
-use Rattle.posting_rules.specs.Entries.{branch_balance}
-use Rattle.posting_rules.specs.Tables.{Tables, HasRows, HasKeys, row_at, branch_key, teller_key, account_key}
-use Rattle.posting_rules.specs.Tables.{branch_row_of, teller_row_of, account_row_of}
-use Rattle.posting_rules.specs.LookUps.{balance_of_branch, balance_of_teller, balance_of_account}
-use Rattle.posting_rules.specs.Laws.{total}
+use Rattle.posting_rules.specs.believed.Commands.{opened, is_teller_open, is_account_open, Terms}
+use Rattle.posting_rules.specs.believed.Entries.{DecidedRequest, is_posted, posted_sum, account_balance}
+use Rattle.posting_rules.specs.believed.Entries.{teller_balance}
+use Rattle.posting_rules.specs.believed.Entries.{branch_balance}
+use Rattle.posting_rules.specs.believed.Tables.{Tables, HasRows, HasKeys, row_at, branch_key, teller_key, account_key}
+use Rattle.posting_rules.specs.believed.Tables.{branch_row_of, teller_row_of, account_row_of}
+use Rattle.posting_rules.specs.believed.LookUps.{balance_of_branch, balance_of_teller, balance_of_account}
+use Rattle.posting_rules.specs.believed.Laws.{total}
 use Rattle.posting_rules.proofs.Keyed.{by_test}
 use Rattle.posting_rules.proofs.NamedOpen.{AllNameOpen, NamesOpen, open_home}
 use Rattle.posting_rules.proofs.Totals.{sum_where, HaveRows, spread, values_are, each_under_its_key}

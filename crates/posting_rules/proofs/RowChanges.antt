@@ -7,10 +7,10 @@ use Rattle.std.specs.Option.{option_map}
 use Rattle.std.proofs.lemmas.Bool.{eqb-true}
 use Rattle.std.proofs.lemmas.Bool.Decides.{nat_tests}
 use Rattle.std.proofs.lemmas.Map.Keys.{IsDistinct-cons, IsDistinct-head, IsDistinct-tail}
-use Rattle.posting_rules.specs.Tables.{row_at, HasKeys}
+use Rattle.posting_rules.specs.believed.Tables.{row_at, HasKeys}
 use Rattle.posting_rules.specs.ChangesByKey.{ChangesRow, GainsRow, AddsRows, is_from}
 use Rattle.posting_rules.proofs.Keyed.{by_test}
-use Rattle.posting_rules.specs.Changes.{row_changed, row_put, rows_put}
+use Rattle.posting_rules.specs.believed.Changes.{row_changed, row_put, rows_put}
 
 -- ---- tests on two numbers
 

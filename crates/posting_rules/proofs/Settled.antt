@@ -7,19 +7,19 @@ use Rattle.posting_rules.specs.declared.limits.TheConstants.{MAX_DECIDED}
 use Rattle.message_records.specs.declared.records.Outcome.{Outcome}
 use Rattle.message_records.specs.declared.records.Outcome.TheVariants as outcome
 use Rattle.message_records.specs.declared.fault.Bad.{Bad}
-use Rattle.message_records.specs.Records.{RequestFields, ReplyFields, unreferenced}
-use Rattle.message_records.specs.Reading.{request_of}
+use Rattle.message_records.specs.believed.Records.{RequestFields, ReplyFields, unreferenced}
+use Rattle.message_records.specs.believed.Reading.{request_of}
 use Rattle.posting_rules.specs.declared.judgments.Found.{Found}
 use Rattle.posting_rules.specs.declared.judgments.Verdict.{Verdict}
 use Rattle.posting_rules.specs.declared.judgments.Verdict.TheVariants.{Unkept, Again, Refused}
-use Rattle.posting_rules.specs.Kept.{KeptFields}
-use Rattle.posting_rules.specs.Commands.{Command, Open, Post, opened, is_teller_open, Terms}
-use Rattle.posting_rules.specs.Numbering.{branch_of_teller}
-use Rattle.posting_rules.specs.Cases.{new_case, account_case, plus_within, is_same, reply_in, kept_reply}
-use Rattle.posting_rules.specs.Cases.{balance_shown}
-use Rattle.posting_rules.specs.Entries.{DecidedRequest, facts, kept, with_verdict, with_record, decided}
-use Rattle.posting_rules.specs.Entries.{kept_fields, reply_given, reply}
-use Rattle.posting_rules.specs.Runs.{followed_by, ArePosts}
+use Rattle.posting_rules.specs.believed.Kept.{KeptFields}
+use Rattle.posting_rules.specs.believed.Commands.{Command, Open, Post, opened, is_teller_open, Terms}
+use Rattle.posting_rules.specs.believed.Numbering.{branch_of_teller}
+use Rattle.posting_rules.specs.believed.Cases.{new_case, account_case, plus_within, is_same, reply_in, kept_reply}
+use Rattle.posting_rules.specs.believed.Cases.{balance_shown}
+use Rattle.posting_rules.specs.believed.Entries.{DecidedRequest, facts, kept, with_verdict, with_record, decided}
+use Rattle.posting_rules.specs.believed.Entries.{kept_fields, reply_given, reply}
+use Rattle.posting_rules.specs.believed.Runs.{followed_by, ArePosts}
 use Rattle.posting_rules.proofs.Keyed.{by_test}
 use Rattle.posting_rules.proofs.Verdicts.{by_account, by_posting}
 use Rattle.posting_rules.proofs.VerdictsStated.{same_content}

@@ -4,18 +4,18 @@ use Rattle.std.proofs.Common.{refl, sym, ap, ◌∙◌, inl, inr}
 use Rattle.std.specs.Prelude.{ℤ, ◌⊎◌}
 use Rattle.posting_rules.specs.declared.limits.TheConstants.{MAX_DECIDED}
 use Rattle.message_records.specs.declared.records.Outcome.TheVariants as outcome
-use Rattle.message_records.specs.Records.{RequestFields, ReplyFields}
+use Rattle.message_records.specs.believed.Records.{RequestFields, ReplyFields}
 use Rattle.posting_rules.specs.declared.judgments.Found.{Found}
 use Rattle.posting_rules.specs.declared.judgments.Verdict.{Verdict}
 use Rattle.posting_rules.specs.declared.judgments.Verdict.TheVariants.{Unkept, Again}
-use Rattle.posting_rules.specs.Kept.{KeptFields}
-use Rattle.posting_rules.specs.Commands.{opened, is_teller_open, Terms}
-use Rattle.posting_rules.specs.Numbering.{branch_of_teller}
-use Rattle.posting_rules.specs.Cases.{case_of, teller_case, known_case, new_case, is_same, reply_in}
-use Rattle.posting_rules.specs.Cases.{kept_reply}
-use Rattle.posting_rules.specs.Entries.{DecidedRequest, facts, kept, teller_balance, branch_balance}
-use Rattle.posting_rules.specs.Entries.{with_verdict}
-use Rattle.posting_rules.specs.Entries.{with_record, reply_given}
+use Rattle.posting_rules.specs.believed.Kept.{KeptFields}
+use Rattle.posting_rules.specs.believed.Commands.{opened, is_teller_open, Terms}
+use Rattle.posting_rules.specs.believed.Numbering.{branch_of_teller}
+use Rattle.posting_rules.specs.believed.Cases.{case_of, teller_case, known_case, new_case, is_same, reply_in}
+use Rattle.posting_rules.specs.believed.Cases.{kept_reply}
+use Rattle.posting_rules.specs.believed.Entries.{DecidedRequest, facts, kept, teller_balance, branch_balance}
+use Rattle.posting_rules.specs.believed.Entries.{with_verdict}
+use Rattle.posting_rules.specs.believed.Entries.{with_record, reply_given}
 use Rattle.posting_rules.proofs.Keyed.{by_test}
 
 -- the verdict on a request under whose teller and number one is kept

@@ -7,15 +7,16 @@ use Rattle.std.proofs.lemmas.Bool.{eqb-true}
 use Rattle.posting_rules.specs.declared.limits.TheConstants.{MAX_DECIDED}
 use Rattle.message_records.specs.declared.limits.TheConstants.{MAX_MOMENT, MAX_BALANCE}
 use Rattle.message_records.specs.declared.fault.Bad.{Bad}
-use Rattle.message_records.specs.Records.{RequestFields, IsRequest}
-use Rattle.message_records.specs.Reading.{request_of}
+use Rattle.message_records.specs.believed.Records.{RequestFields}
+use Rattle.message_records.specs.Records.{IsRequest}
+use Rattle.message_records.specs.believed.Reading.{request_of}
 use Rattle.message_records.proofs.Requests.{read_in_range}
 use Rattle.posting_rules.specs.declared.judgments.Verdict.{Verdict}
 use Rattle.posting_rules.specs.declared.judgments.Verdict.TheVariants.{Unkept, Again, Refused, Posted}
-use Rattle.posting_rules.specs.Commands.{Command, Open, Post, IsCommand, AreCommands, opened, Terms}
-use Rattle.posting_rules.specs.Kept.{is_kept_with}
-use Rattle.posting_rules.specs.Cases.{case_of, plus_within}
-use Rattle.posting_rules.specs.Entries.{DecidedRequest, facts, with_verdict, with_record, decided}
+use Rattle.posting_rules.specs.believed.Commands.{Command, Open, Post, IsCommand, AreCommands, opened, Terms}
+use Rattle.posting_rules.specs.believed.Kept.{is_kept_with}
+use Rattle.posting_rules.specs.believed.Cases.{case_of, plus_within}
+use Rattle.posting_rules.specs.believed.Entries.{DecidedRequest, facts, with_verdict, with_record, decided}
 use Rattle.posting_rules.proofs.Verdicts.{IsVerdict, verdict_is, by_teller, by_known, by_new, by_account}
 use Rattle.posting_rules.proofs.Verdicts.{by_posting}
 

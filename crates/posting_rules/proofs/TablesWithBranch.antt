@@ -6,16 +6,17 @@ use Rattle.std.specs.Prelude.{ℤ, pos, ◌⊎◌, is_some, ◌&&◌, option_and
 use Rattle.std.specs.Option.{option_map, option_or}
 use Rattle.std.proofs.lemmas.Bool.{eqb-true}
 use Rattle.posting_rules.specs.declared.limits.TheConstants.{MAX_ACCOUNTS}
-use Rattle.posting_rules.specs.Commands.{Command, Open, opened, is_within, is_teller_open, is_account_open}
-use Rattle.posting_rules.specs.Commands.{Terms}
+use Rattle.posting_rules.specs.believed.Commands.{Command, Open, opened, is_within, is_teller_open, is_account_open}
+use Rattle.posting_rules.specs.believed.Commands.{Terms}
 use Rattle.posting_rules.specs.declared.rows.FloorRow.{FloorRow}
-use Rattle.posting_rules.specs.Entries.{DecidedRequest, teller_balance, branch_balance, account_balance}
-use Rattle.posting_rules.specs.Entries.{decided}
-use Rattle.posting_rules.specs.Tables.{Tables, HasRows, AreTablesOf, branch_row_of, teller_row_of}
-use Rattle.posting_rules.specs.Tables.{account_row_of, HasKeys, row_at, floor_key, floor_row, floor_row_of}
+use Rattle.posting_rules.specs.believed.Entries.{DecidedRequest, teller_balance, branch_balance, account_balance}
+use Rattle.posting_rules.specs.believed.Entries.{decided}
+use Rattle.posting_rules.specs.believed.Tables.{Tables, HasRows, AreTablesOf, branch_row_of, teller_row_of}
+use Rattle.posting_rules.specs.believed.Tables.{account_row_of, HasKeys, row_at, floor_key, floor_row, floor_row_of}
 use Rattle.posting_rules.specs.ChangesByKey.{OpensBranch, AddsFloor, is_from}
-use Rattle.posting_rules.specs.Numbering.{branch_of_teller, branch_of_account, place_of_account, first_teller}
-use Rattle.posting_rules.specs.Numbering.{first_account}
+use Rattle.posting_rules.specs.believed.Numbering.{branch_of_teller, branch_of_account, place_of_account}
+use Rattle.posting_rules.specs.believed.Numbering.{first_teller}
+use Rattle.posting_rules.specs.believed.Numbering.{first_account}
 use Rattle.posting_rules.proofs.Keyed.{by_test}
 use Rattle.posting_rules.proofs.NamedOpen.{AllNameOpen, with_branch, all_name_open, teller_stays}
 use Rattle.posting_rules.proofs.NamedOpen.{account_stays, both}

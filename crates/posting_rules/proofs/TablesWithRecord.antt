@@ -7,29 +7,30 @@ use Rattle.std.proofs.lemmas.Bool.{eqb-true}
 use Rattle.std.proofs.lemmas.Bool.Decides.{nat_tests}
 use Rattle.message_records.specs.declared.records.Outcome.{Outcome}
 use Rattle.message_records.specs.declared.fault.Bad.{Bad}
-use Rattle.message_records.specs.Records.{RequestFields}
-use Rattle.message_records.specs.Reading.{request_of}
+use Rattle.message_records.specs.believed.Records.{RequestFields}
+use Rattle.message_records.specs.believed.Reading.{request_of}
 use Rattle.posting_rules.specs.declared.judgments.Found.{Found}
 use Rattle.posting_rules.specs.declared.judgments.Verdict.{Verdict}
 use Rattle.posting_rules.specs.declared.judgments.Verdict.TheVariants.{Unkept, Again, Refused, Posted}
 use Rattle.posting_rules.specs.declared.rows.HistoryRow.{HistoryRow}
 use Rattle.posting_rules.specs.declared.rows.RequestRow.{RequestRow}
 use Rattle.posting_rules.specs.declared.rows.ReferenceRow.{ReferenceRow}
-use Rattle.posting_rules.specs.Commands.{Command, Post, opened, is_teller_open, is_account_open, Terms}
-use Rattle.posting_rules.specs.Numbering.{branch_of_teller}
-use Rattle.posting_rules.specs.Cases.{case_of, reply_in}
-use Rattle.posting_rules.specs.Entries.{DecidedRequest, is_posted, facts, posted_sum, teller_balance}
-use Rattle.posting_rules.specs.Entries.{branch_balance}
-use Rattle.posting_rules.specs.Entries.{account_balance, refused_entry, posted_entry, with_verdict}
-use Rattle.posting_rules.specs.Entries.{with_record, reply_given, decided, reply}
-use Rattle.posting_rules.specs.Tables.{Tables, HasRows, HasKeys, AreTablesOf, row_at, branch_key, teller_key}
-use Rattle.posting_rules.specs.Tables.{account_key, history_key, request_key, branch_row_of, teller_row_of}
-use Rattle.posting_rules.specs.Tables.{account_row_of, history_row, history_row_of, request_row}
-use Rattle.posting_rules.specs.Tables.{request_row_of, reference_key, reference_row, reference_row_of}
-use Rattle.posting_rules.specs.LookUps.{found_in}
-use Rattle.posting_rules.specs.Changes.{row_put, reference_put, tables_kept, tables_posted, tables_after}
-use Rattle.posting_rules.specs.Changes.{tables_with, with_decided, with_request, with_reference, with_history}
-use Rattle.posting_rules.specs.Changes.{with_branch_balance, with_teller_balance, with_account_balance}
+use Rattle.posting_rules.specs.believed.Commands.{Command, Post, opened, is_teller_open, is_account_open, Terms}
+use Rattle.posting_rules.specs.believed.Numbering.{branch_of_teller}
+use Rattle.posting_rules.specs.believed.Cases.{case_of, reply_in}
+use Rattle.posting_rules.specs.believed.Entries.{DecidedRequest, is_posted, facts, posted_sum, teller_balance}
+use Rattle.posting_rules.specs.believed.Entries.{branch_balance}
+use Rattle.posting_rules.specs.believed.Entries.{account_balance, refused_entry, posted_entry, with_verdict}
+use Rattle.posting_rules.specs.believed.Entries.{with_record, reply_given, decided, reply}
+use Rattle.posting_rules.specs.believed.Tables.{Tables, HasRows, HasKeys, AreTablesOf, row_at, branch_key, teller_key}
+use Rattle.posting_rules.specs.believed.Tables.{account_key, history_key, request_key, branch_row_of, teller_row_of}
+use Rattle.posting_rules.specs.believed.Tables.{account_row_of, history_row, history_row_of, request_row}
+use Rattle.posting_rules.specs.believed.Tables.{request_row_of, reference_key, reference_row, reference_row_of}
+use Rattle.posting_rules.specs.believed.LookUps.{found_in}
+use Rattle.posting_rules.specs.believed.Changes.{row_put, reference_put, tables_kept, tables_posted, tables_after}
+use Rattle.posting_rules.specs.believed.Changes.{tables_with, with_decided, with_request, with_reference}
+use Rattle.posting_rules.specs.believed.Changes.{with_history}
+use Rattle.posting_rules.specs.believed.Changes.{with_branch_balance, with_teller_balance, with_account_balance}
 use Rattle.posting_rules.specs.ChangesByKey as steps
 use Rattle.posting_rules.proofs.Verdicts.{IsVerdict, IsPosting, IsRefusal, verdict_is}
 use Rattle.posting_rules.proofs.Requests.{are_new}

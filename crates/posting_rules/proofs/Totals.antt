@@ -6,8 +6,8 @@ use Rattle.std.specs.List.{AllByRecursion}
 use Rattle.std.proofs.Math.IntN.{+ℤ_assoc, +ℤ_comm, +ℤ_idl}
 use Rattle.std.proofs.lemmas.Bool.{eqb-true, eq-eqb}
 use Rattle.std.proofs.lemmas.Map.Keys.{IsDistinct-head, IsDistinct-tail}
-use Rattle.posting_rules.specs.Tables.{row_at, HasKeys}
-use Rattle.posting_rules.specs.Laws.{total}
+use Rattle.posting_rules.specs.believed.Tables.{row_at, HasKeys}
+use Rattle.posting_rules.specs.believed.Laws.{total}
 use Rattle.posting_rules.proofs.Keyed.{by_test}
 
 -- amounts that are added under keys: the sum of those under the keys that pass a test

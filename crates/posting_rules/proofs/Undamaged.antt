@@ -9,7 +9,8 @@ use Rattle.std.proofs.lemmas.List.Elements.{All-contains, All-from_recursion}
 use Rattle.posting_rules.specs.declared.limits.TheConstants.{MAX_DECIDED, LAST_BRANCH, ACCOUNTS_PER_BRANCH}
 use Rattle.posting_rules.specs.declared.limits.TheConstants.{TELLERS_PER_BRANCH}
 use Rattle.message_records.specs.declared.limits.TheConstants.{MAX_BALANCE}
-use Rattle.message_records.specs.Records.{RequestFields, IsRequest, IsReference}
+use Rattle.message_records.specs.believed.Records.{RequestFields, IsReference}
+use Rattle.message_records.specs.Records.{IsRequest}
 use Rattle.posting_rules.specs.declared.rows.BranchRow.{BranchRow}
 use Rattle.posting_rules.specs.declared.rows.TellerRow.{TellerRow}
 use Rattle.posting_rules.specs.declared.rows.AccountRow.{AccountRow}
@@ -17,19 +18,20 @@ use Rattle.posting_rules.specs.declared.rows.HistoryRow.{HistoryRow}
 use Rattle.posting_rules.specs.declared.rows.RequestRow.{RequestRow}
 use Rattle.posting_rules.specs.declared.rows.FloorRow.{FloorRow}
 use Rattle.posting_rules.specs.declared.rows.ReferenceRow.{ReferenceRow}
-use Rattle.posting_rules.specs.Commands.{Command, Open, IsCommand, AreCommands, opened, is_within}
-use Rattle.posting_rules.specs.Commands.{is_teller_open, is_account_open, Terms, IsFloor}
-use Rattle.posting_rules.specs.Numbering.{branch_of_teller, branch_of_account, place_of_account}
-use Rattle.posting_rules.specs.Entries.{DecidedRequest, is_posted, account_balance, teller_balance}
-use Rattle.posting_rules.specs.Entries.{branch_balance}
-use Rattle.posting_rules.specs.Entries.{decided}
-use Rattle.posting_rules.specs.Tables.{Tables, AreTablesOf, HasKeys, row_at, branch_key, teller_key}
-use Rattle.posting_rules.specs.Tables.{account_key}
-use Rattle.posting_rules.specs.Tables.{history_key, request_key, branch_row_of, teller_row_of, account_row_of}
-use Rattle.posting_rules.specs.Tables.{history_row, history_row_of, request_row, request_row_of}
-use Rattle.posting_rules.specs.Tables.{floor_key, floor_row_of, reference_key, reference_row}
-use Rattle.posting_rules.specs.Tables.{reference_row_of}
-use Rattle.posting_rules.specs.LookUps.{floor_in}
+use Rattle.posting_rules.specs.believed.Commands.{Command, Open, IsCommand, AreCommands, opened, is_within}
+use Rattle.posting_rules.specs.believed.Commands.{is_teller_open, is_account_open, Terms, IsFloor}
+use Rattle.posting_rules.specs.believed.Numbering.{branch_of_teller, branch_of_account, place_of_account}
+use Rattle.posting_rules.specs.believed.Entries.{DecidedRequest, is_posted, account_balance, teller_balance}
+use Rattle.posting_rules.specs.believed.Entries.{branch_balance}
+use Rattle.posting_rules.specs.believed.Entries.{decided}
+use Rattle.posting_rules.specs.believed.Tables.{Tables, AreTablesOf, HasKeys, row_at, branch_key, teller_key}
+use Rattle.posting_rules.specs.believed.Tables.{account_key}
+use Rattle.posting_rules.specs.believed.Tables.{history_key, request_key, branch_row_of, teller_row_of}
+use Rattle.posting_rules.specs.believed.Tables.{account_row_of}
+use Rattle.posting_rules.specs.believed.Tables.{history_row, history_row_of, request_row, request_row_of}
+use Rattle.posting_rules.specs.believed.Tables.{floor_key, floor_row_of, reference_key, reference_row}
+use Rattle.posting_rules.specs.believed.Tables.{reference_row_of}
+use Rattle.posting_rules.specs.believed.LookUps.{floor_in}
 use Rattle.posting_rules.specs.Damage.{IsSoundBranch, IsSoundTeller, IsSoundAccount, IsSoundRequest}
 use Rattle.posting_rules.specs.Damage.{IsSoundPosting, IsSoundFloor, IsSoundReference, FieldsAreInRange}
 use Rattle.posting_rules.specs.Damage.{IsUndamaged}

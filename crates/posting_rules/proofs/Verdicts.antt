@@ -8,18 +8,18 @@ use Rattle.posting_rules.specs.declared.limits.TheConstants.{MAX_DECIDED}
 use Rattle.message_records.specs.declared.limits.TheConstants.{MAX_BALANCE}
 use Rattle.message_records.specs.declared.records.Outcome.{Outcome}
 use Rattle.message_records.specs.declared.records.Outcome.TheVariants as outcome
-use Rattle.message_records.specs.Outcomes.{has_balance}
-use Rattle.message_records.specs.Records.{RequestFields, ReplyFields}
+use Rattle.message_records.specs.believed.Outcomes.{has_balance}
+use Rattle.message_records.specs.believed.Records.{RequestFields, ReplyFields}
 use Rattle.posting_rules.specs.declared.judgments.Found.{Found}
 use Rattle.posting_rules.specs.declared.judgments.Verdict.{Verdict}
 use Rattle.posting_rules.specs.declared.judgments.Verdict.TheVariants.{Unkept, Again, Refused, Posted}
-use Rattle.posting_rules.specs.Kept.{KeptFields}
-use Rattle.posting_rules.specs.Commands.{is_teller_open, is_account_open, Terms, floor_of}
-use Rattle.posting_rules.specs.Numbering.{branch_of_teller, branch_of_account}
-use Rattle.posting_rules.specs.Cases.{case_of, teller_case, known_case, new_case, account_case, posting_of}
-use Rattle.posting_rules.specs.Cases.{plus_within, is_below, is_same}
-use Rattle.posting_rules.specs.Entries.{DecidedRequest, facts, kept, teller_balance, branch_balance}
-use Rattle.posting_rules.specs.Entries.{account_balance}
+use Rattle.posting_rules.specs.believed.Kept.{KeptFields}
+use Rattle.posting_rules.specs.believed.Commands.{is_teller_open, is_account_open, Terms, floor_of}
+use Rattle.posting_rules.specs.believed.Numbering.{branch_of_teller, branch_of_account}
+use Rattle.posting_rules.specs.believed.Cases.{case_of, teller_case, known_case, new_case, account_case, posting_of}
+use Rattle.posting_rules.specs.believed.Cases.{plus_within, is_below, is_same}
+use Rattle.posting_rules.specs.believed.Entries.{DecidedRequest, facts, kept, teller_balance, branch_balance}
+use Rattle.posting_rules.specs.believed.Entries.{account_balance}
 use Rattle.posting_rules.proofs.Keyed.{by_test}
 
 -- a new balance is the old one with the amount, and within the limit

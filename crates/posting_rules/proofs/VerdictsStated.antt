@@ -10,16 +10,17 @@ use Rattle.std.proofs.lemmas.Slice.Eq.{bytes_eq-Decides}
 use Rattle.posting_rules.specs.declared.limits.TheConstants.{MAX_DECIDED}
 use Rattle.message_records.specs.declared.limits.TheConstants.{MAX_BALANCE}
 use Rattle.message_records.specs.declared.records.Outcome.TheVariants as outcome
-use Rattle.message_records.specs.Ranges.{cents_within}
-use Rattle.message_records.specs.Records.{RequestFields}
+use Rattle.message_records.specs.believed.Ranges.{cents_within}
+use Rattle.message_records.specs.believed.Records.{RequestFields}
 use Rattle.posting_rules.specs.declared.judgments.Verdict.{Verdict}
 use Rattle.posting_rules.specs.declared.judgments.Verdict.TheVariants.{Unkept, Again, Refused, Posted}
-use Rattle.posting_rules.specs.Commands.{Command, opened, is_teller_open, is_account_open, floor_of}
-use Rattle.posting_rules.specs.Numbering.{branch_of_teller, branch_of_account}
-use Rattle.posting_rules.specs.Kept.{KeptFields}
-use Rattle.posting_rules.specs.Cases.{case_of, new_case, posting_of, plus_within, is_below, is_same}
-use Rattle.posting_rules.specs.Cases.{is_same_reference, kept_reply}
-use Rattle.posting_rules.specs.Entries.{facts, kept, account_balance, teller_balance, branch_balance, decided}
+use Rattle.posting_rules.specs.believed.Commands.{Command, opened, is_teller_open, is_account_open, floor_of}
+use Rattle.posting_rules.specs.believed.Numbering.{branch_of_teller, branch_of_account}
+use Rattle.posting_rules.specs.believed.Kept.{KeptFields}
+use Rattle.posting_rules.specs.believed.Cases.{case_of, new_case, posting_of, plus_within, is_below, is_same}
+use Rattle.posting_rules.specs.believed.Cases.{is_same_reference, kept_reply}
+use Rattle.posting_rules.specs.believed.Entries.{facts, kept, account_balance, teller_balance, branch_balance}
+use Rattle.posting_rules.specs.believed.Entries.{decided}
 use Rattle.posting_rules.specs.Stated.{IsDecided, IsWithin, StaysAbove, IsPosted, HasContent}
 use Rattle.posting_rules.proofs.Keyed.{by_test}
 use Rattle.posting_rules.proofs.Verdicts.{is_above}

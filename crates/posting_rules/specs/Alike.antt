@@ -3,11 +3,11 @@
 use Rattle.std.specs.Prelude.{◌≡◌, ℕ, List, Option}
 use Rattle.posting_rules.specs.declared.counter.BranchLine.{BranchLine}
 use Rattle.posting_rules.specs.Branches.{IsNextBranch}
-use Rattle.posting_rules.specs.Commands.{Command, Terms, AreCommands}
-use Rattle.posting_rules.specs.Counter.{opening_after}
-use Rattle.posting_rules.specs.Entries.{balance_after}
-use Rattle.posting_rules.specs.Runs.{followed_by}
-use Rattle.posting_rules.specs.Tables.{Tables, AreTablesOf}
+use Rattle.posting_rules.specs.believed.Commands.{Command, Terms, AreCommands}
+use Rattle.posting_rules.specs.believed.Counter.{opening_after}
+use Rattle.posting_rules.specs.believed.Entries.{balance_after}
+use Rattle.posting_rules.specs.believed.Runs.{followed_by}
+use Rattle.posting_rules.specs.believed.Tables.{Tables, AreTablesOf}
 
 -- the tables show both logs, and these commands follow either
 pub record AreAlike (t : Tables) (one two commands : List Command) : Type 0 where

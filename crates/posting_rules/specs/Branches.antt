@@ -5,10 +5,10 @@ use Rattle.posting_rules.specs.declared.counter.BranchLine.{BranchLine}
 use Rattle.posting_rules.specs.declared.rows.BranchRow.{BranchRow}
 use Rattle.posting_rules.specs.declared.rows.FloorRow.{FloorRow}
 use Rattle.posting_rules.specs.declared.limits.TheConstants.{LAST_BRANCH, MAX_ACCOUNTS}
-use Rattle.posting_rules.specs.Commands.{Command, opened, opened_with}
-use Rattle.posting_rules.specs.Entries.{branch_balance, decided}
-use Rattle.posting_rules.specs.LookUps.{floor_in}
-use Rattle.posting_rules.specs.Tables.{Tables}
+use Rattle.posting_rules.specs.believed.Commands.{Command, opened, opened_with}
+use Rattle.posting_rules.specs.believed.Entries.{branch_balance, decided}
+use Rattle.posting_rules.specs.believed.LookUps.{floor_in}
+use Rattle.posting_rules.specs.believed.Tables.{Tables}
 
 -- ---- of a log
 

@@ -8,10 +8,10 @@ use Rattle.posting_rules.specs.declared.rows.BranchRow.{BranchRow}
 use Rattle.posting_rules.specs.declared.rows.TellerRow.{TellerRow}
 use Rattle.posting_rules.specs.declared.rows.AccountRow.{AccountRow}
 use Rattle.posting_rules.specs.declared.rows.FloorRow.{FloorRow}
-use Rattle.posting_rules.specs.Commands.{Terms}
-use Rattle.posting_rules.specs.Numbering.{first_teller, first_account}
-use Rattle.posting_rules.specs.Tables.{Tables, row_at, HasKeys, branch_key, teller_key, account_key}
-use Rattle.posting_rules.specs.Tables.{branch_row_of, teller_row_of, account_row_of, floor_key, floor_row_of}
+use Rattle.posting_rules.specs.believed.Commands.{Terms}
+use Rattle.posting_rules.specs.believed.Numbering.{first_teller, first_account}
+use Rattle.posting_rules.specs.believed.Tables.{Tables, row_at, HasKeys, branch_key, teller_key, account_key}
+use Rattle.posting_rules.specs.believed.Tables.{branch_row_of, teller_row_of, account_row_of, floor_key, floor_row_of}
 
 -- ---- rows of one table
 

@@ -12,13 +12,14 @@ use Rattle.posting_rules.specs.declared.rows.HistoryRow.{HistoryRow}
 use Rattle.posting_rules.specs.declared.rows.RequestRow.{RequestRow}
 use Rattle.posting_rules.specs.declared.rows.FloorRow.{FloorRow}
 use Rattle.posting_rules.specs.declared.rows.ReferenceRow.{ReferenceRow}
-use Rattle.message_records.specs.Records.{IsReference}
-use Rattle.posting_rules.specs.Commands.{Command, AreCommands, IsFloor, is_within}
-use Rattle.posting_rules.specs.Numbering.{branch_of_teller, branch_of_account, place_of_account}
-use Rattle.posting_rules.specs.Kept.{is_kept_with}
-use Rattle.posting_rules.specs.Tables.{Tables, AreTablesOf, row_at, branch_key, teller_key, account_key}
-use Rattle.posting_rules.specs.Tables.{history_key, request_key, floor_key, reference_key}
-use Rattle.posting_rules.specs.LookUps.{floor_in, terms_in}
+use Rattle.message_records.specs.believed.Records.{IsReference}
+use Rattle.posting_rules.specs.believed.Commands.{Command, AreCommands, IsFloor, is_within}
+use Rattle.posting_rules.specs.believed.Numbering.{branch_of_teller, branch_of_account, place_of_account}
+use Rattle.posting_rules.specs.believed.Kept.{is_kept_with}
+use Rattle.posting_rules.specs.believed.Tables.{Tables, AreTablesOf, row_at, branch_key, teller_key, account_key}
+use Rattle.posting_rules.specs.believed.Tables.{history_key, request_key, floor_key, reference_key}
+use Rattle.posting_rules.specs.believed.LookUps.{floor_in}
+use Rattle.posting_rules.specs.LookUps.{terms_in}
 
 -- ---- one row
 

@@ -1,14 +1,10 @@
+pub mod believed
 pub mod FaultTexts
-pub mod Numbering
-pub mod Commands
 pub mod Kept
 pub mod Cases
-pub mod Entries
-pub mod Tables
 pub mod Editions
 pub mod LookUps
 pub mod ChangesByKey
-pub mod Runs
 pub mod Stated
 pub mod Laws
 pub mod Damage

@@ -1,10 +1,10 @@
 -- Records that come again, where no branch was opened since.
 use Rattle.std.specs.Prelude.{◌≡◌, ◌⊎◌, ℕ, List, [], ◌∷◌, ◌++◌, length, get_or}
-use Rattle.message_records.specs.Spelling.{reply_spelling}
-use Rattle.posting_rules.specs.Commands.{Command, Open, Post, AreCommands}
-use Rattle.posting_rules.specs.Entries.{reply, decided}
-use Rattle.posting_rules.specs.Tables.{Tables, AreTablesOf}
-use Rattle.posting_rules.specs.Runs.{followed_by, replies_to, ArePosts}
+use Rattle.message_records.specs.believed.Spelling.{reply_spelling}
+use Rattle.posting_rules.specs.believed.Commands.{Command, Open, Post, AreCommands}
+use Rattle.posting_rules.specs.believed.Entries.{reply, decided}
+use Rattle.posting_rules.specs.believed.Tables.{Tables, AreTablesOf}
+use Rattle.posting_rules.specs.believed.Runs.{followed_by, replies_to, ArePosts}
 
 -- a place where a record is among commands
 pub record Place (bytes : List ℕ) (commands : List Command) : Type 0 where

@@ -6,14 +6,14 @@ use Rattle.message_records.specs.declared.limits.TheConstants.{MAX_BALANCE}
 use Rattle.message_records.specs.declared.records.Outcome.{Outcome}
 use Rattle.message_records.specs.declared.records.Outcome.TheVariants as outcome
 use Rattle.message_records.specs.declared.fault.Bad.{Bad}
-use Rattle.message_records.specs.Records.{RequestFields, ReplyFields, unreferenced}
-use Rattle.message_records.specs.Reading.{request_of}
-use Rattle.posting_rules.specs.Commands.{Command, Post, opened, is_teller_open, is_account_open, floor_of}
-use Rattle.posting_rules.specs.Numbering.{branch_of_teller, branch_of_account}
-use Rattle.posting_rules.specs.Kept.{KeptFields}
-use Rattle.posting_rules.specs.Cases.{balance_shown}
-use Rattle.posting_rules.specs.Entries.{DecidedRequest, is_posted, kept, account_balance, teller_balance}
-use Rattle.posting_rules.specs.Entries.{branch_balance, decided, malformed_reply, reply}
+use Rattle.message_records.specs.believed.Records.{RequestFields, ReplyFields, unreferenced}
+use Rattle.message_records.specs.believed.Reading.{request_of}
+use Rattle.posting_rules.specs.believed.Commands.{Command, Post, opened, is_teller_open, is_account_open, floor_of}
+use Rattle.posting_rules.specs.believed.Numbering.{branch_of_teller, branch_of_account}
+use Rattle.posting_rules.specs.believed.Kept.{KeptFields}
+use Rattle.posting_rules.specs.believed.Cases.{balance_shown}
+use Rattle.posting_rules.specs.believed.Entries.{DecidedRequest, is_posted, kept, account_balance, teller_balance}
+use Rattle.posting_rules.specs.believed.Entries.{branch_balance, decided, malformed_reply, reply}
 
 -- the bytes are this request, and its teller is open
 pub record Names (before : List Command) (bytes : List ℕ) (r : RequestFields) : Type 0 where

@@ -1,8 +1,9 @@
 //! Judges a request by what was looked up for it.
 ghost use Rattle.std.specs.Prelude.{◌≡◌, ◌≤◌};
 ghost use Rattle.std.specs.Prelude.{◌+ℤ◌};
-ghost use Rattle.posting_rules.specs.Cases.{case_of, is_below, plus_within, IsProper, reply_in};
-ghost use Rattle.posting_rules.specs.Entries.{malformed_reply};
+ghost use Rattle.posting_rules.specs.believed.Cases.{case_of, is_below, plus_within, reply_in};
+ghost use Rattle.posting_rules.specs.Cases.{IsProper};
+ghost use Rattle.posting_rules.specs.believed.Entries.{malformed_reply};
 
 use crate::judgments::{Found, Verdict};
 use crate::limits::MAX_DECIDED;
@@ -28,7 +29,7 @@ fn falls_below(balance: Cents, delta: Cents, floor: Option<Cents>) -> bool
 
 /// What becomes of a request (TPC-B 1.2): the first case that applies, in the order of the tests here. It
 /// takes no memory.
-#[tactic(auto, unfolding(crate::specs::Cases::case_of))]
+#[tactic(auto, unfolding(crate::specs::believed::Cases::case_of))]
 pub fn judge(found: &Found, request: &Request) -> Verdict
     requires { found.now.decided ≤ MAX_DECIDED }
     ensures value { result ≡ case_of found.now request.now }

@@ -1,12 +1,13 @@
 //! A counter that takes requests, whatever keeps its tables.
 ghost use Rattle.std.specs.Prelude.{◌≡◌, ◌≤◌, ◌≤ℤ◌, pos, [], ◌∷◌, length, IfOk, IfSome, OnOk};
-ghost use Rattle.message_records.specs.Spelling.{reply_spelling};
+ghost use Rattle.message_records.specs.believed.Spelling.{reply_spelling};
 ghost use Rattle.posting_rules.specs.Branches.{IsNextBranch, IsLineAbove};
-ghost use Rattle.posting_rules.specs.Commands.{Open, Post, opened_with};
-ghost use Rattle.posting_rules.specs.Entries.{reply, balance_after};
-ghost use Rattle.posting_rules.specs.Tables.{Tables};
-ghost use Rattle.posting_rules.specs.Counter.{Seen, Answers, IsCounterCall, LeavesSomething, opening_after};
-ghost use Rattle.posting_rules.specs.Runs.{posts, replies_to};
+ghost use Rattle.posting_rules.specs.believed.Commands.{Open, Post, opened_with};
+ghost use Rattle.posting_rules.specs.believed.Entries.{reply, balance_after};
+ghost use Rattle.posting_rules.specs.believed.Tables.{Tables};
+ghost use Rattle.posting_rules.specs.believed.Counter.{Seen, Answers, IsCounterCall, opening_after};
+ghost use Rattle.posting_rules.specs.Counter.{LeavesSomething};
+ghost use Rattle.posting_rules.specs.believed.Runs.{posts, replies_to};
 ghost use Rattle.posting_rules.specs.declared.fault.Fault.{Fault as Told};
 
 use crate::fault::Fault;

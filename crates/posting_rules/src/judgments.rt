@@ -1,7 +1,7 @@
 //! What is looked up for a request, and what becomes of it.
 ghost use Rattle.std.specs.Prelude.{◌≡◌};
 ghost use Rattle.posting_rules.specs.Kept.{decision_from};
-ghost use Rattle.posting_rules.specs.Cases.{is_same_reference};
+ghost use Rattle.posting_rules.specs.believed.Cases.{is_same_reference};
 
 use message_records::{Account, Branch, Cents, Outcome, Reference, Reply, Request};
 use std::marker::Model;
@@ -18,7 +18,7 @@ pub struct Decision {
 
 impl Model for Decision {
     ghost use Rattle.std.specs.Prelude.{IsTrue};
-    ghost use Rattle.posting_rules.specs.Kept.{DecisionFields, is_kept_with};
+    ghost use Rattle.posting_rules.specs.believed.Kept.{DecisionFields, is_kept_with};
 
     ghost Value = { DecisionFields };
 
@@ -43,7 +43,7 @@ impl Model for Decision {
 
 impl Decision {
     ghost use Rattle.std.specs.Prelude.{IsTrue};
-    ghost use Rattle.posting_rules.specs.Kept.{is_kept_with, kept_with};
+    ghost use Rattle.posting_rules.specs.believed.Kept.{is_kept_with, kept_with};
 
     /// The decision of these fields; none for an outcome that isn't kept, and none for a balance other than
     /// zero where the request wasn't posted. `Posted`, `WrongBranch`, `NoAccount`, `BelowFloor` and
@@ -134,7 +134,7 @@ pub struct Kept {
 }
 
 impl Model for Kept {
-    ghost use Rattle.posting_rules.specs.Kept.{KeptFields};
+    ghost use Rattle.posting_rules.specs.believed.Kept.{KeptFields};
 
     ghost Value = { KeptFields };
 
@@ -145,7 +145,7 @@ impl Model for Kept {
 
 impl Kept {
     ghost use Rattle.posting_rules.specs.Kept.{kept_from};
-    ghost use Rattle.posting_rules.specs.Cases.{is_same, kept_reply};
+    ghost use Rattle.posting_rules.specs.believed.Cases.{is_same, kept_reply};
 
     /// The kept request of these fields; none where there is no such decision.
     #[must_use]

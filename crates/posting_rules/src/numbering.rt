@@ -2,8 +2,8 @@
 //! and so on (the scaling of TPC-B). The nth of a branch, from 0 on, is n after its first.
 ghost use Rattle.std.specs.Prelude.{◌≡◌, ◌≤◌};
 ghost use Rattle.message_records.specs.declared.limits.TheConstants.{MAX_BRANCH};
-ghost use Rattle.posting_rules.specs.Numbering.{first_teller, first_account, branch_of_teller};
-ghost use Rattle.posting_rules.specs.Numbering.{branch_of_account, place_of_account};
+ghost use Rattle.posting_rules.specs.believed.Numbering.{first_teller, first_account, branch_of_teller};
+ghost use Rattle.posting_rules.specs.believed.Numbering.{branch_of_account, place_of_account};
 
 use crate::limits::{ACCOUNTS_PER_BRANCH, TELLERS_PER_BRANCH};
 use message_records::{Account, Branch, Teller};

@@ -1,8 +1,8 @@
 //! The rows of a bank's tables.
 ghost use Rattle.std.specs.Prelude.{◌≡◌, pos, IsTrue};
-ghost use Rattle.posting_rules.specs.Entries.{posted_entry};
-ghost use Rattle.posting_rules.specs.Kept.{is_kept_with};
-ghost use Rattle.posting_rules.specs.Tables.{request_row_of, history_row_of};
+ghost use Rattle.posting_rules.specs.believed.Entries.{posted_entry};
+ghost use Rattle.posting_rules.specs.believed.Kept.{is_kept_with};
+ghost use Rattle.posting_rules.specs.believed.Tables.{request_row_of, history_row_of};
 
 use crate::judgments::Decision;
 use crate::limits::MAX_DECIDED;

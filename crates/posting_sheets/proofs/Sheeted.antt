@@ -3,7 +3,7 @@ use Rattle.std.proofs.Common.{◌≡◌, ◌+◌, ◌∷◌, ◌++◌, ◌∙◌
 use Rattle.std.proofs.Common.{length, refl, sym, ap, append-nil, append_assoc}
 use Rattle.std.proofs.lemmas.List.{length_push, Concat.flat_map-append}
 use Rattle.branch_loader.specs.Records.{Fields, Records, TakesRecord}
-use Rattle.message_records.specs.{Records.RequestFields, Spelling.request_spelling}
+use Rattle.message_records.specs.{believed.Records.RequestFields, believed.Spelling.request_spelling}
 use Rattle.posting_sheets.specs.Encoding.{IsPutSo, records_text}
 use Rattle.posting_sheets.specs.Sheets.{Sheet, form_of, request_of_row, sheet_by, sheet_of_records}
 use Rattle.posting_sheets.specs.declared.{form.Form.Form, fault.BadRow.BadRow, fault.SheetFault.SheetFault}

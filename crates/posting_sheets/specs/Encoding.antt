@@ -2,10 +2,12 @@
 use Rattle.std.specs.Prelude.{◌≡◌, ℕ, List, [], length, take, Option, None, Some, Result, Ok, Err}
 use Rattle.std.specs.List.{flat_map}
 use Rattle.std.specs.Io.KnownBytes.{Appends, Consumes, IsAtEnd}
-use Rattle.message_records.specs.Records.{RequestFields}
-use Rattle.message_records.specs.Spelling.{request_spelling}
-use Rattle.posting_core.specs.Told.{EndsWith, GrowsBy, HasReadFailed, HasWriteFailed, IsEndOfInput, IsFlush}
-use Rattle.posting_core.specs.Told.{IsThrough, ReadTold, WriteTold}
+use Rattle.message_records.specs.believed.Records.{RequestFields}
+use Rattle.message_records.specs.believed.Spelling.{request_spelling}
+use Rattle.posting_core.specs.believed.Told.{EndsWith, GrowsBy, IsEndOfInput}
+use Rattle.posting_core.specs.Told.{HasReadFailed, HasWriteFailed, IsFlush}
+use Rattle.posting_core.specs.believed.Told.{ReadTold}
+use Rattle.posting_core.specs.Told.{IsThrough, WriteTold}
 use Rattle.posting_sheets.specs.declared.fault.SheetFault.{SheetFault}
 use Rattle.posting_sheets.specs.declared.fault.SheetFault.TheVariants.{Header, Row, Read, Write, Memory}
 use Rattle.posting_sheets.specs.Sheets.{Sheet, sheet_of}

@@ -4,12 +4,14 @@ use Rattle.std.specs.Prelude.{Result, Ok, Err, codes}
 use Rattle.std.specs.Fmt.{decimal, signed_decimal}
 use Rattle.std.specs.List.{flat_map}
 use Rattle.std.specs.Io.KnownBytes.{Appends, Consumes, IsAtEnd, Keeps}
-use Rattle.message_records.specs.Outcomes.{code_of, name_of}
+use Rattle.message_records.specs.believed.Outcomes.{code_of, name_of}
 use Rattle.message_records.specs.Reading.{reply_of}
-use Rattle.message_records.specs.Records.{IsReply, ReplyFields, RequestFields}
-use Rattle.message_records.specs.Spelling.{reply_spelling}
+use Rattle.message_records.specs.believed.Records.{ReplyFields, RequestFields}
+use Rattle.message_records.specs.Records.{IsReply}
+use Rattle.message_records.specs.believed.Spelling.{reply_spelling}
 use Rattle.message_records.specs.declared.limits.TheConstants.{REPLY_BYTES}
-use Rattle.posting_core.specs.Told.{EndsWith, HasReadFailed, HasWriteFailed, IsEndOfInput, IsFlush, ReadTold}
+use Rattle.posting_core.specs.believed.Told.{EndsWith, IsEndOfInput, ReadTold}
+use Rattle.posting_core.specs.Told.{HasReadFailed, HasWriteFailed, IsFlush}
 use Rattle.posting_core.specs.Told.{WriteTold}
 use Rattle.posting_sheets.specs.Encoding.{IsPrefixOf}
 use Rattle.posting_sheets.specs.declared.fault.RepliesFault.{RepliesFault}

@@ -5,13 +5,13 @@ use Rattle.std.specs.Prelude.{if◌then◌else◌, option_and_then, option_map, 
 use Rattle.std.specs.Option.{ok_or}
 use Rattle.csv.specs.Reading.{default_config, records, strip_bom}
 use Rattle.csv.specs.Records.{field_at}
-use Rattle.message_records.specs.Ranges.{whole_within}
-use Rattle.message_records.specs.Reading.{number_of, ◌>>=◌}
-use Rattle.message_records.specs.Records.{RequestFields, reference_from}
-use Rattle.message_records.specs.Spelling.{filled}
+use Rattle.message_records.specs.believed.Ranges.{whole_within}
+use Rattle.message_records.specs.believed.Reading.{number_of, ◌>>=◌}
+use Rattle.message_records.specs.believed.Records.{RequestFields, reference_from}
+use Rattle.message_records.specs.believed.Spelling.{filled}
 use Rattle.message_records.specs.declared.limits.TheConstants.{MAX_ACCOUNT, MAX_BRANCH, MAX_NUMBER, MAX_TELLER}
 use Rattle.message_records.specs.declared.limits.TheConstants.{REFERENCE_BYTES}
-use Rattle.posting_rules.specs.Numbering.{branch_of_teller}
+use Rattle.posting_rules.specs.believed.Numbering.{branch_of_teller}
 use Rattle.branch_loader.specs.Records.{Fields, Records}
 use Rattle.posting_sheets.specs.declared.form.Form.{Form}
 use Rattle.posting_sheets.specs.declared.fault.BadRow.{BadRow}

@@ -1,7 +1,7 @@
 //! The request that a row of a sheet states.
 ghost use Rattle.std.specs.Prelude.{◌≡◌, ◌≤◌, ◌<◌, ◌^◌, nat_abs, length, IfSome};
 ghost use Rattle.csv.specs.Records.{fields_of};
-ghost use Rattle.message_records.specs.Spelling.{filled};
+ghost use Rattle.message_records.specs.believed.Spelling.{filled};
 ghost use Rattle.posting_sheets.specs.Sheets.{branch_of, delta_of, number_up_to, number_within, reference_of};
 ghost use Rattle.posting_sheets.specs.Sheets.{request_of_fields, request_of_row};
 

@@ -3,7 +3,7 @@ use Rattle.std.proofs.Common.{◌≡◌, ℕ, false, eqb, List, [], ◌∷◌, m
 use Rattle.std.specs.{Prelude.nat_eq, List.AllByRecursion}
 use Rattle.std.proofs.lemmas.Bool.{cases_Bool, eqb-true, eq-eqb}
 use Rattle.std.proofs.lemmas.Map.Keys.{IsDistinct-head, IsDistinct-tail}
-use Rattle.posting_rules.specs.Tables.{row_at, HasKeys}
+use Rattle.posting_rules.specs.believed.Tables.{row_at, HasKeys}
 
 module _ {R : Type 0} (key : R → ℕ) where
   -- a row that is found has the key, and what holds of all rows holds of it

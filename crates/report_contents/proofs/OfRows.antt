@@ -3,7 +3,7 @@ use Rattle.std.proofs.Common.{◌≡◌, ◌+◌, ℕ, suc, Bool, List, [], ◌�
 use Rattle.std.proofs.Common.{refl, ap, ◌∙◌, inl, inr, arith}
 use Rattle.std.specs.Prelude.{ℤ, Option}
 use Rattle.std.proofs.{lemmas.Bool.cases_Bool, lemmas.List.length-append, lemmas.List.length-map}
-use Rattle.posting_rules.specs.Laws.{total}
+use Rattle.posting_rules.specs.believed.Laws.{total}
 use Rattle.walked_rows.specs.declared.{postings.StoredPosting.StoredPosting, requests.StoredRequest.StoredRequest}
 use Rattle.report_contents.specs.declared.audit.Audit.{Audit}
 use Rattle.report_contents.specs.Audit.{audit_of, delta_of, is_odd_request, is_odd_posting, request_ordinal}

@@ -4,15 +4,16 @@ use Rattle.std.proofs.Common.{ap, subst, ◌∙◌, inl, inr, arith}
 use Rattle.std.specs.Prelude.{ℤ, ◌&&◌, nat_eq, nat_le, option_map}
 use Rattle.std.specs.{List.AllByRecursion, List.IsDistinct, Ordering.int_eq}
 use Rattle.std.proofs.lemmas.{Bool.cases_Bool, Int.ints}
-use Rattle.message_records.specs.{Outcomes.code_of, Outcomes.has_balance, declared.records.Outcome.Outcome}
+use Rattle.message_records.specs.{believed.Outcomes.code_of, believed.Outcomes.has_balance}
+use Rattle.message_records.specs.{declared.records.Outcome.Outcome}
 use Rattle.message_records.specs.declared.records.Outcome.TheVariants.{Posted, NoTeller, WrongBranch, BelowFloor}
 use Rattle.message_records.specs.declared.records.Outcome.TheVariants.{NoAccount, OverLimit, ReusedNumber, Full}
 use Rattle.message_records.specs.declared.records.Outcome.TheVariants.{Malformed}
-use Rattle.posting_rules.specs.{declared.rows.HistoryRow.HistoryRow, Numbering.branch_of_teller}
+use Rattle.posting_rules.specs.{declared.rows.HistoryRow.HistoryRow, believed.Numbering.branch_of_teller}
 use Rattle.posting_rules.specs.declared.rows.{RequestRow.RequestRow, TellerRow.TellerRow, BranchRow.BranchRow}
-use Rattle.posting_rules.specs.Laws.{total, tellers_of, Match, IsConsistent}
-use Rattle.posting_rules.specs.LookUps.{balance_of_teller, balance_of_account, balance_of_branch}
-use Rattle.posting_rules.specs.Tables.{Tables, row_at, history_key, request_key}
+use Rattle.posting_rules.specs.believed.Laws.{total, tellers_of, Match, IsConsistent}
+use Rattle.posting_rules.specs.believed.LookUps.{balance_of_teller, balance_of_account, balance_of_branch}
+use Rattle.posting_rules.specs.believed.Tables.{Tables, row_at, history_key, request_key}
 use Rattle.report_contents.specs.Stored.{StoredTables, stored, posting_stored, request_stored, teller_stored}
 use Rattle.report_contents.specs.Stored.{branch_stored, account_stored}
 use Rattle.report_contents.specs.Audit.{is_matched, teller_sum, teller_balance, branch_balance, account_balance}
@@ -119,8 +120,8 @@ module _ (t : Tables) where
   branches_are : map branch_balance f.branches ≡ map balance_of_branch t.branches
   branches_are = values branch_stored branch_balance balance_of_branch (λ x. refl) t.branches
 
-  history_is : map delta_of f.history ≡ map Rattle.posting_rules.specs.Laws.delta_of t.history
-  history_is = values posting_stored delta_of Rattle.posting_rules.specs.Laws.delta_of (λ x. refl) t.history
+  history_is : map delta_of f.history ≡ map Rattle.posting_rules.specs.believed.Laws.delta_of t.history
+  history_is = values posting_stored delta_of Rattle.posting_rules.specs.believed.Laws.delta_of (λ x. refl) t.history
 
   under_both : (o : ℕ) → is_matched (request_under f o) (posting_under f o)
       ≡ both (row_at request_key t.requests o) (row_at history_key t.history o)

@@ -14,7 +14,7 @@ use Rattle.std.proofs.{lemmas.Grind.get_or-set_at, lemmas.List.Elements.filter-a
 use Rattle.std.proofs.lemmas.Bool.{cases_Bool, eqb-true, le-leb}
 use Rattle.std.proofs.lemmas.List.{length-append, map-append, get_or-set_other, get_or-set_same, set-get_or}
 use Rattle.std.proofs.lemmas.List.{take_more_set}
-use Rattle.posting_rules.specs.{Numbering.branch_of_teller, Laws.total}
+use Rattle.posting_rules.specs.{believed.Numbering.branch_of_teller, believed.Laws.total}
 use Rattle.report_contents.specs.declared.{sum.Sum.Sum, audit.BranchLine.BranchLine}
 use Rattle.report_contents.specs.Audit.{teller_sum, teller_balance, lines_of, line_of, differs}
 

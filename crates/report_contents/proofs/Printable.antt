@@ -3,7 +3,7 @@ use Rattle.std.proofs.Common.{◌≡◌, ◌<◌, ◌+◌, ℕ, suc, true, List,
 use Rattle.std.specs.Prelude.{IsTrue, nat_le}
 use Rattle.std.proofs.{lemmas.Bool.and_parts, lemmas.Bool.Decides.nat_tests, lemmas.Str.encode_ascii}
 use Rattle.std.proofs.Math.Seq.{drop-cons}
-use Rattle.message_records.specs.Records.{is_printable}
+use Rattle.message_records.specs.believed.Records.{is_printable}
 use lib.Utf8.{encode}
 
 module _ (text : List ℕ) (i : ℕ) (low : i < length text) where

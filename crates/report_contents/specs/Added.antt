@@ -1,7 +1,7 @@
 -- What rows that were added up leave.
 use Rattle.std.specs.Prelude.{◌≡◌, ℕ, ℤ, pos, ◌+◌, ◌-◌, ◌≤◌, List, length, map, filter, take, Option, slice_index_or}
 use Rattle.posting_rules.specs.declared.limits.TheConstants.{LAST_BRANCH}
-use Rattle.posting_rules.specs.Laws.{total}
+use Rattle.posting_rules.specs.believed.Laws.{total}
 use Rattle.walked_rows.specs.declared.branches.StoredBranch.{StoredBranch}
 use Rattle.walked_rows.specs.declared.tellers.StoredTeller.{StoredTeller}
 use Rattle.walked_rows.specs.declared.postings.StoredPosting.{StoredPosting}

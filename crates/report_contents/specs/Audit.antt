@@ -2,9 +2,9 @@
 use Rattle.std.specs.Prelude.{ℕ, ℤ, pos, nat_le, Bool, true, false, not, ◌&&◌, ◌==◌, List}
 use Rattle.std.specs.Prelude.{◌++◌, length, map, filter, Option, Some, None, is_some}
 use Rattle.std.specs.Ordering.{int_eq}
-use Rattle.posting_rules.specs.Numbering.{branch_of_teller}
-use Rattle.posting_rules.specs.Laws.{total}
-use Rattle.posting_rules.specs.Tables.{row_at}
+use Rattle.posting_rules.specs.believed.Numbering.{branch_of_teller}
+use Rattle.posting_rules.specs.believed.Laws.{total}
+use Rattle.posting_rules.specs.believed.Tables.{row_at}
 use Rattle.walked_rows.specs.declared.branches.StoredBranch.{StoredBranch}
 use Rattle.walked_rows.specs.declared.tellers.StoredTeller.{StoredTeller}
 use Rattle.walked_rows.specs.declared.accounts.StoredAccount.{StoredAccount}

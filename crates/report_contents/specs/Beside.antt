@@ -1,7 +1,7 @@
 -- The rows that an audit is given, each request and each posting with what is beside it, and the audit of
 -- these.
 use Rattle.std.specs.Prelude.{◌≡◌, ℤ, ◌+◌, Bool, not, List, [], length, map, filter, Option, Some, is_some}
-use Rattle.posting_rules.specs.Laws.{total}
+use Rattle.posting_rules.specs.believed.Laws.{total}
 use Rattle.walked_rows.specs.declared.branches.StoredBranch.{StoredBranch}
 use Rattle.walked_rows.specs.declared.tellers.StoredTeller.{StoredTeller}
 use Rattle.walked_rows.specs.declared.accounts.StoredAccount.{StoredAccount}

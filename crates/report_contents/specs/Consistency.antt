@@ -1,8 +1,8 @@
 -- The consistency condition (TPC-B clause 2) on tables as a file has them, and that an audit says so.
 use Rattle.std.specs.Prelude.{◌≡◌, ℕ, true, map}
 use Rattle.std.specs.List.{AllByRecursion}
-use Rattle.posting_rules.specs.Laws.{total, IsConsistent}
-use Rattle.posting_rules.specs.Tables.{Tables, HasKeys, history_key, request_key}
+use Rattle.posting_rules.specs.believed.Laws.{total, IsConsistent}
+use Rattle.posting_rules.specs.believed.Tables.{Tables, HasKeys, history_key, request_key}
 use Rattle.report_contents.specs.Stored.{StoredTables, stored}
 use Rattle.report_contents.specs.Audit.{audit_of, is_sound, is_matched, request_under, posting_under, teller_sum}
 use Rattle.report_contents.specs.Audit.{branch_balance, teller_balance, account_balance, delta_of}

@@ -1,12 +1,12 @@
 -- The tables as a file has them, and the tables of a bank as a file has them.
 use Rattle.std.specs.Prelude.{pos, List, map}
-use Rattle.message_records.specs.Outcomes.{code_of}
+use Rattle.message_records.specs.believed.Outcomes.{code_of}
 use Rattle.posting_rules.specs.declared.rows.BranchRow.{BranchRow}
 use Rattle.posting_rules.specs.declared.rows.TellerRow.{TellerRow}
 use Rattle.posting_rules.specs.declared.rows.AccountRow.{AccountRow}
 use Rattle.posting_rules.specs.declared.rows.HistoryRow.{HistoryRow}
 use Rattle.posting_rules.specs.declared.rows.RequestRow.{RequestRow}
-use Rattle.posting_rules.specs.Tables.{Tables}
+use Rattle.posting_rules.specs.believed.Tables.{Tables}
 use Rattle.walked_rows.specs.declared.branches.StoredBranch.{StoredBranch}
 use Rattle.walked_rows.specs.declared.tellers.StoredTeller.{StoredTeller}
 use Rattle.walked_rows.specs.declared.accounts.StoredAccount.{StoredAccount}

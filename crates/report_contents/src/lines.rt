@@ -1,7 +1,7 @@
 //! Texts in columns, put together without memory.
 ghost use Rattle.std.specs.Prelude.{◌≡◌, ◌≤◌, ◌<◌, ◌+◌, ◌++◌, length, replicate, IsTrue};
 ghost use Rattle.std.specs.Fmt.{signed_decimal};
-ghost use Rattle.message_records.specs.Records.{is_printable};
+ghost use Rattle.message_records.specs.believed.Records.{is_printable};
 ghost use Rattle.report_contents.specs.Lines.{filled_to, right_in, with_sign};
 
 use arrayvec::ArrayString;

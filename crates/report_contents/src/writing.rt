@@ -1,7 +1,8 @@
 //! Writes an audit.
 ghost use Rattle.std.specs.Prelude.{◌≡◌, length, map, IfErr, OnErr, OnOk};
 ghost use Rattle.std.specs.Io.KnownBytes.{Appends};
-ghost use Rattle.posting_core.specs.Told.{EndsWith, HasMore, HasWriteFailed, IsFlush};
+ghost use Rattle.posting_core.specs.believed.Told.{EndsWith};
+ghost use Rattle.posting_core.specs.Told.{HasMore, HasWriteFailed, IsFlush};
 ghost use Rattle.report_contents.specs.Audit.{is_sound};
 ghost use Rattle.report_contents.specs.AuditText.{audit_text, branch_line, verdict_line};
 ghost use Rattle.report_contents.specs.Lines.{text_of};

@@ -8,7 +8,7 @@ use Rattle.std.specs.List.{cons_option}
 use Rattle.sqlite_value.specs.Order.{Row}
 use Rattle.sqlite_rules.specs.Edit.{Edit, Applies, edited}
 use Rattle.sqlite_rules.specs.Action.{Work, loses, Acts, ActsOn, Goes, refuses, max_depth, action_edit, End}
-use Rattle.sql_meanings.specs.Making.{Stands}
+use Rattle.sql_meanings.specs.believed.Making.{Stands}
 use Rattle.std.specs.Prelude.{◌≡◌, ◌≢◌, ◌+◌, ◌==◌, ◌∷◌, ◌&&◌, ◌⊎◌}
 
 ok_same : {B E : Type 0} {a b : B} → ◌≡◌ {A = Result B E} (Ok a) (Ok b) → a ≡ b

@@ -3,8 +3,9 @@ use Rattle.sql_meanings.specs.Names.{ℕ, ℤ, List, [], map, length, Value, Nul
 use Rattle.sql_meanings.specs.Names.{Row, Table, cast_row, Column}
 use Rattle.sql_meanings.proofs.Names.{inl, inr, refl, ap, arith}
 use Rattle.sqlite_rules.specs.Cast.{cast, cast_all}
-use Rattle.sql_meanings.specs.Entries.{Entry, numbers, texts_held, stored, AreShort}
-use Rattle.sql_meanings.specs.Plain.{key_column, number_column, text_column}
+use Rattle.sql_meanings.specs.believed.Entries.{Entry, numbers, texts_held, stored}
+use Rattle.sql_meanings.specs.Entries.{AreShort}
+use Rattle.sql_meanings.specs.believed.Plain.{key_column, number_column, text_column}
 use Rattle.sql_meanings.proofs.EntryLists.{cast_int, cast_null}
 use Rattle.std.specs.Prelude.{◌≡◌, ◌≤◌, ◌⊎◌, ◌∷◌, ◌++◌}
 

@@ -4,7 +4,8 @@ use Rattle.sql_meanings.specs.Names.{Some, None, int_eq, match_ordering, AllByRe
 use Rattle.sql_meanings.proofs.Names.{refl, sym, ap, subst, ◌∙◌, Less, Equal, Greater, Ordering, int_cmp, ints, arith}
 use Rattle.sql_meanings.proofs.Names.{value_cmp-Int}
 use Rattle.std.proofs.lemmas.Bool.Decides.{Decides-int_eq}
-use Rattle.sql_meanings.specs.Entries.{HasWidth, Entry, IsTree, Rise, changed, has_key, put, stored}
+use Rattle.sql_meanings.specs.believed.Entries.{HasWidth, Entry, IsTree, Rise, has_key, stored}
+use Rattle.sql_meanings.specs.Entries.{changed, put}
 use Rattle.sql_meanings.proofs.EntryLists.{Above, rise_put}
 use Rattle.std.specs.Prelude.{◌≡◌, ◌||◌, ◌∷◌}
 

@@ -9,7 +9,8 @@ use Rattle.sqlite_sql.specs.Ops.{unary}
 use Rattle.sqlite_value.specs.Order.{value_cmp}
 use Rattle.sqlite_trees.proofs.ListLemmas.{filter-map}
 use Rattle.sqlite_schema.specs.declared.schema.Kind.TheVariants.{Integer}
-use Rattle.sql_meanings.specs.Entries.{listed, Entry, Rise, has_key, put, stored}
+use Rattle.sql_meanings.specs.believed.Entries.{Entry, Rise, has_key, stored}
+use Rattle.sql_meanings.specs.Entries.{listed, put}
 use Rattle.std.specs.Prelude.{◌≡◌, ◌∷◌}
 
 -- a choice between the same

@@ -2,7 +2,8 @@
 use Rattle.sql_meanings.specs.Names.{false, Table, State, store_error, Error, StoreError, OutOfMemory, Io}
 use Rattle.sql_meanings.specs.Names.{Corrupt, Full, Broken, Unstorable}
 use Rattle.sql_meanings.proofs.Names.{inl, inr, refl, ap, ◌∙◌}
-use Rattle.sql_meanings.specs.StatementAnswers.{PutFails, SetFails, is_taken_key}
+use Rattle.sql_meanings.specs.believed.StatementAnswers.{is_taken_key}
+use Rattle.sql_meanings.specs.StatementAnswers.{PutFails, SetFails}
 use Rattle.std.specs.Prelude.{◌≡◌}
 
 store_other : (cause : StoreError) → is_taken_key (store_error cause) ≡ false

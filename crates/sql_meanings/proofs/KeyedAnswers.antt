@@ -7,7 +7,8 @@ use Rattle.std.specs.List.Sorted.{IsPermutation}
 use Rattle.sqlite.specs.Query.{Output}
 use Rattle.sqlite.proofs.Callers.{one_permutation}
 use Rattle.sql_meanings.proofs.EntryLists.{int_equals, one_filter}
-use Rattle.sql_meanings.specs.Entries.{listed, Entry, IsTree, has_key, stored}
+use Rattle.sql_meanings.specs.believed.Entries.{Entry, IsTree, has_key, stored}
+use Rattle.sql_meanings.specs.Entries.{listed}
 use Rattle.sql_meanings.specs.Queries.{no_limit, is, query}
 use Rattle.std.specs.Prelude.{◌≡◌, ◌∷◌, ◌++◌, ◌&&◌}
 

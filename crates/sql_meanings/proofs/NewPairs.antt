@@ -2,7 +2,8 @@
 use Rattle.sql_meanings.specs.Names.{ℤ, List, [], find, is_some, Bool, true, false, Some, None, Option, cond}
 use Rattle.sql_meanings.specs.Names.{AllByRecursion, Has, is_eq, match_ordering}
 use Rattle.sql_meanings.proofs.Names.{inl, inr, refl, sym, ap, ◌∙◌, Less, Equal, Greater, Ordering, int_cmp}
-use Rattle.sql_meanings.specs.Entries.{Entry, has_key, has_two, put}
+use Rattle.sql_meanings.specs.believed.Entries.{Entry, has_key, has_two}
+use Rattle.sql_meanings.specs.Entries.{put}
 use Rattle.sql_meanings.specs.SeveralRows.{meets_key, put_each}
 use Rattle.sql_meanings.proofs.Changes.{found_passes}
 use Rattle.sql_meanings.proofs.EntryLists.{flip}

@@ -7,7 +7,8 @@ use Rattle.sql_meanings.proofs.Names.{take, refl, ap, subst, ◌∙◌, Less, in
 use Rattle.sql_meanings.proofs.Names.{map-map}
 use Rattle.sqlite.specs.{Order.value_cmp, Term.eval, Query.output_cmp, Query.Output}
 use Rattle.sqlite_sql.proofs.QueryLemmas.{output_cmp_total}
-use Rattle.sql_meanings.specs.Entries.{Entry, IsTree, Rise, is_above, listed, stored}
+use Rattle.sql_meanings.specs.believed.Entries.{Entry, IsTree, Rise, stored}
+use Rattle.sql_meanings.specs.Entries.{is_above, listed}
 use Rattle.sql_meanings.specs.Queries.{ascending, above, key_above, query}
 use Rattle.sql_meanings.proofs.{EntryLists.Above, TestedAnswers.passing, RisingOrder.sorted_is}
 use Rattle.std.specs.Prelude.{◌≡◌, ◌&&◌, ◌∷◌}

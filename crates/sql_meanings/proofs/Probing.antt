@@ -13,7 +13,8 @@ use Rattle.sqlite_schema.specs.declared.program.Table.{Table as Let}
 use Rattle.sqlite_resolve.specs.Program.{alone}
 use Rattle.sql_meanings.specs.StatementAnswers.{is_text_refused, IsThere, IsUnderstood, OnlyShows, TellsProbe}
 use Rattle.sql_meanings.specs.StatementAnswers.{TellsUnderstood}
-use Rattle.sql_meanings.specs.{Tables.Defines, Tables.placed_at, Tables.tree_of, Queries.no_limit}
+use Rattle.sql_meanings.specs.{believed.Tables.Defines, believed.Tables.placed_at, believed.Tables.tree_of}
+use Rattle.sql_meanings.specs.{Queries.no_limit}
 use Rattle.sql_meanings.proofs.{TablesBeside.standing, Expressions.st, OneTable.IsSelectOf, Statements.HasTable}
 use Rattle.sqlite_ast.specs.declared.Select as written_select
 use Rattle.sqlite_ast.specs.declared.Origin.TheVariants as origin

@@ -10,8 +10,10 @@ use Rattle.sql_meanings.proofs.Names.{inl, inr, refl, sym, ap, subst, ◌∙◌,
 use Rattle.std.proofs.Common.{fold}
 use Rattle.sqlite.specs.Rows.{Sourced, Counter, Inserts, higher, last_id}
 use Rattle.sqlite_rules.proofs.TableLemmas.{put_all_keeps}
-use Rattle.sql_meanings.specs.{Entries.Entry, Entries.has_key, Entries.put, Entries.stored, SeveralRows.meets_key}
-use Rattle.sql_meanings.specs.{SeveralRows.put_each, Tables.Holds, Tables.placed_at, Tables.tree_of}
+use Rattle.sql_meanings.specs.{believed.Entries.Entry, believed.Entries.has_key, Entries.put, believed.Entries.stored}
+use Rattle.sql_meanings.specs.{SeveralRows.meets_key}
+use Rattle.sql_meanings.specs.{SeveralRows.put_each, believed.Tables.Holds, believed.Tables.placed_at}
+use Rattle.sql_meanings.specs.{believed.Tables.tree_of}
 use Rattle.sql_meanings.specs.StatementAnswers.{Forbids, HasWideIndex, IsInterrupted, PutFails}
 use Rattle.sql_meanings.proofs.{Means.Means, Means.no_refusal, Referring.asks_none, Referring.refers_after}
 use Rattle.sql_meanings.proofs.{TablesBeside.Standing, TablesBeside.standing, TableWrites.IsPlain}

@@ -4,9 +4,10 @@ use Rattle.sql_meanings.specs.Names.{Trees, Table, Term, Edit, edit_of, edited, 
 use Rattle.sql_meanings.specs.Names.{Values, Insert, IsDatabase, value_rows, stamped, State, Executes, AllByRecursion}
 use Rattle.sql_meanings.specs.Names.{Enforced, Has, passes_checks, accepts_terms}
 use Rattle.sql_meanings.proofs.Names.{refl, sym, ap, subst, ◌∙◌, all_has}
-use Rattle.sql_meanings.specs.Entries.{AreShort, HasWidth, Entry, has_key, put, stored}
+use Rattle.sql_meanings.specs.believed.Entries.{HasWidth, Entry, has_key, stored}
+use Rattle.sql_meanings.specs.Entries.{AreShort, put}
 use Rattle.sql_meanings.specs.{SeveralRows.meets_key, SeveralRows.put_each, Making.SparesTables}
-use Rattle.sql_meanings.specs.Tables.{Holds, placed_at, tree_of, width_of}
+use Rattle.sql_meanings.specs.believed.Tables.{Holds, placed_at, tree_of, width_of}
 use Rattle.sql_meanings.proofs.{Statements.HasTable, Means.Means, TablesBeside.standing, PuttingIn.put_in_applies}
 use Rattle.sql_meanings.proofs.SeveralRows.{IsRowOf, fresh_each, numbered_each, or_nothing, put_all_stored, tree_each}
 use Rattle.sql_meanings.proofs.Writing.{Wrote, inserts, uncounted}

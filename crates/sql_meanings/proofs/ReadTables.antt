@@ -4,8 +4,10 @@ use Rattle.sql_meanings.specs.Names.{false, Row, Query, IsSureAnswer, has_no_fol
 use Rattle.sql_meanings.specs.Names.{IsDatabase, State, QueriesRowInside, Error, accepts_program}
 use Rattle.sql_meanings.proofs.Names.{inl, inr, refl, sym, subst, nat_le}
 use Rattle.sqlite.specs.Command.TheVariants.{Select}
-use Rattle.sql_meanings.specs.Entries.{Entry, IsTree, listed}
-use Rattle.sql_meanings.specs.{Tables.Defines, Tables.placed_at, Tables.tree_of, StatementAnswers.TellsRow}
+use Rattle.sql_meanings.specs.believed.Entries.{Entry, IsTree}
+use Rattle.sql_meanings.specs.Entries.{listed}
+use Rattle.sql_meanings.specs.{believed.Tables.Defines, believed.Tables.placed_at, believed.Tables.tree_of}
+use Rattle.sql_meanings.specs.{StatementAnswers.TellsRow}
 use Rattle.sql_meanings.proofs.{Statements.HasTable, Means.Means, TablesBeside.standing}
 use Rattle.sql_meanings.proofs.PlainReads.{first_answers, none_or_fails}
 use Rattle.std.specs.Prelude.{◌≡◌, ◌^◌, ◌∷◌}

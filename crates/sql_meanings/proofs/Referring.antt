@@ -9,7 +9,7 @@ use Rattle.sqlite_schema.specs.Rules.{has_null, has_parent, is_held, is_key_if_t
 use Rattle.sqlite_rules.specs.Edit.{Edit}
 use Rattle.sqlite_rules.proofs.ListLemmas.{fails_has, has_found, some_from, some_has}
 use Rattle.sqlite_rules.proofs.RuleLemmas.{key_tree, parent_is_table, refers_at, refers_from}
-use Rattle.sql_meanings.specs.{Making.Stands, StatementAnswers.is_parent}
+use Rattle.sql_meanings.specs.{believed.Making.Stands, StatementAnswers.is_parent}
 use Rattle.std.specs.Prelude.{◌≡◌, ◌≢◌, ◌⊎◌, ◌==◌, ◌∷◌, ◌||◌, ◌&&◌}
 
 -- the table that a reference finds has its parent's name

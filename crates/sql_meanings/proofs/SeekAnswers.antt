@@ -3,7 +3,7 @@ use Rattle.sql_meanings.specs.Names.{ℕ, ℤ, List, [], map, filter, Bool, true
 use Rattle.sql_meanings.specs.Names.{int_eq, Value, Int, Row, Binary, is_true, from_truth, binary, Compare, Ge, Trees}
 use Rattle.sql_meanings.specs.Names.{Term, Env, eval_all, holds, IsAnswerAs, matches_as, page, inner, end}
 use Rattle.sql_meanings.proofs.Names.{refl, ap, ◌∙◌, int_cmp, value_cmp-Int}
-use Rattle.sql_meanings.specs.Entries.{Entry, IsTree, stored}
+use Rattle.sql_meanings.specs.believed.Entries.{Entry, IsTree, stored}
 use Rattle.sql_meanings.specs.Seeks.{is_from, is_of_from, key_from, next_from, next_of_from, of_from}
 use Rattle.sql_meanings.proofs.{EntryLists.int_equals, EntryLists.text_apart, TestedAnswers.passing}
 use Rattle.sql_meanings.proofs.OrderedAnswers.{ordered_answer, rise_filter}

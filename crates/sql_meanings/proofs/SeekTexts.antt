@@ -5,7 +5,7 @@ use Rattle.sql_meanings.specs.Names.{alone, affinity_of, Name, alias_of, declare
 use Rattle.sql_meanings.proofs.{Names.refl, Names.arith, Above.Onwards, Above.select_rising}
 use Rattle.sql_meanings.proofs.{AtOrAboveOf.select_two_from, ByKey.Tests, ByKey.key_at, Columns.over_one, Means.means}
 use Rattle.sql_meanings.proofs.{ReadTables.ReadsAs, Statements.HasTable, Texts.IsSelect, Texts.left_over, Texts.many}
-use Rattle.sql_meanings.specs.{Queries.ascending, Tables.placed_at}
+use Rattle.sql_meanings.specs.{Queries.ascending, believed.Tables.placed_at}
 use Rattle.sql_meanings.specs.Seeks.{key_from, next_from, next_of_from, of_from}
 use Rattle.sql_meanings.proofs.ShownColumns.{has_room, outputs_at, shows_named}
 use Rattle.sqlite_ast.specs.declared.Binary.TheVariants as binary

@@ -9,9 +9,11 @@ use Rattle.sql_meanings.specs.Names.{Given, cast_row, ids_of, are_fresh, is_take
 use Rattle.sql_meanings.proofs.Names.{inl, inr, refl, sym, ap, subst, ◌∙◌, cases_Bool, ∥∥₁_elim, one_step}
 use Rattle.sql_meanings.proofs.Names.{no_fold_overflows, all_has}
 use Rattle.sqlite.specs.Rows.{Queried, Updates}
-use Rattle.sql_meanings.specs.Entries.{HasWidth, Entry, changed, has_key, listed, stored}
+use Rattle.sql_meanings.specs.believed.Entries.{HasWidth, Entry, has_key, stored}
+use Rattle.sql_meanings.specs.Entries.{changed, listed}
 use Rattle.sql_meanings.specs.StatementAnswers.{Forbids, HasWideIndex, IsInterrupted, SetFails, is_parent}
-use Rattle.sql_meanings.specs.{Tables.Holds, Tables.placed_at, Tables.tree_of, Tables.width_of, Queries.by_key}
+use Rattle.sql_meanings.specs.{believed.Tables.Holds, believed.Tables.placed_at, believed.Tables.tree_of}
+use Rattle.sql_meanings.specs.{believed.Tables.width_of, Queries.by_key}
 use Rattle.sql_meanings.proofs.Changes.{found_all, found_key, taken_is}
 use Rattle.sql_meanings.proofs.EntryLists.{none_without, without, without_stored}
 use Rattle.sql_meanings.proofs.{KeyedAnswers.keyed_answer, Means.Means, Means.no_refusal, ReadTables.under_overlay}

@@ -4,8 +4,9 @@ use Rattle.sql_meanings.specs.Names.{true, false, Null, Int, Row, overlay, Schem
 use Rattle.sql_meanings.specs.Names.{Table, Term, eval_all, Edit, edit_of, edited, ids_of, passes_checks}
 use Rattle.sql_meanings.specs.Names.{accepts_program, Given, Update, IsDatabase, State, Executes}
 use Rattle.sql_meanings.proofs.Names.{refl, sym, ap, subst, ◌∙◌}
-use Rattle.sql_meanings.specs.Entries.{HasWidth, Entry, IsTree, changed, has_key, listed, put, stored}
-use Rattle.sql_meanings.specs.Tables.{Holds, placed_at, tree_of, width_of, texts_of}
+use Rattle.sql_meanings.specs.believed.Entries.{HasWidth, Entry, IsTree, has_key, stored}
+use Rattle.sql_meanings.specs.Entries.{changed, listed, put}
+use Rattle.sql_meanings.specs.believed.Tables.{Holds, placed_at, tree_of, width_of, texts_of}
 use Rattle.sql_meanings.specs.Queries.{by_key}
 use Rattle.sql_meanings.proofs.{Statements.HasTable, Means.Means, KeyedAnswers.keyed_answer, ReadTables.under_overlay}
 use Rattle.sql_meanings.proofs.{TablesBeside.standing, Writing.updates}

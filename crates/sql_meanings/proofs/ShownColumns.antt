@@ -7,7 +7,7 @@ use Rattle.sql_meanings.proofs.Names.{append-nil, refl, arith, nat_lt, ◌∙◌
 use Rattle.std.proofs.Common.{append_assoc}
 use Rattle.sqlite_ast.specs.{declared.Expr.TheOpen.Shown-F, Layer.Layer, Layer.ShownLayer}
 use Rattle.sqlite_resolve.specs.Body.{outputs_from, shown, heading, is_column}
-use Rattle.sql_meanings.specs.Plain.{key_column}
+use Rattle.sql_meanings.specs.believed.Plain.{key_column}
 use Rattle.sql_meanings.proofs.Columns.{bound_to, over_one, found_is, column_is}
 use Rattle.sql_meanings.proofs.Expressions.{st, lower_column}
 use Rattle.sqlite_resolve.specs.Body as body

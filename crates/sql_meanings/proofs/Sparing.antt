@@ -14,10 +14,10 @@ use Rattle.std.specs.Ordering.{int_cmp, is_lt}
 use Rattle.sqlite.specs.State.{Runs, Writes as WritesNow}
 use Rattle.sqlite.specs.Clock.{timed as with_time}
 use Rattle.sqlite_resolve.specs.{Compile.on_table, Compile.target, Body.table_at, Write.updated, Lowering.or_else}
-use Rattle.sql_meanings.specs.{Making.Stands, Tables.tree_of}
+use Rattle.sql_meanings.specs.{believed.Making.Stands, believed.Tables.tree_of}
 use Rattle.sql_meanings.proofs.Actions.{apart_from, good_works, settles}
 use Rattle.sql_meanings.proofs.Writing.{same_value, went}
-use Rattle.sql_meanings.specs.Sparing.{IsNot, SparesAllBut, sequence_name}
+use Rattle.sql_meanings.specs.believed.Sparing.{IsNot, SparesAllBut, sequence_name}
 use Rattle.sqlite_ast.specs.declared.Conflict.TheVariants as conflict
 use Rattle.sqlite_ast.specs.declared.Statement.TheVariants as written
 use Rattle.std.specs.Prelude.{◌≡◌, ◌≢◌, ◌+◌, ◌∷◌, ◌++◌, if◌then◌else◌}

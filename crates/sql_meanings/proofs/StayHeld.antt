@@ -1,9 +1,10 @@
 -- Tables that are held stay held while others are made.
 use Rattle.sql_meanings.specs.Names.{List, [], true, Table, Database, IsDatabase}
 use Rattle.sql_meanings.proofs.Names.{sym, ap, subst, ◌∙◌}
-use Rattle.sql_meanings.specs.Contents.{HoldsEach, has_other_names, is_free, stand_apart}
-use Rattle.sql_meanings.specs.{Entries.Entry, Entries.IsTree, Making.KeepsWhatStood}
-use Rattle.sql_meanings.specs.Tables.{Holds, placed_at, tree_of, width_of}
+use Rattle.sql_meanings.specs.believed.Contents.{HoldsEach}
+use Rattle.sql_meanings.specs.Contents.{has_other_names, is_free, stand_apart}
+use Rattle.sql_meanings.specs.{believed.Entries.Entry, believed.Entries.IsTree, Making.KeepsWhatStood}
+use Rattle.sql_meanings.specs.believed.Tables.{Holds, placed_at, tree_of, width_of}
 use Rattle.sql_meanings.proofs.{Contents.no_references, Tests.and_both}
 use Rattle.sql_meanings.proofs.Defining.{defined_stands, stands_defined}
 use Rattle.std.specs.Prelude.{◌≡◌, ◌++◌, ◌&&◌, ◌∷◌}

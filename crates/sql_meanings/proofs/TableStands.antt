@@ -11,7 +11,8 @@ use Rattle.sqlite_value.specs.Order.{Row}
 use Rattle.sqlite_trees.specs.Tree.{IsAscending}
 use Rattle.sqlite_catalog.proofs.StepLemmas.{table_below, same_itself}
 use Rattle.sql_meanings.proofs.{Statements.HasTable, Growing.low_tree, Growing.sequenced}
-use Rattle.sql_meanings.specs.Making.{Stands, AddsTable, IsGrown, KeepsWhatStood, counts_rows}
+use Rattle.sql_meanings.specs.believed.Making.{Stands}
+use Rattle.sql_meanings.specs.Making.{AddsTable, IsGrown, KeepsWhatStood, counts_rows}
 use Rattle.std.specs.Prelude.{◌≡◌, ◌⊎◌, ◌+◌, ◌^◌, ◌<◌, ◌==◌, ◌∷◌}
 
 -- a table stands on as another is made

@@ -2,12 +2,14 @@
 use Rattle.sql_meanings.specs.Names.{length, ℕ, Some, List, [], map, Row, Table, Edit, edited, IsDatabase, State}
 use Rattle.sql_meanings.specs.Names.{cast_row}
 use Rattle.sql_meanings.proofs.Names.{sym, ap, subst, ◌∙◌, arith}
-use Rattle.sql_meanings.specs.Entries.{Entry, IsTree, HasWidth, AreShort, numbers, texts_held, stored}
+use Rattle.sql_meanings.specs.believed.Entries.{Entry, IsTree, HasWidth, numbers, texts_held, stored}
+use Rattle.sql_meanings.specs.Entries.{AreShort}
 use Rattle.sql_meanings.proofs.{Casting.AreFor, Casting.all_for, Casting.cast_stored, TablesBeside.ChangesOneTable}
 use Rattle.sql_meanings.proofs.{Writing.Wrote}
-use Rattle.sql_meanings.specs.Making.{SparesStanding, Stands}
-use Rattle.sql_meanings.specs.Tables.{placed_at, tree_of, width_of, texts_of}
-use Rattle.sql_meanings.specs.Plain.{key_column, number_column, text_column}
+use Rattle.sql_meanings.specs.believed.Making.{Stands}
+use Rattle.sql_meanings.specs.Making.{SparesStanding}
+use Rattle.sql_meanings.specs.believed.Tables.{placed_at, tree_of, width_of, texts_of}
+use Rattle.sql_meanings.specs.believed.Plain.{key_column, number_column, text_column}
 use Rattle.std.specs.Prelude.{◌≡◌, ◌≤◌, ◌+◌, ◌++◌, ◌∷◌}
 
 -- what a write of one table leaves: the table has these rows now, and each other table what it had

@@ -4,9 +4,9 @@ use Rattle.sql_meanings.specs.Names.{Schema, Table, Row, Database, IsDatabase}
 use Rattle.sql_meanings.proofs.Names.{nat_le, refl, sym, ap, subst, ◌∙◌, ∥∥₁_elim, all_has}
 use Rattle.std.specs.Coded.{coded_bool}
 use Rattle.sql_meanings.proofs.{Statements.HasTable, Defining.defined_stands, Growing.low_tree}
-use Rattle.sql_meanings.specs.{Making.Stands, Entries.Entry, Entries.IsTree}
+use Rattle.sql_meanings.specs.{believed.Making.Stands, believed.Entries.Entry, believed.Entries.IsTree}
 use Rattle.sql_meanings.proofs.TableStands.{found_apart, high_not}
-use Rattle.sql_meanings.specs.Tables.{Defines, Holds, placed_at, tree_of, width_of}
+use Rattle.sql_meanings.specs.believed.Tables.{Defines, Holds, placed_at, tree_of, width_of}
 use base.Stored.{Coded-set}
 use Rattle.std.specs.Prelude.{◌≡◌, ◌≢◌, ◌^◌}
 

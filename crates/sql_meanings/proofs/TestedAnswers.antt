@@ -6,7 +6,7 @@ use Rattle.sql_meanings.specs.Names.{output}
 use Rattle.sql_meanings.proofs.Names.{refl, sym, ap, subst, ◌∙◌, IsPermutation, map-map}
 use Rattle.std.proofs.lemmas.List.Sorted.{IsPermutation-map}
 use Rattle.sqlite.specs.Query.{Output}
-use Rattle.sql_meanings.specs.{Entries.Entry, Entries.stored, Queries.no_limit, Queries.query}
+use Rattle.sql_meanings.specs.{believed.Entries.Entry, believed.Entries.stored, Queries.no_limit, Queries.query}
 use Rattle.std.specs.Prelude.{◌≡◌, ◌∷◌, ◌++◌}
 
 module _ (params : Row) (tests : List Term) (passes : Entry → Bool) (same : (e : Entry)

@@ -6,12 +6,13 @@ use Rattle.sql_meanings.specs.Names.{Expr, out-Expr, Expr-F, Shown, out-Shown, S
 use Rattle.sql_meanings.specs.Names.{small, Name, ungrouped, number, NoSuchTable, Parsed, accepts_program}
 use Rattle.sql_meanings.specs.Names.{accepts_terms}
 use Rattle.sql_meanings.proofs.Names.{refl, ap, arith, zero, suc, length-map}
-use Rattle.sql_meanings.specs.Entries.{AreShort, HasWidth, Entry, stored}
+use Rattle.sql_meanings.specs.believed.Entries.{HasWidth, Entry, stored}
+use Rattle.sql_meanings.specs.Entries.{AreShort}
 use Rattle.sql_meanings.proofs.{PutRows.PutsAs, PutRows.PutsEachAs, ByKey.Tests, ByKey.key_at, Means.means}
 use Rattle.sql_meanings.proofs.{OnlyShowing.only_understood, ReadTables.ReadsAs, Selects.select_all}
 use Rattle.sql_meanings.proofs.{Selects.select_by_key, SeveralRows.IsRowOf, Statements.HasTable, Statements.inserts}
 use Rattle.sqlite_ast.specs.declared.Source.{Source as From}
-use Rattle.sql_meanings.specs.{StatementAnswers.OnlyShows, Tables.placed_at, Tables.width_of}
+use Rattle.sql_meanings.specs.{StatementAnswers.OnlyShows, believed.Tables.placed_at, believed.Tables.width_of}
 use Rattle.sql_meanings.specs.Queries.{by_key, key_is, no_limit, query}
 use Rattle.sql_meanings.proofs.OneTable.{IsPartOf, IsSelectOf, one_table}
 use Rattle.sql_meanings.proofs.Probing.{ProbesAs, refuses_query, understood_missing}

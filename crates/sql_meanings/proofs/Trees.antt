@@ -5,8 +5,8 @@ use Rattle.sql_meanings.proofs.{Names.Less, Names.∥∥₁_elim, Defining.Defin
 use Rattle.std.specs.Coded.{coded_ℕ}
 use Rattle.sqlite_trees.specs.{Props.rows_set, Props.IsAscending-prop, Props.Ordering-set, Objects.catalog_tree}
 use Rattle.sqlite_catalog.proofs.ReadLemmas.{lists_once}
-use Rattle.sql_meanings.specs.Entries.{HasWidth, Entry, IsTree, Rise}
-use Rattle.sql_meanings.specs.Tables.{Holds, tree_of, width_of}
+use Rattle.sql_meanings.specs.believed.Entries.{HasWidth, Entry, IsTree, Rise}
+use Rattle.sql_meanings.specs.believed.Tables.{Holds, tree_of, width_of}
 use base.Stored.{Coded-set}
 use Rattle.sqlite_schema.specs.contracts.schema.Schema as schema_row
 use Rattle.std.specs.Prelude.{◌≡◌}

@@ -4,7 +4,7 @@ use Rattle.sql_meanings.specs.Names.{Row, Term, Table, Schema, Trees, Values, In
 use Rattle.sql_meanings.specs.Names.{Chosen, Given, Edit, edit_of, are_fresh, left_by, ids_of, Writes, Tally, Written}
 use Rattle.sql_meanings.specs.Names.{stamped, Database, IsDatabase, Answers, value_rows, State, Executes}
 use Rattle.sql_meanings.proofs.Names.{inl, inr, refl, sym, ap, subst, ◌∙◌, runs_as}
-use Rattle.sql_meanings.specs.Making.{Stands}
+use Rattle.sql_meanings.specs.believed.Making.{Stands}
 use Rattle.sql_meanings.proofs.{Actions.Leaves, Actions.writes_leave, Means.Means, Means.meant_is, Means.plain_is}
 use Rattle.std.specs.Prelude.{◌≡◌, ◌⊎◌, ◌/◌}
 

@@ -1,16 +1,6 @@
--- Tables side by side in one database, each with its rows.
+-- Tables with names of their own.
 use Rattle.sql_meanings.specs.Names.{not, Bool, true, List, [], length, list_all, bytes_eq, Table}
-use Rattle.sql_meanings.specs.Names.{Database}
-use Rattle.sql_meanings.specs.Entries.{Entry}
-use Rattle.sql_meanings.specs.Tables.{Holds}
 use Rattle.std.specs.Prelude.{◌&&◌, ◌==◌, ◌∷◌}
-
--- the database holds each of these tables with its rows, whatever else it has
-abbrev pub HoldsEach : Database → List Table → List (List Entry) → Type 0
-HoldsEach db [] [] = Unit {0}
-HoldsEach db [] (es ∷ contents) = ⊥
-HoldsEach db (t ∷ tables) [] = ⊥
-HoldsEach db (t ∷ tables) (es ∷ contents) = Holds db t es × HoldsEach db tables contents
 
 -- no table has this one's name
 abbrev pub has_other_names : Table → List Table → Bool

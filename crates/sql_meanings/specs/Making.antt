@@ -1,4 +1,4 @@
--- How a table comes to be, and what is kept beside it.
+-- What CREATE TABLE leaves, and when it is refused.
 use Rattle.sql_meanings.specs.Names.{IsTrue, IsUtf8, List, ℕ, [], Bool, true}
 use Rattle.sql_meanings.specs.Names.{false, codes, length, Ok, Err, None, slice_range, list_any, Schema, Table}
 use Rattle.sql_meanings.specs.Names.{CreateTable, automatics, created, is_used, next_tree, lacks_sequence}
@@ -7,13 +7,8 @@ use Rattle.sql_meanings.specs.Names.{understood, table_defined_by, Compiled, Com
 use Rattle.sql_meanings.specs.Names.{is_formed, Index, table_reals, Has}
 use Rattle.std.specs.Prelude.{◌*◌, ◌≡◌, ◌≢◌, ◌⊎◌, ◌+◌, ◌^◌, ◌<◌, ◌≤◌, ◌==◌}
 use Rattle.sqlite.specs.declared.error.ErrorCode.TheVariants.{NameTaken}
-use Rattle.sql_meanings.specs.Tables.{placed_at, tree_of}
-
--- a table of the schema that has its tree to itself, and no foreign key
-pub record Stands (schema : Schema) (table : Table) : Type 0 where
-  pub listed : Has schema.tables table
-  pub apart : (t : Table) → Has schema.tables t → t.tree ≡ table.tree → t ≡ table
-  pub free : table.references ≡ []
+use Rattle.sql_meanings.specs.believed.Tables.{placed_at, tree_of}
+use Rattle.sql_meanings.specs.believed.Making.{Stands}
 
 -- every table is kept with its rows, and each that had its tree to itself still has
 pub record KeepsWhatStood (old after : Database) : Type 0 where

@@ -3,7 +3,7 @@
 use Rattle.sql_meanings.specs.Names.{ℕ, ℤ, Bool, false, List, [], pos, int_eq, is_ge, Int, Term, lit, col}
 use Rattle.sql_meanings.specs.Names.{op2, Query, inner, end, Binary, Compare, Ge}
 use Rattle.std.specs.Ordering.{int_cmp}
-use Rattle.sql_meanings.specs.Entries.{Entry}
+use Rattle.sql_meanings.specs.believed.Entries.{Entry}
 use Rattle.sql_meanings.specs.Queries.{ascending, is, query}
 use Rattle.std.specs.Prelude.{◌&&◌, ◌∷◌}
 

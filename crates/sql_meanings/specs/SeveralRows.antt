@@ -1,6 +1,7 @@
 -- Rows that are put in one after another.
 use Rattle.sql_meanings.specs.Names.{Bool, false, List, [], find, is_some}
-use Rattle.sql_meanings.specs.Entries.{Entry, has_key, put}
+use Rattle.sql_meanings.specs.believed.Entries.{Entry, has_key}
+use Rattle.sql_meanings.specs.Entries.{put}
 use Rattle.std.specs.Prelude.{◌||◌, ◌∷◌}
 
 -- the rows with these in their places, one after another

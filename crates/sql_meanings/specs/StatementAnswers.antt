@@ -1,15 +1,15 @@
--- What a statement inside a transaction answers, why it may fail, and what it leaves.
+-- What a statement answers where it fails, by its kind.
 use Rattle.sql_meanings.specs.Names.{IsSome, IsTrue, ℕ, List, [], length, map}
 use Rattle.sql_meanings.specs.Names.{Bool, true, false, Option, Some, None, Result, Ok, Err, ⊤, list_any, Row, Table}
 use Rattle.sql_meanings.specs.Names.{Schema, Trees, IsDatabase, edit_error, understood, StoreError, same_name}
-use Rattle.sql_meanings.specs.Names.{table_named, view_named, Index, PrimaryKey, Unique, Has, Refusal, Compiled}
+use Rattle.sql_meanings.specs.Names.{table_named, view_named, Index, Unique, Has, Refusal, Compiled}
 use Rattle.sql_meanings.specs.Names.{CompileError, State, Fails, IsUnchanged, IsRolledBack, KeepsCommit, KeepsCounts}
 use Rattle.sql_meanings.specs.Names.{HasCause, store_error, Error, SqliteFailure, SqlInputError, QueryReturnedNoRows}
 use Rattle.sqlite.specs.State.{Shows as StateShows}
 use Rattle.sqlite.specs.declared.error.ErrorCode.TheVariants.{OutOfMemory, OperationInterrupted, ConstraintViolation}
-use Rattle.sql_meanings.specs.Entries.{Entry, stored}
+use Rattle.sql_meanings.specs.believed.Entries.{Entry, stored}
 use Rattle.sql_meanings.specs.Making.{AddsTable, NotMade}
-use Rattle.sql_meanings.specs.Tables.{Defines, tree_of}
+use Rattle.sql_meanings.specs.believed.Tables.{Defines, tree_of}
 use Rattle.std.specs.Prelude.{◌≡◌, ◌≢◌, ◌⊎◌, ◌≤◌, ◌<◌, ◌==◌, ◌&&◌}
 
 -- why a plain read may fail: the store failed and the transaction is rolled back, or the limit on steps was
@@ -34,11 +34,6 @@ GoesOn old new = StateShows old new new.now old.committed true × (new.marks ≡
 -- the error is one of the store, and what it names has happened
 abbrev pub NamesCause : State → State → Type 0 → Error → Type 0
 NamesCause old new TooBig e = (cause : StoreError) × (e ≡ store_error cause) × HasCause old new TooBig cause
-
--- the error says that a key is taken
-abbrev pub is_taken_key : Error → Bool
-is_taken_key (SqliteFailure (ConstraintViolation PrimaryKey)) = true
-is_taken_key _ = false
 
 -- the limit on steps was met
 abbrev pub IsInterrupted : State → Error → Type 0

@@ -21,6 +21,6 @@
 //! a probe of a table         TellsProbe old new table r   Probing.tells_probe
 //! ```
 //!
-//! Read next: `specs/Entries`, the rows; `specs/Tables`, a table that a database holds; `specs/StatementAnswers`,
+//! Read next: `specs/believed/Entries`, the rows; `specs/believed/Tables`, a table that a database holds; `specs/StatementAnswers`,
 //! what each statement answers and why it may fail. The crate `store_rows` is a caller, with a bank's tables.
 #![tactic(auto)]

@@ -7,7 +7,7 @@ use Rattle.sqlite.specs.declared.error.Error.{Error}
 use Rattle.sqlite.specs.declared.error.Error.TheVariants.{SqliteFailure}
 use Rattle.sqlite.specs.declared.error.ErrorCode.TheVariants.{ConstraintViolation}
 use Rattle.sqlite_schema.specs.declared.schema.Constraint.TheVariants.{Unique}
-use Rattle.sql_meanings.specs.Tables.{Holds}
+use Rattle.sql_meanings.specs.believed.Tables.{Holds}
 use Rattle.sqlite.specs.Effect.{Database}
 use Rattle.sql_meanings.specs.StatementAnswers.{GoesOn, HasWideIndex, IsInterrupted}
 use Rattle.sql_meanings.proofs.Afterwards.{fails_since}
@@ -18,13 +18,13 @@ use Rattle.sql_meanings.proofs.PutRows.{puts_row}
 use Rattle.store_rows.specs.Creation.{AreEmpty, CreatesBank, MakesWide, RefusedIn, StartsBank}
 use Rattle.store_rows.specs.Creation.{TablesAreMade, all_texts, new_tables, no_rows}
 use Rattle.store_rows.specs.TableAnswers.{IsForbidden}
-use Rattle.store_rows.specs.BankTables as bank
-use Rattle.store_rows.specs.BankTables.{bank_tables}
+use Rattle.store_rows.specs.believed.BankTables as bank
+use Rattle.store_rows.specs.believed.BankTables.{bank_tables}
 use Rattle.store_rows.specs.declared.texts.TheConstants.{ADD_META}
 use Rattle.store_rows.proofs.CreationSteps.{still_on}
 use Rattle.store_rows.proofs.Failing.{forbidden, key_fits}
 use Rattle.store_rows.proofs.MetaRow.{holds_one, meta_written, is_plain}
-use Rattle.store_rows.specs.SeveralRows.{given}
+use Rattle.store_rows.specs.believed.SeveralRows.{given}
 use Rattle.store_rows.proofs.Puts.{first_row, puts}
 
 none_yet : (db : Database) → AreEmpty all_texts db → Holds db bank.meta []

@@ -9,8 +9,8 @@ use Rattle.sqlite.specs.Effect.{Database, IsDatabase}
 use Rattle.sqlite_rules.specs.Lists.{Has}
 use Rattle.sqlite_rules.proofs.RuleLemmas.{keeps_at}
 use Rattle.sqlite_schema.specs.declared.schema.Constraint.TheVariants.{Check}
-use Rattle.sql_meanings.specs.Entries.{Entry, numbers, stored, texts_held}
-use Rattle.sql_meanings.specs.Tables.{placed_at, tree_of}
+use Rattle.sql_meanings.specs.believed.Entries.{Entry, numbers, stored, texts_held}
+use Rattle.sql_meanings.specs.believed.Tables.{placed_at, tree_of}
 use Rattle.sql_meanings.proofs.TablesBeside.{standing}
 use Rattle.store_rows.specs.View.{HoldsRows}
 use Rattle.sqlite.specs.Order.{Row}
@@ -21,7 +21,7 @@ use Rattle.sqlite_sql.specs.Ops.{binary}
 use Rattle.sqlite_value.specs.Order.{value_cmp}
 use Rattle.sqlite_value.proofs.OrderLemmas.{value_cmp-Int}
 use lib.Ieee.{is_nan, lt}
-use Rattle.store_rows.specs.BankTables.{meta}
+use Rattle.store_rows.specs.believed.BankTables.{meta}
 
 first_checked : (rest : Row) → passes_checks meta (Int (pos 1) ∷ rest) ≡ true
 unfolding everything binary value_cmp is_nan lt

@@ -10,7 +10,7 @@ use Rattle.sql_meanings.specs.Making.{CreatesOnly, IsMakeable}
 use Rattle.sql_meanings.proofs.ListedTexts.{listing_tests}
 use Rattle.sql_meanings.proofs.Makeable.{creates_by, makeable}
 use Rattle.store_rows.specs.Creation.{all_texts}
-use Rattle.store_rows.specs.BankTables as bank
+use Rattle.store_rows.specs.believed.BankTables as bank
 use Rattle.store_rows.specs.declared.texts.TheConstants.{MAKE_META, MAKE_BRANCH, MAKE_TELLER, MAKE_ACCOUNT}
 use Rattle.store_rows.specs.declared.texts.TheConstants.{MAKE_HISTORY, MAKE_REQUEST, MAKE_FLOOR}
 use Rattle.store_rows.specs.declared.texts.TheConstants.{MAKE_REFERENCE}

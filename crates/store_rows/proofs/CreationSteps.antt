@@ -11,7 +11,7 @@ use Rattle.sqlite.specs.State.{State, IsUnchanged, KeepsCommit, KeepsCounts, Sho
 use Rattle.sqlite.specs.declared.error.Error.{Error}
 use Rattle.sqlite_rules.specs.Lists.{Has}
 use Rattle.sql_meanings.specs.Making.{NotMade}
-use Rattle.sql_meanings.specs.Contents.{HoldsEach}
+use Rattle.sql_meanings.specs.believed.Contents.{HoldsEach}
 use Rattle.sql_meanings.specs.StatementAnswers.{GoesOn, MakeFails, MakesTold}
 use Rattle.sql_meanings.proofs.Afterwards.{fails_since}
 use Rattle.sql_meanings.proofs.Makings.{holds_none, kept}

@@ -20,7 +20,7 @@ use Rattle.sqlite_rules.specs.Lists.{Has}
 use Rattle.sqlite_tied.specs.Compute.{everything}
 use Rattle.sql_meanings.specs.Making.{CreatesOnly, NotMade, counts_rows}
 use Rattle.sql_meanings.specs.StatementAnswers.{IsInterrupted, has_unique}
-use Rattle.store_rows.specs.BankTables as bank
+use Rattle.store_rows.specs.believed.BankTables as bank
 use Rattle.store_rows.specs.Creation.{AreGrown, IsEmpty, RefusedIn, all_texts, with_first}
 use Rattle.store_rows.proofs.CreateTexts.{each_creates}
 use Rattle.store_rows.proofs.MadeSoFar.{grows_alone}

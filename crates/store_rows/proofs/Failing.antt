@@ -15,21 +15,24 @@ use Rattle.sqlite.specs.declared.error.Error.{Error}
 use Rattle.sqlite.specs.declared.types.Value.TheVariants.{Int}
 use Rattle.sqlite_rules.specs.Lists.{Has}
 use Rattle.sqlite_sql.specs.Ops.{fits_i64}
-use Rattle.posting_rules.specs.Tables.{Tables, row_at}
-use Rattle.sql_meanings.specs.Entries.{Entry, Rise, put}
-use Rattle.sql_meanings.specs.StatementAnswers.{Forbids, PutFails, WriteFails, is_taken_key}
-use Rattle.sql_meanings.specs.Tables.{Holds}
+use Rattle.posting_rules.specs.believed.Tables.{Tables, row_at}
+use Rattle.sql_meanings.specs.believed.Entries.{Entry, Rise}
+use Rattle.sql_meanings.specs.Entries.{put}
+use Rattle.sql_meanings.specs.believed.StatementAnswers.{is_taken_key}
+use Rattle.sql_meanings.specs.StatementAnswers.{Forbids, PutFails, WriteFails}
+use Rattle.sql_meanings.specs.believed.Tables.{Holds}
 use Rattle.sql_meanings.proofs.Changes.{found_all, found_passes}
 use Rattle.sql_meanings.proofs.Failures.{other_error, put_fails_as}
 use Rattle.sql_meanings.proofs.Makings.{kept_inside}
 use Rattle.sql_meanings.proofs.PuttingIn.{key_taken}
 use Rattle.posting_rules.specs.declared.fault.Rule.TheVariants.{Key}
 use Rattle.store_rows.specs.declared.fault.TableFault.TheVariants.{Sqlite, Damaged}
-use Rattle.posting_rules.specs.Changes.{row_put}
-use Rattle.store_rows.specs.Failures.{Putting, Puts, inserts}
+use Rattle.posting_rules.specs.believed.Changes.{row_put}
+use Rattle.store_rows.specs.believed.Failures.{Putting, inserts}
+use Rattle.store_rows.specs.Failures.{Puts}
 use Rattle.store_rows.specs.TableAnswers.{PutsOneRow, IsForbidden}
 use Rattle.store_rows.specs.Faults.{added}
-use Rattle.store_rows.specs.View.{Shows}
+use Rattle.store_rows.specs.believed.View.{Shows}
 use Rattle.store_rows.proofs.RowLists.{put_rows}
 use Rattle.store_rows.specs.declared.statements.TheConstants.{MAX_KEY}
 

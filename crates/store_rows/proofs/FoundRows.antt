@@ -5,7 +5,7 @@ use Rattle.sqlite.specs.Order.{Row, column}
 use Rattle.sqlite.specs.State.{State, IsUnchanged}
 use Rattle.sqlite.specs.declared.error.Error.{Error}
 use Rattle.sqlite.specs.declared.error.Error.TheVariants.{QueryReturnedNoRows}
-use Rattle.sql_meanings.specs.Entries.{Entry}
+use Rattle.sql_meanings.specs.believed.Entries.{Entry}
 use Rattle.sql_meanings.specs.StatementAnswers.{IsStoreError, TellsRow}
 use Rattle.sql_meanings.proofs.OnlyShowing.{no_rows_error}
 use Rattle.posting_rules.specs.declared.fault.Rule.{Rule}
@@ -14,7 +14,8 @@ use Rattle.store_rows.specs.declared.fault.TableFault.{TableFault}
 use Rattle.store_rows.specs.declared.fault.TableFault.TheVariants.{Sqlite, Damaged}
 use Rattle.store_rows.specs.Columns.{balance_shown}
 use Rattle.store_rows.specs.Failures.{ReadsAnswer}
-use Rattle.store_rows.specs.Stored.{FindsStored, ReadsStored}
+use Rattle.store_rows.specs.believed.Stored.{FindsStored}
+use Rattle.store_rows.specs.Stored.{ReadsStored}
 use Rattle.store_rows.specs.TableAnswers.{Finds, BreaksBalance, ReadsCents, ReadsColumns, ReadsRow}
 
 the_row : {a b : Row} → Some a ≡ Some b → b ≡ a

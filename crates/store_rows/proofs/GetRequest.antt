@@ -14,11 +14,11 @@ use Rattle.sqlite_resolve.specs.Select.{ungrouped}
 use Rattle.sqlite_resolve.specs.Terms.{number}
 use Rattle.sqlite_typing.specs.Types.{accepts_program}
 use Rattle.posting_rules.specs.declared.rows.RequestRow.{RequestRow}
-use Rattle.sql_meanings.specs.Entries.{has_two}
+use Rattle.sql_meanings.specs.believed.Entries.{has_two}
 use Rattle.sql_meanings.specs.StatementAnswers.{OnlyShows}
-use Rattle.sql_meanings.specs.Plain.{number_column}
+use Rattle.sql_meanings.specs.believed.Plain.{number_column}
 use Rattle.sql_meanings.specs.Queries.{by_two, two_are, no_limit}
-use Rattle.sql_meanings.specs.Tables.{placed_at}
+use Rattle.sql_meanings.specs.believed.Tables.{placed_at}
 use Rattle.sql_meanings.proofs.ByKey.{Tests, number_at}
 use Rattle.sql_meanings.proofs.Means.{Means, means}
 use Rattle.sql_meanings.proofs.ReadTables.{ReadsAs}
@@ -26,9 +26,9 @@ use Rattle.sql_meanings.proofs.Selects.{select_by_two}
 use Rattle.sql_meanings.proofs.ShownColumns.{outputs_at, shows_named}
 use Rattle.sql_meanings.proofs.Statements.{HasTable}
 use Rattle.sql_meanings.proofs.Texts.{IsSelect, only_reads, select_of}
-use Rattle.store_rows.specs.BankTables.{request}
+use Rattle.store_rows.specs.believed.BankTables.{request}
 use Rattle.store_rows.specs.declared.texts.TheConstants.{GET_REQUEST}
-use Rattle.store_rows.specs.View.{request_entry}
+use Rattle.store_rows.specs.believed.View.{request_entry}
 use Rattle.store_rows.proofs.RowLists.{same_number}
 
 by_tid : (tree : ℕ) → Tests (placed_at request tree) (codes "tid") 2

@@ -3,7 +3,7 @@ use Rattle.std.proofs.Common.{◌≡◌, ◌==◌, ℕ, ℤ, pos, Bool, true, fa
 use Rattle.std.proofs.Common.{ap, subst, ◌∙◌}
 use Rattle.std.specs.Option.{ok_or}
 use Rattle.sqlite.specs.Order.{Row, column}
-use Rattle.message_records.specs.Outcomes.{code_of}
+use Rattle.message_records.specs.believed.Outcomes.{code_of}
 use Rattle.message_records.specs.declared.records.Outcome.{Outcome}
 use Rattle.message_records.specs.declared.records.Outcome.TheVariants.{
   Posted,
@@ -16,7 +16,8 @@ use Rattle.message_records.specs.declared.records.Outcome.TheVariants.{
   BelowFloor,
   Malformed,
 }
-use Rattle.posting_rules.specs.Kept.{DecisionFields, is_kept_with, decision_from}
+use Rattle.posting_rules.specs.believed.Kept.{DecisionFields, is_kept_with}
+use Rattle.posting_rules.specs.Kept.{decision_from}
 use Rattle.posting_rules.specs.declared.fault.Rule.TheVariants.{Request}
 use Rattle.posting_rules.specs.declared.rows.RequestRow.{RequestRow}
 use Rattle.store_rows.specs.declared.fault.TableFault.{TableFault}

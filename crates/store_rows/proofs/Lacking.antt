@@ -16,8 +16,9 @@ use Rattle.sqlite.specs.declared.error.Error.TheVariants.{SqliteFailure}
 use Rattle.sqlite.specs.declared.error.ErrorCode.TheVariants.{SchemaTooBig}
 use Rattle.sqlite_schema.specs.Names.{same_name}
 use Rattle.sqlite_tied.specs.Compute.{everything}
-use Rattle.posting_rules.specs.Tables.{Tables}
-use Rattle.sql_meanings.specs.Contents.{HoldsEach, has_other_names, is_free, stand_apart}
+use Rattle.posting_rules.specs.believed.Tables.{Tables}
+use Rattle.sql_meanings.specs.believed.Contents.{HoldsEach}
+use Rattle.sql_meanings.specs.Contents.{has_other_names, is_free, stand_apart}
 use Rattle.sql_meanings.specs.Making.{NotMade}
 use Rattle.sql_meanings.specs.StatementAnswers.{IsUnderstood}
 use Rattle.sql_meanings.proofs.Contents.{HoldsEach-prop}
@@ -27,12 +28,12 @@ use Rattle.sql_meanings.proofs.Places.{all_later}
 use Rattle.sql_meanings.proofs.StayHeld.{held_after, same_place, still_held, still_hold}
 use Rattle.sql_meanings.proofs.Tests.{and_both}
 use Rattle.sql_meanings.proofs.Trees.{Holds-prop, nat_set}
-use Rattle.store_rows.specs.BankTables as bank
-use Rattle.store_rows.specs.BankTables.{bank_tables}
+use Rattle.store_rows.specs.believed.BankTables as bank
+use Rattle.store_rows.specs.believed.BankTables.{bank_tables}
 use Rattle.store_rows.specs.Creation.{AreGrown, TablesAreMade, all_texts}
 use Rattle.store_rows.specs.Migration.{IsEarlier, LackingAreMade, RefusesLacking, ShowsLess, TakesLacking}
 use Rattle.store_rows.specs.Migration.{lacking}
-use Rattle.store_rows.specs.View.{contents_of, meta_entry, rows_of, tables_of}
+use Rattle.store_rows.specs.believed.View.{contents_of, meta_entry, rows_of, tables_of}
 use Rattle.store_rows.specs.declared.texts.TheConstants.{MAKE_FLOOR, MAKE_REFERENCE}
 use Rattle.store_rows.proofs.MadeSoFar.{grows_plainly}
 

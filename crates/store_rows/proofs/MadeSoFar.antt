@@ -14,8 +14,9 @@ use Rattle.sqlite.specs.declared.transaction.Transaction.{Transaction}
 use Rattle.sqlite_trees.specs.declared.store.Store.{Ghosts}
 use Rattle.sqlite.specs.State.{State, HasCleanDisk, Survives, KeepsCounts, Shows as StateShows}
 use Rattle.sqlite_rules.specs.Lists.{Has}
-use Rattle.sql_meanings.specs.Making.{AddsTable, IsGrown, KeepsWhatStood, Stands, counts_rows}
-use Rattle.sql_meanings.specs.Tables.{placed_at}
+use Rattle.sql_meanings.specs.believed.Making.{Stands}
+use Rattle.sql_meanings.specs.Making.{AddsTable, IsGrown, KeepsWhatStood, counts_rows}
+use Rattle.sql_meanings.specs.believed.Tables.{placed_at}
 use Rattle.sql_meanings.proofs.TableStands.{counts_created}
 use Rattle.store_rows.specs.Creation.{AreGrown}
 

@@ -8,24 +8,26 @@ use Rattle.sqlite.specs.State.{State, ExecutesInside, QueriesRowInside}
 use Rattle.sqlite.specs.Term.{Term, col, eval_all}
 use Rattle.sqlite.specs.declared.error.Error.{Error}
 use Rattle.sqlite.specs.declared.types.Value.TheVariants.{Int}
-use Rattle.posting_rules.specs.Changes.{with_decided}
-use Rattle.posting_rules.specs.Tables.{Tables}
-use Rattle.sql_meanings.specs.Contents.{HoldsEach}
-use Rattle.sql_meanings.specs.Entries.{Entry, HasWidth, has_key, stored}
+use Rattle.posting_rules.specs.believed.Changes.{with_decided}
+use Rattle.posting_rules.specs.believed.Tables.{Tables}
+use Rattle.sql_meanings.specs.believed.Contents.{HoldsEach}
+use Rattle.sql_meanings.specs.believed.Entries.{Entry, HasWidth, has_key, stored}
 use Rattle.sql_meanings.specs.StatementAnswers.{TellsRow}
-use Rattle.sql_meanings.specs.Tables.{Holds}
+use Rattle.sql_meanings.specs.believed.Tables.{Holds}
 use Rattle.sql_meanings.proofs.Contents.{held, one_written}
 use Rattle.sql_meanings.proofs.Failures.{set_fails_as}
 use Rattle.sql_meanings.proofs.ReadRows.{reads_key}
 use Rattle.sql_meanings.proofs.SetFailures.{refuses_update}
 use Rattle.sql_meanings.proofs.SetRows.{sets_row}
 use Rattle.sql_meanings.proofs.TableWrites.{IsPlain, Leaves, spares_standing}
-use Rattle.store_rows.specs.Columns.{meta_in, meta_numbers, meta_shown}
+use Rattle.store_rows.specs.believed.Columns.{meta_in, meta_numbers}
+use Rattle.store_rows.specs.Columns.{meta_shown}
 use Rattle.store_rows.specs.TableAnswers.{IsForbidden, SetsRow}
-use Rattle.store_rows.specs.BankTables as bank
-use Rattle.store_rows.specs.BankTables.{bank_tables}
+use Rattle.store_rows.specs.believed.BankTables as bank
+use Rattle.store_rows.specs.believed.BankTables.{bank_tables}
 use Rattle.store_rows.specs.Statements.{MeetsOne}
-use Rattle.store_rows.specs.View.{HoldsRows, Shows, contents, meta_entry}
+use Rattle.store_rows.specs.believed.View.{Shows, meta_entry}
+use Rattle.store_rows.specs.View.{HoldsRows, contents}
 use Rattle.store_rows.specs.declared.metas.TheConstants.{META_ID, VERSION}
 use Rattle.store_rows.specs.declared.texts.TheConstants.{GET_META, SET_META}
 use Rattle.store_rows.proofs.ShownValues.{number_shown}

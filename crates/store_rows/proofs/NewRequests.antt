@@ -12,19 +12,20 @@ use Rattle.sqlite.specs.declared.transaction.Transaction.{Transaction}
 use Rattle.sqlite_trees.specs.declared.store.Store.{Ghosts}
 use Rattle.posting_rules.specs.declared.fault.Rule.TheVariants.{Key}
 use Rattle.posting_rules.specs.declared.rows.RequestRow.{RequestRow}
-use Rattle.sql_meanings.specs.Entries.{Entry, has_two}
+use Rattle.sql_meanings.specs.believed.Entries.{Entry, has_two}
 use Rattle.sql_meanings.specs.SeveralRows.{put_each}
-use Rattle.sql_meanings.specs.StatementAnswers.{is_taken_key}
-use Rattle.sql_meanings.specs.Tables.{Holds, placed_at, tree_of}
+use Rattle.sql_meanings.specs.believed.StatementAnswers.{is_taken_key}
+use Rattle.sql_meanings.specs.believed.Tables.{Holds, placed_at, tree_of}
 use Rattle.sql_meanings.proofs.NewPairs.{has_each, none_had}
 use Rattle.sql_meanings.proofs.PutRows.{PutsEachAs, puts_rows}
 use Rattle.sql_meanings.proofs.TablesBeside.{standing, stepped}
 use Rattle.sql_meanings.proofs.TwoColumns.{Clear, clear}
-use Rattle.store_rows.specs.BankTables.{request}
+use Rattle.store_rows.specs.believed.BankTables.{request}
 use Rattle.store_rows.specs.Faults.{added}
-use Rattle.store_rows.specs.SeveralRows.{IsNew, PutsNew, given_each}
+use Rattle.store_rows.specs.believed.SeveralRows.{given_each}
+use Rattle.store_rows.specs.SeveralRows.{IsNew, PutsNew}
 use Rattle.store_rows.specs.Statements.{PutsIn, PutsRow}
-use Rattle.store_rows.specs.View.{request_entry}
+use Rattle.store_rows.specs.believed.View.{request_entry}
 use Rattle.store_rows.specs.declared.fault.TableFault.{TableFault}
 use Rattle.store_rows.specs.declared.fault.TableFault.TheVariants.{Sqlite, Damaged}
 use Rattle.store_rows.proofs.TheTables.{requests}

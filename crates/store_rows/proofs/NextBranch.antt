@@ -15,7 +15,7 @@ use Rattle.sqlite_resolve.specs.Terms.{number}
 use Rattle.sqlite_typing.specs.Types.{accepts_program}
 use Rattle.sql_meanings.specs.StatementAnswers.{OnlyShows}
 use Rattle.sql_meanings.specs.Queries.{ascending, next_above, key_above}
-use Rattle.sql_meanings.specs.Tables.{placed_at}
+use Rattle.sql_meanings.specs.believed.Tables.{placed_at}
 use Rattle.sql_meanings.proofs.ByKey.{key_at}
 use Rattle.sql_meanings.proofs.Means.{Means, means}
 use Rattle.sql_meanings.proofs.ReadTables.{ReadsAs}
@@ -23,7 +23,7 @@ use Rattle.sql_meanings.proofs.Above.{Beyond, select_rising}
 use Rattle.sql_meanings.proofs.ShownColumns.{outputs_at, shows_named}
 use Rattle.sql_meanings.proofs.Statements.{HasTable}
 use Rattle.sql_meanings.proofs.Texts.{IsSelect, only_reads, select_of}
-use Rattle.store_rows.specs.BankTables.{branch}
+use Rattle.store_rows.specs.believed.BankTables.{branch}
 use Rattle.store_rows.specs.declared.texts.TheConstants.{NEXT_BRANCH}
 use Rattle.store_rows.proofs.Getting.{keys}
 

@@ -7,7 +7,7 @@ use Rattle.sqlite_resolve.specs.Program as program
 use Rattle.sqlite_resolve.specs.Select.{ungrouped}
 use Rattle.sql_meanings.proofs.Probing.{ProbesAs}
 use Rattle.sql_meanings.proofs.Texts.{IsSelect, probes_by, select_of}
-use Rattle.store_rows.specs.BankTables as bank
+use Rattle.store_rows.specs.believed.BankTables as bank
 use Rattle.store_rows.specs.Probes.{probe_of}
 use Rattle.store_rows.specs.declared.probes.BankTable.{BankTable}
 use Rattle.store_rows.specs.declared.probes.BankTable.TheVariants.{Meta, Branch, Teller, Account, History}

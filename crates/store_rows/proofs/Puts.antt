@@ -10,13 +10,13 @@ use Rattle.posting_rules.specs.declared.rows.ReferenceRow.{ReferenceRow}
 use Rattle.sqlite.specs.Table.{Table}
 use Rattle.sqlite.specs.declared.types.Value.TheVariants.{Null, Int}
 use Rattle.sqlite_tied.specs.Compute.{everything}
-use Rattle.sql_meanings.specs.Entries.{Entry}
+use Rattle.sql_meanings.specs.believed.Entries.{Entry}
 use Rattle.sql_meanings.proofs.PutRows.{PutsAs}
 use Rattle.sql_meanings.proofs.Texts.{puts_by}
-use Rattle.store_rows.specs.BankTables as bank
-use Rattle.store_rows.specs.SeveralRows.{given}
-use Rattle.store_rows.specs.View.{meta_entry, branch_entry, teller_entry, account_entry, history_entry}
-use Rattle.store_rows.specs.View.{request_entry, floor_entry, reference_entry}
+use Rattle.store_rows.specs.believed.BankTables as bank
+use Rattle.store_rows.specs.believed.SeveralRows.{given}
+use Rattle.store_rows.specs.believed.View.{meta_entry, branch_entry, teller_entry, account_entry, history_entry}
+use Rattle.store_rows.specs.believed.View.{request_entry, floor_entry, reference_entry}
 use Rattle.store_rows.specs.declared.metas.TheConstants.{VERSION}
 use Rattle.store_rows.specs.declared.texts.TheConstants as text
 use Rattle.store_rows.proofs.Checked.{meta_checked}

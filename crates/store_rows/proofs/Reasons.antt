@@ -6,7 +6,8 @@ use Rattle.sqlite.specs.declared.error.Error.{Error}
 use Rattle.sqlite.specs.declared.error.Error.TheVariants.{QueryReturnedNoRows}
 use Rattle.sql_meanings.specs.StatementAnswers.{ReadKept, WriteFails}
 use Rattle.sql_meanings.proofs.OnlyShowing.{kept_none}
-use Rattle.store_rows.specs.Failures.{Asking, Asks, HasReason, Looks, ReadsAnswer}
+use Rattle.store_rows.specs.believed.Failures.{Asking}
+use Rattle.store_rows.specs.Failures.{Asks, HasReason, Looks, ReadsAnswer}
 use Rattle.store_rows.specs.declared.fault.TableFault.{TableFault}
 use Rattle.store_rows.specs.declared.fault.TableFault.TheVariants.{Sqlite, Damaged}
 

@@ -5,9 +5,10 @@ use Rattle.std.proofs.Common.{ap, ◌∙◌, arith}
 use Rattle.std.proofs.lemmas.Int.{ints}
 use Rattle.std.specs.Ordering.{int_eq, is_gt, match_ordering}
 use Rattle.sqlite.specs.Order.{Row}
-use Rattle.posting_rules.specs.Tables.{row_at}
-use Rattle.sql_meanings.specs.Entries.{Entry, changed, has_key, is_above, put}
-use Rattle.posting_rules.specs.Changes.{row_changed, row_put}
+use Rattle.posting_rules.specs.believed.Tables.{row_at}
+use Rattle.sql_meanings.specs.believed.Entries.{Entry, has_key}
+use Rattle.sql_meanings.specs.Entries.{changed, is_above, put}
+use Rattle.posting_rules.specs.believed.Changes.{row_changed, row_put}
 
 -- two numbers are equal as a file holds them where they are
 pub same_number : (a b : ℕ) → int_eq (pos a) (pos b) ≡ (a == b)

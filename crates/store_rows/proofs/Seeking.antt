@@ -3,20 +3,22 @@ use Rattle.std.proofs.Common.{◌≡◌, ◌==◌, ◌&&◌, ℕ, ℤ, pos, List
 use Rattle.std.proofs.Common.{None, option_map, refl, ap, ◌∙◌}
 use Rattle.sqlite.specs.Term.{Term, col}
 use Rattle.sqlite.specs.declared.types.Value.TheVariants.{Int}
-use Rattle.posting_rules.specs.LookUps.{balance_of_account, balance_of_teller}
-use Rattle.posting_rules.specs.Tables.{Tables, branch_key, floor_key, reference_key, request_key, row_at}
-use Rattle.sql_meanings.specs.Entries.{Entry, has_two, is_above}
-use Rattle.sql_meanings.specs.Tables.{width_of}
+use Rattle.posting_rules.specs.believed.LookUps.{balance_of_account, balance_of_teller}
+use Rattle.posting_rules.specs.believed.Tables.{Tables, branch_key, floor_key, reference_key, request_key, row_at}
+use Rattle.sql_meanings.specs.believed.Entries.{Entry, has_two}
+use Rattle.sql_meanings.specs.Entries.{is_above}
+use Rattle.sql_meanings.specs.believed.Tables.{width_of}
 use Rattle.sql_meanings.proofs.Keyed.{Gets}
 use Rattle.sql_meanings.proofs.Texts.{only_reads}
 use Rattle.store_rows.specs.Columns.{balance_shown, branch_above, branch_shown, floor_shown, reference_shown}
 use Rattle.store_rows.specs.Columns.{request_in, request_shown}
 use Rattle.store_rows.specs.Forms.{balance_form, branch_form, floor_form, reference_form, request_form}
 use Rattle.store_rows.specs.Holders.{balance_in, entry_under}
-use Rattle.store_rows.specs.Rules.{StoredRows, row_under, stored_lists, stored_rows}
+use Rattle.store_rows.specs.believed.Rules.{StoredRows, row_under, stored_lists}
+use Rattle.store_rows.specs.Rules.{stored_rows}
 use Rattle.store_rows.specs.Stored.{balance_stored, branch_stored, floor_stored, reference_stored}
 use Rattle.store_rows.specs.Stored.{request_stored}
-use Rattle.store_rows.specs.View.{branch_entry, floor_entry, reference_entry, request_entry}
+use Rattle.store_rows.specs.believed.View.{branch_entry, floor_entry, reference_entry, request_entry}
 use Rattle.store_rows.specs.declared.holders.Member.TheVariants.{Account, Teller}
 use Rattle.store_rows.specs.declared.texts.TheConstants.{GET_ACCOUNT, GET_BRANCH, GET_FLOOR, GET_REQUEST, GET_TELLER}
 use Rattle.store_rows.specs.declared.texts.TheConstants.{GET_REFERENCE, NEXT_BRANCH}

@@ -14,23 +14,25 @@ use Rattle.sqlite.specs.declared.types.Value.TheVariants.{Int}
 use Rattle.sqlite_rules.specs.Lists.{Has}
 use Rattle.sqlite_sql.specs.Ops.{fits_i64}
 use Rattle.sqlite_trees.specs.declared.store.Store.{Ghosts}
-use Rattle.posting_rules.specs.Changes.{row_put}
-use Rattle.posting_rules.specs.Tables.{Tables, row_at}
-use Rattle.sql_meanings.specs.Entries.{Entry, Rise, has_key, put}
+use Rattle.posting_rules.specs.believed.Changes.{row_put}
+use Rattle.posting_rules.specs.believed.Tables.{Tables, row_at}
+use Rattle.sql_meanings.specs.believed.Entries.{Entry, Rise, has_key}
+use Rattle.sql_meanings.specs.Entries.{put}
 use Rattle.sql_meanings.specs.SeveralRows.{put_each, meets_key as entries_meet}
 use Rattle.sql_meanings.specs.StatementAnswers.{Forbids}
-use Rattle.sql_meanings.specs.Tables.{Holds}
+use Rattle.sql_meanings.specs.believed.Tables.{Holds}
 use Rattle.sql_meanings.proofs.EntryLists.{rise_put}
 use Rattle.sql_meanings.proofs.PutFailures.{refuses_rows}
 use Rattle.sql_meanings.proofs.PutRows.{PutsEachAs, puts_rows}
 use Rattle.sql_meanings.proofs.SeveralRows.{IsKey}
 use Rattle.sql_meanings.proofs.TableWrites.{Leaves}
-use Rattle.store_rows.specs.Failures.{inserts}
+use Rattle.store_rows.specs.believed.Failures.{inserts}
 use Rattle.store_rows.specs.Faults.{added}
-use Rattle.store_rows.specs.SeveralRows.{AddsRows, given, meets_key, with_each}
+use Rattle.store_rows.specs.believed.SeveralRows.{given}
+use Rattle.store_rows.specs.SeveralRows.{AddsRows, meets_key, with_each}
 use Rattle.store_rows.specs.Statements.{PutsRow}
 use Rattle.store_rows.specs.TableAnswers.{PutsOneRow, IsForbidden}
-use Rattle.store_rows.specs.View.{Shows}
+use Rattle.store_rows.specs.believed.View.{Shows}
 use Rattle.store_rows.specs.declared.fault.TableFault.{TableFault}
 use Rattle.store_rows.specs.declared.statements.TheConstants.{MAX_KEY}
 use Rattle.store_rows.proofs.Failing.{adds_err, forbidden, key_fits, taken_falls}

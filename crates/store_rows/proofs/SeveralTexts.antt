@@ -5,13 +5,13 @@ use Rattle.posting_rules.specs.declared.rows.HistoryRow.{HistoryRow}
 use Rattle.posting_rules.specs.declared.rows.RequestRow.{RequestRow}
 use Rattle.sqlite.specs.Table.{Table}
 use Rattle.sqlite_tied.specs.Compute.{everything}
-use Rattle.sql_meanings.specs.Entries.{Entry}
+use Rattle.sql_meanings.specs.believed.Entries.{Entry}
 use Rattle.sql_meanings.proofs.PutRows.{PutsEachAs}
 use Rattle.sql_meanings.proofs.SeveralRows.{IsRowOf}
 use Rattle.sql_meanings.proofs.Texts.{each_terms, puts_each_by}
-use Rattle.store_rows.specs.BankTables as bank
-use Rattle.store_rows.specs.SeveralRows.{given}
-use Rattle.store_rows.specs.View.{history_entry, request_entry}
+use Rattle.store_rows.specs.believed.BankTables as bank
+use Rattle.store_rows.specs.believed.SeveralRows.{given}
+use Rattle.store_rows.specs.believed.View.{history_entry, request_entry}
 use Rattle.store_rows.specs.declared.texts.TheConstants as text
 
 -- with the values of these rows the text puts them in

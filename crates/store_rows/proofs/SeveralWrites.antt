@@ -9,13 +9,14 @@ use Rattle.sqlite.specs.Values.{bound}
 use Rattle.sqlite.specs.declared.transaction.Transaction.{Transaction}
 use Rattle.sqlite.specs.declared.types.ValueRef.{ValueRef}
 use Rattle.sqlite_trees.specs.declared.store.Store.{Ghosts}
-use Rattle.posting_rules.specs.Changes.{with_history, with_request}
-use Rattle.posting_rules.specs.Tables.{Tables, history_key, request_key, row_at}
-use Rattle.sql_meanings.specs.Entries.{Entry}
-use Rattle.store_rows.specs.BankTables as bank
-use Rattle.store_rows.specs.SeveralRows.{AddsRows, given}
+use Rattle.posting_rules.specs.believed.Changes.{with_history, with_request}
+use Rattle.posting_rules.specs.believed.Tables.{Tables, history_key, request_key, row_at}
+use Rattle.sql_meanings.specs.believed.Entries.{Entry}
+use Rattle.store_rows.specs.believed.BankTables as bank
+use Rattle.store_rows.specs.believed.SeveralRows.{given}
+use Rattle.store_rows.specs.SeveralRows.{AddsRows}
 use Rattle.store_rows.specs.Statements.{PutsRow}
-use Rattle.store_rows.specs.View.{history_entry, request_entry}
+use Rattle.store_rows.specs.believed.View.{history_entry, request_entry}
 use Rattle.store_rows.specs.declared.fault.TableFault.{TableFault}
 use Rattle.store_rows.specs.declared.statements.TheConstants.{MAX_KEY}
 use Rattle.store_rows.specs.declared.texts.TheConstants as text

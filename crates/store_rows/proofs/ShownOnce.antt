@@ -7,7 +7,7 @@ use Rattle.sqlite.specs.declared.types.Value.TheVariants.{Null, Int, Real, Text,
 use Rattle.sqlite.specs.Table.{Table}
 use Rattle.sqlite.specs.Tree.{Trees}
 use Rattle.sqlite.specs.Effect.{Database, IsDatabase}
-use Rattle.posting_rules.specs.Tables.{Tables}
+use Rattle.posting_rules.specs.believed.Tables.{Tables}
 use Rattle.posting_rules.specs.declared.rows.BranchRow.{BranchRow}
 use Rattle.posting_rules.specs.declared.rows.TellerRow.{TellerRow}
 use Rattle.posting_rules.specs.declared.rows.AccountRow.{AccountRow}
@@ -15,14 +15,15 @@ use Rattle.posting_rules.specs.declared.rows.HistoryRow.{HistoryRow}
 use Rattle.posting_rules.specs.declared.rows.RequestRow.{RequestRow}
 use Rattle.posting_rules.specs.declared.rows.FloorRow.{FloorRow}
 use Rattle.posting_rules.specs.declared.rows.ReferenceRow.{ReferenceRow}
-use Rattle.sql_meanings.specs.Entries.{Entry, numbers, texts_held, stored}
-use Rattle.sql_meanings.specs.Tables.{Holds}
-use Rattle.sql_meanings.specs.Contents.{HoldsEach}
+use Rattle.sql_meanings.specs.believed.Entries.{Entry, numbers, texts_held, stored}
+use Rattle.sql_meanings.specs.believed.Tables.{Holds}
+use Rattle.sql_meanings.specs.believed.Contents.{HoldsEach}
 use Rattle.sql_meanings.proofs.Trees.{same_schema}
-use Rattle.store_rows.specs.BankTables.{bank_tables}
+use Rattle.store_rows.specs.believed.BankTables.{bank_tables}
 use Rattle.store_rows.specs.Creation.{new_tables}
-use Rattle.store_rows.specs.View.{Shows, ShowsTrees, contents, branch_entry, teller_entry, account_entry}
-use Rattle.store_rows.specs.View.{history_entry, request_entry, floor_entry, reference_entry}
+use Rattle.store_rows.specs.believed.View.{Shows, ShowsTrees, branch_entry, teller_entry, account_entry}
+use Rattle.store_rows.specs.View.{contents}
+use Rattle.store_rows.specs.believed.View.{history_entry, request_entry, floor_entry, reference_entry}
 use Rattle.store_rows.proofs.KeptRows.{decode, decoded}
 
 -- what can be read back is shown by one row alone, and so are lists of it

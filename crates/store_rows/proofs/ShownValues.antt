@@ -4,8 +4,8 @@ use Rattle.std.proofs.Common.{ap, ◌∙◌, arith}
 use Rattle.std.specs.Prelude.{slice_index_or}
 use Rattle.sqlite.specs.Order.{Row}
 use Rattle.sqlite.specs.declared.types.Value.TheVariants.{Int, Null, Text}
-use Rattle.sql_meanings.specs.Entries.{Entry, HasWidth, numbers, texts_held}
-use Rattle.store_rows.specs.Columns.{text_at}
+use Rattle.sql_meanings.specs.believed.Entries.{Entry, HasWidth, numbers, texts_held}
+use Rattle.store_rows.specs.believed.Columns.{text_at}
 
 -- what there is at so many places
 abbrev pub places : {X : Type 0} → ℕ → (ℕ → X) → List X

@@ -8,12 +8,13 @@ use Rattle.sqlite.specs.State.{State, Executes}
 use Rattle.sqlite.specs.Table.{Table}
 use Rattle.sqlite.specs.declared.error.Error.{Error}
 use Rattle.sqlite_tied.specs.Compute.{everything}
-use Rattle.sql_meanings.specs.Sparing.{IsNot, SparesAllBut, sequence_name}
-use Rattle.sql_meanings.specs.StatementAnswers.{is_taken_key}
+use Rattle.sql_meanings.specs.believed.Sparing.{IsNot, SparesAllBut, sequence_name}
+use Rattle.sql_meanings.specs.believed.StatementAnswers.{is_taken_key}
 use Rattle.sql_meanings.proofs.Sparing.{IsInsertInto, IsUpdateOf, insert_leaves, insert_of, spares_more}
 use Rattle.sql_meanings.proofs.Sparing.{update_leaves, update_of}
-use Rattle.store_rows.specs.BankTables as bank
-use Rattle.store_rows.specs.Sparing.{SparesIfOk, SparesOthers, bank_names}
+use Rattle.store_rows.specs.believed.BankTables as bank
+use Rattle.store_rows.specs.believed.Sparing.{SparesOthers, bank_names}
+use Rattle.store_rows.specs.Sparing.{SparesIfOk}
 use Rattle.store_rows.specs.Statements.{MeetsOne, PutsIn}
 use Rattle.store_rows.specs.declared.fault.TableFault.{TableFault}
 use Rattle.store_rows.specs.declared.fault.TableFault.TheVariants.{Sqlite, Damaged}

@@ -5,16 +5,17 @@ use Rattle.std.specs.Prelude.{nat_abs, ◌&&◌}
 use Rattle.std.proofs.lemmas.Bool.Decides.{nat_tests}
 use Rattle.sqlite.specs.Order.{Row, column}
 use Rattle.sqlite.specs.declared.types.Value.TheVariants.{Int, Text}
-use Rattle.message_records.specs.Ranges.{cents_within, whole_within}
-use Rattle.message_records.specs.Records.{IsReference, is_reference, reference_from}
+use Rattle.message_records.specs.believed.Ranges.{cents_within, whole_within}
+use Rattle.message_records.specs.believed.Records.{IsReference, is_reference, reference_from}
 use Rattle.message_records.specs.declared.limits.TheConstants.{MAX_BALANCE}
 use Rattle.posting_rules.specs.declared.fault.Rule.{Rule}
 use Rattle.posting_rules.specs.declared.fault.Rule.TheVariants.{Balance, Reference}
-use Rattle.sql_meanings.specs.Entries.{Entry}
-use Rattle.store_rows.specs.Columns.{number_at}
+use Rattle.sql_meanings.specs.believed.Entries.{Entry}
+use Rattle.store_rows.specs.believed.Columns.{number_at}
 use Rattle.store_rows.specs.TableAnswers.{ReadsCents, ReadsReference, ReadsWhole}
-use Rattle.store_rows.specs.Rules.{IsFrom}
-use Rattle.store_rows.specs.Stored.{BalanceKeeps, IsBalance, ReadsStored, balance_stored}
+use Rattle.store_rows.specs.believed.Rules.{IsFrom}
+use Rattle.store_rows.specs.believed.Stored.{BalanceKeeps, IsBalance}
+use Rattle.store_rows.specs.Stored.{ReadsStored, balance_stored}
 use Rattle.store_rows.specs.declared.fault.TableFault.{TableFault}
 use Rattle.store_rows.specs.declared.fault.TableFault.TheVariants.{Sqlite, Damaged}
 

@@ -9,21 +9,23 @@ use Rattle.sqlite.specs.Table.{Table}
 use Rattle.sqlite.specs.Term.{Term, col, eval_all}
 use Rattle.sqlite.specs.declared.error.Error.{Error}
 use Rattle.sqlite.specs.declared.types.Value.TheVariants.{Int}
-use Rattle.posting_rules.specs.Tables.{Tables}
-use Rattle.sql_meanings.specs.Entries.{Entry, HasWidth, has_key, is_above, has_two, stored}
+use Rattle.posting_rules.specs.believed.Tables.{Tables}
+use Rattle.sql_meanings.specs.believed.Entries.{Entry, HasWidth, has_key, has_two, stored}
+use Rattle.sql_meanings.specs.Entries.{is_above}
 use Rattle.sql_meanings.specs.StatementAnswers.{TellsRow}
 use Rattle.sql_meanings.specs.Queries.{by_key}
-use Rattle.sql_meanings.specs.Tables.{Holds, width_of}
+use Rattle.sql_meanings.specs.believed.Tables.{Holds, width_of}
 use Rattle.sql_meanings.proofs.Changes.{found_all}
 use Rattle.sql_meanings.proofs.Contents.{held}
 use Rattle.sql_meanings.proofs.ReadRows.{reads_key, reads_next, reads_two}
 use Rattle.sql_meanings.proofs.ReadTables.{ReadsAs}
-use Rattle.store_rows.specs.Rules.{HoldsBank, StoredRows, row_under, stored_lists, stored_rows}
-use Rattle.store_rows.specs.BankTables as bank
-use Rattle.store_rows.specs.BankTables.{bank_tables}
+use Rattle.store_rows.specs.believed.Rules.{HoldsBank, StoredRows, row_under, stored_lists}
+use Rattle.store_rows.specs.Rules.{stored_rows}
+use Rattle.store_rows.specs.believed.BankTables as bank
+use Rattle.store_rows.specs.believed.BankTables.{bank_tables}
 use Rattle.store_rows.specs.Stored.{balance_stored, branch_stored, floor_stored, reference_stored}
 use Rattle.store_rows.specs.Stored.{request_stored}
-use Rattle.store_rows.specs.View.{Shows}
+use Rattle.store_rows.specs.believed.View.{Shows}
 use Rattle.store_rows.specs.declared.texts.TheConstants.{GET_REQUEST, NEXT_BRANCH}
 use Rattle.store_rows.proofs.ShownValues.{number_shown, text_shown}
 use Rattle.store_rows.proofs.GetRequest as request

@@ -11,13 +11,14 @@ use Rattle.sqlite.specs.Table.{Table}
 use Rattle.sqlite.specs.declared.error.Error.{Error}
 use Rattle.sqlite.specs.declared.types.Value.TheVariants.{Int}
 use Rattle.sqlite_sql.specs.Ops.{fits_i64}
-use Rattle.posting_rules.specs.Changes.{row_changed, row_put}
-use Rattle.posting_rules.specs.Tables.{Tables, row_at}
-use Rattle.sql_meanings.specs.Contents.{HoldsEach}
-use Rattle.sql_meanings.specs.Entries.{Entry, changed, has_key}
+use Rattle.posting_rules.specs.believed.Changes.{row_changed, row_put}
+use Rattle.posting_rules.specs.believed.Tables.{Tables, row_at}
+use Rattle.sql_meanings.specs.believed.Contents.{HoldsEach}
+use Rattle.sql_meanings.specs.believed.Entries.{Entry, has_key}
+use Rattle.sql_meanings.specs.Entries.{changed}
 use Rattle.sql_meanings.specs.StatementAnswers.{Forbids}
-use Rattle.sql_meanings.specs.Plain.{key_column, number_column, text_column}
-use Rattle.sql_meanings.specs.Tables.{Holds, width_of}
+use Rattle.sql_meanings.specs.believed.Plain.{key_column, number_column, text_column}
+use Rattle.sql_meanings.specs.believed.Tables.{Holds, width_of}
 use Rattle.sql_meanings.proofs.Contents.{held, one_written}
 use Rattle.sql_meanings.proofs.Failures.{set_fails_as}
 use Rattle.sql_meanings.proofs.PutFailures.{refuses_insert}
@@ -28,9 +29,10 @@ use Rattle.sql_meanings.proofs.TableWrites.{IsPlain, Leaves, spares_standing}
 use Rattle.sql_meanings.proofs.Writing.{uncounted}
 use Rattle.store_rows.specs.Faults.{added}
 use Rattle.store_rows.specs.TableAnswers.{PutsOneRow, IsForbidden, SetsRow}
-use Rattle.store_rows.specs.BankTables.{bank_tables}
+use Rattle.store_rows.specs.believed.BankTables.{bank_tables}
 use Rattle.store_rows.specs.Statements.{MeetsOne}
-use Rattle.store_rows.specs.View.{Shows, contents}
+use Rattle.store_rows.specs.believed.View.{Shows}
+use Rattle.store_rows.specs.View.{contents}
 use Rattle.store_rows.proofs.Failing.{adds_err, forbidden, forbidden_put, key_fits}
 use Rattle.store_rows.proofs.Lookups.{one_written as one_met}
 use Rattle.store_rows.proofs.RowLists.{changed_rows, put_rows, taken_row_key}

@@ -7,17 +7,18 @@ use Rattle.sqlite.specs.State.{State, QueriesRowInside}
 use Rattle.sqlite.specs.declared.error.Error.{Error}
 use Rattle.sqlite.specs.declared.transaction.Transaction.{Transaction}
 use Rattle.sqlite_trees.specs.declared.store.Store.{Ghosts}
-use Rattle.posting_rules.specs.Tables.{Tables}
+use Rattle.posting_rules.specs.believed.Tables.{Tables}
 use Rattle.sql_meanings.specs.Calls.{Inside, Says}
-use Rattle.sql_meanings.specs.Entries.{Entry}
+use Rattle.sql_meanings.specs.believed.Entries.{Entry}
 use Rattle.sql_meanings.specs.StatementAnswers.{OnlyShows, TellsRow}
 use Rattle.store_rows.specs.Calls.{LooksUp, OfTables}
 use Rattle.store_rows.specs.Failures.{Asks, ReadsAnswer}
 use Rattle.store_rows.specs.Forms.{Form}
 use Rattle.store_rows.specs.TableAnswers.{ReadsRow}
-use Rattle.store_rows.specs.Rules.{HoldsBank, StoredRows, stored_rows}
+use Rattle.store_rows.specs.believed.Rules.{HoldsBank, StoredRows}
+use Rattle.store_rows.specs.Rules.{stored_rows}
 use Rattle.store_rows.specs.Stored.{ReadsStored}
-use Rattle.store_rows.specs.View.{Shows}
+use Rattle.store_rows.specs.believed.View.{Shows}
 use Rattle.store_rows.specs.declared.fault.TableFault.{TableFault}
 use Rattle.store_rows.proofs.FoundRows.{finds, stores}
 use Rattle.store_rows.proofs.Reasons.{looks}

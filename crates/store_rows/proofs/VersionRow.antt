@@ -4,21 +4,22 @@ use Rattle.std.proofs.Common.{option_map, Ok, Err, Result, lit≤, refl, ◌∙�
 use Rattle.sqlite.specs.State.{State, ExecutesInside}
 use Rattle.sqlite.specs.declared.error.Error.{Error}
 use Rattle.sqlite.specs.declared.types.Value.TheVariants.{Int}
-use Rattle.posting_rules.specs.Tables.{Tables}
-use Rattle.sql_meanings.specs.Entries.{Entry, has_key}
+use Rattle.posting_rules.specs.believed.Tables.{Tables}
+use Rattle.sql_meanings.specs.believed.Entries.{Entry, has_key}
 use Rattle.sql_meanings.specs.Making.{SparesStanding}
 use Rattle.sql_meanings.specs.StatementAnswers.{Forbids, GoesOn, SetFails}
-use Rattle.sql_meanings.specs.Tables.{Holds}
+use Rattle.sql_meanings.specs.believed.Tables.{Holds}
 use Rattle.sql_meanings.proofs.Contents.{held}
 use Rattle.sql_meanings.proofs.SetFailures.{refuses_update}
 use Rattle.sql_meanings.proofs.SetRows.{sets_row}
 use Rattle.sql_meanings.proofs.TableWrites.{spares_standing}
-use Rattle.store_rows.specs.BankTables as bank
-use Rattle.store_rows.specs.BankTables.{bank_tables}
-use Rattle.store_rows.specs.Columns.{meta_in, meta_numbers}
+use Rattle.store_rows.specs.believed.BankTables as bank
+use Rattle.store_rows.specs.believed.BankTables.{bank_tables}
+use Rattle.store_rows.specs.believed.Columns.{meta_in, meta_numbers}
 use Rattle.store_rows.specs.Migration.{HoldsTables, SetsVersion}
 use Rattle.store_rows.specs.Statements.{MeetsOne}
-use Rattle.store_rows.specs.View.{HoldsRows, meta_entry, rows_of}
+use Rattle.store_rows.specs.believed.View.{meta_entry, rows_of}
+use Rattle.store_rows.specs.View.{HoldsRows}
 use Rattle.store_rows.specs.declared.metas.TheConstants.{META_ID}
 use Rattle.store_rows.specs.declared.texts.TheConstants.{SET_VERSION}
 use Rattle.store_rows.proofs.Failing.{key_fits}

@@ -6,18 +6,21 @@ use Rattle.sqlite.specs.declared.transaction.Transaction.{Transaction}
 use Rattle.sqlite.specs.declared.types.Value.TheVariants.{Int}
 use Rattle.sqlite_rules.specs.Lists.{Has}
 use Rattle.sqlite_trees.specs.declared.store.Store.{Ghosts}
-use Rattle.posting_rules.specs.Changes.{row_changed, row_put, with_account, with_account_balance, with_branch}
-use Rattle.posting_rules.specs.Changes.{with_branch_balance, with_floor}
-use Rattle.posting_rules.specs.Changes.{with_history, with_reference, with_request, with_teller}
-use Rattle.posting_rules.specs.Changes.{with_teller_balance}
-use Rattle.posting_rules.specs.Tables.{Tables, row_at}
+use Rattle.posting_rules.specs.believed.Changes.{row_changed, row_put, with_account_balance, with_branch}
+use Rattle.posting_rules.specs.Changes.{with_account}
+use Rattle.posting_rules.specs.believed.Changes.{with_branch_balance, with_floor}
+use Rattle.posting_rules.specs.believed.Changes.{with_history, with_reference, with_request}
+use Rattle.posting_rules.specs.Changes.{with_teller}
+use Rattle.posting_rules.specs.believed.Changes.{with_teller_balance}
+use Rattle.posting_rules.specs.believed.Tables.{Tables, row_at}
 use Rattle.posting_rules.specs.declared.rows.ReferenceRow.{ReferenceRow}
 use Rattle.sql_meanings.specs.Calls.{Inside, Says}
-use Rattle.sql_meanings.specs.Entries.{Entry}
+use Rattle.sql_meanings.specs.believed.Entries.{Entry}
 use Rattle.sql_meanings.proofs.SetRows.{ChangesAs}
 use Rattle.store_rows.specs.Calls.{AddsRow, SetsNumber}
-use Rattle.store_rows.specs.Failures.{Puts as PutIsKept, inserts}
-use Rattle.store_rows.specs.SeveralRows.{given}
+use Rattle.store_rows.specs.believed.Failures.{inserts}
+use Rattle.store_rows.specs.Failures.{Puts as PutIsKept}
+use Rattle.store_rows.specs.believed.SeveralRows.{given}
 use Rattle.store_rows.specs.Statements.{PutsIn, PutsRow, RunsUnder}
 use Rattle.store_rows.specs.declared.fault.TableFault.{TableFault}
 use Rattle.store_rows.specs.declared.statements.TheConstants.{MAX_KEY}

@@ -7,18 +7,19 @@ use Rattle.sqlite.specs.Table.{Table}
 use Rattle.sqlite.specs.declared.error.Error.{Error}
 use Rattle.sqlite.specs.declared.transaction.Transaction.{Transaction}
 use Rattle.sqlite_trees.specs.declared.store.Store.{Ghosts}
-use Rattle.posting_rules.specs.Tables.{Tables}
+use Rattle.posting_rules.specs.believed.Tables.{Tables}
 use Rattle.sql_meanings.specs.Calls.{Inside, Says}
 use Rattle.sql_meanings.specs.StatementAnswers.{TellsProbe, TellsUnderstood}
-use Rattle.sql_meanings.specs.Entries.{Entry}
+use Rattle.sql_meanings.specs.believed.Entries.{Entry}
 use Rattle.store_rows.specs.Failures.{Changes, Looks, Puts}
 use Rattle.store_rows.specs.Forms.{Form}
 use Rattle.store_rows.specs.TableAnswers.{PutsOneRow, Finds, SetsRow}
-use Rattle.store_rows.specs.Rules.{OfRows, StoredRows}
+use Rattle.store_rows.specs.believed.Rules.{OfRows, StoredRows}
 use Rattle.store_rows.specs.Sparing.{SparesIfOk}
-use Rattle.store_rows.specs.BankTables.{meta}
-use Rattle.store_rows.specs.Stored.{FindsStored}
-use Rattle.store_rows.specs.View.{HoldsRows, Shows}
+use Rattle.store_rows.specs.believed.BankTables.{meta}
+use Rattle.store_rows.specs.believed.Stored.{FindsStored}
+use Rattle.store_rows.specs.believed.View.{Shows}
+use Rattle.store_rows.specs.View.{HoldsRows}
 use Rattle.store_rows.specs.declared.fault.TableFault.{TableFault}
 
 -- of whatever tables are shown

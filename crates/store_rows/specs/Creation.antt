@@ -13,16 +13,16 @@ use Rattle.sqlite.specs.declared.error.Error.TheVariants.{SqliteFailure}
 use Rattle.sqlite.specs.declared.error.ErrorCode.TheVariants.{ConstraintViolation}
 use Rattle.sqlite_schema.specs.declared.schema.Constraint.TheVariants.{Unique}
 use Rattle.sqlite_rules.specs.Lists.{Has}
-use Rattle.posting_rules.specs.Tables.{Tables}
+use Rattle.posting_rules.specs.believed.Tables.{Tables}
 use Rattle.sql_meanings.specs.Making.{IsGrown, KeepsTables, KeepsWhatStood, NotMade, SparesTables, counts_rows}
 use Rattle.sql_meanings.specs.StatementAnswers.{GoesOn, HasWideIndex, IsInterrupted, IsUndone, NamesCause, PutFails}
-use Rattle.sql_meanings.specs.Tables.{tree_of}
+use Rattle.sql_meanings.specs.believed.Tables.{tree_of}
 use Rattle.store_rows.specs.TableAnswers.{IsForbidden}
-use Rattle.sql_meanings.specs.Contents.{HoldsEach}
-use Rattle.sql_meanings.specs.Entries.{Entry}
-use Rattle.store_rows.specs.BankTables as bank
+use Rattle.sql_meanings.specs.believed.Contents.{HoldsEach}
+use Rattle.sql_meanings.specs.believed.Entries.{Entry}
+use Rattle.store_rows.specs.believed.BankTables as bank
 use Rattle.store_rows.specs.declared.texts.TheConstants as text
-use Rattle.store_rows.specs.View.{Shows}
+use Rattle.store_rows.specs.believed.View.{Shows}
 
 -- the texts that make the tables of a bank, each with its table, in the order of `bank_tables`
 abbrev pub all_texts : List (List ℕ × Table)

@@ -4,7 +4,7 @@ use Rattle.std.specs.Fmt.{decimal}
 use Rattle.sqlite.specs.declared.error.Error.{Error}
 use Rattle.posting_rules.specs.FaultTexts.{number_of_rule}
 use Rattle.posting_rules.specs.declared.fault.Rule.TheVariants.{Key}
-use Rattle.sql_meanings.specs.StatementAnswers.{is_taken_key}
+use Rattle.sql_meanings.specs.believed.StatementAnswers.{is_taken_key}
 use Rattle.store_rows.specs.declared.fault.TableFault.{TableFault}
 use Rattle.store_rows.specs.declared.fault.TableFault.TheVariants.{Sqlite, Damaged}
 

@@ -6,13 +6,15 @@ use Rattle.posting_rules.specs.declared.rows.BranchRow.{BranchRow}
 use Rattle.posting_rules.specs.declared.rows.RequestRow.{RequestRow}
 use Rattle.posting_rules.specs.declared.rows.FloorRow.{FloorRow}
 use Rattle.posting_rules.specs.declared.rows.ReferenceRow.{ReferenceRow}
-use Rattle.sql_meanings.specs.Entries.{Entry}
-use Rattle.store_rows.specs.Columns.{balance_shown, branch_shown, floor_shown, meta_numbers, meta_shown}
+use Rattle.sql_meanings.specs.believed.Entries.{Entry}
+use Rattle.store_rows.specs.believed.Columns.{meta_numbers}
+use Rattle.store_rows.specs.Columns.{balance_shown, branch_shown, floor_shown, meta_shown}
 use Rattle.store_rows.specs.Columns.{reference_shown, request_shown}
 use Rattle.store_rows.specs.TableAnswers.{BreaksBalance, BreaksBranch, BreaksFloor, BreaksReference}
 use Rattle.store_rows.specs.TableAnswers.{BreaksRequest, Never}
-use Rattle.store_rows.specs.Rules.{BranchKeeps, FloorKeeps, ReferenceKeeps, RequestKeeps}
-use Rattle.store_rows.specs.Stored.{BalanceKeeps, IsBalance, IsBranch, IsFloorRow, IsReferenceRow}
+use Rattle.store_rows.specs.believed.Rules.{BranchKeeps, FloorKeeps, ReferenceKeeps, RequestKeeps}
+use Rattle.store_rows.specs.believed.Stored.{BalanceKeeps, IsBalance}
+use Rattle.store_rows.specs.Stored.{IsBranch, IsFloorRow, IsReferenceRow}
 use Rattle.store_rows.specs.Stored.{IsSameRequest, balance_stored, branch_stored, floor_stored}
 use Rattle.store_rows.specs.Stored.{reference_stored, request_stored}
 use Rattle.store_rows.specs.declared.metas.StoredMeta.{StoredMeta}

@@ -1,15 +1,15 @@
 -- Whose balance it is: of an account, of a teller or of a branch (TPC-B 1.2).
 use Rattle.std.specs.Prelude.{ℕ, ℤ, Bool, List, Option, IsTrue, is_some, option_map}
 use Rattle.sqlite.specs.Table.{Table}
-use Rattle.posting_rules.specs.Changes.{with_account_balance, with_teller_balance, with_branch_balance}
+use Rattle.posting_rules.specs.believed.Changes.{with_account_balance, with_teller_balance, with_branch_balance}
 use Rattle.posting_rules.specs.Changes.{with_account, with_teller}
-use Rattle.posting_rules.specs.LookUps.{account_balance_in, balance_of_teller}
-use Rattle.posting_rules.specs.Tables.{Tables, row_at, account_key, teller_key, branch_key, account_row_of}
-use Rattle.posting_rules.specs.Tables.{teller_row_of}
-use Rattle.sql_meanings.specs.Entries.{Entry}
-use Rattle.store_rows.specs.Rules.{StoredRows, row_under}
-use Rattle.store_rows.specs.BankTables as bank
-use Rattle.store_rows.specs.View.{account_entry, teller_entry}
+use Rattle.posting_rules.specs.believed.LookUps.{account_balance_in, balance_of_teller}
+use Rattle.posting_rules.specs.believed.Tables.{Tables, row_at, account_key, teller_key, branch_key, account_row_of}
+use Rattle.posting_rules.specs.believed.Tables.{teller_row_of}
+use Rattle.sql_meanings.specs.believed.Entries.{Entry}
+use Rattle.store_rows.specs.believed.Rules.{StoredRows, row_under}
+use Rattle.store_rows.specs.believed.BankTables as bank
+use Rattle.store_rows.specs.believed.View.{account_entry, teller_entry}
 use Rattle.store_rows.specs.declared.holders.Holder.{Holder}
 use Rattle.store_rows.specs.declared.holders.Holder.TheVariants.{Account, Teller, Branch}
 use Rattle.store_rows.specs.declared.holders.Member.{Member}

@@ -9,17 +9,18 @@ use Rattle.sqlite.specs.Schema.{Schema}
 use Rattle.sqlite.specs.State.{State}
 use Rattle.sqlite.specs.Table.{Table}
 use Rattle.sqlite.specs.declared.error.Error.{Error}
-use Rattle.posting_rules.specs.Tables.{Tables}
-use Rattle.sql_meanings.specs.Contents.{HoldsEach}
-use Rattle.sql_meanings.specs.Entries.{Entry}
+use Rattle.posting_rules.specs.believed.Tables.{Tables}
+use Rattle.sql_meanings.specs.believed.Contents.{HoldsEach}
+use Rattle.sql_meanings.specs.believed.Entries.{Entry}
 use Rattle.sql_meanings.specs.Making.{KeepsWhatStood, SparesStanding}
 use Rattle.sql_meanings.specs.StatementAnswers.{Forbids, GoesOn, SetFails}
-use Rattle.sql_meanings.specs.Tables.{Holds, tree_of}
-use Rattle.store_rows.specs.BankTables as bank
-use Rattle.store_rows.specs.BankTables.{bank_tables}
-use Rattle.store_rows.specs.Columns.{meta_in}
+use Rattle.sql_meanings.specs.believed.Tables.{Holds, tree_of}
+use Rattle.store_rows.specs.believed.BankTables as bank
+use Rattle.store_rows.specs.believed.BankTables.{bank_tables}
+use Rattle.store_rows.specs.believed.Columns.{meta_in}
 use Rattle.store_rows.specs.Creation.{AreEmpty, MakesAll, RefusesNext, all_texts, no_rows}
-use Rattle.store_rows.specs.View.{HoldsRows, ShowsAs, meta_entry, rows_of}
+use Rattle.store_rows.specs.believed.View.{ShowsAs, meta_entry, rows_of}
+use Rattle.store_rows.specs.View.{HoldsRows}
 use Rattle.store_rows.specs.declared.metas.TheConstants.{VERSION}
 use Rattle.store_rows.specs.declared.migration.TheConstants.{EARLIEST}
 

@@ -4,7 +4,7 @@ use Rattle.sqlite.specs.Listing.{understood}
 use Rattle.sqlite.specs.Schema.{Schema}
 use Rattle.sqlite.specs.Table.{Table}
 use Rattle.sqlite_resolve.specs.declared.error.CompileError.{CompileError}
-use Rattle.store_rows.specs.BankTables as bank
+use Rattle.store_rows.specs.believed.BankTables as bank
 use Rattle.store_rows.specs.declared.probes.BankTable.{BankTable}
 use Rattle.store_rows.specs.declared.probes.BankTable.TheVariants.{Meta, Branch, Teller, Account, History}
 use Rattle.store_rows.specs.declared.probes.BankTable.TheVariants.{Request, Floor, Reference}

@@ -1,24 +1,19 @@
--- Rows that are put in one after another, by one statement.
-use Rattle.std.specs.Prelude.{◌≡◌, ◌||◌, ◌++◌, Bool, false, ℕ, pos, List, [], ◌∷◌, map, find, None, Result}
-use Rattle.std.specs.List.{AllByRecursion, flat_map}
+-- Several rows that one statement puts in.
+use Rattle.std.specs.Prelude.{◌≡◌, ◌||◌, Bool, false, ℕ, pos, List, [], ◌∷◌, find, None, Result}
+use Rattle.std.specs.List.{AllByRecursion}
 use Rattle.sqlite.specs.Effect.{Database}
-use Rattle.sqlite.specs.Order.{Row}
 use Rattle.sqlite.specs.Table.{Table}
 use Rattle.sqlite.specs.declared.transaction.Transaction.{Transaction}
-use Rattle.sqlite.specs.declared.types.Value.TheVariants.{Int}
 use Rattle.sqlite_rules.specs.Lists.{Has}
 use Rattle.sqlite_trees.specs.declared.store.Store.{Ghosts}
-use Rattle.posting_rules.specs.Tables.{Tables}
+use Rattle.posting_rules.specs.believed.Tables.{Tables}
 use Rattle.posting_rules.specs.declared.rows.RequestRow.{RequestRow}
-use Rattle.sql_meanings.specs.Entries.{Entry, has_two, numbers, texts_held}
-use Rattle.store_rows.specs.BankTables.{request}
+use Rattle.sql_meanings.specs.believed.Entries.{Entry, has_two}
+use Rattle.store_rows.specs.believed.BankTables.{request}
 use Rattle.store_rows.specs.Calls.{AddsRow}
-use Rattle.store_rows.specs.View.{HoldsRows, request_entry}
+use Rattle.store_rows.specs.View.{HoldsRows}
 use Rattle.store_rows.specs.declared.fault.TableFault.{TableFault}
-
--- the values by which a row is handed in
-abbrev pub given : Entry → Row
-given e = Int e.key ∷ (numbers e.values ++ texts_held e.texts)
+use Rattle.store_rows.specs.believed.SeveralRows.{given_each}
 
 -- the tables with each of the rows, one after another
 abbrev pub with_each : {R : Type 0} → (R → Tables → Tables) → List R → Tables → Tables
@@ -29,10 +24,6 @@ with_each with (r ∷ rows) t = with_each with rows (with r t)
 abbrev pub meets_key : {R : Type 0} → (R → Tables → Tables) → (R → Tables → Bool) → List R → Tables → Bool
 meets_key with taken [] t = false
 meets_key with taken (r ∷ rows) t = taken r t || meets_key with taken rows (with r t)
-
--- the values by which rows are handed in, one after another
-abbrev pub given_each : {R : Type 0} → (R → Entry) → List R → Row
-given_each entry rows = flat_map given (map entry rows)
 
 -- By this text the rows are put in one after another, unless the key of one is taken by then. Of an error none is
 -- put in.

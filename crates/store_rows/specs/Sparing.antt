@@ -1,17 +1,7 @@
--- What the writes of a bank leave of the tables of other products, whatever file they run on.
-use Rattle.std.specs.Prelude.{ℕ, List, ◌∷◌, map, Result, OnOk}
-use Rattle.sqlite.specs.Effect.{Database}
+-- What a call that succeeded spares.
+use Rattle.std.specs.Prelude.{Result, OnOk}
 use Rattle.sqlite.specs.State.{State}
-use Rattle.sql_meanings.specs.Sparing.{SparesAllBut, sequence_name}
-use Rattle.store_rows.specs.BankTables.{bank_tables}
-
--- the tables of a bank, and the one in which SQLite counts for AUTOINCREMENT
-abbrev pub bank_names : List (List ℕ)
-bank_names = sequence_name ∷ map (λ t. t.name) bank_tables
-
--- the tables of other products are as they were, unless a foreign key of their own acts
-abbrev pub SparesOthers : Database → Database → Type 0
-SparesOthers = SparesAllBut bank_names
+use Rattle.store_rows.specs.believed.Sparing.{SparesOthers}
 
 -- after `Ok` they are
 abbrev pub SparesIfOk : {X E : Type 0} → State → State → Result X E → Type 0

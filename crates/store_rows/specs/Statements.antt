@@ -13,7 +13,8 @@ use Rattle.sqlite_resolve.specs.declared.compiled.Compiled.{Compiled}
 use Rattle.sqlite_rules.specs.Lists.{Has}
 use Rattle.sql_meanings.specs.Calls.{Inside, Says}
 use Rattle.store_rows.specs.Columns.{meta_shown}
-use Rattle.store_rows.specs.Failures.{Changes, Puts, inserts}
+use Rattle.store_rows.specs.believed.Failures.{inserts}
+use Rattle.store_rows.specs.Failures.{Changes, Puts}
 use Rattle.store_rows.specs.Faults.{added}
 use Rattle.store_rows.specs.declared.fault.TableFault.{TableFault}
 use Rattle.store_rows.specs.declared.fault.TableFault.TheVariants.{Sqlite, Damaged}

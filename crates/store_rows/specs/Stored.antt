@@ -1,21 +1,17 @@
--- What is reported of a stored row, whatever values it has.
-use Rattle.std.specs.Prelude.{◌≡◌, ◌≤◌, ℤ, pos, nat_abs, [], ◌∷◌, Option, Some, None, Result, Ok, Err, ⊤}
+-- What the stored rows of each table hold, whatever they are.
+use Rattle.std.specs.Prelude.{◌≡◌, pos, [], ◌∷◌, Result}
 use Rattle.sqlite.specs.Order.{Row}
 use Rattle.sqlite.specs.declared.types.Value.TheVariants.{Int, Text}
-use Rattle.message_records.specs.Outcomes.{code_of}
-use Rattle.message_records.specs.declared.limits.TheConstants.{MAX_BALANCE}
-use Rattle.posting_rules.specs.Kept.{DecisionFields}
 use Rattle.posting_rules.specs.declared.fault.Rule.{Rule}
-use Rattle.posting_rules.specs.declared.fault.Rule.TheVariants.{Balance}
 use Rattle.posting_rules.specs.declared.rows.BranchRow.{BranchRow}
 use Rattle.posting_rules.specs.declared.rows.RequestRow.{RequestRow}
 use Rattle.posting_rules.specs.declared.rows.FloorRow.{FloorRow}
 use Rattle.posting_rules.specs.declared.rows.ReferenceRow.{ReferenceRow}
-use Rattle.sql_meanings.specs.Entries.{Entry}
-use Rattle.store_rows.specs.Columns.{number_at, text_at}
+use Rattle.sql_meanings.specs.believed.Entries.{Entry}
+use Rattle.store_rows.specs.believed.Columns.{number_at, text_at}
 use Rattle.store_rows.specs.TableAnswers.{ReadsColumns}
 use Rattle.store_rows.specs.declared.fault.TableFault.{TableFault}
-use Rattle.store_rows.specs.declared.fault.TableFault.TheVariants.{Sqlite, Damaged}
+use Rattle.store_rows.specs.believed.Stored.{IsDecision}
 
 -- ---- what the statements show
 
@@ -42,12 +38,6 @@ floor_stored r = Int r.key ∷ Int (number_at 0 r) ∷ []
 abbrev pub reference_stored : Entry → Row
 reference_stored r = Int r.key ∷ Text (text_at 0 r) ∷ []
 
--- ---- what was made of a row
-
--- this is its balance
-abbrev pub IsBalance : ℤ → Entry → Type 0
-IsBalance z r = number_at 0 r ≡ z
-
 -- it is of this branch, with this count of accounts and this balance
 abbrev pub IsBranch : BranchRow → Entry → Type 0
 IsBranch b r = (r.key ≡ pos b.branch) × (number_at 0 r ≡ pos b.accounts) × (number_at 1 r ≡ b.balance)
@@ -60,23 +50,10 @@ IsFloorRow f r = (r.key ≡ pos f.branch) × (number_at 0 r ≡ f.lowest)
 abbrev pub IsReferenceRow : ReferenceRow → Entry → Type 0
 IsReferenceRow f r = (r.key ≡ pos f.ordinal) × (text_at 0 r ≡ f.reference)
 
--- this was decided
-pub record IsDecision (decision : DecisionFields) (r : Entry) : Type 0 where
-  pub account : number_at 2 r ≡ pos decision.account
-  pub branch : number_at 3 r ≡ pos decision.branch
-  pub delta : number_at 4 r ≡ decision.delta
-  pub outcome : number_at 5 r ≡ pos (code_of decision.outcome)
-  pub balance : number_at 6 r ≡ decision.balance
-
 -- it is of this request
 abbrev pub IsSameRequest : RequestRow → Entry → Type 0
 IsSameRequest request r = (r.key ≡ pos request.ordinal) × (number_at 0 r ≡ pos request.teller)
     × (number_at 1 r ≡ pos request.number) × IsDecision request.decision r
-
--- a row of one balance: that is within the limits
-abbrev pub BalanceKeeps : Rule → Entry → Type 0
-BalanceKeeps Balance r = nat_abs (number_at 0 r) ≤ MAX_BALANCE
-BalanceKeeps _ r = ⊤
 
 -- ---- what is reported
 
@@ -84,11 +61,3 @@ BalanceKeeps _ r = ⊤
 abbrev pub ReadsStored : {X : Type 0} → (Entry → Row) → (X → Entry → Type 0) → (Rule → Entry → Type 0) → Row
     → Result X TableFault → Type 0
 ReadsStored shown Is Keeps = ReadsColumns shown Is (λ r rule. ¬ Keeps rule r)
-
--- the stored row is reported, and that there is none; or it doesn't keep the rule; or the store failed
-abbrev pub FindsStored : {X : Type 0} → Option Entry → (X → Entry → Type 0) → (Rule → Entry → Type 0)
-    → Result (Option X) TableFault → Type 0
-FindsStored stored Is Keeps (Ok None) = stored ≡ None
-FindsStored stored Is Keeps (Ok (Some x)) = (r : Entry) × (stored ≡ Some r) × Is x r
-FindsStored stored Is Keeps (Err (Sqlite e)) = ⊤
-FindsStored stored Is Keeps (Err (Damaged rule)) = (r : Entry) × (stored ≡ Some r) × ¬ Keeps rule r

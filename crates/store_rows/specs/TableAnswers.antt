@@ -6,12 +6,12 @@ use Rattle.sqlite.specs.Order.{Row}
 use Rattle.sqlite.specs.declared.types.Value.{Value}
 use Rattle.sqlite.specs.declared.types.Value.TheVariants.{Int, Text}
 use Rattle.sqlite.specs.declared.error.Error.{Error}
-use Rattle.message_records.specs.Ranges.{cents_within, whole_within}
-use Rattle.message_records.specs.Outcomes.{code_of}
-use Rattle.message_records.specs.Records.{reference_from}
+use Rattle.message_records.specs.believed.Ranges.{cents_within, whole_within}
+use Rattle.message_records.specs.believed.Outcomes.{code_of}
+use Rattle.message_records.specs.believed.Records.{reference_from}
 use Rattle.message_records.specs.declared.records.Outcome.{Outcome}
-use Rattle.posting_rules.specs.Kept.{DecisionFields, is_kept_with}
-use Rattle.posting_rules.specs.Tables.{Tables}
+use Rattle.posting_rules.specs.believed.Kept.{DecisionFields, is_kept_with}
+use Rattle.posting_rules.specs.believed.Tables.{Tables}
 use Rattle.posting_rules.specs.declared.rows.BranchRow.{BranchRow}
 use Rattle.posting_rules.specs.declared.rows.RequestRow.{RequestRow}
 use Rattle.posting_rules.specs.declared.rows.FloorRow.{FloorRow}
@@ -26,7 +26,7 @@ use Rattle.sql_meanings.specs.StatementAnswers.{IsStoreError, GoesOn, PutFails, 
 use Rattle.store_rows.specs.declared.fault.TableFault.{TableFault}
 use Rattle.store_rows.specs.declared.fault.TableFault.TheVariants.{Sqlite, Damaged}
 use Rattle.store_rows.specs.Columns.{request_shown}
-use Rattle.store_rows.specs.View.{Shows}
+use Rattle.store_rows.specs.believed.View.{Shows}
 use Rattle.message_records.specs.declared.limits.TheConstants.{MAX_ACCOUNT, MAX_BALANCE, MAX_BRANCH}
 use Rattle.message_records.specs.declared.limits.TheConstants.{MAX_NUMBER, MAX_TELLER}
 use Rattle.posting_rules.specs.declared.limits.TheConstants.{MAX_DECIDED}

@@ -1,15 +1,15 @@
 //! The table of branches.
 ghost use Rattle.std.specs.Prelude.{find, is_some, pos};
 ghost use Rattle.sql_meanings.specs.Entries.{is_above};
-ghost use Rattle.posting_rules.specs.Tables.{row_at, branch_key};
-ghost use Rattle.posting_rules.specs.Changes.{with_branch};
+ghost use Rattle.posting_rules.specs.believed.Tables.{row_at, branch_key};
+ghost use Rattle.posting_rules.specs.believed.Changes.{with_branch};
 ghost use Rattle.store_rows.specs.Calls.{AddsRow, LooksUp};
 ghost use Rattle.store_rows.specs.Columns.{branch_above};
 ghost use Rattle.store_rows.specs.Forms.{branch_form};
-ghost use Rattle.store_rows.specs.Rules.{row_under};
-ghost use Rattle.store_rows.specs.BankTables.{branch as table};
-ghost use Rattle.store_rows.specs.SeveralRows.{given};
-ghost use Rattle.store_rows.specs.View.{branch_entry};
+ghost use Rattle.store_rows.specs.believed.Rules.{row_under};
+ghost use Rattle.store_rows.specs.believed.BankTables.{branch as table};
+ghost use Rattle.store_rows.specs.believed.SeveralRows.{given};
+ghost use Rattle.store_rows.specs.believed.View.{branch_entry};
 ghost use Rattle.store_rows.specs.declared.texts.TheConstants.{ADD_BRANCH as text};
 
 use crate::columns::{cents_at, count_at, whole_at};

@@ -4,9 +4,9 @@ ghost use Rattle.sqlite.specs.Tree.{Trees};
 ghost use Rattle.sqlite.specs.State.{HasCleanDisk, Survives};
 ghost use Rattle.sqlite.specs.Held.{state};
 ghost use Rattle.sqlite.specs.Steps.{FailsToCommit};
-ghost use Rattle.posting_rules.specs.Tables.{Tables};
+ghost use Rattle.posting_rules.specs.believed.Tables.{Tables};
 ghost use Rattle.sql_meanings.specs.StatementAnswers.{WriteFails};
-ghost use Rattle.store_rows.specs.View.{Shows, ShowsTrees};
+ghost use Rattle.store_rows.specs.believed.View.{Shows, ShowsTrees};
 
 use sqlite::{Alter, Error, Transaction};
 

@@ -6,8 +6,9 @@ ghost use Rattle.sqlite.specs.Held.{state};
 ghost use Rattle.sql_meanings.specs.Calls.{Says, Inside};
 ghost use Rattle.sql_meanings.specs.Making.{CreatesOnly, KeepsTables};
 ghost use Rattle.sql_meanings.specs.StatementAnswers.{WriteKept, WritesKept, MakesTold};
-ghost use Rattle.store_rows.specs.Failures.{HasFailed, HasFailedAtLast};
-ghost use Rattle.store_rows.specs.View.{Shows};
+ghost use Rattle.store_rows.specs.believed.Failures.{HasFailed};
+ghost use Rattle.store_rows.specs.Failures.{HasFailedAtLast};
+ghost use Rattle.store_rows.specs.believed.View.{Shows};
 ghost use Rattle.store_rows.specs.Creation.{AreEmpty, all_texts, new_tables, MakesAll, StartsBank};
 ghost use Rattle.store_rows.specs.Creation.{CreatesBank, CreationFails, HasNewBank, IsAlone};
 

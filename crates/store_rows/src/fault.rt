@@ -1,6 +1,6 @@
 //! Why a call on the tables fails.
 ghost use Rattle.std.specs.Prelude.{◌≡◌};
-ghost use Rattle.sql_meanings.specs.StatementAnswers.{is_taken_key as says_taken};
+ghost use Rattle.sql_meanings.specs.believed.StatementAnswers.{is_taken_key as says_taken};
 ghost use Rattle.store_rows.specs.Faults.{added as told_as};
 ghost use Rattle.store_rows.specs.declared.fault.TableFault.TheVariants.{Sqlite};
 

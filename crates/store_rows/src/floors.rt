@@ -1,13 +1,13 @@
 //! The table of floors: the lowest balance that the accounts of a branch may have.
 ghost use Rattle.std.specs.Prelude.{Some, is_some};
-ghost use Rattle.posting_rules.specs.Tables.{row_at, floor_key};
-ghost use Rattle.posting_rules.specs.Changes.{with_floor};
+ghost use Rattle.posting_rules.specs.believed.Tables.{row_at, floor_key};
+ghost use Rattle.posting_rules.specs.believed.Changes.{with_floor};
 ghost use Rattle.store_rows.specs.Calls.{AddsRow, LooksUp};
 ghost use Rattle.store_rows.specs.Forms.{floor_form};
-ghost use Rattle.store_rows.specs.Rules.{row_under};
-ghost use Rattle.store_rows.specs.BankTables.{floor as table};
-ghost use Rattle.store_rows.specs.SeveralRows.{given};
-ghost use Rattle.store_rows.specs.View.{floor_entry};
+ghost use Rattle.store_rows.specs.believed.Rules.{row_under};
+ghost use Rattle.store_rows.specs.believed.BankTables.{floor as table};
+ghost use Rattle.store_rows.specs.believed.SeveralRows.{given};
+ghost use Rattle.store_rows.specs.believed.View.{floor_entry};
 ghost use Rattle.store_rows.specs.declared.texts.TheConstants.{ADD_FLOOR as text};
 
 use crate::columns::{cents_at, whole_at};

@@ -1,12 +1,13 @@
 //! The table of postings.
 ghost use Rattle.std.specs.Prelude.{◌≡◌, ◌≤◌, is_some};
 ghost use Rattle.sqlite.specs.Values.{bound};
-ghost use Rattle.posting_rules.specs.Tables.{row_at, history_key};
-ghost use Rattle.posting_rules.specs.Changes.{with_history};
+ghost use Rattle.posting_rules.specs.believed.Tables.{row_at, history_key};
+ghost use Rattle.posting_rules.specs.believed.Changes.{with_history};
 ghost use Rattle.store_rows.specs.Calls.{AddsRow};
-ghost use Rattle.store_rows.specs.BankTables.{history as table};
-ghost use Rattle.store_rows.specs.SeveralRows.{AddsRows, given};
-ghost use Rattle.store_rows.specs.View.{history_entry};
+ghost use Rattle.store_rows.specs.believed.BankTables.{history as table};
+ghost use Rattle.store_rows.specs.believed.SeveralRows.{given};
+ghost use Rattle.store_rows.specs.SeveralRows.{AddsRows};
+ghost use Rattle.store_rows.specs.believed.View.{history_entry};
 ghost use Rattle.store_rows.specs.declared.statements.TheConstants.{MAX_KEY};
 ghost use Rattle.store_rows.specs.declared.texts.TheConstants.{ADD_EIGHT_POSTINGS as eight};
 ghost use Rattle.store_rows.specs.declared.texts.TheConstants.{ADD_HISTORY as one};

@@ -5,7 +5,7 @@ ghost use Rattle.store_rows.specs.Forms.{balance_form};
 ghost use Rattle.store_rows.specs.Holders.{balance_in, entry_under, holder_of, holder_table};
 ghost use Rattle.store_rows.specs.Holders.{holder_update, is_there, member_entry, member_insert};
 ghost use Rattle.store_rows.specs.Holders.{with_balance, with_row};
-ghost use Rattle.store_rows.specs.SeveralRows.{given};
+ghost use Rattle.store_rows.specs.believed.SeveralRows.{given};
 
 use crate::fault::TableFault;
 use crate::found::found;

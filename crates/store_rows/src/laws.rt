@@ -2,8 +2,8 @@
 ghost use Rattle.std.specs.Prelude.{◌≡◌, IsTrue};
 ghost use Rattle.sqlite.specs.Tree.{Trees};
 ghost use Rattle.sqlite.specs.Held.{state};
-ghost use Rattle.posting_rules.specs.Tables.{Tables};
-ghost use Rattle.store_rows.specs.View.{Shows, ShowsTrees};
+ghost use Rattle.posting_rules.specs.believed.Tables.{Tables};
+ghost use Rattle.store_rows.specs.believed.View.{Shows, ShowsTrees};
 
 use sqlite::{Alter, Connection};
 

@@ -41,8 +41,8 @@
 //! [`add_eight_requests`] add eight rows, one after another, or none of them.
 //!
 //! A [`TableFault`] says why a call failed: `Sqlite` that a call of `sqlite` did, with its error, and
-//! `Damaged` which rule a stored row breaks. Read next: `specs/BankTables`, the tables with their columns;
-//! `specs/View`, which rows a database shows; `specs/Calls`, what each function finds or leaves. The crate
+//! `Damaged` which rule a stored row breaks. Read next: `specs/believed/BankTables`, the tables with their columns;
+//! `specs/believed/View`, which rows a database shows; `specs/Calls`, what each function finds or leaves. The crate
 //! `bank_transactions` is a caller.
 #![tactic(auto)]
 

@@ -1,19 +1,20 @@
 //! The table of the bank as a whole: one row.
 ghost use Rattle.std.specs.Prelude.{◌≡◌, ◌≤◌, ◌∷◌, [], pos, true, option_map, IfOk, IfErr, OnOk};
-ghost use Rattle.posting_rules.specs.Changes.{with_decided};
+ghost use Rattle.posting_rules.specs.believed.Changes.{with_decided};
 ghost use Rattle.sql_meanings.specs.Calls.{Inside, Says};
-ghost use Rattle.sql_meanings.specs.Sparing.{SparesAllBut};
+ghost use Rattle.sql_meanings.specs.believed.Sparing.{SparesAllBut};
 ghost use Rattle.sql_meanings.specs.StatementAnswers.{TellsRow};
 ghost use Rattle.store_rows.specs.Calls.{OfMeta, SetsNumber};
 ghost use Rattle.sqlite.specs.Held.{state};
 ghost use Rattle.sqlite.specs.State.{HasCleanDisk};
 ghost use Rattle.sqlite.specs.declared.types.Value.TheVariants.{Int};
-ghost use Rattle.store_rows.specs.Columns.{meta_in, meta_shown};
+ghost use Rattle.store_rows.specs.believed.Columns.{meta_in};
+ghost use Rattle.store_rows.specs.Columns.{meta_shown};
 ghost use Rattle.store_rows.specs.Failures.{Asks, Changes, Looks};
 ghost use Rattle.store_rows.specs.Migration.{SetsVersion};
 ghost use Rattle.store_rows.specs.TableAnswers.{Finds, Never};
 ghost use Rattle.store_rows.specs.declared.texts.TheConstants.{SET_META, SET_VERSION};
-ghost use Rattle.store_rows.specs.BankTables.{meta as table};
+ghost use Rattle.store_rows.specs.believed.BankTables.{meta as table};
 ghost use Rattle.store_rows.specs.Statements.{ShowsFirst, TellsOther};
 ghost use Rattle.store_rows.specs.declared.metas.TheConstants.{META_ID as id};
 ghost use Rattle.store_rows.specs.declared.texts.TheConstants.{GET_META as text};

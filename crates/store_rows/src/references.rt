@@ -1,13 +1,13 @@
 //! The table of references: what a decided request is referred to by.
 ghost use Rattle.std.specs.Prelude.{Some, is_some};
-ghost use Rattle.posting_rules.specs.Tables.{row_at, reference_key};
-ghost use Rattle.posting_rules.specs.Changes.{with_reference};
+ghost use Rattle.posting_rules.specs.believed.Tables.{row_at, reference_key};
+ghost use Rattle.posting_rules.specs.believed.Changes.{with_reference};
 ghost use Rattle.store_rows.specs.Calls.{AddsRow, LooksUp};
 ghost use Rattle.store_rows.specs.Forms.{reference_form};
-ghost use Rattle.store_rows.specs.Rules.{row_under};
-ghost use Rattle.store_rows.specs.BankTables.{reference as table};
-ghost use Rattle.store_rows.specs.SeveralRows.{given};
-ghost use Rattle.store_rows.specs.View.{reference_entry};
+ghost use Rattle.store_rows.specs.believed.Rules.{row_under};
+ghost use Rattle.store_rows.specs.believed.BankTables.{reference as table};
+ghost use Rattle.store_rows.specs.believed.SeveralRows.{given};
+ghost use Rattle.store_rows.specs.believed.View.{reference_entry};
 ghost use Rattle.store_rows.specs.declared.texts.TheConstants.{ADD_REFERENCE as statement};
 
 use crate::columns::{reference_at, whole_at};

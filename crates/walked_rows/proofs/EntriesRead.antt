@@ -3,11 +3,11 @@ use Rattle.std.proofs.Common.{◌≡◌, ℕ, ℤ, List, [], ◌∷◌, Some, No
 use Rattle.std.proofs.Common.{length, arith}
 use Rattle.std.specs.Option.{ok_or}
 use Rattle.sqlite.specs.Order.{Row}
-use Rattle.sql_meanings.specs.Entries.{Entry, HasWidth, numbers}
+use Rattle.sql_meanings.specs.believed.Entries.{Entry, HasWidth, numbers}
 use Rattle.posting_rules.specs.declared.fault.Rule.TheVariants.{Value}
 use Rattle.store_rows.specs.declared.fault.TableFault.{TableFault}
 use Rattle.store_rows.specs.declared.fault.TableFault.TheVariants.{Sqlite, Damaged}
-use Rattle.sql_meanings.specs.Tables.{width_of}
+use Rattle.sql_meanings.specs.believed.Tables.{width_of}
 use Rattle.walked_rows.specs.Kinds.{Kind}
 use Rattle.walked_rows.specs.Reading.{AreNumbers, NumbersFail}
 use Rattle.walked_rows.specs.StepOutcomes.{ReadsEntry, Stores, all_numbers, entry_of}

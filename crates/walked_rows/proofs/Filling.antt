@@ -4,7 +4,7 @@ use Rattle.std.proofs.Common.{map, filter, Bool, Some, None, Option, refl, sym, 
 use Rattle.std.specs.Prelude.{IfOk, OnOk, IsSomeAnd}
 use Rattle.sqlite.specs.declared.error.Error.{Error}
 use Rattle.posting_rules.specs.declared.fault.Rule.{Rule}
-use Rattle.sql_meanings.specs.Entries.{Entry, Rise}
+use Rattle.sql_meanings.specs.believed.Entries.{Entry, Rise}
 use Rattle.store_rows.specs.declared.fault.TableFault.{TableFault}
 use Rattle.store_rows.specs.declared.fault.TableFault.TheVariants.{Sqlite, Damaged}
 use Rattle.walked_rows.specs.StepOutcomes.{BreaksFirst}

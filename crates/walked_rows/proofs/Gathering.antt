@@ -9,7 +9,7 @@ use Rattle.std.proofs.lemmas.Bool.Decides.{nat_tests}
 use Rattle.std.proofs.lemmas.Int.{ints, to_z-of_z}
 use Rattle.sqlite.specs.Order.{Row}
 use Rattle.posting_rules.specs.declared.fault.Rule.{Rule}
-use Rattle.sql_meanings.specs.Entries.{Entry, HasWidth, Rise}
+use Rattle.sql_meanings.specs.believed.Entries.{Entry, HasWidth, Rise}
 use Rattle.sql_meanings.specs.Seeks.{is_from}
 use Rattle.sql_meanings.proofs.Changes.{found_all, found_passes}
 use Rattle.sql_meanings.proofs.EntryLists.{Above}

@@ -6,7 +6,7 @@ use Rattle.std.specs.Prelude.{IfSome}
 use Rattle.std.specs.Ordering.{int_eq, is_ge}
 use Rattle.std.proofs.lemmas.Bool.{cases_Bool}
 use Rattle.std.proofs.lemmas.Int.{ints}
-use Rattle.sql_meanings.specs.Entries.{Entry, Rise, has_key}
+use Rattle.sql_meanings.specs.believed.Entries.{Entry, Rise, has_key}
 use Rattle.sql_meanings.specs.Seeks.{is_from}
 use Rattle.walked_rows.specs.Pairs.{AreJoined, ComesBefore, Pair, pair_key, pair_with, paired}
 use Rattle.walked_rows.specs.Pairs.{row_under}

@@ -11,10 +11,10 @@ use Rattle.sqlite.specs.declared.error.Error.TheVariants.{QueryReturnedNoRows}
 use Rattle.sqlite.specs.declared.types.Value.TheVariants.{Int}
 use Rattle.sqlite_schema.specs.declared.command.Command.{Command}
 use Rattle.sqlite_schema.specs.declared.command.Command.TheVariants as command
-use Rattle.sql_meanings.specs.Entries.{Entry}
+use Rattle.sql_meanings.specs.believed.Entries.{Entry}
 use Rattle.sql_meanings.specs.StatementAnswers.{OnlyShows}
 use Rattle.sql_meanings.proofs.OnlyShowing.{no_rows_error}
-use Rattle.store_rows.specs.Failures.{Asking, HasFailed}
+use Rattle.store_rows.specs.believed.Failures.{Asking, HasFailed}
 use Rattle.store_rows.specs.declared.metas.StoredMeta.{StoredMeta}
 use Rattle.walked_rows.specs.OnlyMeta.{TakesOnly, TakesRow, TellsOnly, meta_with}
 use Rattle.walked_rows.specs.Rows.{HasStoredRows, IsWide, LEAST, entry_key, rows_from}

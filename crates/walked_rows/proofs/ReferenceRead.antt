@@ -14,7 +14,8 @@ use Rattle.sqlite.specs.declared.types.Value.TheVariants.{Null, Int, Text}
 use Rattle.sqlite_tied.specs.Compute.{everything}
 use Rattle.sqlite_resolve.specs.Program as program
 use Rattle.sqlite_resolve.specs.Select.{ungrouped}
-use Rattle.sql_meanings.specs.Entries.{Entry, HasWidth, has_key, listed, stored}
+use Rattle.sql_meanings.specs.believed.Entries.{Entry, HasWidth, has_key, stored}
+use Rattle.sql_meanings.specs.Entries.{listed}
 use Rattle.sql_meanings.specs.StatementAnswers.{IsStoreError, OnlyShows, TellsRows}
 use Rattle.sql_meanings.specs.Queries.{by_key}
 use Rattle.sql_meanings.proofs.Changes.{found_all, found_key}
@@ -23,8 +24,8 @@ use Rattle.sql_meanings.proofs.KeyedAnswers.{keyed_answer}
 use Rattle.sql_meanings.proofs.ReadSeeks.{QueriesAll, reads_all}
 use Rattle.sql_meanings.proofs.ReadTables.{under_overlay}
 use Rattle.sql_meanings.proofs.Texts.{only_reads, select_of}
-use Rattle.sql_meanings.specs.Tables.{tree_of}
-use Rattle.store_rows.specs.BankTables as bank
+use Rattle.sql_meanings.specs.believed.Tables.{tree_of}
+use Rattle.store_rows.specs.believed.BankTables as bank
 use Rattle.store_rows.specs.declared.fault.TableFault.{TableFault}
 use Rattle.store_rows.specs.declared.fault.TableFault.TheVariants.{Sqlite, Damaged}
 use Rattle.store_rows.proofs.ShownValues.{places_are, text_shown}

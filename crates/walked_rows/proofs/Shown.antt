@@ -2,10 +2,10 @@
 use Rattle.std.proofs.Common.{List, [], ◌∷◌, map, pos, refl}
 use Rattle.std.specs.Prelude.{nat_abs}
 use Rattle.sqlite.specs.Effect.{Database}
-use Rattle.posting_rules.specs.Tables.{Tables}
-use Rattle.store_rows.specs.BankTables as bank
-use Rattle.store_rows.specs.View.{Shows, account_entry, branch_entry, floor_entry, history_entry, meta_entry}
-use Rattle.store_rows.specs.View.{reference_entry, request_entry, teller_entry}
+use Rattle.posting_rules.specs.believed.Tables.{Tables}
+use Rattle.store_rows.specs.believed.BankTables as bank
+use Rattle.store_rows.specs.believed.View.{Shows, account_entry, branch_entry, floor_entry, history_entry, meta_entry}
+use Rattle.store_rows.specs.believed.View.{reference_entry, request_entry, teller_entry}
 use Rattle.store_rows.specs.declared.metas.TheConstants.{VERSION}
 use Rattle.store_rows.proofs.TableKinds.{Kind, holds, table_of}
 use Rattle.store_rows.proofs.TheTables as the

@@ -4,7 +4,7 @@ use Rattle.sqlite.specs.Order.{Row}
 use Rattle.sqlite.specs.Term.{col, eval_all}
 use Rattle.sqlite.specs.declared.types.Value.{Value}
 use Rattle.sqlite.specs.declared.types.Value.TheVariants.{Int}
-use Rattle.sql_meanings.specs.Entries.{Entry, HasWidth, numbers, stored}
+use Rattle.sql_meanings.specs.believed.Entries.{Entry, HasWidth, numbers, stored}
 use Rattle.store_rows.proofs.ShownValues.{text_shown as text_is, values_shown}
 use Rattle.walked_rows.specs.References.{text_shown}
 use Rattle.walked_rows.specs.StepOutcomes.{all_numbers}

@@ -11,10 +11,10 @@ use Rattle.sqlite.specs.Listing.{understood}
 use Rattle.sqlite.specs.State.{State, FailsToQuery, IsUnchanged, Shown}
 use Rattle.sqlite.specs.declared.error.Error.{Error}
 use Rattle.sqlite.specs.declared.types.Value.TheVariants.{Int}
-use Rattle.sql_meanings.specs.Entries.{Entry, HasWidth, numbers, stored}
+use Rattle.sql_meanings.specs.believed.Entries.{Entry, HasWidth, numbers, stored}
 use Rattle.sql_meanings.specs.StatementAnswers.{IsStoreError, OnlyShows, ReadFails, WriteFails}
 use Rattle.sql_meanings.specs.Seeks.{begins, is_from, is_of_from, next_from, next_of_from}
-use Rattle.sql_meanings.specs.Tables.{width_of}
+use Rattle.sql_meanings.specs.believed.Tables.{width_of}
 use Rattle.sql_meanings.proofs.ReadSeeks.{kept_all, reads_from, reads_of_from}
 use Rattle.sql_meanings.proofs.ReadTables.{ReadsAs}
 use Rattle.posting_rules.specs.declared.fault.Rule.{Rule}

@@ -10,7 +10,7 @@ use Rattle.std.proofs.lemmas.Int.{ints}
 use Rattle.sqlite.specs.State.{State, IsUnchanged}
 use Rattle.sqlite.specs.declared.error.Error.{Error}
 use Rattle.posting_rules.specs.declared.fault.Rule.{Rule}
-use Rattle.sql_meanings.specs.Entries.{Entry, Rise, has_key}
+use Rattle.sql_meanings.specs.believed.Entries.{Entry, Rise, has_key}
 use Rattle.sql_meanings.specs.StatementAnswers.{IsStoreError}
 use Rattle.sql_meanings.specs.Seeks.{is_from}
 use Rattle.store_rows.specs.declared.fault.TableFault.{TableFault}

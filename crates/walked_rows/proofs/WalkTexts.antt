@@ -21,18 +21,18 @@ use Rattle.sqlite_resolve.specs.Scope.{Name, alias_of, declared}
 use Rattle.sqlite_resolve.specs.Select.{ungrouped}
 use Rattle.sqlite_resolve.specs.Terms.{number}
 use Rattle.sqlite_typing.specs.Types.{accepts_program}
-use Rattle.sql_meanings.specs.Entries.{Entry, HasWidth, stored}
-use Rattle.sql_meanings.specs.Plain.{key_column, number_column}
+use Rattle.sql_meanings.specs.believed.Entries.{Entry, HasWidth, stored}
+use Rattle.sql_meanings.specs.believed.Plain.{key_column, number_column}
 use Rattle.sql_meanings.specs.Queries.{ascending}
 use Rattle.sql_meanings.specs.Seeks.{key_from, next_from, next_of_from}
-use Rattle.sql_meanings.specs.Tables.{placed_at, width_of}
+use Rattle.sql_meanings.specs.believed.Tables.{placed_at, width_of}
 use Rattle.sql_meanings.proofs.ByKey.{Tests, number_at}
 use Rattle.sql_meanings.proofs.ReadTables.{ReadsAs}
 use Rattle.sql_meanings.proofs.ShownColumns.{outputs_at}
 use Rattle.sql_meanings.proofs.SeekTexts.{seeks_by, seeks_of_by}
 use Rattle.sql_meanings.proofs.Statements.{HasTable}
 use Rattle.sql_meanings.proofs.Texts.{IsSelect, only_reads, select_of}
-use Rattle.store_rows.specs.BankTables as bank
+use Rattle.store_rows.specs.believed.BankTables as bank
 use Rattle.walked_rows.specs.OnlyMeta.{meta_with}
 use Rattle.walked_rows.specs.References.{text_shown}
 use Rattle.walked_rows.specs.declared.ahead.TheConstants.{AHEAD}

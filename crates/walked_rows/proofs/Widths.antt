@@ -1,6 +1,6 @@
 -- Rows of three, of six and of eight numbers.
 use Rattle.std.proofs.Common.{◌≡◌, ℕ, ℤ, pos, List, [], ◌∷◌, length, get_or, ap}
-use Rattle.sql_meanings.specs.Entries.{Entry}
+use Rattle.sql_meanings.specs.believed.Entries.{Entry}
 use Rattle.store_rows.proofs.ShownValues.{places_are}
 use Rattle.walked_rows.specs.StepOutcomes.{entry_of}
 

@@ -2,7 +2,7 @@
 use Rattle.std.specs.Prelude.{List, [], ◌∷◌}
 use Rattle.std.proofs.Common.{sym, subst}
 use Rattle.sqlite.specs.Effect.{Database}
-use Rattle.sql_meanings.specs.Entries.{Entry}
+use Rattle.sql_meanings.specs.believed.Entries.{Entry}
 use Rattle.walked_rows.specs.KeptRows.{HasKept, KeptItem, kept_all, kept_key}
 use Rattle.walked_rows.specs.Rows.{HaveKeys, entry_key}
 

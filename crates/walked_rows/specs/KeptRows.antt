@@ -3,8 +3,8 @@
 use Rattle.std.specs.Prelude.{◌≡◌, ◌⊎◌, ◌++◌, ℤ, List, map, Option, IsSomeAnd, option_map}
 use Rattle.sqlite.specs.Effect.{Database}
 use Rattle.posting_rules.specs.declared.fault.Rule.{Rule}
-use Rattle.sql_meanings.specs.Entries.{Entry}
-use Rattle.store_rows.specs.BankTables.{history, reference, request}
+use Rattle.sql_meanings.specs.believed.Entries.{Entry}
+use Rattle.store_rows.specs.believed.BankTables.{history, reference, request}
 use Rattle.walked_rows.specs.Pairs.{Pair, row_under}
 use Rattle.walked_rows.specs.References.{BreaksReference, text_entry}
 use Rattle.walked_rows.specs.Rows.{HasStoredRows, rows_after, rows_from}

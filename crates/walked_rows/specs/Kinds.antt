@@ -1,8 +1,8 @@
 -- What a walk goes by in a table: its columns, how a file holds a row, and which rows are given.
 use Rattle.std.specs.Prelude.{◌≡◌, ◌≤◌, ◌+◌, ℕ, Bool, true, Option, None, refl}
 use Rattle.sqlite.specs.Table.{Table}
-use Rattle.sql_meanings.specs.Entries.{Entry}
-use Rattle.sql_meanings.specs.Tables.{texts_of, width_of}
+use Rattle.sql_meanings.specs.believed.Entries.{Entry}
+use Rattle.sql_meanings.specs.believed.Tables.{texts_of, width_of}
 use Rattle.walked_rows.specs.declared.numbers.TheConstants.{MAX_COLUMNS}
 
 pub record Kind (R : Type 0) : Type 1 where

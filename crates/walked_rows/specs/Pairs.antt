@@ -4,7 +4,7 @@ use Rattle.std.specs.Prelude.{IsSomeAnd, option_map, ⊤}
 use Rattle.sqlite.specs.declared.error.Error.{Error}
 use Rattle.sqlite.specs.Table.{Table}
 use Rattle.sqlite.specs.Effect.{Database}
-use Rattle.sql_meanings.specs.Entries.{Entry, has_key}
+use Rattle.sql_meanings.specs.believed.Entries.{Entry, has_key}
 use Rattle.posting_rules.specs.declared.fault.Rule.{Rule}
 use Rattle.store_rows.specs.declared.fault.TableFault.{TableFault}
 use Rattle.store_rows.specs.declared.fault.TableFault.TheVariants.{Sqlite, Damaged}

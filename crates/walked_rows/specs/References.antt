@@ -5,12 +5,12 @@ use Rattle.std.specs.Prelude.{⊤}
 use Rattle.sqlite.specs.Order.{Row, column}
 use Rattle.sqlite.specs.State.{State, IsUnchanged}
 use Rattle.sqlite.specs.declared.types.Value.TheVariants.{Int, Text}
-use Rattle.message_records.specs.Records.{reference_from}
+use Rattle.message_records.specs.believed.Records.{reference_from}
 use Rattle.sqlite.specs.declared.types.Value.{Value}
 use Rattle.posting_rules.specs.declared.limits.TheConstants.{MAX_DECIDED}
 use Rattle.posting_rules.specs.declared.fault.Rule.{Rule}
 use Rattle.posting_rules.specs.declared.fault.Rule.TheVariants as rule
-use Rattle.sql_meanings.specs.Entries.{Entry}
+use Rattle.sql_meanings.specs.believed.Entries.{Entry}
 use Rattle.store_rows.specs.TableAnswers.{ReadsReference}
 use Rattle.walked_rows.specs.Reading.{IsOutside}
 use Rattle.walked_rows.specs.StepOutcomes.{BreaksValue, IsRefusedMemory}

@@ -4,9 +4,9 @@ use Rattle.std.specs.List.{AllByRecursion}
 use Rattle.std.specs.Ordering.{int_cmp, is_ge}
 use Rattle.sqlite.specs.Table.{Table}
 use Rattle.sqlite.specs.Effect.{Database, IsDatabase}
-use Rattle.sql_meanings.specs.Entries.{Entry, HasWidth}
+use Rattle.sql_meanings.specs.believed.Entries.{Entry, HasWidth}
 use Rattle.sql_meanings.specs.Seeks.{is_from}
-use Rattle.sql_meanings.specs.Tables.{Holds}
+use Rattle.sql_meanings.specs.believed.Tables.{Holds}
 
 -- the least number of 64 bits
 abbrev pub LEAST : ℤ

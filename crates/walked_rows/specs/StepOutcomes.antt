@@ -7,7 +7,7 @@ use Rattle.sqlite.specs.declared.error.Error.TheVariants.{SqliteFailure}
 use Rattle.sqlite.specs.declared.error.ErrorCode.TheVariants.{OutOfMemory}
 use Rattle.posting_rules.specs.declared.fault.Rule.{Rule}
 use Rattle.posting_rules.specs.declared.fault.Rule.TheVariants as rule
-use Rattle.sql_meanings.specs.Entries.{Entry, HasWidth, numbers}
+use Rattle.sql_meanings.specs.believed.Entries.{Entry, HasWidth, numbers}
 use Rattle.sql_meanings.specs.Seeks.{is_from}
 use Rattle.store_rows.specs.declared.fault.TableFault.{TableFault}
 use Rattle.store_rows.specs.declared.fault.TableFault.TheVariants.{Sqlite, Damaged}

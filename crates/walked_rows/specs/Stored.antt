@@ -5,9 +5,9 @@ use Rattle.std.proofs.Common.{lit≤}
 use Rattle.message_records.specs.declared.limits.TheConstants.{MAX_MOMENT}
 use Rattle.posting_rules.specs.declared.fault.Rule.{Rule}
 use Rattle.posting_rules.specs.declared.limits.TheConstants.{LAST_BRANCH, MAX_DECIDED}
-use Rattle.sql_meanings.specs.Entries.{Entry}
+use Rattle.sql_meanings.specs.believed.Entries.{Entry}
 use Rattle.sql_meanings.specs.Seeks.{begins}
-use Rattle.store_rows.specs.BankTables.{account, branch, history, request, teller}
+use Rattle.store_rows.specs.believed.BankTables.{account, branch, history, request, teller}
 use Rattle.walked_rows.specs.Kinds.{Kind, given_all}
 use Rattle.walked_rows.specs.StepOutcomes.{BreaksValue}
 use Rattle.walked_rows.specs.Pairs.{BreaksPair, Pair, pair_of}

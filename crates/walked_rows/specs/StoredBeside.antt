@@ -2,8 +2,8 @@
 use Rattle.std.specs.Prelude.{pos, [], ◌∷◌, refl}
 use Rattle.std.proofs.Common.{lit≤}
 use Rattle.posting_rules.specs.declared.limits.TheConstants.{LAST_BRANCH}
-use Rattle.sql_meanings.specs.Entries.{Entry}
-use Rattle.store_rows.specs.BankTables.{floor, meta}
+use Rattle.sql_meanings.specs.believed.Entries.{Entry}
+use Rattle.store_rows.specs.believed.BankTables.{floor, meta}
 use Rattle.walked_rows.specs.Kinds.{Kind, given_all}
 use Rattle.walked_rows.specs.Reading.{IsOutside}
 use Rattle.walked_rows.specs.declared.floors.StoredFloor.{StoredFloor}

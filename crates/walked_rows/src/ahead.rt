@@ -5,7 +5,7 @@ ghost use Rattle.sqlite.specs.Held.{state};
 ghost use Rattle.sqlite.specs.Order.{Row as StoredColumns};
 ghost use Rattle.posting_rules.specs.declared.fault.Rule.{Rule as Broken};
 ghost use Rattle.posting_rules.specs.declared.limits.TheConstants.{MAX_DECIDED};
-ghost use Rattle.sql_meanings.specs.Entries.{Entry, Rise};
+ghost use Rattle.sql_meanings.specs.believed.Entries.{Entry, Rise};
 ghost use Rattle.sql_meanings.specs.StatementAnswers.{IsStoreError};
 ghost use Rattle.walked_rows.specs.Leaving.{OnlyReads};
 ghost use Rattle.walked_rows.specs.StepOutcomes.{BreaksFirst, BreaksValue, IsRefusedMemory, ReadsEntryAs};
@@ -49,7 +49,7 @@ pub(crate) trait ReadRow: Copy + Default {
 }
 
 impl<R: StoredRow> ReadRow for R {
-    ghost use Rattle.sql_meanings.specs.Tables.{width_of};
+    ghost use Rattle.sql_meanings.specs.believed.Tables.{width_of};
     ghost use Rattle.walked_rows.specs.StepOutcomes.{BreaksValue, shown_row};
 
     ghost shown_as = { shown_row };

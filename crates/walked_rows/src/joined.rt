@@ -4,7 +4,7 @@ ghost use Rattle.std.specs.Prelude.{MatchResult};
 ghost use Rattle.std.specs.Bool.{OnFalse, OnTrue};
 ghost use Rattle.sqlite.specs.State.{HasCleanDisk};
 ghost use Rattle.sqlite.specs.Held.{state};
-ghost use Rattle.sql_meanings.specs.Entries.{Entry, Rise};
+ghost use Rattle.sql_meanings.specs.believed.Entries.{Entry, Rise};
 ghost use Rattle.sql_meanings.specs.StatementAnswers.{IsStoreError};
 ghost use Rattle.walked_rows.specs.Leaving.{OnlyReads, ReadsIfAny};
 ghost use Rattle.walked_rows.specs.StepOutcomes.{BreaksFirst, BreaksValue};

@@ -2,9 +2,9 @@
 ghost use Rattle.std.specs.Prelude.{◌≡◌, ◌≤◌, ◌++◌, [], List, length, map, None, IfOk, MatchResult};
 ghost use Rattle.sqlite.specs.State.{HasCleanDisk};
 ghost use Rattle.sqlite.specs.Held.{state};
-ghost use Rattle.sql_meanings.specs.Entries.{Entry, Rise};
+ghost use Rattle.sql_meanings.specs.believed.Entries.{Entry, Rise};
 ghost use Rattle.sql_meanings.specs.StatementAnswers.{IsStoreError};
-ghost use Rattle.store_rows.specs.BankTables.{reference as reference_table};
+ghost use Rattle.store_rows.specs.believed.BankTables.{reference as reference_table};
 ghost use Rattle.walked_rows.specs.KeptRows.{AreKept, BreaksKept, kept_all};
 ghost use Rattle.walked_rows.specs.Leaving.{ReadsIfAny};
 ghost use Rattle.walked_rows.specs.Pairs.{paired};

@@ -62,8 +62,8 @@ impl ReadRow for StoredReference {
 
 impl WalkedRow for StoredReference {
     ghost use Rattle.std.specs.Prelude.{true, refl};
-    ghost use Rattle.sql_meanings.specs.Entries.{Entry};
-    ghost use Rattle.store_rows.specs.BankTables.{reference as reference_table};
+    ghost use Rattle.sql_meanings.specs.believed.Entries.{Entry};
+    ghost use Rattle.store_rows.specs.believed.BankTables.{reference as reference_table};
     ghost use Rattle.walked_rows.specs.Rows.{HasStoredRows, entry_key};
 
     ghost Item = { Entry };

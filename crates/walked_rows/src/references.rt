@@ -3,10 +3,10 @@ ghost use Rattle.std.specs.Prelude.{◌≡◌, ◌≤◌, List, pos, option_map,
 ghost use Rattle.sqlite.specs.State.{HasCleanDisk};
 ghost use Rattle.sqlite.specs.Held.{state};
 ghost use Rattle.sqlite.specs.Order.{column};
-ghost use Rattle.sql_meanings.specs.Entries.{Entry};
+ghost use Rattle.sql_meanings.specs.believed.Entries.{Entry};
 ghost use Rattle.sql_meanings.specs.StatementAnswers.{IsStoreError};
 ghost use Rattle.posting_rules.specs.declared.limits.TheConstants.{MAX_DECIDED};
-ghost use Rattle.store_rows.specs.BankTables.{reference as reference_table};
+ghost use Rattle.store_rows.specs.believed.BankTables.{reference as reference_table};
 ghost use Rattle.store_rows.specs.TableAnswers.{ReadsReference};
 ghost use Rattle.walked_rows.specs.Leaving.{OnlyReads};
 ghost use Rattle.walked_rows.specs.Pairs.{BreaksUnder, row_under};

@@ -2,9 +2,9 @@
 ghost use Rattle.std.specs.Prelude.{◌≡◌, ◌≤◌, ◌++◌, [], List, length, map, None, IfOk, MatchResult};
 ghost use Rattle.sqlite.specs.State.{HasCleanDisk};
 ghost use Rattle.sqlite.specs.Held.{state};
-ghost use Rattle.sql_meanings.specs.Entries.{Entry, Rise};
+ghost use Rattle.sql_meanings.specs.believed.Entries.{Entry, Rise};
 ghost use Rattle.sql_meanings.specs.StatementAnswers.{IsStoreError};
-ghost use Rattle.store_rows.specs.BankTables.{reference as reference_table};
+ghost use Rattle.store_rows.specs.believed.BankTables.{reference as reference_table};
 ghost use Rattle.walked_rows.specs.Leaving.{ReadsIfAny};
 ghost use Rattle.walked_rows.specs.StepOutcomes.{BreaksFirst};
 ghost use Rattle.walked_rows.specs.Pairs.{AreJoined, paired};
@@ -83,7 +83,7 @@ fn state_each<S: Alter>(
 }
 
 impl WalkedRow for StatedPosting {
-    ghost use Rattle.store_rows.specs.BankTables.{history as history_table};
+    ghost use Rattle.store_rows.specs.believed.BankTables.{history as history_table};
     ghost use Rattle.walked_rows.specs.PairKeys.{pairs_have_keys};
     ghost use Rattle.walked_rows.specs.Pairs.{HasPairs, Pair, pair_key};
     ghost use Rattle.walked_rows.specs.Stored.{is_stated_of};

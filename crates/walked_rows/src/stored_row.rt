@@ -2,7 +2,7 @@
 ghost use Rattle.std.specs.Prelude.{◌≡◌, ◌≤◌, pos, List, MatchResult, filter, length, take};
 ghost use Rattle.sqlite.specs.State.{HasCleanDisk};
 ghost use Rattle.sqlite.specs.Held.{state};
-ghost use Rattle.sql_meanings.specs.Entries.{Entry};
+ghost use Rattle.sql_meanings.specs.believed.Entries.{Entry};
 ghost use Rattle.sql_meanings.specs.StatementAnswers.{IsStoreError};
 ghost use Rattle.walked_rows.specs.Kinds.{Kind};
 ghost use Rattle.walked_rows.specs.Leaving.{OnlyReads};

@@ -59,7 +59,7 @@ pub trait WalkedRow: Copy + Default {
 }
 
 impl<R: StoredRow> WalkedRow for R {
-    ghost use Rattle.sql_meanings.specs.Entries.{Entry};
+    ghost use Rattle.sql_meanings.specs.believed.Entries.{Entry};
     ghost use Rattle.walked_rows.specs.StepOutcomes.{BreaksValue};
     ghost use Rattle.walked_rows.specs.Rows.{HasStoredRows, entry_key};
 

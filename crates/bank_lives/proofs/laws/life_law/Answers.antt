@@ -1,6 +1,6 @@
 -- What a crash leaves of a life.
 use Rattle.std.proofs.Math.Logic.{∥∥₁_map}
-use Rattle.posting_rules.specs.{Counter.ShowsPrefix, Tables.Tables}
+use Rattle.posting_rules.specs.{believed.Counter.ShowsPrefix, believed.Tables.Tables}
 use Rattle.bank_lives.proofs.Lived.{life_leaves, life_given}
 use Rattle.bank_lives.proofs.laws.life_law.Goals as goal
 

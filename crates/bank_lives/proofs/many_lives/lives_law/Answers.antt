@@ -1,7 +1,7 @@
 -- What is found after any number of lives, and what is left at each moment.
 use Rattle.sqlite.specs.Held.{state}
 use Rattle.store_rows.proofs.ShownOnce.{one_bank}
-use Rattle.bank_lives.specs.Moments.{held_at, seen_at}
+use Rattle.bank_lives.specs.believed.Moments.{held_at, seen_at}
 use Rattle.bank_lives.proofs.{ManyLived.keeps_on, ManyLived.kept, ManyLived.left_of, Reopened.kept_at}
 use Rattle.bank_lives.proofs.many_lives.lives_law.Goals as goal
 

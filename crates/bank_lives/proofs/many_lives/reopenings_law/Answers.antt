@@ -1,7 +1,7 @@
 -- A connection between two lives.
 use Rattle.std.specs.Prelude.{IsSome}
 use Rattle.sqlite.specs.Held.{state}
-use Rattle.bank_store.specs.Seen.{connection_of}
+use Rattle.bank_store.specs.believed.Seen.{connection_of}
 use Rattle.bank_lives.proofs.Quiet.{call_of_nothing, ends_quietly, released_call}
 use Rattle.bank_lives.proofs.many_lives.reopenings_law.Goals as goal
 

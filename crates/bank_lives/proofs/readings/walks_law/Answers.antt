@@ -2,7 +2,7 @@
 use Rattle.std.proofs.Common.{subst}
 use Rattle.std.specs.Prelude.{IsSome}
 use Rattle.sqlite.specs.Held.{state}
-use Rattle.bank_store.specs.Seen.{connection_of}
+use Rattle.bank_store.specs.believed.Seen.{connection_of}
 use Rattle.bank_lives.proofs.Quiet.{call_of_nothing, ends_quietly, still_stands}
 use Rattle.bank_lives.proofs.readings.walks_law.Goals as goal
 

@@ -1,10 +1,10 @@
 -- The bank stands at what its connection found, and that is a prefix.
 use Rattle.std.proofs.Common.{◌∷◌, refl, take}
 use Rattle.sqlite.specs.Held.{state}
-use Rattle.posting_rules.specs.Runs.{followed_by}
-use Rattle.bank_store.specs.Seen.{bank_seen}
+use Rattle.posting_rules.specs.believed.Runs.{followed_by}
+use Rattle.bank_store.specs.believed.Seen.{bank_seen}
 use Rattle.bank_store.proofs.Unmade.{if_err}
-use Rattle.bank_lives.specs.Moments.{Of_bank, seen_at}
+use Rattle.bank_lives.specs.believed.Moments.{Of_bank, seen_at}
 use Rattle.bank_lives.proofs.{Lived.life_honest, Lived.life_leaves, ManyLived.kept}
 use Rattle.bank_lives.proofs.Reopened.{begins_opened, found_at, if_ok, kept_at, refused_leaves}
 use Rattle.bank_lives.proofs.reopening.reopen.Goals as goal

@@ -1,5 +1,5 @@
 -- Records that come again.
-use Rattle.posting_rules.specs.Runs.{followed_by}
+use Rattle.posting_rules.specs.believed.Runs.{followed_by}
 use Rattle.posting_rules.proofs.Resends.{shows_log_left_out}
 use Rattle.bank_lives.proofs.Replied.{replied_again}
 use Rattle.bank_lives.proofs.resends.resends_law.Goals as goal

@@ -1,7 +1,7 @@
 -- Each stream, as a call of the counter's life.
 use Rattle.bank_lives.proofs.Streamed.{acknowledged_is_taken, answered_is_taken, drive_end, loaded_is_stream}
 use Rattle.bank_lives.proofs.Streamed.{posted_is_stream, served_exit}
-use Rattle.counter_http.specs.Ends.{HasEnded}
+use Rattle.counter_http.specs.believed.Ends.{HasEnded}
 use Rattle.bank_lives.proofs.streams.streams_law.Goals as goal
 
 pub returns-clause-posted : goal.returns-clause-posted

@@ -1,7 +1,7 @@
 -- The digest, or none where there are fewer, and what a log makes of it.
 use Rattle.std.proofs.Common.{rules, ◌≡◌, Bool, Ok, Err, Option, Some, None, false, true, refl}
 use Rattle.posting_rules.specs.declared.fault.Fault.{Fault}
-use Rattle.bank_store.specs.Seen.{bank_seen, database_of}
+use Rattle.bank_store.specs.believed.Seen.{bank_seen, database_of}
 use Rattle.bank_store.proofs.ReadsLeave.{idle_takes}
 use Rattle.bank_replays.proofs.Digested.{digests_log, rows_enough, rows_fewer}
 use Rattle.bank_reports.proofs.Spared.{idle_spares}

@@ -1,5 +1,5 @@
 -- The records of a log's requests.
-use Rattle.bank_store.specs.Seen.{database_of}
+use Rattle.bank_store.specs.believed.Seen.{database_of}
 use Rattle.bank_replays.proofs.{ExportedLog.writes_log, LogRows.has_kept, LogRows.kept_of}
 use Rattle.bank_replays.proofs.exports.export.Goals as goal
 

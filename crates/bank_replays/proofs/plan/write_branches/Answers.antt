@@ -1,7 +1,7 @@
 -- The plan was written, or a prefix of it.
 use Rattle.std.proofs.Common.{rules, ◌≡◌, Err, map, sym, subst}
 use Rattle.posting_core.proofs.Telling.{more_more}
-use Rattle.store_rows.specs.BankTables.{branch as branch_table}
+use Rattle.store_rows.specs.believed.BankTables.{branch as branch_table}
 use Rattle.walked_rows.specs.{Rows.HasStoredRows, Stored.branch_entry, StoredBeside.floor_entry}
 use Rattle.report_contents.proofs.Written.{first_part, later_failed}
 use Rattle.bank_replays.specs.Writing.{plan_lines, plan_names}

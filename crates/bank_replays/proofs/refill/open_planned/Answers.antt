@@ -1,5 +1,5 @@
 -- What was opened is one command more.
-use Rattle.bank_store.specs.Seen.{bank_seen}
+use Rattle.bank_store.specs.believed.Seen.{bank_seen}
 use Rattle.bank_replays.proofs.Refilled.{shows_more}
 use Rattle.bank_replays.proofs.refill.open_planned.Goals as goal
 

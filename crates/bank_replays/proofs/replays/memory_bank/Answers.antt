@@ -1,7 +1,7 @@
 -- A new bank shows the empty log.
 use Rattle.std.proofs.Common.{[]}
 use Rattle.sqlite.specs.Files.{over_files}
-use Rattle.bank_store.specs.Seen.{bank_seen}
+use Rattle.bank_store.specs.believed.Seen.{bank_seen}
 use Rattle.bank_replays.proofs.Refilled.{shows_at_first}
 use Rattle.bank_replays.proofs.replays.memory_bank.Goals as goal
 

@@ -2,7 +2,7 @@
 -- digested.
 use Rattle.std.proofs.Common.{rules, ◌≡◌, Err, refl, sym, subst}
 use Rattle.sqlite.specs.Effect.{Database}
-use Rattle.bank_store.specs.Seen.{connection_of, file_of}
+use Rattle.bank_store.specs.believed.Seen.{connection_of, file_of}
 use Rattle.walked_rows.specs.KeptRows.{HasKept}
 use Rattle.bank_replays.specs.FileTables.{SameTables}
 use Rattle.bank_replays.proofs.{Read.clean_before, Read.read_any, Read.read_fails, Read.read_then, Tables.same_log}

@@ -2,14 +2,14 @@
 use Rattle.std.proofs.Common.{rules, ◌≡◌, Bool, Result, Ok, Err, false, true, refl, sym, ap, subst, ◌∙◌}
 use Rattle.std.specs.Prelude.{◌↔◌, IsSome, IsTrue}
 use Rattle.sqlite.specs.{State.HasCleanDisk, Held.state}
-use Rattle.posting_rules.specs.{Laws.IsConsistent, declared.fault.Fault.Fault}
+use Rattle.posting_rules.specs.{believed.Laws.IsConsistent, declared.fault.Fault.Fault}
 use Rattle.posting_rules.specs.declared.fault.Fault.TheVariants.{Damaged, Down, Memory, Store}
 use Rattle.posting_rules.specs.declared.fault.Rule.{Rule as Broken}
 use Rattle.posting_rules.proofs.Undamaged.{undamaged}
 use Rattle.report_contents.specs.{Audit.audit_of, Audit.is_sound, Beside.rows_of, Consistency.IsSoundFile}
 use Rattle.report_contents.specs.Stored.{StoredTables, stored}
 use Rattle.report_contents.proofs.{OfRows.rows_tell, Telling.tells}
-use Rattle.bank_store.specs.Seen.{bank_seen, database_of}
+use Rattle.bank_store.specs.believed.Seen.{bank_seen, database_of}
 use Rattle.bank_reports.specs.Files.{HasFile, rows_in}
 use Rattle.bank_reports.proofs.FaultsTold.{down_is_sound, memory_is_sound, unaudited}
 use Rattle.bank_reports.proofs.{Further.error_is, OncePosted.posted_once, Read.one_file, ReportEnds.not_ok}

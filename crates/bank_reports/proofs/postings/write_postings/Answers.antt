@@ -1,9 +1,9 @@
 -- The lines of the walk over the account's postings.
 use Rattle.std.proofs.Common.{rules, ◌≡◌, List, Err, Some, filter, refl, sym, subst}
 use Rattle.sqlite.specs.{State.HasCleanDisk, Held.state}
-use Rattle.store_rows.specs.BankTables.{history as history_table, reference as reference_table}
+use Rattle.store_rows.specs.believed.BankTables.{history as history_table, reference as reference_table}
 use Rattle.walked_rows.specs.{Pairs.HasPairs, Pairs.Pair, Stored.is_stated_of}
-use Rattle.bank_store.specs.Seen.{bank_seen, connection_of, database_of}
+use Rattle.bank_store.specs.believed.Seen.{bank_seen, connection_of, database_of}
 use Rattle.bank_reports.specs.declared.fault.ReportFault.TheVariants.{Bank}
 use Rattle.bank_reports.specs.{Failures.HasFailedToRead, Postings.WritesPostings}
 use Rattle.bank_reports.proofs.{Further.at_first, Further.down_err, Passed.failed_at_end}

@@ -5,7 +5,7 @@ use Rattle.sqlite.specs.{State.HasCleanDisk, Held.state}
 use Rattle.posting_rules.specs.declared.fault.Fault.TheVariants.{Damaged, Down, Memory, Store}
 use Rattle.posting_rules.specs.declared.fault.Rule.TheVariants.{Value}
 use Rattle.posting_core.proofs.Telling.{more_more, more_none}
-use Rattle.store_rows.specs.BankTables.{history as history_table, reference as reference_table}
+use Rattle.store_rows.specs.believed.BankTables.{history as history_table, reference as reference_table}
 use Rattle.bank_transactions.proofs.Blamed.{comes}
 use Rattle.report_contents.proofs.Written.{later_failed}
 use Rattle.bank_reports.specs.declared.fault.ReportFault.{ReportFault}

@@ -2,7 +2,7 @@
 use Rattle.std.proofs.Common.{◌≡◌, List}
 use Rattle.sqlite.specs.{State.HasCleanDisk, State.Survives, Held.state}
 use Rattle.posting_core.specs.Told.{HasMore}
-use Rattle.store_rows.specs.BankTables.{history as history_table, reference as reference_table}
+use Rattle.store_rows.specs.believed.BankTables.{history as history_table, reference as reference_table}
 use Rattle.walked_rows.specs.Pairs.{HasPairs, Pair}
 use Rattle.bank_store.specs.{Walks.IsStill, Walking.HasToldFault, Walking.postings_to_come}
 use Rattle.bank_reports.proofs.Further.{IsFar}

@@ -3,10 +3,12 @@ use Rattle.std.proofs.Common.{rules, ◌≡◌, ◌∙◌, Bool, List, [], filte
 use Rattle.std.proofs.Common.{inl, inr, arith}
 use Rattle.std.specs.Prelude.{IsSome}
 use Rattle.sqlite.specs.{State.HasCleanDisk, Held.state}
-use Rattle.posting_rules.specs.{declared.fault.Fault.TheVariants.Down, Commands.Command, Counter.ShowsLog}
-use Rattle.store_rows.specs.BankTables.{history as history_table, reference as reference_table}
+use Rattle.posting_rules.specs.{declared.fault.Fault.TheVariants.Down, believed.Commands.Command}
+use Rattle.posting_rules.specs.{believed.Counter.ShowsLog}
+use Rattle.store_rows.specs.believed.BankTables.{history as history_table, reference as reference_table}
 use Rattle.walked_rows.specs.{Pairs.HasPairs, Pairs.Pair, Stored.is_stated_of}
-use Rattle.bank_store.specs.{Down.OfDamage, Down.WasBroken, Down.bank_reason, Seen.bank_seen, Seen.database_of}
+use Rattle.bank_store.specs.{believed.Down.OfDamage, Down.WasBroken, believed.Down.bank_reason}
+use Rattle.bank_store.specs.{believed.Seen.bank_seen, believed.Seen.database_of}
 use Rattle.bank_reports.specs.{declared.fault.ReportFault.TheVariants.Bank, StatedLines.statement_after}
 use Rattle.bank_reports.specs.{Postings.StatesRows}
 use Rattle.bank_reports.proofs.FaultsTold.{down_is_sound, unstated}

@@ -1,8 +1,8 @@
 -- What the row of the bank tells.
 use Rattle.std.proofs.Common.{◌≡◌, true, rules}
 use Rattle.sqlite.specs.{State.HasCleanDisk, Held.state}
-use Rattle.store_rows.specs.{Columns.meta_in, BankTables.meta, View.HoldsRows}
-use Rattle.bank_transactions.specs.Causes.{IsBefore}
+use Rattle.store_rows.specs.{believed.Columns.meta_in, believed.BankTables.meta, View.HoldsRows}
+use Rattle.bank_transactions.specs.believed.Causes.{IsBefore}
 use Rattle.bank_transactions.proofs.Blamed.{comes}
 use Rattle.bank_store.specs.OpenFaults.{unread_by}
 use Rattle.bank_store.proofs.Causes.{begun_after, known_within, read_failed, still_clean}

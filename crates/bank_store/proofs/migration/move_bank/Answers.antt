@@ -1,10 +1,10 @@
 -- Why the tables aren't changed, or not committed.
 use Rattle.std.proofs.Common.{◌≡◌, Err, true, rules}
 use Rattle.sqlite.specs.Held.{state}
-use Rattle.bank_transactions.specs.Causes.{IsBefore}
+use Rattle.bank_transactions.specs.believed.Causes.{IsBefore}
 use Rattle.bank_transactions.proofs.Blamed.{comes, commit_fails, failed_here, same_moment, then_moment}
 use Rattle.posting_rules.specs.declared.open_fault.OpenFault.TheVariants.{Store}
-use Rattle.store_rows.specs.Failures.{Committing}
+use Rattle.store_rows.specs.believed.Failures.{Committing}
 use Rattle.bank_store.specs.Migration.{IsUnmoved}
 use Rattle.bank_store.proofs.Causes.{begun_after, known_within, still_clean}
 use Rattle.bank_store.proofs.Moved.{bank_moved, from_begun, live, stops}

@@ -1,7 +1,7 @@
 -- Why the tables aren't made.
 use Rattle.std.proofs.Common.{◌≡◌, true, rules, arith, refl, sym, subst, ap, inl}
 use Rattle.sqlite.specs.{State.HasCleanDisk, Held.state}
-use Rattle.bank_transactions.specs.Causes.{IsBefore}
+use Rattle.bank_transactions.specs.believed.Causes.{IsBefore}
 use Rattle.bank_transactions.proofs.Blamed.{comes, same_moment, then_moment}
 use Rattle.bank_store.specs.{NewBank.IsRefusedOnTheWay, OpenFaults.unmade_by}
 use Rattle.posting_rules.specs.declared.open_fault.OpenFault.TheVariants.{Store}

@@ -8,14 +8,15 @@ use Rattle.std.specs.Prelude.{IsTrue}
 use Rattle.sqlite.specs.Effect.{Database}
 use Rattle.sqlite.specs.Held.{state}
 use Rattle.sqlite.specs.State.{HasCleanDisk}
-use Rattle.posting_rules.specs.Changes.{with_request}
-use Rattle.posting_rules.specs.Tables.{request_key}
+use Rattle.posting_rules.specs.believed.Changes.{with_request}
+use Rattle.posting_rules.specs.believed.Tables.{request_key}
 use Rattle.posting_rules.specs.declared.rows.RequestRow.{RequestRow}
 use Rattle.posting_batch.specs.Overlay.{requests_put}
-use Rattle.store_rows.specs.BankTables.{request}
-use Rattle.store_rows.specs.SeveralRows.{PutsNew, given}
-use Rattle.store_rows.specs.View.{request_entry}
-use Rattle.store_rows.specs.Inserts.{request_insert}
+use Rattle.store_rows.specs.believed.BankTables.{request}
+use Rattle.store_rows.specs.believed.SeveralRows.{given}
+use Rattle.store_rows.specs.SeveralRows.{PutsNew}
+use Rattle.store_rows.specs.believed.View.{request_entry}
+use Rattle.store_rows.specs.believed.Inserts.{request_insert}
 use Rattle.bank_transactions.specs.Additions.{adds_each}
 use Rattle.bank_transactions.specs.InTurn.{requests_in_turn}
 use Rattle.bank_transactions.specs.Writing.{MayAddRequests}

@@ -6,7 +6,7 @@ use Rattle.sqlite.specs.State.{HasCleanDisk}
 use Rattle.sqlite_rules.specs.Lists.{Has}
 use Rattle.posting_batch.specs.Overlay.{requests_put}
 use Rattle.store_rows.specs.SeveralRows.{PutsNew}
-use Rattle.bank_transactions.specs.Additions.{AddsRequests}
+use Rattle.bank_transactions.specs.believed.Additions.{AddsRequests}
 use Rattle.bank_transactions.specs.Doing.{Does}
 use Rattle.bank_transactions.specs.Writing.{MayAddRequests}
 use Rattle.bank_transactions.proofs.batch_changes.put_singly.Given as goal

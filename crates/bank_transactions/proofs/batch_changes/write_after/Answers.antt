@@ -1,7 +1,7 @@
 -- The tables of a batch that are written one after another, after its requests.
 use Rattle.std.proofs.Common.{◌≡◌, Err, rules, refl, ℕ}
-use Rattle.posting_rules.specs.Changes.{with_decided}
-use Rattle.posting_rules.specs.Tables.{Tables}
+use Rattle.posting_rules.specs.believed.Changes.{with_decided}
+use Rattle.posting_rules.specs.believed.Tables.{Tables}
 use Rattle.posting_batch.specs.Overlay.{decided_put}
 use Rattle.posting_batch.specs.View.{view}
 use Rattle.bank_transactions.proofs.Chained.{does_adds, does_none, does_then, does_err, does_for}

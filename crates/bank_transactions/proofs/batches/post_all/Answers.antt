@@ -1,7 +1,7 @@
 -- The parts of the transaction are one: the batch is answered.
 use Rattle.std.proofs.Common.{length, rules}
 use Rattle.posting_batch.specs.View.{IsMadeOf}
-use Rattle.bank_transactions.specs.Stored.{RepliesToAllStored}
+use Rattle.bank_transactions.specs.believed.Stored.{RepliesToAllStored}
 use Rattle.bank_transactions.proofs.HeldBatch.{stored_after}
 use Rattle.bank_transactions.proofs.Transacted.{of_given, transacts_records}
 use Rattle.bank_transactions.proofs.Undone.{undoes}

@@ -5,9 +5,9 @@ use Rattle.std.specs.Prelude.{int_lt}
 use Rattle.std.proofs.lemmas.Int.{ints}
 use Rattle.sqlite.specs.Held.{state}
 use Rattle.posting_rules.specs.declared.limits.TheConstants.{MAX_DECIDED}
-use Rattle.store_rows.specs.Columns.{meta_in}
+use Rattle.store_rows.specs.believed.Columns.{meta_in}
 use Rattle.store_rows.specs.TableAnswers.{Never}
-use Rattle.store_rows.specs.View.{meta_entry}
+use Rattle.store_rows.specs.believed.View.{meta_entry}
 use Rattle.store_rows.specs.declared.metas.TheConstants.{VERSION}
 use Rattle.store_rows.specs.declared.metas.StoredMeta.{StoredMeta}
 use Rattle.store_rows.proofs.MetaRow.{has_one}

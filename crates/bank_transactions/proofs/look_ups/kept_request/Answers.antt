@@ -5,15 +5,16 @@ use Rattle.std.specs.Prelude.{nat_abs, is_some, option_map}
 use Rattle.sqlite.specs.Effect.{Database}
 use Rattle.sqlite.specs.Held.{state}
 use Rattle.sqlite.specs.State.{HasCleanDisk}
-use Rattle.posting_rules.specs.Kept.{KeptFields, kept_with}
-use Rattle.posting_rules.specs.LookUps.{kept_of_row}
+use Rattle.posting_rules.specs.believed.Kept.{KeptFields, kept_with}
+use Rattle.posting_rules.specs.believed.LookUps.{kept_of_row}
 use Rattle.posting_rules.specs.declared.rows.RequestRow.{RequestRow}
-use Rattle.sql_meanings.specs.Entries.{has_two}
+use Rattle.sql_meanings.specs.believed.Entries.{has_two}
 use Rattle.store_rows.specs.Columns.{request_in}
 use Rattle.store_rows.specs.TableAnswers.{BreaksRequest}
-use Rattle.store_rows.specs.Rules.{HoldsBank, RequestKeeps, StoredRows}
-use Rattle.store_rows.specs.Stored.{FindsStored, IsSameRequest}
-use Rattle.bank_transactions.specs.Stored.{HoldsKept, HoldsReference}
+use Rattle.store_rows.specs.believed.Rules.{HoldsBank, RequestKeeps, StoredRows}
+use Rattle.store_rows.specs.believed.Stored.{FindsStored}
+use Rattle.store_rows.specs.Stored.{IsSameRequest}
+use Rattle.bank_transactions.specs.believed.Stored.{HoldsKept, HoldsReference}
 use Rattle.bank_transactions.proofs.Broken.{delta_broken, request_broken}
 use Rattle.bank_transactions.proofs.ReadsInTurn.{after_found, find_failed, find_tells, reads_both}
 use Rattle.bank_transactions.proofs.ReadsInTurn.{reads_told}

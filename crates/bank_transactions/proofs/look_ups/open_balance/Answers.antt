@@ -3,8 +3,9 @@ use Rattle.std.proofs.Common.{◌≡◌, ℕ, Ok, Err, rules, sym, subst, arith}
 use Rattle.sqlite.specs.Effect.{Database}
 use Rattle.sqlite.specs.Held.{state}
 use Rattle.sqlite.specs.State.{HasCleanDisk}
-use Rattle.store_rows.specs.Rules.{BranchKeeps, HoldsBank, branch_under}
-use Rattle.store_rows.specs.Stored.{FindsStored, IsBranch}
+use Rattle.store_rows.specs.believed.Rules.{BranchKeeps, HoldsBank, branch_under}
+use Rattle.store_rows.specs.believed.Stored.{FindsStored}
+use Rattle.store_rows.specs.Stored.{IsBranch}
 use Rattle.bank_transactions.proofs.FittingAccounts.{fits}
 use Rattle.store_rows.specs.declared.holders.Member.TheVariants.{Account}
 use Rattle.bank_transactions.proofs.FailedBalances.{balance_failed}

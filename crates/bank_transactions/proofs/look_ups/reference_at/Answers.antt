@@ -1,8 +1,8 @@
 -- What the row of a reference tells.
 use Rattle.std.proofs.Common.{◌≡◌, Err, rules, sym, ap, ◌∙◌}
 use Rattle.std.specs.Prelude.{option_map}
-use Rattle.posting_rules.specs.LookUps.{text_of_reference}
-use Rattle.posting_rules.specs.Tables.{row_at, reference_key}
+use Rattle.posting_rules.specs.believed.LookUps.{text_of_reference}
+use Rattle.posting_rules.specs.believed.Tables.{row_at, reference_key}
 use Rattle.store_rows.specs.TableAnswers.{BreaksReference}
 use Rattle.bank_transactions.proofs.Broken.{reference_broken}
 use Rattle.bank_transactions.proofs.ReadsInTurn.{find_failed, find_tells}

@@ -4,11 +4,12 @@ use Rattle.std.specs.Prelude.{is_some}
 use Rattle.sqlite.specs.Effect.{Database}
 use Rattle.sqlite.specs.Held.{state}
 use Rattle.sqlite.specs.State.{HasCleanDisk}
-use Rattle.posting_rules.specs.Numbering.{branch_of_teller}
+use Rattle.posting_rules.specs.believed.Numbering.{branch_of_teller}
 use Rattle.posting_rules.specs.declared.rows.BranchRow.{BranchRow}
-use Rattle.store_rows.specs.Rules.{BranchKeeps, HoldsBank, OfRows, branch_under, row_under}
-use Rattle.store_rows.specs.Stored.{BalanceKeeps, FindsStored, IsBalance, IsBranch}
-use Rattle.bank_transactions.specs.Stored.{IsStoredTeller}
+use Rattle.store_rows.specs.believed.Rules.{BranchKeeps, HoldsBank, OfRows, branch_under, row_under}
+use Rattle.store_rows.specs.believed.Stored.{BalanceKeeps, FindsStored, IsBalance}
+use Rattle.store_rows.specs.Stored.{IsBranch}
+use Rattle.bank_transactions.specs.believed.Stored.{IsStoredTeller}
 use Rattle.message_records.specs.declared.limits.TheConstants.{MAX_TELLER}
 use Rattle.store_rows.specs.declared.holders.Member.TheVariants as member
 use Rattle.bank_transactions.proofs.FailedBalances.{balance_failed}

@@ -6,22 +6,23 @@ use Rattle.sqlite.specs.State.{State}
 use Rattle.sqlite.specs.declared.transaction.Transaction.{Transaction}
 use Rattle.sqlite_trees.specs.declared.store.Store.{Ghosts}
 use Rattle.posting_rules.specs.declared.rows.BranchRow.{BranchRow}
-use Rattle.posting_rules.specs.Changes.{with_branch}
+use Rattle.posting_rules.specs.believed.Changes.{with_branch}
 use Rattle.posting_rules.specs.Sound.{AreSound}
-use Rattle.posting_rules.specs.Commands.{opened_with}
-use Rattle.posting_rules.specs.Numbering.{first_teller, first_account}
-use Rattle.posting_rules.specs.Tables.{Tables, row_at, branch_key, branch_row_of}
+use Rattle.posting_rules.specs.believed.Commands.{opened_with}
+use Rattle.posting_rules.specs.believed.Numbering.{first_teller, first_account}
+use Rattle.posting_rules.specs.believed.Tables.{Tables, row_at, branch_key, branch_row_of}
 use Rattle.sql_meanings.specs.Calls.{Says, Inside}
 use Rattle.store_rows.specs.Calls.{OfTables}
-use Rattle.store_rows.specs.Failures.{Additions, Puts}
+use Rattle.store_rows.specs.believed.Failures.{Additions}
+use Rattle.store_rows.specs.Failures.{Puts}
 use Rattle.store_rows.specs.Sparing.{SparesIfOk}
 use Rattle.store_rows.specs.TableAnswers.{PutsOneRow}
-use Rattle.store_rows.specs.BankTables.{branch}
-use Rattle.store_rows.specs.SeveralRows.{given}
-use Rattle.store_rows.specs.View.{branch_entry}
-use Rattle.store_rows.specs.Inserts.{branch_insert}
+use Rattle.store_rows.specs.believed.BankTables.{branch}
+use Rattle.store_rows.specs.believed.SeveralRows.{given}
+use Rattle.store_rows.specs.believed.View.{branch_entry}
+use Rattle.store_rows.specs.believed.Inserts.{branch_insert}
 use Rattle.store_rows.specs.declared.fault.TableFault.{TableFault}
-use Rattle.bank_transactions.specs.Additions.{AddsBranch, AddsRange}
+use Rattle.bank_transactions.specs.believed.Additions.{AddsBranch, AddsRange}
 use Rattle.bank_transactions.specs.Doing.{Does}
 use Rattle.bank_transactions.specs.NewRows.{is_taken, with_new_rows}
 use Rattle.bank_transactions.specs.declared.new_branch.NewRows.TheVariants.{Accounts, Tellers}

@@ -1,13 +1,13 @@
 -- The row of the floor, where there is one.
 use Rattle.std.proofs.Common.{◌≡◌, None, ap, rules, refl}
 use Rattle.std.specs.Prelude.{is_some, Some}
-use Rattle.posting_rules.specs.Changes.{with_floor}
-use Rattle.posting_rules.specs.Tables.{row_at, floor_key}
+use Rattle.posting_rules.specs.believed.Changes.{with_floor}
+use Rattle.posting_rules.specs.believed.Tables.{row_at, floor_key}
 use Rattle.posting_rules.proofs.ChangesByKey.{no_floor_more}
-use Rattle.store_rows.specs.BankTables.{floor}
-use Rattle.store_rows.specs.SeveralRows.{given}
-use Rattle.store_rows.specs.View.{floor_entry}
-use Rattle.store_rows.specs.Inserts.{floor_insert}
+use Rattle.store_rows.specs.believed.BankTables.{floor}
+use Rattle.store_rows.specs.believed.SeveralRows.{given}
+use Rattle.store_rows.specs.believed.View.{floor_entry}
+use Rattle.store_rows.specs.believed.Inserts.{floor_insert}
 use Rattle.bank_transactions.proofs.Chained.{does_for, does_none}
 use Rattle.bank_transactions.proofs.Statements.{does_add}
 use Rattle.bank_transactions.proofs.Left.{leaves_add, leaves_for, leaves_none}

@@ -1,8 +1,8 @@
 -- A row more, with nothing on it.
 use Rattle.std.proofs.Common.{◌≡◌, rules, pos, refl}
-use Rattle.store_rows.specs.BankTables.{account, teller}
-use Rattle.store_rows.specs.SeveralRows.{given}
-use Rattle.bank_transactions.specs.Additions.{entry_of, insert_of}
+use Rattle.store_rows.specs.believed.BankTables.{account, teller}
+use Rattle.store_rows.specs.believed.SeveralRows.{given}
+use Rattle.bank_transactions.specs.believed.Additions.{entry_of, insert_of}
 use Rattle.bank_transactions.specs.NewRows.{is_taken, with_new}
 use Rattle.bank_transactions.specs.declared.new_branch.NewRows.TheVariants.{Tellers, Accounts}
 use Rattle.bank_transactions.proofs.Statements.{does_add}

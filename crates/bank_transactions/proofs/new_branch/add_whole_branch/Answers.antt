@@ -1,8 +1,8 @@
 -- A branch with its rows, then its floor.
 use Rattle.std.proofs.Common.{◌≡◌, ℕ, ℤ, List, Option, Err, None, rules, refl, inl, inr}
 use Rattle.sqlite.specs.Order.{Row}
-use Rattle.bank_transactions.specs.Additions.{AddsBranch}
-use Rattle.posting_rules.specs.Commands.{opened_with}
+use Rattle.bank_transactions.specs.believed.Additions.{AddsBranch}
+use Rattle.posting_rules.specs.believed.Commands.{opened_with}
 use Rattle.posting_rules.proofs.ChangesByKey.{opening_floor_is_free}
 use Rattle.posting_rules.specs.declared.limits.TheConstants.{TELLERS_PER_BRANCH}
 use Rattle.bank_transactions.proofs.Chained.{does_adds, does_err, does_for, does_then}

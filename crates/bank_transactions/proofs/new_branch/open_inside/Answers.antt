@@ -1,10 +1,12 @@
 -- What is answered where a branch is open, and what is added where it isn't.
 use Rattle.std.proofs.Common.{◌≡◌, ℕ, Option, None, Some, Err, rules, refl, sym, ◌∙◌}
-use Rattle.posting_rules.specs.Changes.{opened_where, tables_opened, tables_with_branch}
-use Rattle.posting_rules.specs.Commands.{Terms, opened_with}
-use Rattle.posting_rules.specs.Counter.{opening_for}
-use Rattle.posting_rules.specs.LookUps.{terms_in, terms_of_branch, floor_in}
-use Rattle.posting_rules.specs.Tables.{Tables, row_at, branch_key}
+use Rattle.posting_rules.specs.believed.Changes.{tables_opened}
+use Rattle.posting_rules.specs.Changes.{opened_where, tables_with_branch}
+use Rattle.posting_rules.specs.believed.Commands.{Terms, opened_with}
+use Rattle.posting_rules.specs.believed.Counter.{opening_for}
+use Rattle.posting_rules.specs.believed.LookUps.{floor_in}
+use Rattle.posting_rules.specs.LookUps.{terms_in, terms_of_branch}
+use Rattle.posting_rules.specs.believed.Tables.{Tables, row_at, branch_key}
 use Rattle.posting_rules.specs.declared.counter.Opening.TheVariants.{Opened}
 use Rattle.posting_rules.specs.declared.rows.BranchRow.{BranchRow}
 use Rattle.std.specs.Option.{option_map}
@@ -15,7 +17,7 @@ use Rattle.std.proofs.Common.{arith, subst}
 use Rattle.sqlite.specs.Effect.{Database}
 use Rattle.sqlite.specs.Held.{state}
 use Rattle.sqlite.specs.State.{HasCleanDisk}
-use Rattle.store_rows.specs.View.{Shows}
+use Rattle.store_rows.specs.believed.View.{Shows}
 use Rattle.bank_transactions.proofs.Chained.{still_in}
 use Rattle.bank_transactions.proofs.new_branch.open_inside.Goals as goal
 

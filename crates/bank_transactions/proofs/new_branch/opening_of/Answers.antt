@@ -1,9 +1,10 @@
 -- What a branch was opened with, if it was.
 use Rattle.std.proofs.Common.{◌≡◌, ℕ, ℤ, None, Option, Some, Ok, Err, rules, refl, sym, ap, ◌∙◌}
-use Rattle.posting_rules.specs.Commands.{Terms, opened_with}
-use Rattle.posting_rules.specs.Counter.{opening_for}
-use Rattle.posting_rules.specs.LookUps.{floor_in, terms_in}
-use Rattle.posting_rules.specs.Tables.{Tables, row_at, branch_key}
+use Rattle.posting_rules.specs.believed.Commands.{Terms, opened_with}
+use Rattle.posting_rules.specs.believed.Counter.{opening_for}
+use Rattle.posting_rules.specs.believed.LookUps.{floor_in}
+use Rattle.posting_rules.specs.LookUps.{terms_in}
+use Rattle.posting_rules.specs.believed.Tables.{Tables, row_at, branch_key}
 use Rattle.posting_rules.specs.declared.counter.Opening.TheVariants.{Opened}
 use Rattle.posting_rules.specs.declared.rows.BranchRow.{BranchRow}
 use Rattle.bank_transactions.proofs.ReadsInTurn.{reads_both, reads_but, reads_told}
@@ -11,9 +12,10 @@ use Rattle.std.proofs.Common.{arith, subst}
 use Rattle.sqlite.specs.Effect.{Database}
 use Rattle.sqlite.specs.Held.{state}
 use Rattle.sqlite.specs.State.{HasCleanDisk}
-use Rattle.store_rows.specs.Rules.{BranchKeeps, StoredRows, branch_under}
-use Rattle.store_rows.specs.Stored.{FindsStored, IsBranch}
-use Rattle.bank_transactions.specs.Stored.{HoldsFloor, HoldsTerms, IsStoredFloor}
+use Rattle.store_rows.specs.believed.Rules.{BranchKeeps, StoredRows, branch_under}
+use Rattle.store_rows.specs.believed.Stored.{FindsStored}
+use Rattle.store_rows.specs.Stored.{IsBranch}
+use Rattle.bank_transactions.specs.believed.Stored.{HoldsFloor, HoldsTerms, IsStoredFloor}
 use Rattle.bank_transactions.proofs.new_branch.opening_of.Goals as goal
 
 not_open : (t : Tables) (b : ℕ) (terms : Terms) → row_at branch_key t.branches b ≡ None

@@ -6,9 +6,9 @@ use Rattle.bank_transactions.proofs.LookUps.{looks_again}
 use Rattle.std.proofs.Common.{arith}
 use Rattle.sqlite.specs.Held.{state}
 use Rattle.sqlite.specs.State.{HasCleanDisk}
-use Rattle.posting_rules.specs.Numbering.{branch_of_account}
+use Rattle.posting_rules.specs.believed.Numbering.{branch_of_account}
 use Rattle.bank_transactions.specs.Filling.{HoldsBranch}
-use Rattle.bank_transactions.specs.Stored.{HoldsAccount, HoldsFloor}
+use Rattle.bank_transactions.specs.believed.Stored.{HoldsAccount, HoldsFloor}
 use Rattle.bank_transactions.proofs.HeldRows.{held_before, account_held}
 use Rattle.bank_transactions.proofs.slots.account_within.Goals as goal
 

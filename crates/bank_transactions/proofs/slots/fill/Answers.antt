@@ -7,7 +7,7 @@ use Rattle.sqlite.specs.State.{HasCleanDisk}
 use Rattle.smallvec.specs.SmallVec.{SmallVec, with_items}
 use Rattle.posting_batch.specs.declared.slots.RequestSlot.{RequestSlot}
 use Rattle.posting_batch.specs.View.{view}
-use Rattle.store_rows.specs.Rules.{HoldsBank}
+use Rattle.store_rows.specs.believed.Rules.{HoldsBank}
 use Rattle.bank_transactions.specs.Filling.{RequestHeld, emptied_request}
 use Rattle.bank_transactions.proofs.HeldSlots.{emptied_kept, put_back}
 use Rattle.bank_transactions.proofs.LookUps.{reads_but, reads_err, reads_so}

@@ -3,7 +3,7 @@ use Rattle.std.proofs.Common.{◌<◌, Err, ◌≡◌, ◌+◌, ℕ, suc, length
 use Rattle.sqlite.specs.Effect.{Database}
 use Rattle.sqlite.specs.Held.{state}
 use Rattle.sqlite.specs.State.{HasCleanDisk}
-use Rattle.store_rows.specs.Rules.{HoldsBank}
+use Rattle.store_rows.specs.believed.Rules.{HoldsBank}
 use Rattle.bank_transactions.proofs.LookUps.{reads_none, reads_but, reads_so}
 use Rattle.bank_transactions.proofs.Loops.{fill_more, all_filled, next_is}
 use Rattle.bank_transactions.proofs.Partly.{all_bare, all_held, partly_next, partly_none}

@@ -4,12 +4,12 @@ use Rattle.std.specs.List.{AllByRecursion}
 use Rattle.sqlite.specs.Effect.{Database}
 use Rattle.sqlite.specs.Held.{state}
 use Rattle.sqlite.specs.State.{HasCleanDisk}
-use Rattle.posting_rules.specs.Numbering.{branch_of_account, branch_of_teller}
+use Rattle.posting_rules.specs.believed.Numbering.{branch_of_account, branch_of_teller}
 use Rattle.posting_batch.specs.declared.slots.AccountSlot.{AccountSlot}
 use Rattle.posting_batch.specs.declared.slots.BranchSlot.{BranchSlot}
 use Rattle.posting_batch.specs.declared.slots.FloorSlot.{FloorSlot}
 use Rattle.posting_batch.specs.declared.slots.TellerSlot.{TellerSlot}
-use Rattle.store_rows.specs.Rules.{HoldsBank}
+use Rattle.store_rows.specs.believed.Rules.{HoldsBank}
 use Rattle.bank_transactions.specs.Filling.{AccountHeld, BranchHeld, FloorHeld, TellerHeld}
 use Rattle.bank_transactions.specs.Filling.{emptied_account}
 use Rattle.bank_transactions.specs.Filling.{emptied_branch, emptied_floor, emptied_teller}

@@ -6,7 +6,7 @@ use Rattle.bank_transactions.proofs.LookUps.{looks_again}
 use Rattle.std.proofs.Common.{arith}
 use Rattle.sqlite.specs.Held.{state}
 use Rattle.sqlite.specs.State.{HasCleanDisk}
-use Rattle.posting_rules.specs.Numbering.{branch_of_teller}
+use Rattle.posting_rules.specs.believed.Numbering.{branch_of_teller}
 use Rattle.bank_transactions.specs.Filling.{HoldsBranch}
 use Rattle.bank_transactions.specs.Stored.{HoldsTellerRow}
 use Rattle.bank_transactions.proofs.HeldRows.{held_before, teller_held}

@@ -1,5 +1,5 @@
 use Rattle.std.proofs.Common.{◌≡◌, ◌≤◌, ℕ, List, Some, length, arith, rules}
-use Rattle.message_records.specs.Reading.{number_of}
+use Rattle.message_records.specs.believed.Reading.{number_of}
 use Rattle.branch_loader.specs.Plans.{number_within}
 use Rattle.branch_loader.proofs.read.number_within.Goals as goal
 

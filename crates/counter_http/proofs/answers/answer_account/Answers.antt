@@ -1,7 +1,7 @@
 use Rattle.std.proofs.Common.{◌∙◌, ap, [], Some, None, refl, inr}
 use Rattle.posting_rules.specs.declared.fault.Fault.TheVariants.{Memory}
 use Rattle.posting_rules.proofs.CounterCalls.{unchanged_seen}
-use Rattle.counter_http.specs.{Answers.plain, Next.asked, Telling.said}
+use Rattle.counter_http.specs.{believed.Answers.plain, Next.asked, Telling.said}
 use Rattle.counter_http.proofs.AnsweredTurns.{told_answer, account_told, told_refused, refused_first, why_first}
 use Rattle.counter_http.proofs.answers.answer_account.Goals as goal
 

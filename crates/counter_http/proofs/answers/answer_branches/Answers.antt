@@ -1,5 +1,5 @@
 use Rattle.std.proofs.Common.{◌∙◌, ap, sym, []}
-use Rattle.counter_http.specs.{Answers.plain, Next.asked}
+use Rattle.counter_http.specs.{believed.Answers.plain, Next.asked}
 use Rattle.counter_http.proofs.AnsweredTurns.{told_answer, told_refused}
 use Rattle.counter_http.proofs.answers.answer_branches.Goals as goal
 

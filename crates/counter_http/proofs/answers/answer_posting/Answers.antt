@@ -1,7 +1,7 @@
 use Rattle.std.proofs.Common.{◌∙◌, ap, sym, ℕ, List}
-use Rattle.message_records.specs.Spelling.{reply_spelling}
-use Rattle.posting_rules.specs.Entries.{reply}
-use Rattle.counter_http.specs.{Answers.octets, Next.asked}
+use Rattle.message_records.specs.believed.Spelling.{reply_spelling}
+use Rattle.posting_rules.specs.believed.Entries.{reply}
+use Rattle.counter_http.specs.{believed.Answers.octets, Next.asked}
 use Rattle.counter_http.proofs.AnsweredTurns.{told_answer, told_refused, refused_first, posting_readings}
 use Rattle.counter_http.proofs.AnsweredTurns.{posting_answer}
 use Rattle.counter_http.proofs.AnsweredTurns.{takes_posting, refuses_posting, why_first}

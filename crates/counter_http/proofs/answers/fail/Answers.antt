@@ -1,6 +1,6 @@
 use Rattle.std.proofs.Common.{◌∙◌, ap, subst, refl, Bool, true, ℕ, List, length, take}
 use Rattle.std.specs.{Prelude.not, Io.KnownBytes.Appends}
-use Rattle.counter_http.specs.Answers.{Answer, answer_text, bare}
+use Rattle.counter_http.specs.believed.Answers.{Answer, answer_text, bare}
 use Rattle.counter_http.proofs.answers.fail.Goals as goal
 
 pub returns-in-Ok-clause-written : goal.returns-in-Ok-clause-written

@@ -1,5 +1,6 @@
 use Rattle.std.proofs.Common.{ap, refl, true, Ok, Err}
-use Rattle.counter_http.specs.{Answers.Answer, Answers.answer_text, declared.fault.ServeFault.TheVariants.Write}
+use Rattle.counter_http.specs.{believed.Answers.Answer, believed.Answers.answer_text}
+use Rattle.counter_http.specs.{declared.fault.ServeFault.TheVariants.Write}
 use Rattle.counter_http.proofs.PartsWritten.{told_text}
 use Rattle.counter_http.proofs.answers.refuse.Goals as goal
 

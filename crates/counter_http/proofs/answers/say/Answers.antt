@@ -1,6 +1,7 @@
 use Rattle.std.proofs.Common.{ap, refl, Bool, Ok, Err}
 use Rattle.std.specs.Prelude.{not}
-use Rattle.counter_http.specs.{Answers.answer_text, Telling.said, declared.fault.ServeFault.TheVariants.Write}
+use Rattle.counter_http.specs.{believed.Answers.answer_text, Telling.said}
+use Rattle.counter_http.specs.{declared.fault.ServeFault.TheVariants.Write}
 use Rattle.counter_http.proofs.PartsWritten.{told_text}
 use Rattle.counter_http.proofs.answers.say.Goals as goal
 

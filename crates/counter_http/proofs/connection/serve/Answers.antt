@@ -5,7 +5,8 @@ use Rattle.std.proofs.lemmas.Result.{err_from_is_err_and}
 use Rattle.posting_core.proofs.{Streaming.at_ok, Streaming.nothing_read, Through.through_batch, Through.through_first}
 use Rattle.posting_core.proofs.Telling.{made_many, made_none, made_one, other_kind, read_failed}
 use Rattle.posting_rules.proofs.CounterCalls.{idle_after}
-use Rattle.counter_http.specs.{declared.fault.ServeFault.TheVariants.Write, Messages.No_head, Next.IsUnfinished}
+use Rattle.counter_http.specs.{declared.fault.ServeFault.TheVariants.Write, believed.Messages.No_head}
+use Rattle.counter_http.specs.{Next.IsUnfinished}
 use Rattle.counter_http.proofs.ConnectionLoop.{going_filled, message_long, unfinished_none, range_all, range_next}
 use Rattle.counter_http.proofs.ConnectionLoop.{range_long}
 use Rattle.counter_http.proofs.Prompts.{HasRead, has_failed, has_read, message_on, prompt_so_far, prompted_first}

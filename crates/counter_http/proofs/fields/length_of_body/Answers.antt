@@ -1,7 +1,7 @@
 -- Each field is of another name, or the first to state the length, or it ends the search.
 use Rattle.std.proofs.Common.{◌≡◌, ◌+◌, List, ℕ, Option, Some, None, map, drop, get_or, codes, sym, ap, ◌∙◌}
 use Rattle.httparse.specs.{Spans.header_bytes, declared.spans.HeaderSpan.HeaderSpan}
-use Rattle.counter_http.specs.Fields.{NamedValue, stated_length}
+use Rattle.counter_http.specs.believed.Fields.{NamedValue, stated_length}
 use Rattle.counter_http.proofs.Lengths.{at_field, length_after, length_is, named_so, on_stated, one_again, one_coded}
 use Rattle.counter_http.proofs.Lengths.{one_length, one_other}
 use Rattle.counter_http.proofs.fields.length_of_body.Goals.{then-are_alike-2+else-is_some+in_ok-length_stated}

@@ -1,6 +1,6 @@
 use Rattle.std.proofs.Common.{◌≡◌, drop, map}
 use Rattle.httparse.specs.Spans.{header_bytes}
-use Rattle.counter_http.specs.Fields.{body_length}
+use Rattle.counter_http.specs.believed.Fields.{body_length}
 use Rattle.counter_http.proofs.Lengths.{length_after}
 use Rattle.counter_http.proofs.fields.length_of_body.Given as goal
 

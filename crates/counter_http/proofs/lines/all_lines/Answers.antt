@@ -3,7 +3,7 @@ use Rattle.std.specs.Prelude.{IfSome}
 use Rattle.std.proofs.lemmas.Result.{err_from_is_err_and}
 use Rattle.posting_rules.specs.{declared.counter.BranchLine.BranchLine, Branches.IsNextBranch, Branches.IsLineAbove}
 use Rattle.posting_rules.proofs.CounterCalls.{call_idle_after, call_refused_after}
-use Rattle.counter_http.specs.Answers.{lines_up_to}
+use Rattle.counter_http.specs.believed.Answers.{lines_up_to}
 use Rattle.counter_http.proofs.Listed.{asking_more, asking_refused, asking_full, next_line, all_listed}
 use Rattle.counter_http.proofs.lines.all_lines.Goals as goal
 

@@ -1,7 +1,8 @@
 use Rattle.std.proofs.Common.{◌≡◌, ◌-◌, ◌≤◌, List}
 use Rattle.std.specs.Prelude.{string_bytes}
-use Rattle.posting_rules.specs.{declared.limits.TheConstants.LAST_BRANCH, Commands.Command, Counter.ShowsLog}
-use Rattle.counter_http.specs.Answers.{lines_up_to}
+use Rattle.posting_rules.specs.{declared.limits.TheConstants.LAST_BRANCH, believed.Commands.Command}
+use Rattle.posting_rules.specs.{believed.Counter.ShowsLog}
+use Rattle.counter_http.specs.believed.Answers.{lines_up_to}
 use Rattle.counter_http.proofs.Listed.{Asking}
 use Rattle.counter_http.proofs.lines.all_lines.Given as goal
 

@@ -2,8 +2,8 @@ use Rattle.std.proofs.Common.{◌∷◌, [], Bool, ◌<◌, ◌≤◌, ℕ, List
 use Rattle.std.proofs.Common.{◌∙◌, arith, length-drop}
 use Rattle.std.specs.Prelude.{not}
 use Rattle.std.proofs.lemmas.Slice.{between_to_end}
-use Rattle.counter_http.specs.{Fields.body_length, Fields.asks_to_close, Answers.refusal}
-use Rattle.counter_http.specs.Messages.{No_body, closes}
+use Rattle.counter_http.specs.{believed.Fields.body_length, believed.Fields.asks_to_close, believed.Answers.refusal}
+use Rattle.counter_http.specs.believed.Messages.{No_body, closes}
 use Rattle.counter_http.proofs.Heads.{asks_alike, closes_old, closes_asked, head_is, fields_say, no_length}
 use Rattle.counter_http.proofs.Heads.{short_body, whole_message}
 use Rattle.counter_http.proofs.next.after_head.Goals.{then-head-eq0, else-head-eq0}

@@ -1,6 +1,6 @@
 use Rattle.std.proofs.Common.{rules, ◌≡◌, Option, Some, ap, subst, sym, ◌∙◌}
 use Rattle.counter_http.specs.{declared.routes.Route.Route, declared.routes.Route.TheVariants.Account, Next.asked}
-use Rattle.counter_http.specs.{Paths.route_of, Tasks.IsTaskOn}
+use Rattle.counter_http.specs.{believed.Paths.route_of, Tasks.IsTaskOn}
 use Rattle.counter_http.proofs.tasks.task_of.Goals as goal
 
 -- the path is that of an account

@@ -1,6 +1,6 @@
 use Rattle.std.proofs.Common.{ℕ, List, Bool, ◌++◌, refl, sym, ap, ◌∙◌, append-nil}
 use Rattle.std.specs.Prelude.{codes}
-use Rattle.counter_http.specs.{Answers.allow_line, Answers.close_line, Ends.HasTaken}
+use Rattle.counter_http.specs.{believed.Answers.allow_line, believed.Answers.close_line, Ends.HasTaken}
 use Rattle.counter_http.specs.Telling.{IsWrittenOrHeld, said, now_of}
 use Rattle.counter_http.proofs.PartsWritten.{told_as, three, allowed, not_told, last_is}
 use Rattle.counter_http.proofs.telling.put_last.Goals as goal

@@ -1,6 +1,6 @@
 use Rattle.std.proofs.Common.{◌≡◌, ◌++◌, ap, ◌∙◌, ℕ, List, length}
 use Rattle.std.specs.Fmt.{decimal}
-use Rattle.counter_http.specs.{Answers.answer_text, Ends.HasTaken}
+use Rattle.counter_http.specs.{believed.Answers.answer_text, Ends.HasTaken}
 use Rattle.counter_http.specs.Telling.{IsWrittenOrHeld, said, first_lines, last_lines}
 use Rattle.counter_http.proofs.PartsWritten.{told_as, text_shown, text_hidden}
 use Rattle.counter_http.proofs.telling.tell.Goals as goal

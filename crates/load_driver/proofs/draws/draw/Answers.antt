@@ -1,5 +1,5 @@
 use Rattle.std.proofs.Common.{◌≡◌, ◌+◌, ◌^◌, arith, zero-add}
-use Rattle.load_driver.specs.Draw.{draw}
+use Rattle.load_driver.specs.believed.Draw.{draw}
 use Rattle.load_driver.proofs.draws.draw.Goals as goal
 
 pub returns-clause-value : goal.returns-clause-value

@@ -1,4 +1,4 @@
-use Rattle.load_driver.specs.Draw.{words_after, generator}
+use Rattle.load_driver.specs.believed.Draw.{words_after, generator}
 use Rattle.load_driver.proofs.draws.words_of.Goals as goal
 
 pub returns : goal.returns

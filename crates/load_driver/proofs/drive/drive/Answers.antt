@@ -1,6 +1,6 @@
 use Rattle.std.proofs.Common.{◌≡◌, ◌+◌, ℕ, length, drop, ap, ◌∙◌, arith, refl, inl}
 use Rattle.std.proofs.lemmas.{List.length-append, List.length-drop, List.length-map, Result.err_from_is_err_and}
-use Rattle.posting_rules.specs.Runs.{posts}
+use Rattle.posting_rules.specs.believed.Runs.{posts}
 use Rattle.load_driver.specs.Counts.{Driving}
 use Rattle.posting_rules.proofs.CounterCalls.{refused_after}
 use Rattle.load_driver.proofs.DriveLoop.{end_done, end_refused, going_first, going_on, part_of, up_refused}

@@ -1,7 +1,7 @@
 use Rattle.std.proofs.Common.{◌≡◌, ◌+◌, ◌<◌, ◌∷◌, ◌++◌, [], ℕ, List, sym, ap, ◌∙◌, arith}
 use Rattle.std.proofs.lemmas.List.{take_more_set}
-use Rattle.message_records.specs.Spelling.{request_spelling}
-use Rattle.load_driver.specs.{Counts.Driving, Requests.request_at, Records.drawn}
+use Rattle.message_records.specs.believed.Spelling.{request_spelling}
+use Rattle.load_driver.specs.{Counts.Driving, believed.Requests.request_at, believed.Records.drawn}
 use Rattle.load_driver.specs.declared.driver.TheConstants.{MAX_RECORDS}
 use Rattle.load_driver.proofs.Drawn.{drawn_more, drawn_none}
 use Rattle.load_driver.proofs.drive_batches.draw_batch.Goals as goal

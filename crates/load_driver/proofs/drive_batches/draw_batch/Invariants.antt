@@ -1,5 +1,5 @@
 use Rattle.std.proofs.Common.{◌≡◌, ◌+◌, take}
-use Rattle.load_driver.specs.Records.{drawn}
+use Rattle.load_driver.specs.believed.Records.{drawn}
 use Rattle.load_driver.proofs.drive_batches.draw_batch.Given as goal
 
 -- the places so far have the next records

@@ -1,7 +1,7 @@
 use Rattle.std.proofs.Common.{◌≡◌, ◌≤◌, [], length, refl, ap, ◌∙◌, arith}
 use Rattle.std.specs.Prelude.{count_by}
 use Rattle.std.proofs.{lemmas.List.length-map, lemmas.List.Sums.count_by-le-length, lemmas.Result.err_from_is_err_and}
-use Rattle.posting_rules.specs.Runs.{posts}
+use Rattle.posting_rules.specs.believed.Runs.{posts}
 use Rattle.posting_rules.proofs.CounterCalls.{call_refused_after, takes_none}
 use Rattle.load_driver.specs.Counted.{is_posted}
 use Rattle.load_driver.proofs.Counted.{counted}

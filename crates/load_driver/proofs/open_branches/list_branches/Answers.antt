@@ -1,7 +1,7 @@
 use Rattle.std.proofs.Common.{◌≡◌, [], None, refl, sym, subst, ◌∙◌, inl, inr}
 use Rattle.std.proofs.lemmas.Result.{err_from_is_err_and}
-use Rattle.posting_rules.specs.{Branches.IsLineAbove, Branches.IsNextBranch, Counter.Refuses}
-use Rattle.branch_loader.specs.Plans.{Rows}
+use Rattle.posting_rules.specs.{Branches.IsLineAbove, Branches.IsNextBranch, believed.Counter.Refuses}
+use Rattle.branch_loader.specs.believed.Plans.{Rows}
 use Rattle.posting_rules.specs.declared.fault.Fault.{Fault, TheVariants.Memory}
 use Rattle.posting_rules.proofs.CounterCalls.{Takes-append, call_idle_after, call_refused_after}
 use Rattle.load_driver.proofs.Listed.{Listing, listing_first, listing_more, listing_all}

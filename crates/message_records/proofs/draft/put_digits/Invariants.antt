@@ -1,6 +1,6 @@
 -- Writing digits from the last one.
 use Rattle.std.proofs.Common.{◌≡◌, ◌++◌, drop, length}
-use Rattle.message_records.specs.Spelling.{digits}
+use Rattle.message_records.specs.believed.Spelling.{digits}
 use Rattle.message_records.proofs.draft.put_digits.Given as goal
 
 -- the digits that are left complete the number

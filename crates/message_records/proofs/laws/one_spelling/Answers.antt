@@ -1,6 +1,6 @@
 -- The laws of the spellings.
 use Rattle.std.proofs.Common.{refl}
-use Rattle.message_records.specs.Spelling.{request_spelling, reply_spelling}
+use Rattle.message_records.specs.believed.Spelling.{request_spelling, reply_spelling}
 use Rattle.message_records.proofs.{Requests.request_again, Requests.plain_is_request, SpelledReplies.reply_again}
 use Rattle.message_records.proofs.Prefixes.{no_request_begins, no_reply_begins}
 use Rattle.message_records.proofs.laws.one_spelling.Goals as goal

@@ -1,6 +1,6 @@
 -- Reading digits from the first one.
 use Rattle.std.proofs.Common.{◌≡◌, ◌<◌, ◌^◌, drop}
-use Rattle.message_records.specs.Reading.{number_after}
+use Rattle.message_records.specs.believed.Reading.{number_after}
 use Rattle.message_records.proofs.reading.read_digits.Given as goal
 
 -- the digits that are left complete the number

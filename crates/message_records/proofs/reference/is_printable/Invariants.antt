@@ -1,6 +1,6 @@
 -- Testing bytes from the first one.
 use Rattle.std.proofs.Common.{◌≡◌, drop}
-use Rattle.message_records.specs.Records.{is_printable}
+use Rattle.message_records.specs.believed.Records.{is_printable}
 use Rattle.message_records.proofs.reference.is_printable.Given as goal
 
 -- the bytes that are left decide

@@ -1,9 +1,11 @@
 -- The draft is the spelling, which is read again.
 use Rattle.std.proofs.Common.{◌≡◌, ◌+◌, ◌++◌, ◌≤◌, length, Option, Some, None, ap, subst, ◌∙◌, arith}
 use Rattle.std.specs.Prelude.{ℤ, pos, nat_abs, unwrap_or, IfSome}
-use Rattle.message_records.specs.{declared.limits.TheConstants.MAX_BALANCE, Outcomes.code_of, Outcomes.name_of}
-use Rattle.message_records.specs.Records.{RequestFields, IsRequest, IsShownRequest, IsReply, unreferenced}
-use Rattle.message_records.specs.Spelling.{signed, no_fields, fields_spelling}
+use Rattle.message_records.specs.{declared.limits.TheConstants.MAX_BALANCE, believed.Outcomes.code_of}
+use Rattle.message_records.specs.{believed.Outcomes.name_of}
+use Rattle.message_records.specs.believed.Records.{RequestFields, unreferenced}
+use Rattle.message_records.specs.Records.{IsRequest, IsShownRequest, IsReply}
+use Rattle.message_records.specs.believed.Spelling.{signed, no_fields, fields_spelling}
 use Rattle.message_records.proofs.{Composed.reply_put, References.is_shown, SpelledReplies.reply_again}
 use Rattle.message_records.proofs.writing.encode_reply.Goals as goal
 

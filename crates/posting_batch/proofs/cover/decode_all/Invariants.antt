@@ -1,6 +1,6 @@
 use Rattle.std.proofs.Common.{◌≡◌, ◌≤◌, ◌+◌, ◌-◌, ◌++◌, map, drop, length, vec_len}
 use Rattle.std.specs.Vec.{vec_capacity}
-use Rattle.message_records.specs.Reading.{request_of}
+use Rattle.message_records.specs.believed.Reading.{request_of}
 use Rattle.posting_batch.specs.Batch.{covering_all}
 use Rattle.posting_batch.specs.Room.{HasRoomForSlots}
 use Rattle.posting_batch.specs.View.{view}

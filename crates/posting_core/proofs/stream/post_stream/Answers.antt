@@ -6,7 +6,7 @@ use Rattle.posting_core.proofs.{Refused.refused_broken, Refused.up_broken}
 use Rattle.posting_core.proofs.Output.{output_of, survives_of, resends_of}
 use Rattle.posting_core.proofs.Followed.{following_batch, following_first, following_read, following_wrote}
 use Rattle.posting_core.proofs.Followed.{gave_none, gave_some, up_to}
-use Rattle.posting_core.specs.{Batches.Batch, Stream.given, Told.read_told}
+use Rattle.posting_core.specs.{believed.Batches.Batch, Stream.given, Told.read_told}
 use Rattle.posting_rules.specs.declared.limits.TheConstants.{RECORDS_PER_BATCH}
 use Rattle.posting_rules.proofs.CounterCalls.{idle_after}
 use Rattle.posting_core.proofs.Streaming.{going_first, going_filled, going_on, nothing_read, at_ok, few_left}

@@ -1,8 +1,8 @@
 use Rattle.std.proofs.Common.{◌∙◌, ℕ, ap, arith, length, refl, sym, take}
 use Rattle.std.proofs.{Math.Seq.take-length, KnownBytes.Keeps-refl, lemmas.List.length-map}
 use Rattle.std.proofs.lemmas.List.{length-take-le}
-use Rattle.posting_rules.specs.{Commands.Post, Runs.posts, Runs.replies_to}
-use Rattle.posting_core.specs.Batches.{joined}
+use Rattle.posting_rules.specs.{believed.Commands.Post, believed.Runs.posts, believed.Runs.replies_to}
+use Rattle.posting_core.specs.believed.Batches.{joined}
 use Rattle.posting_core.proofs.stream.reply_to_batch.Goals as goal
 
 pub returns-in-Ok-write_out-clause-answers : goal.returns-in-Ok-write_out-clause-answers

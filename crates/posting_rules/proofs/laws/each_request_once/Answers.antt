@@ -1,4 +1,4 @@
-use Rattle.posting_rules.specs.Entries.{decided}
+use Rattle.posting_rules.specs.believed.Entries.{decided}
 use Rattle.posting_rules.proofs.Requests.{none_shares, are_new}
 use Rattle.posting_rules.proofs.laws.each_request_once.Goals as goal
 

@@ -1,7 +1,7 @@
 -- Bytes are appended one by one.
 use Rattle.std.proofs.Common.{◌≡◌, ◌++◌, drop}
 use Rattle.std.specs.Prelude.{IsTrue}
-use Rattle.message_records.specs.Records.{is_printable}
+use Rattle.message_records.specs.believed.Records.{is_printable}
 use Rattle.report_contents.proofs.lines.push_text.Given as goal
 
 -- those that are left are to stand after what is there

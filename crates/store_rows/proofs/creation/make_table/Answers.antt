@@ -5,7 +5,7 @@ use Rattle.sqlite.specs.State.{State, ExecutesInside}
 use Rattle.sqlite.specs.declared.error.Error.{Error}
 use Rattle.sql_meanings.proofs.MakeFailures.{makes_told}
 use Rattle.sql_meanings.proofs.Makings.{kept_inside}
-use Rattle.store_rows.specs.Failures.{Changing, HasFailed}
+use Rattle.store_rows.specs.believed.Failures.{Changing, HasFailed}
 use Rattle.store_rows.proofs.CreateTexts.{sequence}
 use Rattle.store_rows.proofs.creation.make_table.Goals as goal
 

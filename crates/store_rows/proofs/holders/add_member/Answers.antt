@@ -1,6 +1,6 @@
 -- What the new row leaves.
 use Rattle.std.proofs.Common.{arith}
-use Rattle.posting_rules.specs.Tables.{account_row_of, teller_row_of}
+use Rattle.posting_rules.specs.believed.Tables.{account_row_of, teller_row_of}
 use Rattle.store_rows.proofs.Writes.{rows_put}
 use Rattle.store_rows.proofs.holders.add_member.Goals as goal
 

@@ -1,6 +1,7 @@
 -- What the row means.
 use Rattle.std.proofs.Common.{rules}
-use Rattle.store_rows.specs.Columns.{meta_in, meta_shown}
+use Rattle.store_rows.specs.believed.Columns.{meta_in}
+use Rattle.store_rows.specs.Columns.{meta_shown}
 use Rattle.store_rows.specs.TableAnswers.{Never, ReadsRow}
 use Rattle.store_rows.proofs.FoundRows.{finds}
 use Rattle.store_rows.proofs.OtherValue.{other_told}

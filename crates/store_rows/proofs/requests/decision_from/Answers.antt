@@ -4,9 +4,10 @@ use Rattle.store_rows.proofs.KeptRows.{no_delta, no_balance, keeps}
 use Rattle.message_records.specs.declared.limits.TheConstants.{MAX_ACCOUNT, MAX_BALANCE, MAX_BRANCH}
 use Rattle.message_records.specs.declared.limits.TheConstants.{MAX_DELTA}
 use Rattle.posting_rules.specs.declared.fault.Rule.TheVariants.{Request}
-use Rattle.store_rows.specs.Columns.{number_at}
-use Rattle.store_rows.specs.Rules.{RequestKeeps}
-use Rattle.store_rows.specs.Stored.{IsDecision, request_stored}
+use Rattle.store_rows.specs.believed.Columns.{number_at}
+use Rattle.store_rows.specs.believed.Rules.{RequestKeeps}
+use Rattle.store_rows.specs.believed.Stored.{IsDecision}
+use Rattle.store_rows.specs.Stored.{request_stored}
 use Rattle.store_rows.proofs.StoredFrom.{keeps_stored, no_outcome}
 use Rattle.store_rows.proofs.StoredReads.{unread_cents, unread_whole}
 use Rattle.store_rows.proofs.requests.decision_from.Goals as goal

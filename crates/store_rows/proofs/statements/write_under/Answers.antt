@@ -3,7 +3,7 @@ use Rattle.std.proofs.Common.{◌≡◌, Ok, Err, rules, arith, refl}
 use Rattle.std.proofs.lemmas.Int.{to_z-of_z}
 use Rattle.std.proofs.Common.{w64}
 use Rattle.sql_meanings.proofs.Makings.{kept_inside}
-use Rattle.store_rows.specs.Failures.{Changing}
+use Rattle.store_rows.specs.believed.Failures.{Changing}
 use Rattle.store_rows.proofs.Lookups.{as_integer}
 use Rattle.store_rows.proofs.statements.write_under.Goals as goal
 

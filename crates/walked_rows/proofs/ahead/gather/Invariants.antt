@@ -1,5 +1,5 @@
 use Rattle.std.proofs.Common.{◌≡◌, List, ◌++◌, map, take, length, Some}
-use Rattle.sql_meanings.specs.Entries.{Entry, Rise}
+use Rattle.sql_meanings.specs.believed.Entries.{Entry, Rise}
 use Rattle.walked_rows.specs.Rising.{RisesFrom}
 use Rattle.walked_rows.specs.Rows.{IsWide, entry_key, rows_from}
 use Rattle.walked_rows.specs.declared.ahead.TheConstants.{AHEAD}

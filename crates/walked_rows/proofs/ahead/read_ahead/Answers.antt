@@ -2,7 +2,7 @@
 use Rattle.std.proofs.Common.{filter, ◌∙◌, w64}
 use Rattle.std.proofs.lemmas.Int.{to_z-of_z}
 use Rattle.sqlite.specs.Held.{state}
-use Rattle.sql_meanings.specs.Tables.{width_of}
+use Rattle.sql_meanings.specs.believed.Tables.{width_of}
 use Rattle.sql_meanings.proofs.OrderedAnswers.{rise_filter}
 use Rattle.walked_rows.specs.StepOutcomes.{BreaksValue}
 use Rattle.walked_rows.specs.Rows.{rows_from}

@@ -1,5 +1,5 @@
 use Rattle.std.proofs.Common.{◌≡◌, ◌≤ℤ◌, ◌++◌, List, map, drop, length, Some}
-use Rattle.sql_meanings.specs.Entries.{Entry, Rise}
+use Rattle.sql_meanings.specs.believed.Entries.{Entry, Rise}
 use Rattle.walked_rows.specs.Pairs.{AreJoined, pair_of}
 use Rattle.walked_rows.specs.Rising.{RisesFrom}
 use Rattle.walked_rows.specs.Rows.{entry_key, rows_after, rows_from}

@@ -5,7 +5,7 @@ use Rattle.std.proofs.Math.Seq.{drop-cons}
 use Rattle.std.proofs.lemmas.Int.{to_z-of_z}
 use Rattle.sqlite.specs.Held.{state}
 use Rattle.sql_meanings.specs.StatementAnswers.{IsStoreError}
-use Rattle.store_rows.specs.BankTables.{reference as reference_table}
+use Rattle.store_rows.specs.believed.BankTables.{reference as reference_table}
 use Rattle.walked_rows.specs.KeptRows.{kept_item}
 use Rattle.walked_rows.specs.Pairs.{paired}
 use Rattle.walked_rows.specs.Rising.{RisesFrom}

@@ -2,8 +2,8 @@
 use Rattle.std.proofs.Common.{◌≡◌, ◌++◌, List, map, drop, length, Some, Ok}
 use Rattle.sqlite.specs.Held.{state}
 use Rattle.sqlite.specs.State.{HasCleanDisk}
-use Rattle.sql_meanings.specs.Entries.{Entry, Rise}
-use Rattle.store_rows.specs.BankTables.{reference as reference_table}
+use Rattle.sql_meanings.specs.believed.Entries.{Entry, Rise}
+use Rattle.store_rows.specs.believed.BankTables.{reference as reference_table}
 use Rattle.store_rows.specs.declared.fault.TableFault.{TableFault}
 use Rattle.walked_rows.specs.KeptRows.{AreKept}
 use Rattle.walked_rows.specs.Leaving.{ReadsIfAny}

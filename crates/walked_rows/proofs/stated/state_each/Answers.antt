@@ -3,7 +3,7 @@ use Rattle.std.proofs.Common.{◌≡◌, ◌<◌, ◌+◌, ◌++◌, ℕ, suc, p
 use Rattle.std.proofs.Common.{ap, subst, ◌∙◌, rules, arith, w64, to_z}
 use Rattle.std.proofs.Math.Seq.{drop-cons}
 use Rattle.std.proofs.lemmas.Int.{to_z-of_z}
-use Rattle.store_rows.specs.BankTables.{reference as reference_table}
+use Rattle.store_rows.specs.believed.BankTables.{reference as reference_table}
 use Rattle.walked_rows.specs.Pairs.{pair_with, paired}
 use Rattle.walked_rows.specs.Rising.{RisesFrom}
 use Rattle.walked_rows.specs.Rows.{HasStoredRows, entry_key, rows_after, rows_from}

@@ -1,6 +1,6 @@
 -- The record was written, or a prefix of it, or the row is that of no request.
 use Rattle.std.proofs.Common.{rules, ◌≡◌, ◌++◌, ◌∷◌, [], ℕ, List, Bool, true, false, not, map, refl, sym, ap, ◌∙◌}
-use Rattle.message_records.specs.Spelling.{request_spelling}
+use Rattle.message_records.specs.believed.Spelling.{request_spelling}
 use Rattle.posting_rules.specs.declared.fault.{Fault.TheVariants.Damaged, Rule.TheVariants.Request}
 use Rattle.walked_rows.specs.KeptRows.{kept_item}
 use Rattle.bank_replays.specs.{Prefixes.all_part, Requests.request_in, Writing.is_after, Writing.records_after}

@@ -1,7 +1,7 @@
 -- The line of a branch was written, or a prefix of it.
 use Rattle.std.proofs.Common.{rules, ◌≡◌, ◌++◌, ℕ, ℤ, List, Ok, Err, Option, map, ap, ◌∙◌}
 use Rattle.std.specs.Prelude.{option_map}
-use Rattle.posting_rules.specs.Tables.{row_at}
+use Rattle.posting_rules.specs.believed.Tables.{row_at}
 use Rattle.walked_rows.specs.{Stored.branch_entry, StoredBeside.floor_entry}
 use Rattle.bank_replays.specs.Writing.{branch_of, line_with, lowest_of, plan_line, plan_lines, text_of_floor}
 use Rattle.bank_replays.specs.declared.fault.ReplayFault.TheVariants.{Write}

@@ -2,12 +2,12 @@
 use Rattle.std.proofs.Common.{◌≤◌, [], ◌∷◌, ◌∙◌}
 use Rattle.std.proofs.lemmas.Result.{err_from_is_err_and}
 use Rattle.std.specs.Prelude.{IsSome}
-use Rattle.posting_rules.specs.Commands.{Open, AreCommands, opened_with}
+use Rattle.posting_rules.specs.believed.Commands.{Open, AreCommands, opened_with}
 use Rattle.posting_rules.proofs.{Calls.opens, Calls.answers, ChangesByKey.sound_tables}
 use Rattle.bank_store.proofs.{Causes.still_clean, Countered.takes, bank.BankCounter.open_branch.Given.Over}
 use Rattle.bank_store.proofs.OtherTables.{spares_done, spares_down, spares_untouched}
 use Rattle.bank_store.proofs.Refusing.{answered_call, refused_call, transaction_refused, untried_call, Refusal}
-use Rattle.bank_transactions.specs.{Additions.AddsBranch, Causes.IsBrokenOrMet}
+use Rattle.bank_transactions.specs.{believed.Additions.AddsBranch, believed.Causes.IsBrokenOrMet}
 use Rattle.bank_store.proofs.bank.BankCounter.open_branch.Goals as goal
 
 -- what its refusal says

@@ -2,16 +2,16 @@
 use Rattle.std.proofs.Common.{length, refl, ap, ◌∙◌}
 use Rattle.std.specs.Prelude.{IsSome}
 use Rattle.std.proofs.lemmas.{Result.err_from_is_err_and, List.length-map}
-use Rattle.message_records.specs.Reading.{request_of}
-use Rattle.posting_rules.specs.{Commands.AreCommands, Runs.posts, Sound.AreOfALog}
+use Rattle.message_records.specs.believed.Reading.{request_of}
+use Rattle.posting_rules.specs.{believed.Commands.AreCommands, believed.Runs.posts, believed.Sound.AreOfALog}
 use Rattle.posting_rules.proofs.Records.{all_replies, are_posts, posts_all}
-use Rattle.bank_store.specs.Seen.{database_of}
+use Rattle.bank_store.specs.believed.Seen.{database_of}
 use Rattle.bank_store.proofs.{Causes.still_clean, bank.BankCounter.submit_all.Given.Over}
 use Rattle.bank_store.proofs.Countered.{HoldsOfLogs, none_or_all, none_or_all_down, takes}
 use Rattle.bank_store.proofs.OtherTables.{spares_done, spares_down, spares_untouched}
 use Rattle.bank_store.proofs.Refusing.{answered_call, refused_call, spared_call, transaction_refused, untried_call}
 use Rattle.bank_store.proofs.Refusing.{Refusal}
-use Rattle.bank_transactions.specs.{Additions.AddsForRecords, Causes.IsBrokenOrMet}
+use Rattle.bank_transactions.specs.{believed.Additions.AddsForRecords, believed.Causes.IsBrokenOrMet}
 use Rattle.bank_store.proofs.bank.BankCounter.submit_all.Goals as goal
 
 of_logs : HoldsOfLogs AreOfALog

@@ -1,9 +1,9 @@
 -- The changed balance of one slot, whose number may be none of branches.
 use Rattle.std.proofs.Common.{◌≡◌, ℕ, Some, None, Option, rules, refl, sym, subst, ◌∙◌, inl, inr}
 use Rattle.std.specs.Prelude.{ℤ, IfSome}
-use Rattle.message_records.specs.Ranges.{whole_within}
+use Rattle.message_records.specs.believed.Ranges.{whole_within}
 use Rattle.message_records.specs.declared.limits.TheConstants.{MAX_BRANCH}
-use Rattle.posting_rules.specs.Tables.{Tables}
+use Rattle.posting_rules.specs.believed.Tables.{Tables}
 use Rattle.store_rows.specs.Holders.{HasRow, with_balance}
 use Rattle.store_rows.specs.declared.holders.Holder.TheVariants.{Branch}
 use Rattle.bank_transactions.specs.Additions.{NoRow}

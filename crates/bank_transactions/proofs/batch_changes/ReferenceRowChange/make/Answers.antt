@@ -1,12 +1,12 @@
 -- A row more.
 use Rattle.std.proofs.Common.{Some}
-use Rattle.posting_rules.specs.Changes.{with_reference}
-use Rattle.posting_rules.specs.Tables.{reference_key}
+use Rattle.posting_rules.specs.believed.Changes.{with_reference}
+use Rattle.posting_rules.specs.believed.Tables.{reference_key}
 use Rattle.posting_batch.specs.Overlay.{references_put}
-use Rattle.store_rows.specs.BankTables.{reference}
-use Rattle.store_rows.specs.SeveralRows.{given}
-use Rattle.store_rows.specs.View.{reference_entry}
-use Rattle.store_rows.specs.Inserts.{reference_insert}
+use Rattle.store_rows.specs.believed.BankTables.{reference}
+use Rattle.store_rows.specs.believed.SeveralRows.{given}
+use Rattle.store_rows.specs.believed.View.{reference_entry}
+use Rattle.store_rows.specs.believed.Inserts.{reference_insert}
 use Rattle.bank_transactions.proofs.Rows.{adds_reference, reference_put, row_added}
 use Rattle.bank_transactions.proofs.batch_changes.ReferenceRowChange.make.Goals as goal
 

@@ -1,5 +1,5 @@
 use Rattle.std.proofs.Common.{arith, None, ap, ◌∙◌}
-use Rattle.counter_http.specs.Paths.{route_of}
+use Rattle.counter_http.specs.believed.Paths.{route_of}
 use Rattle.counter_http.proofs.Routed.{at_rows, IsUtf8-of, find_text, no_text, text_bytes}
 use Rattle.counter_http.proofs.routes.Routes.find.Goals as goal
 

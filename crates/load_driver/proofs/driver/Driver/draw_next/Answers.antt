@@ -1,6 +1,6 @@
 use Rattle.std.proofs.Common.{◌<◌, ◌*◌, ◌∙◌, ℕ, arith, ap, refl}
 use Rattle.posting_rules.specs.declared.limits.TheConstants.{TELLERS_PER_BRANCH}
-use Rattle.load_driver.specs.{declared.driver.TheConstants.MAX_RECORDS, Requests.request_at}
+use Rattle.load_driver.specs.{declared.driver.TheConstants.MAX_RECORDS, believed.Requests.request_at}
 use Rattle.load_driver.proofs.DrivenRecords.{stepped}
 use Rattle.load_driver.proofs.driver.Driver.draw_next.Goals as goal
 

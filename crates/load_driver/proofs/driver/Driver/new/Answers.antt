@@ -1,7 +1,7 @@
 use Rattle.std.proofs.Common.{◌≡◌, ◌<◌, ◌*◌, ◌∙◌, ℕ, arith, rules, refl, length, ap, ◌≢◌, ◌∷◌, [], List}
 use Rattle.std.proofs.lemmas.List.{get_or-replicate, length-replicate, Sorted.length_permutation}
 use Rattle.posting_rules.specs.declared.limits.TheConstants.{TELLERS_PER_BRANCH}
-use Rattle.load_driver.specs.Requests.{earlier}
+use Rattle.load_driver.specs.believed.Requests.{earlier}
 use Rattle.load_driver.proofs.Totals.{counts-others}
 use Rattle.load_driver.proofs.driver.Driver.new.Goals as goal
 

@@ -1,7 +1,7 @@
 use Rattle.std.proofs.Common.{◌≡◌, List, Result, map, sym, subst, rules}
 use Rattle.message_records.specs.declared.fault.Bad.{Bad}
-use Rattle.message_records.specs.Reading.{request_of}
-use Rattle.message_records.specs.Records.{RequestFields}
+use Rattle.message_records.specs.believed.Reading.{request_of}
+use Rattle.message_records.specs.believed.Records.{RequestFields}
 use Rattle.posting_batch.specs.Batch.{CoversAll, HasRisingSlots, covering_all, no_slots}
 use Rattle.posting_batch.specs.Overlay.{Overlay}
 use Rattle.posting_batch.specs.View.{view}

@@ -1,7 +1,7 @@
 use Rattle.std.proofs.Common.{◌≡◌, ◌≤◌, ◌+◌, ◌-◌, ◌++◌, map, drop, length, vec_len}
 use Rattle.std.specs.Vec.{vec_capacity}
 use Rattle.smallvec.specs.SmallVec.{HasRoomFor}
-use Rattle.message_records.specs.Spelling.{reply_spelling}
+use Rattle.message_records.specs.believed.Spelling.{reply_spelling}
 use Rattle.posting_batch.specs.Judging.{overlay_with_all, replies_over}
 use Rattle.posting_batch.specs.View.{view}
 use Rattle.posting_batch.proofs.overlay.Overlay.judge_records.Given as goal

@@ -4,9 +4,9 @@ use Rattle.std.proofs.Common.{arith, rules}
 use Rattle.std.specs.Prelude.{ℤ, All, map}
 use Rattle.std.proofs.{lemmas.Grind.common_steps, lemmas.List.with_items_is, lemmas.List.Elements.All-map}
 use Rattle.posting_rules.specs.declared.rows.BranchRow.{BranchRow}
-use Rattle.posting_rules.specs.{Branches.IsInRange, Changes.row_changed, ChangesByKey.with_branch_balance}
-use Rattle.posting_rules.specs.{Tables.branch_key}
-use Rattle.posting_rules.specs.Entries.{posted_entry, refused_entry}
+use Rattle.posting_rules.specs.{Branches.IsInRange, believed.Changes.row_changed, ChangesByKey.with_branch_balance}
+use Rattle.posting_rules.specs.{believed.Tables.branch_key}
+use Rattle.posting_rules.specs.believed.Entries.{posted_entry, refused_entry}
 use Rattle.posting_rules.proofs.RowChanges.{changed_at}
 use Rattle.posting_core.specs.Plain.{plain_tables}
 use Rattle.posting_core.proofs.Appending.{kept_is, posted_is}

@@ -1,6 +1,6 @@
 use Rattle.std.proofs.Common.{◌≡◌, ◌+◌, ◌-◌, ◌≤◌, ◌++◌, drop, length, vec_len}
 use Rattle.std.specs.Vec.{vec_capacity}
-use Rattle.posting_rules.specs.Changes.{tables_past_all, replies_past_all}
+use Rattle.posting_rules.specs.believed.Changes.{tables_past_all, replies_past_all}
 use Rattle.posting_core.specs.Plain.{plain_tables}
 use Rattle.posting_core.proofs.plain_bank.PlainBank.submit_all_within_capacity.Given as goal
 

@@ -1,8 +1,8 @@
 use Rattle.std.proofs.Common.{List, ap, refl, ◌∙◌}
 use Rattle.std.specs.Option.{option_map}
 use Rattle.posting_rules.specs.declared.rows.AccountRow.{AccountRow}
-use Rattle.posting_rules.specs.LookUps.{account_balance_in, balance_of_account}
-use Rattle.posting_rules.specs.Tables.{account_key, row_at}
+use Rattle.posting_rules.specs.believed.LookUps.{account_balance_in, balance_of_account}
+use Rattle.posting_rules.specs.believed.Tables.{account_key, row_at}
 use Rattle.posting_rules.proofs.Looked.{balance_shown}
 use Rattle.posting_core.specs.Plain.{plain_tables}
 use Rattle.posting_core.proofs.InMemory.{plain_shows, read_plain, row_told}

@@ -1,6 +1,7 @@
 use Rattle.std.proofs.Common.{◌≡◌, None, ℕ, List, [], ◌∷◌, sym, ap, ◌∙◌}
 use Rattle.posting_rules.specs.declared.{rows.BranchRow.BranchRow, counter.Opening.TheVariants.Opened}
-use Rattle.posting_rules.specs.{Commands.Open, Commands.opened_with, Tables.Tables, Tables.row_at, Tables.branch_key}
+use Rattle.posting_rules.specs.{believed.Commands.Open, believed.Commands.opened_with, believed.Tables.Tables}
+use Rattle.posting_rules.specs.{believed.Tables.row_at, believed.Tables.branch_key}
 use Rattle.posting_rules.specs.LookUps.{count_of_branch}
 use Rattle.posting_core.specs.{Appended.appended_opened, Plain.plain_tables}
 use Rattle.std.specs.Option.{option_map}

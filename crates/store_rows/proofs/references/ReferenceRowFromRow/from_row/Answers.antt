@@ -2,9 +2,9 @@
 use Rattle.std.proofs.Common.{◌≡◌, Err, refl, rules, arith}
 use Rattle.posting_rules.specs.declared.fault.Rule.TheVariants.{Value}
 use Rattle.posting_rules.specs.declared.limits.TheConstants.{MAX_DECIDED}
-use Rattle.sql_meanings.specs.Entries.{Entry}
-use Rattle.store_rows.specs.Columns.{text_at}
-use Rattle.store_rows.specs.Rules.{ReferenceKeeps}
+use Rattle.sql_meanings.specs.believed.Entries.{Entry}
+use Rattle.store_rows.specs.believed.Columns.{text_at}
+use Rattle.store_rows.specs.believed.Rules.{ReferenceKeeps}
 use Rattle.store_rows.specs.Stored.{IsReferenceRow, reference_stored}
 use Rattle.store_rows.proofs.StoredReads.{unread_reference, unread_whole}
 use Rattle.store_rows.proofs.references.ReferenceRowFromRow.from_row.Goals as goal

@@ -3,9 +3,9 @@ use Rattle.std.proofs.Common.{◌≡◌, Err, refl, rules, arith}
 use Rattle.message_records.specs.declared.limits.TheConstants.{MAX_NUMBER, MAX_TELLER}
 use Rattle.posting_rules.specs.declared.fault.Rule.TheVariants.{Request, Value}
 use Rattle.posting_rules.specs.declared.limits.TheConstants.{MAX_DECIDED}
-use Rattle.sql_meanings.specs.Entries.{Entry}
-use Rattle.store_rows.specs.Columns.{number_at}
-use Rattle.store_rows.specs.Rules.{RequestKeeps}
+use Rattle.sql_meanings.specs.believed.Entries.{Entry}
+use Rattle.store_rows.specs.believed.Columns.{number_at}
+use Rattle.store_rows.specs.believed.Rules.{RequestKeeps}
 use Rattle.store_rows.specs.Stored.{IsSameRequest, request_stored}
 use Rattle.store_rows.proofs.StoredReads.{unread_whole}
 use Rattle.store_rows.proofs.requests.RequestRowFromRow.from_row.Goals as goal

@@ -5,7 +5,7 @@ use Rattle.std.proofs.lemmas.Result.{MatchResult-weaker}
 use Rattle.sqlite.specs.Held.{state}
 use Rattle.sql_meanings.specs.StatementAnswers.{IsStoreError}
 use Rattle.sql_meanings.proofs.OrderedAnswers.{rise_filter}
-use Rattle.store_rows.specs.BankTables.{reference as reference_table}
+use Rattle.store_rows.specs.believed.BankTables.{reference as reference_table}
 use Rattle.walked_rows.specs.Pairs.{paired}
 use Rattle.walked_rows.specs.Rows.{HasStoredRows}
 use Rattle.walked_rows.proofs.Keeping.{asked_breaks, asked_read, kept_breaks, kept_breaks_own, kept_so_far}

@@ -5,7 +5,7 @@ use Rattle.sqlite.specs.Held.{state}
 use Rattle.sqlite.specs.declared.types.Value.TheVariants.{Int}
 use Rattle.sql_meanings.proofs.Texts.{only_reads}
 use Rattle.store_rows.proofs.Lookups.{as_integer}
-use Rattle.store_rows.specs.BankTables.{history}
+use Rattle.store_rows.specs.believed.BankTables.{history}
 use Rattle.walked_rows.proofs.Shows.{shows_five}
 use Rattle.walked_rows.proofs.Sought.{tells_of_from, tells_walk}
 use Rattle.walked_rows.proofs.WalkTexts.{is_postings_of, reads_postings_of, walks_postings}

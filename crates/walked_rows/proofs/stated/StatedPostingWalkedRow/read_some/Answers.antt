@@ -5,7 +5,7 @@ use Rattle.std.proofs.lemmas.Result.{MatchResult-weaker}
 use Rattle.sqlite.specs.Held.{state}
 use Rattle.sql_meanings.specs.StatementAnswers.{IsStoreError}
 use Rattle.sql_meanings.proofs.OrderedAnswers.{rise_filter}
-use Rattle.store_rows.specs.BankTables.{reference as reference_table}
+use Rattle.store_rows.specs.believed.BankTables.{reference as reference_table}
 use Rattle.walked_rows.specs.StepOutcomes.{BreaksValue}
 use Rattle.walked_rows.specs.References.{BreaksReference}
 use Rattle.walked_rows.specs.Rows.{HasStoredRows}

@@ -1,0 +1,3 @@
+pub mod Lives
+pub mod ManyLives
+pub mod Moments

@@ -1,0 +1,75 @@
+-- The life of a counter from call to call, how it ends, and what is found after it was stopped.
+use Rattle.std.specs.Prelude.{◌≡◌, ◌≤◌, ◌⊎◌, ℕ, zero, suc, ◌+◌, List, [], ◌++◌, length, take, AllPairs}
+use Rattle.posting_rules.specs.declared.fault.Fault.{Fault}
+use Rattle.posting_rules.specs.declared.fault.Fault.TheVariants.{Memory, Store, Down, Damaged}
+use Rattle.posting_rules.specs.believed.Commands.{Command}
+use Rattle.posting_rules.specs.believed.Counter.{Seen, StandsAt, LeavesOnly, LeavesNoMore, ShowsPrefix}
+use Rattle.posting_rules.specs.believed.Entries.{decided}
+use Rattle.posting_rules.specs.believed.Laws.{Differ, IsConsistent}
+use Rattle.posting_rules.specs.believed.Runs.{followed_by}
+use Rattle.posting_rules.specs.believed.Tables.{Tables, AreTablesOf}
+
+-- ---- one call
+
+-- what a call did that was given these commands, of which so many at the front were acknowledged
+pub record IsCall (old new : Seen) (commands : List Command) (acknowledged : ℕ) : Type 0 where
+  pub within : acknowledged ≤ length commands
+  pub honest : new.honest → old.honest
+  -- a crash may leave a prefix of the commands that holds all that were acknowledged
+  pub survives : new.honest → (log : List Command) → StandsAt old log
+      → LeavesOnly new (ShowsPrefix log commands acknowledged)
+  -- it took them all, or it went down
+  pub stands : new.honest → (log : List Command) → StandsAt old log
+      → StandsAt new (followed_by log commands) ⊎ new.is_down
+  -- where it was down it acknowledged none, it is down, and a crash leaves no more than it left
+  pub down : old.is_down → new.is_down × (acknowledged ≡ 0) × LeavesNoMore old new
+
+-- a counter that was out of memory, or down, was given nothing
+abbrev pub given_to : Fault → List Command → List Command
+given_to Memory commands = []
+given_to Store commands = commands
+given_to Down commands = []
+given_to (Damaged rule) commands = commands
+
+-- what a stream did, as one call: it took some commands, all of which count as acknowledged, and then it was
+-- given those that were refused, or none of them
+pub record IsStream (old new : Seen) (taken refused : List Command) : Type 0 where
+  pub tried : List Command
+  pub which : (tried ≡ refused) ⊎ (tried ≡ [])
+  pub call : IsCall old new (taken ++ tried) (length taken)
+
+-- ---- a life
+
+-- how many commands a prefix has that holds all that were acknowledged, with those of one call more
+abbrev pub reached : ℕ → List Command → ℕ → ℕ
+reached least given zero = least
+reached least given (suc n) = length given + suc n
+
+-- Calls one after another: the counter as they began and as it is now, the commands that they were given, and
+-- how many of these the least prefix has that holds all that were acknowledged.
+pub data Life {C : Type 0} (seen : C → Seen) (first : C) : C → List Command → ℕ → Type 0 where
+  begins : Life seen first first [] 0
+  goes_on : (now next : C) (given commands : List Command) (least acknowledged : ℕ)
+      → Life seen first now given least → IsCall (seen now) (seen next) commands acknowledged
+      → Life seen first next (given ++ commands) (reached least given acknowledged)
+
+-- What a life ends with: nothing at all, or a walk, a report or a reopening that failed. It was given nothing,
+-- and all that is known of it is what a crash leaves.
+pub record EndsLife (now last : Seen) : Type 0 where
+  pub honest : last.honest → now.honest
+  pub survives : last.honest → (log : List Command) → StandsAt now log
+      → LeavesOnly last (λ t. AreTablesOf t log)
+  pub down : last.honest → now.is_down → LeavesNoMore now last
+
+-- ---- after a crash
+
+-- It shows the log that the life began with and a prefix of the commands that were given in it, which
+-- holds every one that was acknowledged, and so does whatever a crash leaves of it. Each request is posted
+-- once, and accounts, tellers, branches and the deltas of history have one sum (TPC-B clause 2).
+pub record IsFoundAgain (seen : Seen) (log given : List Command) (least : ℕ) : Type 0 where
+  pub count : ℕ
+  pub holds : least ≤ count
+  pub within : count ≤ length given
+  pub stands : StandsAt seen (followed_by log (take count given))
+  pub once : AllPairs Differ (decided (followed_by log (take count given)))
+  pub sums : (t : Tables) → seen.tables t → IsConsistent t

@@ -1,0 +1,5 @@
+pub mod Causes
+pub mod Doing
+pub mod Stored
+pub mod Additions
+pub mod Batches

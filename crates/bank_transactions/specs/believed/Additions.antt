@@ -1,0 +1,94 @@
+-- Which rows a call puts in, under which keys: its own.
+use Rattle.std.specs.Prelude.{◌≡◌, ◌<◌, ◌⊎◌, ◌+◌, ℕ, ℤ, pos, List, [], ◌∷◌, Option, Some}
+use Rattle.std.specs.List.{AllByRecursion}
+use Rattle.sqlite.specs.Effect.{Database}
+use Rattle.sqlite.specs.Order.{Row}
+use Rattle.sqlite_rules.specs.Lists.{Has}
+use Rattle.posting_rules.specs.believed.Changes.{new_account, new_teller}
+use Rattle.posting_rules.specs.believed.Commands.{Terms}
+use Rattle.posting_rules.specs.believed.Numbering.{first_account, first_teller}
+use Rattle.posting_rules.specs.believed.Tables.{branch_row_of}
+use Rattle.posting_rules.specs.declared.limits.TheConstants.{TELLERS_PER_BRANCH}
+use Rattle.posting_rules.specs.declared.rows.HistoryRow.{HistoryRow}
+use Rattle.posting_rules.specs.declared.rows.ReferenceRow.{ReferenceRow}
+use Rattle.posting_rules.specs.declared.rows.RequestRow.{RequestRow}
+use Rattle.posting_batch.specs.believed.Batch.{IsNextOrdinal}
+use Rattle.sql_meanings.specs.believed.Entries.{Entry}
+use Rattle.store_rows.specs.believed.Failures.{Additions}
+use Rattle.store_rows.specs.believed.Rules.{OfRows}
+use Rattle.store_rows.specs.believed.SeveralRows.{given, given_each}
+use Rattle.store_rows.specs.believed.View.{account_entry, branch_entry, floor_entry, history_entry, reference_entry}
+use Rattle.store_rows.specs.believed.View.{request_entry, teller_entry}
+use Rattle.store_rows.specs.believed.Inserts.{account_insert, branch_insert, eight_postings_insert}
+use Rattle.store_rows.specs.believed.Inserts.{eight_requests_insert, floor_insert, posting_insert}
+use Rattle.store_rows.specs.believed.Inserts.{reference_insert, request_insert, teller_insert}
+use Rattle.bank_transactions.specs.believed.Stored.{HoldsDecided}
+use Rattle.bank_transactions.specs.declared.new_branch.NewRows.{NewRows}
+use Rattle.bank_transactions.specs.declared.new_branch.NewRows.TheVariants.{Tellers, Accounts}
+
+-- any
+abbrev pub AnyRow : Additions
+AnyRow text values = Unit {0}
+
+-- ---- the rows of records
+
+-- by one of the texts, rows of which each is so
+pub record AddsEach {R : Type 0} (texts : List (List ℕ)) (entry : R → Entry) (IsSo : R → Type 0) (text : List ℕ)
+    (values : Row) : Type 0 where
+  pub among : Has texts text
+  pub rows : List R
+  pub are : values ≡ given_each entry rows
+  pub each : AllByRecursion IsSo rows
+
+abbrev pub AddsPostings : (HistoryRow → Type 0) → Additions
+AddsPostings IsSo = AddsEach (posting_insert ∷ eight_postings_insert ∷ []) history_entry IsSo
+
+abbrev pub AddsRequests : (RequestRow → Type 0) → Additions
+AddsRequests IsSo = AddsEach (request_insert ∷ eight_requests_insert ∷ []) request_entry IsSo
+
+abbrev pub AddsReferences : (ReferenceRow → Type 0) → Additions
+AddsReferences IsSo = AddsEach (reference_insert ∷ []) reference_entry IsSo
+
+-- the ordinal is one of so many that follow the count of decided requests which the database holds
+abbrev pub FollowsCount : Database → ℕ → ℕ → Type 0
+FollowsCount db count ordinal = OfRows (λ rows.
+    (decided : ℕ) × HoldsDecided rows decided × IsNextOrdinal decided count ordinal) db
+
+-- so many records: postings, requests and references, each under such an ordinal
+abbrev pub AddsForRecords : Database → ℕ → Additions
+AddsForRecords db count text values = AddsPostings (λ r. FollowsCount db count r.ordinal) text values
+    ⊎ (AddsRequests (λ r. FollowsCount db count r.ordinal) text values
+    ⊎ AddsReferences (λ r. FollowsCount db count r.ordinal) text values)
+
+-- ---- the rows of a branch
+
+-- the text that puts such a row in
+abbrev pub insert_of : NewRows → List ℕ
+insert_of Tellers = teller_insert
+insert_of Accounts = account_insert
+
+-- it with nothing on it, as it is put in
+abbrev pub entry_of : NewRows → ℕ → Entry
+entry_of Tellers n = teller_entry (new_teller n)
+entry_of Accounts n = account_entry (new_account n)
+
+-- the row under this number
+abbrev pub AddsOne : NewRows → ℕ → Additions
+AddsOne kind n text values = (text ≡ insert_of kind) × (values ≡ given (entry_of kind n))
+
+-- one of so many from this number on
+abbrev pub AddsRange : NewRows → ℕ → ℕ → Additions
+AddsRange kind first count text values = (n : ℕ) × (n < count) × AddsOne kind (first + n) text values
+
+-- the row of the floor, where there is to be one
+abbrev pub AddsFloor : ℕ → Option ℤ → Additions
+AddsFloor branch floor text values = (lowest : ℤ) × (floor ≡ Some lowest) × (text ≡ floor_insert)
+    × (values ≡ given (floor_entry (record { branch = branch; lowest = lowest })))
+
+-- a branch that is opened with these terms: its own row, its tellers', its accounts' and its floor's
+abbrev pub AddsBranch : ℕ → Terms → Additions
+AddsBranch branch terms text values =
+    ((text ≡ branch_insert) × (values ≡ given (branch_entry (branch_row_of branch (pos 0) terms))))
+    ⊎ (AddsRange Tellers (first_teller branch) TELLERS_PER_BRANCH text values
+    ⊎ (AddsRange Accounts (first_account branch) terms.accounts text values
+    ⊎ AddsFloor branch terms.floor text values))

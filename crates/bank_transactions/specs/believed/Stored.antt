@@ -1,0 +1,151 @@
+-- What a look-up, a posting, a batch and an opening answer of whatever rows a file holds, be they a bank's or
+-- not.
+use Rattle.std.specs.Prelude.{◌≡◌, ◌≢◌, ℕ, ℤ, pos, find, List, Option, Some, None, Result, Ok, Err, ⊤}
+use Rattle.std.specs.List.{AllByRecursion}
+use Rattle.sqlite.specs.Effect.{Database}
+use Rattle.message_records.specs.believed.Reading.{request_of}
+use Rattle.message_records.specs.believed.Records.{RequestFields}
+use Rattle.message_records.specs.believed.Spelling.{reply_spelling}
+use Rattle.message_records.specs.declared.fault.Bad.{Bad}
+use Rattle.posting_rules.specs.believed.Cases.{case_of, reply_in}
+use Rattle.posting_rules.specs.believed.Changes.{replies_past_all, tables_opened}
+use Rattle.posting_rules.specs.believed.Commands.{Terms}
+use Rattle.posting_rules.specs.believed.Counter.{opening_for}
+use Rattle.posting_rules.specs.believed.Kept.{KeptFields}
+use Rattle.posting_rules.specs.believed.LookUps.{account_balance_in, floor_in, kept_in, teller_balances_in}
+use Rattle.posting_rules.specs.believed.Numbering.{branch_of_account, branch_of_teller}
+use Rattle.posting_rules.specs.believed.Tables.{Tables}
+use Rattle.posting_rules.specs.declared.judgments.Found.{Found}
+use Rattle.posting_rules.specs.declared.counter.Opening.{Opening}
+use Rattle.posting_rules.specs.declared.counter.Opening.TheVariants.{Opened}
+use Rattle.sql_meanings.specs.believed.Entries.{Entry, has_two}
+use Rattle.store_rows.specs.believed.Columns.{meta_in, number_at, text_at}
+use Rattle.store_rows.specs.believed.Rules.{AccountFits, IsAbove, OfRows, StoredRows, TellerFits, branch_under}
+use Rattle.store_rows.specs.believed.Rules.{floor_under, row_under}
+use Rattle.store_rows.specs.believed.Stored.{BalanceKeeps, FindsStored, IsBalance, IsDecision}
+use Rattle.store_rows.specs.believed.View.{Shows}
+
+-- the balance that the account's row has, none where it has no row; and it has one just where its branch's
+-- count says so
+pub record IsStoredBalance (db : Database) (account : ℕ) (balance : Option ℤ) : Type 0 where
+  pub found : OfRows (λ rows.
+      FindsStored (row_under rows.accounts account) IsBalance BalanceKeeps (Ok balance)) db
+  pub fits : OfRows (λ rows. AccountFits rows account) db
+
+-- the balances of a teller's row and of its branch's, none where the teller has no row
+abbrev pub HoldsTeller : StoredRows → ℕ → Option (ℤ × ℤ) → Type 0
+HoldsTeller rows teller None = row_under rows.tellers teller ≡ None
+HoldsTeller rows teller (Some balances) =
+    (r : Entry) × (row_under rows.tellers teller ≡ Some r) × (number_at 0 r ≡ balances.0)
+    × ((b : Entry) × (branch_under rows (branch_of_teller teller) ≡ Some b) × (number_at 1 b ≡ balances.1))
+
+-- the balances of a teller and of its branch as their rows have them, none where the teller has no row; and it
+-- has one just where its branch does
+pub record IsStoredTeller (db : Database) (teller : ℕ) (balances : Option (ℤ × ℤ)) : Type 0 where
+  pub found : OfRows (λ rows. HoldsTeller rows teller balances) db
+  pub fits : OfRows (λ rows. TellerFits rows teller) db
+
+-- the floor of a branch's row, none where it has none
+abbrev pub HoldsFloor : StoredRows → ℕ → Option ℤ → Type 0
+HoldsFloor rows branch None = floor_under rows branch ≡ None
+HoldsFloor rows branch (Some lowest) =
+    (r : Entry) × (floor_under rows branch ≡ Some r) × (number_at 0 r ≡ lowest)
+
+-- whatever rows the database holds
+abbrev pub IsStoredFloor : Database → ℕ → Option ℤ → Type 0
+IsStoredFloor db branch floor = OfRows (λ rows. HoldsFloor rows branch floor) db
+
+-- the reference in the row under an ordinal, none where there is no such row
+abbrev pub HoldsReference : StoredRows → ℕ → Option (List ℕ) → Type 0
+HoldsReference rows ordinal None = row_under rows.references ordinal ≡ None
+HoldsReference rows ordinal (Some text) =
+    (r : Entry) × (row_under rows.references ordinal ≡ Some r) × (text_at 0 r ≡ text)
+
+-- the row of a teller's request under its number has this decision, and the row under its ordinal this
+-- reference; none where there is no row of such a request
+abbrev pub HoldsKept : StoredRows → ℕ → ℕ → Option KeptFields → Type 0
+HoldsKept rows teller number None = find (has_two (pos teller) (pos number)) rows.requests ≡ None
+HoldsKept rows teller number (Some kept) =
+    (r : Entry) × (find (has_two (pos teller) (pos number)) rows.requests ≡ Some r)
+    × IsDecision kept.decision r
+    × ((ordinal : ℕ) × (r.key ≡ pos ordinal) × HoldsReference rows ordinal kept.reference)
+
+-- the bank's row of `meta` counts so many decided requests
+abbrev pub HoldsDecided : StoredRows → ℕ → Type 0
+HoldsDecided rows decided =
+    (version : ℤ) × (meta_in rows.meta ≡ Some (record { version = version; decided = pos decided }))
+
+-- what is found for a request is what the rows of its teller, its account, the account's branch, its teller
+-- and number with the ordinal there, and the bank hold; and its account isn't below the floor there
+pub record IsStoredFound (db : Database) (r : RequestFields) (found : Found) : Type 0 where
+  pub teller : IsStoredTeller db r.teller found.teller
+  pub account : IsStoredBalance db r.account found.account
+  pub above : OfRows (λ rows. IsAbove rows r.account) db
+  pub floor : IsStoredFloor db (branch_of_account r.account) found.floor
+  pub kept : OfRows (λ rows. HoldsKept rows r.teller r.number found.kept) db
+  pub decided : OfRows (λ rows. HoldsDecided rows found.decided) db
+
+-- the reply is that of the case which applies to what the rows hold
+pub record RepliesToStored (db : Database) (r : RequestFields) (reply : List ℕ) : Type 0 where
+  pub found : Found
+  pub stored : IsStoredFound db r found
+  pub is : reply ≡ reply_spelling (reply_in (case_of found r) r)
+
+-- ---- an opening
+
+-- what the rows of a branch and of its floor say that it was opened with, none where the branch has no row
+abbrev pub HoldsTerms : StoredRows → ℕ → Option Terms → Type 0
+HoldsTerms rows branch None = branch_under rows branch ≡ None
+HoldsTerms rows branch (Some terms) =
+    (r : Entry) × (branch_under rows branch ≡ Some r) × (number_at 0 r ≡ pos terms.accounts)
+    × HoldsFloor rows branch terms.floor
+
+-- The answer is `Opened` where the branch has no row, `Already` where the rows have these terms, and `Differs`
+-- where they have others.
+pub record AnswersStored (db : Database) (branch : ℕ) (terms : Terms) (opening : Opening) : Type 0 where
+  pub first : Option Terms
+  pub stored : OfRows (λ rows. HoldsTerms rows branch first) db
+  pub is : opening ≡ opening_for first terms
+
+-- So is the answer to an opening. Unless it is `Opened`, all is as it was; and if it is, whatever tables there
+-- were have the branch then, with its tellers, its accounts and its floor.
+pub record OpensByStored (old new : Database) (branch : ℕ) (terms : Terms) (opening : Opening) : Type 0 where
+  pub answers : AnswersStored old branch terms opening
+  pub stays : opening ≢ Opened → new ≡ old
+  pub opens : opening ≡ Opened → (t : Tables) → Shows old t → Shows new (tables_opened t branch terms)
+
+-- the balance that an account's row has, none where it has no row; it has one just where its branch's count says
+-- so; and it isn't below the floor of its branch
+pub record HoldsAccount (rows : StoredRows) (account : ℕ) (balance : Option ℤ) : Type 0 where
+  pub found : FindsStored (row_under rows.accounts account) IsBalance BalanceKeeps (Ok balance)
+  pub fits : AccountFits rows account
+  pub above : IsAbove rows account
+
+-- the tables have under the keys of a request what the rows hold there
+pub record HasStored (rows : StoredRows) (t : Tables) (r : RequestFields) : Type 0 where
+  -- the balances of its teller and of the teller's branch
+  pub teller : HoldsTeller rows r.teller (teller_balances_in t r.teller)
+  pub teller_fits : TellerFits rows r.teller
+  -- the balance of its account
+  pub account : HoldsAccount rows r.account (account_balance_in t r.account)
+  -- the floor of its account's branch
+  pub floor : HoldsFloor rows (branch_of_account r.account) (floor_in t (branch_of_account r.account))
+  -- the request that is kept under its teller and number, with its reference
+  pub kept : HoldsKept rows r.teller r.number (kept_in t.requests t.references r.teller r.number)
+
+-- what was read is no request, or the tables have what it asks for
+abbrev pub HasRead : StoredRows → Tables → Result RequestFields Bad → Type 0
+HasRead rows t (Err fault) = ⊤
+HasRead rows t (Ok r) = HasStored rows t r
+
+-- The replies are those to the records one after another, each on what the ones before it left, in tables that
+-- had what the rows hold: under the keys of each request, and of how many are decided.
+pub record RepliesInTurn (rows : StoredRows) (moment : ℕ) (records replies : List (List ℕ)) : Type 0 where
+  pub tables : Tables
+  pub stored : AllByRecursion (λ bytes. HasRead rows tables (request_of bytes)) records
+  pub decided : HoldsDecided rows tables.decided
+  pub are : replies ≡ replies_past_all tables moment records
+
+-- whatever rows the database holds
+abbrev pub RepliesToAllStored : Database → ℕ → List (List ℕ) → List (List ℕ) → Type 0
+RepliesToAllStored db moment records replies = OfRows (λ rows. RepliesInTurn rows moment records replies) db

@@ -1,0 +1,178 @@
+-- The answer to each message.
+use Rattle.std.specs.Prelude.{ℕ, zero, suc, ◌-◌, ℤ, List, [], ◌∷◌, ◌++◌, length, Option, Some, None}
+use Rattle.std.specs.Prelude.{Bool, true, false, not, ◌&&◌, ◌||◌, ◌==◌, nat_lt, nat_le, codes, bytes_eq}
+use Rattle.std.specs.Prelude.{unwrap_or, get_or, replicate, if◌then◌else◌}
+use Rattle.std.specs.Option.{option_and_then}
+use Rattle.std.specs.Fmt.{decimal, signed_decimal}
+use Rattle.http.specs.StatusCode.{reason_phrase, code_digits}
+use Rattle.message_records.specs.declared.limits.TheConstants.{MAX_ACCOUNT}
+use Rattle.message_records.specs.believed.Ranges.{whole_within}
+use Rattle.message_records.specs.believed.Reading.{number_of}
+use Rattle.message_records.specs.believed.Spelling.{reply_spelling}
+use Rattle.posting_rules.specs.declared.limits.TheConstants.{LAST_BRANCH}
+use Rattle.posting_rules.specs.believed.Commands.{Command, opened, Terms}
+use Rattle.posting_rules.specs.believed.Entries.{reply, balance_after, branch_balance, decided}
+use Rattle.message_records.specs.declared.limits.TheConstants.{REQUEST_BYTES}
+use Rattle.counter_http.specs.declared.limits.TheConstants.{ACCOUNT_DIGITS}
+use Rattle.counter_http.specs.declared.routes.Route.{Route}
+use Rattle.counter_http.specs.declared.routes.Route.TheVariants.{Posting, Account, Branches}
+use Rattle.counter_http.specs.believed.Paths.{path_of, account_in, route_of}
+use Rattle.counter_http.specs.believed.Messages.{Message, closes, Ending, Finished, Closed, No_head, No_body}
+use Rattle.counter_http.specs.believed.Messages.{is_head_request}
+
+-- what a message asks for
+pub record Asked : Type 0 where
+  pub method : List ℕ
+  pub target : List ℕ
+  pub body : List ℕ
+  pub closes : Bool
+
+abbrev pub asked_by : Message → Asked
+asked_by m = record { method = m.head.method; target = m.head.target; body = m.body; closes = closes m.head }
+
+-- ---- answers
+
+pub record Answer : Type 0 where
+  pub code : ℕ
+  pub media : List ℕ
+  -- the methods that the route takes, where they are listed
+  pub allow : Option (List ℕ)
+  pub body : List ℕ
+
+unfoldable pub status_words : ℕ → List ℕ
+status_words code = code_digits code ++ codes " " ++ unwrap_or (reason_phrase code) []
+
+abbrev pub plain : List ℕ → Answer
+plain body = record { code = 200; media = codes "text/plain"; allow = None; body = body }
+
+abbrev pub octets : List ℕ → Answer
+octets body = record { code = 200; media = codes "application/octet-stream"; allow = None; body = body }
+
+-- an answer that says no more than its code
+abbrev pub bare : ℕ → Answer
+bare code =
+    record { code = code; media = codes "text/plain"; allow = None; body = status_words code ++ codes "\n" }
+
+abbrev pub not_allowed : List ℕ → Answer
+not_allowed methods = record (bare 405) { allow = Some methods }
+
+abbrev pub is_reading : List ℕ → Bool
+is_reading method = bytes_eq method (codes "GET") || bytes_eq method (codes "HEAD")
+
+-- a record was submitted
+abbrev pub posted_answer : List Command → List ℕ → Answer
+posted_answer log body =
+    if length body == REQUEST_BYTES
+    then octets (reply_spelling (reply log body))
+    else bare 400
+
+-- the account that 1 to 12 digits name, the first not 0
+abbrev pub is_account_long : List ℕ → Bool
+is_account_long id = nat_lt 0 (length id) && nat_le (length id) ACCOUNT_DIGITS && not (get_or id 0 0 == 48)
+
+abbrev pub account_named : List ℕ → Option ℕ
+account_named id =
+    if is_account_long id then option_and_then (whole_within 1 MAX_ACCOUNT) (number_of id) else None
+
+abbrev pub account_line : ℕ → ℤ → List ℕ
+account_line account balance =
+    codes "account " ++ decimal account ++ codes " balance " ++ signed_decimal balance ++ codes "\n"
+
+-- of an account that is open
+abbrev pub balance_answer : ℕ → Option ℤ → Answer
+balance_answer account None = bare 404
+balance_answer account (Some balance) = plain (account_line account balance)
+
+abbrev pub account_answer : List Command → Option ℕ → Answer
+account_answer log None = bare 404
+account_answer log (Some account) = balance_answer account (balance_after log account)
+
+abbrev pub spaces : ℕ → List ℕ
+spaces n = replicate n 32
+
+-- filled with spaces on the left
+abbrev pub right_in : ℕ → List ℕ → List ℕ
+right_in n text = spaces (n - length text) ++ text
+
+abbrev pub branch_line : ℕ → ℕ → ℤ → List ℕ
+branch_line branch accounts balance =
+    right_in 6 (decimal branch) ++ codes " " ++ right_in 7 (decimal accounts) ++ codes " "
+    ++ right_in 14 (signed_decimal balance) ++ codes "\n"
+
+abbrev pub line_if_open : List Command → ℕ → Option Terms → List ℕ
+line_if_open log branch None = []
+line_if_open log branch (Some terms) = branch_line branch terms.accounts (branch_balance (decided log) branch)
+
+-- the lines of the open branches up to one, ascending
+abbrev pub lines_up_to : List Command → ℕ → List ℕ
+lines_up_to log zero = []
+lines_up_to log (suc b) = lines_up_to log b ++ line_if_open log (suc b) (opened log (suc b))
+
+unfoldable pub branch_lines : List Command → List ℕ
+branch_lines log = lines_up_to log LAST_BRANCH
+
+abbrev pub answer_on : List Command → Option Route → Asked → Answer
+answer_on log None asked = bare 404
+answer_on log (Some Posting) asked =
+    if bytes_eq asked.method (codes "POST") then posted_answer log asked.body else not_allowed (codes "POST")
+answer_on log (Some Account) asked =
+    if is_reading asked.method then account_answer log (account_named (account_in (path_of asked.target)))
+    else not_allowed (codes "GET, HEAD")
+answer_on log (Some Branches) asked =
+    if is_reading asked.method then plain (branch_lines log) else not_allowed (codes "GET, HEAD")
+
+unfoldable pub answer_to : List Command → Asked → Answer
+answer_to log asked = answer_on log (route_of (path_of asked.target)) asked
+
+-- a record is sent
+abbrev pub is_record : Asked → Bool
+is_record asked = bytes_eq asked.method (codes "POST") && length asked.body == REQUEST_BYTES
+
+-- the record that a message submits, if it submits one
+abbrev pub submits : Option Route → Asked → Bool
+submits (Some Posting) asked = is_record asked
+submits _ asked = false
+
+unfoldable pub is_posting : Asked → Bool
+is_posting asked = submits (route_of (path_of asked.target)) asked
+
+-- ---- their bytes
+
+abbrev pub allow_line : Option (List ℕ) → List ℕ
+allow_line None = []
+allow_line (Some methods) = codes "Allow: " ++ methods ++ codes "\r\n"
+
+abbrev pub close_line : Bool → List ℕ
+close_line true = codes "Connection: close\r\n"
+close_line false = []
+
+abbrev pub body_if : Bool → List ℕ → List ℕ
+body_if true body = body
+body_if false body = []
+
+-- the bytes of an answer, with its body or without, and after which the connection ends or goes on
+unfoldable pub answer_text : Answer → Bool → Bool → List ℕ
+answer_text a shows closes =
+    codes "HTTP/1.1 " ++ status_words a.code ++ codes "\r\nContent-Type: " ++ a.media
+    ++ codes "\r\nContent-Length: " ++ decimal (length a.body) ++ codes "\r\n"
+    ++ allow_line a.allow ++ close_line closes ++ codes "\r\n" ++ body_if shows a.body
+
+abbrev pub shows : Asked → Bool
+shows asked = not (bytes_eq asked.method (codes "HEAD"))
+
+abbrev pub answer_of : List Command → Asked → List ℕ
+answer_of log asked = answer_text (answer_to log asked) (shows asked) asked.closes
+
+-- where the bank fails, whatever was asked
+abbrev pub unavailable : Asked → List ℕ
+unavailable asked = answer_text (bare 503) (shows asked) true
+
+-- the answer to what is no message
+abbrev pub refusal : Bool → List ℕ
+refusal shows = answer_text (bare 400) shows true
+
+abbrev pub final_answer : Ending → List (List ℕ)
+final_answer Finished = []
+final_answer Closed = []
+final_answer No_head = refusal true ∷ []
+final_answer (No_body h) = refusal (not (is_head_request h)) ∷ []

@@ -1,0 +1,32 @@
+-- Which route a path leads to.
+use Rattle.std.specs.Prelude.{ℕ, List, length, take, drop, Option, Some, None, Bool, not, ◌&&◌, ◌==◌, nat_lt}
+use Rattle.std.specs.Prelude.{codes, bytes_eq, if◌then◌else◌}
+use Rattle.std.specs.List.{list_any, before_first}
+use Rattle.std.specs.Str.{is_utf8}
+use Rattle.counter_http.specs.declared.routes.Route.{Route}
+use Rattle.counter_http.specs.declared.routes.Route.TheVariants.{Posting, Account, Branches}
+
+abbrev pub path_of : List ℕ → List ℕ
+path_of target = before_first (λ b. b == 63) target
+
+abbrev pub is_slash : ℕ → Bool
+is_slash b = b == 47
+
+-- `/account/`, and after it one part that isn't empty: a number as it is printed, so that 01 names no account
+abbrev pub is_account_path : List ℕ → Bool
+is_account_path path =
+    bytes_eq (take 9 path) (codes "/account/") &&
+    (nat_lt 9 (length path) && not (list_any is_slash (drop 9 path)))
+
+abbrev pub account_in : List ℕ → List ℕ
+account_in path = drop 9 path
+
+-- the route of a text
+abbrev pub route_named : List ℕ → Option Route
+route_named path =
+    if bytes_eq path (codes "/post") then Some Posting
+    else (if bytes_eq path (codes "/branches") then Some Branches
+    else (if is_account_path path then Some Account else None))
+
+unfoldable pub route_of : List ℕ → Option Route
+route_of path = if is_utf8 path then route_named path else None

@@ -1,0 +1,4 @@
+pub mod Draw
+pub mod Requests
+pub mod Records
+pub mod Drives

@@ -1,0 +1,5 @@
+pub mod Ranges
+pub mod Outcomes
+pub mod Records
+pub mod Spelling
+pub mod Reading

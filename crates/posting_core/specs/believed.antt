@@ -1,0 +1,4 @@
+pub mod Told
+pub mod Clock
+pub mod Batches
+pub mod Stream

@@ -1,0 +1,13 @@
+pub mod Numbering
+pub mod Commands
+pub mod Kept
+pub mod Cases
+pub mod Entries
+pub mod Tables
+pub mod Editions
+pub mod LookUps
+pub mod Runs
+pub mod Laws
+pub mod Counter
+pub mod Changes
+pub mod Sound

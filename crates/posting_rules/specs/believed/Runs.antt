@@ -1,0 +1,27 @@
+-- Commands one after another.
+use Rattle.std.specs.Prelude.{ℕ, List, [], ◌∷◌, map}
+use Rattle.message_records.specs.believed.Spelling.{reply_spelling}
+use Rattle.posting_rules.specs.believed.Commands.{Command, Open, Post}
+use Rattle.posting_rules.specs.believed.Entries.{reply}
+
+-- the log with these commands after it, the first of them first
+abbrev pub followed_by : List Command → List Command → List Command
+followed_by log [] = log
+followed_by log (c ∷ cs) = followed_by (c ∷ log) cs
+
+-- records that are posted at one moment
+abbrev pub posts : ℕ → List (List ℕ) → List Command
+posts moment records = map (Post moment) records
+
+-- the replies to what is posted, in order
+abbrev pub replies_to : List Command → List Command → List (List ℕ)
+replies_to log [] = []
+replies_to log (Open branch terms ∷ cs) = replies_to (Open branch terms ∷ log) cs
+replies_to log (Post moment bytes ∷ cs) = reply_spelling (reply log bytes) ∷ replies_to
+    (Post moment bytes ∷ log) cs
+
+-- no branch is opened among them
+abbrev pub ArePosts : List Command → Type 0
+ArePosts [] = Unit {0}
+ArePosts (Open branch terms ∷ cs) = ⊥
+ArePosts (Post moment bytes ∷ cs) = ArePosts cs

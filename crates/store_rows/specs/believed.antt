@@ -1,0 +1,9 @@
+pub mod BankTables
+pub mod Columns
+pub mod Failures
+pub mod Inserts
+pub mod Rules
+pub mod SeveralRows
+pub mod Sparing
+pub mod Stored
+pub mod View

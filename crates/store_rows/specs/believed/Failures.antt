@@ -1,0 +1,68 @@
+-- A call of `sqlite` that failed, and the error with which it did.
+use Rattle.std.specs.Prelude.{◌≡◌, ◌≢◌, ◌⊎◌, ℕ, ℤ, List, [], ◌∷◌, nat_eq, true, false}
+use Rattle.std.specs.Prelude.{Ok, Err}
+use Rattle.sqlite.specs.Order.{Row}
+use Rattle.sqlite.specs.State.{State, ExecutesInside, QueriesRowInside}
+use Rattle.sqlite.specs.State.{Fails}
+use Rattle.sqlite.specs.declared.error.Error.{Error}
+use Rattle.sqlite.specs.declared.error.Error.TheVariants.{QueryReturnedNoRows}
+use Rattle.sqlite.specs.declared.types.Value.TheVariants.{Int}
+use Rattle.sqlite_rules.specs.Lists.{Has}
+use Rattle.posting_rules.specs.declared.fault.Rule.{Rule}
+use Rattle.posting_rules.specs.declared.fault.Rule.TheVariants.{Account, Key, Meta, Teller}
+use Rattle.sql_meanings.specs.believed.StatementAnswers.{is_taken_key}
+use Rattle.store_rows.specs.declared.texts.TheConstants.{ADD_ACCOUNT, ADD_BRANCH, ADD_EIGHT_POSTINGS}
+use Rattle.store_rows.specs.declared.texts.TheConstants.{ADD_EIGHT_REQUESTS, ADD_FLOOR, ADD_HISTORY, ADD_REFERENCE}
+use Rattle.store_rows.specs.declared.texts.TheConstants.{ADD_REQUEST, ADD_TELLER, SET_ACCOUNT, SET_BRANCH}
+use Rattle.store_rows.specs.declared.texts.TheConstants.{SET_META, SET_TELLER}
+
+-- the call of `sqlite` that led from one state to the other answered this error
+pub data HasFailed (old new : State) (e : Error) : Type 0 where
+  -- a query failed: that it finds no row is no failure
+  Asking : (text : List ℕ) (params : Row) → QueriesRowInside text params old new (Err e)
+      → e ≢ QueryReturnedNoRows → HasFailed old new e
+  -- a row couldn't be changed, or a table not made
+  Changing : (text : List ℕ) (params : Row) → ExecutesInside 0 text params old new (Err e)
+      → HasFailed old new e
+  -- a row couldn't be put in: that its key is taken is no failure
+  Putting : (text : List ℕ) (params : Row) → ExecutesInside 0 text params old new (Err e)
+      → is_taken_key e ≡ false → HasFailed old new e
+  -- the store failed, as it was to commit or was asked what it has: that no transaction goes on is no failure
+  Committing : Fails old new ⊥ e → HasFailed old new e
+
+-- ---- damage that a statement meets as it writes
+
+-- the texts by which calls put rows in
+abbrev pub inserts : List (List ℕ)
+inserts =
+    ADD_BRANCH.now ∷ ADD_TELLER.now ∷ ADD_ACCOUNT.now ∷ ADD_FLOOR.now ∷ ADD_HISTORY.now ∷ ADD_REQUEST.now
+    ∷ ADD_REFERENCE.now ∷ ADD_EIGHT_POSTINGS.now ∷ ADD_EIGHT_REQUESTS.now ∷ []
+
+-- rows that are put in: by which text, with which values
+abbrev pub Additions : Type 1
+Additions = List ℕ → Row → Type 0
+
+-- by this text, which is one of them, a row was to be put in under a key, which is taken; or eight, of which one has
+-- a key that is taken
+abbrev pub TakesKey : List ℕ → Row → State → State → Type 0
+TakesKey text values old new = (key : ℤ) × (rest : Row) × (e : Error) × Has inserts text
+    × (values ≡ Int key ∷ rest)
+    × ExecutesInside 0 text values old new (Err e) × (is_taken_key e ≡ true)
+
+-- the text was to change one row, and did not
+abbrev pub MeetsNone : List ℕ → State → State → Type 0
+MeetsNone text old new = (params : Row) × (count : ℕ) × ExecutesInside 0 text params old new (Ok count)
+    × (nat_eq count 1 ≡ false)
+
+-- the text changes a row that the rule wants
+abbrev pub IsUpdateOf : Rule → List ℕ → Type 0
+IsUpdateOf Meta text = text ≡ SET_META.now
+IsUpdateOf Teller text = (text ≡ SET_TELLER.now) ⊎ (text ≡ SET_BRANCH.now)
+IsUpdateOf Account text = text ≡ SET_ACCOUNT.now
+IsUpdateOf _ text = ⊥
+
+-- the statement that led from one state to the other met that the rule is broken: a key of such rows is taken, or
+-- a row isn't there
+abbrev pub HasMet : Additions → State → State → Rule → Type 0
+HasMet Adds old new Key = (text : List ℕ) × (values : Row) × Adds text values × TakesKey text values old new
+HasMet Adds old new rule = (text : List ℕ) × IsUpdateOf rule text × MeetsNone text old new
