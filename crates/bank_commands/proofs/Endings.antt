@@ -1,14 +1,11 @@
 -- How a run ends where its words are no command.
 use Rattle.std.proofs.Common.{◌≡◌, ◌≢◌, ◌⊎◌, ◌∙◌, subst, sym, refl, inl, inr, ℕ, List, Option}
 use Rattle.std.specs.Io.KnownBytes.{Keeps}
-use Rattle.clap.specs.Words.{IsAmong, Text, fault_of}
-use Rattle.clap.specs.declared.error.kind.ErrorKind.{ErrorKind}
+use Rattle.clap.specs.{Words.IsAmong, Words.Text, Words.fault_of, declared.error.kind.ErrorKind.ErrorKind}
 use Rattle.clap.specs.declared.error.kind.ErrorKind.TheVariants.{DisplayHelp, DisplayVersion, OutOfMemory}
-use Rattle.command_line.specs.declared.status.Status.{Status}
-use Rattle.command_line.specs.declared.status.Status.TheVariants.{Done, Input, System}
-use Rattle.command_line.specs.declared.status.Status.TheVariants.{Usage}
+use Rattle.command_line.specs.{declared.status.Status.Status, CommandLine.bank_app}
+use Rattle.command_line.specs.declared.status.Status.TheVariants.{Done, Input, System, Usage}
 use Rattle.command_line.specs.Lines.{IsHelpOrVersion, IsShown}
-use Rattle.command_line.specs.CommandLine.{bank_app}
 use Rattle.bank_commands.specs.Running.{AreRefused}
 
 -- the error of words that are refused is no call for help

@@ -2,16 +2,12 @@
 use Rattle.std.proofs.Common.{◌≡◌, Result, arith, subst, sym}
 use Rattle.std.specs.Prelude.{IsErrAnd}
 use Rattle.std.proofs.lemmas.Result.{err_from_is_err_and}
-use Rattle.sqlite.specs.Effect.{Database}
-use Rattle.sqlite.specs.Held.{Held, state}
-use Rattle.sqlite.specs.State.{HasCleanDisk}
+use Rattle.sqlite.specs.{Effect.Database, Held.Held, Held.state, State.HasCleanDisk}
 use Rattle.sqlite.proofs.StateLemmas.{survives_then}
 use Rattle.sqlite_trees.specs.declared.store.Store.{Ghosts}
 use Rattle.store_rows.specs.believed.Sparing.{SparesOthers}
 use Rattle.bank_store.specs.believed.Seen.{connection_of, database_of, file_of}
-use Rattle.bank_store.specs.Sparing.{SparesWhileOpen}
-use Rattle.bank_store.specs.declared.bank.Bank.{Bank}
-use Rattle.bank_store.specs.declared.refused.Refused.{Refused}
+use Rattle.bank_store.specs.{Sparing.SparesWhileOpen, declared.bank.Bank.Bank, declared.refused.Refused.Refused}
 use Rattle.command_line.specs.declared.fault.CommandFault.{CommandFault}
 use Rattle.bank_reports.proofs.Spared.{idle_spares, read_spares}
 use Rattle.bank_commands.specs.Over.{IsFoundOver, IsMissedOver, IsRefusedOver}

@@ -1,56 +1,42 @@
 -- How a command ends over a connection, and what is said of it whatever bank is there.
-use Rattle.std.specs.Prelude.{⊤}
+use Rattle.std.specs.Prelude.{⊤, IfErr, IfOk, IsErrAnd, if◌then◌else◌}
 use Rattle.std.proofs.Common.{◌≡◌, ◌≢◌, ◌⊎◌, ◌∙◌, ◌≤◌, ap, inl, inr, refl, subst, sym, ℕ, List, Option, Result, Ok}
-use Rattle.std.proofs.Common.{Err}
-use Rattle.std.proofs.Common.{Bool, false, true, Some, None, OnErr, OnOk, IsErrOf, length, take}
-use Rattle.std.specs.Prelude.{IfErr, IfOk, IsErrAnd, if◌then◌else◌}
+use Rattle.std.proofs.Common.{Err, Bool, false, true, Some, None, OnErr, OnOk, IsErrOf, length, take}
 use Rattle.std.specs.Io.KnownBytes.{Appends, Keeps}
-use Rattle.std.proofs.KnownBytes.{Keeps-refl}
-use Rattle.std.proofs.lemmas.Result.{err_from_is_err_and}
+use Rattle.std.proofs.{KnownBytes.Keeps-refl, lemmas.Result.err_from_is_err_and}
 use Rattle.sqlite.specs.Held.{Held}
 use Rattle.sqlite_trees.specs.declared.store.Store.{Ghosts}
-use Rattle.posting_rules.specs.declared.fault.Fault.{Fault}
+use Rattle.posting_rules.specs.declared.{fault.Fault.Fault, open_fault.OpenFault.OpenFault}
 use Rattle.posting_rules.specs.believed.Counter.{Seen}
 use Rattle.posting_rules.specs.declared.fault.Fault.TheVariants as bank
-use Rattle.posting_rules.specs.declared.open_fault.OpenFault.{OpenFault}
 use Rattle.posting_rules.specs.declared.open_fault.OpenFault.TheVariants as opening
-use Rattle.posting_core.specs.believed.Stream.{Streamed}
-use Rattle.posting_core.specs.declared.stream.StreamFault.{StreamFault}
+use Rattle.posting_core.specs.{believed.Stream.Streamed, declared.stream.StreamFault.StreamFault}
 use Rattle.posting_core.specs.declared.stream.StreamFault.TheVariants as stream
 use Rattle.branch_loader.specs.declared.loader.Loaded.{Loaded}
-use Rattle.posting_sheets.specs.declared.fault.RepliesFault.{RepliesFault}
-use Rattle.posting_sheets.specs.declared.fault.SheetFault.{SheetFault}
+use Rattle.posting_sheets.specs.declared.fault.{RepliesFault.RepliesFault, SheetFault.SheetFault}
 use Rattle.report_contents.specs.declared.audit.Audit.{Audit}
 use Rattle.bank_reports.specs.declared.fault.ReportFault.{ReportFault}
 use Rattle.bank_reports.specs.declared.fault.ReportFault.TheVariants as report
-use Rattle.bank_replays.specs.declared.chain.Digest.{Digest}
-use Rattle.bank_replays.specs.declared.difference.Replay.{Replay}
+use Rattle.bank_replays.specs.declared.{chain.Digest.Digest, difference.Replay.Replay, fault.ReplayFault.ReplayFault}
 use Rattle.bank_replays.specs.declared.difference.Replay.TheVariants as replays
-use Rattle.bank_replays.specs.declared.fault.ReplayFault.{ReplayFault}
 use Rattle.bank_replays.specs.declared.fault.ReplayFault.TheVariants as written
-use Rattle.bank_store.specs.declared.bank.Bank.{Bank}
-use Rattle.bank_store.specs.declared.refused.Refused.{Refused}
-use Rattle.command_line.specs.Auditing.{Prints}
+use Rattle.bank_store.specs.declared.{bank.Bank.Bank, refused.Refused.Refused}
+use Rattle.command_line.specs.{Auditing.Prints, declared.fault.CommandFault.CommandFault}
+use Rattle.command_line.specs.{declared.reading.Command.Command, declared.status.Status.Status, Lines.driven_line}
+use Rattle.command_line.specs.{Lines.loaded_line, Statuses.status_of_loaded}
 use Rattle.command_line.specs.Faults.{IsOfFile, fault_of_opening, fault_of_stream, status_of}
-use Rattle.command_line.specs.declared.fault.CommandFault.{CommandFault}
 use Rattle.command_line.specs.declared.fault.CommandFault.TheVariants as fault
-use Rattle.command_line.specs.declared.reading.Command.{Command}
 use Rattle.command_line.specs.declared.reading.Command.TheVariants as commands
-use Rattle.command_line.specs.declared.status.Status.{Status}
 use Rattle.command_line.specs.declared.status.Status.TheVariants.{Differs, Done, Inconsistent, Input, System, Usage}
 use Rattle.load_driver.specs.believed.Drives.{Drives}
-use Rattle.load_driver.specs.declared.drive.Driven.{Driven}
-use Rattle.load_driver.specs.declared.drive_fault.DriveFault.{DriveFault}
-use Rattle.command_line.specs.Lines.{driven_line, loaded_line}
-use Rattle.command_line.specs.Statuses.{status_of_loaded}
+use Rattle.load_driver.specs.declared.{drive.Driven.Driven, drive_fault.DriveFault.DriveFault}
 use Rattle.command_line.specs.Translating.{ended_by_replies, ended_by_sheet}
 use Rattle.command_line.specs.Working.{DrivesOver, LoadsOver, MayTellListening, TellsDrive, TellsListening}
 use Rattle.command_line.specs.Working.{TellsListeningInPart, TellsLoad, done_after, ended_by_load}
 use Rattle.bank_commands.specs.Commands.{EndsPost, PrintsDrive, PrintsLoad, PrintsServe, StatesOver, TellsLine}
 use Rattle.bank_commands.specs.Commands.{ended_by, stated_by}
-use Rattle.bank_commands.specs.Over.{IsRefusedOver, RunsOver}
+use Rattle.bank_commands.specs.{Over.IsRefusedOver, Over.RunsOver, Running.PrintsNone, Running.Tells}
 use Rattle.bank_commands.specs.Replaying.{PrintsDigest, PrintsReplay, ended_by_writing, ended_with}
-use Rattle.bank_commands.specs.Running.{PrintsNone, Tells}
 use Rattle.bank_commands.proofs.Endings.{input_is_not_usage, system_is_not_usage}
 
 -- ---- over a connection

@@ -1,16 +1,12 @@
 -- What an open finds, by what the files held.
 use Rattle.std.proofs.Common.{◌≤◌, arith, inl, inr}
 use Rattle.std.specs.Prelude.{Result, Ok, Err, IfOk}
-use Rattle.sqlite.specs.Files.{HoldsDatabase}
-use Rattle.sqlite.specs.Start.{FindsIn}
-use Rattle.sqlite.specs.State.{State, Opens}
+use Rattle.sqlite.specs.{Files.HoldsDatabase, Start.FindsIn, State.State, State.Opens}
 use Rattle.sqlite_pool.proofs.ProbeLemmas.{not_blank}
-use Rattle.sqlite_pool.specs.Opening.{IsBlankFile}
-use Rattle.sqlite_pool.specs.Stored.{reserved}
+use Rattle.sqlite_pool.specs.{Opening.IsBlankFile, Stored.reserved}
 use Rattle.sqlite_trees.specs.Tree.{Trees}
 use Rattle.sqlite_wal.specs.Recovery.{Image}
-use Rattle.bank_files.specs.Opening.{IsMadeOver, IsOpenedOn}
-use Rattle.bank_files.specs.declared.new_files.TheConstants.{PAGE_BYTES}
+use Rattle.bank_files.specs.{Opening.IsMadeOver, Opening.IsOpenedOn, declared.new_files.TheConstants.PAGE_BYTES}
 
 -- files that hold a database, of whatever page size, aren't blank
 is_not_blank : (image : Image) (db : Trees) → HoldsDatabase image db → ¬ IsBlankFile PAGE_BYTES image

@@ -1,13 +1,10 @@
 -- What each call of a counter says, as a call of its life.
 use Rattle.std.proofs.Common.{◌≡◌, ◌≤◌, ◌⊎◌, ℕ, List, [], length, arith, refl, inl, inr}
 use Rattle.std.proofs.Math.Seq.{take-length}
-use Rattle.posting_rules.specs.{declared.fault.Fault.Fault, believed.Commands.Command, believed.Commands.AreCommands}
-use Rattle.posting_rules.specs.{believed.Counter.Seen}
-use Rattle.posting_rules.specs.{believed.Counter.StandsAt, believed.Counter.LeavesOnly, believed.Counter.LeavesNoMore}
-use Rattle.posting_rules.specs.{believed.Counter.ShowsPrefix}
-use Rattle.posting_rules.specs.{believed.Counter.ShowsLog, believed.Counter.Takes, believed.Counter.Refuses}
-use Rattle.posting_rules.specs.{believed.Runs.followed_by}
-use Rattle.posting_rules.specs.{believed.Tables.AreTablesOf}
+use Rattle.posting_rules.specs.declared.fault.Fault.{Fault}
+use Rattle.posting_rules.specs.believed.{Commands.Command, Commands.AreCommands, Runs.followed_by, Tables.AreTablesOf}
+use Rattle.posting_rules.specs.believed.Counter.{Seen, StandsAt, LeavesOnly, LeavesNoMore, ShowsPrefix, ShowsLog}
+use Rattle.posting_rules.specs.believed.Counter.{Takes, Refuses}
 use Rattle.posting_rules.specs.declared.fault.Fault.TheVariants.{Memory, Store, Down, Damaged}
 use Rattle.posting_rules.proofs.Remaining.{leaves_still, leaves_weaker}
 use Rattle.bank_lives.specs.believed.Lives.{IsCall, EndsLife, given_to}

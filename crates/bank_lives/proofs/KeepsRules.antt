@@ -1,34 +1,29 @@
 -- The tables of a log keep each of the nine rules.
-use Rattle.std.proofs.Common.{◌≡◌, ◌≤◌, ℕ, zero, suc, ℤ, pos, Bool, true, false, List, [], ◌∷◌, length, map}
-use Rattle.std.proofs.Common.{Option, Some, None, option_map, refl, sym, ap, subst, ◌∙◌, arith}
+use Rattle.std.proofs.Common.{◌≡◌, ◌≤◌, ℕ, zero, suc, ℤ, pos, Bool, true, false, List, [], ◌∷◌, length, map, Option}
+use Rattle.std.proofs.Common.{Some, None, option_map, refl, sym, ap, subst, ◌∙◌, arith}
 use Rattle.std.specs.Prelude.{◌&&◌, cond, ◌≤ℤ◌, nat_le, is_some, option_and_then}
 use Rattle.std.specs.List.{AllByRecursion, Contains}
 use Rattle.message_records.specs.{believed.Ranges.whole_within, declared.limits.TheConstants.MAX_BRANCH}
 use Rattle.posting_rules.specs.believed.Commands.{Command, AreCommands, Terms, is_within}
 use Rattle.posting_rules.specs.believed.Numbering.{branch_of_teller, branch_of_account, place_of_account}
 use Rattle.posting_rules.specs.{Damage.IsUndamaged, believed.Entries.decided, declared.fault.Rule.Rule}
+use Rattle.posting_rules.specs.{LookUps.terms_of_branch, declared.rows.ReferenceRow.ReferenceRow}
 use Rattle.posting_rules.specs.believed.LookUps.{balance_of_account, floor_in, lowest_of}
-use Rattle.posting_rules.specs.LookUps.{terms_of_branch}
 use Rattle.posting_rules.specs.believed.Tables.{Tables, AreTablesOf, row_at, account_key, branch_key, history_key}
-use Rattle.posting_rules.specs.believed.Tables.{floor_key}
-use Rattle.posting_rules.specs.believed.Tables.{reference_key, request_key, teller_key}
+use Rattle.posting_rules.specs.believed.Tables.{floor_key, reference_key, request_key, teller_key}
 use Rattle.posting_rules.specs.declared.fault.Rule.TheVariants.{Meta, Teller, Account, Balance, Request, Value, Key}
 use Rattle.posting_rules.specs.declared.fault.Rule.TheVariants.{Floor, Reference}
 use Rattle.posting_rules.specs.declared.rows.{AccountRow.AccountRow, BranchRow.BranchRow, FloorRow.FloorRow}
-use Rattle.posting_rules.specs.declared.rows.{HistoryRow.HistoryRow, ReferenceRow.ReferenceRow}
-use Rattle.posting_rules.specs.declared.rows.{RequestRow.RequestRow, TellerRow.TellerRow}
+use Rattle.posting_rules.specs.declared.rows.{HistoryRow.HistoryRow, RequestRow.RequestRow, TellerRow.TellerRow}
 use Rattle.posting_rules.proofs.TablesWithRecord.{history_row_past, reference_row_past, request_row_past}
 use Rattle.posting_rules.proofs.Undamaged.{undamaged}
 use Rattle.sql_meanings.specs.believed.Entries.{Entry}
-use Rattle.store_rows.specs.believed.Columns.{number_at}
+use Rattle.store_rows.specs.{believed.Columns.number_at, Rules.stored_rows, declared.metas.TheConstants.VERSION}
 use Rattle.store_rows.specs.believed.Rules.{AccountKeeps, BranchKeeps, EachKeeps, FloorKeeps, HasDecided, IsNext}
 use Rattle.store_rows.specs.believed.Rules.{IsWithinCount, KeepsRule, PostingKeeps, ReferenceKeeps, RequestKeeps}
-use Rattle.store_rows.specs.believed.Rules.{TellerKeeps}
-use Rattle.store_rows.specs.believed.Rules.{branch_under, floor_under, row_under}
-use Rattle.store_rows.specs.Rules.{stored_rows}
+use Rattle.store_rows.specs.believed.Rules.{TellerKeeps, branch_under, floor_under, row_under}
 use Rattle.store_rows.specs.believed.View.{account_entry, branch_entry, floor_entry, history_entry, reference_entry}
 use Rattle.store_rows.specs.believed.View.{request_entry, teller_entry}
-use Rattle.store_rows.specs.declared.metas.TheConstants.{VERSION}
 use Rattle.store_rows.proofs.RowLists.{found_row, taken_row_key}
 use Rattle.bank_transactions.proofs.FittingAccounts.{le_number, le_test, same_entry}
 use Rattle.bank_transactions.proofs.SoundRows.{no_branch_beyond, no_floor_beyond, not_below}

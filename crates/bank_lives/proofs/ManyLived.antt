@@ -2,14 +2,12 @@
 use Rattle.std.proofs.Common.{◌≡◌, ◌≤◌, ℕ, List, [], ◌∷◌, ◌++◌, length, take, refl, sym, subst, arith, inl, inr}
 use Rattle.std.proofs.Math.Seq.{take-length}
 use Rattle.posting_rules.specs.{believed.Commands.Command, believed.Entries.decided, Laws.NoneShares}
-use Rattle.posting_rules.specs.{believed.Runs.followed_by}
+use Rattle.posting_rules.specs.{believed.Runs.followed_by, believed.Tables.Tables, believed.Tables.AreTablesOf}
 use Rattle.posting_rules.specs.believed.Counter.{Seen, StandsAt, LeavesOnly, ShowsPrefix, ShowsLog}
-use Rattle.posting_rules.specs.believed.Tables.{Tables, AreTablesOf}
 use Rattle.posting_rules.proofs.{Remaining.leaves_weaker, Requests.are_new, Requests.none_shares}
 use Rattle.bank_lives.specs.believed.Lives.{EndsLife, Life}
 use Rattle.bank_lives.specs.believed.ManyLives.{Given, IsOpenedOn, Keeps, LeavesShown, Lives, ShowsKept, carried_over}
-use Rattle.bank_lives.specs.believed.ManyLives.{created}
-use Rattle.bank_lives.specs.believed.ManyLives.{found, released, replayed, stopped, unopened}
+use Rattle.bank_lives.specs.believed.ManyLives.{created, found, released, replayed, stopped, unopened}
 use Rattle.bank_lives.proofs.Lived.{end_leaves, life_down, life_given, life_honest, life_lives}
 
 -- each request is posted once, whatever led to a log

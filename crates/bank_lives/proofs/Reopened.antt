@@ -3,8 +3,7 @@ use Rattle.std.proofs.Common.{◌≡◌, ◌≤◌, ℕ, List, length, take, Res
 use Rattle.std.specs.Prelude.{IfOk, IfErr}
 use Rattle.sqlite.specs.State.{HasCleanDisk, State, Survives, Opens}
 use Rattle.sqlite.specs.{Tree.Trees, Effect.Database, Held.state}
-use Rattle.posting_rules.specs.{believed.Commands.Command, believed.Runs.followed_by, believed.Tables.Tables}
-use Rattle.posting_rules.specs.{believed.Laws.IsConsistent}
+use Rattle.posting_rules.specs.believed.{Commands.Command, Runs.followed_by, Tables.Tables, Laws.IsConsistent}
 use Rattle.posting_rules.specs.believed.Counter.{Seen, StandsAt, ShowsPrefix}
 use Rattle.store_rows.specs.believed.View.{Shows, ShowsTrees}
 use Rattle.sqlite_trees.specs.declared.store.Store.{Ghosts}
@@ -12,8 +11,7 @@ use Rattle.bank_store.specs.Connections.{conn_seen, state_in}
 use Rattle.bank_store.specs.{believed.Seen.seen_in, declared.bank.Bank.Bank, declared.refused.Refused.Refused}
 use Rattle.bank_store.proofs.JustOpened.{stands_opened}
 use Rattle.posting_rules.proofs.Consistent.{consistent}
-use Rattle.bank_lives.specs.{believed.Lives.IsFoundAgain, believed.ManyLives.Given, believed.ManyLives.IsKept}
-use Rattle.bank_lives.specs.{believed.ManyLives.Keeps}
+use Rattle.bank_lives.specs.believed.{Lives.IsFoundAgain, ManyLives.Given, ManyLives.IsKept, ManyLives.Keeps}
 use Rattle.bank_lives.proofs.ManyLived.{Begins, each_once}
 
 -- one that was opened on trees which show a prefix stands there

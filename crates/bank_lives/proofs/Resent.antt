@@ -2,13 +2,11 @@
 -- are replied.
 use Rattle.std.proofs.Common.{◌≡◌, ◌≤◌, ℕ, zero, suc, ◌+◌, List, [], ◌∷◌, ◌++◌, length, take, drop, Option, refl, sym}
 use Rattle.std.proofs.Common.{ap, subst, ◌∙◌, arith, append_assoc, append-nil, take_all, take-take, inl, inr}
-use Rattle.message_records.specs.{believed.Reading.request_of, believed.Records.ReplyFields}
-use Rattle.message_records.specs.{believed.Spelling.reply_spelling}
+use Rattle.message_records.specs.believed.{Reading.request_of, Records.ReplyFields, Spelling.reply_spelling}
 use Rattle.posting_rules.specs.believed.Commands.{Command, Open, Post, Terms, opened}
 use Rattle.posting_rules.specs.believed.Entries.{DecidedRequest, decided, reply, reply_given, with_record}
-use Rattle.posting_rules.specs.{Resends.Place, Resends.Skips, believed.Runs.followed_by, believed.Runs.posts}
-use Rattle.posting_rules.specs.{believed.Runs.replies_to}
-use Rattle.posting_rules.specs.{believed.Runs.ArePosts}
+use Rattle.posting_rules.specs.Resends.{Place, Skips}
+use Rattle.posting_rules.specs.believed.Runs.{followed_by, posts, replies_to, ArePosts}
 use Rattle.posting_rules.proofs.Resends.{adds_nothing, posts_both}
 use Rattle.posting_rules.proofs.Sequence.{after-append, one_reply_each}
 use Rattle.posting_core.specs.believed.Stream.{posted_records}

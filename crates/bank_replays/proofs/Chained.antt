@@ -15,8 +15,7 @@ use Rattle.walked_rows.specs.References.{text_after, text_entry}
 use Rattle.bank_replays.specs.{Came.CameAs, Came.GotReply, Came.moment_of, declared.chain.Digest.Digest}
 use Rattle.bank_replays.specs.Digests.{GoesOnBy, IsDigestIn, chained, digest_from}
 use Rattle.bank_replays.specs.Requests.{AnsweredRequest, IsRequestRow, answered_in, moment_under, outcome_in}
-use Rattle.bank_replays.specs.Requests.{reply_in}
-use Rattle.bank_replays.specs.Requests.{request_in}
+use Rattle.bank_replays.specs.Requests.{reply_in, request_in}
 
 -- ---- what is read of a row
 

@@ -6,10 +6,9 @@ use Rattle.std.proofs.lemmas.{Bool.cases_Bool, Int.ints, List.Concat.flat_map-ap
 use Rattle.std.proofs.lemmas.List.{drop-append-le, drop_all, length-append, map-append}
 use Rattle.sqlite.specs.Effect.{Database}
 use Rattle.message_records.specs.believed.Spelling.{request_spelling}
-use Rattle.posting_rules.specs.{believed.Commands.Command, believed.Entries.DecidedRequest, believed.Entries.decided}
-use Rattle.posting_rules.specs.{believed.Tables.AreTablesOf}
-use Rattle.posting_rules.specs.{believed.Tables.Tables, believed.Tables.request_row_of}
-use Rattle.posting_rules.specs.{declared.rows.RequestRow.RequestRow}
+use Rattle.posting_rules.specs.believed.{Commands.Command, Entries.DecidedRequest, Entries.decided}
+use Rattle.posting_rules.specs.believed.Tables.{AreTablesOf, Tables, request_row_of}
+use Rattle.posting_rules.specs.declared.rows.RequestRow.{RequestRow}
 use Rattle.sql_meanings.specs.believed.Entries.{Entry}
 use Rattle.store_rows.specs.believed.View.{Shows}
 use Rattle.walked_rows.specs.KeptRows.{KeptItem}

@@ -1,7 +1,6 @@
 -- Rows that are handed on, one more.
 use Rattle.std.proofs.Common.{◌≡◌, ◌≤◌, ◌+◌, ◌++◌, ℕ, List, [], ◌∷◌, map, take, drop, length, Ok, Err, Some, None}
-use Rattle.std.proofs.Common.{refl}
-use Rattle.std.proofs.Common.{sym, ap, ◌∙◌, append-nil, arith}
+use Rattle.std.proofs.Common.{refl, sym, ap, ◌∙◌, append-nil, arith}
 use Rattle.std.specs.Prelude.{◌≢◌}
 use Rattle.std.proofs.lemmas.List.{length-append, length-map, length-take, take-append-drop, take-append-le, take_all}
 use Rattle.posting_rules.specs.declared.fault.Rule.{Rule}

@@ -10,10 +10,8 @@ use Rattle.posting_rules.specs.{believed.Cases.balance_shown, believed.Cases.kep
 use Rattle.posting_rules.specs.{declared.rows.HistoryRow.HistoryRow, declared.rows.RequestRow.RequestRow}
 use Rattle.posting_rules.specs.believed.Entries.{DecidedRequest, decided, is_posted, kept_fields}
 use Rattle.posting_rules.specs.believed.Tables.{AreTablesOf, Tables, history_key, history_row, history_row_of}
-use Rattle.posting_rules.specs.believed.Tables.{reference_key}
-use Rattle.posting_rules.specs.believed.Tables.{reference_row, reference_row_of, request_key, request_row}
-use Rattle.posting_rules.specs.believed.Tables.{request_row_of}
-use Rattle.posting_rules.specs.believed.Tables.{row_at}
+use Rattle.posting_rules.specs.believed.Tables.{reference_key, reference_row, reference_row_of, request_key}
+use Rattle.posting_rules.specs.believed.Tables.{request_row, request_row_of, row_at}
 use Rattle.sql_meanings.specs.believed.Entries.{Entry, Rise}
 use Rattle.store_rows.specs.believed.View.{Shows, history_entry, reference_entry, request_entry}
 use Rattle.walked_rows.specs.KeptRows.{HasKept, KeptItem, kept_all, kept_with}

@@ -1,11 +1,10 @@
 -- The lines of a statement, over the postings that a file has and after a log.
-use Rattle.std.proofs.Common.{◌≡◌, ◌<◌, ◌≤◌, ◌+◌, ◌++◌, ℕ, Bool, true, false, cond}
-use Rattle.std.proofs.Common.{List, [], ◌∷◌, length, map, refl, sym, ap, subst, ◌∙◌, arith}
+use Rattle.std.proofs.Common.{◌≡◌, ◌<◌, ◌≤◌, ◌+◌, ◌++◌, ℕ, Bool, true, false, cond, List, [], ◌∷◌, length, map, refl}
+use Rattle.std.proofs.Common.{sym, ap, subst, ◌∙◌, arith}
 use Rattle.std.specs.Prelude.{ℤ, pos, ◌+ℤ◌, nat_abs}
 use Rattle.std.proofs.{lemmas.Int.ints, lemmas.List.length-append, lemmas.List.map-append, Math.IntN.+ℤ_assoc}
 use Rattle.message_records.specs.declared.limits.TheConstants.{MAX_BALANCE}
-use Rattle.posting_rules.specs.{believed.Entries.DecidedRequest, believed.Entries.account_balance}
-use Rattle.posting_rules.specs.{believed.Laws.total}
+use Rattle.posting_rules.specs.believed.{Entries.DecidedRequest, Entries.account_balance, Laws.total}
 use Rattle.walked_rows.specs.declared.stated.StatedPosting.{StatedPosting}
 use Rattle.report_contents.specs.StatementText.{posting_line, posting_lines}
 use Rattle.report_contents.proofs.OneMore.{total-snoc}

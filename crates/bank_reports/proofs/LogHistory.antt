@@ -9,10 +9,9 @@ use Rattle.message_records.specs.{believed.Records.RequestFields, believed.Readi
 use Rattle.posting_rules.specs.declared.{rows.HistoryRow.HistoryRow, judgments.Verdict.Verdict}
 use Rattle.posting_rules.specs.declared.judgments.Verdict.TheVariants.{Unkept, Again, Refused, Posted}
 use Rattle.posting_rules.specs.believed.Commands.{Command, Open, Post, opened, Terms}
-use Rattle.posting_rules.specs.{believed.Cases.case_of, believed.Entries.DecidedRequest, believed.Entries.is_posted}
-use Rattle.posting_rules.specs.{believed.Entries.facts}
-use Rattle.posting_rules.specs.{believed.Entries.account_balance, believed.Entries.with_verdict}
-use Rattle.posting_rules.specs.{believed.Entries.with_record, believed.Entries.decided}
+use Rattle.posting_rules.specs.believed.Cases.{case_of}
+use Rattle.posting_rules.specs.believed.Entries.{DecidedRequest, is_posted, facts, account_balance, with_verdict}
+use Rattle.posting_rules.specs.believed.Entries.{with_record, decided}
 use Rattle.posting_rules.specs.believed.Tables.{row_at, history_key, history_row, history_row_of}
 use Rattle.posting_rules.proofs.BalanceLimits.{stays_within}
 use Rattle.bank_reports.proofs.RisingRows.{Rising, all-append, all_as, find_after, find_before, not_under}

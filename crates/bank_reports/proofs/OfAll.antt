@@ -8,8 +8,7 @@ use Rattle.sqlite_trees.specs.declared.store.Store.{Ghosts}
 use Rattle.posting_rules.specs.declared.fault.{Fault.Fault, Rule.Rule}
 use Rattle.report_contents.specs.Beside.{AuditRows}
 use Rattle.bank_store.specs.{believed.Seen.connection_of, believed.Seen.database_of, declared.bank.Bank.Bank}
-use Rattle.bank_store.specs.{declared.walks.Walk.Walk}
-use Rattle.bank_store.specs.Walking.{BeginsWalk, items_to_come, lent}
+use Rattle.bank_store.specs.{declared.walks.Walk.Walk, Walking.BeginsWalk, Walking.items_to_come, Walking.lent}
 use Rattle.bank_reports.specs.{Adding.AddsToSums, Files.HasBroken, declared.sums.Sums.Sums}
 use Rattle.bank_reports.specs.Failures.{HasFailedToRead, SaysOf}
 

@@ -11,8 +11,7 @@ use Rattle.posting_rules.specs.declared.rows.{HistoryRow.HistoryRow, ReferenceRo
 use Rattle.posting_rules.specs.believed.Commands.{Command}
 use Rattle.posting_rules.specs.believed.Entries.{DecidedRequest, is_posted, decided, account_balance}
 use Rattle.posting_rules.specs.believed.Tables.{Tables, AreTablesOf, history_key, history_row_of, reference_key}
-use Rattle.posting_rules.specs.believed.Tables.{reference_row}
-use Rattle.posting_rules.specs.believed.Tables.{reference_row_of, row_at}
+use Rattle.posting_rules.specs.believed.Tables.{reference_row, reference_row_of, row_at}
 use Rattle.sql_meanings.specs.believed.Entries.{Rise, Entry as Stored}
 use Rattle.sql_meanings.proofs.Contents.{held}
 use Rattle.store_rows.specs.believed.BankTables.{bank_tables, history as history_table, reference as reference_table}

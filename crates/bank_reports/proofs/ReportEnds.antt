@@ -1,9 +1,8 @@
 -- How a report ends: never in two ways, and what the refusal that ended it says.
 use Rattle.std.proofs.Common.{◌≡◌, ℕ, zero, suc, List, [], take, Ok, Err, Result, refl, subst}
 use Rattle.std.specs.Prelude.{OnErr, OnOk}
-use Rattle.posting_rules.specs.declared.fault.Fault.{Fault}
-use Rattle.posting_rules.specs.{declared.fault.Rule.Rule, believed.Commands.Command, believed.Runs.followed_by}
-use Rattle.posting_rules.specs.{believed.Tables.AreTablesOf}
+use Rattle.posting_rules.specs.{declared.fault.Fault.Fault, declared.fault.Rule.Rule, believed.Commands.Command}
+use Rattle.posting_rules.specs.{believed.Runs.followed_by, believed.Tables.AreTablesOf}
 use Rattle.posting_rules.specs.declared.fault.Fault.TheVariants.{Memory, Store, Down, Damaged}
 use Rattle.posting_rules.specs.believed.Counter.{Seen, ShowsLog, StandsAt, Refuses, LeavesNoMore, LeavesOnly}
 use Rattle.bank_reports.specs.{declared.fault.ReportFault.ReportFault, Postings.HasAnswered, Postings.HasWritten}

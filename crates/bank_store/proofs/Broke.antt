@@ -6,11 +6,9 @@ use Rattle.posting_rules.specs.{declared.fault.Fault.Fault, declared.fault.Rule.
 use Rattle.store_rows.specs.believed.Failures.{Additions}
 use Rattle.store_rows.specs.declared.fault.TableFault.{TableFault, TheVariants.Sqlite, TheVariants.Damaged}
 use Rattle.bank_transactions.specs.believed.Causes.{Damage, IsBrokenOrMet}
-use Rattle.bank_transactions.specs.Causes.{IsFirstBroken}
-use Rattle.bank_transactions.specs.Doing.{Transacts, TransactsBy}
+use Rattle.bank_transactions.specs.{Causes.IsFirstBroken, Doing.Transacts, Doing.TransactsBy}
 use Rattle.bank_transactions.proofs.Blamed.{comes, met_within, same_moment}
-use Rattle.bank_store.specs.believed.Down.{OfDamage}
-use Rattle.bank_store.specs.Down.{GoesDown}
+use Rattle.bank_store.specs.{believed.Down.OfDamage, Down.GoesDown}
 
 module _ {S X : Type 0} {So : Tables → Type 0} {after : Tables → Tables} {wanted : Tables → X} (g : Ghosts S)
     (old mid new : Held S)

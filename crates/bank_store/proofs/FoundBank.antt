@@ -13,11 +13,9 @@ use Rattle.posting_rules.specs.declared.fault.Rule.TheVariants.{Floor, Reference
 use Rattle.posting_rules.proofs.Undamaged.{undamaged}
 use Rattle.sql_meanings.proofs.Contents.{each_defined}
 use Rattle.sql_meanings.specs.believed.Entries.{Entry}
-use Rattle.store_rows.specs.{believed.Columns.meta_in, Probes.all_probes, Probes.probe_of}
-use Rattle.store_rows.specs.{believed.BankTables.bank_tables}
-use Rattle.store_rows.specs.{Statements.HasOtherValue, View.HoldsRows, believed.View.Shows, View.contents}
-use Rattle.store_rows.specs.{believed.View.meta_entry}
-use Rattle.store_rows.specs.{declared.metas.StoredMeta.StoredMeta, declared.metas.TheConstants.VERSION}
+use Rattle.store_rows.specs.believed.{Columns.meta_in, BankTables.bank_tables, View.Shows, View.meta_entry}
+use Rattle.store_rows.specs.{Probes.all_probes, Probes.probe_of, Statements.HasOtherValue, View.HoldsRows}
+use Rattle.store_rows.specs.{View.contents, declared.metas.StoredMeta.StoredMeta, declared.metas.TheConstants.VERSION}
 use Rattle.store_rows.specs.declared.probes.BankTable.TheVariants as table
 use Rattle.store_rows.specs.believed.BankTables as bank
 use Rattle.bank_store.specs.Connections.{IsAsBefore, IsReadOnly}

@@ -5,9 +5,8 @@ use Rattle.std.specs.Prelude.{◌⊎◌, IfErr, OnOk}
 use Rattle.std.specs.List.{take-map}
 use Rattle.sqlite.specs.{Table.Table, Effect.Database, State.State}
 use Rattle.sqlite_rules.specs.Lists.{Has}
-use Rattle.posting_rules.specs.believed.Commands.{Command, AreCommands}
-use Rattle.posting_rules.specs.{Editions.AreTablesIn, believed.Editions.plain, believed.Tables.Tables}
-use Rattle.posting_rules.specs.{believed.Tables.AreTablesOf}
+use Rattle.posting_rules.specs.{believed.Commands.Command, believed.Commands.AreCommands, Editions.AreTablesIn}
+use Rattle.posting_rules.specs.{believed.Editions.plain, believed.Tables.Tables, believed.Tables.AreTablesOf}
 use Rattle.posting_rules.specs.{declared.limits.TheConstants.MAX_DECIDED, declared.open_fault.OpenFault.OpenFault}
 use Rattle.posting_rules.specs.declared.fault.Rule.TheVariants.{Meta, Teller, Account, Balance, Request, Value, Key}
 use Rattle.posting_rules.specs.declared.fault.Rule.TheVariants.{Floor, Reference}
@@ -20,10 +19,9 @@ use Rattle.sql_meanings.specs.believed.Entries.{Entry}
 use Rattle.store_rows.specs.believed.BankTables as bank
 use Rattle.store_rows.specs.{believed.BankTables.bank_tables, believed.Columns.meta_in, Creation.no_rows}
 use Rattle.store_rows.specs.{declared.metas.StoredMeta.StoredMeta, declared.metas.TheConstants.VERSION}
+use Rattle.store_rows.specs.{Probes.all_tables, Probes.probe_of, View.HoldsRows}
 use Rattle.store_rows.specs.Migration.{IsEarlier, ShowsLess, TakesLacking, lacking}
-use Rattle.store_rows.specs.Probes.{all_tables, probe_of}
 use Rattle.store_rows.specs.believed.View.{Shows, contents_of, meta_entry, rows_of, tables_of}
-use Rattle.store_rows.specs.View.{HoldsRows}
 use Rattle.store_rows.specs.declared.probes.BankTable.TheVariants as table
 use Rattle.store_rows.proofs.Lacking.{lacking_refused}
 use Rattle.bank_store.specs.{Connections.IsAsBefore, Connections.IsReadOnly, FoundBank.BankIsFound, FoundBank.MetaIs}

@@ -12,14 +12,11 @@ use Rattle.posting_rules.proofs.CounterCalls.{call_answered, call_refused, call_
 use Rattle.store_rows.specs.believed.Failures.{Additions}
 use Rattle.store_rows.specs.declared.fault.TableFault.{TableFault, TheVariants.Sqlite, TheVariants.Damaged}
 use Rattle.bank_transactions.specs.{believed.Additions.AnyRow, Doing.Transacts, Doing.TransactsBy}
-use Rattle.bank_transactions.specs.believed.Causes.{Damage, IsBrokenOrMet}
-use Rattle.bank_transactions.specs.Causes.{IsFirstBroken}
+use Rattle.bank_transactions.specs.{believed.Causes.Damage, believed.Causes.IsBrokenOrMet, Causes.IsFirstBroken}
 use Rattle.bank_transactions.proofs.Blamed.{between_also}
 use Rattle.bank_store.specs.believed.Down.{IsBankCall, KeepsCause, OfDamage, WasBrokenOrMet, bank_reason}
-use Rattle.bank_store.specs.Down.{GoesDown}
+use Rattle.bank_store.specs.{Down.GoesDown, Seen.fault_of, declared.bank.Bank.Bank}
 use Rattle.bank_store.specs.believed.Seen.{bank_seen, cause_of, connection_of, database_of}
-use Rattle.bank_store.specs.Seen.{fault_of}
-use Rattle.bank_store.specs.declared.bank.Bank.{Bank}
 use Rattle.bank_store.proofs.Broke.{consulted, transacted}
 use Rattle.bank_store.proofs.Countered.{HoldsOfLogs, failed_between, keeps_file, kept_error, no_error, refuses}
 

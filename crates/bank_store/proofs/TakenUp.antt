@@ -2,12 +2,11 @@
 use Rattle.std.proofs.Common.{List, sym, subst, inl, inr}
 use Rattle.sqlite.specs.{Held.Held, Held.state, State.State, State.HasCleanDisk, State.Survives, Tree.Trees}
 use Rattle.sqlite_trees.specs.declared.store.Store.{Ghosts}
-use Rattle.posting_rules.specs.{believed.Commands.Command, believed.Counter.LeavesOnly, believed.Counter.ShowsLog}
-use Rattle.posting_rules.specs.{believed.Tables.Tables}
+use Rattle.posting_rules.specs.believed.{Commands.Command, Counter.LeavesOnly, Counter.ShowsLog, Tables.Tables}
 use Rattle.store_rows.specs.believed.View.{Shows}
-use Rattle.bank_store.specs.{Connections.IsAsBefore, Connections.conn_seen, FoundBank.BankIsFound}
-use Rattle.bank_store.specs.{FoundBank.IsTakenUp, believed.Seen.bank_seen, believed.Seen.file_of}
-use Rattle.bank_store.specs.{believed.Seen.seen_in, declared.bank.Bank.Bank}
+use Rattle.bank_store.specs.Connections.{IsAsBefore, conn_seen}
+use Rattle.bank_store.specs.{FoundBank.BankIsFound, FoundBank.IsTakenUp, declared.bank.Bank.Bank}
+use Rattle.bank_store.specs.believed.Seen.{bank_seen, file_of, seen_in}
 
 module _ (old new : State) (D E : Type 0) where
   still_shown : (log : List Command) → IsAsBefore old new → ShowsLog (seen_in old D) log

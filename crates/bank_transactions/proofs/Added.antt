@@ -2,23 +2,17 @@
 use Rattle.std.proofs.Common.{◌≡◌, ◌∙◌, ℕ, List, [], ◌∷◌, length, map, Ok, refl, sym, ap, subst, inl, inr}
 use Rattle.std.proofs.lemmas.List.{length-map}
 use Rattle.std.specs.List.{AllByRecursion}
-use Rattle.sqlite.specs.Effect.{Database}
-use Rattle.sqlite.specs.Order.{Row}
+use Rattle.sqlite.specs.{Effect.Database, Order.Row}
 use Rattle.sqlite_rules.specs.Lists.{Has}
-use Rattle.message_records.specs.believed.Reading.{request_of}
-use Rattle.message_records.specs.believed.Records.{RequestFields}
-use Rattle.posting_batch.specs.believed.Batch.{IsNextOrdinal}
+use Rattle.message_records.specs.believed.{Reading.request_of, Records.RequestFields}
+use Rattle.posting_batch.specs.{believed.Batch.IsNextOrdinal, Judging.overlay_with, Overlay.Overlay, View.IsMadeOf}
+use Rattle.posting_batch.specs.{View.reads_of, View.view, declared.batch.Batch.Batch}
 use Rattle.posting_batch.specs.Batch.{HasNextOrdinals, covering, no_slots}
-use Rattle.posting_batch.specs.Judging.{overlay_with}
-use Rattle.posting_batch.specs.Overlay.{Overlay}
-use Rattle.posting_batch.specs.View.{IsMadeOf, reads_of, view}
-use Rattle.posting_batch.specs.declared.batch.Batch.{Batch}
 use Rattle.posting_batch.proofs.NextOrdinals.{HasNoRow, next_one, none_covered, none_new}
 use Rattle.store_rows.specs.believed.Rules.{OfRows}
 use Rattle.bank_transactions.specs.believed.Additions.{AddsForRecords, FollowsCount}
 use Rattle.bank_transactions.specs.Additions.{AddsNew, adds_so}
-use Rattle.bank_transactions.specs.Filling.{emptied}
-use Rattle.bank_transactions.specs.believed.Stored.{HoldsDecided}
+use Rattle.bank_transactions.specs.{Filling.emptied, believed.Stored.HoldsDecided}
 
 each_of : {R : Type 0} (P : R → Type 0) (rows : List R) (r : R) → AllByRecursion P rows → Has rows r → P r
 each_of P [] r all none = absurd none

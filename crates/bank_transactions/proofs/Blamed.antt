@@ -1,20 +1,15 @@
 -- Why a part of a call failed, and what its damage says.
 use Rattle.std.proofs.Common.{ℕ, List, Ok, Err, Result, refl, sym, subst, ◌∙◌, arith, inl, inr}
 use Rattle.std.specs.Prelude.{IsTrue}
-use Rattle.sqlite.specs.State.{State, Fails, Survives}
-use Rattle.sqlite.specs.Steps.{FailsToCommit}
-use Rattle.sqlite.specs.Held.{Held, state}
-use Rattle.sqlite.specs.Order.{Row}
-use Rattle.sqlite.specs.Tree.{Trees}
-use Rattle.sqlite.specs.declared.error.Error.{Error}
+use Rattle.sqlite.specs.{State.State, State.Fails, State.Survives, Steps.FailsToCommit, Held.Held, Held.state}
+use Rattle.sqlite.specs.{Order.Row, Tree.Trees, declared.error.Error.Error}
 use Rattle.sqlite_trees.specs.declared.store.Store.{Ghosts}
 use Rattle.store_rows.specs.believed.Failures.{Additions, HasFailed, HasMet}
 use Rattle.store_rows.specs.Failures.{Puts}
-use Rattle.store_rows.specs.declared.fault.TableFault.{TableFault}
-use Rattle.store_rows.specs.declared.fault.TableFault.TheVariants.{Sqlite, Damaged}
+use Rattle.store_rows.specs.declared.fault.TableFault.{TableFault, TheVariants.Sqlite, TheVariants.Damaged}
 use Rattle.posting_rules.specs.declared.fault.Rule.{Rule}
-use Rattle.posting_rules.specs.declared.fault.Rule.TheVariants.{Meta, Teller, Account, Balance, Request}
-use Rattle.posting_rules.specs.declared.fault.Rule.TheVariants.{Value, Key, Floor, Reference}
+use Rattle.posting_rules.specs.declared.fault.Rule.TheVariants.{Meta, Teller, Account, Balance, Request, Value, Key}
+use Rattle.posting_rules.specs.declared.fault.Rule.TheVariants.{Floor, Reference}
 use Rattle.bank_transactions.specs.believed.Causes.{IsBefore, HasFailedBetween, HasMetBetween, Damage, IsBrokenOrMet}
 use Rattle.bank_transactions.specs.Causes.{IsFault, Blames}
 

@@ -1,13 +1,10 @@
 -- Parts of a call one after another, where the answer of the first counts too.
 use Rattle.std.proofs.Common.{◌≡◌, Ok, arith}
-use Rattle.sqlite.specs.State.{HasCleanDisk}
-use Rattle.sqlite.specs.Held.{state}
-use Rattle.sqlite.specs.declared.transaction.Transaction.{Transaction}
+use Rattle.sqlite.specs.{State.HasCleanDisk, Held.state, declared.transaction.Transaction.Transaction}
 use Rattle.sqlite_trees.specs.declared.store.Store.{Ghosts}
 use Rattle.posting_rules.specs.believed.Tables.{Tables}
 use Rattle.store_rows.specs.believed.Failures.{Additions}
-use Rattle.bank_transactions.specs.believed.Causes.{Damage}
-use Rattle.bank_transactions.specs.Doing.{Does, DoesBy}
+use Rattle.bank_transactions.specs.{believed.Causes.Damage, Doing.Does, Doing.DoesBy}
 use Rattle.bank_transactions.proofs.Chained.{knowing}
 
 -- one part, and then another: the answer of both comes from the two

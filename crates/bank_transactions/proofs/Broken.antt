@@ -1,40 +1,30 @@
 -- What is told to be damaged, and that the rows that the file holds break that rule.
 use Rattle.std.proofs.Common.{◌≡◌, ◌≤◌, ◌<◌, ◌≤ℤ◌, ℕ, ℤ, pos, Bool, true, find, List, Option, Some, Ok, Err, refl}
 use Rattle.std.proofs.Common.{sym, ap, subst, ◌∙◌, arith}
-use Rattle.std.specs.Prelude.{nat_abs}
+use Rattle.std.specs.{Prelude.nat_abs, Ordering.int_cmp, Ordering.is_gt}
 use Rattle.std.proofs.lemmas.Int.{ints}
-use Rattle.sqlite.specs.Effect.{Database}
-use Rattle.sqlite.specs.State.{State}
+use Rattle.sqlite.specs.{Effect.Database, State.State}
 use Rattle.message_records.specs.declared.limits.TheConstants.{MAX_ACCOUNT, MAX_DELTA}
-use Rattle.posting_rules.specs.believed.Numbering.{branch_of_account}
-use Rattle.posting_rules.specs.declared.fault.Rule.{Rule}
-use Rattle.posting_rules.specs.declared.fault.Rule.TheVariants.{Meta, Teller, Account, Balance, Request}
-use Rattle.posting_rules.specs.declared.fault.Rule.TheVariants.{Value, Key, Floor, Reference}
+use Rattle.posting_rules.specs.{believed.Numbering.branch_of_account, declared.fault.Rule.Rule}
+use Rattle.posting_rules.specs.declared.fault.Rule.TheVariants.{Meta, Teller, Account, Balance, Request, Value, Key}
+use Rattle.posting_rules.specs.declared.fault.Rule.TheVariants.{Floor, Reference}
 use Rattle.posting_rules.specs.declared.limits.TheConstants.{LAST_BRANCH, MAX_DECIDED, MAX_ACCOUNTS}
-use Rattle.posting_rules.specs.declared.rows.BranchRow.{BranchRow}
-use Rattle.posting_rules.specs.declared.rows.FloorRow.{FloorRow}
-use Rattle.posting_rules.specs.declared.rows.RequestRow.{RequestRow}
+use Rattle.posting_rules.specs.declared.rows.{BranchRow.BranchRow, FloorRow.FloorRow, RequestRow.RequestRow}
 use Rattle.sql_meanings.specs.believed.Entries.{Entry, has_key, has_two}
 use Rattle.sql_meanings.specs.Entries.{is_above}
-use Rattle.std.specs.Ordering.{int_cmp, is_gt}
 use Rattle.sql_meanings.proofs.Changes.{found_all, found_key, found_passes}
-use Rattle.store_rows.specs.Calls.{OfMeta}
+use Rattle.store_rows.specs.{Calls.OfMeta, Holders.entry_under, View.HoldsRows, declared.fault.TableFault.TableFault}
+use Rattle.store_rows.specs.{declared.holders.Member.Member, declared.metas.StoredMeta.StoredMeta}
 use Rattle.store_rows.specs.believed.Columns.{meta_in, number_at}
-use Rattle.store_rows.specs.Holders.{entry_under}
 use Rattle.store_rows.specs.TableAnswers.{Finds, Never}
 use Rattle.store_rows.specs.believed.Rules.{HoldsBank, IsBroken, KeepsRule, OfRows, StoredRows, HasDecided}
 use Rattle.store_rows.specs.believed.Rules.{BranchKeeps, TellerKeeps, AccountKeeps, FloorKeeps, ReferenceKeeps}
 use Rattle.store_rows.specs.believed.Rules.{RequestKeeps, row_under}
 use Rattle.store_rows.specs.believed.BankTables as bank
 use Rattle.store_rows.specs.believed.Stored.{BalanceKeeps, FindsStored, IsBalance}
-use Rattle.store_rows.specs.Stored.{IsBranch, IsFloorRow}
-use Rattle.store_rows.specs.Stored.{IsReferenceRow, IsSameRequest}
-use Rattle.store_rows.specs.View.{HoldsRows}
-use Rattle.store_rows.specs.declared.fault.TableFault.{TableFault}
+use Rattle.store_rows.specs.Stored.{IsBranch, IsFloorRow, IsReferenceRow, IsSameRequest}
 use Rattle.store_rows.specs.declared.fault.TableFault.TheVariants.{Sqlite, Damaged}
-use Rattle.store_rows.specs.declared.holders.Member.{Member}
 use Rattle.store_rows.specs.declared.holders.Member.TheVariants as member
-use Rattle.store_rows.specs.declared.metas.StoredMeta.{StoredMeta}
 use Rattle.bank_transactions.specs.believed.Stored.{IsStoredFloor}
 use Rattle.store_rows.proofs.StoredRows.{holds_list}
 

@@ -2,23 +2,14 @@
 use Rattle.std.proofs.Common.{◌≡◌, Ok, Err, Result, refl, sym, subst, ◌∙◌, inl, inr, arith}
 use Rattle.std.specs.Prelude.{IsTrue, Bool, List, ℕ}
 use Rattle.sqlite.specs.State.{State, HasCleanDisk, Survives}
-use Rattle.sqlite.specs.Held.{state}
-use Rattle.sqlite.specs.Order.{Row}
-use Rattle.sqlite.specs.declared.transaction.Transaction.{Transaction}
+use Rattle.sqlite.specs.{Held.state, Order.Row, declared.transaction.Transaction.Transaction}
 use Rattle.sqlite_trees.specs.declared.store.Store.{Ghosts}
-use Rattle.posting_rules.specs.believed.Tables.{Tables}
-use Rattle.posting_rules.specs.declared.fault.Rule.{Rule}
-use Rattle.sql_meanings.proofs.Saying.{says_then}
-use Rattle.sql_meanings.proofs.Sparing.{spares_itself, spares_then}
-use Rattle.store_rows.specs.believed.Failures.{Additions}
-use Rattle.store_rows.specs.believed.Sparing.{bank_names}
-use Rattle.store_rows.specs.believed.View.{Shows}
-use Rattle.store_rows.specs.declared.fault.TableFault.{TableFault}
-use Rattle.store_rows.specs.declared.fault.TableFault.TheVariants.{Sqlite, Damaged}
-use Rattle.bank_transactions.specs.believed.Causes.{Damage, IsBrokenOrMet}
-use Rattle.bank_transactions.specs.Causes.{IsFirstBroken}
-use Rattle.bank_transactions.specs.Doing.{Acts, CommitsNothing, Does, DoesBy, GoesOnUncommitted}
-use Rattle.bank_transactions.specs.Doing.{LeavesAndAnswers}
+use Rattle.posting_rules.specs.{believed.Tables.Tables, declared.fault.Rule.Rule}
+use Rattle.sql_meanings.proofs.{Saying.says_then, Sparing.spares_itself, Sparing.spares_then}
+use Rattle.store_rows.specs.believed.{Failures.Additions, Sparing.bank_names, View.Shows}
+use Rattle.store_rows.specs.declared.fault.TableFault.{TableFault, TheVariants.Sqlite, TheVariants.Damaged}
+use Rattle.bank_transactions.specs.{believed.Causes.Damage, believed.Causes.IsBrokenOrMet, Causes.IsFirstBroken}
+use Rattle.bank_transactions.specs.Doing.{Acts, CommitsNothing, Does, DoesBy, GoesOnUncommitted, LeavesAndAnswers}
 use Rattle.bank_transactions.proofs.Blamed.{blames_also, broken_or_met, comes, met_after}
 
 -- ---- what goes on

@@ -1,25 +1,15 @@
 -- A balance that is looked for, and couldn't be read.
 use Rattle.std.proofs.Common.{Err}
-use Rattle.sqlite.specs.State.{KeepsCommit}
-use Rattle.sqlite.specs.declared.transaction.Transaction.{Transaction}
+use Rattle.sqlite.specs.{State.KeepsCommit, declared.transaction.Transaction.Transaction}
 use Rattle.sqlite_trees.specs.declared.store.Store.{Ghosts}
-use Rattle.posting_rules.specs.Damage.{IsUndamaged}
-use Rattle.posting_rules.specs.believed.Tables.{Tables}
-use Rattle.sql_meanings.specs.Calls.{Says}
-use Rattle.sql_meanings.specs.StatementAnswers.{WriteFails}
-use Rattle.store_rows.specs.Calls.{OfTables}
-use Rattle.store_rows.specs.Failures.{HasReason}
-use Rattle.store_rows.specs.Holders.{balance_in, entry_under}
-use Rattle.store_rows.specs.TableAnswers.{Finds, BreaksBalance}
-use Rattle.store_rows.specs.believed.Rules.{OfRows}
+use Rattle.posting_rules.specs.{Damage.IsUndamaged, believed.Tables.Tables}
+use Rattle.sql_meanings.specs.{Calls.Says, StatementAnswers.WriteFails}
+use Rattle.store_rows.specs.{Calls.OfTables, Failures.HasReason, Holders.balance_in, Holders.entry_under}
+use Rattle.store_rows.specs.{TableAnswers.Finds, TableAnswers.BreaksBalance, believed.Rules.OfRows}
+use Rattle.store_rows.specs.{declared.fault.TableFault.TableFault, declared.holders.Member.Member}
 use Rattle.store_rows.specs.believed.Stored.{BalanceKeeps, FindsStored, IsBalance}
-use Rattle.store_rows.specs.declared.fault.TableFault.{TableFault}
-use Rattle.store_rows.specs.declared.holders.Member.{Member}
-use Rattle.bank_transactions.specs.Causes.{IsFault, IsFirstBroken}
-use Rattle.bank_transactions.specs.Doing.{IsLookedUp}
-use Rattle.bank_transactions.proofs.Broken.{member_broken}
-use Rattle.bank_transactions.proofs.ReadsInTurn.{find_failed}
-use Rattle.bank_transactions.proofs.SoundRows.{member_unbroken}
+use Rattle.bank_transactions.specs.{Causes.IsFault, Causes.IsFirstBroken, Doing.IsLookedUp}
+use Rattle.bank_transactions.proofs.{Broken.member_broken, ReadsInTurn.find_failed, SoundRows.member_unbroken}
 
 -- the look-up failed with this fault, of tables that are so
 abbrev pub Failed : {S : Type 0} → Ghosts S → Transaction S → Transaction S → (Tables → Type 0) → TableFault

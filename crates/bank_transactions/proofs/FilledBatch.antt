@@ -1,24 +1,16 @@
 -- All slots of a batch are filled.
 use Rattle.std.proofs.Common.{◌≡◌, ℕ, List, [], ◌∷◌, map, Ok, refl, sym, ap, subst, ◌∙◌}
-use Rattle.std.specs.Prelude.{⊤}
-use Rattle.std.specs.List.{AllByRecursion}
+use Rattle.std.specs.{Prelude.⊤, List.AllByRecursion}
 use Rattle.sqlite.specs.declared.transaction.Transaction.{Transaction}
 use Rattle.sqlite_trees.specs.declared.store.Store.{Ghosts}
 use Rattle.posting_rules.specs.believed.Numbering.{branch_of_teller, branch_of_account}
-use Rattle.posting_rules.specs.Damage.{IsUndamaged}
-use Rattle.posting_rules.specs.believed.Tables.{Tables}
-use Rattle.posting_batch.specs.declared.slots.AccountSlot.{AccountSlot}
-use Rattle.posting_batch.specs.declared.slots.TellerSlot.{TellerSlot}
-use Rattle.posting_batch.specs.declared.slots.BranchSlot.{BranchSlot}
-use Rattle.posting_batch.specs.declared.slots.FloorSlot.{FloorSlot}
-use Rattle.posting_batch.specs.declared.slots.RequestSlot.{RequestSlot}
-use Rattle.posting_batch.specs.Batch.{HasHomes, branch_filled, floor_filled, teller_filled, account_filled}
-use Rattle.posting_batch.specs.Batch.{filled, request_filled}
-use Rattle.posting_batch.specs.Overlay.{Overlay}
-use Rattle.bank_transactions.specs.Doing.{Reads}
-use Rattle.bank_transactions.specs.Filling.{ReadsWhere, TellsBranch, known}
-use Rattle.bank_transactions.proofs.LookUps.{reads_both}
-use Rattle.bank_transactions.proofs.FilledSlots.{tells_all}
+use Rattle.posting_rules.specs.{Damage.IsUndamaged, believed.Tables.Tables}
+use Rattle.posting_batch.specs.declared.slots.{AccountSlot.AccountSlot, TellerSlot.TellerSlot, BranchSlot.BranchSlot}
+use Rattle.posting_batch.specs.declared.slots.{FloorSlot.FloorSlot, RequestSlot.RequestSlot}
+use Rattle.posting_batch.specs.{Batch.HasHomes, Batch.branch_filled, Batch.floor_filled, Batch.teller_filled}
+use Rattle.posting_batch.specs.{Batch.account_filled, Batch.filled, Batch.request_filled, Overlay.Overlay}
+use Rattle.bank_transactions.specs.{Doing.Reads, Filling.ReadsWhere, Filling.TellsBranch, Filling.known}
+use Rattle.bank_transactions.proofs.{LookUps.reads_both, FilledSlots.tells_all}
 
 -- nothing is damaged, and each branch that is asked for has its slot
 abbrev pub So : Overlay → Tables → Type 0

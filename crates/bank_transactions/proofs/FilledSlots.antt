@@ -1,16 +1,11 @@
 -- Slots of branches that are filled tell the rows of their branches.
-use Rattle.std.proofs.Common.{◌≡◌, ℕ, List, [], ◌∷◌, map, Option, Some, None, refl, sym, subst}
-use Rattle.std.specs.Prelude.{IsSome, IfSome}
-use Rattle.std.specs.List.{AllByRecursion}
-use Rattle.std.specs.Option.{option_map}
+use Rattle.std.proofs.Common.{◌≡◌, ℕ, List, [], ◌∷◌, map, Option, Some, None, refl, sym, subst, eqb}
+use Rattle.std.specs.{Prelude.IsSome, Prelude.IfSome, List.AllByRecursion, Option.option_map}
 use Rattle.posting_rules.specs.believed.Tables.{Tables, row_at, branch_key}
-use Rattle.posting_batch.specs.declared.slots.BranchSlot.{BranchSlot}
-use Rattle.posting_batch.specs.Batch.{branch_filled}
+use Rattle.posting_batch.specs.{declared.slots.BranchSlot.BranchSlot, Batch.branch_filled}
 use Rattle.posting_batch.specs.Slots.{in_slot, row_of_slot, branch_slot_key}
-use Rattle.posting_batch.proofs.Covered.{filled_at}
-use Rattle.posting_batch.proofs.KeptSlots.{find-map}
+use Rattle.posting_batch.proofs.{Covered.filled_at, KeptSlots.find-map}
 use Rattle.bank_transactions.specs.Filling.{TellsBranch}
-use Rattle.std.proofs.Common.{eqb}
 
 tells : (t : Tables) (slots : List BranchSlot) (n : ℕ) → IsSome (row_at branch_slot_key slots n)
     → TellsBranch (map (branch_filled t) slots) t n

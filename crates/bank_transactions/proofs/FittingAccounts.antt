@@ -1,19 +1,15 @@
 -- An account that was looked up beside its branch fits that branch, and beside its floor isn't below it.
 use Rattle.std.proofs.Common.{◌≡◌, ◌≤ℤ◌, ℕ, ℤ, pos, true, Option, Some, None, Ok, sym, ap, subst, ◌∙◌, arith}
 use Rattle.std.specs.Prelude.{false, int_lt, is_some, nat_le, option_map}
-use Rattle.std.proofs.lemmas.Int.{ints}
-use Rattle.std.proofs.lemmas.Bool.Decides.{nat_tests}
-use Rattle.posting_rules.specs.believed.Commands.{is_within}
+use Rattle.std.proofs.lemmas.{Int.ints, Bool.Decides.nat_tests}
+use Rattle.posting_rules.specs.{believed.Commands.is_within, LookUps.terms_of_branch}
 use Rattle.posting_rules.specs.believed.Numbering.{branch_of_account, place_of_account}
-use Rattle.posting_rules.specs.LookUps.{terms_of_branch}
 use Rattle.posting_rules.specs.declared.rows.BranchRow.{BranchRow}
 use Rattle.sql_meanings.specs.believed.Entries.{Entry}
-use Rattle.store_rows.specs.believed.Columns.{number_at}
+use Rattle.store_rows.specs.{believed.Columns.number_at, Stored.IsBranch}
 use Rattle.store_rows.specs.believed.Rules.{AccountFits, BranchKeeps, IsAbove, StoredRows, branch_under, row_under}
 use Rattle.store_rows.specs.believed.Stored.{BalanceKeeps, FindsStored, IsBalance}
-use Rattle.store_rows.specs.Stored.{IsBranch}
-use Rattle.bank_transactions.specs.Floors.{falls_below}
-use Rattle.bank_transactions.specs.believed.Stored.{HoldsFloor}
+use Rattle.bank_transactions.specs.{Floors.falls_below, believed.Stored.HoldsFloor}
 
 -- the test on numbers, said of the whole numbers that a row holds
 pub le_number : (a b : ℕ) → nat_le a b ≡ true → pos a ≤ℤ pos b

@@ -5,53 +5,36 @@ use Rattle.std.proofs.Common.{pos, true, sym, ap, subst, ◌∙◌, inl, inr, ar
 use Rattle.std.specs.Prelude.{length, IfOk, IfSome, IsSome, IsTrue, is_some, option_and_then, option_map}
 use Rattle.std.specs.List.{AllByRecursion, find}
 use Rattle.std.proofs.lemmas.Bool.{eqb-true}
-use Rattle.message_records.specs.believed.Reading.{request_of}
-use Rattle.message_records.specs.believed.Records.{RequestFields}
-use Rattle.message_records.specs.declared.fault.Bad.{Bad}
+use Rattle.message_records.specs.{believed.Reading.request_of, believed.Records.RequestFields, declared.fault.Bad.Bad}
 use Rattle.posting_rules.specs.believed.LookUps.{account_balance_in, balance_of_branch, balance_of_teller, both_of}
-use Rattle.posting_rules.specs.believed.LookUps.{floor_in}
-use Rattle.posting_rules.specs.believed.LookUps.{found_in, kept_in}
+use Rattle.posting_rules.specs.believed.LookUps.{floor_in, found_in, kept_in}
 use Rattle.posting_rules.specs.believed.Numbering.{branch_of_account, branch_of_teller}
 use Rattle.posting_rules.specs.believed.Tables.{Tables, branch_key, row_at, teller_key}
-use Rattle.posting_rules.specs.declared.judgments.Found.{Found}
-use Rattle.posting_rules.specs.declared.rows.BranchRow.{BranchRow}
+use Rattle.posting_rules.specs.declared.{judgments.Found.Found, rows.BranchRow.BranchRow}
 use Rattle.posting_rules.proofs.Keyed.{by_test}
-use Rattle.posting_batch.specs.declared.batch.Batch.{Batch}
-use Rattle.posting_batch.specs.declared.slots.RequestSlot.{RequestSlot}
+use Rattle.posting_batch.specs.{declared.batch.Batch.Batch, declared.slots.RequestSlot.RequestSlot}
+use Rattle.posting_batch.specs.{Judging.found_over, Overlay.Overlay, Placed.IsRising, Placed.number_below}
+use Rattle.posting_batch.specs.{Placed.request_below, View.IsFilledFrom, View.IsMadeOf, View.reads_of, View.view}
 use Rattle.posting_batch.specs.Batch.{CoversAll, CoversRead, HasHomes, HasRisingSlots, account_filled}
-use Rattle.posting_batch.specs.Batch.{HasFreeOrdinals}
-use Rattle.posting_batch.specs.Batch.{IsJudged, branch_filled, covering, covering_all, filled, floor_filled}
-use Rattle.posting_batch.specs.Batch.{no_slots, request_filled, teller_filled}
-use Rattle.posting_batch.specs.Judging.{found_over}
-use Rattle.posting_batch.specs.Overlay.{Overlay}
-use Rattle.posting_batch.specs.Placed.{IsRising, number_below, request_below}
+use Rattle.posting_batch.specs.Batch.{HasFreeOrdinals, IsJudged, branch_filled, covering, covering_all, filled}
+use Rattle.posting_batch.specs.Batch.{floor_filled, no_slots, request_filled, teller_filled}
 use Rattle.posting_batch.specs.Slots.{account_slot_key, branch_slot_key, floor_slot_key, is_for, teller_slot_key}
-use Rattle.posting_batch.specs.View.{IsFilledFrom, IsMadeOf, reads_of, view}
 use Rattle.posting_batch.proofs.Covered.{Stands, homes_all, stands}
-use Rattle.posting_batch.proofs.KeptSlots.{both_true}
-use Rattle.posting_batch.proofs.Orders.{rising_mapped}
-use Rattle.posting_batch.proofs.Overlaid.{found_is}
-use Rattle.posting_batch.proofs.SlotsInOrder.{made_all}
+use Rattle.posting_batch.proofs.{KeptSlots.both_true, Orders.rising_mapped, Overlaid.found_is, SlotsInOrder.made_all}
 use Rattle.posting_batch.proofs.ToldTables.{IsOwn, tables_told, told_filled, told_free}
 use Rattle.sql_meanings.specs.believed.Entries.{Entry}
 use Rattle.sql_meanings.proofs.Changes.{found_key}
-use Rattle.sqlite.specs.Effect.{Database}
-use Rattle.sqlite.specs.Held.{Held, state}
-use Rattle.sqlite.specs.State.{HasCleanDisk}
+use Rattle.sqlite.specs.{Effect.Database, Held.Held, Held.state, State.HasCleanDisk}
 use Rattle.sqlite_trees.specs.declared.store.Store.{Ghosts}
 use Rattle.store_rows.specs.believed.Rules.{HoldsBank, OfRows, StoredRows, branch_under, row_under}
 use Rattle.store_rows.specs.believed.Stored.{BalanceKeeps, FindsStored, IsBalance}
 use Rattle.store_rows.specs.declared.fault.TableFault.{TableFault}
-use Rattle.bank_transactions.specs.Doing.{Ends}
-use Rattle.bank_transactions.specs.Filling.{AreHeld, BranchHeld, HoldsBranch, RequestHeld}
-use Rattle.bank_transactions.specs.Filling.{emptied, emptied_account, emptied_branch, emptied_floor}
-use Rattle.bank_transactions.specs.Filling.{emptied_request, emptied_teller}
+use Rattle.bank_transactions.specs.{Doing.Ends, Stored.HoldsTellerRow}
+use Rattle.bank_transactions.specs.Filling.{AreHeld, BranchHeld, HoldsBranch, RequestHeld, emptied, emptied_account}
+use Rattle.bank_transactions.specs.Filling.{emptied_branch, emptied_floor, emptied_request, emptied_teller}
 use Rattle.bank_transactions.specs.believed.Stored.{HasRead, HasStored, HoldsAccount, HoldsFloor, HoldsKept}
-use Rattle.bank_transactions.specs.believed.Stored.{HoldsTeller}
-use Rattle.bank_transactions.specs.believed.Stored.{IsStoredFound, RepliesInTurn}
-use Rattle.bank_transactions.specs.Stored.{HoldsTellerRow}
-use Rattle.bank_transactions.proofs.HeldSlots.{at_key}
-use Rattle.bank_transactions.proofs.Together.{within_or_none}
+use Rattle.bank_transactions.specs.believed.Stored.{HoldsTeller, IsStoredFound, RepliesInTurn}
+use Rattle.bank_transactions.proofs.{HeldSlots.at_key, Together.within_or_none}
 
 -- ---- an overlay that is filled again
 

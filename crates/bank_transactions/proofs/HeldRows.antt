@@ -2,21 +2,16 @@
 use Rattle.std.proofs.Common.{◌≡◌, ℕ, ℤ, false, Option, Some, None, Result, Ok, Err, sym, ap, subst, ◌∙◌}
 use Rattle.std.specs.Prelude.{IfOk, is_some, option_map}
 use Rattle.sqlite.specs.Effect.{Database}
-use Rattle.posting_rules.specs.believed.Commands.{is_within}
-use Rattle.posting_rules.specs.LookUps.{terms_of_branch}
+use Rattle.posting_rules.specs.{believed.Commands.is_within, LookUps.terms_of_branch, declared.fault.Rule.Rule}
 use Rattle.posting_rules.specs.believed.Numbering.{branch_of_account, branch_of_teller, place_of_account}
-use Rattle.posting_rules.specs.declared.fault.Rule.{Rule}
 use Rattle.posting_rules.specs.declared.rows.BranchRow.{BranchRow}
 use Rattle.sql_meanings.specs.believed.Entries.{Entry}
 use Rattle.store_rows.specs.believed.Rules.{BranchKeeps, HoldsBank, OfRows, StoredRows, TellerFits, branch_under}
 use Rattle.store_rows.specs.believed.Rules.{row_under}
 use Rattle.store_rows.specs.believed.Stored.{BalanceKeeps, FindsStored, IsBalance}
-use Rattle.store_rows.specs.Stored.{IsBranch}
-use Rattle.store_rows.specs.declared.fault.TableFault.{TableFault}
-use Rattle.bank_transactions.specs.Filling.{HoldsBranch}
-use Rattle.bank_transactions.specs.Floors.{falls_below}
+use Rattle.store_rows.specs.{Stored.IsBranch, declared.fault.TableFault.TableFault}
+use Rattle.bank_transactions.specs.{Filling.HoldsBranch, Floors.falls_below, Stored.HoldsTellerRow}
 use Rattle.bank_transactions.specs.believed.Stored.{HoldsAccount, HoldsFloor, HoldsTeller}
-use Rattle.bank_transactions.specs.Stored.{HoldsTellerRow}
 use Rattle.bank_transactions.proofs.FittingAccounts.{fits, is_above}
 
 -- a value is reported where a row is stored

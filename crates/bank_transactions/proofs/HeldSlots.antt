@@ -1,26 +1,21 @@
 -- Slots that are filled have what the rows hold, whatever rows a file holds.
 use Rattle.std.proofs.Common.{◌≡◌, ℕ, eqb, List, [], ◌∷◌, length, map, Option, Some, None, refl, sym, ap, subst, ◌∙◌}
 use Rattle.std.proofs.Common.{inl, inr}
-use Rattle.std.specs.Prelude.{IsSome, IfSome, is_some}
-use Rattle.std.specs.List.{AllByRecursion}
-use Rattle.std.specs.Option.{option_map}
+use Rattle.std.specs.{Prelude.IsSome, Prelude.IfSome, Prelude.is_some, List.AllByRecursion, Option.option_map}
 use Rattle.std.proofs.lemmas.Bool.{eqb-true}
 use Rattle.smallvec.specs.SmallVec.{SmallVec, with_items}
 use Rattle.smallvec.proofs.SmallVecLemmas.{items-with_items}
 use Rattle.posting_rules.specs.believed.Tables.{row_at}
 use Rattle.posting_rules.proofs.Keyed.{by_test}
-use Rattle.posting_batch.specs.declared.slots.AccountSlot.{AccountSlot}
-use Rattle.posting_batch.specs.declared.slots.BranchSlot.{BranchSlot}
-use Rattle.posting_batch.specs.declared.slots.FloorSlot.{FloorSlot}
-use Rattle.posting_batch.specs.declared.slots.RequestSlot.{RequestSlot}
-use Rattle.posting_batch.specs.declared.slots.TellerSlot.{TellerSlot}
+use Rattle.posting_batch.specs.declared.slots.{AccountSlot.AccountSlot, BranchSlot.BranchSlot, FloorSlot.FloorSlot}
+use Rattle.posting_batch.specs.declared.slots.{RequestSlot.RequestSlot, TellerSlot.TellerSlot}
 use Rattle.posting_batch.specs.Overlay.{Overlay}
 use Rattle.posting_batch.specs.Slots.{branch_slot_key, floor_of_slot, floor_slot_key, in_slot, row_of_slot}
 use Rattle.posting_batch.proofs.KeptSlots.{find-map}
 use Rattle.store_rows.specs.believed.Rules.{StoredRows}
 use Rattle.bank_transactions.specs.Filling.{BranchHeld, FloorHeld, HoldsBranch, TellsFloor, TellsStored, emptied}
-use Rattle.bank_transactions.specs.Filling.{emptied_account}
-use Rattle.bank_transactions.specs.Filling.{emptied_branch, emptied_floor, emptied_request, emptied_teller}
+use Rattle.bank_transactions.specs.Filling.{emptied_account, emptied_branch, emptied_floor, emptied_request}
+use Rattle.bank_transactions.specs.Filling.{emptied_teller}
 use Rattle.bank_transactions.specs.believed.Stored.{HoldsFloor}
 use Rattle.bank_transactions.proofs.FilledBatch.{with_accounts, with_branches, with_count, with_floors, with_kept}
 use Rattle.bank_transactions.proofs.FilledBatch.{with_tellers}

@@ -1,16 +1,11 @@
 -- A batch in a transaction of its own, and one in which nothing is decided.
 use Rattle.std.proofs.Common.{◌≡◌, ℕ, List, Result, Ok, Err, true, ap, sym, subst, ◌∙◌, arith}
 use Rattle.std.specs.Prelude.{OnOk, Vec}
-use Rattle.sqlite.specs.Effect.{Database}
-use Rattle.sqlite.specs.State.{HasCleanDisk}
-use Rattle.sqlite.specs.Held.{Held, state}
+use Rattle.sqlite.specs.{Effect.Database, State.HasCleanDisk, Held.Held, Held.state}
 use Rattle.sqlite_trees.specs.declared.store.Store.{Ghosts}
-use Rattle.posting_rules.specs.believed.Sound.{AreOfALog}
-use Rattle.posting_rules.specs.believed.Tables.{Tables}
-use Rattle.store_rows.specs.believed.View.{Shows}
-use Rattle.store_rows.specs.declared.fault.TableFault.{TableFault}
-use Rattle.bank_transactions.specs.Doing.{Ends}
-use Rattle.bank_transactions.specs.believed.Batches.{DecidesNone}
+use Rattle.posting_rules.specs.believed.{Sound.AreOfALog, Tables.Tables}
+use Rattle.store_rows.specs.{believed.View.Shows, declared.fault.TableFault.TableFault}
+use Rattle.bank_transactions.specs.{Doing.Ends, believed.Batches.DecidesNone}
 use Rattle.bank_transactions.specs.Batches.{items_of, WritesNothing, KeepsOnly}
 
 -- the replies without where they lie in memory end the same way

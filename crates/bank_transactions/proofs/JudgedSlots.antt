@@ -1,35 +1,22 @@
 -- Records whose slots are filled, judged and written: a single one, and those of a batch.
 use Rattle.std.proofs.Common.{◌≡◌, ℕ, List, length, map, Result, Ok, Err, refl, sym, ap, subst, ◌∙◌}
-use Rattle.sqlite.specs.Held.{state}
-use Rattle.sqlite.specs.declared.transaction.Transaction.{Transaction}
+use Rattle.sqlite.specs.{Held.state, declared.transaction.Transaction.Transaction}
 use Rattle.sqlite_trees.specs.declared.store.Store.{Ghosts}
-use Rattle.message_records.specs.believed.Reading.{request_of}
-use Rattle.message_records.specs.believed.Records.{RequestFields}
-use Rattle.message_records.specs.believed.Spelling.{reply_spelling}
+use Rattle.message_records.specs.believed.{Reading.request_of, Records.RequestFields, Spelling.reply_spelling}
 use Rattle.posting_rules.specs.believed.Changes.{tables_past_all, replies_past_all, tables_with, reply_bytes}
-use Rattle.posting_rules.specs.believed.Commands.{Command}
-use Rattle.posting_rules.specs.believed.Runs.{posts}
-use Rattle.posting_rules.specs.Damage.{IsUndamaged}
-use Rattle.posting_rules.specs.believed.Sound.{AreOfALog}
-use Rattle.posting_rules.specs.Sound.{AreSound}
-use Rattle.posting_rules.specs.believed.Tables.{Tables, AreTablesOf}
-use Rattle.posting_rules.proofs.Ready.{ready_sound}
-use Rattle.posting_rules.proofs.Undamaged.{undamaged}
-use Rattle.posting_batch.specs.declared.batch.Batch.{Batch}
-use Rattle.posting_batch.specs.Batch.{HasHomes, HasRisingSlots, ChangesRows, AddsFreeRows, filled, covering}
-use Rattle.posting_batch.specs.Batch.{no_slots, HasFreeOrdinals, IsJudged, IsShown}
-use Rattle.posting_batch.specs.Judging.{overlay_with, reply_over}
-use Rattle.posting_batch.specs.Overlay.{Overlay, tables_over}
-use Rattle.posting_batch.specs.View.{view, reads_of, IsMadeOf, IsFilledFrom}
-use Rattle.posting_batch.proofs.Covered.{stands, homes_all}
-use Rattle.posting_batch.proofs.FreeOrdinals.{free_shown}
+use Rattle.posting_rules.specs.believed.{Commands.Command, Tables.Tables, Tables.AreTablesOf}
+use Rattle.posting_rules.specs.{believed.Runs.posts, Damage.IsUndamaged, believed.Sound.AreOfALog, Sound.AreSound}
+use Rattle.posting_rules.proofs.{Ready.ready_sound, Undamaged.undamaged}
+use Rattle.posting_batch.specs.{declared.batch.Batch.Batch, Judging.overlay_with, Judging.reply_over, Overlay.Overlay}
+use Rattle.posting_batch.specs.{Overlay.tables_over, View.view, View.reads_of, View.IsMadeOf, View.IsFilledFrom}
+use Rattle.posting_batch.specs.Batch.{HasHomes, HasRisingSlots, ChangesRows, AddsFreeRows, filled, covering, no_slots}
+use Rattle.posting_batch.specs.Batch.{HasFreeOrdinals, IsJudged, IsShown}
+use Rattle.posting_batch.proofs.{Covered.stands, Covered.homes_all, FreeOrdinals.free_shown}
 use Rattle.posting_batch.proofs.OneRecord.{one_adds, one_back, one_changes, one_filled, one_homes, one_judged}
 use Rattle.posting_batch.proofs.OneRecord.{one_reply, one_rising, one_tables}
-use Rattle.store_rows.specs.believed.Failures.{Additions}
+use Rattle.store_rows.specs.{believed.Failures.Additions, declared.fault.TableFault.TableFault}
 use Rattle.store_rows.specs.believed.View as stored
-use Rattle.store_rows.specs.declared.fault.TableFault.{TableFault}
-use Rattle.bank_transactions.specs.believed.Causes.{Damage}
-use Rattle.bank_transactions.specs.Causes.{IsFirstBroken}
+use Rattle.bank_transactions.specs.{believed.Causes.Damage, Causes.IsFirstBroken}
 use Rattle.bank_transactions.specs.Doing.{Acts, Does, DoesBy}
 use Rattle.bank_transactions.proofs.Chained.{acts_read, acts_wrote, does_but, does_for}
 use Rattle.bank_transactions.proofs.Both.{does_both}

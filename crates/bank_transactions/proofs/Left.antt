@@ -1,21 +1,14 @@
 -- What parts of a call leave, one after another, of whatever tables are shown.
 use Rattle.std.proofs.Common.{◌≡◌, Ok, Err, Result, refl, sym, ap, subst, arith}
 use Rattle.std.specs.Prelude.{Bool, OnOk, IfOk, IsTrue, true}
-use Rattle.sqlite.specs.Effect.{Database}
-use Rattle.sqlite.specs.Held.{Held, state}
-use Rattle.sqlite.specs.State.{State, HasCleanDisk}
-use Rattle.sqlite.specs.Table.{Table}
-use Rattle.sqlite.specs.declared.transaction.Transaction.{Transaction}
+use Rattle.sqlite.specs.{Effect.Database, Held.Held, Held.state, State.State, State.HasCleanDisk, Table.Table}
+use Rattle.sqlite.specs.{declared.transaction.Transaction.Transaction}
 use Rattle.sqlite_trees.specs.declared.store.Store.{Ghosts}
 use Rattle.posting_rules.specs.believed.Tables.{Tables}
 use Rattle.sql_meanings.specs.Calls.{Inside, Says}
-use Rattle.store_rows.specs.Calls.{OfTables}
-use Rattle.store_rows.specs.believed.Failures.{Additions}
-use Rattle.store_rows.specs.TableAnswers.{PutsOneRow}
-use Rattle.store_rows.specs.believed.View.{Shows}
-use Rattle.store_rows.specs.declared.fault.TableFault.{TableFault}
-use Rattle.bank_transactions.specs.believed.Causes.{Damage}
-use Rattle.bank_transactions.specs.Doing.{Does, DoesBy, Ends, Leaves}
+use Rattle.store_rows.specs.{Calls.OfTables, believed.Failures.Additions, TableAnswers.PutsOneRow}
+use Rattle.store_rows.specs.{believed.View.Shows, declared.fault.TableFault.TableFault}
+use Rattle.bank_transactions.specs.{believed.Causes.Damage, Doing.Does, Doing.DoesBy, Doing.Ends, Doing.Leaves}
 use Rattle.bank_transactions.proofs.Chained.{still_in}
 
 -- nothing yet

@@ -1,26 +1,17 @@
 -- Look-ups one after another.
 use Rattle.std.proofs.Common.{◌≡◌, Ok, Err, Result, refl, sym, ap, subst, ◌∙◌}
-use Rattle.sqlite.specs.Effect.{Database}
+use Rattle.sqlite.specs.{Effect.Database, Held.state, declared.transaction.Transaction.Transaction}
 use Rattle.sqlite.specs.State.{State, IsUnchanged, Survives}
-use Rattle.sqlite.specs.Held.{state}
-use Rattle.sqlite.specs.declared.transaction.Transaction.{Transaction}
 use Rattle.sqlite_trees.specs.declared.store.Store.{Ghosts}
 use Rattle.sql_meanings.specs.Calls.{Says}
-use Rattle.posting_rules.specs.Damage.{IsUndamaged}
-use Rattle.sql_meanings.proofs.Saying.{says_then}
-use Rattle.posting_rules.specs.believed.Tables.{Tables}
-use Rattle.sql_meanings.proofs.Sparing.{spares_itself}
-use Rattle.store_rows.specs.believed.Sparing.{bank_names}
-use Rattle.store_rows.specs.believed.View.{Shows}
-use Rattle.store_rows.specs.declared.fault.TableFault.{TableFault}
-use Rattle.store_rows.specs.declared.fault.TableFault.TheVariants.{Sqlite, Damaged}
-use Rattle.store_rows.specs.believed.Rules.{IsBroken}
-use Rattle.bank_transactions.specs.Causes.{IsFirstBroken}
+use Rattle.posting_rules.specs.{Damage.IsUndamaged, believed.Tables.Tables}
+use Rattle.sql_meanings.proofs.{Saying.says_then, Sparing.spares_itself}
+use Rattle.store_rows.specs.believed.{Sparing.bank_names, View.Shows, Rules.IsBroken}
+use Rattle.store_rows.specs.declared.fault.TableFault.{TableFault, TheVariants.Sqlite, TheVariants.Damaged}
+use Rattle.bank_transactions.specs.{Causes.IsFirstBroken, Filling.ReadsWhere}
 use Rattle.bank_transactions.specs.Doing.{DoesBy, ChangesNothing, IsLookedUp, Reads, Stays}
-use Rattle.bank_transactions.proofs.Blamed.{blames_after, comes}
-use Rattle.bank_transactions.proofs.Statements.{looked, look_keeps}
+use Rattle.bank_transactions.proofs.{Blamed.blames_after, Blamed.comes, Statements.looked, Statements.look_keeps}
 use Rattle.bank_transactions.proofs.ReadsInTurn.{stays, stays_then}
-use Rattle.bank_transactions.specs.Filling.{ReadsWhere}
 
 looks_then : {X : Type 0} (old mid new : State) (r : Result X TableFault) → Stays old mid
     → ChangesNothing mid new r

@@ -1,23 +1,17 @@
 -- Slots are filled, and rows are written, one after another.
-use Rattle.std.proofs.Common.{◌≡◌, ℕ, zero, suc, ◌+◌, ◌<◌, List, [], ◌∷◌, ◌++◌, map, length, take, drop, set}
-use Rattle.std.proofs.Common.{get_or, Ok, Result, refl, sym, ap, subst, ◌∙◌, arith, inl, inr}
+use Rattle.std.proofs.Common.{◌≡◌, ℕ, zero, suc, ◌+◌, ◌<◌, List, [], ◌∷◌, ◌++◌, map, length, take, drop, set, get_or}
+use Rattle.std.proofs.Common.{Ok, Result, refl, sym, ap, subst, ◌∙◌, arith, inl, inr}
 use Rattle.std.specs.List.{AllByRecursion}
-use Rattle.std.proofs.lemmas.List.{append-nil, append_assoc, take_more, take-append-drop}
+use Rattle.std.proofs.lemmas.List.{append-nil, append_assoc, take_more, take-append-drop, Edits.map_over_more}
 use Rattle.std.proofs.Math.Seq.{drop-cons}
-use Rattle.std.proofs.lemmas.List.Edits.{map_over_more}
 use Rattle.sqlite.specs.declared.transaction.Transaction.{Transaction}
 use Rattle.sqlite_trees.specs.declared.store.Store.{Ghosts}
 use Rattle.sqlite_rules.specs.Lists.{Has}
 use Rattle.posting_rules.specs.believed.Tables.{Tables}
-use Rattle.store_rows.specs.believed.Failures.{Additions}
-use Rattle.store_rows.specs.declared.fault.TableFault.{TableFault}
-use Rattle.bank_transactions.specs.Additions.{AddsAlike}
-use Rattle.bank_transactions.specs.Doing.{Does}
-use Rattle.bank_transactions.proofs.Chained.{does_adds, does_then, does_for}
-use Rattle.bank_transactions.specs.Filling.{ReadsWhere}
-use Rattle.bank_transactions.specs.InParts.{InParts}
-use Rattle.bank_transactions.specs.InTurn.{InTurn}
-use Rattle.bank_transactions.proofs.LookUps.{reads_both}
+use Rattle.store_rows.specs.{believed.Failures.Additions, declared.fault.TableFault.TableFault}
+use Rattle.bank_transactions.specs.{Additions.AddsAlike, Doing.Does, Filling.ReadsWhere, InParts.InParts}
+use Rattle.bank_transactions.specs.{InTurn.InTurn}
+use Rattle.bank_transactions.proofs.{Chained.does_adds, Chained.does_then, Chained.does_for, LookUps.reads_both}
 
 -- ---- places of a list
 

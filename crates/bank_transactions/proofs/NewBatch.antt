@@ -1,57 +1,34 @@
 -- A batch whose requests were put in first: none of them was kept, so that its slots have what the tables have.
-use Rattle.std.proofs.Common.{◌≡◌, ◌∙◌, ℕ, eqb, pos, true, false, Bool, List, [], ◌∷◌, map, Option, Some, None}
-use Rattle.std.proofs.Common.{Result}
-use Rattle.std.proofs.Common.{Ok, Err, find, option_map, refl, sym, ap, subst, arith, inl, inr}
+use Rattle.std.proofs.Common.{◌≡◌, ◌∙◌, ℕ, eqb, pos, false, Bool, List, [], ◌∷◌, map, Option, Some, None, Result, Ok}
+use Rattle.std.proofs.Common.{Err, find, option_map, refl, sym, ap, subst, arith}
 use Rattle.std.proofs.lemmas.Bool.{eqb-true}
-use Rattle.std.specs.Prelude.{◌&&◌, ◌||◌, IfSome, IsSome, IsTrue, is_none}
-use Rattle.std.specs.List.{AllByRecursion, list_any}
-use Rattle.sqlite.specs.Effect.{Database}
-use Rattle.sqlite.specs.Held.{state}
+use Rattle.std.specs.Prelude.{◌&&◌, IfSome, IsSome, IsTrue, is_none}
+use Rattle.std.specs.List.{AllByRecursion}
+use Rattle.sqlite.specs.{Effect.Database, Held.state, declared.transaction.Transaction.Transaction}
 use Rattle.sqlite.specs.State.{State, HasCleanDisk, KeepsCommit}
-use Rattle.sqlite.specs.declared.transaction.Transaction.{Transaction}
 use Rattle.sqlite_trees.specs.declared.store.Store.{Ghosts}
 use Rattle.message_records.specs.believed.Reading.{request_of}
-use Rattle.posting_rules.specs.believed.Kept.{KeptFields}
-use Rattle.posting_rules.specs.believed.LookUps.{kept_in, kept_of_row}
-use Rattle.posting_rules.specs.believed.Tables.{Tables}
+use Rattle.posting_rules.specs.believed.{Kept.KeptFields, LookUps.kept_in, LookUps.kept_of_row, Tables.Tables}
 use Rattle.posting_rules.specs.declared.rows.RequestRow.{RequestRow}
-use Rattle.posting_rules.proofs.Keyed.{by_test}
-use Rattle.posting_batch.specs.declared.batch.Batch.{Batch}
-use Rattle.posting_batch.specs.declared.slots.RequestSlot.{RequestSlot}
-use Rattle.posting_batch.specs.Batch.{IsAmong, KeepsNew, blanked, covering_all, filled, has_gap, no_slots}
-use Rattle.posting_batch.specs.Batch.{request_filled}
+use Rattle.posting_batch.specs.{declared.batch.Batch.Batch, declared.slots.RequestSlot.RequestSlot}
+use Rattle.posting_batch.specs.{Slots.empty_request, View.IsMadeOf, View.reads_of, View.view}
+use Rattle.posting_batch.specs.Batch.{IsAmong, KeepsNew, blanked, filled, has_gap, request_filled}
 use Rattle.posting_batch.specs.Overlay.{Overlay, requests_put, tables_over}
-use Rattle.posting_batch.specs.Slots.{empty_request}
-use Rattle.posting_batch.specs.View.{IsMadeOf, reads_of, view}
-use Rattle.posting_batch.proofs.Blanked.{blank_made, made_unkept}
-use Rattle.posting_batch.proofs.KeptSlots.{both_true}
-use Rattle.sql_meanings.specs.Calls.{Inside, Says}
-use Rattle.sql_meanings.specs.believed.Entries.{Entry, has_two}
-use Rattle.sql_meanings.proofs.Changes.{found_all, found_passes}
-use Rattle.sql_meanings.proofs.NewPairs.{neither}
-use Rattle.store_rows.specs.believed.BankTables.{request}
-use Rattle.store_rows.specs.believed.Failures.{Additions}
-use Rattle.store_rows.specs.believed.Rules.{HoldsBank, OfRows, StoredRows}
-use Rattle.store_rows.specs.SeveralRows.{IsNew, PutsNew}
-use Rattle.store_rows.specs.believed.View.{Shows, request_entry}
-use Rattle.store_rows.specs.View.{HoldsRows}
-use Rattle.store_rows.specs.declared.fault.TableFault.{TableFault}
-use Rattle.store_rows.proofs.GetRequest.{has_both}
-use Rattle.store_rows.proofs.RowLists.{found_by}
-use Rattle.store_rows.proofs.StoredRows.{holds_list}
-use Rattle.store_rows.proofs.TableKinds.{holds}
-use Rattle.store_rows.proofs.TheTables.{requests}
+use Rattle.posting_batch.proofs.{Blanked.blank_made, Blanked.made_unkept, KeptSlots.both_true}
+use Rattle.sql_meanings.specs.{Calls.Inside, Calls.Says, believed.Entries.Entry, believed.Entries.has_two}
+use Rattle.sql_meanings.proofs.{Changes.found_all, Changes.found_passes, NewPairs.neither}
+use Rattle.store_rows.specs.{believed.BankTables.request, believed.Failures.Additions, SeveralRows.IsNew}
+use Rattle.store_rows.specs.{SeveralRows.PutsNew, View.HoldsRows, declared.fault.TableFault.TableFault}
+use Rattle.store_rows.specs.believed.{Rules.HoldsBank, Rules.OfRows, Rules.StoredRows, View.Shows, View.request_entry}
+use Rattle.store_rows.proofs.{GetRequest.has_both, RowLists.found_by, StoredRows.holds_list, TableKinds.holds}
+use Rattle.store_rows.proofs.{TheTables.requests}
 use Rattle.sqlite_rules.specs.Lists.{Has}
-use Rattle.bank_transactions.specs.believed.Additions.{AddsRequests}
-use Rattle.bank_transactions.specs.believed.Causes.{Damage}
-use Rattle.bank_transactions.specs.Causes.{IsFirstBroken}
+use Rattle.bank_transactions.specs.{believed.Additions.AddsRequests, believed.Causes.Damage, Causes.IsFirstBroken}
+use Rattle.bank_transactions.specs.{believed.Stored.HoldsKept, Writing.MayAddRequests}
 use Rattle.bank_transactions.specs.Doing.{Acts, CommitsNothing, Does, DoesBy}
 use Rattle.bank_transactions.specs.Filling.{AreHeld, AreKnown, ReadsWhere, RequestHeld, emptied, known}
-use Rattle.bank_transactions.specs.believed.Stored.{HoldsKept}
-use Rattle.bank_transactions.specs.Writing.{MayAddRequests}
-use Rattle.bank_transactions.proofs.JudgedSlots.{Judging, Ready, Written}
+use Rattle.bank_transactions.proofs.{JudgedSlots.Judging, JudgedSlots.Ready, JudgedSlots.Written, HeldBatch.map_twice}
 use Rattle.bank_transactions.proofs.Chained.{acts_wrote, does_for, does_then, same_fault, still_in}
-use Rattle.bank_transactions.proofs.HeldBatch.{map_twice}
 
 -- ---- slots
 

@@ -1,14 +1,12 @@
 -- Requests that are put in several at a time, each of which had no like.
-use Rattle.std.proofs.Common.{◌≡◌, ◌++◌, Bool, List, [], ◌∷◌, Option, Some, None, find, is_some, refl, ap}
-use Rattle.std.proofs.Common.{Result, Ok, Err}
-use Rattle.std.specs.List.{AllByRecursion}
-use Rattle.std.specs.Prelude.{OnOk, pos}
+use Rattle.std.proofs.Common.{◌≡◌, ◌++◌, Bool, List, [], ◌∷◌, Option, Some, None, find, is_some, refl, ap, Result, Ok}
+use Rattle.std.proofs.Common.{Err}
+use Rattle.std.specs.{List.AllByRecursion, Prelude.OnOk, Prelude.pos}
 use Rattle.sqlite.specs.Effect.{Database}
 use Rattle.sqlite_rules.specs.Lists.{Has}
 use Rattle.posting_rules.specs.declared.rows.RequestRow.{RequestRow}
 use Rattle.sql_meanings.specs.believed.Entries.{Entry, has_two}
-use Rattle.sql_meanings.proofs.Changes.{found_passes}
-use Rattle.sql_meanings.proofs.NewPairs.{found_has, none_passes}
+use Rattle.sql_meanings.proofs.{Changes.found_passes, NewPairs.found_has, NewPairs.none_passes}
 use Rattle.store_rows.specs.SeveralRows.{IsNew, PutsNew}
 
 -- what is not found among more is not found among some

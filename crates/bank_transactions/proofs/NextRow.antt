@@ -1,23 +1,15 @@
 -- The first row above a number, where rows stand by rising numbers.
-use Rattle.std.proofs.Common.{◌≡◌, ℕ, suc, pos, ◌<◌, ◌≤◌, nat_lt, true, false, List, [], ◌∷◌, map, Option}
-use Rattle.std.proofs.Common.{Some, None, refl, subst, arith, inl, inr}
+use Rattle.std.proofs.Common.{◌≡◌, ℕ, suc, pos, ◌<◌, ◌≤◌, nat_lt, true, false, List, [], ◌∷◌, map, Option, Some, None}
+use Rattle.std.proofs.Common.{refl, subst, arith, inl, inr}
 use Rattle.std.specs.Prelude.{All, find}
-use Rattle.std.specs.List.{AllByRecursion}
-use Rattle.std.specs.Ordering.{int_cmp}
-use Rattle.std.specs.declared.cmp.Ordering.TheVariants.{Less}
-use Rattle.std.proofs.lemmas.Bool.Decides.{nat_tests}
-use Rattle.std.proofs.lemmas.Int.{ints}
-use Rattle.std.proofs.lemmas.List.Elements.{All-cons, All-nil}
-use Rattle.posting_rules.specs.declared.fault.Rule.{Rule}
-use Rattle.posting_rules.specs.declared.rows.BranchRow.{BranchRow}
-use Rattle.posting_rules.specs.Branches.{IsNextIn}
-use Rattle.posting_rules.specs.Damage.{IsSoundBranch, IsUndamaged}
-use Rattle.posting_rules.specs.believed.Tables.{Tables}
+use Rattle.std.specs.{List.AllByRecursion, Ordering.int_cmp, declared.cmp.Ordering.TheVariants.Less}
+use Rattle.std.proofs.lemmas.{Bool.Decides.nat_tests, Int.ints, List.Elements.All-cons, List.Elements.All-nil}
+use Rattle.posting_rules.specs.{declared.fault.Rule.Rule, declared.rows.BranchRow.BranchRow, Branches.IsNextIn}
+use Rattle.posting_rules.specs.{Damage.IsSoundBranch, Damage.IsUndamaged, believed.Tables.Tables}
 use Rattle.posting_rules.proofs.Keyed.{by_test}
 use Rattle.sqlite.specs.Effect.{Database}
 use Rattle.sql_meanings.specs.believed.Entries.{Rise}
-use Rattle.store_rows.specs.Columns.{branch_above}
-use Rattle.store_rows.specs.TableAnswers.{BreaksBranch}
+use Rattle.store_rows.specs.{Columns.branch_above, TableAnswers.BreaksBranch}
 use Rattle.store_rows.specs.believed.View.{Shows, branch_entry}
 use Rattle.bank_transactions.proofs.SoundRows.{found_within, sound_unbroken}
 

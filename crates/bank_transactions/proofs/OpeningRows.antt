@@ -1,18 +1,15 @@
 -- The rows that come with a branch are those of an opening, and each of them is free when it is added.
 use Rattle.std.proofs.Common.{◌≡◌, ◌+◌, ◌<◌, ◌≤◌, ℕ, zero, suc, None, false, sym, ap, subst, ◌∙◌}
 use Rattle.std.specs.Prelude.{is_some, pos}
-use Rattle.posting_rules.specs.believed.Changes.{with_branch, with_tellers, with_accounts}
-use Rattle.posting_rules.specs.Changes.{with_teller, with_account}
-use Rattle.posting_rules.specs.believed.Changes.{new_teller, new_account}
-use Rattle.posting_rules.specs.Sound.{AreSound}
-use Rattle.posting_rules.specs.believed.Commands.{opened_with}
+use Rattle.posting_rules.specs.believed.Changes.{with_branch, with_tellers, with_accounts, new_teller, new_account}
+use Rattle.posting_rules.specs.{Changes.with_teller, Changes.with_account, Sound.AreSound}
+use Rattle.posting_rules.specs.{believed.Commands.opened_with, declared.limits.TheConstants.MAX_ACCOUNTS}
 use Rattle.posting_rules.specs.believed.Numbering.{first_teller, first_account}
 use Rattle.posting_rules.specs.believed.Tables.{Tables, row_at, branch_key, branch_row_of}
-use Rattle.posting_rules.proofs.ChangesByKey.{no_more_tellers, no_more_accounts, one_more_teller}
-use Rattle.posting_rules.proofs.ChangesByKey.{one_more_account, opening_teller_is_free, opening_account_is_free}
+use Rattle.posting_rules.proofs.ChangesByKey.{no_more_tellers, no_more_accounts, one_more_teller, one_more_account}
+use Rattle.posting_rules.proofs.ChangesByKey.{opening_teller_is_free, opening_account_is_free}
 use Rattle.bank_transactions.specs.NewRows.{is_taken, tables_staffed, with_new_rows}
 use Rattle.bank_transactions.specs.declared.new_branch.NewRows.TheVariants.{Tellers, Accounts}
-use Rattle.posting_rules.specs.declared.limits.TheConstants.{MAX_ACCOUNTS}
 
 tellers_are : (first count : ℕ) (t : Tables) → with_new_rows Tellers first count t
     ≡ with_tellers first count t

@@ -1,42 +1,28 @@
 -- Reads one after another, and reads that fail. Last of a teller and its branch.
-use Rattle.std.proofs.Common.{◌≡◌, ◌≤◌, ℕ, ℤ, Bool, true, false, Option, Some, None, Ok, Err, refl, sym, ap}
-use Rattle.std.proofs.Common.{subst, ◌∙◌, inl, inr}
+use Rattle.std.proofs.Common.{◌≡◌, ◌≤◌, ℕ, ℤ, Bool, true, false, Option, Some, None, Ok, Err, refl, sym, ap, subst}
+use Rattle.std.proofs.Common.{◌∙◌, inl, inr}
 use Rattle.std.specs.Prelude.{is_some, option_map}
-use Rattle.sqlite.specs.Effect.{Database}
+use Rattle.sqlite.specs.{Effect.Database, Held.Held, Held.state, declared.transaction.Transaction.Transaction}
 use Rattle.sqlite.specs.State.{State, HasCleanDisk, KeepsCommit, IsUnchanged}
-use Rattle.sqlite.specs.Held.{Held, state}
-use Rattle.sqlite.specs.declared.transaction.Transaction.{Transaction}
 use Rattle.sqlite_trees.specs.declared.store.Store.{Ghosts}
 use Rattle.message_records.specs.declared.limits.TheConstants.{MAX_TELLER}
 use Rattle.posting_rules.specs.believed.Numbering.{branch_of_teller}
 use Rattle.posting_rules.specs.believed.LookUps.{balance_of_branch, balance_of_teller, both_of, teller_balances_in}
 use Rattle.posting_rules.specs.believed.Tables.{Tables, row_at, branch_key, teller_key}
-use Rattle.posting_rules.specs.declared.fault.Rule.{Rule}
+use Rattle.posting_rules.specs.declared.{fault.Rule.Rule, rows.BranchRow.BranchRow}
 use Rattle.posting_rules.specs.declared.fault.Rule.TheVariants as broken
-use Rattle.posting_rules.specs.declared.rows.BranchRow.{BranchRow}
-use Rattle.sql_meanings.specs.Calls.{Says}
-use Rattle.sql_meanings.specs.StatementAnswers.{WriteFails}
-use Rattle.sql_meanings.specs.believed.Entries.{Entry}
-use Rattle.sql_meanings.proofs.Saying.{clean_between, says_then}
-use Rattle.sql_meanings.proofs.Sparing.{spares_same, spares_then}
-use Rattle.store_rows.specs.believed.Sparing.{bank_names}
-use Rattle.store_rows.specs.Calls.{OfTables}
-use Rattle.store_rows.specs.Failures.{HasReason}
-use Rattle.store_rows.specs.Holders.{balance_in}
-use Rattle.store_rows.specs.TableAnswers.{Finds}
-use Rattle.store_rows.specs.believed.View.{Shows}
-use Rattle.store_rows.specs.declared.fault.TableFault.{TableFault}
+use Rattle.sql_meanings.specs.{Calls.Says, StatementAnswers.WriteFails, believed.Entries.Entry}
+use Rattle.sql_meanings.proofs.{Saying.clean_between, Saying.says_then, Sparing.spares_same, Sparing.spares_then}
+use Rattle.store_rows.specs.{believed.Sparing.bank_names, Calls.OfTables, Failures.HasReason, Holders.balance_in}
+use Rattle.store_rows.specs.{TableAnswers.Finds, believed.View.Shows, declared.fault.TableFault.TableFault}
+use Rattle.store_rows.specs.{declared.holders.Member.TheVariants.Teller, Stored.IsBranch}
 use Rattle.store_rows.specs.declared.fault.TableFault.TheVariants.{Sqlite, Damaged}
-use Rattle.store_rows.specs.declared.holders.Member.TheVariants.{Teller}
 use Rattle.store_rows.specs.believed.Rules.{BranchKeeps, HoldsBank, IsBroken, OfRows, branch_under, row_under}
 use Rattle.store_rows.specs.believed.Stored.{BalanceKeeps, FindsStored, IsBalance}
-use Rattle.store_rows.specs.Stored.{IsBranch}
-use Rattle.bank_transactions.specs.believed.Causes.{IsBefore}
-use Rattle.bank_transactions.specs.Causes.{IsFault, IsFirstBroken}
+use Rattle.bank_transactions.specs.{believed.Causes.IsBefore, Causes.IsFault, Causes.IsFirstBroken}
 use Rattle.bank_transactions.specs.Doing.{IsLookedUp, Reads, Stays}
 use Rattle.bank_transactions.proofs.Blamed.{comes, failed_here, fault_within, same_moment}
-use Rattle.bank_transactions.proofs.Broken.{IsOf}
-use Rattle.bank_transactions.proofs.SoundRows.{err_found}
+use Rattle.bank_transactions.proofs.{Broken.IsOf, SoundRows.err_found}
 
 -- ---- a read that failed
 

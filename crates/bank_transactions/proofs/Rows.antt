@@ -1,53 +1,36 @@
 -- What one slot writes.
-use Rattle.std.proofs.Common.{◌≡◌, ℕ, List, [], ◌∷◌, Option, Result, Some, None, false, refl, sym, ap}
-use Rattle.std.proofs.Common.{subst, ◌∙◌, inl, inr}
+use Rattle.std.proofs.Common.{◌≡◌, ℕ, List, [], ◌∷◌, Option, Result, Some, None, false, refl, sym, ap, subst, ◌∙◌}
+use Rattle.std.proofs.Common.{inl, inr}
 use Rattle.std.proofs.lemmas.List.{append-nil}
-use Rattle.std.specs.List.{AllByRecursion}
-use Rattle.std.specs.Prelude.{ℤ, is_some}
-use Rattle.sqlite.specs.Order.{Row}
-use Rattle.sqlite.specs.Table.{Table}
-use Rattle.sqlite.specs.declared.transaction.Transaction.{Transaction}
+use Rattle.std.specs.{List.AllByRecursion, Prelude.ℤ, Prelude.is_some}
+use Rattle.sqlite.specs.{Order.Row, Table.Table, declared.transaction.Transaction.Transaction}
 use Rattle.sqlite_rules.specs.Lists.{Has}
 use Rattle.sqlite_trees.specs.declared.store.Store.{Ghosts}
-use Rattle.posting_rules.specs.declared.rows.HistoryRow.{HistoryRow}
-use Rattle.posting_rules.specs.declared.rows.RequestRow.{RequestRow}
-use Rattle.posting_rules.specs.declared.rows.ReferenceRow.{ReferenceRow}
-use Rattle.posting_rules.specs.believed.Changes.{with_history, with_reference, with_request}
-use Rattle.posting_batch.specs.Batch.{PutsFree}
-use Rattle.posting_batch.specs.Overlay.{each_put, history_put, requests_put, references_put}
-use Rattle.sql_meanings.specs.Calls.{Says, Inside}
-use Rattle.sql_meanings.specs.believed.Entries.{Entry}
+use Rattle.posting_rules.specs.declared.rows.{HistoryRow.HistoryRow, RequestRow.RequestRow, ReferenceRow.ReferenceRow}
+use Rattle.posting_rules.specs.believed.Changes.{with_history, with_reference, with_request, row_changed, row_put}
+use Rattle.posting_rules.specs.believed.Changes.{with_branch_balance, with_teller_balance, with_account_balance}
+use Rattle.posting_batch.specs.{Batch.PutsFree, Slots.account_slot_key, Slots.teller_slot_key, Slots.branch_slot_key}
+use Rattle.posting_batch.specs.Overlay.{each_put, history_put, requests_put, references_put, changed_to, over}
+use Rattle.posting_batch.specs.Overlay.{accounts_over, tellers_over, branches_over}
+use Rattle.sql_meanings.specs.{Calls.Says, Calls.Inside, believed.Entries.Entry}
 use Rattle.store_rows.specs.believed.BankTables as bank
-use Rattle.store_rows.specs.Calls.{OfTables}
-use Rattle.store_rows.specs.believed.Failures.{Additions}
-use Rattle.store_rows.specs.Failures.{Puts}
-use Rattle.store_rows.specs.Holders.{with_balance}
+use Rattle.store_rows.specs.{Calls.OfTables, believed.Failures.Additions, Failures.Puts, Holders.with_balance}
+use Rattle.store_rows.specs.{Sparing.SparesIfOk, TableAnswers.PutsOneRow, declared.fault.TableFault.TableFault}
 use Rattle.store_rows.specs.believed.SeveralRows.{given, given_each}
 use Rattle.store_rows.specs.SeveralRows.{AddsRows, meets_key, with_each}
-use Rattle.store_rows.specs.Sparing.{SparesIfOk}
-use Rattle.store_rows.specs.TableAnswers.{PutsOneRow}
 use Rattle.store_rows.specs.believed.View.{history_entry, reference_entry, request_entry}
-use Rattle.store_rows.specs.declared.fault.TableFault.{TableFault}
 use Rattle.store_rows.specs.believed.Inserts.{eight_postings_insert, eight_requests_insert, posting_insert}
 use Rattle.store_rows.specs.believed.Inserts.{reference_insert, request_insert}
 use Rattle.store_rows.specs.declared.holders.Holder.TheVariants.{Account, Teller, Branch}
 use Rattle.bank_transactions.specs.believed.Additions.{AddsPostings, AddsReferences, AddsRequests}
-use Rattle.bank_transactions.specs.Doing.{Does}
-use Rattle.bank_transactions.proofs.Chained.{does_for}
-use Rattle.bank_transactions.proofs.Statements.{does_add}
-use Rattle.posting_rules.specs.believed.Changes.{row_changed, row_put, with_branch_balance, with_teller_balance}
-use Rattle.posting_rules.specs.believed.Changes.{with_account_balance}
+use Rattle.bank_transactions.specs.{Doing.Does, InTurn.ArePlaced}
+use Rattle.bank_transactions.proofs.{Chained.does_for, Statements.does_add}
 use Rattle.posting_rules.specs.ChangesByKey as steps
-use Rattle.posting_rules.specs.believed.Tables.{Tables, row_at, branch_key, teller_key, account_key}
-use Rattle.posting_rules.specs.believed.Tables.{history_key, request_key}
-use Rattle.posting_batch.specs.declared.slots.AccountSlot.{AccountSlot}
-use Rattle.posting_batch.specs.declared.slots.TellerSlot.{TellerSlot}
-use Rattle.posting_batch.specs.declared.slots.BranchSlot.{BranchSlot}
-use Rattle.posting_batch.specs.Overlay.{changed_to, over, accounts_over, tellers_over, branches_over}
-use Rattle.posting_batch.specs.Slots.{account_slot_key, teller_slot_key, branch_slot_key}
+use Rattle.posting_rules.specs.believed.Tables.{Tables, row_at, branch_key, teller_key, account_key, history_key}
+use Rattle.posting_rules.specs.believed.Tables.{request_key}
+use Rattle.posting_batch.specs.declared.slots.{AccountSlot.AccountSlot, TellerSlot.TellerSlot, BranchSlot.BranchSlot}
 use Rattle.posting_batch.proofs.NewRows.{account_same, teller_same, branch_same}
 use Rattle.posting_batch.proofs.SlotsWritten.{over_changed, over_unchanged}
-use Rattle.bank_transactions.specs.InTurn.{ArePlaced}
 use Rattle.bank_transactions.specs.Writing.{MayAddPostings, MayAddRequests, by_change}
 
 -- ---- new rows

@@ -1,42 +1,29 @@
 -- The rows of undamaged tables are sound: nothing that is read of them is told to be damaged.
 use Rattle.std.proofs.Common.{◌≡◌, ◌⊎◌, ℕ, suc, ◌≤◌, ◌≤ℤ◌, ◌∙◌, ap, Bool, true, false, leb, List, [], ◌∷◌, Option}
-use Rattle.std.proofs.Common.{Some}
-use Rattle.std.proofs.Common.{None, Err, refl, sym, subst, arith, inl, inr}
+use Rattle.std.proofs.Common.{Some, None, Err, refl, sym, subst, arith, inl, inr}
 use Rattle.std.specs.Prelude.{ℤ, nat_abs, nat_eq, IsSome, is_some, ◌&&◌}
-use Rattle.std.specs.List.{find, Contains}
-use Rattle.std.specs.Option.{option_map}
-use Rattle.std.proofs.lemmas.Bool.{eqb-true}
-use Rattle.std.proofs.lemmas.Bool.Decides.{nat_tests}
-use Rattle.message_records.specs.believed.Ranges.{whole_within, cents_within}
+use Rattle.std.specs.{List.find, List.Contains, Option.option_map}
+use Rattle.std.proofs.lemmas.Bool.{eqb-true, Decides.nat_tests}
+use Rattle.message_records.specs.{believed.Ranges.whole_within, believed.Ranges.cents_within, Records.request_from}
 use Rattle.message_records.specs.believed.Records.{IsReference, reference_from}
-use Rattle.message_records.specs.Records.{request_from}
-use Rattle.posting_rules.specs.declared.rows.BranchRow.{BranchRow}
-use Rattle.posting_rules.specs.declared.rows.RequestRow.{RequestRow}
-use Rattle.posting_rules.specs.declared.rows.TellerRow.{TellerRow}
-use Rattle.posting_rules.specs.declared.rows.AccountRow.{AccountRow}
-use Rattle.posting_rules.specs.declared.rows.FloorRow.{FloorRow}
-use Rattle.posting_rules.specs.declared.rows.ReferenceRow.{ReferenceRow}
-use Rattle.posting_rules.specs.declared.fault.Rule.{Rule}
-use Rattle.posting_rules.specs.Damage.{IsUndamaged, IsSoundBranch, IsSoundTeller, IsSoundAccount}
-use Rattle.posting_rules.specs.Damage.{IsSoundFloor, IsSoundRequest}
+use Rattle.posting_rules.specs.declared.rows.{BranchRow.BranchRow, RequestRow.RequestRow, TellerRow.TellerRow}
+use Rattle.posting_rules.specs.declared.rows.{AccountRow.AccountRow, FloorRow.FloorRow, ReferenceRow.ReferenceRow}
+use Rattle.posting_rules.specs.declared.{fault.Rule.Rule, limits.TheConstants.MAX_DECIDED}
+use Rattle.posting_rules.specs.{Damage.IsUndamaged, Damage.IsSoundBranch, Damage.IsSoundTeller, Damage.IsSoundAccount}
+use Rattle.posting_rules.specs.{Damage.IsSoundFloor, Damage.IsSoundRequest, believed.Numbering.branch_of_account}
 use Rattle.posting_rules.specs.believed.LookUps.{account_balance_in, balance_of_account, balance_of_teller, floor_in}
-use Rattle.posting_rules.specs.believed.Numbering.{branch_of_account}
 use Rattle.posting_rules.specs.believed.Tables.{Tables, row_at, branch_key, teller_key, account_key, floor_key}
 use Rattle.posting_rules.specs.believed.Tables.{reference_key}
 use Rattle.posting_rules.proofs.Keyed.{by_test, found_passes}
-use Rattle.store_rows.specs.Columns.{request_in}
-use Rattle.store_rows.specs.Holders.{balance_in}
+use Rattle.store_rows.specs.{Columns.request_in, Holders.balance_in, declared.holders.Member.Member}
 use Rattle.store_rows.specs.TableAnswers.{Finds, BreaksBalance, BreaksBranch, BreaksFloor, BreaksReference}
 use Rattle.store_rows.specs.TableAnswers.{BreaksRequest, CanBeKept}
-use Rattle.store_rows.specs.declared.fault.TableFault.{TableFault}
-use Rattle.store_rows.specs.declared.fault.TableFault.TheVariants.{Sqlite, Damaged}
-use Rattle.store_rows.specs.declared.holders.Member.{Member}
+use Rattle.store_rows.specs.declared.fault.TableFault.{TableFault, TheVariants.Sqlite, TheVariants.Damaged}
 use Rattle.store_rows.specs.declared.holders.Member.TheVariants.{Account, Teller}
 use Rattle.sqlite.specs.State.{State}
 use Rattle.bank_transactions.specs.Doing.{IsLookedUp}
-use Rattle.message_records.specs.declared.limits.TheConstants.{MAX_ACCOUNT, MAX_BALANCE, MAX_BRANCH}
-use Rattle.message_records.specs.declared.limits.TheConstants.{MAX_DELTA, MAX_NUMBER, MAX_TELLER}
-use Rattle.posting_rules.specs.declared.limits.TheConstants.{MAX_DECIDED}
+use Rattle.message_records.specs.declared.limits.TheConstants.{MAX_ACCOUNT, MAX_BALANCE, MAX_BRANCH, MAX_DELTA}
+use Rattle.message_records.specs.declared.limits.TheConstants.{MAX_NUMBER, MAX_TELLER}
 
 -- there is a value or there is none
 pub by_option : {X : Type 0} (o : Option X) → (o ≡ None) ⊎ ((x : X) × (o ≡ Some x))

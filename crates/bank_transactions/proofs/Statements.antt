@@ -1,32 +1,20 @@
 -- What the statements do to the tables: a look-up, a row that is put in, a row that is written.
 use Rattle.std.proofs.Common.{◌≡◌, false, true, Ok, Err, Result, refl, sym, subst, ◌∙◌, inl, inr}
 use Rattle.std.specs.Prelude.{IsTrue, Bool, List, [], ℕ}
-use Rattle.sqlite.specs.Effect.{Database}
-use Rattle.sqlite.specs.State.{State}
-use Rattle.sqlite.specs.Held.{Held, state}
-use Rattle.sqlite.specs.Order.{Row}
-use Rattle.sqlite.specs.Table.{Table}
-use Rattle.sqlite.specs.declared.error.Error.{Error}
-use Rattle.sqlite.specs.declared.transaction.Transaction.{Transaction}
+use Rattle.sqlite.specs.{Effect.Database, State.State, Held.Held, Held.state, Order.Row, Table.Table}
+use Rattle.sqlite.specs.{declared.error.Error.Error, declared.transaction.Transaction.Transaction}
 use Rattle.sqlite_trees.specs.declared.store.Store.{Ghosts}
-use Rattle.posting_rules.specs.Damage.{IsUndamaged}
-use Rattle.posting_rules.specs.believed.Tables.{Tables}
-use Rattle.posting_rules.specs.declared.fault.Rule.{Rule}
-use Rattle.posting_rules.specs.declared.fault.Rule.TheVariants.{Meta, Teller, Account, Balance, Request}
-use Rattle.posting_rules.specs.declared.fault.Rule.TheVariants.{Value, Key, Floor, Reference}
+use Rattle.posting_rules.specs.{Damage.IsUndamaged, believed.Tables.Tables, declared.fault.Rule.Rule}
+use Rattle.posting_rules.specs.declared.fault.Rule.TheVariants.{Meta, Teller, Account, Balance, Request, Value, Key}
+use Rattle.posting_rules.specs.declared.fault.Rule.TheVariants.{Floor, Reference}
 use Rattle.sql_meanings.specs.Calls.{Says, Inside}
-use Rattle.store_rows.specs.Calls.{OfTables}
+use Rattle.store_rows.specs.{Calls.OfTables, Failures.Changes, Failures.Puts, Sparing.SparesIfOk, believed.View.Shows}
 use Rattle.store_rows.specs.believed.Failures.{Additions, HasMet, IsUpdateOf, MeetsNone}
-use Rattle.store_rows.specs.Failures.{Changes, Puts}
-use Rattle.store_rows.specs.Sparing.{SparesIfOk}
 use Rattle.store_rows.specs.TableAnswers.{PutsOneRow, SetsRow}
-use Rattle.store_rows.specs.believed.View.{Shows}
-use Rattle.store_rows.specs.declared.fault.TableFault.{TableFault}
-use Rattle.store_rows.specs.declared.fault.TableFault.TheVariants.{Sqlite, Damaged}
-use Rattle.bank_transactions.specs.believed.Causes.{HasMetBetween}
-use Rattle.bank_transactions.specs.Causes.{Blames, IsFirstBroken}
-use Rattle.bank_transactions.specs.Doing.{ChangesNothing, CommitsNothing, Does, DoesBy, LeavesAndAnswers}
-use Rattle.bank_transactions.specs.Doing.{IsLookedUp, Reads, expected}
+use Rattle.store_rows.specs.declared.fault.TableFault.{TableFault, TheVariants.Sqlite, TheVariants.Damaged}
+use Rattle.bank_transactions.specs.{believed.Causes.HasMetBetween, Causes.Blames, Causes.IsFirstBroken}
+use Rattle.bank_transactions.specs.Doing.{ChangesNothing, CommitsNothing, Does, DoesBy, LeavesAndAnswers, IsLookedUp}
+use Rattle.bank_transactions.specs.Doing.{Reads, expected}
 use Rattle.bank_transactions.proofs.Blamed.{blames_put, failed_here, met_here}
 
 -- ---- look-ups

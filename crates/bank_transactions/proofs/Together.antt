@@ -1,16 +1,12 @@
 -- All rows of a batch are written.
-use Rattle.std.proofs.Common.{◌≡◌, ◌⊎◌, ℕ, leb, List, [], ◌∷◌, Option, Some, None, Ok, Result, refl, subst}
-use Rattle.std.proofs.Common.{inl, inr}
+use Rattle.std.proofs.Common.{◌≡◌, ◌⊎◌, ℕ, leb, List, [], ◌∷◌, Option, Some, None, Ok, Result, refl, subst, inl, inr}
 use Rattle.std.specs.Prelude.{ℤ, IsSome, IfSome, ◌&&◌}
 use Rattle.std.specs.List.{AllByRecursion}
-use Rattle.message_records.specs.believed.Ranges.{whole_within}
-use Rattle.message_records.specs.declared.limits.TheConstants.{MAX_BRANCH}
-use Rattle.sqlite.specs.Order.{Row}
-use Rattle.sqlite.specs.declared.transaction.Transaction.{Transaction}
+use Rattle.message_records.specs.{believed.Ranges.whole_within, declared.limits.TheConstants.MAX_BRANCH}
+use Rattle.sqlite.specs.{Order.Row, declared.transaction.Transaction.Transaction}
 use Rattle.sqlite_rules.specs.Lists.{Has}
 use Rattle.sqlite_trees.specs.declared.store.Store.{Ghosts}
-use Rattle.posting_rules.specs.declared.rows.BranchRow.{BranchRow}
-use Rattle.posting_rules.specs.declared.rows.RequestRow.{RequestRow}
+use Rattle.posting_rules.specs.declared.rows.{BranchRow.BranchRow, RequestRow.RequestRow}
 use Rattle.posting_rules.specs.Damage.{IsUndamaged}
 use Rattle.posting_rules.specs.believed.Tables.{Tables, row_at, branch_key}
 use Rattle.posting_rules.proofs.Keyed.{by_test}
@@ -20,16 +16,14 @@ use Rattle.posting_batch.specs.Overlay.{Overlay, accounts_over, tellers_over, br
 use Rattle.posting_batch.specs.Overlay.{requests_put, references_put, tables_over}
 use Rattle.posting_batch.specs.Slots.{account_slot_key, teller_slot_key, branch_slot_key}
 use Rattle.posting_batch.proofs.Orders.{rising_keys}
-use Rattle.store_rows.specs.believed.Failures.{Additions}
-use Rattle.store_rows.specs.declared.fault.TableFault.{TableFault}
+use Rattle.store_rows.specs.{believed.Failures.Additions, declared.fault.TableFault.TableFault}
 use Rattle.bank_transactions.specs.believed.Additions.{AddsPostings, AddsReferences, AddsRequests}
-use Rattle.bank_transactions.specs.Additions.{AddsNew, NoRow}
-use Rattle.bank_transactions.specs.Doing.{Does}
+use Rattle.bank_transactions.specs.{Additions.AddsNew, Additions.NoRow, Doing.Does}
 use Rattle.bank_transactions.proofs.Chained.{does_adds, does_for, does_then}
 use Rattle.bank_transactions.proofs.SoundRows.{no_branch_beyond}
-use Rattle.bank_transactions.specs.Writing.{AreBranchNumbers, MayChangeAccounts, MayChangeTellers}
-use Rattle.bank_transactions.specs.Writing.{MayAddPostings, MayAddReferences, MayAddRequests}
-use Rattle.bank_transactions.specs.Writing.{MayChangeBranches, MayWriteAfter, after_requests}
+use Rattle.bank_transactions.specs.Writing.{AreBranchNumbers, MayChangeAccounts, MayChangeTellers, MayAddPostings}
+use Rattle.bank_transactions.specs.Writing.{MayAddReferences, MayAddRequests, MayChangeBranches, MayWriteAfter}
+use Rattle.bank_transactions.specs.Writing.{after_requests}
 
 -- ---- the numbers of branches that have a row
 

@@ -2,30 +2,22 @@
 use Rattle.std.proofs.Common.{◌≡◌, ℕ, Result, Ok, Err, refl, sym, subst, arith, inl, inr, ◌∙◌}
 use Rattle.std.specs.Prelude.{true, IfOk, IsTrue, OnOk}
 use Rattle.sqlite.specs.State.{State, HasCleanDisk, IsRolledBack, KeepsCommit, Survives}
-use Rattle.sqlite.specs.Held.{Held, state}
-use Rattle.sqlite.specs.Tree.{Trees}
-use Rattle.sqlite.specs.declared.transaction.Transaction.{Transaction}
+use Rattle.sqlite.specs.{Held.Held, Held.state, Tree.Trees, declared.transaction.Transaction.Transaction}
 use Rattle.sqlite_trees.specs.declared.store.Store.{Ghosts}
-use Rattle.sqlite.proofs.Callers.{survives_begin}
-use Rattle.sqlite.proofs.StateLemmas.{survives_then}
-use Rattle.posting_rules.specs.believed.Tables.{Tables}
-use Rattle.posting_rules.specs.Sound.{AreSound}
-use Rattle.store_rows.specs.believed.Sparing.{SparesOthers}
-use Rattle.store_rows.specs.believed.View.{Shows, ShowsTrees}
+use Rattle.sqlite.proofs.{Callers.survives_begin, StateLemmas.survives_then}
+use Rattle.posting_rules.specs.{believed.Tables.Tables, Sound.AreSound}
+use Rattle.store_rows.specs.believed.{Sparing.SparesOthers, View.Shows, View.ShowsTrees}
 use Rattle.store_rows.specs.believed.Failures.{Additions, Committing}
-use Rattle.store_rows.specs.declared.fault.TableFault.{TableFault}
-use Rattle.store_rows.specs.declared.fault.TableFault.TheVariants.{Sqlite, Damaged}
-use Rattle.bank_transactions.specs.believed.Additions.{AddsForRecords}
+use Rattle.store_rows.specs.declared.fault.TableFault.{TableFault, TheVariants.Sqlite, TheVariants.Damaged}
+use Rattle.bank_transactions.specs.believed.{Additions.AddsForRecords, Doing.LeavesOthers}
 use Rattle.bank_transactions.specs.believed.Causes.{Damage, IsBefore}
 use Rattle.bank_transactions.specs.Causes.{Blames, IsFirstBroken}
-use Rattle.bank_transactions.specs.Doing.{Acts, LeavesAndAnswers, Completes, DoesBy, Ends, EndsBy}
-use Rattle.bank_transactions.specs.Doing.{CommitsNothing, MayLeaveAfter, MayCommit, Reads, Undoes, Consults}
-use Rattle.bank_transactions.specs.believed.Doing.{LeavesOthers}
-use Rattle.bank_transactions.specs.Doing.{SparesTheirs, Transacts, TransactsBy}
-use Rattle.bank_transactions.proofs.Blamed.{Widens, comes, commit_fails, fault_within}
-use Rattle.bank_transactions.proofs.Blamed.{met_within, same_moment, then_moment}
-use Rattle.bank_transactions.proofs.Chained.{does_for}
-use Rattle.bank_transactions.proofs.Statements.{does_read}
+use Rattle.bank_transactions.specs.Doing.{Acts, LeavesAndAnswers, Completes, DoesBy, Ends, EndsBy, CommitsNothing}
+use Rattle.bank_transactions.specs.Doing.{MayLeaveAfter, MayCommit, Reads, Undoes, Consults, SparesTheirs, Transacts}
+use Rattle.bank_transactions.specs.Doing.{TransactsBy}
+use Rattle.bank_transactions.proofs.Blamed.{Widens, comes, commit_fails, fault_within, met_within, same_moment}
+use Rattle.bank_transactions.proofs.Blamed.{then_moment}
+use Rattle.bank_transactions.proofs.{Chained.does_for, Statements.does_read}
 
 -- ---- by what its parts answered, and with what it ended
 

@@ -1,34 +1,21 @@
 -- A try that was given up, and then a call: it is as if there had been the call alone.
-use Rattle.std.proofs.Common.{◌≡◌, ◌∙◌, ℕ, List, Result, Ok, Err, refl, sym, ap, subst, arith, inl, inr}
+use Rattle.std.proofs.Common.{◌≡◌, ◌∙◌, ℕ, List, Result, Ok, Err, refl, sym, subst, arith, inl, inr}
 use Rattle.std.specs.Prelude.{false, true, IfOk, IsTrue, OnErr, OnOk}
-use Rattle.sqlite.specs.Effect.{Database}
-use Rattle.sqlite.specs.Held.{Held, state}
+use Rattle.sqlite.specs.{Effect.Database, Held.Held, Held.state, Tree.Trees, declared.error.Error.Error}
 use Rattle.sqlite.specs.State.{Fails, IsRolledBack, IsUnchanged, KeepsCommit, State, HasCleanDisk, Survives}
-use Rattle.sqlite.specs.Tree.{Trees}
-use Rattle.sqlite.proofs.Callers.{survives_begin}
-use Rattle.sqlite.proofs.StateLemmas.{survives_then}
-use Rattle.sqlite.specs.declared.error.Error.{Error}
+use Rattle.sqlite.proofs.{Callers.survives_begin, StateLemmas.survives_then}
 use Rattle.sqlite.specs.declared.transaction.Transaction.{Transaction}
 use Rattle.sqlite_trees.specs.declared.store.Store.{Ghosts}
-use Rattle.posting_rules.specs.believed.Sound.{AreOfALog}
-use Rattle.posting_rules.specs.believed.Tables.{Tables}
-use Rattle.posting_rules.specs.declared.fault.Rule.{Rule}
+use Rattle.posting_rules.specs.{believed.Sound.AreOfALog, believed.Tables.Tables, declared.fault.Rule.Rule}
 use Rattle.sql_meanings.specs.Calls.{Inside, Says}
 use Rattle.sql_meanings.proofs.Saying.{survives_both}
-use Rattle.store_rows.specs.believed.Failures.{Additions, Committing}
-use Rattle.store_rows.specs.believed.Rules.{IsBroken}
-use Rattle.store_rows.specs.believed.Sparing.{SparesOthers}
-use Rattle.store_rows.specs.believed.View.{Shows}
-use Rattle.store_rows.specs.declared.fault.TableFault.{TableFault}
+use Rattle.store_rows.specs.{believed.Failures.Additions, believed.Failures.Committing, believed.Rules.IsBroken}
+use Rattle.store_rows.specs.{believed.Sparing.SparesOthers, believed.View.Shows, declared.fault.TableFault.TableFault}
 use Rattle.store_rows.specs.declared.fault.TableFault.TheVariants.{Sqlite, Damaged}
-use Rattle.bank_transactions.specs.believed.Additions.{AddsForRecords}
-use Rattle.bank_transactions.specs.believed.Batches.{DecidesNone}
-use Rattle.bank_transactions.specs.Batches.{KeepsOnly}
+use Rattle.bank_transactions.specs.{believed.Additions.AddsForRecords, believed.Batches.DecidesNone}
+use Rattle.bank_transactions.specs.{Batches.KeepsOnly, Causes.Blames, believed.Doing.LeavesOthers, Tries.IsAsBefore}
 use Rattle.bank_transactions.specs.believed.Causes.{HasMetBetween, IsBefore, IsBrokenOrMet}
-use Rattle.bank_transactions.specs.Causes.{Blames}
-use Rattle.bank_transactions.specs.believed.Doing.{LeavesOthers}
 use Rattle.bank_transactions.specs.Doing.{MayLeaveAfter, Transacts, Undoes}
-use Rattle.bank_transactions.specs.Tries.{IsAsBefore}
 use Rattle.bank_transactions.specs.Undone.{IsUndone, UndoesFaults}
 use Rattle.bank_transactions.proofs.Blamed.{comes, failed_within, met_within, same_moment, then_moment}
 

@@ -1,20 +1,14 @@
 -- A transaction that a fault ended is undone.
 use Rattle.std.proofs.Common.{◌≡◌, ◌∙◌, Result, Ok, Err, arith, inl, inr, refl, subst, sym}
 use Rattle.std.specs.Prelude.{false, true, IsTrue, OnErr}
-use Rattle.sqlite.specs.Held.{Held, state}
+use Rattle.sqlite.specs.{Held.Held, Held.state, declared.transaction.Transaction.Transaction}
 use Rattle.sqlite.specs.State.{State, HasCleanDisk, IsRolledBack, KeepsCommit}
-use Rattle.sqlite.specs.declared.transaction.Transaction.{Transaction}
 use Rattle.sqlite_trees.specs.declared.store.Store.{Ghosts}
-use Rattle.posting_rules.specs.Sound.{AreSound}
-use Rattle.posting_rules.specs.believed.Tables.{Tables}
-use Rattle.store_rows.specs.declared.fault.TableFault.{TableFault}
-use Rattle.store_rows.specs.declared.fault.TableFault.TheVariants.{Sqlite, Damaged}
-use Rattle.bank_transactions.specs.believed.Causes.{Damage}
-use Rattle.bank_transactions.specs.Causes.{IsFirstBroken}
-use Rattle.bank_transactions.specs.Doing.{CommitsNothing, DoesBy, Ends, EndsBy, Reads}
-use Rattle.bank_transactions.specs.Undone.{IsUndone, UndoesFaults}
-use Rattle.bank_transactions.proofs.Chained.{does_for}
-use Rattle.bank_transactions.proofs.Statements.{does_read}
+use Rattle.posting_rules.specs.{Sound.AreSound, believed.Tables.Tables}
+use Rattle.store_rows.specs.declared.fault.TableFault.{TableFault, TheVariants.Sqlite, TheVariants.Damaged}
+use Rattle.bank_transactions.specs.{believed.Causes.Damage, Causes.IsFirstBroken, Doing.CommitsNothing, Doing.DoesBy}
+use Rattle.bank_transactions.specs.{Doing.Ends, Doing.EndsBy, Doing.Reads, Undone.IsUndone, Undone.UndoesFaults}
+use Rattle.bank_transactions.proofs.{Chained.does_for, Statements.does_read}
 
 -- what is rolled back shows what was committed first
 rolled : (old last new : State) → (IsTrue old.is_open → old.now ≡ old.committed) → KeepsCommit old last

@@ -4,23 +4,20 @@ use Rattle.std.proofs.Common.{take_all, drop, get_or, arith, refl, sym, ap, subs
 use Rattle.std.specs.Prelude.{count_by, cond, sum_by}
 use Rattle.std.proofs.Math.Seq.{take-append-add, take-append_seam, take-length}
 use Rattle.std.proofs.lemmas.List.{drop-map, drop_more, length-append, length-map, length-take-le, map-append}
-use Rattle.std.proofs.lemmas.List.{take-append-drop, take-map}
-use Rattle.std.proofs.lemmas.List.Sums.{sum_by-append}
+use Rattle.std.proofs.lemmas.List.{take-append-drop, take-map, Sums.sum_by-append}
 use Rattle.posting_rules.specs.believed.Commands.{Command, Open, AreCommands}
 use Rattle.posting_rules.specs.believed.Counter.{Seen, ShowsLog, ShowsPrefix, Takes, Refuses, opening_after}
 use Rattle.posting_rules.specs.{believed.Runs.followed_by, believed.Tables.Tables, believed.Tables.AreTablesOf}
-use Rattle.posting_rules.proofs.{CounterCalls.Takes-append, Remaining.leaves_still, Remaining.leaves_weaker}
-use Rattle.posting_rules.proofs.Sequence.{after-append}
+use Rattle.posting_rules.specs.{declared.counter.Opening.Opening, declared.fault.Fault.Fault}
+use Rattle.posting_rules.proofs.{CounterCalls.Takes-append, Sequence.after-append}
+use Rattle.posting_rules.proofs.Remaining.{leaves_still, leaves_weaker}
 use Rattle.posting_core.proofs.Refused.{still_down}
-use Rattle.posting_rules.specs.declared.{counter.Opening.Opening, fault.Fault.Fault}
 use Rattle.posting_rules.specs.declared.counter.Opening.TheVariants.{Opened, Already, Differs}
 use Rattle.posting_rules.specs.declared.fault.Fault.TheVariants.{Memory, Store, Down, Damaged}
-use Rattle.branch_loader.specs.believed.Plans.{Rows, Row}
-use Rattle.branch_loader.specs.Plans.{openings, terms_of}
-use Rattle.branch_loader.specs.believed.Loading.{IsRefusedAfter, LeavesPrefix}
-use Rattle.branch_loader.specs.Loading.{LoadsAll, answers, counted, total}
-use Rattle.branch_loader.specs.Loading.{with_answer, is_opened, is_already, is_differs}
-use Rattle.branch_loader.specs.declared.loader.Loaded.{Loaded}
+use Rattle.branch_loader.specs.believed.{Plans.Rows, Plans.Row, Loading.IsRefusedAfter, Loading.LeavesPrefix}
+use Rattle.branch_loader.specs.{Plans.openings, Plans.terms_of, declared.loader.Loaded.Loaded}
+use Rattle.branch_loader.specs.Loading.{LoadsAll, answers, counted, total, with_answer, is_opened, is_already}
+use Rattle.branch_loader.specs.Loading.{is_differs}
 
 -- ---- answers
 

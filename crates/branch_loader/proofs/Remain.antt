@@ -1,14 +1,13 @@
 -- What a read of a record does to the records that a reader has left.
-use Rattle.std.proofs.Common.{◌≡◌, ◌<◌, ◌≤◌, ◌+◌, ◌∷◌, ◌++◌, ◌∙◌, ℕ, zero, suc, List, [], Option, Some, None}
-use Rattle.std.proofs.Common.{Bool, true, false, length, arith, refl, sym, ap, add-one, ◌==◌}
+use Rattle.std.proofs.Common.{◌≡◌, ◌<◌, ◌≤◌, ◌+◌, ◌∷◌, ◌++◌, ◌∙◌, ℕ, zero, suc, List, [], Option, Some, None, Bool}
+use Rattle.std.proofs.Common.{true, false, length, arith, refl, sym, ap, add-one, ◌==◌}
 use Rattle.std.specs.Prelude.{if◌then◌else◌, option_map, IfSome}
-use Rattle.csv.specs.Machine.{Read, after_end, ends_at_end, ends_with, field_after, fields_after, in_field}
-use Rattle.csv.specs.Machine.{is_end, next_record, start_field, start_record, step}
+use Rattle.csv.specs.Machine.{Read, after_end, ends_at_end, ends_with, field_after, fields_after, in_field, is_end}
+use Rattle.csv.specs.Machine.{next_record, start_field, start_record, step}
 use Rattle.csv.specs.Reading.{NextIs, ReadRecord, ReadsNext, default_config, pending_of, records, strip_bom}
 use Rattle.csv.specs.Reading.{records_from, records_next, source_of}
-use Rattle.csv.specs.declared.{parser.Action.Action, parser.State.State}
+use Rattle.csv.specs.declared.{parser.Action.Action, parser.State.State, reader.Reader.Reader}
 use Rattle.csv.specs.declared.parser.State.TheVariants as st
-use Rattle.csv.specs.declared.reader.Reader.{Reader}
 use Rattle.branch_loader.specs.Records.{HasLeft, TakesRecord, records_at, Records, Fields}
 
 -- a record's end leaves the machine between two records

@@ -1,20 +1,19 @@
 -- How a plan grows by a row, and that it is short.
-use Rattle.std.proofs.Common.{◌≡◌, ◌≤◌, ◌<◌, ◌+◌, ◌∷◌, ◌++◌, ◌∙◌, ℕ, List, [], Option, Some, None, Bool, true}
-use Rattle.std.proofs.Common.{false, Ok, Err, All, map, length, arith, refl, sym, ap, nat_eq, nat_le}
+use Rattle.std.proofs.Common.{◌≡◌, ◌≤◌, ◌<◌, ◌+◌, ◌∷◌, ◌++◌, ◌∙◌, ℕ, List, [], Option, Some, None, Bool, true, false}
+use Rattle.std.proofs.Common.{Ok, Err, All, map, length, arith, refl, sym, ap, nat_eq, nat_le}
 use Rattle.std.specs.Prelude.{if◌then◌else◌, ◌&&◌, ◌||◌, ◌==◌, ◌≤ℤ◌, ℤ, pos, suc, zero, option_and_then, option_map}
 use Rattle.std.specs.Prelude.{IfSome, int_le}
 use Rattle.std.specs.List.{IsDistinct, list_any}
-use Rattle.std.proofs.{lemmas.Bool.Decides.nat_tests, lemmas.Int.ints, lemmas.Cmp.nat_eq_equiv}
-use Rattle.std.proofs.{lemmas.List.length-map, lemmas.List.map-append, lemmas.List.Elements.All-push}
-use Rattle.std.proofs.{lemmas.Map.Keys.IsDistinct-push, lemmas.Map.Steps.length-le_from_distinct_below}
+use Rattle.std.proofs.lemmas.{Bool.Decides.nat_tests, Int.ints, Cmp.nat_eq_equiv, List.Elements.All-push}
+use Rattle.std.proofs.lemmas.{Map.Keys.IsDistinct-push, Map.Steps.length-le_from_distinct_below}
+use Rattle.std.proofs.lemmas.List.{length-map, map-append}
 use Rattle.posting_rules.specs.declared.limits.TheConstants.{LAST_BRANCH, MAX_ACCOUNTS}
-use Rattle.message_records.specs.{believed.Ranges.whole_within, believed.Reading.number_of}
+use Rattle.message_records.specs.believed.{Ranges.whole_within, Reading.number_of}
 use Rattle.branch_loader.specs.Plans.{IsPlan, IsRow, names, number_within, row_of, row_of_fields, row_of_listed}
 use Rattle.branch_loader.specs.Plans.{row_of_parts, parts_of, amount_of, below_zero, zero_alone, floor_of}
-use Rattle.branch_loader.specs.believed.Plans.{Rows, Row}
 use Rattle.branch_loader.specs.Plans.{floor_within}
-use Rattle.branch_loader.specs.declared.fault.PlanFault.TheVariants.{Twice}
-use Rattle.branch_loader.specs.Records.{Fields}
+use Rattle.branch_loader.specs.believed.Plans.{Rows, Row}
+use Rattle.branch_loader.specs.{declared.fault.PlanFault.TheVariants.Twice, Records.Fields}
 
 -- the branches of rows
 abbrev branches : Rows → List ℕ

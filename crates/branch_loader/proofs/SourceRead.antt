@@ -1,16 +1,14 @@
 -- What a source of records told last.
-use Rattle.std.proofs.Common.{◌≡◌, List, [], ◌∷◌, Option, Some, None, Bool, true, false, ℕ, Result, Ok}
-use Rattle.std.proofs.Common.{Err, ap, subst, ◌∙◌, inl}
+use Rattle.std.proofs.Common.{◌≡◌, List, [], ◌∷◌, Option, Some, None, Bool, true, false, ℕ, Result, Ok, Err, ap}
+use Rattle.std.proofs.Common.{subst, ◌∙◌, inl}
 use Rattle.std.specs.Prelude.{⊤, ℤ, if◌then◌else◌}
-use Rattle.csv.specs.declared.{error.Error.Error, error.ErrorKind.ErrorKind}
-use Rattle.posting_core.specs.believed.Told.{GrowsBy, EndsWith}
-use Rattle.posting_core.specs.Told.{HasMore}
+use Rattle.csv.specs.declared.error.{Error.Error, ErrorKind.ErrorKind}
+use Rattle.posting_core.specs.{believed.Told.GrowsBy, believed.Told.EndsWith, Told.HasMore}
 use Rattle.posting_core.proofs.Telling.{more_last}
-use Rattle.branch_loader.specs.declared.fault.PlanFault.{PlanFault}
-use Rattle.branch_loader.specs.declared.fault.PlanFault.TheVariants.{Header, Columns, Branch, Accounts, Floor}
-use Rattle.branch_loader.specs.declared.fault.PlanFault.TheVariants.{Twice, Csv, Memory}
+use Rattle.branch_loader.specs.{declared.fault.PlanFault.PlanFault, believed.Plans.Rows, believed.Plans.Row}
+use Rattle.branch_loader.specs.declared.fault.PlanFault.TheVariants.{Header, Columns, Branch, Accounts, Floor, Twice}
+use Rattle.branch_loader.specs.declared.fault.PlanFault.TheVariants.{Csv, Memory}
 use Rattle.branch_loader.specs.Records.{Fields, RecordTold, Found, Failed, WasRecord, WasFailure, record_told}
-use Rattle.branch_loader.specs.believed.Plans.{Rows, Row}
 use Rattle.branch_loader.specs.Plans.{IsToldSo, names, row_of, row_of_parts, row_of_fields, parts_of}
 
 -- what one call told is the last that was told

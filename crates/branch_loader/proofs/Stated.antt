@@ -1,14 +1,13 @@
 -- What is stated, step by step.
-use Rattle.std.proofs.Common.{◌≡◌, ◌≤◌, ◌<◌, ◌+◌, ◌∷◌, ◌++◌, ◌∙◌, ℕ, List, [], Some, None, Bool, true}
-use Rattle.std.proofs.Common.{false, Result, Ok, Err, length, refl, take, drop, get_or}
+use Rattle.std.proofs.Common.{◌≡◌, ◌≤◌, ◌<◌, ◌+◌, ◌∷◌, ◌++◌, ◌∙◌, ℕ, List, [], Some, None, Bool, true, false, Result}
+use Rattle.std.proofs.Common.{Ok, Err, length, refl, take, drop, get_or}
 use Rattle.std.proofs.lemmas.List.{at_drop_more, drop_all, take_all, take_more}
-use Rattle.branch_loader.specs.Plans.{IsPlan, TellsPlan, header_of, plan_of_list, plan_of_records}
-use Rattle.branch_loader.specs.believed.Plans.{Rows, Row}
-use Rattle.branch_loader.specs.Plans.{row_of_fields, row_of_listed, rows_by}
+use Rattle.branch_loader.specs.Plans.{IsPlan, TellsPlan, header_of, plan_of_list, plan_of_records, row_of_fields}
+use Rattle.branch_loader.specs.Plans.{row_of_listed, rows_by}
+use Rattle.branch_loader.specs.{believed.Plans.Rows, believed.Plans.Row, declared.fault.PlanFault.PlanFault}
 use Rattle.branch_loader.specs.Records.{TakesRecord, Records, Fields}
-use Rattle.branch_loader.specs.declared.fault.PlanFault.{PlanFault}
-use Rattle.branch_loader.specs.declared.fault.PlanFault.TheVariants.{Header, Columns, Accounts, Floor, Twice}
-use Rattle.branch_loader.specs.declared.fault.PlanFault.TheVariants.{Csv, Memory}
+use Rattle.branch_loader.specs.declared.fault.PlanFault.TheVariants.{Header, Columns, Accounts, Floor, Twice, Csv}
+use Rattle.branch_loader.specs.declared.fault.PlanFault.TheVariants.{Memory}
 use Rattle.branch_loader.specs.declared.fault.PlanFault.TheVariants as Fault
 use Rattle.branch_loader.proofs.Rows.{listed-longer, listed-same}
 

@@ -4,12 +4,10 @@ use Rattle.std.specs.{Prelude.IfErr, Prelude.IfOk, Result.IsErrOf, Io.KnownBytes
 use Rattle.std.proofs.KnownBytes.{Keeps-refl}
 use Rattle.posting_rules.specs.{declared.fault.Fault.Fault, believed.Counter.Seen}
 use Rattle.posting_rules.specs.declared.fault.Fault.TheVariants as bank
-use Rattle.posting_core.specs.believed.Told.{ReadTold}
-use Rattle.posting_core.specs.Told.{HasWriteFailed, WriteTold}
+use Rattle.posting_core.specs.{believed.Told.ReadTold, Told.HasWriteFailed, Told.WriteTold}
 use Rattle.report_contents.specs.Written.{AppendsPart}
-use Rattle.branch_loader.specs.believed.Plans.{Rows}
-use Rattle.branch_loader.specs.Plans.{ReadsPlan}
-use Rattle.branch_loader.specs.declared.{fault.PlanFault.PlanFault, loader.Loaded.Loaded}
+use Rattle.branch_loader.specs.{believed.Plans.Rows, Plans.ReadsPlan, declared.loader.Loaded.Loaded}
+use Rattle.branch_loader.specs.declared.fault.PlanFault.{PlanFault}
 use Rattle.branch_loader.specs.declared.fault.PlanFault.TheVariants.{Header, Columns, Branch, Accounts, Floor, Twice}
 use Rattle.branch_loader.specs.declared.fault.PlanFault.TheVariants.{Csv, Memory}
 use Rattle.command_line.specs.{Faults.fault_of_bank, Faults.fault_of_plan, Lines.loaded_line, Looking.IsOfPlanFile}

@@ -6,8 +6,7 @@ use Rattle.std.specs.{Prelude.OnErr, Result.IsErrOf, Io.KnownBytes.Appends}
 use Rattle.std.specs.{declared.net.socket_addr.SocketAddr.SocketAddr}
 use Rattle.posting_rules.specs.{believed.Counter.Seen, declared.fault.Fault.Fault}
 use Rattle.posting_core.proofs.Telling.{adds-none}
-use Rattle.posting_core.specs.believed.Told.{EndsWith}
-use Rattle.posting_core.specs.Told.{HasWriteFailed, IsFlush, WriteTold}
+use Rattle.posting_core.specs.{believed.Told.EndsWith, Told.HasWriteFailed, Told.IsFlush, Told.WriteTold}
 use Rattle.report_contents.specs.Written.{AppendsPart}
 use Rattle.load_driver.specs.{believed.Drives.Drives, declared.drive.Driven.Driven}
 use Rattle.command_line.specs.Lines.{PrintsLine, WritesOut, driven_line, listening_line}

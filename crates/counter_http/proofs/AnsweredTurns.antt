@@ -4,22 +4,21 @@ use Rattle.std.proofs.Common.{Result, Ok, Err, refl, sym, ap, subst, eqb, ◌∙
 use Rattle.std.proofs.lemmas.{Bool.and_parts, Bool.ne_eqb, List.take_all}
 use Rattle.std.specs.{Prelude.ℤ, Prelude.codes, Prelude.bytes_eq, Io.KnownBytes.Appends}
 use Rattle.message_records.specs.believed.Spelling.{reply_spelling}
-use Rattle.posting_rules.specs.{declared.fault.Fault.Fault, believed.Entries.reply, believed.Entries.balance_after}
-use Rattle.posting_rules.specs.believed.Commands.{Command, Post}
+use Rattle.posting_rules.specs.declared.fault.Fault.{Fault}
+use Rattle.posting_rules.specs.believed.{Entries.reply, Entries.balance_after, Commands.Command, Commands.Post}
 use Rattle.posting_rules.specs.believed.Counter.{Seen, IsCounterCall, ShowsLog, Takes, Refuses}
 use Rattle.posting_rules.proofs.CounterCalls.{call_refused_after, refused_after, takes_none}
 use Rattle.posting_core.specs.{Clock.IsReading, believed.Clock.AreReadings, Stream.IsOfCall, Told.WriteTold}
 use Rattle.counter_http.specs.{declared.fault.ServeFault.ServeFault, declared.routes.Route.Route, Ends.SendsAs}
 use Rattle.counter_http.specs.declared.fault.ServeFault.TheVariants as told
 use Rattle.counter_http.specs.believed.Answers.{octets, balance_answer, status_words, bare, is_record, submits}
-use Rattle.counter_http.specs.believed.Answers.{answer_on}
-use Rattle.counter_http.specs.believed.Answers.{Asked, Answer, answer_to, answer_text, shows, unavailable, is_posting}
+use Rattle.counter_http.specs.believed.Answers.{answer_on, Asked, Answer, answer_to, answer_text, shows, unavailable}
+use Rattle.counter_http.specs.believed.Answers.{is_posting}
 use Rattle.counter_http.specs.declared.routes.Route.TheVariants.{Posting, Account, Branches}
 use Rattle.counter_http.specs.believed.Paths.{route_of, path_of}
 use Rattle.counter_http.proofs.PartsWritten.{bare_of, front_of}
 use Rattle.counter_http.specs.believed.Turns.{commands_if, commands_for, readings_if, readings_for}
-use Rattle.counter_http.specs.Turns.{IsDealtWith, IfRefused}
-use Rattle.counter_http.specs.Turns.{IsRefusedAt, IsSentAs, IsTellingOf, TurnIsDealtWith}
+use Rattle.counter_http.specs.Turns.{IsDealtWith, IfRefused, IsRefusedAt, IsSentAs, IsTellingOf, TurnIsDealtWith}
 
 -- the bank refused a call, and that was told
 pub told_refused : {C : Type 0} (seen : C → Seen) {reason : Fault → C → C → Type 0} {w w' : Option (List ℕ)}

@@ -6,16 +6,14 @@ use Rattle.std.proofs.{KnownBytes.Appends-trans, lemmas.List.Concat.flat_map-app
 use Rattle.posting_rules.specs.{declared.fault.Fault.Fault, believed.Commands.Command, believed.Runs.followed_by}
 use Rattle.posting_rules.specs.believed.Counter.{Seen, Takes, Refuses}
 use Rattle.posting_rules.proofs.CounterCalls.{idle_after}
-use Rattle.posting_core.specs.{believed.Clock.AreReadings, believed.Told.ReadTold, Told.WriteTold}
-use Rattle.posting_core.specs.{believed.Batches.joined}
+use Rattle.posting_core.specs.believed.{Clock.AreReadings, Told.ReadTold, Batches.joined}
+use Rattle.posting_core.specs.Told.{WriteTold}
 use Rattle.counter_http.specs.{declared.fault.ServeFault.ServeFault, declared.next.Whole.Whole}
-use Rattle.counter_http.specs.{believed.Ends.HasEnded}
-use Rattle.counter_http.specs.{believed.Messages.IsMessage, Next.asked, Next.IsWhole}
+use Rattle.counter_http.specs.{believed.Ends.HasEnded, believed.Messages.IsMessage, Next.asked, Next.IsWhole}
 use Rattle.counter_http.specs.declared.fault.ServeFault.TheVariants.{Read, Write, Bank, Memory}
 use Rattle.counter_http.specs.believed.Answers.{Asked, asked_by, answer_of, unavailable}
 use Rattle.counter_http.specs.believed.Turns.{Turn, commands_in, moments_in, text_in, commands_of, moments_of}
-use Rattle.counter_http.specs.believed.Turns.{texts_of}
-use Rattle.counter_http.specs.believed.Turns.{answers_to}
+use Rattle.counter_http.specs.believed.Turns.{texts_of, answers_to}
 use Rattle.counter_http.specs.Turns.{TurnIsAnsweredInPart, IsRefusedAt, ServingBreaksOff, TurnIsDealtWith}
 use Rattle.posting_core.proofs.Batched.{joined-append}
 use Rattle.counter_http.specs.believed.Serving.{At_message, At_refusal, Exits, AnswersAreWritten, ServesConnection}

@@ -8,21 +8,17 @@ use Rattle.std.proofs.KnownBytes.{Appends-trans, Appends-nil, Consumes-nil}
 use Rattle.std.proofs.lemmas.List.{length-take-le, length-append, take_all}
 use Rattle.posting_rules.specs.{declared.fault.Fault.Fault, believed.Counter.Seen}
 use Rattle.posting_rules.proofs.CounterCalls.{idle_after}
-use Rattle.posting_core.specs.{believed.Clock.AreReadings, believed.Batches.joined}
-use Rattle.posting_core.specs.believed.Told.{ReadTold, GrowsBy}
+use Rattle.posting_core.specs.believed.{Clock.AreReadings, Batches.joined, Told.ReadTold, Told.GrowsBy}
 use Rattle.posting_core.specs.Told.{WriteTold, read_told}
 use Rattle.counter_http.specs.{declared.fault.ServeFault.ServeFault, declared.next.Whole.Whole}
-use Rattle.counter_http.specs.{believed.Ends.HasEnded}
-use Rattle.counter_http.specs.{believed.Answers.Asked, believed.Answers.refusal, believed.Serving.BeginsWithNoMessage}
-use Rattle.counter_http.specs.{believed.Serving.IsWalked}
-use Rattle.counter_http.specs.{believed.Serving.At_last, believed.Serving.Exits, believed.Serving.AnswersAreWritten}
-use Rattle.counter_http.specs.{believed.Serving.ServesConnection}
+use Rattle.counter_http.specs.{believed.Ends.HasEnded, Turns.AreAnswered, Turns.TurnIsDealtWith}
+use Rattle.counter_http.specs.believed.{Answers.Asked, Answers.refusal, Turns.Turn, Turns.text_in, Turns.commands_of}
+use Rattle.counter_http.specs.believed.{Turns.moments_of, Turns.messages_of, Turns.texts_of, Turns.answers_to}
+use Rattle.counter_http.specs.believed.Serving.{BeginsWithNoMessage, IsWalked, At_last, Exits, AnswersAreWritten}
+use Rattle.counter_http.specs.believed.Serving.{ServesConnection}
 use Rattle.counter_http.specs.declared.fault.ServeFault.TheVariants.{Read, Write, Memory}
 use Rattle.counter_http.specs.believed.Messages.{closes, Finished, Closed, EndsWalk, Walks}
 use Rattle.counter_http.specs.Next.{asked, IsWhole, IsUnfinished, IsHopeless}
-use Rattle.counter_http.specs.believed.Turns.{Turn, text_in, commands_of, moments_of, messages_of, texts_of}
-use Rattle.counter_http.specs.believed.Turns.{answers_to}
-use Rattle.counter_http.specs.Turns.{AreAnswered, TurnIsDealtWith}
 use Rattle.posting_core.proofs.{Batched.joined-append, Streaming.at_ok, Telling.HasMade}
 use Rattle.posting_core.proofs.Stops.{stop_all, written_part}
 use Rattle.counter_http.proofs.Walking.{walks_after, walks_end, walks_always, walks_closed}

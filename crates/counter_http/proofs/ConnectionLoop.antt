@@ -9,10 +9,9 @@ use Rattle.posting_rules.specs.{declared.fault.Fault.Fault, believed.Counter.See
 use Rattle.posting_core.specs.Told.{WriteTold}
 use Rattle.httparse.specs.Grammar.{print_request}
 use Rattle.counter_http.specs.{declared.next.Whole.Whole, believed.Messages.message_text, believed.Messages.Finished}
-use Rattle.counter_http.specs.{believed.Answers.Asked}
+use Rattle.counter_http.specs.{believed.Answers.Asked, Turns.AreAnswered, Turns.TurnIsDealtWith}
 use Rattle.counter_http.specs.Next.{asked, IsWhole, IsUnfinished}
 use Rattle.counter_http.specs.believed.Turns.{Turn, text_in, texts_of}
-use Rattle.counter_http.specs.Turns.{AreAnswered, TurnIsDealtWith}
 use Rattle.counter_http.specs.believed.Serving.{KeepsConnection, BeginsWithNoMessage}
 use Rattle.counter_http.proofs.Walking.{no_message, head_some}
 use Rattle.counter_http.proofs.Turning.{answered_none, answered_more, answered_one}

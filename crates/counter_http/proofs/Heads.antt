@@ -11,11 +11,10 @@ use Rattle.httparse.specs.declared.spans.{HeaderSpan.HeaderSpan, RequestSpans.Re
 use Rattle.httparse.specs.Spans.{header_bytes, name_and_value, AreFieldsAt, IsRequestWithin, IsRequestAt, IsRequestOf}
 use Rattle.httparse.specs.Spans.{RequestOverflows}
 use Rattle.httparse.proofs.GrammarLemmas.{request_prefix_free, ReadsRequest-append}
-use Rattle.counter_http.specs.believed.Answers.{Asked}
+use Rattle.counter_http.specs.{believed.Answers.Asked, Messages.AlwaysEnds}
 use Rattle.counter_http.specs.believed.Fields.{NamedValue, named_values, body_length, asks_to_close}
 use Rattle.counter_http.specs.believed.Messages.{message_text, IsMessage, LacksBody, closes, IsHead, No_head, No_body}
 use Rattle.counter_http.specs.believed.Messages.{EndsWalk}
-use Rattle.counter_http.specs.Messages.{AlwaysEnds}
 
 -- bytes that are there stay when others follow
 pub some_more : (buf more : List ℕ) → 0 < length buf → buf ++ more ≢ []

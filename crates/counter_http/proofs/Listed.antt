@@ -3,10 +3,9 @@ use Rattle.std.proofs.Common.{lit<, Bool, false, ◌≡◌, ℕ, zero, suc, ◌-
 use Rattle.std.proofs.Common.{length, Option, Some, None, refl, sym, ap, ◌∙◌, append_assoc, append-nil, arith, Ok}
 use Rattle.std.specs.Prelude.{codes, ℤ, pos, negsuc, replicate}
 use Rattle.std.proofs.lemmas.{Bool.cases_lt, Bool.le-ltb, Str.encode_ascii}
-use Rattle.posting_rules.specs.{declared.counter.BranchLine.BranchLine, believed.Entries.branch_balance}
-use Rattle.posting_rules.specs.{believed.Entries.decided}
-use Rattle.posting_rules.specs.{declared.fault.Fault.Fault, declared.fault.Fault.TheVariants.Memory}
-use Rattle.posting_rules.specs.{declared.limits.TheConstants.LAST_BRANCH, Branches.IsNextBranch}
+use Rattle.posting_rules.specs.declared.{counter.BranchLine.BranchLine, fault.Fault.Fault}
+use Rattle.posting_rules.specs.declared.{fault.Fault.TheVariants.Memory, limits.TheConstants.LAST_BRANCH}
+use Rattle.posting_rules.specs.{believed.Entries.branch_balance, believed.Entries.decided, Branches.IsNextBranch}
 use Rattle.posting_rules.specs.believed.Commands.{Command, opened, Terms, opened_with}
 use Rattle.posting_rules.specs.believed.Counter.{Seen, IsCounterCall, Takes, Refuses}
 use Rattle.posting_rules.proofs.CounterCalls.{Takes-append, call_idle_after}

@@ -2,23 +2,19 @@
 use Rattle.std.proofs.Common.{◌≡◌, ℕ, zero, suc, Bool, true, false, cond, eqb, List, [], ◌∷◌, ◌++◌, length, Option}
 use Rattle.std.proofs.Common.{Some, None, refl, sym, ap, ◌∙◌}
 use Rattle.std.specs.Prelude.{ℤ, codes, bytes_eq}
-use Rattle.message_records.specs.{believed.Records.ReplyFields, believed.Reading.request_of}
-use Rattle.message_records.specs.{believed.Spelling.reply_spelling}
+use Rattle.message_records.specs.believed.{Records.ReplyFields, Reading.request_of, Spelling.reply_spelling}
 use Rattle.posting_rules.specs.{declared.limits.TheConstants.LAST_BRANCH, believed.Runs.followed_by}
 use Rattle.posting_rules.specs.believed.Commands.{Command, Post, opened, is_account_open, Terms}
 use Rattle.posting_rules.specs.believed.Entries.{DecidedRequest, account_balance, branch_balance, with_record}
-use Rattle.posting_rules.specs.believed.Entries.{decided}
-use Rattle.posting_rules.specs.believed.Entries.{reply_given, reply, balance_after}
+use Rattle.posting_rules.specs.believed.Entries.{decided, reply_given, reply, balance_after}
 use Rattle.posting_core.proofs.Timeless.{zeroed, sum_zeroed, reply_zeroed, record_zeroed}
 use Rattle.counter_http.specs.{declared.routes.Route.Route, Outputs.answers_after}
 use Rattle.counter_http.specs.declared.routes.Route.TheVariants.{Posting, Account, Branches}
 use Rattle.counter_http.specs.believed.Paths.{account_in, path_of, route_of}
 use Rattle.counter_http.specs.believed.Answers.{Asked, Answer, asked_by, account_answer, account_named, answer_of}
-use Rattle.counter_http.specs.believed.Answers.{answer_on}
-use Rattle.counter_http.specs.believed.Answers.{answer_text, answer_to, balance_answer, bare, branch_line}
-use Rattle.counter_http.specs.believed.Answers.{branch_lines}
-use Rattle.counter_http.specs.believed.Answers.{is_posting, is_reading, line_if_open, lines_up_to, not_allowed, plain}
-use Rattle.counter_http.specs.believed.Answers.{shows}
+use Rattle.counter_http.specs.believed.Answers.{answer_on, answer_text, answer_to, balance_answer, bare, branch_line}
+use Rattle.counter_http.specs.believed.Answers.{branch_lines, is_posting, is_reading, line_if_open, lines_up_to}
+use Rattle.counter_http.specs.believed.Answers.{not_allowed, plain, shows}
 use Rattle.counter_http.specs.believed.Turns.{Turn, commands_for, commands_if, commands_in, answers_to, messages_of}
 
 -- the same is open, and the same is decided but for the moments

@@ -7,8 +7,7 @@ use Rattle.httparse.specs.Grammar.{RequestHead, print_request}
 use Rattle.httparse.proofs.GrammarLemmas.{request_unique}
 use Rattle.counter_http.specs.{believed.Fields.named_values, believed.Fields.body_length, Outputs.texts_of_all}
 use Rattle.counter_http.specs.believed.Messages.{Message, message_text, IsMessage, closes, Ending, Finished, Closed}
-use Rattle.counter_http.specs.believed.Messages.{No_head}
-use Rattle.counter_http.specs.believed.Messages.{No_body, EndsWalk, Walks}
+use Rattle.counter_http.specs.believed.Messages.{No_head, No_body, EndsWalk, Walks}
 use Rattle.std.specs.List.{AllByRecursion}
 use Rattle.counter_http.specs.believed.Serving.{KeepsConnection, BeginsWithNoMessage}
 use Rattle.counter_http.proofs.Walking.{no_message, head_some}

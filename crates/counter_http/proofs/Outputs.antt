@@ -4,20 +4,18 @@ use Rattle.std.proofs.Common.{refl, sym, ap, subst, ◌∙◌, append_assoc, app
 use Rattle.std.specs.{List.AllByRecursion, Io.KnownBytes.Appends}
 use Rattle.std.specs.Prelude.{◌⊎◌, OnOk}
 use Rattle.std.proofs.lemmas.List.{length-append, map-append, take-append-drop, Concat.flat_map-append}
-use Rattle.posting_rules.specs.{believed.Commands.Command, believed.Counter.Seen}
+use Rattle.posting_rules.specs.believed.{Commands.Command, Counter.Seen}
 use Rattle.posting_rules.proofs.Remaining.{leaves_weaker}
-use Rattle.posting_core.specs.{believed.Batches.joined, believed.Stream.acknowledged, believed.Told.ReadTold}
+use Rattle.posting_core.specs.believed.{Batches.joined, Stream.acknowledged, Told.ReadTold}
 use Rattle.posting_core.proofs.Stops.{at_least}
 use Rattle.counter_http.specs.{declared.fault.ServeFault.ServeFault, believed.Ends.HasEnded}
 use Rattle.counter_http.specs.declared.fault.ServeFault.TheVariants.{Read, Write, Bank, Memory}
 use Rattle.counter_http.specs.believed.Messages.{Message, message_text, Ending, Walks}
 use Rattle.counter_http.specs.believed.Answers.{asked_by, unavailable, final_answer}
 use Rattle.counter_http.specs.believed.Turns.{Turn, message_in, text_in, commands_in, commands_of, messages_of}
-use Rattle.counter_http.specs.believed.Turns.{texts_of}
-use Rattle.counter_http.specs.believed.Turns.{answers_to}
+use Rattle.counter_http.specs.believed.Turns.{texts_of, answers_to}
 use Rattle.counter_http.specs.believed.Serving.{KeepsConnection, AnswersAreWritten, IsWalked, IsBrokenOff}
-use Rattle.counter_http.specs.believed.Serving.{IsAtMessage}
-use Rattle.counter_http.specs.believed.Serving.{At_message, At_last, At_refusal, ServesConnection}
+use Rattle.counter_http.specs.believed.Serving.{IsAtMessage, At_message, At_last, At_refusal, ServesConnection}
 use Rattle.counter_http.specs.Outputs.{texts_of_all, answers_after, AnswersInput, AnswersWhole, AnswersFirst}
 use Rattle.counter_http.specs.Outputs.{AnswersBroken, IsTextFor, WritesAnswers, IsSettled, OutputsAnswers}
 use Rattle.counter_http.specs.Outputs.{SurvivesServing}

@@ -11,11 +11,10 @@ use Rattle.posting_core.specs.{Stream.given, believed.Batches.joined}
 use Rattle.posting_core.specs.believed.Told.{Failed, Gave, GrowsBy, ReadTold}
 use Rattle.posting_core.specs.Told.{Beside, IsThrough, WriteTold, read_told, unknown}
 use Rattle.posting_core.proofs.{Followed.gave_none, Followed.gave_some, Telling.adds-more, Telling.adds-none}
-use Rattle.counter_http.specs.{Outputs.AnswersWhole, Prompt.AnswersBeforeReads, Prompt.HoldsAnswers, Prompt.IsPrompt}
-use Rattle.counter_http.specs.{believed.Serving.BeginsWithNoMessage, Next.asked, Next.IsWhole}
-use Rattle.counter_http.specs.{declared.next.Whole.Whole}
+use Rattle.counter_http.specs.{Outputs.AnswersWhole, believed.Serving.BeginsWithNoMessage, Next.asked, Next.IsWhole}
+use Rattle.counter_http.specs.{declared.next.Whole.Whole, Turns.TurnIsDealtWith}
+use Rattle.counter_http.specs.Prompt.{AnswersBeforeReads, HoldsAnswers, IsPrompt}
 use Rattle.counter_http.specs.believed.Turns.{Turn, answers_to, messages_of, text_in, texts_of}
-use Rattle.counter_http.specs.Turns.{TurnIsDealtWith}
 use Rattle.counter_http.proofs.ConnectionLoop.{Going, going_first, going_message, going_read, texts_one_more, turn_of}
 use Rattle.counter_http.proofs.{Momentless.momentless, Outputs.stays_all, Outputs.texts_are}
 

@@ -3,13 +3,11 @@ use Rattle.std.proofs.Common.{◌≡◌, ℕ, Bool, List, [], ◌∷◌, Option,
 use Rattle.std.specs.Prelude.{IfOk, OnOk, OnErr, is_ok}
 use Rattle.std.specs.{Io.KnownBytes.IsAtEnd, declared.io.Error.Error}
 use Rattle.posting_core.specs.believed.Told.{ReadTold, GrowsBy, EndsWith}
-use Rattle.posting_core.specs.Told.{WriteTold, HasMore, HasWriteFailed, IsFlush}
-use Rattle.posting_core.specs.Told.{IsThrough, IsWriteFailure, read_told}
+use Rattle.posting_core.specs.Told.{WriteTold, HasMore, HasWriteFailed, IsFlush, IsThrough, IsWriteFailure, read_told}
 use Rattle.posting_core.proofs.Telling.{HasMade, more_failed, more_last, more_more, read_ended}
 use Rattle.posting_core.proofs.{Streaming.at_ok, Through.through_more}
-use Rattle.counter_http.specs.declared.fault.ServeFault.{ServeFault}
+use Rattle.counter_http.specs.{declared.fault.ServeFault.ServeFault, believed.Ends.HasEnded}
 use Rattle.counter_http.specs.declared.fault.ServeFault.TheVariants.{Read, Write, Bank, Memory}
-use Rattle.counter_http.specs.believed.Ends.{HasEnded}
 use Rattle.counter_http.specs.Ends.{HasSent, HasTaken, SendsAs, ServeFaultIsOfItsEnd}
 
 -- the input ended

@@ -5,14 +5,11 @@ use Rattle.std.specs.List.{AllByRecursion}
 use Rattle.std.proofs.lemmas.{Bool.true≢false, List.length-append}
 use Rattle.httparse.specs.Grammar.{RequestHead, print_request, IsRequestHead}
 use Rattle.httparse.proofs.GrammarLemmas.{request_unique}
-use Rattle.counter_http.specs.{believed.Fields.named_values, believed.Fields.body_length, believed.Turns.Turn}
-use Rattle.counter_http.specs.{believed.Turns.messages_of, believed.Turns.text_in}
-use Rattle.counter_http.specs.{believed.Turns.texts_of, believed.Serving.KeepsConnection}
-use Rattle.counter_http.specs.{believed.Serving.BeginsWithNoMessage}
+use Rattle.counter_http.specs.{believed.Fields.named_values, believed.Fields.body_length, Messages.AlwaysEnds}
+use Rattle.counter_http.specs.believed.Turns.{Turn, messages_of, text_in, texts_of}
+use Rattle.counter_http.specs.believed.Serving.{KeepsConnection, BeginsWithNoMessage}
 use Rattle.counter_http.specs.believed.Messages.{Message, message_text, IsMessage, closes, Ending, Finished, Closed}
-use Rattle.counter_http.specs.believed.Messages.{No_head}
-use Rattle.counter_http.specs.believed.Messages.{No_body, EndsWalk, LacksBody, Walks}
-use Rattle.counter_http.specs.Messages.{AlwaysEnds}
+use Rattle.counter_http.specs.believed.Messages.{No_head, No_body, EndsWalk, LacksBody, Walks}
 
 -- a walk after messages after which the connection goes on
 pub walks_after : (ts us : List Turn) (rest : List ℕ) (ending : Ending)

@@ -1,14 +1,12 @@
 -- What is answered by a bank that shows two branches.
 use Rattle.std.proofs.Common.{◌≡◌, ℕ, List, [], ◌∷◌, Option, None, Result, Ok, Err, refl, subst, arith}
 use Rattle.std.specs.Prelude.{OnOk, IfErr}
-use Rattle.posting_core.specs.declared.once.OnceFault.{OnceFault}
+use Rattle.posting_core.specs.declared.{once.OnceFault.OnceFault, plain_bank.PlainBank.PlainBank}
 use Rattle.posting_core.specs.declared.once.OnceFault.TheVariants.{Short, Read, Write, Bank}
-use Rattle.posting_rules.specs.declared.fault.Fault.{Fault}
+use Rattle.posting_rules.specs.{declared.fault.Fault.Fault, believed.Tables.Tables, believed.Tables.AreTablesOf}
 use Rattle.posting_rules.specs.declared.fault.Fault.TheVariants.{Memory, Store, Down, Damaged}
-use Rattle.posting_core.specs.declared.plain_bank.PlainBank.{PlainBank}
 use Rattle.posting_core.specs.Plain.{plain_seen}
 use Rattle.posting_rules.specs.believed.Commands.{Command, Open, AreCommands, opened_with}
-use Rattle.posting_rules.specs.believed.Tables.{Tables, AreTablesOf}
 use Rattle.posting_rules.specs.believed.Counter.{Seen, ShowsLog, Refuses}
 use Rattle.posting_core.specs.Once as once
 use Rattle.counter_once.specs.First.{two_branches, FirstIsAnswered, FirstLeaves}

@@ -3,15 +3,14 @@ use Rattle.std.proofs.Common.{◌≡◌, ◌+◌, ℕ, Bool, cond, List, [], ◌
 use Rattle.std.proofs.Common.{add_assoc}
 use Rattle.std.specs.Prelude.{count_by}
 use Rattle.std.proofs.lemmas.List.Sums.{sum_by-cons}
-use Rattle.message_records.specs.{declared.records.Outcome.Outcome, believed.Outcomes.code_of}
-use Rattle.message_records.specs.{believed.Outcomes.has_balance}
-use Rattle.message_records.specs.{believed.Records.ReplyFields, believed.Spelling.digits}
-use Rattle.message_records.specs.{believed.Spelling.reply_spelling}
+use Rattle.message_records.specs.{declared.records.Outcome.Outcome, believed.Records.ReplyFields}
+use Rattle.message_records.specs.believed.Outcomes.{code_of, has_balance}
+use Rattle.message_records.specs.believed.Spelling.{digits, reply_spelling}
 use Rattle.message_records.specs.declared.records.Outcome.TheVariants.{Posted, NoTeller, WrongBranch, NoAccount}
 use Rattle.message_records.specs.declared.records.Outcome.TheVariants.{BelowFloor, OverLimit, ReusedNumber, Full}
 use Rattle.message_records.specs.declared.records.Outcome.TheVariants.{Malformed}
 use Rattle.posting_rules.specs.believed.Commands.{Command, Open, Post}
-use Rattle.posting_rules.specs.{believed.Entries.reply, believed.Runs.followed_by, believed.Runs.replies_to}
+use Rattle.posting_rules.specs.believed.{Entries.reply, Runs.followed_by, Runs.replies_to}
 use Rattle.load_driver.specs.{Counted.is_posted, believed.Records.posted_among}
 
 by_outcome : (outcome : Outcome) (rest : List ℕ)

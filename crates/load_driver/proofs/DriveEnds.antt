@@ -10,18 +10,15 @@ use Rattle.posting_rules.specs.believed.Counter.{Seen, ShowsLog, Takes, Refuses}
 use Rattle.posting_rules.specs.believed.Runs.{followed_by, ArePosts}
 use Rattle.posting_rules.proofs.{Resends.shows_log_left_out, SoundEntries.open_within}
 use Rattle.posting_rules.proofs.CounterCalls.{Takes-append, refused_after}
-use Rattle.posting_core.specs.{believed.Batches.Batch, believed.Batches.posts_of, believed.Batches.records_of}
+use Rattle.posting_core.specs.believed.Batches.{Batch, posts_of, records_of}
 use Rattle.posting_core.specs.{believed.Stream.IfUp, Stream.IsOfCall}
 use Rattle.posting_core.proofs.{Batched.all_posts, Batched.posted_is, Stops.refused_stop, Stops.stop_all}
 use Rattle.branch_loader.specs.believed.Plans.{Row, Rows}
-use Rattle.load_driver.specs.{believed.Requests.IsAscending, declared.drive.Driven.Driven}
+use Rattle.load_driver.specs.{believed.Requests.IsAscending, declared.drive.Driven.Driven, Records.NoneOpen}
 use Rattle.load_driver.specs.declared.drive_fault.DriveFault.{DriveFault, TheVariants.NoBranches, TheVariants.Bank}
-use Rattle.load_driver.specs.believed.Drives.{Drives, EndsDrive, IfListed}
-use Rattle.load_driver.specs.Drives.{IfRefused, IsUnlisted, MayRefuse, DrivesAgain}
-use Rattle.load_driver.specs.believed.Drives.{Submits}
-use Rattle.load_driver.specs.Drives.{UnlessDown}
+use Rattle.load_driver.specs.believed.Drives.{Drives, EndsDrive, IfListed, Submits}
+use Rattle.load_driver.specs.Drives.{IfRefused, IsUnlisted, MayRefuse, DrivesAgain, UnlessDown}
 use Rattle.load_driver.specs.believed.Records.{first_drawn, open_branches, open_up_to, row_if_open}
-use Rattle.load_driver.specs.Records.{NoneOpen}
 use Rattle.load_driver.proofs.{Again.posted_again, Again.skips_again, Drawn.drawn_none, Listed.none_more}
 
 -- ---- where no branch is open

@@ -3,8 +3,8 @@ use Rattle.std.proofs.Common.{◌≡◌, ◌≤◌, ◌<◌, ◌+◌, ◌-◌, �
 use Rattle.std.proofs.Common.{sym, ap, subst, ◌∙◌, arith, append-nil}
 use Rattle.std.specs.{Prelude.min, List.AllByRecursion}
 use Rattle.std.proofs.lemmas.List.{length-append, length-take-le}
-use Rattle.posting_rules.specs.{declared.fault.Fault.Fault, believed.Commands.Command, believed.Runs.followed_by}
-use Rattle.posting_rules.specs.{believed.Runs.posts}
+use Rattle.posting_rules.specs.declared.fault.Fault.{Fault}
+use Rattle.posting_rules.specs.believed.{Commands.Command, Runs.followed_by, Runs.posts}
 use Rattle.posting_rules.specs.declared.fault.Fault.TheVariants.{Memory, Store, Down, Damaged}
 use Rattle.posting_rules.specs.believed.Counter.{Seen, ShowsLog, Takes, Refuses}
 use Rattle.posting_core.specs.believed.Batches.{Batch, moments_of, posts_of, records_of}
@@ -13,8 +13,7 @@ use Rattle.posting_core.proofs.{Batched.posts_of_one_more, Batched.records_one_m
 use Rattle.posting_core.proofs.{StreamedBatches.takes_batch, Stops.refused_stop, Stops.stop_all, Stops.stop_part}
 use Rattle.branch_loader.specs.believed.Plans.{Rows}
 use Rattle.load_driver.specs.{Counts.Driving, Counted.IsCounted, believed.Drives.Submits}
-use Rattle.load_driver.specs.{declared.drive.Driven.Driven}
-use Rattle.load_driver.specs.declared.drive_fault.DriveFault.TheVariants.{Bank}
+use Rattle.load_driver.specs.{declared.drive.Driven.Driven, declared.drive_fault.DriveFault.TheVariants.Bank}
 use Rattle.load_driver.specs.believed.Records.{AreFull, drawn, first_drawn, posted_among}
 use Rattle.load_driver.proofs.{Counted.posted_among-append, Drawn.drawn_on}
 

@@ -6,12 +6,10 @@ use Rattle.std.proofs.{lemmas.Bool.cases_Bool, lemmas.Bool.Decides.nat_tests, Ma
 use Rattle.std.proofs.lemmas.List.{get_or-set_other, get_or-set_same, get_or_read}
 use Rattle.posting_rules.specs.declared.limits.TheConstants.{TELLERS_PER_BRANCH}
 use Rattle.rand_pcg.specs.{Lcg.Lcg, Pcg.pcg64}
-use Rattle.branch_loader.specs.believed.Plans.{Rows}
-use Rattle.branch_loader.specs.Plans.{IsPlan}
-use Rattle.load_driver.specs.{believed.Draw.words_after, believed.Draw.draw, believed.Draw.word}
-use Rattle.load_driver.specs.{believed.Requests.earlier, believed.Requests.place_at}
-use Rattle.load_driver.specs.{believed.Requests.teller_of, Counts.Counts, Words.TakesWords}
-use Rattle.load_driver.specs.{declared.draws.Words.Words}
+use Rattle.branch_loader.specs.{believed.Plans.Rows, Plans.IsPlan}
+use Rattle.load_driver.specs.believed.Draw.{words_after, draw, word}
+use Rattle.load_driver.specs.believed.Requests.{earlier, place_at, teller_of}
+use Rattle.load_driver.specs.{Counts.Counts, Words.TakesWords, declared.draws.Words.Words}
 use Rattle.load_driver.proofs.Totals.{one_teller}
 
 -- one word

@@ -5,14 +5,13 @@ use Rattle.std.specs.List.{AllByRecursion}
 use Rattle.std.specs.Prelude.{nat_eq, ◌&&◌, ◌≤ℤ◌, ℤ, pos, Option, IfSome, int_le}
 use Rattle.std.proofs.lemmas.{Bool.Decides.nat_tests, Int.ints, Bool.cases_Bool}
 use Rattle.message_records.specs.believed.Ranges.{whole_within}
-use Rattle.posting_rules.specs.{declared.counter.BranchLine.BranchLine, believed.Commands.Command}
-use Rattle.posting_rules.specs.{believed.Commands.opened}
+use Rattle.posting_rules.specs.declared.counter.BranchLine.{BranchLine}
+use Rattle.posting_rules.specs.believed.Commands.{Command, opened}
 use Rattle.posting_rules.specs.declared.limits.TheConstants.{LAST_BRANCH, MAX_ACCOUNTS}
 use Rattle.posting_rules.specs.Branches.{IsLineAbove, IsNextBranch, IsNextOpen}
 use Rattle.posting_rules.specs.believed.Counter.{Seen, ShowsLog, Takes}
-use Rattle.branch_loader.specs.believed.Plans.{Row, Rows}
+use Rattle.branch_loader.specs.{believed.Plans.Row, believed.Plans.Rows, declared.fault.PlanFault.PlanFault}
 use Rattle.branch_loader.specs.Plans.{IsRow, floor_within, names, plan_of_list, row_of_listed, rows_by}
-use Rattle.branch_loader.specs.declared.fault.PlanFault.{PlanFault}
 use Rattle.posting_rules.proofs.CounterCalls.{Takes-append, was_up}
 use Rattle.branch_loader.proofs.Stated.{rows_by-ok, rows_by-done}
 use Rattle.load_driver.specs.believed.Records.{open_branches, open_up_to, row_if_open}

@@ -7,12 +7,9 @@ use Rattle.std.proofs.lemmas.{Bool.cases_Bool, Bool.false≢true, Bool.Decides.n
 use Rattle.std.proofs.lemmas.{List.FromFn.length-range_with_len, List.Sums.sum_by-cons, Map.Keys.apart_from_distinct}
 use Rattle.std.proofs.lemmas.List.{get_or-map, length-append, length-map}
 use Rattle.posting_rules.specs.{declared.limits.TheConstants.TELLERS_PER_BRANCH, believed.Numbering.first_account}
-use Rattle.branch_loader.specs.believed.Plans.{Rows, Row}
-use Rattle.branch_loader.specs.Plans.{IsPlan, IsRow}
-use Rattle.load_driver.specs.OfPlan.{IsAccountFor, IsAccountOf}
-use Rattle.load_driver.specs.believed.Requests.{accounts_of, count_of, home_of, others, remote_accounts}
-use Rattle.load_driver.specs.Requests.{CountsOthers}
-use Rattle.load_driver.specs.believed.Requests.{teller_of}
+use Rattle.branch_loader.specs.{believed.Plans.Rows, believed.Plans.Row, Plans.IsPlan, Plans.IsRow}
+use Rattle.load_driver.specs.{OfPlan.IsAccountFor, OfPlan.IsAccountOf, Requests.CountsOthers}
+use Rattle.load_driver.specs.believed.Requests.{accounts_of, count_of, home_of, others, remote_accounts, teller_of}
 use Rattle.load_driver.proofs.Remote.{at-after, at-home, at-other}
 
 -- an element is the first, or one of the rest

@@ -4,15 +4,13 @@ use Rattle.std.proofs.Common.{◌∙◌, append_assoc, zero-add, lit≤, arith}
 use Rattle.std.specs.Prelude.{ℤ, pos, codes, unwrap_or}
 use Rattle.std.proofs.lemmas.List.{length-append}
 use Rattle.message_records.specs.{declared.records.Outcome.Outcome, believed.Records.RequestFields}
-use Rattle.message_records.specs.{believed.Records.ReplyFields}
+use Rattle.message_records.specs.{believed.Records.ReplyFields, believed.Outcomes.code_of, believed.Outcomes.name_of}
 use Rattle.message_records.specs.declared.limits.TheConstants.{REPLY_BYTES, REQUEST_BYTES}
 use Rattle.message_records.specs.declared.records.Outcome.TheVariants.{Posted, NoTeller, WrongBranch, NoAccount}
 use Rattle.message_records.specs.declared.records.Outcome.TheVariants.{BelowFloor, OverLimit, ReusedNumber, Full}
 use Rattle.message_records.specs.declared.records.Outcome.TheVariants.{Malformed}
-use Rattle.message_records.specs.believed.Outcomes.{code_of, name_of}
 use Rattle.message_records.specs.believed.Spelling.{digits, signed, fields_spelling, no_fields, filled, tag_of}
-use Rattle.message_records.specs.believed.Spelling.{reference_text}
-use Rattle.message_records.specs.believed.Spelling.{request_spelling, reply_spelling}
+use Rattle.message_records.specs.believed.Spelling.{reference_text, request_spelling, reply_spelling}
 
 -- ---- the five fields
 

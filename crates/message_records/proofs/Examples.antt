@@ -4,10 +4,8 @@ use Rattle.message_records.specs.declared.fault.Bad.TheVariants as bad
 use Rattle.message_records.specs.declared.records.Outcome.TheVariants.{Posted, Malformed}
 use Rattle.message_records.specs.believed.Records.{RequestFields, ReplyFields, referenced}
 use Rattle.message_records.specs.believed.Spelling.{digits, fields_spelling, request_spelling, reply_spelling}
-use Rattle.message_records.specs.believed.Reading.{fields_of, plain_request_of, referenced_request_of}
-use Rattle.message_records.specs.Reading.{no_fields_of}
-use Rattle.message_records.specs.believed.Reading.{request_of}
-use Rattle.message_records.specs.Reading.{reply_of}
+use Rattle.message_records.specs.believed.Reading.{fields_of, plain_request_of, referenced_request_of, request_of}
+use Rattle.message_records.specs.Reading.{no_fields_of, reply_of}
 
 -- five dollars to account 1, from teller 1 of branch 1, under the number 1
 deposit : RequestFields

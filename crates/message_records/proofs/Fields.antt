@@ -5,9 +5,8 @@ use Rattle.std.specs.{Prelude.option_and_then, Option.ok_or}
 use Rattle.std.proofs.lemmas.{Bool.Decides.nat_tests, List.length-append}
 use Rattle.message_records.specs.declared.limits.TheConstants.{MAX_ACCOUNT, MAX_TELLER, MAX_BRANCH, MAX_NUMBER}
 use Rattle.message_records.specs.declared.fault.Bad.TheVariants as bad
-use Rattle.message_records.specs.{believed.Ranges.whole_within, believed.Spelling.digits, believed.Spelling.signed}
-use Rattle.message_records.specs.{believed.Spelling.fields_spelling}
-use Rattle.message_records.specs.believed.Records.{RequestFields, unreferenced}
+use Rattle.message_records.specs.believed.{Ranges.whole_within, Records.RequestFields, Records.unreferenced}
+use Rattle.message_records.specs.believed.Spelling.{digits, signed, fields_spelling}
 use Rattle.message_records.specs.Records.{IsRequest, IsShownRequest}
 use Rattle.message_records.specs.believed.Reading.{number_of, signed_of, number_at, fields_of}
 use Rattle.message_records.proofs.Digits.{length-digits, chosen, number_of-digits, number_takes}

@@ -5,14 +5,12 @@ use Rattle.std.specs.Prelude.{ℤ, Bool, codes, is_some, IfSome, option_and_then
 use Rattle.std.specs.{Option.ok_or, Option.option_map, Str.bytes_eq}
 use Rattle.std.proofs.lemmas.Bool.{not-true, not-false}
 use Rattle.message_records.specs.{declared.fault.BadReply.BadReply, declared.records.Outcome.Outcome}
-use Rattle.message_records.specs.{believed.Spelling.filled}
+use Rattle.message_records.specs.{believed.Spelling.filled, Outcomes.has_request, believed.Reading.number_of}
 use Rattle.message_records.specs.declared.fault.BadReply.TheVariants as bad_reply
 use Rattle.message_records.specs.believed.Outcomes.{name_of, has_balance}
-use Rattle.message_records.specs.Outcomes.{has_request}
 use Rattle.message_records.specs.declared.limits.TheConstants.{REPLY_BYTES}
 use Rattle.message_records.specs.believed.Records.{RequestFields, ReplyFields, unreferenced}
 use Rattle.message_records.specs.Records.{IsShownRequest, reply_from, agree}
-use Rattle.message_records.specs.believed.Reading.{number_of}
 use Rattle.message_records.specs.Reading.{outcome_with, shown_request_of, balance_of, reply_of}
 use Rattle.message_records.proofs.{Pieces.field_length, References.unreferenced_same, ReadReplies.shown_takes}
 

@@ -11,14 +11,13 @@ use Rattle.message_records.specs.declared.records.Outcome.TheVariants.{Posted, N
 use Rattle.message_records.specs.declared.records.Outcome.TheVariants.{BelowFloor, OverLimit, ReusedNumber, Full}
 use Rattle.message_records.specs.declared.records.Outcome.TheVariants.{Malformed}
 use Rattle.message_records.specs.believed.Outcomes.{code_of, name_of, has_balance}
-use Rattle.message_records.specs.Outcomes.{has_request}
+use Rattle.message_records.specs.{Outcomes.has_request, Records.IsShownRequest, Records.IsReply}
 use Rattle.message_records.specs.believed.Records.{RequestFields, ReplyFields}
-use Rattle.message_records.specs.Records.{IsShownRequest, IsReply}
 use Rattle.message_records.specs.believed.Spelling.{digits, signed, fields_spelling, no_fields, filled}
 use Rattle.message_records.specs.believed.Spelling.{reply_spelling}
 use Rattle.message_records.specs.believed.Reading.{◌>>=◌, number_of, signed_of, text_at, fields_of}
-use Rattle.message_records.specs.Reading.{outcome_with}
-use Rattle.message_records.specs.Reading.{shown_in_reply, no_fields_of, shown_request_of, balance_of, reply_of}
+use Rattle.message_records.specs.Reading.{outcome_with, shown_in_reply, no_fields_of, shown_request_of, balance_of}
+use Rattle.message_records.specs.Reading.{reply_of}
 use Rattle.message_records.proofs.{Digits.chosen, Digits.number_takes, Amounts.signed_takes, Amounts.and_then_some}
 use Rattle.message_records.proofs.{Fields.fields_take, SpelledReplies.zero_balance}
 use Rattle.message_records.proofs.Pieces.{field_joined, last_joined, field_length, text_step, step_takes, ok_or_some}

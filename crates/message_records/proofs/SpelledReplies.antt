@@ -2,20 +2,18 @@
 use Rattle.std.proofs.Common.{◌≡◌, ℕ, ◌^◌, ◌<◌, ◌≤◌, List, ◌∷◌, ◌++◌, length, take, drop, replicate, Option, Some}
 use Rattle.std.proofs.Common.{None, Ok, refl, ap, ◌∙◌, lit<, arith}
 use Rattle.std.specs.Prelude.{ℤ, pos, nat_abs, codes, is_some, IfSome, unwrap_or, option_and_then}
-use Rattle.message_records.specs.declared.{limits.TheConstants.MAX_BALANCE, records.Outcome.Outcome}
+use Rattle.message_records.specs.{declared.limits.TheConstants.MAX_BALANCE, declared.records.Outcome.Outcome}
+use Rattle.message_records.specs.{Outcomes.has_request, believed.Records.RequestFields, believed.Records.ReplyFields}
+use Rattle.message_records.specs.{Records.IsShownRequest, Records.IsReply, believed.Reading.number_of}
 use Rattle.message_records.specs.declared.fault.BadReply.TheVariants as bad_reply
 use Rattle.message_records.specs.declared.records.Outcome.TheVariants.{Posted, NoTeller, WrongBranch, NoAccount}
 use Rattle.message_records.specs.declared.records.Outcome.TheVariants.{BelowFloor, OverLimit, ReusedNumber, Full}
 use Rattle.message_records.specs.declared.records.Outcome.TheVariants.{Malformed}
 use Rattle.message_records.specs.believed.Outcomes.{code_of, name_of, has_balance}
-use Rattle.message_records.specs.Outcomes.{has_request}
-use Rattle.message_records.specs.believed.Records.{RequestFields, ReplyFields}
-use Rattle.message_records.specs.Records.{IsShownRequest, IsReply}
 use Rattle.message_records.specs.believed.Spelling.{digits, signed, fields_spelling, no_fields, filled}
 use Rattle.message_records.specs.believed.Spelling.{reply_spelling}
-use Rattle.message_records.specs.believed.Reading.{number_of}
-use Rattle.message_records.specs.Reading.{outcome_with, shown_in_reply, no_fields_of, shown_request_of}
-use Rattle.message_records.specs.Reading.{balance_of, reply_of}
+use Rattle.message_records.specs.Reading.{outcome_with, shown_in_reply, no_fields_of, shown_request_of, balance_of}
+use Rattle.message_records.specs.Reading.{reply_of}
 use Rattle.message_records.proofs.{Digits.length-digits, Digits.number_of-digits, Amounts.length-signed}
 use Rattle.message_records.proofs.{Amounts.signed_again, Pieces.field_next, Pieces.last_field, Pieces.text_again}
 use Rattle.message_records.proofs.{References.unreferenced_same, Fields.length-fields, Fields.fields_again}

@@ -1,37 +1,25 @@
 -- Slots that are emptied are those that were made.
-use Rattle.std.proofs.Common.{◌≡◌, ℕ, eqb, List, [], ◌∷◌, ◌++◌, map, Option, Some, None, Result, Ok, Err, refl}
-use Rattle.std.proofs.Common.{Bool, cond, true, sym, ap, subst, ◌∙◌, inl, inr}
+use Rattle.std.proofs.Common.{◌≡◌, ℕ, eqb, List, [], ◌∷◌, ◌++◌, map, Option, Some, None, Result, Ok, Err, refl, Bool}
+use Rattle.std.proofs.Common.{true, sym, ap, ◌∙◌, inl, inr}
 use Rattle.std.specs.Prelude.{IfSome, IsSome, ◌&&◌}
 use Rattle.std.specs.List.{find, AllByRecursion}
-use Rattle.message_records.specs.declared.fault.Bad.{Bad}
-use Rattle.message_records.specs.believed.Records.{RequestFields}
-use Rattle.posting_rules.specs.believed.Cases.{case_of}
-use Rattle.posting_rules.specs.believed.Changes.{row_changed}
-use Rattle.posting_rules.specs.believed.Kept.{KeptFields}
+use Rattle.message_records.specs.{declared.fault.Bad.Bad, believed.Records.RequestFields}
+use Rattle.posting_rules.specs.{believed.Cases.case_of, believed.Changes.row_changed, believed.Kept.KeptFields}
+use Rattle.posting_rules.specs.{declared.judgments.Verdict.Verdict, declared.rows.HistoryRow.HistoryRow}
+use Rattle.posting_rules.specs.{declared.rows.ReferenceRow.ReferenceRow, declared.rows.RequestRow.RequestRow}
 use Rattle.posting_rules.specs.believed.Numbering.{branch_of_teller, branch_of_account}
-use Rattle.posting_rules.specs.declared.judgments.Verdict.{Verdict}
 use Rattle.posting_rules.specs.declared.judgments.Verdict.TheVariants.{Unkept, Again, Refused, Posted}
-use Rattle.posting_rules.specs.declared.rows.HistoryRow.{HistoryRow}
-use Rattle.posting_rules.specs.declared.rows.ReferenceRow.{ReferenceRow}
-use Rattle.posting_rules.specs.declared.rows.RequestRow.{RequestRow}
-use Rattle.posting_rules.proofs.Keyed.{by_test}
-use Rattle.posting_rules.proofs.RowChanges.{eqb-flip}
-use Rattle.posting_batch.specs.declared.slots.AccountSlot.{AccountSlot}
-use Rattle.posting_batch.specs.declared.slots.BranchSlot.{BranchSlot}
-use Rattle.posting_batch.specs.declared.slots.FloorSlot.{FloorSlot}
-use Rattle.posting_batch.specs.declared.slots.RequestSlot.{RequestSlot}
-use Rattle.posting_batch.specs.declared.slots.TellerSlot.{TellerSlot}
-use Rattle.posting_batch.specs.Batch.{IsAmong, KeepsNew, blanked, covering, covering_all, no_slots}
-use Rattle.posting_batch.specs.Batch.{with_branch_slot}
+use Rattle.posting_rules.proofs.{Keyed.by_test, RowChanges.eqb-flip}
+use Rattle.posting_batch.specs.declared.slots.{AccountSlot.AccountSlot, BranchSlot.BranchSlot, FloorSlot.FloorSlot}
+use Rattle.posting_batch.specs.declared.slots.{RequestSlot.RequestSlot, TellerSlot.TellerSlot}
+use Rattle.posting_batch.specs.Batch.{IsAmong, KeepsNew, blanked, covering, covering_all, no_slots, with_branch_slot}
 use Rattle.posting_batch.specs.Judging.{found_over, overlay_after, overlay_with, overlay_with_all}
 use Rattle.posting_batch.specs.Overlay.{Overlay}
 use Rattle.posting_batch.specs.Placed.{number_below, number_same, request_below, request_same}
 use Rattle.posting_batch.specs.Slots.{account_slot_key, branch_slot_key, floor_slot_key, teller_slot_key}
-use Rattle.posting_batch.specs.Slots.{empty_account, empty_branch, empty_floor, empty_request, empty_teller}
-use Rattle.posting_batch.specs.Slots.{is_for, slots_kept, with_account_changed, with_branch_changed, with_kept}
-use Rattle.posting_batch.specs.Slots.{with_teller_changed}
-use Rattle.posting_batch.proofs.KeptSlots.{both_true}
-use Rattle.posting_batch.proofs.Orders.{all-placed}
+use Rattle.posting_batch.specs.Slots.{empty_account, empty_branch, empty_floor, empty_request, empty_teller, is_for}
+use Rattle.posting_batch.specs.Slots.{slots_kept, with_account_changed, with_branch_changed, with_teller_changed}
+use Rattle.posting_batch.proofs.{KeptSlots.both_true, Orders.all-placed}
 
 abbrev branch_blank : BranchSlot → BranchSlot
 branch_blank s = empty_branch s.branch

@@ -1,33 +1,24 @@
 -- Slots that are placed for records, and filled from tables.
-use Rattle.std.proofs.Common.{◌≡◌, ℕ, Bool, eqb, List, [], ◌∷◌, map, Option, Some, None, Result, Ok, Err}
-use Rattle.std.proofs.Common.{refl, sym, ap, subst, ◌∙◌, inl, inr}
-use Rattle.std.specs.Prelude.{IsSome, IfSome}
-use Rattle.std.specs.List.{find, AllByRecursion}
-use Rattle.std.specs.Option.{option_map}
+use Rattle.std.proofs.Common.{◌≡◌, ℕ, Bool, eqb, List, [], ◌∷◌, map, Option, Some, None, Result, Ok, Err, refl, sym}
+use Rattle.std.proofs.Common.{ap, subst, ◌∙◌, inl, inr}
+use Rattle.std.specs.{Prelude.IsSome, Prelude.IfSome, List.find, List.AllByRecursion, Option.option_map}
 use Rattle.std.proofs.lemmas.Bool.{eqb-true}
-use Rattle.message_records.specs.declared.fault.Bad.{Bad}
-use Rattle.message_records.specs.believed.Records.{RequestFields}
+use Rattle.message_records.specs.{declared.fault.Bad.Bad, believed.Records.RequestFields}
 use Rattle.posting_rules.specs.believed.Numbering.{branch_of_teller, branch_of_account}
 use Rattle.posting_rules.specs.believed.LookUps.{kept_in, account_balance_in, balance_of_teller, floor_in}
 use Rattle.posting_rules.specs.believed.Tables.{Tables, row_at, branch_key, teller_key, account_key}
 use Rattle.posting_rules.proofs.Keyed.{by_test}
-use Rattle.posting_batch.specs.declared.slots.BranchSlot.{BranchSlot}
 use Rattle.posting_batch.specs.declared.slots.RequestSlot.{RequestSlot}
-use Rattle.posting_batch.specs.Batch.{with_branch_slot, covering, covering_all, no_slots, CoversRead}
-use Rattle.posting_batch.specs.Batch.{CoversAll, HasRisingSlots, HasHomes, HasNoChange, filled, branch_filled}
-use Rattle.posting_batch.specs.Batch.{floor_filled}
+use Rattle.posting_batch.specs.Batch.{with_branch_slot, covering, covering_all, no_slots, CoversRead, CoversAll}
+use Rattle.posting_batch.specs.Batch.{HasRisingSlots, HasHomes, HasNoChange, filled, branch_filled, floor_filled}
 use Rattle.posting_batch.specs.Batch.{teller_filled, account_filled, request_filled}
-use Rattle.posting_batch.specs.Overlay.{Overlay, by_slot, over, put_account, put_teller, put_branch}
-use Rattle.posting_batch.specs.Overlay.{tables_over}
+use Rattle.posting_batch.specs.Overlay.{Overlay, by_slot, over, put_account, put_teller, put_branch, tables_over}
 use Rattle.posting_batch.specs.Placed.{placed, number_below, number_same, request_below}
-use Rattle.posting_batch.specs.Slots.{is_for, account_slot_key, teller_slot_key, branch_slot_key}
-use Rattle.posting_batch.specs.Slots.{floor_slot_key}
+use Rattle.posting_batch.specs.Slots.{is_for, account_slot_key, teller_slot_key, branch_slot_key, floor_slot_key}
 use Rattle.posting_batch.specs.Slots.{empty_account, empty_teller, empty_branch, empty_floor}
-use Rattle.posting_batch.proofs.KeptSlots.{find-map, both_true}
-use Rattle.posting_batch.proofs.Orders.{all-placed, rising_mapped}
-use Rattle.posting_batch.proofs.Overlaid.{Fits, tables_made}
+use Rattle.posting_batch.proofs.{KeptSlots.find-map, KeptSlots.both_true, Orders.all-placed, Orders.rising_mapped}
+use Rattle.posting_batch.proofs.{Overlaid.Fits, Overlaid.tables_made, SlotsInOrder.made_all}
 use Rattle.posting_batch.proofs.SlotsForRecords.{has_number, keeps_number, covers_all}
-use Rattle.posting_batch.proofs.SlotsInOrder.{made_all}
 
 -- ---- the branch of each teller and of each account has a slot, and so has the floor of each account's branch
 

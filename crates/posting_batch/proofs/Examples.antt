@@ -1,18 +1,14 @@
 -- The worked examples of a batch, computed from the definitions.
-use Rattle.std.specs.Prelude.{◌≡◌, ℕ, ℤ, List, [], ◌∷◌, map, pos, negsuc, Option, Some, None, Result, Ok}
-use Rattle.std.specs.Prelude.{Err, refl}
-use Rattle.message_records.specs.declared.fault.Bad.{Bad}
-use Rattle.message_records.specs.declared.records.Outcome.{Outcome}
+use Rattle.std.specs.Prelude.{◌≡◌, ℕ, ℤ, List, [], ◌∷◌, map, pos, negsuc, Option, Some, None, Result, Ok, Err, refl}
+use Rattle.message_records.specs.declared.{fault.Bad.Bad, records.Outcome.Outcome}
 use Rattle.message_records.specs.declared.records.Outcome.TheVariants.{Posted, ReusedNumber, NoAccount, BelowFloor}
 use Rattle.message_records.specs.declared.records.Outcome.TheVariants.{WrongBranch}
 use Rattle.message_records.specs.believed.Records.{RequestFields, ReplyFields, referenced}
-use Rattle.posting_rules.specs.believed.Cases.{case_of}
+use Rattle.posting_rules.specs.believed.{Cases.case_of, Commands.opened_with}
 use Rattle.posting_rules.specs.believed.Tables.{Tables, branch_row_of, teller_row_of, account_row_of, floor_row_of}
 use Rattle.posting_rules.specs.believed.Tables.{reference_row_of}
 use Rattle.posting_batch.specs.Batch.{covering_all, no_slots, filled}
-use Rattle.posting_batch.specs.Judging.{overlay_with_all, replies_over}
-use Rattle.posting_batch.specs.Overlay.{Overlay}
-use Rattle.posting_rules.specs.believed.Commands.{opened_with}
+use Rattle.posting_batch.specs.{Judging.overlay_with_all, Judging.replies_over, Overlay.Overlay}
 
 -- account, teller, branch, number and amount
 request : ℕ → ℕ → ℕ → ℕ → ℤ → Result RequestFields Bad

@@ -1,20 +1,15 @@
 -- The ordinals that are still to come, which have no request and no reference.
-use Rattle.std.proofs.Common.{◌≡◌, ℕ, zero, suc, ◌+◌, ◌<◌, false, cond, eqb, List, Option, Some, None}
-use Rattle.std.proofs.Common.{Result, Ok, Err, ap, ◌∙◌, arith}
+use Rattle.std.proofs.Common.{◌≡◌, ℕ, zero, suc, ◌+◌, ◌<◌, false, cond, eqb, List, Option, Some, None, Result, Ok}
+use Rattle.std.proofs.Common.{Err, ap, ◌∙◌, arith}
 use Rattle.std.proofs.lemmas.Bool.Decides.{nat_tests}
-use Rattle.message_records.specs.declared.fault.Bad.{Bad}
-use Rattle.message_records.specs.believed.Records.{RequestFields}
-use Rattle.posting_rules.specs.declared.judgments.Verdict.{Verdict}
+use Rattle.message_records.specs.{declared.fault.Bad.Bad, believed.Records.RequestFields}
+use Rattle.posting_rules.specs.{declared.judgments.Verdict.Verdict, declared.rows.ReferenceRow.ReferenceRow}
+use Rattle.posting_rules.specs.{believed.Cases.case_of, believed.Commands.Command, believed.LookUps.found_in}
 use Rattle.posting_rules.specs.declared.judgments.Verdict.TheVariants.{Unkept, Again, Refused, Posted}
-use Rattle.posting_rules.specs.declared.rows.ReferenceRow.{ReferenceRow}
-use Rattle.posting_rules.specs.believed.Cases.{case_of}
 use Rattle.posting_rules.specs.believed.Changes.{row_put, reference_put, tables_after, tables_read}
 use Rattle.posting_rules.specs.believed.Changes.{with_account_balance, with_branch_balance, with_decided}
-use Rattle.posting_rules.specs.believed.Changes.{with_history}
-use Rattle.posting_rules.specs.believed.Changes.{with_reference, with_request, with_teller_balance}
-use Rattle.posting_rules.specs.believed.Commands.{Command}
+use Rattle.posting_rules.specs.believed.Changes.{with_history, with_reference, with_request, with_teller_balance}
 use Rattle.posting_rules.specs.believed.Entries.{decided, refused_entry, posted_entry}
-use Rattle.posting_rules.specs.believed.LookUps.{found_in}
 use Rattle.posting_rules.specs.believed.Tables.{Tables, AreTablesOf, row_at, request_key, reference_key}
 use Rattle.posting_rules.specs.believed.Tables.{request_row_of, reference_row_of}
 use Rattle.posting_rules.proofs.RowChanges.{row_at-put}

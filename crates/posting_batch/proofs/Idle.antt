@@ -1,17 +1,14 @@
 -- Each record has its reply, and each decided request is counted; where none is decided, an overlay stays as
 -- it is.
-use Rattle.std.proofs.Common.{◌≡◌, ◌⊎◌, ℕ, ◌+◌, ◌<◌, ◌≤◌, List, [], ◌∷◌, length, Result, Ok, Err, refl, ap}
-use Rattle.std.proofs.Common.{◌∙◌, arith, inl, inr, suc, map}
+use Rattle.std.proofs.Common.{◌≡◌, ◌⊎◌, ℕ, ◌+◌, ◌<◌, ◌≤◌, List, [], ◌∷◌, length, Result, Ok, Err, refl, ap, ◌∙◌}
+use Rattle.std.proofs.Common.{arith, inl, inr, suc, map}
 use Rattle.std.proofs.lemmas.List.{length-append}
 use Rattle.message_records.specs.declared.fault.Bad.{Bad}
-use Rattle.message_records.specs.believed.Records.{RequestFields}
-use Rattle.message_records.specs.believed.Spelling.{reply_spelling}
-use Rattle.posting_rules.specs.declared.judgments.Verdict.{Verdict}
+use Rattle.message_records.specs.believed.{Records.RequestFields, Spelling.reply_spelling}
+use Rattle.posting_rules.specs.declared.{judgments.Verdict.Verdict, rows.RequestRow.RequestRow}
 use Rattle.posting_rules.specs.declared.judgments.Verdict.TheVariants.{Unkept, Again, Refused, Posted}
-use Rattle.posting_rules.specs.declared.rows.RequestRow.{RequestRow}
 use Rattle.posting_rules.specs.believed.Cases.{case_of}
-use Rattle.posting_batch.specs.Judging.{found_over, overlay_after, overlay_with, overlay_with_all}
-use Rattle.posting_batch.specs.Judging.{replies_over}
+use Rattle.posting_batch.specs.Judging.{found_over, overlay_after, overlay_with, overlay_with_all, replies_over}
 use Rattle.posting_batch.specs.Overlay.{Overlay}
 
 -- an overlay is as it was, or counts more

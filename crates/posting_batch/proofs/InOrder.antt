@@ -1,35 +1,24 @@
 -- Records are judged one after another by slots that fit tables.
-use Rattle.std.proofs.Common.{◌≡◌, ℕ, List, [], ◌∷◌, map, length, Option, Some, None, Result, Ok, Err, refl}
-use Rattle.std.proofs.Common.{sym, ap, subst, ◌∙◌, inl, inr}
-use Rattle.std.specs.Prelude.{IsSome}
-use Rattle.std.specs.List.{find}
-use Rattle.std.specs.Option.{option_map}
+use Rattle.std.proofs.Common.{◌≡◌, ℕ, List, [], ◌∷◌, map, length, Option, Some, None, Result, Ok, Err, refl, sym, ap}
+use Rattle.std.proofs.Common.{subst, ◌∙◌, inl, inr}
+use Rattle.std.specs.{Prelude.IsSome, List.find, Option.option_map}
 use Rattle.message_records.specs.declared.fault.Bad.{Bad}
-use Rattle.message_records.specs.believed.Reading.{request_of}
-use Rattle.message_records.specs.believed.Records.{RequestFields}
-use Rattle.message_records.specs.believed.Spelling.{reply_spelling}
-use Rattle.posting_rules.specs.declared.judgments.Found.{Found}
-use Rattle.posting_rules.specs.declared.judgments.Verdict.{Verdict}
+use Rattle.message_records.specs.believed.{Reading.request_of, Records.RequestFields, Spelling.reply_spelling}
+use Rattle.posting_rules.specs.declared.judgments.{Found.Found, Verdict.Verdict}
 use Rattle.posting_rules.specs.declared.judgments.Verdict.TheVariants.{Unkept, Again, Refused, Posted}
-use Rattle.posting_rules.specs.believed.Cases.{case_of, reply_in}
+use Rattle.posting_rules.specs.believed.{Cases.case_of, Cases.reply_in, Kept.KeptFields, Tables.Tables, Tables.row_at}
 use Rattle.posting_rules.specs.believed.Changes.{row_changed, tables_past_all, reply_read, replies_past_all}
 use Rattle.posting_rules.specs.believed.Numbering.{branch_of_teller, branch_of_account}
-use Rattle.posting_rules.specs.believed.Kept.{KeptFields}
-use Rattle.posting_rules.specs.believed.Tables.{Tables, row_at}
 use Rattle.posting_rules.proofs.Keyed.{by_test}
 use Rattle.posting_rules.proofs.RowChanges.{changed_at, key-changed_at, row_at-changed}
-use Rattle.posting_batch.specs.declared.slots.RequestSlot.{RequestSlot}
+use Rattle.posting_batch.specs.{declared.slots.RequestSlot.RequestSlot, Overlay.Overlay, Overlay.tables_over}
 use Rattle.posting_batch.specs.Batch.{Covers, CoversRead, CoversAll, HasFreeOrdinals, HasRisingSlots}
 use Rattle.posting_batch.specs.Judging.{found_over, overlay_after, overlay_with, overlay_with_all, reply_over}
 use Rattle.posting_batch.specs.Judging.{replies_over}
-use Rattle.posting_batch.specs.Overlay.{Overlay, tables_over}
 use Rattle.posting_batch.specs.Placed.{number_below, request_below, IsRising}
 use Rattle.posting_batch.specs.Slots.{is_for, slots_kept, with_kept, account_slot_key, with_account_changed}
-use Rattle.posting_batch.specs.Slots.{teller_slot_key, with_teller_changed, branch_slot_key}
-use Rattle.posting_batch.specs.Slots.{with_branch_changed}
-use Rattle.posting_batch.proofs.KeptSlots.{slot_for-kept}
-use Rattle.posting_batch.proofs.Orders.{rising_mapped}
-use Rattle.posting_batch.proofs.Overlaid.{Fits, found_is}
+use Rattle.posting_batch.specs.Slots.{teller_slot_key, with_teller_changed, branch_slot_key, with_branch_changed}
+use Rattle.posting_batch.proofs.{KeptSlots.slot_for-kept, Orders.rising_mapped, Overlaid.Fits, Overlaid.found_is}
 use Rattle.posting_batch.proofs.StillFits.{with_is, with_fits, still_free}
 
 -- ---- slots go on covering what they covered

@@ -1,18 +1,14 @@
 -- What is kept in slots, where one request more is kept.
-use Rattle.std.proofs.Common.{◌≡◌, ℕ, Bool, true, false, cond, eqb, ltb, List, [], ◌∷◌, map, Option, Some}
-use Rattle.std.proofs.Common.{None, refl, sym, ap, subst, ◌∙◌, inl, inr}
+use Rattle.std.proofs.Common.{◌≡◌, ℕ, Bool, true, false, cond, eqb, ltb, List, [], ◌∷◌, map, Option, Some, None, refl}
+use Rattle.std.proofs.Common.{sym, ap, subst, ◌∙◌, inl, inr}
 use Rattle.std.specs.Prelude.{◌&&◌, IfSome}
-use Rattle.std.specs.List.{find}
-use Rattle.std.specs.Option.{option_map}
+use Rattle.std.specs.{List.find, Option.option_map}
 use Rattle.std.proofs.lemmas.Bool.{eqb-true, eq-eqb}
-use Rattle.posting_rules.specs.declared.rows.ReferenceRow.{ReferenceRow}
-use Rattle.posting_rules.specs.declared.rows.RequestRow.{RequestRow}
-use Rattle.posting_rules.specs.believed.Changes.{row_put, reference_put}
-use Rattle.posting_rules.specs.believed.Kept.{KeptFields, kept_with}
+use Rattle.posting_rules.specs.declared.rows.{ReferenceRow.ReferenceRow, RequestRow.RequestRow}
+use Rattle.posting_rules.specs.believed.{Changes.row_put, Changes.reference_put, Kept.KeptFields, Kept.kept_with}
 use Rattle.posting_rules.specs.believed.LookUps.{kept_in, kept_of_row, reference_in, text_of_reference}
 use Rattle.posting_rules.specs.believed.Tables.{row_at, request_key, reference_key, reference_row_of}
-use Rattle.posting_rules.proofs.Keyed.{by_test, found_passes}
-use Rattle.posting_rules.proofs.RowChanges.{eqb-flip, row_at-put}
+use Rattle.posting_rules.proofs.{Keyed.by_test, Keyed.found_passes, RowChanges.eqb-flip, RowChanges.row_at-put}
 use Rattle.posting_batch.specs.declared.slots.RequestSlot.{RequestSlot}
 use Rattle.posting_batch.specs.Slots.{slots_kept, with_kept, is_for}
 

@@ -1,50 +1,32 @@
 -- The rows that a batch changes are there, and the keys of its new rows are free.
-use Rattle.std.proofs.Common.{◌≡◌, ℕ, ◌+◌, eqb, List, [], ◌∷◌, ◌++◌, map, length, Option, Some, None, Result}
-use Rattle.std.proofs.Common.{Ok, Err}
+use Rattle.std.proofs.Common.{◌≡◌, ℕ, ◌+◌, eqb, List, [], ◌∷◌, ◌++◌, map, length, Option, Some, None, Result, Ok, Err}
 use Rattle.std.proofs.Common.{refl, sym, ap, subst, ◌∙◌, inl, inr}
-use Rattle.std.specs.Prelude.{ℤ, IsSome, IfSome}
-use Rattle.std.specs.List.{AllByRecursion}
-use Rattle.std.specs.Option.{option_map}
+use Rattle.std.specs.{Prelude.ℤ, Prelude.IsSome, Prelude.IfSome, List.AllByRecursion, Option.option_map}
 use Rattle.std.proofs.lemmas.Bool.{eqb-true}
-use Rattle.message_records.specs.declared.fault.Bad.{Bad}
-use Rattle.message_records.specs.believed.Reading.{request_of}
-use Rattle.message_records.specs.believed.Records.{RequestFields}
-use Rattle.posting_rules.specs.declared.judgments.Found.{Found}
-use Rattle.posting_rules.specs.declared.judgments.Verdict.{Verdict}
+use Rattle.message_records.specs.{declared.fault.Bad.Bad, believed.Reading.request_of, believed.Records.RequestFields}
+use Rattle.posting_rules.specs.{declared.judgments.Found.Found, declared.judgments.Verdict.Verdict}
+use Rattle.posting_rules.specs.{declared.rows.BranchRow.BranchRow, declared.rows.TellerRow.TellerRow}
+use Rattle.posting_rules.specs.{declared.rows.AccountRow.AccountRow, declared.rows.ReferenceRow.ReferenceRow}
+use Rattle.posting_rules.specs.{believed.Cases.case_of, Changes.HasRowsOf, believed.Numbering.branch_of_teller}
 use Rattle.posting_rules.specs.declared.judgments.Verdict.TheVariants.{Unkept, Again, Refused, Posted}
-use Rattle.posting_rules.specs.declared.rows.BranchRow.{BranchRow}
-use Rattle.posting_rules.specs.declared.rows.TellerRow.{TellerRow}
-use Rattle.posting_rules.specs.declared.rows.AccountRow.{AccountRow}
-use Rattle.posting_rules.specs.declared.rows.ReferenceRow.{ReferenceRow}
-use Rattle.posting_rules.specs.believed.Cases.{case_of}
-use Rattle.posting_rules.specs.believed.Changes.{row_changed, row_put}
-use Rattle.posting_rules.specs.Changes.{HasRowsOf}
-use Rattle.posting_rules.specs.believed.Commands.{Command, Post}
-use Rattle.posting_rules.specs.believed.Numbering.{branch_of_teller}
+use Rattle.posting_rules.specs.believed.{Changes.row_changed, Changes.row_put, Commands.Command, Commands.Post}
 use Rattle.posting_rules.specs.believed.Entries.{refused_entry, posted_entry}
 use Rattle.posting_rules.specs.believed.LookUps.{balance_of_branch, balance_of_teller, balance_of_account}
 use Rattle.posting_rules.specs.ChangesByKey as steps
 use Rattle.posting_rules.specs.believed.Tables.{Tables, AreTablesOf, row_at, branch_key, teller_key, account_key}
 use Rattle.posting_rules.specs.believed.Tables.{history_key, request_key, request_row_of, history_row_of}
 use Rattle.posting_rules.specs.believed.Tables.{reference_key, reference_row_of}
-use Rattle.posting_rules.proofs.Keyed.{by_test}
+use Rattle.posting_rules.proofs.{Keyed.by_test, Records.past_shown, ChangesByKey.posted_rows}
 use Rattle.posting_rules.proofs.Ready.{AreReady, ready_shown}
-use Rattle.posting_rules.proofs.Records.{past_shown}
-use Rattle.posting_rules.proofs.ChangesByKey.{posted_rows}
-use Rattle.posting_batch.specs.declared.slots.AccountSlot.{AccountSlot}
-use Rattle.posting_batch.specs.declared.slots.TellerSlot.{TellerSlot}
-use Rattle.posting_batch.specs.declared.slots.BranchSlot.{BranchSlot}
+use Rattle.posting_batch.specs.declared.slots.{AccountSlot.AccountSlot, TellerSlot.TellerSlot, BranchSlot.BranchSlot}
 use Rattle.posting_batch.specs.Batch.{CoversRead, CoversAll, HasNoChange, ChangesRows, PutsFree, AddsFreeRows}
 use Rattle.posting_batch.specs.Batch.{HasFreeOrdinals}
-use Rattle.posting_batch.specs.Judging.{found_over, reference_after, overlay_after, overlay_with}
-use Rattle.posting_batch.specs.Judging.{overlay_with_all}
+use Rattle.posting_batch.specs.Judging.{found_over, reference_after, overlay_after, overlay_with, overlay_with_all}
 use Rattle.posting_batch.specs.Overlay.{Overlay, by_slot, over, put_account, put_teller, put_branch, each_put}
 use Rattle.posting_batch.specs.Overlay.{tables_over}
-use Rattle.posting_batch.specs.Slots.{account_slot_key, with_account_changed, teller_slot_key}
-use Rattle.posting_batch.specs.Slots.{with_teller_changed, branch_slot_key, with_branch_changed}
-use Rattle.posting_batch.proofs.InOrder.{still_covers}
-use Rattle.posting_batch.proofs.Overlaid.{Fits, found_is}
-use Rattle.posting_batch.proofs.FreeOrdinals.{free_shown}
+use Rattle.posting_batch.specs.Slots.{account_slot_key, with_account_changed, teller_slot_key, with_teller_changed}
+use Rattle.posting_batch.specs.Slots.{branch_slot_key, with_branch_changed}
+use Rattle.posting_batch.proofs.{InOrder.still_covers, Overlaid.Fits, Overlaid.found_is, FreeOrdinals.free_shown}
 use Rattle.posting_batch.proofs.StillFits.{with_is, with_fits, still_free}
 use Rattle.posting_batch.proofs.OverlaidRows.{row_at-over, put_same}
 

@@ -1,18 +1,14 @@
 -- New rows are under the ordinals that follow the count, at most one a record.
-use Rattle.std.proofs.Common.{◌≡◌, ℕ, suc, ◌+◌, ◌≤◌, ◌++◌, List, [], ◌∷◌, length, Option, Some, None}
-use Rattle.std.proofs.Common.{Result, Ok, Err, sym, subst, arith}
+use Rattle.std.proofs.Common.{◌≡◌, ℕ, suc, ◌+◌, ◌≤◌, ◌++◌, List, [], ◌∷◌, length, Option, Some, None, Result, Ok, Err}
+use Rattle.std.proofs.Common.{sym, subst, arith}
 use Rattle.std.specs.List.{AllByRecursion}
-use Rattle.message_records.specs.declared.fault.Bad.{Bad}
-use Rattle.message_records.specs.believed.Records.{RequestFields}
-use Rattle.posting_rules.specs.declared.judgments.Verdict.{Verdict}
+use Rattle.message_records.specs.{declared.fault.Bad.Bad, believed.Records.RequestFields}
+use Rattle.posting_rules.specs.declared.{judgments.Verdict.Verdict, rows.ReferenceRow.ReferenceRow}
 use Rattle.posting_rules.specs.declared.judgments.Verdict.TheVariants.{Unkept, Again, Refused, Posted}
-use Rattle.posting_rules.specs.declared.rows.ReferenceRow.{ReferenceRow}
 use Rattle.posting_rules.specs.believed.Cases.{case_of}
-use Rattle.posting_batch.specs.believed.Batch.{IsNextOrdinal}
+use Rattle.posting_batch.specs.{believed.Batch.IsNextOrdinal, Overlay.Overlay}
 use Rattle.posting_batch.specs.Batch.{HasNextOrdinals, covering, covering_all}
-use Rattle.posting_batch.specs.Judging.{found_over, overlay_after, overlay_with, overlay_with_all}
-use Rattle.posting_batch.specs.Judging.{reference_after}
-use Rattle.posting_batch.specs.Overlay.{Overlay}
+use Rattle.posting_batch.specs.Judging.{found_over, overlay_after, overlay_with, overlay_with_all, reference_after}
 
 -- ---- lists
 

@@ -1,18 +1,14 @@
 -- A single request, judged in the slots that are placed for it and filled from tables.
 use Rattle.std.proofs.Common.{◌≡◌, ◌∙◌, ℕ, [], ◌∷◌, Ok, ap, sym, subst}
-use Rattle.message_records.specs.believed.Records.{RequestFields}
-use Rattle.message_records.specs.believed.Spelling.{reply_spelling}
+use Rattle.message_records.specs.believed.{Records.RequestFields, Spelling.reply_spelling}
 use Rattle.posting_rules.specs.believed.Changes.{tables_read, tables_with, reply_bytes, reply_read}
 use Rattle.posting_rules.specs.believed.Tables.{Tables}
 use Rattle.posting_rules.proofs.Ready.{AreReady}
 use Rattle.posting_batch.specs.Batch.{AddsFreeRows, ChangesRows, HasHomes, HasRisingSlots, covering, filled, no_slots}
-use Rattle.posting_batch.specs.Judging.{overlay_with, reply_over}
-use Rattle.posting_batch.specs.Overlay.{Overlay, tables_over}
+use Rattle.posting_batch.specs.{Judging.overlay_with, Judging.reply_over, Overlay.Overlay, Overlay.tables_over}
 use Rattle.posting_batch.proofs.Covered.{Stands, homes_all, stands}
-use Rattle.posting_batch.proofs.Idle.{all_idle}
-use Rattle.posting_batch.proofs.InOrder.{all_rising, reply_is}
+use Rattle.posting_batch.proofs.{Idle.all_idle, InOrder.all_rising, InOrder.reply_is, StillFits.with_is}
 use Rattle.posting_batch.proofs.NewRows.{adds_none, adds_with, changes_none, changes_with}
-use Rattle.posting_batch.proofs.StillFits.{with_is}
 
 pub one_homes : (r : RequestFields) → HasHomes (covering no_slots (Ok r))
 one_homes r = homes_all (Ok r ∷ [])

@@ -1,14 +1,11 @@
 -- Slots that are placed in the order of their keys.
-use Rattle.std.proofs.Common.{◌≡◌, ℕ, Bool, true, false, eqb, ltb, List, [], ◌∷◌, map, refl, ◌∙◌, arith, inl}
-use Rattle.std.proofs.Common.{inr}
+use Rattle.std.proofs.Common.{◌≡◌, ℕ, Bool, true, false, eqb, ltb, List, [], ◌∷◌, map, refl, ◌∙◌, arith, inl, inr}
 use Rattle.std.specs.Prelude.{nat_eq, IsSome, IsTrue, ◌&&◌, ◌||◌}
 use Rattle.std.specs.List.{find, AllByRecursion, IsDistinct}
-use Rattle.std.proofs.lemmas.Bool.Decides.{nat_tests}
-use Rattle.std.proofs.lemmas.Map.Keys.{IsDistinct-cons}
+use Rattle.std.proofs.lemmas.{Bool.Decides.nat_tests, Map.Keys.IsDistinct-cons}
 use Rattle.posting_rules.specs.believed.Tables.{HasKeys}
 use Rattle.posting_rules.proofs.Keyed.{by_test}
-use Rattle.posting_batch.specs.Placed.{placed, number_below, number_same, request_below, request_same}
-use Rattle.posting_batch.specs.Placed.{IsRising}
+use Rattle.posting_batch.specs.Placed.{placed, number_below, number_same, request_below, request_same, IsRising}
 
 -- ---- what is there once a slot is placed
 

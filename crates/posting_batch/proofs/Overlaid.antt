@@ -1,46 +1,33 @@
 -- Over tables that its slots fit, an overlay tells what the tables with it tell, and a record changes both
 -- alike.
 use Rattle.std.proofs.Common.{◌≡◌, ℕ, ◌+◌, List, [], ◌∷◌, ◌++◌, Option, Some, None, refl, ap, ◌∙◌}
-use Rattle.std.specs.Prelude.{ℤ, IsSome, IfSome}
-use Rattle.std.specs.List.{find}
-use Rattle.std.specs.Option.{option_map}
+use Rattle.std.specs.{Prelude.ℤ, Prelude.IsSome, Prelude.IfSome, List.find, Option.option_map}
 use Rattle.message_records.specs.believed.Records.{RequestFields}
-use Rattle.posting_rules.specs.declared.judgments.Found.{Found}
-use Rattle.posting_rules.specs.declared.judgments.Verdict.{Verdict}
+use Rattle.posting_rules.specs.declared.{judgments.Found.Found, judgments.Verdict.Verdict, rows.BranchRow.BranchRow}
+use Rattle.posting_rules.specs.declared.{rows.TellerRow.TellerRow, rows.AccountRow.AccountRow}
+use Rattle.posting_rules.specs.declared.{rows.HistoryRow.HistoryRow, rows.RequestRow.RequestRow}
+use Rattle.posting_rules.specs.declared.{rows.FloorRow.FloorRow, rows.ReferenceRow.ReferenceRow}
 use Rattle.posting_rules.specs.declared.judgments.Verdict.TheVariants.{Unkept, Again, Refused, Posted}
-use Rattle.posting_rules.specs.declared.rows.BranchRow.{BranchRow}
-use Rattle.posting_rules.specs.declared.rows.TellerRow.{TellerRow}
-use Rattle.posting_rules.specs.declared.rows.AccountRow.{AccountRow}
-use Rattle.posting_rules.specs.declared.rows.HistoryRow.{HistoryRow}
-use Rattle.posting_rules.specs.declared.rows.RequestRow.{RequestRow}
-use Rattle.posting_rules.specs.declared.rows.FloorRow.{FloorRow}
-use Rattle.posting_rules.specs.declared.rows.ReferenceRow.{ReferenceRow}
 use Rattle.posting_rules.specs.believed.Changes.{row_put, with_decided, with_branch_balance, with_teller_balance}
 use Rattle.posting_rules.specs.believed.Changes.{with_account_balance, with_history, with_request, with_reference}
 use Rattle.posting_rules.specs.believed.Changes.{reference_put, tables_kept, tables_posted, tables_after}
-use Rattle.posting_rules.specs.believed.Numbering.{branch_of_teller, branch_of_account}
+use Rattle.posting_rules.specs.believed.{Numbering.branch_of_teller, Numbering.branch_of_account, Kept.KeptFields}
 use Rattle.posting_rules.specs.believed.Entries.{DecidedRequest, refused_entry, posted_entry}
-use Rattle.posting_rules.specs.believed.Kept.{KeptFields}
 use Rattle.posting_rules.specs.believed.LookUps.{both_of, kept_in, account_balance_in, balance_of_account}
 use Rattle.posting_rules.specs.believed.LookUps.{balance_of_teller, balance_of_branch, floor_in, found_in}
 use Rattle.posting_rules.specs.ChangesByKey as steps
 use Rattle.posting_rules.specs.believed.Tables.{Tables, row_at, branch_key, teller_key, account_key, history_key}
 use Rattle.posting_rules.specs.believed.Tables.{request_key, request_row_of, history_row_of, reference_key}
 use Rattle.posting_rules.specs.believed.Tables.{reference_row_of}
-use Rattle.posting_batch.specs.declared.slots.AccountSlot.{AccountSlot}
-use Rattle.posting_batch.specs.declared.slots.TellerSlot.{TellerSlot}
-use Rattle.posting_batch.specs.declared.slots.BranchSlot.{BranchSlot}
-use Rattle.posting_batch.specs.declared.slots.FloorSlot.{FloorSlot}
-use Rattle.posting_batch.specs.declared.slots.RequestSlot.{RequestSlot}
+use Rattle.posting_batch.specs.declared.slots.{AccountSlot.AccountSlot, TellerSlot.TellerSlot, BranchSlot.BranchSlot}
+use Rattle.posting_batch.specs.declared.slots.{FloorSlot.FloorSlot, RequestSlot.RequestSlot}
 use Rattle.posting_batch.specs.Batch.{Covers}
-use Rattle.posting_batch.specs.Judging.{found_over, reference_after, overlay_kept, overlay_posted}
-use Rattle.posting_batch.specs.Judging.{overlay_after}
+use Rattle.posting_batch.specs.Judging.{found_over, reference_after, overlay_kept, overlay_posted, overlay_after}
 use Rattle.posting_batch.specs.Overlay.{Overlay, changed_to, each_put, tables_over}
-use Rattle.posting_batch.specs.Slots.{in_slot, slot_balance, kept_in_slots, kept_of_slot, is_for}
-use Rattle.posting_batch.specs.Slots.{account_slot_key, account_slot_balance, with_account_changed}
-use Rattle.posting_batch.specs.Slots.{teller_slot_key, teller_slot_balance, with_teller_changed}
-use Rattle.posting_batch.specs.Slots.{branch_slot_key, branch_slot_balance, with_branch_changed, floor_of_slot}
-use Rattle.posting_batch.specs.Slots.{floor_slot_key, slot_floor}
+use Rattle.posting_batch.specs.Slots.{in_slot, slot_balance, kept_in_slots, kept_of_slot, is_for, account_slot_key}
+use Rattle.posting_batch.specs.Slots.{account_slot_balance, with_account_changed, teller_slot_key}
+use Rattle.posting_batch.specs.Slots.{teller_slot_balance, with_teller_changed, branch_slot_key, branch_slot_balance}
+use Rattle.posting_batch.specs.Slots.{with_branch_changed, floor_of_slot, floor_slot_key, slot_floor}
 use Rattle.posting_batch.proofs.OverlaidRows.{over-changed, put_same, put_again, balance_is}
 
 -- each slot tells what is in the tables under its key

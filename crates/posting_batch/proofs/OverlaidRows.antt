@@ -1,13 +1,10 @@
 -- Rows of one table under the slots of a batch, and their balances.
-use Rattle.std.proofs.Common.{◌≡◌, ℕ, Bool, true, false, cond, eqb, List, [], ◌∷◌, Option, Some, None, refl}
-use Rattle.std.proofs.Common.{sym, ap, subst, ◌∙◌, inl, inr}
-use Rattle.std.specs.Prelude.{ℤ, IsSome, IfSome}
-use Rattle.std.specs.Option.{option_map, unwrap_or}
+use Rattle.std.proofs.Common.{◌≡◌, ℕ, Bool, true, false, cond, eqb, List, [], ◌∷◌, Option, Some, None, refl, sym, ap}
+use Rattle.std.proofs.Common.{subst, ◌∙◌, inl, inr}
+use Rattle.std.specs.{Prelude.ℤ, Prelude.IsSome, Prelude.IfSome, Option.option_map, Option.unwrap_or}
 use Rattle.std.proofs.lemmas.Bool.{eqb-true}
-use Rattle.posting_rules.specs.believed.Changes.{row_changed}
-use Rattle.posting_rules.specs.believed.Tables.{row_at}
-use Rattle.posting_rules.proofs.Keyed.{by_test}
-use Rattle.posting_rules.proofs.RowChanges.{eqb-flip, row_at-changed}
+use Rattle.posting_rules.specs.believed.{Changes.row_changed, Tables.row_at}
+use Rattle.posting_rules.proofs.{Keyed.by_test, RowChanges.eqb-flip, RowChanges.row_at-changed}
 use Rattle.posting_batch.specs.Overlay.{by_slot, over, changed_to}
 use Rattle.posting_batch.specs.Slots.{balance_now, in_slot, slot_balance}
 

@@ -1,19 +1,14 @@
 -- Every key that a record can touch has its slot, and keeps it.
 use Rattle.std.proofs.Common.{◌≡◌, ℕ, true, eqb, List, [], ◌∷◌, Result, Ok, Err, refl}
-use Rattle.std.specs.Prelude.{IsSome}
-use Rattle.std.specs.List.{find}
+use Rattle.std.specs.{Prelude.IsSome, List.find}
 use Rattle.std.proofs.lemmas.Bool.{eq-eqb}
-use Rattle.message_records.specs.declared.fault.Bad.{Bad}
-use Rattle.message_records.specs.believed.Records.{RequestFields}
-use Rattle.posting_rules.specs.believed.Numbering.{branch_of_teller, branch_of_account}
-use Rattle.posting_rules.specs.believed.Tables.{row_at}
-use Rattle.posting_batch.specs.declared.slots.RequestSlot.{RequestSlot}
+use Rattle.message_records.specs.{declared.fault.Bad.Bad, believed.Records.RequestFields}
+use Rattle.posting_rules.specs.believed.{Numbering.branch_of_teller, Numbering.branch_of_account, Tables.row_at}
+use Rattle.posting_batch.specs.{declared.slots.RequestSlot.RequestSlot, Overlay.Overlay}
 use Rattle.posting_batch.specs.Batch.{with_branch_slot, covering, covering_all, CoversRead, CoversAll}
-use Rattle.posting_batch.specs.Overlay.{Overlay}
 use Rattle.posting_batch.specs.Placed.{placed, number_below, number_same, request_below, request_same}
-use Rattle.posting_batch.specs.Slots.{is_for, account_slot_key, teller_slot_key, branch_slot_key}
-use Rattle.posting_batch.specs.Slots.{empty_account, empty_teller, empty_branch, empty_floor, empty_request}
-use Rattle.posting_batch.specs.Slots.{floor_slot_key}
+use Rattle.posting_batch.specs.Slots.{is_for, account_slot_key, teller_slot_key, branch_slot_key, empty_account}
+use Rattle.posting_batch.specs.Slots.{empty_teller, empty_branch, empty_floor, empty_request, floor_slot_key}
 use Rattle.posting_batch.proofs.Orders.{placed_has, placed_keeps}
 
 -- ---- one slot is placed

@@ -1,14 +1,12 @@
 -- Slots that were placed for records stand in their order, and nothing is changed in them.
 use Rattle.std.proofs.Common.{◌≡◌, List, [], ◌∷◌, None, Result, Ok, Err, refl}
-use Rattle.message_records.specs.declared.fault.Bad.{Bad}
-use Rattle.message_records.specs.believed.Records.{RequestFields}
+use Rattle.message_records.specs.{declared.fault.Bad.Bad, believed.Records.RequestFields}
 use Rattle.posting_rules.specs.believed.Numbering.{branch_of_teller, branch_of_account}
-use Rattle.posting_batch.specs.Batch.{with_branch_slot, covering, covering_all, no_slots, HasRisingSlots}
-use Rattle.posting_batch.specs.Batch.{HasNoChange}
+use Rattle.posting_batch.specs.Batch.{with_branch_slot, covering, covering_all, no_slots, HasRisingSlots, HasNoChange}
 use Rattle.posting_batch.specs.Overlay.{Overlay}
 use Rattle.posting_batch.specs.Placed.{number_below, number_same, request_below, request_same}
-use Rattle.posting_batch.specs.Slots.{account_slot_key, teller_slot_key, branch_slot_key, empty_account}
-use Rattle.posting_batch.specs.Slots.{empty_teller, empty_branch, empty_floor, empty_request, floor_slot_key}
+use Rattle.posting_batch.specs.Slots.{account_slot_key, teller_slot_key, branch_slot_key, empty_account, empty_teller}
+use Rattle.posting_batch.specs.Slots.{empty_branch, empty_floor, empty_request, floor_slot_key}
 use Rattle.posting_batch.proofs.Orders.{all-placed, placed_rises, number_order, request_order}
 
 -- so are slots that were made

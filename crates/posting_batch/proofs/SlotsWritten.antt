@@ -1,16 +1,12 @@
 -- What the slots of one table write, one after another, is what they say together.
-use Rattle.std.proofs.Common.{◌≡◌, ℕ, Bool, true, false, cond, eqb, List, [], ◌∷◌, ◌++◌, map, Option, Some}
-use Rattle.std.proofs.Common.{None, refl, sym, ap, subst, ◌∙◌, inl, inr}
+use Rattle.std.proofs.Common.{◌≡◌, ℕ, Bool, true, false, cond, eqb, List, [], ◌∷◌, ◌++◌, map, Option, Some, None}
+use Rattle.std.proofs.Common.{refl, sym, ap, subst, ◌∙◌, inl, inr}
 use Rattle.std.specs.Prelude.{ℤ, nat_eq, IsSome}
-use Rattle.std.specs.List.{AllByRecursion}
-use Rattle.std.specs.Option.{option_map, option_or}
-use Rattle.std.proofs.lemmas.Bool.{eqb-true}
-use Rattle.std.proofs.lemmas.List.Folds.{find-append}
+use Rattle.std.specs.{List.AllByRecursion, Option.option_map, Option.option_or}
+use Rattle.std.proofs.lemmas.{Bool.eqb-true, List.Folds.find-append}
 use Rattle.std.proofs.lemmas.Map.Keys.{IsDistinct-head, IsDistinct-tail}
-use Rattle.posting_rules.specs.believed.Changes.{row_changed}
-use Rattle.posting_rules.specs.believed.Tables.{HasKeys, row_at}
-use Rattle.posting_rules.proofs.Keyed.{by_test}
-use Rattle.posting_rules.proofs.RowChanges.{eqb-flip}
+use Rattle.posting_rules.specs.believed.{Changes.row_changed, Tables.HasKeys, Tables.row_at}
+use Rattle.posting_rules.proofs.{Keyed.by_test, RowChanges.eqb-flip}
 use Rattle.posting_batch.specs.Overlay.{by_slot, over, changed_to}
 use Rattle.posting_batch.proofs.OverlaidRows.{key-by_slot, row_at-over}
 

@@ -1,32 +1,24 @@
 -- The slots of a batch go on telling what is in the tables, record by record.
-use Rattle.std.proofs.Common.{◌≡◌, ℕ, suc, ◌+◌, Bool, true, false, cond, eqb, List, Option, Some, None, Result}
-use Rattle.std.proofs.Common.{Ok, Err, refl, sym, ap, subst, ◌∙◌, arith}
-use Rattle.std.specs.Prelude.{IfSome}
-use Rattle.std.specs.List.{find}
-use Rattle.std.specs.Option.{option_map}
-use Rattle.message_records.specs.declared.fault.Bad.{Bad}
-use Rattle.message_records.specs.believed.Records.{RequestFields}
-use Rattle.posting_rules.specs.declared.judgments.Found.{Found}
-use Rattle.posting_rules.specs.declared.judgments.Verdict.{Verdict}
+use Rattle.std.proofs.Common.{◌≡◌, ℕ, suc, ◌+◌, Bool, true, false, cond, eqb, List, Option, Some, None, Result, Ok}
+use Rattle.std.proofs.Common.{Err, refl, sym, ap, subst, ◌∙◌, arith}
+use Rattle.std.specs.{Prelude.IfSome, List.find, Option.option_map}
+use Rattle.message_records.specs.{declared.fault.Bad.Bad, believed.Records.RequestFields}
+use Rattle.posting_rules.specs.declared.{judgments.Found.Found, judgments.Verdict.Verdict, rows.RequestRow.RequestRow}
 use Rattle.posting_rules.specs.declared.judgments.Verdict.TheVariants.{Unkept, Again, Refused, Posted}
 use Rattle.posting_rules.specs.declared.rows.ReferenceRow.{ReferenceRow}
-use Rattle.posting_rules.specs.declared.rows.RequestRow.{RequestRow}
-use Rattle.posting_rules.specs.believed.Cases.{case_of, plus_within}
+use Rattle.posting_rules.specs.believed.{Cases.case_of, Cases.plus_within, Numbering.branch_of_teller}
 use Rattle.posting_rules.specs.believed.Changes.{row_changed, row_put, tables_after, tables_read}
-use Rattle.posting_rules.specs.believed.Numbering.{branch_of_teller}
 use Rattle.posting_rules.specs.believed.Entries.{DecidedRequest, refused_entry, posted_entry}
 use Rattle.posting_rules.specs.believed.LookUps.{kept_in, account_balance_in, balance_of_teller, found_in}
 use Rattle.posting_rules.specs.believed.Tables.{Tables, row_at, branch_key, teller_key, request_key, request_row_of}
 use Rattle.posting_rules.specs.believed.Tables.{reference_key}
 use Rattle.posting_rules.proofs.RowChanges.{row_at-changed}
 use Rattle.posting_rules.proofs.Verdicts.{by_posting, by_account, by_new, by_known, by_teller}
-use Rattle.posting_batch.specs.Batch.{CoversRead, HasFreeOrdinals}
+use Rattle.posting_batch.specs.{Batch.CoversRead, Batch.HasFreeOrdinals, Overlay.Overlay, Overlay.tables_over}
 use Rattle.posting_batch.specs.Judging.{found_over, overlay_kept, overlay_after, overlay_with}
-use Rattle.posting_batch.specs.Overlay.{Overlay, tables_over}
 use Rattle.posting_batch.specs.Slots.{is_for, account_slot_key, with_account_changed, teller_slot_key}
 use Rattle.posting_batch.specs.Slots.{with_teller_changed, branch_slot_key, with_branch_changed}
-use Rattle.posting_batch.proofs.FreeOrdinals.{free_read}
-use Rattle.posting_batch.proofs.KeptSlots.{kept_fits}
+use Rattle.posting_batch.proofs.{FreeOrdinals.free_read, KeptSlots.kept_fits}
 use Rattle.posting_batch.proofs.Overlaid.{Fits, found_is, each_put-append, reference_put-append, after_is}
 
 -- ---- the slots go on telling what is in the tables

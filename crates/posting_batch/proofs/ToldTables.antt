@@ -1,32 +1,22 @@
 -- Tables that have what the slots of an overlay tell: the overlay is filled from them.
-use Rattle.std.proofs.Common.{◌≡◌, ℕ, suc, ◌+◌, ◌<◌, Bool, true, false, eqb, ltb, List, [], ◌∷◌, map, Option}
-use Rattle.std.proofs.Common.{Some, None, refl, sym, ap, ◌∙◌, arith}
+use Rattle.std.proofs.Common.{◌≡◌, ℕ, suc, ◌+◌, ◌<◌, Bool, true, false, eqb, ltb, List, [], ◌∷◌, map, Option, Some}
+use Rattle.std.proofs.Common.{None, refl, sym, ap, ◌∙◌, arith}
 use Rattle.std.specs.Prelude.{◌&&◌, ◌||◌, ℤ, IsTrue, IfSome, option_and_then}
-use Rattle.std.specs.List.{find, AllByRecursion}
-use Rattle.std.specs.Option.{option_map}
+use Rattle.std.specs.{List.find, List.AllByRecursion, Option.option_map}
 use Rattle.std.proofs.lemmas.Bool.Decides.{nat_tests}
 use Rattle.posting_rules.specs.believed.Kept.{KeptFields, kept_with}
-use Rattle.posting_rules.specs.believed.LookUps.{balance_of_account, balance_of_teller}
-use Rattle.posting_rules.specs.believed.LookUps.{kept_in, kept_of_row, lowest_of, text_of_reference}
+use Rattle.posting_rules.specs.believed.LookUps.{balance_of_account, balance_of_teller, kept_in, kept_of_row}
+use Rattle.posting_rules.specs.believed.LookUps.{lowest_of, text_of_reference}
 use Rattle.posting_rules.specs.believed.Tables.{Tables, row_at, account_key, account_row_of, branch_key, floor_key}
 use Rattle.posting_rules.specs.believed.Tables.{floor_row_of, reference_key, reference_row_of, request_key}
-use Rattle.posting_rules.specs.believed.Tables.{teller_key}
-use Rattle.posting_rules.specs.believed.Tables.{teller_row_of}
-use Rattle.posting_rules.specs.declared.rows.AccountRow.{AccountRow}
-use Rattle.posting_rules.specs.declared.rows.BranchRow.{BranchRow}
-use Rattle.posting_rules.specs.declared.rows.FloorRow.{FloorRow}
-use Rattle.posting_rules.specs.declared.rows.ReferenceRow.{ReferenceRow}
-use Rattle.posting_rules.specs.declared.rows.RequestRow.{RequestRow}
-use Rattle.posting_rules.specs.declared.rows.TellerRow.{TellerRow}
-use Rattle.posting_batch.specs.declared.slots.AccountSlot.{AccountSlot}
-use Rattle.posting_batch.specs.declared.slots.BranchSlot.{BranchSlot}
-use Rattle.posting_batch.specs.declared.slots.FloorSlot.{FloorSlot}
-use Rattle.posting_batch.specs.declared.slots.RequestSlot.{RequestSlot}
-use Rattle.posting_batch.specs.declared.slots.TellerSlot.{TellerSlot}
+use Rattle.posting_rules.specs.believed.Tables.{teller_key, teller_row_of}
+use Rattle.posting_rules.specs.declared.rows.{AccountRow.AccountRow, BranchRow.BranchRow, FloorRow.FloorRow}
+use Rattle.posting_rules.specs.declared.rows.{ReferenceRow.ReferenceRow, RequestRow.RequestRow, TellerRow.TellerRow}
+use Rattle.posting_batch.specs.declared.slots.{AccountSlot.AccountSlot, BranchSlot.BranchSlot, FloorSlot.FloorSlot}
+use Rattle.posting_batch.specs.declared.slots.{RequestSlot.RequestSlot, TellerSlot.TellerSlot}
 use Rattle.posting_batch.specs.Batch.{HasRisingSlots, account_filled, branch_filled, filled, request_filled}
 use Rattle.posting_batch.specs.Batch.{floor_filled, teller_filled, HasFreeOrdinals}
-use Rattle.posting_batch.specs.Overlay.{Overlay}
-use Rattle.posting_batch.specs.Placed.{IsRising, number_below, request_below}
+use Rattle.posting_batch.specs.{Overlay.Overlay, Placed.IsRising, Placed.number_below, Placed.request_below}
 use Rattle.posting_batch.specs.Slots.{account_slot_key, branch_slot_key, floor_slot_key, teller_slot_key}
 
 -- ---- the rows that slots tell, found again

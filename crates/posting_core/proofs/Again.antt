@@ -1,18 +1,14 @@
 -- A record that comes again gets the reply that it got.
-use Rattle.std.proofs.Common.{◌≡◌, ◌⊎◌, ◌<◌, ◌≤◌, ℕ, zero, suc, ◌+◌, ◌-◌, ◌*◌, true, false, leb, List, []}
-use Rattle.std.proofs.Common.{◌∷◌, ◌++◌, length, get_or, take, drop, Result, Ok, Err, Vec, inl, inr, refl, sym, ap}
-use Rattle.std.proofs.Common.{◌∙◌, arith}
-use Rattle.std.specs.{Prelude.IfOk, List.AllByRecursion}
-use Rattle.std.specs.declared.alloc.Global.{Global}
+use Rattle.std.proofs.Common.{◌≡◌, ◌⊎◌, ◌<◌, ◌≤◌, ℕ, zero, suc, ◌+◌, ◌-◌, ◌*◌, true, false, leb, List, [], ◌∷◌, ◌++◌}
+use Rattle.std.proofs.Common.{length, get_or, take, drop, Result, Ok, Err, Vec, inl, inr, refl, sym, ap, ◌∙◌, arith}
+use Rattle.std.specs.{Prelude.IfOk, List.AllByRecursion, declared.alloc.Global.Global}
 use Rattle.std.proofs.lemmas.List.{take_at, drop_at, drop_all, drop-drop, drop-take, length-take}
 use Rattle.std.proofs.lemmas.Bool.Decides.{leb_tells}
-use Rattle.message_records.specs.believed.Spelling.{reply_spelling}
-use Rattle.message_records.specs.declared.limits.TheConstants.{REPLY_BYTES}
+use Rattle.message_records.specs.{believed.Spelling.reply_spelling, declared.limits.TheConstants.REPLY_BYTES}
 use Rattle.message_records.proofs.Prefixes.{length-reply}
-use Rattle.posting_rules.specs.declared.fault.Fault.{Fault}
+use Rattle.posting_rules.specs.{declared.fault.Fault.Fault, believed.Entries.reply, Resends.Place}
 use Rattle.posting_rules.specs.believed.Commands.{Command, Open, Post}
 use Rattle.posting_rules.specs.believed.Counter.{Answers, IsCounterCall, Seen, ShowsLog, Takes}
-use Rattle.posting_rules.specs.{believed.Entries.reply, Resends.Place}
 use Rattle.posting_rules.specs.believed.Runs.{followed_by, posts, replies_to, ArePosts}
 use Rattle.posting_rules.proofs.Resends.{replies_in_place, shows_log_left_out}
 use Rattle.posting_core.specs.{Again.AnswersAgain, believed.Batches.joined, Stream.reply_at}

@@ -1,25 +1,22 @@
 -- Rows in the order in which they came: one is put in after the others, and tables with a branch more show the
 -- log with its opening.
-use Rattle.std.proofs.Common.{◌≡◌, ℕ, ◌+◌, ◌≤◌, ltb, true, List, [], ◌∷◌, ◌++◌, Option, Some, None}
-use Rattle.std.proofs.Common.{refl, sym, ap, ◌∙◌, arith}
+use Rattle.std.proofs.Common.{◌≡◌, ℕ, ◌+◌, ◌≤◌, ltb, true, List, [], ◌∷◌, ◌++◌, Option, Some, None, refl, sym, ap}
+use Rattle.std.proofs.Common.{◌∙◌, arith}
 use Rattle.std.specs.{Prelude.ℤ, Prelude.pos, Prelude.All, List.AllByRecursion, Option.option_map}
 use Rattle.std.proofs.lemmas.{List.Elements.recursion_from_All, Bool.Decides.nat_tests}
-use Rattle.posting_rules.specs.declared.{rows.FloorRow.FloorRow}
-use Rattle.posting_rules.specs.declared.{rows.ReferenceRow.ReferenceRow, limits.TheConstants.MAX_ACCOUNTS}
+use Rattle.posting_rules.specs.{declared.rows.FloorRow.FloorRow, declared.rows.ReferenceRow.ReferenceRow}
+use Rattle.posting_rules.specs.{believed.LookUps.floor_in, LookUps.terms_of_branch, ChangesByKey.AddsFloor}
+use Rattle.posting_rules.specs.declared.limits.TheConstants.{MAX_ACCOUNTS}
 use Rattle.posting_rules.specs.believed.Changes.{row_changed, row_put, reference_put, tables_kept, tables_posted}
-use Rattle.posting_rules.specs.believed.Changes.{with_decided}
-use Rattle.posting_rules.specs.believed.Changes.{with_request, with_reference, with_history, with_branch_balance}
-use Rattle.posting_rules.specs.believed.Changes.{with_teller_balance, with_account_balance, new_teller, new_account}
+use Rattle.posting_rules.specs.believed.Changes.{with_decided, with_request, with_reference, with_history}
+use Rattle.posting_rules.specs.believed.Changes.{with_branch_balance, with_teller_balance, with_account_balance}
+use Rattle.posting_rules.specs.believed.Changes.{new_teller, new_account}
 use Rattle.posting_rules.specs.believed.Commands.{Command, Open, Terms, opened}
 use Rattle.posting_rules.specs.believed.Entries.{DecidedRequest, decided}
 use Rattle.posting_rules.specs.believed.Tables.{Tables, AreTablesOf, row_at, branch_key, teller_key, account_key}
-use Rattle.posting_rules.specs.believed.Tables.{history_key}
-use Rattle.posting_rules.specs.believed.Tables.{request_key, branch_row_of, history_row_of, request_row_of, HasKeys}
-use Rattle.posting_rules.specs.believed.Tables.{floor_key}
-use Rattle.posting_rules.specs.believed.Tables.{floor_row_of, reference_key, reference_row_of}
-use Rattle.posting_rules.specs.believed.LookUps.{floor_in}
-use Rattle.posting_rules.specs.LookUps.{terms_of_branch}
-use Rattle.posting_rules.specs.ChangesByKey.{AddsFloor}
+use Rattle.posting_rules.specs.believed.Tables.{history_key, request_key, branch_row_of, history_row_of}
+use Rattle.posting_rules.specs.believed.Tables.{request_row_of, HasKeys, floor_key, floor_row_of, reference_key}
+use Rattle.posting_rules.specs.believed.Tables.{reference_row_of}
 use Rattle.posting_rules.specs.ChangesByKey as steps
 use Rattle.posting_rules.specs.believed.Numbering.{branch_of_teller, first_teller, first_account}
 use Rattle.posting_batch.specs.Judging.{reference_after}

@@ -1,12 +1,11 @@
 -- Batches follow reads: each has all whole records that a read completed.
 use Rattle.std.proofs.Common.{◌≡◌, ◌≤◌, ◌<◌, ◌+◌, ◌*◌, ◌/◌, ℕ, min, true, false, leb, List, [], ◌∷◌, ◌++◌, length}
-use Rattle.std.proofs.Common.{take, Option}
-use Rattle.std.proofs.Common.{Result, Ok, Err, refl, sym, ap, subst, ◌∙◌, append-nil, arith, inl, inr, ◌⊎◌}
-use Rattle.std.proofs.{lemmas.Bool.Decides.leb_tells, lemmas.List.Concat.flat_map-append}
-use Rattle.std.proofs.lemmas.List.{length-append, take_all, take_min, take-append-le}
-use Rattle.std.specs.declared.io.Error.{Error}
+use Rattle.std.proofs.Common.{take, Option, Result, Ok, Err, refl, sym, ap, subst, ◌∙◌, append-nil, arith, inl, inr}
+use Rattle.std.proofs.Common.{◌⊎◌}
+use Rattle.std.proofs.lemmas.Bool.Decides.{leb_tells}
+use Rattle.std.proofs.lemmas.List.{Concat.flat_map-append, length-append, take_all, take_min, take-append-le}
+use Rattle.std.specs.{declared.io.Error.Error, Io.KnownBytes.Appends}
 use Rattle.posting_core.specs.believed.Batches.{Batch, records_in, records_of}
-use Rattle.std.specs.Io.KnownBytes.{Appends}
 use Rattle.posting_core.specs.Stream.{FollowReads, RepliesBeforeReads, given, read_by, submitted_by}
 use Rattle.posting_core.specs.believed.Told.{ReadTold, Gave, Failed, GrowsBy}
 use Rattle.posting_core.specs.Told.{Beside, IsThrough, WriteTold, read_told}

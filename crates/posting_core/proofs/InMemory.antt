@@ -4,17 +4,14 @@ use Rattle.std.specs.{Prelude.ℤ, Option.option_map}
 use Rattle.posting_rules.specs.declared.{rows.BranchRow.BranchRow, rows.TellerRow.TellerRow, fault.Fault.Fault}
 use Rattle.posting_rules.specs.declared.{rows.AccountRow.AccountRow, rows.HistoryRow.HistoryRow}
 use Rattle.posting_rules.specs.declared.{rows.RequestRow.RequestRow, rows.FloorRow.FloorRow}
-use Rattle.posting_rules.specs.declared.{rows.ReferenceRow.ReferenceRow}
-use Rattle.posting_rules.specs.declared.fault.Fault.TheVariants.{Memory}
+use Rattle.posting_rules.specs.declared.{rows.ReferenceRow.ReferenceRow, fault.Fault.TheVariants.Memory}
 use Rattle.posting_rules.specs.believed.Commands.{Command, AreCommands}
-use Rattle.posting_rules.specs.believed.Runs.{followed_by}
-use Rattle.posting_rules.specs.believed.Tables.{Tables, AreTablesOf}
+use Rattle.posting_rules.specs.believed.{Runs.followed_by, Tables.Tables, Tables.AreTablesOf}
 use Rattle.posting_rules.specs.believed.Counter.{IsCounterCall, IsSeenUnchanged, ShowsLog, StandsAt, Takes}
 use Rattle.posting_batch.specs.Slots.{in_slot}
 use Rattle.posting_core.specs.declared.plain_bank.PlainBank.{PlainBank}
 use Rattle.posting_core.specs.Plain.{plain_reason, plain_tables, plain_seen}
-use Rattle.posting_rules.proofs.{CounterCalls.call_answered, CounterCalls.call_spared}
-use Rattle.posting_rules.proofs.Sequence.{commands_after}
+use Rattle.posting_rules.proofs.{CounterCalls.call_answered, CounterCalls.call_spared, Sequence.commands_after}
 
 -- a row that is found tells its balance
 pub row_told : {R : Type 0} (balance : R → ℤ) (o : Option R)

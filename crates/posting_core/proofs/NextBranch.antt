@@ -1,8 +1,7 @@
 -- The row with the least number above this one, as one more row is looked at.
 use Rattle.std.proofs.Common.{◌++◌, ◌∷◌, [], ℕ, ◌≤◌, ◌<◌, List, Option, Some, None, arith}
 use Rattle.std.proofs.lemmas.List.Elements.{All-push, Contains-push, Contains-append_left}
-use Rattle.posting_rules.specs.declared.rows.BranchRow.{BranchRow}
-use Rattle.posting_rules.specs.Branches.{IsNextIn}
+use Rattle.posting_rules.specs.{declared.rows.BranchRow.BranchRow, Branches.IsNextIn}
 
 pub lower_passed : (rows : List BranchRow) (after : ℕ) (next : Option BranchRow) (row : BranchRow)
     → row.branch ≤ after → IsNextIn rows after next → IsNextIn (rows ++ row ∷ []) after next

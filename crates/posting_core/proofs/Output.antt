@@ -1,24 +1,23 @@
 -- What a stream did, said of what was read and written alone: its text, what a crash may leave, and records
 -- that come again.
-use Rattle.std.proofs.Common.{◌≡◌, ℕ, zero, suc, ◌-◌, ◌<◌, ◌≤◌, List, [], ◌∷◌, ◌++◌, length, take, Option}
-use Rattle.std.proofs.Common.{Result, Ok, Err, sym, ap, subst, ◌∙◌, append-nil, arith}
+use Rattle.std.proofs.Common.{◌≡◌, ℕ, zero, suc, ◌-◌, ◌<◌, ◌≤◌, List, [], ◌∷◌, ◌++◌, length, take, Option, Result, Ok}
+use Rattle.std.proofs.Common.{Err, sym, ap, subst, ◌∙◌, append-nil, arith}
 use Rattle.std.specs.{List.AllByRecursion, Io.KnownBytes.Appends}
-use Rattle.std.proofs.{Math.Seq.take-append_seam, lemmas.List.length-append, lemmas.List.length-take}
-use Rattle.std.proofs.lemmas.List.Concat.{flat_map-append}
+use Rattle.std.proofs.Math.Seq.{take-append_seam}
+use Rattle.std.proofs.lemmas.List.{length-append, length-take, Concat.flat_map-append}
 use Rattle.posting_core.specs.declared.stream.StreamFault.{StreamFault}
 use Rattle.posting_core.specs.declared.stream.StreamFault.TheVariants.{Truncated, Read, Write, Bank}
-use Rattle.posting_rules.specs.{believed.Commands.Command, believed.Counter.Seen, believed.Counter.ShowsLog}
-use Rattle.posting_rules.specs.{believed.Entries.reply, Resends.Place}
-use Rattle.posting_rules.specs.Resends.{Skips}
+use Rattle.posting_rules.specs.believed.{Commands.Command, Counter.Seen, Counter.ShowsLog, Entries.reply}
+use Rattle.posting_rules.specs.Resends.{Place, Skips}
 use Rattle.posting_rules.specs.believed.Runs.{followed_by, posts, replies_to, ArePosts}
 use Rattle.message_records.specs.believed.Spelling.{reply_spelling}
 use Rattle.posting_core.specs.believed.Batches.{Batch, IsRecord, joined, records_of, posts_in, posts_of}
 use Rattle.posting_core.specs.believed.Stream.{acknowledged, Streamed}
-use Rattle.posting_core.specs.Stream.{replies_text, IfTaken, OutputsReplies, SurvivesStream}
-use Rattle.posting_core.specs.Stream.{IsReplied, Resends, reply_at}
+use Rattle.posting_core.specs.Stream.{replies_text, IfTaken, OutputsReplies, SurvivesStream, IsReplied, Resends}
+use Rattle.posting_core.specs.Stream.{reply_at}
 use Rattle.posting_core.proofs.{Again.reply_begins, Again.reply_stands, Stops.at_least, Timeless.timeless}
-use Rattle.posting_rules.proofs.{Sequence.replies_to-append, Sequence.one_reply_each, Resends.shows_log_left_out}
-use Rattle.posting_rules.proofs.Remaining.{leaves_weaker}
+use Rattle.posting_rules.proofs.Sequence.{replies_to-append, one_reply_each}
+use Rattle.posting_rules.proofs.{Resends.shows_log_left_out, Remaining.leaves_weaker}
 use Rattle.posting_core.proofs.Batched.{joined-append, all_posts, posted_is, whole_records_are}
 
 -- ---- the text

@@ -1,13 +1,11 @@
 -- Rows in a vector: new ones are put after the others.
-use Rattle.std.proofs.Common.{◌≡◌, ℕ, zero, suc, ◌+◌, ◌<◌, Bool, true, false, cond, eqb, List, [], ◌∷◌, ◌++◌}
-use Rattle.std.proofs.Common.{map, Option, Some, None, refl, sym, ap, subst}
-use Rattle.std.proofs.Common.{◌∙◌, append_assoc, append-nil, arith}
+use Rattle.std.proofs.Common.{◌≡◌, ℕ, zero, suc, ◌+◌, ◌<◌, Bool, true, false, cond, eqb, List, [], ◌∷◌, ◌++◌, map}
+use Rattle.std.proofs.Common.{Option, Some, None, refl, sym, ap, subst, ◌∙◌, append_assoc, append-nil, arith}
 use Rattle.std.specs.{Prelude.nat_eq, Cmp.nat_eq_equiv, List.IsDistinct, Option.option_or}
-use Rattle.std.proofs.{lemmas.Bool.eqb-true, lemmas.List.map-append}
-use Rattle.std.proofs.{lemmas.List.Elements.All-from_recursion, lemmas.List.Folds.find-append}
-use Rattle.std.proofs.{lemmas.List.Folds.list_any_none, lemmas.Map.Keys.IsDistinct-push}
-use Rattle.posting_rules.specs.{believed.Tables.row_at, believed.Tables.HasKeys, ChangesByKey.GainsRow}
-use Rattle.posting_rules.specs.{ChangesByKey.AddsRows}
+use Rattle.std.proofs.lemmas.{Bool.eqb-true, List.map-append, List.Elements.All-from_recursion}
+use Rattle.std.proofs.lemmas.{List.Folds.find-append, List.Folds.list_any_none, Map.Keys.IsDistinct-push}
+use Rattle.posting_rules.specs.believed.Tables.{row_at, HasKeys}
+use Rattle.posting_rules.specs.ChangesByKey.{GainsRow, AddsRows}
 use Rattle.posting_rules.proofs.RowChanges.{free_apart, rows_none, rows_more}
 use Rattle.posting_core.specs.Appended.{rows_from}
 

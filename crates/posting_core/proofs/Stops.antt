@@ -1,11 +1,9 @@
 -- What a crash leaves of commands that were given, and what a text holds of others.
 use Rattle.std.proofs.Common.{◌≡◌, ℕ, ◌+◌, ◌≤◌, List, ◌++◌, length, take, sym, ap, subst, ◌∙◌, arith}
 use Rattle.std.proofs.{Math.Seq.take-append-add, lemmas.List.length-append, lemmas.List.take_all}
-use Rattle.posting_rules.specs.declared.fault.Fault.{Fault}
+use Rattle.posting_rules.specs.{declared.fault.Fault.Fault, believed.Commands.Command, believed.Commands.AreCommands}
+use Rattle.posting_rules.specs.{believed.Tables.Tables, believed.Tables.AreTablesOf, believed.Runs.followed_by}
 use Rattle.posting_rules.specs.declared.fault.Fault.TheVariants.{Memory, Store, Down, Damaged}
-use Rattle.posting_rules.specs.{believed.Commands.Command, believed.Commands.AreCommands, believed.Tables.Tables}
-use Rattle.posting_rules.specs.{believed.Tables.AreTablesOf}
-use Rattle.posting_rules.specs.believed.Runs.{followed_by}
 use Rattle.posting_rules.specs.believed.Counter.{Seen, LeavesOnly, StandsAt, ShowsPrefix, Refuses}
 use Rattle.posting_rules.proofs.{Remaining.leaves_still, Remaining.leaves_weaker, Sequence.after-append}
 

@@ -1,27 +1,21 @@
 -- How a stream ends: where all that was read was taken, and at a batch.
-use Rattle.std.proofs.Common.{◌≡◌, ℕ, ◌<◌, ◌≤◌, List, [], ◌∷◌, ◌++◌, length, take, Option, Result, Ok}
-use Rattle.std.proofs.Common.{Err, refl, sym, ap, subst, ◌∙◌, append-nil, arith}
+use Rattle.std.proofs.Common.{◌≡◌, ℕ, ◌<◌, ◌≤◌, List, [], ◌∷◌, ◌++◌, length, take, Option, Result, Ok, Err, refl, sym}
+use Rattle.std.proofs.Common.{ap, subst, ◌∙◌, append-nil, arith}
 use Rattle.std.specs.{List.AllByRecursion, Io.KnownBytes.Consumes, Io.KnownBytes.IsAtEnd}
 use Rattle.std.proofs.KnownBytes.{Appends-trans, Appends-kept}
-use Rattle.posting_rules.specs.declared.{fault.Fault.Fault, limits.TheConstants.RECORDS_PER_BATCH}
+use Rattle.posting_rules.specs.{declared.fault.Fault.Fault, believed.Commands.Command, believed.Tables.AreTablesOf}
+use Rattle.posting_rules.specs.declared.limits.TheConstants.{RECORDS_PER_BATCH}
 use Rattle.posting_rules.specs.declared.fault.Fault.TheVariants.{Memory, Store, Down, Damaged}
-use Rattle.posting_core.specs.declared.stream.StreamFault.{StreamFault}
+use Rattle.posting_core.specs.{declared.stream.StreamFault.StreamFault, believed.Clock.AreReadings, Clock.IsReading}
+use Rattle.posting_core.specs.{Batches.BreaksOff, believed.Told.ReadTold, Told.Beside, Told.WriteTold}
 use Rattle.posting_core.specs.declared.stream.StreamFault.TheVariants.{Truncated, Read, Write, Bank}
-use Rattle.posting_rules.specs.{believed.Commands.Command, believed.Tables.AreTablesOf}
 use Rattle.posting_rules.specs.believed.Counter.{Seen, ShowsLog, StandsAt, Refuses, IsSeenUnchanged}
 use Rattle.posting_rules.specs.believed.Runs.{followed_by, posts, replies_to}
-use Rattle.posting_core.specs.believed.Clock.{AreReadings}
-use Rattle.posting_core.specs.Clock.{IsReading}
 use Rattle.posting_core.specs.believed.Batches.{Batch, IsBatch, IsRecord, joined, moments_of, records_of, posts_of}
-use Rattle.posting_core.specs.Batches.{BreaksOff}
-use Rattle.posting_core.specs.believed.Stream.{EndsStream, RepliesAreWritten, IfUp}
-use Rattle.posting_core.specs.Stream.{FollowReads, StreamsAsRead}
-use Rattle.posting_core.specs.believed.Stream.{UnlessDown}
-use Rattle.posting_core.specs.Stream.{read_by, submitted_by}
-use Rattle.posting_core.specs.believed.Told.{ReadTold}
-use Rattle.posting_core.specs.Told.{Beside, WriteTold}
-use Rattle.posting_core.proofs.{Followed.Following, Prompt.prompt_written, Batched.posts_of_one_more}
-use Rattle.posting_core.proofs.{Batched.replies_of_one_more, Streaming.Going}
+use Rattle.posting_core.specs.believed.Stream.{EndsStream, RepliesAreWritten, IfUp, UnlessDown}
+use Rattle.posting_core.specs.Stream.{FollowReads, StreamsAsRead, read_by, submitted_by}
+use Rattle.posting_core.proofs.{Followed.Following, Prompt.prompt_written, Streaming.Going}
+use Rattle.posting_core.proofs.Batched.{posts_of_one_more, replies_of_one_more}
 use Rattle.posting_rules.proofs.Remaining.{leaves_still}
 use Rattle.posting_core.proofs.Stops.{refused_stop, stop_all, stop_part, written_part}
 use Rattle.posting_core.proofs.StreamedBatches.{all_more, takes_batch, read_batch, whole_batch, clock_batch}

@@ -8,11 +8,9 @@ use Rattle.posting_rules.specs.believed.Commands.{Command, Post}
 use Rattle.posting_rules.specs.believed.Counter.{Seen, ShowsLog, StandsAt, Takes}
 use Rattle.posting_rules.specs.believed.Runs.{followed_by, posts, replies_to}
 use Rattle.posting_core.specs.believed.Clock.{after_one, IsNextReading, AreReadings}
-use Rattle.posting_core.specs.Clock.{IsReading}
+use Rattle.posting_core.specs.{Clock.IsReading, Batches.BatchIsAnswered}
 use Rattle.posting_core.specs.believed.Batches.{Batch, IsBatch, IsRecord, joined, moment_of, moments_of, records_of}
-use Rattle.posting_core.specs.believed.Batches.{posts_in}
-use Rattle.posting_core.specs.believed.Batches.{posts_of}
-use Rattle.posting_core.specs.Batches.{BatchIsAnswered}
+use Rattle.posting_core.specs.believed.Batches.{posts_in, posts_of}
 use Rattle.posting_rules.proofs.Sequence.{after-append}
 use Rattle.posting_core.proofs.Batched.{joined_one_more, records_one_more, posts_of_one_more, replies_of_one_more}
 use Rattle.posting_core.proofs.Streaming.{Going}

@@ -1,15 +1,14 @@
 -- A stream of records, step by step: a read, a batch, and each way to end.
-use Rattle.std.proofs.Common.{◌≡◌, ◌⊎◌, inl, inr, ℕ, ◌+◌, ◌*◌, ◌<◌, ◌≤◌, List, [], ◌++◌, length, take, Option}
-use Rattle.std.proofs.Common.{Result, Ok, refl, sym, ap, subst, ◌∙◌, append_assoc, append-nil, arith}
+use Rattle.std.proofs.Common.{◌≡◌, ◌⊎◌, inl, inr, ℕ, ◌+◌, ◌*◌, ◌<◌, ◌≤◌, List, [], ◌++◌, length, take, Option, Result}
+use Rattle.std.proofs.Common.{Ok, refl, sym, ap, subst, ◌∙◌, append_assoc, append-nil, arith}
 use Rattle.std.specs.{Prelude.IfOk, List.AllByRecursion}
 use Rattle.std.specs.Io.KnownBytes.{Keeps, Appends, Consumes}
 use Rattle.std.proofs.KnownBytes.{Appends-nil, Consumes-trans, Consumes-nil, Consumes-kept}
 use Rattle.std.proofs.lemmas.List.{length-take-le}
 use Rattle.message_records.specs.declared.limits.TheConstants.{REPLY_BYTES}
-use Rattle.posting_core.specs.declared.stream.TheConstants.{BUFFER}
-use Rattle.posting_rules.specs.{believed.Commands.Command, believed.Runs.replies_to}
+use Rattle.posting_core.specs.{declared.stream.TheConstants.BUFFER, believed.Clock.AreReadings}
+use Rattle.posting_rules.specs.believed.{Commands.Command, Runs.replies_to}
 use Rattle.posting_rules.specs.believed.Counter.{Seen, ShowsLog, Takes}
-use Rattle.posting_core.specs.believed.Clock.{AreReadings}
 use Rattle.posting_core.specs.believed.Batches.{Batch, IsBatch, IsRecord, joined, moments_of, records_of, posts_of}
 
 -- ---- where the loop stands

@@ -3,16 +3,13 @@ use Rattle.std.proofs.Common.{◌≡◌, ◌≤◌, ◌+◌, ℕ, true, false, L
 use Rattle.std.proofs.Common.{Ok, Err, refl, sym, ap, subst, ◌∙◌, append_assoc, append-nil, arith, inl, inr}
 use Rattle.std.specs.Prelude.{◌⊎◌, ◌-◌, ◌^◌, ◌≢◌}
 use Rattle.std.proofs.lemmas.List.{length-append}
-use Rattle.std.specs.{IoError.error_kind, contracts.io.ErrorKind.the_type}
-use Rattle.std.specs.declared.{io.Error.Error, io.ErrorKind.ErrorKind}
+use Rattle.std.specs.{IoError.error_kind, contracts.io.ErrorKind.the_type, List.AllByRecursion}
+use Rattle.std.specs.declared.io.{Error.Error, ErrorKind.ErrorKind, ErrorKind.TheVariants.Interrupted}
 use denote.Enum.Bare.{sameb, same_true}
-use Rattle.std.specs.declared.io.ErrorKind.TheVariants.{Interrupted}
-use Rattle.std.specs.List.{AllByRecursion}
-use Rattle.posting_core.specs.believed.Told.{GrowsBy, EndsWith}
-use Rattle.posting_core.specs.Told.{EndsWithMany, HasMore, HasReadFailed, HasWriteFailed}
-use Rattle.posting_core.specs.believed.Told.{IsEndOfInput, ReadTold}
-use Rattle.posting_core.specs.Told.{IsInterrupted, IsReadFailure, IsWornOut, IsWriteFailure}
-use Rattle.posting_core.specs.Told.{WriteTold, read_told, write_told, flush_told, IsFlush}
+use Rattle.posting_core.specs.believed.Told.{GrowsBy, EndsWith, IsEndOfInput, ReadTold}
+use Rattle.posting_core.specs.Told.{EndsWithMany, HasMore, HasReadFailed, HasWriteFailed, IsInterrupted}
+use Rattle.posting_core.specs.Told.{IsReadFailure, IsWornOut, IsWriteFailure, WriteTold, read_told, write_told}
+use Rattle.posting_core.specs.Told.{flush_told, IsFlush}
 
 pub adds-more : {A : Type 0} (a b c : Option (List A)) (xs ys : List A) → GrowsBy a b xs → GrowsBy b c ys
     → GrowsBy a c (xs ++ ys)

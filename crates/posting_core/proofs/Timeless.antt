@@ -1,22 +1,19 @@
 -- No reply depends on a moment, so that a run of batches is replied to like one batch of all their records.
-use Rattle.std.proofs.Common.{◌≡◌, ℕ, suc, Bool, true, false, cond, eqb, List, [], ◌∷◌, ◌++◌, length, Option}
-use Rattle.std.proofs.Common.{Some, None, Result, Ok, Err, refl, sym, ap, ◌∙◌}
+use Rattle.std.proofs.Common.{◌≡◌, ℕ, suc, Bool, true, false, cond, eqb, List, [], ◌∷◌, ◌++◌, length, Option, Some}
+use Rattle.std.proofs.Common.{None, Result, Ok, Err, refl, sym, ap, ◌∙◌}
 use Rattle.std.specs.Prelude.{ℤ, ◌+ℤ◌, ◌&&◌}
 use Rattle.std.specs.Option.{option_map}
 use Rattle.message_records.specs.declared.fault.Bad.{Bad}
-use Rattle.message_records.specs.{believed.Records.RequestFields, believed.Records.ReplyFields}
-use Rattle.message_records.specs.{believed.Reading.request_of}
-use Rattle.message_records.specs.believed.Spelling.{reply_spelling}
-use Rattle.posting_rules.specs.declared.{judgments.Found.Found, judgments.Verdict.Verdict}
+use Rattle.message_records.specs.believed.Records.{RequestFields, ReplyFields}
+use Rattle.message_records.specs.believed.{Reading.request_of, Spelling.reply_spelling}
+use Rattle.posting_rules.specs.{declared.judgments.Found.Found, believed.Kept.KeptFields, believed.Cases.case_of}
+use Rattle.posting_rules.specs.declared.judgments.Verdict.{Verdict}
 use Rattle.posting_rules.specs.declared.judgments.Verdict.TheVariants.{Unkept, Again, Refused, Posted}
-use Rattle.posting_rules.specs.{believed.Kept.KeptFields, believed.Numbering.branch_of_teller}
-use Rattle.posting_rules.specs.{believed.Numbering.branch_of_account}
-use Rattle.posting_rules.specs.believed.Cases.{case_of}
+use Rattle.posting_rules.specs.believed.Numbering.{branch_of_teller, branch_of_account}
 use Rattle.posting_rules.specs.believed.Commands.{Command, Post, opened, is_teller_open, is_account_open, Terms}
 use Rattle.posting_rules.specs.believed.Commands.{floor_of}
 use Rattle.posting_rules.specs.believed.Entries.{DecidedRequest, is_posted, facts, kept, kept_fields, posted_sum}
-use Rattle.posting_rules.specs.believed.Entries.{with_verdict}
-use Rattle.posting_rules.specs.believed.Entries.{with_record, decided, reply_given, reply}
+use Rattle.posting_rules.specs.believed.Entries.{with_verdict, with_record, decided, reply_given, reply}
 use Rattle.posting_rules.specs.believed.Runs.{followed_by, posts, replies_to}
 use Rattle.posting_core.specs.believed.Batches.{Batch, posts_in, posts_of, records_of}
 use Rattle.posting_rules.proofs.Sequence.{replies_to-append}

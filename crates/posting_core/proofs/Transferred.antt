@@ -1,13 +1,12 @@
 -- Reads and writes one after another.
-use Rattle.std.proofs.Common.{◌≡◌, ℕ, ◌+◌, ◌-◌, ◌≤◌, List, ◌++◌, length, take, drop, Option, Some, None}
-use Rattle.std.proofs.Common.{Result, Ok, Err, refl, sym, ap, subst, ◌∙◌, append_assoc, arith}
+use Rattle.std.proofs.Common.{◌≡◌, ℕ, ◌+◌, ◌-◌, ◌≤◌, List, ◌++◌, length, take, drop, Option, Some, None, Result, Ok}
+use Rattle.std.proofs.Common.{Err, refl, sym, ap, subst, ◌∙◌, append_assoc, arith}
 use Rattle.std.specs.{Prelude.IfOk, Io.ReadsAtMost}
 use Rattle.std.specs.Io.KnownBytes.{Appends, Consumes, ReadConsumes}
-use Rattle.std.proofs.{KnownBytes.Consumes-trans, lemmas.Slice.between_to_end}
+use Rattle.std.proofs.{KnownBytes.Consumes-trans, lemmas.Slice.between_to_end, Math.Seq.take-length}
 use Rattle.std.proofs.lemmas.List.{take_at, drop_at, take-append-le, length-take-le}
 use borrow.Rule.Slice.PartMut.{put_mid, post_of}
 use lib.Seq.{take-add}
-use Rattle.std.proofs.Math.Seq.{take-length}
 
 -- a read into what is left of a buffer
 grown : (xs ys : List ℕ) (f k n : ℕ) → f ≤ length xs → n ≤ length ys

@@ -1,24 +1,20 @@
 -- No account is ever below the floor of its own branch.
-use Rattle.std.proofs.Common.{◌≡◌, ℕ, Bool, true, false, cond, eqb, leb, List, [], ◌∷◌, Option, Some, None}
-use Rattle.std.proofs.Common.{Result, Ok, Err, refl, sym, ap, subst, ◌∙◌}
+use Rattle.std.proofs.Common.{◌≡◌, ℕ, Bool, true, false, cond, eqb, leb, List, [], ◌∷◌, Option, Some, None, Result}
+use Rattle.std.proofs.Common.{Ok, Err, refl, sym, ap, subst, ◌∙◌}
 use Rattle.std.specs.Prelude.{ℤ, pos, ◌+ℤ◌, ◌≤ℤ◌, ◌&&◌, IfSome, option_and_then}
 use Rattle.std.specs.Option.{option_or}
 use Rattle.std.proofs.lemmas.Bool.{eqb-true}
 use Rattle.message_records.specs.declared.fault.Bad.{Bad}
-use Rattle.message_records.specs.believed.Outcomes.{has_balance}
-use Rattle.message_records.specs.believed.Records.{RequestFields}
-use Rattle.message_records.specs.believed.Reading.{request_of}
-use Rattle.posting_rules.specs.declared.judgments.Verdict.{Verdict}
+use Rattle.message_records.specs.believed.{Outcomes.has_balance, Records.RequestFields, Reading.request_of}
+use Rattle.posting_rules.specs.{declared.judgments.Verdict.Verdict, believed.Cases.case_of}
 use Rattle.posting_rules.specs.declared.judgments.Verdict.TheVariants.{Unkept, Again, Refused, Posted}
 use Rattle.posting_rules.specs.believed.Commands.{Command, Open, Post, AreCommands, IsFloor, Terms, opened, floor_of}
 use Rattle.posting_rules.specs.believed.Commands.{is_account_open, is_within}
 use Rattle.posting_rules.specs.believed.Numbering.{branch_of_account, place_of_account}
-use Rattle.posting_rules.specs.believed.Cases.{case_of}
 use Rattle.posting_rules.specs.believed.Entries.{DecidedRequest, facts, with_verdict, with_record, decided}
 use Rattle.posting_rules.specs.believed.Entries.{account_balance}
 use Rattle.posting_rules.proofs.NamedOpen.{AllNameOpen, with_branch, all_name_open, both}
-use Rattle.posting_rules.proofs.NoBalance.{account_none}
-use Rattle.posting_rules.proofs.Verdicts.{IsVerdict, verdict_is}
+use Rattle.posting_rules.proofs.{NoBalance.account_none, Verdicts.IsVerdict, Verdicts.verdict_is}
 
 abbrev AllAbove : (ℕ → Option Terms) → List DecidedRequest → Type 0
 AllAbove opened es =

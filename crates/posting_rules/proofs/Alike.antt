@@ -2,13 +2,9 @@
 use Rattle.std.proofs.Common.{◌≡◌, ℕ, List, [], ◌∷◌, refl, sym, ap, ◌∙◌}
 use Rattle.message_records.specs.believed.Spelling.{reply_spelling}
 use Rattle.posting_rules.specs.believed.Commands.{Command, Open, Post, AreCommands}
-use Rattle.posting_rules.specs.believed.Changes.{tables_past}
-use Rattle.posting_rules.specs.Changes.{tables_with_branch}
-use Rattle.posting_rules.specs.believed.Entries.{reply}
-use Rattle.posting_rules.specs.believed.Tables.{Tables, AreTablesOf}
-use Rattle.posting_rules.specs.believed.Runs.{replies_to}
-use Rattle.posting_rules.proofs.Calls.{opens}
-use Rattle.posting_rules.proofs.Records.{past_reply, past_shown}
+use Rattle.posting_rules.specs.{believed.Changes.tables_past, Changes.tables_with_branch, believed.Entries.reply}
+use Rattle.posting_rules.specs.{believed.Tables.Tables, believed.Tables.AreTablesOf, believed.Runs.replies_to}
+use Rattle.posting_rules.proofs.{Calls.opens, Records.past_reply, Records.past_shown}
 
 pub answer_alike : (t : Tables) (one two cs : List Command) → AreTablesOf t one → AreTablesOf t two
     → AreCommands cs

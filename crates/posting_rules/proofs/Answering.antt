@@ -2,19 +2,13 @@
 use Rattle.std.proofs.Common.{◌≡◌, ℕ, List, [], ◌∷◌, Option, Some, None, sym, ap, ◌∙◌}
 use Rattle.std.specs.Prelude.{option_map}
 use Rattle.posting_rules.specs.declared.counter.BranchLine.{BranchLine}
-use Rattle.posting_rules.specs.Branches.{IsNextBranch}
-use Rattle.posting_rules.specs.believed.Changes.{tables_past}
-use Rattle.posting_rules.specs.Changes.{tables_with_branch}
+use Rattle.posting_rules.specs.{Branches.IsNextBranch, believed.Changes.tables_past, Changes.tables_with_branch}
+use Rattle.posting_rules.specs.{believed.LookUps.balance_of_branch, believed.Runs.followed_by, Alike.AreAlike}
 use Rattle.posting_rules.specs.believed.Commands.{Command, Open, Post, AreCommands, opened, Terms, opened_with}
 use Rattle.posting_rules.specs.believed.Counter.{opening_for, opening_after}
 use Rattle.posting_rules.specs.believed.Entries.{balance_after, branch_balance, decided}
-use Rattle.posting_rules.specs.believed.LookUps.{balance_of_branch}
-use Rattle.posting_rules.specs.believed.Runs.{followed_by}
 use Rattle.posting_rules.specs.believed.Tables.{Tables, AreTablesOf}
-use Rattle.posting_rules.specs.Alike.{AreAlike}
-use Rattle.posting_rules.proofs.Calls.{opens}
-use Rattle.posting_rules.proofs.Looked.{balance_shown, terms_shown}
-use Rattle.posting_rules.proofs.Records.{past_shown}
+use Rattle.posting_rules.proofs.{Calls.opens, Looked.balance_shown, Looked.terms_shown, Records.past_shown}
 
 -- tables that show both logs with the commands after them
 record BothShown (one two : List Command) : Type 0 where

@@ -1,33 +1,24 @@
 -- The table of cases gives what is stated case by case.
-use Rattle.std.proofs.Common.{◌≡◌, ◌≢◌, ℕ, true, false, eqb, leb, List, ◌∷◌, length, Option, Some, None}
-use Rattle.std.proofs.Common.{Result, Ok, Err, refl, sym, ap, ◌∙◌, inl, inr}
+use Rattle.std.proofs.Common.{◌≡◌, ◌≢◌, ℕ, true, false, eqb, leb, List, ◌∷◌, length, Option, Some, None, Result, Ok}
+use Rattle.std.proofs.Common.{Err, refl, sym, ap, ◌∙◌, inl, inr}
 use Rattle.std.specs.Prelude.{ℤ, pos, ◌+ℤ◌}
 use Rattle.std.proofs.lemmas.Bool.{eqb-true, eq-eqb, leb-true, leb-false}
-use Rattle.posting_rules.specs.declared.limits.TheConstants.{MAX_DECIDED}
-use Rattle.message_records.specs.declared.records.Outcome.{Outcome}
+use Rattle.posting_rules.specs.{declared.limits.TheConstants.MAX_DECIDED, declared.judgments.Verdict.Verdict}
+use Rattle.posting_rules.specs.{believed.Numbering.branch_of_teller, believed.Kept.KeptFields}
+use Rattle.message_records.specs.{declared.records.Outcome.Outcome, believed.Outcomes.has_balance}
+use Rattle.message_records.specs.{declared.fault.Bad.Bad, believed.Records.RequestFields, believed.Reading.request_of}
 use Rattle.message_records.specs.declared.records.Outcome.TheVariants as outcome
-use Rattle.message_records.specs.believed.Outcomes.{has_balance}
-use Rattle.message_records.specs.declared.fault.Bad.{Bad}
-use Rattle.message_records.specs.believed.Records.{RequestFields}
-use Rattle.message_records.specs.believed.Reading.{request_of}
-use Rattle.posting_rules.specs.declared.judgments.Verdict.{Verdict}
 use Rattle.posting_rules.specs.declared.judgments.Verdict.TheVariants.{Unkept, Again, Refused}
 use Rattle.posting_rules.specs.believed.Commands.{Command, Post, opened, is_teller_open, is_account_open}
-use Rattle.posting_rules.specs.believed.Numbering.{branch_of_teller}
-use Rattle.posting_rules.specs.believed.Kept.{KeptFields}
 use Rattle.posting_rules.specs.believed.Cases.{balance_shown, is_same, kept_reply, reply_in}
 use Rattle.posting_rules.specs.believed.Entries.{DecidedRequest, kept, account_balance, teller_balance}
-use Rattle.posting_rules.specs.believed.Entries.{branch_balance}
-use Rattle.posting_rules.specs.believed.Entries.{with_verdict, with_record, decided, reply_given, reply}
-use Rattle.posting_rules.specs.believed.Entries.{refused_entry}
-use Rattle.posting_rules.specs.believed.Entries.{posted_entry}
-use Rattle.posting_rules.specs.Stated.{IsDecided, IsPosted, StaysAbove, AddsEntry, DecidesAsStated}
-use Rattle.posting_rules.specs.Stated.{RepliesAsStated}
+use Rattle.posting_rules.specs.believed.Entries.{branch_balance, with_verdict, with_record, decided, reply_given}
+use Rattle.posting_rules.specs.believed.Entries.{reply, refused_entry, posted_entry}
+use Rattle.posting_rules.specs.Stated.{IsDecided, IsPosted, StaysAbove, AddsEntry, DecidesAsStated, RepliesAsStated}
 use Rattle.posting_rules.proofs.Keyed.{by_test}
-use Rattle.posting_rules.proofs.VerdictsStated.{verdict, by_limit, by_floor, below_floor, decided_verdict}
-use Rattle.posting_rules.proofs.VerdictsStated.{full, has_sums, known}
-use Rattle.posting_rules.proofs.VerdictsStated.{new, no_account, no_teller, other_content, over_limit}
-use Rattle.posting_rules.proofs.VerdictsStated.{posted_verdict, same_content, wrong_branch}
+use Rattle.posting_rules.proofs.VerdictsStated.{verdict, by_limit, by_floor, below_floor, decided_verdict, full}
+use Rattle.posting_rules.proofs.VerdictsStated.{has_sums, known, new, no_account, no_teller, other_content}
+use Rattle.posting_rules.proofs.VerdictsStated.{over_limit, posted_verdict, same_content, wrong_branch}
 
 -- ---- the reply
 

@@ -1,19 +1,15 @@
 -- Every balance stays within the limit.
-use Rattle.std.proofs.Common.{◌≡◌, ℕ, ◌≤◌, Bool, true, false, cond, eqb, List, [], ◌∷◌, Result, Ok, Err, refl}
-use Rattle.std.proofs.Common.{sym, subst, ◌∙◌, lit≤}
+use Rattle.std.proofs.Common.{◌≡◌, ℕ, ◌≤◌, Bool, true, false, cond, eqb, List, [], ◌∷◌, Result, Ok, Err, refl, sym}
+use Rattle.std.proofs.Common.{subst, ◌∙◌, lit≤}
 use Rattle.std.specs.Prelude.{ℤ, ◌+ℤ◌, nat_abs, ◌&&◌, Option}
 use Rattle.std.proofs.lemmas.Bool.{eqb-true}
-use Rattle.message_records.specs.declared.limits.TheConstants.{MAX_BALANCE}
-use Rattle.message_records.specs.declared.fault.Bad.{Bad}
-use Rattle.message_records.specs.believed.Records.{RequestFields}
-use Rattle.message_records.specs.believed.Reading.{request_of}
-use Rattle.posting_rules.specs.declared.judgments.Verdict.{Verdict}
+use Rattle.message_records.specs.{declared.limits.TheConstants.MAX_BALANCE, declared.fault.Bad.Bad}
+use Rattle.message_records.specs.{believed.Records.RequestFields, believed.Reading.request_of}
+use Rattle.posting_rules.specs.{declared.judgments.Verdict.Verdict, believed.Cases.case_of, Laws.StaysWithin}
 use Rattle.posting_rules.specs.declared.judgments.Verdict.TheVariants.{Unkept, Again, Refused, Posted}
 use Rattle.posting_rules.specs.believed.Commands.{Command, Open, Post, opened, Terms}
-use Rattle.posting_rules.specs.believed.Cases.{case_of}
 use Rattle.posting_rules.specs.believed.Entries.{DecidedRequest, is_posted, facts, account_balance, teller_balance}
 use Rattle.posting_rules.specs.believed.Entries.{branch_balance, refused_entry, with_verdict, with_record, decided}
-use Rattle.posting_rules.specs.Laws.{StaysWithin}
 use Rattle.posting_rules.proofs.Verdicts.{IsSum, IsVerdict, verdict_is}
 
 abbrev IsWithin : ℤ → Type 0

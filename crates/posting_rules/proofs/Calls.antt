@@ -1,26 +1,18 @@
 -- What a request, an opening and a look-up do to the tables is what the commands lead to.
 use Rattle.std.proofs.Common.{◌≡◌, ℕ, ◌≤◌, List, [], ◌∷◌, Option, Some, None, Ok, refl, sym, ap, ◌∙◌}
 use Rattle.std.specs.Option.{option_map}
-use Rattle.message_records.specs.believed.Records.{RequestFields}
-use Rattle.message_records.specs.believed.Reading.{request_of}
-use Rattle.message_records.specs.believed.Spelling.{reply_spelling}
-use Rattle.posting_rules.specs.declared.rows.BranchRow.{BranchRow}
+use Rattle.message_records.specs.believed.{Records.RequestFields, Reading.request_of, Spelling.reply_spelling}
+use Rattle.posting_rules.specs.{declared.rows.BranchRow.BranchRow, believed.Runs.followed_by}
+use Rattle.posting_rules.specs.{believed.Entries.decided, believed.Entries.reply, believed.LookUps.floor_in}
+use Rattle.posting_rules.specs.{LookUps.terms_in, LookUps.terms_of_branch, declared.limits.TheConstants.MAX_ACCOUNTS}
 use Rattle.posting_rules.specs.believed.Commands.{Command, Open, Post, opened, Terms}
-use Rattle.posting_rules.specs.believed.Runs.{followed_by}
 use Rattle.posting_rules.specs.believed.Counter.{opening_for, opening_after}
-use Rattle.posting_rules.specs.believed.Entries.{decided, reply}
-use Rattle.posting_rules.specs.believed.LookUps.{floor_in}
-use Rattle.posting_rules.specs.LookUps.{terms_in, terms_of_branch}
-use Rattle.posting_rules.specs.believed.Tables.{Tables, row_at, branch_key}
-use Rattle.posting_rules.specs.believed.Tables.{AreTablesOf as Show}
-use Rattle.posting_rules.proofs.Looked.{terms_shown}
+use Rattle.posting_rules.specs.believed.Tables.{Tables, row_at, branch_key, AreTablesOf as Show}
+use Rattle.posting_rules.proofs.{Looked.terms_shown, Ready.ready_shown, ChangesByKey.opens_is}
 use Rattle.posting_rules.proofs.TablesWithBranch.{opening_shown, already_open_shown}
 use Rattle.posting_rules.proofs.TablesWithRecord.{post_shown, reply_shown}
 use Rattle.posting_rules.specs.believed.Changes.{tables_with, reply_bytes}
 use Rattle.posting_rules.specs.Changes.{opened_where, tables_with_branch}
-use Rattle.posting_rules.proofs.Ready.{ready_shown}
-use Rattle.posting_rules.proofs.ChangesByKey.{opens_is}
-use Rattle.posting_rules.specs.declared.limits.TheConstants.{MAX_ACCOUNTS}
 
 -- the change is that of the commands
 abbrev pub IsChange : (Tables → Tables) → List Command → Type 0

@@ -1,33 +1,25 @@
 -- What the statements of a posting and of an opening leave of sound tables.
 use Rattle.std.proofs.Common.{◌≡◌, ℕ, suc, ◌+◌, ◌<◌, ◌≤◌, List, Option, Some, None, refl, ap, ◌∙◌, arith}
-use Rattle.std.specs.Prelude.{ℤ, pos, is_some, IsSome}
-use Rattle.std.specs.Option.{option_map}
+use Rattle.std.specs.{Prelude.ℤ, Prelude.pos, Prelude.is_some, Prelude.IsSome, Option.option_map}
 use Rattle.message_records.specs.believed.Records.{RequestFields}
-use Rattle.posting_rules.specs.declared.judgments.Verdict.{Verdict}
-use Rattle.posting_rules.specs.declared.judgments.Verdict.TheVariants.{Posted}
-use Rattle.posting_rules.specs.declared.rows.FloorRow.{FloorRow}
+use Rattle.posting_rules.specs.{declared.judgments.Verdict.Verdict, declared.judgments.Verdict.TheVariants.Posted}
+use Rattle.posting_rules.specs.{declared.rows.FloorRow.FloorRow, believed.Cases.case_of, believed.Cases.plus_within}
+use Rattle.posting_rules.specs.{believed.Entries.DecidedRequest, ChangesByKey.AddsFloor, ChangesByKey.OpensBranch}
+use Rattle.posting_rules.specs.{Sound.AreSound, declared.limits.TheConstants.MAX_ACCOUNTS}
 use Rattle.posting_rules.specs.believed.Commands.{Command, AreCommands, Terms}
-use Rattle.posting_rules.specs.believed.Cases.{case_of, plus_within}
-use Rattle.posting_rules.specs.believed.Entries.{DecidedRequest}
 use Rattle.posting_rules.specs.believed.Tables.{Tables, AreTablesOf, HasKeys, row_at, branch_key, teller_key}
 use Rattle.posting_rules.specs.believed.Tables.{account_key, branch_row_of, floor_key, floor_row_of}
 use Rattle.posting_rules.specs.believed.LookUps.{both_of, balance_of_branch, balance_of_teller, balance_of_account}
 use Rattle.posting_rules.specs.believed.LookUps.{found_in}
-use Rattle.posting_rules.specs.ChangesByKey.{AddsFloor, OpensBranch}
 use Rattle.posting_rules.specs.believed.Numbering.{branch_of_teller, first_teller, first_account}
-use Rattle.posting_rules.proofs.Undamaged.{undamaged}
+use Rattle.posting_rules.proofs.{Undamaged.undamaged, Ready.AreReady, Ready.ready_sound, Ready.no_teller}
+use Rattle.posting_rules.proofs.{Ready.no_account, RowChanges.row_adds, RowChanges.rows_add, RowChanges.next_is_free}
 use Rattle.posting_rules.proofs.Verdicts.{by_posting, by_account, by_new, by_known, by_teller}
 use Rattle.posting_rules.specs.believed.Changes.{rows_put, new_teller, new_account, with_branch_balance}
-use Rattle.posting_rules.specs.believed.Changes.{with_teller_balance, with_account_balance, with_branch}
-use Rattle.posting_rules.specs.Changes.{with_teller}
-use Rattle.posting_rules.specs.believed.Changes.{with_history, with_floor, floor_put}
-use Rattle.posting_rules.specs.Changes.{with_account}
-use Rattle.posting_rules.specs.Sound.{AreSound}
-use Rattle.posting_rules.specs.believed.Changes.{tables_moved, with_tellers, with_accounts, tables_opened}
-use Rattle.posting_rules.specs.Changes.{HasRowsOf}
-use Rattle.posting_rules.proofs.Ready.{AreReady, ready_sound, no_teller, no_account}
-use Rattle.posting_rules.proofs.RowChanges.{row_adds, rows_add, next_is_free}
-use Rattle.posting_rules.specs.declared.limits.TheConstants.{MAX_ACCOUNTS}
+use Rattle.posting_rules.specs.believed.Changes.{with_teller_balance, with_account_balance, with_branch, with_history}
+use Rattle.posting_rules.specs.believed.Changes.{with_floor, floor_put, tables_moved, with_tellers, with_accounts}
+use Rattle.posting_rules.specs.believed.Changes.{tables_opened}
+use Rattle.posting_rules.specs.Changes.{with_teller, with_account, HasRowsOf}
 
 -- the tables that a log of commands leads to are sound
 pub sound_tables : (t : Tables) (log : List Command) → AreCommands log → AreTablesOf t log → AreSound t

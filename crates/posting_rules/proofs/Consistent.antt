@@ -1,25 +1,19 @@
 -- The tables of a log are consistent: one sum, each branch the sum of its tellers, and a row of history for
 -- each posting.
-use Rattle.std.proofs.Common.{◌≡◌, ℕ, ◌+◌, ◌<◌, Bool, true, false, cond, eqb, leb, List, [], ◌∷◌, length, map}
-use Rattle.std.proofs.Common.{Option, Some, None, refl, sym, ap, ◌∙◌, arith, inl, inr}
+use Rattle.std.proofs.Common.{◌≡◌, ℕ, ◌+◌, ◌<◌, Bool, true, false, cond, eqb, leb, List, [], ◌∷◌, length, map, Option}
+use Rattle.std.proofs.Common.{Some, None, refl, sym, ap, ◌∙◌, arith, inl, inr}
 use Rattle.std.specs.Prelude.{◌&&◌, ℤ, pos, ◌+ℤ◌, is_some}
 use Rattle.std.specs.List.{AllByRecursion}
-use Rattle.std.proofs.Math.IntN.{+ℤ_idl}
-use Rattle.std.proofs.lemmas.Bool.{eqb-true, eq-eqb}
-use Rattle.std.proofs.lemmas.Bool.Decides.{nat_tests}
-use Rattle.posting_rules.specs.declared.rows.HistoryRow.{HistoryRow}
+use Rattle.std.proofs.{Math.IntN.+ℤ_idl, lemmas.Bool.eqb-true, lemmas.Bool.eq-eqb, lemmas.Bool.Decides.nat_tests}
+use Rattle.posting_rules.specs.{declared.rows.HistoryRow.HistoryRow, believed.Numbering.branch_of_teller}
 use Rattle.posting_rules.specs.believed.Commands.{Command, opened, Terms}
-use Rattle.posting_rules.specs.believed.Numbering.{branch_of_teller}
 use Rattle.posting_rules.specs.believed.Entries.{DecidedRequest, is_posted, posted_sum, branch_balance, decided}
 use Rattle.posting_rules.specs.believed.Tables.{Tables, HasRows, AreTablesOf, row_at, branch_key, teller_key}
-use Rattle.posting_rules.specs.believed.Tables.{account_key}
-use Rattle.posting_rules.specs.believed.Tables.{history_key, history_row, history_row_of, request_row}
+use Rattle.posting_rules.specs.believed.Tables.{account_key, history_key, history_row, history_row_of, request_row}
 use Rattle.posting_rules.specs.believed.LookUps.{balance_of_branch, balance_of_teller, balance_of_account}
 use Rattle.posting_rules.specs.believed.Laws.{total, delta_of, tellers_of, Match, IsConsistent}
-use Rattle.posting_rules.proofs.Keyed.{by_test}
-use Rattle.posting_rules.proofs.NamedOpen.{AllNameOpen, all_name_open, both}
-use Rattle.posting_rules.proofs.Totals.{sum_where, spread, values_are, filter_all, each_under_its_key}
-use Rattle.posting_rules.proofs.Totals.{all_follow}
+use Rattle.posting_rules.proofs.{Keyed.by_test, NamedOpen.AllNameOpen, NamedOpen.all_name_open, NamedOpen.both}
+use Rattle.posting_rules.proofs.Totals.{sum_where, spread, values_are, filter_all, each_under_its_key, all_follow}
 use Rattle.posting_rules.proofs.PostedSums.{posted_at, all_posted, sum_at, one_sum, teller_has, account_has}
 use Rattle.posting_rules.proofs.PostedSums.{branch_has, tellers_have, accounts_have, branches_have}
 

@@ -1,13 +1,8 @@
 -- What became of a counter's call, as the one record of it.
-use Rattle.std.proofs.Common.{◌≡◌, ◌++◌, List, [], Result, Ok, Err, refl, sym, ap, subst}
-use Rattle.std.proofs.Common.{◌∙◌}
-use Rattle.posting_rules.specs.declared.fault.Fault.{Fault}
-use Rattle.posting_rules.specs.declared.fault.Fault.TheVariants.{Memory, Down}
-use Rattle.posting_rules.specs.believed.Commands.{Command}
-use Rattle.posting_rules.specs.believed.Counter.{Seen, IsCounterCall, IsSeenUnchanged, Refuses, Takes}
-use Rattle.posting_rules.specs.Counter.{HasRefused}
-use Rattle.posting_rules.specs.believed.Counter.{TellsDamage}
-use Rattle.posting_rules.specs.believed.Runs.{followed_by}
+use Rattle.std.proofs.Common.{◌≡◌, ◌++◌, List, [], Result, Ok, Err, refl, sym, ap, subst, ◌∙◌}
+use Rattle.posting_rules.specs.declared.fault.Fault.{Fault, TheVariants.Memory, TheVariants.Down}
+use Rattle.posting_rules.specs.{believed.Commands.Command, Counter.HasRefused, believed.Runs.followed_by}
+use Rattle.posting_rules.specs.believed.Counter.{Seen, IsCounterCall, IsSeenUnchanged, Refuses, Takes, TellsDamage}
 use Rattle.posting_rules.proofs.Sequence.{after-append}
 
 -- an answer is no fault, and one fault isn't another

@@ -1,31 +1,25 @@
 -- The tables of an earlier version are those of the plain log.
-use Rattle.std.proofs.Common.{◌≡◌, ◌≤◌, ℕ, zero, suc, Bool, true, false, cond, eqb, List, [], ◌∷◌, length}
-use Rattle.std.proofs.Common.{take, drop}
-use Rattle.std.proofs.Common.{replicate, Option, Some, None, Result, Ok, Err, refl, sym, ap, subst, arith}
-use Rattle.std.proofs.Common.{◌∙◌, inl, inr}
+use Rattle.std.proofs.Common.{◌≡◌, ◌≤◌, ℕ, zero, suc, Bool, true, false, cond, eqb, List, [], ◌∷◌, length, take, drop}
+use Rattle.std.proofs.Common.{replicate, Option, Some, None, Result, Ok, Err, refl, sym, ap, subst, arith, ◌∙◌, inl}
+use Rattle.std.proofs.Common.{inr}
 use Rattle.std.specs.Prelude.{◌↔◌, ◌+◌, codes, is_ok, option_and_then}
 use Rattle.std.specs.Option.{option_map, option_or, ok_or}
-use Rattle.std.proofs.lemmas.Bool.{eq-eqb}
-use Rattle.std.proofs.lemmas.Iterator.Adapters.{option_map_id}
+use Rattle.std.proofs.lemmas.{Bool.eq-eqb, Iterator.Adapters.option_map_id}
 use mathlib.Core.Path.{fun_ext}
-use Rattle.message_records.specs.declared.fault.Bad.{Bad}
+use Rattle.message_records.specs.{declared.fault.Bad.Bad, believed.Records.RequestFields}
 use Rattle.message_records.specs.declared.fault.Bad.TheVariants as bad
-use Rattle.message_records.specs.believed.Records.{RequestFields}
 use Rattle.message_records.specs.believed.Reading.{number_at, signed_of, fields_of, plain_request_of, request_of}
-use Rattle.message_records.specs.declared.limits.TheConstants.{MAX_ACCOUNT, MAX_TELLER, MAX_BRANCH}
-use Rattle.message_records.specs.declared.limits.TheConstants.{MAX_NUMBER}
-use Rattle.message_records.proofs.Pieces.{step_takes, text_step}
-use Rattle.message_records.proofs.Requests.{plain_is_request}
-use Rattle.posting_rules.specs.declared.judgments.Verdict.{Verdict}
+use Rattle.message_records.specs.declared.limits.TheConstants.{MAX_ACCOUNT, MAX_TELLER, MAX_BRANCH, MAX_NUMBER}
+use Rattle.message_records.proofs.{Pieces.step_takes, Pieces.text_step, Requests.plain_is_request}
+use Rattle.posting_rules.specs.{declared.judgments.Verdict.Verdict, believed.Cases.case_of}
 use Rattle.posting_rules.specs.declared.judgments.Verdict.TheVariants.{Unkept, Again, Refused, Posted}
 use Rattle.posting_rules.specs.believed.Commands.{Command, Open, Post, Terms, AreCommands, IsCommand, opened}
-use Rattle.posting_rules.specs.believed.Cases.{case_of}
 use Rattle.posting_rules.specs.believed.Entries.{DecidedRequest, facts, refused_entry, posted_entry, with_verdict}
 use Rattle.posting_rules.specs.believed.Entries.{with_record, decided}
 use Rattle.posting_rules.specs.believed.Tables.{Tables, HasRows, AreTablesOf, row_at, floor_key, floor_row_of}
 use Rattle.posting_rules.specs.believed.Tables.{reference_key, reference_row}
-use Rattle.posting_rules.specs.believed.Editions.{Edition, before_floors, before_references, present, edition}
-use Rattle.posting_rules.specs.believed.Editions.{known, plain}
+use Rattle.posting_rules.specs.believed.Editions.{Edition, before_floors, before_references, present, edition, known}
+use Rattle.posting_rules.specs.believed.Editions.{plain}
 use Rattle.posting_rules.specs.Editions.{opened_in, decided_in, AreTablesIn}
 use Rattle.posting_rules.proofs.Keyed.{by_test}
 

@@ -1,17 +1,14 @@
 -- The worked examples, computed from the definitions to the byte.
-use Rattle.std.specs.Prelude.{◌≡◌, ℕ, zero, suc, Bool, true, false, List, [], ◌∷◌, ◌++◌, map, pos, negsuc}
-use Rattle.std.specs.Prelude.{refl}
+use Rattle.std.specs.Prelude.{◌≡◌, ℕ, zero, suc, Bool, true, false, List, [], ◌∷◌, ◌++◌, map, pos, negsuc, refl}
 use Rattle.std.specs.Prelude.{codes, replicate, Some, None, ℤ}
 use Rattle.message_records.specs.believed.Records.{RequestFields}
 use Rattle.message_records.specs.declared.records.Outcome.TheVariants.{WrongBranch, BelowFloor, OverLimit}
 use Rattle.message_records.specs.believed.Spelling.{digits, fields_spelling, reply_spelling}
-use Rattle.message_records.specs.believed.Reading.{fields_of, plain_request_of, referenced_request_of}
-use Rattle.message_records.specs.believed.Reading.{request_of}
+use Rattle.message_records.specs.believed.Reading.{fields_of, plain_request_of, referenced_request_of, request_of}
 use Rattle.posting_rules.specs.believed.Commands.{Command, Open, Post, opened, opened_with}
-use Rattle.posting_rules.specs.believed.Cases.{case_of}
+use Rattle.posting_rules.specs.{believed.Cases.case_of, declared.judgments.Verdict.TheVariants.Refused}
 use Rattle.posting_rules.specs.believed.Editions.{edition, plain}
 use Rattle.posting_rules.specs.Editions.{opened_in, decided_in}
-use Rattle.posting_rules.specs.declared.judgments.Verdict.TheVariants.{Refused}
 use Rattle.posting_rules.specs.believed.Entries.{DecidedRequest, facts, is_posted, posted_entry, decided, reply}
 use Rattle.posting_rules.specs.believed.Entries.{teller_balance, branch_balance}
 use Rattle.posting_rules.specs.believed.Tables.{history_row, request_row, reference_row, reference_row_of}

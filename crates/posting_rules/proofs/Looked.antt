@@ -3,22 +3,16 @@ use Rattle.std.proofs.Common.{◌≡◌, ℕ, Bool, true, false, cond, leb, List
 use Rattle.std.specs.Prelude.{ℤ, is_some, ◌&&◌, option_and_then}
 use Rattle.std.specs.Option.{option_map}
 use Rattle.message_records.specs.believed.Records.{RequestFields}
-use Rattle.posting_rules.specs.declared.judgments.Found.{Found}
+use Rattle.posting_rules.specs.{declared.judgments.Found.Found, believed.Kept.KeptFields}
 use Rattle.posting_rules.specs.believed.Commands.{Command, opened, is_teller_open, is_account_open, Terms, floor_of}
 use Rattle.posting_rules.specs.believed.Numbering.{branch_of_teller, branch_of_account}
-use Rattle.posting_rules.specs.believed.Kept.{KeptFields}
 use Rattle.posting_rules.specs.believed.Entries.{DecidedRequest, facts, teller_balance, branch_balance}
-use Rattle.posting_rules.specs.believed.Entries.{account_balance}
-use Rattle.posting_rules.specs.believed.Entries.{decided, balance_after}
+use Rattle.posting_rules.specs.believed.Entries.{account_balance, decided, balance_after}
 use Rattle.posting_rules.specs.believed.Tables.{Tables, HasRows, AreTablesOf, row_at, branch_key, branch_row_of}
-use Rattle.posting_rules.specs.believed.Tables.{teller_row}
-use Rattle.posting_rules.specs.believed.Tables.{teller_row_of, account_row_of, floor_row_of}
-use Rattle.posting_rules.specs.believed.LookUps.{found_in, both_of, teller_balances_in, account_balance_in}
-use Rattle.posting_rules.specs.LookUps.{terms_in}
-use Rattle.posting_rules.specs.believed.LookUps.{floor_in, lowest_of, balance_of_branch}
-use Rattle.posting_rules.specs.LookUps.{terms_of_branch}
-use Rattle.posting_rules.specs.believed.LookUps.{balance_of_teller}
-use Rattle.posting_rules.specs.believed.LookUps.{balance_of_account}
+use Rattle.posting_rules.specs.believed.Tables.{teller_row, teller_row_of, account_row_of, floor_row_of}
+use Rattle.posting_rules.specs.believed.LookUps.{found_in, both_of, teller_balances_in, account_balance_in, floor_in}
+use Rattle.posting_rules.specs.believed.LookUps.{lowest_of, balance_of_branch, balance_of_teller, balance_of_account}
+use Rattle.posting_rules.specs.LookUps.{terms_in, terms_of_branch}
 use Rattle.posting_rules.proofs.Requests.{AreNew, kept_shown}
 
 -- an open teller has its branch's row

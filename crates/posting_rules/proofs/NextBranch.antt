@@ -2,18 +2,13 @@
 use Rattle.std.proofs.Common.{◌≡◌, ℕ, suc, ◌<◌, ◌≤◌, List, [], ◌∷◌, refl, sym, ap, ◌∙◌, arith, inl, inr}
 use Rattle.std.specs.Prelude.{Bool, Option, Some, None, nat_eq, option_map}
 use Rattle.std.specs.List.{Contains, find}
-use Rattle.std.proofs.lemmas.Bool.{eqb-true}
-use Rattle.std.proofs.lemmas.List.Elements.{All-contains}
-use Rattle.posting_rules.specs.declared.rows.BranchRow.{BranchRow}
-use Rattle.posting_rules.specs.Branches.{IsNextIn, IsNextBranch, line_in}
-use Rattle.posting_rules.specs.believed.Commands.{Command, opened}
-use Rattle.posting_rules.specs.believed.Entries.{branch_balance, decided}
-use Rattle.posting_rules.specs.believed.LookUps.{floor_in, balance_of_branch}
-use Rattle.posting_rules.specs.LookUps.{terms_of_branch}
+use Rattle.std.proofs.lemmas.{Bool.eqb-true, List.Elements.All-contains}
+use Rattle.posting_rules.specs.{declared.rows.BranchRow.BranchRow, Branches.IsNextIn, Branches.IsNextBranch}
+use Rattle.posting_rules.specs.{Branches.line_in, believed.Commands.Command, believed.Commands.opened}
+use Rattle.posting_rules.specs.{believed.Entries.branch_balance, believed.Entries.decided, believed.LookUps.floor_in}
+use Rattle.posting_rules.specs.{believed.LookUps.balance_of_branch, LookUps.terms_of_branch}
 use Rattle.posting_rules.specs.believed.Tables.{Tables, AreTablesOf, row_at, branch_key, branch_row_of}
-use Rattle.posting_rules.proofs.Keyed.{by_test, found_passes}
-use Rattle.posting_rules.proofs.Looked.{terms_shown}
-use Rattle.posting_rules.proofs.Undamaged.{row_at-contained}
+use Rattle.posting_rules.proofs.{Keyed.by_test, Keyed.found_passes, Looked.terms_shown, Undamaged.row_at-contained}
 
 -- ---- the rows of a log
 

@@ -1,17 +1,13 @@
 -- What isn't open has no balance.
-use Rattle.std.proofs.Common.{◌≡◌, ℕ, Bool, true, false, eqb, List, [], ◌∷◌, Option, None, refl, ap}
-use Rattle.std.proofs.Common.{inl, inr}
-use Rattle.std.specs.Prelude.{pos, is_some}
-use Rattle.std.specs.List.{AllByRecursion}
+use Rattle.std.proofs.Common.{◌≡◌, ℕ, Bool, true, false, eqb, List, [], ◌∷◌, Option, None, refl, ap, inl, inr}
+use Rattle.std.specs.{Prelude.pos, Prelude.is_some, List.AllByRecursion}
 use Rattle.std.proofs.lemmas.Bool.{eqb-true}
 use Rattle.message_records.specs.believed.Records.{RequestFields}
 use Rattle.posting_rules.specs.believed.Commands.{opened, is_teller_open, is_account_open, Terms}
 use Rattle.posting_rules.specs.believed.Entries.{DecidedRequest, is_posted, posted_sum, teller_balance}
-use Rattle.posting_rules.specs.believed.Entries.{branch_balance}
-use Rattle.posting_rules.specs.believed.Entries.{account_balance}
-use Rattle.posting_rules.proofs.Keyed.{by_test}
+use Rattle.posting_rules.specs.believed.Entries.{branch_balance, account_balance}
+use Rattle.posting_rules.proofs.{Keyed.by_test, Totals.all_follow}
 use Rattle.posting_rules.proofs.NamedOpen.{AllNameOpen, NamesOpen, open_home}
-use Rattle.posting_rules.proofs.Totals.{all_follow}
 
 -- a sum to which nothing is posted
 sum_none : (test : RequestFields → Bool) (es : List DecidedRequest)

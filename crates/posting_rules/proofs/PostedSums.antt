@@ -1,23 +1,18 @@
 -- What was posted, summed under keys, and the rows that keep balances.
-use Rattle.std.proofs.Common.{◌≡◌, ℕ, ◌+◌, Bool, true, false, cond, eqb, List, [], ◌∷◌, length, map}
-use Rattle.std.proofs.Common.{Option, Some, None, refl, sym, ap, ◌∙◌, inl, inr}
+use Rattle.std.proofs.Common.{◌≡◌, ℕ, ◌+◌, Bool, true, false, cond, eqb, List, [], ◌∷◌, length, map, Option, Some}
+use Rattle.std.proofs.Common.{None, refl, sym, ap, ◌∙◌, inl, inr}
 use Rattle.std.specs.Prelude.{ℤ, ◌+ℤ◌, filter, is_some}
-use Rattle.std.specs.List.{AllByRecursion}
-use Rattle.std.specs.Option.{option_map}
+use Rattle.std.specs.{List.AllByRecursion, Option.option_map}
 use Rattle.message_records.specs.believed.Records.{RequestFields}
-use Rattle.posting_rules.specs.declared.rows.BranchRow.{BranchRow}
+use Rattle.posting_rules.specs.{declared.rows.BranchRow.BranchRow, believed.Laws.total}
 use Rattle.posting_rules.specs.believed.Commands.{opened, is_teller_open, is_account_open, Terms}
 use Rattle.posting_rules.specs.believed.Entries.{DecidedRequest, is_posted, posted_sum, account_balance}
-use Rattle.posting_rules.specs.believed.Entries.{teller_balance}
-use Rattle.posting_rules.specs.believed.Entries.{branch_balance}
+use Rattle.posting_rules.specs.believed.Entries.{teller_balance, branch_balance}
 use Rattle.posting_rules.specs.believed.Tables.{Tables, HasRows, HasKeys, row_at, branch_key, teller_key, account_key}
 use Rattle.posting_rules.specs.believed.Tables.{branch_row_of, teller_row_of, account_row_of}
 use Rattle.posting_rules.specs.believed.LookUps.{balance_of_branch, balance_of_teller, balance_of_account}
-use Rattle.posting_rules.specs.believed.Laws.{total}
-use Rattle.posting_rules.proofs.Keyed.{by_test}
-use Rattle.posting_rules.proofs.NamedOpen.{AllNameOpen, NamesOpen, open_home}
-use Rattle.posting_rules.proofs.Totals.{sum_where, HaveRows, spread, values_are, each_under_its_key}
-use Rattle.posting_rules.proofs.Totals.{all_follow}
+use Rattle.posting_rules.proofs.{Keyed.by_test, NamedOpen.AllNameOpen, NamedOpen.NamesOpen, NamedOpen.open_home}
+use Rattle.posting_rules.proofs.Totals.{sum_where, HaveRows, spread, values_are, each_under_its_key, all_follow}
 
 -- ---- what was posted, under the keys of one kind
 

@@ -1,21 +1,18 @@
 -- Tables on which the next record and the next opening can build, as those of every log are.
-use Rattle.std.proofs.Common.{◌≡◌, ℕ, ◌+◌, ◌<◌, ◌≤◌, Bool, true, false, cond, leb, List, Option}
-use Rattle.std.proofs.Common.{Some, None, refl, sym, ap, ◌∙◌, arith}
+use Rattle.std.proofs.Common.{◌≡◌, ℕ, ◌+◌, ◌<◌, ◌≤◌, Bool, true, false, cond, leb, List, Option, Some, None, refl}
+use Rattle.std.proofs.Common.{sym, ap, ◌∙◌, arith}
 use Rattle.std.specs.Prelude.{ℤ, is_some, ◌&&◌, option_and_then}
 use Rattle.std.specs.Option.{option_map}
 use Rattle.std.proofs.lemmas.Bool.{le-leb}
-use Rattle.posting_rules.specs.declared.rows.BranchRow.{BranchRow}
+use Rattle.posting_rules.specs.{declared.rows.BranchRow.BranchRow, believed.LookUps.floor_in, Sound.AreSound}
 use Rattle.posting_rules.specs.believed.Commands.{Command, opened, is_within, Terms}
 use Rattle.posting_rules.specs.believed.Entries.{account_balance, teller_balance, branch_balance, decided}
 use Rattle.posting_rules.specs.believed.Tables.{Tables, AreTablesOf, HasKeys, row_at, branch_key, teller_key}
 use Rattle.posting_rules.specs.believed.Tables.{account_key, history_key, request_key, branch_row_of, teller_row_of}
 use Rattle.posting_rules.specs.believed.Tables.{account_row_of, floor_key, floor_row_of, reference_key}
-use Rattle.posting_rules.specs.believed.LookUps.{floor_in}
 use Rattle.posting_rules.specs.LookUps.{terms_in, terms_of_branch}
-use Rattle.posting_rules.specs.Sound.{AreSound}
 use Rattle.posting_rules.specs.believed.Numbering.{branch_of_teller, branch_of_account, place_of_account}
-use Rattle.posting_rules.specs.believed.Numbering.{first_teller}
-use Rattle.posting_rules.specs.believed.Numbering.{first_account}
+use Rattle.posting_rules.specs.believed.Numbering.{first_teller, first_account}
 use Rattle.posting_rules.proofs.Looked.{terms_shown}
 use Rattle.posting_rules.proofs.TablesWithRecord.{next_request, next_posting, next_reference}
 use Rattle.posting_rules.specs.declared.limits.TheConstants.{ACCOUNTS_PER_BRANCH}

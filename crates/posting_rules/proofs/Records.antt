@@ -1,21 +1,17 @@
 -- Records one after another: the tables that they lead to are those of the log with them after it.
-use Rattle.std.proofs.Common.{◌≡◌, ℕ, suc, ◌<◌, ◌≤◌, List, [], ◌∷◌, length, get_or, Ok, Err, Result, refl}
-use Rattle.std.proofs.Common.{sym, ap, ◌∙◌, arith}
+use Rattle.std.proofs.Common.{◌≡◌, ℕ, suc, ◌<◌, ◌≤◌, List, [], ◌∷◌, length, get_or, Ok, Err, Result, refl, sym, ap}
+use Rattle.std.proofs.Common.{◌∙◌, arith}
 use Rattle.message_records.specs.declared.limits.TheConstants.{MAX_MOMENT, REQUEST_BYTES}
 use Rattle.message_records.specs.declared.fault.Bad.{Bad}
-use Rattle.message_records.specs.believed.Records.{RequestFields}
-use Rattle.message_records.specs.believed.Reading.{request_of}
-use Rattle.message_records.specs.believed.Spelling.{reply_spelling}
+use Rattle.message_records.specs.believed.{Records.RequestFields, Reading.request_of, Spelling.reply_spelling}
 use Rattle.posting_rules.specs.believed.Commands.{Command, Post, AreCommands, opened}
 use Rattle.posting_rules.specs.believed.Entries.{reply, reply_given, decided}
 use Rattle.posting_rules.specs.believed.Runs.{followed_by, posts, replies_to}
-use Rattle.posting_rules.specs.believed.Tables.{Tables}
-use Rattle.posting_rules.specs.believed.Tables.{AreTablesOf as Show}
+use Rattle.posting_rules.specs.believed.Tables.{Tables, AreTablesOf as Show}
 use Rattle.posting_rules.proofs.TablesWithRecord.{malformed_shown}
 use Rattle.posting_rules.specs.believed.Changes.{tables_read, tables_past, tables_past_all, reply_read, reply_past}
 use Rattle.posting_rules.specs.believed.Changes.{replies_past_all}
-use Rattle.posting_rules.proofs.Calls.{posts as posts_shown}
-use Rattle.posting_rules.proofs.Calls.{IsChange, replies}
+use Rattle.posting_rules.proofs.Calls.{posts as posts_shown, IsChange, replies}
 
 pub past_shown : (t : Tables) (log : List Command) (m : ℕ) (bytes : List ℕ) → Show t log
     → Show (tables_past t m bytes) (Post m bytes ∷ log)

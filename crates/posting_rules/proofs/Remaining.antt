@@ -1,6 +1,5 @@
 -- What a crash may leave, said of more tables, and of a counter that leaves no more.
-use Rattle.posting_rules.specs.believed.Tables.{Tables}
-use Rattle.posting_rules.specs.believed.Counter.{Seen, LeavesNoMore, LeavesOnly}
+use Rattle.posting_rules.specs.believed.{Tables.Tables, Counter.Seen, Counter.LeavesNoMore, Counter.LeavesOnly}
 
 -- what holds of all that a crash may leave may be said more weakly
 pub leaves_weaker : (c : Seen) (P Q : Tables → Type 0) → ((t : Tables) → P t → Q t) → LeavesOnly c P

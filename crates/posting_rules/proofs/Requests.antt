@@ -1,28 +1,20 @@
 -- Decided requests: no two share teller and number, so that a look-up of rows by both finds the kept request.
-use Rattle.std.proofs.Common.{◌≡◌, ℕ, ◌+◌, ◌≤◌, Bool, true, false, eqb, List, [], ◌∷◌, length, Option, Some}
-use Rattle.std.proofs.Common.{None, Result, Ok, Err, refl, sym, ap, subst, ◌∙◌, arith, inl, inr}
+use Rattle.std.proofs.Common.{◌≡◌, ℕ, ◌+◌, ◌≤◌, Bool, true, false, eqb, List, [], ◌∷◌, length, Option, Some, None}
+use Rattle.std.proofs.Common.{Result, Ok, Err, refl, sym, ap, subst, ◌∙◌, arith, inl, inr}
 use Rattle.std.specs.Prelude.{◌&&◌, AllPairs}
-use Rattle.std.specs.List.{find, AllByRecursion}
-use Rattle.std.specs.Option.{option_map}
+use Rattle.std.specs.{List.find, List.AllByRecursion, Option.option_map}
 use Rattle.std.proofs.lemmas.Bool.{eqb-true, eq-eqb}
-use Rattle.std.proofs.lemmas.Bool.Decides.{nat_tests}
-use Rattle.std.proofs.lemmas.List.Elements.{All-from_recursion}
-use Rattle.std.proofs.lemmas.List.Kept.{AllPairs-cons}
-use Rattle.message_records.specs.declared.fault.Bad.{Bad}
-use Rattle.message_records.specs.believed.Records.{RequestFields}
-use Rattle.message_records.specs.believed.Reading.{request_of}
-use Rattle.posting_rules.specs.declared.judgments.Verdict.{Verdict}
+use Rattle.std.proofs.lemmas.{Bool.Decides.nat_tests, List.Elements.All-from_recursion, List.Kept.AllPairs-cons}
+use Rattle.message_records.specs.{declared.fault.Bad.Bad, believed.Records.RequestFields, believed.Reading.request_of}
+use Rattle.posting_rules.specs.{declared.judgments.Verdict.Verdict, declared.rows.RequestRow.RequestRow}
+use Rattle.posting_rules.specs.{declared.rows.ReferenceRow.ReferenceRow, believed.Cases.case_of, believed.Laws.Differ}
 use Rattle.posting_rules.specs.declared.judgments.Verdict.TheVariants.{Unkept, Again, Refused, Posted}
-use Rattle.posting_rules.specs.declared.rows.RequestRow.{RequestRow}
-use Rattle.posting_rules.specs.declared.rows.ReferenceRow.{ReferenceRow}
 use Rattle.posting_rules.specs.believed.Commands.{Command, Open, Post, opened, Terms}
 use Rattle.posting_rules.specs.believed.Kept.{KeptFields, kept_with}
-use Rattle.posting_rules.specs.believed.Cases.{case_of}
 use Rattle.posting_rules.specs.believed.Entries.{DecidedRequest, kept, facts, with_verdict, with_record, decided}
 use Rattle.posting_rules.specs.believed.Tables.{row_at, HasKeys, request_key, request_row, request_row_of}
 use Rattle.posting_rules.specs.believed.Tables.{reference_key, reference_row, reference_row_of}
 use Rattle.posting_rules.specs.believed.LookUps.{kept_in, kept_of_row, text_of_reference}
-use Rattle.posting_rules.specs.believed.Laws.{Differ}
 use Rattle.posting_rules.proofs.Keyed.{by_test, row_at-found, found_passes, none_passes}
 use Rattle.posting_rules.proofs.Verdicts.{IsVerdict, verdict_is}
 

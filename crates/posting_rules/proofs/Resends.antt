@@ -2,17 +2,14 @@
 use Rattle.std.proofs.Common.{◌≡◌, ℕ, List, [], ◌∷◌, ◌++◌, length, get_or, Option, refl, sym, ap, subst, ◌∙◌}
 use Rattle.std.proofs.Common.{append_assoc, inl, inr}
 use Rattle.std.proofs.Math.Seq.{get_or-append_seam}
-use Rattle.message_records.specs.believed.Spelling.{reply_spelling}
-use Rattle.message_records.specs.believed.Reading.{request_of}
+use Rattle.message_records.specs.believed.{Spelling.reply_spelling, Reading.request_of}
 use Rattle.posting_rules.specs.believed.Commands.{Command, Open, Post, AreCommands, opened, Terms}
 use Rattle.posting_rules.specs.believed.Entries.{DecidedRequest, decided, with_record, reply}
-use Rattle.posting_rules.specs.believed.Tables.{Tables, HasRows, AreTablesOf}
-use Rattle.posting_rules.specs.believed.Counter.{Seen, ShowsLog}
-use Rattle.posting_rules.specs.believed.Runs.{followed_by, replies_to, ArePosts}
+use Rattle.posting_rules.specs.believed.{Tables.Tables, Tables.HasRows, Tables.AreTablesOf, Counter.Seen}
+use Rattle.posting_rules.specs.believed.{Counter.ShowsLog, Runs.followed_by, Runs.replies_to, Runs.ArePosts}
 use Rattle.posting_rules.specs.Resends.{Place, Skips}
-use Rattle.posting_rules.proofs.Sequence.{commands_after, commands_apart, after-append, replies_to-append}
-use Rattle.posting_rules.proofs.Sequence.{one_reply_each}
-use Rattle.posting_rules.proofs.Settled.{again}
+use Rattle.posting_rules.proofs.{Sequence.commands_after, Sequence.commands_apart, Sequence.after-append}
+use Rattle.posting_rules.proofs.{Sequence.replies_to-append, Sequence.one_reply_each, Settled.again}
 
 -- ---- posts
 

@@ -1,11 +1,8 @@
 -- What the statements on one table do to its rows, as the rows under each key tell.
-use Rattle.std.proofs.Common.{◌≡◌, ℕ, zero, suc, ◌+◌, Bool, true, false, cond, eqb, ltb, ◌<◌, List, [], ◌∷◌}
-use Rattle.std.proofs.Common.{map, Option, Some, None, refl, sym, ap, subst, ◌∙◌, arith, inl, inr}
-use Rattle.std.specs.Prelude.{nat_eq}
-use Rattle.std.specs.List.{IsDistinct, AllByRecursion}
-use Rattle.std.specs.Option.{option_map}
-use Rattle.std.proofs.lemmas.Bool.{eqb-true}
-use Rattle.std.proofs.lemmas.Bool.Decides.{nat_tests}
+use Rattle.std.proofs.Common.{◌≡◌, ℕ, zero, suc, ◌+◌, Bool, true, false, cond, eqb, ltb, ◌<◌, List, [], ◌∷◌, map}
+use Rattle.std.proofs.Common.{Option, Some, None, refl, sym, ap, subst, ◌∙◌, arith, inl, inr}
+use Rattle.std.specs.{Prelude.nat_eq, List.IsDistinct, List.AllByRecursion, Option.option_map}
+use Rattle.std.proofs.lemmas.Bool.{eqb-true, Decides.nat_tests}
 use Rattle.std.proofs.lemmas.Map.Keys.{IsDistinct-cons, IsDistinct-head, IsDistinct-tail}
 use Rattle.posting_rules.specs.believed.Tables.{row_at, HasKeys}
 use Rattle.posting_rules.specs.ChangesByKey.{ChangesRow, GainsRow, AddsRows, is_from}

@@ -2,8 +2,7 @@
 use Rattle.std.proofs.Common.{◌≡◌, ℕ, suc, List, [], ◌∷◌, ◌++◌, length, refl, ap}
 use Rattle.message_records.specs.believed.Spelling.{reply_spelling}
 use Rattle.posting_rules.specs.believed.Commands.{Command, Open, Post, AreCommands}
-use Rattle.posting_rules.specs.believed.Entries.{reply}
-use Rattle.posting_rules.specs.believed.Runs.{followed_by, replies_to, ArePosts}
+use Rattle.posting_rules.specs.believed.{Entries.reply, Runs.followed_by, Runs.replies_to, Runs.ArePosts}
 
 -- commands and then others after a log
 pub after-append : (log cs ds : List Command) → followed_by log (cs ++ ds) ≡ followed_by (followed_by log cs) ds

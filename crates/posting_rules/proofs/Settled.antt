@@ -1,31 +1,24 @@
 -- Once a record was posted its reply is settled: it gets the same one from then on, and decides nothing.
-use Rattle.std.proofs.Common.{◌≡◌, ℕ, Bool, true, false, cond, eqb, leb, List, [], ◌∷◌, length, Option, Some}
-use Rattle.std.proofs.Common.{None, Result, Ok, Err, refl, sym, ap, subst, ◌∙◌, inl, inr}
+use Rattle.std.proofs.Common.{◌≡◌, ℕ, Bool, true, false, cond, eqb, leb, List, [], ◌∷◌, length, Option, Some, None}
+use Rattle.std.proofs.Common.{Result, Ok, Err, refl, sym, ap, subst, ◌∙◌, inl, inr}
 use Rattle.std.specs.Prelude.{ℤ, pos}
 use Rattle.std.proofs.lemmas.Bool.{eq-eqb}
 use Rattle.posting_rules.specs.declared.limits.TheConstants.{MAX_DECIDED}
-use Rattle.message_records.specs.declared.records.Outcome.{Outcome}
+use Rattle.message_records.specs.declared.{records.Outcome.Outcome, fault.Bad.Bad}
 use Rattle.message_records.specs.declared.records.Outcome.TheVariants as outcome
-use Rattle.message_records.specs.declared.fault.Bad.{Bad}
 use Rattle.message_records.specs.believed.Records.{RequestFields, ReplyFields, unreferenced}
 use Rattle.message_records.specs.believed.Reading.{request_of}
-use Rattle.posting_rules.specs.declared.judgments.Found.{Found}
-use Rattle.posting_rules.specs.declared.judgments.Verdict.{Verdict}
+use Rattle.posting_rules.specs.declared.judgments.{Found.Found, Verdict.Verdict}
 use Rattle.posting_rules.specs.declared.judgments.Verdict.TheVariants.{Unkept, Again, Refused}
-use Rattle.posting_rules.specs.believed.Kept.{KeptFields}
+use Rattle.posting_rules.specs.believed.{Kept.KeptFields, Numbering.branch_of_teller, Runs.followed_by, Runs.ArePosts}
 use Rattle.posting_rules.specs.believed.Commands.{Command, Open, Post, opened, is_teller_open, Terms}
-use Rattle.posting_rules.specs.believed.Numbering.{branch_of_teller}
 use Rattle.posting_rules.specs.believed.Cases.{new_case, account_case, plus_within, is_same, reply_in, kept_reply}
 use Rattle.posting_rules.specs.believed.Cases.{balance_shown}
 use Rattle.posting_rules.specs.believed.Entries.{DecidedRequest, facts, kept, with_verdict, with_record, decided}
 use Rattle.posting_rules.specs.believed.Entries.{kept_fields, reply_given, reply}
-use Rattle.posting_rules.specs.believed.Runs.{followed_by, ArePosts}
-use Rattle.posting_rules.proofs.Keyed.{by_test}
+use Rattle.posting_rules.proofs.{Keyed.by_test, VerdictsStated.same_content, StaysSettled.settled_stays}
 use Rattle.posting_rules.proofs.Verdicts.{by_account, by_posting}
-use Rattle.posting_rules.proofs.VerdictsStated.{same_content}
-use Rattle.posting_rules.proofs.SettledReplies.{IsSettled, closed_case, known_is, new_is, full_is}
-use Rattle.posting_rules.proofs.SettledReplies.{settled_says}
-use Rattle.posting_rules.proofs.StaysSettled.{settled_stays}
+use Rattle.posting_rules.proofs.SettledReplies.{IsSettled, closed_case, known_is, new_is, full_is, settled_says}
 
 -- ---- each record settles its request
 

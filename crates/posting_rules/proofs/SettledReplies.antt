@@ -1,21 +1,18 @@
 -- The three ways in which a reply is settled: what is settled is replied so, and nothing is decided.
-use Rattle.std.proofs.Common.{◌≡◌, ℕ, Bool, true, false, cond, leb, List, length, Option, Some, None, Ok}
-use Rattle.std.proofs.Common.{refl, sym, ap, ◌∙◌, inl, inr}
+use Rattle.std.proofs.Common.{◌≡◌, ℕ, Bool, true, false, cond, leb, List, length, Option, Some, None, Ok, refl, sym}
+use Rattle.std.proofs.Common.{ap, ◌∙◌, inl, inr}
 use Rattle.std.specs.Prelude.{ℤ, ◌⊎◌}
 use Rattle.posting_rules.specs.declared.limits.TheConstants.{MAX_DECIDED}
 use Rattle.message_records.specs.declared.records.Outcome.TheVariants as outcome
 use Rattle.message_records.specs.believed.Records.{RequestFields, ReplyFields}
-use Rattle.posting_rules.specs.declared.judgments.Found.{Found}
-use Rattle.posting_rules.specs.declared.judgments.Verdict.{Verdict}
+use Rattle.posting_rules.specs.{declared.judgments.Found.Found, declared.judgments.Verdict.Verdict}
+use Rattle.posting_rules.specs.{believed.Kept.KeptFields, believed.Numbering.branch_of_teller}
 use Rattle.posting_rules.specs.declared.judgments.Verdict.TheVariants.{Unkept, Again}
-use Rattle.posting_rules.specs.believed.Kept.{KeptFields}
 use Rattle.posting_rules.specs.believed.Commands.{opened, is_teller_open, Terms}
-use Rattle.posting_rules.specs.believed.Numbering.{branch_of_teller}
 use Rattle.posting_rules.specs.believed.Cases.{case_of, teller_case, known_case, new_case, is_same, reply_in}
 use Rattle.posting_rules.specs.believed.Cases.{kept_reply}
 use Rattle.posting_rules.specs.believed.Entries.{DecidedRequest, facts, kept, teller_balance, branch_balance}
-use Rattle.posting_rules.specs.believed.Entries.{with_verdict}
-use Rattle.posting_rules.specs.believed.Entries.{with_record, reply_given}
+use Rattle.posting_rules.specs.believed.Entries.{with_verdict, with_record, reply_given}
 use Rattle.posting_rules.proofs.Keyed.{by_test}
 
 -- the verdict on a request under whose teller and number one is kept

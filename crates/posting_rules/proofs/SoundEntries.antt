@@ -1,24 +1,18 @@
 -- What a log of commands opens and decides is within its range.
-use Rattle.std.proofs.Common.{◌≡◌, ℕ, ◌<◌, ◌≤◌, Bool, true, false, cond, eqb, List, [], ◌∷◌, length, Option}
-use Rattle.std.proofs.Common.{Some, None, Result, Ok, Err, refl, subst, arith, lit≤}
-use Rattle.std.specs.Prelude.{pos, nat_abs, IfSome}
-use Rattle.std.specs.Option.{option_or}
+use Rattle.std.proofs.Common.{◌≡◌, ℕ, ◌<◌, ◌≤◌, Bool, true, false, cond, eqb, List, [], ◌∷◌, length, Option, Some}
+use Rattle.std.proofs.Common.{None, Result, Ok, Err, refl, subst, arith, lit≤}
+use Rattle.std.specs.{Prelude.pos, Prelude.nat_abs, Prelude.IfSome, Option.option_or}
 use Rattle.std.proofs.lemmas.Bool.{eqb-true}
-use Rattle.posting_rules.specs.declared.limits.TheConstants.{MAX_DECIDED}
+use Rattle.posting_rules.specs.{declared.limits.TheConstants.MAX_DECIDED, declared.judgments.Verdict.Verdict}
+use Rattle.posting_rules.specs.{believed.Kept.is_kept_with, believed.Cases.case_of, believed.Cases.plus_within}
 use Rattle.message_records.specs.declared.limits.TheConstants.{MAX_MOMENT, MAX_BALANCE}
-use Rattle.message_records.specs.declared.fault.Bad.{Bad}
+use Rattle.message_records.specs.{declared.fault.Bad.Bad, Records.IsRequest, believed.Reading.request_of}
 use Rattle.message_records.specs.believed.Records.{RequestFields}
-use Rattle.message_records.specs.Records.{IsRequest}
-use Rattle.message_records.specs.believed.Reading.{request_of}
 use Rattle.message_records.proofs.Requests.{read_in_range}
-use Rattle.posting_rules.specs.declared.judgments.Verdict.{Verdict}
 use Rattle.posting_rules.specs.declared.judgments.Verdict.TheVariants.{Unkept, Again, Refused, Posted}
 use Rattle.posting_rules.specs.believed.Commands.{Command, Open, Post, IsCommand, AreCommands, opened, Terms}
-use Rattle.posting_rules.specs.believed.Kept.{is_kept_with}
-use Rattle.posting_rules.specs.believed.Cases.{case_of, plus_within}
 use Rattle.posting_rules.specs.believed.Entries.{DecidedRequest, facts, with_verdict, with_record, decided}
-use Rattle.posting_rules.proofs.Verdicts.{IsVerdict, verdict_is, by_teller, by_known, by_new, by_account}
-use Rattle.posting_rules.proofs.Verdicts.{by_posting}
+use Rattle.posting_rules.proofs.Verdicts.{IsVerdict, verdict_is, by_teller, by_known, by_new, by_account, by_posting}
 
 -- ---- what is open
 

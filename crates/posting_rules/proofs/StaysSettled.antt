@@ -1,20 +1,15 @@
 -- What is settled stays settled, whatever is decided later.
-use Rattle.std.proofs.Common.{◌≡◌, ℕ, Bool, true, false, eqb, leb, List, ◌∷◌, length, Option, Some, None}
-use Rattle.std.proofs.Common.{Result, Ok, Err, refl, sym, ap, subst, ◌∙◌, arith, inl, inr}
+use Rattle.std.proofs.Common.{◌≡◌, ℕ, Bool, true, false, eqb, leb, List, ◌∷◌, length, Option, Some, None, Result, Ok}
+use Rattle.std.proofs.Common.{Err, refl, sym, ap, subst, ◌∙◌, arith, inl, inr}
 use Rattle.std.specs.Prelude.{◌&&◌}
 use Rattle.std.proofs.lemmas.Bool.{eqb-true, leb-true}
-use Rattle.posting_rules.specs.declared.limits.TheConstants.{MAX_DECIDED}
+use Rattle.posting_rules.specs.declared.{limits.TheConstants.MAX_DECIDED, judgments.Verdict.Verdict}
 use Rattle.message_records.specs.declared.fault.Bad.{Bad}
 use Rattle.message_records.specs.believed.Records.{RequestFields, ReplyFields}
-use Rattle.posting_rules.specs.declared.judgments.Verdict.{Verdict}
 use Rattle.posting_rules.specs.declared.judgments.Verdict.TheVariants.{Unkept, Again, Refused, Posted}
-use Rattle.posting_rules.specs.believed.Kept.{KeptFields}
-use Rattle.posting_rules.specs.believed.Commands.{opened, Terms}
-use Rattle.posting_rules.specs.believed.Cases.{case_of}
+use Rattle.posting_rules.specs.believed.{Kept.KeptFields, Commands.opened, Commands.Terms, Cases.case_of}
 use Rattle.posting_rules.specs.believed.Entries.{DecidedRequest, facts, kept, with_verdict, with_record}
-use Rattle.posting_rules.proofs.Keyed.{by_test}
-use Rattle.posting_rules.proofs.Verdicts.{IsVerdict, verdict_is}
-use Rattle.posting_rules.proofs.SettledReplies.{IsSettled}
+use Rattle.posting_rules.proofs.{Keyed.by_test, Verdicts.IsVerdict, Verdicts.verdict_is, SettledReplies.IsSettled}
 
 both_true : (a b : Bool) → (a && b) ≡ true → (a ≡ true) × (b ≡ true)
 both_true true b e = (refl, e)

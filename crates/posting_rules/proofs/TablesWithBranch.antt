@@ -1,27 +1,23 @@
 -- Tables of a log to which a branch is added are the tables of the log with the opening.
-use Rattle.std.proofs.Common.{◌≡◌, ℕ, ◌≤◌, Bool, true, false, cond, eqb, leb, List, ◌∷◌, Option, Some}
-use Rattle.std.proofs.Common.{None, refl, sym, ap, subst, ◌∙◌, inl, inr}
+use Rattle.std.proofs.Common.{◌≡◌, ℕ, ◌≤◌, Bool, true, false, cond, eqb, leb, List, ◌∷◌, Option, Some, None, refl}
+use Rattle.std.proofs.Common.{sym, ap, subst, ◌∙◌, inl, inr}
 use mathlib.Core.Path.{fun_ext}
 use Rattle.std.specs.Prelude.{ℤ, pos, ◌⊎◌, is_some, ◌&&◌, option_and_then}
 use Rattle.std.specs.Option.{option_map, option_or}
 use Rattle.std.proofs.lemmas.Bool.{eqb-true}
-use Rattle.posting_rules.specs.declared.limits.TheConstants.{MAX_ACCOUNTS}
+use Rattle.posting_rules.specs.declared.{limits.TheConstants.MAX_ACCOUNTS, rows.FloorRow.FloorRow}
 use Rattle.posting_rules.specs.believed.Commands.{Command, Open, opened, is_within, is_teller_open, is_account_open}
 use Rattle.posting_rules.specs.believed.Commands.{Terms}
-use Rattle.posting_rules.specs.declared.rows.FloorRow.{FloorRow}
 use Rattle.posting_rules.specs.believed.Entries.{DecidedRequest, teller_balance, branch_balance, account_balance}
 use Rattle.posting_rules.specs.believed.Entries.{decided}
 use Rattle.posting_rules.specs.believed.Tables.{Tables, HasRows, AreTablesOf, branch_row_of, teller_row_of}
 use Rattle.posting_rules.specs.believed.Tables.{account_row_of, HasKeys, row_at, floor_key, floor_row, floor_row_of}
 use Rattle.posting_rules.specs.ChangesByKey.{OpensBranch, AddsFloor, is_from}
 use Rattle.posting_rules.specs.believed.Numbering.{branch_of_teller, branch_of_account, place_of_account}
-use Rattle.posting_rules.specs.believed.Numbering.{first_teller}
-use Rattle.posting_rules.specs.believed.Numbering.{first_account}
-use Rattle.posting_rules.proofs.Keyed.{by_test}
-use Rattle.posting_rules.proofs.NamedOpen.{AllNameOpen, with_branch, all_name_open, teller_stays}
-use Rattle.posting_rules.proofs.NamedOpen.{account_stays, both}
+use Rattle.posting_rules.specs.believed.Numbering.{first_teller, first_account}
+use Rattle.posting_rules.proofs.{Keyed.by_test, NumbersInARow.tellers_in_a_row, NumbersInARow.accounts_in_a_row}
+use Rattle.posting_rules.proofs.NamedOpen.{AllNameOpen, with_branch, all_name_open, teller_stays, account_stays, both}
 use Rattle.posting_rules.proofs.NoBalance.{teller_none, account_none, branch_none}
-use Rattle.posting_rules.proofs.NumbersInARow.{tellers_in_a_row, accounts_in_a_row}
 
 -- ---- the rows with a branch more
 

@@ -1,40 +1,31 @@
 -- What a verdict leaves of the tables of a log are the tables of the log with the record.
-use Rattle.std.proofs.Common.{◌≡◌, ℕ, suc, ◌+◌, ◌<◌, ◌≤◌, Bool, true, false, cond, eqb, List, [], ◌∷◌, length}
-use Rattle.std.proofs.Common.{Option, Some, None, Result, Ok, Err, refl, sym, ap, subst, ◌∙◌, arith}
+use Rattle.std.proofs.Common.{◌≡◌, ℕ, suc, ◌+◌, ◌<◌, ◌≤◌, Bool, true, false, cond, eqb, List, [], ◌∷◌, length, Option}
+use Rattle.std.proofs.Common.{Some, None, Result, Ok, Err, refl, sym, ap, subst, ◌∙◌, arith}
 use Rattle.std.specs.Prelude.{ℤ, ◌+ℤ◌, ◌&&◌}
 use Rattle.std.specs.Option.{option_map}
-use Rattle.std.proofs.lemmas.Bool.{eqb-true}
-use Rattle.std.proofs.lemmas.Bool.Decides.{nat_tests}
-use Rattle.message_records.specs.declared.records.Outcome.{Outcome}
-use Rattle.message_records.specs.declared.fault.Bad.{Bad}
-use Rattle.message_records.specs.believed.Records.{RequestFields}
-use Rattle.message_records.specs.believed.Reading.{request_of}
-use Rattle.posting_rules.specs.declared.judgments.Found.{Found}
-use Rattle.posting_rules.specs.declared.judgments.Verdict.{Verdict}
+use Rattle.std.proofs.lemmas.Bool.{eqb-true, Decides.nat_tests}
+use Rattle.message_records.specs.{declared.records.Outcome.Outcome, declared.fault.Bad.Bad}
+use Rattle.message_records.specs.{believed.Records.RequestFields, believed.Reading.request_of}
+use Rattle.posting_rules.specs.{declared.judgments.Found.Found, declared.judgments.Verdict.Verdict}
+use Rattle.posting_rules.specs.{declared.rows.HistoryRow.HistoryRow, declared.rows.RequestRow.RequestRow}
+use Rattle.posting_rules.specs.{declared.rows.ReferenceRow.ReferenceRow, believed.Numbering.branch_of_teller}
+use Rattle.posting_rules.specs.{believed.Cases.case_of, believed.Cases.reply_in, believed.LookUps.found_in}
 use Rattle.posting_rules.specs.declared.judgments.Verdict.TheVariants.{Unkept, Again, Refused, Posted}
-use Rattle.posting_rules.specs.declared.rows.HistoryRow.{HistoryRow}
-use Rattle.posting_rules.specs.declared.rows.RequestRow.{RequestRow}
-use Rattle.posting_rules.specs.declared.rows.ReferenceRow.{ReferenceRow}
 use Rattle.posting_rules.specs.believed.Commands.{Command, Post, opened, is_teller_open, is_account_open, Terms}
-use Rattle.posting_rules.specs.believed.Numbering.{branch_of_teller}
-use Rattle.posting_rules.specs.believed.Cases.{case_of, reply_in}
 use Rattle.posting_rules.specs.believed.Entries.{DecidedRequest, is_posted, facts, posted_sum, teller_balance}
-use Rattle.posting_rules.specs.believed.Entries.{branch_balance}
-use Rattle.posting_rules.specs.believed.Entries.{account_balance, refused_entry, posted_entry, with_verdict}
-use Rattle.posting_rules.specs.believed.Entries.{with_record, reply_given, decided, reply}
+use Rattle.posting_rules.specs.believed.Entries.{branch_balance, account_balance, refused_entry, posted_entry}
+use Rattle.posting_rules.specs.believed.Entries.{with_verdict, with_record, reply_given, decided, reply}
 use Rattle.posting_rules.specs.believed.Tables.{Tables, HasRows, HasKeys, AreTablesOf, row_at, branch_key, teller_key}
 use Rattle.posting_rules.specs.believed.Tables.{account_key, history_key, request_key, branch_row_of, teller_row_of}
 use Rattle.posting_rules.specs.believed.Tables.{account_row_of, history_row, history_row_of, request_row}
 use Rattle.posting_rules.specs.believed.Tables.{request_row_of, reference_key, reference_row, reference_row_of}
-use Rattle.posting_rules.specs.believed.LookUps.{found_in}
 use Rattle.posting_rules.specs.believed.Changes.{row_put, reference_put, tables_kept, tables_posted, tables_after}
 use Rattle.posting_rules.specs.believed.Changes.{tables_with, with_decided, with_request, with_reference}
-use Rattle.posting_rules.specs.believed.Changes.{with_history}
-use Rattle.posting_rules.specs.believed.Changes.{with_branch_balance, with_teller_balance, with_account_balance}
+use Rattle.posting_rules.specs.believed.Changes.{with_history, with_branch_balance, with_teller_balance}
+use Rattle.posting_rules.specs.believed.Changes.{with_account_balance}
 use Rattle.posting_rules.specs.ChangesByKey as steps
 use Rattle.posting_rules.proofs.Verdicts.{IsVerdict, IsPosting, IsRefusal, verdict_is}
-use Rattle.posting_rules.proofs.Requests.{are_new}
-use Rattle.posting_rules.proofs.Looked.{found_shown}
+use Rattle.posting_rules.proofs.{Requests.are_new, Looked.found_shown}
 use Rattle.posting_rules.proofs.RowChanges.{row_at-put, row_changes, keys-put}
 
 -- ---- rows under ordinals

@@ -1,13 +1,11 @@
 -- Sums over rows under their keys: what was added under each key, over all keys, is all that was added.
-use Rattle.std.proofs.Common.{◌≡◌, ℕ, Bool, true, false, cond, eqb, List, [], ◌∷◌, map, Some, refl, sym, ap}
-use Rattle.std.proofs.Common.{subst, ◌∙◌, inl, inr}
+use Rattle.std.proofs.Common.{◌≡◌, ℕ, Bool, true, false, cond, eqb, List, [], ◌∷◌, map, Some, refl, sym, ap, subst}
+use Rattle.std.proofs.Common.{◌∙◌, inl, inr}
 use Rattle.std.specs.Prelude.{ℤ, pos, ◌+ℤ◌, nat_eq, filter, is_some}
 use Rattle.std.specs.List.{AllByRecursion}
 use Rattle.std.proofs.Math.IntN.{+ℤ_assoc, +ℤ_comm, +ℤ_idl}
-use Rattle.std.proofs.lemmas.Bool.{eqb-true, eq-eqb}
-use Rattle.std.proofs.lemmas.Map.Keys.{IsDistinct-head, IsDistinct-tail}
-use Rattle.posting_rules.specs.believed.Tables.{row_at, HasKeys}
-use Rattle.posting_rules.specs.believed.Laws.{total}
+use Rattle.std.proofs.lemmas.{Bool.eqb-true, Bool.eq-eqb, Map.Keys.IsDistinct-head, Map.Keys.IsDistinct-tail}
+use Rattle.posting_rules.specs.believed.{Tables.row_at, Tables.HasKeys, Laws.total}
 use Rattle.posting_rules.proofs.Keyed.{by_test}
 
 -- amounts that are added under keys: the sum of those under the keys that pass a test

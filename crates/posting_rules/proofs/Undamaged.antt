@@ -1,48 +1,32 @@
 -- The tables of a log of commands are undamaged.
-use Rattle.std.proofs.Common.{◌≡◌, ℕ, ◌+◌, ◌*◌, ◌<◌, ◌≤◌, true, cond, eqb, leb, List, [], ◌∷◌, length, Option}
-use Rattle.std.proofs.Common.{Some, None, sym, ap, subst, ◌∙◌, arith, inl, inr}
+use Rattle.std.proofs.Common.{◌≡◌, ℕ, ◌+◌, ◌*◌, ◌<◌, ◌≤◌, true, cond, eqb, leb, List, [], ◌∷◌, length, Option, Some}
+use Rattle.std.proofs.Common.{None, sym, ap, subst, ◌∙◌, arith, inl, inr}
 use Rattle.std.specs.Prelude.{ℤ, ◌≤ℤ◌, nat_abs, is_some, ◌&&◌, IfSome, option_and_then}
-use Rattle.std.specs.List.{Contains}
-use Rattle.std.specs.Option.{option_map}
+use Rattle.std.specs.{List.Contains, Option.option_map}
 use Rattle.std.proofs.lemmas.Bool.{eqb-true, leb-true}
 use Rattle.std.proofs.lemmas.List.Elements.{All-contains, All-from_recursion}
 use Rattle.posting_rules.specs.declared.limits.TheConstants.{MAX_DECIDED, LAST_BRANCH, ACCOUNTS_PER_BRANCH}
 use Rattle.posting_rules.specs.declared.limits.TheConstants.{TELLERS_PER_BRANCH}
-use Rattle.message_records.specs.declared.limits.TheConstants.{MAX_BALANCE}
+use Rattle.message_records.specs.{declared.limits.TheConstants.MAX_BALANCE, Records.IsRequest}
 use Rattle.message_records.specs.believed.Records.{RequestFields, IsReference}
-use Rattle.message_records.specs.Records.{IsRequest}
-use Rattle.posting_rules.specs.declared.rows.BranchRow.{BranchRow}
-use Rattle.posting_rules.specs.declared.rows.TellerRow.{TellerRow}
-use Rattle.posting_rules.specs.declared.rows.AccountRow.{AccountRow}
-use Rattle.posting_rules.specs.declared.rows.HistoryRow.{HistoryRow}
-use Rattle.posting_rules.specs.declared.rows.RequestRow.{RequestRow}
-use Rattle.posting_rules.specs.declared.rows.FloorRow.{FloorRow}
-use Rattle.posting_rules.specs.declared.rows.ReferenceRow.{ReferenceRow}
+use Rattle.posting_rules.specs.{declared.rows.BranchRow.BranchRow, believed.LookUps.floor_in}
+use Rattle.posting_rules.specs.declared.rows.{TellerRow.TellerRow, AccountRow.AccountRow, HistoryRow.HistoryRow}
+use Rattle.posting_rules.specs.declared.rows.{RequestRow.RequestRow, FloorRow.FloorRow, ReferenceRow.ReferenceRow}
 use Rattle.posting_rules.specs.believed.Commands.{Command, Open, IsCommand, AreCommands, opened, is_within}
 use Rattle.posting_rules.specs.believed.Commands.{is_teller_open, is_account_open, Terms, IsFloor}
 use Rattle.posting_rules.specs.believed.Numbering.{branch_of_teller, branch_of_account, place_of_account}
 use Rattle.posting_rules.specs.believed.Entries.{DecidedRequest, is_posted, account_balance, teller_balance}
-use Rattle.posting_rules.specs.believed.Entries.{branch_balance}
-use Rattle.posting_rules.specs.believed.Entries.{decided}
+use Rattle.posting_rules.specs.believed.Entries.{branch_balance, decided}
 use Rattle.posting_rules.specs.believed.Tables.{Tables, AreTablesOf, HasKeys, row_at, branch_key, teller_key}
-use Rattle.posting_rules.specs.believed.Tables.{account_key}
-use Rattle.posting_rules.specs.believed.Tables.{history_key, request_key, branch_row_of, teller_row_of}
-use Rattle.posting_rules.specs.believed.Tables.{account_row_of}
-use Rattle.posting_rules.specs.believed.Tables.{history_row, history_row_of, request_row, request_row_of}
-use Rattle.posting_rules.specs.believed.Tables.{floor_key, floor_row_of, reference_key, reference_row}
+use Rattle.posting_rules.specs.believed.Tables.{account_key, history_key, request_key, branch_row_of, teller_row_of}
+use Rattle.posting_rules.specs.believed.Tables.{account_row_of, history_row, history_row_of, request_row}
+use Rattle.posting_rules.specs.believed.Tables.{request_row_of, floor_key, floor_row_of, reference_key, reference_row}
 use Rattle.posting_rules.specs.believed.Tables.{reference_row_of}
-use Rattle.posting_rules.specs.believed.LookUps.{floor_in}
-use Rattle.posting_rules.specs.Damage.{IsSoundBranch, IsSoundTeller, IsSoundAccount, IsSoundRequest}
-use Rattle.posting_rules.specs.Damage.{IsSoundPosting, IsSoundFloor, IsSoundReference, FieldsAreInRange}
-use Rattle.posting_rules.specs.Damage.{IsUndamaged}
-use Rattle.posting_rules.proofs.Keyed.{by_test}
-use Rattle.posting_rules.proofs.Verdicts.{when}
+use Rattle.posting_rules.specs.Damage.{IsSoundBranch, IsSoundTeller, IsSoundAccount, IsSoundRequest, IsSoundPosting}
+use Rattle.posting_rules.specs.Damage.{IsSoundFloor, IsSoundReference, FieldsAreInRange, IsUndamaged}
+use Rattle.posting_rules.proofs.{Keyed.by_test, Verdicts.when, Ready.ready_shown, Looked.floor_shown}
+use Rattle.posting_rules.proofs.{AboveFloors.stays_above, Totals.each_under_its_key, BalanceLimits.stays_within}
 use Rattle.posting_rules.proofs.NamedOpen.{both, some_within}
-use Rattle.posting_rules.proofs.Ready.{ready_shown}
-use Rattle.posting_rules.proofs.Looked.{floor_shown}
-use Rattle.posting_rules.proofs.AboveFloors.{stays_above}
-use Rattle.posting_rules.proofs.Totals.{each_under_its_key}
-use Rattle.posting_rules.proofs.BalanceLimits.{stays_within}
 use Rattle.posting_rules.proofs.SoundEntries.{IsSoundEntry, AreSound, few_enough, open_within, are_sound}
 
 -- a row of a table is the row under its key

@@ -1,19 +1,14 @@
 -- What a verdict says of what was known.
-use Rattle.std.proofs.Common.{◌≡◌, ℕ, ◌<◌, ◌≤◌, Bool, true, false, cond, eqb, leb, List, length, Option, Some}
-use Rattle.std.proofs.Common.{None, refl, sym, ap, subst, arith, inl, inr}
+use Rattle.std.proofs.Common.{◌≡◌, ℕ, ◌<◌, ◌≤◌, Bool, true, false, cond, eqb, leb, List, length, Option, Some, None}
+use Rattle.std.proofs.Common.{refl, sym, ap, subst, arith, inl, inr}
 use Rattle.std.specs.Prelude.{ℤ, ◌+ℤ◌, ◌≤ℤ◌, nat_abs, IfSome}
-use Rattle.std.proofs.lemmas.Bool.{eqb-true, leb-true, leb-false}
-use Rattle.std.proofs.lemmas.Int.{ints}
-use Rattle.posting_rules.specs.declared.limits.TheConstants.{MAX_DECIDED}
-use Rattle.message_records.specs.declared.limits.TheConstants.{MAX_BALANCE}
-use Rattle.message_records.specs.declared.records.Outcome.{Outcome}
+use Rattle.std.proofs.lemmas.{Bool.eqb-true, Bool.leb-true, Bool.leb-false, Int.ints}
+use Rattle.posting_rules.specs.{declared.limits.TheConstants.MAX_DECIDED, declared.judgments.Found.Found}
+use Rattle.posting_rules.specs.{declared.judgments.Verdict.Verdict, believed.Kept.KeptFields}
+use Rattle.message_records.specs.declared.{limits.TheConstants.MAX_BALANCE, records.Outcome.Outcome}
 use Rattle.message_records.specs.declared.records.Outcome.TheVariants as outcome
-use Rattle.message_records.specs.believed.Outcomes.{has_balance}
-use Rattle.message_records.specs.believed.Records.{RequestFields, ReplyFields}
-use Rattle.posting_rules.specs.declared.judgments.Found.{Found}
-use Rattle.posting_rules.specs.declared.judgments.Verdict.{Verdict}
+use Rattle.message_records.specs.believed.{Outcomes.has_balance, Records.RequestFields, Records.ReplyFields}
 use Rattle.posting_rules.specs.declared.judgments.Verdict.TheVariants.{Unkept, Again, Refused, Posted}
-use Rattle.posting_rules.specs.believed.Kept.{KeptFields}
 use Rattle.posting_rules.specs.believed.Commands.{is_teller_open, is_account_open, Terms, floor_of}
 use Rattle.posting_rules.specs.believed.Numbering.{branch_of_teller, branch_of_account}
 use Rattle.posting_rules.specs.believed.Cases.{case_of, teller_case, known_case, new_case, account_case, posting_of}

@@ -1,29 +1,23 @@
 -- What the table of cases says of a request after a log, by what stands before it.
-use Rattle.std.proofs.Common.{◌≡◌, ◌≢◌, ℕ, ◌<◌, ◌≤◌, Bool, true, false, cond, eqb, leb, List, length, Some}
-use Rattle.std.proofs.Common.{None, refl, sym, ap, subst, ◌∙◌, arith, inl, inr}
+use Rattle.std.proofs.Common.{◌≡◌, ◌≢◌, ℕ, ◌<◌, ◌≤◌, Bool, true, false, cond, eqb, leb, List, length, Some, None}
+use Rattle.std.proofs.Common.{refl, sym, ap, subst, ◌∙◌, arith, inl, inr}
 use Rattle.std.specs.Prelude.{ℤ, ◌+ℤ◌, ◌≤ℤ◌, nat_abs, ◌⊎◌, ◌&&◌, Option, IfSome, int_lt}
 use Rattle.std.specs.Ordering.{int_eq}
-use Rattle.std.proofs.lemmas.Bool.{eqb-true, eq-eqb, leb-true, le-leb}
-use Rattle.std.proofs.lemmas.Bool.Decides.{nat_tests, Decides-int_eq}
-use Rattle.std.proofs.lemmas.Int.{ints}
-use Rattle.std.proofs.lemmas.Slice.Eq.{bytes_eq-Decides}
-use Rattle.posting_rules.specs.declared.limits.TheConstants.{MAX_DECIDED}
+use Rattle.std.proofs.lemmas.{Bool.eqb-true, Bool.eq-eqb, Bool.leb-true, Bool.le-leb, Bool.Decides.nat_tests}
+use Rattle.std.proofs.lemmas.{Bool.Decides.Decides-int_eq, Int.ints, Slice.Eq.bytes_eq-Decides}
+use Rattle.posting_rules.specs.declared.{limits.TheConstants.MAX_DECIDED, judgments.Verdict.Verdict}
 use Rattle.message_records.specs.declared.limits.TheConstants.{MAX_BALANCE}
 use Rattle.message_records.specs.declared.records.Outcome.TheVariants as outcome
-use Rattle.message_records.specs.believed.Ranges.{cents_within}
-use Rattle.message_records.specs.believed.Records.{RequestFields}
-use Rattle.posting_rules.specs.declared.judgments.Verdict.{Verdict}
+use Rattle.message_records.specs.believed.{Ranges.cents_within, Records.RequestFields}
 use Rattle.posting_rules.specs.declared.judgments.Verdict.TheVariants.{Unkept, Again, Refused, Posted}
 use Rattle.posting_rules.specs.believed.Commands.{Command, opened, is_teller_open, is_account_open, floor_of}
-use Rattle.posting_rules.specs.believed.Numbering.{branch_of_teller, branch_of_account}
-use Rattle.posting_rules.specs.believed.Kept.{KeptFields}
+use Rattle.posting_rules.specs.believed.{Numbering.branch_of_teller, Numbering.branch_of_account, Kept.KeptFields}
 use Rattle.posting_rules.specs.believed.Cases.{case_of, new_case, posting_of, plus_within, is_below, is_same}
 use Rattle.posting_rules.specs.believed.Cases.{is_same_reference, kept_reply}
 use Rattle.posting_rules.specs.believed.Entries.{facts, kept, account_balance, teller_balance, branch_balance}
 use Rattle.posting_rules.specs.believed.Entries.{decided}
 use Rattle.posting_rules.specs.Stated.{IsDecided, IsWithin, StaysAbove, IsPosted, HasContent}
-use Rattle.posting_rules.proofs.Keyed.{by_test}
-use Rattle.posting_rules.proofs.Verdicts.{is_above}
+use Rattle.posting_rules.proofs.{Keyed.by_test, Verdicts.is_above}
 
 -- ---- tests, and what they mean
 

@@ -7,9 +7,8 @@ use Rattle.std.specs.Prelude.{◌⊎◌, OnOk}
 use Rattle.std.specs.{Result.is_err, List.flat_map}
 use Rattle.std.proofs.Math.Seq.{take-length}
 use Rattle.std.proofs.lemmas.List.{length_push, Concat.flat_map-append, Elements.All-nil, Elements.All-push}
-use Rattle.message_records.specs.believed.Records.{ReplyFields}
-use Rattle.message_records.specs.Records.{IsReply}
-use Rattle.message_records.specs.{believed.Spelling.reply_spelling, declared.limits.TheConstants.REPLY_BYTES}
+use Rattle.message_records.specs.{believed.Records.ReplyFields, Records.IsReply, believed.Spelling.reply_spelling}
+use Rattle.message_records.specs.{declared.limits.TheConstants.REPLY_BYTES}
 use Rattle.posting_core.specs.believed.Told.{EndsWith, ReadTold}
 use Rattle.posting_core.specs.Told.{IsFlush, WriteTold, IsWriteFailure}
 use Rattle.posting_core.proofs.Telling.{last_some, more_failed}

@@ -10,8 +10,7 @@ use Rattle.report_contents.specs.Audit.{unmatched, lines_of, line_of, differs, t
 use Rattle.report_contents.specs.Audit.{posting_ordinal, is_sound, audit_of}
 use Rattle.report_contents.specs.Consistency.{TellsOfStored, IsSoundFile, HasOrdinals}
 use Rattle.report_contents.proofs.Lists.{five, all_five, not_false, true_not, same_int, int_same, none_pass}
-use Rattle.report_contents.proofs.Lists.{pass_none}
-use Rattle.report_contents.proofs.Lists.{no_map, no_parts, empty_list}
+use Rattle.report_contents.proofs.Lists.{pass_none, no_map, no_parts, empty_list}
 use Rattle.report_contents.proofs.EachOrdinal.{found, each_found}
 
 module _ (t : StoredTables) where

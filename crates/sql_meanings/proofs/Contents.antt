@@ -3,11 +3,10 @@ use Rattle.sql_meanings.specs.Names.{not, ℕ, List, [], length, slice_get, Some
 use Rattle.sql_meanings.specs.Names.{Database, Has}
 use Rattle.sql_meanings.proofs.Names.{inl, inr, zero, suc, refl, sym, subst, arith}
 use Rattle.std.proofs.{Common.slice_set, lemmas.Slice.Eq.bytes_eq-Decides}
-use Rattle.sql_meanings.specs.believed.Contents.{HoldsEach}
+use Rattle.sql_meanings.specs.believed.{Contents.HoldsEach, Entries.Entry, Tables.Defines, Tables.Holds}
 use Rattle.sql_meanings.specs.Contents.{has_other_names, is_free, stand_apart}
-use Rattle.sql_meanings.specs.{believed.Entries.Entry, believed.Tables.Defines, believed.Tables.Holds}
-use Rattle.sql_meanings.proofs.{TablesBeside.stayed, TablesBeside.stepped, TableWrites.Leaves, Tests.and_both}
-use Rattle.sql_meanings.proofs.{Trees.Holds-prop}
+use Rattle.sql_meanings.proofs.TablesBeside.{stayed, stepped}
+use Rattle.sql_meanings.proofs.{TableWrites.Leaves, Tests.and_both, Trees.Holds-prop}
 use Rattle.std.specs.Prelude.{◌≡◌, ◌≢◌, ◌==◌, ◌&&◌, ◌∷◌}
 
 -- ---- what the tests say

@@ -5,8 +5,7 @@ use Rattle.sql_meanings.proofs.Names.{sym, ap, ◌∙◌, all_has}
 use Rattle.std.specs.Coded.{coded_option}
 use Rattle.sqlite_catalog.proofs.AlterLemmas.{place_has}
 use Rattle.sqlite_rules.proofs.ListLemmas.{all_from}
-use Rattle.sql_meanings.specs.{believed.Making.Stands, believed.Tables.Defines, believed.Tables.table_of}
-use Rattle.sql_meanings.specs.{believed.Tables.tree_of}
+use Rattle.sql_meanings.specs.believed.{Making.Stands, Tables.Defines, Tables.table_of, Tables.tree_of}
 use Rattle.sql_meanings.proofs.TableStands.{has_table}
 use base.Stored.{Coded-set}
 use mathlib.Core.HLevel.{Π_prop}

@@ -6,10 +6,9 @@ use Rattle.sql_meanings.specs.Names.{Compare, Eq, Parsed, accepts_program}
 use Rattle.sql_meanings.proofs.{Names.refl, Means.means, ReadTables.ReadsAs, SetRows.ChangesAs}
 use Rattle.sql_meanings.proofs.{ShownColumns.outputs_at, Statements.HasTable, Texts.IsSelect, Texts.reads_by}
 use Rattle.sqlite_value.specs.declared.keys.Collation.TheVariants.{Binary}
-use Rattle.sql_meanings.specs.{believed.Entries.HasWidth, believed.Entries.Entry, believed.Entries.stored}
-use Rattle.sql_meanings.specs.{believed.Plain.key_column, Queries.by_key}
-use Rattle.sql_meanings.specs.{Queries.key_is, Queries.no_limit, believed.Tables.placed_at, believed.Tables.texts_of}
-use Rattle.sql_meanings.specs.{believed.Tables.width_of}
+use Rattle.sql_meanings.specs.believed.Entries.{HasWidth, Entry, stored}
+use Rattle.sql_meanings.specs.believed.{Plain.key_column, Tables.placed_at, Tables.texts_of, Tables.width_of}
+use Rattle.sql_meanings.specs.Queries.{by_key, key_is, no_limit}
 use Rattle.sql_meanings.proofs.ByKey.{Tests, key_at, update_by_key}
 use Rattle.sqlite_ast.specs.declared.Binary.TheVariants as binary
 use Rattle.sqlite_ast.specs.declared.Statement.TheVariants as written

@@ -1,15 +1,14 @@
 -- What a keyed SELECT answers.
-use Rattle.sql_meanings.specs.Names.{ℕ, ℤ, List, [], length, map, filter, find, cond, Bool}
-use Rattle.sql_meanings.specs.Names.{true, false, Some, None, Option, flat_map, Value, Int, Row, Term, Env, eval_all}
-use Rattle.sql_meanings.specs.Names.{holds, col, IsAnswerAs, matches_as, inner, end, output, Trees}
+use Rattle.sql_meanings.specs.Names.{ℕ, ℤ, List, [], length, map, filter, find, cond, Bool, true, false, Some, None}
+use Rattle.sql_meanings.specs.Names.{Option, flat_map, Value, Int, Row, Term, Env, eval_all, holds, col, IsAnswerAs}
+use Rattle.sql_meanings.specs.Names.{matches_as, inner, end, output, Trees}
 use Rattle.sql_meanings.proofs.Names.{refl, sym, ap, subst, ◌∙◌, arith, length_permutation, map-map}
 use Rattle.std.specs.List.Sorted.{IsPermutation}
 use Rattle.sqlite.specs.Query.{Output}
 use Rattle.sqlite.proofs.Callers.{one_permutation}
 use Rattle.sql_meanings.proofs.EntryLists.{int_equals, one_filter}
 use Rattle.sql_meanings.specs.believed.Entries.{Entry, IsTree, has_key, stored}
-use Rattle.sql_meanings.specs.Entries.{listed}
-use Rattle.sql_meanings.specs.Queries.{no_limit, is, query}
+use Rattle.sql_meanings.specs.{Entries.listed, Queries.no_limit, Queries.is, Queries.query}
 use Rattle.std.specs.Prelude.{◌≡◌, ◌∷◌, ◌++◌, ◌&&◌}
 
 -- the environment of each row that is met

@@ -5,10 +5,9 @@ use Rattle.sql_meanings.specs.Names.{no_rows, Gives, Then, State, ExecutesIn, Ex
 use Rattle.sql_meanings.specs.Names.{IsUnchanged, IsRolledBack, KeepsCounts, mode_of, Error}
 use Rattle.sql_meanings.proofs.Names.{inl, inr, refl, sym, ap, subst, ◌∙◌, IsPlain, command_of, runs_as, through}
 use Rattle.sqlite.proofs.Callers.{statement_of}
-use Rattle.sql_meanings.specs.{believed.Entries.IsTree, believed.Tables.Holds, believed.Tables.placed_at}
-use Rattle.sql_meanings.specs.{believed.Tables.tree_of, believed.Tables.width_of}
-use Rattle.sql_meanings.specs.{Making.AddsTable, Making.CreatesOnly, believed.Making.Stands}
-use Rattle.sql_meanings.specs.{StatementAnswers.WriteKept}
+use Rattle.sql_meanings.specs.{believed.Entries.IsTree, believed.Making.Stands, StatementAnswers.WriteKept}
+use Rattle.sql_meanings.specs.believed.Tables.{Holds, placed_at, tree_of, width_of}
+use Rattle.sql_meanings.specs.Making.{AddsTable, CreatesOnly}
 use Rattle.sql_meanings.proofs.{Defining.stands_defined, TableStands.adds, Writing.same_value}
 use Rattle.std.specs.Prelude.{◌≡◌, ◌⊎◌}
 

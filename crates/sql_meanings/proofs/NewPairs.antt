@@ -3,11 +3,8 @@ use Rattle.sql_meanings.specs.Names.{ℤ, List, [], find, is_some, Bool, true, f
 use Rattle.sql_meanings.specs.Names.{AllByRecursion, Has, is_eq, match_ordering}
 use Rattle.sql_meanings.proofs.Names.{inl, inr, refl, sym, ap, ◌∙◌, Less, Equal, Greater, Ordering, int_cmp}
 use Rattle.sql_meanings.specs.believed.Entries.{Entry, has_key, has_two}
-use Rattle.sql_meanings.specs.Entries.{put}
-use Rattle.sql_meanings.specs.SeveralRows.{meets_key, put_each}
-use Rattle.sql_meanings.proofs.Changes.{found_passes}
-use Rattle.sql_meanings.proofs.EntryLists.{flip}
-use Rattle.sql_meanings.proofs.TwoColumns.{Clear, not_both}
+use Rattle.sql_meanings.specs.{Entries.put, SeveralRows.meets_key, SeveralRows.put_each}
+use Rattle.sql_meanings.proofs.{Changes.found_passes, EntryLists.flip, TwoColumns.Clear, TwoColumns.not_both}
 use Rattle.std.specs.Prelude.{◌≡◌, ◌⊎◌, ◌||◌, ◌∷◌}
 
 -- ---- what is found

@@ -13,8 +13,7 @@ use Rattle.sqlite_trees.proofs.ListLemmas.{all-append}
 use Rattle.sqlite_sql.specs.Ops.{is_null}
 use Rattle.sqlite_schema.specs.Rules.{suits, are_typed, are_present, real_bits}
 use Rattle.sql_meanings.specs.believed.Entries.{Entry, numbers, texts_held, stored}
-use Rattle.sql_meanings.specs.Entries.{AreShort}
-use Rattle.sql_meanings.specs.believed.Plain.{key_column}
+use Rattle.sql_meanings.specs.{Entries.AreShort, believed.Plain.key_column}
 use Rattle.sql_meanings.proofs.Casting.{AreFor, IsFor}
 use lib.Ieee.{is_nan}
 use Rattle.std.specs.Prelude.{◌≡◌, ◌⊎◌, ◌+◌, ◌<◌, ◌≤◌, ◌==◌, ◌∷◌, ◌++◌, ◌||◌}

@@ -10,18 +10,16 @@ use Rattle.sql_meanings.proofs.Names.{inl, inr, refl, sym, ap, subst, ◌∙◌,
 use Rattle.std.proofs.Common.{fold}
 use Rattle.sqlite.specs.Rows.{Sourced, Counter, Inserts, higher, last_id}
 use Rattle.sqlite_rules.proofs.TableLemmas.{put_all_keeps}
-use Rattle.sql_meanings.specs.{believed.Entries.Entry, believed.Entries.has_key, Entries.put, believed.Entries.stored}
-use Rattle.sql_meanings.specs.{SeveralRows.meets_key}
-use Rattle.sql_meanings.specs.{SeveralRows.put_each, believed.Tables.Holds, believed.Tables.placed_at}
-use Rattle.sql_meanings.specs.{believed.Tables.tree_of}
+use Rattle.sql_meanings.specs.believed.Entries.{Entry, has_key, stored}
+use Rattle.sql_meanings.specs.{Entries.put, SeveralRows.meets_key, SeveralRows.put_each}
+use Rattle.sql_meanings.specs.believed.Tables.{Holds, placed_at, tree_of}
 use Rattle.sql_meanings.specs.StatementAnswers.{Forbids, HasWideIndex, IsInterrupted, PutFails}
 use Rattle.sql_meanings.proofs.{Means.Means, Means.no_refusal, Referring.asks_none, Referring.refers_after}
 use Rattle.sql_meanings.proofs.{TablesBeside.Standing, TablesBeside.standing, TableWrites.IsPlain}
-use Rattle.sql_meanings.proofs.{TableWrites.plain_at}
+use Rattle.sql_meanings.proofs.{TableWrites.plain_at, Stopping.Stops, Stopping.fails_for, Stopping.stops}
 use Rattle.sql_meanings.proofs.PutRows.{PutsAs, PutsEachAs, news_are, put_are, puts_one, taken_are}
 use Rattle.sql_meanings.proofs.SeveralRows.{IsKey, fit_at, or_nothing}
 use Rattle.sql_meanings.proofs.Refusals.{EditStops, IsFit, edit_stops, forbids}
-use Rattle.sql_meanings.proofs.Stopping.{Stops, fails_for, stops}
 use Rattle.sql_meanings.proofs.PuttingIn.{key_taken, never, none_in, put_in_applies, stopped}
 use Rattle.sql_meanings.proofs.Writing.{same_value, uncounted, went}
 use Rattle.sqlite.specs.declared.error.ErrorCode.TheVariants as code

@@ -5,9 +5,8 @@ use Rattle.sql_meanings.specs.Names.{plain}
 use Rattle.sql_meanings.proofs.{Names.get_or, Names.∥∥₁_elim, KeyedAnswers.keyed_answer, OrderedAnswers.next_answer}
 use Rattle.sql_meanings.proofs.{TwoColumns.Clear, TwoColumns.clear, TwoColumns.two_answer, TablesBeside.standing}
 use Rattle.sql_meanings.specs.believed.Entries.{Entry, has_key, has_two, stored}
-use Rattle.sql_meanings.specs.Entries.{is_above}
-use Rattle.sql_meanings.specs.{believed.Tables.Holds, believed.Tables.placed_at, believed.Tables.tree_of}
-use Rattle.sql_meanings.specs.{StatementAnswers.TellsRow}
+use Rattle.sql_meanings.specs.{Entries.is_above, StatementAnswers.TellsRow}
+use Rattle.sql_meanings.specs.believed.Tables.{Holds, placed_at, tree_of}
 use Rattle.sql_meanings.specs.Queries.{by_key, by_two, next_above}
 use Rattle.sql_meanings.proofs.ReadTables.{ReadsAs, reads_row, under_overlay}
 use mathlib.Core.Bool.{Bool-set}

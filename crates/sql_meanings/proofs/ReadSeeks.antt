@@ -7,8 +7,7 @@ use Rattle.sql_meanings.proofs.{PlainReads.shown_answers, ReadTables.ReadsAs, Re
 use Rattle.sql_meanings.proofs.{SeekAnswers.from_answer, SeekAnswers.of_from_answer, TablesBeside.standing}
 use Rattle.sqlite.specs.State.{CommitsShowing, Shown}
 use Rattle.sqlite.proofs.StateLemmas.{survives_weaker}
-use Rattle.sql_meanings.specs.{believed.Entries.Entry, believed.Entries.stored, believed.Tables.Defines}
-use Rattle.sql_meanings.specs.{believed.Tables.Holds, believed.Tables.tree_of}
+use Rattle.sql_meanings.specs.believed.{Entries.Entry, Entries.stored, Tables.Defines, Tables.Holds, Tables.tree_of}
 use Rattle.sql_meanings.specs.StatementAnswers.{OnlyShows, ReadKept, TellsRows}
 use Rattle.sql_meanings.specs.Seeks.{is_from, is_of_from, next_from, next_of_from}
 use Rattle.std.specs.Prelude.{◌≡◌, ◌^◌, ◌∷◌}

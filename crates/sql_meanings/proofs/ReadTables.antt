@@ -5,9 +5,8 @@ use Rattle.sql_meanings.specs.Names.{IsDatabase, State, QueriesRowInside, Error,
 use Rattle.sql_meanings.proofs.Names.{inl, inr, refl, sym, subst, nat_le}
 use Rattle.sqlite.specs.Command.TheVariants.{Select}
 use Rattle.sql_meanings.specs.believed.Entries.{Entry, IsTree}
-use Rattle.sql_meanings.specs.Entries.{listed}
-use Rattle.sql_meanings.specs.{believed.Tables.Defines, believed.Tables.placed_at, believed.Tables.tree_of}
-use Rattle.sql_meanings.specs.{StatementAnswers.TellsRow}
+use Rattle.sql_meanings.specs.{Entries.listed, StatementAnswers.TellsRow}
+use Rattle.sql_meanings.specs.believed.Tables.{Defines, placed_at, tree_of}
 use Rattle.sql_meanings.proofs.{Statements.HasTable, Means.Means, TablesBeside.standing}
 use Rattle.sql_meanings.proofs.PlainReads.{first_answers, none_or_fails}
 use Rattle.std.specs.Prelude.{◌≡◌, ◌^◌, ◌∷◌}

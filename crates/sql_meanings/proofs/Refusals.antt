@@ -15,9 +15,8 @@ use Rattle.sqlite_rules.specs.declared.error.Refusal.TheVariants.{Mismatch, NoRo
 use Rattle.sqlite_rules.specs.Edit.{IsOversized, have_rowids, id_in}
 use Rattle.sqlite_rules.proofs.RuleLemmas.{keeps_at, keeps_from}
 use Rattle.sql_meanings.specs.believed.Entries.{HasWidth, Entry, stored}
-use Rattle.sql_meanings.specs.Entries.{AreShort}
+use Rattle.sql_meanings.specs.{Entries.AreShort, believed.Tables.tree_of, believed.Tables.width_of}
 use Rattle.sql_meanings.specs.StatementAnswers.{Forbids, HasWideIndex, has_unique}
-use Rattle.sql_meanings.specs.believed.Tables.{tree_of, width_of}
 use Rattle.sql_meanings.proofs.NumberRows.{entry_fits, entry_present, entry_typed, none_indexed, none_real, row_fits}
 use Rattle.sql_meanings.proofs.{TableWrites.fits_columns, TableWrites.IsPlain, PuttingIn.key_taken, PuttingIn.no_end}
 use Rattle.sqlite.specs.declared.error.ErrorCode.TheVariants as code

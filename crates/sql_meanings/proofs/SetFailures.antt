@@ -10,16 +10,14 @@ use Rattle.sql_meanings.proofs.Names.{inl, inr, refl, sym, ap, subst, ◌∙◌,
 use Rattle.sql_meanings.proofs.Names.{no_fold_overflows, all_has}
 use Rattle.sqlite.specs.Rows.{Queried, Updates}
 use Rattle.sql_meanings.specs.believed.Entries.{HasWidth, Entry, has_key, stored}
-use Rattle.sql_meanings.specs.Entries.{changed, listed}
+use Rattle.sql_meanings.specs.{Entries.changed, Entries.listed, Queries.by_key}
 use Rattle.sql_meanings.specs.StatementAnswers.{Forbids, HasWideIndex, IsInterrupted, SetFails, is_parent}
-use Rattle.sql_meanings.specs.{believed.Tables.Holds, believed.Tables.placed_at, believed.Tables.tree_of}
-use Rattle.sql_meanings.specs.{believed.Tables.width_of, Queries.by_key}
+use Rattle.sql_meanings.specs.believed.Tables.{Holds, placed_at, tree_of, width_of}
 use Rattle.sql_meanings.proofs.Changes.{found_all, found_key, taken_is}
 use Rattle.sql_meanings.proofs.EntryLists.{none_without, without, without_stored}
 use Rattle.sql_meanings.proofs.{KeyedAnswers.keyed_answer, Means.Means, Means.no_refusal, ReadTables.under_overlay}
 use Rattle.sql_meanings.proofs.{SetRows.ChangesAs, SetRows.set_rows, TablesBeside.Standing, TablesBeside.standing}
-use Rattle.sql_meanings.proofs.{PuttingIn.never}
-use Rattle.sql_meanings.proofs.{PuttingIn.stopped, Writing.same_value, Writing.went}
+use Rattle.sql_meanings.proofs.{PuttingIn.never, PuttingIn.stopped, Writing.same_value, Writing.went}
 use Rattle.sql_meanings.proofs.Referring.{asks_parent, nothing_set_off, refers_after}
 use Rattle.sql_meanings.proofs.Refusals.{EditStops, IsFit, edit_stops, forbids}
 use Rattle.sql_meanings.proofs.Stopping.{Stops, fails_for, fails_split, stops}

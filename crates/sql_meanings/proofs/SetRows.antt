@@ -5,9 +5,8 @@ use Rattle.sql_meanings.specs.Names.{Table, Term, eval_all, Edit, edit_of, edite
 use Rattle.sql_meanings.specs.Names.{accepts_program, Given, Update, IsDatabase, State, Executes}
 use Rattle.sql_meanings.proofs.Names.{refl, sym, ap, subst, ◌∙◌}
 use Rattle.sql_meanings.specs.believed.Entries.{HasWidth, Entry, IsTree, has_key, stored}
-use Rattle.sql_meanings.specs.Entries.{changed, listed, put}
+use Rattle.sql_meanings.specs.{Entries.changed, Entries.listed, Entries.put, Queries.by_key}
 use Rattle.sql_meanings.specs.believed.Tables.{Holds, placed_at, tree_of, width_of, texts_of}
-use Rattle.sql_meanings.specs.Queries.{by_key}
 use Rattle.sql_meanings.proofs.{Statements.HasTable, Means.Means, KeyedAnswers.keyed_answer, ReadTables.under_overlay}
 use Rattle.sql_meanings.proofs.{TablesBeside.standing, Writing.updates}
 use Rattle.sql_meanings.proofs.Changes.{none_changed, put_changed, tree_put, found_all}

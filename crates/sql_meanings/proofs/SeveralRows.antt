@@ -4,9 +4,8 @@ use Rattle.sql_meanings.specs.Names.{Chosen, Table, put_row, cast_row, are_fresh
 use Rattle.sql_meanings.proofs.Names.{refl, ap, ◌∙◌}
 use Rattle.sqlite_rules.specs.Edit.{numbered}
 use Rattle.sql_meanings.specs.believed.Entries.{Entry, HasWidth, IsTree, Rise, has_key, stored}
-use Rattle.sql_meanings.specs.Entries.{AreShort, put}
-use Rattle.sql_meanings.specs.{SeveralRows.meets_key, SeveralRows.put_each, believed.Tables.placed_at}
-use Rattle.sql_meanings.specs.{believed.Tables.width_of}
+use Rattle.sql_meanings.specs.{Entries.AreShort, Entries.put, SeveralRows.meets_key, SeveralRows.put_each}
+use Rattle.sql_meanings.specs.believed.Tables.{placed_at, width_of}
 use Rattle.sql_meanings.proofs.{Changes.taken_is, Changes.wide_put, EntryLists.put_stored, EntryLists.rise_put}
 use Rattle.sql_meanings.proofs.{Refusals.IsFit, TableWrites.IsPlain, TableWrites.cast_is}
 use Rattle.std.specs.Prelude.{◌≡◌, ◌∷◌, ◌&&◌, ◌||◌}

@@ -3,11 +3,9 @@ use Rattle.sql_meanings.specs.Names.{length, ℕ, Some, List, [], map, Row, Tabl
 use Rattle.sql_meanings.specs.Names.{cast_row}
 use Rattle.sql_meanings.proofs.Names.{sym, ap, subst, ◌∙◌, arith}
 use Rattle.sql_meanings.specs.believed.Entries.{Entry, IsTree, HasWidth, numbers, texts_held, stored}
-use Rattle.sql_meanings.specs.Entries.{AreShort}
-use Rattle.sql_meanings.proofs.{Casting.AreFor, Casting.all_for, Casting.cast_stored, TablesBeside.ChangesOneTable}
-use Rattle.sql_meanings.proofs.{Writing.Wrote}
-use Rattle.sql_meanings.specs.believed.Making.{Stands}
-use Rattle.sql_meanings.specs.Making.{SparesStanding}
+use Rattle.sql_meanings.specs.{Entries.AreShort, believed.Making.Stands, Making.SparesStanding}
+use Rattle.sql_meanings.proofs.Casting.{AreFor, all_for, cast_stored}
+use Rattle.sql_meanings.proofs.{TablesBeside.ChangesOneTable, Writing.Wrote}
 use Rattle.sql_meanings.specs.believed.Tables.{placed_at, tree_of, width_of, texts_of}
 use Rattle.sql_meanings.specs.believed.Plain.{key_column, number_column, text_column}
 use Rattle.std.specs.Prelude.{◌≡◌, ◌≤◌, ◌+◌, ◌++◌, ◌∷◌}

@@ -12,8 +12,7 @@ use Rattle.sqlite_sql.specs.declared.ops.CompareOp.TheVariants.{Ne}
 use Rattle.sqlite_schema.specs.Rules.{agree, differ}
 use Rattle.sqlite_catalog.proofs.AlterLemmas.{keys_are_unique}
 use Rattle.sql_meanings.specs.believed.Entries.{Entry, IsTree, Rise, begins_with, has_two, stored}
-use Rattle.sql_meanings.specs.Entries.{listed}
-use Rattle.sql_meanings.specs.Queries.{no_limit, query, two_are}
+use Rattle.sql_meanings.specs.{Entries.listed, Queries.no_limit, Queries.query, Queries.two_are}
 use Rattle.sql_meanings.proofs.EntryLists.{Above, int_equals, text_apart}
 use Rattle.sql_meanings.proofs.{KeyedAnswers.small_permutation, TestedAnswers.looked_up, Tests.and_both}
 use Rattle.std.specs.Prelude.{◌≡◌, ◌⊎◌, ◌∷◌, ◌&&◌, ◌||◌}

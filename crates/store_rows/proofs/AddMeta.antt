@@ -1,31 +1,21 @@
 -- The first row of meta is put in.
-use Rattle.std.proofs.Common.{◌≡◌, ◌⊎◌, ◌≤◌, true, sym, subst, inl, inr, ℕ, [], ◌∷◌, lit≤, refl, Ok, Err}
-use Rattle.std.proofs.Common.{Result}
+use Rattle.std.proofs.Common.{◌≡◌, ◌⊎◌, ◌≤◌, true, sym, subst, inl, inr, ℕ, [], ◌∷◌, lit≤, refl, Ok, Err, Result}
 use Rattle.std.specs.Prelude.{IsSome}
 use Rattle.sqlite.specs.State.{State, ExecutesInside, KeepsCounts}
-use Rattle.sqlite.specs.declared.error.Error.{Error}
-use Rattle.sqlite.specs.declared.error.Error.TheVariants.{SqliteFailure}
+use Rattle.sqlite.specs.{declared.error.Error.Error, declared.error.Error.TheVariants.SqliteFailure, Effect.Database}
 use Rattle.sqlite.specs.declared.error.ErrorCode.TheVariants.{ConstraintViolation}
 use Rattle.sqlite_schema.specs.declared.schema.Constraint.TheVariants.{Unique}
 use Rattle.sql_meanings.specs.believed.Tables.{Holds}
-use Rattle.sqlite.specs.Effect.{Database}
 use Rattle.sql_meanings.specs.StatementAnswers.{GoesOn, HasWideIndex, IsInterrupted}
-use Rattle.sql_meanings.proofs.Afterwards.{fails_since}
-use Rattle.sql_meanings.proofs.Contents.{held}
-use Rattle.sql_meanings.proofs.Failures.{put_fails_as}
-use Rattle.sql_meanings.proofs.PutFailures.{refuses_insert}
-use Rattle.sql_meanings.proofs.PutRows.{puts_row}
-use Rattle.store_rows.specs.Creation.{AreEmpty, CreatesBank, MakesWide, RefusedIn, StartsBank}
-use Rattle.store_rows.specs.Creation.{TablesAreMade, all_texts, new_tables, no_rows}
-use Rattle.store_rows.specs.TableAnswers.{IsForbidden}
+use Rattle.sql_meanings.proofs.{Afterwards.fails_since, Contents.held, Failures.put_fails_as}
+use Rattle.sql_meanings.proofs.{PutFailures.refuses_insert, PutRows.puts_row}
+use Rattle.store_rows.specs.Creation.{AreEmpty, CreatesBank, MakesWide, RefusedIn, StartsBank, TablesAreMade}
+use Rattle.store_rows.specs.Creation.{all_texts, new_tables, no_rows}
+use Rattle.store_rows.specs.{TableAnswers.IsForbidden, believed.BankTables.bank_tables, believed.SeveralRows.given}
 use Rattle.store_rows.specs.believed.BankTables as bank
-use Rattle.store_rows.specs.believed.BankTables.{bank_tables}
 use Rattle.store_rows.specs.declared.texts.TheConstants.{ADD_META}
-use Rattle.store_rows.proofs.CreationSteps.{still_on}
-use Rattle.store_rows.proofs.Failing.{forbidden, key_fits}
+use Rattle.store_rows.proofs.{CreationSteps.still_on, Failing.forbidden, Failing.key_fits, Puts.first_row, Puts.puts}
 use Rattle.store_rows.proofs.MetaRow.{holds_one, meta_written, is_plain}
-use Rattle.store_rows.specs.believed.SeveralRows.{given}
-use Rattle.store_rows.proofs.Puts.{first_row, puts}
 
 none_yet : (db : Database) → AreEmpty all_texts db → Holds db bank.meta []
 none_yet db empty = held db bank_tables (no_rows all_texts) empty.each 0 bank.meta [] refl refl

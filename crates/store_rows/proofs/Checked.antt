@@ -2,26 +2,21 @@
 use Rattle.std.proofs.Common.{◌++◌, ◌≡◌, ◌⊎◌, inl, inr, ℤ, pos, true, false, List, [], ◌∷◌, map, Ordering, Less}
 use Rattle.std.proofs.Common.{Equal, Greater, int_cmp, refl, sym, subst, arith}
 use Rattle.std.specs.Ordering.{int_eq}
-use Rattle.std.proofs.lemmas.Bool.{cases_Bool}
-use Rattle.std.proofs.lemmas.Int.{ints}
-use Rattle.std.proofs.Math.Logic.{∥∥₁_elim}
-use Rattle.sqlite.specs.Effect.{Database, IsDatabase}
+use Rattle.std.proofs.{lemmas.Bool.cases_Bool, lemmas.Int.ints, Math.Logic.∥∥₁_elim}
+use Rattle.sqlite.specs.{Effect.Database, Effect.IsDatabase, Order.Row}
 use Rattle.sqlite_rules.specs.Lists.{Has}
 use Rattle.sqlite_rules.proofs.RuleLemmas.{keeps_at}
-use Rattle.sqlite_schema.specs.declared.schema.Constraint.TheVariants.{Check}
+use Rattle.sqlite_schema.specs.{declared.schema.Constraint.TheVariants.Check, Rules.passes_checks}
 use Rattle.sql_meanings.specs.believed.Entries.{Entry, numbers, stored, texts_held}
 use Rattle.sql_meanings.specs.believed.Tables.{placed_at, tree_of}
 use Rattle.sql_meanings.proofs.TablesBeside.{standing}
-use Rattle.store_rows.specs.View.{HoldsRows}
-use Rattle.sqlite.specs.Order.{Row}
+use Rattle.store_rows.specs.{View.HoldsRows, believed.BankTables.meta}
 use Rattle.sqlite.specs.declared.types.Value.TheVariants.{Null, Int}
-use Rattle.sqlite_schema.specs.Rules.{passes_checks}
 use Rattle.sqlite_tied.specs.Compute.{everything}
 use Rattle.sqlite_sql.specs.Ops.{binary}
 use Rattle.sqlite_value.specs.Order.{value_cmp}
 use Rattle.sqlite_value.proofs.OrderLemmas.{value_cmp-Int}
 use lib.Ieee.{is_nan, lt}
-use Rattle.store_rows.specs.believed.BankTables.{meta}
 
 first_checked : (rest : Row) → passes_checks meta (Int (pos 1) ∷ rest) ≡ true
 unfolding everything binary value_cmp is_nan lt

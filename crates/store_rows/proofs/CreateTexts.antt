@@ -1,19 +1,15 @@
 -- The CREATE texts, each of its table under any schema that takes it, and the text of the table that counts
 -- for AUTOINCREMENT.
-use Rattle.std.proofs.Common.{lit≤, refl}
-use Rattle.sqlite.specs.Does.{sequence_text}
-use Rattle.sqlite.specs.Table.{Table}
+use Rattle.std.proofs.Common.{lit≤, refl, ◌≡◌, false}
+use Rattle.sqlite.specs.{Does.sequence_text, Table.Table}
 use Rattle.sqlite_tied.specs.Compute.{everything}
 use Rattle.std.specs.List.{AllByRecursion}
-use Rattle.std.proofs.Common.{◌≡◌, false}
 use Rattle.sql_meanings.specs.Making.{CreatesOnly, IsMakeable}
-use Rattle.sql_meanings.proofs.ListedTexts.{listing_tests}
-use Rattle.sql_meanings.proofs.Makeable.{creates_by, makeable}
+use Rattle.sql_meanings.proofs.{ListedTexts.listing_tests, Makeable.creates_by, Makeable.makeable}
 use Rattle.store_rows.specs.Creation.{all_texts}
 use Rattle.store_rows.specs.believed.BankTables as bank
 use Rattle.store_rows.specs.declared.texts.TheConstants.{MAKE_META, MAKE_BRANCH, MAKE_TELLER, MAKE_ACCOUNT}
-use Rattle.store_rows.specs.declared.texts.TheConstants.{MAKE_HISTORY, MAKE_REQUEST, MAKE_FLOOR}
-use Rattle.store_rows.specs.declared.texts.TheConstants.{MAKE_REFERENCE}
+use Rattle.store_rows.specs.declared.texts.TheConstants.{MAKE_HISTORY, MAKE_REQUEST, MAKE_FLOOR, MAKE_REFERENCE}
 
 -- the table that counts for AUTOINCREMENT
 pub sequence : (t : Table) × IsMakeable sequence_text t

@@ -1,8 +1,7 @@
 -- How the creation of a bank fails in a transaction of its own.
 use Rattle.std.proofs.Common.{inl, inr, ◌≤◌, Err, true}
 use Rattle.sqlite.specs.State.{State, IsRolledBack, Shows as StateShows}
-use Rattle.sqlite.specs.Steps.{FailsToCommit}
-use Rattle.sqlite.specs.declared.error.Error.{Error}
+use Rattle.sqlite.specs.{Steps.FailsToCommit, declared.error.Error.Error}
 use Rattle.sql_meanings.proofs.Afterwards.{names_on, names_since, undone_since, undone_twice}
 use Rattle.store_rows.specs.Creation.{CreatesBank, CreationFails, MakesWide}
 

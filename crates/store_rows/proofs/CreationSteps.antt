@@ -1,22 +1,17 @@
 -- How tables are made one after another, and how one of them is refused.
-use Rattle.std.proofs.Common.{length, ◌≡◌, inl, inr, ℕ, suc, ◌<◌, ◌≤◌, List, [], ◌∷◌, map, take, slice_get}
-use Rattle.std.proofs.Common.{Some, Ok, Err, IsTrue, refl, sym, ap, subst, ◌∙◌, arith, true, false}
+use Rattle.std.proofs.Common.{length, ◌≡◌, inl, inr, ℕ, suc, ◌<◌, ◌≤◌, List, [], ◌∷◌, map, take, slice_get, Some, Ok}
+use Rattle.std.proofs.Common.{Err, IsTrue, refl, sym, ap, subst, ◌∙◌, arith, true, false}
 use Rattle.std.proofs.Math.Seq.{take-length}
 use Rattle.std.specs.List.{AllByRecursion}
-use Rattle.sqlite.specs.Table.{Table}
+use Rattle.sqlite.specs.{Table.Table, Held.Held, Held.state, declared.error.Error.Error}
 use Rattle.sqlite.specs.Effect.{Database, IsDatabase}
-use Rattle.sqlite.specs.Held.{Held, state}
 use Rattle.sqlite_trees.specs.declared.store.Store.{Ghosts}
 use Rattle.sqlite.specs.State.{State, IsUnchanged, KeepsCommit, KeepsCounts, Shows as StateShows}
-use Rattle.sqlite.specs.declared.error.Error.{Error}
 use Rattle.sqlite_rules.specs.Lists.{Has}
-use Rattle.sql_meanings.specs.Making.{NotMade}
-use Rattle.sql_meanings.specs.believed.Contents.{HoldsEach}
+use Rattle.sql_meanings.specs.{Making.NotMade, believed.Contents.HoldsEach}
 use Rattle.sql_meanings.specs.StatementAnswers.{GoesOn, MakeFails, MakesTold}
-use Rattle.sql_meanings.proofs.Afterwards.{fails_since}
+use Rattle.sql_meanings.proofs.{Afterwards.fails_since, Places.all_more, TableStands.then_keeps}
 use Rattle.sql_meanings.proofs.Makings.{holds_none, kept}
-use Rattle.sql_meanings.proofs.Places.{all_more}
-use Rattle.sql_meanings.proofs.TableStands.{then_keeps}
 use Rattle.store_rows.specs.Creation.{AreGrown, IsApart, TablesAreMade, MakesAll}
 use Rattle.store_rows.proofs.MadeSoFar.{Begun, IsNew, Reached, grows_alone, grows_more, keeps_itself, made_new}
 use Rattle.store_rows.proofs.MadeSoFar.{stay_new}

@@ -1,20 +1,12 @@
 -- In an empty file no statement that makes a bank is refused, but for the limit on steps.
-use Rattle.std.proofs.Common.{◌≡◌, ◌&&◌, not, inl, inr, ℕ, zero, suc, ◌+◌, nat_lt, List, [], ◌∷◌, slice_get}
-use Rattle.std.proofs.Common.{length, take, Bool, true, false, Some, is_ok, IsTrue, refl, ap, subst, ◌∙◌}
-use Rattle.std.proofs.Common.{arith}
-use Rattle.std.specs.Prelude.{fold}
-use Rattle.sql_meanings.proofs.Places.{all_first, all_weaker}
-use Rattle.sql_meanings.proofs.Tests.{and_both}
-use Rattle.std.specs.List.{list_any}
+use Rattle.std.proofs.Common.{◌≡◌, ◌&&◌, not, inl, inr, ℕ, zero, suc, ◌+◌, nat_lt, List, [], ◌∷◌, slice_get, length}
+use Rattle.std.proofs.Common.{take, Bool, true, false, Some, is_ok, IsTrue, refl, ap, subst, ◌∙◌, arith}
+use Rattle.std.specs.{Prelude.fold, List.list_any}
+use Rattle.sql_meanings.proofs.{Places.all_first, Places.all_weaker, Tests.and_both}
 use Rattle.std.proofs.lemmas.Bool.{cases_Bool}
-use Rattle.sqlite.specs.Schema.{Schema}
-use Rattle.sqlite.specs.Table.{Table}
+use Rattle.sqlite.specs.{Schema.Schema, Table.Table, Does.lacks_sequence, Listing.understood, Effect.Database}
+use Rattle.sqlite.specs.{State.State, declared.error.Error.Error}
 use Rattle.sqlite.specs.Change.{automatics, created, is_used, next_tree}
-use Rattle.sqlite.specs.Does.{lacks_sequence}
-use Rattle.sqlite.specs.Listing.{understood}
-use Rattle.sqlite.specs.Effect.{Database}
-use Rattle.sqlite.specs.State.{State}
-use Rattle.sqlite.specs.declared.error.Error.{Error}
 use Rattle.sqlite_schema.specs.declared.schema.Index.{Index}
 use Rattle.sqlite_rules.specs.Lists.{Has}
 use Rattle.sqlite_tied.specs.Compute.{everything}
@@ -22,8 +14,7 @@ use Rattle.sql_meanings.specs.Making.{CreatesOnly, NotMade, counts_rows}
 use Rattle.sql_meanings.specs.StatementAnswers.{IsInterrupted, has_unique}
 use Rattle.store_rows.specs.believed.BankTables as bank
 use Rattle.store_rows.specs.Creation.{AreGrown, IsEmpty, RefusedIn, all_texts, with_first}
-use Rattle.store_rows.proofs.CreateTexts.{each_creates}
-use Rattle.store_rows.proofs.MadeSoFar.{grows_alone}
+use Rattle.store_rows.proofs.{CreateTexts.each_creates, MadeSoFar.grows_alone}
 
 abbrev nothing : Schema
 nothing = record { tables = []; indexes = []; views = [] }

@@ -1,40 +1,25 @@
 -- What a refusal of rows says of the tables of a bank.
-use Rattle.std.proofs.Common.{◌≡◌, ℕ, ◌≤◌, ◌==◌, pos, List, [], ◌∷◌, map, is_some, nat_lt, inl, inr, Bool}
-use Rattle.std.proofs.Common.{true, false, Some, None, Option, Less, int_cmp, refl, subst, ◌∙◌, sym, arith}
-use Rattle.std.proofs.Common.{◌⊎◌, ℤ, Result, Ok, Err, cond}
+use Rattle.std.proofs.Common.{◌≡◌, ℕ, ◌≤◌, ◌==◌, pos, List, [], ◌∷◌, map, is_some, nat_lt, inl, inr, Bool, true}
+use Rattle.std.proofs.Common.{false, Some, None, Option, Less, int_cmp, refl, subst, ◌∙◌, sym, arith, ◌⊎◌, ℤ, Result}
+use Rattle.std.proofs.Common.{Ok, Err, cond}
 use Rattle.std.specs.List.{AllByRecursion}
-use Rattle.std.proofs.lemmas.Bool.{cases_Bool, false_from_ne_true}
-use Rattle.std.proofs.lemmas.Int.{ints}
-use Rattle.std.proofs.Math.Logic.{∥∥₁_elim}
-use Rattle.sqlite.specs.Schema.{Schema}
-use Rattle.sqlite.specs.Table.{Table}
-use Rattle.sqlite.specs.Effect.{Database}
-use Rattle.sqlite.specs.Order.{Row}
-use Rattle.sqlite.specs.State.{State, ExecutesInside, IsUnchanged}
-use Rattle.sqlite.specs.declared.error.Error.{Error}
-use Rattle.sqlite.specs.declared.types.Value.TheVariants.{Int}
+use Rattle.std.proofs.{lemmas.Bool.cases_Bool, lemmas.Bool.false_from_ne_true, lemmas.Int.ints, Math.Logic.∥∥₁_elim}
+use Rattle.sqlite.specs.{Schema.Schema, Table.Table, Effect.Database, Order.Row, State.State, State.ExecutesInside}
+use Rattle.sqlite.specs.{State.IsUnchanged, declared.error.Error.Error, declared.types.Value.TheVariants.Int}
 use Rattle.sqlite_rules.specs.Lists.{Has}
 use Rattle.sqlite_sql.specs.Ops.{fits_i64}
-use Rattle.posting_rules.specs.believed.Tables.{Tables, row_at}
-use Rattle.sql_meanings.specs.believed.Entries.{Entry, Rise}
+use Rattle.posting_rules.specs.believed.{Tables.Tables, Tables.row_at, Changes.row_put}
+use Rattle.sql_meanings.specs.believed.{Entries.Entry, Entries.Rise, StatementAnswers.is_taken_key, Tables.Holds}
 use Rattle.sql_meanings.specs.Entries.{put}
-use Rattle.sql_meanings.specs.believed.StatementAnswers.{is_taken_key}
 use Rattle.sql_meanings.specs.StatementAnswers.{Forbids, PutFails, WriteFails}
-use Rattle.sql_meanings.specs.believed.Tables.{Holds}
-use Rattle.sql_meanings.proofs.Changes.{found_all, found_passes}
+use Rattle.sql_meanings.proofs.{Changes.found_all, Changes.found_passes, Makings.kept_inside, PuttingIn.key_taken}
 use Rattle.sql_meanings.proofs.Failures.{other_error, put_fails_as}
-use Rattle.sql_meanings.proofs.Makings.{kept_inside}
-use Rattle.sql_meanings.proofs.PuttingIn.{key_taken}
 use Rattle.posting_rules.specs.declared.fault.Rule.TheVariants.{Key}
 use Rattle.store_rows.specs.declared.fault.TableFault.TheVariants.{Sqlite, Damaged}
-use Rattle.posting_rules.specs.believed.Changes.{row_put}
 use Rattle.store_rows.specs.believed.Failures.{Putting, inserts}
-use Rattle.store_rows.specs.Failures.{Puts}
-use Rattle.store_rows.specs.TableAnswers.{PutsOneRow, IsForbidden}
-use Rattle.store_rows.specs.Faults.{added}
-use Rattle.store_rows.specs.believed.View.{Shows}
+use Rattle.store_rows.specs.{Failures.Puts, TableAnswers.PutsOneRow, TableAnswers.IsForbidden, Faults.added}
+use Rattle.store_rows.specs.{believed.View.Shows, declared.statements.TheConstants.MAX_KEY}
 use Rattle.store_rows.proofs.RowLists.{put_rows}
-use Rattle.store_rows.specs.declared.statements.TheConstants.{MAX_KEY}
 
 -- a number of at most twelve digits is a key that a file can hold
 pub key_fits : (k : ℕ) → k ≤ MAX_KEY → fits_i64 (pos k) ≡ true

@@ -1,21 +1,14 @@
 -- What was read of a row, and what is reported of it.
-use Rattle.std.proofs.Common.{◌≡◌, ℤ, inl, inr, Option, Some, None, option_map, Result, Ok, Err, refl}
-use Rattle.std.proofs.Common.{sym, subst, ap, ◌∙◌}
-use Rattle.sqlite.specs.Order.{Row, column}
-use Rattle.sqlite.specs.State.{State, IsUnchanged}
-use Rattle.sqlite.specs.declared.error.Error.{Error}
-use Rattle.sqlite.specs.declared.error.Error.TheVariants.{QueryReturnedNoRows}
-use Rattle.sql_meanings.specs.believed.Entries.{Entry}
-use Rattle.sql_meanings.specs.StatementAnswers.{IsStoreError, TellsRow}
+use Rattle.std.proofs.Common.{◌≡◌, ℤ, inl, inr, Option, Some, None, option_map, Result, Ok, Err, refl, sym, subst, ap}
+use Rattle.std.proofs.Common.{◌∙◌}
+use Rattle.sqlite.specs.{Order.Row, Order.column, State.State, State.IsUnchanged, declared.error.Error.Error}
+use Rattle.sqlite.specs.{declared.error.Error.TheVariants.QueryReturnedNoRows}
+use Rattle.sql_meanings.specs.{believed.Entries.Entry, StatementAnswers.IsStoreError, StatementAnswers.TellsRow}
 use Rattle.sql_meanings.proofs.OnlyShowing.{no_rows_error}
-use Rattle.posting_rules.specs.declared.fault.Rule.{Rule}
-use Rattle.posting_rules.specs.declared.fault.Rule.TheVariants.{Balance}
-use Rattle.store_rows.specs.declared.fault.TableFault.{TableFault}
+use Rattle.posting_rules.specs.declared.fault.Rule.{Rule, TheVariants.Balance}
+use Rattle.store_rows.specs.{declared.fault.TableFault.TableFault, Columns.balance_shown, Failures.ReadsAnswer}
+use Rattle.store_rows.specs.{believed.Stored.FindsStored, Stored.ReadsStored}
 use Rattle.store_rows.specs.declared.fault.TableFault.TheVariants.{Sqlite, Damaged}
-use Rattle.store_rows.specs.Columns.{balance_shown}
-use Rattle.store_rows.specs.Failures.{ReadsAnswer}
-use Rattle.store_rows.specs.believed.Stored.{FindsStored}
-use Rattle.store_rows.specs.Stored.{ReadsStored}
 use Rattle.store_rows.specs.TableAnswers.{Finds, BreaksBalance, ReadsCents, ReadsColumns, ReadsRow}
 
 the_row : {a b : Row} → Some a ≡ Some b → b ≡ a

@@ -1,34 +1,20 @@
 -- The look-up of a request by its teller and number, of which UNIQUE leaves one at most.
-use Rattle.std.proofs.Common.{◌≡◌, ◌&&◌, ◌==◌, ℕ, ℤ, pos, true, false, List, [], ◌∷◌, codes, lit≤, refl}
-use Rattle.std.proofs.Common.{Ok}
-use Rattle.sqlite.specs.Schema.{Schema}
-use Rattle.sqlite.specs.Command.TheVariants.{Select}
-use Rattle.sqlite.specs.Listing.{understood}
-use Rattle.sqlite.specs.Term.{Term, col}
-use Rattle.sqlite.specs.declared.types.Value.TheVariants.{Int}
+use Rattle.std.proofs.Common.{◌≡◌, ◌&&◌, ◌==◌, ℕ, ℤ, pos, true, false, List, [], ◌∷◌, codes, lit≤, refl, Ok}
+use Rattle.sqlite.specs.{Schema.Schema, Command.TheVariants.Select, Listing.understood, Term.Term, Term.col}
+use Rattle.sqlite.specs.{declared.types.Value.TheVariants.Int}
 use Rattle.sqlite_tied.specs.Compute.{everything}
 use Rattle.sqlite_draft.specs.declared.join.Step.TheVariants.{Inner}
-use Rattle.sqlite_resolve.specs.declared.scope.Output.{Output}
+use Rattle.sqlite_resolve.specs.{declared.scope.Output.Output, Select.ungrouped, Terms.number}
 use Rattle.sqlite_resolve.specs.Program as program
-use Rattle.sqlite_resolve.specs.Select.{ungrouped}
-use Rattle.sqlite_resolve.specs.Terms.{number}
 use Rattle.sqlite_typing.specs.Types.{accepts_program}
 use Rattle.posting_rules.specs.declared.rows.RequestRow.{RequestRow}
-use Rattle.sql_meanings.specs.believed.Entries.{has_two}
-use Rattle.sql_meanings.specs.StatementAnswers.{OnlyShows}
-use Rattle.sql_meanings.specs.believed.Plain.{number_column}
-use Rattle.sql_meanings.specs.Queries.{by_two, two_are, no_limit}
-use Rattle.sql_meanings.specs.believed.Tables.{placed_at}
-use Rattle.sql_meanings.proofs.ByKey.{Tests, number_at}
-use Rattle.sql_meanings.proofs.Means.{Means, means}
-use Rattle.sql_meanings.proofs.ReadTables.{ReadsAs}
-use Rattle.sql_meanings.proofs.Selects.{select_by_two}
-use Rattle.sql_meanings.proofs.ShownColumns.{outputs_at, shows_named}
-use Rattle.sql_meanings.proofs.Statements.{HasTable}
-use Rattle.sql_meanings.proofs.Texts.{IsSelect, only_reads, select_of}
-use Rattle.store_rows.specs.believed.BankTables.{request}
+use Rattle.sql_meanings.specs.{believed.Entries.has_two, StatementAnswers.OnlyShows, believed.Plain.number_column}
+use Rattle.sql_meanings.specs.{Queries.by_two, Queries.two_are, Queries.no_limit, believed.Tables.placed_at}
+use Rattle.sql_meanings.proofs.{ByKey.Tests, ByKey.number_at, Means.Means, Means.means, ReadTables.ReadsAs}
+use Rattle.sql_meanings.proofs.{Selects.select_by_two, ShownColumns.outputs_at, ShownColumns.shows_named}
+use Rattle.sql_meanings.proofs.{Statements.HasTable, Texts.IsSelect, Texts.only_reads, Texts.select_of}
+use Rattle.store_rows.specs.believed.{BankTables.request, View.request_entry}
 use Rattle.store_rows.specs.declared.texts.TheConstants.{GET_REQUEST}
-use Rattle.store_rows.specs.believed.View.{request_entry}
 use Rattle.store_rows.proofs.RowLists.{same_number}
 
 by_tid : (tree : ℕ) → Tests (placed_at request tree) (codes "tid") 2

@@ -4,8 +4,7 @@ use Rattle.sqlite.specs.Term.{col}
 use Rattle.sqlite_tied.specs.Compute.{everything}
 use Rattle.sqlite_resolve.specs.Program as program
 use Rattle.sqlite_resolve.specs.Select.{ungrouped}
-use Rattle.sql_meanings.proofs.Keyed.{Gets, IsFirst, first_key, gets_by}
-use Rattle.sql_meanings.proofs.Texts.{select_of}
+use Rattle.sql_meanings.proofs.{Keyed.Gets, Keyed.IsFirst, Keyed.first_key, Keyed.gets_by, Texts.select_of}
 use Rattle.store_rows.specs.believed.BankTables as bank
 use Rattle.store_rows.specs.declared.texts.TheConstants.{GET_META, GET_BRANCH, GET_TELLER, GET_ACCOUNT, GET_FLOOR}
 use Rattle.store_rows.specs.declared.texts.TheConstants.{GET_REFERENCE}

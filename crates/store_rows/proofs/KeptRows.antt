@@ -1,27 +1,15 @@
 -- What a row keeps of a request.
-use Rattle.std.proofs.Common.{◌≡◌, ◌==◌, ℕ, ℤ, pos, Bool, true, false, cond, Some, None, Ok, Err, refl, sym}
-use Rattle.std.proofs.Common.{ap, subst, ◌∙◌}
+use Rattle.std.proofs.Common.{◌≡◌, ◌==◌, ℕ, ℤ, pos, Bool, true, false, cond, Some, None, Ok, Err, refl, sym, ap}
+use Rattle.std.proofs.Common.{subst, ◌∙◌}
 use Rattle.std.specs.Option.{ok_or}
 use Rattle.sqlite.specs.Order.{Row, column}
-use Rattle.message_records.specs.believed.Outcomes.{code_of}
-use Rattle.message_records.specs.declared.records.Outcome.{Outcome}
-use Rattle.message_records.specs.declared.records.Outcome.TheVariants.{
-  Posted,
-  NoTeller,
-  WrongBranch,
-  NoAccount,
-  OverLimit,
-  ReusedNumber,
-  Full,
-  BelowFloor,
-  Malformed,
-}
-use Rattle.posting_rules.specs.believed.Kept.{DecisionFields, is_kept_with}
-use Rattle.posting_rules.specs.Kept.{decision_from}
-use Rattle.posting_rules.specs.declared.fault.Rule.TheVariants.{Request}
-use Rattle.posting_rules.specs.declared.rows.RequestRow.{RequestRow}
-use Rattle.store_rows.specs.declared.fault.TableFault.{TableFault}
-use Rattle.store_rows.specs.declared.fault.TableFault.TheVariants.{Sqlite, Damaged}
+use Rattle.message_records.specs.{believed.Outcomes.code_of, declared.records.Outcome.Outcome}
+use Rattle.message_records.specs.declared.records.Outcome.TheVariants.{Posted, NoTeller, WrongBranch, NoAccount}
+use Rattle.message_records.specs.declared.records.Outcome.TheVariants.{OverLimit, ReusedNumber, Full, BelowFloor}
+use Rattle.message_records.specs.declared.records.Outcome.TheVariants.{Malformed}
+use Rattle.posting_rules.specs.{believed.Kept.DecisionFields, believed.Kept.is_kept_with, Kept.decision_from}
+use Rattle.posting_rules.specs.{declared.fault.Rule.TheVariants.Request, declared.rows.RequestRow.RequestRow}
+use Rattle.store_rows.specs.declared.fault.TableFault.{TableFault, TheVariants.Sqlite, TheVariants.Damaged}
 use Rattle.store_rows.specs.Columns.{request_shown}
 use Rattle.store_rows.specs.TableAnswers.{ReadsCents, ReadsDecision, ReadsOutcome, ReadsWhole}
 use Rattle.message_records.specs.declared.limits.TheConstants.{MAX_ACCOUNT, MAX_BRANCH}

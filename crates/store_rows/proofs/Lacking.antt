@@ -1,38 +1,25 @@
 -- The tables that an earlier version lacks beside a bank of it.
-use Rattle.std.proofs.Common.{◌≡◌, ◌+◌, ◌&&◌, ◌++◌, ℕ, zero, suc, pos, Bool, true, false, not, List, [], ◌∷◌}
-use Rattle.std.proofs.Common.{drop, take, map, slice_get, Some, refl, sym, ap, subst, ◌∙◌}
-use Rattle.std.proofs.Common.{arith}
-use Rattle.std.proofs.Math.Logic.{∥∥₁_elim}
-use Rattle.std.specs.List.{AllByRecursion, drop-map, list_all}
-use Rattle.std.specs.Str.{bytes_eq}
-use Rattle.std.proofs.lemmas.List.{take-append-drop}
-use Rattle.sqlite.specs.Change.{created, is_used}
-use Rattle.sqlite.specs.Does.{lacks_sequence}
+use Rattle.std.proofs.Common.{◌≡◌, ◌+◌, ◌&&◌, ◌++◌, ℕ, zero, suc, pos, Bool, true, false, not, List, [], ◌∷◌, drop}
+use Rattle.std.proofs.Common.{take, map, slice_get, Some, refl, sym, ap, subst, ◌∙◌, arith}
+use Rattle.std.proofs.{Math.Logic.∥∥₁_elim, lemmas.List.take-append-drop}
+use Rattle.std.specs.{List.AllByRecursion, List.drop-map, List.list_all, Str.bytes_eq}
+use Rattle.sqlite.specs.{Change.created, Change.is_used, Does.lacks_sequence, Schema.Schema, Table.Table}
+use Rattle.sqlite.specs.{declared.error.Error.Error, declared.error.Error.TheVariants.SqliteFailure}
 use Rattle.sqlite.specs.Effect.{Database, IsDatabase}
-use Rattle.sqlite.specs.Schema.{Schema}
-use Rattle.sqlite.specs.Table.{Table}
-use Rattle.sqlite.specs.declared.error.Error.{Error}
-use Rattle.sqlite.specs.declared.error.Error.TheVariants.{SqliteFailure}
 use Rattle.sqlite.specs.declared.error.ErrorCode.TheVariants.{SchemaTooBig}
 use Rattle.sqlite_schema.specs.Names.{same_name}
 use Rattle.sqlite_tied.specs.Compute.{everything}
 use Rattle.posting_rules.specs.believed.Tables.{Tables}
-use Rattle.sql_meanings.specs.believed.Contents.{HoldsEach}
+use Rattle.sql_meanings.specs.{believed.Contents.HoldsEach, Making.NotMade, StatementAnswers.IsUnderstood}
 use Rattle.sql_meanings.specs.Contents.{has_other_names, is_free, stand_apart}
-use Rattle.sql_meanings.specs.Making.{NotMade}
-use Rattle.sql_meanings.specs.StatementAnswers.{IsUnderstood}
-use Rattle.sql_meanings.proofs.Contents.{HoldsEach-prop}
+use Rattle.sql_meanings.proofs.{Contents.HoldsEach-prop, ListedTexts.listing_tests, Places.all_later, Tests.and_both}
 use Rattle.sql_meanings.proofs.FreeNames.{free_beside, free_understood, needs_none, only_full}
-use Rattle.sql_meanings.proofs.ListedTexts.{listing_tests}
-use Rattle.sql_meanings.proofs.Places.{all_later}
 use Rattle.sql_meanings.proofs.StayHeld.{held_after, same_place, still_held, still_hold}
-use Rattle.sql_meanings.proofs.Tests.{and_both}
 use Rattle.sql_meanings.proofs.Trees.{Holds-prop, nat_set}
 use Rattle.store_rows.specs.believed.BankTables as bank
 use Rattle.store_rows.specs.believed.BankTables.{bank_tables}
 use Rattle.store_rows.specs.Creation.{AreGrown, TablesAreMade, all_texts}
-use Rattle.store_rows.specs.Migration.{IsEarlier, LackingAreMade, RefusesLacking, ShowsLess, TakesLacking}
-use Rattle.store_rows.specs.Migration.{lacking}
+use Rattle.store_rows.specs.Migration.{IsEarlier, LackingAreMade, RefusesLacking, ShowsLess, TakesLacking, lacking}
 use Rattle.store_rows.specs.believed.View.{contents_of, meta_entry, rows_of, tables_of}
 use Rattle.store_rows.specs.declared.texts.TheConstants.{MAKE_FLOOR, MAKE_REFERENCE}
 use Rattle.store_rows.proofs.MadeSoFar.{grows_plainly}

@@ -1,11 +1,9 @@
 -- Small facts about what was looked up.
-use Rattle.std.proofs.Common.{◌≡◌, ℕ, ℤ, Bool, true, false, cond, nat_eq}
-use Rattle.std.proofs.Common.{refl, arith}
-use Rattle.std.proofs.Common.{◌≤◌, ap, ◌∙◌, w64, to_z, of_z, pos, ◌≤ℤ◌, FitsSigned}
+use Rattle.std.proofs.Common.{◌≡◌, ℕ, ℤ, Bool, true, false, cond, nat_eq, refl, arith, ◌≤◌, ap, ◌∙◌, w64, to_z, of_z}
+use Rattle.std.proofs.Common.{pos, ◌≤ℤ◌, FitsSigned}
 use Rattle.std.specs.Prelude.{neg_ℤ}
 use Rattle.std.proofs.lemmas.Int.{ints, to_z_pos, to_z-of_z}
-use Rattle.sqlite.specs.declared.types.Value.{Value}
-use Rattle.sqlite.specs.declared.types.Value.TheVariants.{Int}
+use Rattle.sqlite.specs.declared.types.Value.{Value, TheVariants.Int}
 use Rattle.message_records.specs.declared.limits.TheConstants.{MAX_BALANCE}
 use Rattle.store_rows.specs.declared.statements.TheConstants.{MAX_KEY}
 

@@ -1,22 +1,16 @@
 -- What is there of tables that are being made, each by its text: so many of them so far.
-use Rattle.std.proofs.Common.{◌≡◌, ◌≢◌, ◌⊎◌, ℕ, zero, suc, ◌≤◌, List, [], ◌∷◌, take, slice_get, Some, IsTrue}
-use Rattle.std.proofs.Common.{refl, ap, ◌∙◌, arith, true, false, inl, inr}
-use Rattle.std.specs.List.{AllByRecursion}
-use Rattle.std.specs.Prelude.{fold}
-use Rattle.sqlite.specs.Schema.{Schema}
-use Rattle.sqlite.specs.Table.{Table}
-use Rattle.sqlite.specs.Change.{created, next_tree}
-use Rattle.sqlite.specs.Does.{lacks_sequence}
+use Rattle.std.proofs.Common.{◌≡◌, ◌≢◌, ◌⊎◌, ℕ, zero, suc, ◌≤◌, List, [], ◌∷◌, take, slice_get, Some, IsTrue, refl}
+use Rattle.std.proofs.Common.{ap, ◌∙◌, arith, true, false, inl, inr}
+use Rattle.std.specs.{List.AllByRecursion, Prelude.fold}
+use Rattle.sqlite.specs.{Schema.Schema, Table.Table, Change.created, Change.next_tree, Does.lacks_sequence, Held.Held}
+use Rattle.sqlite.specs.{Held.state, declared.transaction.Transaction.Transaction}
 use Rattle.sqlite.specs.Effect.{Database, IsDatabase}
 use Rattle.sqlite_catalog.proofs.StepLemmas.{table_below}
-use Rattle.sqlite.specs.Held.{Held, state}
-use Rattle.sqlite.specs.declared.transaction.Transaction.{Transaction}
 use Rattle.sqlite_trees.specs.declared.store.Store.{Ghosts}
 use Rattle.sqlite.specs.State.{State, HasCleanDisk, Survives, KeepsCounts, Shows as StateShows}
 use Rattle.sqlite_rules.specs.Lists.{Has}
-use Rattle.sql_meanings.specs.believed.Making.{Stands}
+use Rattle.sql_meanings.specs.believed.{Making.Stands, Tables.placed_at}
 use Rattle.sql_meanings.specs.Making.{AddsTable, IsGrown, KeepsWhatStood, counts_rows}
-use Rattle.sql_meanings.specs.believed.Tables.{placed_at}
 use Rattle.sql_meanings.proofs.TableStands.{counts_created}
 use Rattle.store_rows.specs.Creation.{AreGrown}
 

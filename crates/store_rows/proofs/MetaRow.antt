@@ -1,41 +1,25 @@
 -- The one row of `meta`: what is read of it, and what a write of the count leaves.
-use Rattle.std.proofs.Common.{◌≡◌, ◌<◌, ◌∙◌, ℕ, pos, Bool, true, nat_eq, List, [], ◌∷◌, codes, find}
-use Rattle.std.proofs.Common.{slice_get, slice_set, Some, None, Option, option_map, Ok, Err, Result, lit≤}
-use Rattle.std.proofs.Common.{refl, sym, subst, arith}
-use Rattle.sqlite.specs.Order.{Row}
-use Rattle.sqlite.specs.Effect.{Database}
+use Rattle.std.proofs.Common.{◌≡◌, ◌<◌, ◌∙◌, ℕ, pos, Bool, true, nat_eq, List, [], ◌∷◌, codes, find, slice_get}
+use Rattle.std.proofs.Common.{slice_set, Some, None, Option, option_map, Ok, Err, Result, lit≤, refl, sym, subst}
+use Rattle.std.proofs.Common.{arith}
+use Rattle.sqlite.specs.{Order.Row, Effect.Database, declared.error.Error.Error, declared.types.Value.TheVariants.Int}
 use Rattle.sqlite.specs.State.{State, ExecutesInside, QueriesRowInside}
 use Rattle.sqlite.specs.Term.{Term, col, eval_all}
-use Rattle.sqlite.specs.declared.error.Error.{Error}
-use Rattle.sqlite.specs.declared.types.Value.TheVariants.{Int}
-use Rattle.posting_rules.specs.believed.Changes.{with_decided}
-use Rattle.posting_rules.specs.believed.Tables.{Tables}
-use Rattle.sql_meanings.specs.believed.Contents.{HoldsEach}
+use Rattle.posting_rules.specs.believed.{Changes.with_decided, Tables.Tables}
+use Rattle.sql_meanings.specs.{believed.Contents.HoldsEach, StatementAnswers.TellsRow, believed.Tables.Holds}
 use Rattle.sql_meanings.specs.believed.Entries.{Entry, HasWidth, has_key, stored}
-use Rattle.sql_meanings.specs.StatementAnswers.{TellsRow}
-use Rattle.sql_meanings.specs.believed.Tables.{Holds}
-use Rattle.sql_meanings.proofs.Contents.{held, one_written}
-use Rattle.sql_meanings.proofs.Failures.{set_fails_as}
-use Rattle.sql_meanings.proofs.ReadRows.{reads_key}
-use Rattle.sql_meanings.proofs.SetFailures.{refuses_update}
-use Rattle.sql_meanings.proofs.SetRows.{sets_row}
+use Rattle.sql_meanings.proofs.{Contents.held, Contents.one_written, Failures.set_fails_as, ReadRows.reads_key}
+use Rattle.sql_meanings.proofs.{SetFailures.refuses_update, SetRows.sets_row}
 use Rattle.sql_meanings.proofs.TableWrites.{IsPlain, Leaves, spares_standing}
-use Rattle.store_rows.specs.believed.Columns.{meta_in, meta_numbers}
-use Rattle.store_rows.specs.Columns.{meta_shown}
-use Rattle.store_rows.specs.TableAnswers.{IsForbidden, SetsRow}
+use Rattle.store_rows.specs.{believed.Columns.meta_in, believed.Columns.meta_numbers, Columns.meta_shown}
+use Rattle.store_rows.specs.{TableAnswers.IsForbidden, TableAnswers.SetsRow, believed.BankTables.bank_tables}
+use Rattle.store_rows.specs.{Statements.MeetsOne, believed.View.Shows, believed.View.meta_entry, View.HoldsRows}
+use Rattle.store_rows.specs.{View.contents, declared.metas.TheConstants.META_ID, declared.metas.TheConstants.VERSION}
 use Rattle.store_rows.specs.believed.BankTables as bank
-use Rattle.store_rows.specs.believed.BankTables.{bank_tables}
-use Rattle.store_rows.specs.Statements.{MeetsOne}
-use Rattle.store_rows.specs.believed.View.{Shows, meta_entry}
-use Rattle.store_rows.specs.View.{HoldsRows, contents}
-use Rattle.store_rows.specs.declared.metas.TheConstants.{META_ID, VERSION}
 use Rattle.store_rows.specs.declared.texts.TheConstants.{GET_META, SET_META}
-use Rattle.store_rows.proofs.ShownValues.{number_shown}
-use Rattle.store_rows.proofs.Failing.{forbidden, key_fits}
-use Rattle.store_rows.proofs.Getting.{gets}
+use Rattle.store_rows.proofs.{ShownValues.number_shown, Failing.forbidden, Failing.key_fits, Getting.gets}
+use Rattle.store_rows.proofs.{Setting.set_second, Setting.sets, StoredRows.shown_as}
 use Rattle.store_rows.proofs.Lookups.{one_written as one_met}
-use Rattle.store_rows.proofs.Setting.{set_second, sets}
-use Rattle.store_rows.proofs.StoredRows.{shown_as}
 
 -- it is a table of a key and numbers
 pub is_plain : IsPlain bank.meta

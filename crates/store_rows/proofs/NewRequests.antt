@@ -1,32 +1,20 @@
 -- Requests that were put in had no like, whatever rows the file held.
 use Rattle.std.proofs.Common.{◌≡◌, ◌&&◌, ℕ, pos, List, [], ◌∷◌, map, Bool, true, false, cond, Ok, Err, Result, None}
 use Rattle.std.proofs.Common.{find, refl, arith}
-use Rattle.std.specs.Prelude.{IsTrue, OnOk, ℤ}
-use Rattle.std.specs.List.{AllByRecursion}
-use Rattle.std.specs.Ordering.{int_eq}
+use Rattle.std.specs.{Prelude.IsTrue, Prelude.OnOk, Prelude.ℤ, List.AllByRecursion, Ordering.int_eq}
 use Rattle.std.proofs.lemmas.Int.{ints}
-use Rattle.sqlite.specs.Held.{state}
+use Rattle.sqlite.specs.{Held.state, declared.error.Error.Error, declared.transaction.Transaction.Transaction}
 use Rattle.sqlite.specs.State.{State, ExecutesInside, HasCleanDisk}
-use Rattle.sqlite.specs.declared.error.Error.{Error}
-use Rattle.sqlite.specs.declared.transaction.Transaction.{Transaction}
 use Rattle.sqlite_trees.specs.declared.store.Store.{Ghosts}
-use Rattle.posting_rules.specs.declared.fault.Rule.TheVariants.{Key}
-use Rattle.posting_rules.specs.declared.rows.RequestRow.{RequestRow}
-use Rattle.sql_meanings.specs.believed.Entries.{Entry, has_two}
+use Rattle.posting_rules.specs.declared.{fault.Rule.TheVariants.Key, rows.RequestRow.RequestRow}
+use Rattle.sql_meanings.specs.believed.{Entries.Entry, Entries.has_two, StatementAnswers.is_taken_key}
 use Rattle.sql_meanings.specs.SeveralRows.{put_each}
-use Rattle.sql_meanings.specs.believed.StatementAnswers.{is_taken_key}
 use Rattle.sql_meanings.specs.believed.Tables.{Holds, placed_at, tree_of}
-use Rattle.sql_meanings.proofs.NewPairs.{has_each, none_had}
-use Rattle.sql_meanings.proofs.PutRows.{PutsEachAs, puts_rows}
-use Rattle.sql_meanings.proofs.TablesBeside.{standing, stepped}
-use Rattle.sql_meanings.proofs.TwoColumns.{Clear, clear}
-use Rattle.store_rows.specs.believed.BankTables.{request}
-use Rattle.store_rows.specs.Faults.{added}
-use Rattle.store_rows.specs.believed.SeveralRows.{given_each}
+use Rattle.sql_meanings.proofs.{NewPairs.has_each, NewPairs.none_had, PutRows.PutsEachAs, PutRows.puts_rows}
+use Rattle.sql_meanings.proofs.{TablesBeside.standing, TablesBeside.stepped, TwoColumns.Clear, TwoColumns.clear}
+use Rattle.store_rows.specs.{believed.BankTables.request, Faults.added, believed.SeveralRows.given_each}
+use Rattle.store_rows.specs.{Statements.PutsRow, believed.View.request_entry, declared.fault.TableFault.TableFault}
 use Rattle.store_rows.specs.SeveralRows.{IsNew, PutsNew}
-use Rattle.store_rows.specs.Statements.{PutsIn, PutsRow}
-use Rattle.store_rows.specs.believed.View.{request_entry}
-use Rattle.store_rows.specs.declared.fault.TableFault.{TableFault}
 use Rattle.store_rows.specs.declared.fault.TableFault.TheVariants.{Sqlite, Damaged}
 use Rattle.store_rows.proofs.TheTables.{requests}
 

@@ -1,30 +1,18 @@
 -- The look-up of the branch with the least number above one.
-use Rattle.std.proofs.Common.{◌≡◌, ℕ, ℤ, pos, true, false, List, [], ◌∷◌, codes, lit≤, refl}
-use Rattle.std.proofs.Common.{Ok}
-use Rattle.sqlite.specs.Schema.{Schema}
-use Rattle.sqlite.specs.Command.TheVariants.{Select}
-use Rattle.sqlite.specs.Listing.{understood}
-use Rattle.sqlite.specs.Term.{Term, col, lit}
-use Rattle.sqlite.specs.declared.types.Value.TheVariants.{Int}
+use Rattle.std.proofs.Common.{◌≡◌, ℕ, ℤ, pos, true, false, List, [], ◌∷◌, codes, lit≤, refl, Ok}
+use Rattle.sqlite.specs.{Schema.Schema, Command.TheVariants.Select, Listing.understood, Term.Term, Term.col, Term.lit}
+use Rattle.sqlite.specs.{declared.types.Value.TheVariants.Int}
 use Rattle.sqlite_tied.specs.Compute.{everything}
 use Rattle.sqlite_draft.specs.declared.join.Step.TheVariants.{Inner}
-use Rattle.sqlite_resolve.specs.declared.scope.Output.{Output}
+use Rattle.sqlite_resolve.specs.{declared.scope.Output.Output, Select.ungrouped, Terms.number}
 use Rattle.sqlite_resolve.specs.Program as program
-use Rattle.sqlite_resolve.specs.Select.{ungrouped}
-use Rattle.sqlite_resolve.specs.Terms.{number}
 use Rattle.sqlite_typing.specs.Types.{accepts_program}
-use Rattle.sql_meanings.specs.StatementAnswers.{OnlyShows}
+use Rattle.sql_meanings.specs.{StatementAnswers.OnlyShows, believed.Tables.placed_at}
 use Rattle.sql_meanings.specs.Queries.{ascending, next_above, key_above}
-use Rattle.sql_meanings.specs.believed.Tables.{placed_at}
-use Rattle.sql_meanings.proofs.ByKey.{key_at}
-use Rattle.sql_meanings.proofs.Means.{Means, means}
-use Rattle.sql_meanings.proofs.ReadTables.{ReadsAs}
-use Rattle.sql_meanings.proofs.Above.{Beyond, select_rising}
-use Rattle.sql_meanings.proofs.ShownColumns.{outputs_at, shows_named}
-use Rattle.sql_meanings.proofs.Statements.{HasTable}
-use Rattle.sql_meanings.proofs.Texts.{IsSelect, only_reads, select_of}
-use Rattle.store_rows.specs.believed.BankTables.{branch}
-use Rattle.store_rows.specs.declared.texts.TheConstants.{NEXT_BRANCH}
+use Rattle.sql_meanings.proofs.{ByKey.key_at, Means.Means, Means.means, ReadTables.ReadsAs, Above.Beyond}
+use Rattle.sql_meanings.proofs.{Above.select_rising, ShownColumns.outputs_at, ShownColumns.shows_named}
+use Rattle.sql_meanings.proofs.{Statements.HasTable, Texts.IsSelect, Texts.only_reads, Texts.select_of}
+use Rattle.store_rows.specs.{believed.BankTables.branch, declared.texts.TheConstants.NEXT_BRANCH}
 use Rattle.store_rows.proofs.Getting.{keys}
 
 abbrev outputs : ℕ → List Output

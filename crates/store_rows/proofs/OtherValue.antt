@@ -1,23 +1,15 @@
 -- A value of another type in the row of the bank.
-use Rattle.std.proofs.Common.{◌≡◌, ℕ, pos, List, [], ◌∷◌, append-nil, length, inl, inr, Ok, Err, Option}
-use Rattle.std.proofs.Common.{Result, ap, ◌∙◌}
+use Rattle.std.proofs.Common.{◌≡◌, ℕ, pos, List, [], ◌∷◌, append-nil, length, inl, inr, Ok, Err, Option, Result, ap}
+use Rattle.std.proofs.Common.{◌∙◌}
 use Rattle.std.specs.Prelude.{IfErr, IfOk}
-use Rattle.sqlite.specs.Clock.{timed}
-use Rattle.sqlite.specs.Effect.{Database}
-use Rattle.sqlite.specs.Listing.{understood}
-use Rattle.sqlite.specs.Order.{Row}
+use Rattle.sqlite.specs.{Clock.timed, Effect.Database, Listing.understood, Order.Row, declared.error.Error.Error}
 use Rattle.sqlite.specs.State.{State, QueriesRow, QueriesRowInside, Begins, Shown}
-use Rattle.sqlite.specs.declared.error.Error.{Error}
 use Rattle.sql_meanings.specs.StatementAnswers.{OnlyShows}
-use Rattle.store_rows.specs.Columns.{meta_shown}
-use Rattle.store_rows.specs.Failures.{ReadsAnswer}
-use Rattle.store_rows.specs.TableAnswers.{Never, ReadsRow}
+use Rattle.store_rows.specs.{Columns.meta_shown, Failures.ReadsAnswer, TableAnswers.Never, TableAnswers.ReadsRow}
+use Rattle.store_rows.specs.{declared.fault.TableFault.TableFault, declared.metas.StoredMeta.StoredMeta}
+use Rattle.store_rows.specs.{declared.metas.TheConstants.META_ID, declared.texts.TheConstants.GET_META}
 use Rattle.store_rows.specs.Statements.{ShowsFirst, TellsOther}
-use Rattle.store_rows.specs.declared.fault.TableFault.{TableFault}
 use Rattle.store_rows.specs.declared.fault.TableFault.TheVariants.{Sqlite, Damaged}
-use Rattle.store_rows.specs.declared.metas.StoredMeta.{StoredMeta}
-use Rattle.store_rows.specs.declared.metas.TheConstants.{META_ID}
-use Rattle.store_rows.specs.declared.texts.TheConstants.{GET_META}
 use Rattle.sqlite.specs.declared.types.Value.TheVariants.{Int}
 
 untimed : (params : Row) (formats : List (List ℕ)) (now : ℕ) → formats ≡ []

@@ -1,20 +1,16 @@
 -- What each probe reports of its table.
 use Rattle.std.proofs.Common.{◌≡◌, [], ◌∷◌, lit≤, refl}
-use Rattle.sqlite.specs.Listing.{listing_schema}
-use Rattle.sqlite.specs.Term.{col}
+use Rattle.sqlite.specs.{Listing.listing_schema, Term.col}
 use Rattle.sqlite_tied.specs.Compute.{everything}
 use Rattle.sqlite_resolve.specs.Program as program
 use Rattle.sqlite_resolve.specs.Select.{ungrouped}
-use Rattle.sql_meanings.proofs.Probing.{ProbesAs}
-use Rattle.sql_meanings.proofs.Texts.{IsSelect, probes_by, select_of}
+use Rattle.sql_meanings.proofs.{Probing.ProbesAs, Texts.IsSelect, Texts.probes_by, Texts.select_of}
 use Rattle.store_rows.specs.believed.BankTables as bank
-use Rattle.store_rows.specs.Probes.{probe_of}
-use Rattle.store_rows.specs.declared.probes.BankTable.{BankTable}
-use Rattle.store_rows.specs.declared.probes.BankTable.TheVariants.{Meta, Branch, Teller, Account, History}
-use Rattle.store_rows.specs.declared.probes.BankTable.TheVariants.{Request, Floor, Reference}
-use Rattle.store_rows.specs.declared.texts.TheConstants.{PROBE_META, PROBE_BRANCH, PROBE_TELLER}
-use Rattle.store_rows.specs.declared.texts.TheConstants.{PROBE_ACCOUNT, PROBE_HISTORY, PROBE_REQUEST, PROBE_FLOOR}
-use Rattle.store_rows.specs.declared.texts.TheConstants.{PROBE_REFERENCE}
+use Rattle.store_rows.specs.{Probes.probe_of, declared.probes.BankTable.BankTable}
+use Rattle.store_rows.specs.declared.probes.BankTable.TheVariants.{Meta, Branch, Teller, Account, History, Request}
+use Rattle.store_rows.specs.declared.probes.BankTable.TheVariants.{Floor, Reference}
+use Rattle.store_rows.specs.declared.texts.TheConstants.{PROBE_META, PROBE_BRANCH, PROBE_TELLER, PROBE_ACCOUNT}
+use Rattle.store_rows.specs.declared.texts.TheConstants.{PROBE_HISTORY, PROBE_REQUEST, PROBE_FLOOR, PROBE_REFERENCE}
 
 is_meta : IsSelect bank.meta PROBE_META.now 0 (0 ∷ 1 ∷ 2 ∷ [])
 unfolding everything

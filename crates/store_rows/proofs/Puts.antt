@@ -1,23 +1,16 @@
 -- What each INSERT puts in.
 use Rattle.std.proofs.Common.{pos, [], ◌∷◌, ◌≤◌, length, lit≤, refl, List, ℕ}
-use Rattle.posting_rules.specs.declared.rows.BranchRow.{BranchRow}
-use Rattle.posting_rules.specs.declared.rows.TellerRow.{TellerRow}
-use Rattle.posting_rules.specs.declared.rows.AccountRow.{AccountRow}
-use Rattle.posting_rules.specs.declared.rows.HistoryRow.{HistoryRow}
-use Rattle.posting_rules.specs.declared.rows.RequestRow.{RequestRow}
-use Rattle.posting_rules.specs.declared.rows.FloorRow.{FloorRow}
-use Rattle.posting_rules.specs.declared.rows.ReferenceRow.{ReferenceRow}
-use Rattle.sqlite.specs.Table.{Table}
-use Rattle.sqlite.specs.declared.types.Value.TheVariants.{Null, Int}
+use Rattle.posting_rules.specs.declared.rows.{BranchRow.BranchRow, TellerRow.TellerRow, AccountRow.AccountRow}
+use Rattle.posting_rules.specs.declared.rows.{HistoryRow.HistoryRow, RequestRow.RequestRow, FloorRow.FloorRow}
+use Rattle.posting_rules.specs.declared.rows.{ReferenceRow.ReferenceRow}
+use Rattle.sqlite.specs.{Table.Table, declared.types.Value.TheVariants.Null, declared.types.Value.TheVariants.Int}
 use Rattle.sqlite_tied.specs.Compute.{everything}
 use Rattle.sql_meanings.specs.believed.Entries.{Entry}
-use Rattle.sql_meanings.proofs.PutRows.{PutsAs}
-use Rattle.sql_meanings.proofs.Texts.{puts_by}
+use Rattle.sql_meanings.proofs.{PutRows.PutsAs, Texts.puts_by}
 use Rattle.store_rows.specs.believed.BankTables as bank
-use Rattle.store_rows.specs.believed.SeveralRows.{given}
+use Rattle.store_rows.specs.{believed.SeveralRows.given, declared.metas.TheConstants.VERSION}
 use Rattle.store_rows.specs.believed.View.{meta_entry, branch_entry, teller_entry, account_entry, history_entry}
 use Rattle.store_rows.specs.believed.View.{request_entry, floor_entry, reference_entry}
-use Rattle.store_rows.specs.declared.metas.TheConstants.{VERSION}
 use Rattle.store_rows.specs.declared.texts.TheConstants as text
 use Rattle.store_rows.proofs.Checked.{meta_checked}
 

@@ -1,15 +1,12 @@
 -- What a call that failed leaves, and why it did.
 use Rattle.std.proofs.Common.{◌≢◌, ℕ, List, Option, Some, None, Result, Ok, Err, inl, inr, sym, subst}
-use Rattle.sqlite.specs.Order.{Row}
+use Rattle.sqlite.specs.{Order.Row, declared.error.Error.Error, declared.error.Error.TheVariants.QueryReturnedNoRows}
 use Rattle.sqlite.specs.State.{State, QueriesRowInside}
-use Rattle.sqlite.specs.declared.error.Error.{Error}
-use Rattle.sqlite.specs.declared.error.Error.TheVariants.{QueryReturnedNoRows}
 use Rattle.sql_meanings.specs.StatementAnswers.{ReadKept, WriteFails}
 use Rattle.sql_meanings.proofs.OnlyShowing.{kept_none}
 use Rattle.store_rows.specs.believed.Failures.{Asking}
 use Rattle.store_rows.specs.Failures.{Asks, HasReason, Looks, ReadsAnswer}
-use Rattle.store_rows.specs.declared.fault.TableFault.{TableFault}
-use Rattle.store_rows.specs.declared.fault.TableFault.TheVariants.{Sqlite, Damaged}
+use Rattle.store_rows.specs.declared.fault.TableFault.{TableFault, TheVariants.Sqlite, TheVariants.Damaged}
 
 -- a query that was made
 pub asked : (old new : State) (text : List ℕ) (params : Row) (r : Result Row Error)

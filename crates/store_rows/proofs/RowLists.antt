@@ -1,14 +1,12 @@
 -- The rows of a bank and the entries that a file holds of them.
-use Rattle.std.proofs.Common.{◌≡◌, ◌==◌, ℕ, pos, List, [], ◌∷◌, map, find, is_some, cond, nat_lt, Bool, true}
-use Rattle.std.proofs.Common.{false, Some, None, Option, option_map, Ordering, Less, Greater, int_cmp, refl}
-use Rattle.std.proofs.Common.{ap, ◌∙◌, arith}
+use Rattle.std.proofs.Common.{◌≡◌, ◌==◌, ℕ, pos, List, [], ◌∷◌, map, find, is_some, cond, nat_lt, Bool, true, false}
+use Rattle.std.proofs.Common.{Some, None, Option, option_map, Ordering, Less, Greater, int_cmp, refl, ap, ◌∙◌, arith}
 use Rattle.std.proofs.lemmas.Int.{ints}
 use Rattle.std.specs.Ordering.{int_eq, is_gt, match_ordering}
 use Rattle.sqlite.specs.Order.{Row}
-use Rattle.posting_rules.specs.believed.Tables.{row_at}
+use Rattle.posting_rules.specs.believed.{Tables.row_at, Changes.row_changed, Changes.row_put}
 use Rattle.sql_meanings.specs.believed.Entries.{Entry, has_key}
 use Rattle.sql_meanings.specs.Entries.{changed, is_above, put}
-use Rattle.posting_rules.specs.believed.Changes.{row_changed, row_put}
 
 -- two numbers are equal as a file holds them where they are
 pub same_number : (a b : ℕ) → int_eq (pos a) (pos b) ≡ (a == b)

@@ -1,36 +1,28 @@
 -- What each look-up of a row looks up.
 use Rattle.std.proofs.Common.{◌≡◌, ◌==◌, ◌&&◌, ℕ, ℤ, pos, List, [], ◌∷◌, find, map, nat_lt, slice_get, Option, Some}
 use Rattle.std.proofs.Common.{None, option_map, refl, ap, ◌∙◌}
-use Rattle.sqlite.specs.Term.{Term, col}
-use Rattle.sqlite.specs.declared.types.Value.TheVariants.{Int}
+use Rattle.sqlite.specs.{Term.Term, Term.col, declared.types.Value.TheVariants.Int}
 use Rattle.posting_rules.specs.believed.LookUps.{balance_of_account, balance_of_teller}
 use Rattle.posting_rules.specs.believed.Tables.{Tables, branch_key, floor_key, reference_key, request_key, row_at}
-use Rattle.sql_meanings.specs.believed.Entries.{Entry, has_two}
+use Rattle.sql_meanings.specs.believed.{Entries.Entry, Entries.has_two, Tables.width_of}
 use Rattle.sql_meanings.specs.Entries.{is_above}
-use Rattle.sql_meanings.specs.believed.Tables.{width_of}
-use Rattle.sql_meanings.proofs.Keyed.{Gets}
-use Rattle.sql_meanings.proofs.Texts.{only_reads}
+use Rattle.sql_meanings.proofs.{Keyed.Gets, Texts.only_reads}
 use Rattle.store_rows.specs.Columns.{balance_shown, branch_above, branch_shown, floor_shown, reference_shown}
 use Rattle.store_rows.specs.Columns.{request_in, request_shown}
 use Rattle.store_rows.specs.Forms.{balance_form, branch_form, floor_form, reference_form, request_form}
-use Rattle.store_rows.specs.Holders.{balance_in, entry_under}
+use Rattle.store_rows.specs.{Holders.balance_in, Holders.entry_under, Rules.stored_rows}
 use Rattle.store_rows.specs.believed.Rules.{StoredRows, row_under, stored_lists}
-use Rattle.store_rows.specs.Rules.{stored_rows}
-use Rattle.store_rows.specs.Stored.{balance_stored, branch_stored, floor_stored, reference_stored}
-use Rattle.store_rows.specs.Stored.{request_stored}
+use Rattle.store_rows.specs.Stored.{balance_stored, branch_stored, floor_stored, reference_stored, request_stored}
 use Rattle.store_rows.specs.believed.View.{branch_entry, floor_entry, reference_entry, request_entry}
 use Rattle.store_rows.specs.declared.holders.Member.TheVariants.{Account, Teller}
 use Rattle.store_rows.specs.declared.texts.TheConstants.{GET_ACCOUNT, GET_BRANCH, GET_FLOOR, GET_REQUEST, GET_TELLER}
 use Rattle.store_rows.specs.declared.texts.TheConstants.{GET_REFERENCE, NEXT_BRANCH}
-use Rattle.store_rows.proofs.TableKinds.{Kind, table_of}
+use Rattle.store_rows.proofs.{TableKinds.Kind, TableKinds.table_of, Getting.gets, Telling.Seeks}
 use Rattle.store_rows.proofs.GetRequest as request
-use Rattle.store_rows.proofs.Getting.{gets}
 use Rattle.store_rows.proofs.RowLists.{is_row_above, shown_by, shown_row}
 use Rattle.store_rows.proofs.NextBranch as next
-use Rattle.store_rows.proofs.StoredRows.{branch_project, floor_project, key_and_number, key_and_text}
-use Rattle.store_rows.proofs.StoredRows.{one_number, reference_project, stored_next, stored_request}
-use Rattle.store_rows.proofs.StoredRows.{stored_under, two_numbers}
-use Rattle.store_rows.proofs.Telling.{Seeks}
+use Rattle.store_rows.proofs.StoredRows.{branch_project, floor_project, key_and_number, key_and_text, one_number}
+use Rattle.store_rows.proofs.StoredRows.{reference_project, stored_next, stored_request, stored_under, two_numbers}
 use Rattle.store_rows.proofs.TheTables.{accounts, branches, floors, references, tellers}
 
 -- ---- a balance under a key

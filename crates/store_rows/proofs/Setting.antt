@@ -5,13 +5,10 @@ use Rattle.sqlite.specs.declared.types.Value.TheVariants.{Null, Int}
 use Rattle.sqlite_tied.specs.Compute.{everything}
 use Rattle.sqlite_resolve.specs.Program as program
 use Rattle.sql_meanings.specs.believed.Entries.{Entry, numbers, stored}
-use Rattle.sql_meanings.proofs.Keyed.{sets_by}
-use Rattle.sql_meanings.proofs.SetRows.{ChangesAs}
+use Rattle.sql_meanings.proofs.{Keyed.sets_by, SetRows.ChangesAs}
 use Rattle.store_rows.specs.believed.BankTables as bank
-use Rattle.store_rows.specs.declared.texts.TheConstants.{SET_META, SET_BRANCH, SET_TELLER}
-use Rattle.store_rows.specs.declared.texts.TheConstants.{SET_ACCOUNT, SET_VERSION}
-use Rattle.store_rows.proofs.Checked.{meta_checked}
-use Rattle.store_rows.proofs.Getting.{keys}
+use Rattle.store_rows.specs.declared.texts.TheConstants.{SET_META, SET_BRANCH, SET_TELLER, SET_ACCOUNT, SET_VERSION}
+use Rattle.store_rows.proofs.{Checked.meta_checked, Getting.keys}
 
 -- ---- the one number after the key
 

@@ -1,45 +1,28 @@
 -- What an INSERT of several rows leaves of the tables.
-use Rattle.std.proofs.Common.{◌≡◌, ◌≤◌, ◌||◌, ℕ, pos, List, [], ◌∷◌, map, find, is_some, cond, nat_lt, Bool}
-use Rattle.std.proofs.Common.{true, false, ℤ, Ok, Err, Result, Less, int_cmp, refl, sym, ap, subst, ◌∙◌, inl, inr}
+use Rattle.std.proofs.Common.{◌≡◌, ◌≤◌, ◌||◌, ℕ, pos, List, [], ◌∷◌, map, find, is_some, cond, nat_lt, Bool, true}
+use Rattle.std.proofs.Common.{false, ℤ, Ok, Err, Result, Less, int_cmp, refl, sym, ap, subst, ◌∙◌, inl, inr}
 use Rattle.std.specs.List.{AllByRecursion, flat_map}
 use Rattle.std.proofs.lemmas.Bool.{cases_Bool}
-use Rattle.sqlite.specs.Effect.{Database}
-use Rattle.sqlite.specs.Order.{Row}
-use Rattle.sqlite.specs.Schema.{Schema}
+use Rattle.sqlite.specs.{Effect.Database, Order.Row, Schema.Schema, Table.Table, declared.error.Error.Error}
+use Rattle.sqlite.specs.{declared.transaction.Transaction.Transaction, declared.types.Value.TheVariants.Int}
 use Rattle.sqlite.specs.State.{State, ExecutesInside}
-use Rattle.sqlite.specs.Table.{Table}
-use Rattle.sqlite.specs.declared.error.Error.{Error}
-use Rattle.sqlite.specs.declared.transaction.Transaction.{Transaction}
-use Rattle.sqlite.specs.declared.types.Value.TheVariants.{Int}
 use Rattle.sqlite_rules.specs.Lists.{Has}
 use Rattle.sqlite_sql.specs.Ops.{fits_i64}
 use Rattle.sqlite_trees.specs.declared.store.Store.{Ghosts}
-use Rattle.posting_rules.specs.believed.Changes.{row_put}
-use Rattle.posting_rules.specs.believed.Tables.{Tables, row_at}
+use Rattle.posting_rules.specs.believed.{Changes.row_put, Tables.Tables, Tables.row_at}
 use Rattle.sql_meanings.specs.believed.Entries.{Entry, Rise, has_key}
-use Rattle.sql_meanings.specs.Entries.{put}
+use Rattle.sql_meanings.specs.{Entries.put, StatementAnswers.Forbids, believed.Tables.Holds}
 use Rattle.sql_meanings.specs.SeveralRows.{put_each, meets_key as entries_meet}
-use Rattle.sql_meanings.specs.StatementAnswers.{Forbids}
-use Rattle.sql_meanings.specs.believed.Tables.{Holds}
-use Rattle.sql_meanings.proofs.EntryLists.{rise_put}
-use Rattle.sql_meanings.proofs.PutFailures.{refuses_rows}
+use Rattle.sql_meanings.proofs.{EntryLists.rise_put, PutFailures.refuses_rows, SeveralRows.IsKey, TableWrites.Leaves}
 use Rattle.sql_meanings.proofs.PutRows.{PutsEachAs, puts_rows}
-use Rattle.sql_meanings.proofs.SeveralRows.{IsKey}
-use Rattle.sql_meanings.proofs.TableWrites.{Leaves}
-use Rattle.store_rows.specs.believed.Failures.{inserts}
-use Rattle.store_rows.specs.Faults.{added}
-use Rattle.store_rows.specs.believed.SeveralRows.{given}
+use Rattle.store_rows.specs.{believed.Failures.inserts, Faults.added, believed.SeveralRows.given, Statements.PutsRow}
+use Rattle.store_rows.specs.{TableAnswers.PutsOneRow, TableAnswers.IsForbidden, believed.View.Shows}
+use Rattle.store_rows.specs.{declared.fault.TableFault.TableFault, declared.statements.TheConstants.MAX_KEY}
 use Rattle.store_rows.specs.SeveralRows.{AddsRows, meets_key, with_each}
-use Rattle.store_rows.specs.Statements.{PutsRow}
-use Rattle.store_rows.specs.TableAnswers.{PutsOneRow, IsForbidden}
-use Rattle.store_rows.specs.believed.View.{Shows}
-use Rattle.store_rows.specs.declared.fault.TableFault.{TableFault}
-use Rattle.store_rows.specs.declared.statements.TheConstants.{MAX_KEY}
 use Rattle.store_rows.proofs.Failing.{adds_err, forbidden, key_fits, taken_falls}
-use Rattle.store_rows.proofs.RowLists.{put_rows, taken_row_key}
+use Rattle.store_rows.proofs.{RowLists.put_rows, RowLists.taken_row_key, Telling.tells_tables}
 use Rattle.store_rows.proofs.SparedTexts.{Spares, spared_put}
 use Rattle.store_rows.proofs.TableKinds.{Kind, holds, shows_rows, table_of, written}
-use Rattle.store_rows.proofs.Telling.{tells_tables}
 
 -- ---- lists of rows
 

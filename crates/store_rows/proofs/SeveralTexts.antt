@@ -1,17 +1,13 @@
 -- What each INSERT of eight rows puts in.
 use Rattle.std.proofs.Common.{[], ◌∷◌, map, lit≤, refl, List, ℕ}
 use Rattle.std.specs.List.{AllByRecursion, flat_map}
-use Rattle.posting_rules.specs.declared.rows.HistoryRow.{HistoryRow}
-use Rattle.posting_rules.specs.declared.rows.RequestRow.{RequestRow}
+use Rattle.posting_rules.specs.declared.rows.{HistoryRow.HistoryRow, RequestRow.RequestRow}
 use Rattle.sqlite.specs.Table.{Table}
 use Rattle.sqlite_tied.specs.Compute.{everything}
 use Rattle.sql_meanings.specs.believed.Entries.{Entry}
-use Rattle.sql_meanings.proofs.PutRows.{PutsEachAs}
-use Rattle.sql_meanings.proofs.SeveralRows.{IsRowOf}
-use Rattle.sql_meanings.proofs.Texts.{each_terms, puts_each_by}
+use Rattle.sql_meanings.proofs.{PutRows.PutsEachAs, SeveralRows.IsRowOf, Texts.each_terms, Texts.puts_each_by}
 use Rattle.store_rows.specs.believed.BankTables as bank
-use Rattle.store_rows.specs.believed.SeveralRows.{given}
-use Rattle.store_rows.specs.believed.View.{history_entry, request_entry}
+use Rattle.store_rows.specs.believed.{SeveralRows.given, View.history_entry, View.request_entry}
 use Rattle.store_rows.specs.declared.texts.TheConstants as text
 
 -- with the values of these rows the text puts them in

@@ -1,29 +1,21 @@
 -- What each INSERT of eight rows leaves of the tables, by the values that are handed in.
 use Rattle.std.proofs.Common.{◌≡◌, ◌≤◌, ◌++◌, ℕ, List, [], ◌∷◌, map, length, get_or, is_some, Bool, Result, refl, ap}
-use Rattle.std.proofs.Common.{◌∙◌, inl, inr, pos}
-use Rattle.std.proofs.Common.{arith}
+use Rattle.std.proofs.Common.{◌∙◌, inl, inr, pos, arith}
 use Rattle.std.specs.List.{AllByRecursion, flat_map}
 use Rattle.std.proofs.lemmas.List.{map-append}
-use Rattle.sqlite.specs.Table.{Table}
-use Rattle.sqlite.specs.Values.{bound}
-use Rattle.sqlite.specs.declared.transaction.Transaction.{Transaction}
-use Rattle.sqlite.specs.declared.types.ValueRef.{ValueRef}
+use Rattle.sqlite.specs.{Table.Table, Values.bound, declared.transaction.Transaction.Transaction}
+use Rattle.sqlite.specs.{declared.types.ValueRef.ValueRef}
 use Rattle.sqlite_trees.specs.declared.store.Store.{Ghosts}
 use Rattle.posting_rules.specs.believed.Changes.{with_history, with_request}
 use Rattle.posting_rules.specs.believed.Tables.{Tables, history_key, request_key, row_at}
 use Rattle.sql_meanings.specs.believed.Entries.{Entry}
 use Rattle.store_rows.specs.believed.BankTables as bank
-use Rattle.store_rows.specs.believed.SeveralRows.{given}
-use Rattle.store_rows.specs.SeveralRows.{AddsRows}
-use Rattle.store_rows.specs.Statements.{PutsRow}
+use Rattle.store_rows.specs.{believed.SeveralRows.given, SeveralRows.AddsRows, Statements.PutsRow}
+use Rattle.store_rows.specs.{declared.fault.TableFault.TableFault, declared.statements.TheConstants.MAX_KEY}
 use Rattle.store_rows.specs.believed.View.{history_entry, request_entry}
-use Rattle.store_rows.specs.declared.fault.TableFault.{TableFault}
-use Rattle.store_rows.specs.declared.statements.TheConstants.{MAX_KEY}
 use Rattle.store_rows.specs.declared.texts.TheConstants as text
-use Rattle.store_rows.proofs.SeveralRows.{puts_several}
+use Rattle.store_rows.proofs.{SeveralRows.puts_several, SparedTexts.spares, TheTables.history, TheTables.requests}
 use Rattle.store_rows.proofs.SeveralTexts.{eight_postings, eight_requests}
-use Rattle.store_rows.proofs.SparedTexts.{spares}
-use Rattle.store_rows.proofs.TheTables.{history, requests}
 
 -- ---- the rows and their values
 

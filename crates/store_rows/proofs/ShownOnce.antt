@@ -1,28 +1,17 @@
 -- Trees show one bank at most, and who opens on them finds it.
 use Rattle.std.proofs.Common.{◌++◌, ◌≡◌, ℕ, ℤ, pos, nat_abs, List, [], ◌∷◌, map, refl, sym, ap, subst, ◌∙◌}
 use Rattle.std.specs.Prelude.{slice_index_or}
-use Rattle.sqlite.specs.Order.{Row}
-use Rattle.sqlite.specs.declared.types.Value.{Value}
+use Rattle.sqlite.specs.{Order.Row, declared.types.Value.Value, Table.Table, Tree.Trees}
 use Rattle.sqlite.specs.declared.types.Value.TheVariants.{Null, Int, Real, Text, Blob}
-use Rattle.sqlite.specs.Table.{Table}
-use Rattle.sqlite.specs.Tree.{Trees}
 use Rattle.sqlite.specs.Effect.{Database, IsDatabase}
-use Rattle.posting_rules.specs.believed.Tables.{Tables}
-use Rattle.posting_rules.specs.declared.rows.BranchRow.{BranchRow}
-use Rattle.posting_rules.specs.declared.rows.TellerRow.{TellerRow}
-use Rattle.posting_rules.specs.declared.rows.AccountRow.{AccountRow}
-use Rattle.posting_rules.specs.declared.rows.HistoryRow.{HistoryRow}
-use Rattle.posting_rules.specs.declared.rows.RequestRow.{RequestRow}
-use Rattle.posting_rules.specs.declared.rows.FloorRow.{FloorRow}
-use Rattle.posting_rules.specs.declared.rows.ReferenceRow.{ReferenceRow}
+use Rattle.posting_rules.specs.{believed.Tables.Tables, declared.rows.BranchRow.BranchRow}
+use Rattle.posting_rules.specs.declared.rows.{TellerRow.TellerRow, AccountRow.AccountRow, HistoryRow.HistoryRow}
+use Rattle.posting_rules.specs.declared.rows.{RequestRow.RequestRow, FloorRow.FloorRow, ReferenceRow.ReferenceRow}
 use Rattle.sql_meanings.specs.believed.Entries.{Entry, numbers, texts_held, stored}
-use Rattle.sql_meanings.specs.believed.Tables.{Holds}
-use Rattle.sql_meanings.specs.believed.Contents.{HoldsEach}
+use Rattle.sql_meanings.specs.believed.{Tables.Holds, Contents.HoldsEach}
 use Rattle.sql_meanings.proofs.Trees.{same_schema}
-use Rattle.store_rows.specs.believed.BankTables.{bank_tables}
-use Rattle.store_rows.specs.Creation.{new_tables}
+use Rattle.store_rows.specs.{believed.BankTables.bank_tables, Creation.new_tables, View.contents}
 use Rattle.store_rows.specs.believed.View.{Shows, ShowsTrees, branch_entry, teller_entry, account_entry}
-use Rattle.store_rows.specs.View.{contents}
 use Rattle.store_rows.specs.believed.View.{history_entry, request_entry, floor_entry, reference_entry}
 use Rattle.store_rows.proofs.KeptRows.{decode, decoded}
 

@@ -1,22 +1,16 @@
 -- What each text that writes leaves of the tables of other products, whatever file it runs on.
 use Rattle.std.proofs.Common.{◌≡◌, ℕ, List, [], ◌∷◌, Bool, true, false, Ok, Err, Result, refl, cond}
-use Rattle.std.specs.Prelude.{OnOk}
-use Rattle.std.specs.List.{AllByRecursion}
-use Rattle.sqlite.specs.Order.{Row}
-use Rattle.sqlite.specs.Schema.{Schema}
+use Rattle.std.specs.{Prelude.OnOk, List.AllByRecursion}
+use Rattle.sqlite.specs.{Order.Row, Schema.Schema, Table.Table, declared.error.Error.Error}
 use Rattle.sqlite.specs.State.{State, Executes}
-use Rattle.sqlite.specs.Table.{Table}
-use Rattle.sqlite.specs.declared.error.Error.{Error}
 use Rattle.sqlite_tied.specs.Compute.{everything}
 use Rattle.sql_meanings.specs.believed.Sparing.{IsNot, SparesAllBut, sequence_name}
 use Rattle.sql_meanings.specs.believed.StatementAnswers.{is_taken_key}
 use Rattle.sql_meanings.proofs.Sparing.{IsInsertInto, IsUpdateOf, insert_leaves, insert_of, spares_more}
 use Rattle.sql_meanings.proofs.Sparing.{update_leaves, update_of}
 use Rattle.store_rows.specs.believed.BankTables as bank
-use Rattle.store_rows.specs.believed.Sparing.{SparesOthers, bank_names}
-use Rattle.store_rows.specs.Sparing.{SparesIfOk}
-use Rattle.store_rows.specs.Statements.{MeetsOne, PutsIn}
-use Rattle.store_rows.specs.declared.fault.TableFault.{TableFault}
+use Rattle.store_rows.specs.{believed.Sparing.SparesOthers, believed.Sparing.bank_names, Sparing.SparesIfOk}
+use Rattle.store_rows.specs.{Statements.MeetsOne, Statements.PutsIn, declared.fault.TableFault.TableFault}
 use Rattle.store_rows.specs.declared.fault.TableFault.TheVariants.{Sqlite, Damaged}
 use Rattle.store_rows.specs.declared.texts.TheConstants as text
 use Rattle.posting_rules.specs.declared.fault.Rule.TheVariants.{Key}

@@ -1,20 +1,14 @@
 -- What is kept of a stored request, whatever numbers its row has.
-use Rattle.std.proofs.Common.{◌≡◌, pos, Bool, true, false, cond, ℕ, ℤ, Some, None, Ok, Err, refl, sym, ap}
-use Rattle.std.proofs.Common.{subst, ◌∙◌}
+use Rattle.std.proofs.Common.{◌≡◌, pos, Bool, true, false, cond, ℕ, ℤ, Some, None, Ok, Err, refl, sym, ap, subst, ◌∙◌}
 use Rattle.std.specs.Option.{ok_or}
 use Rattle.sqlite.specs.Order.{Row, column}
-use Rattle.message_records.specs.believed.Outcomes.{code_of}
+use Rattle.message_records.specs.{believed.Outcomes.code_of, declared.records.Outcome.Outcome}
 use Rattle.message_records.specs.declared.limits.TheConstants.{MAX_ACCOUNT, MAX_BRANCH}
-use Rattle.message_records.specs.declared.records.Outcome.{Outcome}
 use Rattle.posting_rules.specs.believed.Kept.{DecisionFields, is_kept_with}
-use Rattle.posting_rules.specs.Kept.{decision_from}
-use Rattle.posting_rules.specs.declared.fault.Rule.TheVariants.{Request}
-use Rattle.store_rows.specs.believed.Columns.{number_at}
+use Rattle.posting_rules.specs.{Kept.decision_from, declared.fault.Rule.TheVariants.Request}
+use Rattle.store_rows.specs.{believed.Columns.number_at, believed.Rules.RequestKeeps, believed.Stored.IsDecision}
+use Rattle.store_rows.specs.{Stored.ReadsStored, Stored.request_stored, declared.fault.TableFault.TableFault}
 use Rattle.store_rows.specs.TableAnswers.{ReadsCents, ReadsOutcome, ReadsWhole}
-use Rattle.store_rows.specs.believed.Rules.{RequestKeeps}
-use Rattle.store_rows.specs.believed.Stored.{IsDecision}
-use Rattle.store_rows.specs.Stored.{ReadsStored, request_stored}
-use Rattle.store_rows.specs.declared.fault.TableFault.{TableFault}
 use Rattle.store_rows.specs.declared.fault.TableFault.TheVariants.{Sqlite, Damaged}
 use Rattle.store_rows.proofs.KeptRows.{same_outcome}
 

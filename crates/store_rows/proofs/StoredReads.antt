@@ -1,6 +1,6 @@
 -- What was made of a stored row, whatever values it has, and which rule it breaks.
-use Rattle.std.proofs.Common.{◌≡◌, ◌≤◌, ℕ, ℤ, List, leb, true, None}
-use Rattle.std.proofs.Common.{Result, Ok, Err, refl, sym, subst, ap, ◌∙◌, arith}
+use Rattle.std.proofs.Common.{◌≡◌, ◌≤◌, ℕ, ℤ, List, leb, true, None, Result, Ok, Err, refl, sym, subst, ap, ◌∙◌}
+use Rattle.std.proofs.Common.{arith}
 use Rattle.std.specs.Prelude.{nat_abs, ◌&&◌}
 use Rattle.std.proofs.lemmas.Bool.Decides.{nat_tests}
 use Rattle.sqlite.specs.Order.{Row, column}
@@ -8,16 +8,12 @@ use Rattle.sqlite.specs.declared.types.Value.TheVariants.{Int, Text}
 use Rattle.message_records.specs.believed.Ranges.{cents_within, whole_within}
 use Rattle.message_records.specs.believed.Records.{IsReference, is_reference, reference_from}
 use Rattle.message_records.specs.declared.limits.TheConstants.{MAX_BALANCE}
-use Rattle.posting_rules.specs.declared.fault.Rule.{Rule}
-use Rattle.posting_rules.specs.declared.fault.Rule.TheVariants.{Balance, Reference}
+use Rattle.posting_rules.specs.declared.fault.Rule.{Rule, TheVariants.Balance, TheVariants.Reference}
 use Rattle.sql_meanings.specs.believed.Entries.{Entry}
-use Rattle.store_rows.specs.believed.Columns.{number_at}
+use Rattle.store_rows.specs.believed.{Columns.number_at, Rules.IsFrom, Stored.BalanceKeeps, Stored.IsBalance}
 use Rattle.store_rows.specs.TableAnswers.{ReadsCents, ReadsReference, ReadsWhole}
-use Rattle.store_rows.specs.believed.Rules.{IsFrom}
-use Rattle.store_rows.specs.believed.Stored.{BalanceKeeps, IsBalance}
 use Rattle.store_rows.specs.Stored.{ReadsStored, balance_stored}
-use Rattle.store_rows.specs.declared.fault.TableFault.{TableFault}
-use Rattle.store_rows.specs.declared.fault.TableFault.TheVariants.{Sqlite, Damaged}
+use Rattle.store_rows.specs.declared.fault.TableFault.{TableFault, TheVariants.Sqlite, TheVariants.Damaged}
 
 -- ---- numbers and amounts in their ranges
 

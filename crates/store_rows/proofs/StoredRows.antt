@@ -1,31 +1,19 @@
 -- What each look-up reports of the rows that a file holds, whatever numbers they have.
-use Rattle.std.proofs.Common.{◌≡◌, ◌<◌, ℕ, pos, List, [], ◌∷◌, find, length, slice_get, Bool}
-use Rattle.std.proofs.Common.{Some, None, Option, option_map, Result, refl, sym, ap, subst, arith}
+use Rattle.std.proofs.Common.{◌≡◌, ◌<◌, ℕ, pos, List, [], ◌∷◌, find, length, slice_get, Bool, Some, None, Option}
+use Rattle.std.proofs.Common.{option_map, Result, refl, sym, ap, subst, arith}
 use Rattle.std.specs.List.{AllByRecursion}
-use Rattle.sqlite.specs.Effect.{Database}
-use Rattle.sqlite.specs.Order.{Row}
-use Rattle.sqlite.specs.State.{State, QueriesRowInside}
-use Rattle.sqlite.specs.Table.{Table}
-use Rattle.sqlite.specs.Term.{Term, col, eval_all}
-use Rattle.sqlite.specs.declared.error.Error.{Error}
-use Rattle.sqlite.specs.declared.types.Value.TheVariants.{Int}
+use Rattle.sqlite.specs.{Effect.Database, Order.Row, State.State, State.QueriesRowInside, Table.Table, Term.Term}
+use Rattle.sqlite.specs.{Term.col, Term.eval_all, declared.error.Error.Error, declared.types.Value.TheVariants.Int}
 use Rattle.posting_rules.specs.believed.Tables.{Tables}
 use Rattle.sql_meanings.specs.believed.Entries.{Entry, HasWidth, has_key, has_two, stored}
-use Rattle.sql_meanings.specs.Entries.{is_above}
-use Rattle.sql_meanings.specs.StatementAnswers.{TellsRow}
-use Rattle.sql_meanings.specs.Queries.{by_key}
+use Rattle.sql_meanings.specs.{Entries.is_above, StatementAnswers.TellsRow, Queries.by_key}
 use Rattle.sql_meanings.specs.believed.Tables.{Holds, width_of}
-use Rattle.sql_meanings.proofs.Changes.{found_all}
-use Rattle.sql_meanings.proofs.Contents.{held}
+use Rattle.sql_meanings.proofs.{Changes.found_all, Contents.held, ReadTables.ReadsAs}
 use Rattle.sql_meanings.proofs.ReadRows.{reads_key, reads_next, reads_two}
-use Rattle.sql_meanings.proofs.ReadTables.{ReadsAs}
 use Rattle.store_rows.specs.believed.Rules.{HoldsBank, StoredRows, row_under, stored_lists}
-use Rattle.store_rows.specs.Rules.{stored_rows}
+use Rattle.store_rows.specs.{Rules.stored_rows, believed.BankTables.bank_tables, believed.View.Shows}
 use Rattle.store_rows.specs.believed.BankTables as bank
-use Rattle.store_rows.specs.believed.BankTables.{bank_tables}
-use Rattle.store_rows.specs.Stored.{balance_stored, branch_stored, floor_stored, reference_stored}
-use Rattle.store_rows.specs.Stored.{request_stored}
-use Rattle.store_rows.specs.believed.View.{Shows}
+use Rattle.store_rows.specs.Stored.{balance_stored, branch_stored, floor_stored, reference_stored, request_stored}
 use Rattle.store_rows.specs.declared.texts.TheConstants.{GET_REQUEST, NEXT_BRANCH}
 use Rattle.store_rows.proofs.ShownValues.{number_shown, text_shown}
 use Rattle.store_rows.proofs.GetRequest as request

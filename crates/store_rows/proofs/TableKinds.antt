@@ -1,42 +1,25 @@
 -- The tables of the bank, each with its typed rows: what a statement on one of them leaves is said once for
 -- all.
-use Rattle.std.proofs.Common.{◌++◌, ◌+◌, length, ◌≡◌, ℕ, ◌≤◌, pos, Bool, true, cond, nat_eq, is_some, List}
-use Rattle.std.proofs.Common.{[], ◌∷◌, map, find}
-use Rattle.std.proofs.Common.{slice_get, slice_set, Some, Option, Ok, Err, Result, refl, sym, ap}
-use Rattle.std.proofs.Common.{subst, ◌∙◌}
-use Rattle.sqlite.specs.Order.{Row}
-use Rattle.sqlite.specs.Effect.{Database}
-use Rattle.sqlite.specs.State.{State, ExecutesInside}
-use Rattle.sqlite.specs.Table.{Table}
-use Rattle.sqlite.specs.declared.error.Error.{Error}
-use Rattle.sqlite.specs.declared.types.Value.TheVariants.{Int}
+use Rattle.std.proofs.Common.{◌++◌, ◌+◌, length, ◌≡◌, ℕ, ◌≤◌, pos, Bool, true, cond, nat_eq, is_some, List, [], ◌∷◌}
+use Rattle.std.proofs.Common.{map, find, slice_get, slice_set, Some, Option, Ok, Err, Result, refl, sym, ap, subst}
+use Rattle.std.proofs.Common.{◌∙◌}
+use Rattle.sqlite.specs.{Order.Row, Effect.Database, State.State, State.ExecutesInside, Table.Table}
+use Rattle.sqlite.specs.{declared.error.Error.Error, declared.types.Value.TheVariants.Int}
 use Rattle.sqlite_sql.specs.Ops.{fits_i64}
-use Rattle.posting_rules.specs.believed.Changes.{row_changed, row_put}
-use Rattle.posting_rules.specs.believed.Tables.{Tables, row_at}
-use Rattle.sql_meanings.specs.believed.Contents.{HoldsEach}
-use Rattle.sql_meanings.specs.believed.Entries.{Entry, has_key}
-use Rattle.sql_meanings.specs.Entries.{changed}
-use Rattle.sql_meanings.specs.StatementAnswers.{Forbids}
+use Rattle.posting_rules.specs.believed.{Changes.row_changed, Changes.row_put, Tables.Tables, Tables.row_at}
+use Rattle.sql_meanings.specs.{believed.Contents.HoldsEach, Entries.changed, StatementAnswers.Forbids}
+use Rattle.sql_meanings.specs.believed.{Entries.Entry, Entries.has_key, Tables.Holds, Tables.width_of}
 use Rattle.sql_meanings.specs.believed.Plain.{key_column, number_column, text_column}
-use Rattle.sql_meanings.specs.believed.Tables.{Holds, width_of}
-use Rattle.sql_meanings.proofs.Contents.{held, one_written}
-use Rattle.sql_meanings.proofs.Failures.{set_fails_as}
-use Rattle.sql_meanings.proofs.PutFailures.{refuses_insert}
-use Rattle.sql_meanings.proofs.PutRows.{PutsAs, puts_row}
-use Rattle.sql_meanings.proofs.SetFailures.{refuses_update}
-use Rattle.sql_meanings.proofs.SetRows.{ChangesAs, sets_row}
+use Rattle.sql_meanings.proofs.{Contents.held, Contents.one_written, Failures.set_fails_as}
+use Rattle.sql_meanings.proofs.{PutFailures.refuses_insert, PutRows.PutsAs, PutRows.puts_row}
+use Rattle.sql_meanings.proofs.{SetFailures.refuses_update, SetRows.ChangesAs, SetRows.sets_row, Writing.uncounted}
 use Rattle.sql_meanings.proofs.TableWrites.{IsPlain, Leaves, spares_standing}
-use Rattle.sql_meanings.proofs.Writing.{uncounted}
-use Rattle.store_rows.specs.Faults.{added}
+use Rattle.store_rows.specs.{Faults.added, believed.BankTables.bank_tables, Statements.MeetsOne, believed.View.Shows}
+use Rattle.store_rows.specs.{View.contents, declared.statements.TheConstants.MAX_KEY}
 use Rattle.store_rows.specs.TableAnswers.{PutsOneRow, IsForbidden, SetsRow}
-use Rattle.store_rows.specs.believed.BankTables.{bank_tables}
-use Rattle.store_rows.specs.Statements.{MeetsOne}
-use Rattle.store_rows.specs.believed.View.{Shows}
-use Rattle.store_rows.specs.View.{contents}
 use Rattle.store_rows.proofs.Failing.{adds_err, forbidden, forbidden_put, key_fits}
 use Rattle.store_rows.proofs.Lookups.{one_written as one_met}
 use Rattle.store_rows.proofs.RowLists.{changed_rows, put_rows, taken_row_key}
-use Rattle.store_rows.specs.declared.statements.TheConstants.{MAX_KEY}
 
 -- a table of the bank: its place among them, and how a file holds its rows
 pub record Kind (R : Type 0) : Type 0 where

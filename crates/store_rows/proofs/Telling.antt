@@ -1,28 +1,16 @@
 -- What a call reports of the tables, by the statement that was run.
 use Rattle.std.proofs.Common.{◌≡◌, ℕ, List, Option, option_map, Result, subst}
-use Rattle.sqlite.specs.Listing.{understood}
-use Rattle.sqlite.specs.Order.{Row}
-use Rattle.sqlite.specs.Schema.{Schema}
-use Rattle.sqlite.specs.State.{State, QueriesRowInside}
-use Rattle.sqlite.specs.declared.error.Error.{Error}
-use Rattle.sqlite.specs.declared.transaction.Transaction.{Transaction}
+use Rattle.sqlite.specs.{Listing.understood, Order.Row, Schema.Schema, State.State, State.QueriesRowInside}
+use Rattle.sqlite.specs.{declared.error.Error.Error, declared.transaction.Transaction.Transaction}
 use Rattle.sqlite_trees.specs.declared.store.Store.{Ghosts}
 use Rattle.posting_rules.specs.believed.Tables.{Tables}
-use Rattle.sql_meanings.specs.Calls.{Inside, Says}
-use Rattle.sql_meanings.specs.believed.Entries.{Entry}
+use Rattle.sql_meanings.specs.{Calls.Inside, Calls.Says, believed.Entries.Entry}
 use Rattle.sql_meanings.specs.StatementAnswers.{OnlyShows, TellsRow}
-use Rattle.store_rows.specs.Calls.{LooksUp, OfTables}
+use Rattle.store_rows.specs.{Calls.LooksUp, Calls.OfTables, Forms.Form, TableAnswers.ReadsRow, Rules.stored_rows}
+use Rattle.store_rows.specs.{Stored.ReadsStored, believed.View.Shows, declared.fault.TableFault.TableFault}
 use Rattle.store_rows.specs.Failures.{Asks, ReadsAnswer}
-use Rattle.store_rows.specs.Forms.{Form}
-use Rattle.store_rows.specs.TableAnswers.{ReadsRow}
 use Rattle.store_rows.specs.believed.Rules.{HoldsBank, StoredRows}
-use Rattle.store_rows.specs.Rules.{stored_rows}
-use Rattle.store_rows.specs.Stored.{ReadsStored}
-use Rattle.store_rows.specs.believed.View.{Shows}
-use Rattle.store_rows.specs.declared.fault.TableFault.{TableFault}
-use Rattle.store_rows.proofs.FoundRows.{finds, stores}
-use Rattle.store_rows.proofs.Reasons.{looks}
-use Rattle.store_rows.proofs.StoredRows.{holds_shown}
+use Rattle.store_rows.proofs.{FoundRows.finds, FoundRows.stores, Reasons.looks, StoredRows.holds_shown}
 
 -- with these values the text looks up this of the rows that are held, which is what is wanted of the tables that
 -- are shown

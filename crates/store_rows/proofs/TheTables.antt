@@ -1,19 +1,13 @@
 -- The tables of the bank that have typed rows, each with these.
 use Rattle.std.proofs.Common.{[], ◌∷◌, codes, lit≤, refl}
 use Rattle.posting_rules.specs.believed.Tables.{branch_key, teller_key, account_key, history_key, request_key}
-use Rattle.posting_rules.specs.believed.Tables.{floor_key}
-use Rattle.posting_rules.specs.believed.Tables.{reference_key}
-use Rattle.posting_rules.specs.declared.rows.BranchRow.{BranchRow}
-use Rattle.posting_rules.specs.declared.rows.TellerRow.{TellerRow}
-use Rattle.posting_rules.specs.declared.rows.AccountRow.{AccountRow}
-use Rattle.posting_rules.specs.declared.rows.HistoryRow.{HistoryRow}
-use Rattle.posting_rules.specs.declared.rows.RequestRow.{RequestRow}
-use Rattle.posting_rules.specs.declared.rows.FloorRow.{FloorRow}
-use Rattle.posting_rules.specs.declared.rows.ReferenceRow.{ReferenceRow}
+use Rattle.posting_rules.specs.believed.Tables.{floor_key, reference_key}
+use Rattle.posting_rules.specs.declared.rows.{BranchRow.BranchRow, TellerRow.TellerRow, AccountRow.AccountRow}
+use Rattle.posting_rules.specs.declared.rows.{HistoryRow.HistoryRow, RequestRow.RequestRow, FloorRow.FloorRow}
+use Rattle.posting_rules.specs.declared.rows.{ReferenceRow.ReferenceRow}
 use Rattle.store_rows.specs.believed.BankTables as bank
 use Rattle.store_rows.specs.believed.View.{branch_entry, teller_entry, account_entry, history_entry, request_entry}
-use Rattle.store_rows.specs.believed.View.{floor_entry}
-use Rattle.store_rows.specs.believed.View.{reference_entry}
+use Rattle.store_rows.specs.believed.View.{floor_entry, reference_entry}
 use Rattle.store_rows.proofs.TableKinds.{Kind, kind_of}
 
 -- the branches

@@ -2,29 +2,20 @@
 use Rattle.std.proofs.Common.{◌≡◌, ℕ, ℤ, pos, Bool, nat_eq, List, [], ◌∷◌, find, is_some, Some, None, Option}
 use Rattle.std.proofs.Common.{option_map, Ok, Err, Result, lit≤, refl, ◌∙◌}
 use Rattle.sqlite.specs.State.{State, ExecutesInside}
-use Rattle.sqlite.specs.declared.error.Error.{Error}
-use Rattle.sqlite.specs.declared.types.Value.TheVariants.{Int}
+use Rattle.sqlite.specs.declared.{error.Error.Error, types.Value.TheVariants.Int}
 use Rattle.posting_rules.specs.believed.Tables.{Tables}
-use Rattle.sql_meanings.specs.believed.Entries.{Entry, has_key}
+use Rattle.sql_meanings.specs.believed.{Entries.Entry, Entries.has_key, Tables.Holds}
 use Rattle.sql_meanings.specs.Making.{SparesStanding}
 use Rattle.sql_meanings.specs.StatementAnswers.{Forbids, GoesOn, SetFails}
-use Rattle.sql_meanings.specs.believed.Tables.{Holds}
-use Rattle.sql_meanings.proofs.Contents.{held}
-use Rattle.sql_meanings.proofs.SetFailures.{refuses_update}
-use Rattle.sql_meanings.proofs.SetRows.{sets_row}
-use Rattle.sql_meanings.proofs.TableWrites.{spares_standing}
+use Rattle.sql_meanings.proofs.{Contents.held, SetFailures.refuses_update, SetRows.sets_row}
+use Rattle.sql_meanings.proofs.{TableWrites.spares_standing}
 use Rattle.store_rows.specs.believed.BankTables as bank
-use Rattle.store_rows.specs.believed.BankTables.{bank_tables}
+use Rattle.store_rows.specs.{believed.BankTables.bank_tables, Migration.HoldsTables, Migration.SetsVersion}
+use Rattle.store_rows.specs.{Statements.MeetsOne, believed.View.meta_entry, believed.View.rows_of, View.HoldsRows}
+use Rattle.store_rows.specs.{declared.metas.TheConstants.META_ID, declared.texts.TheConstants.SET_VERSION}
 use Rattle.store_rows.specs.believed.Columns.{meta_in, meta_numbers}
-use Rattle.store_rows.specs.Migration.{HoldsTables, SetsVersion}
-use Rattle.store_rows.specs.Statements.{MeetsOne}
-use Rattle.store_rows.specs.believed.View.{meta_entry, rows_of}
-use Rattle.store_rows.specs.View.{HoldsRows}
-use Rattle.store_rows.specs.declared.metas.TheConstants.{META_ID}
-use Rattle.store_rows.specs.declared.texts.TheConstants.{SET_VERSION}
-use Rattle.store_rows.proofs.Failing.{key_fits}
+use Rattle.store_rows.proofs.{Failing.key_fits, MetaRow.is_plain, MetaRow.meta_written}
 use Rattle.store_rows.proofs.Lookups.{one_written as one_met}
-use Rattle.store_rows.proofs.MetaRow.{is_plain, meta_written}
 use Rattle.store_rows.proofs.Setting.{set_version, sets}
 
 mapped : (o : Option Entry) → is_some o ≡ is_some (option_map meta_numbers o)

@@ -1,29 +1,19 @@
 -- What each UPDATE of a balance and each INSERT of a row leaves of the tables.
-use Rattle.std.proofs.Common.{◌≡◌, ◌≤◌, ℕ, ℤ, pos, is_some, length, List, [], ◌∷◌, Some, Bool, Result, refl}
-use Rattle.std.proofs.Common.{inl, inr}
-use Rattle.sqlite.specs.declared.error.Error.{Error}
-use Rattle.sqlite.specs.declared.transaction.Transaction.{Transaction}
-use Rattle.sqlite.specs.declared.types.Value.TheVariants.{Int}
+use Rattle.std.proofs.Common.{◌≡◌, ◌≤◌, ℕ, ℤ, pos, is_some, length, List, [], ◌∷◌, Some, Bool, Result, refl, inl, inr}
+use Rattle.sqlite.specs.declared.{error.Error.Error, transaction.Transaction.Transaction, types.Value.TheVariants.Int}
 use Rattle.sqlite_rules.specs.Lists.{Has}
 use Rattle.sqlite_trees.specs.declared.store.Store.{Ghosts}
 use Rattle.posting_rules.specs.believed.Changes.{row_changed, row_put, with_account_balance, with_branch}
-use Rattle.posting_rules.specs.Changes.{with_account}
-use Rattle.posting_rules.specs.believed.Changes.{with_branch_balance, with_floor}
-use Rattle.posting_rules.specs.believed.Changes.{with_history, with_reference, with_request}
-use Rattle.posting_rules.specs.Changes.{with_teller}
-use Rattle.posting_rules.specs.believed.Changes.{with_teller_balance}
+use Rattle.posting_rules.specs.believed.Changes.{with_branch_balance, with_floor, with_history, with_reference}
+use Rattle.posting_rules.specs.believed.Changes.{with_request, with_teller_balance}
+use Rattle.posting_rules.specs.{Changes.with_account, Changes.with_teller, declared.rows.ReferenceRow.ReferenceRow}
 use Rattle.posting_rules.specs.believed.Tables.{Tables, row_at}
-use Rattle.posting_rules.specs.declared.rows.ReferenceRow.{ReferenceRow}
-use Rattle.sql_meanings.specs.Calls.{Inside, Says}
-use Rattle.sql_meanings.specs.believed.Entries.{Entry}
+use Rattle.sql_meanings.specs.{Calls.Inside, Calls.Says, believed.Entries.Entry}
 use Rattle.sql_meanings.proofs.SetRows.{ChangesAs}
-use Rattle.store_rows.specs.Calls.{AddsRow, SetsNumber}
-use Rattle.store_rows.specs.believed.Failures.{inserts}
+use Rattle.store_rows.specs.{Calls.AddsRow, Calls.SetsNumber, believed.Failures.inserts, believed.SeveralRows.given}
+use Rattle.store_rows.specs.{declared.fault.TableFault.TableFault, declared.statements.TheConstants.MAX_KEY}
 use Rattle.store_rows.specs.Failures.{Puts as PutIsKept}
-use Rattle.store_rows.specs.believed.SeveralRows.{given}
 use Rattle.store_rows.specs.Statements.{PutsIn, PutsRow, RunsUnder}
-use Rattle.store_rows.specs.declared.fault.TableFault.{TableFault}
-use Rattle.store_rows.specs.declared.statements.TheConstants.{MAX_KEY}
 use Rattle.store_rows.specs.declared.texts.TheConstants as text
 use Rattle.store_rows.proofs.TableKinds.{Kind, table_of, tells_added, tells_write}
 use Rattle.store_rows.proofs.Puts.{Puts, puts as each}

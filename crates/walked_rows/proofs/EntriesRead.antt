@@ -1,15 +1,11 @@
 -- A row that was read, and the entry that it is.
-use Rattle.std.proofs.Common.{◌≡◌, ℕ, ℤ, List, [], ◌∷◌, Some, None, Err, Option, refl, ap, subst, ◌∙◌}
-use Rattle.std.proofs.Common.{length, arith}
+use Rattle.std.proofs.Common.{◌≡◌, ℕ, ℤ, List, [], ◌∷◌, Some, None, Err, Option, refl, ap, subst, ◌∙◌, length, arith}
 use Rattle.std.specs.Option.{ok_or}
 use Rattle.sqlite.specs.Order.{Row}
-use Rattle.sql_meanings.specs.believed.Entries.{Entry, HasWidth, numbers}
+use Rattle.sql_meanings.specs.believed.{Entries.Entry, Entries.HasWidth, Entries.numbers, Tables.width_of}
 use Rattle.posting_rules.specs.declared.fault.Rule.TheVariants.{Value}
-use Rattle.store_rows.specs.declared.fault.TableFault.{TableFault}
-use Rattle.store_rows.specs.declared.fault.TableFault.TheVariants.{Sqlite, Damaged}
-use Rattle.sql_meanings.specs.believed.Tables.{width_of}
-use Rattle.walked_rows.specs.Kinds.{Kind}
-use Rattle.walked_rows.specs.Reading.{AreNumbers, NumbersFail}
+use Rattle.store_rows.specs.declared.fault.TableFault.{TableFault, TheVariants.Sqlite, TheVariants.Damaged}
+use Rattle.walked_rows.specs.{Kinds.Kind, Reading.AreNumbers, Reading.NumbersFail}
 use Rattle.walked_rows.specs.StepOutcomes.{ReadsEntry, Stores, all_numbers, entry_of}
 
 module _ {R : Type 0} (kind : Kind R) (row : Row) where

@@ -1,20 +1,16 @@
 -- Room that is filled with rows and those beside them.
-use Rattle.std.proofs.Common.{◌≡◌, ◌≤ℤ◌, ◌+ℤ◌, drop, slice_get, Ok, Err, Result, ℤ, pos, List, [], ◌∷◌, ◌++◌}
-use Rattle.std.proofs.Common.{map, filter, Bool, Some, None, Option, refl, sym, ap, subst, ◌∙◌, inl, inr}
+use Rattle.std.proofs.Common.{◌≡◌, ◌≤ℤ◌, ◌+ℤ◌, drop, slice_get, Ok, Err, Result, ℤ, pos, List, [], ◌∷◌, ◌++◌, map}
+use Rattle.std.proofs.Common.{filter, Bool, Some, None, Option, refl, sym, ap, subst, ◌∙◌, inl, inr}
 use Rattle.std.specs.Prelude.{IfOk, OnOk, IsSomeAnd}
 use Rattle.sqlite.specs.declared.error.Error.{Error}
 use Rattle.posting_rules.specs.declared.fault.Rule.{Rule}
 use Rattle.sql_meanings.specs.believed.Entries.{Entry, Rise}
-use Rattle.store_rows.specs.declared.fault.TableFault.{TableFault}
-use Rattle.store_rows.specs.declared.fault.TableFault.TheVariants.{Sqlite, Damaged}
-use Rattle.walked_rows.specs.StepOutcomes.{BreaksFirst}
-use Rattle.walked_rows.specs.Pairs.{AreJoined, BreaksPair, BreaksUnder, Pair, pair_key, pair_with}
-use Rattle.walked_rows.specs.Pairs.{paired, row_under}
-use Rattle.walked_rows.specs.Rising.{RisesFrom}
+use Rattle.store_rows.specs.declared.fault.TableFault.{TableFault, TheVariants.Sqlite, TheVariants.Damaged}
+use Rattle.walked_rows.specs.{StepOutcomes.BreaksFirst, Rising.RisesFrom}
+use Rattle.walked_rows.specs.Pairs.{AreJoined, BreaksPair, BreaksUnder, Pair, pair_key, pair_with, paired, row_under}
 use Rattle.walked_rows.specs.Rows.{items_after, items_from, rows_after, rows_from}
 use Rattle.walked_rows.proofs.Joining.{pairs_after, pairs_from}
-use Rattle.walked_rows.proofs.Rises.{from_lower, le_itself}
-use Rattle.walked_rows.proofs.Under.{from_its_key}
+use Rattle.walked_rows.proofs.{Rises.from_lower, Rises.le_itself, Under.from_its_key}
 
 -- ---- the first of those that were read ahead
 

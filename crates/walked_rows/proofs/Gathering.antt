@@ -1,24 +1,18 @@
 -- What is gathered of the rows that were found.
-use Rattle.std.proofs.Common.{◌≡◌, ◌<◌, ◌≤◌, ℕ, zero, suc, ℤ, pos, ◌+ℤ◌, List, [], ◌∷◌, ◌++◌, map, filter}
-use Rattle.std.proofs.Common.{find, take, length, get_or, nat_eq, Bool, true, false, Some, Ok, Err, refl, sym}
-use Rattle.std.proofs.Common.{ap, ◌∙◌, inl, inr, int_cmp, Less, arith, append_assoc, w64, to_z, of_z}
-use Rattle.std.proofs.Common.{FitsSigned}
+use Rattle.std.proofs.Common.{◌≡◌, ◌<◌, ◌≤◌, ℕ, zero, suc, ℤ, pos, ◌+ℤ◌, List, [], ◌∷◌, ◌++◌, map, filter, find, take}
+use Rattle.std.proofs.Common.{length, get_or, nat_eq, Bool, true, false, Some, Ok, Err, refl, sym, ap, ◌∙◌, inl, inr}
+use Rattle.std.proofs.Common.{int_cmp, Less, arith, append_assoc, w64, to_z, of_z, FitsSigned}
 use Rattle.std.specs.Ordering.{is_ge}
-use Rattle.std.proofs.lemmas.Bool.{cases_Bool}
-use Rattle.std.proofs.lemmas.Bool.Decides.{nat_tests}
-use Rattle.std.proofs.lemmas.Int.{ints, to_z-of_z}
+use Rattle.std.proofs.lemmas.{Bool.cases_Bool, Bool.Decides.nat_tests, Int.ints, Int.to_z-of_z}
 use Rattle.sqlite.specs.Order.{Row}
 use Rattle.posting_rules.specs.declared.fault.Rule.{Rule}
 use Rattle.sql_meanings.specs.believed.Entries.{Entry, HasWidth, Rise}
 use Rattle.sql_meanings.specs.Seeks.{is_from}
-use Rattle.sql_meanings.proofs.Changes.{found_all, found_passes}
-use Rattle.sql_meanings.proofs.EntryLists.{Above}
+use Rattle.sql_meanings.proofs.{Changes.found_all, Changes.found_passes, EntryLists.Above}
 use Rattle.store_rows.proofs.Lookups.{as_integer}
-use Rattle.store_rows.specs.declared.fault.TableFault.{TableFault}
-use Rattle.store_rows.specs.declared.fault.TableFault.TheVariants.{Sqlite, Damaged}
+use Rattle.store_rows.specs.declared.fault.TableFault.{TableFault, TheVariants.Sqlite, TheVariants.Damaged}
 use Rattle.walked_rows.specs.StepOutcomes.{BreaksFirst, IsRefusedMemory, ReadsNext}
-use Rattle.walked_rows.specs.Rows.{IsWide, rows_from}
-use Rattle.walked_rows.specs.declared.ahead.TheConstants.{AHEAD}
+use Rattle.walked_rows.specs.{Rows.IsWide, Rows.rows_from, declared.ahead.TheConstants.AHEAD}
 
 -- ---- how the rows that are yet to come grow fewer
 

@@ -1,15 +1,11 @@
 -- Rows with those beside them in another table.
-use Rattle.std.proofs.Common.{◌≡◌, ◌≤◌, ℕ, zero, suc, drop, length, ◌<ℤ◌, ◌≤ℤ◌, ◌+ℤ◌, ℤ, pos, List, [], ◌∷◌}
-use Rattle.std.proofs.Common.{◌++◌, map, filter, find, cond, Bool, true, false, Some, None, Option, int_cmp}
-use Rattle.std.proofs.Common.{refl, sym, ap, ◌∙◌, inl, inr, arith}
-use Rattle.std.specs.Prelude.{IfSome}
-use Rattle.std.specs.Ordering.{int_eq, is_ge}
-use Rattle.std.proofs.lemmas.Bool.{cases_Bool}
-use Rattle.std.proofs.lemmas.Int.{ints}
-use Rattle.sql_meanings.specs.believed.Entries.{Entry, Rise, has_key}
-use Rattle.sql_meanings.specs.Seeks.{is_from}
-use Rattle.walked_rows.specs.Pairs.{AreJoined, ComesBefore, Pair, pair_key, pair_with, paired}
-use Rattle.walked_rows.specs.Pairs.{row_under}
+use Rattle.std.proofs.Common.{◌≡◌, ◌≤◌, ℕ, zero, suc, drop, length, ◌<ℤ◌, ◌≤ℤ◌, ◌+ℤ◌, ℤ, pos, List, [], ◌∷◌, ◌++◌}
+use Rattle.std.proofs.Common.{map, filter, find, cond, Bool, true, false, Some, None, Option, int_cmp, refl, sym, ap}
+use Rattle.std.proofs.Common.{◌∙◌, inl, inr, arith}
+use Rattle.std.specs.{Prelude.IfSome, Ordering.int_eq, Ordering.is_ge}
+use Rattle.std.proofs.lemmas.{Bool.cases_Bool, Int.ints}
+use Rattle.sql_meanings.specs.{believed.Entries.Entry, believed.Entries.Rise, believed.Entries.has_key, Seeks.is_from}
+use Rattle.walked_rows.specs.Pairs.{AreJoined, ComesBefore, Pair, pair_key, pair_with, paired, row_under}
 use Rattle.walked_rows.specs.Rows.{items_after, items_from, rows_after, rows_from}
 use Rattle.walked_rows.proofs.Gathering.{first_left, found_of}
 

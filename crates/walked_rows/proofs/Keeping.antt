@@ -1,27 +1,21 @@
 -- Kept requests, row by row.
-use Rattle.std.proofs.Common.{◌≡◌, ◌+ℤ◌, ℤ, pos, List, [], ◌∷◌, ◌++◌, map, filter, Bool, true, Some}
-use Rattle.std.proofs.Common.{None, Option, refl, sym, ap, subst, ◌∙◌, inl, inr}
+use Rattle.std.proofs.Common.{◌≡◌, ◌+ℤ◌, ℤ, pos, List, [], ◌∷◌, ◌++◌, map, filter, Bool, true, Some, None, Option}
+use Rattle.std.proofs.Common.{refl, sym, ap, subst, ◌∙◌, inl, inr}
 use Rattle.std.specs.Prelude.{IsSomeAnd}
 use Rattle.std.proofs.lemmas.Bool.{cases_Bool}
 use Rattle.sqlite.specs.declared.error.Error.{Error}
 use Rattle.posting_rules.specs.declared.fault.Rule.{Rule}
-use Rattle.sql_meanings.specs.believed.Entries.{Entry, Rise}
-use Rattle.sql_meanings.specs.Seeks.{is_from}
-use Rattle.store_rows.specs.declared.fault.TableFault.{TableFault}
-use Rattle.store_rows.specs.declared.fault.TableFault.TheVariants.{Sqlite, Damaged}
+use Rattle.sql_meanings.specs.{believed.Entries.Entry, believed.Entries.Rise, Seeks.is_from}
+use Rattle.store_rows.specs.declared.fault.TableFault.{TableFault, TheVariants.Sqlite, TheVariants.Damaged}
 use Rattle.walked_rows.specs.KeptRows.{AreKept, BreaksKept, KeptItem, asked_of, kept_all, kept_item, kept_key}
 use Rattle.walked_rows.specs.KeptRows.{kept_with}
 use Rattle.walked_rows.specs.Pairs.{Pair, pair_key, pair_with, paired, row_under}
-use Rattle.walked_rows.specs.References.{BreaksReference}
+use Rattle.walked_rows.specs.{References.BreaksReference, StepOutcomes.BreaksFirst, declared.joined.Joined.Joined}
+use Rattle.walked_rows.specs.{declared.kept.KeptRequest.KeptRequest, declared.postings.StoredPosting.StoredPosting}
 use Rattle.walked_rows.specs.Rows.{items_after, items_from, rows_after, rows_from}
-use Rattle.walked_rows.specs.StepOutcomes.{BreaksFirst}
 use Rattle.walked_rows.specs.Stored.{BreaksAsked, asked_pair}
-use Rattle.walked_rows.specs.declared.joined.Joined.{Joined}
-use Rattle.walked_rows.specs.declared.kept.KeptRequest.{KeptRequest}
-use Rattle.walked_rows.specs.declared.postings.StoredPosting.{StoredPosting}
 use Rattle.walked_rows.specs.declared.requests.StoredRequest.{StoredRequest}
-use Rattle.walked_rows.proofs.Gathering.{first_left, found_of}
-use Rattle.walked_rows.proofs.Joining.{pairs_after, pairs_from}
+use Rattle.walked_rows.proofs.{Gathering.first_left, Gathering.found_of, Joining.pairs_after, Joining.pairs_from}
 
 first_of : {X : Type 0} (x y : X) (xs ys : List X) → x ∷ xs ≡ y ∷ ys → x ≡ y
 first_of x y xs ys e = cc

@@ -2,17 +2,14 @@
 use Rattle.std.proofs.Common.{◌≡◌, ◌⊎◌, inl, inr, Ok, Err, Result, refl, sym, ap, subst, arith}
 use Rattle.std.proofs.lemmas.Result.{IfErr-weaker, on_ok_weaker}
 use Rattle.std.specs.Prelude.{IsSome}
-use Rattle.sqlite.specs.State.{HasCleanDisk, IsRolledBack, Survives}
-use Rattle.sqlite.specs.State.{Shows as StateShows}
+use Rattle.sqlite.specs.State.{HasCleanDisk, IsRolledBack, Survives, Shows as StateShows}
 use Rattle.sqlite.specs.Held.{Held, state}
 use Rattle.sqlite.proofs.Callers.{unchanged_then}
-use Rattle.sqlite.specs.declared.error.Error.{Error}
-use Rattle.sqlite.specs.declared.error.Error.TheVariants.{SqliteFailure}
+use Rattle.sqlite.specs.declared.error.Error.{Error, TheVariants.SqliteFailure}
 use Rattle.sqlite.specs.declared.error.ErrorCode.TheVariants.{OperationInterrupted, OutOfMemory}
 use Rattle.sqlite_trees.specs.declared.store.Store.{Ghosts}
 use Rattle.sql_meanings.specs.StatementAnswers.{IsStoreError, WriteFails}
-use Rattle.sql_meanings.proofs.Afterwards.{fails_since, rolled_since}
-use Rattle.sql_meanings.proofs.Saying.{survives_both}
+use Rattle.sql_meanings.proofs.{Afterwards.fails_since, Afterwards.rolled_since, Saying.survives_both}
 use Rattle.walked_rows.specs.Leaving.{IsKept, IsKeptIfAsked, OnlyReads, ReadsBy, ReadsIfAny}
 
 -- ---- connections

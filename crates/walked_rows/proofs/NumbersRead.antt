@@ -4,8 +4,7 @@ use Rattle.std.proofs.lemmas.List.{ext_get_or, get_or-map}
 use Rattle.sqlite.specs.Order.{Row, column}
 use Rattle.sqlite.specs.declared.types.Value.TheVariants.{Int, Null}
 use Rattle.sql_meanings.specs.believed.Entries.{numbers}
-use Rattle.store_rows.specs.declared.fault.TableFault.{TableFault}
-use Rattle.store_rows.specs.declared.fault.TableFault.TheVariants.{Sqlite, Damaged}
+use Rattle.store_rows.specs.declared.fault.TableFault.{TableFault, TheVariants.Sqlite, TheVariants.Damaged}
 use Rattle.walked_rows.specs.Reading.{AreNumbers, NumbersFail, ReadsNumber}
 
 same_number : (a b : ℤ) → Int a ≡ Int b → b ≡ a

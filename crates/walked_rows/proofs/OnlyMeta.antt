@@ -1,29 +1,21 @@
 -- The row of the bank, where it is the only row of `meta`.
-use Rattle.std.proofs.Common.{◌≡◌, ◌∙◌, inl, inr, ℕ, ℤ, List, [], ◌∷◌, length, map, take, filter, Option, Some}
-use Rattle.std.proofs.Common.{None, Ok, true, refl, sym, ap, subst, arith}
+use Rattle.std.proofs.Common.{◌≡◌, ◌∙◌, inl, inr, ℕ, ℤ, List, [], ◌∷◌, length, map, take, filter, Option, Some, None}
+use Rattle.std.proofs.Common.{Ok, true, refl, sym, ap, subst, arith}
 use Rattle.sqlite.specs.Effect.{Database, RefusesToRead}
-use Rattle.sqlite.specs.Listing.{understood}
-use Rattle.sqlite.specs.Order.{Row}
+use Rattle.sqlite.specs.{Listing.understood, Order.Row, Term.Term, declared.error.Error.Error}
+use Rattle.sqlite.specs.{declared.error.Error.TheVariants.QueryReturnedNoRows, declared.types.Value.TheVariants.Int}
 use Rattle.sqlite.specs.State.{FailsToQuery, IsNoStatement, IsNotRun, QueriesRow, Shown, State}
-use Rattle.sqlite.specs.Term.{Term}
-use Rattle.sqlite.specs.declared.error.Error.{Error}
-use Rattle.sqlite.specs.declared.error.Error.TheVariants.{QueryReturnedNoRows}
-use Rattle.sqlite.specs.declared.types.Value.TheVariants.{Int}
 use Rattle.sqlite_schema.specs.declared.command.Command.{Command}
 use Rattle.sqlite_schema.specs.declared.command.Command.TheVariants as command
-use Rattle.sql_meanings.specs.believed.Entries.{Entry}
-use Rattle.sql_meanings.specs.StatementAnswers.{OnlyShows}
+use Rattle.sql_meanings.specs.{believed.Entries.Entry, StatementAnswers.OnlyShows}
 use Rattle.sql_meanings.proofs.OnlyShowing.{no_rows_error}
 use Rattle.store_rows.specs.believed.Failures.{Asking, HasFailed}
 use Rattle.store_rows.specs.declared.metas.StoredMeta.{StoredMeta}
 use Rattle.walked_rows.specs.OnlyMeta.{TakesOnly, TakesRow, TellsOnly, meta_with}
 use Rattle.walked_rows.specs.Rows.{HasStoredRows, IsWide, LEAST, entry_key, rows_from}
 use Rattle.walked_rows.specs.StepOutcomes.{shown, shown_row}
-use Rattle.walked_rows.specs.declared.ahead.TheConstants.{AHEAD}
-use Rattle.walked_rows.specs.declared.texts.TheConstants.{METAS_FROM}
-use Rattle.walked_rows.proofs.Keys.{all_left}
-use Rattle.walked_rows.proofs.Sought.{all_given, tells_walk}
-use Rattle.walked_rows.proofs.WalkTexts.{walks_metas}
+use Rattle.walked_rows.specs.declared.{ahead.TheConstants.AHEAD, texts.TheConstants.METAS_FROM}
+use Rattle.walked_rows.proofs.{Keys.all_left, Sought.all_given, Sought.tells_walk, WalkTexts.walks_metas}
 
 -- ---- what is told of the rows
 

@@ -1,38 +1,26 @@
 -- What the look-up of a reference tells.
-use Rattle.std.proofs.Common.{◌≡◌, ℕ, ℤ, pos, List, [], ◌∷◌, map, Some, None, Option, Ok, Err}
-use Rattle.std.proofs.Common.{Result, codes, lit≤, refl, sym, ap, subst, ◌∙◌}
+use Rattle.std.proofs.Common.{◌≡◌, ℕ, ℤ, pos, List, [], ◌∷◌, map, Some, None, Option, Ok, Err, Result, codes, lit≤}
+use Rattle.std.proofs.Common.{refl, sym, ap, subst, ◌∙◌}
 use Rattle.std.specs.Prelude.{IsSomeAnd, MatchResult, option_map}
-use Rattle.sqlite.specs.Order.{Row, column}
-use Rattle.sqlite.specs.Program.{overlay}
-use Rattle.sqlite.specs.Schema.{Schema}
-use Rattle.sqlite.specs.Listing.{understood}
+use Rattle.sqlite.specs.{Order.Row, Order.column, Program.overlay, Schema.Schema, Listing.understood, Term.Term}
+use Rattle.sqlite.specs.{Term.col, Term.eval_all, declared.error.Error.Error, declared.types.Value.Value}
 use Rattle.sqlite.specs.State.{State, FailsToQuery, Shown}
-use Rattle.sqlite.specs.Term.{Term, col, eval_all}
-use Rattle.sqlite.specs.declared.error.Error.{Error}
-use Rattle.sqlite.specs.declared.types.Value.{Value}
 use Rattle.sqlite.specs.declared.types.Value.TheVariants.{Null, Int, Text}
 use Rattle.sqlite_tied.specs.Compute.{everything}
 use Rattle.sqlite_resolve.specs.Program as program
 use Rattle.sqlite_resolve.specs.Select.{ungrouped}
 use Rattle.sql_meanings.specs.believed.Entries.{Entry, HasWidth, has_key, stored}
-use Rattle.sql_meanings.specs.Entries.{listed}
+use Rattle.sql_meanings.specs.{Entries.listed, Queries.by_key, believed.Tables.tree_of}
 use Rattle.sql_meanings.specs.StatementAnswers.{IsStoreError, OnlyShows, TellsRows}
-use Rattle.sql_meanings.specs.Queries.{by_key}
-use Rattle.sql_meanings.proofs.Changes.{found_all, found_key}
+use Rattle.sql_meanings.proofs.{Changes.found_all, Changes.found_key, KeyedAnswers.keyed_answer, ReadSeeks.QueriesAll}
+use Rattle.sql_meanings.proofs.{ReadSeeks.reads_all, ReadTables.under_overlay, Texts.only_reads, Texts.select_of}
 use Rattle.sql_meanings.proofs.Keyed.{Gets, first_key, gets_by}
-use Rattle.sql_meanings.proofs.KeyedAnswers.{keyed_answer}
-use Rattle.sql_meanings.proofs.ReadSeeks.{QueriesAll, reads_all}
-use Rattle.sql_meanings.proofs.ReadTables.{under_overlay}
-use Rattle.sql_meanings.proofs.Texts.{only_reads, select_of}
-use Rattle.sql_meanings.specs.believed.Tables.{tree_of}
 use Rattle.store_rows.specs.believed.BankTables as bank
-use Rattle.store_rows.specs.declared.fault.TableFault.{TableFault}
-use Rattle.store_rows.specs.declared.fault.TableFault.TheVariants.{Sqlite, Damaged}
+use Rattle.store_rows.specs.declared.fault.TableFault.{TableFault, TheVariants.Sqlite, TheVariants.Damaged}
 use Rattle.store_rows.proofs.ShownValues.{places_are, text_shown}
 use Rattle.walked_rows.specs.Pairs.{BreaksUnder, row_under}
 use Rattle.walked_rows.specs.References.{BreaksReference, ReadsFirst, text_after, text_entry}
-use Rattle.walked_rows.specs.Rows.{HasStoredRows}
-use Rattle.walked_rows.specs.declared.texts.TheConstants.{REFERENCE_UNDER}
+use Rattle.walked_rows.specs.{Rows.HasStoredRows, declared.texts.TheConstants.REFERENCE_UNDER}
 use Rattle.walked_rows.proofs.Sought.{store_error}
 
 -- ---- the statement

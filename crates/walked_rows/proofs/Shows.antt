@@ -1,13 +1,10 @@
 -- What the statements show of a row: its numbers, the key first, or its text after its key.
 use Rattle.std.proofs.Common.{◌≡◌, [], ◌∷◌, ap}
-use Rattle.sqlite.specs.Order.{Row}
+use Rattle.sqlite.specs.{Order.Row, declared.types.Value.Value, declared.types.Value.TheVariants.Int}
 use Rattle.sqlite.specs.Term.{col, eval_all}
-use Rattle.sqlite.specs.declared.types.Value.{Value}
-use Rattle.sqlite.specs.declared.types.Value.TheVariants.{Int}
 use Rattle.sql_meanings.specs.believed.Entries.{Entry, HasWidth, numbers, stored}
 use Rattle.store_rows.proofs.ShownValues.{text_shown as text_is, values_shown}
-use Rattle.walked_rows.specs.References.{text_shown}
-use Rattle.walked_rows.specs.StepOutcomes.{all_numbers}
+use Rattle.walked_rows.specs.{References.text_shown, StepOutcomes.all_numbers}
 
 -- one number after the key
 pub shows_one : (params : Row) (e : Entry) → HasWidth (1, 0) e

@@ -1,28 +1,20 @@
 -- What the statement of a walk reports, and what it leaves.
-use Rattle.std.proofs.Common.{◌≡◌, inl, inr, zero, suc, ℕ, ℤ, List, [], ◌∷◌, map, filter, take, cond, Bool}
-use Rattle.std.proofs.Common.{true, false, length, Ok, Err, Result, refl, sym, ap, ◌∙◌}
+use Rattle.std.proofs.Common.{◌≡◌, inl, inr, zero, suc, ℕ, ℤ, List, [], ◌∷◌, map, filter, take, cond, Bool, true}
+use Rattle.std.proofs.Common.{false, length, Ok, Err, Result, refl, sym, ap, ◌∙◌}
 use Rattle.std.specs.Prelude.{MatchResult}
 use Rattle.std.proofs.lemmas.Bool.{cases_Bool}
-use Rattle.sqlite.specs.Order.{Row}
-use Rattle.sqlite.specs.Schema.{Schema}
-use Rattle.sqlite.specs.Table.{Table}
-use Rattle.sqlite.specs.Term.{Term, eval_all}
-use Rattle.sqlite.specs.Listing.{understood}
+use Rattle.sqlite.specs.{Order.Row, Schema.Schema, Table.Table, Term.Term, Term.eval_all, Listing.understood}
+use Rattle.sqlite.specs.{declared.error.Error.Error, declared.types.Value.TheVariants.Int}
 use Rattle.sqlite.specs.State.{State, FailsToQuery, IsUnchanged, Shown}
-use Rattle.sqlite.specs.declared.error.Error.{Error}
-use Rattle.sqlite.specs.declared.types.Value.TheVariants.{Int}
 use Rattle.sql_meanings.specs.believed.Entries.{Entry, HasWidth, numbers, stored}
 use Rattle.sql_meanings.specs.StatementAnswers.{IsStoreError, OnlyShows, ReadFails, WriteFails}
 use Rattle.sql_meanings.specs.Seeks.{begins, is_from, is_of_from, next_from, next_of_from}
 use Rattle.sql_meanings.specs.believed.Tables.{width_of}
-use Rattle.sql_meanings.proofs.ReadSeeks.{kept_all, reads_from, reads_of_from}
-use Rattle.sql_meanings.proofs.ReadTables.{ReadsAs}
+use Rattle.sql_meanings.proofs.{ReadSeeks.kept_all, ReadSeeks.reads_from, ReadSeeks.reads_of_from, ReadTables.ReadsAs}
 use Rattle.posting_rules.specs.declared.fault.Rule.{Rule}
-use Rattle.store_rows.specs.declared.fault.TableFault.{TableFault}
-use Rattle.store_rows.specs.declared.fault.TableFault.TheVariants.{Sqlite, Damaged}
+use Rattle.store_rows.specs.declared.fault.TableFault.{TableFault, TheVariants.Sqlite, TheVariants.Damaged}
 use Rattle.walked_rows.specs.StepOutcomes.{BreaksFirst, IsRefusedMemory, all_numbers, shown, shown_row}
-use Rattle.walked_rows.specs.Rows.{HasStoredRows, IsWide, rows_from}
-use Rattle.walked_rows.specs.declared.ahead.TheConstants.{AHEAD}
+use Rattle.walked_rows.specs.{Rows.HasStoredRows, Rows.IsWide, Rows.rows_from, declared.ahead.TheConstants.AHEAD}
 
 -- ---- lists
 

@@ -1,24 +1,16 @@
 -- The first of the rows that were found beside others.
-use Rattle.std.proofs.Common.{◌≡◌, ◌<ℤ◌, ◌≤ℤ◌, ◌+ℤ◌, ◌<◌, ℕ, suc, ℤ, pos, List, [], ◌∷◌, map, find, drop}
-use Rattle.std.proofs.Common.{length, get_or, Err, true, false, Some, None, Option, int_cmp, refl, sym, ap}
-use Rattle.std.proofs.Common.{subst, ◌∙◌, inl, inr, arith}
-use Rattle.std.specs.Prelude.{IfSome}
-use Rattle.std.specs.Ordering.{int_eq, is_ge}
-use Rattle.std.proofs.Math.Seq.{drop-cons}
-use Rattle.std.proofs.lemmas.Bool.{cases_Bool}
-use Rattle.std.proofs.lemmas.Int.{ints}
-use Rattle.sqlite.specs.State.{State, IsUnchanged}
-use Rattle.sqlite.specs.declared.error.Error.{Error}
+use Rattle.std.proofs.Common.{◌≡◌, ◌<ℤ◌, ◌≤ℤ◌, ◌+ℤ◌, ◌<◌, ℕ, suc, ℤ, pos, List, [], ◌∷◌, map, find, drop, length}
+use Rattle.std.proofs.Common.{get_or, Err, true, false, Some, None, Option, int_cmp, refl, sym, ap, subst, ◌∙◌, inl}
+use Rattle.std.proofs.Common.{inr, arith}
+use Rattle.std.specs.{Prelude.IfSome, Ordering.int_eq, Ordering.is_ge}
+use Rattle.std.proofs.{Math.Seq.drop-cons, lemmas.Bool.cases_Bool, lemmas.Int.ints}
+use Rattle.sqlite.specs.{State.State, State.IsUnchanged, declared.error.Error.Error}
 use Rattle.posting_rules.specs.declared.fault.Rule.{Rule}
 use Rattle.sql_meanings.specs.believed.Entries.{Entry, Rise, has_key}
-use Rattle.sql_meanings.specs.StatementAnswers.{IsStoreError}
-use Rattle.sql_meanings.specs.Seeks.{is_from}
-use Rattle.store_rows.specs.declared.fault.TableFault.{TableFault}
-use Rattle.store_rows.specs.declared.fault.TableFault.TheVariants.{Sqlite, Damaged}
-use Rattle.walked_rows.specs.StepOutcomes.{BreaksFirst, IsRefusedMemory}
-use Rattle.walked_rows.specs.Pairs.{BreaksUnder, TellsKey, row_under}
-use Rattle.walked_rows.specs.Rising.{RisesFrom}
-use Rattle.walked_rows.specs.Rows.{rows_from}
+use Rattle.sql_meanings.specs.{StatementAnswers.IsStoreError, Seeks.is_from}
+use Rattle.store_rows.specs.declared.fault.TableFault.{TableFault, TheVariants.Sqlite, TheVariants.Damaged}
+use Rattle.walked_rows.specs.{StepOutcomes.BreaksFirst, StepOutcomes.IsRefusedMemory, Pairs.BreaksUnder}
+use Rattle.walked_rows.specs.{Pairs.TellsKey, Pairs.row_under, Rising.RisesFrom, Rows.rows_from}
 use Rattle.walked_rows.proofs.Gathering.{first_left, found_of}
 
 -- ---- keys

@@ -1,44 +1,29 @@
 -- What the statement of each walk means of its table.
-use Rattle.std.proofs.Common.{◌≡◌, ℕ, ℤ, pos, List, [], ◌∷◌, None, Some, Ok, codes, lit≤, refl}
-use Rattle.std.proofs.Common.{true, false, slice_get}
-use Rattle.sqlite.specs.Order.{Row}
-use Rattle.sqlite.specs.Schema.{Schema}
-use Rattle.sqlite.specs.Table.{Table}
+use Rattle.std.proofs.Common.{◌≡◌, ℕ, ℤ, pos, List, [], ◌∷◌, None, Some, Ok, codes, lit≤, refl, true, false}
+use Rattle.std.proofs.Common.{slice_get}
+use Rattle.sqlite.specs.{Order.Row, Schema.Schema, Table.Table, declared.types.Value.TheVariants.Int}
 use Rattle.sqlite.specs.Term.{Term, col, eval_all, lit}
-use Rattle.sqlite.specs.declared.types.Value.TheVariants.{Int}
 use Rattle.sqlite_ast.specs.declared.Binary.TheVariants as binary
-use Rattle.sqlite_ast.specs.declared.Expr.TheOpen.{Expr-F}
-use Rattle.sqlite_ast.specs.declared.Expr.{Expr, out-Expr}
-use Rattle.sqlite_ast.specs.declared.Sort.{Sort, out-Sort}
+use Rattle.sqlite_ast.specs.declared.{Expr.TheOpen.Expr-F, Expr.Expr, Expr.out-Expr, Sort.Sort, Sort.out-Sort}
 use Rattle.sqlite_draft.specs.declared.join.Step.TheVariants.{Inner}
 use Rattle.sqlite_value.specs.declared.keys.Collation.TheVariants.{Binary}
 use Rattle.sqlite_schema.specs.Names.{column_named, place_of}
 use Rattle.sqlite_tied.specs.Compute.{everything}
-use Rattle.sqlite_resolve.specs.Literal.{integer}
-use Rattle.sqlite_resolve.specs.Lowering.{alone, chosen, nothing}
+use Rattle.sqlite_resolve.specs.{Literal.integer, Lowering.alone, Lowering.chosen, Lowering.nothing, Scope.Name}
+use Rattle.sqlite_resolve.specs.{Scope.alias_of, Scope.declared, Select.ungrouped, Terms.number}
 use Rattle.sqlite_resolve.specs.Program as program
-use Rattle.sqlite_resolve.specs.Scope.{Name, alias_of, declared}
-use Rattle.sqlite_resolve.specs.Select.{ungrouped}
-use Rattle.sqlite_resolve.specs.Terms.{number}
 use Rattle.sqlite_typing.specs.Types.{accepts_program}
 use Rattle.sql_meanings.specs.believed.Entries.{Entry, HasWidth, stored}
-use Rattle.sql_meanings.specs.believed.Plain.{key_column, number_column}
-use Rattle.sql_meanings.specs.Queries.{ascending}
-use Rattle.sql_meanings.specs.Seeks.{key_from, next_from, next_of_from}
-use Rattle.sql_meanings.specs.believed.Tables.{placed_at, width_of}
-use Rattle.sql_meanings.proofs.ByKey.{Tests, number_at}
-use Rattle.sql_meanings.proofs.ReadTables.{ReadsAs}
-use Rattle.sql_meanings.proofs.ShownColumns.{outputs_at}
-use Rattle.sql_meanings.proofs.SeekTexts.{seeks_by, seeks_of_by}
-use Rattle.sql_meanings.proofs.Statements.{HasTable}
+use Rattle.sql_meanings.specs.believed.{Plain.key_column, Plain.number_column, Tables.placed_at, Tables.width_of}
+use Rattle.sql_meanings.specs.{Queries.ascending, Seeks.key_from, Seeks.next_from, Seeks.next_of_from}
+use Rattle.sql_meanings.proofs.{ByKey.Tests, ByKey.number_at, ReadTables.ReadsAs, ShownColumns.outputs_at}
+use Rattle.sql_meanings.proofs.{SeekTexts.seeks_by, SeekTexts.seeks_of_by, Statements.HasTable}
 use Rattle.sql_meanings.proofs.Texts.{IsSelect, only_reads, select_of}
 use Rattle.store_rows.specs.believed.BankTables as bank
-use Rattle.walked_rows.specs.OnlyMeta.{meta_with}
-use Rattle.walked_rows.specs.References.{text_shown}
-use Rattle.walked_rows.specs.declared.ahead.TheConstants.{AHEAD}
-use Rattle.walked_rows.specs.declared.texts.TheConstants.{ACCOUNTS_FROM, BRANCHES_FROM, FLOORS_FROM}
-use Rattle.walked_rows.specs.declared.texts.TheConstants.{METAS_FROM, POSTINGS_FROM, POSTINGS_OF}
-use Rattle.walked_rows.specs.declared.texts.TheConstants.{REFERENCES_FROM, REQUESTS_FROM, TELLERS_FROM}
+use Rattle.walked_rows.specs.{OnlyMeta.meta_with, References.text_shown, declared.ahead.TheConstants.AHEAD}
+use Rattle.walked_rows.specs.declared.texts.TheConstants.{ACCOUNTS_FROM, BRANCHES_FROM, FLOORS_FROM, METAS_FROM}
+use Rattle.walked_rows.specs.declared.texts.TheConstants.{POSTINGS_FROM, POSTINGS_OF, REFERENCES_FROM, REQUESTS_FROM}
+use Rattle.walked_rows.specs.declared.texts.TheConstants.{TELLERS_FROM}
 use Rattle.walked_rows.proofs.Shows.{shows_five, shows_one, shows_seven, shows_two, shows_text}
 use Rattle.walked_rows.proofs.Sought.{Walks, WalksAs}
 

@@ -1,6 +1,5 @@
 -- The lines of what was found, or why there are none.
-use Rattle.std.proofs.Common.{Err, ap, refl}
-use Rattle.std.proofs.KnownBytes.{Keeps-refl}
+use Rattle.std.proofs.{Common.Err, Common.ap, Common.refl, KnownBytes.Keeps-refl}
 use Rattle.bank_commands.proofs.replaying.print_first.Goals as goal
 
 pub returns-in-Some : goal.returns-in-Some

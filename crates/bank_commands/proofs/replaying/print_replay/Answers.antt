@@ -1,6 +1,5 @@
 -- The lines of what was found, or its fault.
-use Rattle.std.proofs.Common.{Err, ap}
-use Rattle.std.proofs.KnownBytes.{Keeps-refl}
+use Rattle.std.proofs.{Common.Err, Common.ap, KnownBytes.Keeps-refl}
 use Rattle.bank_commands.proofs.replaying.print_replay.Goals as goal
 
 pub returns-in-Agrees : goal.returns-in-Agrees

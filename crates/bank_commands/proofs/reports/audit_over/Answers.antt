@@ -1,7 +1,6 @@
 -- The bank that was found is the one that was audited.
 use Rattle.std.proofs.Common.{inl, inr, refl}
-use Rattle.bank_commands.proofs.Spared.{found_spares, refused_spares}
-use Rattle.bank_commands.proofs.Told.{refused_not_write}
+use Rattle.bank_commands.proofs.{Spared.found_spares, Spared.refused_spares, Told.refused_not_write}
 use Rattle.bank_commands.proofs.reports.audit_over.Goals as goal
 
 pub returns-in-Err : goal.returns-in-Err

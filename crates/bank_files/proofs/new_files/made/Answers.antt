@@ -1,7 +1,6 @@
 -- A store that was made has the version of the schema alone, and no tree.
 use Rattle.std.proofs.Common.{ap, ◌∙◌}
-use Rattle.sqlite_store.specs.Listed.{catalog_rows}
-use Rattle.sqlite_store.specs.Listing.{listed_from}
+use Rattle.sqlite_store.specs.{Listed.catalog_rows, Listing.listed_from}
 use Rattle.sqlite_trees.proofs.Doubt.{no_doubt}
 use Rattle.bank_files.proofs.new_files.made.Goals as goal
 

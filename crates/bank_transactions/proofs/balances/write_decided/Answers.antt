@@ -1,7 +1,6 @@
 -- What the write of the count leaves.
 use Rattle.std.proofs.Common.{true, refl}
-use Rattle.posting_rules.specs.believed.Changes.{with_decided}
-use Rattle.posting_rules.specs.declared.fault.Rule.TheVariants.{Meta}
+use Rattle.posting_rules.specs.{believed.Changes.with_decided, declared.fault.Rule.TheVariants.Meta}
 use Rattle.store_rows.specs.believed.BankTables.{meta}
 use Rattle.bank_transactions.proofs.Statements.{does_write}
 use Rattle.bank_transactions.proofs.balances.write_decided.Goals as goal

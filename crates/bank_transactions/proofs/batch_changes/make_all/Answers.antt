@@ -1,8 +1,7 @@
 -- One change more is made.
 use Rattle.std.proofs.Common.{◌≡◌, ◌<◌, Err, take, length, rules, arith, refl, ap}
 use Rattle.std.proofs.Math.Seq.{take-length}
-use Rattle.bank_transactions.proofs.Chained.{does_none, does_err, does_for}
-use Rattle.bank_transactions.proofs.Loops.{make_more}
+use Rattle.bank_transactions.proofs.{Chained.does_none, Chained.does_err, Chained.does_for, Loops.make_more}
 use Rattle.bank_transactions.proofs.batch_changes.make_all.Goals as goal
 
 pub loop-change-init : goal.loop-change-init

@@ -1,18 +1,13 @@
 -- Eight requests more are put in, and at the end those that are left.
 use Rattle.std.proofs.Common.{◌≡◌, ◌++◌, [], List, Err, rules, arith, refl, sym, subst}
 use Rattle.std.proofs.lemmas.List.{take-append-drop}
-use Rattle.std.specs.Prelude.{IsTrue}
-use Rattle.sqlite.specs.Held.{state}
-use Rattle.sqlite.specs.State.{HasCleanDisk}
+use Rattle.sqlite.specs.{Held.state, State.HasCleanDisk}
 use Rattle.posting_rules.specs.declared.rows.RequestRow.{RequestRow}
 use Rattle.store_rows.specs.SeveralRows.{PutsNew}
-use Rattle.bank_transactions.specs.Additions.{adds_each}
-use Rattle.bank_transactions.specs.InParts.{requests_in_parts}
-use Rattle.bank_transactions.specs.InTurn.{requests_in_turn}
+use Rattle.bank_transactions.specs.{Additions.adds_each, InParts.requests_in_parts, InTurn.requests_in_turn}
 use Rattle.bank_transactions.proofs.Chained.{does_err, does_none, does_for, still_in}
-use Rattle.bank_transactions.proofs.Loops.{all_more, some_more, stands_more}
+use Rattle.bank_transactions.proofs.{Loops.all_more, Loops.some_more, Loops.stands_more, Rows.requests_added}
 use Rattle.bank_transactions.proofs.NewRequests.{news_none, news_then, on_ok}
-use Rattle.bank_transactions.proofs.Rows.{requests_added}
 use Rattle.bank_transactions.proofs.batch_changes.put_requests.Goals as goal
 
 pub loop-eight-init : goal.loop-eight-init

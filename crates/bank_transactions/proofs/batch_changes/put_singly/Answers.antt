@@ -1,29 +1,17 @@
 -- One request more is put in.
-use Rattle.std.proofs.Common.{◌≡◌, ◌<◌, ◌+◌, ◌++◌, [], ◌∷◌, List, Err, take, get_or, length, rules, arith, refl, sym}
-use Rattle.std.proofs.Common.{ap}
-use Rattle.std.proofs.Common.{◌∙◌, subst}
-use Rattle.std.proofs.lemmas.List.{take_more}
-use Rattle.std.proofs.Math.Seq.{take-length}
-use Rattle.std.specs.Prelude.{IsTrue}
-use Rattle.sqlite.specs.Effect.{Database}
-use Rattle.sqlite.specs.Held.{state}
-use Rattle.sqlite.specs.State.{HasCleanDisk}
-use Rattle.posting_rules.specs.believed.Changes.{with_request}
-use Rattle.posting_rules.specs.believed.Tables.{request_key}
+use Rattle.std.proofs.Common.{◌≡◌, ◌<◌, ◌+◌, ◌++◌, [], ◌∷◌, List, Err, take, length, rules, arith, refl, sym, ap, ◌∙◌}
+use Rattle.std.proofs.Common.{subst}
+use Rattle.std.proofs.{lemmas.List.take_more, Math.Seq.take-length}
+use Rattle.sqlite.specs.{Held.state, State.HasCleanDisk}
+use Rattle.posting_rules.specs.believed.{Changes.with_request, Tables.request_key}
 use Rattle.posting_rules.specs.declared.rows.RequestRow.{RequestRow}
 use Rattle.posting_batch.specs.Overlay.{requests_put}
-use Rattle.store_rows.specs.believed.BankTables.{request}
-use Rattle.store_rows.specs.believed.SeveralRows.{given}
-use Rattle.store_rows.specs.SeveralRows.{PutsNew}
-use Rattle.store_rows.specs.believed.View.{request_entry}
-use Rattle.store_rows.specs.believed.Inserts.{request_insert}
-use Rattle.bank_transactions.specs.Additions.{adds_each}
-use Rattle.bank_transactions.specs.InTurn.{requests_in_turn}
-use Rattle.bank_transactions.specs.Writing.{MayAddRequests}
+use Rattle.store_rows.specs.{believed.BankTables.request, believed.SeveralRows.given, SeveralRows.PutsNew}
+use Rattle.store_rows.specs.{believed.View.request_entry, believed.Inserts.request_insert}
+use Rattle.bank_transactions.specs.{Additions.adds_each, InTurn.requests_in_turn, Writing.MayAddRequests}
 use Rattle.bank_transactions.proofs.Chained.{does_none, does_err, does_for, still_in}
-use Rattle.bank_transactions.proofs.Loops.{make_more}
+use Rattle.bank_transactions.proofs.{Loops.make_more, Rows.adds_request, Rows.request_put, Rows.row_added}
 use Rattle.bank_transactions.proofs.NewRequests.{news_none, news_then}
-use Rattle.bank_transactions.proofs.Rows.{adds_request, request_put, row_added}
 use Rattle.bank_transactions.proofs.batch_changes.put_singly.Goals as goal
 
 pub loop-row-init : goal.loop-row-init

@@ -1,14 +1,11 @@
 -- The requests so far are put in.
 use Rattle.std.proofs.Common.{Ok, take}
 use Rattle.std.specs.Prelude.{IsTrue}
-use Rattle.sqlite.specs.Held.{state}
-use Rattle.sqlite.specs.State.{HasCleanDisk}
+use Rattle.sqlite.specs.{Held.state, State.HasCleanDisk}
 use Rattle.sqlite_rules.specs.Lists.{Has}
 use Rattle.posting_batch.specs.Overlay.{requests_put}
 use Rattle.store_rows.specs.SeveralRows.{PutsNew}
-use Rattle.bank_transactions.specs.believed.Additions.{AddsRequests}
-use Rattle.bank_transactions.specs.Doing.{Does}
-use Rattle.bank_transactions.specs.Writing.{MayAddRequests}
+use Rattle.bank_transactions.specs.{believed.Additions.AddsRequests, Doing.Does, Writing.MayAddRequests}
 use Rattle.bank_transactions.proofs.batch_changes.put_singly.Given as goal
 
 abbrev pub invariant-loop-row : goal.invariant-loop-row

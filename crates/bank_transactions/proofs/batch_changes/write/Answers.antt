@@ -1,8 +1,7 @@
 -- The requests of a batch are written, and then the rest.
 use Rattle.std.proofs.Common.{◌≡◌, Err, rules}
 use Rattle.posting_batch.specs.View.{view}
-use Rattle.bank_transactions.proofs.Chained.{does_err}
-use Rattle.bank_transactions.proofs.Together.{all_written, requests_first}
+use Rattle.bank_transactions.proofs.{Chained.does_err, Together.all_written, Together.requests_first}
 use Rattle.bank_transactions.proofs.batch_changes.write.Goals as goal
 
 pub returns-in_err-put_requests : goal.returns-in_err-put_requests

@@ -1,12 +1,9 @@
 -- The tables of a batch that are written one after another, after its requests.
 use Rattle.std.proofs.Common.{◌≡◌, Err, rules, refl, ℕ}
-use Rattle.posting_rules.specs.believed.Changes.{with_decided}
-use Rattle.posting_rules.specs.believed.Tables.{Tables}
-use Rattle.posting_batch.specs.Overlay.{decided_put}
-use Rattle.posting_batch.specs.View.{view}
+use Rattle.posting_rules.specs.believed.{Changes.with_decided, Tables.Tables}
+use Rattle.posting_batch.specs.{Overlay.decided_put, View.view}
 use Rattle.bank_transactions.proofs.Chained.{does_adds, does_none, does_then, does_err, does_for}
-use Rattle.bank_transactions.proofs.Together.{step, accounts, tellers, branches, postings}
-use Rattle.bank_transactions.proofs.Together.{references}
+use Rattle.bank_transactions.proofs.Together.{step, accounts, tellers, branches, postings, references}
 use Rattle.bank_transactions.proofs.batch_changes.write_after.Goals as goal
 
 counted : (n : ℕ) (t : Tables) → with_decided n t ≡ decided_put n t

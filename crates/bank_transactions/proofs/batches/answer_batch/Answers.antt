@@ -1,16 +1,12 @@
 -- A batch that is filled, judged and written.
 use Rattle.std.proofs.Common.{◌≡◌, Err, rules, arith, refl}
-use Rattle.sqlite.specs.State.{HasCleanDisk}
-use Rattle.sqlite.specs.Held.{state}
+use Rattle.sqlite.specs.{State.HasCleanDisk, Held.state}
 use Rattle.posting_batch.specs.View.{view}
 use Rattle.bank_transactions.proofs.Chained.{acts_read, does_adds, does_err}
-use Rattle.bank_transactions.proofs.Added.{adds_of_batch}
+use Rattle.bank_transactions.proofs.{Added.adds_of_batch, HeldBatch.homes_made, HeldBatch.in_turn, LookUps.does_look}
 use Rattle.bank_transactions.proofs.JudgedSlots.{answered_idle, answered_not, answered_written, counts_none}
 use Rattle.bank_transactions.proofs.JudgedSlots.{judging_all, ready}
-use Rattle.bank_transactions.proofs.HeldBatch.{homes_made, in_turn}
-use Rattle.bank_transactions.proofs.LookUps.{does_look}
-use Rattle.bank_transactions.proofs.batches.answer_batch.Goals.{then-judged-before+in_ok-write}
-use Rattle.bank_transactions.proofs.batches.answer_batch.Goals.{else-judged-before}
+use Rattle.bank_transactions.proofs.batches.answer_batch.Goals.{then-judged-before+in_ok-write, else-judged-before}
 use Rattle.bank_transactions.proofs.batches.answer_batch.Goals as goal
 
 pub returns-in_err-fill-clause-says : goal.returns-in_err-fill-clause-says

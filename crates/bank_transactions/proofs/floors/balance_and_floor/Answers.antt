@@ -4,19 +4,12 @@ use Rattle.std.proofs.Common.{◌∙◌, arith}
 use Rattle.std.specs.Prelude.{int_lt}
 use Rattle.std.proofs.lemmas.Int.{ints}
 use Rattle.message_records.specs.declared.limits.TheConstants.{MAX_ACCOUNT}
-use Rattle.sqlite.specs.Effect.{Database}
-use Rattle.sqlite.specs.Held.{state}
-use Rattle.sqlite.specs.State.{HasCleanDisk}
-use Rattle.posting_rules.specs.believed.Numbering.{branch_of_account}
-use Rattle.store_rows.specs.believed.Rules.{row_under}
-use Rattle.store_rows.specs.believed.Stored.{BalanceKeeps, FindsStored, IsBalance}
-use Rattle.bank_transactions.specs.Floors.{falls_below}
-use Rattle.bank_transactions.specs.believed.Stored.{IsStoredFloor}
-use Rattle.bank_transactions.proofs.Broken.{below_broken}
-use Rattle.bank_transactions.proofs.FittingAccounts.{is_above}
-use Rattle.bank_transactions.proofs.SoundRows.{not_below}
+use Rattle.sqlite.specs.{Effect.Database, Held.state, State.HasCleanDisk}
+use Rattle.posting_rules.specs.believed.{Numbering.branch_of_account, LookUps.account_balance_in, LookUps.floor_in}
+use Rattle.store_rows.specs.believed.{Rules.row_under, Stored.BalanceKeeps, Stored.FindsStored, Stored.IsBalance}
+use Rattle.bank_transactions.specs.{Floors.falls_below, believed.Stored.IsStoredFloor}
+use Rattle.bank_transactions.proofs.{Broken.below_broken, FittingAccounts.is_above, SoundRows.not_below}
 use Rattle.bank_transactions.proofs.ReadsInTurn.{reads_both, reads_but, reads_told}
-use Rattle.posting_rules.specs.believed.LookUps.{account_balance_in, floor_in}
 use Rattle.bank_transactions.proofs.floors.balance_and_floor.Goals as goal
 
 -- there are both, and the balance is below the floor

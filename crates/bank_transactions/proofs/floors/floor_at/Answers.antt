@@ -2,8 +2,7 @@
 use Rattle.std.proofs.Common.{◌≡◌, Some, Err, rules, sym, ap, ◌∙◌, arith}
 use Rattle.std.specs.Prelude.{option_map}
 use Rattle.std.proofs.lemmas.Int.{ints}
-use Rattle.posting_rules.specs.believed.LookUps.{lowest_of}
-use Rattle.posting_rules.specs.believed.Tables.{row_at, floor_key}
+use Rattle.posting_rules.specs.believed.{LookUps.lowest_of, Tables.row_at, Tables.floor_key}
 use Rattle.store_rows.specs.TableAnswers.{BreaksFloor}
 use Rattle.bank_transactions.proofs.Broken.{above_zero_broken, floor_broken}
 use Rattle.bank_transactions.proofs.ReadsInTurn.{find_failed, find_tells}

@@ -1,16 +1,11 @@
 -- What the row of a branch tells.
-use Rattle.std.proofs.Common.{◌≡◌, ℕ, Option, Some, Result, Ok, Err, rules, sym, ap, subst, ◌∙◌}
-use Rattle.std.proofs.Common.{inl, inr, arith}
-use Rattle.posting_rules.specs.believed.Tables.{row_at, branch_key}
-use Rattle.store_rows.specs.TableAnswers.{BreaksBranch}
+use Rattle.std.proofs.Common.{◌≡◌, ℕ, Option, Some, Result, Ok, Err, rules, sym, ap, subst, ◌∙◌, inl, inr, arith}
+use Rattle.posting_rules.specs.{believed.Tables.row_at, believed.Tables.branch_key, declared.rows.BranchRow.BranchRow}
+use Rattle.store_rows.specs.{TableAnswers.BreaksBranch, believed.Stored.FindsStored, Stored.IsBranch}
 use Rattle.std.specs.Prelude.{option_and_then}
-use Rattle.message_records.specs.believed.Ranges.{whole_within}
-use Rattle.message_records.specs.declared.limits.TheConstants.{MAX_BRANCH}
-use Rattle.posting_rules.specs.declared.rows.BranchRow.{BranchRow}
+use Rattle.message_records.specs.{believed.Ranges.whole_within, declared.limits.TheConstants.MAX_BRANCH}
 use Rattle.sql_meanings.specs.believed.Entries.{Entry}
 use Rattle.store_rows.specs.believed.Rules.{BranchKeeps, StoredRows, branch_under, row_under}
-use Rattle.store_rows.specs.believed.Stored.{FindsStored}
-use Rattle.store_rows.specs.Stored.{IsBranch}
 use Rattle.store_rows.specs.declared.fault.TableFault.{TableFault}
 use Rattle.bank_transactions.proofs.Broken.{branch_broken, count_broken, openable_under}
 use Rattle.bank_transactions.proofs.ReadsInTurn.{find_failed, find_tells}

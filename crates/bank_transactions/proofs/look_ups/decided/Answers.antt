@@ -1,23 +1,18 @@
 -- What the row of the bank tells of how many requests are decided.
-use Rattle.std.proofs.Common.{◌≡◌, ◌≤◌, ◌<◌, ℕ, ℤ, pos, negsuc, nat_abs, [], ◌∷◌, Some, None, Option, Err}
-use Rattle.std.proofs.Common.{false, true, rules, arith, sym, ap, refl, ◌∙◌}
+use Rattle.std.proofs.Common.{◌≡◌, ◌≤◌, ◌<◌, ℕ, ℤ, pos, negsuc, nat_abs, [], ◌∷◌, Some, None, Option, Err, false}
+use Rattle.std.proofs.Common.{true, rules, arith, sym, ap, refl, ◌∙◌}
 use Rattle.std.specs.Prelude.{int_lt}
 use Rattle.std.proofs.lemmas.Int.{ints}
 use Rattle.sqlite.specs.Held.{state}
 use Rattle.posting_rules.specs.declared.limits.TheConstants.{MAX_DECIDED}
-use Rattle.store_rows.specs.believed.Columns.{meta_in}
-use Rattle.store_rows.specs.TableAnswers.{Never}
-use Rattle.store_rows.specs.believed.View.{meta_entry}
-use Rattle.store_rows.specs.declared.metas.TheConstants.{VERSION}
-use Rattle.store_rows.specs.declared.metas.StoredMeta.{StoredMeta}
+use Rattle.store_rows.specs.{believed.Columns.meta_in, TableAnswers.Never, believed.View.meta_entry}
+use Rattle.store_rows.specs.{declared.metas.TheConstants.VERSION, declared.metas.StoredMeta.StoredMeta}
 use Rattle.store_rows.proofs.MetaRow.{has_one}
-use Rattle.bank_transactions.proofs.Broken.{meta_broken, never_broken}
-use Rattle.bank_transactions.proofs.ReadsInTurn.{read_failed}
-use Rattle.bank_transactions.proofs.SoundRows.{err_found}
+use Rattle.bank_transactions.proofs.{Broken.meta_broken, Broken.never_broken, ReadsInTurn.read_failed}
+use Rattle.bank_transactions.proofs.{SoundRows.err_found, look_ups.decided.Goals.then-meta-lt0-via-then-meta-lt0}
+use Rattle.bank_transactions.proofs.{look_ups.decided.Goals.then-meta-lt0-via-else-meta-lt0+then-meta-gt-MAX_DECIDED}
 use mir.Val.{to_z, of_z}
 use mir.Syntax.{w64}
-use Rattle.bank_transactions.proofs.look_ups.decided.Goals.{then-meta-lt0-via-then-meta-lt0}
-use Rattle.bank_transactions.proofs.look_ups.decided.Goals.{then-meta-lt0-via-else-meta-lt0+then-meta-gt-MAX_DECIDED}
 use Rattle.bank_transactions.proofs.look_ups.decided.Goals as goal
 
 -- the row that was told is the one row of these tables

@@ -1,23 +1,15 @@
 -- What the row of a kept request tells, and the row of its reference.
-use Rattle.std.proofs.Common.{◌≡◌, ◌≤◌, ℕ, pos, find, List, Option, Ok, Err, Some, rules, arith, sym, ap}
-use Rattle.std.proofs.Common.{subst, ◌∙◌}
+use Rattle.std.proofs.Common.{◌≡◌, ◌≤◌, ℕ, pos, find, List, Option, Ok, Err, Some, rules, arith, sym, ap, subst, ◌∙◌}
 use Rattle.std.specs.Prelude.{nat_abs, is_some, option_map}
-use Rattle.sqlite.specs.Effect.{Database}
-use Rattle.sqlite.specs.Held.{state}
-use Rattle.sqlite.specs.State.{HasCleanDisk}
-use Rattle.posting_rules.specs.believed.Kept.{KeptFields, kept_with}
-use Rattle.posting_rules.specs.believed.LookUps.{kept_of_row}
+use Rattle.sqlite.specs.{Effect.Database, Held.state, State.HasCleanDisk}
+use Rattle.posting_rules.specs.believed.{Kept.KeptFields, Kept.kept_with, LookUps.kept_of_row}
 use Rattle.posting_rules.specs.declared.rows.RequestRow.{RequestRow}
 use Rattle.sql_meanings.specs.believed.Entries.{has_two}
-use Rattle.store_rows.specs.Columns.{request_in}
-use Rattle.store_rows.specs.TableAnswers.{BreaksRequest}
-use Rattle.store_rows.specs.believed.Rules.{HoldsBank, RequestKeeps, StoredRows}
-use Rattle.store_rows.specs.believed.Stored.{FindsStored}
-use Rattle.store_rows.specs.Stored.{IsSameRequest}
+use Rattle.store_rows.specs.{Columns.request_in, TableAnswers.BreaksRequest, Stored.IsSameRequest}
+use Rattle.store_rows.specs.believed.{Rules.HoldsBank, Rules.RequestKeeps, Rules.StoredRows, Stored.FindsStored}
 use Rattle.bank_transactions.specs.believed.Stored.{HoldsKept, HoldsReference}
 use Rattle.bank_transactions.proofs.Broken.{delta_broken, request_broken}
-use Rattle.bank_transactions.proofs.ReadsInTurn.{after_found, find_failed, find_tells, reads_both}
-use Rattle.bank_transactions.proofs.ReadsInTurn.{reads_told}
+use Rattle.bank_transactions.proofs.ReadsInTurn.{after_found, find_failed, find_tells, reads_both, reads_told}
 use Rattle.bank_transactions.proofs.SoundRows.{is_a_request, request_is, request_unbroken}
 use Rattle.message_records.specs.declared.limits.TheConstants.{MAX_DELTA}
 use Rattle.bank_transactions.proofs.look_ups.kept_request.Goals as goal

@@ -1,15 +1,10 @@
 -- What the balance of an account tells.
 use Rattle.std.proofs.Common.{◌≡◌, ℕ, Ok, Err, rules, sym, subst, arith}
-use Rattle.sqlite.specs.Effect.{Database}
-use Rattle.sqlite.specs.Held.{state}
-use Rattle.sqlite.specs.State.{HasCleanDisk}
+use Rattle.sqlite.specs.{Effect.Database, Held.state, State.HasCleanDisk}
 use Rattle.store_rows.specs.believed.Rules.{BranchKeeps, HoldsBank, branch_under}
-use Rattle.store_rows.specs.believed.Stored.{FindsStored}
-use Rattle.store_rows.specs.Stored.{IsBranch}
-use Rattle.bank_transactions.proofs.FittingAccounts.{fits}
+use Rattle.store_rows.specs.{believed.Stored.FindsStored, Stored.IsBranch}
+use Rattle.bank_transactions.proofs.{FittingAccounts.fits, FailedBalances.balance_failed, ReadsInTurn.after_found}
 use Rattle.store_rows.specs.declared.holders.Member.TheVariants.{Account}
-use Rattle.bank_transactions.proofs.FailedBalances.{balance_failed}
-use Rattle.bank_transactions.proofs.ReadsInTurn.{after_found}
 use Rattle.bank_transactions.proofs.look_ups.open_balance.Goals as goal
 
 pub returns-in_err-balance-clause-says : goal.returns-in_err-balance-clause-says

@@ -1,12 +1,10 @@
 -- What the row of a reference tells.
 use Rattle.std.proofs.Common.{◌≡◌, Err, rules, sym, ap, ◌∙◌}
 use Rattle.std.specs.Prelude.{option_map}
-use Rattle.posting_rules.specs.believed.LookUps.{text_of_reference}
-use Rattle.posting_rules.specs.believed.Tables.{row_at, reference_key}
+use Rattle.posting_rules.specs.believed.{LookUps.text_of_reference, Tables.row_at, Tables.reference_key}
 use Rattle.store_rows.specs.TableAnswers.{BreaksReference}
-use Rattle.bank_transactions.proofs.Broken.{reference_broken}
+use Rattle.bank_transactions.proofs.{Broken.reference_broken, SoundRows.reference_unbroken}
 use Rattle.bank_transactions.proofs.ReadsInTurn.{find_failed, find_tells}
-use Rattle.bank_transactions.proofs.SoundRows.{reference_unbroken}
 use Rattle.bank_transactions.proofs.look_ups.reference_at.Goals as goal
 
 pub returns-in_err-row-clause-says : goal.returns-in_err-row-clause-says

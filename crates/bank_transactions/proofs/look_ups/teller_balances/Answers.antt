@@ -1,11 +1,8 @@
 -- What the balance of a teller tells.
 use Rattle.std.proofs.Common.{◌≡◌, ◌≤◌, ℕ, ℤ, Option, Some, None, Ok, Err, rules, sym, ap, subst, ◌∙◌, arith}
 use Rattle.std.specs.Prelude.{is_some}
-use Rattle.sqlite.specs.Effect.{Database}
-use Rattle.sqlite.specs.Held.{state}
-use Rattle.sqlite.specs.State.{HasCleanDisk}
-use Rattle.posting_rules.specs.believed.Numbering.{branch_of_teller}
-use Rattle.posting_rules.specs.declared.rows.BranchRow.{BranchRow}
+use Rattle.sqlite.specs.{Effect.Database, Held.state, State.HasCleanDisk}
+use Rattle.posting_rules.specs.{believed.Numbering.branch_of_teller, declared.rows.BranchRow.BranchRow}
 use Rattle.store_rows.specs.believed.Rules.{BranchKeeps, HoldsBank, OfRows, branch_under, row_under}
 use Rattle.store_rows.specs.believed.Stored.{BalanceKeeps, FindsStored, IsBalance}
 use Rattle.store_rows.specs.Stored.{IsBranch}

@@ -1,36 +1,24 @@
 -- A branch, then its tellers, then its accounts.
-use Rattle.std.proofs.Common.{◌≡◌, ◌+◌, ◌<◌, ◌≤◌, ℕ, ℤ, None, Ok, Err, Result, false, rules, refl, ap}
-use Rattle.std.proofs.Common.{subst, inl, inr}
+use Rattle.std.proofs.Common.{◌≡◌, ◌+◌, ◌<◌, ◌≤◌, ℕ, ℤ, None, Ok, Err, Result, false, rules, refl, ap, subst, inl}
+use Rattle.std.proofs.Common.{inr}
 use Rattle.std.specs.Prelude.{is_some, pos}
-use Rattle.sqlite.specs.State.{State}
-use Rattle.sqlite.specs.declared.transaction.Transaction.{Transaction}
+use Rattle.sqlite.specs.{State.State, declared.transaction.Transaction.Transaction}
 use Rattle.sqlite_trees.specs.declared.store.Store.{Ghosts}
 use Rattle.posting_rules.specs.declared.rows.BranchRow.{BranchRow}
-use Rattle.posting_rules.specs.believed.Changes.{with_branch}
-use Rattle.posting_rules.specs.Sound.{AreSound}
-use Rattle.posting_rules.specs.believed.Commands.{opened_with}
+use Rattle.posting_rules.specs.{believed.Changes.with_branch, Sound.AreSound, believed.Commands.opened_with}
 use Rattle.posting_rules.specs.believed.Numbering.{first_teller, first_account}
 use Rattle.posting_rules.specs.believed.Tables.{Tables, row_at, branch_key, branch_row_of}
 use Rattle.sql_meanings.specs.Calls.{Says, Inside}
-use Rattle.store_rows.specs.Calls.{OfTables}
-use Rattle.store_rows.specs.believed.Failures.{Additions}
-use Rattle.store_rows.specs.Failures.{Puts}
-use Rattle.store_rows.specs.Sparing.{SparesIfOk}
-use Rattle.store_rows.specs.TableAnswers.{PutsOneRow}
-use Rattle.store_rows.specs.believed.BankTables.{branch}
-use Rattle.store_rows.specs.believed.SeveralRows.{given}
-use Rattle.store_rows.specs.believed.View.{branch_entry}
-use Rattle.store_rows.specs.believed.Inserts.{branch_insert}
-use Rattle.store_rows.specs.declared.fault.TableFault.{TableFault}
+use Rattle.store_rows.specs.{Calls.OfTables, Failures.Puts, Sparing.SparesIfOk, TableAnswers.PutsOneRow}
+use Rattle.store_rows.specs.{believed.Inserts.branch_insert, declared.fault.TableFault.TableFault}
+use Rattle.store_rows.specs.believed.{Failures.Additions, BankTables.branch, SeveralRows.given, View.branch_entry}
 use Rattle.bank_transactions.specs.believed.Additions.{AddsBranch, AddsRange}
-use Rattle.bank_transactions.specs.Doing.{Does}
-use Rattle.bank_transactions.specs.NewRows.{is_taken, with_new_rows}
+use Rattle.bank_transactions.specs.{Doing.Does, Doing.Leaves, NewRows.is_taken, NewRows.with_new_rows}
 use Rattle.bank_transactions.specs.declared.new_branch.NewRows.TheVariants.{Accounts, Tellers}
 use Rattle.bank_transactions.proofs.Chained.{does_adds, does_then, does_err, does_for}
 use Rattle.bank_transactions.proofs.OpeningRows.{opened_is, next_teller, next_account}
 use Rattle.bank_transactions.proofs.Statements.{does_add}
 use Rattle.bank_transactions.proofs.Left.{leaves_add, leaves_err, leaves_for, leaves_then}
-use Rattle.bank_transactions.specs.Doing.{Leaves}
 use Rattle.bank_transactions.proofs.new_branch.add_branch_with_rows.Goals as goal
 
 -- a branch that isn't open

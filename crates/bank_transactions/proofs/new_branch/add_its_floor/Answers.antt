@@ -1,15 +1,10 @@
 -- The row of the floor, where there is one.
 use Rattle.std.proofs.Common.{◌≡◌, None, ap, rules, refl}
 use Rattle.std.specs.Prelude.{is_some, Some}
-use Rattle.posting_rules.specs.believed.Changes.{with_floor}
-use Rattle.posting_rules.specs.believed.Tables.{row_at, floor_key}
+use Rattle.posting_rules.specs.believed.{Changes.with_floor, Tables.row_at, Tables.floor_key}
 use Rattle.posting_rules.proofs.ChangesByKey.{no_floor_more}
-use Rattle.store_rows.specs.believed.BankTables.{floor}
-use Rattle.store_rows.specs.believed.SeveralRows.{given}
-use Rattle.store_rows.specs.believed.View.{floor_entry}
-use Rattle.store_rows.specs.believed.Inserts.{floor_insert}
-use Rattle.bank_transactions.proofs.Chained.{does_for, does_none}
-use Rattle.bank_transactions.proofs.Statements.{does_add}
+use Rattle.store_rows.specs.believed.{BankTables.floor, SeveralRows.given, View.floor_entry, Inserts.floor_insert}
+use Rattle.bank_transactions.proofs.{Chained.does_for, Chained.does_none, Statements.does_add}
 use Rattle.bank_transactions.proofs.Left.{leaves_add, leaves_for, leaves_none}
 use Rattle.bank_transactions.proofs.new_branch.add_its_floor.Goals as goal
 

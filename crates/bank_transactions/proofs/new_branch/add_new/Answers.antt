@@ -1,12 +1,10 @@
 -- A row more, with nothing on it.
 use Rattle.std.proofs.Common.{◌≡◌, rules, pos, refl}
-use Rattle.store_rows.specs.believed.BankTables.{account, teller}
-use Rattle.store_rows.specs.believed.SeveralRows.{given}
+use Rattle.store_rows.specs.believed.{BankTables.account, BankTables.teller, SeveralRows.given}
 use Rattle.bank_transactions.specs.believed.Additions.{entry_of, insert_of}
 use Rattle.bank_transactions.specs.NewRows.{is_taken, with_new}
 use Rattle.bank_transactions.specs.declared.new_branch.NewRows.TheVariants.{Tellers, Accounts}
-use Rattle.bank_transactions.proofs.Statements.{does_add}
-use Rattle.bank_transactions.proofs.Left.{leaves_add}
+use Rattle.bank_transactions.proofs.{Statements.does_add, Left.leaves_add}
 use Rattle.bank_transactions.proofs.new_branch.add_new.Goals as goal
 
 pub returns-in-Tellers-clause-does : goal.returns-in-Tellers-clause-does

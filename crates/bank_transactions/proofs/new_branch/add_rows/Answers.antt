@@ -1,7 +1,6 @@
 -- One row more.
 use Rattle.std.proofs.Common.{◌≡◌, ◌+◌, ◌<◌, ℕ, suc, Err, Ok, false, rules, sym, subst, arith}
-use Rattle.bank_transactions.specs.believed.Additions.{AddsRange}
-use Rattle.bank_transactions.specs.Doing.{Does, Leaves}
+use Rattle.bank_transactions.specs.{believed.Additions.AddsRange, Doing.Does, Doing.Leaves}
 use Rattle.bank_transactions.specs.NewRows.{is_taken, with_new_rows}
 use Rattle.bank_transactions.proofs.Chained.{does_adds, does_none, does_then, does_err}
 use Rattle.bank_transactions.proofs.Left.{leaves_err, leaves_none, leaves_then}

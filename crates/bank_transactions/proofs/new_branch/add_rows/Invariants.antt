@@ -1,7 +1,6 @@
 -- The rows so far are there.
 use Rattle.std.proofs.Common.{◌≡◌, ◌+◌, ◌<◌, ℕ, Ok, false}
-use Rattle.bank_transactions.specs.believed.Additions.{AddsRange}
-use Rattle.bank_transactions.specs.Doing.{Does, Leaves}
+use Rattle.bank_transactions.specs.{believed.Additions.AddsRange, Doing.Does, Doing.Leaves}
 use Rattle.bank_transactions.specs.NewRows.{is_taken, with_new_rows}
 use Rattle.bank_transactions.proofs.new_branch.add_rows.Given as goal
 

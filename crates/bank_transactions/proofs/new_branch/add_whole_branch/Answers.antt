@@ -2,9 +2,8 @@
 use Rattle.std.proofs.Common.{◌≡◌, ℕ, ℤ, List, Option, Err, None, rules, refl, inl, inr}
 use Rattle.sqlite.specs.Order.{Row}
 use Rattle.bank_transactions.specs.believed.Additions.{AddsBranch}
-use Rattle.posting_rules.specs.believed.Commands.{opened_with}
+use Rattle.posting_rules.specs.{believed.Commands.opened_with, declared.limits.TheConstants.TELLERS_PER_BRANCH}
 use Rattle.posting_rules.proofs.ChangesByKey.{opening_floor_is_free}
-use Rattle.posting_rules.specs.declared.limits.TheConstants.{TELLERS_PER_BRANCH}
 use Rattle.bank_transactions.proofs.Chained.{does_adds, does_err, does_for, does_then}
 use Rattle.bank_transactions.proofs.Left.{leaves_err, leaves_then}
 use Rattle.bank_transactions.proofs.new_branch.add_whole_branch.Goals as goal

@@ -1,24 +1,16 @@
 -- What is answered where a branch is open, and what is added where it isn't.
-use Rattle.std.proofs.Common.{◌≡◌, ℕ, Option, None, Some, Err, rules, refl, sym, ◌∙◌}
-use Rattle.posting_rules.specs.believed.Changes.{tables_opened}
-use Rattle.posting_rules.specs.Changes.{opened_where, tables_with_branch}
-use Rattle.posting_rules.specs.believed.Commands.{Terms, opened_with}
-use Rattle.posting_rules.specs.believed.Counter.{opening_for}
-use Rattle.posting_rules.specs.believed.LookUps.{floor_in}
-use Rattle.posting_rules.specs.LookUps.{terms_in, terms_of_branch}
+use Rattle.std.proofs.Common.{◌≡◌, ℕ, Option, None, Some, Err, rules, refl, sym, ◌∙◌, arith, subst}
+use Rattle.posting_rules.specs.{believed.Changes.tables_opened, Changes.opened_where, Changes.tables_with_branch}
+use Rattle.posting_rules.specs.{believed.Commands.Terms, believed.Commands.opened_with, believed.Counter.opening_for}
+use Rattle.posting_rules.specs.{believed.LookUps.floor_in, LookUps.terms_in, LookUps.terms_of_branch}
+use Rattle.posting_rules.specs.{declared.counter.Opening.TheVariants.Opened, declared.rows.BranchRow.BranchRow}
 use Rattle.posting_rules.specs.believed.Tables.{Tables, row_at, branch_key}
-use Rattle.posting_rules.specs.declared.counter.Opening.TheVariants.{Opened}
-use Rattle.posting_rules.specs.declared.rows.BranchRow.{BranchRow}
 use Rattle.std.specs.Option.{option_map}
 use Rattle.bank_transactions.proofs.Chained.{acts_read, acts_wrote, does_both, does_but, does_err, does_for}
-use Rattle.bank_transactions.proofs.Chained.{does_tell}
+use Rattle.bank_transactions.proofs.Chained.{does_tell, still_in}
 use Rattle.bank_transactions.proofs.Statements.{does_read}
-use Rattle.std.proofs.Common.{arith, subst}
-use Rattle.sqlite.specs.Effect.{Database}
-use Rattle.sqlite.specs.Held.{state}
-use Rattle.sqlite.specs.State.{HasCleanDisk}
+use Rattle.sqlite.specs.{Effect.Database, Held.state, State.HasCleanDisk}
 use Rattle.store_rows.specs.believed.View.{Shows}
-use Rattle.bank_transactions.proofs.Chained.{still_in}
 use Rattle.bank_transactions.proofs.new_branch.open_inside.Goals as goal
 
 -- a branch that is open stays as it is

@@ -1,20 +1,13 @@
 -- What a branch was opened with, if it was.
-use Rattle.std.proofs.Common.{◌≡◌, ℕ, ℤ, None, Option, Some, Ok, Err, rules, refl, sym, ap, ◌∙◌}
+use Rattle.std.proofs.Common.{◌≡◌, ℕ, ℤ, None, Option, Some, Ok, Err, rules, refl, sym, ap, ◌∙◌, arith, subst}
 use Rattle.posting_rules.specs.believed.Commands.{Terms, opened_with}
-use Rattle.posting_rules.specs.believed.Counter.{opening_for}
-use Rattle.posting_rules.specs.believed.LookUps.{floor_in}
-use Rattle.posting_rules.specs.LookUps.{terms_in}
+use Rattle.posting_rules.specs.{believed.Counter.opening_for, believed.LookUps.floor_in, LookUps.terms_in}
+use Rattle.posting_rules.specs.{declared.counter.Opening.TheVariants.Opened, declared.rows.BranchRow.BranchRow}
 use Rattle.posting_rules.specs.believed.Tables.{Tables, row_at, branch_key}
-use Rattle.posting_rules.specs.declared.counter.Opening.TheVariants.{Opened}
-use Rattle.posting_rules.specs.declared.rows.BranchRow.{BranchRow}
 use Rattle.bank_transactions.proofs.ReadsInTurn.{reads_both, reads_but, reads_told}
-use Rattle.std.proofs.Common.{arith, subst}
-use Rattle.sqlite.specs.Effect.{Database}
-use Rattle.sqlite.specs.Held.{state}
-use Rattle.sqlite.specs.State.{HasCleanDisk}
+use Rattle.sqlite.specs.{Effect.Database, Held.state, State.HasCleanDisk}
 use Rattle.store_rows.specs.believed.Rules.{BranchKeeps, StoredRows, branch_under}
-use Rattle.store_rows.specs.believed.Stored.{FindsStored}
-use Rattle.store_rows.specs.Stored.{IsBranch}
+use Rattle.store_rows.specs.{believed.Stored.FindsStored, Stored.IsBranch}
 use Rattle.bank_transactions.specs.believed.Stored.{HoldsFloor, HoldsTerms, IsStoredFloor}
 use Rattle.bank_transactions.proofs.new_branch.opening_of.Goals as goal
 

@@ -1,8 +1,7 @@
 -- The transaction has one part, which reads.
 use Rattle.std.proofs.Common.{rules}
 use Rattle.bank_transactions.specs.NextBranch.{line_above}
-use Rattle.bank_transactions.proofs.Transacted.{consults, of_given}
-use Rattle.bank_transactions.proofs.Undone.{undoes_reads}
+use Rattle.bank_transactions.proofs.{Transacted.consults, Transacted.of_given, Undone.undoes_reads}
 use Rattle.bank_transactions.proofs.next_branch.read_next_branch.Goals as goal
 
 pub returns-clause-says : goal.returns-clause-says

@@ -1,12 +1,10 @@
 -- What the row of the next branch tells.
 use Rattle.std.proofs.Common.{◌≡◌, Err, Some, rules, sym, ◌∙◌, inl, inr, arith}
-use Rattle.store_rows.specs.Columns.{branch_above}
-use Rattle.store_rows.specs.TableAnswers.{BreaksBranch}
-use Rattle.bank_transactions.proofs.NextRow.{next_sound, next_unbroken}
+use Rattle.store_rows.specs.{Columns.branch_above, TableAnswers.BreaksBranch}
+use Rattle.bank_transactions.proofs.{NextRow.next_sound, NextRow.next_unbroken, ReadsInTurn.find_failed}
 use Rattle.sql_meanings.specs.Entries.{is_above}
 use Rattle.std.specs.Prelude.{pos}
 use Rattle.bank_transactions.proofs.Broken.{above_broken, next_broken, range_broken}
-use Rattle.bank_transactions.proofs.ReadsInTurn.{find_failed}
 use Rattle.bank_transactions.proofs.next_branch.row_after.Goals as goal
 
 pub returns-in_err-row-clause-says : goal.returns-in_err-row-clause-says

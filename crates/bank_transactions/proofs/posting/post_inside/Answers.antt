@@ -1,18 +1,13 @@
 -- A request whose slots are filled, judged and written.
 use Rattle.std.proofs.Common.{◌≡◌, Err, rules, arith, ap, ◌∙◌}
-use Rattle.sqlite.specs.Held.{state}
-use Rattle.sqlite.specs.State.{HasCleanDisk}
-use Rattle.posting_batch.specs.Judging.{found_over}
-use Rattle.posting_batch.specs.View.{view}
+use Rattle.sqlite.specs.{Held.state, State.HasCleanDisk}
+use Rattle.posting_batch.specs.{Judging.found_over, View.view}
 use Rattle.bank_transactions.specs.Filling.{emptied}
 use Rattle.bank_transactions.proofs.JudgedSlots.{answered_idle, answered_not, answered_written, homes_one}
 use Rattle.bank_transactions.proofs.JudgedSlots.{judging_one, ready_one}
 use Rattle.bank_transactions.proofs.Chained.{acts_read, does_adds, does_err}
-use Rattle.bank_transactions.proofs.Added.{adds_of_one}
-use Rattle.bank_transactions.proofs.HeldBatch.{found_stored}
-use Rattle.bank_transactions.proofs.LookUps.{does_look}
-use Rattle.bank_transactions.proofs.posting.post_inside.Goals.{then-overlay-before+in_ok-write}
-use Rattle.bank_transactions.proofs.posting.post_inside.Goals.{else-overlay-before}
+use Rattle.bank_transactions.proofs.{Added.adds_of_one, HeldBatch.found_stored, LookUps.does_look}
+use Rattle.bank_transactions.proofs.posting.post_inside.Goals.{then-overlay-before+in_ok-write, else-overlay-before}
 use Rattle.bank_transactions.proofs.posting.post_inside.Goals as goal
 
 pub returns-in_err-fill-clause-acts : goal.returns-in_err-fill-clause-acts

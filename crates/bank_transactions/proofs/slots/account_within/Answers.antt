@@ -1,14 +1,10 @@
 -- What the balance of an account tells.
-use Rattle.std.proofs.Common.{◌≡◌, Err, rules}
+use Rattle.std.proofs.Common.{◌≡◌, Err, rules, arith}
 use Rattle.store_rows.specs.declared.holders.Member.TheVariants.{Account}
-use Rattle.bank_transactions.proofs.FailedBalances.{balance_failed}
-use Rattle.bank_transactions.proofs.LookUps.{looks_again}
-use Rattle.std.proofs.Common.{arith}
-use Rattle.sqlite.specs.Held.{state}
-use Rattle.sqlite.specs.State.{HasCleanDisk}
+use Rattle.bank_transactions.proofs.{FailedBalances.balance_failed, LookUps.looks_again}
+use Rattle.sqlite.specs.{Held.state, State.HasCleanDisk}
 use Rattle.posting_rules.specs.believed.Numbering.{branch_of_account}
-use Rattle.bank_transactions.specs.Filling.{HoldsBranch}
-use Rattle.bank_transactions.specs.believed.Stored.{HoldsAccount, HoldsFloor}
+use Rattle.bank_transactions.specs.{Filling.HoldsBranch, believed.Stored.HoldsAccount, believed.Stored.HoldsFloor}
 use Rattle.bank_transactions.proofs.HeldRows.{held_before, account_held}
 use Rattle.bank_transactions.proofs.slots.account_within.Goals as goal
 

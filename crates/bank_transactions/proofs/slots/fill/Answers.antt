@@ -1,12 +1,9 @@
 -- What is kept of requests is filled after the rest.
 use Rattle.std.proofs.Common.{◌≡◌, Err, List, map, rules, arith, sym, ap, subst, ◌∙◌}
 use Rattle.std.specs.List.{AllByRecursion}
-use Rattle.sqlite.specs.Effect.{Database}
-use Rattle.sqlite.specs.Held.{state}
-use Rattle.sqlite.specs.State.{HasCleanDisk}
+use Rattle.sqlite.specs.{Effect.Database, Held.state, State.HasCleanDisk}
 use Rattle.smallvec.specs.SmallVec.{SmallVec, with_items}
-use Rattle.posting_batch.specs.declared.slots.RequestSlot.{RequestSlot}
-use Rattle.posting_batch.specs.View.{view}
+use Rattle.posting_batch.specs.{declared.slots.RequestSlot.RequestSlot, View.view}
 use Rattle.store_rows.specs.believed.Rules.{HoldsBank}
 use Rattle.bank_transactions.specs.Filling.{RequestHeld, emptied_request}
 use Rattle.bank_transactions.proofs.HeldSlots.{emptied_kept, put_back}

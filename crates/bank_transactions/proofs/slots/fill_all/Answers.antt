@@ -1,8 +1,6 @@
 -- One slot more is filled.
 use Rattle.std.proofs.Common.{◌<◌, Err, ◌≡◌, ◌+◌, ℕ, suc, length, rules, arith, refl, sym, subst, ◌∙◌}
-use Rattle.sqlite.specs.Effect.{Database}
-use Rattle.sqlite.specs.Held.{state}
-use Rattle.sqlite.specs.State.{HasCleanDisk}
+use Rattle.sqlite.specs.{Effect.Database, Held.state, State.HasCleanDisk}
 use Rattle.store_rows.specs.believed.Rules.{HoldsBank}
 use Rattle.bank_transactions.proofs.LookUps.{reads_none, reads_but, reads_so}
 use Rattle.bank_transactions.proofs.Loops.{fill_more, all_filled, next_is}

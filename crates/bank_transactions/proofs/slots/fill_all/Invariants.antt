@@ -1,13 +1,11 @@
 -- The slots so far are filled.
 use Rattle.std.proofs.Common.{◌≡◌, Ok}
 use Rattle.std.specs.List.{AllByRecursion}
-use Rattle.sqlite.specs.Held.{state}
-use Rattle.sqlite.specs.State.{HasCleanDisk}
+use Rattle.sqlite.specs.{Held.state, State.HasCleanDisk}
 use Rattle.posting_rules.specs.Damage.{IsUndamaged}
 use Rattle.store_rows.specs.believed.Rules.{OfRows}
 use Rattle.bank_transactions.specs.Filling.{ReadsWhere}
-use Rattle.bank_transactions.proofs.Loops.{filled_so_far}
-use Rattle.bank_transactions.proofs.Partly.{Partly}
+use Rattle.bank_transactions.proofs.{Loops.filled_so_far, Partly.Partly}
 use Rattle.bank_transactions.proofs.slots.fill_all.Given as goal
 
 abbrev pub invariant-loop-slot : goal.invariant-loop-slot

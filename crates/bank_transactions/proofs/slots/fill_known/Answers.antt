@@ -1,25 +1,18 @@
 -- The parts of a batch that are filled one after another, but for its requests.
-use Rattle.std.proofs.Common.{◌≡◌, Err, List, length, map, rules, arith, sym, ap, subst, ◌∙◌}
+use Rattle.std.proofs.Common.{◌≡◌, Err, List, map, rules, arith, sym, ap, subst, ◌∙◌}
 use Rattle.std.specs.List.{AllByRecursion}
-use Rattle.sqlite.specs.Effect.{Database}
-use Rattle.sqlite.specs.Held.{state}
-use Rattle.sqlite.specs.State.{HasCleanDisk}
+use Rattle.sqlite.specs.{Effect.Database, Held.state, State.HasCleanDisk}
 use Rattle.posting_rules.specs.believed.Numbering.{branch_of_account, branch_of_teller}
-use Rattle.posting_batch.specs.declared.slots.AccountSlot.{AccountSlot}
-use Rattle.posting_batch.specs.declared.slots.BranchSlot.{BranchSlot}
-use Rattle.posting_batch.specs.declared.slots.FloorSlot.{FloorSlot}
-use Rattle.posting_batch.specs.declared.slots.TellerSlot.{TellerSlot}
+use Rattle.posting_batch.specs.{declared.slots.AccountSlot.AccountSlot, declared.slots.BranchSlot.BranchSlot}
+use Rattle.posting_batch.specs.{declared.slots.FloorSlot.FloorSlot, declared.slots.TellerSlot.TellerSlot, View.view}
 use Rattle.store_rows.specs.believed.Rules.{HoldsBank}
-use Rattle.bank_transactions.specs.Filling.{AccountHeld, BranchHeld, FloorHeld, TellerHeld}
-use Rattle.bank_transactions.specs.Filling.{emptied_account}
+use Rattle.bank_transactions.specs.Filling.{AccountHeld, BranchHeld, FloorHeld, TellerHeld, emptied_account}
 use Rattle.bank_transactions.specs.Filling.{emptied_branch, emptied_floor, emptied_teller}
 use Rattle.bank_transactions.proofs.HeldSlots.{emptied_known, know_branches, know_floors, put_back}
 use Rattle.smallvec.specs.SmallVec.{with_items}
-use Rattle.posting_batch.specs.View.{view}
 use Rattle.sqlite_trees.proofs.ListLemmas.{all_both}
 use Rattle.bank_transactions.proofs.LookUps.{reads_but, reads_so}
-use Rattle.bank_transactions.proofs.FilledBatch.{accounts_in, accounts_ready, branches_in, count_in, floors_in}
-use Rattle.bank_transactions.proofs.FilledBatch.{plain}
+use Rattle.bank_transactions.proofs.FilledBatch.{accounts_in, accounts_ready, branches_in, count_in, floors_in, plain}
 use Rattle.bank_transactions.proofs.FilledBatch.{nothing_asked, same_known, tellers_in, tellers_ready}
 use Rattle.bank_transactions.proofs.slots.fill_known.Goals as goal
 

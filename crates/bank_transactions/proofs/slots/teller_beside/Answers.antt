@@ -1,12 +1,10 @@
 -- Where there are no two balances there is none.
 use Rattle.std.proofs.Common.{◌≡◌, ℕ, Option, Some, None, rules, refl, sym, ◌∙◌}
 use Rattle.std.specs.Prelude.{IsSome, is_some, option_map}
-use Rattle.posting_rules.specs.believed.Numbering.{branch_of_teller}
-use Rattle.posting_rules.specs.Damage.{IsUndamaged}
+use Rattle.posting_rules.specs.{believed.Numbering.branch_of_teller, Damage.IsUndamaged}
+use Rattle.posting_rules.specs.{declared.rows.BranchRow.BranchRow, declared.rows.TellerRow.TellerRow}
 use Rattle.posting_rules.specs.believed.LookUps.{balance_of_branch, balance_of_teller, both_of, teller_balances_in}
 use Rattle.posting_rules.specs.believed.Tables.{Tables, row_at, branch_key, teller_key}
-use Rattle.posting_rules.specs.declared.rows.BranchRow.{BranchRow}
-use Rattle.posting_rules.specs.declared.rows.TellerRow.{TellerRow}
 use Rattle.bank_transactions.proofs.SoundRows.{teller_some}
 use Rattle.bank_transactions.proofs.slots.teller_beside.Goals as goal
 

@@ -1,14 +1,10 @@
 -- What the balance of a teller tells.
-use Rattle.std.proofs.Common.{◌≡◌, Err, rules}
+use Rattle.std.proofs.Common.{◌≡◌, Err, rules, arith}
 use Rattle.store_rows.specs.declared.holders.Member.TheVariants.{Teller}
-use Rattle.bank_transactions.proofs.FailedBalances.{balance_failed}
-use Rattle.bank_transactions.proofs.LookUps.{looks_again}
-use Rattle.std.proofs.Common.{arith}
-use Rattle.sqlite.specs.Held.{state}
-use Rattle.sqlite.specs.State.{HasCleanDisk}
+use Rattle.bank_transactions.proofs.{FailedBalances.balance_failed, LookUps.looks_again}
+use Rattle.sqlite.specs.{Held.state, State.HasCleanDisk}
 use Rattle.posting_rules.specs.believed.Numbering.{branch_of_teller}
-use Rattle.bank_transactions.specs.Filling.{HoldsBranch}
-use Rattle.bank_transactions.specs.Stored.{HoldsTellerRow}
+use Rattle.bank_transactions.specs.{Filling.HoldsBranch, Stored.HoldsTellerRow}
 use Rattle.bank_transactions.proofs.HeldRows.{held_before, teller_held}
 use Rattle.bank_transactions.proofs.slots.teller_within.Goals as goal
 

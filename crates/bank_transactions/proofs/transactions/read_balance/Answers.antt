@@ -1,8 +1,7 @@
 -- The transaction has one part, which reads.
 use Rattle.std.proofs.Common.{rules}
 use Rattle.posting_rules.specs.believed.LookUps.{account_balance_in}
-use Rattle.bank_transactions.proofs.Transacted.{consults}
-use Rattle.bank_transactions.proofs.Undone.{undoes_reads}
+use Rattle.bank_transactions.proofs.{Transacted.consults, Undone.undoes_reads}
 use Rattle.bank_transactions.proofs.transactions.read_balance.Goals as goal
 
 pub returns-clause-says : goal.returns-clause-says

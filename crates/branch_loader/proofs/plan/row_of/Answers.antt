@@ -1,7 +1,6 @@
 use Rattle.std.proofs.Common.{◌≡◌, ◌∙◌, ℕ, false, Option, Some, Ok, ap, refl}
 use Rattle.std.specs.Prelude.{ℤ}
-use Rattle.branch_loader.specs.believed.Plans.{Rows}
-use Rattle.branch_loader.specs.Plans.{names, row_of}
+use Rattle.branch_loader.specs.{believed.Plans.Rows, Plans.names, Plans.row_of}
 use Rattle.branch_loader.proofs.plan.row_of.Goals as goal
 
 -- a branch that no row before it names

@@ -1,14 +1,13 @@
 use Rattle.std.proofs.Common.{◌≡◌, ◌+◌, ◌∙◌, true, inr, length, arith, sym, rules, ap}
 use Rattle.std.specs.Result.{is_ok}
 use Rattle.csv.specs.Records.{fields_of}
-use Rattle.branch_loader.specs.declared.fault.PlanFault.TheVariants.{Memory}
-use Rattle.branch_loader.specs.{Plans.plan_of_records, Plans.row_of_fields, Records.WasRecord}
+use Rattle.branch_loader.specs.{declared.fault.PlanFault.TheVariants.Memory, Records.WasRecord}
+use Rattle.branch_loader.specs.Plans.{plan_of_records, row_of_fields}
 use Rattle.posting_core.proofs.Telling.{last_some, more_last, more_more}
-use Rattle.branch_loader.proofs.SourceRead.{fault_told, row_told}
-use Rattle.branch_loader.proofs.Rows.{fields-more, no-rows, plan-short}
-use Rattle.branch_loader.proofs.Stated.{plan-empty, plan-no_header, rows_by-done, tells-fault, took-fault}
-use Rattle.branch_loader.proofs.Stated.{took-header, took-row}
-use Rattle.std.proofs.{lemmas.List.length_push, lemmas.Result.err_from_is_err_and}
+use Rattle.branch_loader.proofs.{SourceRead.fault_told, SourceRead.row_told, Rows.fields-more, Rows.no-rows}
+use Rattle.branch_loader.proofs.{Rows.plan-short, Stated.plan-empty, Stated.plan-no_header, Stated.rows_by-done}
+use Rattle.branch_loader.proofs.{Stated.tells-fault, Stated.took-fault, Stated.took-header, Stated.took-row}
+use Rattle.std.proofs.lemmas.{List.length_push, Result.err_from_is_err_and}
 use Rattle.branch_loader.proofs.read.read_rows.Goals as goal
 
 pub returns-then-not-branch-clause-plan : goal.returns-then-not-branch-clause-plan

@@ -1,8 +1,7 @@
 use Rattle.std.proofs.Common.{◌≡◌, ◌≤◌, ℕ, zero, suc, List, [], ◌∷◌, Some, None, length, sym, ◌∙◌, arith}
 use Rattle.csv.specs.Records.{field_at, fields_of}
-use Rattle.branch_loader.specs.Plans.{three_of}
+use Rattle.branch_loader.specs.{Plans.three_of, Records.Fields}
 use Rattle.branch_loader.proofs.read.three_of.Goals as goal
-use Rattle.branch_loader.specs.Records.{Fields}
 
 -- of three fields each is there
 all_there : (fs : Fields) (a b c : List ℕ) → length fs ≡ 3 → field_at fs 0 ≡ Some a → field_at fs 1 ≡ Some b

@@ -1,8 +1,7 @@
 use Rattle.std.proofs.Common.{◌≡◌, ℕ, List, [], ◌∷◌, Some, None, length, sym, ◌∙◌, arith}
 use Rattle.csv.specs.Records.{field_at, fields_of}
-use Rattle.branch_loader.specs.Plans.{two_of}
+use Rattle.branch_loader.specs.{Plans.two_of, Records.Fields}
 use Rattle.branch_loader.proofs.read.two_of.Goals as goal
-use Rattle.branch_loader.specs.Records.{Fields}
 
 -- of two fields each is there
 both : (fs : Fields) (a b : List ℕ) → length fs ≡ 2 → field_at fs 0 ≡ Some a → field_at fs 1 ≡ Some b

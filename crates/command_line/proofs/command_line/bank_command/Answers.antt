@@ -1,8 +1,7 @@
 -- Each command is added in its turn.
 use Rattle.command_line.specs.CommandLine.{audit_app, bank_alone, decode_app, digest_app, drive_app, encode_app}
 use Rattle.command_line.specs.CommandLine.{export_app, init_app, load_app, migrate_app, plan_app, post_app}
-use Rattle.command_line.specs.CommandLine.{replay_app}
-use Rattle.command_line.specs.CommandLine.{serve_app, statement_app}
+use Rattle.command_line.specs.CommandLine.{replay_app, serve_app, statement_app}
 use Rattle.command_line.proofs.command_line.bank_command.Goals as goal
 
 pub returns : goal.returns

@@ -3,8 +3,7 @@ use Rattle.message_records.specs.believed.Spelling.{reply_spelling}
 use Rattle.posting_rules.specs.believed.Entries.{reply}
 use Rattle.counter_http.specs.{believed.Answers.octets, Next.asked}
 use Rattle.counter_http.proofs.AnsweredTurns.{told_answer, told_refused, refused_first, posting_readings}
-use Rattle.counter_http.proofs.AnsweredTurns.{posting_answer}
-use Rattle.counter_http.proofs.AnsweredTurns.{takes_posting, refuses_posting, why_first}
+use Rattle.counter_http.proofs.AnsweredTurns.{posting_answer, takes_posting, refuses_posting, why_first}
 use Rattle.counter_http.proofs.answers.answer_posting.Goals as goal
 
 pub returns-in-Ok-clause-answers : goal.returns-in-Ok-clause-answers

@@ -1,6 +1,5 @@
 use Rattle.std.proofs.Common.{◌<◌, arith}
-use Rattle.load_driver.specs.{believed.Draw.draw, believed.Requests.count_of, believed.Requests.is_home}
-use Rattle.load_driver.specs.{believed.Requests.others}
+use Rattle.load_driver.specs.believed.{Draw.draw, Requests.count_of, Requests.is_home, Requests.others}
 use Rattle.branch_loader.proofs.Rows.{plan-short}
 use Rattle.load_driver.proofs.Remote.{account-home, account-remote, home-either, home-neither}
 use Rattle.load_driver.proofs.Totals.{count-others, others-some, remote-for}

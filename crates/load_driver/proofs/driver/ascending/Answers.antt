@@ -1,10 +1,9 @@
 use Rattle.std.proofs.Common.{◌≡◌, ◌<◌, map, nat_eq, arith, rules, length, None}
 use Rattle.std.specs.{Prelude.IsPermutation, List.Sorted.IsNonDecreasing, List.Sorted.IsNonDecreasingBy}
-use Rattle.std.proofs.{lemmas.Bool.Decides.nat_tests, lemmas.List.get_or-map, lemmas.List.length-map}
-use Rattle.std.proofs.{lemmas.Map.Keys.IsDistinct-IsPermutation, lemmas.Map.Keys.IsStrictlyIncreasing-from_distinct}
+use Rattle.std.proofs.lemmas.{Bool.Decides.nat_tests, List.get_or-map, List.length-map}
+use Rattle.std.proofs.lemmas.Map.Keys.{IsDistinct-IsPermutation, IsStrictlyIncreasing-from_distinct}
 use Rattle.std.proofs.lemmas.List.Sorted.{All-permutation, IsNonDecreasingBy-from_sort_by_key, IsPermutation-map}
-use Rattle.branch_loader.specs.believed.Plans.{Rows, Row}
-use Rattle.branch_loader.specs.Plans.{IsPlan, IsRow}
+use Rattle.branch_loader.specs.{believed.Plans.Rows, believed.Plans.Row, Plans.IsPlan, Plans.IsRow}
 use Rattle.load_driver.specs.believed.Requests.{IsAscending}
 use Rattle.load_driver.proofs.driver.ascending.Goals as goal
 

@@ -1,8 +1,7 @@
 -- Zeros are the fields of no request.
 use Rattle.std.proofs.Common.{◌++◌, List, ℕ, ap, sym, ◌∙◌}
 use Rattle.std.specs.Prelude.{Option, unwrap_or}
-use Rattle.message_records.specs.{believed.Records.RequestFields, believed.Spelling.no_fields}
-use Rattle.message_records.specs.{believed.Spelling.fields_spelling}
+use Rattle.message_records.specs.believed.{Records.RequestFields, Spelling.no_fields, Spelling.fields_spelling}
 use Rattle.message_records.proofs.Composed.{no_fields_spelled}
 use Rattle.message_records.proofs.writing.put_shown.Goals as goal
 

@@ -1,6 +1,5 @@
 use Rattle.std.proofs.Common.{◌≡◌, ◌<◌, ◌∙◌, false, sym, ap, set, get_or, eqb, length, arith}
-use Rattle.std.proofs.lemmas.Bool.{eq-eqb}
-use Rattle.std.proofs.lemmas.Bool.Decides.{nat_tests}
+use Rattle.std.proofs.lemmas.Bool.{eq-eqb, Decides.nat_tests}
 use Rattle.posting_batch.proofs.Walked.{walk_hit, walk_miss}
 use Rattle.posting_batch.proofs.changes.change_at.Goals as goal
 use Rattle.posting_batch.proofs.changes.change_at.Goals.{then-number, else-number}

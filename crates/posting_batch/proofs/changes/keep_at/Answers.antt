@@ -1,6 +1,5 @@
 use Rattle.std.proofs.Common.{◌<◌, ◌∙◌, sym, Some, length, arith}
-use Rattle.posting_batch.specs.declared.slots.RequestSlot.{RequestSlot}
-use Rattle.posting_batch.specs.Slots.{is_for}
+use Rattle.posting_batch.specs.{declared.slots.RequestSlot.RequestSlot, Slots.is_for}
 use Rattle.posting_batch.proofs.Walked.{walk_hit, walk_miss}
 use Rattle.posting_batch.proofs.changes.keep_at.Goals as goal
 use Rattle.posting_batch.proofs.changes.keep_at.Goals.{then-is_for, else-is_for}

@@ -1,9 +1,7 @@
 use Rattle.std.proofs.Common.{◌≡◌, ◌≤◌, ◌+◌, ◌-◌, ◌++◌, map, drop, length, vec_len}
 use Rattle.std.specs.Vec.{vec_capacity}
 use Rattle.message_records.specs.believed.Reading.{request_of}
-use Rattle.posting_batch.specs.Batch.{covering_all}
-use Rattle.posting_batch.specs.Room.{HasRoomForSlots}
-use Rattle.posting_batch.specs.View.{view}
+use Rattle.posting_batch.specs.{Batch.covering_all, Room.HasRoomForSlots, View.view}
 use Rattle.posting_batch.proofs.cover.decode_all.Given as goal
 
 -- what is left comes to what all come to, and there is room for it

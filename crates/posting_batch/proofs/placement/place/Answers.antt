@@ -1,6 +1,5 @@
 use Rattle.std.proofs.Common.{◌≡◌, ◌∙◌, List, Result, Ok, Err, ap, sym, get_or, arith}
-use Rattle.std.specs.List.{insert}
-use Rattle.std.specs.Prelude.{IsOk, OnOk}
+use Rattle.std.specs.{List.insert, Prelude.IsOk, Prelude.OnOk}
 use Rattle.posting_batch.specs.Placed.{placed, rank}
 use Rattle.posting_batch.proofs.Ranks.{placed_hit, placed_miss, placed_last}
 use Rattle.posting_batch.proofs.placement.place.Goals as goal

@@ -1,18 +1,17 @@
 use Rattle.std.proofs.Common.{◌≡◌, ◌≤◌, ◌+◌, ◌∙◌, [], ◌∷◌, inl, inr, refl, arith, length, take}
-use Rattle.std.proofs.{lemmas.List.length-take-le, lemmas.Result.err_from_is_err_and}
-use Rattle.posting_core.specs.declared.stream.TheConstants.{BUFFER}
+use Rattle.std.proofs.lemmas.{List.length-take-le, Result.err_from_is_err_and}
+use Rattle.posting_core.specs.{declared.stream.TheConstants.BUFFER, believed.Batches.Batch, Stream.given}
+use Rattle.posting_core.specs.{Told.read_told}
 use Rattle.posting_core.proofs.{Batched.cut_into, Batched.cut_and_moved, StreamedBatches.going_batch}
-use Rattle.posting_core.proofs.{Refused.refused_broken, Refused.up_broken}
-use Rattle.posting_core.proofs.Output.{output_of, survives_of, resends_of}
-use Rattle.posting_core.proofs.Followed.{following_batch, following_first, following_read, following_wrote}
-use Rattle.posting_core.proofs.Followed.{gave_none, gave_some, up_to}
-use Rattle.posting_core.specs.{believed.Batches.Batch, Stream.given, Told.read_told}
+use Rattle.posting_core.proofs.{Refused.refused_broken, Refused.up_broken, Output.output_of, Output.survives_of}
+use Rattle.posting_core.proofs.{Output.resends_of, Through.ends_broken, Through.through_batch, Through.through_first}
+use Rattle.posting_core.proofs.Followed.{following_batch, following_first, following_read, following_wrote, gave_none}
+use Rattle.posting_core.proofs.Followed.{gave_some, up_to}
 use Rattle.posting_rules.specs.declared.limits.TheConstants.{RECORDS_PER_BATCH}
 use Rattle.posting_rules.proofs.CounterCalls.{idle_after}
 use Rattle.posting_core.proofs.Streaming.{going_first, going_filled, going_on, nothing_read, at_ok, few_left}
 use Rattle.posting_core.proofs.StreamEnds.{end_whole, end_in_record, end_unread, end_broken}
 use Rattle.posting_core.proofs.Telling.{made_many, made_none, made_one, other_kind, read_ended, read_failed}
-use Rattle.posting_core.proofs.Through.{ends_broken, through_batch, through_first}
 use Rattle.posting_core.proofs.stream.post_stream.Goals as goal
 use Rattle.posting_core.proofs.stream.post_stream.Goals.{then-filled-ge-REQUEST_BYTES+in_ok-reply_to_batch}
 use Rattle.posting_core.proofs.stream.post_stream.Goals.{else-filled-ge-REQUEST_BYTES, in-Ok, in-Err}

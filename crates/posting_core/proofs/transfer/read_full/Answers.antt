@@ -1,10 +1,9 @@
 use Rattle.std.proofs.Common.{ℕ, List, take, refl, sym, ap, subst, ◌∙◌, rules}
 use Rattle.std.specs.Io.KnownBytes.{Consumes}
 use Rattle.std.proofs.KnownBytes.{Consumes-kept}
-use Rattle.posting_core.proofs.Transferred.{read_more}
-use Rattle.posting_core.proofs.Telling.{made_one, other_kind, read_ended, read_failed}
+use Rattle.posting_core.proofs.{Transferred.read_more, Telling.made_one, Telling.other_kind, Telling.read_ended}
+use Rattle.posting_core.proofs.{Telling.read_failed, transfer.read_full.Goals.in-Ok, transfer.read_full.Goals.in-Err}
 use Rattle.posting_core.proofs.transfer.read_full.Goals as goal
-use Rattle.posting_core.proofs.transfer.read_full.Goals.{in-Ok, in-Err}
 
 pub returns-in-Ok-eq0-clause-ended : goal.returns-in-Ok-eq0-clause-ended
 returns-in-Ok-eq0-clause-ended g c short =

@@ -1,5 +1,4 @@
-use Rattle.std.proofs.Common.{arith, refl, rules}
-use Rattle.std.proofs.lemmas.List.{length-take, length-drop}
+use Rattle.std.proofs.{Common.arith, Common.refl, Common.rules, lemmas.List.length-take, lemmas.List.length-drop}
 use Rattle.posting_core.specs.Told.{HasWriteFailed, IsWriteFailure}
 use Rattle.posting_core.proofs.{Transferred.wrote_write, Telling.more_failed, Telling.more_more}
 use Rattle.posting_core.proofs.transfer.write_each.Goals as goal

@@ -2,12 +2,10 @@ use Rattle.std.proofs.Common.{◌≡◌, ◌≤◌, ◌<◌, ◌∙◌, Some, No
 use Rattle.std.specs.Prelude.{ℤ, ◌+ℤ◌}
 use Rattle.message_records.specs.believed.Records.{RequestFields}
 use Rattle.message_records.specs.declared.records.Outcome.TheVariants as outcome
-use Rattle.posting_rules.specs.declared.judgments.Found.{Found}
+use Rattle.posting_rules.specs.{declared.judgments.Found.Found, declared.limits.TheConstants.MAX_DECIDED}
+use Rattle.posting_rules.specs.{believed.Numbering.branch_of_teller, believed.Kept.KeptFields}
 use Rattle.posting_rules.specs.declared.judgments.Verdict.TheVariants.{Unkept, Again, Posted}
-use Rattle.posting_rules.specs.declared.limits.TheConstants.{MAX_DECIDED}
-use Rattle.posting_rules.specs.believed.Numbering.{branch_of_teller}
 use Rattle.posting_rules.specs.believed.Cases.{case_of, new_case, is_below, is_same, kept_reply, plus_within}
-use Rattle.posting_rules.specs.believed.Kept.{KeptFields}
 use Rattle.posting_rules.proofs.cases.judge.Goals as goal
 
 -- an unknown teller

@@ -1,7 +1,6 @@
 use Rattle.std.proofs.Common.{◌≡◌, ◌<◌, ◌≤◌, length, take}
 use Rattle.message_records.specs.declared.limits.TheConstants.{REPLY_BYTES}
-use Rattle.posting_core.specs.believed.Told.{EndsWith}
-use Rattle.posting_core.specs.Told.{IsFlush}
+use Rattle.posting_core.specs.{believed.Told.EndsWith, Told.IsFlush}
 use Rattle.posting_core.proofs.Telling.{HasMade}
 use Rattle.posting_sheets.proofs.Decoded.{IsDecodedUpTo}
 use Rattle.posting_sheets.proofs.decode.decode_replies.Given as goal

@@ -1,7 +1,6 @@
 -- What the new row leaves.
 use Rattle.std.proofs.Common.{arith, refl}
-use Rattle.store_rows.proofs.Lookups.{amount_column, whole_column}
-use Rattle.store_rows.proofs.Writes.{rows_put}
+use Rattle.store_rows.proofs.{Lookups.amount_column, Lookups.whole_column, Writes.rows_put}
 use Rattle.store_rows.proofs.branches.add_branch.Goals as goal
 
 pub returns : goal.returns

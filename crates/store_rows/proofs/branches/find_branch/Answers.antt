@@ -1,6 +1,5 @@
 -- What there is under the number.
-use Rattle.store_rows.proofs.Seeking.{seeks_branch}
-use Rattle.store_rows.proofs.Telling.{looks_up}
+use Rattle.store_rows.proofs.{Seeking.seeks_branch, Telling.looks_up}
 use Rattle.store_rows.proofs.branches.find_branch.Goals as goal
 
 pub returns : goal.returns

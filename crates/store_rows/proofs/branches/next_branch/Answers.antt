@@ -1,6 +1,5 @@
 -- What there is under the least number above.
-use Rattle.store_rows.proofs.Seeking.{seeks_next}
-use Rattle.store_rows.proofs.Telling.{looks_up}
+use Rattle.store_rows.proofs.{Seeking.seeks_next, Telling.looks_up}
 use Rattle.store_rows.proofs.branches.next_branch.Goals as goal
 
 pub returns : goal.returns

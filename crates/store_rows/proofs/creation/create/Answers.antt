@@ -2,8 +2,7 @@
 use Rattle.std.proofs.Common.{◌≡◌, ◌≤◌, Err, true, ap, subst, rules, arith}
 use Rattle.std.specs.Prelude.{IfErr}
 use Rattle.sqlite.specs.Held.{state}
-use Rattle.sqlite.specs.State.{HasCleanDisk}
-use Rattle.sqlite.specs.State.{Shows as StateShows}
+use Rattle.sqlite.specs.State.{HasCleanDisk, Shows as StateShows}
 use Rattle.store_rows.specs.Creation.{CreatesBank, CreationFails}
 use Rattle.store_rows.proofs.CreationEnds.{fails_committed, fails_created}
 use Rattle.store_rows.proofs.creation.create.Goals as goal

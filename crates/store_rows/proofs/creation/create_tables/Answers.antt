@@ -1,7 +1,6 @@
 -- What the tables and the first row leave.
 use Rattle.std.proofs.Common.{◌≡◌, ◌∙◌, Err, arith, rules}
-use Rattle.sqlite.specs.State.{HasCleanDisk}
-use Rattle.sqlite.specs.Held.{state}
+use Rattle.sqlite.specs.{State.HasCleanDisk, Held.state}
 use Rattle.sql_meanings.proofs.Saying.{survives_both}
 use Rattle.store_rows.proofs.AddMeta.{starts_not}
 use Rattle.store_rows.proofs.creation.create_tables.Goals as goal

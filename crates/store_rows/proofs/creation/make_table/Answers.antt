@@ -1,10 +1,8 @@
 -- What a CREATE TABLE leaves.
 use Rattle.std.proofs.Common.{ℕ, List, [], Ok, Err, Result, rules}
 use Rattle.std.specs.Prelude.{IfErr}
-use Rattle.sqlite.specs.State.{State, ExecutesInside}
-use Rattle.sqlite.specs.declared.error.Error.{Error}
-use Rattle.sql_meanings.proofs.MakeFailures.{makes_told}
-use Rattle.sql_meanings.proofs.Makings.{kept_inside}
+use Rattle.sqlite.specs.{State.State, State.ExecutesInside, declared.error.Error.Error}
+use Rattle.sql_meanings.proofs.{MakeFailures.makes_told, Makings.kept_inside}
 use Rattle.store_rows.specs.believed.Failures.{Changing, HasFailed}
 use Rattle.store_rows.proofs.CreateTexts.{sequence}
 use Rattle.store_rows.proofs.creation.make_table.Goals as goal

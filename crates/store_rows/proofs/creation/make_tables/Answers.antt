@@ -1,18 +1,14 @@
 -- One creation after another, and how each may fail.
 use Rattle.std.proofs.Common.{◌≡◌, ◌+◌, ◌-◌, ◌<◌, ◌≤◌, ℕ, List, length, length-drop, drop, slice_get, Some, Ok, Err}
-use Rattle.std.proofs.Common.{inl, inr}
-use Rattle.std.proofs.Common.{refl, ap, rules, subst, ◌∙◌, arith, false, IsTrue}
+use Rattle.std.proofs.Common.{inl, inr, refl, ap, rules, subst, ◌∙◌, arith, false, IsTrue}
 use Rattle.std.specs.List.{AllByRecursion}
-use Rattle.sqlite.specs.State.{HasCleanDisk}
-use Rattle.sqlite.specs.Held.{state}
-use Rattle.sqlite.specs.Table.{Table}
+use Rattle.sqlite.specs.{State.HasCleanDisk, Held.state, Table.Table}
 use Rattle.sql_meanings.specs.Making.{CreatesOnly}
 use Rattle.sql_meanings.proofs.Places.{all_later, all_weaker, each_at, later_at, some_at}
 use Rattle.sql_meanings.proofs.Saying.{survives_both}
 use Rattle.store_rows.specs.Creation.{MakesAll, all_texts}
-use Rattle.store_rows.proofs.CreateTexts.{each_creates}
+use Rattle.store_rows.proofs.{CreateTexts.each_creates, MadeSoFar.Reached}
 use Rattle.store_rows.proofs.CreationSteps.{begun_live, ends_made, makes_leave, one_more, then_fails}
-use Rattle.store_rows.proofs.MadeSoFar.{Reached}
 use Rattle.store_rows.proofs.creation.make_tables.Goals as goal
 
 -- the text at a place is the one after the first so many

@@ -1,6 +1,5 @@
 -- What there is under the number.
-use Rattle.store_rows.proofs.Seeking.{seeks_floor}
-use Rattle.store_rows.proofs.Telling.{looks_up}
+use Rattle.store_rows.proofs.{Seeking.seeks_floor, Telling.looks_up}
 use Rattle.store_rows.proofs.floors.find_floor.Goals as goal
 
 pub returns : goal.returns

@@ -1,12 +1,10 @@
 -- What the eight new rows leave.
 use Rattle.std.proofs.Common.{◌≡◌, [], ◌∷◌, List, get_or, is_some, sym, subst, arith}
-use Rattle.posting_rules.specs.believed.Changes.{with_history}
-use Rattle.posting_rules.specs.believed.Tables.{row_at, history_key}
+use Rattle.posting_rules.specs.believed.{Changes.with_history, Tables.row_at, Tables.history_key}
 use Rattle.posting_rules.specs.declared.rows.HistoryRow.{HistoryRow}
 use Rattle.store_rows.specs.believed.BankTables.{history as table}
-use Rattle.store_rows.specs.SeveralRows.{AddsRows}
-use Rattle.store_rows.specs.believed.View.{history_entry}
-use Rattle.store_rows.specs.declared.texts.TheConstants.{ADD_EIGHT_POSTINGS}
+use Rattle.store_rows.specs.{SeveralRows.AddsRows, believed.View.history_entry}
+use Rattle.store_rows.specs.{declared.texts.TheConstants.ADD_EIGHT_POSTINGS}
 use Rattle.store_rows.proofs.SeveralWrites.{all_given, eight_are, eight_put}
 use Rattle.store_rows.proofs.history.add_eight_postings.Goals as goal
 

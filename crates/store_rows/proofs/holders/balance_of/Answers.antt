@@ -1,6 +1,5 @@
 -- What there is under the number.
-use Rattle.store_rows.proofs.Seeking.{seeks_account, seeks_teller}
-use Rattle.store_rows.proofs.Telling.{looks_up}
+use Rattle.store_rows.proofs.{Seeking.seeks_account, Seeking.seeks_teller, Telling.looks_up}
 use Rattle.store_rows.proofs.holders.balance_of.Goals as goal
 
 pub returns-in-Account : goal.returns-in-Account

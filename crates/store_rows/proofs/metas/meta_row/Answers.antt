@@ -1,9 +1,7 @@
 -- What the look-up reports.
 use Rattle.std.proofs.Common.{rules}
 use Rattle.sql_meanings.proofs.Texts.{only_reads}
-use Rattle.store_rows.proofs.Getting.{gets}
-use Rattle.store_rows.proofs.MetaRow.{tells_meta}
-use Rattle.store_rows.proofs.OtherValue.{first_told}
+use Rattle.store_rows.proofs.{Getting.gets, MetaRow.tells_meta, OtherValue.first_told}
 use Rattle.store_rows.proofs.metas.meta_row.Goals as goal
 
 pub returns : goal.returns

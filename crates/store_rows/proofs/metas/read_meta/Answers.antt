@@ -1,11 +1,7 @@
 -- What the row means.
 use Rattle.std.proofs.Common.{rules}
-use Rattle.store_rows.specs.believed.Columns.{meta_in}
-use Rattle.store_rows.specs.Columns.{meta_shown}
-use Rattle.store_rows.specs.TableAnswers.{Never, ReadsRow}
-use Rattle.store_rows.proofs.FoundRows.{finds}
-use Rattle.store_rows.proofs.OtherValue.{other_told}
-use Rattle.store_rows.proofs.Reasons.{looks}
+use Rattle.store_rows.specs.{believed.Columns.meta_in, Columns.meta_shown, TableAnswers.Never, TableAnswers.ReadsRow}
+use Rattle.store_rows.proofs.{FoundRows.finds, OtherValue.other_told, Reasons.looks}
 use Rattle.store_rows.proofs.metas.read_meta.Goals as goal
 
 pub returns-clause-says : goal.returns-clause-says

@@ -1,8 +1,6 @@
 -- What the write leaves.
 use Rattle.std.proofs.Common.{refl, rules, arith}
-use Rattle.store_rows.proofs.Lookups.{as_integer}
-use Rattle.store_rows.proofs.MetaRow.{tells_decided}
-use Rattle.store_rows.proofs.SparedTexts.{spared_met, spares}
+use Rattle.store_rows.proofs.{Lookups.as_integer, MetaRow.tells_decided, SparedTexts.spared_met, SparedTexts.spares}
 use Rattle.store_rows.proofs.metas.set_decided.Goals as goal
 
 pub returns : goal.returns

@@ -1,8 +1,6 @@
 -- What the write leaves.
-use Rattle.std.proofs.Common.{rules, w64}
-use Rattle.std.proofs.lemmas.Int.{to_z-of_z}
-use Rattle.store_rows.proofs.SparedTexts.{version_spared}
-use Rattle.store_rows.proofs.VersionRow.{tells_version}
+use Rattle.std.proofs.{Common.rules, Common.w64, lemmas.Int.to_z-of_z}
+use Rattle.store_rows.proofs.{SparedTexts.version_spared, VersionRow.tells_version}
 use Rattle.store_rows.proofs.metas.set_version.Goals as goal
 
 pub returns : goal.returns

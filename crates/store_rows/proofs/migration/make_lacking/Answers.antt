@@ -1,9 +1,7 @@
 -- The tables are made, or why one isn't.
 use Rattle.std.proofs.Common.{ℕ, Ok, Err, Result}
-use Rattle.sqlite.specs.State.{State}
-use Rattle.sqlite.specs.declared.error.Error.{Error}
-use Rattle.store_rows.specs.Creation.{MakesAll}
-use Rattle.store_rows.specs.Migration.{MakesLacking, lacking}
+use Rattle.sqlite.specs.{State.State, declared.error.Error.Error}
+use Rattle.store_rows.specs.{Creation.MakesAll, Migration.MakesLacking, Migration.lacking}
 use Rattle.store_rows.proofs.Lacking.{lacking_made}
 use Rattle.store_rows.proofs.migration.make_lacking.Goals as goal
 

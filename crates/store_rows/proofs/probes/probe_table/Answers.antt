@@ -1,7 +1,6 @@
 -- What acceptance and refusal say.
 use Rattle.std.proofs.Common.{rules}
-use Rattle.sqlite.specs.State.{HasCleanDisk}
-use Rattle.sqlite.specs.Held.{state}
+use Rattle.sqlite.specs.{State.HasCleanDisk, Held.state}
 use Rattle.sql_meanings.proofs.Probing.{tells_probe}
 use Rattle.sql_meanings.specs.StatementAnswers.{TellsUnderstood}
 use Rattle.store_rows.specs.Probes.{probe_of}

@@ -1,8 +1,7 @@
 -- What the new row leaves.
 use Rattle.std.proofs.Common.{◌≡◌, length, arith}
 use Rattle.message_records.specs.declared.limits.TheConstants.{REFERENCE_BYTES}
-use Rattle.store_rows.proofs.Lookups.{as_integer}
-use Rattle.store_rows.proofs.Writes.{rows_put}
+use Rattle.store_rows.proofs.{Lookups.as_integer, Writes.rows_put}
 use Rattle.store_rows.proofs.references.add_reference.Goals as goal
 
 pub returns : goal.returns

@@ -1,6 +1,5 @@
 -- What there is under the ordinal.
-use Rattle.store_rows.proofs.Seeking.{seeks_reference}
-use Rattle.store_rows.proofs.Telling.{looks_up}
+use Rattle.store_rows.proofs.{Seeking.seeks_reference, Telling.looks_up}
 use Rattle.store_rows.proofs.references.find_reference.Goals as goal
 
 pub returns : goal.returns

@@ -1,17 +1,13 @@
 -- What the eight new rows leave.
 use Rattle.std.proofs.Common.{◌≡◌, [], ◌∷◌, List, get_or, is_some, sym, subst, arith}
 use Rattle.std.specs.Prelude.{IsTrue, OnOk}
-use Rattle.sqlite.specs.Held.{state}
-use Rattle.sqlite.specs.State.{HasCleanDisk}
-use Rattle.posting_rules.specs.believed.Changes.{with_request}
-use Rattle.posting_rules.specs.believed.Tables.{row_at, request_key}
+use Rattle.sqlite.specs.{Held.state, State.HasCleanDisk}
+use Rattle.posting_rules.specs.believed.{Changes.with_request, Tables.row_at, Tables.request_key}
 use Rattle.posting_rules.specs.declared.rows.RequestRow.{RequestRow}
 use Rattle.store_rows.specs.believed.BankTables.{request as table}
 use Rattle.store_rows.specs.SeveralRows.{AddsRows, PutsNew}
-use Rattle.store_rows.specs.believed.View.{request_entry}
-use Rattle.store_rows.specs.declared.texts.TheConstants.{ADD_EIGHT_REQUESTS}
-use Rattle.store_rows.proofs.NewRequests.{puts_new}
-use Rattle.store_rows.proofs.SeveralTexts.{eight_requests}
+use Rattle.store_rows.specs.{believed.View.request_entry, declared.texts.TheConstants.ADD_EIGHT_REQUESTS}
+use Rattle.store_rows.proofs.{NewRequests.puts_new, SeveralTexts.eight_requests}
 use Rattle.store_rows.proofs.SeveralWrites.{all_given, eight_are, eight_put}
 use Rattle.store_rows.proofs.requests.add_eight_requests.Goals as goal
 

@@ -1,9 +1,7 @@
 -- What the new row leaves.
 use Rattle.std.proofs.Common.{[], ◌∷◌}
 use Rattle.sql_meanings.proofs.PutRows.{puts_one}
-use Rattle.store_rows.proofs.NewRequests.{puts_new}
-use Rattle.store_rows.proofs.Puts.{puts}
-use Rattle.store_rows.proofs.Writes.{rows_put}
+use Rattle.store_rows.proofs.{NewRequests.puts_new, Puts.puts, Writes.rows_put}
 use Rattle.store_rows.specs.declared.texts.TheConstants.{ADD_REQUEST}
 use Rattle.store_rows.proofs.requests.add_request.Goals as goal
 

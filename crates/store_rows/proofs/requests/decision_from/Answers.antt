@@ -1,15 +1,11 @@
 -- What is kept is what the columns hold.
 use Rattle.std.proofs.Common.{◌≡◌, Err, refl, rules, arith}
-use Rattle.store_rows.proofs.KeptRows.{no_delta, no_balance, keeps}
-use Rattle.message_records.specs.declared.limits.TheConstants.{MAX_ACCOUNT, MAX_BALANCE, MAX_BRANCH}
-use Rattle.message_records.specs.declared.limits.TheConstants.{MAX_DELTA}
+use Rattle.store_rows.proofs.{KeptRows.no_delta, KeptRows.no_balance, KeptRows.keeps, StoredFrom.keeps_stored}
+use Rattle.store_rows.proofs.{StoredFrom.no_outcome, StoredReads.unread_cents, StoredReads.unread_whole}
+use Rattle.message_records.specs.declared.limits.TheConstants.{MAX_ACCOUNT, MAX_BALANCE, MAX_BRANCH, MAX_DELTA}
 use Rattle.posting_rules.specs.declared.fault.Rule.TheVariants.{Request}
-use Rattle.store_rows.specs.believed.Columns.{number_at}
-use Rattle.store_rows.specs.believed.Rules.{RequestKeeps}
-use Rattle.store_rows.specs.believed.Stored.{IsDecision}
+use Rattle.store_rows.specs.believed.{Columns.number_at, Rules.RequestKeeps, Stored.IsDecision}
 use Rattle.store_rows.specs.Stored.{request_stored}
-use Rattle.store_rows.proofs.StoredFrom.{keeps_stored, no_outcome}
-use Rattle.store_rows.proofs.StoredReads.{unread_cents, unread_whole}
 use Rattle.store_rows.proofs.requests.decision_from.Goals as goal
 
 pub returns-clause-reads : goal.returns-clause-reads

@@ -1,6 +1,5 @@
 -- What there is under the two numbers.
-use Rattle.store_rows.proofs.Seeking.{seeks_request}
-use Rattle.store_rows.proofs.Telling.{looks_up}
+use Rattle.store_rows.proofs.{Seeking.seeks_request, Telling.looks_up}
 use Rattle.store_rows.proofs.requests.find_request.Goals as goal
 
 pub returns : goal.returns

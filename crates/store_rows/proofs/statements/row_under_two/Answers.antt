@@ -1,8 +1,7 @@
 -- The text is run with the two keys.
 use Rattle.std.proofs.Common.{rules, arith, refl}
 use Rattle.sql_meanings.proofs.OnlyShowing.{kept_reading}
-use Rattle.store_rows.proofs.Lookups.{as_integer}
-use Rattle.store_rows.proofs.Reasons.{asked}
+use Rattle.store_rows.proofs.{Lookups.as_integer, Reasons.asked}
 use Rattle.store_rows.proofs.statements.row_under_two.Goals as goal
 
 pub returns : goal.returns

@@ -1,7 +1,6 @@
 -- The text is run with the key and the number.
-use Rattle.std.proofs.Common.{◌≡◌, Ok, Err, rules, arith, refl}
+use Rattle.std.proofs.Common.{◌≡◌, Ok, Err, rules, arith, refl, w64}
 use Rattle.std.proofs.lemmas.Int.{to_z-of_z}
-use Rattle.std.proofs.Common.{w64}
 use Rattle.sql_meanings.proofs.Makings.{kept_inside}
 use Rattle.store_rows.specs.believed.Failures.{Changing}
 use Rattle.store_rows.proofs.Lookups.{as_integer}

@@ -1,11 +1,9 @@
 -- What is gathered, row by row. What is returned follows from the invariant; a search takes long to see it.
-use Rattle.std.proofs.Common.{◌<◌, ◌≤◌, ◌+◌, None, length, get_or, sym, ap, subst, ◌∙◌, arith, w64}
-use Rattle.std.proofs.Common.{to_z, lit<, refl}
+use Rattle.std.proofs.Common.{◌<◌, ◌≤◌, ◌+◌, None, length, get_or, sym, ap, subst, ◌∙◌, arith, w64, to_z, lit<, refl}
 use Rattle.std.proofs.lemmas.Int.{to_z-of_z}
-use Rattle.walked_rows.specs.Rows.{entry_key, rows_from}
-use Rattle.walked_rows.specs.declared.ahead.TheConstants.{AHEAD}
-use Rattle.walked_rows.proofs.Gathering.{after_key, full_there, gathers_on, gathers_none, no_more}
-use Rattle.walked_rows.proofs.Gathering.{none_there, some_there}
+use Rattle.walked_rows.specs.{Rows.entry_key, Rows.rows_from, declared.ahead.TheConstants.AHEAD}
+use Rattle.walked_rows.proofs.Gathering.{after_key, full_there, gathers_on, gathers_none, no_more, none_there}
+use Rattle.walked_rows.proofs.Gathering.{some_there}
 use Rattle.walked_rows.proofs.Rises.{le_from, one_more, rest_after}
 use Rattle.walked_rows.proofs.ahead.gather.Goals as goal
 

@@ -1,8 +1,7 @@
 use Rattle.std.proofs.Common.{◌≡◌, List, ◌++◌, map, take, length, Some}
 use Rattle.sql_meanings.specs.believed.Entries.{Entry, Rise}
-use Rattle.walked_rows.specs.Rising.{RisesFrom}
+use Rattle.walked_rows.specs.{Rising.RisesFrom, declared.ahead.TheConstants.AHEAD}
 use Rattle.walked_rows.specs.Rows.{IsWide, entry_key, rows_from}
-use Rattle.walked_rows.specs.declared.ahead.TheConstants.{AHEAD}
 use Rattle.walked_rows.proofs.ahead.gather.Given as goal
 
 abbrev pub invariant-loop-row : goal.invariant-loop-row

@@ -4,8 +4,7 @@ use Rattle.std.proofs.lemmas.Int.{to_z-of_z}
 use Rattle.sqlite.specs.Held.{state}
 use Rattle.sql_meanings.specs.believed.Tables.{width_of}
 use Rattle.sql_meanings.proofs.OrderedAnswers.{rise_filter}
-use Rattle.walked_rows.specs.StepOutcomes.{BreaksValue}
-use Rattle.walked_rows.specs.Rows.{rows_from}
+use Rattle.walked_rows.specs.{StepOutcomes.BreaksValue, Rows.rows_from}
 use Rattle.walked_rows.proofs.Leaving.{fails_too, reads_any}
 use Rattle.walked_rows.proofs.Sought.{match_err, refused_memory, wide_filter}
 use Rattle.walked_rows.proofs.ahead.read_ahead.Goals as goal

@@ -2,8 +2,7 @@
 use Rattle.std.proofs.Common.{◌≡◌, [], Err, rules}
 use Rattle.sqlite.specs.Held.{state}
 use Rattle.walked_rows.specs.declared.texts.TheConstants.{METAS_FROM}
-use Rattle.walked_rows.proofs.OnlyMeta.{query_failed, tells_only}
-use Rattle.walked_rows.proofs.WalkTexts.{walks_metas}
+use Rattle.walked_rows.proofs.{OnlyMeta.query_failed, OnlyMeta.tells_only, WalkTexts.walks_metas}
 use Rattle.walked_rows.proofs.alone.only_meta.Goals as goal
 
 pub rows_shown-requires : goal.rows_shown-requires

@@ -3,8 +3,7 @@ use Rattle.std.proofs.Common.{◌≡◌, ◌≤ℤ◌, Err, take, sym, ap, subst
 use Rattle.std.specs.Prelude.{IsSomeAnd}
 use Rattle.std.proofs.lemmas.Int.{to_z-of_z}
 use Rattle.walked_rows.specs.StepOutcomes.{BreaksValue, IsRefusedMemory, shown}
-use Rattle.walked_rows.specs.Rows.{entry_key, rows_from}
-use Rattle.walked_rows.specs.declared.ahead.TheConstants.{AHEAD}
+use Rattle.walked_rows.specs.{Rows.entry_key, Rows.rows_from, declared.ahead.TheConstants.AHEAD}
 use Rattle.walked_rows.proofs.Under.{beyond, broken_first, first_under, from_its_key, key_fails}
 use Rattle.walked_rows.proofs.beside.gather_beside.Goals as goal
 

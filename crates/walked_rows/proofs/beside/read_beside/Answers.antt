@@ -4,11 +4,9 @@ use Rattle.std.proofs.Common.{None, ap, take, ◌∙◌, w64}
 use Rattle.std.proofs.lemmas.Int.{to_z-of_z}
 use Rattle.sqlite.specs.Held.{state}
 use Rattle.walked_rows.specs.StepOutcomes.{BreaksValue, shown}
-use Rattle.walked_rows.specs.Rows.{rows_from}
-use Rattle.walked_rows.specs.declared.ahead.TheConstants.{AHEAD}
+use Rattle.walked_rows.specs.{Rows.rows_from, declared.ahead.TheConstants.AHEAD}
 use Rattle.walked_rows.proofs.Leaving.{fails_too, reads_any}
-use Rattle.walked_rows.proofs.Sought.{all_pass, match_err}
-use Rattle.walked_rows.proofs.Under.{refused_under}
+use Rattle.walked_rows.proofs.{Sought.all_pass, Sought.match_err, Under.refused_under}
 use Rattle.walked_rows.proofs.beside.read_beside.Goals as goal
 
 pub returns-in-Ok : goal.returns-in-Ok

@@ -1,13 +1,10 @@
 -- The room is filled. Each clause is named: a search for them takes long.
 use Rattle.std.proofs.Common.{filter, inl, sym, subst, rules, w64}
-use Rattle.std.proofs.lemmas.Int.{to_z-of_z}
-use Rattle.std.proofs.lemmas.Result.{MatchResult-weaker}
+use Rattle.std.proofs.lemmas.{Int.to_z-of_z, Result.MatchResult-weaker}
 use Rattle.sqlite.specs.Held.{state}
 use Rattle.sql_meanings.specs.StatementAnswers.{IsStoreError}
 use Rattle.sql_meanings.proofs.OrderedAnswers.{rise_filter}
-use Rattle.walked_rows.specs.StepOutcomes.{BreaksValue}
-use Rattle.walked_rows.specs.Pairs.{pair_of}
-use Rattle.walked_rows.specs.Rows.{HasStoredRows}
+use Rattle.walked_rows.specs.{StepOutcomes.BreaksValue, Pairs.pair_of, Rows.HasStoredRows}
 use Rattle.walked_rows.proofs.Filling.{breaks_given, breaks_own, filled}
 use Rattle.walked_rows.proofs.Leaving.{clean_between, reads_then, store_on}
 use Rattle.walked_rows.proofs.joined.fill_joined.Goals as goal

@@ -1,15 +1,12 @@
 -- Rows are joined one by one. What is returned follows from the invariant; a search takes long to see it.
-use Rattle.std.proofs.Common.{◌≡◌, ◌≤ℤ◌, ◌<◌, ◌+◌, ◌++◌, suc, ◌∷◌, map, drop, length, get_or, refl, sym}
-use Rattle.std.proofs.Common.{ap, subst, ◌∙◌, rules, arith, w64, to_z}
-use Rattle.std.proofs.Math.Seq.{drop-cons}
-use Rattle.std.proofs.lemmas.Int.{ints, to_z-of_z}
+use Rattle.std.proofs.Common.{◌≡◌, ◌≤ℤ◌, ◌<◌, ◌+◌, ◌++◌, suc, ◌∷◌, map, drop, length, get_or, refl, sym, ap, subst}
+use Rattle.std.proofs.Common.{◌∙◌, rules, arith, w64, to_z}
+use Rattle.std.proofs.{Math.Seq.drop-cons, lemmas.Int.ints, lemmas.Int.to_z-of_z}
 use Rattle.store_rows.proofs.Lookups.{as_integer}
 use Rattle.walked_rows.specs.Pairs.{ComesBefore, pair_of, paired, row_under}
-use Rattle.walked_rows.specs.Rising.{RisesFrom}
-use Rattle.walked_rows.specs.Rows.{entry_key, rows_after}
-use Rattle.walked_rows.proofs.Gathering.{after_key}
+use Rattle.walked_rows.specs.{Rising.RisesFrom, Rows.entry_key, Rows.rows_after}
+use Rattle.walked_rows.proofs.{Gathering.after_key, Rises.one_more, Rises.rest_after}
 use Rattle.walked_rows.proofs.Joining.{beside_is, joins_on, none_left, pair_beside}
-use Rattle.walked_rows.proofs.Rises.{one_more, rest_after}
 use Rattle.walked_rows.proofs.joined.join.Goals as goal
 
 pub loop-row-preserved : goal.loop-row-preserved

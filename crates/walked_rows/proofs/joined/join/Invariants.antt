@@ -1,7 +1,6 @@
 use Rattle.std.proofs.Common.{◌≡◌, ◌≤ℤ◌, ◌++◌, List, map, drop, length, Some}
 use Rattle.sql_meanings.specs.believed.Entries.{Entry, Rise}
-use Rattle.walked_rows.specs.Pairs.{AreJoined, pair_of}
-use Rattle.walked_rows.specs.Rising.{RisesFrom}
+use Rattle.walked_rows.specs.{Pairs.AreJoined, Pairs.pair_of, Rising.RisesFrom}
 use Rattle.walked_rows.specs.Rows.{entry_key, rows_after, rows_from}
 use Rattle.walked_rows.proofs.joined.join.Given as goal
 

@@ -1,9 +1,7 @@
 -- What is joined with the others that were read. Each clause is named: a search for them takes long.
-use Rattle.std.proofs.Common.{subst, w64}
-use Rattle.std.proofs.lemmas.Int.{to_z-of_z}
+use Rattle.std.proofs.{Common.subst, Common.w64, lemmas.Int.to_z-of_z}
 use Rattle.walked_rows.specs.Pairs.{ComesBefore}
-use Rattle.walked_rows.proofs.Joining.{decided_by}
-use Rattle.walked_rows.proofs.Leaving.{reads_any}
+use Rattle.walked_rows.proofs.{Joining.decided_by, Leaving.reads_any}
 use Rattle.walked_rows.proofs.joined.join_ahead.Goals as goal
 
 pub returns-in-Ok : goal.returns-in-Ok

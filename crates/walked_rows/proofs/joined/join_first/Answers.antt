@@ -4,11 +4,9 @@ use Rattle.std.proofs.lemmas.Result.{MatchResult-weaker}
 use Rattle.sqlite.specs.Held.{state}
 use Rattle.store_rows.proofs.Lookups.{as_integer}
 use Rattle.sql_meanings.specs.StatementAnswers.{IsStoreError}
-use Rattle.walked_rows.specs.StepOutcomes.{BreaksValue}
-use Rattle.walked_rows.specs.Pairs.{pair_of}
-use Rattle.walked_rows.specs.Rows.{entry_key, rows_after}
-use Rattle.walked_rows.proofs.Filling.{breaks_first, first_is, from_first, joined_first}
-use Rattle.walked_rows.proofs.Filling.{none_joined, nothing_is, nothing_joined, rises_itself, rises_too}
+use Rattle.walked_rows.specs.{StepOutcomes.BreaksValue, Pairs.pair_of, Rows.entry_key, Rows.rows_after}
+use Rattle.walked_rows.proofs.Filling.{breaks_first, first_is, from_first, joined_first, none_joined, nothing_is}
+use Rattle.walked_rows.proofs.Filling.{nothing_joined, rises_itself, rises_too}
 use Rattle.walked_rows.proofs.Leaving.{if_any}
 use Rattle.walked_rows.proofs.joined.join_first.Goals as goal
 

@@ -1,22 +1,16 @@
 -- One request more.
-use Rattle.std.proofs.Common.{◌≡◌, ◌<◌, ◌+◌, ◌++◌, ℕ, suc, pos, List, ◌∷◌, map, drop, length, get_or, refl, sym}
-use Rattle.std.proofs.Common.{ap, subst, ◌∙◌, rules, arith, w64, to_z}
-use Rattle.std.proofs.Math.Seq.{drop-cons}
-use Rattle.std.proofs.lemmas.Int.{to_z-of_z}
+use Rattle.std.proofs.Common.{◌≡◌, ◌<◌, ◌+◌, ◌++◌, ℕ, suc, pos, List, ◌∷◌, map, drop, length, get_or, refl, sym, ap}
+use Rattle.std.proofs.Common.{subst, ◌∙◌, rules, arith, w64, to_z}
+use Rattle.std.proofs.{Math.Seq.drop-cons, lemmas.Int.to_z-of_z}
 use Rattle.sqlite.specs.Held.{state}
 use Rattle.sql_meanings.specs.StatementAnswers.{IsStoreError}
 use Rattle.store_rows.specs.believed.BankTables.{reference as reference_table}
-use Rattle.walked_rows.specs.KeptRows.{kept_item}
-use Rattle.walked_rows.specs.Pairs.{paired}
-use Rattle.walked_rows.specs.Rising.{RisesFrom}
-use Rattle.walked_rows.specs.Rows.{HasStoredRows, entry_key, rows_after}
-use Rattle.walked_rows.specs.Stored.{asked_pair, request_entry}
-use Rattle.walked_rows.proofs.Gathering.{after_key, none_there}
-use Rattle.walked_rows.proofs.Joining.{none_left}
-use Rattle.walked_rows.proofs.Keeping.{keeps_none, keeps_on, kept_after}
-use Rattle.walked_rows.proofs.Leaving.{clean_between, fails_too, if_any, kept_any, reads_any, reads_on}
-use Rattle.walked_rows.proofs.Leaving.{shows_same, store_on}
-use Rattle.walked_rows.proofs.Rises.{one_more, rest_after}
+use Rattle.walked_rows.specs.{KeptRows.kept_item, Pairs.paired, Rising.RisesFrom, Rows.HasStoredRows, Rows.entry_key}
+use Rattle.walked_rows.specs.{Rows.rows_after, Stored.asked_pair, Stored.request_entry}
+use Rattle.walked_rows.proofs.{Gathering.after_key, Gathering.none_there, Joining.none_left, Keeping.keeps_none}
+use Rattle.walked_rows.proofs.{Keeping.keeps_on, Keeping.kept_after, Rises.one_more, Rises.rest_after}
+use Rattle.walked_rows.proofs.Leaving.{clean_between, fails_too, if_any, kept_any, reads_any, reads_on, shows_same}
+use Rattle.walked_rows.proofs.Leaving.{store_on}
 use Rattle.walked_rows.proofs.kept.refer_each.Goals as goal
 
 -- those to come begin with the posting

@@ -1,14 +1,10 @@
 -- Each request so far has its reference, and the file is as it was.
 use Rattle.std.proofs.Common.{◌≡◌, ◌++◌, List, map, drop, length, Some, Ok}
-use Rattle.sqlite.specs.Held.{state}
-use Rattle.sqlite.specs.State.{HasCleanDisk}
+use Rattle.sqlite.specs.{Held.state, State.HasCleanDisk}
 use Rattle.sql_meanings.specs.believed.Entries.{Entry, Rise}
 use Rattle.store_rows.specs.believed.BankTables.{reference as reference_table}
 use Rattle.store_rows.specs.declared.fault.TableFault.{TableFault}
-use Rattle.walked_rows.specs.KeptRows.{AreKept}
-use Rattle.walked_rows.specs.Leaving.{ReadsIfAny}
-use Rattle.walked_rows.specs.Pairs.{paired}
-use Rattle.walked_rows.specs.Rising.{RisesFrom}
+use Rattle.walked_rows.specs.{KeptRows.AreKept, Leaving.ReadsIfAny, Pairs.paired, Rising.RisesFrom}
 use Rattle.walked_rows.specs.Rows.{HasStoredRows, entry_key, rows_after, rows_from}
 use Rattle.walked_rows.specs.Stored.{asked_pair, request_entry}
 use Rattle.walked_rows.proofs.kept.refer_each.Given as goal

@@ -1,7 +1,6 @@
 -- Each number is that of its column.
 use Rattle.std.proofs.Common.{◌≡◌, Err, rules, ◌∙◌, arith, pos, below_more, w64, to_z, of_z}
-use Rattle.std.proofs.lemmas.Int.{to_z-of_z}
-use Rattle.std.proofs.lemmas.List.{get_or_append_left, get_or_push, length_push}
+use Rattle.std.proofs.lemmas.{Int.to_z-of_z, List.get_or_append_left, List.get_or_push, List.length_push}
 use Rattle.walked_rows.proofs.NumbersRead.{numbers_are, number_fails}
 use Rattle.walked_rows.proofs.numbers.numbers.Goals as goal
 

@@ -1,6 +1,5 @@
 use Rattle.std.proofs.Common.{◌≡◌, pos, ℕ, ◌<◌, get_or, length}
-use Rattle.sqlite.specs.Order.{column}
-use Rattle.sqlite.specs.declared.types.Value.TheVariants.{Int}
+use Rattle.sqlite.specs.{Order.column, declared.types.Value.TheVariants.Int}
 use Rattle.walked_rows.proofs.numbers.numbers.Given as goal
 
 abbrev pub invariant-loop-at : goal.invariant-loop-at

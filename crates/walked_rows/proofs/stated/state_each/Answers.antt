@@ -1,18 +1,14 @@
 -- One posting more.
-use Rattle.std.proofs.Common.{◌≡◌, ◌<◌, ◌+◌, ◌++◌, ℕ, suc, pos, List, ◌∷◌, map, drop, length, get_or, inr, sym}
-use Rattle.std.proofs.Common.{ap, subst, ◌∙◌, rules, arith, w64, to_z}
-use Rattle.std.proofs.Math.Seq.{drop-cons}
-use Rattle.std.proofs.lemmas.Int.{to_z-of_z}
+use Rattle.std.proofs.Common.{◌≡◌, ◌<◌, ◌+◌, ◌++◌, ℕ, suc, pos, List, ◌∷◌, map, drop, length, get_or, inr, sym, ap}
+use Rattle.std.proofs.Common.{subst, ◌∙◌, rules, arith, w64, to_z}
+use Rattle.std.proofs.{Math.Seq.drop-cons, lemmas.Int.to_z-of_z}
 use Rattle.store_rows.specs.believed.BankTables.{reference as reference_table}
-use Rattle.walked_rows.specs.Pairs.{pair_with, paired}
-use Rattle.walked_rows.specs.Rising.{RisesFrom}
-use Rattle.walked_rows.specs.Rows.{HasStoredRows, entry_key, rows_after, rows_from}
-use Rattle.walked_rows.specs.Stored.{posting_entry, stated_pair}
-use Rattle.walked_rows.proofs.Gathering.{after_key, none_there}
+use Rattle.walked_rows.specs.{Pairs.pair_with, Pairs.paired, Rising.RisesFrom, Rows.HasStoredRows, Rows.entry_key}
+use Rattle.walked_rows.specs.{Rows.rows_after, Rows.rows_from, Stored.posting_entry, Stored.stated_pair}
+use Rattle.walked_rows.proofs.{Gathering.after_key, Gathering.none_there, Rises.one_more, Rises.rest_after}
 use Rattle.walked_rows.proofs.Joining.{joins_on, none_left, pair_beside}
-use Rattle.walked_rows.proofs.Leaving.{clean_between, fails_too, if_any, kept_any, reads_any, reads_on}
-use Rattle.walked_rows.proofs.Leaving.{shows_same, store_on}
-use Rattle.walked_rows.proofs.Rises.{one_more, rest_after}
+use Rattle.walked_rows.proofs.Leaving.{clean_between, fails_too, if_any, kept_any, reads_any, reads_on, shows_same}
+use Rattle.walked_rows.proofs.Leaving.{store_on}
 use Rattle.walked_rows.proofs.stated.state_each.Goals as goal
 
 -- those to come begin with the posting

@@ -3,8 +3,7 @@ use Rattle.std.proofs.Common.{◌≡◌, [], ◌∷◌, Ok, Result, rules, sym, 
 use Rattle.std.proofs.lemmas.Result.{err_from_is_err_and}
 use Rattle.std.specs.Prelude.{IsSome}
 use Rattle.message_records.specs.{believed.Reading.request_of, believed.Records.RequestFields, declared.fault.Bad.Bad}
-use Rattle.bank_transactions.specs.{believed.Stored.RepliesToStored, believed.Additions.AddsForRecords}
-use Rattle.bank_transactions.specs.{believed.Causes.IsBrokenOrMet}
+use Rattle.bank_transactions.specs.believed.{Stored.RepliesToStored, Additions.AddsForRecords, Causes.IsBrokenOrMet}
 use Rattle.bank_store.specs.believed.Seen.{database_of}
 use Rattle.posting_rules.specs.believed.Commands.{Post, AreCommands}
 use Rattle.posting_rules.proofs.{Calls.posts, Calls.replies, ChangesByKey.sound_tables}

@@ -1,7 +1,6 @@
 -- The changed balance of one slot.
 use Rattle.std.proofs.Common.{refl}
-use Rattle.bank_transactions.proofs.Chained.{does_for}
-use Rattle.bank_transactions.proofs.Rows.{account_made}
+use Rattle.bank_transactions.proofs.{Chained.does_for, Rows.account_made}
 use Rattle.bank_transactions.proofs.batch_changes.AccountSlotChange.make.Goals as goal
 
 pub returns : goal.returns

@@ -1,17 +1,11 @@
 -- The changed balance of one slot, whose number may be none of branches.
 use Rattle.std.proofs.Common.{◌≡◌, ℕ, Some, None, Option, rules, refl, sym, subst, ◌∙◌, inl, inr}
 use Rattle.std.specs.Prelude.{ℤ, IfSome}
-use Rattle.message_records.specs.believed.Ranges.{whole_within}
-use Rattle.message_records.specs.declared.limits.TheConstants.{MAX_BRANCH}
+use Rattle.message_records.specs.{believed.Ranges.whole_within, declared.limits.TheConstants.MAX_BRANCH}
 use Rattle.posting_rules.specs.believed.Tables.{Tables}
-use Rattle.store_rows.specs.Holders.{HasRow, with_balance}
-use Rattle.store_rows.specs.declared.holders.Holder.TheVariants.{Branch}
-use Rattle.bank_transactions.specs.Additions.{NoRow}
-use Rattle.bank_transactions.specs.Doing.{Does}
-use Rattle.bank_transactions.proofs.Chained.{does_for, does_none}
-use Rattle.bank_transactions.specs.Writing.{by_change}
-use Rattle.bank_transactions.proofs.Rows.{branch_made}
-use Rattle.bank_transactions.proofs.Together.{within_or_none}
+use Rattle.store_rows.specs.{Holders.HasRow, Holders.with_balance, declared.holders.Holder.TheVariants.Branch}
+use Rattle.bank_transactions.specs.{Additions.NoRow, Doing.Does, Writing.by_change}
+use Rattle.bank_transactions.proofs.{Chained.does_for, Chained.does_none, Rows.branch_made, Together.within_or_none}
 use Rattle.bank_transactions.proofs.batch_changes.BranchSlotChange.make.Goals as goal
 
 -- a number of branches is the one that it was made of

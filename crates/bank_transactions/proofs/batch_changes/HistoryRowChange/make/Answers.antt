@@ -1,11 +1,8 @@
 -- A row more.
-use Rattle.posting_rules.specs.believed.Changes.{with_history}
-use Rattle.posting_rules.specs.believed.Tables.{history_key}
+use Rattle.posting_rules.specs.believed.{Changes.with_history, Tables.history_key}
 use Rattle.posting_batch.specs.Overlay.{history_put}
-use Rattle.store_rows.specs.believed.BankTables.{history}
-use Rattle.store_rows.specs.believed.SeveralRows.{given}
-use Rattle.store_rows.specs.believed.View.{history_entry}
-use Rattle.store_rows.specs.believed.Inserts.{posting_insert}
+use Rattle.store_rows.specs.believed.{BankTables.history, SeveralRows.given, View.history_entry}
+use Rattle.store_rows.specs.believed.{Inserts.posting_insert}
 use Rattle.bank_transactions.proofs.Rows.{adds_posting, posting_put, row_added}
 use Rattle.bank_transactions.proofs.batch_changes.HistoryRowChange.make.Goals as goal
 

@@ -1,12 +1,9 @@
 -- A row more.
 use Rattle.std.proofs.Common.{Some}
-use Rattle.posting_rules.specs.believed.Changes.{with_reference}
-use Rattle.posting_rules.specs.believed.Tables.{reference_key}
+use Rattle.posting_rules.specs.believed.{Changes.with_reference, Tables.reference_key}
 use Rattle.posting_batch.specs.Overlay.{references_put}
-use Rattle.store_rows.specs.believed.BankTables.{reference}
-use Rattle.store_rows.specs.believed.SeveralRows.{given}
-use Rattle.store_rows.specs.believed.View.{reference_entry}
-use Rattle.store_rows.specs.believed.Inserts.{reference_insert}
+use Rattle.store_rows.specs.believed.{BankTables.reference, SeveralRows.given, View.reference_entry}
+use Rattle.store_rows.specs.believed.{Inserts.reference_insert}
 use Rattle.bank_transactions.proofs.Rows.{adds_reference, reference_put, row_added}
 use Rattle.bank_transactions.proofs.batch_changes.ReferenceRowChange.make.Goals as goal
 

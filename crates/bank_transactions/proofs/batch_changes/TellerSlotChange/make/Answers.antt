@@ -1,7 +1,6 @@
 -- The changed balance of one slot.
 use Rattle.std.proofs.Common.{refl}
-use Rattle.bank_transactions.proofs.Chained.{does_for}
-use Rattle.bank_transactions.proofs.Rows.{teller_made}
+use Rattle.bank_transactions.proofs.{Chained.does_for, Rows.teller_made}
 use Rattle.bank_transactions.proofs.batch_changes.TellerSlotChange.make.Goals as goal
 
 pub returns : goal.returns

@@ -1,5 +1,4 @@
-use Rattle.std.proofs.Common.{arith, refl, sym}
-use Rattle.std.proofs.lemmas.Result.{err_from_is_err_and}
+use Rattle.std.proofs.{Common.arith, Common.refl, Common.sym, lemmas.Result.err_from_is_err_and}
 use Rattle.branch_loader.proofs.Rows.{no-rows, plan-short}
 use Rattle.branch_loader.proofs.Stated.{listed-all, listed-fault, listed-more}
 use Rattle.branch_loader.proofs.plan.Plan.from_list.Goals as goal

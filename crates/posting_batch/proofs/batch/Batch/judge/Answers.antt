@@ -1,26 +1,19 @@
 use Rattle.std.proofs.Common.{◌≡◌, ◌∙◌, ◌+◌, ◌++◌, ℕ, List, Result, length, map, refl, sym, ap, subst}
 use Rattle.std.proofs.lemmas.List.{length-map}
 use Rattle.message_records.specs.declared.fault.Bad.{Bad}
-use Rattle.message_records.specs.believed.Reading.{request_of}
-use Rattle.message_records.specs.believed.Records.{RequestFields}
-use Rattle.message_records.specs.believed.Spelling.{reply_spelling}
+use Rattle.message_records.specs.believed.{Reading.request_of, Records.RequestFields, Spelling.reply_spelling}
 use Rattle.posting_rules.specs.believed.Changes.{tables_past_all, replies_past_all}
-use Rattle.posting_rules.specs.believed.Runs.{followed_by, posts}
-use Rattle.posting_rules.specs.believed.Tables.{Tables, AreTablesOf}
+use Rattle.posting_rules.specs.believed.{Runs.followed_by, Runs.posts, Tables.Tables, Tables.AreTablesOf}
 use Rattle.posting_rules.proofs.Records.{all_past}
 use Rattle.posting_rules.proofs.Records as past
-use Rattle.posting_batch.specs.Batch.{ChangesRows, HasRisingSlots, AddsFreeRows, covering_all, no_slots}
-use Rattle.posting_batch.specs.Batch.{filled, HasFreeOrdinals, HasNextOrdinals, KeepsNew, blanked}
-use Rattle.posting_batch.specs.Judging.{overlay_with_all, replies_over}
+use Rattle.posting_batch.specs.Batch.{ChangesRows, HasRisingSlots, AddsFreeRows, covering_all, no_slots, filled}
+use Rattle.posting_batch.specs.Batch.{HasFreeOrdinals, HasNextOrdinals, KeepsNew, blanked}
+use Rattle.posting_batch.specs.{Judging.overlay_with_all, Judging.replies_over, View.view}
 use Rattle.posting_batch.specs.Overlay.{Overlay, tables_over}
-use Rattle.posting_batch.specs.View.{view}
-use Rattle.posting_batch.proofs.Blanked.{blank_all, keeps_all}
-use Rattle.posting_batch.proofs.Covered.{stands}
-use Rattle.posting_batch.proofs.FreeOrdinals.{free_shown}
+use Rattle.posting_batch.proofs.{Blanked.blank_all, Blanked.keeps_all, Covered.stands, FreeOrdinals.free_shown}
+use Rattle.posting_batch.proofs.{NewRows.all_changes, NewRows.all_adds, NextOrdinals.next_all}
 use Rattle.posting_batch.proofs.Idle.{all_answered, all_idle, all_rows}
 use Rattle.posting_batch.proofs.InOrder.{all_tables, all_replies, all_rising, judged}
-use Rattle.posting_batch.proofs.NewRows.{all_changes, all_adds}
-use Rattle.posting_batch.proofs.NextOrdinals.{next_all}
 use Rattle.posting_batch.proofs.batch.Batch.judge.Goals as goal
 
 pub returns-clause-judged : goal.returns-clause-judged

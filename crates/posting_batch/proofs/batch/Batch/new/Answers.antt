@@ -1,12 +1,8 @@
 use Rattle.std.proofs.Common.{◌≡◌, List, Result, map, sym, subst, rules}
-use Rattle.message_records.specs.declared.fault.Bad.{Bad}
-use Rattle.message_records.specs.believed.Reading.{request_of}
-use Rattle.message_records.specs.believed.Records.{RequestFields}
+use Rattle.message_records.specs.{declared.fault.Bad.Bad, believed.Reading.request_of, believed.Records.RequestFields}
 use Rattle.posting_batch.specs.Batch.{CoversAll, HasRisingSlots, covering_all, no_slots}
-use Rattle.posting_batch.specs.Overlay.{Overlay}
-use Rattle.posting_batch.specs.View.{view}
-use Rattle.posting_batch.proofs.SlotsForRecords.{covers_all}
-use Rattle.posting_batch.proofs.SlotsInOrder.{made_all}
+use Rattle.posting_batch.specs.{Overlay.Overlay, View.view}
+use Rattle.posting_batch.proofs.{SlotsForRecords.covers_all, SlotsInOrder.made_all}
 use Rattle.posting_batch.proofs.batch.Batch.new.Goals as goal
 
 pub returns-clause-covers : goal.returns-clause-covers

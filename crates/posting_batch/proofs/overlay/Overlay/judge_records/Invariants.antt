@@ -2,8 +2,7 @@ use Rattle.std.proofs.Common.{◌≡◌, ◌≤◌, ◌+◌, ◌-◌, ◌++◌, 
 use Rattle.std.specs.Vec.{vec_capacity}
 use Rattle.smallvec.specs.SmallVec.{HasRoomFor}
 use Rattle.message_records.specs.believed.Spelling.{reply_spelling}
-use Rattle.posting_batch.specs.Judging.{overlay_with_all, replies_over}
-use Rattle.posting_batch.specs.View.{view}
+use Rattle.posting_batch.specs.{Judging.overlay_with_all, Judging.replies_over, View.view}
 use Rattle.posting_batch.proofs.overlay.Overlay.judge_records.Given as goal
 
 -- what is left comes to what all come to, and there is room for it

@@ -1,5 +1,4 @@
-use Rattle.std.proofs.Common.{arith}
-use Rattle.std.proofs.lemmas.Grind.{common_steps}
+use Rattle.std.proofs.{Common.arith, lemmas.Grind.common_steps}
 use Rattle.posting_batch.proofs.overlay.Overlay.keep.Goals as goal
 
 pub returns-clause-overlay : goal.returns-clause-overlay

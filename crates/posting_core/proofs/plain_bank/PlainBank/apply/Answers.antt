@@ -1,11 +1,10 @@
 -- The rows of branches stay in their ranges.
-use Rattle.std.proofs.Common.{◌≡◌, ℕ, Bool, true, false, cond, eqb, List, length, get_or, sym, subst, ap, ◌∙◌}
-use Rattle.std.proofs.Common.{arith, rules}
+use Rattle.std.proofs.Common.{◌≡◌, ℕ, Bool, true, false, cond, eqb, List, length, get_or, sym, subst, ap, ◌∙◌, arith}
+use Rattle.std.proofs.Common.{rules}
 use Rattle.std.specs.Prelude.{ℤ, All, map}
-use Rattle.std.proofs.{lemmas.Grind.common_steps, lemmas.List.with_items_is, lemmas.List.Elements.All-map}
-use Rattle.posting_rules.specs.declared.rows.BranchRow.{BranchRow}
-use Rattle.posting_rules.specs.{Branches.IsInRange, believed.Changes.row_changed, ChangesByKey.with_branch_balance}
-use Rattle.posting_rules.specs.{believed.Tables.branch_key}
+use Rattle.std.proofs.lemmas.{Grind.common_steps, List.with_items_is, List.Elements.All-map}
+use Rattle.posting_rules.specs.{declared.rows.BranchRow.BranchRow, Branches.IsInRange, believed.Changes.row_changed}
+use Rattle.posting_rules.specs.{ChangesByKey.with_branch_balance, believed.Tables.branch_key}
 use Rattle.posting_rules.specs.believed.Entries.{posted_entry, refused_entry}
 use Rattle.posting_rules.proofs.RowChanges.{changed_at}
 use Rattle.posting_core.specs.Plain.{plain_tables}

@@ -1,9 +1,7 @@
-use Rattle.std.proofs.Common.{arith}
-use Rattle.std.proofs.lemmas.Grind.{common_steps}
+use Rattle.std.proofs.{Common.arith, lemmas.Grind.common_steps}
 use Rattle.posting_rules.specs.believed.LookUps.{balance_of_account, balance_of_branch, balance_of_teller}
-use Rattle.posting_rules.specs.{believed.Numbering.branch_of_teller, believed.Tables.row_at}
-use Rattle.posting_rules.specs.{believed.Tables.account_key, believed.Tables.branch_key}
-use Rattle.posting_rules.specs.believed.Tables.{teller_key}
+use Rattle.posting_rules.specs.believed.Numbering.{branch_of_teller}
+use Rattle.posting_rules.specs.believed.Tables.{row_at, account_key, branch_key, teller_key}
 use Rattle.posting_core.proofs.InMemory.{row_told}
 use Rattle.posting_core.proofs.plain_bank.PlainBank.look_up.Goals as goal
 

@@ -1,6 +1,5 @@
 use Rattle.std.proofs.Common.{[], ◌∷◌, refl, ap, ◌∙◌, rules}
-use Rattle.posting_rules.specs.{believed.Commands.Post, believed.Changes.reply_past, believed.Changes.tables_past}
-use Rattle.posting_rules.specs.{believed.Tables.Tables}
+use Rattle.posting_rules.specs.believed.{Commands.Post, Changes.reply_past, Changes.tables_past, Tables.Tables}
 use Rattle.posting_rules.proofs.Records.{past_shown, past_reply}
 use Rattle.posting_core.specs.Plain.{plain_tables}
 use Rattle.posting_core.proofs.InMemory.{answered_plain, after_plain, plain_shows, requests_as_before, spared_plain}

@@ -1,7 +1,6 @@
 use Rattle.std.proofs.Common.{◌≡◌, [], ◌∷◌, ◌++◌, suc, length, refl, ap, ◌∙◌, List, ℕ, rules}
-use Rattle.posting_rules.specs.{believed.Changes.replies_past_all, believed.Changes.tables_past}
-use Rattle.posting_rules.specs.{believed.Changes.tables_past_all}
-use Rattle.posting_rules.specs.{believed.Tables.Tables, believed.Runs.posts}
+use Rattle.posting_rules.specs.believed.Changes.{replies_past_all, tables_past, tables_past_all}
+use Rattle.posting_rules.specs.believed.{Tables.Tables, Runs.posts}
 use Rattle.posting_rules.proofs.Records.{all_past, all_replies, are_posts}
 use Rattle.posting_core.specs.Plain.{plain_tables}
 use Rattle.posting_core.proofs.InMemory.{answered_plain, after_plain, plain_shows, requests_as_before, spared_plain}

@@ -4,8 +4,7 @@ use Rattle.message_records.specs.declared.limits.TheConstants.{MAX_BALANCE, MAX_
 use Rattle.posting_rules.specs.declared.fault.Rule.TheVariants.{Balance, Value}
 use Rattle.posting_rules.specs.declared.limits.TheConstants.{LAST_BRANCH, MAX_ACCOUNTS}
 use Rattle.sql_meanings.specs.believed.Entries.{Entry}
-use Rattle.store_rows.specs.believed.Columns.{number_at}
-use Rattle.store_rows.specs.believed.Rules.{BranchKeeps}
+use Rattle.store_rows.specs.believed.{Columns.number_at, Rules.BranchKeeps}
 use Rattle.store_rows.specs.Stored.{IsBranch, branch_stored}
 use Rattle.store_rows.proofs.StoredReads.{unread_cents, unread_whole}
 use Rattle.store_rows.proofs.branches.BranchRowFromRow.from_row.Goals as goal

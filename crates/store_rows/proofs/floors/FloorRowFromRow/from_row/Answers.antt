@@ -4,8 +4,7 @@ use Rattle.message_records.specs.declared.limits.TheConstants.{MAX_BALANCE, MAX_
 use Rattle.posting_rules.specs.declared.fault.Rule.TheVariants.{Floor, Value}
 use Rattle.posting_rules.specs.declared.limits.TheConstants.{LAST_BRANCH}
 use Rattle.sql_meanings.specs.believed.Entries.{Entry}
-use Rattle.store_rows.specs.believed.Columns.{number_at}
-use Rattle.store_rows.specs.believed.Rules.{FloorKeeps}
+use Rattle.store_rows.specs.believed.{Columns.number_at, Rules.FloorKeeps}
 use Rattle.store_rows.specs.Stored.{IsFloorRow, floor_stored}
 use Rattle.store_rows.proofs.StoredReads.{unread_cents, unread_whole}
 use Rattle.store_rows.proofs.floors.FloorRowFromRow.from_row.Goals as goal

@@ -1,6 +1,5 @@
 -- The balance is the one column.
-use Rattle.store_rows.proofs.FoundRows.{reads_balance}
-use Rattle.store_rows.proofs.StoredReads.{reads_balance_stored}
+use Rattle.store_rows.proofs.{FoundRows.reads_balance, StoredReads.reads_balance_stored}
 use Rattle.store_rows.proofs.found.CentsFromRow.from_row.Goals as goal
 
 pub returns-clause-reads : goal.returns-clause-reads

@@ -1,10 +1,8 @@
 -- A column that couldn't be read breaks a rule.
 use Rattle.std.proofs.Common.{◌≡◌, Err, refl, rules, arith}
-use Rattle.posting_rules.specs.declared.fault.Rule.TheVariants.{Value}
-use Rattle.posting_rules.specs.declared.limits.TheConstants.{MAX_DECIDED}
+use Rattle.posting_rules.specs.declared.{fault.Rule.TheVariants.Value, limits.TheConstants.MAX_DECIDED}
 use Rattle.sql_meanings.specs.believed.Entries.{Entry}
-use Rattle.store_rows.specs.believed.Columns.{text_at}
-use Rattle.store_rows.specs.believed.Rules.{ReferenceKeeps}
+use Rattle.store_rows.specs.believed.{Columns.text_at, Rules.ReferenceKeeps}
 use Rattle.store_rows.specs.Stored.{IsReferenceRow, reference_stored}
 use Rattle.store_rows.proofs.StoredReads.{unread_reference, unread_whole}
 use Rattle.store_rows.proofs.references.ReferenceRowFromRow.from_row.Goals as goal

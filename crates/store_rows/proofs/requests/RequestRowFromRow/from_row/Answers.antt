@@ -4,8 +4,7 @@ use Rattle.message_records.specs.declared.limits.TheConstants.{MAX_NUMBER, MAX_T
 use Rattle.posting_rules.specs.declared.fault.Rule.TheVariants.{Request, Value}
 use Rattle.posting_rules.specs.declared.limits.TheConstants.{MAX_DECIDED}
 use Rattle.sql_meanings.specs.believed.Entries.{Entry}
-use Rattle.store_rows.specs.believed.Columns.{number_at}
-use Rattle.store_rows.specs.believed.Rules.{RequestKeeps}
+use Rattle.store_rows.specs.believed.{Columns.number_at, Rules.RequestKeeps}
 use Rattle.store_rows.specs.Stored.{IsSameRequest, request_stored}
 use Rattle.store_rows.proofs.StoredReads.{unread_whole}
 use Rattle.store_rows.proofs.requests.RequestRowFromRow.from_row.Goals as goal

@@ -1,13 +1,11 @@
 -- The requests that were read get their references. Each clause is named: a search for them takes long.
 use Rattle.std.proofs.Common.{filter, inl, refl, sym, subst, true, rules, w64}
-use Rattle.std.proofs.lemmas.Int.{to_z-of_z}
-use Rattle.std.proofs.lemmas.Result.{MatchResult-weaker}
+use Rattle.std.proofs.lemmas.{Int.to_z-of_z, Result.MatchResult-weaker}
 use Rattle.sqlite.specs.Held.{state}
 use Rattle.sql_meanings.specs.StatementAnswers.{IsStoreError}
 use Rattle.sql_meanings.proofs.OrderedAnswers.{rise_filter}
 use Rattle.store_rows.specs.believed.BankTables.{reference as reference_table}
-use Rattle.walked_rows.specs.Pairs.{paired}
-use Rattle.walked_rows.specs.Rows.{HasStoredRows}
+use Rattle.walked_rows.specs.{Pairs.paired, Rows.HasStoredRows}
 use Rattle.walked_rows.proofs.Keeping.{asked_breaks, asked_read, kept_breaks, kept_breaks_own, kept_so_far}
 use Rattle.walked_rows.proofs.Leaving.{clean_between, reads_then, store_on}
 use Rattle.walked_rows.proofs.kept.KeptRequestWalkedRow.read_some.Goals as goal

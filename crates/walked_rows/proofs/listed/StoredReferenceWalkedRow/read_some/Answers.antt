@@ -1,14 +1,11 @@
 -- What is read is gathered of what was found. Each clause is named: a search for them takes long.
 use Rattle.std.proofs.Common.{List, Ok, Err, filter, true, ◌∙◌, w64}
 use Rattle.std.proofs.lemmas.Int.{to_z-of_z}
-use Rattle.sqlite.specs.Held.{state}
-use Rattle.sqlite.specs.Order.{Row}
+use Rattle.sqlite.specs.{Held.state, Order.Row}
 use Rattle.sql_meanings.proofs.OrderedAnswers.{rise_filter}
-use Rattle.walked_rows.specs.References.{BreaksListed}
-use Rattle.walked_rows.specs.Rows.{rows_from}
-use Rattle.walked_rows.proofs.Leaving.{fails_too, reads_any}
+use Rattle.walked_rows.specs.{References.BreaksListed, Rows.rows_from}
+use Rattle.walked_rows.proofs.{Leaving.fails_too, Leaving.reads_any, WalkTexts.walks_references}
 use Rattle.walked_rows.proofs.Sought.{match_err, refused_memory, tells_walk, wide_filter}
-use Rattle.walked_rows.proofs.WalkTexts.{walks_references}
 use Rattle.walked_rows.proofs.listed.StoredReferenceWalkedRow.read_some.Goals as goal
 
 pub rows_shown-requires : goal.rows_shown-requires

@@ -1,13 +1,11 @@
 -- What the statement shows.
 use Rattle.std.proofs.Common.{[], ◌∷◌, pos, refl, arith, w64}
 use Rattle.std.proofs.lemmas.Int.{to_z-of_z}
-use Rattle.sqlite.specs.Held.{state}
-use Rattle.sqlite.specs.declared.types.Value.TheVariants.{Int}
+use Rattle.sqlite.specs.{Held.state, declared.types.Value.TheVariants.Int}
 use Rattle.sql_meanings.proofs.Texts.{only_reads}
 use Rattle.store_rows.proofs.Lookups.{as_integer}
 use Rattle.store_rows.specs.believed.BankTables.{history}
-use Rattle.walked_rows.proofs.Shows.{shows_five}
-use Rattle.walked_rows.proofs.Sought.{tells_of_from, tells_walk}
+use Rattle.walked_rows.proofs.{Shows.shows_five, Sought.tells_of_from, Sought.tells_walk}
 use Rattle.walked_rows.proofs.WalkTexts.{is_postings_of, reads_postings_of, walks_postings}
 use Rattle.walked_rows.proofs.postings.StoredPostingStoredRow.seek.Goals as goal
 

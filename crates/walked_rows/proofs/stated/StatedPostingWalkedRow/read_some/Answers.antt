@@ -1,14 +1,11 @@
 -- The postings that were read are stated. Each clause is named: a search for them takes long.
 use Rattle.std.proofs.Common.{filter, inl, sym, subst, rules, w64}
-use Rattle.std.proofs.lemmas.Int.{to_z-of_z}
-use Rattle.std.proofs.lemmas.Result.{MatchResult-weaker}
+use Rattle.std.proofs.lemmas.{Int.to_z-of_z, Result.MatchResult-weaker}
 use Rattle.sqlite.specs.Held.{state}
 use Rattle.sql_meanings.specs.StatementAnswers.{IsStoreError}
 use Rattle.sql_meanings.proofs.OrderedAnswers.{rise_filter}
 use Rattle.store_rows.specs.believed.BankTables.{reference as reference_table}
-use Rattle.walked_rows.specs.StepOutcomes.{BreaksValue}
-use Rattle.walked_rows.specs.References.{BreaksReference}
-use Rattle.walked_rows.specs.Rows.{HasStoredRows}
+use Rattle.walked_rows.specs.{StepOutcomes.BreaksValue, References.BreaksReference, Rows.HasStoredRows}
 use Rattle.walked_rows.specs.Stored.{IsNoPosting, is_of, stated_pair}
 use Rattle.walked_rows.proofs.Filling.{breaks_given, breaks_own, filled}
 use Rattle.walked_rows.proofs.Leaving.{clean_between, reads_then, store_on}

@@ -1,9 +1,7 @@
 -- What the statement shows.
-use Rattle.std.proofs.Common.{w64}
-use Rattle.std.proofs.lemmas.Int.{to_z-of_z}
+use Rattle.std.proofs.{Common.w64, lemmas.Int.to_z-of_z}
 use Rattle.sqlite.specs.Held.{state}
-use Rattle.walked_rows.proofs.Sought.{tells_walk}
-use Rattle.walked_rows.proofs.WalkTexts.{walks_tellers}
+use Rattle.walked_rows.proofs.{Sought.tells_walk, WalkTexts.walks_tellers}
 use Rattle.walked_rows.proofs.tellers.StoredTellerStoredRow.seek.Goals as goal
 
 pub rows_shown-requires : goal.rows_shown-requires

@@ -1,6 +1,5 @@
 -- What is read ahead is what the walk gives. Each clause is named: a search for them takes long.
-use Rattle.std.proofs.Common.{w64}
-use Rattle.std.proofs.lemmas.Int.{to_z-of_z}
+use Rattle.std.proofs.{Common.w64, lemmas.Int.to_z-of_z}
 use Rattle.walked_rows.proofs.walked.AnyWalkedRow.read_some.Goals as goal
 
 pub returns : goal.returns
