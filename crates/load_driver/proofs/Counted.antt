@@ -3,8 +3,8 @@ use Rattle.std.proofs.Common.{◌≡◌, ◌+◌, ℕ, Bool, cond, List, [], ◌
 use Rattle.std.proofs.Common.{add_assoc}
 use Rattle.std.specs.Prelude.{count_by}
 use Rattle.std.proofs.lemmas.List.Sums.{sum_by-cons}
-use Rattle.message_records.specs.{declared.records.Outcome.Outcome, believed.Records.ReplyFields}
-use Rattle.message_records.specs.believed.Outcomes.{code_of, has_balance}
+use Rattle.message_records.specs.declared.records.Outcome.{Outcome}
+use Rattle.message_records.specs.believed.{Outcomes.code_of, Outcomes.has_balance, Records.ReplyFields}
 use Rattle.message_records.specs.believed.Spelling.{digits, reply_spelling}
 use Rattle.message_records.specs.declared.records.Outcome.TheVariants.{Posted, NoTeller, WrongBranch, NoAccount}
 use Rattle.message_records.specs.declared.records.Outcome.TheVariants.{BelowFloor, OverLimit, ReusedNumber, Full}

@@ -1,4 +1,4 @@
--- What serves proofs beside it: The rows of a bank's tables as a file holds them, whatever values they have, and the nine rules that the
+-- The tables of a bank as a file holds them.
 use Rattle.std.specs.Prelude.{[], ◌∷◌, map}
 use Rattle.posting_rules.specs.believed.Tables.{Tables}
 use Rattle.store_rows.specs.believed.View.{account_entry, branch_entry, floor_entry, history_entry, meta_entry}
