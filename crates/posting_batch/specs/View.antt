@@ -9,7 +9,7 @@ use Rattle.posting_batch.specs.declared.batch.Batch.{Batch}
 use Rattle.posting_batch.specs.declared.batch.Judged.{Judged}
 use Rattle.posting_batch.specs.Overlay.{Overlay}
 use Rattle.posting_batch.specs.Room.{IsRoomFor}
-use Rattle.posting_batch.specs.Batch.{covering_all, no_slots, filled}
+use Rattle.posting_batch.specs.Batch.{KeepsNew, blanked, covering_all, no_slots, filled}
 
 -- the overlay
 abbrev pub view : held.Overlay → Overlay
@@ -54,3 +54,10 @@ pub record IsMadeOf (b : Batch) (records : List (List ℕ)) : Type 0 where
 pub record IsFilledFrom (b : Batch) (t : Tables) (records : List (List ℕ)) : Type 0 where
   pub reads : reads_of b ≡ map request_of records
   pub overlay : view b.overlay ≡ filled t (covering_all no_slots (map request_of records))
+
+-- What is judged has the batch's records and its keys. Where no request was kept before it, each that is kept then
+-- is a new one.
+pub record CanBeMadeAgain (b : Batch) (j : Judged) : Type 0 where
+  pub reads : reads_judged j ≡ reads_of b
+  pub keys : blanked (view j.overlay) ≡ blanked (view b.overlay)
+  pub own : KeepsNew (view b.overlay) → KeepsNew (view j.overlay)

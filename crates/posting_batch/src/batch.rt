@@ -8,7 +8,7 @@ ghost use Rattle.posting_rules.specs.believed.Commands.{Command};
 ghost use Rattle.posting_rules.specs.believed.Runs.{posts};
 ghost use Rattle.posting_rules.specs.believed.Tables.{Tables, AreTablesOf};
 ghost use Rattle.posting_batch.specs.Batch.{CoversAll, HasFreeOrdinals, HasNextOrdinals, HasRisingSlots};
-ghost use Rattle.posting_batch.specs.Batch.{IsJudged, IsShown, KeepsNew, blanked};
+ghost use Rattle.posting_batch.specs.Batch.{IsJudged, IsShown, blanked};
 
 use crate::cover::decode_all;
 use crate::overlay::Overlay;
@@ -81,7 +81,7 @@ impl Judged {
 }
 
 impl Batch {
-    ghost use Rattle.posting_batch.specs.View.{view, reads_judged, reads_of, IsMadeOf, IsFilledFrom};
+    ghost use Rattle.posting_batch.specs.View.{view, reads_of, CanBeMadeAgain, IsMadeOf, IsFilledFrom};
 
     /// Decodes up to `RECORDS_PER_BATCH` records, and places an empty slot under every key that they can
     /// touch. All that a batch ever takes of memory is taken here; where it was refused, nothing is left.
@@ -129,11 +129,8 @@ impl Batch {
         ensures idle { result.overlay.decided ≡ self.overlay.decided
             → view result.overlay ≡ view self.overlay }
 
-        // The records and the keys are as they were. Where no request was kept before it, each that is kept then is
-        // a new one.
-        ensures same { (reads_judged result ≡ reads_of self)
-            × (blanked (view result.overlay) ≡ blanked (view self.overlay)) }
-        ensures own { KeepsNew (view self.overlay) → KeepsNew (view result.overlay) }
+        // It can be made again.
+        ensures again { CanBeMadeAgain self result }
     {
         let Batch {
             reads,

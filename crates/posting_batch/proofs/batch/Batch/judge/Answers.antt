@@ -98,14 +98,12 @@ returns-clause-idle c none =
     c.judge_records.ensures.overlay in
     is ∙ all_idle old c.args.moment reads (ap (λ (o : Overlay). o.decided) (sym is) ∙ none)
 
-pub returns-clause-same : goal.returns-clause-same
-returns-clause-same c = (
-  refl,
-  ap blanked c.judge_records.ensures.overlay
-      ∙ blank_all (view c.args.self.overlay) c.args.moment c.deref.result.now,
-)
-
-pub returns-clause-own : goal.returns-clause-own
-returns-clause-own c keeps =
-    subst KeepsNew (sym c.judge_records.ensures.overlay)
-    (keeps_all (view c.args.self.overlay) c.args.moment c.deref.result.now keeps)
+pub returns-clause-again : goal.returns-clause-again
+returns-clause-again c = record {
+  reads = refl;
+  keys =
+      ap blanked c.judge_records.ensures.overlay
+      ∙ blank_all (view c.args.self.overlay) c.args.moment c.deref.result.now;
+  own = λ keeps. subst KeepsNew (sym c.judge_records.ensures.overlay)
+      (keeps_all (view c.args.self.overlay) c.args.moment c.deref.result.now keeps);
+}
