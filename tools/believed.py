@@ -250,6 +250,7 @@ def page():
     claims, _, _, said_claims = counts(CLAIMS)
     own = {id(it) for it in promise}
     more = {id(it) for it in calls} - own
+    listed_names = len({(library_of(path), name) for path, name in kit})
     text = [
         "# What must be believed",
         "",
@@ -260,7 +261,7 @@ def page():
         "",
         "| For | Definitions |",
         "|---|---|",
-        f"| README's promise: `reopen` (`found`, `kept`) | {said}; {len(rust)} Rust types and constants, {len(kit)} names of the kit |",
+        f"| README's promise: `reopen` (`found`, `kept`) | {said}; {len(rust)} Rust types and constants, {listed_names} names of the kit |",
         f"| with `lives_law`, `calls_law` and `streams_law`, which say what is acknowledged, and `submit`, `submit_all`, `open_branch` | {said_calls} |",
         f"| all ten claims of README | {said_claims} |",
         "",
@@ -280,17 +281,20 @@ def page():
     return "\n".join(text)
 
 
+def library_of(path):
+    return path.split(".")[1] if path.startswith("Rattle.") else path.split(".")[0]
+
+
 def borrowed(rust, kit):
     """The Rust types and constants that the definitions name, and the names of the kit."""
     types, names = {}, {}
     for crate, name in rust:
         types.setdefault(crate, set()).add(name.split(".")[-1])
     for path, name in kit:
-        library = path.split(".")[1] if path.startswith("Rattle.") else path.split(".")[0]
-        names.setdefault(library, set()).add(name)
+        names.setdefault(library_of(path), set()).add(name)
     def lines(by_crate):
         return [f"- `{it}`: " + ", ".join(f"`{name}`" for name in sorted(by_crate[it])) for it in sorted(by_crate)]
-    return ["**Rust types and constants**", "", *lines(types), "", "**Names of the kit**", "", *lines(names), ""]
+    return ["**Rust types and constants**", "", *lines(types), "", "**Names of the kit**, beside the signs of its logic (≡, ×, ⊎, ∥ ∥₁)", "", *lines(names), ""]
 
 
 def table(found):

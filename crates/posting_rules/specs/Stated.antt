@@ -78,7 +78,7 @@ pub record HasContent (k : KeptFields) (r : RequestFields) : Type 0 where
   pub account : k.decision.account ≡ r.account
   pub branch : k.decision.branch ≡ r.branch
   pub delta : k.decision.delta ≡ r.delta
-  -- or neither has one
+  -- it has the same one, or neither has one
   pub reference : k.reference ≡ r.reference
 
 pub record RepliesAsStated (before : List Command) (bytes : List ℕ) : Type 0 where

@@ -40,13 +40,13 @@ pub record IsStream (old new : Seen) (taken refused : List Command) : Type 0 whe
 
 -- ---- a life
 
--- how many commands a prefix has that holds all that were acknowledged, with those of one call more
+-- how many commands must survive after one call more: as before, or all before it and those it acknowledged
 abbrev pub reached : ℕ → List Command → ℕ → ℕ
 reached least given zero = least
 reached least given (suc n) = length given + suc n
 
 -- Calls one after another: the counter as they began and as it is now, the commands that they were given, and
--- how many of these the least prefix has that holds all that were acknowledged.
+-- how many of these, from the first on, a crash must leave.
 pub data Life {C : Type 0} (seen : C → Seen) (first : C) : C → List Command → ℕ → Type 0 where
   begins : Life seen first first [] 0
   goes_on : (now next : C) (given commands : List Command) (least acknowledged : ℕ)

@@ -9,7 +9,7 @@ use Rattle.posting_rules.specs.believed.Runs.{followed_by}
 use Rattle.posting_rules.specs.believed.Tables.{Tables, AreTablesOf}
 use Rattle.bank_lives.specs.believed.Lives.{Life, EndsLife}
 
--- what one life was given, and how many of it the least prefix has that holds all that were acknowledged
+-- what one life was given, and how many of it, from the first on, a crash must leave
 pub record Given : Type 0 where
   pub commands : List Command
   pub least : ℕ

@@ -4,7 +4,7 @@ use Rattle.message_records.specs.believed.Spelling.{reply_spelling}
 use Rattle.posting_rules.specs.believed.Commands.{Command, Open, Post}
 use Rattle.posting_rules.specs.believed.Entries.{reply}
 
--- the log with these commands after it, the first of them first
+-- the log, whose newest command is first, with these after it, in the order in which they were given
 abbrev pub followed_by : List Command → List Command → List Command
 followed_by log [] = log
 followed_by log (c ∷ cs) = followed_by (c ∷ log) cs

@@ -32,7 +32,7 @@ abbrev pub history : Table
 history = plain_table (codes "history") (codes "ordinal")
     (codes "aid" ∷ codes "tid" ∷ codes "bid" ∷ codes "delta" ∷ codes "moment" ∷ [])
 
--- no two rows have the same teller and number
+-- no two rows have the same teller and number, which are places 2 and 3 of a stored row
 abbrev pub request : Table
 request = record (plain_table (codes "request") (codes "ordinal")
     (codes "tid" ∷ codes "number" ∷ codes "aid" ∷ codes "bid" ∷ codes "delta" ∷ codes "outcome"
