@@ -33,7 +33,7 @@ CLAIMS = CALLS + [
     ("bank_lives", "sender_law", []),
     ("posting_rules", "each_request_once", []),
     ("posting_rules", "cases_are_as_stated", []),
-    ("posting_core", "post_stream", ["survives", "resend"]),
+    ("posting_core", "post_stream", ["streams"]),
     ("posting_rules", "tables_are_consistent", []),
     ("posting_rules", "accounts_stay_above", []),
     ("bank_store", "balance", []),

@@ -8,9 +8,7 @@ use Rattle.sqlite.specs.Held.{Held}
 use Rattle.sqlite_trees.specs.declared.store.Store.{Ghosts}
 use Rattle.posting_rules.specs.declared.fault.Fault.{Fault}
 use Rattle.posting_rules.specs.declared.fault.Fault.TheVariants.{Memory}
-use Rattle.posting_core.specs.believed.Stream.{IfBank, IsRefusedAfterBatches}
-use Rattle.posting_core.specs.Stream.{OutputsReplies, Resends, StreamFaultIsOfItsEnd}
-use Rattle.posting_core.specs.Stream.{StreamsAsRead, SurvivesStream}
+use Rattle.posting_core.specs.Stream.{Streams}
 use Rattle.posting_core.specs.believed.Told.{EndsWith, ReadTold}
 use Rattle.posting_core.specs.Told.{Beside, HasWriteFailed, IsFlush, WriteTold}
 use Rattle.posting_core.specs.declared.stream.StreamFault.{StreamFault}
@@ -81,18 +79,6 @@ abbrev pub ended_by : Result ℕ StreamFault → Result Status CommandFault
 ended_by (Ok count) = Ok Done
 ended_by (Err fault) = Err (fault_of_stream fault)
 
--- what a stream did to the bank and to its ends
-pub record PostsTo {S : Type 0} (g : Ghosts S) (r r' : Option (List ℕ)) (q q' : Option (List ReadTold))
-    (b b' : Option (List Beside)) (w w' : Option (List ℕ)) (t t' : Option (List WriteTold)) (k k' : Option (List ℕ))
-    (streamed : Result ℕ StreamFault) (old new : Bank S g) : Type 0 where
-  pub batches : StreamsAsRead r r' q q' b b' w w' t k k' (bank_seen g old) (bank_seen g new) streamed
-  pub output : OutputsReplies r r' w w' (bank_seen g old) (bank_seen g new) streamed
-  pub survives : SurvivesStream r r' w w' (bank_seen g old) (bank_seen g new)
-  pub resend : Resends r r' w w' (bank_seen g old) (bank_seen g new) streamed
-  pub refused : IfErr streamed
-      (λ fault. IfBank fault (IsRefusedAfterBatches (bank_seen g) (bank_reason g) old new r r'))
-  pub ends : StreamFaultIsOfItsEnd streamed q q' t t'
-
 abbrev pub Posts : {S : Type 0} (g : Ghosts S) → (conn back : Held S) → (r r' : Option (List ℕ))
     → (q q' : Option (List ReadTold)) → (b b' : Option (List Beside)) → (w w' : Option (List ℕ))
     → (t t' : Option (List WriteTold))
@@ -100,7 +86,7 @@ abbrev pub Posts : {S : Type 0} (g : Ghosts S) → (conn back : Held S) → (r r
 Posts g conn back r r' q q' b b' w w' t t' k k' told =
     FindsOver g conn back told ((r' ≡ r) × (w' ≡ w) × (k' ≡ k))
     (λ old new. (streamed : Result ℕ StreamFault) × (told ≡ ended_by streamed)
-    × PostsTo g r r' q q' b b' w w' t t' k k' streamed old new)
+    × Streams r r' q q' b b' w w' t t' k k' (bank_seen g) (bank_reason g) old new streamed)
 
 abbrev pub DrivesBank : {S : Type 0} (g : Ghosts S) → (conn back : Held S) → (w w' k k' : Option (List ℕ))
     → (seed count : ℕ) → Result Status CommandFault → Type 0

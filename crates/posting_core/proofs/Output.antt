@@ -2,19 +2,21 @@
 -- that come again.
 use Rattle.std.proofs.Common.{◌≡◌, ℕ, zero, suc, ◌-◌, ◌<◌, ◌≤◌, List, [], ◌∷◌, ◌++◌, length, take, Option, Result, Ok}
 use Rattle.std.proofs.Common.{Err, sym, ap, subst, ◌∙◌, append-nil, arith}
-use Rattle.std.specs.{List.AllByRecursion, Io.KnownBytes.Appends}
+use Rattle.std.specs.{List.AllByRecursion, Io.KnownBytes.Appends, Prelude.IfErr}
 use Rattle.std.proofs.Math.Seq.{take-append_seam}
 use Rattle.std.proofs.lemmas.List.{length-append, length-take, Concat.flat_map-append}
 use Rattle.posting_core.specs.declared.stream.StreamFault.{StreamFault}
 use Rattle.posting_core.specs.declared.stream.StreamFault.TheVariants.{Truncated, Read, Write, Bank}
-use Rattle.posting_rules.specs.believed.{Commands.Command, Counter.Seen, Counter.ShowsLog, Entries.reply}
+use Rattle.posting_rules.specs.{declared.fault.Fault.Fault, believed.Commands.Command, believed.Counter.Seen}
+use Rattle.posting_rules.specs.believed.{Counter.ShowsLog, Entries.reply}
 use Rattle.posting_rules.specs.Resends.{Place, Skips}
 use Rattle.posting_rules.specs.believed.Runs.{followed_by, posts, replies_to, ArePosts}
 use Rattle.message_records.specs.believed.Spelling.{reply_spelling}
 use Rattle.posting_core.specs.believed.Batches.{Batch, IsRecord, joined, records_of, posts_in, posts_of}
-use Rattle.posting_core.specs.believed.Stream.{acknowledged, Streamed}
-use Rattle.posting_core.specs.Stream.{replies_text, IfTaken, OutputsReplies, SurvivesStream, IsReplied, Resends}
-use Rattle.posting_core.specs.Stream.{reply_at}
+use Rattle.posting_core.specs.believed.Stream.{acknowledged, IfBank, IsRefusedAfterBatches, Streamed, UnlessDown}
+use Rattle.posting_core.specs.Stream.{replies_text, IfTaken, IsReplied, StreamFaultIsOfItsEnd, Streams, StreamsAsRead}
+use Rattle.posting_core.specs.Stream.{WritesReplies, reply_at}
+use Rattle.posting_core.specs.{believed.Told.ReadTold, Told.Beside, Told.WriteTold}
 use Rattle.posting_core.proofs.{Again.reply_begins, Again.reply_stands, Stops.at_least, Timeless.timeless}
 use Rattle.posting_rules.proofs.Sequence.{replies_to-append, one_reply_each}
 use Rattle.posting_rules.proofs.{Resends.shows_log_left_out, Remaining.leaves_weaker}
@@ -70,46 +72,25 @@ all_written : {r r' w w' k k' : Option (List ℕ)} {c c' : Seen} {result : Resul
 all_written {w = w} {w' = w'} s log none e = subst (λ (t : List ℕ). Appends w w' t)
     (e ∙ text_of s log none) s.wrote
 
-pub output_of : {r r' w w' k k' : Option (List ℕ)} {c c' : Seen} (result : Result ℕ StreamFault)
-    → Streamed r r' w w' k k' c c' result
-    → OutputsReplies r r' w w' c c' result
-output_of (Ok count) s = record {
-  bytes = joined (records_of (s.taken ++ s.refused)) ++ s.rest;
-  read = s.read;
-  writes = λ h log shows. all_written s log s.ends.all_taken (s.replies h log shows);
-}
-output_of (Err (Truncated n)) s = record {
-  bytes = joined (records_of (s.taken ++ s.refused)) ++ s.rest;
-  read = s.read;
-  writes = λ h log shows. all_written s log s.ends.all_taken (s.replies h log shows);
-}
-output_of (Err Read) s = record {
-  bytes = joined (records_of (s.taken ++ s.refused)) ++ s.rest;
-  read = s.read;
-  writes = λ h log shows. all_written s log s.ends (s.replies h log shows);
-}
-output_of {w = w} {w' = w'} (Err Write) s =
-    let n = length s.written in
-    record {
-      bytes = joined (records_of (s.taken ++ s.refused)) ++ s.rest;
-      read = s.read;
-      writes = λ h log shows. (
-        n,
-        subst (λ (t : List ℕ). Appends w w' t) (s.replies h log shows
-            ∙ ap (take n) (text_of s log s.ends)) s.wrote,
-      );
-    }
-output_of {w = w} {w' = w'} (Err (Bank fault)) s = record {
-  bytes = joined (records_of (s.taken ++ s.refused)) ++ s.rest;
-  read = s.read;
-  writes = λ h log shows.
-      let n = length (joined (replies_to log (posts_of s.taken))) in
-      let text = text_is log (s.taken ++ s.refused) s.rest s.whole s.few in (
-        n,
-        subst (λ (t : List ℕ). Appends w w' t) (s.replies h log shows ∙ text_begins log s.taken s.refused
-            ∙ ap (take n) text) s.wrote,
-      );
-}
+-- all of the text was written, or a prefix of it
+writes : {r r' w w' k k' : Option (List ℕ)} {c c' : Seen} (result : Result ℕ StreamFault)
+    (s : Streamed r r' w w' k k' c c' result) (log : List Command) → c'.honest → ShowsLog c log
+    → WritesReplies result w w' (replies_text log (joined (records_of (s.taken ++ s.refused)) ++ s.rest))
+writes (Ok count) s log h shows = all_written s log s.ends.all_taken (s.replies h log shows)
+writes (Err (Truncated n)) s log h shows = all_written s log s.ends.all_taken (s.replies h log shows)
+writes (Err Read) s log h shows = all_written s log s.ends (s.replies h log shows)
+writes {w = w} {w' = w'} (Err Write) s log h shows =
+    let n = length s.written in (
+      n,
+      subst (λ (t : List ℕ). Appends w w' t) (s.replies h log shows ∙ ap (take n) (text_of s log s.ends)) s.wrote,
+    )
+writes {w = w} {w' = w'} (Err (Bank fault)) s log h shows =
+    let n = length (joined (replies_to log (posts_of s.taken))) in
+    let text = text_is log (s.taken ++ s.refused) s.rest s.whole s.few in (
+      n,
+      subst (λ (t : List ℕ). Appends w w' t) (s.replies h log shows ∙ text_begins log s.taken s.refused
+          ∙ ap (take n) text) s.wrote,
+    )
 
 -- ---- what a crash leaves
 
@@ -150,27 +131,6 @@ acknowledged_taken log bs refused n le =
     subst (λ (rs : List (List ℕ)). acknowledged rs n ≤ length (posts_of bs))
     (sym (replies_split log bs refused))
     (subst (λ (k : ℕ). acknowledged (first ++ rest) n ≤ k) each (few_acknowledged first rest n le))
-
-pub survives_of : {r r' w w' k k' : Option (List ℕ)} {c c' : Seen} (result : Result ℕ StreamFault)
-    → Streamed r r' w w' k k' c c' result
-    → SurvivesStream r r' w w' c c'
-survives_of {c' = c'} result s =
-    let bs = s.taken ++ s.refused in
-    record {
-      bytes = joined (records_of bs) ++ s.rest;
-      read = s.read;
-      written = s.written;
-      wrote = s.wrote;
-      commands = posts_of bs;
-      posts = all_posts bs;
-      records = posted_is bs ∙ sym (whole_records_are (records_of bs) s.rest s.whole s.few);
-      survives = λ h log stood. leaves_weaker c' _ _
-          (λ t b.
-          let few = acknowledged_taken log s.taken s.refused (length s.written)
-          (written_few result s log h stood.shows) in
-          at_least log (posts_of bs) (length (posts_of s.taken)) _ t few b)
-          (s.survives h log stood);
-    }
 
 -- ---- records that come again
 
@@ -241,18 +201,41 @@ replied (Err (Bank fault)) s log p one first again h hp shows =
     stands_begun log p one (s.taken ++ s.refused) _ s.written first again hp
     (s.replies h (followed_by log p) shows ∙ text_begins (followed_by log p) s.taken s.refused)
 
-pub resends_of : {r r' w w' k k' : Option (List ℕ)} {c c' : Seen} (result : Result ℕ StreamFault)
-    → Streamed r r' w w' k k' c c' result → Resends r r' w w' c c' result
-resends_of result s =
-    let bs = s.taken ++ s.refused in
+-- ---- all that a call did
+
+pub streams_of : {C : Type 0} (seen : C → Seen) (reason : Fault → C → C → Type 0) (old new : C)
+    {r r' w w' k k' : Option (List ℕ)} {q q' : Option (List ReadTold)} {b b' : Option (List Beside)}
+    {t t' : Option (List WriteTold)} (result : Result ℕ StreamFault)
+    → StreamsAsRead r r' q q' b b' w w' t k k' (seen old) (seen new) result
+    → IfErr result (λ fault. IfBank fault (IsRefusedAfterBatches seen reason old new r r'))
+    → UnlessDown result ((seen new).is_down → (seen old).is_down) → ((seen old).is_down → new ≡ old)
+    → StreamFaultIsOfItsEnd result q q' t t'
+    → Streams r r' q q' b b' w w' t t' k k' seen reason old new result
+streams_of seen reason old new result s refused up idle ends =
+    let did = s.did in
+    let bs = did.taken ++ did.refused in
     record {
-      bytes = joined (records_of bs) ++ s.rest;
-      read = s.read;
-      written = s.written;
-      wrote = s.wrote;
+      bytes = joined (records_of bs) ++ did.rest;
+      read = did.read;
+      written = did.written;
+      wrote = did.wrote;
       commands = posts_of bs;
       posts = all_posts bs;
-      records = posted_is bs ∙ sym (whole_records_are (records_of bs) s.rest s.whole s.few);
-      replies = λ h log p hp shows one first again. replied result s log p one first again h hp shows;
-      tables = λ h log p added hp skips shows. tables_again result s log p added h hp skips shows;
+      records = posted_is bs ∙ sym (whole_records_are (records_of bs) did.rest did.whole did.few);
+      batches = s;
+      output = λ h log shows. writes result did log h shows;
+      survives = λ h log stood.
+          let few = acknowledged_taken log did.taken did.refused (length did.written)
+          (written_few result did log h stood.shows) in
+          leaves_weaker (seen new) _ _
+          (λ t b. at_least log (posts_of bs) (length (posts_of did.taken)) _ t few b)
+          (did.survives h log stood);
+      resend = record {
+        replies = λ h log p hp shows one first again. replied result did log p one first again h hp shows;
+        tables = λ h log p added hp skips shows. tables_again result did log p added h hp skips shows;
+      };
+      refused = refused;
+      up = up;
+      idle = idle;
+      ends = ends;
     }

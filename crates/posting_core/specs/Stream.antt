@@ -1,6 +1,6 @@
 -- How a stream goes on, batch by batch, and how it breaks off.
 use Rattle.std.specs.Prelude.{◌≡◌, ◌⊎◌, ℕ, ◌+◌, ◌*◌, ◌<◌, ◌/◌, List, [], ◌∷◌, ◌++◌, length, take}
-use Rattle.std.specs.Prelude.{drop, get_or, ⊤}
+use Rattle.std.specs.Prelude.{drop, get_or, ⊤, IfErr}
 use Rattle.std.specs.Prelude.{Option, Result, Ok, Err}
 use Rattle.std.specs.Io.KnownBytes.{Appends, Consumes}
 use Rattle.message_records.specs.believed.Spelling.{reply_spelling}
@@ -20,7 +20,8 @@ use Rattle.posting_core.specs.Told.{Beside, HasWriteFailed, HoldsFlushed, IsThro
 use Rattle.posting_core.specs.believed.Batches.{Batch, joined, records_of}
 use Rattle.posting_rules.specs.believed.Entries.{reply}
 use Rattle.posting_rules.specs.Resends.{Place, Skips}
-use Rattle.posting_core.specs.believed.Stream.{Streamed, UnlessDown, acknowledged, posted_records, whole_records}
+use Rattle.posting_core.specs.believed.Stream.{IfBank, IsRefusedAfterBatches, Streamed, UnlessDown, acknowledged}
+use Rattle.posting_core.specs.believed.Stream.{posted_records, whole_records}
 
 -- ---- which records go together: q and q' are what the source's reads are known to have returned
 
@@ -76,13 +77,6 @@ WritesReplies (Err Write) w w' text = (n : ℕ) × Appends w w' (take n text)
 WritesReplies (Err (Bank fault)) w w' text = (n : ℕ) × Appends w w' (take n text)
 WritesReplies _ w w' text = Appends w w' text
 
-pub record OutputsReplies (r r' w w' : Option (List ℕ)) (c c' : Seen)
-    (result : Result ℕ StreamFault) : Type 0 where
-  pub bytes : List ℕ
-  pub read : Consumes r r' bytes
-  pub writes : c'.honest → (log : List Command) → ShowsLog c log
-      → WritesReplies result w w' (replies_text log bytes)
-
 -- ---- what the ends returned: the source from r to r', and the sink from w to w'
 
 -- a fault of an end comes where that end failed; all that was written was flushed, wherever the sink didn't
@@ -99,19 +93,6 @@ StreamFaultIsOfItsEnd (Err (Bank fault)) r r' w w' = IsThrough w w'
 abbrev pub TellsBreak : StreamFault → Option (List WriteTold) → Option (List WriteTold) → Type 0
 TellsBreak Write w w' = HasWriteFailed w w'
 TellsBreak _ w w' = w' ≡ w
-
--- everything that a crash may leave shows the log and a prefix of what was read, which holds all that was
--- acknowledged
-pub record SurvivesStream (r r' w w' : Option (List ℕ)) (c c' : Seen) : Type 0 where
-  pub bytes : List ℕ
-  pub read : Consumes r r' bytes
-  pub written : List ℕ
-  pub wrote : Appends w w' written
-  pub commands : List Command
-  pub posts : ArePosts commands
-  pub records : posted_records commands ≡ whole_records bytes
-  pub survives : c'.honest → (log : List Command) → StandsAt c log
-      → LeavesOnly c' (ShowsPrefix log commands (acknowledged (replies_to log commands) (length written)))
 
 -- ---- records that come again
 
@@ -130,15 +111,9 @@ IsReplied (Err Write) part whole = part ≡ take (length part) whole
 IsReplied (Err (Bank fault)) part whole = part ≡ take (length part) whole
 IsReplied _ part whole = part ≡ whole
 
--- records were read where a bank showed posts p after a log
-pub record Resends (r r' w w' : Option (List ℕ)) (c c' : Seen) (result : Result ℕ StreamFault) : Type 0 where
-  pub bytes : List ℕ
-  pub read : Consumes r r' bytes
-  pub written : List ℕ
-  pub wrote : Appends w w' written
-  pub commands : List Command
-  pub posts : ArePosts commands
-  pub records : posted_records commands ≡ whole_records bytes
+-- commands were read where a bank showed posts p after a log, and this was written
+pub record Resends (c c' : Seen) (commands : List Command) (written : List ℕ) (result : Result ℕ StreamFault)
+    : Type 0 where
   -- one that is in p gets the reply that it got there
   pub replies : c'.honest → (log p : List Command) → ArePosts p → ShowsLog c (followed_by log p)
       → (one : List ℕ) → (first : Place one p) → (again : Place one commands)
@@ -149,13 +124,36 @@ pub record Resends (r r' w w' : Option (List ℕ)) (c c' : Seen) (result : Resul
       → ShowsLog c (followed_by log p)
       → IfTaken result (ShowsLog c' (followed_by (followed_by log p) added))
 
--- ---- whether the bank is down afterwards
+-- ---- all that a call did to its reader, its writer, its clock and its bank
 
--- unless a fault says otherwise it is down only where it was before, and then it is the bank that it was
-pub record IsDownAsBefore {C : Type 0} (seen : C → Seen) (old new : C) (result : Result ℕ StreamFault)
-    : Type 0 where
+-- t and t' are what the sink's calls are known to have returned
+pub record Streams {C : Type 0} (r r' : Option (List ℕ)) (q q' : Option (List ReadTold)) (b b' : Option (List Beside))
+    (w w' : Option (List ℕ)) (t t' : Option (List WriteTold)) (k k' : Option (List ℕ)) (seen : C → Seen)
+    (reason : Fault → C → C → Type 0) (old new : C) (result : Result ℕ StreamFault) : Type 0 where
+  -- what was read and written, and the posts of the whole records that were read
+  pub bytes : List ℕ
+  pub read : Consumes r r' bytes
+  pub written : List ℕ
+  pub wrote : Appends w w' written
+  pub commands : List Command
+  pub posts : ArePosts commands
+  pub records : posted_records commands ≡ whole_records bytes
+  -- it did so batch by batch
+  pub batches : StreamsAsRead r r' q q' b b' w w' t k k' (seen old) (seen new) result
+  -- what was written is a function of what was read, however it was cut
+  pub output : (seen new).honest → (log : List Command) → ShowsLog (seen old) log
+      → WritesReplies result w w' (replies_text log bytes)
+  -- everything that a crash may leave shows the log and a prefix of the commands, which holds all that was
+  -- acknowledged
+  pub survives : (seen new).honest → (log : List Command) → StandsAt (seen old) log
+      → LeavesOnly (seen new) (ShowsPrefix log commands (acknowledged (replies_to log commands) (length written)))
+  pub resend : Resends (seen old) (seen new) commands written result
+  -- where the bank refused a batch, its fault says why
+  pub refused : IfErr result (λ fault. IfBank fault (IsRefusedAfterBatches seen reason old new r r'))
+  -- unless a fault says otherwise it is down only where it was before, and then it is the bank that it was
   pub up : UnlessDown result ((seen new).is_down → (seen old).is_down)
   pub idle : (seen old).is_down → new ≡ old
+  pub ends : StreamFaultIsOfItsEnd result q q' t t'
 
 -- a call was refused, for the reason that its fault gives; or the bank is up, and memory was refused to who
 -- asked it

@@ -4,10 +4,8 @@ ghost use Rattle.std.specs.Result.{IsErrOf};
 ghost use Rattle.posting_core.specs.Clock.{IsReading};
 ghost use Rattle.posting_rules.specs.believed.Runs.{posts};
 ghost use Rattle.posting_core.specs.Batches.{BatchIsAnswered, BreaksOff};
-ghost use Rattle.posting_core.specs.Stream.{OutputsReplies, SurvivesStream, Resends};
-ghost use Rattle.posting_core.specs.Stream.{StreamFaultIsOfItsEnd, StreamsAsRead};
-ghost use Rattle.posting_core.specs.believed.Stream.{IfBank, IsRefusedAfterBatches};
-ghost use Rattle.posting_core.specs.Stream.{IfTaken, IsDownAsBefore, TellsBreak};
+ghost use Rattle.posting_core.specs.Stream.{IfTaken, Streams, TellsBreak};
+ghost use Rattle.posting_core.specs.believed.Stream.{IfBank};
 ghost use Rattle.posting_core.specs.believed.Told.{EndsWith};
 ghost use Rattle.posting_core.specs.Told.{IsFlush};
 
@@ -114,25 +112,10 @@ pub fn post_stream<R: Source, W: Sink, K: Clock, C: Counter>(
     clock: &mut K,
     bank: &mut C,
 ) -> Result<Count, StreamFault>
-    ensures batches { StreamsAsRead (R.remaining reader.old) (R.remaining reader.new)
-        (R.told reader.old) (R.told reader.new) (R.beside reader.old) (R.beside reader.new)
-        (W.contents writer.old) (W.contents writer.new) (W.told writer.old) (K.readings clock.old)
-        (K.readings clock.new) (C.seen bank.old) (C.seen bank.new) result }
-    ensures output { OutputsReplies (R.remaining reader.old) (R.remaining reader.new) (W.contents writer.old)
-        (W.contents writer.new)
-        (C.seen bank.old) (C.seen bank.new) result }
-    ensures survives { SurvivesStream (R.remaining reader.old) (R.remaining reader.new)
-        (W.contents writer.old)
-        (W.contents writer.new)
-        (C.seen bank.old) (C.seen bank.new) }
-    ensures resend { Resends (R.remaining reader.old) (R.remaining reader.new) (W.contents writer.old)
-        (W.contents writer.new) (C.seen bank.old) (C.seen bank.new) result }
-    ensures refused { IfErr result (λ fault. IfBank fault
-        (IsRefusedAfterBatches C.seen C.reason bank.old bank.new (R.remaining reader.old)
-        (R.remaining reader.new))) }
-    ensures down { IsDownAsBefore C.seen bank.old bank.new result }
-    ensures ends { StreamFaultIsOfItsEnd result (R.told reader.old) (R.told reader.new)
-        (W.told writer.old) (W.told writer.new) }
+    ensures streams { Streams (R.remaining reader.old) (R.remaining reader.new) (R.told reader.old)
+        (R.told reader.new) (R.beside reader.old) (R.beside reader.new) (W.contents writer.old)
+        (W.contents writer.new) (W.told writer.old) (W.told writer.new) (K.readings clock.old)
+        (K.readings clock.new) C.seen C.reason bank.old bank.new result }
     ensures spares { C.spares bank.old bank.new }
 {
     let mut buffer = [0u8; BUFFER];

@@ -13,7 +13,7 @@ use Rattle.posting_core.specs.declared.stream.StreamFault.{StreamFault}
 use Rattle.posting_core.specs.declared.stream.StreamFault.TheVariants.{Truncated, Read, Write, Bank}
 use Rattle.posting_rules.specs.believed.Commands.{Command, Open, Post}
 use Rattle.posting_rules.specs.believed.Counter.{Seen, ShowsLog, LeavesOnly, StandsAt, ShowsPrefix, Takes, Refuses}
-use Rattle.posting_rules.specs.believed.Runs.{followed_by, posts, replies_to, ArePosts}
+use Rattle.posting_rules.specs.believed.Runs.{followed_by, replies_to, ArePosts}
 use Rattle.posting_core.specs.believed.Clock.{AreReadings}
 use Rattle.posting_core.specs.believed.Batches.{Batch, IsBatch, IsRecord, joined, moments_of, records_of, posts_of}
 use Rattle.posting_rules.specs.believed.Entries.{reply}

@@ -24,26 +24,12 @@ returns g c =
         inr record {
           first = c.in-Ok.bank;
           last = c.post_stream.new.bank;
-          did = (
-            c.in-Ok.ensures.found,
-            (
-              c.post_stream.result,
-              c.posted-told.ensures,
-              record {
-                batches = it.batches;
-                output = it.output;
-                survives = it.survives;
-                resend = it.resend;
-                refused = it.refused;
-                ends = it.ends;
-              },
-            ),
-          );
+          did = (c.in-Ok.ensures.found, (c.post_stream.result, c.posted-told.ensures, it.streams));
           conn = c.release.ensures.same;
         },
         found_spares g.S.Store c.args.conn c.release.result c.in-Ok.bank c.post_stream.new.bank c.in-Ok.ensures.found
             (call_spares g.S.Store c.in-Ok.bank c.post_stream.new.bank it.spares) c.release.ensures.same,
       );
-      ends = rw c.posted-told.ensures (ends_post _ _ _ _ _ _ c.post_stream.result it.batches.did);
+      ends = rw c.posted-told.ensures (ends_post _ _ _ _ _ _ c.post_stream.result it.streams.batches.did);
       idle = c.release.ensures.idle;
     }

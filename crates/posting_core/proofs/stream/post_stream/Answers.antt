@@ -3,8 +3,8 @@ use Rattle.std.proofs.lemmas.{List.length-take-le, Result.err_from_is_err_and}
 use Rattle.posting_core.specs.{declared.stream.TheConstants.BUFFER, believed.Batches.Batch, Stream.given}
 use Rattle.posting_core.specs.{Told.read_told}
 use Rattle.posting_core.proofs.{Batched.cut_into, Batched.cut_and_moved, StreamedBatches.going_batch}
-use Rattle.posting_core.proofs.{Refused.refused_broken, Refused.up_broken, Output.output_of, Output.survives_of}
-use Rattle.posting_core.proofs.{Output.resends_of, Through.ends_broken, Through.through_batch, Through.through_first}
+use Rattle.posting_core.proofs.{Refused.refused_broken, Refused.up_broken, Output.streams_of, Through.ends_broken}
+use Rattle.posting_core.proofs.{Through.through_batch, Through.through_first}
 use Rattle.posting_core.proofs.Followed.{following_batch, following_first, following_read, following_wrote, gave_none}
 use Rattle.posting_core.proofs.Followed.{gave_some, up_to}
 use Rattle.posting_rules.specs.declared.limits.TheConstants.{RECORDS_PER_BATCH}
@@ -40,14 +40,10 @@ returns g c =
     (few_left c.reads.filled c.reads.buffer c.reads.invariant.few c.reads.invariant.room)
     c.reads.invariant.following in
     record {
-      batches = s;
-      output = output_of _ s.did;
-      survives = survives_of _ s.did;
-      resend = resends_of _ s.did;
-      refused = tt;
-      down = record { up = λ down. (c.reads.invariant.up down).0; idle = c.reads.invariant.idle };
+      streams = streams_of g.C.Counter.seen g.C.Counter.reason c.args.bank.now c.reads.bank _ s tt
+          (λ down. (c.reads.invariant.up down).0) c.reads.invariant.idle
+          (inr (made_many c.reads.invariant.made (omega arith)), c.reads.invariant.through);
       spares = c.reads.invariant.spares;
-      ends = (inr (made_many c.reads.invariant.made (omega arith)), c.reads.invariant.through);
     }
 
 -- the reader failed
@@ -66,18 +62,13 @@ returns-in-Err-2 g c =
     c.fill_buffer_beside.ensures.tells c.fill_buffer_beside.ensures.beside
     (omega (arith, gave_none c.fill_buffer_beside.result c.in-Err.e c.in-Err.is)) c.reads.invariant.few) in
     record {
-      batches = s;
-      output = output_of _ s.did;
-      survives = survives_of _ s.did;
-      resend = resends_of _ s.did;
-      refused = tt;
-      down = record { up = λ down. (c.reads.invariant.up down).0; idle = c.reads.invariant.idle };
+      streams = streams_of g.C.Counter.seen g.C.Counter.reason c.args.bank.now c.reads.bank _ s tt
+          (λ down. (c.reads.invariant.up down).0) c.reads.invariant.idle (
+            read_failed c.fill_buffer_beside.result c.in-Err.e c.reads.invariant.made c.fill_buffer_beside.ensures.tells c.in-Err.is
+                (other_kind c.kind.result c.in-Err.e c.if-eq.ensures c.kind.ensures),
+            c.reads.invariant.through,
+          );
       spares = c.reads.invariant.spares;
-      ends = (
-        read_failed c.fill_buffer_beside.result c.in-Err.e c.reads.invariant.made c.fill_buffer_beside.ensures.tells c.in-Err.is
-            (other_kind c.kind.result c.in-Err.e c.if-eq.ensures c.kind.ensures),
-        c.reads.invariant.through,
-      );
     }
 
 -- the input ended
@@ -99,14 +90,9 @@ returns-in-Ok-eq0 g c =
     c.fill_buffer_beside.ensures.tells c.fill_buffer_beside.ensures.beside
     (omega (arith, gave_some c.fill_buffer_beside.result n c.in-Ok-eq0.is)) c.reads.invariant.few) in
     record {
-      batches = s;
-      output = output_of _ s.did;
-      survives = survives_of _ s.did;
-      resend = resends_of _ s.did;
-      refused = tt;
-      down = record { up = λ down. (c.reads.invariant.up down).0; idle = c.reads.invariant.idle };
+      streams = streams_of g.C.Counter.seen g.C.Counter.reason c.args.bank.now c.reads.bank _ s tt
+          (λ down. (c.reads.invariant.up down).0) c.reads.invariant.idle (ended, c.reads.invariant.through);
       spares = c.reads.invariant.spares;
-      ends = (ended, c.reads.invariant.through);
     }
 
 pub returns-in-Ok-eq0-2 : goal.returns-in-Ok-eq0-2
@@ -129,14 +115,9 @@ returns-in-Ok-eq0-2 g c =
     c.fill_buffer_beside.ensures.tells c.fill_buffer_beside.ensures.beside
     (omega (arith, gave_some c.fill_buffer_beside.result n c.in-Ok-eq0.is)) c.reads.invariant.few) in
     record {
-      batches = s;
-      output = output_of _ s.did;
-      survives = survives_of _ s.did;
-      resend = resends_of _ s.did;
-      refused = tt;
-      down = record { up = λ down. (c.reads.invariant.up down).0; idle = c.reads.invariant.idle };
+      streams = streams_of g.C.Counter.seen g.C.Counter.reason c.args.bank.now c.reads.bank _ s tt
+          (λ down. (c.reads.invariant.up down).0) c.reads.invariant.idle (ended, c.reads.invariant.through);
       spares = c.reads.invariant.spares;
-      ends = (ended, c.reads.invariant.through);
     }
 
 -- a batch broke off
@@ -178,28 +159,23 @@ returns-in_err-reply_to_batch g c =
     (gave ∙ omega (arith, c.as_chunks.ensures.front_len, c.as_chunks.ensures.back_len, len))
     (omega (arith, c.as_chunks.ensures.back_len))) in
     rw (told.1, told.2) (record {
-      batches = s;
-      output = output_of _ s.did;
-      survives = survives_of _ s.did;
-      resend = resends_of _ s.did;
-      refused = refused_broken g.C.Counter.seen g.C.Counter.reason c.args.bank.now c.reads.bank
+      streams = streams_of g.C.Counter.seen g.C.Counter.reason c.args.bank.now c.reply_to_batch.new.bank _ s
+          (refused_broken g.C.Counter.seen g.C.Counter.reason c.args.bank.now c.reads.bank
           c.reply_to_batch.new.bank _ _ fault a.0 _ _ c.as_chunks.result.0.now on.0 cut
           (omega (arith, c.as_chunks.ensures.back_len)) (omega (arith, c.as_chunks.ensures.front_len, len))
           (omega (arith, c.as_chunks.ensures.front_len, len)) c.reads.invariant.first c.reads.invariant.up
           c.in_err-reply_to_batch.ensures.honest a.2
           (λ down. let e = (c.in_err-reply_to_batch.ensures.down down).0 in cc e)
-          c.in_err-reply_to_batch.ensures.why;
-      down = record {
-        up = up_broken _ _ (g.C.Counter.seen c.args.bank.now) (g.C.Counter.seen c.reads.bank)
-            (g.C.Counter.seen c.reply_to_batch.new.bank) _ fault a.2 c.in_err-reply_to_batch.ensures.up
-            (λ down. (c.reads.invariant.up down).0);
-        idle = idle_after g.C.Counter.seen c.args.bank.now c.reads.bank c.reads.invariant.idle
-            c.reply_to_batch.new.bank (λ down. (c.in_err-reply_to_batch.ensures.down down).1);
-      };
+          c.in_err-reply_to_batch.ensures.why)
+          (up_broken _ _ (g.C.Counter.seen c.args.bank.now) (g.C.Counter.seen c.reads.bank)
+          (g.C.Counter.seen c.reply_to_batch.new.bank) _ fault a.2 c.in_err-reply_to_batch.ensures.up
+          (λ down. (c.reads.invariant.up down).0))
+          (idle_after g.C.Counter.seen c.args.bank.now c.reads.bank c.reads.invariant.idle
+          c.reply_to_batch.new.bank (λ down. (c.in_err-reply_to_batch.ensures.down down).1))
+          (ends_broken _ _ _ _ _ _ _ _ _ _ fault c.reads.invariant.through a.2
+          c.in_err-reply_to_batch.ensures.told);
       spares = g.met.C.Counter.spares_then c.args.bank.now c.reads.bank c.reply_to_batch.new.bank
           c.reads.invariant.spares c.in_err-reply_to_batch.ensures.spares;
-      ends = ends_broken _ _ _ _ _ _ _ _ _ _ fault c.reads.invariant.through a.2
-          c.in_err-reply_to_batch.ensures.told;
     })
 
 pub reads-preserved : goal.reads-preserved
