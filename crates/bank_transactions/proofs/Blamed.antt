@@ -1,10 +1,10 @@
 -- Why a part of a call failed, and what its damage says.
-use Rattle.std.proofs.Common.{ℕ, List, Ok, Err, Result, refl, sym, subst, ◌∙◌, arith, inl, inr}
+use Rattle.std.proofs.Common.{◌≡◌, ℕ, List, Ok, Err, Result, refl, sym, subst, ◌∙◌, arith, inl, inr}
 use Rattle.std.specs.Prelude.{IsTrue}
 use Rattle.sqlite.specs.{State.State, State.Fails, State.Survives, Steps.FailsToCommit, Held.Held, Held.state}
-use Rattle.sqlite.specs.{Order.Row, Tree.Trees, declared.error.Error.Error}
+use Rattle.sqlite.specs.{Effect.Database, Order.Row, Tree.Trees, declared.error.Error.Error}
 use Rattle.sqlite_trees.specs.declared.store.Store.{Ghosts}
-use Rattle.store_rows.specs.believed.Failures.{Additions, HasFailed, HasMet}
+use Rattle.store_rows.specs.believed.{Failures.Additions, Failures.HasFailed, Failures.HasMet, Rules.IsBroken}
 use Rattle.store_rows.specs.Failures.{Puts}
 use Rattle.store_rows.specs.declared.fault.TableFault.{TableFault, TheVariants.Sqlite, TheVariants.Damaged}
 use Rattle.posting_rules.specs.declared.fault.Rule.{Rule}
@@ -154,3 +154,21 @@ pub broken_or_met : {S X : Type 0} {Adds : Additions} (Met : Damage S) (g : Ghos
 broken_or_met Met g old new (Ok x) weaker it = tt
 broken_or_met Met g old new (Err (Sqlite e)) weaker it = it
 broken_or_met Met g old new (Err (Damaged rule)) weaker it = weaker rule it
+
+-- ---- what a part says that begins with the rows of the whole
+
+since : {S : Type 0} (Adds : Database → Additions) (g : Ghosts S) (old mid new : Held S)
+    → IsBefore (state g old) (state g mid) → (state g mid).now ≡ (state g old).now → (rule : Rule)
+    → IsBrokenOrMet g (Adds (state g mid).now) mid new rule → IsBrokenOrMet g (Adds (state g old).now) old new rule
+since Adds g old mid new before same rule (inl broken) = inl (subst (IsBroken rule) same broken)
+since Adds g old mid new before same rule (inr met) = inr (met_within g old mid new new rule before
+    (same_moment (state g new)) (subst (λ (db : Database). HasMetBetween g (Adds db) mid new rule) same met))
+
+pub blames_since : {S X : Type 0} (Adds : Database → Additions) (g : Ghosts S) (old mid new : Held S)
+    → IsBefore (state g old) (state g mid) → (state g mid).now ≡ (state g old).now → (r : Result X TableFault)
+    → Blames (IsBrokenOrMet g (Adds (state g mid).now)) g mid new r
+    → Blames (IsBrokenOrMet g (Adds (state g old).now)) g old new r
+blames_since Adds g old mid new before same (Ok x) it = tt
+blames_since Adds g old mid new before same (Err (Sqlite e)) it =
+    failed_within g old mid new new e before (same_moment (state g new)) it
+blames_since Adds g old mid new before same (Err (Damaged rule)) it = since Adds g old mid new before same rule it

@@ -19,7 +19,8 @@ pub still_in : (old new : State) → GoesOnUncommitted old new → IsTrue old.in
     → IsTrue new.in_transaction
 still_in old new on live = subst (λ (b : Bool). IsTrue b) (sym on.mode) live
 
-keeps_then : {X : Type 0} (old mid new : State) (r : Result X TableFault) → GoesOnUncommitted old mid
+-- a part that goes on, and then another
+pub keeps_then : {X : Type 0} (old mid new : State) (r : Result X TableFault) → GoesOnUncommitted old mid
     → CommitsNothing mid new r
     → CommitsNothing old new r
 keeps_then old mid new (Ok x) on then = record {

@@ -19,7 +19,7 @@ use Rattle.store_rows.specs.believed.View as stored
 use Rattle.bank_transactions.specs.{believed.Causes.Damage, Causes.IsFirstBroken}
 use Rattle.bank_transactions.specs.Doing.{Acts, Does, DoesBy}
 use Rattle.bank_transactions.proofs.Chained.{acts_read, acts_wrote, does_but, does_for}
-use Rattle.bank_transactions.proofs.Both.{does_both}
+use Rattle.bank_transactions.proofs.{Both.does_both, Together.Written}
 
 -- the same, said in other words where the answer is known
 pub does_so : {S X Y : Type 0} {g : Ghosts S} {old new : Transaction S} {So : Tables → Type 0}
@@ -42,9 +42,6 @@ does_so {S} {X} {Y} {g} {old} {new} part same = record {
 
 abbrev pub Ready : Overlay → Tables → Type 0
 Ready o t = IsUndamaged t × HasHomes o
-
-abbrev pub Written : Overlay → Tables → Type 0
-Written o t = IsUndamaged t × HasRisingSlots o × ChangesRows o t × AddsFreeRows o t
 
 sound : (t : Tables) → AreOfALog t → IsUndamaged t
 sound t it = undamaged t it.0 it.1 it.2

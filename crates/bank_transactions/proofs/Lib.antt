@@ -29,3 +29,4 @@ pub mod Added
 pub mod NewRequests
 pub mod Tries
 pub mod NewBatch
+pub mod AfterLookUp

@@ -20,6 +20,7 @@ use Rattle.sql_meanings.proofs.{Changes.found_all, Changes.found_passes, NewPair
 use Rattle.store_rows.specs.{believed.BankTables.request, believed.Failures.Additions, SeveralRows.IsNew}
 use Rattle.store_rows.specs.{SeveralRows.PutsNew, View.HoldsRows, declared.fault.TableFault.TableFault}
 use Rattle.store_rows.specs.believed.{Rules.HoldsBank, Rules.OfRows, Rules.StoredRows, View.Shows, View.request_entry}
+use Rattle.store_rows.specs.declared.fault.TableFault.TheVariants.{Sqlite, Damaged}
 use Rattle.store_rows.proofs.{GetRequest.has_both, RowLists.found_by, StoredRows.holds_list, TableKinds.holds}
 use Rattle.store_rows.proofs.{TheTables.requests}
 use Rattle.sqlite_rules.specs.Lists.{Has}
@@ -27,7 +28,8 @@ use Rattle.bank_transactions.specs.{believed.Additions.AddsRequests, believed.Ca
 use Rattle.bank_transactions.specs.{believed.Stored.HoldsKept, Writing.MayAddRequests}
 use Rattle.bank_transactions.specs.Doing.{Acts, CommitsNothing, Does, DoesBy}
 use Rattle.bank_transactions.specs.Filling.{AreHeld, AreKnown, ReadsWhere, RequestHeld, emptied, known}
-use Rattle.bank_transactions.proofs.{JudgedSlots.Judging, JudgedSlots.Ready, JudgedSlots.Written, HeldBatch.map_twice}
+use Rattle.bank_transactions.specs.Tries.{IsMadeAgain, may_be_kept}
+use Rattle.bank_transactions.proofs.{JudgedSlots.Judging, JudgedSlots.Ready, HeldBatch.map_twice, Together.Written}
 use Rattle.bank_transactions.proofs.Chained.{acts_wrote, does_for, does_then, same_fault, still_in}
 
 -- ---- slots
@@ -70,7 +72,8 @@ abbrev blank : RequestSlot → RequestSlot
 blank s = empty_request s.teller s.number
 
 -- slots with the same keys
-same_keys : (P : RequestSlot → Type 0) → ((s : RequestSlot) → P s → P (blank s)) → ((s : RequestSlot) → P (blank s) → P s)
+same_keys : (P : RequestSlot → Type 0) → ((s : RequestSlot) → P s → P (blank s))
+    → ((s : RequestSlot) → P (blank s) → P s)
     → (xs ys : List RequestSlot) → map blank xs ≡ map blank ys → AllByRecursion P xs → AllByRecursion P ys
 same_keys P to from [] [] same all = tt
 same_keys P to from [] (y ∷ ys) same all = absurd cc
@@ -92,7 +95,8 @@ not_kept : (t : Tables) (n m : ℕ) → find (has_two (pos n) (pos m)) (map requ
     → kept_in t.requests t.references n m ≡ None
 not_kept t n m none =
     go (find asks t.requests)
-    (sym (found_by (λ r. r.ordinal) request_entry (λ r. refl) (has_two (pos n) (pos m)) asks (has_both n m) t.requests)
+    (sym (found_by (λ r. r.ordinal) request_entry (λ r. refl) (has_two (pos n) (pos m)) asks (has_both n m)
+    t.requests)
     ∙ none)
   where
     asks : RequestRow → Bool
@@ -162,13 +166,15 @@ blank_emptied o = rw (
 blank_same : (o p : Overlay) → emptied o ≡ emptied p → blanked o ≡ blanked p
 blank_same o p same = sym (blank_emptied o) ∙ ap blanked same ∙ blank_emptied p
 
-pub made_again : (b again : Batch) (records : List (List ℕ)) (p o : Overlay) → IsMadeOf b records
-    → emptied p ≡ emptied (view b.overlay) → blanked o ≡ blanked p → reads_of again ≡ reads_of b
-    → view again.overlay ≡ blanked o → IsMadeOf again records
-made_again b again records p o made same keys reads is = record {
-  reads = reads ∙ made.reads;
-  overlay =
-      is ∙ keys ∙ blank_same p (view b.overlay) same ∙ ap blanked made.overlay ∙ blank_made (map request_of records);
+pub is_again : (b again : Batch) (p o : Overlay) → emptied p ≡ emptied (view b.overlay) → blanked o ≡ blanked p
+    → reads_of again ≡ reads_of b → view again.overlay ≡ blanked o → IsMadeAgain b again
+is_again b again p o same keys reads is = record {
+  reads = reads;
+  made = λ records made. record {
+    reads = reads ∙ made.reads;
+    overlay = is ∙ keys ∙ blank_same p (view b.overlay) same ∙ ap blanked made.overlay
+        ∙ blank_made (map request_of records);
+  };
 }
 
 -- a batch that was made keeps nothing
@@ -181,15 +187,18 @@ made_empty b records made =
 none_kept : (rows : List RequestRow) (slots : List RequestSlot) → AllByRecursion (λ s. s.kept ≡ None) slots
     → AllByRecursion (λ s. IfSome s.kept (λ k. IsAmong rows s)) slots
 none_kept rows [] unkept = tt
-none_kept rows (s ∷ slots) unkept =
-    (subst (λ (k : Option KeptFields). IfSome k (λ _. IsAmong rows s)) (sym unkept.0) tt, none_kept rows slots unkept.1)
+none_kept rows (s ∷ slots) unkept = (
+  subst (λ (k : Option KeptFields). IfSome k (λ _. IsAmong rows s)) (sym unkept.0) tt,
+  none_kept rows slots unkept.1,
+)
 
 pub keeps_none : (o : Overlay) → AllByRecursion (λ s. s.kept ≡ None) o.kept → KeepsNew o
 keeps_none o unkept = none_kept o.requests o.kept unkept
 
 -- ---- the parts of the try
 
-commits_none : {X : Type 0} (old new : State) (r : Result X TableFault) → CommitsNothing old new r → KeepsCommit old new
+commits_none : {X : Type 0} (old new : State) (r : Result X TableFault) → CommitsNothing old new r
+    → KeepsCommit old new
 commits_none old new (Ok x) it = record { was_open = it.opened; committed = λ _. it.committed }
 commits_none old new (Err e) it = it
 
@@ -259,41 +268,57 @@ module _ {S X : Type 0} {g : Ghosts S} {old mid new : Transaction S} {So : Table
     };
   }
 
+-- the requests weren't put in, and none may be kept
+pub refused_new : {S X Y : Type 0} {g : Ghosts S} {Adds : Additions} {old mid new : Transaction S}
+    {So So' Then : Tables → Type 0} {after one two : Tables → Tables} {wanted : Tables → X} {w : Tables → Y} {x : Y}
+    (fault : TableFault) → may_be_kept fault ≡ false → DoesBy (IsFirstBroken g) g old mid So' one w (Ok x)
+    → Does {X = Unit {0}} g Adds mid new Then two (λ _. tt {0}) (Err fault)
+    → Acts {X = X} g Adds old new So after wanted (Err fault)
+refused_new (Sqlite e) none first second = record {
+  says = record {
+    same_reference = (blind first second).says.same_reference;
+    told = λ clean live t shows it. tt;
+    kept = λ clean live. (acts_wrote (blind first second)).says.kept clean live;
+    survives = (blind first second).says.survives;
+  };
+}
+refused_new (Damaged rule) none first second = absurd cc
+
 -- ---- the requests were put in
 
-module _ {S : Type 0} {g : Ghosts S} {old mid done : Transaction S} (b b' : Batch) (o : Overlay)
+module _ {S : Type 0} {g : Ghosts S} {old mid done : Transaction S} (b : Batch) (p' o : Overlay)
     (rows : List RequestRow) (records : List (List ℕ)) (made : IsMadeOf b records)
-    (look : ReadsWhere g old mid (Ready (view b.overlay)) (λ t. known t (view b.overlay)) (Ok (view b'.overlay)))
-    (kept : (view b'.overlay).kept ≡ (view b.overlay).kept) (keys : blanked o ≡ blanked (view b'.overlay))
-    (own : KeepsNew (view b'.overlay) → KeepsNew o) (whole : has_gap o.kept ≡ false) (are : rows ≡ o.requests)
+    (look : ReadsWhere g old mid (Ready (view b.overlay)) (λ t. known t (view b.overlay)) (Ok p'))
+    (kept : p'.kept ≡ (view b.overlay).kept) (keys : blanked o ≡ blanked p')
+    (own : KeepsNew p' → KeepsNew o) (whole : has_gap o.kept ≡ false) (are : rows ≡ o.requests)
     (puts : Does {X = Unit {0}} g (AddsRequests (Has rows)) mid done (MayAddRequests rows) (requests_put rows)
     (λ _. tt {0}) (Ok (tt {0})))
     (unknown : HasCleanDisk (state g done.conn.now) → IsTrue (state g mid.conn.now).in_transaction
     → PutsNew (state g mid.conn.now).now (state g done.conn.now).now rows)
     (clean : HasCleanDisk (state g done.conn.now)) (live : IsTrue (state g old.conn.now).in_transaction) where
-  unkept : AllByRecursion (λ s. s.kept ≡ None) (view b'.overlay).kept
+  unkept : AllByRecursion (λ s. s.kept ≡ None) p'.kept
   unkept = subst (AllByRecursion (λ s. s.kept ≡ None)) (sym kept) (made_empty b records made)
 
   all_new : (es : List Entry) → HoldsRows (state g old.conn.now).now request es
-      → AllByRecursion (IsNowhere es) (view b'.overlay).kept
+      → AllByRecursion (IsNowhere es) p'.kept
   all_new es holds =
       let before : HasCleanDisk (state g mid.conn.now) = omega (arith, puts.says.survives.clean) in
       let stays = (look.says.kept before).0 in
       let there = subst (λ (db : Database). HoldsRows db request es) (sym stays.now) holds in
       let new = (unknown clean
       (still_in (state g old.conn.now) (state g mid.conn.now) stays.goes_on live) es there).0 in
-      nowhere es (view b'.overlay) o whole (own (keeps_none (view b'.overlay) unkept)) keys
+      nowhere es p' o whole (own (keeps_none p' unkept)) keys
       (subst (AllByRecursion (IsNew es)) are new)
 
-  pub all_filled : (t : Tables) → Shows (state g old.conn.now).now t → view b'.overlay ≡ known t (view b.overlay)
-      → view b'.overlay ≡ filled t (view b.overlay)
+  pub all_filled : (t : Tables) → Shows (state g old.conn.now).now t → p' ≡ known t (view b.overlay)
+      → p' ≡ filled t (view b.overlay)
   all_filled t shows is =
       let es = map request_entry t.requests in
-      known_all t (view b.overlay) (view b'.overlay) (made_empty b records made)
+      known_all t (view b.overlay) p' (made_empty b records made)
       (subst (AllByRecursion (IsNowhere es)) kept (all_new es (requests_shown (state g old.conn.now).now t shows))) is
 
-  pub all_held : OfRows (λ rows. AreKnown rows (view b'.overlay)) (state g old.conn.now).now
-      → OfRows (λ rows. AreHeld rows (view b'.overlay)) (state g old.conn.now).now
+  pub all_held : OfRows (λ rows. AreKnown rows p') (state g old.conn.now).now
+      → OfRows (λ rows. AreHeld rows p') (state g old.conn.now).now
   all_held held = λ its has.
-      known_held its (view b'.overlay) unkept
+      known_held its p' unkept
       (all_new its.requests (requests_held (state g old.conn.now).now its has)) (held its has)

@@ -1,23 +1,28 @@
 -- A try that was given up, and then a call: it is as if there had been the call alone.
-use Rattle.std.proofs.Common.{◌≡◌, ◌∙◌, ℕ, List, Result, Ok, Err, refl, sym, subst, arith, inl, inr}
-use Rattle.std.specs.Prelude.{false, true, IfOk, IsTrue, OnErr, OnOk}
+use Rattle.std.proofs.Common.{◌≡◌, ◌∙◌, ℕ, List, Result, Ok, Err, refl, sym, ap, subst, arith}
+use Rattle.std.specs.Prelude.{false, true, length, None, IfOk, IfSome, IsTrue, OnErr, OnOk}
 use Rattle.sqlite.specs.{Effect.Database, Held.Held, Held.state, Tree.Trees, declared.error.Error.Error}
 use Rattle.sqlite.specs.State.{Fails, IsRolledBack, IsUnchanged, KeepsCommit, State, HasCleanDisk, Survives}
 use Rattle.sqlite.proofs.{Callers.survives_begin, StateLemmas.survives_then}
 use Rattle.sqlite.specs.declared.transaction.Transaction.{Transaction}
 use Rattle.sqlite_trees.specs.declared.store.Store.{Ghosts}
-use Rattle.posting_rules.specs.{believed.Sound.AreOfALog, believed.Tables.Tables, declared.fault.Rule.Rule}
+use Rattle.posting_rules.specs.believed.Changes.{replies_past_all, tables_past_all}
+use Rattle.posting_rules.specs.believed.{Sound.AreOfALog, Tables.Tables}
 use Rattle.sql_meanings.specs.Calls.{Inside, Says}
 use Rattle.sql_meanings.proofs.Saying.{survives_both}
-use Rattle.store_rows.specs.{believed.Failures.Additions, believed.Failures.Committing, believed.Rules.IsBroken}
+use Rattle.store_rows.specs.believed.Failures.{Additions, Committing}
 use Rattle.store_rows.specs.{believed.Sparing.SparesOthers, believed.View.Shows, declared.fault.TableFault.TableFault}
 use Rattle.store_rows.specs.declared.fault.TableFault.TheVariants.{Sqlite, Damaged}
 use Rattle.bank_transactions.specs.{believed.Additions.AddsForRecords, believed.Batches.DecidesNone}
-use Rattle.bank_transactions.specs.{Batches.KeepsOnly, Causes.Blames, believed.Doing.LeavesOthers, Tries.IsAsBefore}
-use Rattle.bank_transactions.specs.believed.Causes.{HasMetBetween, IsBefore, IsBrokenOrMet}
-use Rattle.bank_transactions.specs.Doing.{MayLeaveAfter, Transacts, Undoes}
+use Rattle.bank_transactions.specs.{Batches.KeepsOnly, believed.Doing.LeavesOthers}
+use Rattle.bank_transactions.specs.{believed.Stored.RepliesToAllStored, declared.first_try.Tried.Tried}
+use Rattle.bank_transactions.specs.believed.Causes.{IsBefore}
+use Rattle.bank_transactions.specs.Doing.{Acts, Ends, MayLeaveAfter, Transacts, Undoes}
+use Rattle.bank_transactions.specs.Tries.{IsAsBefore, answer_of, batch_of, replies_of}
 use Rattle.bank_transactions.specs.Undone.{IsUndone, UndoesFaults}
-use Rattle.bank_transactions.proofs.Blamed.{comes, failed_within, met_within, same_moment, then_moment}
+use Rattle.bank_transactions.specs.declared.first_try.Tried.TheVariants.{Answered, Again}
+use Rattle.bank_transactions.proofs.Blamed.{blames_since, comes, same_moment, then_moment}
+use Rattle.bank_transactions.proofs.{Transacted.transacts_records, Undone.undoes}
 
 undoes_again : {X : Type 0} (old mid new : State) (r : Result X TableFault) → IsTrue old.is_open
     → mid.now ≡ old.now → Undoes mid new r → Undoes old new r
@@ -43,22 +48,6 @@ module _ {S : Type 0} (g : Ghosts S) (old mid new : Held S) (before : IsAsBefore
     was_open : HasCleanDisk (state g new) → IsTrue (state g old).is_open
     was_open clean = (before.same (there clean)).1
 
-    wide : (clean : HasCleanDisk (state g new)) (rule : Rule)
-        → IsBrokenOrMet g (AddsForRecords (state g mid).now count) mid new rule
-        → IsBrokenOrMet g (AddsForRecords (state g old).now count) old new rule
-    wide clean rule (inl broken) = inl (subst (IsBroken rule) (same_rows clean) broken)
-    wide clean rule (inr met) = inr (met_within g old mid new new rule (comes before.survives)
-        (same_moment (state g new))
-        (subst (λ (db : Database). HasMetBetween g (AddsForRecords db count) mid new rule) (same_rows clean) met))
-
-    cause_again : HasCleanDisk (state g new) → (r : Result X TableFault)
-        → Blames (IsBrokenOrMet g (AddsForRecords (state g mid).now count)) g mid new r
-        → Blames (IsBrokenOrMet g (AddsForRecords (state g old).now count)) g old new r
-    cause_again clean (Ok x) it = tt
-    cause_again clean (Err (Sqlite e)) it =
-        failed_within g old mid new new e (comes before.survives) (same_moment (state g new)) it
-    cause_again clean (Err (Damaged rule)) it = wide clean rule it
-
     pub transacts_again : Transacts g (AddsForRecords (state g old).now count) old new So after w r
     transacts_again = record {
       told = λ clean t shows so.
@@ -72,7 +61,8 @@ module _ {S : Type 0} (g : Ghosts S) (old mid new : Held S) (before : IsAsBefore
           (λ clean left may t shows so.
           may t (subst (λ (db : Database). Shows db t) (sym (same_rows clean)) shows) so)
           before.survives does.survives;
-      cause = λ clean. cause_again clean r (does.cause clean);
+      cause = λ clean. blames_since (λ (db : Database). AddsForRecords db count) g old mid new (comes before.survives)
+          (same_rows clean) r (does.cause clean);
       mode = does.mode;
       spares = record {
         now = λ clean. subst (λ (db : Database). OnOk r (SparesOthers db (state g new).now)) (same_rows clean)
@@ -85,35 +75,42 @@ module _ {S : Type 0} (g : Ghosts S) (old mid new : Held S) (before : IsAsBefore
       };
     }
 
-  module _ {X : Type 0} (Made : List (List ℕ) → Type 0)
-      (there : (records : List (List ℕ)) → Made records → HasCleanDisk (state g new) → HasCleanDisk (state g mid)) where
-    pub faults_undone : (r : Result X TableFault) (records : List (List ℕ)) → Made records → UndoesFaults g mid new r
-        → UndoesFaults g old new r
+  module _ (Made Again : List (List ℕ) → Type 0)
+      (from : (records : List (List ℕ)) → Made records → Again records)
+      (there : (records : List (List ℕ)) → Again records → HasCleanDisk (state g new)
+      → HasCleanDisk (state g mid)) where
+    same_there : (records : List (List ℕ)) → Made records → HasCleanDisk (state g new)
+        → IsTrue (state g mid).is_open × IsTrue (state g old).is_open × ((state g mid).now ≡ (state g old).now)
+    same_there records made clean = before.same (there records (from records made) clean)
+
+    pub faults_undone : {X : Type 0} (r : Result X TableFault) (records : List (List ℕ)) → Made records
+        → UndoesFaults g mid new r → UndoesFaults g old new r
     faults_undone r records made undone = λ clean.
-        let it = before.same (there records made clean) in
+        let it = same_there records made clean in
         faults_again (state g old) (state g mid) (state g new) r it.1 it.2 (undone clean)
 
-    pub idle_again : (moment : ℕ) (r : Result X TableFault)
-        → OnOk r (HasCleanDisk (state g new) → (records : List (List ℕ)) → Made records → (t : Tables)
+    pub idle_again : {X : Type 0} (moment : ℕ) (r : Result X TableFault)
+        → OnOk r (HasCleanDisk (state g new) → (records : List (List ℕ)) → Again records → (t : Tables)
         → Shows (state g mid).now t → AreOfALog t → DecidesNone t moment records
         → KeepsOnly (state g mid) (state g new) t)
         → OnOk r (HasCleanDisk (state g new) → (records : List (List ℕ)) → Made records → (t : Tables)
         → Shows (state g old).now t → AreOfALog t → DecidesNone t moment records
         → KeepsOnly (state g old) (state g new) t)
     idle_again moment (Ok x) idle = λ clean records made t shows so none.
-        let same = (before.same (there records made clean)).2 in
-        let it = idle clean records made t (subst (λ (db : Database). Shows db t) (sym same) shows) so none in
+        let same = (same_there records made clean).2 in
+        let it = idle clean records (from records made) t (subst (λ (db : Database). Shows db t) (sym same) shows) so
+        none in
         record { same = it.same ∙ same; shows = it.shows; survives = it.survives }
     idle_again moment (Err e) idle = tt
 
-    pub stored_again : (Q : Database → List (List ℕ) → X → Type 0) (r : Result X TableFault)
-        → IfOk r (λ x. HasCleanDisk (state g new) → (records : List (List ℕ)) → Made records
+    pub stored_again : {X : Type 0} (Q : Database → List (List ℕ) → X → Type 0) (r : Result X TableFault)
+        → IfOk r (λ x. HasCleanDisk (state g new) → (records : List (List ℕ)) → Again records
         → Q (state g mid).now records x)
         → IfOk r (λ x. HasCleanDisk (state g new) → (records : List (List ℕ)) → Made records
         → Q (state g old).now records x)
     stored_again Q (Ok x) stored = λ clean records made.
-        subst (λ (db : Database). Q db records x) (before.same (there records made clean)).2
-        (stored clean records made)
+        subst (λ (db : Database). Q db records x) (same_there records made clean).2
+        (stored clean records (from records made))
     stored_again Q (Err e) stored = tt
 
 -- ---- a try that is given up
@@ -187,9 +184,101 @@ module _ {S : Type 0} (g : Ghosts S) (old : Held S) (begun last : Transaction S)
     spares = record { now = λ clean. tt; left = quiet_so _ };
   }
 
-  pub not_asked_undone : (X : Type 0) (e : Error) → (HasCleanDisk (state g new) → Fails (state g mid) (state g new) ⊥ e)
+  pub not_asked_undone : (X : Type 0) (e : Error)
+      → (HasCleanDisk (state g new) → Fails (state g mid) (state g new) ⊥ e)
       → UndoesFaults {X = X} g old new (Err (Sqlite e))
   not_asked_undone X e fails = λ clean is_open.
       let it = (fails clean).3 in
       let was = rolled (was_clean clean) (it.was_open is_open) in
       (was.0, (it.undone is_open).0 ∙ was.2)
+
+-- ---- a try that has answered
+
+-- its replies are those of the parts
+pub of_tried : {P Q : List (List ℕ) → Type 0} (tried result : Result Tried TableFault)
+    → IfOk result (λ x. tried ≡ Ok x) → ((replies : List (List ℕ)) → P replies → Q replies)
+    → IfSome (replies_of tried) P → IfSome (replies_of result) Q
+of_tried {P} tried (Ok (Answered replies)) given so it =
+    so replies.items (subst (λ (r : Result Tried TableFault). IfSome (replies_of r) P) given it)
+of_tried tried (Ok (Again batch)) given so it = tt
+of_tried tried (Err fault) given so it = tt
+
+-- it ends as the parts do
+ends_tried : {S : Type 0} (g : Ghosts S) (last new : Held S) {P Q : Result (List (List ℕ)) TableFault → Type 0}
+    (tried result : Result Tried TableFault) → batch_of tried ≡ None → Ends g last new tried result
+    → ((answer answered : Result (List (List ℕ)) TableFault) → P answer → Ends g last new answer answered
+    → Q answered)
+    → IfSome (answer_of tried) P → IfSome (answer_of result) Q
+ends_tried g last new (Ok (Again batch)) result none ends so it = absurd cc
+ends_tried g last new {Q = Q} (Ok (Answered replies)) (Ok x) none ends so it =
+    let same : Answered replies ≡ x = (let given = ends.given in cc) in
+    subst (λ (y : Tried). IfSome (answer_of (Ok y)) Q) same (so (Ok replies.items) (Ok replies.items) it (record {
+      mode = ends.mode;
+      given = refl;
+      told = ends.told;
+      survives = ends.survives;
+    }))
+ends_tried g last new (Ok (Answered replies)) (Err fault) none ends so it =
+    so (Ok replies.items) (Err fault) it
+    (record { mode = ends.mode; given = tt; told = ends.told; survives = ends.survives })
+ends_tried g last new (Err fault) (Ok x) none ends so it = absurd (let given = ends.given in cc)
+ends_tried g last new (Err fault) (Err other) none ends so it = so (Err fault) (Err other) it (record {
+  mode = ends.mode;
+  given = tt;
+  told = λ clean.
+      let is = ends.told clean in
+      let same : other ≡ fault = (let it = is.0 in cc) in
+      (ap Err same, is.1);
+  survives = ends.survives;
+})
+
+module _ {S : Type 0} (g : Ghosts S) (Made : List (List ℕ) → Type 0) (moment : ℕ) (old : Held S)
+    (begun last : Transaction S) (end new : Held S) (tried result : Result Tried TableFault)
+    (is : begun.conn.now ≡ record old { in_transaction = true })
+    (settled : IsTrue (state g old).is_open → (state g old).now ≡ (state g old).committed)
+    (ends : Ends g last.conn.now end tried result)
+    (same : (records : List (List ℕ)) → Made records → end ≡ new) where
+  was_clean_at : (records : List (List ℕ)) → Made records → HasCleanDisk (state g new)
+      → HasCleanDisk (state g last.conn.now)
+  was_clean_at records made clean =
+      let ended : HasCleanDisk (state g end) =
+      subst (λ (h : Held S). HasCleanDisk (state g h)) (sym (same records made)) clean in
+      omega (arith, ends.survives.clean)
+
+  abbrev ActsFor : Result (List (List ℕ)) TableFault → Type 0
+  ActsFor answer = (records : List (List ℕ)) → Made records
+      → Acts g (AddsForRecords (state g begun.conn.now).now (length records)) begun last AreOfALog
+      (λ tables. tables_past_all tables moment records) (λ tables. replies_past_all tables moment records) answer
+
+  pub tried_says : batch_of tried ≡ None → IfSome (answer_of tried) ActsFor
+      → IfSome (answer_of result) (λ answer. (records : List (List ℕ)) → Made records
+      → Transacts g (AddsForRecords (state g old).now (length records)) old new AreOfALog
+      (λ tables. tables_past_all tables moment records) (λ tables. replies_past_all tables moment records) answer)
+  tried_says none it = ends_tried g last.conn.now end {P = ActsFor} tried result none ends
+      (λ answer answered acts its records made.
+      transacts_records (length records) g old begun last end new is settled (acts records made) its
+      (same records made)) it
+
+  pub tried_undone : batch_of tried ≡ None → IfSome (answer_of tried) ActsFor
+      → IfSome (answer_of result) (λ answer. (records : List (List ℕ)) → Made records → UndoesFaults g old new answer)
+  tried_undone none it = ends_tried g last.conn.now end {P = ActsFor} tried result none ends
+      (λ answer answered acts its records made.
+      undoes g old begun last end new is settled (acts records made) its (same records made)) it
+
+  pub tried_busy : IfSome (replies_of tried) (λ replies. HasCleanDisk (state g last.conn.now)
+      → IsTrue (state g begun.conn.now).in_transaction → (records : List (List ℕ)) → Made records → (t : Tables)
+      → Shows (state g begun.conn.now).now t → AreOfALog t → DecidesNone t moment records → ⊥)
+      → IfSome (replies_of result) (λ replies. HasCleanDisk (state g new) → (records : List (List ℕ)) → Made records
+      → (t : Tables) → Shows (state g old).now t → AreOfALog t → DecidesNone t moment records → ⊥)
+  tried_busy = of_tried tried result ends.given (λ replies busy clean records made t shows so none.
+      busy (was_clean_at records made clean) (rw is refl) records made t (rw is shows) so none)
+
+  pub tried_stored : IfSome (replies_of tried) (λ replies. HasCleanDisk (state g last.conn.now)
+      → IsTrue (state g begun.conn.now).in_transaction → (records : List (List ℕ)) → Made records
+      → RepliesToAllStored (state g begun.conn.now).now moment records replies)
+      → IfSome (replies_of result) (λ replies. HasCleanDisk (state g new) → (records : List (List ℕ)) → Made records
+      → RepliesToAllStored (state g old).now moment records replies)
+  tried_stored = of_tried tried result ends.given (λ replies stored clean records made.
+      subst (λ (db : Database). RepliesToAllStored db moment records replies)
+      (ap (λ (h : Held S). (state g h).now) is)
+      (stored (was_clean_at records made clean) (rw is refl) records made))

@@ -1,6 +1,6 @@
-//! A batch of records in one transaction: each row that its records touch is read once, each row that they
-//! change is written once. There is a reply of 200 bytes for each record, in order, and what the records
-//! change is found together or not at all.
+//! A batch of records in one transaction: each row that its records touch is read once, but for requests that
+//! are new, and each row that they change is written once. There is a reply of 200 bytes for each record, in
+//! order, and what the records change is found together or not at all.
 //!
 //! A batch is made of its records by `Batch::new` of `posting_batch`, and answered by [`post_all`]. The
 //! function `first_batch` of `store_tests`, which a test runs, submits a record and its repeat in one batch.
@@ -49,6 +49,7 @@ ghost use Rattle.bank_transactions.specs.believed.Stored.{RepliesToAllStored};
 ghost use Rattle.bank_transactions.specs.Undone.{UndoesFaults};
 
 use crate::batch_changes::write;
+use crate::first_try::{Tried, try_new};
 use crate::slots::fill;
 use crate::{begin, finish};
 use message_records::{Moment, REPLY_BYTES};
@@ -86,9 +87,8 @@ pub fn answer_batch<S: Alter>(
     Ok(judged.into_replies())
 }
 
-/// Answers the records that a batch is made of, in order. They stand together or not at all. Where none of
-/// them is decided, the tables are as they were, and a crash leaves nothing else.
-pub fn post_all<S: Alter>(
+// The same in a transaction of its own, each request looked up.
+fn post_looked_up<S: Alter>(
     conn: &mut Connection<S>,
     moment: Moment,
     batch: Batch,
@@ -114,4 +114,39 @@ pub fn post_all<S: Alter>(
     let mut tx = begin(conn);
     let replies = answer_batch(&mut tx, moment, batch);
     finish(tx, replies)
+}
+
+/// Answers the records that a batch is made of, in order. They stand together or not at all. Where none of
+/// them is decided, the tables are as they were, and a crash leaves nothing else.
+pub fn post_all<S: Alter>(
+    conn: &mut Connection<S>,
+    moment: Moment,
+    batch: Batch,
+) -> Result<Vec<[u8; REPLY_BYTES]>, TableFault>
+    requires { conn.old.in_transaction ≡ false }
+    ensures says { (records : List (List ℕ)) → IsMadeOf batch records
+        → Transacts S.Store (AddsForRecords (state S.Store conn.old).now (length records)) conn.old conn.new
+        AreOfALog (λ tables. tables_past_all tables moment records)
+        (λ tables. replies_past_all tables moment records) (items_of result) }
+    ensures count { IfOk result (λ replies. length replies.items ≡ length (reads_of batch)) }
+    ensures idle { OnOk result
+        (HasCleanDisk (state S.Store conn.new) → (records : List (List ℕ)) → IsMadeOf batch records
+        → (tables : Tables) → Shows (state S.Store conn.old).now tables → AreOfALog tables
+        → DecidesNone tables moment records
+        → KeepsOnly (state S.Store conn.old) (state S.Store conn.new) tables) }
+    // Whatever rows the file holds.
+    ensures stored { IfOk result (λ replies. HasCleanDisk (state S.Store conn.new)
+        → (records : List (List ℕ)) → IsMadeOf batch records
+        → RepliesToAllStored (state S.Store conn.old).now moment records replies.items) }
+    ensures undone { (records : List (List ℕ)) → IsMadeOf batch records
+        → UndoesFaults S.Store conn.old conn.new (items_of result) }
+{
+    // A single request is looked up, which costs less than a try that is refused.
+    if batch.overlay.kept.len() < 2 {
+        return post_looked_up(conn, moment, batch);
+    }
+    match try_new(conn, moment, batch)? {
+        Tried::Answered(replies) => Ok(replies),
+        Tried::Again(batch) => post_looked_up(conn, moment, batch),
+    }
 }

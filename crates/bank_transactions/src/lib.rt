@@ -52,6 +52,7 @@
 mod balances;
 mod batch_changes;
 mod batches;
+mod first_try;
 mod floors;
 mod look_ups;
 mod new_branch;

@@ -36,7 +36,8 @@ loop-eight-preserved g c =
           let mid : HasCleanDisk (state g.S.Store c.loop-eight.tx.conn.now) =
           omega (arith, one.adds.survives.clean, clean) in
           let on = (so_far.puts.so_far.says.kept mid live).0 in
-          news_then _ _ _ so_far.puts.front eight (so_far.unknown mid live) (one.unknown clean (still_in _ _ on live));
+          news_then _ _ _ so_far.puts.front eight (so_far.unknown mid live)
+          (one.unknown clean (still_in _ _ on live));
     }
 
 pub returns-in_err-add_eight_requests-clause-puts : goal.returns-in_err-add_eight_requests-clause-puts

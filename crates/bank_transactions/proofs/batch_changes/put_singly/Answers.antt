@@ -1,6 +1,6 @@
 -- One request more is put in.
-use Rattle.std.proofs.Common.{◌≡◌, ◌<◌, ◌+◌, ◌++◌, [], ◌∷◌, List, Err, take, length, rules, arith, refl, sym, ap, ◌∙◌}
-use Rattle.std.proofs.Common.{subst}
+use Rattle.std.proofs.Common.{◌≡◌, ◌<◌, ◌+◌, ◌++◌, [], ◌∷◌, List, Err, take, length, rules, arith, refl, ◌∙◌, subst}
+use Rattle.std.proofs.Common.{sym, ap}
 use Rattle.std.proofs.{lemmas.List.take_more, Math.Seq.take-length}
 use Rattle.sqlite.specs.{Held.state, State.HasCleanDisk}
 use Rattle.posting_rules.specs.believed.{Changes.with_request, Tables.request_key}
@@ -36,8 +36,8 @@ loop-row-preserved g c =
           (row_added request_insert (given (request_entry x)) request request_key (λ t. t.requests) with_request
           requests_put x (request_put x) (adds_request x) one.adds);
       unknown = λ clean live.
-          let mid : HasCleanDisk (state g.S.Store c.loop-row.tx.conn.now) = omega (arith, one.adds.survives.clean, clean)
-          in
+          let mid : HasCleanDisk (state g.S.Store c.loop-row.tx.conn.now) =
+          omega (arith, one.adds.survives.clean, clean) in
           let on = (so_far.puts.says.kept mid live).0 in
           subst (λ (rows : List RequestRow). PutsNew (state g.S.Store c.args.tx.now.conn.now).now
           (state g.S.Store c.add_request.new.tx.conn.now).now rows) (sym more)

@@ -1,42 +1,48 @@
--- The parts of the transaction are one: the batch is answered.
-use Rattle.std.proofs.Common.{length, rules}
+-- A try that was given up, and then the batch with its look-ups.
+use Rattle.std.proofs.Common.{◌≡◌, List, arith, length, subst}
+use Rattle.std.specs.Prelude.{IfOk}
 use Rattle.posting_batch.specs.View.{IsMadeOf}
 use Rattle.bank_transactions.specs.believed.Stored.{RepliesToAllStored}
-use Rattle.bank_transactions.proofs.{HeldBatch.stored_after, Undone.undoes, Idle.ends_items, Idle.idle_after}
-use Rattle.bank_transactions.proofs.Transacted.{of_given, transacts_records}
+use Rattle.bank_transactions.proofs.Tries.{faults_undone, idle_again, stored_again, transacts_again}
 use Rattle.bank_transactions.proofs.batches.post_all.Goals as goal
 
-pub returns-clause-says : goal.returns-clause-says
-returns-clause-says g c records made =
-    transacts_records (length records) g.S.Store c.args.conn.now c.begin-tx.result c.answer_batch-replies.new.tx c.finish.new.tx.0 _
-    c.begin-tx.ensures.begun c.begin-tx.ensures.settled (c.answer_batch-replies.ensures.says records made)
-    (ends_items g.S.Store _ _ c.answer_batch-replies.result c.finish.result c.finish.ensures) (search rules)
+pub returns-in-Again-clause-says : goal.returns-in-Again-clause-says
+returns-in-Again-clause-says g c records made =
+    let again = rw c.in-Again.is at c.in_ok-replies.ensures.again in
+    transacts_again g.S.Store c.args.conn.now c.try_new.new.conn c.post_looked_up-in-Again.new.conn again.1
+    (length records) (c.post_looked_up-in-Again.ensures.says records (again.0.made records made))
 
-pub returns-clause-count : goal.returns-clause-count
-returns-clause-count g c =
-    of_given _ c.answer_batch-replies.result c.finish.result c.finish.ensures.given
-    c.answer_batch-replies.ensures.count
+pub returns-in-Again-clause-count : goal.returns-in-Again-clause-count
+returns-in-Again-clause-count g c =
+    let again = rw c.in-Again.is at c.in_ok-replies.ensures.again in
+    subst (λ (reads : List _).
+    IfOk c.post_looked_up-in-Again.result (λ replies. length replies.items ≡ length reads)) again.0.reads
+    c.post_looked_up-in-Again.ensures.count
 
-pub returns-clause-idle : goal.returns-clause-idle
-returns-clause-idle g c =
-    idle_after (IsMadeOf c.args.batch) c.args.moment g.S.Store c.args.conn.now c.begin-tx.result.conn.now
-    c.answer_batch-replies.new.tx.conn.now c.finish.new.tx.0 c.conn-1.given.0 c.answer_batch-replies.result
-    c.finish.result
-    c.begin-tx.ensures.begun c.finish.ensures
-    (λ records made. let does = c.answer_batch-replies.ensures.says records made in search rules)
-    c.answer_batch-replies.ensures.idle
+pub returns-in-Again-clause-idle : goal.returns-in-Again-clause-idle
+returns-in-Again-clause-idle g c =
+    let again = rw c.in-Again.is at c.in_ok-replies.ensures.again in
+    idle_again g.S.Store c.args.conn.now c.try_new.new.conn c.post_looked_up-in-Again.new.conn again.1
+    (IsMadeOf c.args.batch) (IsMadeOf c.in-Again.batch) again.0.made
+    (λ records made clean. let does = c.post_looked_up-in-Again.ensures.says records made in
+    omega (arith, does.survives.clean, clean)) c.args.moment c.post_looked_up-in-Again.result
+    c.post_looked_up-in-Again.ensures.idle
 
-pub returns-clause-stored : goal.returns-clause-stored
-returns-clause-stored g c =
-    stored_after g.S.Store (IsMadeOf c.args.batch)
-    (λ db records replies. RepliesToAllStored db c.args.moment records replies.items) c.args.conn.now
-    c.begin-tx.result.conn.now c.answer_batch-replies.new.tx.conn.now c.finish.new.tx.0 c.conn-1.given.0
-    c.answer_batch-replies.result c.finish.result c.begin-tx.ensures.begun c.finish.ensures
-    (λ records made. let does = c.answer_batch-replies.ensures.says records made in search rules)
-    c.answer_batch-replies.ensures.stored
+pub returns-in-Again-clause-stored : goal.returns-in-Again-clause-stored
+returns-in-Again-clause-stored g c =
+    let again = rw c.in-Again.is at c.in_ok-replies.ensures.again in
+    stored_again g.S.Store c.args.conn.now c.try_new.new.conn c.post_looked_up-in-Again.new.conn again.1
+    (IsMadeOf c.args.batch) (IsMadeOf c.in-Again.batch) again.0.made
+    (λ records made clean. let does = c.post_looked_up-in-Again.ensures.says records made in
+    omega (arith, does.survives.clean, clean))
+    (λ db records replies. RepliesToAllStored db c.args.moment records replies.items) c.post_looked_up-in-Again.result
+    c.post_looked_up-in-Again.ensures.stored
 
-pub returns-clause-undone : goal.returns-clause-undone
-returns-clause-undone g c records made =
-    undoes g.S.Store c.args.conn.now c.begin-tx.result c.answer_batch-replies.new.tx c.finish.new.tx.0
-    c.conn-1.given.0 c.begin-tx.ensures.begun c.begin-tx.ensures.settled (c.answer_batch-replies.ensures.says records made)
-    (ends_items g.S.Store _ _ c.answer_batch-replies.result c.finish.result c.finish.ensures) (search rules)
+pub returns-in-Again-clause-undone : goal.returns-in-Again-clause-undone
+returns-in-Again-clause-undone g c records made =
+    let again = rw c.in-Again.is at c.in_ok-replies.ensures.again in
+    faults_undone g.S.Store c.args.conn.now c.try_new.new.conn c.post_looked_up-in-Again.new.conn again.1
+    (IsMadeOf c.args.batch) (IsMadeOf c.in-Again.batch) again.0.made
+    (λ records made clean. let does = c.post_looked_up-in-Again.ensures.says records made in
+    omega (arith, does.survives.clean, clean)) _ records made
+    (c.post_looked_up-in-Again.ensures.undone records (again.0.made records made))

@@ -95,9 +95,11 @@ returns-clause-same g c =
     ∙ c.in_ok-fill_all.ensures.same ∙ ap (map emptied_branch) c.deref_mut.ensures.value)
     (ap (map emptied_floor) (put_back fv _ c.fill_all-2.new.slots c.deref_mut-2.ensures.value c.fill_all-2.auto.slots)
     ∙ c.in_ok-fill_all-2.ensures.same ∙ ap (map emptied_floor) c.deref_mut-2.ensures.value)
-    (ap (map emptied_teller) (put_back tv _ c.fill_all-3.new.slots c.deref_mut-3.ensures.value c.fill_all-3.auto.slots)
+    (ap (map emptied_teller) (put_back tv _ c.fill_all-3.new.slots c.deref_mut-3.ensures.value
+    c.fill_all-3.auto.slots)
     ∙ c.in_ok-fill_all-3.ensures.same ∙ ap (map emptied_teller) c.deref_mut-3.ensures.value)
-    (ap (map emptied_account) (put_back av _ c.fill_all-4.new.slots c.deref_mut-4.ensures.value c.fill_all-4.auto.slots)
+    (ap (map emptied_account) (put_back av _ c.fill_all-4.new.slots c.deref_mut-4.ensures.value
+    c.fill_all-4.auto.slots)
     ∙ c.in_ok-fill_all-4.ensures.same ∙ ap (map emptied_account) c.deref_mut-4.ensures.value)
 
 pub returns-clause-stored : goal.returns-clause-stored

@@ -1,0 +1,81 @@
+-- A look-up whose answer is let go, and then a part that acts: it is as if there had been that part alone.
+use Rattle.std.proofs.Common.{◌∙◌, ℕ, List, length, Option, Some, None, Result, Ok, sym, subst}
+use Rattle.std.specs.Prelude.{IfSome, IsTrue}
+use Rattle.sqlite.specs.{Effect.Database, Held.state, declared.transaction.Transaction.Transaction}
+use Rattle.sqlite.specs.State.{HasCleanDisk, KeepsCommit}
+use Rattle.sqlite_trees.specs.declared.store.Store.{Ghosts}
+use Rattle.posting_rules.specs.believed.Changes.{replies_past_all, tables_past_all}
+use Rattle.posting_rules.specs.believed.{Sound.AreOfALog, Tables.Tables}
+use Rattle.sql_meanings.specs.Calls.{Inside, Says}
+use Rattle.sql_meanings.proofs.Saying.{clean_between, says_then}
+use Rattle.store_rows.specs.{believed.View.Shows, declared.fault.TableFault.TableFault}
+use Rattle.bank_transactions.specs.{believed.Additions.AddsForRecords, believed.Batches.DecidesNone}
+use Rattle.bank_transactions.specs.{Doing.Acts, Filling.ReadsWhere, Tries.answer_of, Tries.replies_of}
+use Rattle.bank_transactions.specs.{believed.Stored.RepliesToAllStored, declared.first_try.Tried.Tried}
+use Rattle.bank_transactions.proofs.{Blamed.blames_since, Blamed.comes, Chained.keeps_then, Chained.still_in}
+
+so_of : {A : Type 0} {P Q : A → Type 0} (o : Option A) → ((x : A) → P x → Q x) → IfSome o P → IfSome o Q
+so_of None so it = tt
+so_of (Some x) so it = so x it
+
+module _ {S X : Type 0} {g : Ghosts S} {old mid new : Transaction S} {So : Tables → Type 0} {w : Tables → X} {x : X}
+    (look : ReadsWhere g old mid So w (Ok x)) where
+  -- a part that acts, and puts in what records may
+  acts_since : {Y : Type 0} {Of : Tables → Type 0} {after : Tables → Tables} {wanted : Tables → Y}
+      {r : Result Y TableFault} (count : ℕ)
+      → Acts g (AddsForRecords (state g mid.conn.now).now count) mid new Of after wanted r
+      → Acts g (AddsForRecords (state g old.conn.now).now count) old new Of after wanted r
+  acts_since {r = r} count acts = record {
+    says = says_then g old mid new look.says acts.says
+        (λ told kept told' live t shows so.
+        told' (still_in (state g old.conn.now) (state g mid.conn.now) kept.0.goes_on live) t
+        (subst (λ (db : Database). Shows db t) (sym kept.0.now) shows) so)
+        (λ kept kept' live.
+        let on = kept.0.goes_on in
+        let it = kept' (still_in (state g old.conn.now) (state g mid.conn.now) on live) in (
+          keeps_then (state g old.conn.now) (state g mid.conn.now) (state g new.conn.now) r on it.0,
+          blames_since (λ (db : Database). AddsForRecords db count) g old.conn.now mid.conn.now new.conn.now
+              (comes look.says.survives) kept.0.now r it.1,
+        ));
+  }
+
+  module _ (Made : List (List ℕ) → Type 0) (moment : ℕ) (tried : Result Tried TableFault)
+      (quiet : Says g mid new (λ _ _. Unit {0}) (Inside KeepsCommit)) where
+    pub quiet_since : Says g old new (λ _ _. Unit {0}) (Inside KeepsCommit)
+    quiet_since = says_then g old mid new look.says quiet (λ told kept told'. tt) (λ kept kept' live.
+        let on = kept.0.goes_on in
+        let it = kept' (still_in (state g old.conn.now) (state g mid.conn.now) on live) in
+        record { was_open = λ h. on.opened (it.was_open h); committed = λ h. it.committed h ∙ on.committed })
+
+    abbrev ActsFrom : Transaction S → Result (List (List ℕ)) TableFault → Type 0
+    ActsFrom begun answer = (records : List (List ℕ)) → Made records
+        → Acts g (AddsForRecords (state g begun.conn.now).now (length records)) begun new AreOfALog
+        (λ tables. tables_past_all tables moment records) (λ tables. replies_past_all tables moment records) answer
+
+    pub says_since : IfSome (answer_of tried) (ActsFrom mid) → IfSome (answer_of tried) (ActsFrom old)
+    says_since = so_of {P = ActsFrom mid} {Q = ActsFrom old} (answer_of tried)
+        (λ answer acts records made. acts_since (length records) (acts records made))
+
+    abbrev IsBusy : Transaction S → List (List ℕ) → Type 0
+    IsBusy begun replies = HasCleanDisk (state g new.conn.now) → IsTrue (state g begun.conn.now).in_transaction
+        → (records : List (List ℕ)) → Made records → (t : Tables) → Shows (state g begun.conn.now).now t
+        → AreOfALog t → DecidesNone t moment records → ⊥
+
+    pub busy_since : IfSome (replies_of tried) (IsBusy mid) → IfSome (replies_of tried) (IsBusy old)
+    busy_since = so_of {P = IsBusy mid} {Q = IsBusy old} (replies_of tried)
+        (λ replies busy clean live records made t shows so none.
+        let stays = (look.says.kept (clean_between g old mid new look.says quiet clean)).0 in
+        busy clean (still_in (state g old.conn.now) (state g mid.conn.now) stays.goes_on live) records made t
+        (subst (λ (db : Database). Shows db t) (sym stays.now) shows) so none)
+
+    abbrev AreStored : Transaction S → List (List ℕ) → Type 0
+    AreStored begun replies = HasCleanDisk (state g new.conn.now) → IsTrue (state g begun.conn.now).in_transaction
+        → (records : List (List ℕ)) → Made records
+        → RepliesToAllStored (state g begun.conn.now).now moment records replies
+
+    pub stored_since : IfSome (replies_of tried) (AreStored mid) → IfSome (replies_of tried) (AreStored old)
+    stored_since = so_of {P = AreStored mid} {Q = AreStored old} (replies_of tried)
+        (λ replies stored clean live records made.
+        let stays = (look.says.kept (clean_between g old mid new look.says quiet clean)).0 in
+        subst (λ (db : Database). RepliesToAllStored db moment records replies) stays.now
+        (stored clean (still_in (state g old.conn.now) (state g mid.conn.now) stays.goes_on live) records made))

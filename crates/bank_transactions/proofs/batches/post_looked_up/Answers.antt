@@ -1,0 +1,44 @@
+-- The parts of the transaction are one: the batch is answered.
+use Rattle.std.proofs.Common.{length, rules}
+use Rattle.posting_batch.specs.View.{IsMadeOf}
+use Rattle.bank_transactions.specs.believed.Stored.{RepliesToAllStored}
+use Rattle.bank_transactions.proofs.{HeldBatch.stored_after, Undone.undoes, Idle.ends_items, Idle.idle_after}
+use Rattle.bank_transactions.proofs.Transacted.{of_given, transacts_records}
+use Rattle.bank_transactions.proofs.batches.post_looked_up.Goals as goal
+
+pub returns-clause-says : goal.returns-clause-says
+returns-clause-says g c records made =
+    transacts_records (length records) g.S.Store c.args.conn.now c.begin-tx.result c.answer_batch-replies.new.tx
+    c.finish.new.tx.0 _ c.begin-tx.ensures.begun c.begin-tx.ensures.settled
+    (c.answer_batch-replies.ensures.says records made)
+    (ends_items g.S.Store _ _ c.answer_batch-replies.result c.finish.result c.finish.ensures) (search rules)
+
+pub returns-clause-count : goal.returns-clause-count
+returns-clause-count g c =
+    of_given _ c.answer_batch-replies.result c.finish.result c.finish.ensures.given
+    c.answer_batch-replies.ensures.count
+
+pub returns-clause-idle : goal.returns-clause-idle
+returns-clause-idle g c =
+    idle_after (IsMadeOf c.args.batch) c.args.moment g.S.Store c.args.conn.now c.begin-tx.result.conn.now
+    c.answer_batch-replies.new.tx.conn.now c.finish.new.tx.0 c.conn-1.given.0 c.answer_batch-replies.result
+    c.finish.result
+    c.begin-tx.ensures.begun c.finish.ensures
+    (λ records made. let does = c.answer_batch-replies.ensures.says records made in search rules)
+    c.answer_batch-replies.ensures.idle
+
+pub returns-clause-stored : goal.returns-clause-stored
+returns-clause-stored g c =
+    stored_after g.S.Store (IsMadeOf c.args.batch)
+    (λ db records replies. RepliesToAllStored db c.args.moment records replies.items) c.args.conn.now
+    c.begin-tx.result.conn.now c.answer_batch-replies.new.tx.conn.now c.finish.new.tx.0 c.conn-1.given.0
+    c.answer_batch-replies.result c.finish.result c.begin-tx.ensures.begun c.finish.ensures
+    (λ records made. let does = c.answer_batch-replies.ensures.says records made in search rules)
+    c.answer_batch-replies.ensures.stored
+
+pub returns-clause-undone : goal.returns-clause-undone
+returns-clause-undone g c records made =
+    undoes g.S.Store c.args.conn.now c.begin-tx.result c.answer_batch-replies.new.tx c.finish.new.tx.0
+    c.conn-1.given.0 c.begin-tx.ensures.begun c.begin-tx.ensures.settled
+    (c.answer_batch-replies.ensures.says records made)
+    (ends_items g.S.Store _ _ c.answer_batch-replies.result c.finish.result c.finish.ensures) (search rules)

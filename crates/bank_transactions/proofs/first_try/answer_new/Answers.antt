@@ -1,0 +1,32 @@
+-- The first request is looked up, and then the batch is answered as if none were kept.
+use Rattle.std.proofs.Common.{◌≡◌, Err, rules}
+use Rattle.posting_batch.specs.View.{IsMadeOf}
+use Rattle.bank_transactions.proofs.AfterLookUp.{busy_since, quiet_since, says_since, stored_since}
+use Rattle.bank_transactions.proofs.{Chained.acts_read, Chained.does_err, JudgedSlots.ready, LookUps.does_look}
+use Rattle.bank_transactions.proofs.first_try.answer_new.Goals as goal
+
+pub returns-in_err-keeps_first-clause-says : goal.returns-in_err-keeps_first-clause-says
+returns-in_err-keeps_first-clause-says g c =
+    let same : c.from_residual.result ≡ Err c.in_err-keeps_first.field-0.0 = search rules in
+    rw same (λ records made. acts_read
+    (does_err (does_look c.in_err-keeps_first.ensures) (λ t it. (ready c.args.batch records made t it).0)))
+
+pub returns-clause-says : goal.returns-clause-says
+returns-clause-says g c =
+    says_since c.in_ok-keeps_first.ensures (IsMadeOf c.args.batch) c.args.moment c.answer_unkept.result
+    c.answer_unkept.ensures.quiet c.answer_unkept.ensures.says
+
+pub returns-clause-busy : goal.returns-clause-busy
+returns-clause-busy g c =
+    busy_since c.in_ok-keeps_first.ensures (IsMadeOf c.args.batch) c.args.moment c.answer_unkept.result
+    c.answer_unkept.ensures.quiet c.answer_unkept.ensures.busy
+
+pub returns-clause-stored : goal.returns-clause-stored
+returns-clause-stored g c =
+    stored_since c.in_ok-keeps_first.ensures (IsMadeOf c.args.batch) c.args.moment c.answer_unkept.result
+    c.answer_unkept.ensures.quiet c.answer_unkept.ensures.stored
+
+pub returns-clause-quiet : goal.returns-clause-quiet
+returns-clause-quiet g c =
+    quiet_since c.in_ok-keeps_first.ensures (IsMadeOf c.args.batch) c.args.moment c.answer_unkept.result
+    c.answer_unkept.ensures.quiet

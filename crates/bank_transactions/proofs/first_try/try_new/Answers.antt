@@ -1,0 +1,55 @@
+-- A try in a transaction of its own, which is dropped where a request may be kept.
+use Rattle.std.proofs.Common.{◌≡◌, Err, None, rules}
+use Rattle.posting_batch.specs.View.{IsMadeOf}
+use Rattle.store_rows.specs.declared.fault.TableFault.TheVariants.{Sqlite}
+use Rattle.bank_transactions.specs.Tries.{batch_of}
+use Rattle.bank_transactions.proofs.Tries.{not_asked, tried_busy, tried_says, tried_stored}
+use Rattle.bank_transactions.proofs.first_try.try_new.Goals.{in-Ok+in-Answered-1, in-Err-1}
+use Rattle.bank_transactions.proofs.first_try.try_new.Goals as goal
+
+pub returns-in_err-probe_table-clause-says : goal.returns-in_err-probe_table-clause-says
+returns-in_err-probe_table-clause-says g c =
+    let same : c.from_residual.result ≡ Err (Sqlite c.in_err-probe_table.field-0.0) = search rules in
+    let back : c.rollback.new.self.0 ≡ c.conn-1.given.0 = search rules in
+    rw same (λ records made. not_asked g.S.Store c.args.conn.now c.begin-tx.result c.answer_new-tried.new.tx
+    c.conn-1.given.0 c.probe_table.new.conn c.begin-tx.ensures.begun c.begin-tx.ensures.settled
+    c.in-Ok-Again.ensures.quiet (rw back at c.rollback.ensures.undone) (rw back at c.rollback.ensures.survives)
+    (c.probe_table.ensures.mode (rw back at c.rollback.ensures.ended)) c.probe_table.ensures.survives
+    c.in_err-probe_table.field-0.0 (λ clean. rw c.in_err-probe_table.was at c.probe_table.ensures.told clean))
+
+pub returns-clause-says : goal.returns-clause-says
+returns-clause-says g c =
+    let same : c.match-tried.tried ≡ c.answer_new-tried.result = elim c.match-tried.branch [
+      | in-Ok+in-Answered-1 w ↦ search rules
+      | in-Err-1 w ↦ w.tried-is
+    ] in
+    let none : batch_of c.answer_new-tried.result ≡ None = elim c.match-tried.branch [
+      | in-Ok+in-Answered-1 w ↦ search rules
+      | in-Err-1 w ↦ search rules
+    ] in
+    tried_says g.S.Store (IsMadeOf c.args.batch) c.args.moment c.args.conn.now c.begin-tx.result
+    c.answer_new-tried.new.tx c.finish.new.tx.0 c.conn-2-1.given.0 c.answer_new-tried.result c.finish.result
+    c.begin-tx.ensures.begun c.begin-tx.ensures.settled (rw same at c.finish.ensures)
+    (λ records made. search rules) none c.answer_new-tried.ensures.says
+
+pub returns-clause-busy : goal.returns-clause-busy
+returns-clause-busy g c =
+    let same : c.match-tried.tried ≡ c.answer_new-tried.result = elim c.match-tried.branch [
+      | in-Ok+in-Answered-1 w ↦ search rules
+      | in-Err-1 w ↦ w.tried-is
+    ] in
+    tried_busy g.S.Store (IsMadeOf c.args.batch) c.args.moment c.args.conn.now c.begin-tx.result
+    c.answer_new-tried.new.tx c.finish.new.tx.0 c.conn-2-1.given.0 c.answer_new-tried.result c.finish.result
+    c.begin-tx.ensures.begun c.begin-tx.ensures.settled (rw same at c.finish.ensures)
+    (λ records made. search rules) c.answer_new-tried.ensures.busy
+
+pub returns-clause-stored : goal.returns-clause-stored
+returns-clause-stored g c =
+    let same : c.match-tried.tried ≡ c.answer_new-tried.result = elim c.match-tried.branch [
+      | in-Ok+in-Answered-1 w ↦ search rules
+      | in-Err-1 w ↦ w.tried-is
+    ] in
+    tried_stored g.S.Store (IsMadeOf c.args.batch) c.args.moment c.args.conn.now c.begin-tx.result
+    c.answer_new-tried.new.tx c.finish.new.tx.0 c.conn-2-1.given.0 c.answer_new-tried.result c.finish.result
+    c.begin-tx.ensures.begun c.begin-tx.ensures.settled (rw same at c.finish.ensures)
+    (λ records made. search rules) c.answer_new-tried.ensures.stored
