@@ -276,8 +276,9 @@ impl<S: Alter + Drop> Counter for Bank<S> {
     }
 
     // All room is made before the store is asked, so that `Memory` changes nothing. Each row that the records
-    // touch is read once, and each that they change is written once. They are committed together or not at
-    // all. A batch in which nothing is decided changes no table, and a crash in it leaves nothing else.
+    // touch is read once, but for new requests, and each that they change is written once. They are committed
+    // together or not at all. A batch in which nothing is decided changes no table, and a crash in it leaves
+    // nothing else.
     fn submit_all(
         &mut self,
         moment: Moment,
