@@ -7,7 +7,7 @@ use Rattle.bank_store.specs.{Leaving.StandsWhileOpen, Leaving.TakesNone, believe
 use Rattle.bank_store.specs.{believed.Seen.connection_of}
 use Rattle.bank_store.specs.{believed.Seen.file_of, Sparing.SparesWhileOpen, Walks.IsStill, declared.bank.Bank.Bank}
 use Rattle.bank_store.proofs.ReadsLeave.{reads_take_none, untouched_stands}
-use Rattle.bank_reports.proofs.Spared.{idle_spares, read_spares as spared_by_reads}
+use Rattle.bank_store.proofs.Spared.{idle_spares, read_spares as spared_by_reads}
 use Rattle.bank_replays.specs.{Reading.ReadsBank, Replays.HasAnswered}
 
 module _ {S X E : Type 0} {g : Ghosts S} {old new : Bank S g} (r : Result X E) (reads : ReadsBank g old new r) where

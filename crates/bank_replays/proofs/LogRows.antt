@@ -14,12 +14,12 @@ use Rattle.posting_rules.specs.believed.Tables.{reference_key, reference_row, re
 use Rattle.posting_rules.specs.believed.Tables.{request_row, request_row_of, row_at}
 use Rattle.sql_meanings.specs.believed.Entries.{Entry, Rise}
 use Rattle.store_rows.specs.believed.View.{Shows, history_entry, reference_entry, request_entry}
+use Rattle.store_rows.proofs.RowLists.{found_row}
 use Rattle.walked_rows.specs.KeptRows.{HasKept, KeptItem, kept_all, kept_with}
 use Rattle.walked_rows.specs.{Pairs.row_under, References.text_after}
 use Rattle.walked_rows.proofs.Shown.{has_history, has_references, has_requests}
-use Rattle.bank_reports.proofs.Read.{under}
-use Rattle.bank_reports.proofs.RisingRows.{Rising, all-append, all_as, find_before, find_after, not_under}
-use Rattle.bank_reports.proofs.RisingRows.{rising_more, rising_once}
+use Rattle.walked_rows.proofs.RisingRows.{Rising, all-append, all_as, find_before, find_after, not_under, rising_more}
+use Rattle.walked_rows.proofs.RisingRows.{rising_once}
 use Rattle.bank_replays.specs.Digests.{answered_after, answered_of, each_answered}
 use Rattle.bank_replays.specs.Requests.{answered_in, moment_under}
 use Rattle.bank_replays.proofs.Chained.{answered_same, code_back, reply_same, request_same}
@@ -238,10 +238,10 @@ module _ (db : Database) (t : Tables) (log : List Command) (in_file : Shows db t
   pub stand_in : Stand postings references (decided log)
   stand_in = record {
     history = λ o low.
-        under history_entry history_key (λ r. refl) t.history o
+        found_row history_key history_entry (λ r. refl) o t.history
         ∙ ap (option_map history_entry) (shows.rows.history o);
     references = λ o low.
-        under reference_entry reference_key (λ r. refl) t.references o
+        found_row reference_key reference_entry (λ r. refl) o t.references
         ∙ ap (option_map reference_entry) (shows.rows.references o);
   }
 

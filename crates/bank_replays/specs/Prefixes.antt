@@ -6,7 +6,7 @@ use Rattle.std.proofs.KnownBytes.{Appends-nil}
 use Rattle.posting_core.specs.Told.{WriteTold}
 use Rattle.posting_core.proofs.Telling.{more_none}
 use Rattle.posting_rules.specs.declared.fault.Fault.{Fault}
-use Rattle.bank_reports.proofs.Further.{whole_part}
+use Rattle.report_contents.proofs.Written.{whole_part}
 use Rattle.bank_replays.specs.Digests.{GoesOnBy}
 use Rattle.bank_replays.specs.Writing.{Wrote, WrotePart}
 use Rattle.bank_replays.specs.declared.chain.Digest.{Digest}

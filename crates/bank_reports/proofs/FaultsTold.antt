@@ -3,14 +3,13 @@ use Rattle.std.proofs.Common.{◌≡◌, ◌∙◌, refl, sym, ℕ, List, Option
 use Rattle.posting_rules.specs.declared.fault.Fault.{Fault, TheVariants.Memory, TheVariants.Down, TheVariants.Damaged}
 use Rattle.posting_rules.specs.declared.fault.Rule.{Rule}
 use Rattle.posting_rules.specs.{believed.Commands.Command, believed.Counter.Seen, believed.Counter.ShowsLog}
-use Rattle.report_contents.proofs.Written.{on_err_any}
+use Rattle.report_contents.proofs.Written.{nothing_written, on_err_any}
 use Rattle.report_contents.specs.declared.audit.Audit.{Audit}
 use Rattle.bank_reports.specs.declared.fault.ReportFault.{ReportFault, TheVariants.Bank}
 use Rattle.bank_reports.specs.{Audits.Audits, Audits.HasAudited, StatedLines.statement_after, Postings.HasAnswered}
 use Rattle.bank_reports.specs.Statements.{States}
 use Rattle.bank_store.specs.Leaving.{TakesNone}
-use Rattle.bank_reports.proofs.Further.{error_is, nothing_written}
-use Rattle.bank_reports.proofs.ReportEnds.{not_missing, same_fault}
+use Rattle.bank_reports.proofs.{Further.error_is, ReportEnds.not_missing, ReportEnds.same_fault}
 
 -- one that shows a log isn't told to be damaged
 abbrev pub NeverSound : Seen → Seen → Fault → Type 0

@@ -3,7 +3,7 @@ use Rattle.std.proofs.Common.{◌≡◌, ◌≤◌, ◌+◌, ◌-◌, ◌^◌, �
 use Rattle.std.proofs.Common.{refl, sym, ap, subst, ◌∙◌, inl, inr, append_assoc, arith}
 use Rattle.std.specs.Prelude.{ℤ, pos, ◌+ℤ◌, ◌<◌, nat_abs}
 use Rattle.std.specs.Io.KnownBytes.{Appends}
-use Rattle.std.proofs.{KnownBytes.Appends-nil, KnownBytes.Appends-trans, Math.Seq.take-length}
+use Rattle.std.proofs.{KnownBytes.Appends-nil, KnownBytes.Appends-trans}
 use Rattle.std.proofs.lemmas.List.{length-append, map-append}
 use Rattle.message_records.specs.declared.limits.TheConstants.{MAX_BALANCE}
 use Rattle.posting_rules.specs.declared.fault.{Fault.Fault, Rule.Rule}
@@ -12,9 +12,10 @@ use Rattle.posting_rules.specs.declared.fault.Rule.TheVariants.{Meta, Teller, Ac
 use Rattle.posting_rules.specs.declared.fault.Rule.TheVariants.{Floor, Reference}
 use Rattle.walked_rows.specs.{declared.stated.StatedPosting.StatedPosting, Pairs.Pair}
 use Rattle.walked_rows.specs.Stored.{BreaksStated, stated_pair}
-use Rattle.report_contents.specs.{Lines.text_of, Written.AppendsPart}
+use Rattle.report_contents.specs.{Lines.text_of}
 use Rattle.report_contents.specs.StatementText.{posting_line, posting_lines}
-use Rattle.report_contents.proofs.{Joined.text_of-snoc, Written.same_all, Written.same_part, Written.then_part}
+use Rattle.report_contents.proofs.Joined.{text_of-snoc}
+use Rattle.report_contents.proofs.Written.{same_all, same_part, then_part, whole_part}
 use Rattle.bank_store.specs.Walking.{Steps}
 use Rattle.bank_reports.specs.declared.fault.ReportFault.{ReportFault}
 use Rattle.bank_reports.specs.declared.fault.ReportFault.TheVariants.{NoAccount, Write, Bank}
@@ -34,19 +35,6 @@ pub record IsFar (all coming : List Pair) (old new : Option (List ℕ)) (balance
 pub at_first : (all coming : List Pair) (old : Option (List ℕ)) → coming ≡ all
     → IsFar all coming old old (pos 0) 0
 at_first all coming old is = record { given = []; are = is; wrote = Appends-nil old; sum = refl; many = refl }
-
--- nothing is a prefix of a text
-pub nothing_written : (old : Option (List ℕ)) (text : List ℕ) → AppendsPart old old text
-nothing_written old text = record { count = 0; within = omega arith; wrote = Appends-nil old }
-
--- all of a text is a prefix of it
-pub whole_part : (old new : Option (List ℕ)) (text : List ℕ) → Appends old new text
-    → AppendsPart old new text
-whole_part old new text wrote = record {
-  count = length text;
-  within = omega arith;
-  wrote = subst (λ (t : List ℕ). Appends old new t) (sym (take-length text)) wrote;
-}
 
 -- an error is the same whatever it stands in place of
 pub error_is : {A E : Type 0} (e f : E) → (let r : Result A E = Err e in r) ≡ Err f → e ≡ f

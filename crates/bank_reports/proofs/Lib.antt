@@ -1,5 +1,4 @@
 -- What the proofs of reports share.
-pub mod RisingRows
 pub mod LogHistory
 pub mod Lined
 pub mod Further
@@ -14,5 +13,4 @@ pub mod OfAll
 pub mod Broken
 pub mod OncePosted
 pub mod LogFiles
-pub mod Spared
 pub mod FaultsTold

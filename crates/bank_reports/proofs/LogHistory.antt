@@ -14,8 +14,7 @@ use Rattle.posting_rules.specs.believed.Entries.{DecidedRequest, is_posted, fact
 use Rattle.posting_rules.specs.believed.Entries.{with_record, decided}
 use Rattle.posting_rules.specs.believed.Tables.{row_at, history_key, history_row, history_row_of}
 use Rattle.posting_rules.proofs.BalanceLimits.{stays_within}
-use Rattle.bank_reports.proofs.RisingRows.{Rising, all-append, all_as, find_after, find_before, not_under}
-use Rattle.bank_reports.proofs.RisingRows.{rising_more}
+use Rattle.walked_rows.proofs.RisingRows.{Rising, all-append, all_as, find_after, find_before, not_under, rising_more}
 
 -- the postings of decided requests, the oldest first
 abbrev pub postings_of : List DecidedRequest → List HistoryRow

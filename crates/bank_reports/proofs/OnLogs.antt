@@ -17,17 +17,18 @@ use Rattle.sql_meanings.proofs.Contents.{held}
 use Rattle.store_rows.specs.believed.BankTables.{bank_tables, history as history_table, reference as reference_table}
 use Rattle.store_rows.specs.believed.View.{history_entry, reference_entry, Shows}
 use Rattle.store_rows.specs.View.{contents}
+use Rattle.store_rows.proofs.RowLists.{found_row}
 use Rattle.walked_rows.specs.{declared.stated.StatedPosting.StatedPosting, Pairs.HasPairs, Pairs.Pair, Pairs.paired}
 use Rattle.walked_rows.specs.{Pairs.row_under, References.text_after, References.text_entry}
 use Rattle.walked_rows.specs.Stored.{is_of, is_stated_of, posting_entry, stated_pair}
 use Rattle.walked_rows.proofs.{Joining.paired_filter, Shown.has_history, Shown.has_references}
+use Rattle.walked_rows.proofs.RisingRows.{Rising, all-append, all_as, rising_once}
 use Rattle.report_contents.specs.Lines.{text_of}
 use Rattle.report_contents.specs.StatementText.{heading_line, names_line, posting_line, posting_lines, closing_line}
 use Rattle.report_contents.proofs.Joined.{text_of-append}
 use Rattle.bank_reports.specs.StatedLines.{is_posted_to, lines_to, postings_to, stated_of, statement_after}
 use Rattle.bank_reports.specs.Postings.{delta_of, sum_of, text_so_far}
-use Rattle.bank_reports.proofs.{Read.posting_back, Read.posting_in, Read.under, Lined.lines_are}
-use Rattle.bank_reports.proofs.RisingRows.{Rising, all-append, all_as, rising_once}
+use Rattle.bank_reports.proofs.{Read.posting_back, Read.posting_in, Lined.lines_are}
 use Rattle.bank_reports.proofs.LogHistory.{postings_of, postings_rise, postings_under}
 
 -- ---- the history of a file
@@ -165,7 +166,7 @@ pairs_are es references same [] all = refl
 pairs_are es references same (s ∷ ss) all =
     let o = s.posting.ordinal in
     let beside : row_under (map reference_entry references) (pos o) ≡ option_map (text_entry o) s.reference =
-    under reference_entry reference_key (λ r. refl) references o
+    found_row reference_key reference_entry (λ r. refl) o references
     ∙ ap (option_map reference_entry) (same o ∙ all.0.1) ∙ own_text o s.reference in
     rw (beside, pairs_are es references same ss all.1) refl
 

@@ -8,8 +8,8 @@ use Rattle.posting_rules.specs.{declared.rows.RequestRow.RequestRow, believed.Co
 use Rattle.posting_rules.specs.believed.Entries.{DecidedRequest, decided, kept}
 use Rattle.posting_rules.specs.believed.Tables.{Tables, AreTablesOf, request_key, request_row, request_row_of, row_at}
 use Rattle.posting_rules.proofs.{Requests.AreNew, Requests.are_new, Totals.each_under_its_key}
+use Rattle.walked_rows.proofs.RisingRows.{all_as}
 use Rattle.bank_reports.specs.Differing.{DifferIfPosted, EachPostedOnce}
-use Rattle.bank_reports.proofs.RisingRows.{all_as}
 
 -- where none of the entries is kept under a teller and a number, none of their rows has both
 row_apart : (t n : ℕ) (es : List DecidedRequest) (o : ℕ) (r : RequestRow) → kept es t n ≡ None

@@ -1,21 +1,19 @@
 -- The stored tables that were read of a file, each request and each posting beside the other of its ordinal.
-use Rattle.std.proofs.Common.{◌≡◌, ℕ, List, [], ◌∷◌, ◌==◌, map, Option, Some, None, refl, sym, ap, subst, ◌∙◌, inl}
-use Rattle.std.proofs.Common.{inr, arith}
-use Rattle.std.specs.Prelude.{ℤ, pos, nat_abs, option_map}
-use Rattle.std.specs.{List.AllByRecursion, Ordering.int_eq}
-use Rattle.std.proofs.lemmas.{Bool.cases_Bool, Int.ints}
+use Rattle.std.proofs.Common.{◌≡◌, ℕ, List, [], ◌∷◌, map, Option, Some, None, refl, sym, ap, subst, ◌∙◌}
+use Rattle.std.specs.{Prelude.pos, Prelude.nat_abs, Prelude.option_map, List.AllByRecursion}
 use Rattle.posting_rules.specs.believed.Tables.{row_at}
-use Rattle.sql_meanings.specs.believed.Entries.{Entry, has_key}
+use Rattle.sql_meanings.specs.believed.Entries.{Entry}
+use Rattle.store_rows.proofs.RowLists.{found_row}
 use Rattle.walked_rows.specs.declared.{accounts.StoredAccount.StoredAccount, branches.StoredBranch.StoredBranch}
 use Rattle.walked_rows.specs.declared.{tellers.StoredTeller.StoredTeller, postings.StoredPosting.StoredPosting}
 use Rattle.walked_rows.specs.declared.{requests.StoredRequest.StoredRequest, joined.Joined.Joined}
 use Rattle.walked_rows.specs.Pairs.{pair_of, pair_with, paired, row_under}
 use Rattle.walked_rows.specs.Stored.{account_entry, asked_pair, branch_entry, number_after, posted_pair}
 use Rattle.walked_rows.specs.Stored.{posting_entry, request_entry, teller_entry}
+use Rattle.walked_rows.proofs.RisingRows.{all_as}
 use Rattle.report_contents.specs.{Added.HasBeside, Beside.rows_of, Stored.StoredTables}
 use Rattle.report_contents.specs.Audit.{posting_ordinal, posting_under, request_ordinal, request_under}
 use Rattle.bank_reports.specs.{declared.sums.Sums.Sums, Adding.HasSums, Adding.both, Files.FileRows, Files.rows_in}
-use Rattle.bank_reports.proofs.RisingRows.{all_as}
 
 -- ---- the row that a file's row is
 
@@ -125,22 +123,6 @@ one_file x y same =
 
 -- ---- rows beside rows
 
-same_number : (m k : ℕ) → int_eq (pos m) (pos k) ≡ (m == k)
-same_number m k = grind (arith, ints)
-
--- the file's row under a key is that of the row under it
-pub under : {R : Type 0} (entry : R → Entry) (ordinal : R → ℕ)
-    → ((r : R) → (entry r).key ≡ pos (ordinal r)) → (rs : List R) (o : ℕ)
-    → row_under (map entry rs) (pos o) ≡ option_map entry (row_at ordinal rs o)
-under entry ordinal is [] o = refl
-under entry ordinal is (r ∷ rs) o =
-    let test : has_key (pos o) (entry r) ≡ (ordinal r == o) = ap (λ (z : ℤ). int_eq z (pos o)) (is r)
-    ∙ same_number (ordinal r) o in
-    elim (cases_Bool (ordinal r == o)) [
-      | inl t ↦ rw (test, t) refl
-      | inr f ↦ rw (test, f) (under entry ordinal is rs o)
-    ]
-
 abbrev stored_of : {R O : Type 0} → List (Joined R O) → List R
 stored_of = map (λ j. j.stored)
 
@@ -212,7 +194,7 @@ module _ (tellers : List StoredTeller) (branches : List StoredBranch) (accounts 
         (λ j is. one_option posting_entry posting_in posting_back j.beside
         (row_at posting_ordinal (stored_of posted) j.stored.ordinal)
         (is ∙ ap (λ es. row_under es (pos j.stored.ordinal)) (sym history)
-        ∙ under posting_entry posting_ordinal (λ r. refl) (stored_of posted) j.stored.ordinal))
+        ∙ found_row posting_ordinal posting_entry (λ r. refl) j.stored.ordinal (stored_of posted)))
         asked (parts request_entry posting_entry asked f.requests f.history rs).1)
 
     posted_beside : map both posted ≡ map (λ h. (h, request_under read h.ordinal)) (stored_of posted)
@@ -223,7 +205,7 @@ module _ (tellers : List StoredTeller) (branches : List StoredBranch) (accounts 
         (λ j is. one_option request_entry request_in request_back j.beside
         (row_at request_ordinal (stored_of asked) j.stored.ordinal)
         (is ∙ ap (λ es. row_under es (pos j.stored.ordinal)) (sym requests)
-        ∙ under request_entry request_ordinal (λ r. refl) (stored_of asked) j.stored.ordinal))
+        ∙ found_row request_ordinal request_entry (λ r. refl) j.stored.ordinal (stored_of asked)))
         posted (parts posting_entry request_entry posted f.history f.requests hs).1)
 
     -- the sums are those of the tables

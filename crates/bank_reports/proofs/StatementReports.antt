@@ -14,13 +14,14 @@ use Rattle.posting_rules.specs.believed.Entries.{DecidedRequest, decided, accoun
 use Rattle.posting_rules.proofs.SoundEntries.{AreSound, are_sound, few_enough}
 use Rattle.walked_rows.specs.{Pairs.Pair, Reading.IsOutside, References.BreaksReference, References.text_entry}
 use Rattle.walked_rows.specs.{Stored.BreaksStated, Stored.stated_pair, declared.stated.StatedPosting.StatedPosting}
+use Rattle.walked_rows.proofs.RisingRows.{all-append}
 use Rattle.report_contents.specs.Written.{AppendsPart}
 use Rattle.report_contents.proofs.Written.{first_part, same_all, same_part}
 use Rattle.bank_reports.specs.declared.fault.ReportFault.{ReportFault, TheVariants.Bank}
 use Rattle.bank_reports.specs.StatedLines.{is_posted_to, postings_to, stated_of, statement_after}
 use Rattle.bank_reports.specs.Postings.{StopsAtBalance, StopsAtRow, WhyDamaged, WritesStatement, delta_of, sum_of}
 use Rattle.bank_reports.specs.Postings.{text_so_far}
-use Rattle.bank_reports.proofs.{LogHistory.each_within, RisingRows.all-append}
+use Rattle.bank_reports.proofs.{LogHistory.each_within}
 use Rattle.bank_reports.proofs.Lined.{AllRunWithin, few_postings, never_beyond, runs_within}
 use Rattle.bank_reports.proofs.OnLogs.{prefix, one_entry, text_begins, text_ends}
 

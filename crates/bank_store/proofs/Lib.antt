@@ -14,6 +14,7 @@ pub mod OnlyRow
 pub mod JustOpened
 pub mod OtherTables
 pub mod Settled
+pub mod Spared
 pub mod TakenUp
 pub mod Unmade
 pub mod WalkSteps

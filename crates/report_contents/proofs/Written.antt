@@ -3,15 +3,28 @@ use Rattle.std.proofs.Common.{◌≡◌, ◌+◌, ℕ, List, [], ◌∷◌, ◌+
 use Rattle.std.proofs.Common.{get_or, Option, Result, Ok, Err, sym, ap, subst, ◌∙◌, arith}
 use Rattle.std.specs.Prelude.{OnErr, OnOk, ◌<◌}
 use Rattle.std.specs.Io.KnownBytes.{Appends}
-use Rattle.std.proofs.{KnownBytes.Appends-trans, Math.Seq.take-append-add}
+use Rattle.std.proofs.{KnownBytes.Appends-nil, KnownBytes.Appends-trans, Math.Seq.take-append-add}
+use Rattle.std.proofs.{Math.Seq.take-length}
 use Rattle.std.proofs.lemmas.List.{take-append-le, take_more, take-append-drop, length-append, map-append}
 use Rattle.posting_core.specs.Told.{HasMore, HasWriteFailed, IsWriteFailure, WriteTold}
 use Rattle.posting_core.proofs.Telling.{more_failed}
 use Rattle.report_contents.specs.{Lines.text_of, Written.AppendsPart}
 use Rattle.report_contents.proofs.Joined.{text_of-snoc, text_of-append}
 
+-- nothing is a prefix of a text
+pub nothing_written : (old : Option (List ℕ)) (text : List ℕ) → AppendsPart old old text
+nothing_written old text = record { count = 0; within = omega arith; wrote = Appends-nil old }
+
 -- all of a text, and a prefix of it
 module _ (old new : Option (List ℕ)) where
+  -- all of it is a prefix of it
+  pub whole_part : (text : List ℕ) → Appends old new text → AppendsPart old new text
+  whole_part text wrote = record {
+    count = length text;
+    within = omega arith;
+    wrote = subst (λ (t : List ℕ). Appends old new t) (sym (take-length text)) wrote;
+  }
+
   -- a prefix of the first text is one of both
   pub first_part : (a b : List ℕ) → AppendsPart old new a → AppendsPart old new (a ++ b)
   first_part a b h = record {

@@ -10,6 +10,7 @@ pub mod NumbersRead
 pub mod OnlyMeta
 pub mod ReferenceRead
 pub mod Rises
+pub mod RisingRows
 pub mod Shown
 pub mod Shows
 pub mod Sought

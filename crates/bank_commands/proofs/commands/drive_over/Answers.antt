@@ -1,7 +1,7 @@
 -- The bank that was found is the one that was driven.
 use Rattle.std.proofs.{Common.inl, Common.inr, Common.refl, KnownBytes.Keeps-refl, lemmas.Result.err_from_is_err_and}
 use Rattle.bank_store.specs.believed.{Down.bank_reason, Seen.bank_seen}
-use Rattle.bank_reports.proofs.Spared.{call_spares}
+use Rattle.bank_store.proofs.Spared.{call_spares}
 use Rattle.bank_commands.proofs.Spared.{found_spares, refused_spares}
 use Rattle.bank_commands.proofs.Told.{done_not_written, prints_drive, refused_not_write}
 use Rattle.bank_commands.proofs.commands.drive_over.Goals as goal

@@ -1,7 +1,7 @@
 -- The bank that was found is the one that the plan was loaded into.
 use Rattle.std.proofs.{Common.inl, Common.inr, Common.refl, KnownBytes.Keeps-refl, lemmas.Result.err_from_is_err_and}
 use Rattle.bank_store.specs.believed.{Down.bank_reason, Seen.bank_seen}
-use Rattle.bank_reports.proofs.Spared.{call_spares}
+use Rattle.bank_store.proofs.Spared.{call_spares}
 use Rattle.bank_commands.proofs.Spared.{found_spares, refused_spares}
 use Rattle.bank_commands.proofs.Told.{load_not_written, prints_load, refused_not_write}
 use Rattle.bank_commands.proofs.commands.load_over.Goals as goal

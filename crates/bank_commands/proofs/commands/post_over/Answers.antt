@@ -1,6 +1,6 @@
 -- The bank that was found is the one that the records were posted to.
 use Rattle.std.proofs.{Common.inl, Common.inr, Common.refl, lemmas.Result.err_from_is_err_and}
-use Rattle.bank_reports.proofs.Spared.{call_spares}
+use Rattle.bank_store.proofs.Spared.{call_spares}
 use Rattle.bank_commands.proofs.{Spared.found_spares, Spared.refused_spares, Told.ends_post}
 use Rattle.bank_commands.proofs.commands.post_over.Goals as goal
 

@@ -1,6 +1,6 @@
 -- The bank that was found is the one that connections were served by.
 use Rattle.std.proofs.{Common.inl, Common.inr, Common.refl, KnownBytes.Keeps-refl, lemmas.Result.err_from_is_err_and}
-use Rattle.bank_reports.proofs.Spared.{call_spares}
+use Rattle.bank_store.proofs.Spared.{call_spares}
 use Rattle.bank_commands.proofs.Spared.{found_spares, refused_spares}
 use Rattle.bank_commands.proofs.Told.{done_not_written, prints_serve, refused_not_write}
 use Rattle.bank_commands.proofs.serving.serve_over.Goals as goal

@@ -2,9 +2,8 @@
 use Rattle.std.proofs.Common.{rules, ◌≡◌, Bool, Ok, Err, Option, Some, None, false, true, refl}
 use Rattle.posting_rules.specs.declared.fault.Fault.{Fault}
 use Rattle.bank_store.specs.believed.Seen.{bank_seen, database_of}
-use Rattle.bank_store.proofs.ReadsLeave.{idle_takes}
+use Rattle.bank_store.proofs.{ReadsLeave.idle_takes, Spared.idle_spares}
 use Rattle.bank_replays.proofs.Digested.{digests_log, rows_enough, rows_fewer}
-use Rattle.bank_reports.proofs.Spared.{idle_spares}
 use Rattle.bank_replays.proofs.{Leaves.read_spares, Leaves.read_stands, Leaves.read_takes, LogRows.has_kept}
 use Rattle.bank_replays.proofs.{LogRows.kept_answered, LogRows.kept_of, Read.read_any, Read.read_fails}
 use Rattle.bank_replays.specs.declared.chain.Digest.{Digest}

@@ -1,10 +1,9 @@
 -- What a replay says and leaves.
 use Rattle.std.proofs.Common.{rules, ◌≡◌, Bool, Err, false, true, refl}
 use Rattle.bank_store.specs.believed.Seen.{bank_seen, database_of}
-use Rattle.bank_store.proofs.ReadsLeave.{idle_takes}
+use Rattle.bank_store.proofs.{ReadsLeave.idle_takes, Spared.idle_spares}
 use Rattle.bank_replays.proofs.{InMemory.never_in_doubt, Digested.agrees_log, Leaves.read_spares, Leaves.read_stands}
 use Rattle.bank_replays.proofs.{Leaves.read_takes, LogRows.has_kept, LogRows.kept_answered, LogRows.kept_of}
-use Rattle.bank_reports.proofs.Spared.{idle_spares}
 use Rattle.bank_replays.proofs.replays.replay.Goals as goal
 
 tested_up : (tested is_down : Bool) → tested ≡ is_down → tested ≡ false → is_down ≡ true → ⊥

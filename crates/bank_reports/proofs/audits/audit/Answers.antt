@@ -13,9 +13,10 @@ use Rattle.bank_store.specs.believed.Seen.{bank_seen, database_of}
 use Rattle.bank_reports.specs.Files.{HasFile, rows_in}
 use Rattle.bank_reports.proofs.FaultsTold.{down_is_sound, memory_is_sound, unaudited}
 use Rattle.bank_reports.proofs.{Further.error_is, OncePosted.posted_once, Read.one_file, ReportEnds.not_ok}
-use Rattle.bank_reports.proofs.{Spared.idle_spares, Spared.read_spares, audits.audit.Given.Over}
+use Rattle.bank_reports.proofs.{audits.audit.Given.Over}
 use Rattle.bank_reports.proofs.LogFiles.{balanced, has_file, has_ordinals, not_damaged, tells_in_file}
 use Rattle.bank_store.proofs.ReadsLeave.{idle_takes, reads_take_none, untouched_stands}
+use Rattle.bank_store.proofs.Spared.{idle_spares, read_spares}
 use Rattle.bank_reports.proofs.audits.audit.Goals as goal
 
 -- ---- a bank that was down, and one that wasn't

@@ -11,15 +11,16 @@ use Rattle.bank_store.specs.{believed.Down.OfDamage, Down.WasBroken, believed.Do
 use Rattle.bank_store.specs.{believed.Seen.bank_seen, believed.Seen.database_of}
 use Rattle.bank_reports.specs.{declared.fault.ReportFault.TheVariants.Bank, StatedLines.statement_after}
 use Rattle.bank_reports.specs.{Postings.StatesRows}
+use Rattle.report_contents.proofs.Written.{nothing_written}
 use Rattle.bank_reports.proofs.FaultsTold.{down_is_sound, unstated}
-use Rattle.bank_reports.proofs.{Further.nothing_written, Passed.failed_later, statement.write_statement.Given.Over}
+use Rattle.bank_reports.proofs.{Passed.failed_later, statement.write_statement.Given.Over}
 use Rattle.bank_reports.proofs.OnLogs.{account_rows, has_stated, stated_rows}
 use Rattle.bank_reports.proofs.ReportEnds.{damaged_not_down, down_not_store, not_both, not_missing, not_write, of_err}
 use Rattle.bank_reports.proofs.ReportEnds.{of_ok, refused_before, refused_down, refused_leaves, refused_sound}
 use Rattle.bank_reports.proofs.ReportEnds.{same_fault, written_of}
 use Rattle.bank_store.proofs.ReadsLeave.{clean_before, idle_takes, reads_after, untouched_stands}
+use Rattle.bank_store.proofs.Spared.{call_spares, idle_spares, read_spares}
 use Rattle.bank_reports.proofs.StatementReports.{ToldOfLog, log_part, log_sound, log_whole}
-use Rattle.bank_reports.proofs.Spared.{call_spares, idle_spares, read_spares}
 use Rattle.bank_reports.proofs.statement.write_statement.Goals as goal
 
 tested_up : (tested is_down : Bool) → tested ≡ is_down → tested ≡ false → is_down ≡ true → ⊥

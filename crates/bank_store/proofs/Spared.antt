@@ -1,4 +1,4 @@
--- A report spares the tables of other products.
+-- What spares the tables of other products, from a connection to the one that comes of it.
 use Rattle.std.proofs.Common.{arith, inl, refl, subst, sym}
 use Rattle.sqlite.specs.{Effect.Database, Held.Held, Held.state, State.HasCleanDisk, State.Survives}
 use Rattle.sqlite.proofs.StateLemmas.{survives_then}
