@@ -7,6 +7,7 @@ use Rattle.sqlite.specs.{Held.state, declared.error.Error.Error, declared.transa
 use Rattle.sqlite.specs.State.{State, ExecutesInside, HasCleanDisk}
 use Rattle.sqlite_trees.specs.declared.store.Store.{Ghosts}
 use Rattle.posting_rules.specs.declared.{fault.Rule.TheVariants.Key, rows.RequestRow.RequestRow}
+use Rattle.posting_rules.specs.believed.Tables.{request_key}
 use Rattle.sql_meanings.specs.believed.{Entries.Entry, Entries.has_two, StatementAnswers.is_taken_key}
 use Rattle.sql_meanings.specs.SeveralRows.{put_each}
 use Rattle.sql_meanings.specs.believed.Tables.{Holds, placed_at, tree_of}
@@ -16,7 +17,8 @@ use Rattle.store_rows.specs.{believed.BankTables.request, Faults.added, believed
 use Rattle.store_rows.specs.{Statements.PutsRow, believed.View.request_entry, declared.fault.TableFault.TableFault}
 use Rattle.store_rows.specs.SeveralRows.{IsNew, PutsNew}
 use Rattle.store_rows.specs.declared.fault.TableFault.TheVariants.{Sqlite, Damaged}
-use Rattle.store_rows.proofs.TheTables.{requests}
+use Rattle.store_rows.specs.declared.texts.TheConstants.{ADD_EIGHT_REQUESTS}
+use Rattle.store_rows.proofs.{SeveralTexts.eight_requests, SeveralWrites.HoldsOfEight, TheTables.requests}
 
 own : (a b : ℕ) → (int_eq (pos a) (pos a) && int_eq (pos b) (pos b)) ≡ true
 own a b = grind (arith, ints)
@@ -28,6 +30,13 @@ each_new : (rows : List Entry) (news : List RequestRow)
 each_new rows [] all = tt
 each_new rows (r ∷ news) all =
     (all.0 (pos r.teller) (pos r.number) (own r.teller r.number), each_new rows news all.1)
+
+-- where the call succeeded, whatever requests were held, these were new
+abbrev WereNew : {S : Type 0} → Ghosts S → Transaction S → Transaction S → Result (Unit {0}) TableFault
+    → List RequestRow → Type 0
+WereNew g old new result news = OnOk result (HasCleanDisk (state g new.conn.now)
+    → IsTrue (state g old.conn.now).in_transaction
+    → PutsNew (state g old.conn.now).now (state g new.conn.now).now news)
 
 -- the text puts these requests in
 module _ (text : List ℕ) (news : List RequestRow)
@@ -68,10 +77,17 @@ module _ (text : List ℕ) (news : List RequestRow)
 
   -- a call that runs the text says so
   pub puts_new : {S : Type 0} (g : Ghosts S) (old new : Transaction S) (result : Result (Unit {0}) TableFault)
-      → PutsRow g old new text (given_each request_entry news) result
-      → OnOk result (HasCleanDisk (state g new.conn.now) → IsTrue (state g old.conn.now).in_transaction
-      → PutsNew (state g old.conn.now).now (state g new.conn.now).now news)
+      → PutsRow g old new text (given_each request_entry news) result → WereNew g old new result news
   puts_new g old new (Ok done) says = λ clean live.
       let it = says.told clean live in
       by_answer (state g old.conn.now) (state g new.conn.now) done it.0 it.1 it.2
   puts_new g old new (Err fault) says = tt
+
+-- a call that runs the text of eight says so
+pub eight_new : {S : Type 0} (gh : Ghosts S) (old new : Transaction S) (result : Result (Unit {0}) TableFault)
+    → HoldsOfEight request_key request_entry
+    (λ values. PutsRow gh old new ADD_EIGHT_REQUESTS.now values result) (WereNew gh old new result)
+eight_new gh old new result = record {
+  each = λ a b c d e f g h low. puts_new ADD_EIGHT_REQUESTS.now (a ∷ b ∷ c ∷ d ∷ e ∷ f ∷ g ∷ h ∷ [])
+      (eight_requests a b c d e f g h) gh old new result;
+}
