@@ -1,5 +1,5 @@
 #!/usr/bin/env python3
-"""Prints the table of what `run.sh` measured, and draws it.
+"""Prints the table of what `run.sh` measured, as docs/SPEED.md has it, and README's row, and draws it.
 
 usage: chart.py measured.csv speed.svg
 Each line of the first file is what was measured, by which system, and how many postings a second. A ratio is taken round by
@@ -9,9 +9,9 @@ import statistics
 import sys
 
 CASES = [
-    ("one", "one a commit, 2 branches of 1,000"),
-    ("many-rows-one", "one a commit, from 200,000 rows"),
-    ("large-one", "one a commit, 10 branches of 100,000"),
+    ("one", "one a commit, 2 branches of 1,000 accounts"),
+    ("many-rows-one", "one a commit, from 200,000 rows of history"),
+    ("large-one", "one a commit, 10 branches of 100,000 accounts"),
     ("batch", "64 a commit, 2 branches of 1,000"),
     ("many-rows-batch", "64 a commit, from 200,000 rows"),
     ("large-batch", "64 a commit, 10 branches of 100,000"),
@@ -19,7 +19,7 @@ CASES = [
     ("bare-batch", "without a disk, 64 a commit"),
 ]
 SYSTEMS = [("ours", "this bank", "#1f6f54"), ("sqlite", "the C library", "#8a9ba8"), ("postgres", "PostgreSQL", "#c9a227")]
-LEFT, BAR, GAP, WIDTH = 270, 16, 18, 760
+LEFT, BAR, GAP, WIDTH = 290, 16, 18, 780
 
 
 def read(path):
@@ -37,49 +37,69 @@ def ratio(rates, what, system, ours="ours"):
     return f"{statistics.median(pairs):.2f} ({min(pairs):.2f} to {max(pairs):.2f})"
 
 
+def median(rates, what, system):
+    return f"{statistics.median(rates[what, system]):,.0f}"
+
+
 def table(rates):
-    yield "| | this bank | the C library | ratio: median (range) |"
-    yield "|---|---|---|---|"
+    """The table, which has two columns more where the build of another tree took part."""
+    has_before = any(system == "before" for _, system in rates)
+    heads = ["", "this bank", "the C library", "ratio"]
+    heads += ["this bank over the one before", "that one over the C library"] * has_before
+    yield row(heads)
+    yield "|---" * len(heads) + "|"
     for what, title in CASES:
         if (what, "ours") in rates:
-            ours, other = (f"{statistics.median(rates[what, system]):,.0f}" for system in ("ours", "sqlite"))
-            yield f"| {title} | {ours} | {other} | {ratio(rates, what, 'sqlite')} |"
+            cells = [title, median(rates, what, "ours"), median(rates, what, "sqlite"), ratio(rates, what, "sqlite")]
+            if has_before:
+                cells += [ratio(rates, what, "before"), ratio(rates, what, "sqlite", "before")]
+            yield row(cells)
     if ("one", "postgres") in rates:
-        other = f"{statistics.median(rates['one', 'postgres']):,.0f}"
         yield ""
-        yield f"PostgreSQL's TPC-B script, one client: {other} a second. One a commit over it: {ratio(rates, 'one', 'postgres')}."
+        yield (
+            f"PostgreSQL's TPC-B script, one client: {median(rates, 'one', 'postgres')} a second."
+            f" One a commit over it: {ratio(rates, 'one', 'postgres')}."
+        )
         pairs = [ours / other for ours, other in zip(rates["batch", "ours"], rates["one", "postgres"])]
         yield f"64 a commit over it: {statistics.median(pairs):.1f} ({min(pairs):.1f} to {max(pairs):.1f})."
     for what, system in rates:
         if system.startswith("postgres-"):
             clients = system.removeprefix("postgres-")
-            other = f"{statistics.median(rates[what, system]):,.0f}"
+            other = median(rates, what, system)
             yield f"By {clients} clients, with which it does best: {other}. One a commit over it: {ratio(rates, what, system)}."
     yield from growth(rates)
-    yield from beside_before(rates)
+    yield from of_readme(rates)
 
 
-def beside_before(rates):
-    """What stands beside the build of another tree, where one took part."""
-    cases = [(what, title) for what, title in CASES if (what, "before") in rates]
-    if cases:
-        yield ""
-        yield "| | over the tree before: median (range) | that over the C library |"
-        yield "|---|---|---|"
-    for what, title in cases:
-        yield f"| {title} | {ratio(rates, what, 'before')} | {ratio(rates, what, 'sqlite', 'before')} |"
+def row(cells):
+    return f"| {' | '.join(cells)} |".replace("|  |", "| |")
+
+
+def of_readme(rates):
+    """The row of README's table."""
+    ours, other = (
+        f"{median(rates, 'one', system)}; 64 a commit {median(rates, 'batch', system)}" for system in ("ours", "sqlite")
+    )
+    beside = "not measured"
+    if ("one", "postgres") in rates:
+        beside = median(rates, "one", "postgres")
+    for what, system in rates:
+        if system.startswith("postgres-"):
+            beside += f"; {system.removeprefix('postgres-')} clients {median(rates, what, system)}"
+    yield ""
+    yield row(["Postings a second", ours, beside, other, "not measured"])
 
 
 def growth(rates):
-    """What a posting costs behind many rows, over what it costs behind 1,000."""
+    """What a posting costs after many rows, over what it costs after 1,000."""
     for what, system in rates:
         if what.startswith("rows-"):
             pairs = [few / many for few, many in zip(rates["few-rows", system], rates[what, system])]
             rows = int(what.removeprefix("rows-"))
             yield ""
             yield (
-                f"A posting behind {rows:,} rows costs {statistics.median(pairs):.2f} ({min(pairs):.2f} to {max(pairs):.2f})"
-                " times one behind 1,000."
+                f"A posting after {rows:,} rows costs {statistics.median(pairs):.2f} ({min(pairs):.2f} to {max(pairs):.2f})"
+                " times one after 1,000."
             )
 
 

@@ -1,7 +1,7 @@
 #!/usr/bin/env bash
 # Measures the built program on banks of 1, 10, 40 and 100 branches of 100,000 accounts: how long `load` takes, how large
 # the file is, and how long opening takes (`post` of no record), each with its peak of memory; then `drive` of so many
-# records (200,000 unless an argument says), opening behind them, and `audit`. It needs GNU time, and stands outside the
+# records (200,000 unless an argument says), opening after them, and `audit`. It needs GNU time, and stands outside the
 # gate. TMPDIR picks the disk, BANK names another program, and BRANCHES other counts of branches.
 set -eu
 here=$(cd "$(dirname "$0")/.." && pwd)

@@ -1,7 +1,7 @@
 #!/usr/bin/env bash
 # Measures postings a second to a bank in a real file beside the C library's (`peer.c`) and PostgreSQL's own TPC-B script, in
 # rounds that go from one to the other, so that all of them meet the same disk. It takes three arguments: how many rounds,
-# how many postings a measurement has, and behind how many rows a posting is measured at last, beside one behind 1,000.
+# how many postings a measurement has, and after how many rows a posting is measured at last, beside one after 1,000.
 # Each figure goes to `measured.csv` in the folder that it was called in, from which `chart.py` makes the table and the
 # picture.
 #
@@ -45,7 +45,7 @@ build_peer() {
     cc -O2 -o "$work/peer" "$here/bench/peer.c" -lsqlite3
 }
 
-# One measurement of a system: what is measured, its name, the folder, and the arguments behind the file.
+# One measurement of a system: what is measured, its name, the folder, and the arguments after the file.
 measure() {
     what=$1 system=$2 folder=$3
     shift 3
