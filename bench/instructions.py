@@ -1,8 +1,9 @@
 #!/usr/bin/env python3
 """Counts where a posting's instructions go, by callgrind, over 2 branches of 1,000 accounts: 64 a commit, by `bank drive`,
-and one a commit, by `bank serve` and a kept connection; of 3,000 records less 1,000. It needs the built program and
+and one a commit, by `bank serve` and a kept connection; of 3,000 records less 1,000. With --resend each record was posted
+before, and is sent a second time: by 64, by `bank post`, and alone, by `bank serve`. It needs the built program and
 valgrind, and stands outside the gate. BANK names another program.
-    bench/instructions.py"""
+    bench/instructions.py [--resend]"""
 import os
 import re
 import socket
@@ -15,15 +16,14 @@ sys.path.insert(0, os.path.join(os.path.dirname(os.path.dirname(os.path.abspath(
 from serve_client import BANK, make_bank, need_program, post, read_answer, record  # noqa: E402
 
 FEW, MANY = 1000, 3000
-# What calls `sqlite`, and what it asks for.
+# What calls `sqlite`, and what it asks for; the first that fits. The statements of a table have no symbol of their own.
 KINDS = [
-    ("INSERT of the request", "make_rows", "execute"),
-    ("INSERT of the posting, UPDATE of account, teller and branch", "batch_changes::write", "execute"),
-    ("UPDATE of meta", "write_decided", "execute"),
-    ("SELECT of the request and the account", "slots::fill_all", "query_row"),
-    ("SELECT of the teller, the branch and the floor", "slots::fill:", "query_row"),
-    ("SELECT of meta", "read_meta", "query_row"),
-    ("commit", "", "Connection::commit"),
+    ("UPDATE of meta", ".*write_decided", "execute"),
+    ("SELECT of meta", ".*read_meta", "query_row"),
+    ("INSERTs, and UPDATEs of accounts, tellers and branches", "bank_transactions|store_rows", "execute"),
+    ("SELECTs of requests, accounts, tellers, branches and floors", "bank_transactions|store_rows", "query_row"),
+    ("commit", "(?!sqlite)", "Connection::commit"),
+    ("rollback", "(?!sqlite)", "rollback"),
 ]
 
 
@@ -37,13 +37,29 @@ def drive(file, counts, count):
                            stdout=subprocess.DEVNULL).wait() == 0
 
 
+def record_at(i):
+    account = i * 7 % 1000 + 1 + 100_000 * (i % 2)
+    return record(account, i % 20 + 1, i % 20 // 10 + 1, i // 20 + 1, 5)
+
+
+def post_all(file, counts, count):
+    stream = subprocess.PIPE
+    program = under_callgrind(counts, "post", file, stdin=stream, stdout=stream)
+    replies, _ = program.communicate(b"".join(map(record_at, range(count))))
+    assert program.returncode == 0 and len(replies) == 200 * count, replies
+
+
+def post_before(file):
+    records = b"".join(map(record_at, range(MANY)))
+    subprocess.run([BANK, "post", file], input=records, stdout=subprocess.DEVNULL, check=True)
+
+
 def serve(file, counts, count):
     server = under_callgrind(counts, "serve", file, "127.0.0.1:0", "--connections", "1", stdout=subprocess.PIPE, text=True)
     port = int(server.stdout.readline().rpartition(":")[2])
     with socket.create_connection(("127.0.0.1", port)) as connection:
         for i in range(count):
-            account = i * 7 % 1000 + 1 + 100_000 * (i % 2)
-            connection.sendall(post(record(account, i % 20 + 1, i % 20 // 10 + 1, i // 20 + 1, 5)))
+            connection.sendall(post(record_at(i)))
             status, body, _ = read_answer(connection, b"")
             assert status == 200 and body[66:72] == b"POSTED", body
     assert server.wait() == 0
@@ -70,29 +86,42 @@ def calls_of(counts):
     return within, total
 
 
-def measure(run, folder):
+def kind_of(call):
+    """The place of the kind of call, none where it asks `sqlite` for nothing."""
+    of_it = (at for at, (_, caller, callee) in enumerate(KINDS) if re.match(caller, call[0]) and callee in call[1])
+    return next(of_it, None)
+
+
+def measure(run, folder, is_resent):
+    """What a posting takes of each kind, of all else, and together."""
     found = []
     for count in (FEW, MANY):
         file = f"{folder}/{run.__name__}{count}.db"
         make_bank(file, [(1, 1000), (2, 1000)])
+        if is_resent:
+            post_before(file)
         run(file, f"{folder}/counts", count)
         found.append(calls_of(f"{folder}/counts"))
     (few, least), (many, most) = found
     whole = (most - least) / (MANY - FEW)
-    print(f"{run.__name__}: {whole:.0f} instructions a posting")
-    rest = whole
-    for kind, caller, callee in KINDS:
-        taken = sum(many[it] - few[it] for it in many if caller in it[0] and callee in it[1]) / (MANY - FEW)
-        rest -= taken
-        print(f"  {kind}: {taken:.0f}, {100 * taken / whole:.0f}%")
-    print(f"  all else: {rest:.0f}, {100 * rest / whole:.0f}%")
+    taken = [0] * len(KINDS)
+    for call in many:
+        at = kind_of(call)
+        if at is not None:
+            taken[at] += (many[call] - few[call]) / (MANY - FEW)
+    return [*taken, whole - sum(taken), whole]
 
 
 def main():
     need_program()
+    is_resent = "--resend" in sys.argv[1:]
     with tempfile.TemporaryDirectory() as folder:
-        measure(drive, folder)
-        measure(serve, folder)
+        columns = [measure(run, folder, is_resent) for run in (post_all if is_resent else drive, serve)]
+    print("| | 64 a commit | one a commit |\n|---|---|---|")
+    for kind, *row in zip([kind for kind, _, _ in KINDS] + ["all else"], *columns):
+        cells = (f"{taken:,.0f}, {100 * taken / column[-1]:.0f}%" for taken, column in zip(row, columns))
+        print(f"| {kind} | {' | '.join(cells)} |")
+    print(f"| together | {' | '.join(f'{column[-1]:,.0f}' for column in columns)} |")
 
 
 if __name__ == "__main__":
