@@ -5,7 +5,7 @@ use Rattle.sqlite.specs.{State.State, State.store_error, declared.error.Error.Er
 use Rattle.sqlite_trees.specs.declared.error.StoreError.{StoreError}
 use Rattle.sqlite_trees.specs.declared.error.StoreError.TheVariants as cause
 use Rattle.sql_meanings.specs.StatementAnswers.{IsStoreError}
-use Rattle.store_rows.specs.TableAnswers.{Finds, Never}
+use Rattle.store_rows.specs.TableAnswers.{FindsMeta}
 use Rattle.store_rows.specs.{declared.fault.TableFault.TableFault, declared.metas.TheConstants.VERSION}
 use Rattle.store_rows.specs.{declared.metas.StoredMeta.StoredMeta, Statements.TellsOther}
 use Rattle.store_rows.specs.declared.fault.TableFault.TheVariants.{Sqlite, Damaged}
@@ -28,10 +28,10 @@ by_store old new e (inr (inr limit, same)) = ap (λ (x : Error). unread_by (Sqli
 
 -- an error at a row that can be read is the store's
 pub read_err : (old new : State) (wanted : Option StoredMeta) (e : TableFault)
-    → Finds old new wanted Never (Err e) → TellsMeta wanted (Err (unread_by e))
+    → FindsMeta old new wanted (Err e) → TellsMeta wanted (Err (unread_by e))
 read_err old new wanted (Sqlite e) finds =
     subst (λ (f : OpenFault). TellsMeta wanted (Err f)) (sym (by_store old new e finds)) tt
-read_err old new wanted (Damaged rule) finds = absurd finds.0.2
+read_err old new wanted (Damaged rule) finds = absurd finds
 
 -- a row has another version than ours
 pub other_version : (m : StoredMeta) (version : ℤ) → version ≡ m.version → version ≢ VERSION

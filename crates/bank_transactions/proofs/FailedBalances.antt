@@ -3,13 +3,11 @@ use Rattle.std.proofs.Common.{Err}
 use Rattle.sqlite.specs.{State.KeepsCommit, declared.transaction.Transaction.Transaction}
 use Rattle.sqlite_trees.specs.declared.store.Store.{Ghosts}
 use Rattle.posting_rules.specs.{Damage.IsUndamaged, believed.Tables.Tables}
-use Rattle.sql_meanings.specs.{Calls.Says, StatementAnswers.WriteFails}
-use Rattle.store_rows.specs.{Calls.OfTables, Failures.HasReason, Holders.balance_in, Holders.entry_under}
-use Rattle.store_rows.specs.{TableAnswers.Finds, TableAnswers.BreaksBalance, believed.Rules.OfRows}
+use Rattle.sql_meanings.specs.Calls.{Says}
+use Rattle.store_rows.specs.{Calls.LooksUp, Calls.OfTables, Holders.entry_under, believed.Readings.read_balance}
 use Rattle.store_rows.specs.{declared.fault.TableFault.TableFault, declared.holders.Member.Member}
-use Rattle.store_rows.specs.believed.Stored.{BalanceKeeps, FindsStored, IsBalance}
 use Rattle.bank_transactions.specs.{Causes.IsFault, Causes.IsFirstBroken, Doing.IsLookedUp}
-use Rattle.bank_transactions.proofs.{Broken.member_broken, ReadsInTurn.find_failed, SoundRows.member_unbroken}
+use Rattle.bank_transactions.proofs.{Broken.member_broken, ReadsInTurn.find_failed}
 
 -- the look-up failed with this fault, of tables that are so
 abbrev pub Failed : {S : Type 0} → Ghosts S → Transaction S → Transaction S → (Tables → Type 0) → TableFault
@@ -20,11 +18,6 @@ Failed g old new So fault =
 
 pub balance_failed : {S : Type 0} {g : Ghosts S} {old new : Transaction S} {So : Tables → Type 0}
     → ((t : Tables) → So t → IsUndamaged t) → (m : Member) (fault : TableFault)
-    → Says g old new
-    (OfTables (λ before now t. Finds before now (balance_in m t) BreaksBalance (Err fault)))
-    (λ before now. (WriteFails before now × HasReason before now fault)
-    × OfRows (λ rows. FindsStored (entry_under m rows) IsBalance BalanceKeeps (Err fault)) before.now)
-    → Failed g old new So fault
+    → LooksUp g old new (entry_under m) read_balance (Err fault) → Failed g old new So fault
 balance_failed sound m fault says =
-    find_failed (balance_in m) BreaksBalance fault
-    (λ t z rule so. member_unbroken m t z rule (sound t so)) (member_broken _ m fault) says
+    find_failed (entry_under m) read_balance fault sound (member_broken _ m fault) says

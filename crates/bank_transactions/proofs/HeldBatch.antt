@@ -27,8 +27,9 @@ use Rattle.sql_meanings.proofs.Changes.{found_key}
 use Rattle.sqlite.specs.{Effect.Database, Held.Held, Held.state, State.HasCleanDisk}
 use Rattle.sqlite_trees.specs.declared.store.Store.{Ghosts}
 use Rattle.store_rows.specs.believed.Rules.{HoldsBank, OfRows, StoredRows, branch_under, row_under}
-use Rattle.store_rows.specs.believed.Stored.{BalanceKeeps, FindsStored, IsBalance}
+use Rattle.store_rows.specs.believed.{Readings.read_balance, Stored.FindsStored}
 use Rattle.store_rows.specs.declared.fault.TableFault.{TableFault}
+use Rattle.store_rows.proofs.Readings.{branch_is}
 use Rattle.bank_transactions.specs.{Doing.Ends, Stored.HoldsTellerRow}
 use Rattle.bank_transactions.specs.Filling.{AreHeld, BranchHeld, HoldsBranch, RequestHeld, emptied, emptied_account}
 use Rattle.bank_transactions.specs.Filling.{emptied_branch, emptied_floor, emptied_request, emptied_teller}
@@ -110,7 +111,7 @@ module _ (rows : StoredRows) where
   both_held n (Some z) None teller branch =
       absurd (let there = sym (ap is_some branch) ∙ teller.fits.0 (ap is_some teller.found.1) in cc)
   both_held n (Some z) (Some b) teller branch =
-      (teller.found.0, teller.found.1, teller.found.2, (branch.0, branch.1, branch.2.2))
+      (teller.found, (branch.0, b, branch.1, branch.2, refl))
 
   kept_at : (slots : List RequestSlot) → AllByRecursion (RequestHeld rows) slots → (n m : ℕ)
       → IfSome (find (is_for n m) slots) (λ s. HoldsKept rows n m s.kept)
@@ -185,7 +186,7 @@ module _ (rows : StoredRows) where
 
   own_row : (n : ℕ) (o : Option BranchRow) → HoldsBranch rows n o → IfSome o (λ b. b.branch ≡ n)
   own_row n None holds = tt
-  own_row n (Some b) holds = own_key n b holds.0 holds.1 holds.2.0
+  own_row n (Some b) holds = own_key n b holds.0 holds.1 (branch_is holds.0 b holds.2).0
 
 -- ---- slots that are made for records, and filled
 
@@ -254,8 +255,8 @@ module _ (db : Database) (r : RequestFields) (slots : Overlay)
       fits = λ rows has. (has_so rows has).teller_fits;
     };
     account = record {
-      found = λ rows has. subst (λ (f : Found). FindsStored (row_under rows.accounts r.account) IsBalance
-          BalanceKeeps (Ok f.account)) (sym (found_so rows has)) (has_so rows has).account.found;
+      found = λ rows has. subst (λ (f : Found). FindsStored (row_under rows.accounts r.account) read_balance
+          (Ok f.account)) (sym (found_so rows has)) (has_so rows has).account.found;
       fits = λ rows has. (has_so rows has).account.fits;
     };
     above = λ rows has. (has_so rows has).account.above;

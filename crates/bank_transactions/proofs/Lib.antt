@@ -7,6 +7,7 @@ pub mod FailedBalances
 pub mod FittingAccounts
 pub mod HeldRows
 pub mod HeldSlots
+pub mod KeepsRules
 pub mod NextRow
 pub mod OpeningRows
 pub mod ReadsInTurn

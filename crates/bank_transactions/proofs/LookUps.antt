@@ -143,24 +143,37 @@ fills put reads = record {
   };
 }
 
+-- a look-up of undamaged tables
+pub reads_where : {S X : Type 0} {g : Ghosts S} {old new : Transaction S} {So : Tables → Type 0} {w : Tables → X}
+    {r : Result X TableFault} → Reads g old new w r → ((t : Tables) → So t → IsUndamaged t)
+    → ReadsWhere g old new So w r
+reads_where reads sound = record {
+  says = record {
+    same_reference = reads.same_reference;
+    told = λ clean t shows so. reads.told clean t shows (sound t so);
+    kept = reads.kept;
+    survives = reads.survives;
+  };
+}
+
 -- after a statement that changed nothing all is looked up again
 pub looks_again : {S X : Type 0} {g : Ghosts S} {old mid new : Transaction S} {So : Tables → Type 0}
-    {Told Rows : State → State → Type 0} {w : Tables → X} {r : Result X TableFault}
-    → Says g old mid Told (λ before now. IsUnchanged before now × Rows before now) → Reads g mid new w r
+    {Told : State → State → Type 0} {w : Tables → X} {r : Result X TableFault}
+    → Says g old mid Told IsUnchanged → Reads g mid new w r
     → ((t : Tables) → So t → IsUndamaged t) → ReadsWhere g old new So w r
-looks_again {S} {X} {g} {old} {mid} {new} {So} {Told} {Rows} {w} {r} one two sound =
+looks_again {S} {X} {g} {old} {mid} {new} {So} {Told} {w} {r} one two sound =
     let a = state g old.conn.now in
     let b = state g mid.conn.now in
     let c = state g new.conn.now in
     record {
       says = says_then g old mid new one two
           (λ told same told' t shows so.
-          looked_then a b c (w t) r (stays a b same.0)
-          (told' t (subst (λ (db : Database). Shows db t) (sym same.0.0.now_is) shows) (sound t so)))
+          looked_then a b c (w t) r (stays a b same)
+          (told' t (subst (λ (db : Database). Shows db t) (sym same.0.now_is) shows) (sound t so)))
           (λ same kept'. (
-            looks_then a b c r (stays a b same.0) kept'.0,
+            looks_then a b c r (stays a b same) kept'.0,
             blames_after (IsFirstBroken g) g old.conn.now mid.conn.now new.conn.now r
-                (λ rule. subst (IsBroken rule) same.0.0.now_is) (comes one.survives) kept'.1,
+                (λ rule. subst (IsBroken rule) same.0.now_is) (comes one.survives) kept'.1,
           ));
     }
 

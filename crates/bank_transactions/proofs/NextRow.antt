@@ -1,17 +1,15 @@
 -- The first row above a number, where rows stand by rising numbers.
 use Rattle.std.proofs.Common.{◌≡◌, ℕ, suc, pos, ◌<◌, ◌≤◌, nat_lt, true, false, List, [], ◌∷◌, map, Option, Some, None}
-use Rattle.std.proofs.Common.{refl, subst, arith, inl, inr}
+use Rattle.std.proofs.Common.{refl, arith, inl, inr}
 use Rattle.std.specs.Prelude.{All, find}
 use Rattle.std.specs.{List.AllByRecursion, Ordering.int_cmp, declared.cmp.Ordering.TheVariants.Less}
 use Rattle.std.proofs.lemmas.{Bool.Decides.nat_tests, Int.ints, List.Elements.All-cons, List.Elements.All-nil}
-use Rattle.posting_rules.specs.{declared.fault.Rule.Rule, declared.rows.BranchRow.BranchRow, Branches.IsNextIn}
-use Rattle.posting_rules.specs.{Damage.IsSoundBranch, Damage.IsUndamaged, believed.Tables.Tables}
+use Rattle.posting_rules.specs.{Branches.IsNextIn, believed.Tables.Tables, declared.rows.BranchRow.BranchRow}
 use Rattle.posting_rules.proofs.Keyed.{by_test}
 use Rattle.sqlite.specs.Effect.{Database}
 use Rattle.sql_meanings.specs.believed.Entries.{Rise}
-use Rattle.store_rows.specs.{Columns.branch_above, TableAnswers.BreaksBranch}
+use Rattle.store_rows.specs.Columns.{branch_above}
 use Rattle.store_rows.specs.believed.View.{Shows, branch_entry}
-use Rattle.bank_transactions.proofs.SoundRows.{found_within, sound_unbroken}
 
 rising : (a b : ℕ) → int_cmp (pos a) (pos b) ≡ Less → a < b
 rising a b h = grind (arith, ints)
@@ -67,17 +65,3 @@ first_above (row ∷ rows) after rise =
 pub next_is : (db : Database) (t : Tables) (after : ℕ) → Shows db t
     → IsNextIn t.branches after (branch_above t after)
 next_is db t after shows = first_above t.branches after shows.each.1.0.rows.rise
-
--- it breaks no rule of undamaged tables
-pub next_unbroken : (t : Tables) (after : ℕ) (r : BranchRow) (broken : Rule) → IsUndamaged t
-    → branch_above t after ≡ Some r → BreaksBranch r broken → ⊥
-next_unbroken t after r broken sound e =
-    sound_unbroken r broken (sound.each_branch r (found_within (λ x. nat_lt after x.branch) t.branches r e))
-
--- it is above the number, and in its ranges
-pub next_sound : (db : Database) (t : Tables) (after : ℕ) (r : BranchRow) → Shows db t → IsUndamaged t
-    → branch_above t after ≡ Some r → (after < r.branch) × IsSoundBranch r
-next_sound db t after r shows sound e =
-    let next : IsNextIn t.branches after (Some r) = subst (IsNextIn t.branches after) e
-    (next_is db t after shows) in
-    (next.above, sound.each_branch r (found_within (λ x. nat_lt after x.branch) t.branches r e))

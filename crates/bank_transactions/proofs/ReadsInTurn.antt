@@ -1,28 +1,30 @@
 -- Reads one after another, and reads that fail. Last of a teller and its branch.
-use Rattle.std.proofs.Common.{◌≡◌, ◌≤◌, ℕ, ℤ, Bool, true, false, Option, Some, None, Ok, Err, refl, sym, ap, subst}
-use Rattle.std.proofs.Common.{◌∙◌, inl, inr}
+use Rattle.std.proofs.Common.{◌≡◌, ◌≤◌, ℕ, ℤ, Bool, true, false, Option, Some, None, Result, Ok, Err, refl, sym, ap}
+use Rattle.std.proofs.Common.{subst, ◌∙◌, inl, inr}
 use Rattle.std.specs.Prelude.{is_some, option_map}
 use Rattle.sqlite.specs.{Effect.Database, Held.Held, Held.state, declared.transaction.Transaction.Transaction}
 use Rattle.sqlite.specs.State.{State, HasCleanDisk, KeepsCommit, IsUnchanged}
 use Rattle.sqlite_trees.specs.declared.store.Store.{Ghosts}
 use Rattle.message_records.specs.declared.limits.TheConstants.{MAX_TELLER}
-use Rattle.posting_rules.specs.believed.Numbering.{branch_of_teller}
-use Rattle.posting_rules.specs.believed.LookUps.{balance_of_branch, balance_of_teller, both_of, teller_balances_in}
-use Rattle.posting_rules.specs.believed.Tables.{Tables, row_at, branch_key, teller_key}
+use Rattle.posting_rules.specs.{Damage.IsUndamaged, believed.Numbering.branch_of_teller}
+use Rattle.posting_rules.specs.believed.LookUps.{balance_of_branch, both_of, teller_balances_in}
+use Rattle.posting_rules.specs.believed.Tables.{Tables, row_at, branch_key}
 use Rattle.posting_rules.specs.declared.{fault.Rule.Rule, rows.BranchRow.BranchRow}
 use Rattle.posting_rules.specs.declared.fault.Rule.TheVariants as broken
 use Rattle.sql_meanings.specs.{Calls.Says, StatementAnswers.WriteFails, believed.Entries.Entry}
 use Rattle.sql_meanings.proofs.{Saying.clean_between, Saying.says_then, Sparing.spares_same, Sparing.spares_then}
-use Rattle.store_rows.specs.{believed.Sparing.bank_names, Calls.OfTables, Failures.HasReason, Holders.balance_in}
-use Rattle.store_rows.specs.{TableAnswers.Finds, believed.View.Shows, declared.fault.TableFault.TableFault}
-use Rattle.store_rows.specs.{declared.holders.Member.TheVariants.Teller, Stored.IsBranch}
+use Rattle.store_rows.specs.{Calls.LooksUp, Calls.OfMeta, Calls.OfTables, TableAnswers.FindsMeta, believed.Columns.meta_in}
+use Rattle.store_rows.specs.{Failures.HasReason, Holders.balance_in, Holders.entry_under}
+use Rattle.store_rows.specs.{Rules.stored_rows, TableAnswers.Finds, believed.Sparing.bank_names, believed.View.Shows}
+use Rattle.store_rows.specs.{declared.fault.TableFault.TableFault, declared.holders.Member.TheVariants.Teller}
 use Rattle.store_rows.specs.declared.fault.TableFault.TheVariants.{Sqlite, Damaged}
-use Rattle.store_rows.specs.believed.Rules.{BranchKeeps, HoldsBank, IsBroken, OfRows, branch_under, row_under}
-use Rattle.store_rows.specs.believed.Stored.{BalanceKeeps, FindsStored, IsBalance}
+use Rattle.store_rows.specs.believed.{Readings.read_balance, Readings.read_branch, Stored.FindsStored}
+use Rattle.store_rows.specs.believed.Rules.{HoldsBank, IsBroken, OfRows, StoredRows, branch_under, row_under}
+use Rattle.store_rows.proofs.StoredRows.{holds_shown}
 use Rattle.bank_transactions.specs.{believed.Causes.IsBefore, Causes.IsFault, Causes.IsFirstBroken}
 use Rattle.bank_transactions.specs.Doing.{IsLookedUp, Reads, Stays}
 use Rattle.bank_transactions.proofs.Blamed.{comes, failed_here, fault_within, same_moment}
-use Rattle.bank_transactions.proofs.{Broken.IsOf, SoundRows.err_found}
+use Rattle.bank_transactions.proofs.{Broken.IsOf, Broken.never_broken, KeepsRules.unbroken, SoundRows.member_found}
 
 -- ---- a read that failed
 
@@ -66,30 +68,6 @@ second_failed g old mid new fault one same it = (
   after g old mid new fault one same.0.now_is it.1,
 )
 
--- what is looked for under a key, and couldn't be read: the tables don't have it so, or the rows that were
--- there break the rule
-pub find_failed : {S Y : Type 0} {g : Ghosts S} {old new : Transaction S} {So : Tables → Type 0}
-    {Rows : State → State → Type 0} (wanted : Tables → Option Y) (Breaks : Y → Rule → Type 0)
-    (fault : TableFault)
-    → ((t : Tables) (y : Y) (rule : Rule) → So t → wanted t ≡ Some y → Breaks y rule → ⊥)
-    → (Rows (state g old.conn.now) (state g new.conn.now) → IsOf (state g old.conn.now).now fault)
-    → Says g old new (OfTables (λ before now t. Finds before now (wanted t) Breaks (Err fault)))
-    (λ before now. (WriteFails before now × HasReason before now fault) × Rows before now)
-    → Says g old new (OfTables (λ before now t. So t → IsLookedUp {X = Unit {0}} before now tt (Err fault)))
-    (λ before now. KeepsCommit before now × IsFault (IsFirstBroken g) g old.conn.now new.conn.now fault)
-find_failed {S} {Y} {g} {old} {new} {So} {Rows} wanted Breaks fault unbroken of says =
-    let a = state g old.conn.now in
-    let b = state g new.conn.now in
-    record {
-      same_reference = says.same_reference;
-      told = λ clean t shows so.
-          err_found {Y = Unit {0}} a b a b (wanted t) Breaks tt fault (λ y rule is. unbroken t y rule so is)
-          (says.told clean t shows);
-      kept = λ clean. let it =
-          says.kept clean in read_failed g old.conn.now new.conn.now fault (of it.1) it.0;
-      survives = says.survives;
-    }
-
 -- what is unchanged stays as it is
 pub stays : (old new : State) → IsUnchanged old new → Stays old new
 stays old new same = record {
@@ -102,19 +80,104 @@ stays old new same = record {
   now = same.0.now_is;
 }
 
--- a look-up under a key that was read
-pub find_tells : {S X Y : Type 0} {g : Ghosts S} {old new : Transaction S} {Rows : State → State → Type 0}
-    {wanted : Tables → X} {w : Tables → Y} {found : X} {answer : Y}
-    → Says g old new (OfTables (λ before now t. (found ≡ wanted t) × IsUnchanged before now))
-    (λ before now. IsUnchanged before now × Rows before now)
-    → ((t : Tables) → found ≡ wanted t → answer ≡ w t) → Reads g old new w (Ok answer)
-find_tells {S} {X} {Y} {g} {old} {new} {Rows} {wanted} {w} {found} {answer} says tells = record {
+-- of undamaged tables no damage is told
+never_told : {X : Type 0} (db : Database) (t : Tables) → Shows db t → IsUndamaged t → (before after : State) (x : X)
+    (fault : TableFault) → IsOf db fault → IsLookedUp before after x (Err fault)
+never_told db t shows sound before after x (Sqlite e) of = tt
+never_told db t shows sound before after x (Damaged rule) of = unbroken db t shows sound rule of
+
+-- what the stored row reads as was reported
+pub read_so : {X : Type 0} (old new : State) (stored : Option Entry) (read : Entry → Result X Rule)
+    (r : Result (Option X) TableFault) → Finds old new stored read r → FindsStored stored read r
+read_so old new stored read (Ok found) it = it.0
+read_so old new stored read (Err (Sqlite e)) it = tt
+read_so old new stored read (Err (Damaged rule)) it = it.0
+
+module _ {S X : Type 0} {g : Ghosts S} {old new : Transaction S} (stored : StoredRows → Option Entry)
+    (read : Entry → Result X Rule) where
+  -- what is looked for, and couldn't be read: the rows that were there break the rule
+  pub find_failed : {So : Tables → Type 0} (fault : TableFault) → ((t : Tables) → So t → IsUndamaged t)
+      → (OfRows (λ rows. FindsStored (stored rows) read (Err fault)) (state g old.conn.now).now
+      → IsOf (state g old.conn.now).now fault)
+      → LooksUp g old new stored read (Err fault)
+      → Says g old new (OfTables (λ before now t. So t → IsLookedUp {X = Unit {0}} before now tt (Err fault)))
+      (λ before now. KeepsCommit before now × IsFault (IsFirstBroken g) g old.conn.now new.conn.now fault)
+  find_failed {So} fault sound of says =
+      let a = state g old.conn.now in
+      let b = state g new.conn.now in
+      let broken = λ (clean : HasCleanDisk b).
+      of (λ rows has. read_so a b (stored rows) read (Err fault) (says.told clean rows has)) in
+      record {
+        same_reference = says.same_reference;
+        told = λ clean t shows so. never_told {X = Unit {0}} a.now t shows (sound t so) a b tt fault (broken clean);
+        kept = λ clean. read_failed g old.conn.now new.conn.now fault (broken clean) (says.kept clean);
+        survives = says.survives;
+      }
+
+  -- what is looked for, and was read
+  pub find_tells : {Y : Type 0} {w : Tables → Y} (found : Option X) {answer : Y}
+      → LooksUp g old new stored read (Ok found)
+      → ((t : Tables) → IsUndamaged t → FindsStored (stored (stored_rows t)) read (Ok found) → answer ≡ w t)
+      → Reads g old new w (Ok answer)
+  find_tells {Y} {w} found {answer} says tells = record {
+    same_reference = says.same_reference;
+    told = λ clean t shows sound.
+        let it = says.told clean (stored_rows t) (holds_shown (state g old.conn.now).now t shows) in
+        (tells t sound it.0, stays (state g old.conn.now) (state g new.conn.now) it.1);
+    kept = λ clean. (stays (state g old.conn.now) (state g new.conn.now) (says.kept clean), tt);
+    survives = says.survives;
+  }
+
+  -- either
+  pub reads_found : {w : Tables → Option X}
+      → ((t : Tables) → IsUndamaged t → (found : Option X)
+      → FindsStored (stored (stored_rows t)) read (Ok found) → found ≡ w t)
+      → ((fault : TableFault) → OfRows (λ rows. FindsStored (stored rows) read (Err fault)) (state g old.conn.now).now
+      → IsOf (state g old.conn.now).now fault)
+      → (r : Result (Option X) TableFault) → LooksUp g old new stored read r → Reads g old new w r
+  reads_found tells broken (Ok found) says = find_tells found says (λ t sound finds. tells t sound found finds)
+  reads_found tells broken (Err (Sqlite e)) says =
+      find_failed (Sqlite e) (λ t sound. sound) (broken (Sqlite e)) says
+  reads_found tells broken (Err (Damaged rule)) says =
+      find_failed (Damaged rule) (λ t sound. sound) (broken (Damaged rule)) says
+
+-- the row of the bank couldn't be read
+pub meta_failed : {S : Type 0} {g : Ghosts S} {old new : Transaction S} (fault : TableFault)
+    → Says g old new (OfMeta (λ before now rows. FindsMeta before now (meta_in rows) (Err fault)))
+    (λ before now. WriteFails before now × HasReason before now fault)
+    → Reads {X = Unit {0}} g old new (λ t. tt {0}) (Err fault)
+meta_failed {S} {g} {old} {new} fault says =
+    let a = state g old.conn.now in
+    let b = state g new.conn.now in
+    let broken = λ (clean : HasCleanDisk b). never_broken a b fault (says.told clean) in
+    record {
+      same_reference = says.same_reference;
+      told = λ clean t shows sound. never_told {X = Unit {0}} a.now t shows sound a b tt fault (broken clean);
+      kept = λ clean. read_failed g old.conn.now new.conn.now fault (broken clean) (says.kept clean);
+      survives = says.survives;
+    }
+
+-- a statement that changed nothing, and was to tell nothing of the tables
+pub looked_at : {S : Type 0} {g : Ghosts S} {old new : Transaction S} {Told : State → State → Type 0}
+    → Says g old new Told IsUnchanged → Reads {X = Unit {0}} g old new (λ t. tt {0}) (Ok (tt {0}))
+looked_at {S} {g} {old} {new} says = record {
   same_reference = says.same_reference;
-  told = λ clean t shows sound.
-      let it = says.told clean t shows in
-      (tells t it.0, stays (state g old.conn.now) (state g new.conn.now) it.1);
-  kept = λ clean. (stays (state g old.conn.now) (state g new.conn.now) (says.kept clean).0, tt);
+  told = λ clean t shows sound. (refl, stays (state g old.conn.now) (state g new.conn.now) (says.kept clean));
+  kept = λ clean. (stays (state g old.conn.now) (state g new.conn.now) (says.kept clean), tt);
   survives = says.survives;
+}
+
+-- what was read is damage
+pub reads_broken : {S X : Type 0} {g : Ghosts S} {old new : Transaction S} {w : Tables → X} {x : X} (rule : Rule)
+    → Reads g old new w (Ok x)
+    → (HasCleanDisk (state g new.conn.now) → IsBroken rule (state g old.conn.now).now)
+    → Reads {X = Unit {0}} g old new (λ t. tt {0}) (Err (Damaged rule))
+reads_broken {S} {X} {g} {old} {new} rule reads broken = record {
+  same_reference = reads.same_reference;
+  told = λ clean t shows sound. unbroken (state g old.conn.now).now t shows sound rule (broken clean);
+  kept = λ clean. let on = (reads.kept clean).0.goes_on in
+      (record { was_open = on.opened; committed = λ h. on.committed }, broken clean);
+  survives = reads.survives;
 }
 
 -- ---- two reads
@@ -197,29 +260,23 @@ reads_but {S} {X} {g} {old} {mid} {new} {w} {x} e one two =
 
 -- the same, after a statement that changed nothing
 pub after_found : {S : Type 0} {g : Ghosts S} {old mid new : Transaction S}
-    {Told Rows : State → State → Type 0} (e : TableFault)
-    → Says g old mid Told (λ before now. IsUnchanged before now × Rows before now)
+    {Told : State → State → Type 0} (e : TableFault) → Says g old mid Told IsUnchanged
     → Reads {X = Unit {0}} g mid new (λ t. tt {0}) (Err e)
     → Reads {X = Unit {0}} g old new (λ t. tt {0}) (Err e)
-after_found {S} {g} {old} {mid} {new} {Told} {Rows} e one two =
+after_found {S} {g} {old} {mid} {new} {Told} e one two =
     says_then g old mid new one two
     (λ told same told' t shows sound.
     still_fails (state g old.conn.now) (state g mid.conn.now) (state g new.conn.now) e
-    (told' t (subst (λ (db : Database). Shows db t) (sym same.0.0.now_is) shows) sound))
-    (λ same kept'. second_failed g old.conn.now mid.conn.now new.conn.now e (comes one.survives) same.0 kept')
+    (told' t (subst (λ (db : Database). Shows db t) (sym same.0.now_is) shows) sound))
+    (λ same kept'. second_failed g old.conn.now mid.conn.now new.conn.now e (comes one.survives) same kept')
 
 -- ---- a teller and its branch
 
 -- a value is reported where a row is stored
-some_stored : {X : Type 0} (stored : Option Entry) (Is : X → Entry → Type 0) (Keeps : Rule → Entry → Type 0)
-    (x : Option X) → FindsStored stored Is Keeps (Ok x) → is_some stored ≡ is_some x
-some_stored stored Is Keeps None finds = ap is_some finds
-some_stored stored Is Keeps (Some x) finds = ap is_some finds.1
-
--- a value that is changed stays there
-mapped : {X Y : Type 0} (f : X → Y) (o : Option X) → is_some (option_map f o) ≡ is_some o
-mapped f None = refl
-mapped f (Some x) = refl
+pub some_stored : {X : Type 0} (stored : Option Entry) (read : Entry → Result X Rule) (x : Option X)
+    → FindsStored stored read (Ok x) → is_some stored ≡ is_some x
+some_stored stored read None finds = ap is_some finds
+some_stored stored read (Some x) finds = ap is_some finds.1
 
 -- where each stands for the other
 alike : (a b : Bool) → (a ≡ true → b ≡ true) → (b ≡ true → a ≡ true) → a ≡ b
@@ -233,15 +290,14 @@ pub one_alone : {X Y : Type 0} (x : Option X) (y : Option Y) (z : X) → x ≡ S
 one_alone x y z some none same = let h = rw (some, none) at same in cc
 
 -- what was found of a teller, and then of the branch of its number
-module _ {S : Type 0} {g : Ghosts S} {old mid new : Transaction S} (n number : ℕ) {x : Option ℤ}
+module _ {S : Type 0} {g : Ghosts S} {old mid new : Transaction S} (n number : ℕ) (x : Option ℤ)
     {row : Option BranchRow} (is : number ≡ branch_of_teller n)
-    (first : Says g old mid (OfTables (λ before now t. (x ≡ balance_in (Teller n) t) × IsUnchanged before now))
-    (λ before now. IsUnchanged before now × OfRows (λ rows.
-    FindsStored (row_under rows.tellers n) IsBalance BalanceKeeps (Ok x)) before.now))
+    (first : LooksUp g old mid (entry_under (Teller n)) read_balance (Ok x))
     (second : Reads g mid new (λ t. row_at branch_key t.branches number) (Ok row)) where
   both_found : Reads {X = Option ℤ × Option BranchRow} g old new
       (λ t. (balance_in (Teller n) t, row_at branch_key t.branches number)) (Ok (x, row))
-  both_found = reads_both (find_tells first (λ t told. told)) second
+  both_found = reads_both (find_tells (entry_under (Teller n)) read_balance x first
+      (λ t sound finds. member_found (Teller n) t sound x finds)) second
 
   -- the balances of both, or none
   pub teller_told : Reads g old new (λ t. teller_balances_in t n)
@@ -254,26 +310,13 @@ module _ {S : Type 0} {g : Ghosts S} {old mid new : Transaction S} (n number : �
   -- one alone is damage
   pub teller_alone : 1 ≤ n → n ≤ MAX_TELLER
       → (HasCleanDisk (state g new.conn.now) → OfRows (λ rows.
-      FindsStored (branch_under rows number) IsBranch BranchKeeps (Ok row)) (state g mid.conn.now).now)
+      FindsStored (branch_under rows number) read_branch (Ok row)) (state g mid.conn.now).now)
       → (is_some x ≡ is_some row → ⊥) → Reads g old new (λ t. teller_balances_in t n) (Err (Damaged broken.Teller))
-  teller_alone above most stored alone = record {
-    same_reference = both_found.same_reference;
-    told = λ clean t shows sound.
-        let it = (both_found.told clean t shows sound).0 in
-        alone (ap (λ p. is_some p.0) it ∙ mapped balance_of_teller (row_at teller_key t.tellers n)
-        ∙ sound.tellers n above ∙ ap (λ k. is_some (row_at branch_key t.branches k)) (sym is)
-        ∙ sym (ap (λ p. is_some p.1) it));
-    kept = λ clean.
-        let before = first.kept (clean_between g old mid new first second clean) in
-        let on = (both_found.kept clean).0.goes_on in (
-          record { was_open = on.opened; committed = λ h. on.committed },
-          λ rows has keeps.
-              let fits = keeps n above most in
-              let branch = stored clean rows
-              (subst (λ (db : Database). HoldsBank db rows) (sym before.0.0.now_is) has) in
-              alone (sym (some_stored (row_under rows.tellers n) IsBalance BalanceKeeps x (before.1 rows has))
-              ∙ alike _ _ fits.0 fits.1 ∙ ap (λ k. is_some (branch_under rows k)) (sym is)
-              ∙ some_stored (branch_under rows number) IsBranch BranchKeeps row branch),
-        );
-    survives = both_found.survives;
-  }
+  teller_alone above most stored alone = reads_broken broken.Teller both_found (λ clean rows has keeps.
+      let was = clean_between g old mid new first second clean in
+      let fits = keeps n above most in
+      let branch = stored clean rows
+      (subst (λ (db : Database). HoldsBank db rows) (sym (first.kept was).0.now_is) has) in
+      alone (sym (some_stored (row_under rows.tellers n) read_balance x (first.told was rows has).0)
+      ∙ alike _ _ fits.0 fits.1 ∙ ap (λ k. is_some (branch_under rows k)) (sym is)
+      ∙ some_stored (branch_under rows number) read_branch row branch))

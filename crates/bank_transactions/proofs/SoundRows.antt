@@ -1,29 +1,27 @@
--- The rows of undamaged tables are sound: nothing that is read of them is told to be damaged.
-use Rattle.std.proofs.Common.{◌≡◌, ◌⊎◌, ℕ, suc, ◌≤◌, ◌≤ℤ◌, ◌∙◌, ap, Bool, true, false, leb, List, [], ◌∷◌, Option}
-use Rattle.std.proofs.Common.{Some, None, Err, refl, sym, subst, arith, inl, inr}
-use Rattle.std.specs.Prelude.{ℤ, nat_abs, nat_eq, IsSome, is_some, ◌&&◌}
-use Rattle.std.specs.{List.find, List.Contains, Option.option_map}
+-- The rows of undamaged tables are sound: what is looked up is found as it is.
+use Rattle.std.proofs.Common.{◌≡◌, ◌⊎◌, ℕ, suc, ℤ, pos, ◌≤◌, ◌≤ℤ◌, ◌∙◌, ap, Bool, true, leb, List, [], ◌∷◌, Option}
+use Rattle.std.proofs.Common.{Some, None, Result, Ok, refl, sym, subst, arith, inl, inr, map, find}
+use Rattle.std.specs.Prelude.{nat_eq, nat_lt, IsSome, ◌&&◌}
+use Rattle.std.specs.{List.Contains, Option.option_map}
 use Rattle.std.proofs.lemmas.Bool.{eqb-true, Decides.nat_tests}
-use Rattle.message_records.specs.{believed.Ranges.whole_within, believed.Ranges.cents_within, Records.request_from}
-use Rattle.message_records.specs.believed.Records.{IsReference, reference_from}
+use Rattle.message_records.specs.{believed.Ranges.whole_within, declared.limits.TheConstants.MAX_BRANCH}
 use Rattle.posting_rules.specs.declared.rows.{BranchRow.BranchRow, RequestRow.RequestRow, TellerRow.TellerRow}
 use Rattle.posting_rules.specs.declared.rows.{AccountRow.AccountRow, FloorRow.FloorRow, ReferenceRow.ReferenceRow}
-use Rattle.posting_rules.specs.declared.{fault.Rule.Rule, limits.TheConstants.MAX_DECIDED}
 use Rattle.posting_rules.specs.{Damage.IsUndamaged, Damage.IsSoundBranch, Damage.IsSoundTeller, Damage.IsSoundAccount}
-use Rattle.posting_rules.specs.{Damage.IsSoundFloor, Damage.IsSoundRequest, believed.Numbering.branch_of_account}
+use Rattle.posting_rules.specs.{Damage.IsSoundFloor, believed.Numbering.branch_of_account, declared.fault.Rule.Rule}
 use Rattle.posting_rules.specs.believed.LookUps.{account_balance_in, balance_of_account, balance_of_teller, floor_in}
 use Rattle.posting_rules.specs.believed.Tables.{Tables, row_at, branch_key, teller_key, account_key, floor_key}
-use Rattle.posting_rules.specs.believed.Tables.{reference_key}
+use Rattle.posting_rules.specs.believed.Tables.{reference_key, request_key}
 use Rattle.posting_rules.proofs.Keyed.{by_test, found_passes}
-use Rattle.store_rows.specs.{Columns.request_in, Holders.balance_in, declared.holders.Member.Member}
-use Rattle.store_rows.specs.TableAnswers.{Finds, BreaksBalance, BreaksBranch, BreaksFloor, BreaksReference}
-use Rattle.store_rows.specs.TableAnswers.{BreaksRequest, CanBeKept}
-use Rattle.store_rows.specs.declared.fault.TableFault.{TableFault, TheVariants.Sqlite, TheVariants.Damaged}
-use Rattle.store_rows.specs.declared.holders.Member.TheVariants.{Account, Teller}
-use Rattle.sqlite.specs.State.{State}
-use Rattle.bank_transactions.specs.Doing.{IsLookedUp}
-use Rattle.message_records.specs.declared.limits.TheConstants.{MAX_ACCOUNT, MAX_BALANCE, MAX_BRANCH, MAX_DELTA}
-use Rattle.message_records.specs.declared.limits.TheConstants.{MAX_NUMBER, MAX_TELLER}
+use Rattle.sql_meanings.specs.{believed.Entries.Entry, believed.Entries.has_two, Entries.is_above}
+use Rattle.store_rows.specs.{Columns.branch_above, Columns.request_in, Holders.balance_in, Holders.entry_under}
+use Rattle.store_rows.specs.{Rules.stored_rows, believed.Rules.row_under, believed.Stored.FindsStored}
+use Rattle.store_rows.specs.believed.Readings.{read_balance, read_branch, read_floor, read_reference, read_request}
+use Rattle.store_rows.specs.believed.View.{account_entry, branch_entry, floor_entry, reference_entry, request_entry}
+use Rattle.store_rows.specs.believed.View.{teller_entry}
+use Rattle.store_rows.specs.declared.holders.Member.{Member, TheVariants.Account, TheVariants.Teller}
+use Rattle.store_rows.proofs.{GetRequest.has_both, RowLists.found_by, RowLists.found_row, RowLists.is_row_above}
+use Rattle.store_rows.proofs.Readings.{balance_back, branch_back, floor_back, reference_back, request_back}
 
 -- there is a value or there is none
 pub by_option : {X : Type 0} (o : Option X) → (o ≡ None) ⊎ ((x : X) × (o ≡ Some x))
@@ -49,20 +47,29 @@ key_of_found : {R : Type 0} (key : R → ℕ) (rows : List R) (n : ℕ) (r : R) 
     ≡ n
 key_of_found key rows n r e = eqb-true (key r) n (found_passes (λ x. nat_eq (key x) n) rows r e)
 
--- ---- numbers and amounts in their ranges
+not_outside : (least most n : ℕ) → least ≤ n → n ≤ most → whole_within least most n ≡ None → ⊥
+not_outside least most n low high e =
+    let test : (leb least n && leb n most) ≡ true = grind (arith, nat_tests) in let within = rw test at e in cc
 
-within_range : (least most n : ℕ) → least ≤ n → n ≤ most → whole_within least most n ≡ Some n
-within_range least most n low high = let test : (leb least n && leb n most) ≡ true =
-    grind (arith, nat_tests) in rw test refl
+-- ---- what a look-up of sound rows reads
 
-pub not_outside : (least most n : ℕ) → least ≤ n → n ≤ most → whole_within least most n ≡ None → ⊥
-not_outside least most n low high e = let within = within_range least most n low high in cc
+same_option : {X : Type 0} (o : Option X) → option_map (λ (x : X). x) o ≡ o
+same_option None = refl
+same_option (Some x) = refl
 
-pub cents_inside : (limit : ℕ) (z : ℤ) → nat_abs z ≤ limit → cents_within limit z ≡ Some z
-cents_inside limit z le = let test : leb (nat_abs z) limit ≡ true = grind (arith, nat_tests) in rw test refl
-
-pub not_beyond : (limit : ℕ) (z : ℤ) → nat_abs z ≤ limit → cents_within limit z ≡ None → ⊥
-not_beyond limit z le e = let inside = cents_inside limit z le in cc
+-- a row that reads as a value is reported as that value
+found_so : {R X : Type 0} (entry : R → Entry) (value : R → X) (read : Entry → Result X Rule) (o : Option R)
+    → ((r : R) → o ≡ Some r → read (entry r) ≡ Ok (value r)) → (stored : Option Entry)
+    → stored ≡ option_map entry o → (found : Option X) → FindsStored stored read (Ok found)
+    → found ≡ option_map value o
+found_so entry value read None back stored is None finds = refl
+found_so entry value read None back stored is (Some x) finds = absurd (let no = finds.1 in cc)
+found_so entry value read (Some r) back stored is None finds = absurd cc
+found_so entry value read (Some r) back stored is (Some x) finds =
+    let same : entry r ≡ finds.0 = (let there = finds.1 in cc) in
+    let reads : read (entry r) ≡ Ok x = ap read same ∙ finds.2 in
+    let its = back r refl in
+    cc
 
 -- ---- branches
 
@@ -88,23 +95,26 @@ no_branch_beyond t n sound e =
           (let le : some.0.branch ≤ MAX_BRANCH = omega arith in rw (← same) le) e)
     ]
 
--- a row in its ranges breaks no rule
-pub sound_unbroken : (r : BranchRow) (broken : Rule) → IsSoundBranch r → BreaksBranch r broken → ⊥
-sound_unbroken r broken is breaks =
-    let low = is.some in
-    let high = is.most in
-    let many = is.many in
-    elim breaks [
-      | inl value ↦ elim value.1 [
-        | inl number ↦ not_outside 1 MAX_BRANCH r.branch low (omega arith) number
-        | inr count ↦ not_outside 0 4_294_967_295 r.accounts (omega arith) (omega arith) count
-      ]
-      | inr amount ↦ not_beyond MAX_BALANCE r.balance is.balance amount.1
-    ]
+-- the branch that is looked up
+pub branch_found : (t : Tables) (n : ℕ) → IsUndamaged t → (found : Option BranchRow)
+    → FindsStored (row_under (map branch_entry t.branches) n) read_branch (Ok found)
+    → found ≡ row_at branch_key t.branches n
+branch_found t n sound found finds =
+    found_so branch_entry (λ r. r) read_branch (row_at branch_key t.branches n)
+    (λ r is. branch_back r (branch_is t n r sound is).1) _ (found_row branch_key branch_entry (λ _. refl) n t.branches)
+    found finds
+    ∙ same_option (row_at branch_key t.branches n)
 
-pub branch_unbroken : (t : Tables) (n : ℕ) (r : BranchRow) (broken : Rule) → IsUndamaged t
-    → row_at branch_key t.branches n ≡ Some r → BreaksBranch r broken → ⊥
-branch_unbroken t n r broken sound e = sound_unbroken r broken (branch_is t n r sound e).1
+-- and the one above a number
+pub next_found : (t : Tables) (n : ℕ) → IsUndamaged t → (found : Option BranchRow)
+    → FindsStored (find (is_above (pos n)) (map branch_entry t.branches)) read_branch (Ok found)
+    → found ≡ branch_above t n
+next_found t n sound found finds =
+    found_so branch_entry (λ r. r) read_branch (branch_above t n)
+    (λ r is. branch_back r (sound.each_branch r (found_within (λ x. nat_lt n x.branch) t.branches r is))) _
+    (found_by branch_key branch_entry (λ _. refl) (is_above (pos n)) (λ r. nat_lt n r.branch)
+    (is_row_above branch_key branch_entry (λ _. refl) n) t.branches) found finds
+    ∙ same_option (branch_above t n)
 
 -- ---- floors
 
@@ -129,17 +139,15 @@ no_floor_beyond t n sound e =
           (let le : some.0.branch ≤ MAX_BRANCH = omega arith in rw (← same) le) e)
     ]
 
--- a floor in its ranges breaks no rule
-pub floor_unbroken : (t : Tables) (n : ℕ) (r : FloorRow) (broken : Rule) → IsUndamaged t
-    → row_at floor_key t.floors n ≡ Some r → BreaksFloor r broken → ⊥
-floor_unbroken t n r broken sound e breaks =
-    let is = (floor_is t n r sound e).1 in
-    let low = is.some in
-    let high = is.most in
-    elim breaks [
-      | inl number ↦ not_outside 1 MAX_BRANCH r.branch low (omega arith) number.1
-      | inr amount ↦ not_beyond MAX_BALANCE r.lowest is.lowest.1 amount.1
-    ]
+-- the floor that is looked up
+pub floor_found : (t : Tables) (n : ℕ) → IsUndamaged t → (found : Option FloorRow)
+    → FindsStored (row_under (map floor_entry t.floors) n) read_floor (Ok found)
+    → found ≡ row_at floor_key t.floors n
+floor_found t n sound found finds =
+    found_so floor_entry (λ r. r) read_floor (row_at floor_key t.floors n)
+    (λ r is. floor_back r (floor_is t n r sound is).1) _ (found_row floor_key floor_entry (λ _. refl) n t.floors)
+    found finds
+    ∙ same_option (row_at floor_key t.floors n)
 
 -- no account is below its floor
 pub not_below : (t : Tables) (n : ℕ) (balance lowest : ℤ) → IsUndamaged t
@@ -160,18 +168,6 @@ not_below t n balance lowest sound has floor =
 
 -- ---- balances
 
--- a balance within the limit that is read of the row under a key breaks no rule
-balance_unbroken : {R : Type 0} (key : R → ℕ) (balance : R → ℤ) (rows : List R) (n : ℕ) (z : ℤ)
-    (broken : Rule) → ((r : R) → row_at key rows n ≡ Some r → nat_abs (balance r) ≤ MAX_BALANCE)
-    → option_map balance (row_at key rows n) ≡ Some z → BreaksBalance z broken → ⊥
-balance_unbroken key balance rows n z broken within e breaks =
-    elim (by_option (row_at key rows n)) [
-      | inl none ↦ let h = rw none at e in cc
-      | inr some ↦
-          let is : balance some.0 ≡ z = (let h = rw some.1 at e in cc) in
-          not_beyond MAX_BALANCE z (subst (λ b. nat_abs b ≤ MAX_BALANCE) is (within some.0 some.1)) breaks.1
-    ]
-
 teller_sound : (t : Tables) (n : ℕ) (r : TellerRow) → IsUndamaged t → row_at teller_key t.tellers n ≡ Some r
     → IsSoundTeller r
 teller_sound t n r sound e = sound.each_teller r (found_within (λ x. nat_eq x.teller n) t.tellers r e)
@@ -188,71 +184,36 @@ account_sound : (t : Tables) (n : ℕ) (r : AccountRow) → IsUndamaged t → ro
     ≡ Some r → IsSoundAccount r
 account_sound t n r sound e = sound.each_account r (found_within (λ x. nat_eq x.account n) t.accounts r e)
 
--- an account or a teller with a sound row
-pub member_unbroken : (m : Member) (t : Tables) (z : ℤ) (broken : Rule) → IsUndamaged t
-    → balance_in m t ≡ Some z → BreaksBalance z broken → ⊥
-member_unbroken (Account n) t z broken sound e =
-    balance_unbroken account_key balance_of_account t.accounts n z broken
-    (λ r is. (account_sound t n r sound is).balance) e
-member_unbroken (Teller n) t z broken sound e =
-    balance_unbroken teller_key balance_of_teller t.tellers n z broken
-    (λ r is. (teller_sound t n r sound is).balance) e
+-- the balance of an account or a teller that is looked up
+pub member_found : (m : Member) (t : Tables) → IsUndamaged t → (found : Option ℤ)
+    → FindsStored (entry_under m (stored_rows t)) read_balance (Ok found) → found ≡ balance_in m t
+member_found (Account n) t sound found finds =
+    found_so account_entry balance_of_account read_balance (row_at account_key t.accounts n)
+    (λ r is. balance_back (pos r.account) r.balance (account_sound t n r sound is).balance) _
+    (found_row account_key account_entry (λ _. refl) n t.accounts) found finds
+member_found (Teller n) t sound found finds =
+    found_so teller_entry balance_of_teller read_balance (row_at teller_key t.tellers n)
+    (λ r is. balance_back (pos r.teller) r.balance (teller_sound t n r sound is).balance) _
+    (found_row teller_key teller_entry (λ _. refl) n t.tellers) found finds
 
 -- ---- kept requests
 
-pub request_is : (t : Tables) (teller number : ℕ) (r : RequestRow) → IsUndamaged t
-    → request_in t teller number ≡ Some r → IsSoundRequest r
-request_is t teller number r sound e = sound.each_request r (found_within _ t.requests r e)
+-- the request that is looked up
+pub request_found : (t : Tables) (a b : ℕ) → IsUndamaged t → (found : Option RequestRow)
+    → FindsStored (find (has_two (pos a) (pos b)) (map request_entry t.requests)) read_request (Ok found)
+    → found ≡ request_in t a b
+request_found t a b sound found finds =
+    found_so request_entry (λ r. r) read_request (request_in t a b)
+    (λ r is. request_back r (sound.each_request r (found_within _ t.requests r is))) _
+    (found_by request_key request_entry (λ _. refl) (has_two (pos a) (pos b)) _ (has_both a b) t.requests) found finds
+    ∙ same_option (request_in t a b)
 
-can_be_kept : (r : RequestRow) → IsSoundRequest r → CanBeKept r.decision
-can_be_kept r is = record {
-  account = within_range 1 MAX_ACCOUNT r.decision.account is.fields.account_above is.fields.account;
-  branch = within_range 1 MAX_BRANCH r.decision.branch is.fields.branch_above is.fields.branch;
-  delta = cents_inside MAX_BALANCE r.decision.delta (let le = is.fields.delta in omega arith);
-  balance = cents_inside MAX_BALANCE r.decision.balance is.balance;
-  outcome = is.decision;
-}
-
-pub request_unbroken : (t : Tables) (teller number : ℕ) (r : RequestRow) (broken : Rule) → IsUndamaged t
-    → request_in t teller number ≡ Some r → BreaksRequest r broken → ⊥
-request_unbroken t teller number r broken sound e breaks =
-    let is = request_is t teller number r sound e in
-    elim breaks [
-      | inl value ↦ not_outside 1 MAX_DECIDED r.ordinal is.ordinal_above is.ordinal value.1
-      | inr request ↦ elim request.1 [
-        | inl who ↦ not_outside 1 MAX_TELLER r.teller is.fields.teller_above is.fields.teller who
-        | inr rest ↦ elim rest [
-          | inl which ↦ not_outside 1 MAX_NUMBER r.number is.number_above is.number which
-          | inr kept ↦ kept (can_be_kept r is)
-        ]
-      ]
-    ]
-
--- the fields of a kept request are those of a request
-pub is_a_request : (a t b n : ℕ) (z : ℤ) → nat_abs z ≤ MAX_DELTA
-    → is_some (request_from a t b n z None) ≡ false → ⊥
-is_a_request a t b n z le e = let test : leb (nat_abs z) MAX_DELTA ≡ true =
-    grind (arith, nat_tests) in let h = rw test at e in cc
-
--- ---- references
-
-not_other : (text : List ℕ) → IsReference text → reference_from text ≡ None → ⊥
-not_other text is e = let h = rw (is.0, is.1) at e in cc
-
-pub reference_unbroken : (t : Tables) (n : ℕ) (r : ReferenceRow) (broken : Rule) → IsUndamaged t
-    → row_at reference_key t.references n ≡ Some r → BreaksReference r broken → ⊥
-reference_unbroken t n r broken sound e breaks =
-    let is = sound.each_reference r (found_within (λ x. nat_eq x.ordinal n) t.references r e) in
-    elim breaks [
-      | inl number ↦ not_outside 1 MAX_DECIDED r.ordinal is.ordinal_above is.ordinal number.1
-      | inr text ↦ not_other r.reference is.reference text.1
-    ]
-
--- so what is found is never told to be damaged
-pub err_found : {X Y : Type 0} (old new before after : State) (wanted : Option X) (Breaks : X → Rule → Type 0)
-    (looked : Y) (e : TableFault)
-    → ((x : X) (broken : Rule) → wanted ≡ Some x → Breaks x broken → ⊥) → Finds old new wanted Breaks (Err e)
-    → IsLookedUp before after looked (Err e)
-err_found old new before after wanted Breaks looked (Sqlite e) unbroken finds = tt
-err_found old new before after wanted Breaks looked (Damaged rule) unbroken finds =
-    unbroken finds.0.0 rule finds.0.1 finds.0.2
+-- and its reference
+pub reference_found : (t : Tables) (n : ℕ) → IsUndamaged t → (found : Option ReferenceRow)
+    → FindsStored (row_under (map reference_entry t.references) n) read_reference (Ok found)
+    → found ≡ row_at reference_key t.references n
+reference_found t n sound found finds =
+    found_so reference_entry (λ r. r) read_reference (row_at reference_key t.references n)
+    (λ r is. reference_back r (sound.each_reference r (found_within (λ x. nat_eq x.ordinal n) t.references r is))) _
+    (found_row reference_key reference_entry (λ _. refl) n t.references) found finds
+    ∙ same_option (row_at reference_key t.references n)

@@ -16,9 +16,9 @@ use Rattle.posting_batch.specs.Overlay.{Overlay}
 use Rattle.posting_batch.specs.Slots.{in_slot, row_of_slot, branch_slot_key, slot_floor}
 use Rattle.sql_meanings.specs.Calls.{Says}
 use Rattle.store_rows.specs.Calls.{OfTables}
-use Rattle.store_rows.specs.believed.Rules.{BranchKeeps, StoredRows, branch_under}
+use Rattle.store_rows.specs.believed.Readings.{read_branch}
+use Rattle.store_rows.specs.believed.Rules.{StoredRows, branch_under}
 use Rattle.store_rows.specs.believed.Stored.{FindsStored}
-use Rattle.store_rows.specs.Stored.{IsBranch}
 use Rattle.store_rows.specs.declared.fault.TableFault.{TableFault}
 use Rattle.bank_transactions.specs.Causes.{Blames, IsFirstBroken}
 use Rattle.bank_transactions.specs.Doing.{IsLookedUp, ChangesNothing}
@@ -82,7 +82,7 @@ emptied o = record o {
 
 -- the row of a branch as it is stored, none where it has none
 abbrev pub HoldsBranch : StoredRows → ℕ → Option BranchRow → Type 0
-HoldsBranch rows n row = FindsStored (branch_under rows n) IsBranch BranchKeeps (Ok row)
+HoldsBranch rows n row = FindsStored (branch_under rows n) read_branch (Ok row)
 
 -- the slot has what the rows hold under its key
 abbrev pub BranchHeld : StoredRows → BranchSlot → Type 0

@@ -31,9 +31,6 @@ pub(crate) fn floor_at<S: Alter>(
     let Some(row) = find_floor(tx, branch)? else {
         return Ok(None);
     };
-    if row.lowest.get() > 0 {
-        return Err(TableFault::Damaged(Rule::Floor));
-    }
     Ok(Some(row.lowest))
 }
 

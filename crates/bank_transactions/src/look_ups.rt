@@ -6,17 +6,17 @@ ghost use Rattle.posting_rules.specs.believed.LookUps.{teller_balances_in, accou
 ghost use Rattle.posting_rules.specs.believed.Tables.{row_at, branch_key};
 ghost use Rattle.sqlite.specs.Held.{state};
 ghost use Rattle.sqlite.specs.State.{HasCleanDisk};
-ghost use Rattle.store_rows.specs.believed.Rules.{branch_under, BranchKeeps, OfRows};
+ghost use Rattle.store_rows.specs.believed.Readings.{read_branch};
+ghost use Rattle.store_rows.specs.believed.Rules.{branch_under, OfRows};
 ghost use Rattle.store_rows.specs.believed.Stored.{FindsStored};
-ghost use Rattle.store_rows.specs.Stored.{IsBranch};
 ghost use Rattle.bank_transactions.specs.Doing.{Reads};
 ghost use Rattle.bank_transactions.specs.believed.Stored.{HoldsDecided, HoldsKept, HoldsReference, IsStoredBalance};
 ghost use Rattle.bank_transactions.specs.believed.Stored.{IsStoredTeller};
 
-use message_records::{Account, Branch, Cents, Number, Reference, Request, Teller};
+use message_records::{Account, Branch, Cents, Number, Reference, Teller};
 use posting_rules::{
-    BranchRow, Kept, LAST_BRANCH, MAX_ACCOUNTS, MAX_DECIDED, Ordinal, Rule, branch_of_account,
-    branch_of_teller, place_of_account,
+    BranchRow, Kept, MAX_DECIDED, Ordinal, Rule, branch_of_account, branch_of_teller,
+    place_of_account,
 };
 use sqlite::{Alter, Transaction};
 use store_rows::{
@@ -30,19 +30,13 @@ pub fn branch_at<S: Alter>(
 ) -> Result<Option<BranchRow>, TableFault>
     ensures says { Reads S.Store tx.old tx.new (λ tables. row_at branch_key tables.branches number) result }
     ensures stored { HasCleanDisk (state S.Store tx.new.conn.now)
-        → OfRows (λ rows. FindsStored (branch_under rows number) IsBranch BranchKeeps result)
+        → OfRows (λ rows. FindsStored (branch_under rows number) read_branch result)
         (state S.Store tx.old.conn.now).now }
 {
-    let Some(branch) = Branch::new(number) else {
-        return Ok(None);
-    };
-    let Some(row) = find_branch(tx, branch)? else {
-        return Ok(None);
-    };
-    if number > LAST_BRANCH || row.accounts < 1 || row.accounts > MAX_ACCOUNTS {
-        return Err(TableFault::Damaged(Rule::Value));
+    match Branch::new(number) {
+        Some(branch) => find_branch(tx, branch),
+        None => Ok(None),
     }
-    Ok(Some(row))
 }
 
 /// The balances of a teller and of its branch, none where the teller isn't open.
@@ -113,20 +107,8 @@ pub fn kept_request<S: Alter>(
     let Some(row) = find_request(tx, teller, number)? else {
         return Ok(None);
     };
-    let decision = row.decision;
-    let stored = Request::new(
-        decision.account(),
-        row.teller,
-        decision.branch(),
-        row.number,
-        decision.delta(),
-        None,
-    );
-    if stored.is_none() {
-        return Err(TableFault::Damaged(Rule::Request));
-    }
     let reference = reference_at(tx, row.ordinal)?;
-    Ok(Some(decision.kept_with(reference)))
+    Ok(Some(row.decision.kept_with(reference)))
 }
 
 /// How many requests are decided.

@@ -12,7 +12,7 @@ ghost use Rattle.bank_transactions.specs.Undone.{UndoesFaults};
 
 use crate::floors::floor_at;
 use crate::transactions::{begin, finish};
-use posting_rules::{BranchLine, BranchRow, LAST_BRANCH, MAX_ACCOUNTS, Rule};
+use posting_rules::{BranchLine, BranchRow, Rule};
 use sqlite::{Alter, Connection, Transaction};
 use store_rows::{TableFault, next_branch};
 
@@ -29,11 +29,7 @@ fn row_after<S: Alter>(
     let Some(row) = next_branch(tx, after)? else {
         return Ok(None);
     };
-    let number = row.branch.get();
-    if number <= u64::from(after) || number > LAST_BRANCH {
-        return Err(TableFault::Damaged(Rule::Value));
-    }
-    if row.accounts < 1 || row.accounts > MAX_ACCOUNTS {
+    if row.branch.get() <= u64::from(after) {
         return Err(TableFault::Damaged(Rule::Value));
     }
     Ok(Some(row))

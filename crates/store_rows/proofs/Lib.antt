@@ -10,7 +10,6 @@ pub mod Lacking
 pub mod FoundRows
 pub mod GetRequest
 pub mod Getting
-pub mod KeptRows
 pub mod Lookups
 pub mod MadeSoFar
 pub mod MetaRow
@@ -19,6 +18,7 @@ pub mod NextBranch
 pub mod OtherValue
 pub mod Probing
 pub mod Puts
+pub mod Readings
 pub mod Reasons
 pub mod RowLists
 pub mod Seeking
@@ -29,8 +29,6 @@ pub mod SeveralWrites
 pub mod ShownOnce
 pub mod ShownValues
 pub mod SparedTexts
-pub mod StoredFrom
-pub mod StoredReads
 pub mod StoredRows
 pub mod TableKinds
 pub mod Telling

@@ -5,7 +5,7 @@ use Rattle.std.specs.Prelude.{IfErr, IfOk}
 use Rattle.sqlite.specs.{Clock.timed, Effect.Database, Listing.understood, Order.Row, declared.error.Error.Error}
 use Rattle.sqlite.specs.State.{State, QueriesRow, QueriesRowInside, Begins, Shown}
 use Rattle.sql_meanings.specs.StatementAnswers.{OnlyShows}
-use Rattle.store_rows.specs.{Columns.meta_shown, Failures.ReadsAnswer, TableAnswers.Never, TableAnswers.ReadsRow}
+use Rattle.store_rows.specs.{Columns.meta_of, Failures.ReadsAnswer}
 use Rattle.store_rows.specs.{declared.fault.TableFault.TableFault, declared.metas.StoredMeta.StoredMeta}
 use Rattle.store_rows.specs.{declared.metas.TheConstants.META_ID, declared.texts.TheConstants.GET_META}
 use Rattle.store_rows.specs.Statements.{ShowsFirst, TellsOther}
@@ -36,9 +36,10 @@ first_told old new text params (Ok row) only (inr whole) =
 -- a row that can't be read has such a value
 pub other_told : (db : Database) (answer : Result Row Error) (result : Result (Option StoredMeta) TableFault)
     → IfOk answer (ShowsFirst GET_META.now (Int (pos META_ID) ∷ []) db)
-    → ReadsAnswer (ReadsRow meta_shown Never) answer result
+    → ReadsAnswer meta_of answer result
     → IfErr result (TellsOther db)
 other_told db answer (Ok found) shows read = tt
 other_told db answer (Err (Sqlite e)) shows read = tt
-other_told db (Ok row) (Err (Damaged rule)) shows read = (row, shows, read)
+other_told db (Ok row) (Err (Damaged rule)) shows read =
+    (row, shows, λ m is. let no = rw is at read in cc)
 other_told db (Err e) (Err (Damaged rule)) shows read = absurd (let same = read.0 in cc)

@@ -6,6 +6,7 @@ use Rattle.sql_meanings.specs.StatementAnswers.{ReadKept, WriteFails}
 use Rattle.sql_meanings.proofs.OnlyShowing.{kept_none}
 use Rattle.store_rows.specs.believed.Failures.{Asking}
 use Rattle.store_rows.specs.Failures.{Asks, HasReason, Looks, ReadsAnswer}
+use Rattle.store_rows.specs.believed.Readings.{Reading}
 use Rattle.store_rows.specs.declared.fault.TableFault.{TableFault, TheVariants.Sqlite, TheVariants.Damaged}
 
 -- a query that was made
@@ -23,15 +24,14 @@ module _ (old new : State) where
   looks_asked e (inr same, why) more = (inl same, why more)
 
   -- a query whose answer is reported so is a read
-  pub looks : {X : Type 0} (Reads : Row → Result X TableFault → Type 0) (answer : Result Row Error)
-      (result : Result (Option X) TableFault)
-      → ReadsAnswer Reads answer result → Asks old new answer → Looks old new result
-  looks Reads (Ok row) (Ok (Some x)) read asks = asks
-  looks Reads (Ok row) (Ok None) read asks = absurd read
-  looks Reads (Ok row) (Err (Sqlite e)) read asks = absurd read
-  looks Reads (Ok row) (Err (Damaged rule)) read asks = (inl asks, tt)
-  looks Reads (Err e) (Ok (Some x)) read asks = absurd read
-  looks Reads (Err e) (Ok None) read asks = kept_none old new
-      (subst (λ e. ReadKept {X = Row} old new (Err e)) read asks.0)
-  looks {X = X} Reads (Err e) (Err fault) read asks =
-      subst (λ f. Looks {X = Option X} old new (Err f)) (sym read.0) (looks_asked e asks read.1)
+  pub looks : {X : Type 0} (read : Reading X) (answer : Result Row Error) (result : Result (Option X) TableFault)
+      → ReadsAnswer read answer result → Asks old new answer → Looks old new result
+  looks read (Ok row) (Ok (Some x)) reads asks = asks
+  looks read (Ok row) (Ok None) reads asks = absurd reads
+  looks read (Ok row) (Err (Sqlite e)) reads asks = absurd reads
+  looks read (Ok row) (Err (Damaged rule)) reads asks = (inl asks, tt)
+  looks read (Err e) (Ok (Some x)) reads asks = absurd reads
+  looks read (Err e) (Ok None) reads asks = kept_none old new
+      (subst (λ e. ReadKept {X = Row} old new (Err e)) reads asks.0)
+  looks {X = X} read (Err e) (Err fault) reads asks =
+      subst (λ f. Looks {X = Option X} old new (Err f)) (sym reads.0) (looks_asked e asks reads.1)

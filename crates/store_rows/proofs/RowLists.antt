@@ -3,7 +3,6 @@ use Rattle.std.proofs.Common.{◌≡◌, ◌==◌, ℕ, pos, List, [], ◌∷◌
 use Rattle.std.proofs.Common.{Some, None, Option, option_map, Ordering, Less, Greater, int_cmp, refl, ap, ◌∙◌, arith}
 use Rattle.std.proofs.lemmas.Int.{ints}
 use Rattle.std.specs.Ordering.{int_eq, is_gt, match_ordering}
-use Rattle.sqlite.specs.Order.{Row}
 use Rattle.posting_rules.specs.believed.{Tables.row_at, Changes.row_changed, Changes.row_put}
 use Rattle.sql_meanings.specs.believed.Entries.{Entry, has_key}
 use Rattle.sql_meanings.specs.Entries.{changed, is_above, put}
@@ -48,16 +47,6 @@ module _ {R : Type 0} (key : R → ℕ) (entry : R → Entry) (keyed : (r : R) �
       ≡ option_map entry (row_at key rows k)
   found_row k rows = found_by (has_key (pos k)) (λ r. key r == k) (has_row_key k) rows
 
-  -- what is shown of the entry is what is shown of the row
-  pub shown_by : (show : Entry → Row) (shown : R → Row) → ((r : R) → show (entry r) ≡ shown r)
-      → (p : Entry → Bool) (q : R → Bool) → ((r : R) → p (entry r) ≡ q r) → (rows : List R)
-      → option_map show (find p (map entry rows)) ≡ option_map shown (find q rows)
-  shown_by show shown same p q test rows = ap (option_map show) (found_by p q test rows) ∙ go (find q rows)
-    where
-      go : (o : Option R) → option_map show (option_map entry o) ≡ option_map shown o
-      go None = refl
-      go (Some r) = ap Some (same r)
-
   there : (o : Option R) → is_some (option_map entry o) ≡ is_some o
   there None = refl
   there (Some r) = refl
@@ -66,13 +55,6 @@ module _ {R : Type 0} (key : R → ℕ) (entry : R → Entry) (keyed : (r : R) �
   pub taken_row_key : (k : ℕ) (rows : List R)
       → is_some (find (has_key (pos k)) (map entry rows)) ≡ is_some (row_at key rows k)
   taken_row_key k rows = ap is_some (found_row k rows) ∙ there (row_at key rows k)
-
-  -- the same under a key
-  pub shown_row : (show : Entry → Row) (shown : R → Row) → ((r : R) → show (entry r) ≡ shown r)
-      → (k : ℕ) (rows : List R)
-      → option_map show (find (has_key (pos k)) (map entry rows)) ≡ option_map shown (row_at key rows k)
-  shown_row show shown same k rows = shown_by show shown same (has_key (pos k)) (λ r. key r == k)
-      (has_row_key k) rows
 
   -- to change the entry under a key is to change the row under it
   pub changed_rows : (change : R → R) (change_entry : Entry → Entry)

@@ -1,9 +1,9 @@
 -- What each look-up reports of the rows that a file holds, whatever numbers they have.
-use Rattle.std.proofs.Common.{◌≡◌, ◌<◌, ℕ, pos, List, [], ◌∷◌, find, length, slice_get, Bool, Some, None, Option}
-use Rattle.std.proofs.Common.{option_map, Result, refl, sym, ap, subst, arith}
+use Rattle.std.proofs.Common.{◌≡◌, ℕ, pos, List, [], ◌∷◌, find, slice_get, Bool, Some, None, Option, option_map}
+use Rattle.std.proofs.Common.{Result, refl, ap, subst}
 use Rattle.std.specs.List.{AllByRecursion}
 use Rattle.sqlite.specs.{Effect.Database, Order.Row, State.State, State.QueriesRowInside, Table.Table, Term.Term}
-use Rattle.sqlite.specs.{Term.col, Term.eval_all, declared.error.Error.Error, declared.types.Value.TheVariants.Int}
+use Rattle.sqlite.specs.{Term.eval_all, declared.error.Error.Error, declared.types.Value.TheVariants.Int}
 use Rattle.posting_rules.specs.believed.Tables.{Tables}
 use Rattle.sql_meanings.specs.believed.Entries.{Entry, HasWidth, has_key, has_two, stored}
 use Rattle.sql_meanings.specs.{Entries.is_above, StatementAnswers.TellsRow, Queries.by_key}
@@ -11,11 +11,11 @@ use Rattle.sql_meanings.specs.believed.Tables.{Holds, width_of}
 use Rattle.sql_meanings.proofs.{Changes.found_all, Contents.held, ReadTables.ReadsAs}
 use Rattle.sql_meanings.proofs.ReadRows.{reads_key, reads_next, reads_two}
 use Rattle.store_rows.specs.believed.Rules.{HoldsBank, StoredRows, row_under, stored_lists}
-use Rattle.store_rows.specs.{Rules.stored_rows, believed.BankTables.bank_tables, believed.View.Shows}
+use Rattle.store_rows.specs.{Rules.stored_rows, believed.BankTables.bank_tables, believed.SeveralRows.given}
+use Rattle.store_rows.specs.believed.View.{Shows}
 use Rattle.store_rows.specs.believed.BankTables as bank
-use Rattle.store_rows.specs.Stored.{balance_stored, branch_stored, floor_stored, reference_stored, request_stored}
 use Rattle.store_rows.specs.declared.texts.TheConstants.{GET_REQUEST, NEXT_BRANCH}
-use Rattle.store_rows.proofs.ShownValues.{number_shown, text_shown}
+use Rattle.store_rows.proofs.ShownValues.{all_columns}
 use Rattle.store_rows.proofs.GetRequest as request
 use Rattle.store_rows.proofs.NextBranch as next
 
@@ -56,74 +56,30 @@ stored_under at t free listed rows_of there text project k reads held same old n
     (shown_as (width_of t) _ held same (has_key (pos k)) (rows_of rows) holds.rows.wide)
     (reads_key old new t free has.sound (rows_of rows) holds text project (pos k) reads r h)
 
--- ---- the columns of a row
-
--- the balance of an account or a teller
-pub one_number : (given : Row) (e : Entry) → length e.values ≡ 1
-    → eval_all (col 1 2 ∷ []) (given ∷ stored e ∷ []) ≡ balance_stored e
-one_number given e wide = rw (number_shown 0 e.values e.texts (omega (arith, wide))) refl
-
-abbrev pub floor_project : List Term
-floor_project = col 1 0 ∷ col 1 2 ∷ []
-
-pub key_and_number : (given : Row) (e : Entry) → HasWidth (1, 0) e
-    → eval_all floor_project (given ∷ stored e ∷ []) ≡ floor_stored e
-key_and_number given e wide = rw (number_shown 0 e.values e.texts (omega (arith, wide.0))) refl
-
-abbrev pub reference_project : List Term
-reference_project = col 1 0 ∷ col 1 2 ∷ []
-
-pub key_and_text : (given : Row) (e : Entry) → HasWidth (0, 1) e
-    → eval_all reference_project (given ∷ stored e ∷ []) ≡ reference_stored e
-key_and_text given e wide = rw (text_shown e wide) refl
-
-abbrev pub branch_project : List Term
-branch_project = col 1 0 ∷ col 1 2 ∷ col 1 3 ∷ []
-
-pub two_numbers : (given : Row) (e : Entry) → HasWidth (2, 0) e
-    → eval_all branch_project (given ∷ stored e ∷ []) ≡ branch_stored e
-two_numbers given e wide =
-    let at = λ (n : ℕ) (low : n < 2). number_shown n e.values e.texts (subst (λ m. n < m) (sym wide.0) low) in
-    rw (at 0 (omega arith), at 1 (omega arith)) refl
-
-seven_numbers : (given : Row) (e : Entry) → HasWidth (7, 0) e
-    → eval_all request.project (given ∷ stored e ∷ []) ≡ request_stored e
-seven_numbers given e wide =
-    let at = λ (n : ℕ) (low : n < 7). number_shown n e.values e.texts (subst (λ m. n < m) (sym wide.0) low) in
-    rw (
-      at 0 (omega arith),
-      at 1 (omega arith),
-      at 2 (omega arith),
-      at 3 (omega arith),
-      at 4 (omega arith),
-      at 5 (omega arith),
-      at 6 (omega arith),
-    ) refl
-
 -- ---- the other look-ups
 
 -- the branch with the least number above one
 pub stored_next : (old new : State) (rows : StoredRows) → HoldsBank old.now rows
     → (k : ℕ) (r : Result Row Error)
     → QueriesRowInside NEXT_BRANCH.now (Int (pos k) ∷ []) old new r
-    → TellsRow old new (option_map branch_stored (find (is_above (pos k)) rows.branches)) r
+    → TellsRow old new (option_map given (find (is_above (pos k)) rows.branches)) r
 stored_next old new rows has k r h =
     let holds = holds_list old.now rows has 1 bank.branch rows.branches refl refl in
     subst (λ o. TellsRow old new o r)
-    (shown_as (2, 0) _ branch_stored (two_numbers (Int (pos k) ∷ [])) (is_above (pos k)) rows.branches
+    (shown_as (2, 0) _ given (all_columns 2 0) (is_above (pos k)) rows.branches
     holds.rows.wide)
-    (reads_next old new bank.branch refl has.sound rows.branches holds NEXT_BRANCH.now branch_project (pos k)
+    (reads_next old new bank.branch refl has.sound rows.branches holds NEXT_BRANCH.now next.project (pos k)
     (next.reads (pos k)) r h)
 
 -- the request of a teller under its number
 pub stored_request : (old new : State) (rows : StoredRows) → HoldsBank old.now rows
     → (a b : ℕ) (r : Result Row Error)
     → QueriesRowInside GET_REQUEST.now (Int (pos a) ∷ Int (pos b) ∷ []) old new r
-    → TellsRow old new (option_map request_stored (find (has_two (pos a) (pos b)) rows.requests)) r
+    → TellsRow old new (option_map given (find (has_two (pos a) (pos b)) rows.requests)) r
 stored_request old new rows has a b r h =
     let holds = holds_list old.now rows has 5 bank.request rows.requests refl refl in
     subst (λ o. TellsRow old new o r)
-    (shown_as (7, 0) _ request_stored (seven_numbers (Int (pos a) ∷ Int (pos b) ∷ []))
+    (shown_as (7, 0) _ given (all_columns 7 0)
     (has_two (pos a) (pos b)) rows.requests holds.rows.wide)
     (reads_two old new bank.request refl has.sound rows.requests holds GET_REQUEST.now request.project (pos a)
     (pos b) refl refl

@@ -8,16 +8,15 @@ use Rattle.sqlite.specs.declared.error.Error.{Error}
 use Rattle.sqlite.specs.declared.transaction.Transaction.{Transaction}
 use Rattle.sqlite_trees.specs.declared.store.Store.{Ghosts}
 use Rattle.posting_rules.specs.believed.Tables.{Tables}
+use Rattle.posting_rules.specs.declared.fault.Rule.{Rule}
 use Rattle.sql_meanings.specs.Calls.{Inside, Says}
 use Rattle.sql_meanings.specs.StatementAnswers.{TellsProbe, TellsUnderstood}
 use Rattle.sql_meanings.specs.believed.Entries.{Entry}
 use Rattle.store_rows.specs.Failures.{Changes, Looks, Puts}
-use Rattle.store_rows.specs.Forms.{Form}
 use Rattle.store_rows.specs.TableAnswers.{PutsOneRow, Finds, SetsRow}
 use Rattle.store_rows.specs.believed.Rules.{OfRows, StoredRows}
 use Rattle.store_rows.specs.Sparing.{SparesIfOk}
 use Rattle.store_rows.specs.believed.BankTables.{meta}
-use Rattle.store_rows.specs.believed.Stored.{FindsStored}
 use Rattle.store_rows.specs.believed.View.{Shows}
 use Rattle.store_rows.specs.View.{HoldsRows}
 use Rattle.store_rows.specs.declared.fault.TableFault.{TableFault}
@@ -30,14 +29,16 @@ OfTables Told old new = (tables : Tables) → Shows old.now tables → Told old 
 abbrev pub OfMeta : (State → State → List Entry → Type 0) → State → State → Type 0
 OfMeta Told old new = (rows : List Entry) → HoldsRows old.now meta rows → Told old new rows
 
--- A look-up finds what is wanted of the tables that are shown; whatever rows are held, it reports the one
--- that it looks for.
-abbrev pub LooksUp : {S X : Type 0} → Ghosts S → Transaction S → Transaction S → Form X → (Tables → Option X)
-    → (StoredRows → Option Entry) → Result (Option X) TableFault → Type 0
-LooksUp g old new form wanted stored result =
-    Says g old new (OfTables (λ old new tables. Finds old new (wanted tables) form.Breaks result))
-    (λ old new. Looks old new result
-    × OfRows (λ rows. FindsStored (stored rows) form.Is form.Keeps result) old.now)
+-- of whatever rows are held
+abbrev pub OfStored : (State → State → StoredRows → Type 0) → State → State → Type 0
+OfStored Told old new = OfRows (λ rows. Told old new rows) old.now
+
+-- a look-up reports what the row that it looks for reads as, whatever rows are held
+abbrev pub LooksUp : {S X : Type 0} → Ghosts S → Transaction S → Transaction S → (StoredRows → Option Entry)
+    → (Entry → Result X Rule) → Result (Option X) TableFault → Type 0
+LooksUp g old new stored read result =
+    Says g old new (OfStored (λ old new rows. Finds old new (stored rows) read result))
+    (λ old new. Looks old new result)
 
 -- By this text a number of a row of the table is written, if there is such a row, and the tables are these
 -- after it. The tables of other products are as they were, whatever rows there are.

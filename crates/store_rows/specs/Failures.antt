@@ -13,6 +13,7 @@ use Rattle.sql_meanings.specs.StatementAnswers.{WriteFails}
 use Rattle.store_rows.specs.declared.fault.TableFault.{TableFault}
 use Rattle.store_rows.specs.declared.fault.TableFault.TheVariants.{Sqlite, Damaged}
 use Rattle.store_rows.specs.believed.Failures.{HasFailed, MeetsNone, TakesKey}
+use Rattle.store_rows.specs.believed.Readings.{Reading}
 
 -- a call of `sqlite` that came after others answered this error, and nothing came after it
 pub record HasFailedAtLast {S : Type 0} (g : Ghosts S) (old new : Held S) (e : Error) : Type 0 where
@@ -30,18 +31,16 @@ abbrev pub HasPutReason : List ℕ → Row → State → State → TableFault �
 HasPutReason text values old new (Sqlite e) = HasFailed old new e
 HasPutReason text values old new (Damaged rule) = (rule ≡ Key) × TakesKey text values old new
 
--- What is reported of what a query answered: the row as the value that it holds, if it found one, or the rule
--- that the row breaks, or the query's error.
-abbrev pub ReadsAnswer : {X : Type 0} → (Row → Result X TableFault → Type 0) → Result Row Error
-    → Result (Option X) TableFault
-    → Type 0
-ReadsAnswer Reads (Ok row) (Ok (Some x)) = Reads row (Ok x)
-ReadsAnswer Reads (Ok row) (Ok None) = ⊥
-ReadsAnswer Reads (Ok row) (Err (Sqlite e)) = ⊥
-ReadsAnswer Reads (Ok row) (Err (Damaged rule)) = Reads row (Err (Damaged rule))
-ReadsAnswer Reads (Err e) (Ok (Some x)) = ⊥
-ReadsAnswer Reads (Err e) (Ok None) = e ≡ QueryReturnedNoRows
-ReadsAnswer Reads (Err e) (Err fault) = (fault ≡ Sqlite e) × (e ≢ QueryReturnedNoRows)
+-- What is reported of what a query answered: what the row reads as, if it found one, or the rule that the row breaks,
+-- or the query's error.
+abbrev pub ReadsAnswer : {X : Type 0} → Reading X → Result Row Error → Result (Option X) TableFault → Type 0
+ReadsAnswer read (Ok row) (Ok (Some x)) = read row ≡ Ok x
+ReadsAnswer read (Ok row) (Ok None) = ⊥
+ReadsAnswer read (Ok row) (Err (Sqlite e)) = ⊥
+ReadsAnswer read (Ok row) (Err (Damaged rule)) = read row ≡ Err rule
+ReadsAnswer read (Err e) (Ok (Some x)) = ⊥
+ReadsAnswer read (Err e) (Ok None) = e ≡ QueryReturnedNoRows
+ReadsAnswer read (Err e) (Err fault) = (fault ≡ Sqlite e) × (e ≢ QueryReturnedNoRows)
 
 -- ---- whatever the rows
 

@@ -1,36 +1,36 @@
 //! The table of branches.
-ghost use Rattle.std.specs.Prelude.{find, is_some, pos};
+ghost use Rattle.std.specs.Prelude.{find, is_some, pos, IfOk, IfSome};
 ghost use Rattle.sql_meanings.specs.Entries.{is_above};
+ghost use Rattle.posting_rules.specs.Damage.{IsSoundBranch};
 ghost use Rattle.posting_rules.specs.believed.Tables.{row_at, branch_key};
 ghost use Rattle.posting_rules.specs.believed.Changes.{with_branch};
 ghost use Rattle.store_rows.specs.Calls.{AddsRow, LooksUp};
-ghost use Rattle.store_rows.specs.Columns.{branch_above};
-ghost use Rattle.store_rows.specs.Forms.{branch_form};
+ghost use Rattle.store_rows.specs.believed.Readings.{read_branch};
 ghost use Rattle.store_rows.specs.believed.Rules.{row_under};
 ghost use Rattle.store_rows.specs.believed.BankTables.{branch as table};
 ghost use Rattle.store_rows.specs.believed.SeveralRows.{given};
 ghost use Rattle.store_rows.specs.believed.View.{branch_entry};
 ghost use Rattle.store_rows.specs.declared.texts.TheConstants.{ADD_BRANCH as text};
 
-use crate::columns::{cents_at, count_at, whole_at};
+use crate::columns::{accounts_at, cents_at, whole_at};
 use crate::fault::TableFault;
 use crate::found::{FromRow, found};
 use crate::statements::{put_in, row_under};
 use crate::texts::{ADD_BRANCH, GET_BRANCH, NEXT_BRANCH};
-use message_records::Branch;
-use posting_rules::{BranchRow, Rule};
+use message_records::{Branch, MAX_BALANCE};
+use posting_rules::{BranchRow, LAST_BRANCH, Rule};
 use sqlite::{Alter, Row, Transaction, params};
 
 impl FromRow for BranchRow {
-    ghost use Rattle.store_rows.specs.Forms.{branch_form as form};
+    ghost use Rattle.store_rows.specs.believed.Readings.{branch_of};
 
-    ghost form = { form };
+    ghost read = { branch_of };
 
     fn from_row(row: &Row) -> Result<Self, TableFault> {
         Ok(BranchRow {
-            branch: whole_at(row, 0, Rule::Value)?,
-            accounts: count_at(row, 1, Rule::Value)?,
-            balance: cents_at(row, 2, Rule::Balance)?,
+            branch: whole_at(row, 0, Rule::Value, LAST_BRANCH)?,
+            accounts: accounts_at(row, 1)?,
+            balance: cents_at(row, 2, Rule::Balance, MAX_BALANCE)?,
         })
     }
 }
@@ -40,8 +40,7 @@ pub fn find_branch<S: Alter>(
     tx: &mut Transaction<'_, S>,
     branch: Branch,
 ) -> Result<Option<BranchRow>, TableFault>
-    ensures { LooksUp S.Store tx.old tx.new branch_form (λ tables. row_at branch_key tables.branches branch)
-        (λ rows. row_under rows.branches branch) result }
+    ensures { LooksUp S.Store tx.old tx.new (λ rows. row_under rows.branches branch) read_branch result }
 {
     found(row_under(tx, GET_BRANCH, branch.get()))
 }
@@ -51,8 +50,9 @@ pub fn next_branch<S: Alter>(
     tx: &mut Transaction<'_, S>,
     after: u32,
 ) -> Result<Option<BranchRow>, TableFault>
-    ensures { LooksUp S.Store tx.old tx.new branch_form (λ tables. branch_above tables after)
-        (λ rows. find (is_above (pos after)) rows.branches) result }
+    ensures looks_up { LooksUp S.Store tx.old tx.new (λ rows. find (is_above (pos after)) rows.branches) read_branch
+        result }
+    ensures within { IfOk result (λ found. IfSome found IsSoundBranch) }
 {
     found(row_under(tx, NEXT_BRANCH, u64::from(after)))
 }

@@ -1,17 +1,21 @@
 //! Stored numbers and texts as the types that they are read as.
+ghost use Rattle.std.specs.Prelude.{◌≤◌};
+ghost use Rattle.message_records.specs.declared.limits.TheConstants.{MAX_BALANCE};
+ghost use Rattle.posting_rules.specs.declared.fault.Rule.TheVariants.{Value};
+ghost use Rattle.posting_rules.specs.declared.limits.TheConstants.{MAX_ACCOUNTS as MANY};
 ghost use Rattle.sqlite.specs.Order.{column};
-ghost use Rattle.store_rows.specs.TableAnswers.{ReadsCents, ReadsInteger, ReadsOutcome, ReadsReference};
-ghost use Rattle.store_rows.specs.TableAnswers.{ReadsWhole};
+ghost use Rattle.store_rows.specs.TableAnswers.{Gives};
+ghost use Rattle.store_rows.specs.believed.Readings.{cents, lowest, number, outcome_of, reference, whole};
 
 use crate::fault::TableFault;
-use message_records::{Cents, Outcome, Reference, Whole};
-use posting_rules::Rule;
+use message_records::{Cents, MAX_BALANCE as LIMIT, Outcome, Reference, Whole};
+use posting_rules::{MAX_ACCOUNTS, Rule};
 use sqlite::Row;
 use sqlite::types::ValueRef;
 
 // The integer in a column. A value of another type is damage, and no failure of the store.
 pub(crate) fn integer_at(row: &Row, at: usize) -> Result<i64, TableFault>
-    ensures reads { ReadsInteger (column row.now at) result }
+    ensures { Gives (number (column row.now at)) result }
 {
     match row.get_ref(at) {
         Ok(ValueRef::Int(value)) => Ok(value),
@@ -19,43 +23,60 @@ pub(crate) fn integer_at(row: &Row, at: usize) -> Result<i64, TableFault>
     }
 }
 
-// The whole number in a column, or the rule that it breaks outside the range.
+// The whole number in a column, up to so many, or the rule that it breaks outside the range.
 pub(crate) fn whole_at<const LEAST: u64, const MOST: u64>(
     row: &Row,
     at: usize,
     rule: Rule,
+    most: u64,
 ) -> Result<Whole<LEAST, MOST>, TableFault>
-    ensures reads { ReadsWhole LEAST MOST rule (column row.now at) result }
+    requires { most ≤ MOST }
+    ensures { Gives (whole LEAST most rule (column row.now at)) result }
 {
     let value = integer_at(row, at)?;
-    if value < 0 {
+    if value < 0 || value as u64 > most {
         return Err(TableFault::Damaged(rule));
     }
     Whole::new(value as u64).ok_or(TableFault::Damaged(rule))
 }
 
-// The count in a column, or the rule that it breaks outside the range.
-pub(crate) fn count_at(row: &Row, at: usize, rule: Rule) -> Result<u32, TableFault>
-    ensures reads { ReadsWhole 0 4_294_967_295 rule (column row.now at) result }
+// The count of accounts in a column.
+pub(crate) fn accounts_at(row: &Row, at: usize) -> Result<u32, TableFault>
+    ensures { Gives (whole 1 MANY Value (column row.now at)) result }
 {
     let value = integer_at(row, at)?;
-    if value < 0 || value > 4_294_967_295 {
-        return Err(TableFault::Damaged(rule));
+    if value < 1 || value > i64::from(MAX_ACCOUNTS) {
+        return Err(TableFault::Damaged(Rule::Value));
     }
     Ok(value as u32)
 }
 
-// The amount in a column, or the rule that it breaks outside the limits.
-pub(crate) fn cents_at(row: &Row, at: usize, rule: Rule) -> Result<Cents, TableFault>
-    ensures reads { ReadsCents rule (column row.now at) result }
+// The amount in a column, at most so far from zero, or the rule that it breaks beyond that.
+pub(crate) fn cents_at(row: &Row, at: usize, rule: Rule, limit: u64) -> Result<Cents, TableFault>
+    requires { limit ≤ MAX_BALANCE }
+    ensures { Gives (cents limit rule (column row.now at)) result }
 {
     let value = integer_at(row, at)?;
+    if value.unsigned_abs() > limit {
+        return Err(TableFault::Damaged(rule));
+    }
     Cents::new(value).ok_or(TableFault::Damaged(rule))
+}
+
+// The floor in a column.
+pub(crate) fn lowest_at(row: &Row, at: usize) -> Result<Cents, TableFault>
+    ensures { Gives (lowest (column row.now at)) result }
+{
+    let lowest = cents_at(row, at, Rule::Floor, LIMIT)?;
+    if lowest.get() > 0 {
+        return Err(TableFault::Damaged(Rule::Floor));
+    }
+    Ok(lowest)
 }
 
 // The outcome whose code is in a column.
 pub(crate) fn outcome_at(row: &Row, at: usize) -> Result<Outcome, TableFault>
-    ensures reads { ReadsOutcome (column row.now at) result }
+    ensures { Gives (outcome_of (column row.now at)) result }
 {
     let value = integer_at(row, at)?;
     match value {
@@ -74,7 +95,7 @@ pub(crate) fn outcome_at(row: &Row, at: usize) -> Result<Outcome, TableFault>
 
 // The reference in a column. A value of another type is damage of another rule.
 pub(crate) fn reference_at(row: &Row, at: usize) -> Result<Reference, TableFault>
-    ensures reads { ReadsReference (column row.now at) result }
+    ensures { Gives (reference (column row.now at)) result }
 {
     match row.get_ref(at) {
         Ok(ValueRef::Text(bytes)) => Reference::new(bytes).ok_or(TableFault::Damaged(

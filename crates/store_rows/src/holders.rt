@@ -1,10 +1,10 @@
 //! The rows that have a balance. Those of accounts and of tellers have nothing else beside their key, and are
 //! read and added here; a branch's has a count too, and only its balance is written here.
 ghost use Rattle.store_rows.specs.Calls.{AddsRow, LooksUp, SetsNumber};
-ghost use Rattle.store_rows.specs.Forms.{balance_form};
-ghost use Rattle.store_rows.specs.Holders.{balance_in, entry_under, holder_of, holder_table};
+ghost use Rattle.store_rows.specs.Holders.{entry_under, holder_of, holder_table};
 ghost use Rattle.store_rows.specs.Holders.{holder_update, is_there, member_entry, member_insert};
 ghost use Rattle.store_rows.specs.Holders.{with_balance, with_row};
+ghost use Rattle.store_rows.specs.believed.Readings.{read_balance};
 ghost use Rattle.store_rows.specs.believed.SeveralRows.{given};
 
 use crate::fault::TableFault;
@@ -36,7 +36,7 @@ pub fn balance_of<S: Alter>(
     tx: &mut Transaction<'_, S>,
     member: Member,
 ) -> Result<Option<Cents>, TableFault>
-    ensures { LooksUp S.Store tx.old tx.new balance_form (balance_in member) (entry_under member) result }
+    ensures { LooksUp S.Store tx.old tx.new (entry_under member) read_balance result }
 {
     match member {
         Member::Account(account) => found(row_under(tx, GET_ACCOUNT, account.get())),

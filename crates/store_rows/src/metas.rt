@@ -12,7 +12,7 @@ ghost use Rattle.store_rows.specs.believed.Columns.{meta_in};
 ghost use Rattle.store_rows.specs.Columns.{meta_shown};
 ghost use Rattle.store_rows.specs.Failures.{Asks, Changes, Looks};
 ghost use Rattle.store_rows.specs.Migration.{SetsVersion};
-ghost use Rattle.store_rows.specs.TableAnswers.{Finds, Never};
+ghost use Rattle.store_rows.specs.TableAnswers.{FindsMeta};
 ghost use Rattle.store_rows.specs.declared.texts.TheConstants.{SET_META, SET_VERSION};
 ghost use Rattle.store_rows.specs.believed.BankTables.{meta as table};
 ghost use Rattle.store_rows.specs.Statements.{ShowsFirst, TellsOther};
@@ -43,9 +43,9 @@ pub struct StoredMeta {
 }
 
 impl FromRow for StoredMeta {
-    ghost use Rattle.store_rows.specs.Forms.{meta_form as form};
+    ghost use Rattle.store_rows.specs.Columns.{meta_of};
 
-    ghost form = { form };
+    ghost read = { meta_of };
 
     fn from_row(row: &Row) -> Result<Self, TableFault> {
         Ok(StoredMeta {
@@ -67,7 +67,7 @@ fn meta_row<S: Alter>(tx: &mut Transaction<'_, S>) -> Result<Row, Error>
 /// What meta holds of the bank, if it has a row under the bank's id, whatever other rows it has.
 pub fn read_meta<S: Alter>(tx: &mut Transaction<'_, S>) -> Result<Option<StoredMeta>, TableFault>
     ensures says { Says S.Store tx.old tx.new
-        (OfMeta (λ old new rows. Finds old new (meta_in rows) Never result))
+        (OfMeta (λ old new rows. FindsMeta old new (meta_in rows) result))
         (λ old new. Looks old new result) }
     ensures other { HasCleanDisk (state S.Store tx.new.conn.now)
         → IfErr result (TellsOther (state S.Store tx.old.conn.now).now) }

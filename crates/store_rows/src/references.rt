@@ -3,7 +3,7 @@ ghost use Rattle.std.specs.Prelude.{Some, is_some};
 ghost use Rattle.posting_rules.specs.believed.Tables.{row_at, reference_key};
 ghost use Rattle.posting_rules.specs.believed.Changes.{with_reference};
 ghost use Rattle.store_rows.specs.Calls.{AddsRow, LooksUp};
-ghost use Rattle.store_rows.specs.Forms.{reference_form};
+ghost use Rattle.store_rows.specs.believed.Readings.{read_reference};
 ghost use Rattle.store_rows.specs.believed.Rules.{row_under};
 ghost use Rattle.store_rows.specs.believed.BankTables.{reference as table};
 ghost use Rattle.store_rows.specs.believed.SeveralRows.{given};
@@ -15,18 +15,18 @@ use crate::fault::TableFault;
 use crate::found::{FromRow, found};
 use crate::statements::{put_in, row_under};
 use crate::texts::{ADD_REFERENCE, GET_REFERENCE};
-use posting_rules::{Ordinal, ReferenceRow, Rule};
+use posting_rules::{MAX_DECIDED, Ordinal, ReferenceRow, Rule};
 use sqlite::types::ValueRef;
 use sqlite::{Alter, Row, Transaction};
 
 impl FromRow for ReferenceRow {
-    ghost use Rattle.store_rows.specs.Forms.{reference_form as form};
+    ghost use Rattle.store_rows.specs.believed.Readings.{reference_of};
 
-    ghost form = { form };
+    ghost read = { reference_of };
 
     fn from_row(row: &Row) -> Result<Self, TableFault> {
         Ok(ReferenceRow {
-            ordinal: whole_at(row, 0, Rule::Value)?,
+            ordinal: whole_at(row, 0, Rule::Value, MAX_DECIDED)?,
             reference: reference_at(row, 1)?,
         })
     }
@@ -37,9 +37,7 @@ pub fn find_reference<S: Alter>(
     tx: &mut Transaction<'_, S>,
     ordinal: Ordinal,
 ) -> Result<Option<ReferenceRow>, TableFault>
-    ensures { LooksUp S.Store tx.old tx.new reference_form
-        (λ tables. row_at reference_key tables.references ordinal)
-        (λ rows. row_under rows.references ordinal) result }
+    ensures { LooksUp S.Store tx.old tx.new (λ rows. row_under rows.references ordinal) read_reference result }
 {
     found(row_under(tx, GET_REFERENCE, ordinal.get()))
 }

@@ -7,10 +7,7 @@ ghost use Rattle.sql_meanings.specs.believed.Entries.{has_two};
 ghost use Rattle.posting_rules.specs.believed.Tables.{row_at, request_key};
 ghost use Rattle.posting_rules.specs.believed.Changes.{with_request};
 ghost use Rattle.store_rows.specs.Calls.{AddsRow, LooksUp};
-ghost use Rattle.store_rows.specs.Columns.{request_in};
-ghost use Rattle.store_rows.specs.Forms.{request_form};
-ghost use Rattle.store_rows.specs.TableAnswers.{ReadsDecision};
-ghost use Rattle.store_rows.specs.believed.Rules.{RequestKeeps};
+ghost use Rattle.store_rows.specs.TableAnswers.{Gives};
 ghost use Rattle.store_rows.specs.believed.BankTables.{request as table};
 ghost use Rattle.store_rows.specs.believed.SeveralRows.{given};
 ghost use Rattle.store_rows.specs.SeveralRows.{AddsRows, PutsNew};
@@ -18,44 +15,44 @@ ghost use Rattle.store_rows.specs.believed.View.{request_entry};
 ghost use Rattle.store_rows.specs.declared.statements.TheConstants.{MAX_KEY};
 ghost use Rattle.store_rows.specs.declared.texts.TheConstants.{ADD_EIGHT_REQUESTS as eight};
 ghost use Rattle.store_rows.specs.declared.texts.TheConstants.{ADD_REQUEST as one};
-ghost use Rattle.store_rows.specs.believed.Stored.{IsDecision};
-ghost use Rattle.store_rows.specs.Stored.{ReadsStored, request_stored};
+ghost use Rattle.store_rows.specs.believed.Readings.{decision_of, read_request};
 
 use crate::columns::{cents_at, outcome_at, whole_at};
 use crate::fault::TableFault;
 use crate::found::{FromRow, found};
 use crate::statements::{put_in, row_under_two};
 use crate::texts::{ADD_EIGHT_REQUESTS, ADD_REQUEST, GET_REQUEST};
-use message_records::{Number, Teller};
-use posting_rules::{Decision, RequestRow, Rule};
+use message_records::{
+    MAX_ACCOUNT, MAX_BALANCE, MAX_BRANCH, MAX_DELTA, MAX_NUMBER, MAX_TELLER, Number, Teller,
+};
+use posting_rules::{Decision, MAX_DECIDED, RequestRow, Rule};
 use sqlite::types::ValueRef;
 use sqlite::{Alter, Row, Transaction};
 
 // What a row says was decided of a request.
 fn decision_from(row: &Row) -> Result<Decision, TableFault>
-    ensures reads { ReadsDecision row.now result }
-    ensures stored { ReadsStored request_stored IsDecision RequestKeeps row.now result }
+    ensures { Gives (decision_of row.now) result }
 {
-    let account = whole_at(row, 3, Rule::Request)?;
-    let branch = whole_at(row, 4, Rule::Request)?;
-    let delta = cents_at(row, 5, Rule::Request)?;
+    let account = whole_at(row, 3, Rule::Request, MAX_ACCOUNT)?;
+    let branch = whole_at(row, 4, Rule::Request, MAX_BRANCH)?;
+    let delta = cents_at(row, 5, Rule::Request, MAX_DELTA)?;
     let outcome = outcome_at(row, 6)?;
-    let balance = cents_at(row, 7, Rule::Request)?;
+    let balance = cents_at(row, 7, Rule::Request, MAX_BALANCE)?;
     Decision::new(account, branch, delta, outcome, balance).ok_or(TableFault::Damaged(
         Rule::Request,
     ))
 }
 
 impl FromRow for RequestRow {
-    ghost use Rattle.store_rows.specs.Forms.{request_form as form};
+    ghost use Rattle.store_rows.specs.believed.Readings.{request_of};
 
-    ghost form = { form };
+    ghost read = { request_of };
 
     fn from_row(row: &Row) -> Result<Self, TableFault> {
         Ok(RequestRow {
-            ordinal: whole_at(row, 0, Rule::Value)?,
-            teller: whole_at(row, 1, Rule::Request)?,
-            number: whole_at(row, 2, Rule::Request)?,
+            ordinal: whole_at(row, 0, Rule::Value, MAX_DECIDED)?,
+            teller: whole_at(row, 1, Rule::Request, MAX_TELLER)?,
+            number: whole_at(row, 2, Rule::Request, MAX_NUMBER)?,
             decision: decision_from(row)?,
         })
     }
@@ -67,8 +64,8 @@ pub fn find_request<S: Alter>(
     teller: Teller,
     number: Number,
 ) -> Result<Option<RequestRow>, TableFault>
-    ensures { LooksUp S.Store tx.old tx.new request_form (λ tables. request_in tables teller number)
-        (λ rows. find (has_two (pos teller) (pos number)) rows.requests) result }
+    ensures { LooksUp S.Store tx.old tx.new (λ rows. find (has_two (pos teller) (pos number)) rows.requests)
+        read_request result }
 {
     found(row_under_two(tx, GET_REQUEST, teller.get(), number.get()))
 }

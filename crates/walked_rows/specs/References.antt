@@ -11,7 +11,6 @@ use Rattle.posting_rules.specs.declared.limits.TheConstants.{MAX_DECIDED}
 use Rattle.posting_rules.specs.declared.fault.Rule.{Rule}
 use Rattle.posting_rules.specs.declared.fault.Rule.TheVariants as rule
 use Rattle.sql_meanings.specs.believed.Entries.{Entry}
-use Rattle.store_rows.specs.TableAnswers.{ReadsReference}
 use Rattle.walked_rows.specs.Reading.{IsOutside}
 use Rattle.walked_rows.specs.StepOutcomes.{BreaksValue, IsRefusedMemory}
 use Rattle.walked_rows.specs.declared.listed.StoredReference.{StoredReference}
@@ -41,6 +40,13 @@ listed_entry r = text_entry r.ordinal r.reference
 -- no request has this ordinal, or the text is no reference
 abbrev pub BreaksListed : Rule → Entry → Type 0
 BreaksListed broken e = BreaksValue (λ x. IsOutside 1 MAX_DECIDED x.key) broken e ⊎ BreaksReference broken e
+
+-- the reference that the value is, or its text is none
+abbrev pub ReadsReference : Value → Result (List ℕ) TableFault → Type 0
+ReadsReference v (Ok read) = (text : List ℕ) → v ≡ Text text → read ≡ text
+ReadsReference v (Err (Sqlite e)) = ⊥
+ReadsReference v (Err (Damaged broken)) = (text : List ℕ) → v ≡ Text text → (broken ≡ rule.Reference)
+    × (reference_from text ≡ None)
 
 -- the value is this ordinal; or memory was refused; or it is no number, or one out of the range
 abbrev pub ReadsOrdinal : Value → Result ℕ TableFault → Type 0

@@ -7,10 +7,10 @@ ghost use Rattle.sql_meanings.specs.believed.Entries.{Entry};
 ghost use Rattle.sql_meanings.specs.StatementAnswers.{IsStoreError};
 ghost use Rattle.posting_rules.specs.declared.limits.TheConstants.{MAX_DECIDED};
 ghost use Rattle.store_rows.specs.believed.BankTables.{reference as reference_table};
-ghost use Rattle.store_rows.specs.TableAnswers.{ReadsReference};
 ghost use Rattle.walked_rows.specs.Leaving.{OnlyReads};
 ghost use Rattle.walked_rows.specs.Pairs.{BreaksUnder, row_under};
-ghost use Rattle.walked_rows.specs.References.{BreaksReference, KeepsAtDamage, ReadsFirst, text_entry};
+ghost use Rattle.walked_rows.specs.References.{BreaksReference, KeepsAtDamage, ReadsFirst, ReadsReference};
+ghost use Rattle.walked_rows.specs.References.{text_entry};
 ghost use Rattle.walked_rows.specs.Rows.{HasStoredRows};
 
 use crate::statements::rows_shown;

@@ -12,32 +12,42 @@ use Rattle.posting_rules.specs.believed.Changes.{replies_past_all, tables_opened
 use Rattle.posting_rules.specs.believed.Commands.{Terms}
 use Rattle.posting_rules.specs.believed.Counter.{opening_for}
 use Rattle.posting_rules.specs.believed.Kept.{KeptFields}
-use Rattle.posting_rules.specs.believed.LookUps.{account_balance_in, floor_in, kept_in, teller_balances_in}
+use Rattle.posting_rules.specs.believed.LookUps.{account_balance_in, balance_of_branch, floor_in, kept_in, lowest_of}
+use Rattle.posting_rules.specs.believed.LookUps.{teller_balances_in, text_of_reference}
 use Rattle.posting_rules.specs.believed.Numbering.{branch_of_account, branch_of_teller}
 use Rattle.posting_rules.specs.believed.Tables.{Tables}
+use Rattle.posting_rules.specs.declared.fault.Rule.{Rule}
 use Rattle.posting_rules.specs.declared.judgments.Found.{Found}
 use Rattle.posting_rules.specs.declared.counter.Opening.{Opening}
 use Rattle.posting_rules.specs.declared.counter.Opening.TheVariants.{Opened}
+use Rattle.posting_rules.specs.declared.rows.RequestRow.{RequestRow}
 use Rattle.sql_meanings.specs.believed.Entries.{Entry, has_two}
-use Rattle.store_rows.specs.believed.Columns.{meta_in, number_at, text_at}
+use Rattle.store_rows.specs.believed.Columns.{meta_in}
+use Rattle.store_rows.specs.believed.Readings.{read_balance, read_branch, read_floor, read_reference, read_request}
 use Rattle.store_rows.specs.believed.Rules.{AccountFits, IsAbove, OfRows, StoredRows, TellerFits, branch_under}
 use Rattle.store_rows.specs.believed.Rules.{floor_under, row_under}
-use Rattle.store_rows.specs.believed.Stored.{BalanceKeeps, FindsStored, IsBalance, IsDecision}
+use Rattle.store_rows.specs.believed.Stored.{FindsStored}
 use Rattle.store_rows.specs.believed.View.{Shows}
 
 -- the balance that the account's row has, none where it has no row; and it has one just where its branch's
 -- count says so
 pub record IsStoredBalance (db : Database) (account : ℕ) (balance : Option ℤ) : Type 0 where
   pub found : OfRows (λ rows.
-      FindsStored (row_under rows.accounts account) IsBalance BalanceKeeps (Ok balance)) db
+      FindsStored (row_under rows.accounts account) read_balance (Ok balance)) db
   pub fits : OfRows (λ rows. AccountFits rows account) db
+
+-- a part of what a stored row reads as, none where there is no row
+abbrev pub HoldsPart : {X Y : Type 0} → Option Entry → (Entry → Result X Rule) → (X → Y) → Option Y → Type 0
+HoldsPart stored read part None = stored ≡ None
+HoldsPart {X} stored read part (Some y) =
+    (r : Entry) × (x : X) × (stored ≡ Some r) × (read r ≡ Ok x) × (y ≡ part x)
 
 -- the balances of a teller's row and of its branch's, none where the teller has no row
 abbrev pub HoldsTeller : StoredRows → ℕ → Option (ℤ × ℤ) → Type 0
 HoldsTeller rows teller None = row_under rows.tellers teller ≡ None
 HoldsTeller rows teller (Some balances) =
-    (r : Entry) × (row_under rows.tellers teller ≡ Some r) × (number_at 0 r ≡ balances.0)
-    × ((b : Entry) × (branch_under rows (branch_of_teller teller) ≡ Some b) × (number_at 1 b ≡ balances.1))
+    FindsStored (row_under rows.tellers teller) read_balance (Ok (Some balances.0))
+    × HoldsPart (branch_under rows (branch_of_teller teller)) read_branch balance_of_branch (Some balances.1)
 
 -- the balances of a teller and of its branch as their rows have them, none where the teller has no row; and it
 -- has one just where its branch does
@@ -47,9 +57,7 @@ pub record IsStoredTeller (db : Database) (teller : ℕ) (balances : Option (ℤ
 
 -- the floor of a branch's row, none where it has none
 abbrev pub HoldsFloor : StoredRows → ℕ → Option ℤ → Type 0
-HoldsFloor rows branch None = floor_under rows branch ≡ None
-HoldsFloor rows branch (Some lowest) =
-    (r : Entry) × (floor_under rows branch ≡ Some r) × (number_at 0 r ≡ lowest)
+HoldsFloor rows branch = HoldsPart (floor_under rows branch) read_floor lowest_of
 
 -- whatever rows the database holds
 abbrev pub IsStoredFloor : Database → ℕ → Option ℤ → Type 0
@@ -57,18 +65,15 @@ IsStoredFloor db branch floor = OfRows (λ rows. HoldsFloor rows branch floor) d
 
 -- the reference in the row under an ordinal, none where there is no such row
 abbrev pub HoldsReference : StoredRows → ℕ → Option (List ℕ) → Type 0
-HoldsReference rows ordinal None = row_under rows.references ordinal ≡ None
-HoldsReference rows ordinal (Some text) =
-    (r : Entry) × (row_under rows.references ordinal ≡ Some r) × (text_at 0 r ≡ text)
+HoldsReference rows ordinal = HoldsPart (row_under rows.references ordinal) read_reference text_of_reference
 
 -- the row of a teller's request under its number has this decision, and the row under its ordinal this
 -- reference; none where there is no row of such a request
 abbrev pub HoldsKept : StoredRows → ℕ → ℕ → Option KeptFields → Type 0
 HoldsKept rows teller number None = find (has_two (pos teller) (pos number)) rows.requests ≡ None
 HoldsKept rows teller number (Some kept) =
-    (r : Entry) × (find (has_two (pos teller) (pos number)) rows.requests ≡ Some r)
-    × IsDecision kept.decision r
-    × ((ordinal : ℕ) × (r.key ≡ pos ordinal) × HoldsReference rows ordinal kept.reference)
+    (r : Entry) × (row : RequestRow) × (find (has_two (pos teller) (pos number)) rows.requests ≡ Some r)
+    × (read_request r ≡ Ok row) × (kept.decision ≡ row.decision) × HoldsReference rows row.ordinal kept.reference
 
 -- the bank's row of `meta` counts so many decided requests
 abbrev pub HoldsDecided : StoredRows → ℕ → Type 0
@@ -97,7 +102,7 @@ pub record RepliesToStored (db : Database) (r : RequestFields) (reply : List ℕ
 abbrev pub HoldsTerms : StoredRows → ℕ → Option Terms → Type 0
 HoldsTerms rows branch None = branch_under rows branch ≡ None
 HoldsTerms rows branch (Some terms) =
-    (r : Entry) × (branch_under rows branch ≡ Some r) × (number_at 0 r ≡ pos terms.accounts)
+    HoldsPart (branch_under rows branch) read_branch (λ r. r.accounts) (Some terms.accounts)
     × HoldsFloor rows branch terms.floor
 
 -- The answer is `Opened` where the branch has no row, `Already` where the rows have these terms, and `Differs`
@@ -117,7 +122,7 @@ pub record OpensByStored (old new : Database) (branch : ℕ) (terms : Terms) (op
 -- the balance that an account's row has, none where it has no row; it has one just where its branch's count says
 -- so; and it isn't below the floor of its branch
 pub record HoldsAccount (rows : StoredRows) (account : ℕ) (balance : Option ℤ) : Type 0 where
-  pub found : FindsStored (row_under rows.accounts account) IsBalance BalanceKeeps (Ok balance)
+  pub found : FindsStored (row_under rows.accounts account) read_balance (Ok balance)
   pub fits : AccountFits rows account
   pub above : IsAbove rows account
 

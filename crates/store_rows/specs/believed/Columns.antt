@@ -11,10 +11,6 @@ use Rattle.sql_meanings.specs.believed.Entries.{Entry, has_key}
 abbrev pub number_at : ℕ → Entry → ℤ
 number_at place row = slice_index_or row.values place (pos 0)
 
--- the text at this place after the numbers of a row
-abbrev pub text_at : ℕ → Entry → List ℕ
-text_at place row = slice_index_or row.texts place []
-
 -- the numbers of a row of `meta`
 abbrev pub meta_numbers : Entry → StoredMeta
 meta_numbers row = record { version = number_at 0 row; decided = number_at 1 row }

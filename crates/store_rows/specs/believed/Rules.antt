@@ -1,28 +1,22 @@
 -- The rows of a bank's tables as a file holds them, whatever values they have, and the nine rules that the
 -- rows of a bank keep.
-use Rattle.std.specs.Prelude.{◌≡◌, ◌≤◌, ◌<◌, ◌≤ℤ◌, ◌+◌, ◌*◌, ℕ, ℤ, pos, nat_abs, List, [], ◌∷◌, find, Option}
-use Rattle.std.specs.Prelude.{Some, None, option_and_then, IsSome, IsTrue, ⊤}
+use Rattle.std.specs.Prelude.{◌≡◌, ◌≢◌, ◌≤◌, ◌<◌, ◌≤ℤ◌, ◌+◌, ℕ, ℤ, pos, List, [], ◌∷◌, find, Option}
+use Rattle.std.specs.Prelude.{Some, None, Result, Err, option_and_then, IsSome}
 use Rattle.std.specs.List.{AllByRecursion}
 use Rattle.sqlite.specs.Effect.{Database, IsDatabase}
-use Rattle.message_records.specs.believed.Outcomes.{code_of}
 use Rattle.message_records.specs.believed.Ranges.{whole_within}
-use Rattle.message_records.specs.believed.Records.{IsReference}
-use Rattle.message_records.specs.declared.records.Outcome.{Outcome}
-use Rattle.message_records.specs.declared.limits.TheConstants.{MAX_ACCOUNT, MAX_BALANCE, MAX_BRANCH}
-use Rattle.message_records.specs.declared.limits.TheConstants.{MAX_DELTA, MAX_MOMENT, MAX_NUMBER, MAX_TELLER}
+use Rattle.message_records.specs.declared.limits.TheConstants.{MAX_ACCOUNT, MAX_BRANCH, MAX_TELLER}
 use Rattle.posting_rules.specs.believed.Numbering.{branch_of_teller, branch_of_account, place_of_account}
-use Rattle.posting_rules.specs.believed.Commands.{IsFloor}
-use Rattle.posting_rules.specs.believed.Kept.{is_kept_with}
 use Rattle.posting_rules.specs.declared.fault.Rule.{Rule}
 use Rattle.posting_rules.specs.declared.fault.Rule.TheVariants.{Meta, Teller, Account, Balance, Request}
 use Rattle.posting_rules.specs.declared.fault.Rule.TheVariants.{Value, Key, Floor, Reference}
-use Rattle.posting_rules.specs.declared.limits.TheConstants.{LAST_BRANCH, MAX_DECIDED, MAX_ACCOUNTS}
-use Rattle.posting_rules.specs.declared.limits.TheConstants.{ACCOUNTS_PER_BRANCH, RECORDS_PER_BATCH}
-use Rattle.posting_rules.specs.declared.limits.TheConstants.{TELLERS_PER_BRANCH}
+use Rattle.posting_rules.specs.declared.limits.TheConstants.{MAX_DECIDED, RECORDS_PER_BATCH}
 use Rattle.sql_meanings.specs.believed.Contents.{HoldsEach}
 use Rattle.sql_meanings.specs.believed.Entries.{Entry, has_key}
-use Rattle.store_rows.specs.believed.Columns.{number_at, text_at}
+use Rattle.store_rows.specs.believed.Columns.{number_at}
 use Rattle.store_rows.specs.believed.BankTables.{bank_tables}
+use Rattle.store_rows.specs.believed.Readings.{read_account, read_branch, read_floor, read_posting, read_reference}
+use Rattle.store_rows.specs.believed.Readings.{read_request, read_teller}
 use Rattle.store_rows.specs.declared.metas.TheConstants.{META_ID}
 
 -- ---- what a file holds
@@ -61,73 +55,21 @@ branch_under rows n = option_and_then (row_under rows.branches) (whole_within 1 
 abbrev pub floor_under : StoredRows → ℕ → Option Entry
 floor_under rows n = option_and_then (row_under rows.floors) (whole_within 1 MAX_BRANCH n)
 
--- ---- a row that keeps a rule
-
--- the number is from least to most
-abbrev pub IsFrom : ℕ → ℕ → ℤ → Type 0
-IsFrom least most z = (n : ℕ) × (z ≡ pos n) × (least ≤ n) × (n ≤ most)
-
--- a branch: its balance is within the limits; its number and its count of accounts are in their ranges
-abbrev pub BranchKeeps : Rule → Entry → Type 0
-BranchKeeps Balance r = nat_abs (number_at 1 r) ≤ MAX_BALANCE
-BranchKeeps Value r = IsFrom 1 LAST_BRANCH r.key × IsFrom 1 MAX_ACCOUNTS (number_at 0 r)
-BranchKeeps _ r = ⊤
-
--- a teller: its balance is within the limits, and its number is one of a branch that can be opened
-abbrev pub TellerKeeps : Rule → Entry → Type 0
-TellerKeeps Balance r = nat_abs (number_at 0 r) ≤ MAX_BALANCE
-TellerKeeps Value r = IsFrom 1 (TELLERS_PER_BRANCH * LAST_BRANCH) r.key
-TellerKeeps _ r = ⊤
-
--- an account: the same
-abbrev pub AccountKeeps : Rule → Entry → Type 0
-AccountKeeps Balance r = nat_abs (number_at 0 r) ≤ MAX_BALANCE
-AccountKeeps Value r = IsFrom 1 (ACCOUNTS_PER_BRANCH * LAST_BRANCH) r.key
-AccountKeeps _ r = ⊤
-
--- a posting: its ordinal and its moment are in their ranges
-abbrev pub PostingKeeps : Rule → Entry → Type 0
-PostingKeeps Value r = IsFrom 1 MAX_DECIDED r.key × IsFrom 0 MAX_MOMENT (number_at 4 r)
-PostingKeeps _ r = ⊤
-
--- the row is of a request that can be kept: each field is in its range, and the outcome is kept with such a
--- balance
-pub record IsOfARequest (r : Entry) : Type 0 where
-  pub teller : IsFrom 1 MAX_TELLER (number_at 0 r)
-  pub number : IsFrom 1 MAX_NUMBER (number_at 1 r)
-  pub account : IsFrom 1 MAX_ACCOUNT (number_at 2 r)
-  pub branch : IsFrom 1 MAX_BRANCH (number_at 3 r)
-  pub delta : nat_abs (number_at 4 r) ≤ MAX_DELTA
-  pub outcome : (o : Outcome) × (number_at 5 r ≡ pos (code_of o)) × IsTrue (is_kept_with o (number_at 6 r))
-  pub balance : nat_abs (number_at 6 r) ≤ MAX_BALANCE
-
--- a kept request: it is one that can be kept, and its ordinal is in its range
-abbrev pub RequestKeeps : Rule → Entry → Type 0
-RequestKeeps Request r = IsOfARequest r
-RequestKeeps Value r = IsFrom 1 MAX_DECIDED r.key
-RequestKeeps _ r = ⊤
-
--- a floor: it is at most zero and within the limit of a balance, and its branch's number is in its range
-abbrev pub FloorKeeps : Rule → Entry → Type 0
-FloorKeeps Floor r = IsFloor (number_at 0 r)
-FloorKeeps Value r = IsFrom 1 LAST_BRANCH r.key
-FloorKeeps _ r = ⊤
-
--- a reference: it is of so many printable bytes, and its ordinal is in its range
-abbrev pub ReferenceKeeps : Rule → Entry → Type 0
-ReferenceKeeps Reference r = IsReference (text_at 0 r)
-ReferenceKeeps Value r = IsFrom 1 MAX_DECIDED r.key
-ReferenceKeeps _ r = ⊤
-
 -- ---- rows that keep a rule
 
--- each row does
-abbrev pub EachKeeps : Rule → StoredRows → Type 0
-EachKeeps rule rows =
-    AllByRecursion (BranchKeeps rule) rows.branches × AllByRecursion (TellerKeeps rule) rows.tellers
-    × AllByRecursion (AccountKeeps rule) rows.accounts × AllByRecursion (PostingKeeps rule) rows.history
-    × AllByRecursion (RequestKeeps rule) rows.requests × AllByRecursion (FloorKeeps rule) rows.floors
-    × AllByRecursion (ReferenceKeeps rule) rows.references
+-- none of them reads as breaking it
+abbrev pub NoneBreaks : {X : Type 0} → Rule → (Entry → Result X Rule) → List Entry → Type 0
+NoneBreaks rule read = AllByRecursion (λ e. read e ≢ Err rule)
+
+-- nor does a row of any table
+pub record EachKeeps (rule : Rule) (rows : StoredRows) : Type 0 where
+  pub branches : NoneBreaks rule read_branch rows.branches
+  pub tellers : NoneBreaks rule read_teller rows.tellers
+  pub accounts : NoneBreaks rule read_account rows.accounts
+  pub history : NoneBreaks rule read_posting rows.history
+  pub requests : NoneBreaks rule read_request rows.requests
+  pub floors : NoneBreaks rule read_floor rows.floors
+  pub references : NoneBreaks rule read_reference rows.references
 
 -- the account isn't below the floor of its branch, where it has one
 abbrev pub IsAbove : StoredRows → ℕ → Type 0

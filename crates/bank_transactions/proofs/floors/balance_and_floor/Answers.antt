@@ -6,10 +6,11 @@ use Rattle.std.proofs.lemmas.Int.{ints}
 use Rattle.message_records.specs.declared.limits.TheConstants.{MAX_ACCOUNT}
 use Rattle.sqlite.specs.{Effect.Database, Held.state, State.HasCleanDisk}
 use Rattle.posting_rules.specs.believed.{Numbering.branch_of_account, LookUps.account_balance_in, LookUps.floor_in}
-use Rattle.store_rows.specs.believed.{Rules.row_under, Stored.BalanceKeeps, Stored.FindsStored, Stored.IsBalance}
+use Rattle.posting_rules.specs.declared.fault.Rule.TheVariants.{Balance}
+use Rattle.store_rows.specs.believed.{Readings.read_balance, Rules.row_under, Stored.FindsStored}
 use Rattle.bank_transactions.specs.{Floors.falls_below, believed.Stored.IsStoredFloor}
-use Rattle.bank_transactions.proofs.{Broken.below_broken, FittingAccounts.is_above, SoundRows.not_below}
-use Rattle.bank_transactions.proofs.ReadsInTurn.{reads_both, reads_but, reads_told}
+use Rattle.bank_transactions.proofs.{Broken.below_broken, FittingAccounts.is_above}
+use Rattle.bank_transactions.proofs.ReadsInTurn.{reads_both, reads_broken, reads_but, reads_told}
 use Rattle.bank_transactions.proofs.floors.balance_and_floor.Goals as goal
 
 -- there are both, and the balance is below the floor
@@ -44,39 +45,22 @@ returns-then-is_below-clause-says g c =
     let one = c.in_ok-balance.ensures in
     let two = c.in_ok-floor.ensures in
     let key = c.branch_of_account.ensures in
-    let both = reads_both one.says two.says in
     let it = both_there c.in_ok-balance.balance c.in_ok-floor.floor
     (sym c.is_below.ensures ∙ c.if-is_below.true) in
-    let below = not_above it.0 it.1 it.4 in
     let some : 1 ≤ n = search rules in
     let most : n ≤ MAX_ACCOUNT = search rules in
-    record {
-      same_reference = both.same_reference;
-      told =
-          λ clean t shows sound.
-          let told = (both.told clean t shows sound).0 in
-          below (not_below t n it.0 it.1 sound (sym it.2 ∙ ap (λ p. p.0) told)
-          (sym it.3 ∙ ap (λ p. p.1) told ∙ ap (floor_in t) key));
-      kept =
-          λ clean.
-          let before : HasCleanDisk (state g.S.Store c.open_balance.new.tx.conn.now) =
-          omega (arith, two.says.survives.clean, clean) in
-          let on = (both.kept clean).0.goes_on in
-          let stored = one.stored before in
-          let still = (one.says.kept before).0.now in
-          let db = (state g.S.Store c.args.tx.now.conn.now).now in (
-            record { was_open = on.opened; committed = λ h. on.committed },
-            below_broken db n it.0 it.1 some most
-                (λ rows has. subst (λ (b : Option ℤ). FindsStored (row_under rows.accounts n) IsBalance BalanceKeeps (Ok b))
-                it.2 (stored.found rows has))
-                (subst (IsStoredFloor db (branch_of_account n)) it.3
-                (subst (λ (k : ℕ). IsStoredFloor db k c.in_ok-floor.floor) key
-                (subst (λ (d : Database). IsStoredFloor d c.branch_of_account.result c.in_ok-floor.floor) still
-                (two.stored clean))))
-                below,
-          );
-      survives = both.survives;
-    }
+    let db = (state g.S.Store c.args.tx.now.conn.now).now in
+    reads_broken Balance (reads_both one.says two.says) (λ clean.
+    let before : HasCleanDisk (state g.S.Store c.open_balance.new.tx.conn.now) =
+    omega (arith, two.says.survives.clean, clean) in
+    below_broken db n it.0 it.1 some most
+    (λ rows has. subst (λ (b : Option ℤ). FindsStored (row_under rows.accounts n) read_balance (Ok b))
+    it.2 ((one.stored before).found rows has))
+    (subst (IsStoredFloor db (branch_of_account n)) it.3
+    (subst (λ (k : ℕ). IsStoredFloor db k c.in_ok-floor.floor) key
+    (subst (λ (d : Database). IsStoredFloor d c.branch_of_account.result c.in_ok-floor.floor)
+    (one.says.kept before).0.now (two.stored clean))))
+    (not_above it.0 it.1 it.4))
 
 pub returns-clause-stored : goal.returns-clause-stored
 returns-clause-stored g c clean =

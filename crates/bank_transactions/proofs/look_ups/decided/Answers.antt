@@ -1,15 +1,15 @@
 -- What the row of the bank tells of how many requests are decided.
-use Rattle.std.proofs.Common.{◌≡◌, ◌≤◌, ◌<◌, ℕ, ℤ, pos, negsuc, nat_abs, [], ◌∷◌, Some, None, Option, Err, false}
+use Rattle.std.proofs.Common.{◌≡◌, ◌≤◌, ◌<◌, ℕ, ℤ, pos, negsuc, nat_abs, [], ◌∷◌, Some, None, Err, false}
 use Rattle.std.proofs.Common.{true, rules, arith, sym, ap, refl, ◌∙◌}
 use Rattle.std.specs.Prelude.{int_lt}
 use Rattle.std.proofs.lemmas.Int.{ints}
-use Rattle.sqlite.specs.Held.{state}
-use Rattle.posting_rules.specs.declared.limits.TheConstants.{MAX_DECIDED}
-use Rattle.store_rows.specs.{believed.Columns.meta_in, TableAnswers.Never, believed.View.meta_entry}
+use Rattle.posting_rules.specs.declared.{fault.Rule.TheVariants.Meta, limits.TheConstants.MAX_DECIDED}
+use Rattle.store_rows.specs.{believed.Columns.meta_in, believed.View.meta_entry}
 use Rattle.store_rows.specs.{declared.metas.TheConstants.VERSION, declared.metas.StoredMeta.StoredMeta}
 use Rattle.store_rows.proofs.MetaRow.{has_one}
-use Rattle.bank_transactions.proofs.{Broken.meta_broken, Broken.never_broken, ReadsInTurn.read_failed}
-use Rattle.bank_transactions.proofs.{SoundRows.err_found, look_ups.decided.Goals.then-meta-lt0-via-then-meta-lt0}
+use Rattle.bank_transactions.proofs.{Broken.meta_broken, ReadsInTurn.looked_at, ReadsInTurn.meta_failed}
+use Rattle.bank_transactions.proofs.ReadsInTurn.{reads_broken}
+use Rattle.bank_transactions.proofs.look_ups.decided.Goals.{then-meta-lt0-via-then-meta-lt0}
 use Rattle.bank_transactions.proofs.{look_ups.decided.Goals.then-meta-lt0-via-else-meta-lt0+then-meta-gt-MAX_DECIDED}
 use mir.Val.{to_z, of_z}
 use mir.Syntax.{w64}
@@ -24,45 +24,17 @@ decided_of : (m : StoredMeta) (n : ℕ) (version : ℤ) → Some m
     ≡ Some (record { version = version; decided = pos n }) → m.decided ≡ pos n
 decided_of m n version is = cc
 
-none_is : (o : Option StoredMeta) (n : ℕ) → o ≡ meta_in (meta_entry VERSION n ∷ []) → o ≡ None → ⊥
-none_is o n is none = let both = sym none ∙ is in cc
-
 pub returns-in_err-meta-clause-says : goal.returns-in_err-meta-clause-says
-returns-in_err-meta-clause-says g c = record {
-  told = λ clean t shows sound.
-      let same : c.from_residual.result ≡ Err c.in_err-meta.field-0.0 = search rules in
-      let before = state g.S.Store c.args.tx.now.conn.now in
-      let after = state g.S.Store c.read_meta.new.tx.conn.now in
-      rw same
-      (err_found before after before after
-      (meta_in (meta_entry VERSION t.decided ∷ [])) Never t.decided c.in_err-meta.field-0.0
-      (λ m broken is breaks. breaks)
-      (c.in_err-meta.ensures.says.told clean (meta_entry VERSION t.decided ∷ []) (has_one before.now t shows)));
-  same_reference = search rules;
-  kept = λ clean.
-      let same : c.from_residual.result ≡ Err c.in_err-meta.field-0.0 = search rules in
-      rw same (read_failed g.S.Store c.args.tx.now.conn.now c.read_meta.new.tx.conn.now
-      c.in_err-meta.field-0.0
-      (never_broken _ _ c.in_err-meta.field-0.0 (c.in_err-meta.ensures.says.told clean))
-      (c.in_err-meta.ensures.says.kept clean));
-  survives = search rules;
-}
+returns-in_err-meta-clause-says g c =
+    let fault = c.in_err-meta.field-0.0 in
+    let same : c.from_residual.result ≡ Err fault = search rules in
+    rw same (meta_failed fault c.in_err-meta.ensures.says)
 
 pub returns-in_default-clause-says : goal.returns-in_default-clause-says
-returns-in_default-clause-says g c = record {
-  told = λ clean t shows sound.
-      none_is _ t.decided
-      (c.in_ok-meta.ensures.says.told clean (meta_entry VERSION t.decided ∷ [])
-      (has_one _ t shows)).0 c.in_default.is;
-  same_reference = search rules;
-  kept = λ clean.
-      let looked = c.in_ok-meta.ensures.says.kept clean in (
-        record { was_open = λ h. looked.0.was_open; committed = λ h. looked.0.committed_is },
-        meta_broken _ _ None (rw c.in_default.is at (c.in_ok-meta.ensures.says.told clean))
-            (λ n version is most. let no = is in cc),
-      );
-  survives = search rules;
-}
+returns-in_default-clause-says g c =
+    reads_broken Meta (looked_at c.in_ok-meta.ensures.says) (λ clean.
+    meta_broken _ _ None (rw c.in_default.is at (c.in_ok-meta.ensures.says.told clean))
+    (λ n version is most. let no = is in cc))
 
 not_negative : (z : ℤ) (n : ℕ) → z ≡ pos n → int_lt z (pos 0) ≡ true → ⊥
 not_negative (pos k) n is low = omega (arith, ints)
@@ -72,36 +44,17 @@ not_beyond : (z : ℤ) (n : ℕ) → z ≡ pos n → n ≤ MAX_DECIDED → MAX_D
 not_beyond z n is most high = let h = rw is at high in omega arith
 
 pub returns-then-meta-lt0-clause-says : goal.returns-then-meta-lt0-clause-says
-returns-then-meta-lt0-clause-says g c = record {
-  told = λ clean t shows sound.
-      let m = c.in-Some.meta in
-      let found =
-      (c.in_ok-meta.ensures.says.told clean (meta_entry VERSION t.decided ∷ []) (has_one _ t shows)).0 in
-      let same : to_z w64 (of_z w64 m.decided) ≡ m.decided = search rules in
-      let is : to_z w64 (of_z w64 m.decided) ≡ pos t.decided = same
-      ∙ row_is m t.decided (sym c.in-Some.is ∙ found) in
-      elim c.then-meta-lt0.branch [
-        | then-meta-lt0-via-then-meta-lt0 w ↦ not_negative _ t.decided is w.if-meta-lt0.true
-        | then-meta-lt0-via-else-meta-lt0+then-meta-gt-MAX_DECIDED w ↦ not_beyond _ t.decided is sound.decided
-            w.if-meta-gt-MAX_DECIDED.true
-      ];
-  same_reference = search rules;
-  kept = λ clean.
-      let m = c.in-Some.meta in
-      let looked = c.in_ok-meta.ensures.says.kept clean in (
-        record { was_open = λ h. looked.0.was_open; committed = λ h. looked.0.committed_is },
-        meta_broken _ _ (Some m) (rw c.in-Some.is at (c.in_ok-meta.ensures.says.told clean))
-            (λ n version found most.
-            let same : to_z w64 (of_z w64 m.decided) ≡ m.decided = search rules in
-            let is : to_z w64 (of_z w64 m.decided) ≡ pos n = same ∙ decided_of m n version found in
-            elim c.then-meta-lt0.branch [
-              | then-meta-lt0-via-then-meta-lt0 w ↦ not_negative _ n is w.if-meta-lt0.true
-              | then-meta-lt0-via-else-meta-lt0+then-meta-gt-MAX_DECIDED w ↦ not_beyond _ n is most
-                  w.if-meta-gt-MAX_DECIDED.true
-            ]),
-      );
-  survives = search rules;
-}
+returns-then-meta-lt0-clause-says g c =
+    let m = c.in-Some.meta in
+    reads_broken Meta (looked_at c.in_ok-meta.ensures.says) (λ clean.
+    meta_broken _ _ (Some m) (rw c.in-Some.is at (c.in_ok-meta.ensures.says.told clean)) (λ n version found most.
+    let same : to_z w64 (of_z w64 m.decided) ≡ m.decided = search rules in
+    let is : to_z w64 (of_z w64 m.decided) ≡ pos n = same ∙ decided_of m n version found in
+    elim c.then-meta-lt0.branch [
+      | then-meta-lt0-via-then-meta-lt0 w ↦ not_negative _ n is w.if-meta-lt0.true
+      | then-meta-lt0-via-else-meta-lt0+then-meta-gt-MAX_DECIDED w ↦ not_beyond _ n is most
+          w.if-meta-gt-MAX_DECIDED.true
+    ]))
 
 pub returns-clause-says : goal.returns-clause-says
 returns-clause-says g c = record {

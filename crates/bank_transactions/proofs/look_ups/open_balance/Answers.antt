@@ -1,9 +1,13 @@
 -- What the balance of an account tells.
-use Rattle.std.proofs.Common.{◌≡◌, ℕ, Ok, Err, rules, sym, subst, arith}
+use Rattle.std.proofs.Common.{◌≡◌, ◌≤◌, ℕ, Ok, Err, rules, sym, ap, subst, arith}
 use Rattle.sqlite.specs.{Effect.Database, Held.state, State.HasCleanDisk}
-use Rattle.store_rows.specs.believed.Rules.{BranchKeeps, HoldsBank, branch_under}
-use Rattle.store_rows.specs.{believed.Stored.FindsStored, Stored.IsBranch}
-use Rattle.bank_transactions.proofs.{FittingAccounts.fits, FailedBalances.balance_failed, ReadsInTurn.after_found}
+use Rattle.store_rows.specs.believed.{Readings.read_branch, Rules.HoldsBank, Rules.branch_under, Stored.FindsStored}
+use Rattle.message_records.specs.declared.limits.TheConstants.{MAX_ACCOUNT}
+use Rattle.posting_rules.specs.declared.fault.Rule.TheVariants as broken
+use Rattle.store_rows.specs.{Holders.entry_under, believed.Readings.read_balance}
+use Rattle.bank_transactions.proofs.{FittingAccounts.fits, FittingAccounts.fitting, FailedBalances.balance_failed}
+use Rattle.bank_transactions.proofs.ReadsInTurn.{after_found, find_tells, reads_both, reads_broken, reads_told}
+use Rattle.bank_transactions.proofs.SoundRows.{member_found}
 use Rattle.store_rows.specs.declared.holders.Member.TheVariants.{Account}
 use Rattle.bank_transactions.proofs.look_ups.open_balance.Goals as goal
 
@@ -15,12 +19,29 @@ returns-in_err-balance-clause-says g c =
 
 pub returns-then-is_some-is_open-clause-says : goal.returns-then-is_some-is_open-clause-says
 returns-then-is_some-is_open-clause-says g c =
-    record {
-      told = search rules;
-      same_reference = search rules;
-      kept = search rules;
-      survives = search rules;
-    }
+    let n = c.args.account in
+    let some : 1 ≤ n = search rules in
+    let most : n ≤ MAX_ACCOUNT = search rules in
+    reads_broken broken.Account (reads_both (find_tells (entry_under (Account n)) read_balance c.in_ok-balance.balance
+    c.in_ok-balance.ensures (λ t sound finds. member_found (Account n) t sound c.in_ok-balance.balance finds))
+    c.in_ok-branch.ensures.says) (λ clean rows has keeps.
+    let mid : HasCleanDisk (state g.S.Store c.balance_of.new.tx.conn.now) =
+    omega (arith, c.in_ok-branch.ensures.says.survives.clean, clean) in
+    let there : HoldsBank (state g.S.Store c.balance_of.new.tx.conn.now).now rows =
+    subst (λ (db : Database). HoldsBank db rows) (sym (c.in_ok-balance.ensures.kept mid).0.now_is) has in
+    let branch =
+    subst (λ (k : ℕ). FindsStored (branch_under rows k) read_branch (Ok c.in_ok-branch.branch))
+    c.branch_of_account.ensures (c.in_ok-branch.ensures.stored clean rows there) in
+    let same = fitting rows n c.in_ok-balance.balance c.in_ok-branch.branch
+    (c.in_ok-balance.ensures.told mid rows has).0 branch (keeps n some most) in
+    search rules)
+
+pub returns-clause-says : goal.returns-clause-says
+returns-clause-says g c =
+    reads_told (reads_both (find_tells (entry_under (Account c.args.account)) read_balance c.in_ok-balance.balance
+    c.in_ok-balance.ensures
+    (λ t sound finds. member_found (Account c.args.account) t sound c.in_ok-balance.balance finds))
+    c.in_ok-branch.ensures.says) (λ t told. ap (λ p. p.0) told)
 
 pub returns-then-is_some-is_open-clause-stored : goal.returns-then-is_some-is_open-clause-stored
 returns-then-is_some-is_open-clause-stored g c = tt
@@ -34,15 +55,16 @@ pub returns-clause-stored : goal.returns-clause-stored
 returns-clause-stored g c clean =
     let mid : HasCleanDisk (state g.S.Store c.balance_of.new.tx.conn.now) =
     omega (arith, c.in_ok-branch.ensures.says.survives.clean, clean) in
-    let looked = c.in_ok-balance.ensures.kept mid in
+    let looked = c.in_ok-balance.ensures.told mid in
+    let still = (c.in_ok-balance.ensures.kept mid).0.now_is in
     record {
-      found = looked.1;
+      found = λ rows has. (looked rows has).0;
       fits = λ rows has.
           let there : HoldsBank (state g.S.Store c.balance_of.new.tx.conn.now).now rows =
-          subst (λ (db : Database). HoldsBank db rows) (sym looked.0.0.now_is) has in
+          subst (λ (db : Database). HoldsBank db rows) (sym still) has in
           let branch =
-          subst (λ (k : ℕ). FindsStored (branch_under rows k) IsBranch BranchKeeps (Ok c.in_ok-branch.branch))
+          subst (λ (k : ℕ). FindsStored (branch_under rows k) read_branch (Ok c.in_ok-branch.branch))
           c.branch_of_account.ensures (c.in_ok-branch.ensures.stored clean rows there) in
-          fits rows c.args.account c.in_ok-balance.balance c.in_ok-branch.branch (looked.1 rows has) branch
+          fits rows c.args.account c.in_ok-balance.balance c.in_ok-branch.branch (looked rows has).0 branch
           (search rules);
     }

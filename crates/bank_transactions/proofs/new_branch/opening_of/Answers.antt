@@ -6,8 +6,7 @@ use Rattle.posting_rules.specs.{declared.counter.Opening.TheVariants.Opened, dec
 use Rattle.posting_rules.specs.believed.Tables.{Tables, row_at, branch_key}
 use Rattle.bank_transactions.proofs.ReadsInTurn.{reads_both, reads_but, reads_told}
 use Rattle.sqlite.specs.{Effect.Database, Held.state, State.HasCleanDisk}
-use Rattle.store_rows.specs.believed.Rules.{BranchKeeps, StoredRows, branch_under}
-use Rattle.store_rows.specs.{believed.Stored.FindsStored, Stored.IsBranch}
+use Rattle.store_rows.specs.believed.{Readings.read_branch, Rules.StoredRows, Rules.branch_under, Stored.FindsStored}
 use Rattle.bank_transactions.specs.believed.Stored.{HoldsFloor, HoldsTerms, IsStoredFloor}
 use Rattle.bank_transactions.proofs.new_branch.opening_of.Goals as goal
 
@@ -43,11 +42,11 @@ returns-clause-says g c =
 -- ---- of the stored rows
 
 terms_held : (rows : StoredRows) (b n m : ℕ) (row : BranchRow) (floor : Option ℤ) → n ≡ b → m ≡ b
-    → FindsStored (branch_under rows n) IsBranch BranchKeeps (Ok (Some row)) → HoldsFloor rows m floor
+    → FindsStored (branch_under rows n) read_branch (Ok (Some row)) → HoldsFloor rows m floor
     → HoldsTerms rows b (Some (opened_with row.accounts floor))
 terms_held rows b n m row floor one two finds holds =
-    let it = subst (λ (k : ℕ). FindsStored (branch_under rows k) IsBranch BranchKeeps (Ok (Some row))) one finds in
-    (it.0, it.1, it.2.1, subst (λ (k : ℕ). HoldsFloor rows k floor) two holds)
+    let it = subst (λ (k : ℕ). FindsStored (branch_under rows k) read_branch (Ok (Some row))) one finds in
+    ((it.0, row, it.1, it.2, refl), subst (λ (k : ℕ). HoldsFloor rows k floor) two holds)
 
 pub returns-clause-stored : goal.returns-clause-stored
 returns-clause-stored g c clean =

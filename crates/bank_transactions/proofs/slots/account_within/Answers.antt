@@ -1,7 +1,9 @@
 -- What the balance of an account tells.
 use Rattle.std.proofs.Common.{◌≡◌, Err, rules, arith}
 use Rattle.store_rows.specs.declared.holders.Member.TheVariants.{Account}
-use Rattle.bank_transactions.proofs.{FailedBalances.balance_failed, LookUps.looks_again}
+use Rattle.bank_transactions.proofs.{FailedBalances.balance_failed, LookUps.looks_again, LookUps.reads_where}
+use Rattle.bank_transactions.proofs.{ReadsInTurn.find_tells, SoundRows.member_found}
+use Rattle.store_rows.specs.{Holders.entry_under, believed.Readings.read_balance}
 use Rattle.sqlite.specs.{Held.state, State.HasCleanDisk}
 use Rattle.posting_rules.specs.believed.Numbering.{branch_of_account}
 use Rattle.bank_transactions.specs.{Filling.HoldsBranch, believed.Stored.HoldsAccount, believed.Stored.HoldsFloor}
@@ -15,6 +17,11 @@ returns-in_err-balance-clause-says g c =
     rw same (record {
       says = balance_failed (λ t so. so.0) (Account c.args.account) fault c.in_err-balance.ensures;
     })
+
+pub returns-clause-says : goal.returns-clause-says
+returns-clause-says g c =
+    reads_where (find_tells (entry_under (Account c.args.account)) read_balance _ c.in_ok-balance.ensures
+    (λ t sound finds. member_found (Account c.args.account) t sound c.in_ok-balance.balance finds)) (λ t so. so.0)
 
 -- both rows are looked up again
 pub returns-then-is_some-is_open-clause-says : goal.returns-then-is_some-is_open-clause-says
@@ -30,10 +37,10 @@ returns-then-is_some-is_open-clause-stored g c =
     (λ clean.
     let mid : HasCleanDisk (state g.S.Store c.balance_of.new.tx.conn.now) =
     omega (arith, c.account_beside.ensures.says.survives.clean, clean) in
-    (c.in_ok-balance.ensures.kept mid).0.0.now_is)
+    (c.in_ok-balance.ensures.kept mid).0.now_is)
     c.account_beside.ensures.stored
 
 pub returns-clause-stored : goal.returns-clause-stored
 returns-clause-stored g c clean rows has beside =
     account_held rows c.args.account c.in_ok-balance.balance c.args.floor c.args.branch
-    ((c.in_ok-balance.ensures.kept clean).1 rows has) beside (search rules) (search rules)
+    (c.in_ok-balance.ensures.told clean rows has).0 beside (search rules) (search rules)

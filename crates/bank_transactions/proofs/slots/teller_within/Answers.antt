@@ -1,7 +1,9 @@
 -- What the balance of a teller tells.
 use Rattle.std.proofs.Common.{◌≡◌, Err, rules, arith}
 use Rattle.store_rows.specs.declared.holders.Member.TheVariants.{Teller}
-use Rattle.bank_transactions.proofs.{FailedBalances.balance_failed, LookUps.looks_again}
+use Rattle.bank_transactions.proofs.{FailedBalances.balance_failed, LookUps.looks_again, LookUps.reads_where}
+use Rattle.bank_transactions.proofs.{ReadsInTurn.find_tells, SoundRows.member_found}
+use Rattle.store_rows.specs.{Holders.entry_under, believed.Readings.read_balance}
 use Rattle.sqlite.specs.{Held.state, State.HasCleanDisk}
 use Rattle.posting_rules.specs.believed.Numbering.{branch_of_teller}
 use Rattle.bank_transactions.specs.{Filling.HoldsBranch, Stored.HoldsTellerRow}
@@ -16,6 +18,11 @@ returns-in_err-balance-clause-says g c =
       says = balance_failed (λ t so. so.0) (Teller c.args.teller) fault c.in_err-balance.ensures;
     })
 
+pub returns-clause-says : goal.returns-clause-says
+returns-clause-says g c =
+    reads_where (find_tells (entry_under (Teller c.args.teller)) read_balance _ c.in_ok-balance.ensures
+    (λ t sound finds. member_found (Teller c.args.teller) t sound c.in_ok-balance.balance finds)) (λ t so. so.0)
+
 -- both rows are looked up again
 pub returns-then-is_some-clause-says : goal.returns-then-is_some-clause-says
 returns-then-is_some-clause-says g c = looks_again c.in_ok-balance.ensures c.teller_beside.ensures.says (λ t so. so.0)
@@ -28,10 +35,10 @@ returns-then-is_some-clause-stored g c =
     (λ clean.
     let mid : HasCleanDisk (state g.S.Store c.balance_of.new.tx.conn.now) =
     omega (arith, c.teller_beside.ensures.says.survives.clean, clean) in
-    (c.in_ok-balance.ensures.kept mid).0.0.now_is)
+    (c.in_ok-balance.ensures.kept mid).0.now_is)
     c.teller_beside.ensures.stored
 
 pub returns-clause-stored : goal.returns-clause-stored
 returns-clause-stored g c clean rows has branch =
     teller_held rows c.args.teller c.in_ok-balance.balance c.args.branch
-    ((c.in_ok-balance.ensures.kept clean).1 rows has) branch (search rules)
+    (c.in_ok-balance.ensures.told clean rows has).0 branch (search rules)

@@ -1,15 +1,14 @@
 -- What the row means.
 use Rattle.std.proofs.Common.{rules}
-use Rattle.store_rows.specs.{believed.Columns.meta_in, Columns.meta_shown, TableAnswers.Never, TableAnswers.ReadsRow}
-use Rattle.store_rows.proofs.{FoundRows.finds, OtherValue.other_told, Reasons.looks}
+use Rattle.store_rows.specs.{believed.Columns.meta_in, Columns.meta_of}
+use Rattle.store_rows.proofs.{FoundRows.finds_meta, OtherValue.other_told, Reasons.looks}
 use Rattle.store_rows.proofs.metas.read_meta.Goals as goal
 
 pub returns-clause-says : goal.returns-clause-says
 returns-clause-says g c = record {
-  told = λ clean rows has. finds _ _ meta_shown Never (meta_in rows) c.meta_row.result c.found.result
-      c.found.ensures.reads
+  told = λ clean rows has. finds_meta _ _ (meta_in rows) c.meta_row.result c.found.result c.found.ensures
       (c.meta_row.ensures.told clean rows has);
-  kept = λ clean. looks _ _ (ReadsRow meta_shown Never) c.meta_row.result c.found.result c.found.ensures.reads
+  kept = λ clean. looks _ _ meta_of c.meta_row.result c.found.result c.found.ensures
       (c.meta_row.ensures.kept clean).0;
   same_reference = search rules;
   survives = search rules;
@@ -17,4 +16,4 @@ returns-clause-says g c = record {
 
 pub returns-clause-other : goal.returns-clause-other
 returns-clause-other g c clean =
-    other_told _ c.meta_row.result c.found.result (c.meta_row.ensures.kept clean).1 c.found.ensures.reads
+    other_told _ c.meta_row.result c.found.result (c.meta_row.ensures.kept clean).1 c.found.ensures

@@ -1,0 +1,341 @@
+-- What the columns of a row were, where they were read; and that sound rows read as themselves.
+use Rattle.std.proofs.Common.{◌≡◌, ◌≤◌, ◌≤ℤ◌, ◌*◌, ◌++◌, ℕ, zero, suc, ℤ, pos, negsuc, Bool, true, false, cond, List, []}
+use Rattle.std.proofs.Common.{◌∷◌, Some, None, Option, Result, Ok, Err, refl, ap, subst, ◌∙◌, arith}
+use Rattle.std.specs.{Prelude.◌&&◌, Prelude.int_lt, Prelude.nat_abs, Prelude.nat_le, Prelude.slice_index_or}
+use Rattle.std.specs.{Prelude.IsTrue, Option.ok_or}
+use Rattle.std.proofs.lemmas.{Bool.Decides.nat_tests, Int.ints}
+use Rattle.sqlite.specs.Order.{Row, column}
+use Rattle.sqlite.specs.declared.types.Value.{Value, TheVariants.Blob, TheVariants.Int, TheVariants.Null}
+use Rattle.sqlite.specs.declared.types.Value.TheVariants.{Real, Text}
+use Rattle.message_records.specs.{believed.Outcomes.code_of, believed.Reading.◌>>=◌, declared.records.Outcome.Outcome}
+use Rattle.message_records.specs.believed.{Ranges.cents_within, Ranges.whole_within, Records.reference_from}
+use Rattle.message_records.specs.declared.records.Outcome.TheVariants.{Posted, NoTeller, WrongBranch, NoAccount}
+use Rattle.message_records.specs.declared.records.Outcome.TheVariants.{OverLimit, ReusedNumber, Full, BelowFloor}
+use Rattle.message_records.specs.declared.records.Outcome.TheVariants.{Malformed}
+use Rattle.message_records.specs.declared.limits.TheConstants.{MAX_ACCOUNT, MAX_BALANCE, MAX_BRANCH, MAX_DELTA}
+use Rattle.message_records.specs.declared.limits.TheConstants.{MAX_MOMENT, MAX_NUMBER, MAX_TELLER}
+use Rattle.posting_rules.specs.believed.Kept.{is_kept_with}
+use Rattle.posting_rules.specs.Damage.{IsSoundAccount, IsSoundBranch, IsSoundFloor, IsSoundPosting}
+use Rattle.posting_rules.specs.Damage.{IsSoundReference, IsSoundRequest, IsSoundTeller}
+use Rattle.posting_rules.specs.declared.fault.Rule.{Rule, TheVariants.Balance, TheVariants.Floor, TheVariants.Meta}
+use Rattle.posting_rules.specs.declared.fault.Rule.TheVariants.{Teller, Account, Key, Request, Value as OfValue}
+use Rattle.posting_rules.specs.declared.fault.Rule.TheVariants.{Reference}
+use Rattle.posting_rules.specs.declared.limits.TheConstants.{ACCOUNTS_PER_BRANCH, LAST_BRANCH, MAX_ACCOUNTS}
+use Rattle.posting_rules.specs.declared.limits.TheConstants.{MAX_DECIDED, TELLERS_PER_BRANCH}
+use Rattle.posting_rules.specs.declared.rows.{AccountRow.AccountRow, BranchRow.BranchRow, FloorRow.FloorRow}
+use Rattle.posting_rules.specs.declared.rows.{HistoryRow.HistoryRow, ReferenceRow.ReferenceRow, RequestRow.RequestRow}
+use Rattle.posting_rules.specs.declared.rows.TellerRow.{TellerRow}
+use Rattle.sql_meanings.specs.believed.Entries.{Entry, numbers, texts_held}
+use Rattle.store_rows.specs.believed.{Columns.number_at, SeveralRows.given}
+use Rattle.store_rows.specs.believed.Readings.{balance_of, branch_of, cents, floor_of, lowest, number, outcome_with}
+use Rattle.store_rows.specs.believed.Readings.{outcome_of, read_account, read_balance, read_branch, read_floor}
+use Rattle.store_rows.specs.believed.Readings.{read_posting, read_reference, read_request, read_teller, reference}
+use Rattle.store_rows.specs.believed.Readings.{decision_of, reference_of, request_of, whole}
+use Rattle.store_rows.specs.believed.View.{account_entry, branch_entry, floor_entry, history_entry, reference_entry}
+use Rattle.store_rows.specs.believed.View.{request_entry, teller_entry}
+
+-- ---- one column
+
+-- what comes next was read too
+then_ok : {A B : Type 0} (r : Result A Rule) (f : A → Result B Rule) (b : B) → r >>= f ≡ Ok b
+    → (a : A) × (r ≡ Ok a) × (f a ≡ Ok b)
+then_ok (Ok a) f b is = (a, refl, is)
+then_ok (Err rule) f b is = absurd cc
+
+le_of : (a b : ℕ) → nat_le a b ≡ true → a ≤ b
+le_of a b is = grind (arith, nat_tests)
+
+within : (least most k n : ℕ) (rule : Rule) → ok_or (whole_within least most k) rule ≡ Ok n
+    → (k ≡ n) × (least ≤ n) × (n ≤ most)
+within least most k n rule is = go (nat_le least k) (nat_le k most) refl refl is
+  where
+    go : (a b : Bool) → nat_le least k ≡ a → nat_le k most ≡ b → ok_or (cond (a && b) (Some k) None) rule ≡ Ok n
+        → (k ≡ n) × (least ≤ n) × (n ≤ most)
+    go true true low high is =
+        let same : k ≡ n = cc in
+        (same, subst (λ j. least ≤ j) same (le_of least k low), subst (λ j. j ≤ most) same (le_of k most high))
+    go true false low high is = absurd cc
+    go false b low high is = absurd cc
+
+-- a whole number in its range
+whole_ok : (least most : ℕ) (rule : Rule) (v : Value) (n : ℕ) → whole least most rule v ≡ Ok n
+    → (v ≡ Int (pos n)) × (least ≤ n) × (n ≤ most)
+whole_ok least most rule (Int (pos k)) n is =
+    let it = within least most k n rule is in (ap (λ j. Int (pos j)) it.0, it.1, it.2)
+whole_ok least most rule (Int (negsuc k)) n is = absurd cc
+whole_ok least most rule Null n is = absurd cc
+whole_ok least most rule (Real x) n is = absurd cc
+whole_ok least most rule (Text t) n is = absurd cc
+whole_ok least most rule (Blob b) n is = absurd cc
+
+-- an amount
+cents_ok : (limit : ℕ) (rule : Rule) (v : Value) (z : ℤ) → cents limit rule v ≡ Ok z
+    → (v ≡ Int z) × (nat_abs z ≤ limit)
+cents_ok limit rule (Int y) z is = go (nat_le (nat_abs y) limit) refl is
+  where
+    go : (b : Bool) → nat_le (nat_abs y) limit ≡ b → ok_or (cond b (Some y) None) rule ≡ Ok z
+        → (Int y ≡ Int z) × (nat_abs z ≤ limit)
+    go true low is = let same : y ≡ z = cc in
+        (ap (λ x. Int x) same, subst (λ x. nat_abs x ≤ limit) same (le_of (nat_abs y) limit low))
+    go false low is = absurd cc
+cents_ok limit rule Null z is = absurd cc
+cents_ok limit rule (Real x) z is = absurd cc
+cents_ok limit rule (Text t) z is = absurd cc
+cents_ok limit rule (Blob b) z is = absurd cc
+
+not_positive : (z : ℤ) → int_lt (pos 0) z ≡ false → z ≤ℤ pos 0
+not_positive z is = grind (arith, ints)
+
+-- a floor
+lowest_ok : (v : Value) (z : ℤ) → lowest v ≡ Ok z → (v ≡ Int z) × (z ≤ℤ pos 0)
+lowest_ok v z is =
+    let amount = then_ok (cents MAX_BALANCE Floor v) _ z is in
+    let last = go amount.0 (int_lt (pos 0) amount.0) refl amount.2 in
+    ((cents_ok MAX_BALANCE Floor v amount.0 amount.1).0 ∙ ap (λ x. Int x) last.0, last.1)
+  where
+    go : (y : ℤ) (b : Bool) → int_lt (pos 0) y ≡ b → ◌≡◌ {A = Result ℤ Rule} (cond b (Err Floor) (Ok y)) (Ok z)
+        → (y ≡ z) × (z ≤ℤ pos 0)
+    go y true is it = absurd cc
+    go y false is it = let same : y ≡ z = cc in (same, subst (λ x. x ≤ℤ pos 0) same (not_positive y is))
+
+-- ---- the columns of a row
+
+-- what a column shows of the numbers after the key
+number_is : (at : ℕ) (values : List ℤ) (texts : List (List ℕ)) (z : ℤ)
+    → slice_index_or (numbers values ++ texts_held texts) at Null ≡ Int z → slice_index_or values at (pos 0) ≡ z
+number_is at [] texts z is = absurd (no_number at texts is)
+  where
+    no_number : (at : ℕ) (texts : List (List ℕ)) → slice_index_or (texts_held texts) at Null ≡ Int z → ⊥
+    no_number at [] is = cc
+    no_number zero (t ∷ texts) is = cc
+    no_number (suc at) (t ∷ texts) is = no_number at texts is
+number_is zero (v ∷ values) texts z is = cc
+number_is (suc at) (v ∷ values) texts z is = number_is at values texts z is
+
+same_number : (a b : ℤ) → Int a ≡ Int b → a ≡ b
+same_number a b is = cc
+
+pub balance_is : (e : Entry) (z : ℤ) → read_balance e ≡ Ok z → number_at 0 e ≡ z
+balance_is e z is = number_is 0 e.values e.texts z (cents_ok MAX_BALANCE Balance (column (given e) 1) z is).0
+
+-- the columns of a branch, and their ranges
+branch_parts : (row : Row) (b : BranchRow) → branch_of row ≡ Ok b
+    → (column row 0 ≡ Int (pos b.branch)) × (column row 1 ≡ Int (pos b.accounts)) × (column row 2 ≡ Int b.balance)
+    × IsSoundBranch b
+branch_parts row b is =
+    let one = then_ok (whole 1 LAST_BRANCH OfValue (column row 0)) _ b is in
+    let two = then_ok (whole 1 MAX_ACCOUNTS OfValue (column row 1)) _ b one.2 in
+    let three = then_ok (cents MAX_BALANCE Balance (column row 2)) _ b two.2 in
+    let its : BranchRow = record { branch = one.0; accounts = two.0; balance = three.0 } in
+    let same : its ≡ b = (let last = three.2 in cc) in
+    let n = whole_ok 1 LAST_BRANCH OfValue (column row 0) one.0 one.1 in
+    let k = whole_ok 1 MAX_ACCOUNTS OfValue (column row 1) two.0 two.1 in
+    let z = cents_ok MAX_BALANCE Balance (column row 2) three.0 three.1 in
+    subst (λ (r : BranchRow). (column row 0 ≡ Int (pos r.branch)) × (column row 1 ≡ Int (pos r.accounts))
+    × (column row 2 ≡ Int r.balance) × IsSoundBranch r) same
+    (n.0, k.0, z.0, record { some = n.1; most = n.2; few = k.1; many = k.2; balance = z.1 })
+
+pub sound_branch : (row : Row) (b : BranchRow) → branch_of row ≡ Ok b → IsSoundBranch b
+sound_branch row b is = (branch_parts row b is).3
+
+pub branch_is : (e : Entry) (b : BranchRow) → read_branch e ≡ Ok b
+    → (e.key ≡ pos b.branch) × (number_at 0 e ≡ pos b.accounts) × (number_at 1 e ≡ b.balance)
+branch_is e b is =
+    let parts = branch_parts (given e) b is in (
+      same_number _ _ parts.0,
+      number_is 0 e.values e.texts (pos b.accounts) parts.1,
+      number_is 1 e.values e.texts b.balance parts.2,
+    )
+
+floor_parts : (row : Row) (f : FloorRow) → floor_of row ≡ Ok f
+    → (column row 1 ≡ Int f.lowest) × (f.lowest ≤ℤ pos 0)
+floor_parts row f is =
+    let one = then_ok (whole 1 LAST_BRANCH OfValue (column row 0)) _ f is in
+    let two = then_ok (lowest (column row 1)) _ f one.2 in
+    let its : FloorRow = record { branch = one.0; lowest = two.0 } in
+    let same : its ≡ f = (let last = two.2 in cc) in
+    subst (λ (r : FloorRow). (column row 1 ≡ Int r.lowest) × (r.lowest ≤ℤ pos 0)) same
+    (lowest_ok (column row 1) two.0 two.1)
+
+pub low_floor : (row : Row) (f : FloorRow) → floor_of row ≡ Ok f → f.lowest ≤ℤ pos 0
+low_floor row f is = (floor_parts row f is).1
+
+pub floor_is : (e : Entry) (f : FloorRow) → read_floor e ≡ Ok f → number_at 0 e ≡ f.lowest
+floor_is e f is = number_is 0 e.values e.texts f.lowest (floor_parts (given e) f is).0
+
+-- ---- sound rows read as themselves
+
+in_range : (least most n : ℕ) → least ≤ n → n ≤ most → whole_within least most n ≡ Some n
+in_range least most n low high = let test : (nat_le least n && nat_le n most) ≡ true =
+    grind (arith, nat_tests) in rw test refl
+
+in_limit : (limit : ℕ) (z : ℤ) → nat_abs z ≤ limit → cents_within limit z ≡ Some z
+in_limit limit z le = let test : nat_le (nat_abs z) limit ≡ true = grind (arith, nat_tests) in rw test refl
+
+pub outcome_back : (o : Outcome) → outcome_with (pos (code_of o)) ≡ Some o
+outcome_back Posted = refl
+outcome_back NoTeller = refl
+outcome_back WrongBranch = refl
+outcome_back NoAccount = refl
+outcome_back OverLimit = refl
+outcome_back ReusedNumber = refl
+outcome_back Full = refl
+outcome_back BelowFloor = refl
+outcome_back Malformed = refl
+
+low_enough : (z : ℤ) → z ≤ℤ pos 0 → int_lt (pos 0) z ≡ false
+low_enough z le = grind (arith, ints)
+
+pub branch_back : (r : BranchRow) → IsSoundBranch r → read_branch (branch_entry r) ≡ Ok r
+branch_back r is = rw (
+  in_range 1 LAST_BRANCH r.branch is.some is.most,
+  in_range 1 MAX_ACCOUNTS r.accounts is.few is.many,
+  in_limit MAX_BALANCE r.balance is.balance,
+) refl
+
+-- a balance alone
+pub balance_back : (key z : ℤ) → nat_abs z ≤ MAX_BALANCE
+    → read_balance (record { key = key; values = z ∷ []; texts = [] }) ≡ Ok z
+balance_back key z le = rw (in_limit MAX_BALANCE z le) refl
+
+pub teller_back : (r : TellerRow) → IsSoundTeller r → read_teller (teller_entry r) ≡ Ok r
+teller_back r is = rw (
+  in_limit MAX_BALANCE r.balance is.balance,
+  in_range 1 (TELLERS_PER_BRANCH * LAST_BRANCH) r.teller is.some is.most,
+) refl
+
+pub account_back : (r : AccountRow) → IsSoundAccount r → read_account (account_entry r) ≡ Ok r
+account_back r is = rw (
+  in_limit MAX_BALANCE r.balance is.balance,
+  in_range 1 (ACCOUNTS_PER_BRANCH * LAST_BRANCH) r.account is.some is.most,
+) refl
+
+pub posting_back : (r : HistoryRow) → IsSoundPosting r → read_posting (history_entry r) ≡ Ok (r.ordinal, r.moment)
+posting_back r is = rw (
+  in_range 1 MAX_DECIDED r.ordinal is.ordinal_above is.ordinal,
+  in_range 0 MAX_MOMENT r.moment (omega arith) is.moment,
+) refl
+
+pub request_back : (r : RequestRow) → IsSoundRequest r → read_request (request_entry r) ≡ Ok r
+request_back r is = rw (
+  in_range 1 MAX_DECIDED r.ordinal is.ordinal_above is.ordinal,
+  in_range 1 MAX_TELLER r.teller is.fields.teller_above is.fields.teller,
+  in_range 1 MAX_NUMBER r.number is.number_above is.number,
+  in_range 1 MAX_ACCOUNT r.decision.account is.fields.account_above is.fields.account,
+  in_range 1 MAX_BRANCH r.decision.branch is.fields.branch_above is.fields.branch,
+  in_limit MAX_DELTA r.decision.delta is.fields.delta,
+  outcome_back r.decision.outcome,
+  in_limit MAX_BALANCE r.decision.balance is.balance,
+  is.decision,
+) refl
+
+pub floor_back : (r : FloorRow) → IsSoundFloor r → read_floor (floor_entry r) ≡ Ok r
+floor_back r is = rw (
+  in_range 1 LAST_BRANCH r.branch is.some is.most,
+  in_limit MAX_BALANCE r.lowest is.lowest.1,
+  low_enough r.lowest is.lowest.0,
+) refl
+
+pub reference_back : (r : ReferenceRow) → IsSoundReference r → read_reference (reference_entry r) ≡ Ok r
+reference_back r is = rw (
+  in_range 1 MAX_DECIDED r.ordinal is.ordinal_above is.ordinal,
+  is.reference.0,
+  is.reference.1,
+) refl
+
+-- ---- the rules that a reading breaks
+
+-- they are those of one row
+abbrev pub of_a_row : Rule → Bool
+of_a_row Meta = false
+of_a_row Teller = false
+of_a_row Account = false
+of_a_row Key = false
+of_a_row _ = true
+
+abbrev pub Breaks : {X : Type 0} → Result X Rule → Type 0
+Breaks (Ok x) = Unit {0}
+Breaks (Err rule) = IsTrue (of_a_row rule)
+
+breaks_then : {A B : Type 0} (r : Result A Rule) (f : A → Result B Rule) → Breaks r → ((a : A) → Breaks (f a))
+    → Breaks (r >>= f)
+breaks_then (Ok a) f one two = two a
+breaks_then (Err rule) f one two = one
+
+breaks_or : {X : Type 0} (o : Option X) (rule : Rule) → IsTrue (of_a_row rule) → Breaks (ok_or o rule)
+breaks_or (Some x) rule is = tt
+breaks_or None rule is = is
+
+breaks_if : {X : Type 0} (b : Bool) (r s : Result X Rule) → Breaks r → Breaks s → Breaks (cond b r s)
+breaks_if true r s one two = one
+breaks_if false r s one two = two
+
+breaks_number : (v : Value) → Breaks (number v)
+breaks_number (Int z) = tt
+breaks_number Null = refl
+breaks_number (Real x) = refl
+breaks_number (Text t) = refl
+breaks_number (Blob b) = refl
+
+breaks_whole : (least most : ℕ) (rule : Rule) → IsTrue (of_a_row rule) → (v : Value) → Breaks (whole least most rule v)
+breaks_whole least most rule is v = breaks_then (number v) _ (breaks_number v) from
+  where
+    from : (z : ℤ) → Breaks (whole least most rule (Int z))
+    from (pos n) = breaks_or (whole_within least most n) rule is
+    from (negsuc n) = is
+
+breaks_cents : (limit : ℕ) (rule : Rule) → IsTrue (of_a_row rule) → (v : Value) → Breaks (cents limit rule v)
+breaks_cents limit rule is v =
+    breaks_then (number v) _ (breaks_number v) (λ z. breaks_or (cents_within limit z) rule is)
+
+breaks_reference : (v : Value) → Breaks (reference v)
+breaks_reference (Text t) = breaks_or (reference_from t) Reference refl
+breaks_reference Null = refl
+breaks_reference (Int z) = refl
+breaks_reference (Real x) = refl
+breaks_reference (Blob b) = refl
+
+pub balance_breaks : (row : Row) → Breaks (balance_of row)
+balance_breaks row = breaks_cents MAX_BALANCE Balance refl (column row 0)
+
+pub branch_breaks : (row : Row) → Breaks (branch_of row)
+branch_breaks row =
+    breaks_then (whole 1 LAST_BRANCH OfValue (column row 0)) _ (breaks_whole 1 LAST_BRANCH OfValue refl (column row 0))
+    (λ b. breaks_then (whole 1 MAX_ACCOUNTS OfValue (column row 1)) _
+    (breaks_whole 1 MAX_ACCOUNTS OfValue refl (column row 1))
+    (λ n. breaks_then (cents MAX_BALANCE Balance (column row 2)) _
+    (breaks_cents MAX_BALANCE Balance refl (column row 2)) (λ z. tt)))
+
+decision_breaks : (row : Row) → Breaks (decision_of row)
+decision_breaks row =
+    breaks_then (whole 1 MAX_ACCOUNT Request (column row 3)) _ (breaks_whole 1 MAX_ACCOUNT Request refl (column row 3))
+    (λ a. breaks_then (whole 1 MAX_BRANCH Request (column row 4)) _
+    (breaks_whole 1 MAX_BRANCH Request refl (column row 4))
+    (λ b. breaks_then (cents MAX_DELTA Request (column row 5)) _
+    (breaks_cents MAX_DELTA Request refl (column row 5))
+    (λ d. breaks_then (outcome_of (column row 6)) _
+    (breaks_then (number (column row 6)) _ (breaks_number (column row 6)) (λ z. breaks_or (outcome_with z) Request refl))
+    (λ o. breaks_then (cents MAX_BALANCE Request (column row 7)) _
+    (breaks_cents MAX_BALANCE Request refl (column row 7))
+    (λ z. breaks_if (is_kept_with o z) _ _ tt refl)))))
+
+pub request_breaks : (row : Row) → Breaks (request_of row)
+request_breaks row =
+    breaks_then (whole 1 MAX_DECIDED OfValue (column row 0)) _ (breaks_whole 1 MAX_DECIDED OfValue refl (column row 0))
+    (λ n. breaks_then (whole 1 MAX_TELLER Request (column row 1)) _
+    (breaks_whole 1 MAX_TELLER Request refl (column row 1))
+    (λ t. breaks_then (whole 1 MAX_NUMBER Request (column row 2)) _
+    (breaks_whole 1 MAX_NUMBER Request refl (column row 2))
+    (λ m. breaks_then (decision_of row) _ (decision_breaks row) (λ d. tt))))
+
+pub floor_breaks : (row : Row) → Breaks (floor_of row)
+floor_breaks row =
+    breaks_then (whole 1 LAST_BRANCH OfValue (column row 0)) _ (breaks_whole 1 LAST_BRANCH OfValue refl (column row 0))
+    (λ b. breaks_then (lowest (column row 1)) _
+    (breaks_then (cents MAX_BALANCE Floor (column row 1)) _ (breaks_cents MAX_BALANCE Floor refl (column row 1))
+    (λ z. breaks_if (int_lt (pos 0) z) _ _ refl tt)) (λ z. tt))
+
+pub reference_breaks : (row : Row) → Breaks (reference_of row)
+reference_breaks row =
+    breaks_then (whole 1 MAX_DECIDED OfValue (column row 0)) _ (breaks_whole 1 MAX_DECIDED OfValue refl (column row 0))
+    (λ n. breaks_then (reference (column row 1)) _ (breaks_reference (column row 1)) (λ t. tt))
