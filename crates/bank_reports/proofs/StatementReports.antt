@@ -5,7 +5,8 @@ use Rattle.std.specs.Prelude.{ℤ, pos, ◌+ℤ◌, ◌-◌, ◌^◌, nat_abs, o
 use Rattle.std.specs.{List.AllByRecursion, Io.KnownBytes.Appends}
 use Rattle.std.proofs.lemmas.{Int.ints, List.length-append}
 use Rattle.message_records.proofs.References.{reference_again}
-use Rattle.message_records.specs.believed.Records.{IsReference, reference_from}
+use Rattle.message_records.specs.believed.Records.{reference_from}
+use Rattle.message_records.specs.Records.{IsReference}
 use Rattle.message_records.specs.declared.limits.TheConstants.{MAX_BALANCE, MAX_MOMENT}
 use Rattle.posting_rules.specs.declared.limits.TheConstants.{MAX_DECIDED}
 use Rattle.posting_rules.specs.declared.fault.{Rule.Rule, Fault.TheVariants.Damaged}

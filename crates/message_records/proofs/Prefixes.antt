@@ -5,7 +5,8 @@ use Rattle.std.specs.Prelude.{pos, IfSome, unwrap_or}
 use Rattle.std.proofs.lemmas.List.{length-append, length-replicate}
 use Rattle.message_records.specs.declared.limits.TheConstants.{REPLY_BYTES, REQUEST_BYTES}
 use Rattle.message_records.specs.{believed.Outcomes.code_of, believed.Reading.request_of, Reading.reply_of}
-use Rattle.message_records.specs.believed.Records.{RequestFields, IsReference, ReplyFields}
+use Rattle.message_records.specs.believed.Records.{RequestFields, ReplyFields}
+use Rattle.message_records.specs.Records.{IsReference}
 use Rattle.message_records.specs.Records.{IsRequest, IsReply}
 use Rattle.message_records.specs.believed.Spelling.{no_fields, filled, tag_of, reference_text, request_spelling}
 use Rattle.message_records.specs.believed.Spelling.{reply_spelling}

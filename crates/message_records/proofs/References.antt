@@ -3,7 +3,8 @@ use Rattle.std.proofs.Common.{◌≡◌, ℕ, eqb, List, length, Option, Some, N
 use Rattle.std.specs.Prelude.{IfSome}
 use Rattle.std.proofs.lemmas.Bool.{and_parts, eqb-true}
 use Rattle.message_records.specs.declared.limits.TheConstants.{REFERENCE_BYTES}
-use Rattle.message_records.specs.believed.Records.{RequestFields, IsReference, is_printable}
+use Rattle.message_records.specs.believed.Records.{RequestFields, is_printable}
+use Rattle.message_records.specs.Records.{IsReference}
 use Rattle.message_records.specs.Records.{IsRequest, IsShownRequest}
 use Rattle.message_records.specs.believed.Records.{is_reference, reference_from, unreferenced, referenced}
 use Rattle.message_records.proofs.Digits.{chosen}

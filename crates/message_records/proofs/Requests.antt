@@ -4,7 +4,8 @@ use Rattle.std.proofs.Common.{Result, Ok, Err, refl, sym, ap, subst, ◌∙◌, 
 use Rattle.std.specs.{Prelude.codes, Prelude.IfOk, Prelude.IfSome, Option.ok_or, Str.bytes_eq}
 use Rattle.message_records.specs.declared.{limits.TheConstants.REQUEST_BYTES, fault.Bad.Bad}
 use Rattle.message_records.specs.declared.fault.Bad.TheVariants as bad
-use Rattle.message_records.specs.believed.Records.{RequestFields, IsReference, reference_from, unreferenced}
+use Rattle.message_records.specs.believed.Records.{RequestFields, reference_from, unreferenced}
+use Rattle.message_records.specs.Records.{IsReference}
 use Rattle.message_records.specs.Records.{IsRequest}
 use Rattle.message_records.specs.believed.Records.{referenced}
 use Rattle.message_records.specs.believed.Spelling.{fields_spelling, filled, tag_of, reference_text, request_spelling}

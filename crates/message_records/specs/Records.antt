@@ -1,13 +1,17 @@
 -- What a reply holds, and which values of types stand for requests and replies.
 use Rattle.std.specs.Prelude.{ℕ, ℤ, ◌≡◌, ◌≤◌, nat_le, nat_abs, Bool, true, false, is_some, not, ◌&&◌, Option}
-use Rattle.std.specs.Prelude.{Some, None, IfSome, if◌then◌else◌, List}
+use Rattle.std.specs.Prelude.{Some, None, IfSome, if◌then◌else◌, IsTrue, List, length}
 use Rattle.std.specs.Option.{option_map}
 use Rattle.message_records.specs.declared.records.Outcome.{Outcome}
 use Rattle.message_records.specs.declared.limits.TheConstants.{MAX_ACCOUNT, MAX_TELLER, MAX_BRANCH}
-use Rattle.message_records.specs.declared.limits.TheConstants.{MAX_NUMBER, MAX_BALANCE, MAX_DELTA}
+use Rattle.message_records.specs.declared.limits.TheConstants.{MAX_NUMBER, MAX_BALANCE, MAX_DELTA, REFERENCE_BYTES}
 use Rattle.message_records.specs.believed.Outcomes.{has_balance}
 use Rattle.message_records.specs.Outcomes.{has_request}
-use Rattle.message_records.specs.believed.Records.{IsReference, ReplyFields, RequestFields, unreferenced}
+use Rattle.message_records.specs.believed.Records.{ReplyFields, RequestFields, is_printable, unreferenced}
+
+-- what a request may be referred to by: so many printable bytes
+abbrev pub IsReference : List ℕ → Type 0
+IsReference text = (length text ≡ REFERENCE_BYTES) × IsTrue (is_printable text)
 
 -- each field is in its range
 pub record IsRequest (r : RequestFields) : Type 0 where

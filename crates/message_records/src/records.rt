@@ -1,6 +1,7 @@
 //! A request, what becomes of it, and the reply to it.
 ghost use Rattle.std.specs.Prelude.{◌≡◌, ◌≤◌, nat_abs, IfSome};
-ghost use Rattle.message_records.specs.believed.Records.{referenced, unreferenced, IsReference};
+ghost use Rattle.message_records.specs.believed.Records.{referenced, unreferenced};
+ghost use Rattle.message_records.specs.Records.{IsReference};
 ghost use Rattle.message_records.specs.Records.{request_from};
 
 use crate::limits::MAX_DELTA;

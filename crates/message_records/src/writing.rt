@@ -1,6 +1,7 @@
 //! Writes the bytes of a request and of a reply.
 ghost use Rattle.std.specs.Prelude.{◌≡◌, ◌≤◌, ◌+◌, ◌++◌, pos, length, IfSome, Ok, nat_abs, unwrap_or};
-ghost use Rattle.message_records.specs.believed.Records.{IsReference, unreferenced};
+ghost use Rattle.message_records.specs.believed.Records.{unreferenced};
+ghost use Rattle.message_records.specs.Records.{IsReference};
 ghost use Rattle.message_records.specs.Records.{IsRequest};
 ghost use Rattle.message_records.specs.believed.Spelling.{signed, no_fields, fields_spelling, request_spelling};
 ghost use Rattle.message_records.specs.believed.Spelling.{tag_of, reference_text};

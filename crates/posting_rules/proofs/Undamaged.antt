@@ -8,7 +8,8 @@ use Rattle.std.proofs.lemmas.List.Elements.{All-contains, All-from_recursion}
 use Rattle.posting_rules.specs.declared.limits.TheConstants.{MAX_DECIDED, LAST_BRANCH, ACCOUNTS_PER_BRANCH}
 use Rattle.posting_rules.specs.declared.limits.TheConstants.{TELLERS_PER_BRANCH}
 use Rattle.message_records.specs.{declared.limits.TheConstants.MAX_BALANCE, Records.IsRequest}
-use Rattle.message_records.specs.believed.Records.{RequestFields, IsReference}
+use Rattle.message_records.specs.believed.Records.{RequestFields}
+use Rattle.message_records.specs.Records.{IsReference}
 use Rattle.posting_rules.specs.{declared.rows.BranchRow.BranchRow, believed.LookUps.floor_in}
 use Rattle.posting_rules.specs.declared.rows.{TellerRow.TellerRow, AccountRow.AccountRow, HistoryRow.HistoryRow}
 use Rattle.posting_rules.specs.declared.rows.{RequestRow.RequestRow, FloorRow.FloorRow, ReferenceRow.ReferenceRow}

@@ -12,7 +12,7 @@ use Rattle.posting_rules.specs.declared.rows.HistoryRow.{HistoryRow}
 use Rattle.posting_rules.specs.declared.rows.RequestRow.{RequestRow}
 use Rattle.posting_rules.specs.declared.rows.FloorRow.{FloorRow}
 use Rattle.posting_rules.specs.declared.rows.ReferenceRow.{ReferenceRow}
-use Rattle.message_records.specs.believed.Records.{IsReference}
+use Rattle.message_records.specs.Records.{IsReference}
 use Rattle.posting_rules.specs.believed.Commands.{Command, AreCommands, IsFloor, is_within}
 use Rattle.posting_rules.specs.believed.Numbering.{branch_of_teller, branch_of_account, place_of_account}
 use Rattle.posting_rules.specs.believed.Kept.{is_kept_with}

@@ -1,6 +1,6 @@
 -- What a request and a reply hold (TPC-A, contents of the messages).
-use Rattle.std.specs.Prelude.{ℕ, ℤ, ◌≡◌, nat_le, Bool, true, ◌&&◌, Option}
-use Rattle.std.specs.Prelude.{Some, None, if◌then◌else◌, IsTrue, List, [], ◌∷◌, length, nat_eq}
+use Rattle.std.specs.Prelude.{ℕ, ℤ, nat_le, Bool, true, ◌&&◌, Option}
+use Rattle.std.specs.Prelude.{Some, None, if◌then◌else◌, List, [], ◌∷◌, length, nat_eq}
 use Rattle.message_records.specs.declared.records.Outcome.{Outcome}
 use Rattle.message_records.specs.declared.limits.TheConstants.{REFERENCE_BYTES}
 
@@ -12,9 +12,6 @@ is_printable (c ∷ cs) = (nat_le 32 c && nat_le c 126) && is_printable cs
 -- what a request may be referred to by: so many printable bytes
 abbrev pub is_reference : List ℕ → Bool
 is_reference text = nat_eq (length text) REFERENCE_BYTES && is_printable text
-
-abbrev pub IsReference : List ℕ → Type 0
-IsReference text = (length text ≡ REFERENCE_BYTES) × IsTrue (is_printable text)
 
 -- the reference that the bytes are
 abbrev pub reference_from : List ℕ → Option (List ℕ)
