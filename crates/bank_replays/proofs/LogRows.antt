@@ -1,8 +1,8 @@
 -- The kept rows of a file that shows a log are its decided requests, the oldest first.
 use Rattle.std.proofs.Common.{◌≡◌, ◌<◌, ◌≤◌, ◌+◌, ◌++◌, ◌&&◌, ℕ, Bool, true, false, cond, eqb, List, [], ◌∷◌, length}
-use Rattle.std.proofs.Common.{map, Option, Some, None, Less, int_cmp, refl, sym, ap, ◌∙◌, inl, inr, arith}
+use Rattle.std.proofs.Common.{map, Option, Some, None, refl, sym, ap, ◌∙◌, inl, inr, arith}
 use Rattle.std.specs.{Prelude.pos, Prelude.option_map, Prelude.unwrap_or, List.AllByRecursion}
-use Rattle.std.proofs.lemmas.{Bool.cases_Bool, Bool.eq-eqb, Bool.eqb-true, Int.ints, List.map-append}
+use Rattle.std.proofs.lemmas.{Bool.cases_Bool, Bool.eq-eqb, Bool.eqb-true, List.map-append}
 use Rattle.sqlite.specs.Effect.{Database}
 use Rattle.message_records.specs.{declared.records.Outcome.Outcome, declared.records.Outcome.TheVariants.Malformed}
 use Rattle.message_records.specs.{believed.Outcomes.code_of, Reading.outcome_with, believed.Records.unreferenced}
@@ -12,14 +12,13 @@ use Rattle.posting_rules.specs.believed.Entries.{DecidedRequest, decided, is_pos
 use Rattle.posting_rules.specs.believed.Tables.{AreTablesOf, Tables, history_key, history_row, history_row_of}
 use Rattle.posting_rules.specs.believed.Tables.{reference_key, reference_row, reference_row_of, request_key}
 use Rattle.posting_rules.specs.believed.Tables.{request_row, request_row_of, row_at}
-use Rattle.sql_meanings.specs.believed.Entries.{Entry, Rise}
+use Rattle.sql_meanings.specs.believed.Entries.{Entry}
 use Rattle.store_rows.specs.believed.View.{Shows, history_entry, reference_entry, request_entry}
 use Rattle.store_rows.proofs.RowLists.{found_row}
 use Rattle.walked_rows.specs.KeptRows.{HasKept, KeptItem, kept_all, kept_with}
 use Rattle.walked_rows.specs.{Pairs.row_under, References.text_after}
 use Rattle.walked_rows.proofs.Shown.{has_history, has_references, has_requests}
-use Rattle.walked_rows.proofs.RisingRows.{Rising, all-append, all_as, find_before, find_after, not_under, rising_more}
-use Rattle.walked_rows.proofs.RisingRows.{rising_once}
+use Rattle.walked_rows.proofs.RisingRows.{Rising, all-append, all_as, rising_keys, rising_more, rising_once, under_next}
 use Rattle.bank_replays.specs.Digests.{answered_after, answered_of, each_answered}
 use Rattle.bank_replays.specs.Requests.{answered_in, moment_under}
 use Rattle.bank_replays.proofs.Chained.{answered_same, code_back, reply_same, request_same}
@@ -31,58 +30,31 @@ abbrev pub requests_of : List DecidedRequest → List RequestRow
 requests_of [] = []
 requests_of (e ∷ es) = requests_of es ++ request_row_of (length es + 1) e ∷ []
 
-ends : (es : List DecidedRequest) → AllByRecursion (λ r. request_key r ≤ length es) (requests_of es)
-ends [] = tt
-ends (e ∷ es) =
-    all-append (λ r. request_key r ≤ length (e ∷ es)) (requests_of es) (request_row_of (length es + 1) e ∷ [])
-    (all_as (λ r. request_key r ≤ length es) (λ r. request_key r ≤ length (e ∷ es))
-    (λ r low. omega (arith, low)) (requests_of es) (ends es))
+below : (es : List DecidedRequest) → AllByRecursion (λ r. request_key r < length es + 1) (requests_of es)
+below [] = tt
+below (e ∷ es) =
+    all-append (λ r. request_key r < length (e ∷ es) + 1) (requests_of es) (request_row_of (length es + 1) e ∷ [])
+    (all_as (λ r. request_key r < length es + 1) (λ r. request_key r < length (e ∷ es) + 1)
+    (λ r low. omega (arith, low)) (requests_of es) (below es))
     (omega arith, tt)
 
 requests_rise : (es : List DecidedRequest) → Rising request_key (requests_of es)
 requests_rise [] = tt
 requests_rise (e ∷ es) =
-    rising_more request_key (requests_of es) (request_row_of (length es + 1) e) (requests_rise es)
-    (all_as (λ r. request_key r ≤ length es) (λ r. request_key r < length es + 1)
-    (λ r low. omega (arith, low)) (requests_of es) (ends es))
+    rising_more request_key (requests_of es) (request_row_of (length es + 1) e) (requests_rise es) (below es)
 
 requests_under : (es : List DecidedRequest) (o : ℕ) → row_at request_key (requests_of es) o ≡ request_row es o
 requests_under [] o = refl
-requests_under (e ∷ es) o = there (eqb (length es + 1) o) (requests_under es o) refl
-  where
-    there : (b : Bool) → row_at request_key (requests_of es) o ≡ request_row es o
-        → eqb (length es + 1) o ≡ b
-        → row_at request_key (requests_of es ++ request_row_of (length es + 1) e ∷ []) o
-        ≡ cond b (Some (request_row_of o e)) (request_row es o)
-    there true earlier is =
-        find_after (λ r. eqb (request_key r) o) (requests_of es) (request_row_of (length es + 1) e ∷ [])
-        (not_under request_key o (requests_of es)
-        (all_as (λ r. request_key r ≤ length es) (λ r. request_key r ≡ o → ⊥)
-        (λ r low same. let at = eqb-true (length es + 1) o is in omega (arith, low, same, at))
-        (requests_of es) (ends es)))
-        ∙ rw is (ap (λ (n : ℕ). Some (request_row_of n e)) (eqb-true (length es + 1) o is))
-    there false earlier is =
-        find_before (λ r. eqb (request_key r) o) (requests_of es) (request_row_of (length es + 1) e) is
-        ∙ earlier
-
-rising_keys : (rs : List RequestRow) → Rise (map request_entry rs) → Rising request_key rs
-rising_keys [] rise = tt
-rising_keys (r ∷ rs) rise = (above rs rise.0, rising_keys rs rise.1)
-  where
-    above : (xs : List RequestRow)
-        → AllByRecursion (λ (e : Entry). int_cmp (request_entry r).key e.key ≡ Less) (map request_entry xs)
-        → AllByRecursion (λ x. request_key r < request_key x) xs
-    above [] all = tt
-    above (x ∷ xs) all = (less (request_key r) (request_key x) all.0, above xs all.1)
-      where
-        less : (m n : ℕ) → int_cmp (pos m) (pos n) ≡ Less → m < n
-        less m n is = grind (arith, ints)
+requests_under (e ∷ es) o =
+    under_next request_key (requests_of es) (λ n. request_row_of n e) (length es + 1) refl (below es) o
+    ∙ ap (λ x. cond (eqb (length es + 1) o) (Some (request_row_of o e)) x) (requests_under es o)
 
 requests_are : (db : Database) (t : Tables) (log : List Command) → Shows db t → AreTablesOf t log
     → t.requests ≡ requests_of (decided log)
 requests_are db t log in_file shows =
     rising_once request_key t.requests (requests_of (decided log))
-    (rising_keys t.requests (has_requests db t in_file).holds.rows.rise) (requests_rise (decided log))
+    (rising_keys request_key request_entry (λ r. refl) t.requests (has_requests db t in_file).holds.rows.rise)
+    (requests_rise (decided log))
     (λ o. shows.rows.requests o ∙ sym (requests_under (decided log) o))
 
 -- ---- what stands beside them

@@ -3,7 +3,6 @@ use Rattle.std.proofs.Common.{◌≡◌, ◌&&◌, ◌<◌, ◌≤◌, ◌+◌, 
 use Rattle.std.proofs.Common.{Option, Some, Result, Ok, Err, refl, ap, ◌∙◌, arith}
 use Rattle.std.specs.Prelude.{nat_abs, if◌then◌else◌}
 use Rattle.std.specs.List.{AllByRecursion}
-use Rattle.std.proofs.lemmas.Bool.{eqb-true}
 use Rattle.message_records.specs.{declared.limits.TheConstants.MAX_BALANCE, declared.fault.Bad.Bad}
 use Rattle.message_records.specs.{believed.Records.RequestFields, believed.Reading.request_of}
 use Rattle.posting_rules.specs.declared.{rows.HistoryRow.HistoryRow, judgments.Verdict.Verdict}
@@ -14,7 +13,7 @@ use Rattle.posting_rules.specs.believed.Entries.{DecidedRequest, is_posted, fact
 use Rattle.posting_rules.specs.believed.Entries.{with_record, decided}
 use Rattle.posting_rules.specs.believed.Tables.{row_at, history_key, history_row, history_row_of}
 use Rattle.posting_rules.proofs.BalanceLimits.{stays_within}
-use Rattle.walked_rows.proofs.RisingRows.{Rising, all-append, all_as, find_after, find_before, not_under, rising_more}
+use Rattle.walked_rows.proofs.RisingRows.{Rising, all-append, all_as, rising_more, under_next}
 
 -- the postings of decided requests, the oldest first
 abbrev pub postings_of : List DecidedRequest → List HistoryRow
@@ -22,16 +21,16 @@ postings_of [] = []
 postings_of (e ∷ es) = if is_posted e then postings_of es ++ history_row_of (length es + 1) e
     ∷ [] else postings_of es
 
-ends : (es : List DecidedRequest) → AllByRecursion (λ r. history_key r ≤ length es) (postings_of es)
-ends [] = tt
-ends (e ∷ es) = last (is_posted e)
-    (all_as (λ r. history_key r ≤ length es) (λ r. history_key r ≤ length (e ∷ es))
-    (λ r low. omega (arith, low)) (postings_of es) (ends es))
+below : (es : List DecidedRequest) → AllByRecursion (λ r. history_key r < length es + 1) (postings_of es)
+below [] = tt
+below (e ∷ es) = last (is_posted e)
+    (all_as (λ r. history_key r < length es + 1) (λ r. history_key r < length (e ∷ es) + 1)
+    (λ r low. omega (arith, low)) (postings_of es) (below es))
   where
-    last : (b : Bool) → AllByRecursion (λ r. history_key r ≤ length (e ∷ es)) (postings_of es)
-        → AllByRecursion (λ r. history_key r ≤ length (e ∷ es))
+    last : (b : Bool) → AllByRecursion (λ r. history_key r < length (e ∷ es) + 1) (postings_of es)
+        → AllByRecursion (λ r. history_key r < length (e ∷ es) + 1)
         (cond b (postings_of es ++ history_row_of (length es + 1) e ∷ []) (postings_of es))
-    last true earlier = all-append (λ r. history_key r ≤ length (e ∷ es)) (postings_of es)
+    last true earlier = all-append (λ r. history_key r < length (e ∷ es) + 1) (postings_of es)
         (history_row_of (length es + 1) e ∷ []) earlier (omega arith, tt)
     last false earlier = earlier
 
@@ -42,9 +41,7 @@ postings_rise (e ∷ es) = last (is_posted e) (postings_rise es)
     last : (b : Bool) → Rising history_key (postings_of es)
         → Rising history_key
         (cond b (postings_of es ++ history_row_of (length es + 1) e ∷ []) (postings_of es))
-    last true rise = rising_more history_key (postings_of es) (history_row_of (length es + 1) e) rise
-        (all_as (λ r. history_key r ≤ length es) (λ r. history_key r < length es + 1)
-        (λ r low. omega (arith, low)) (postings_of es) (ends es))
+    last true rise = rising_more history_key (postings_of es) (history_row_of (length es + 1) e) rise (below es)
     last false rise = rise
 
 -- under each ordinal stands what the log has there
@@ -53,26 +50,13 @@ pub postings_under : (es : List DecidedRequest) (o : ℕ) → row_at history_key
 postings_under [] o = refl
 postings_under (e ∷ es) o = last (is_posted e) (postings_under es o)
   where
-    there : (b : Bool) → row_at history_key (postings_of es) o ≡ history_row es o
-        → eqb (length es + 1) o ≡ b
-        → row_at history_key (postings_of es ++ history_row_of (length es + 1) e ∷ []) o
-        ≡ cond b (Some (history_row_of o e)) (history_row es o)
-    there true earlier is =
-        find_after (λ r. eqb (history_key r) o) (postings_of es) (history_row_of (length es + 1) e ∷ [])
-        (not_under history_key o (postings_of es)
-        (all_as (λ r. history_key r ≤ length es) (λ r. history_key r ≡ o → ⊥)
-        (λ r low same. let at = eqb-true (length es + 1) o is in omega (arith, low, same, at))
-        (postings_of es) (ends es)))
-        ∙ rw is (ap (λ (n : ℕ). Some (history_row_of n e)) (eqb-true (length es + 1) o is))
-    there false earlier is =
-        find_before (λ r. eqb (history_key r) o) (postings_of es) (history_row_of (length es + 1) e) is
-        ∙ earlier
-
     last : (b : Bool) → row_at history_key (postings_of es) o ≡ history_row es o
         → row_at history_key
         (cond b (postings_of es ++ history_row_of (length es + 1) e ∷ []) (postings_of es)) o
         ≡ cond (b && eqb (length es + 1) o) (Some (history_row_of o e)) (history_row es o)
-    last true earlier = there (eqb (length es + 1) o) earlier refl
+    last true earlier =
+        under_next history_key (postings_of es) (λ n. history_row_of n e) (length es + 1) refl (below es) o
+        ∙ ap (λ x. cond (eqb (length es + 1) o) (Some (history_row_of o e)) x) earlier
     last false earlier = earlier
 
 -- ---- balances

@@ -1,28 +1,26 @@
 -- The statement of an account of a bank that shows a log.
-use Rattle.std.proofs.Common.{◌≡◌, ◌==◌, ◌&&◌, ◌<◌, ◌≤◌, ◌+◌, ◌++◌, ℕ, Bool, true, false, cond, List, [], ◌∷◌, length}
-use Rattle.std.proofs.Common.{map, filter, Option, Some, None, Less, int_cmp, refl, sym, ap, ◌∙◌, append_assoc}
-use Rattle.std.proofs.Common.{append-nil, inl, inr, arith}
+use Rattle.std.proofs.Common.{◌≡◌, ◌==◌, ◌&&◌, ◌≤◌, ◌+◌, ◌++◌, ℕ, Bool, true, false, cond, List, [], ◌∷◌, length}
+use Rattle.std.proofs.Common.{map, filter, Option, Some, None, refl, sym, ap, ◌∙◌, append_assoc, append-nil, inl, inr}
+use Rattle.std.proofs.Common.{arith}
 use Rattle.std.specs.Prelude.{ℤ, pos, ◌+ℤ◌, option_map}
 use Rattle.std.specs.{List.AllByRecursion, Ordering.int_eq}
 use Rattle.std.proofs.{lemmas.Bool.cases_Bool, lemmas.Bool.eq-eqb, lemmas.Bool.eqb-true, lemmas.Int.ints}
 use Rattle.std.proofs.{lemmas.List.map-append, lemmas.List.Elements.filter-append, Math.IntN.+ℤ_assoc}
 use Rattle.sqlite.specs.Effect.{Database}
-use Rattle.posting_rules.specs.declared.rows.{HistoryRow.HistoryRow, ReferenceRow.ReferenceRow}
+use Rattle.posting_rules.specs.declared.rows.ReferenceRow.{ReferenceRow}
 use Rattle.posting_rules.specs.believed.Commands.{Command}
 use Rattle.posting_rules.specs.believed.Entries.{DecidedRequest, is_posted, decided, account_balance}
 use Rattle.posting_rules.specs.believed.Tables.{Tables, AreTablesOf, history_key, history_row_of, reference_key}
 use Rattle.posting_rules.specs.believed.Tables.{reference_row, reference_row_of, row_at}
-use Rattle.sql_meanings.specs.believed.Entries.{Rise, Entry as Stored}
-use Rattle.sql_meanings.proofs.Contents.{held}
-use Rattle.store_rows.specs.believed.BankTables.{bank_tables, history as history_table, reference as reference_table}
+use Rattle.sql_meanings.specs.believed.Entries.{Entry as Stored}
+use Rattle.store_rows.specs.believed.BankTables.{history as history_table, reference as reference_table}
 use Rattle.store_rows.specs.believed.View.{history_entry, reference_entry, Shows}
-use Rattle.store_rows.specs.View.{contents}
 use Rattle.store_rows.proofs.RowLists.{found_row}
 use Rattle.walked_rows.specs.{declared.stated.StatedPosting.StatedPosting, Pairs.HasPairs, Pairs.Pair, Pairs.paired}
 use Rattle.walked_rows.specs.{Pairs.row_under, References.text_after, References.text_entry}
 use Rattle.walked_rows.specs.Stored.{is_of, is_stated_of, posting_entry, stated_pair}
 use Rattle.walked_rows.proofs.{Joining.paired_filter, Shown.has_history, Shown.has_references}
-use Rattle.walked_rows.proofs.RisingRows.{Rising, all-append, all_as, rising_once}
+use Rattle.walked_rows.proofs.RisingRows.{all-append, all_as, rising_keys, rising_once}
 use Rattle.report_contents.specs.Lines.{text_of}
 use Rattle.report_contents.specs.StatementText.{heading_line, names_line, posting_line, posting_lines, closing_line}
 use Rattle.report_contents.proofs.Joined.{text_of-append}
@@ -33,27 +31,12 @@ use Rattle.bank_reports.proofs.LogHistory.{postings_of, postings_rise, postings_
 
 -- ---- the history of a file
 
-rising_keys : (rs : List HistoryRow) → Rise (map history_entry rs) → Rising history_key rs
-rising_keys [] rise = tt
-rising_keys (r ∷ rs) rise = (above rs rise.0, rising_keys rs rise.1)
-  where
-    above : (xs : List HistoryRow)
-        → AllByRecursion (λ (e : Stored). int_cmp (history_entry r).key e.key ≡ Less)
-        (map history_entry xs)
-        → AllByRecursion (λ x. history_key r < history_key x) xs
-    above [] all = tt
-    above (x ∷ xs) all = (less (history_key r) (history_key x) all.0, above xs all.1)
-      where
-        less : (m n : ℕ) → int_cmp (pos m) (pos n) ≡ Less → m < n
-        less m n is = grind (arith, ints)
-
 -- a file that shows a log has its postings, the oldest first
 pub history_is : (db : Database) (t : Tables) (log : List Command) → Shows db t → AreTablesOf t log
     → t.history ≡ postings_of (decided log)
 history_is db t log in_file shows =
-    let holds = held db bank_tables (contents t) in_file.each 4 history_table (map history_entry t.history)
-    refl refl in
-    rising_once history_key t.history (postings_of (decided log)) (rising_keys t.history holds.rows.rise)
+    rising_once history_key t.history (postings_of (decided log))
+    (rising_keys history_key history_entry (λ r. refl) t.history (has_history db t in_file).holds.rows.rise)
     (postings_rise (decided log))
     (λ o. shows.rows.history o ∙ sym (postings_under (decided log) o))
 

@@ -1,9 +1,10 @@
 -- Rows under rising keys, and what look-ups find of them.
-use Rattle.std.proofs.Common.{◌≡◌, ◌<◌, ◌++◌, ℕ, Bool, false, eqb, List, [], ◌∷◌, find}
+use Rattle.std.proofs.Common.{◌≡◌, ◌<◌, ◌++◌, ℕ, pos, Bool, false, cond, eqb, List, [], ◌∷◌, map, find, Less, int_cmp}
 use Rattle.std.proofs.Common.{Some, None, refl, sym, ap, subst, ◌∙◌, inl, inr, arith}
 use Rattle.std.specs.List.{AllByRecursion}
-use Rattle.std.proofs.lemmas.Bool.{cases_Bool, eqb-true, eq-eqb}
+use Rattle.std.proofs.lemmas.{Bool.cases_Bool, Bool.eqb-true, Bool.eq-eqb, Int.ints}
 use Rattle.posting_rules.specs.believed.Tables.{row_at}
+use Rattle.sql_meanings.specs.believed.Entries.{Entry, Rise}
 
 pub all-append : {X : Type 0} (P : X → Type 0) (xs ys : List X) → AllByRecursion P xs
     → AllByRecursion P ys → AllByRecursion P (xs ++ ys)
@@ -33,6 +34,9 @@ find_before p (x ∷ xs) y away = elim (cases_Bool (p x)) [
   | inr f ↦ rw f (find_before p xs y away)
 ]
 
+less : (m n : ℕ) → int_cmp (pos m) (pos n) ≡ Less → m < n
+less m n is = grind (arith, ints)
+
 module _ {R : Type 0} (key : R → ℕ) where
   -- each key is above those before it
   abbrev pub Rising : List R → Type 0
@@ -45,6 +49,17 @@ module _ {R : Type 0} (key : R → ℕ) where
   rising_more (x ∷ rs) r rise below =
       (all-append (λ y. key x < key y) rs (r ∷ []) rise.0 (below.0, tt), rising_more rs r rise.1 below.1)
 
+  -- rows of a file have such keys
+  pub rising_keys : (entry : R → Entry) → ((r : R) → (entry r).key ≡ pos (key r)) → (rs : List R)
+      → Rise (map entry rs) → Rising rs
+  rising_keys entry keyed [] rise = tt
+  rising_keys entry keyed (r ∷ rs) rise = (above rs rise.0, rising_keys entry keyed rs rise.1)
+    where
+      above : (xs : List R) → AllByRecursion (λ (e : Entry). int_cmp (entry r).key e.key ≡ Less) (map entry xs)
+          → AllByRecursion (λ x. key r < key x) xs
+      above [] all = tt
+      above (x ∷ xs) all = (less (key r) (key x) (rw (keyed r, keyed x) at all.0), above xs all.1)
+
   -- a key that no row has
   pub not_under : (o : ℕ) (rs : List R) → AllByRecursion (λ x. key x ≡ o → ⊥) rs
       → row_at key rs o ≡ None
@@ -52,6 +67,18 @@ module _ {R : Type 0} (key : R → ℕ) where
   not_under o (r ∷ rs) away = elim (cases_Bool (eqb (key r) o)) [
     | inl t ↦ absurd (away.0 (eqb-true (key r) o t))
     | inr f ↦ rw f (not_under o rs away.1)
+  ]
+
+  -- after rows of lower keys comes the row of a number
+  pub under_next : (rs : List R) (row : ℕ → R) (n : ℕ) → key (row n) ≡ n → AllByRecursion (λ x. key x < n) rs
+      → (o : ℕ) → row_at key (rs ++ row n ∷ []) o ≡ cond (eqb n o) (Some (row o)) (row_at key rs o)
+  under_next rs row n is below o = elim (cases_Bool (eqb n o)) [
+    | inl t ↦
+        find_after (λ r. eqb (key r) o) rs (row n ∷ [])
+        (not_under o rs (all_as (λ x. key x < n) (λ x. key x ≡ o → ⊥)
+        (λ x low same. let at = eqb-true n o t in omega (arith, low, same, at)) rs below))
+        ∙ rw (is, t) (ap (λ (m : ℕ). Some (row m)) (eqb-true n o t))
+    | inr f ↦ find_before (λ r. eqb (key r) o) rs (row n) (rw is f) ∙ rw f refl
   ]
 
   -- a row that is found has the key, and what holds of all rows holds of it
