@@ -1,7 +1,7 @@
 -- The digest of requests, one request more, and what is read of a kept row.
 use Rattle.std.proofs.Common.{◌≡◌, ◌+◌, ◌++◌, ℕ, ℤ, pos, List, [], ◌∷◌, map, Option, Some, None, replicate, refl, sym}
 use Rattle.std.proofs.Common.{ap, subst, ◌∙◌, arith}
-use Rattle.std.specs.{Prelude.nat_abs, Prelude.option_map, Prelude.unwrap_or, List.AllByRecursion}
+use Rattle.std.specs.Prelude.{nat_abs, option_map, unwrap_or}
 use Rattle.std.proofs.lemmas.List.{length-append, length-map, map-append}
 use Rattle.message_records.specs.{declared.records.Outcome.Outcome, believed.Outcomes.code_of, Reading.outcome_with}
 use Rattle.message_records.specs.declared.records.Outcome.TheVariants.{Posted, NoTeller, WrongBranch, NoAccount}
@@ -12,6 +12,7 @@ use Rattle.posting_rules.specs.believed.Cases.{balance_shown}
 use Rattle.walked_rows.specs.{KeptRows.KeptItem, KeptRows.kept_item, Stored.posting_entry}
 use Rattle.walked_rows.specs.{declared.kept.KeptRequest.KeptRequest, declared.postings.StoredPosting.StoredPosting}
 use Rattle.walked_rows.specs.References.{text_after, text_entry}
+use Rattle.walked_rows.proofs.RisingRows.{all-append}
 use Rattle.bank_replays.specs.{Came.CameAs, Came.GotReply, Came.moment_of, declared.chain.Digest.Digest}
 use Rattle.bank_replays.specs.Digests.{GoesOnBy, IsDigestIn, chained, digest_from}
 use Rattle.bank_replays.specs.Requests.{AnsweredRequest, IsRequestRow, answered_in, moment_under, outcome_in}
@@ -117,11 +118,6 @@ digest_more : (before : List ℕ) (xs : List AnsweredRequest) (a : AnsweredReque
 digest_more before [] a = refl
 digest_more before (x ∷ xs) a = digest_more (chained before x) xs a
 
-all_more : {X : Type 0} (P : X → Type 0) (xs : List X) (x : X) → AllByRecursion P xs → P x
-    → AllByRecursion P (xs ++ x ∷ [])
-all_more P [] x all p = (p, tt)
-all_more P (y ∷ ys) x all p = (all.0, all_more P ys x all.1 p)
-
 -- one row more
 pub one_more : (first mid last : Digest) (rows : List KeptRequest) (row : KeptRequest)
     → GoesOnBy first mid (map kept_item rows) → last.requests ≡ mid.requests + 1
@@ -133,7 +129,7 @@ one_more first mid last rows row it count sha is =
       sha256 = sha ∙ ap (λ (s : List ℕ). chained s (answered_in (kept_item row))) it.sha256
           ∙ sym (digest_more first.sha256 (map answered_in items) (answered_in (kept_item row)))
           ∙ ap (digest_from first.sha256) (sym (map-append answered_in items (kept_item row ∷ [])));
-      each = all_more IsRequestRow items (kept_item row) it.each is;
+      each = all-append IsRequestRow items (kept_item row ∷ []) it.each (is, tt);
     })
   where
     items : List KeptItem

@@ -13,12 +13,13 @@ use Rattle.posting_rules.specs.believed.Tables.{AreTablesOf, Tables, history_key
 use Rattle.posting_rules.specs.believed.Tables.{reference_key, reference_row, reference_row_of, request_key}
 use Rattle.posting_rules.specs.believed.Tables.{request_row, request_row_of, row_at}
 use Rattle.sql_meanings.specs.believed.Entries.{Entry}
+use Rattle.sql_meanings.proofs.Places.{all_weaker}
 use Rattle.store_rows.specs.believed.View.{Shows, history_entry, reference_entry, request_entry}
 use Rattle.store_rows.proofs.RowLists.{found_row}
 use Rattle.walked_rows.specs.KeptRows.{HasKept, KeptItem, kept_all, kept_with}
 use Rattle.walked_rows.specs.{Pairs.row_under, References.text_after}
 use Rattle.walked_rows.proofs.Shown.{has_history, has_references, has_requests}
-use Rattle.walked_rows.proofs.RisingRows.{Rising, all-append, all_as, rising_keys, rising_more, rising_once, under_next}
+use Rattle.walked_rows.proofs.RisingRows.{Rising, all-append, rising_keys, rising_more, rising_once, under_next}
 use Rattle.bank_replays.specs.Digests.{answered_after, answered_of, each_answered}
 use Rattle.bank_replays.specs.Requests.{answered_in, moment_under}
 use Rattle.bank_replays.proofs.Chained.{answered_same, code_back, reply_same, request_same}
@@ -34,7 +35,7 @@ below : (es : List DecidedRequest) → AllByRecursion (λ r. request_key r < len
 below [] = tt
 below (e ∷ es) =
     all-append (λ r. request_key r < length (e ∷ es) + 1) (requests_of es) (request_row_of (length es + 1) e ∷ [])
-    (all_as (λ r. request_key r < length es + 1) (λ r. request_key r < length (e ∷ es) + 1)
+    (all_weaker (λ r. request_key r < length es + 1) (λ r. request_key r < length (e ∷ es) + 1)
     (λ r low. omega (arith, low)) (requests_of es) (below es))
     (omega arith, tt)
 

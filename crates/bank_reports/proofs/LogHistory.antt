@@ -13,7 +13,8 @@ use Rattle.posting_rules.specs.believed.Entries.{DecidedRequest, is_posted, fact
 use Rattle.posting_rules.specs.believed.Entries.{with_record, decided}
 use Rattle.posting_rules.specs.believed.Tables.{row_at, history_key, history_row, history_row_of}
 use Rattle.posting_rules.proofs.BalanceLimits.{stays_within}
-use Rattle.walked_rows.proofs.RisingRows.{Rising, all-append, all_as, rising_more, under_next}
+use Rattle.sql_meanings.proofs.Places.{all_weaker}
+use Rattle.walked_rows.proofs.RisingRows.{Rising, all-append, rising_more, under_next}
 
 -- the postings of decided requests, the oldest first
 abbrev pub postings_of : List DecidedRequest → List HistoryRow
@@ -24,7 +25,7 @@ postings_of (e ∷ es) = if is_posted e then postings_of es ++ history_row_of (l
 below : (es : List DecidedRequest) → AllByRecursion (λ r. history_key r < length es + 1) (postings_of es)
 below [] = tt
 below (e ∷ es) = last (is_posted e)
-    (all_as (λ r. history_key r < length es + 1) (λ r. history_key r < length (e ∷ es) + 1)
+    (all_weaker (λ r. history_key r < length es + 1) (λ r. history_key r < length (e ∷ es) + 1)
     (λ r low. omega (arith, low)) (postings_of es) (below es))
   where
     last : (b : Bool) → AllByRecursion (λ r. history_key r < length (e ∷ es) + 1) (postings_of es)

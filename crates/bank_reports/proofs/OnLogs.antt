@@ -13,6 +13,7 @@ use Rattle.posting_rules.specs.believed.Entries.{DecidedRequest, is_posted, deci
 use Rattle.posting_rules.specs.believed.Tables.{Tables, AreTablesOf, history_key, history_row_of, reference_key}
 use Rattle.posting_rules.specs.believed.Tables.{reference_row, reference_row_of, row_at}
 use Rattle.sql_meanings.specs.believed.Entries.{Entry as Stored}
+use Rattle.sql_meanings.proofs.Places.{all_weaker}
 use Rattle.store_rows.specs.believed.BankTables.{history as history_table, reference as reference_table}
 use Rattle.store_rows.specs.believed.View.{history_entry, reference_entry, Shows}
 use Rattle.store_rows.proofs.RowLists.{found_row}
@@ -20,7 +21,7 @@ use Rattle.walked_rows.specs.{declared.stated.StatedPosting.StatedPosting, Pairs
 use Rattle.walked_rows.specs.{Pairs.row_under, References.text_after, References.text_entry}
 use Rattle.walked_rows.specs.Stored.{is_of, is_stated_of, posting_entry, stated_pair}
 use Rattle.walked_rows.proofs.{Joining.paired_filter, Shown.has_history, Shown.has_references}
-use Rattle.walked_rows.proofs.RisingRows.{all-append, all_as, rising_keys, rising_once}
+use Rattle.walked_rows.proofs.RisingRows.{all-append, rising_keys, rising_once}
 use Rattle.report_contents.specs.Lines.{text_of}
 use Rattle.report_contents.specs.StatementText.{heading_line, names_line, posting_line, posting_lines, closing_line}
 use Rattle.report_contents.proofs.Joined.{text_of-append}
@@ -120,7 +121,7 @@ each_referenced : (a : ℕ) (es : List DecidedRequest) → AllByRecursion (IsRef
 each_referenced a [] = tt
 each_referenced a (e ∷ es) =
     last (is_posted_to a e)
-    (all_as (IsReferenced es) (IsReferenced (e ∷ es)) (still_referenced e es) (postings_to a es)
+    (all_weaker (IsReferenced es) (IsReferenced (e ∷ es)) (still_referenced e es) (postings_to a es)
     (each_referenced a es))
   where
     n : ℕ

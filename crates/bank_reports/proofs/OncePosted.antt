@@ -8,7 +8,7 @@ use Rattle.posting_rules.specs.{declared.rows.RequestRow.RequestRow, believed.Co
 use Rattle.posting_rules.specs.believed.Entries.{DecidedRequest, decided, kept}
 use Rattle.posting_rules.specs.believed.Tables.{Tables, AreTablesOf, request_key, request_row, request_row_of, row_at}
 use Rattle.posting_rules.proofs.{Requests.AreNew, Requests.are_new, Totals.each_under_its_key}
-use Rattle.walked_rows.proofs.RisingRows.{all_as}
+use Rattle.sql_meanings.proofs.Places.{all_weaker}
 use Rattle.bank_reports.specs.Differing.{DifferIfPosted, EachPostedOnce}
 
 -- where none of the entries is kept under a teller and a number, none of their rows has both
@@ -82,7 +82,7 @@ module _ (es : List DecidedRequest) (new : AreNew es) where
 pub posted_once : (t : Tables) (log : List Command) → AreTablesOf t log → EachPostedOnce t
 posted_once t log shows =
     each_once (decided log) (are_new log) t.requests
-    (all_as (λ r. row_at request_key t.requests (request_key r) ≡ Some r)
+    (all_weaker (λ r. row_at request_key t.requests (request_key r) ≡ Some r)
     (λ r. request_row (decided log) r.ordinal ≡ Some r)
     (λ r is. sym (shows.rows.requests r.ordinal) ∙ is) t.requests
     (each_under_its_key request_key t.requests shows.rows.request_keys))

@@ -3,6 +3,7 @@ use Rattle.std.proofs.Common.{◌≡◌, ℕ, List, [], ◌∷◌, map, Option, 
 use Rattle.std.specs.{Prelude.pos, Prelude.nat_abs, Prelude.option_map, List.AllByRecursion}
 use Rattle.posting_rules.specs.believed.Tables.{row_at}
 use Rattle.sql_meanings.specs.believed.Entries.{Entry}
+use Rattle.sql_meanings.proofs.Places.{all_weaker}
 use Rattle.store_rows.proofs.RowLists.{found_row}
 use Rattle.walked_rows.specs.declared.{accounts.StoredAccount.StoredAccount, branches.StoredBranch.StoredBranch}
 use Rattle.walked_rows.specs.declared.{tellers.StoredTeller.StoredTeller, postings.StoredPosting.StoredPosting}
@@ -10,7 +11,6 @@ use Rattle.walked_rows.specs.declared.{requests.StoredRequest.StoredRequest, joi
 use Rattle.walked_rows.specs.Pairs.{pair_of, pair_with, paired, row_under}
 use Rattle.walked_rows.specs.Stored.{account_entry, asked_pair, branch_entry, number_after, posted_pair}
 use Rattle.walked_rows.specs.Stored.{posting_entry, request_entry, teller_entry}
-use Rattle.walked_rows.proofs.RisingRows.{all_as}
 use Rattle.report_contents.specs.{Added.HasBeside, Beside.rows_of, Stored.StoredTables}
 use Rattle.report_contents.specs.Audit.{posting_ordinal, posting_under, request_ordinal, request_under}
 use Rattle.bank_reports.specs.{declared.sums.Sums.Sums, Adding.HasSums, Adding.both, Files.FileRows, Files.rows_in}
@@ -189,7 +189,7 @@ module _ (tellers : List StoredTeller) (branches : List StoredBranch) (accounts 
 
     asked_beside : map both asked ≡ map (λ r. (r, posting_under read r.ordinal)) (stored_of asked)
     asked_beside = beside request_ordinal posting_ordinal (stored_of posted) asked
-        (all_as (λ j. option_map posting_entry j.beside ≡ row_under f.history (request_entry j.stored).key)
+        (all_weaker (λ j. option_map posting_entry j.beside ≡ row_under f.history (request_entry j.stored).key)
         (λ j. j.beside ≡ row_at posting_ordinal (stored_of posted) (request_ordinal j.stored))
         (λ j is. one_option posting_entry posting_in posting_back j.beside
         (row_at posting_ordinal (stored_of posted) j.stored.ordinal)
@@ -199,7 +199,7 @@ module _ (tellers : List StoredTeller) (branches : List StoredBranch) (accounts 
 
     posted_beside : map both posted ≡ map (λ h. (h, request_under read h.ordinal)) (stored_of posted)
     posted_beside = beside posting_ordinal request_ordinal (stored_of asked) posted
-        (all_as (λ j. option_map request_entry j.beside
+        (all_weaker (λ j. option_map request_entry j.beside
         ≡ row_under f.requests (posting_entry j.stored).key)
         (λ j. j.beside ≡ row_at request_ordinal (stored_of asked) (posting_ordinal j.stored))
         (λ j is. one_option request_entry request_in request_back j.beside

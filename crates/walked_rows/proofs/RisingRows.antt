@@ -5,16 +5,12 @@ use Rattle.std.specs.List.{AllByRecursion}
 use Rattle.std.proofs.lemmas.{Bool.cases_Bool, Bool.eqb-true, Bool.eq-eqb, Int.ints}
 use Rattle.posting_rules.specs.believed.Tables.{row_at}
 use Rattle.sql_meanings.specs.believed.Entries.{Entry, Rise}
+use Rattle.sql_meanings.proofs.Places.{all_weaker}
 
 pub all-append : {X : Type 0} (P : X → Type 0) (xs ys : List X) → AllByRecursion P xs
     → AllByRecursion P ys → AllByRecursion P (xs ++ ys)
 all-append P [] ys all more = more
 all-append P (x ∷ xs) ys all more = (all.0, all-append P xs ys all.1 more)
-
-pub all_as : {X : Type 0} (P Q : X → Type 0) → ((x : X) → P x → Q x) → (xs : List X)
-    → AllByRecursion P xs → AllByRecursion Q xs
-all_as P Q f [] all = tt
-all_as P Q f (x ∷ xs) all = (f x all.0, all_as P Q f xs all.1)
 
 -- what isn't found in front is looked for after
 pub find_after : {X : Type 0} (p : X → Bool) (xs ys : List X) → find p xs ≡ None → find p (xs ++ ys)
@@ -75,7 +71,7 @@ module _ {R : Type 0} (key : R → ℕ) where
   under_next rs row n is below o = elim (cases_Bool (eqb n o)) [
     | inl t ↦
         find_after (λ r. eqb (key r) o) rs (row n ∷ [])
-        (not_under o rs (all_as (λ x. key x < n) (λ x. key x ≡ o → ⊥)
+        (not_under o rs (all_weaker (λ x. key x < n) (λ x. key x ≡ o → ⊥)
         (λ x low same. let at = eqb-true n o t in omega (arith, low, same, at)) rs below))
         ∙ rw (is, t) (ap (λ (m : ℕ). Some (row m)) (eqb-true n o t))
     | inr f ↦ find_before (λ r. eqb (key r) o) rs (row n) (rw is f) ∙ rw f refl
@@ -94,7 +90,7 @@ module _ {R : Type 0} (key : R → ℕ) where
   above_not : (k o : ℕ) (rs : List R) → k ≡ o → AllByRecursion (λ x. k < key x) rs
       → AllByRecursion (λ x. key x ≡ o → ⊥) rs
   above_not k o rs same above =
-      all_as (λ x. k < key x) (λ x. key x ≡ o → ⊥) (λ x low is. omega (arith, low, is, same)) rs
+      all_weaker (λ x. k < key x) (λ x. key x ≡ o → ⊥) (λ x low is. omega (arith, low, is, same)) rs
       above
 
   -- rows under rising keys are known by what is found under each

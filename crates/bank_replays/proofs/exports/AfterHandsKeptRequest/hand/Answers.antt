@@ -2,10 +2,11 @@
 use Rattle.std.proofs.Common.{rules, ◌≡◌, ◌++◌, ◌∷◌, [], ℕ, List, Bool, true, false, not, map, refl, sym, ap, ◌∙◌}
 use Rattle.message_records.specs.believed.Spelling.{request_spelling}
 use Rattle.posting_rules.specs.declared.fault.{Fault.TheVariants.Damaged, Rule.TheVariants.Request}
-use Rattle.walked_rows.specs.KeptRows.{kept_item}
+use Rattle.walked_rows.specs.{KeptRows.kept_item, declared.kept.KeptRequest.KeptRequest}
 use Rattle.bank_replays.specs.{Prefixes.all_part, Requests.request_in, Writing.is_after, Writing.records_after}
 use Rattle.bank_replays.proofs.{Chained.request_is, Exported.record_more, Exported.records_more}
-use Rattle.bank_replays.proofs.Wrote.{part_of, puts_part, puts_took}
+use Rattle.bank_replays.proofs.{Wrote.part_of, Wrote.puts_part, Wrote.puts_took}
+use Rattle.bank_replays.proofs.exports.AfterHandsKeptRequest.hand.Given.{Over}
 use Rattle.bank_replays.proofs.exports.AfterHandsKeptRequest.hand.Goals as goal
 
 not_not : (b : Bool) → not b ≡ false → b ≡ true
@@ -20,8 +21,11 @@ returns-in_default-clause-part g c first rows took =
     part_of old now (records_after after (map kept_item rows)) (records_after after (kept_item c.args.row ∷ [])) _
     (records_more after rows c.args.row) (all_part old now _ took (Damaged Request))
 
-pub returns-clause-took : goal.returns-clause-took
-returns-clause-took g c first rows took =
+-- its bytes after those of the rows before it
+text_is : (g : Over) (c : goal.After-put_bytes g) (rows : List KeptRequest)
+    → records_after c.args.self.now.after (map kept_item rows) ++ c.as_slice.result.now
+    ≡ records_after c.args.self.now.after (map kept_item (rows ++ c.args.row ∷ []))
+text_is g c rows =
     let after = c.args.self.now.after in
     let row = c.args.row in
     let is : is_after after (kept_item row) ≡ true =
@@ -29,21 +33,16 @@ returns-clause-took g c first rows took =
     let bytes : c.as_slice.result.now ≡ request_spelling c.in-Some.request = search rules in
     let all : c.as_slice.result.now ≡ request_spelling (request_in (kept_item row)) =
     bytes ∙ ap request_spelling (request_is row c.in-Some.request c.in-Some.ensures) in
+    ap (λ (t : List ℕ). records_after after (map kept_item rows) ++ t) all ∙ record_more after rows row is
+
+pub returns-clause-took : goal.returns-clause-took
+returns-clause-took g c first rows took =
     puts_took (g.W.Sink.contents first) (g.W.Sink.contents c.args.writer.now)
-    (g.W.Sink.contents c.put_bytes.new.writer) (records_after after (map kept_item rows)) c.as_slice.result.now _
-    took (ap (λ (t : List ℕ). records_after after (map kept_item rows) ++ t) all ∙ record_more after rows row is) _
-    c.put_bytes.ensures
+    (g.W.Sink.contents c.put_bytes.new.writer) (records_after c.args.self.now.after (map kept_item rows))
+    c.as_slice.result.now _ took (text_is g c rows) _ c.put_bytes.ensures
 
 pub returns-clause-part : goal.returns-clause-part
 returns-clause-part g c first rows took =
-    let after = c.args.self.now.after in
-    let row = c.args.row in
-    let is : is_after after (kept_item row) ≡ true =
-    sym c.is_after.ensures ∙ search (rules, not_not) in
-    let bytes : c.as_slice.result.now ≡ request_spelling c.in-Some.request = search rules in
-    let all : c.as_slice.result.now ≡ request_spelling (request_in (kept_item row)) =
-    bytes ∙ ap request_spelling (request_is row c.in-Some.request c.in-Some.ensures) in
     puts_part (g.W.Sink.contents first) (g.W.Sink.contents c.args.writer.now)
-    (g.W.Sink.contents c.put_bytes.new.writer) (records_after after (map kept_item rows)) c.as_slice.result.now _
-    took (ap (λ (t : List ℕ). records_after after (map kept_item rows) ++ t) all ∙ record_more after rows row is) _
-    c.put_bytes.ensures
+    (g.W.Sink.contents c.put_bytes.new.writer) (records_after c.args.self.now.after (map kept_item rows))
+    c.as_slice.result.now _ took (text_is g c rows) _ c.put_bytes.ensures
