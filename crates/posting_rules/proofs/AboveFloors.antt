@@ -3,7 +3,7 @@ use Rattle.std.proofs.Common.{◌≡◌, ℕ, Bool, true, false, cond, eqb, leb,
 use Rattle.std.proofs.Common.{Ok, Err, refl, sym, ap, subst, ◌∙◌}
 use Rattle.std.specs.Prelude.{ℤ, pos, ◌+ℤ◌, ◌≤ℤ◌, ◌&&◌, IfSome, option_and_then}
 use Rattle.std.specs.Option.{option_or}
-use Rattle.std.proofs.lemmas.Bool.{eqb-true}
+use Rattle.std.proofs.lemmas.Bool.{and_parts, and_right, eqb-true}
 use Rattle.message_records.specs.declared.fault.Bad.{Bad}
 use Rattle.message_records.specs.believed.{Outcomes.has_balance, Records.RequestFields, Reading.request_of}
 use Rattle.posting_rules.specs.{declared.judgments.Verdict.Verdict, believed.Cases.case_of}
@@ -13,7 +13,7 @@ use Rattle.posting_rules.specs.believed.Commands.{is_account_open, is_within}
 use Rattle.posting_rules.specs.believed.Numbering.{branch_of_account, place_of_account}
 use Rattle.posting_rules.specs.believed.Entries.{DecidedRequest, facts, with_verdict, with_record, decided}
 use Rattle.posting_rules.specs.believed.Entries.{account_balance}
-use Rattle.posting_rules.proofs.NamedOpen.{AllNameOpen, with_branch, all_name_open, both}
+use Rattle.posting_rules.proofs.NamedOpen.{AllNameOpen, with_branch, all_name_open}
 use Rattle.posting_rules.proofs.{NoBalance.account_none, Verdicts.IsVerdict, Verdicts.verdict_is}
 
 abbrev AllAbove : (ℕ → Option Terms) → List DecidedRequest → Type 0
@@ -35,7 +35,7 @@ above_verdict opened es m r (Again x) h all = all
 above_verdict opened es m r (Refused o) h all = λ a.
     keeps_above (floor_of opened (branch_of_account a)) (has_balance o && eqb r.account a)
     (account_balance es a) (account_balance es a +ℤ r.delta) (all a)
-    (λ t. let p = (both (has_balance o) (eqb r.account a) t).0 in absurd (let f = h.unposted in cc))
+    (λ t. let p = (and_parts (has_balance o) (eqb r.account a) t).0 in absurd (let f = h.unposted in cc))
 above_verdict opened es m r (Posted x t b) h all = λ a.
     keeps_above (floor_of opened (branch_of_account a)) (eqb r.account a)
     (account_balance es a) (account_balance es a +ℤ r.delta) (all a)
@@ -68,13 +68,9 @@ zero_above : (hit : Bool) (terms : Terms) → IfSome terms.floor IsFloor
 zero_above true terms h = not_above_zero terms.floor h
 zero_above false terms h = tt
 
-and_false : (b : Bool) → (b && false) ≡ false
-and_false true = refl
-and_false false = refl
-
 not_open : (opened : ℕ → Option Terms) (a : ℕ) → opened (branch_of_account a) ≡ None
     → is_account_open opened a ≡ false
-not_open opened a none = ap (λ o. leb 1 a && is_within (place_of_account a) o) none ∙ and_false (leb 1 a)
+not_open opened a none = ap (λ o. leb 1 a && is_within (place_of_account a) o) none ∙ and_right (leb 1 a) false refl
 
 above_opened : (opened : ℕ → Option Terms) (es : List DecidedRequest) (b : ℕ) (terms : Terms)
     → AllNameOpen opened es → IfSome terms.floor IsFloor → AllAbove opened es

@@ -5,6 +5,7 @@ use Rattle.std.proofs.Common.{Some, None, refl, sym, ap, ◌∙◌, arith, inl, 
 use Rattle.std.specs.Prelude.{◌&&◌, ℤ, pos, ◌+ℤ◌, is_some}
 use Rattle.std.specs.List.{AllByRecursion}
 use Rattle.std.proofs.{Math.IntN.+ℤ_idl, lemmas.Bool.eqb-true, lemmas.Bool.eq-eqb, lemmas.Bool.Decides.nat_tests}
+use Rattle.std.proofs.lemmas.Bool.{and_parts}
 use Rattle.posting_rules.specs.{declared.rows.HistoryRow.HistoryRow, believed.Numbering.branch_of_teller}
 use Rattle.posting_rules.specs.believed.Commands.{Command, opened, Terms}
 use Rattle.posting_rules.specs.believed.Entries.{DecidedRequest, is_posted, posted_sum, branch_balance, decided}
@@ -12,7 +13,7 @@ use Rattle.posting_rules.specs.believed.Tables.{Tables, HasRows, AreTablesOf, ro
 use Rattle.posting_rules.specs.believed.Tables.{account_key, history_key, history_row, history_row_of, request_row}
 use Rattle.posting_rules.specs.believed.LookUps.{balance_of_branch, balance_of_teller, balance_of_account}
 use Rattle.posting_rules.specs.believed.Laws.{total, delta_of, tellers_of, Match, IsConsistent}
-use Rattle.posting_rules.proofs.{Keyed.by_test, NamedOpen.AllNameOpen, NamedOpen.all_name_open, NamedOpen.both}
+use Rattle.posting_rules.proofs.{Keyed.by_test, NamedOpen.AllNameOpen, NamedOpen.all_name_open}
 use Rattle.posting_rules.proofs.Totals.{sum_where, spread, values_are, filter_all, each_under_its_key, all_follow}
 use Rattle.posting_rules.proofs.PostedSums.{posted_at, all_posted, sum_at, one_sum, teller_has, account_has}
 use Rattle.posting_rules.proofs.PostedSums.{branch_has, tellers_have, accounts_have, branches_have}
@@ -111,7 +112,7 @@ same_branch opened [] b h = refl
 same_branch opened (e ∷ es) b h =
     elim (by_test (is_posted e)) [
       | inl p ↦ let its : branch_of_teller e.request.teller ≡ e.request.branch = sym (h.0.branch p) in
-          let low = (both (leb 1 e.request.teller) (is_some (opened (branch_of_teller e.request.teller)))
+          let low = (and_parts (leb 1 e.request.teller) (is_some (opened (branch_of_teller e.request.teller)))
           (h.0.teller p)).0 in
           rw (p, low, its) (ap (λ (z : ℤ). cond (eqb e.request.branch b) (z +ℤ e.request.delta) z)
           (same_branch opened es b h.1))

@@ -1,16 +1,13 @@
 -- Tables with no row show the empty log.
-use Rattle.std.proofs.Common.{◌≡◌, Bool, true, false, leb, [], refl}
-use Rattle.std.specs.Prelude.{nat_eq, ◌&&◌}
+use Rattle.std.proofs.Common.{false, leb, [], refl}
+use Rattle.std.specs.Prelude.{nat_eq}
 use Rattle.std.specs.List.{IsDistinct}
+use Rattle.std.proofs.lemmas.Bool.{and_right}
 use Rattle.posting_rules.specs.believed.Tables.{AreTablesOf}
 
 none_distinct : IsDistinct nat_eq []
 unfolding IsDistinct
 none_distinct = tt
-
-and_false : (b : Bool) → (b && false) ≡ false
-and_false true = refl
-and_false false = refl
 
 pub empty_shown : AreTablesOf (record {
   decided = 0;
@@ -26,8 +23,8 @@ empty_shown = record {
   rows = record {
     decided = refl;
     branches = λ b. refl;
-    tellers = λ n. rw (and_false (leb 1 n)) refl;
-    accounts = λ n. rw (and_false (leb 1 n)) refl;
+    tellers = λ n. rw (and_right (leb 1 n) false refl) refl;
+    accounts = λ n. rw (and_right (leb 1 n) false refl) refl;
     history = λ o. refl;
     requests = λ o. refl;
     floors = λ b. refl;

@@ -1,8 +1,9 @@
 -- What is posted names what is open, and goes on to name it where branches are opened.
-use Rattle.std.proofs.Common.{ap, ◌∙◌, ◌≡◌, ℕ, Bool, true, false, cond, eqb, leb, List, [], ◌∷◌, Option, Some, None}
+use Rattle.std.proofs.Common.{ap, ◌∙◌, ◌≡◌, ℕ, true, cond, eqb, leb, List, [], ◌∷◌, Option, Some, None}
 use Rattle.std.proofs.Common.{Result, Ok, Err, refl}
-use Rattle.std.specs.Prelude.{is_some, ◌&&◌}
+use Rattle.std.specs.Prelude.{is_some}
 use Rattle.std.specs.{List.AllByRecursion, Option.option_or}
+use Rattle.std.proofs.lemmas.Bool.{and_parts}
 use Rattle.message_records.specs.{declared.fault.Bad.Bad, believed.Records.RequestFields, believed.Reading.request_of}
 use Rattle.posting_rules.specs.{declared.judgments.Verdict.Verdict, believed.Cases.case_of}
 use Rattle.posting_rules.specs.declared.judgments.Verdict.TheVariants.{Unkept, Again, Refused, Posted}
@@ -33,21 +34,17 @@ pub some_within : (place : ℕ) (o : Option Terms) → is_within place o ≡ tru
 some_within place (Some n) h = refl
 some_within place None h = absurd cc
 
-pub both : (a b : Bool) → (a && b) ≡ true → (a ≡ true) × (b ≡ true)
-both true b e = (refl, e)
-both false b e = absurd cc
-
 pub teller_stays : (opened : ℕ → Option Terms) (b : ℕ) (terms : Terms) (t : ℕ) → is_teller_open opened t ≡ true
     → is_teller_open (λ x. with_branch opened b terms x) t ≡ true
 teller_stays opened b terms t h =
-    let two = both (leb 1 t) (is_some (opened (branch_of_teller t))) h in
+    let two = and_parts (leb 1 t) (is_some (opened (branch_of_teller t))) h in
     rw (stays (opened (branch_of_teller t)) (cond (eqb b (branch_of_teller t)) (Some terms) None) two.1) h
 
 pub account_stays : (opened : ℕ → Option Terms) (b : ℕ) (terms : Terms) (a : ℕ)
     → is_account_open opened a ≡ true
     → is_account_open (λ x. with_branch opened b terms x) a ≡ true
 account_stays opened b terms a h =
-    let two = both (leb 1 a) (is_within (place_of_account a) (opened (branch_of_account a))) h in
+    let two = and_parts (leb 1 a) (is_within (place_of_account a) (opened (branch_of_account a))) h in
     rw (stays (opened (branch_of_account a)) (cond (eqb b (branch_of_account a)) (Some terms) None)
     (some_within (place_of_account a) (opened (branch_of_account a)) two.1)) h
 
@@ -96,5 +93,5 @@ pub open_home : (opened : ℕ → Option Terms) (e : DecidedRequest) → NamesOp
     → is_some (opened e.request.branch) ≡ true
 open_home opened e named p =
     ap (λ (b : ℕ). is_some (opened b)) (named.branch p)
-    ∙ (both (leb 1 e.request.teller) (is_some (opened (branch_of_teller e.request.teller)))
+    ∙ (and_parts (leb 1 e.request.teller) (is_some (opened (branch_of_teller e.request.teller)))
     (named.teller p)).1

@@ -3,7 +3,7 @@ use Rattle.std.proofs.Common.{◌≡◌, ℕ, ◌+◌, ◌≤◌, Bool, true, fa
 use Rattle.std.proofs.Common.{Result, Ok, Err, refl, sym, ap, subst, ◌∙◌, arith, inl, inr}
 use Rattle.std.specs.Prelude.{◌&&◌, AllPairs}
 use Rattle.std.specs.{List.find, List.AllByRecursion, Option.option_map}
-use Rattle.std.proofs.lemmas.Bool.{eqb-true, eq-eqb}
+use Rattle.std.proofs.lemmas.Bool.{and_parts, eqb-true, eq-eqb}
 use Rattle.std.proofs.lemmas.{Bool.Decides.nat_tests, List.Elements.All-from_recursion, List.Kept.AllPairs-cons}
 use Rattle.message_records.specs.{declared.fault.Bad.Bad, believed.Records.RequestFields, believed.Reading.request_of}
 use Rattle.posting_rules.specs.{declared.judgments.Verdict.Verdict, declared.rows.RequestRow.RequestRow}
@@ -46,10 +46,6 @@ are_new (Post m bytes ∷ log) = new_record (λ b. opened log b) (decided log) m
 
 abbrev has_pair : ℕ → ℕ → DecidedRequest → Bool
 has_pair t n e = (eqb e.request.teller t) && (eqb e.request.number n)
-
-both_true : (a b : Bool) → (a && b) ≡ true → (a ≡ true) × (b ≡ true)
-both_true true b e = (refl, e)
-both_true false b e = absurd cc
 
 pair_same : (a b : ℕ) → ((eqb a a) && (eqb b b)) ≡ true
 pair_same a b = let p : eqb a a ≡ true = eq-eqb a a refl in let q : eqb b b ≡ true = eq-eqb b b refl in rw
@@ -95,7 +91,7 @@ kept_has_row : (es : List DecidedRequest) (t n : ℕ) (k : KeptFields) → kept 
 kept_has_row [] t n k e = absurd cc
 kept_has_row (e ∷ es) t n k h =
     elim (by_test (has_pair t n e)) [
-      | inl p ↦ let two = both_true (eqb e.request.teller t) (eqb e.request.number n) p in
+      | inl p ↦ let two = and_parts (eqb e.request.teller t) (eqb e.request.number n) p in
           record {
             ordinal = length es + 1;
             within = omega arith;
@@ -137,7 +133,7 @@ row_is_kept (d ∷ es) o row h e =
       | inr f ↦ let older : kept es row.teller row.number ≡ Some (kept_under es o row) =
           row_is_kept es o row h.1 (let g = rw f at e in g) in
           elim (by_test (has_pair row.teller row.number d)) [
-            | inl p ↦ let two = both_true (eqb d.request.teller row.teller) (eqb d.request.number row.number)
+            | inl p ↦ let two = and_parts (eqb d.request.teller row.teller) (eqb d.request.number row.number)
                 p in
                 let t-is : d.request.teller ≡ row.teller = eqb-true _ _ two.0 in
                 let n-is : d.request.number ≡ row.number = eqb-true _ _ two.1 in
@@ -177,7 +173,7 @@ kept_shown rows references es keys shown referenced new t n =
         → option_map (kept_of_row references) o ≡ kept es t n
     by_found None e = by_none (kept es t n) refl e ∙ refl
     by_found (Some row) e =
-        let passes = both_true (eqb row.teller t) (eqb row.number n)
+        let passes = and_parts (eqb row.teller t) (eqb row.number n)
         (found_passes (λ r. (eqb r.teller t) && (eqb r.number n)) rows row e) in
         let under : request_row es row.ordinal ≡ Some row = sym (shown row.ordinal) ∙ row_at-found request_key
         (λ r. (eqb r.teller t) && (eqb r.number n)) rows row keys e in

@@ -1,8 +1,8 @@
 -- What is settled stays settled, whatever is decided later.
-use Rattle.std.proofs.Common.{◌≡◌, ℕ, Bool, true, false, eqb, leb, List, ◌∷◌, length, Option, Some, None, Result, Ok}
+use Rattle.std.proofs.Common.{◌≡◌, ℕ, true, false, eqb, leb, List, ◌∷◌, length, Option, Some, None, Result, Ok}
 use Rattle.std.proofs.Common.{Err, refl, sym, ap, subst, ◌∙◌, arith, inl, inr}
 use Rattle.std.specs.Prelude.{◌&&◌}
-use Rattle.std.proofs.lemmas.Bool.{eqb-true, leb-true}
+use Rattle.std.proofs.lemmas.Bool.{and_parts, eqb-true, leb-true}
 use Rattle.posting_rules.specs.declared.{limits.TheConstants.MAX_DECIDED, judgments.Verdict.Verdict}
 use Rattle.message_records.specs.declared.fault.Bad.{Bad}
 use Rattle.message_records.specs.believed.Records.{RequestFields, ReplyFields}
@@ -11,10 +11,6 @@ use Rattle.posting_rules.specs.believed.{Kept.KeptFields, Commands.opened, Comma
 use Rattle.posting_rules.specs.believed.Entries.{DecidedRequest, facts, kept, with_verdict, with_record}
 use Rattle.posting_rules.proofs.{Keyed.by_test, Verdicts.IsVerdict, Verdicts.verdict_is, SettledReplies.IsSettled}
 
-both_true : (a b : Bool) → (a && b) ≡ true → (a ≡ true) × (b ≡ true)
-both_true true b e = (refl, e)
-both_true false b e = absurd cc
-
 -- a request that is new isn't the one that is kept
 other_number : (es : List DecidedRequest) (x r : RequestFields) (k : KeptFields)
     → kept es x.teller x.number ≡ None
@@ -22,7 +18,7 @@ other_number : (es : List DecidedRequest) (x r : RequestFields) (k : KeptFields)
     → ((eqb x.teller r.teller) && (eqb x.number r.number)) ≡ false
 other_number es x r k none some =
     elim (by_test ((eqb x.teller r.teller) && (eqb x.number r.number))) [
-      | inl t ↦ let two = both_true (eqb x.teller r.teller) (eqb x.number r.number) t in
+      | inl t ↦ let two = and_parts (eqb x.teller r.teller) (eqb x.number r.number) t in
           let et = eqb-true x.teller r.teller two.0 in
           let en = eqb-true x.number r.number two.1 in
           let e : kept es r.teller r.number ≡ None = ap (λ (i : ℕ). kept es i r.number) (sym et) ∙ ap

@@ -4,7 +4,7 @@ use Rattle.std.proofs.Common.{sym, ap, subst, ◌∙◌, inl, inr}
 use mathlib.Core.Path.{fun_ext}
 use Rattle.std.specs.Prelude.{ℤ, pos, ◌⊎◌, is_some, ◌&&◌, option_and_then}
 use Rattle.std.specs.Option.{option_map, option_or}
-use Rattle.std.proofs.lemmas.Bool.{eqb-true}
+use Rattle.std.proofs.lemmas.Bool.{and_parts, eqb-true}
 use Rattle.posting_rules.specs.declared.{limits.TheConstants.MAX_ACCOUNTS, rows.FloorRow.FloorRow}
 use Rattle.posting_rules.specs.believed.Commands.{Command, Open, opened, is_within, is_teller_open, is_account_open}
 use Rattle.posting_rules.specs.believed.Commands.{Terms}
@@ -16,7 +16,7 @@ use Rattle.posting_rules.specs.ChangesByKey.{OpensBranch, AddsFloor, is_from}
 use Rattle.posting_rules.specs.believed.Numbering.{branch_of_teller, branch_of_account, place_of_account}
 use Rattle.posting_rules.specs.believed.Numbering.{first_teller, first_account}
 use Rattle.posting_rules.proofs.{Keyed.by_test, NumbersInARow.tellers_in_a_row, NumbersInARow.accounts_in_a_row}
-use Rattle.posting_rules.proofs.NamedOpen.{AllNameOpen, with_branch, all_name_open, teller_stays, account_stays, both}
+use Rattle.posting_rules.proofs.NamedOpen.{AllNameOpen, with_branch, all_name_open, teller_stays, account_stays}
 use Rattle.posting_rules.proofs.NoBalance.{teller_none, account_none, branch_none}
 
 -- ---- the rows with a branch more
@@ -64,7 +64,7 @@ branch_put None true b n terms z same closed zeroed =
 pub closed_teller : (opened : ℕ → Option Terms) (b n : ℕ) → opened b ≡ None → 1 ≤ b
     → is_from (first_teller b) 10 n ≡ true → is_teller_open opened n ≡ false
 closed_teller opened b n closed hb e =
-    let two = both (leb 1 n) (eqb b (branch_of_teller n)) (tellers_in_a_row b n hb ∙ e) in
+    let two = and_parts (leb 1 n) (eqb b (branch_of_teller n)) (tellers_in_a_row b n hb ∙ e) in
     let none : opened (branch_of_teller n) ≡ None = ap opened (sym (eqb-true b (branch_of_teller n) two.1))
     ∙ closed in
     rw (two.0, none) refl
@@ -73,9 +73,9 @@ pub closed_account : (opened : ℕ → Option Terms) (b n count : ℕ) → opene
     → count ≤ MAX_ACCOUNTS
     → is_from (first_account b) count n ≡ true → is_account_open opened n ≡ false
 closed_account opened b n count closed hb hc e =
-    let one = both (leb 1 n) (eqb b (branch_of_account n) && leb (place_of_account n) count)
+    let one = and_parts (leb 1 n) (eqb b (branch_of_account n) && leb (place_of_account n) count)
     (accounts_in_a_row b n count hb hc ∙ e) in
-    let two = both (eqb b (branch_of_account n)) (leb (place_of_account n) count) one.1 in
+    let two = and_parts (eqb b (branch_of_account n)) (leb (place_of_account n) count) one.1 in
     let none : opened (branch_of_account n) ≡ None = ap opened (sym (eqb-true b (branch_of_account n) two.0))
     ∙ closed in
     rw (one.0, none) refl

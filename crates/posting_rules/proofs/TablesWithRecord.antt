@@ -1,9 +1,9 @@
 -- What a verdict leaves of the tables of a log are the tables of the log with the record.
 use Rattle.std.proofs.Common.{◌≡◌, ℕ, suc, ◌+◌, ◌<◌, ◌≤◌, Bool, true, false, cond, eqb, List, [], ◌∷◌, length, Option}
 use Rattle.std.proofs.Common.{Some, None, Result, Ok, Err, refl, sym, ap, subst, ◌∙◌, arith}
-use Rattle.std.specs.Prelude.{ℤ, ◌+ℤ◌, ◌&&◌}
+use Rattle.std.specs.Prelude.{ℤ, ◌+ℤ◌}
 use Rattle.std.specs.Option.{option_map}
-use Rattle.std.proofs.lemmas.Bool.{eqb-true, Decides.nat_tests}
+use Rattle.std.proofs.lemmas.Bool.{and_right, eqb-true, Decides.nat_tests}
 use Rattle.message_records.specs.{declared.records.Outcome.Outcome, declared.fault.Bad.Bad}
 use Rattle.message_records.specs.{believed.Records.RequestFields, believed.Reading.request_of}
 use Rattle.posting_rules.specs.{declared.judgments.Found.Found, declared.judgments.Verdict.Verdict}
@@ -42,13 +42,9 @@ request_row_past [] o le = refl
 request_row_past (e ∷ es) o le = rw (other_ordinal (length es) o (omega arith))
     (request_row_past es o (omega arith))
 
-and_false : (b : Bool) → (b && false) ≡ false
-and_false true = refl
-and_false false = refl
-
 pub history_row_past : (es : List DecidedRequest) (o : ℕ) → length es ≤ o → history_row es (suc o) ≡ None
 history_row_past [] o le = refl
-history_row_past (e ∷ es) o le = rw (other_ordinal (length es) o (omega arith), and_false (is_posted e))
+history_row_past (e ∷ es) o le = rw (other_ordinal (length es) o (omega arith), and_right (is_posted e) false refl)
     (history_row_past es o (omega arith))
 
 pub reference_row_past : (es : List DecidedRequest) (o : ℕ) → length es ≤ o

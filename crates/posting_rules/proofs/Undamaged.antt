@@ -3,7 +3,7 @@ use Rattle.std.proofs.Common.{◌≡◌, ℕ, ◌+◌, ◌*◌, ◌<◌, ◌≤�
 use Rattle.std.proofs.Common.{None, sym, ap, subst, ◌∙◌, arith, inl, inr}
 use Rattle.std.specs.Prelude.{ℤ, ◌≤ℤ◌, nat_abs, is_some, ◌&&◌, IfSome, option_and_then}
 use Rattle.std.specs.{List.Contains, Option.option_map}
-use Rattle.std.proofs.lemmas.Bool.{eqb-true, leb-true}
+use Rattle.std.proofs.lemmas.Bool.{and_parts, eqb-true, leb-true}
 use Rattle.std.proofs.lemmas.List.Elements.{All-contains, All-from_recursion}
 use Rattle.posting_rules.specs.declared.limits.TheConstants.{MAX_DECIDED, LAST_BRANCH, ACCOUNTS_PER_BRANCH}
 use Rattle.posting_rules.specs.declared.limits.TheConstants.{TELLERS_PER_BRANCH}
@@ -27,7 +27,7 @@ use Rattle.posting_rules.specs.Damage.{IsSoundBranch, IsSoundTeller, IsSoundAcco
 use Rattle.posting_rules.specs.Damage.{IsSoundFloor, IsSoundReference, FieldsAreInRange, IsUndamaged}
 use Rattle.posting_rules.proofs.{Keyed.by_test, Verdicts.when, Ready.ready_shown, Looked.floor_shown}
 use Rattle.posting_rules.proofs.{AboveFloors.stays_above, Totals.each_under_its_key, BalanceLimits.stays_within}
-use Rattle.posting_rules.proofs.NamedOpen.{both, some_within}
+use Rattle.posting_rules.proofs.NamedOpen.{some_within}
 use Rattle.posting_rules.proofs.SoundEntries.{IsSoundEntry, AreSound, few_enough, open_within, are_sound}
 
 -- a row of a table is the row under its key
@@ -68,7 +68,7 @@ teller_sound : (opened : ℕ → Option Terms) (n : ℕ) (z : ℤ) (r : TellerRo
     → cond (is_teller_open opened n) (Some (teller_row_of n z)) None ≡ Some r → IsSoundTeller r
 teller_sound opened n z r open_ limit e =
     let is = when (is_teller_open opened n) (teller_row_of n z) r e in
-    let two = both (leb 1 n) (is_some (opened (branch_of_teller n))) is.0 in
+    let two = and_parts (leb 1 n) (is_some (opened (branch_of_teller n))) is.0 in
     let home = number_within (opened (branch_of_teller n)) (branch_of_teller n)
     (open_ (branch_of_teller n)) two.1 in
     subst IsSoundTeller is.1 (record {
@@ -83,7 +83,7 @@ account_sound : (opened : ℕ → Option Terms) (n : ℕ) (z : ℤ) (r : Account
     → cond (is_account_open opened n) (Some (account_row_of n z)) None ≡ Some r → IsSoundAccount r
 account_sound opened n z r open_ limit e =
     let is = when (is_account_open opened n) (account_row_of n z) r e in
-    let two = both (leb 1 n) (is_within (place_of_account n) (opened (branch_of_account n))) is.0 in
+    let two = and_parts (leb 1 n) (is_within (place_of_account n) (opened (branch_of_account n))) is.0 in
     let some = some_within (place_of_account n) (opened (branch_of_account n)) two.1 in
     let home = number_within (opened (branch_of_account n)) (branch_of_account n)
     (open_ (branch_of_account n)) some in
@@ -177,7 +177,7 @@ posting_sound (e ∷ es) o r all h =
     elim (by_test (is_posted e && eqb (length es + 1) o)) [
       | inl t ↦
           let is : history_row_of o e ≡ r = (let g = rw t at h in cc) in
-          let range = ordinal_within (length es) o (both (is_posted e) (eqb (length es + 1) o) t).1 all.1 in
+          let range = ordinal_within (length es) o (and_parts (is_posted e) (eqb (length es + 1) o) t).1 all.1 in
           subst IsSoundPosting is (posting_row_sound o e all.0 range.0 range.1)
       | inr f ↦ posting_sound es o r all.2 (let g = rw f at h in g)
     ]

@@ -6,7 +6,7 @@ use Rattle.std.proofs.{Common.slice_set, lemmas.Slice.Eq.bytes_eq-Decides}
 use Rattle.sql_meanings.specs.believed.{Contents.HoldsEach, Entries.Entry, Tables.Defines, Tables.Holds}
 use Rattle.sql_meanings.specs.Contents.{has_other_names, is_free, stand_apart}
 use Rattle.sql_meanings.proofs.TablesBeside.{stayed, stepped}
-use Rattle.sql_meanings.proofs.{TableWrites.Leaves, Tests.and_both, Trees.Holds-prop}
+use Rattle.sql_meanings.proofs.{Names.and_parts, TableWrites.Leaves, Trees.Holds-prop}
 use Rattle.std.specs.Prelude.{◌≡◌, ◌≢◌, ◌==◌, ◌&&◌, ◌∷◌}
 
 -- ---- what the tests say
@@ -66,9 +66,9 @@ module _ (old new : State) (table : Table) (free : table.references ≡ []) (bef
   others_stay [] (es ∷ contents) names apart each = absurd each
   others_stay (t ∷ tables) [] names apart each = absurd each
   others_stay (t ∷ tables) (es ∷ contents) names apart each =
-      let n = and_both (not (bytes_eq table.name t.name)) (has_other_names table tables) names in
-      let s = and_both (is_free t && has_other_names t tables) (stand_apart tables) apart in
-      let f = and_both (is_free t) (has_other_names t tables) s.0 in (
+      let n = and_parts (not (bytes_eq table.name t.name)) (has_other_names table tables) names in
+      let s = and_parts (is_free t && has_other_names t tables) (stand_apart tables) apart in
+      let f = and_parts (is_free t) (has_other_names t tables) s.0 in (
         stayed old.now new.now table left.rows left.steps free t es (no_references t f.0)
             (λ same. other_name table.name t.name n.0 (sym same))
             holds.defined each.0,
@@ -85,10 +85,10 @@ module _ (old new : State) (table : Table) (free : table.references ≡ []) (bef
       → t.name ≢ table.name
   named_otherwise t [] names at is = absurd cc
   named_otherwise t (u ∷ tables) names zero is =
-      let n = and_both (not (bytes_eq t.name u.name)) (has_other_names t tables) names in
+      let n = and_parts (not (bytes_eq t.name u.name)) (has_other_names t tables) names in
       let same : u ≡ table = cc in subst (λ (v : Table). t.name ≢ v.name) same (other_name t.name u.name n.0)
   named_otherwise t (u ∷ tables) names (suc at) is =
-      let n = and_both (not (bytes_eq t.name u.name))
+      let n = and_parts (not (bytes_eq t.name u.name))
       (has_other_names t tables) names in named_otherwise t tables n.1 at is
 
   -- the database holds the same, but for the rows of the table at its place
@@ -98,16 +98,16 @@ module _ (old new : State) (table : Table) (free : table.references ≡ []) (bef
   one_written [] contents apart each at is = absurd cc
   one_written (t ∷ tables) [] apart each at is = absurd each
   one_written (t ∷ tables) (es ∷ contents) apart each zero is =
-      let s = and_both (is_free t && has_other_names t tables) (stand_apart tables) apart in
-      let f = and_both (is_free t) (has_other_names t tables) s.0 in
+      let s = and_parts (is_free t && has_other_names t tables) (stand_apart tables) apart in
+      let f = and_parts (is_free t) (has_other_names t tables) s.0 in
       let same : t ≡ table = cc in (
         subst (λ u. Holds new.now u after) (sym same)
             (stepped old.now new.now table left.rows left.steps free after holds.defined left.tree),
         others_stay tables contents (subst (λ u. has_other_names u tables ≡ true) same f.1) s.1 each.1,
       )
   one_written (t ∷ tables) (es ∷ contents) apart each (suc at) is =
-      let s = and_both (is_free t && has_other_names t tables) (stand_apart tables) apart in
-      let f = and_both (is_free t) (has_other_names t tables) s.0 in (
+      let s = and_parts (is_free t && has_other_names t tables) (stand_apart tables) apart in
+      let f = and_parts (is_free t) (has_other_names t tables) s.0 in (
         one_stays t es f.0 (named_otherwise t tables f.1 at is) each.0,
         one_written tables contents s.1 each.1 at is,
       )

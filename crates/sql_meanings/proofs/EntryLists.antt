@@ -18,7 +18,8 @@ pub either : {X : Type 0} (b : Bool) (x : X) → cond b x x ≡ x
 either true x = refl
 either false x = refl
 
-truth_back : (b : Bool) → is_true (from_truth (Some b)) ≡ b
+-- a test in SQL
+pub truth_back : (b : Bool) → is_true (from_truth (Some b)) ≡ b
 truth_back true = refl
 truth_back false = refl
 

@@ -56,7 +56,6 @@ pub mod TablesBeside
 pub mod Stopping
 pub mod TableWrites
 pub mod TestedAnswers
-pub mod Tests
 pub mod Texts
 pub mod Trees
 pub mod TwoColumns

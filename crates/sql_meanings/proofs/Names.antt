@@ -8,7 +8,7 @@ pub use Rattle.std.proofs.Common.{Equal, Greater, IsPermutation, Less, Ordering,
 pub use Rattle.std.proofs.Common.{inl, inr, int_cmp, length-append, nat_le, nat_lt, refl, subst, suc, sym, take, zero}
 pub use Rattle.std.proofs.Common.{◌∙◌}
 pub use Rattle.std.proofs.Math.Logic.{∥∥₁_elim}
-pub use Rattle.std.proofs.lemmas.Bool.{cases_Bool, or_parts}
+pub use Rattle.std.proofs.lemmas.Bool.{and_parts, and_right, cases_Bool, or_parts}
 pub use Rattle.std.proofs.lemmas.Int.{ints}
 pub use Rattle.std.proofs.lemmas.List.{length-map}
 pub use Rattle.std.proofs.lemmas.List.Sorted.{length_permutation}

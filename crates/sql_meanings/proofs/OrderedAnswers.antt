@@ -1,7 +1,7 @@
 -- What a query of one table with ORDER BY its key answers.
 use Rattle.sql_meanings.specs.Names.{ℕ, ℤ, pos, List, [], map, filter, find, cond, Bool, true, false, Some}
 use Rattle.sql_meanings.specs.Names.{AllByRecursion, flat_map, list_all, is_gt, Value, Int, Row, Binary, is_true}
-use Rattle.sql_meanings.specs.Names.{from_truth, binary, Compare, Gt, Trees, IsAscending, Term, Env, eval_all, holds}
+use Rattle.sql_meanings.specs.Names.{binary, Compare, Gt, Trees, IsAscending, Term, Env, eval_all, holds}
 use Rattle.sql_meanings.specs.Names.{lit, col, Query, Join, IsAnswerAs, matches_as, page, inner, end, output}
 use Rattle.sql_meanings.proofs.Names.{take, refl, ap, subst, ◌∙◌, Less, int_cmp, IsPermutation, value_cmp-Int}
 use Rattle.sql_meanings.proofs.Names.{map-map}
@@ -10,7 +10,7 @@ use Rattle.sqlite_sql.proofs.QueryLemmas.{output_cmp_total}
 use Rattle.sql_meanings.specs.believed.Entries.{Entry, IsTree, Rise, stored}
 use Rattle.sql_meanings.specs.Entries.{is_above, listed}
 use Rattle.sql_meanings.specs.Queries.{ascending, above, key_above, query}
-use Rattle.sql_meanings.proofs.{EntryLists.Above, TestedAnswers.passing, RisingOrder.sorted_is}
+use Rattle.sql_meanings.proofs.{EntryLists.Above, EntryLists.truth_back, TestedAnswers.passing, RisingOrder.sorted_is}
 use Rattle.std.specs.Prelude.{◌≡◌, ◌&&◌, ◌∷◌}
 
 module _ (from : Join) (tests project : List Term) (most : Term) (f : Entry → Env) (keyed : (e : Entry)
@@ -69,10 +69,6 @@ rise_filter p (e ∷ es) up = go (p e) (rise_filter p es up.1)
     go false more = more
 
 -- ---- one table
-
-truth_back : (b : Bool) → is_true (from_truth (Some b)) ≡ b
-truth_back true = refl
-truth_back false = refl
 
 int_above : (a b : ℤ) → is_true (binary (Compare Gt Binary) (Int a) (Int b)) ≡ is_gt (int_cmp a b)
 unfolding binary

@@ -1,12 +1,13 @@
 -- Rows that are only put in set nothing off; and in which of its parts a statement stops.
-use Rattle.sql_meanings.specs.Names.{ℕ, List, [], length, Bool, true, false, Some, None}
+use Rattle.sql_meanings.specs.Names.{ℕ, List, [], length, false, Some, None}
 use Rattle.sql_meanings.specs.Names.{Option, Ok, Err, Result, flat_map, filter_map, Row, Table, Schema, Trees, Edit}
 use Rattle.sql_meanings.specs.Names.{Part, Then, Error, SqliteFailure, Keys, PrimaryKey, Reference, ParentKey}
 use Rattle.sql_meanings.specs.Names.{parent_key, Deed, Refusal, work_by, work_for, deed_for, Leads, Writes}
 use Rattle.sql_meanings.proofs.Names.{inl, inr, zero, suc, length-append, refl, sym, ap, subst, arith, one_step}
+use Rattle.sql_meanings.proofs.Names.{and_right}
 use Rattle.sqlite.specs.Edit.{Applies}
 use Rattle.sqlite.specs.declared.error.ErrorCode.TheVariants as code
-use Rattle.std.specs.Prelude.{◌≡◌, ◌⊎◌, ◌==◌, ◌∷◌, ◌&&◌}
+use Rattle.std.specs.Prelude.{◌≡◌, ◌⊎◌, ◌==◌, ◌∷◌}
 
 -- the error that names the primary key
 abbrev pub key_taken : Error
@@ -19,15 +20,11 @@ no_end schema keys zero db why h = let e = h.1 in cc
 no_end schema keys (suc n) db why h = absurd (omega (arith, ap length h.2, length-append h.0 (h.1 ∷ [])))
 
 -- rows that are only put in set nothing off, whatever refers to the table
-and_false : (b : Bool) → (b && false) ≡ false
-and_false true = refl
-and_false false = refl
-
 no_work : (depth tree : ℕ) (child : Table) (ref : Reference) (deed : Option Deed) (key : Option ParentKey)
     → work_by depth tree [] child ref deed key ≡ None
 no_work depth tree child ref None key = refl
 no_work depth tree child ref (Some deed) None = refl
-no_work depth tree child ref (Some deed) (Some key) = rw (and_false (key.0 == tree))
+no_work depth tree child ref (Some deed) (Some key) = rw (and_right (key.0 == tree) false refl)
 
 none_for : (schema : Schema) (keys : Keys) (tree : ℕ) (news : List Row) (child : Table)
     (refs : List Reference)

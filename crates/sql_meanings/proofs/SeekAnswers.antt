@@ -1,17 +1,14 @@
 -- What a query of one table answers that asks for the next rows from a key on.
-use Rattle.sql_meanings.specs.Names.{ℕ, ℤ, List, [], map, filter, Bool, true, false, Some, flat_map, list_all, is_ge}
-use Rattle.sql_meanings.specs.Names.{int_eq, Value, Int, Row, Binary, is_true, from_truth, binary, Compare, Ge, Trees}
+use Rattle.sql_meanings.specs.Names.{ℕ, ℤ, List, [], map, filter, Bool, true, false, flat_map, list_all, is_ge}
+use Rattle.sql_meanings.specs.Names.{int_eq, Value, Int, Row, Binary, is_true, binary, Compare, Ge, Trees}
 use Rattle.sql_meanings.specs.Names.{Term, Env, eval_all, holds, IsAnswerAs, matches_as, page, inner, end}
 use Rattle.sql_meanings.proofs.Names.{refl, ap, ◌∙◌, int_cmp, value_cmp-Int}
 use Rattle.sql_meanings.specs.believed.Entries.{Entry, IsTree, stored}
 use Rattle.sql_meanings.specs.Seeks.{is_from, is_of_from, key_from, next_from, next_of_from, of_from}
-use Rattle.sql_meanings.proofs.{EntryLists.int_equals, EntryLists.text_apart, TestedAnswers.passing}
+use Rattle.sql_meanings.proofs.EntryLists.{int_equals, text_apart, truth_back}
+use Rattle.sql_meanings.proofs.TestedAnswers.{passing}
 use Rattle.sql_meanings.proofs.OrderedAnswers.{ordered_answer, rise_filter}
 use Rattle.std.specs.Prelude.{◌≡◌, ◌&&◌, ◌∷◌}
-
-truth_back : (b : Bool) → is_true (from_truth (Some b)) ≡ b
-truth_back true = refl
-truth_back false = refl
 
 int_from : (a b : ℤ) → is_true (binary (Compare Ge Binary) (Int a) (Int b)) ≡ is_ge (int_cmp a b)
 unfolding binary

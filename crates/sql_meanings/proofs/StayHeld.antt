@@ -5,7 +5,7 @@ use Rattle.sql_meanings.specs.believed.Contents.{HoldsEach}
 use Rattle.sql_meanings.specs.Contents.{has_other_names, is_free, stand_apart}
 use Rattle.sql_meanings.specs.{believed.Entries.Entry, believed.Entries.IsTree, Making.KeepsWhatStood}
 use Rattle.sql_meanings.specs.believed.Tables.{Holds, placed_at, tree_of, width_of}
-use Rattle.sql_meanings.proofs.{Contents.no_references, Tests.and_both}
+use Rattle.sql_meanings.proofs.{Contents.no_references, Names.and_parts}
 use Rattle.sql_meanings.proofs.Defining.{defined_stands, stands_defined}
 use Rattle.std.specs.Prelude.{◌≡◌, ◌++◌, ◌&&◌, ◌∷◌}
 
@@ -36,8 +36,8 @@ module _ (old new : Database) (sound : IsDatabase new) (keeps : KeepsWhatStood o
   still_hold [] (es ∷ contents) apart each = absurd each
   still_hold (t ∷ tables) [] apart each = absurd each
   still_hold (t ∷ tables) (es ∷ contents) apart each =
-      let s = and_both (is_free t && has_other_names t tables) (stand_apart tables) apart in
-      let f = and_both (is_free t) (has_other_names t tables) s.0 in
+      let s = and_parts (is_free t && has_other_names t tables) (stand_apart tables) apart in
+      let f = and_parts (is_free t) (has_other_names t tables) s.0 in
       (still_held t es (no_references t f.0) each.0, still_hold tables contents s.1 each.1)
 
 -- some tables, and more after them

@@ -1,10 +1,10 @@
 -- Where two columns after the key are UNIQUE together, one row at most has two given numbers there.
 use Rattle.sql_meanings.specs.Names.{ℕ, ℤ, List, [], map, filter, find, Some, Bool, cond, slice_get, true, false}
 use Rattle.sql_meanings.specs.Names.{list_any, list_all, int_eq, is_eq, Value, Int, plain, Binary, is_true}
-use Rattle.sql_meanings.specs.Names.{from_truth, binary, Compare, clashes, Row, IsAnswerAs, inner, end, Trees, Table}
+use Rattle.sql_meanings.specs.Names.{binary, Compare, clashes, Row, IsAnswerAs, inner, end, Trees, Table}
 use Rattle.sql_meanings.specs.Names.{Schema, Term, eval_all, holds, IsSound, Has}
 use Rattle.sql_meanings.proofs.Names.{inl, inr, refl, sym, ap, subst, ◌∙◌, get_or, arith, int_cmp, Less, ints}
-use Rattle.sql_meanings.proofs.Names.{value_cmp-Int}
+use Rattle.sql_meanings.proofs.Names.{and_parts, and_right, value_cmp-Int}
 use Rattle.std.proofs.Common.{true≢false}
 use Rattle.std.specs.{Ordering.is_ne, List.Sorted.IsPermutation}
 use Rattle.sqlite_value.specs.Keys.{first_key}
@@ -13,8 +13,8 @@ use Rattle.sqlite_schema.specs.Rules.{agree, differ}
 use Rattle.sqlite_catalog.proofs.AlterLemmas.{keys_are_unique}
 use Rattle.sql_meanings.specs.believed.Entries.{Entry, IsTree, Rise, begins_with, has_two, stored}
 use Rattle.sql_meanings.specs.{Entries.listed, Queries.no_limit, Queries.query, Queries.two_are}
-use Rattle.sql_meanings.proofs.EntryLists.{Above, int_equals, text_apart}
-use Rattle.sql_meanings.proofs.{KeyedAnswers.small_permutation, TestedAnswers.looked_up, Tests.and_both}
+use Rattle.sql_meanings.proofs.EntryLists.{Above, int_equals, text_apart, truth_back}
+use Rattle.sql_meanings.proofs.{KeyedAnswers.small_permutation, TestedAnswers.looked_up}
 use Rattle.std.specs.Prelude.{◌≡◌, ◌⊎◌, ◌∷◌, ◌&&◌, ◌||◌}
 
 -- the test on the two columns
@@ -29,10 +29,6 @@ and_true true true = refl
 and_true true false = refl
 and_true false b = refl
 
-and_false : (a : Bool) → (a && false) ≡ false
-and_false true = refl
-and_false false = refl
-
 passes_is : (one two key : ℤ) (values : List ℤ) (texts : List (List ℕ))
     → list_all (holds ((Int one ∷ Int two ∷ [])
     ∷ stored (record { key = key; values = values; texts = texts }) ∷ [])) (two_are 2 3)
@@ -40,16 +36,12 @@ passes_is : (one two key : ℤ) (values : List ℤ) (texts : List (List ℕ))
 unfolding binary
 passes_is one two key [] [] = refl
 passes_is one two key [] (s ∷ texts) = rw (text_apart s one) refl
-passes_is one two key (t ∷ []) [] = and_false _
-passes_is one two key (t ∷ []) (s ∷ texts) = rw (text_apart s two) (and_false _)
+passes_is one two key (t ∷ []) [] = and_right _ false refl
+passes_is one two key (t ∷ []) (s ∷ texts) = rw (text_apart s two) (and_right _ false refl)
 passes_is one two key (t ∷ n ∷ more) texts = first_two_test one two key t n more texts ∙ and_true (int_eq t one)
     (int_eq n two)
 
 -- ---- UNIQUE
-
-truth_back : (b : Bool) → is_true (from_truth (Some b)) ≡ b
-truth_back true = refl
-truth_back false = refl
 
 int_differs : (a b : ℤ) → is_true (binary (Compare Ne Binary) (Int a) (Int b)) ≡ is_ne (int_cmp a b)
 unfolding binary
@@ -88,8 +80,8 @@ two_clash one two a b (t ∷ []) ys vs ws low p q = absurd (cc)
 two_clash one two a b (t ∷ n ∷ more) [] vs ws low p q = absurd (cc)
 two_clash one two a b (t ∷ n ∷ more) (u ∷ []) vs ws low p q = absurd (cc)
 two_clash one two a b (t ∷ n ∷ more) (u ∷ m ∷ rest) vs ws low p q =
-    let first = and_both (int_eq t one) (int_eq n two) p in
-    let second = and_both (int_eq u one) (int_eq m two) q in
+    let first = and_parts (int_eq t one) (int_eq n two) p in
+    let second = and_parts (int_eq u one) (int_eq m two) q in
     rw (
       int_equals t u,
       int_equals n m,

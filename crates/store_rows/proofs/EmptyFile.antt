@@ -2,8 +2,8 @@
 use Rattle.std.proofs.Common.{◌≡◌, ◌&&◌, not, inl, inr, ℕ, zero, suc, ◌+◌, nat_lt, List, [], ◌∷◌, slice_get, length}
 use Rattle.std.proofs.Common.{take, Bool, true, false, Some, is_ok, IsTrue, refl, ap, subst, ◌∙◌, arith}
 use Rattle.std.specs.{Prelude.fold, List.list_any}
-use Rattle.sql_meanings.proofs.{Places.all_first, Places.all_weaker, Tests.and_both}
-use Rattle.std.proofs.lemmas.Bool.{cases_Bool}
+use Rattle.sql_meanings.proofs.Places.{all_first, all_weaker}
+use Rattle.std.proofs.lemmas.Bool.{and_parts, cases_Bool}
 use Rattle.sqlite.specs.{Schema.Schema, Table.Table, Does.lacks_sequence, Listing.understood, Effect.Database}
 use Rattle.sqlite.specs.{State.State, declared.error.Error.Error}
 use Rattle.sqlite.specs.Change.{automatics, created, is_used, next_tree}
@@ -42,10 +42,10 @@ taken_at : (schema : Schema) (its : List (List ℕ × Table)) → takes_all sche
 unfolding takes_all
 taken_at schema [] all n it is = absurd cc
 taken_at schema (x ∷ its) all zero it is =
-    let both = and_both (takes schema x) (takes_all (created schema x.1) its) all in
+    let both = and_parts (takes schema x) (takes_all (created schema x.1) its) all in
     let same : x ≡ it = cc in subst (λ y. takes schema y ≡ true) same both.0
 taken_at schema (x ∷ its) all (suc n) it is =
-    let both = and_both (takes schema x) (takes_all (created schema x.1) its) all in taken_at
+    let both = and_parts (takes schema x) (takes_all (created schema x.1) its) all in taken_at
     (created schema x.1) its both.1 n it is
 
 none_passes : {A : Type 0} (p : A → Bool) (xs : List A) (x : A) → list_any p xs ≡ false → Has xs x
@@ -67,11 +67,11 @@ on_not false h = refl
 not_refused : (schema : Schema) (it : List ℕ × Table) → takes schema it ≡ true → (e : Error)
     → NotMade schema it.0 it.1 e → ⊥
 not_refused schema it taken e refused =
-    let known = and_both (is_ok (understood schema it.0)) _ taken in
-    let free = and_both (not (is_used schema it.1.name)) _ known.1 in
-    let indexes = and_both (not
+    let known = and_parts (is_ok (understood schema it.0)) _ taken in
+    let free = and_parts (not (is_used schema it.1.name)) _ known.1 in
+    let indexes = and_parts (not
     (list_any (λ (i : Index). is_used schema i.name) (automatics it.1 0 0 it.1.uniques))) _ free.1 in
-    let room = and_both (nat_lt (next_tree schema + length it.1.uniques) 65536) _ indexes.1 in
+    let room = and_parts (nat_lt (next_tree schema + length it.1.uniques) 65536) _ indexes.1 in
     go known.0 (on_not _ free.0) (on_not _ indexes.0) room.0 (on_not _ room.1) refused
   where
     go : is_ok (understood schema it.0) ≡ true → is_used schema it.1.name ≡ false

@@ -1,7 +1,7 @@
 -- The tables that an earlier version lacks beside a bank of it.
 use Rattle.std.proofs.Common.{◌≡◌, ◌+◌, ◌&&◌, ◌++◌, ℕ, zero, suc, pos, Bool, true, false, not, List, [], ◌∷◌, drop}
 use Rattle.std.proofs.Common.{take, map, slice_get, Some, refl, sym, ap, subst, ◌∙◌, arith}
-use Rattle.std.proofs.{Math.Logic.∥∥₁_elim, lemmas.List.take-append-drop}
+use Rattle.std.proofs.{Math.Logic.∥∥₁_elim, lemmas.Bool.and_parts, lemmas.List.take-append-drop}
 use Rattle.std.specs.{List.AllByRecursion, List.drop-map, List.list_all, Str.bytes_eq}
 use Rattle.sqlite.specs.{Change.created, Change.is_used, Does.lacks_sequence, Schema.Schema, Table.Table}
 use Rattle.sqlite.specs.{declared.error.Error.Error, declared.error.Error.TheVariants.SqliteFailure}
@@ -12,7 +12,7 @@ use Rattle.sqlite_tied.specs.Compute.{everything}
 use Rattle.posting_rules.specs.believed.Tables.{Tables}
 use Rattle.sql_meanings.specs.{believed.Contents.HoldsEach, Making.NotMade, StatementAnswers.IsUnderstood}
 use Rattle.sql_meanings.specs.Contents.{has_other_names, is_free, stand_apart}
-use Rattle.sql_meanings.proofs.{Contents.HoldsEach-prop, ListedTexts.listing_tests, Places.all_later, Tests.and_both}
+use Rattle.sql_meanings.proofs.{Contents.HoldsEach-prop, ListedTexts.listing_tests, Places.all_later}
 use Rattle.sql_meanings.proofs.FreeNames.{free_beside, free_understood, needs_none, only_full}
 use Rattle.sql_meanings.proofs.StayHeld.{held_after, same_place, still_held, still_hold}
 use Rattle.sql_meanings.proofs.Trees.{Holds-prop, nat_set}
@@ -32,7 +32,7 @@ all_pass_first p [] zero all = refl
 all_pass_first p [] (suc n) all = refl
 all_pass_first p (x ∷ xs) zero all = refl
 all_pass_first p (x ∷ xs) (suc n) all =
-    let both = and_both (p x) (list_all p xs) all in
+    let both = and_parts (p x) (list_all p xs) all in
     rw (both.0, all_pass_first p xs n both.1) refl
 
 -- the first so many of tables that stand apart do
@@ -41,8 +41,8 @@ apart_first [] zero apart = refl
 apart_first [] (suc n) apart = refl
 apart_first (t ∷ tables) zero apart = refl
 apart_first (t ∷ tables) (suc n) apart =
-    let s = and_both (is_free t && has_other_names t tables) (stand_apart tables) apart in
-    let f = and_both (is_free t) (has_other_names t tables) s.0 in
+    let s = and_parts (is_free t && has_other_names t tables) (stand_apart tables) apart in
+    let f = and_parts (is_free t) (has_other_names t tables) s.0 in
     rw (
       f.0,
       all_pass_first (λ (other : Table). not (bytes_eq t.name other.name)) tables n f.1,
