@@ -1,5 +1,5 @@
--- What a command leaves of the tables of other products.
-use Rattle.std.proofs.Common.{◌≡◌, Result, arith, subst, sym}
+-- What a command leaves of the tables of other products, and what it comes to where a bank is found and where none is.
+use Rattle.std.proofs.Common.{◌≡◌, Result, arith, subst, sym, inl, inr}
 use Rattle.std.specs.Prelude.{IsErrAnd}
 use Rattle.std.proofs.lemmas.Result.{err_from_is_err_and}
 use Rattle.sqlite.specs.{Effect.Database, Held.Held, Held.state, State.HasCleanDisk}
@@ -10,7 +10,7 @@ use Rattle.bank_store.specs.believed.Seen.{connection_of, database_of, file_of}
 use Rattle.bank_store.specs.{Sparing.SparesWhileOpen, declared.bank.Bank.Bank, declared.refused.Refused.Refused}
 use Rattle.bank_store.proofs.Spared.{idle_spares, read_spares}
 use Rattle.command_line.specs.declared.fault.CommandFault.{CommandFault}
-use Rattle.bank_commands.specs.Over.{IsFoundOver, IsMissedOver, IsRefusedOver}
+use Rattle.bank_commands.specs.Over.{FindsOver, IsFoundOver, IsMissedOver, IsRefusedOver}
 
 module _ {S : Type 0} (g : Ghosts S) (conn : Held S) where
   -- no bank was found
@@ -43,3 +43,19 @@ module _ {S : Type 0} (g : Ghosts S) (conn : Held S) where
     where
       shown : HasCleanDisk (file_of last) → database_of g first ≡ (state g conn).now
       shown clean = (found.found.found (omega (arith, spared.left.clean, clean))).there.same.now_is
+
+  module _ {X : Type 0} (back : Held S) (told : Result X CommandFault) {Idle : Type 0}
+      {Did : Bank S g → Bank S g → Type 0} where
+    -- none was found
+    pub none_over : IsErrAnd told (IsRefusedOver (IsMissedOver g conn) back) → Idle
+        → FindsOver g conn back told Idle Did
+    none_over none idle = (inl (none, idle), refused_spares back told none)
+
+    -- this one was, and that was done with it
+    pub done_over : (first last : Bank S g) → IsFoundOver g conn first → Did first last
+        → SparesWhileOpen g (connection_of first) (connection_of last) → back ≡ connection_of last
+        → FindsOver g conn back told Idle Did
+    done_over first last found did spared same = (
+      inr record { first = first; last = last; did = (found, did); conn = same },
+      found_spares back first last found spared same,
+    )

@@ -1,16 +1,13 @@
 -- The bank that was found is the one whose requests were digested.
-use Rattle.std.proofs.Common.{inl, inr, refl}
-use Rattle.bank_commands.proofs.Spared.{found_spares, refused_spares}
+use Rattle.std.proofs.Common.{refl}
+use Rattle.bank_commands.proofs.Spared.{done_over, none_over}
 use Rattle.bank_commands.proofs.replaying.digest_over.Goals as goal
 
 pub returns-in-Err : goal.returns-in-Err
 returns-in-Err g c =
     let it = c.in-Err.ensures in
     record {
-      digests = (
-        inl (it.missed, refl),
-        refused_spares g.S.Store c.args.conn c.in-Err.ended.conn c.in-Err.ended.told it.missed,
-      );
+      digests = none_over g.S.Store c.args.conn c.in-Err.ended.conn c.in-Err.ended.told it.missed refl;
       idle = it.idle;
     }
 
@@ -18,22 +15,10 @@ pub returns : goal.returns
 returns g c =
     let it = c.digest.ensures in
     record {
-      digests = (
-        inr record {
-          first = c.in-Ok.bank;
-          last = c.digest.new.bank;
-          did = (
-            c.in-Ok.ensures.found,
-            (
-              c.digest.result,
-              c.print_first-told.ensures,
-              record { rows = it.rows; log = it.log; bank = it.bank; up = it.up; stands = it.stands },
-            ),
-          );
-          conn = c.release.ensures.same;
-        },
-        found_spares g.S.Store c.args.conn c.release.result c.in-Ok.bank c.digest.new.bank c.in-Ok.ensures.found
-            it.spares c.release.ensures.same,
-      );
+      digests = done_over g.S.Store c.args.conn c.release.result _ c.in-Ok.bank c.digest.new.bank c.in-Ok.ensures.found (
+        c.digest.result,
+        c.print_first-told.ensures,
+        record { rows = it.rows; log = it.log; bank = it.bank; up = it.up; stands = it.stands },
+      ) it.spares c.release.ensures.same;
       idle = c.release.ensures.idle;
     }

@@ -1,16 +1,13 @@
 -- The bank that was found is the one whose branches were written.
-use Rattle.std.proofs.Common.{inl, inr, refl}
-use Rattle.bank_commands.proofs.Spared.{found_spares, refused_spares}
+use Rattle.std.proofs.Common.{refl}
+use Rattle.bank_commands.proofs.Spared.{done_over, none_over}
 use Rattle.bank_commands.proofs.replaying.plan_over.Goals as goal
 
 pub returns-in-Err : goal.returns-in-Err
 returns-in-Err g c =
     let it = c.in-Err.ensures in
     record {
-      plans = (
-        inl (it.missed, refl),
-        refused_spares g.S.Store c.args.conn c.in-Err.ended.conn c.in-Err.ended.told it.missed,
-      );
+      plans = none_over g.S.Store c.args.conn c.in-Err.ended.conn c.in-Err.ended.told it.missed refl;
       idle = it.idle;
     }
 
@@ -18,22 +15,10 @@ pub returns : goal.returns
 returns g c =
     let it = c.write_plan.ensures in
     record {
-      plans = (
-        inr record {
-          first = c.in-Ok.bank;
-          last = c.write_plan.new.bank;
-          did = (
-            c.in-Ok.ensures.found,
-            (
-              c.write_plan.result,
-              c.written-told.ensures,
-              record { rows = it.rows; writer = it.writer; bank = it.bank; up = it.up; stands = it.stands },
-            ),
-          );
-          conn = c.release.ensures.same;
-        },
-        found_spares g.S.Store c.args.conn c.release.result c.in-Ok.bank c.write_plan.new.bank c.in-Ok.ensures.found
-            it.spares c.release.ensures.same,
-      );
+      plans = done_over g.S.Store c.args.conn c.release.result _ c.in-Ok.bank c.write_plan.new.bank c.in-Ok.ensures.found (
+        c.write_plan.result,
+        c.written-told.ensures,
+        record { rows = it.rows; writer = it.writer; bank = it.bank; up = it.up; stands = it.stands },
+      ) it.spares c.release.ensures.same;
       idle = c.release.ensures.idle;
     }

@@ -1,16 +1,13 @@
 -- The bank that was found is the one that was audited.
-use Rattle.std.proofs.Common.{inl, inr, refl}
-use Rattle.bank_commands.proofs.{Spared.found_spares, Spared.refused_spares, Told.refused_not_write}
+use Rattle.std.proofs.Common.{refl}
+use Rattle.bank_commands.proofs.{Spared.done_over, Spared.none_over, Told.refused_not_write}
 use Rattle.bank_commands.proofs.reports.audit_over.Goals as goal
 
 pub returns-in-Err : goal.returns-in-Err
 returns-in-Err g c =
     let it = c.in-Err.ensures in
     record {
-      audits = (
-        inl (it.missed, refl),
-        refused_spares g.S.Store c.args.conn c.in-Err.ended.conn c.in-Err.ended.told it.missed,
-      );
+      audits = none_over g.S.Store c.args.conn c.in-Err.ended.conn c.in-Err.ended.told it.missed refl;
       unprinted = refused_not_write _ _ c.in-Err.ended.told it.missed;
       idle = it.idle;
     }
@@ -19,23 +16,11 @@ pub returns : goal.returns
 returns g c =
     let it = c.audit.ensures in
     record {
-      audits = (
-        inr record {
-          first = c.in-Ok.bank;
-          last = c.audit.new.bank;
-          did = (
-            c.in-Ok.ensures.found,
-            (
-              c.audit.result,
-              c.print_audit-told.ensures.prints,
-              record { bank = it.bank; file = it.file; memory = it.memory; up = it.up; stands = it.stands },
-            ),
-          );
-          conn = c.release.ensures.same;
-        },
-        found_spares g.S.Store c.args.conn c.release.result c.in-Ok.bank c.audit.new.bank c.in-Ok.ensures.found
-            it.spares c.release.ensures.same,
-      );
+      audits = done_over g.S.Store c.args.conn c.release.result _ c.in-Ok.bank c.audit.new.bank c.in-Ok.ensures.found (
+        c.audit.result,
+        c.print_audit-told.ensures.prints,
+        record { bank = it.bank; file = it.file; memory = it.memory; up = it.up; stands = it.stands },
+      ) it.spares c.release.ensures.same;
       unprinted = c.print_audit-told.ensures.unprinted;
       idle = c.release.ensures.idle;
     }
