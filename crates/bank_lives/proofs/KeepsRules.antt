@@ -11,7 +11,7 @@ use Rattle.store_rows.specs.{believed.Columns.number_at, Rules.stored_rows, decl
 use Rattle.store_rows.specs.believed.Rules.{HasDecided, IsNext, KeepsRule, row_under}
 use Rattle.store_rows.specs.believed.View.{history_entry, reference_entry, request_entry}
 use Rattle.store_rows.proofs.RowLists.{found_row}
-use Rattle.bank_transactions.proofs.KeepsRules.{keeps_rule, no_account, no_floor, no_teller}
+use Rattle.bank_transactions.proofs.KeepsRules.{each_keeps, keeps_rule, no_account, no_floor, no_teller}
 
 same_count : (a b : ℕ) (version : ℤ)
     → ◌≡◌ {A = List Entry} (record { key = pos 1; values = VERSION ∷ pos a ∷ []; texts = [] } ∷ [])
@@ -38,15 +38,18 @@ module _ (t : Tables) (log : List Command) (shows : AreTablesOf t log) where
 -- the tables of a log keep each rule
 pub keeps_all : (t : Tables) (log : List Command) → AreCommands log → AreTablesOf t log → (rule : Rule)
     → KeepsRule rule (stored_rows t)
-keeps_all t log are shows Key = record {
-  requests = no_next t log shows request_key request_entry (λ _. refl) t.requests
-      (λ n past. shows.rows.requests (suc n) ∙ request_row_past (decided log) n past);
-  postings = no_next t log shows history_key history_entry (λ _. refl) t.history
-      (λ n past. shows.rows.history (suc n) ∙ history_row_past (decided log) n past);
-  references = no_next t log shows reference_key reference_entry (λ _. refl) t.references
-      (λ n past. shows.rows.references (suc n) ∙ reference_row_past (decided log) n past);
-  tellers = no_teller t (undamaged t log are shows);
-  accounts = no_account t (undamaged t log are shows);
-  floors = no_floor t (undamaged t log are shows);
-}
+keeps_all t log are shows Key = (
+  each_keeps t (undamaged t log are shows) Key,
+  record {
+    requests = no_next t log shows request_key request_entry (λ _. refl) t.requests
+        (λ n past. shows.rows.requests (suc n) ∙ request_row_past (decided log) n past);
+    postings = no_next t log shows history_key history_entry (λ _. refl) t.history
+        (λ n past. shows.rows.history (suc n) ∙ history_row_past (decided log) n past);
+    references = no_next t log shows reference_key reference_entry (λ _. refl) t.references
+        (λ n past. shows.rows.references (suc n) ∙ reference_row_past (decided log) n past);
+    tellers = no_teller t (undamaged t log are shows);
+    accounts = no_account t (undamaged t log are shows);
+    floors = no_floor t (undamaged t log are shows);
+  },
+)
 keeps_all t log are shows rule = keeps_rule t (undamaged t log are shows) rule (λ is. cc)

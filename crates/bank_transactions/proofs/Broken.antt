@@ -25,9 +25,7 @@ use Rattle.store_rows.specs.declared.fault.TableFault.TheVariants.{Sqlite, Damag
 use Rattle.store_rows.specs.declared.holders.Member.TheVariants as member
 use Rattle.bank_transactions.specs.believed.Stored.{IsStoredFloor}
 use Rattle.store_rows.proofs.{Seeking.balance_shown, StoredRows.holds_list}
-use Rattle.store_rows.proofs.Readings.{Breaks, balance_breaks, balance_is, branch_breaks, branch_is, floor_breaks}
-use Rattle.store_rows.proofs.Readings.{floor_is}
-use Rattle.store_rows.proofs.Readings.{of_a_row, reference_breaks, request_breaks}
+use Rattle.store_rows.proofs.Readings.{balance_is, branch_is, floor_is}
 
 -- damage is of the rows of this database
 abbrev pub IsOf : Database → TableFault → Type 0
@@ -36,40 +34,29 @@ IsOf db (Damaged rule) = IsBroken rule db
 
 -- ---- a row that reads as breaking a rule
 
--- a rule of one row is broken where a row reads as breaking it
-broken_by : (rule : Rule) (db : Database)
-    → OfRows (λ rows. IsTrue (of_a_row rule) × (EachKeeps rule rows → ⊥)) db → IsBroken rule db
-broken_by Meta db of = λ rows has. absurd (let no = (of rows has).0 in cc)
-broken_by Teller db of = λ rows has. absurd (let no = (of rows has).0 in cc)
-broken_by Account db of = λ rows has. absurd (let no = (of rows has).0 in cc)
-broken_by Balance db of = λ rows has keeps. (of rows has).1 keeps.0
-broken_by Request db of = λ rows has. (of rows has).1
-broken_by Value db of = λ rows has. (of rows has).1
-broken_by Key db of = λ rows has. absurd (let no = (of rows has).0 in cc)
-broken_by Floor db of = λ rows has. (of rows has).1
-broken_by Reference db of = λ rows has. (of rows has).1
+-- so the rows don't keep the rule
+broken_by : (rule : Rule) (db : Database) → OfRows (λ rows. ¬ EachKeeps rule rows) db → IsBroken rule db
+broken_by Key db of = of
+broken_by rule db of = λ rows has keeps. of rows has keeps.0
 
--- which rules a row breaks that is looked up
-module _ {X : Type 0} (db : Database) (stored : StoredRows → Option Entry) (read : Entry → Result X Rule)
-    (breaks : (r : Entry) → Breaks (read r))
-    (keeps : (rule : Rule) (rows : StoredRows) → EachKeeps rule rows → (r : Entry) → stored rows ≡ Some r
-    → read r ≢ Err rule) where
-  find_broken : (fault : TableFault) → OfRows (λ rows. FindsStored (stored rows) read (Err fault)) db → IsOf db fault
-  find_broken (Sqlite e) finds = tt
-  find_broken (Damaged rule) finds = broken_by rule db (λ rows has.
-      let it = finds rows has in
-      (subst Breaks it.2 (breaks it.0), λ all. keeps rule rows all it.0 it.1 it.2))
+find_broken : {X : Type 0} (db : Database) (stored : StoredRows → Option Entry) (read : Entry → Result X Rule)
+    → ((rule : Rule) (rows : StoredRows) → EachKeeps rule rows → (r : Entry) → stored rows ≡ Some r
+    → read r ≢ Err rule) → (fault : TableFault)
+    → OfRows (λ rows. FindsStored (stored rows) read (Err fault)) db → IsOf db fault
+find_broken db stored read keeps (Sqlite e) finds = tt
+find_broken db stored read keeps (Damaged rule) finds =
+    broken_by rule db (λ rows has all. let it = finds rows has in keeps rule rows all it.0 it.1 it.2)
 
 -- the branch that passes a test
 pub branch_broken : (db : Database) (p : Entry → Bool) (fault : TableFault)
     → OfRows (λ rows. FindsStored (find p rows.branches) read_branch (Err fault)) db → IsOf db fault
-branch_broken db p = find_broken db (λ rows. find p rows.branches) read_branch (λ r. branch_breaks (given r))
+branch_broken db p = find_broken db (λ rows. find p rows.branches) read_branch
     (λ rule rows keeps r. found_all (λ e. read_branch e ≢ Err rule) p rows.branches r keeps.branches)
 
 -- a balance that can't be read: no more can its row
 pub member_broken : (db : Database) (m : Member) (fault : TableFault)
     → OfRows (λ rows. FindsStored (entry_under m rows) read_balance (Err fault)) db → IsOf db fault
-member_broken db m = find_broken db (entry_under m) read_balance (λ r. balance_breaks (balance_shown r)) (keeps m)
+member_broken db m = find_broken db (entry_under m) read_balance (keeps m)
   where
     keeps : (m : Member) (rule : Rule) (rows : StoredRows) → EachKeeps rule rows → (r : Entry)
         → entry_under m rows ≡ Some r → read_balance r ≢ Err rule
@@ -80,21 +67,21 @@ member_broken db m = find_broken db (entry_under m) read_balance (λ r. balance_
 
 pub floor_broken : (db : Database) (n : ℕ) (fault : TableFault)
     → OfRows (λ rows. FindsStored (row_under rows.floors n) read_floor (Err fault)) db → IsOf db fault
-floor_broken db n = find_broken db (λ rows. row_under rows.floors n) read_floor (λ r. floor_breaks (given r))
+floor_broken db n = find_broken db (λ rows. row_under rows.floors n) read_floor
     (λ rule rows keeps r. found_all (λ e. read_floor e ≢ Err rule) (has_key (pos n)) rows.floors r keeps.floors)
 
 pub request_broken : (db : Database) (a b : ℕ) (fault : TableFault)
     → OfRows (λ rows. FindsStored (find (has_two (pos a) (pos b)) rows.requests) read_request (Err fault)) db
     → IsOf db fault
 request_broken db a b =
-    find_broken db (λ rows. find (has_two (pos a) (pos b)) rows.requests) read_request (λ r. request_breaks (given r))
+    find_broken db (λ rows. find (has_two (pos a) (pos b)) rows.requests) read_request
     (λ rule rows keeps r. found_all (λ e. read_request e ≢ Err rule) (has_two (pos a) (pos b)) rows.requests r
     keeps.requests)
 
 pub reference_broken : (db : Database) (n : ℕ) (fault : TableFault)
     → OfRows (λ rows. FindsStored (row_under rows.references n) read_reference (Err fault)) db → IsOf db fault
 reference_broken db n =
-    find_broken db (λ rows. row_under rows.references n) read_reference (λ r. reference_breaks (given r))
+    find_broken db (λ rows. row_under rows.references n) read_reference
     (λ rule rows keeps r. found_all (λ e. read_reference e ≢ Err rule) (has_key (pos n)) rows.references r
     keeps.references)
 
@@ -150,5 +137,5 @@ pub meta_broken : (old new : State) (m : Option StoredMeta)
     → IsBroken Meta old.now
 meta_broken old new m told none = λ rows has keeps.
     let it = told rows.meta (meta_rows old.now rows has) in
-    let is = decided_is rows keeps.0 keeps.1 m it.0 in
-    none keeps.0 is.0 is.1 keeps.2
+    let is = decided_is rows keeps.1.0 keeps.1.1 m it.0 in
+    none keeps.1.0 is.0 is.1 keeps.1.2

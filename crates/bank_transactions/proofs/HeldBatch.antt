@@ -35,7 +35,7 @@ use Rattle.bank_transactions.specs.Filling.{AreHeld, BranchHeld, HoldsBranch, Re
 use Rattle.bank_transactions.specs.Filling.{emptied_branch, emptied_floor, emptied_request, emptied_teller}
 use Rattle.bank_transactions.specs.believed.Stored.{HasRead, HasStored, HoldsAccount, HoldsFloor, HoldsKept}
 use Rattle.bank_transactions.specs.believed.Stored.{HoldsTeller, IsStoredFound, RepliesInTurn}
-use Rattle.bank_transactions.proofs.{HeldSlots.at_key, Together.within_or_none}
+use Rattle.bank_transactions.proofs.{HeldRows.both_held, HeldSlots.at_key, Together.within_or_none}
 
 -- ---- an overlay that is filled again
 
@@ -105,14 +105,6 @@ each P Q so [] all = tt
 each P Q so (s ∷ slots) all = (so s all.0, each P Q so slots all.1)
 
 module _ (rows : StoredRows) where
-  both_held : (n : ℕ) (x : Option ℤ) (y : Option BranchRow) → HoldsTellerRow rows n x
-      → HoldsBranch rows (branch_of_teller n) y → HoldsTeller rows n (both_of x (option_map balance_of_branch y))
-  both_held n None y teller branch = teller.found
-  both_held n (Some z) None teller branch =
-      absurd (let there = sym (ap is_some branch) ∙ teller.fits.0 (ap is_some teller.found.1) in cc)
-  both_held n (Some z) (Some b) teller branch =
-      (teller.found, (branch.0, b, branch.1, branch.2, refl))
-
   kept_at : (slots : List RequestSlot) → AllByRecursion (RequestHeld rows) slots → (n m : ℕ)
       → IfSome (find (is_for n m) slots) (λ s. HoldsKept rows n m s.kept)
   kept_at [] all n m = tt
@@ -141,7 +133,7 @@ module _ (rows : StoredRows) where
         (at_key branch_slot_key (λ k s. HoldsBranch rows k s.stored) o.branches held.branches b)
         (stand.fits.branches b) in
         record {
-          teller = both_held r.teller _ _ teller branch;
+          teller = both_held rows r.teller _ _ teller branch;
           teller_fits = teller.fits;
           account =
               told (λ s. s.stored) (λ z. HoldsAccount rows r.account z) (account_balance_in t r.account) _

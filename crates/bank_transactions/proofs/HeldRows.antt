@@ -1,15 +1,16 @@
 -- A balance that was looked up by the row of its branch is what the rows hold, and fits them.
-use Rattle.std.proofs.Common.{◌≡◌, ℕ, ℤ, false, Option, None, Result, Ok, Err, sym, subst, ◌∙◌}
+use Rattle.std.proofs.Common.{◌≡◌, ℕ, ℤ, false, Option, Some, None, Result, Ok, Err, refl, sym, ap, subst, ◌∙◌}
 use Rattle.std.specs.Prelude.{IfOk, is_some, option_map}
 use Rattle.sqlite.specs.Effect.{Database}
 use Rattle.posting_rules.specs.{believed.Commands.is_within, LookUps.terms_of_branch}
 use Rattle.posting_rules.specs.believed.Numbering.{branch_of_account, branch_of_teller, place_of_account}
+use Rattle.posting_rules.specs.{believed.LookUps.balance_of_branch, believed.LookUps.both_of}
 use Rattle.posting_rules.specs.declared.rows.BranchRow.{BranchRow}
 use Rattle.store_rows.specs.believed.Readings.{read_balance, read_branch}
 use Rattle.store_rows.specs.believed.Rules.{HoldsBank, OfRows, StoredRows, branch_under, row_under}
 use Rattle.store_rows.specs.{believed.Stored.FindsStored, declared.fault.TableFault.TableFault}
 use Rattle.bank_transactions.specs.{Filling.HoldsBranch, Floors.falls_below, Stored.HoldsTellerRow}
-use Rattle.bank_transactions.specs.believed.Stored.{HoldsAccount, HoldsFloor}
+use Rattle.bank_transactions.specs.believed.Stored.{HoldsAccount, HoldsFloor, HoldsTeller}
 use Rattle.bank_transactions.proofs.FittingAccounts.{fits, is_above}
 use Rattle.bank_transactions.proofs.ReadsInTurn.{some_stored}
 
@@ -26,6 +27,15 @@ module _ (rows : StoredRows) where
         found = finds;
         fits = (λ there. its ∙ sym same ∙ sym own ∙ there, λ there. own ∙ same ∙ sym its ∙ there);
       }
+
+  -- both balances, or none
+  pub both_held : (n : ℕ) (x : Option ℤ) (y : Option BranchRow) → HoldsTellerRow rows n x
+      → HoldsBranch rows (branch_of_teller n) y → HoldsTeller rows n (both_of x (option_map balance_of_branch y))
+  both_held n None y teller branch = teller.found
+  both_held n (Some z) None teller branch =
+      absurd (let there = sym (ap is_some branch) ∙ teller.fits.0 (ap is_some teller.found.1) in cc)
+  both_held n (Some z) (Some b) teller branch =
+      (teller.found, (branch.0, b, branch.1, branch.2, refl))
 
   -- an account has one just where its place is within the count, and isn't below the floor
   pub account_held : (n : ℕ) (balance floor : Option ℤ) (branch : Option BranchRow)

@@ -17,7 +17,8 @@ use Rattle.sql_meanings.specs.believed.Entries.{Entry}
 use Rattle.store_rows.specs.{believed.Columns.number_at, Rules.stored_rows, declared.metas.TheConstants.VERSION}
 use Rattle.store_rows.specs.believed.Readings.{read_account, read_branch, read_floor, read_posting, read_reference}
 use Rattle.store_rows.specs.believed.Readings.{read_request, read_teller}
-use Rattle.store_rows.specs.believed.Rules.{EachKeeps, IsBroken, IsWithinCount, KeepsRule, NoneBreaks, branch_under}
+use Rattle.store_rows.specs.believed.Rules.{AccountsFit, AreAbove, EachKeeps, IsBroken, IsWithinCount, KeepsRule}
+use Rattle.store_rows.specs.believed.Rules.{KeepsTogether, NoneBreaks, TellersFit, branch_under}
 use Rattle.store_rows.specs.believed.Rules.{floor_under, row_under}
 use Rattle.store_rows.specs.believed.View.{Shows, account_entry, branch_entry, floor_entry, history_entry}
 use Rattle.store_rows.specs.believed.View.{reference_entry, request_entry, teller_entry}
@@ -46,7 +47,7 @@ module _ (t : Tables) (sound : IsUndamaged t) where
       (λ r has no. let it = back r has in let is = it.1 in cc)
 
   -- so none breaks a rule
-  each_keeps : (rule : Rule) → EachKeeps rule (stored_rows t)
+  pub each_keeps : (rule : Rule) → EachKeeps rule (stored_rows t)
   each_keeps rule = record {
     branches = reads branch_entry read_branch rule t.branches (λ r has. (r, branch_back r (sound.each_branch r has)));
     tellers = reads teller_entry read_teller rule t.tellers (λ r has. (r, teller_back r (sound.each_teller r has)));
@@ -116,13 +117,11 @@ module _ (t : Tables) (sound : IsUndamaged t) where
       subst (λ (e : Entry). number_at 0 floor ≤ℤ number_at 0 e) one
       (subst (λ (e : Entry). number_at 0 e ≤ℤ r.balance) two above)
 
-  keeps_balance : KeepsRule Balance (stored_rows t)
-  keeps_balance = (
-    each_keeps Balance,
-    λ n least most account floor is below. stays_above n (row_at account_key t.accounts n)
-        (row_at floor_key t.floors (branch_of_account n)) refl refl account floor
-        (sym (account_is n) ∙ is) (sym (floor_is (branch_of_account n)) ∙ below),
-  )
+  keeps_balance : AreAbove (stored_rows t)
+  keeps_balance n least most account floor is below =
+      stays_above n (row_at account_key t.accounts n)
+      (row_at floor_key t.floors (branch_of_account n)) refl refl account floor
+      (sym (account_is n) ∙ is) (sym (floor_is (branch_of_account n)) ∙ below)
 
   some_entry : {R : Type 0} (entry : R → Entry) (o : Option R) → is_some (option_map entry o) ≡ is_some o
   some_entry entry None = refl
@@ -137,7 +136,7 @@ module _ (t : Tables) (sound : IsUndamaged t) where
       taken_row_key teller_key teller_entry (λ _. refl) n t.tellers ∙ sound.tellers n least
       ∙ sym (branch_there (branch_of_teller n))
 
-  keeps_teller : KeepsRule Teller (stored_rows t)
+  keeps_teller : TellersFit (stored_rows t)
   keeps_teller n least most =
       (λ there. sym (teller_there n least) ∙ there, λ there. teller_there n least ∙ there)
 
@@ -166,7 +165,7 @@ module _ (t : Tables) (sound : IsUndamaged t) where
       (subst (λ (e : Entry). pos (place_of_account n) ≤ℤ number_at 0 e)
       (same_entry (branch_under (stored_rows t) (branch_of_account n)) (branch_entry r) it.0 is it.1) it.2)
 
-  keeps_account : KeepsRule Account (stored_rows t)
+  keeps_account : AccountsFit (stored_rows t)
   keeps_account n least most = (
     λ there. counted n (row_at branch_key t.branches (branch_of_account n)) (under_is (branch_of_account n))
         (sym (account_there n least) ∙ there),
@@ -208,30 +207,20 @@ module _ (t : Tables) (sound : IsUndamaged t) where
       ∙ ap (option_map floor_entry)
       (sound.floors n (unmapped (row_at branch_key t.branches n) (sym (under_is n) ∙ none)))
 
+together : (t : Tables) → IsUndamaged t → (rule : Rule) → rule ≢ Key → KeepsTogether rule (stored_rows t)
+together t sound Meta other = (t.decided, (VERSION, refl), sound.decided)
+together t sound Teller other = keeps_teller t sound
+together t sound Account other = keeps_account t sound
+together t sound Balance other = keeps_balance t sound
+together t sound Key other = absurd (other refl)
+together t sound rule other = tt
+
 -- undamaged tables keep each rule but the one of new keys
 pub keeps_rule : (t : Tables) → IsUndamaged t → (rule : Rule) → rule ≢ Key → KeepsRule rule (stored_rows t)
-keeps_rule t sound Meta other = (t.decided, (VERSION, refl), sound.decided)
-keeps_rule t sound Teller other = keeps_teller t sound
-keeps_rule t sound Account other = keeps_account t sound
-keeps_rule t sound Balance other = keeps_balance t sound
-keeps_rule t sound Request other = each_keeps t sound Request
-keeps_rule t sound Value other = each_keeps t sound Value
-keeps_rule t sound Key other = absurd (other refl)
-keeps_rule t sound Floor other = each_keeps t sound Floor
-keeps_rule t sound Reference other = each_keeps t sound Reference
+keeps_rule t sound rule other = (each_keeps t sound rule, together t sound rule other)
 
 -- so no file that shows them breaks a rule
 pub unbroken : (db : Database) (t : Tables) → Shows db t → IsUndamaged t → (rule : Rule) → IsBroken rule db → ⊥
-unbroken db t shows sound Key broken = broken (stored_rows t) (holds_shown db t shows)
-unbroken db t shows sound Meta broken = broken (stored_rows t) (holds_shown db t shows) (keeps_rule t sound Meta (λ is. cc))
-unbroken db t shows sound Teller broken =
-    broken (stored_rows t) (holds_shown db t shows) (keeps_rule t sound Teller (λ is. cc))
-unbroken db t shows sound Account broken =
-    broken (stored_rows t) (holds_shown db t shows) (keeps_rule t sound Account (λ is. cc))
-unbroken db t shows sound Balance broken =
-    broken (stored_rows t) (holds_shown db t shows) (keeps_rule t sound Balance (λ is. cc))
-unbroken db t shows sound Request broken = broken (stored_rows t) (holds_shown db t shows) (each_keeps t sound Request)
-unbroken db t shows sound Value broken = broken (stored_rows t) (holds_shown db t shows) (each_keeps t sound Value)
-unbroken db t shows sound Floor broken = broken (stored_rows t) (holds_shown db t shows) (each_keeps t sound Floor)
-unbroken db t shows sound Reference broken =
-    broken (stored_rows t) (holds_shown db t shows) (each_keeps t sound Reference)
+unbroken db t shows sound Key broken = broken (stored_rows t) (holds_shown db t shows) (each_keeps t sound Key)
+unbroken db t shows sound rule broken =
+    broken (stored_rows t) (holds_shown db t shows) (keeps_rule t sound rule (λ is. cc))

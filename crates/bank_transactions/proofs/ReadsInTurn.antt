@@ -314,7 +314,7 @@ module _ {S : Type 0} {g : Ghosts S} {old mid new : Transaction S} (n number : �
       → (is_some x ≡ is_some row → ⊥) → Reads g old new (λ t. teller_balances_in t n) (Err (Damaged broken.Teller))
   teller_alone above most stored alone = reads_broken broken.Teller both_found (λ clean rows has keeps.
       let was = clean_between g old mid new first second clean in
-      let fits = keeps n above most in
+      let fits = keeps.1 n above most in
       let branch = stored clean rows
       (subst (λ (db : Database). HoldsBank db rows) (sym (first.kept was).0.now_is) has) in
       alone (sym (some_stored (row_under rows.tellers n) read_balance x (first.told was rows has).0)

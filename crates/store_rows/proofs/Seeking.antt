@@ -1,15 +1,16 @@
 -- What each look-up of a row looks up.
-use Rattle.std.proofs.Common.{ℕ, pos, List, [], ◌∷◌, find, refl}
+use Rattle.std.proofs.Common.{ℕ, pos, List, [], ◌∷◌, find, refl, subst}
 use Rattle.sqlite.specs.{Order.Row, Order.column, Term.Term, Term.col, declared.types.Value.TheVariants.Int}
 use Rattle.sql_meanings.specs.{believed.Entries.Entry, believed.Entries.has_two, Entries.is_above}
-use Rattle.sql_meanings.proofs.Texts.{only_reads}
+use Rattle.sql_meanings.specs.StatementAnswers.{TellsRow}
+use Rattle.sql_meanings.proofs.{ReadRows.reads_next, ReadRows.reads_two, Texts.only_reads}
 use Rattle.store_rows.specs.{Holders.entry_under, believed.Rules.row_under, believed.SeveralRows.given}
 use Rattle.store_rows.specs.declared.holders.Member.TheVariants.{Account, Teller}
 use Rattle.store_rows.specs.declared.texts.TheConstants.{GET_ACCOUNT, GET_BRANCH, GET_FLOOR, GET_REQUEST, GET_TELLER}
 use Rattle.store_rows.specs.declared.texts.TheConstants.{GET_REFERENCE, NEXT_BRANCH}
 use Rattle.store_rows.specs.believed.BankTables as bank
 use Rattle.store_rows.proofs.{Getting.gets, ShownValues.all_columns, Telling.Seeks}
-use Rattle.store_rows.proofs.StoredRows.{stored_next, stored_request, stored_under}
+use Rattle.store_rows.proofs.StoredRows.{holds_list, shown_as, stored_under}
 use Rattle.store_rows.proofs.GetRequest as request
 use Rattle.store_rows.proofs.NextBranch as next
 
@@ -68,9 +69,25 @@ seeks_reference k = record {
 -- the branch with the least number above one
 pub seeks_next : (k : ℕ) → Seeks NEXT_BRANCH.now (Int (pos k) ∷ []) 1 given
     (λ rows. find (is_above (pos k)) rows.branches)
-seeks_next k = record { only = next.only; told = λ old new rows has. stored_next old new rows has k }
+seeks_next k = record {
+  only = next.only;
+  told = λ old new rows has r h.
+      let holds = holds_list old.now rows has 1 bank.branch rows.branches refl refl in
+      subst (λ o. TellsRow old new o r)
+      (shown_as (2, 0) _ given (all_columns 2 0) (is_above (pos k)) rows.branches holds.rows.wide)
+      (reads_next old new bank.branch refl has.sound rows.branches holds NEXT_BRANCH.now next.project (pos k)
+      (next.reads (pos k)) r h);
+}
 
 -- the request of a teller under its number
 pub seeks_request : (a b : ℕ) → Seeks GET_REQUEST.now (Int (pos a) ∷ Int (pos b) ∷ []) 2 given
     (λ rows. find (has_two (pos a) (pos b)) rows.requests)
-seeks_request a b = record { only = request.only; told = λ old new rows has. stored_request old new rows has a b }
+seeks_request a b = record {
+  only = request.only;
+  told = λ old new rows has r h.
+      let holds = holds_list old.now rows has 5 bank.request rows.requests refl refl in
+      subst (λ o. TellsRow old new o r)
+      (shown_as (7, 0) _ given (all_columns 7 0) (has_two (pos a) (pos b)) rows.requests holds.rows.wide)
+      (reads_two old new bank.request refl has.sound rows.requests holds GET_REQUEST.now request.project (pos a) (pos b)
+      refl refl (request.reads (pos a) (pos b)) r h);
+}

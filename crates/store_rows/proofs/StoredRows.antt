@@ -5,19 +5,12 @@ use Rattle.std.specs.List.{AllByRecursion}
 use Rattle.sqlite.specs.{Effect.Database, Order.Row, State.State, State.QueriesRowInside, Table.Table, Term.Term}
 use Rattle.sqlite.specs.{Term.eval_all, declared.error.Error.Error, declared.types.Value.TheVariants.Int}
 use Rattle.posting_rules.specs.believed.Tables.{Tables}
-use Rattle.sql_meanings.specs.believed.Entries.{Entry, HasWidth, has_key, has_two, stored}
-use Rattle.sql_meanings.specs.{Entries.is_above, StatementAnswers.TellsRow, Queries.by_key}
+use Rattle.sql_meanings.specs.believed.Entries.{Entry, HasWidth, has_key, stored}
+use Rattle.sql_meanings.specs.{StatementAnswers.TellsRow, Queries.by_key}
 use Rattle.sql_meanings.specs.believed.Tables.{Holds, width_of}
-use Rattle.sql_meanings.proofs.{Changes.found_all, Contents.held, ReadTables.ReadsAs}
-use Rattle.sql_meanings.proofs.ReadRows.{reads_key, reads_next, reads_two}
+use Rattle.sql_meanings.proofs.{Changes.found_all, Contents.held, ReadRows.reads_key, ReadTables.ReadsAs}
 use Rattle.store_rows.specs.believed.Rules.{HoldsBank, StoredRows, row_under, stored_lists}
-use Rattle.store_rows.specs.{Rules.stored_rows, believed.BankTables.bank_tables, believed.SeveralRows.given}
-use Rattle.store_rows.specs.believed.View.{Shows}
-use Rattle.store_rows.specs.believed.BankTables as bank
-use Rattle.store_rows.specs.declared.texts.TheConstants.{GET_REQUEST, NEXT_BRANCH}
-use Rattle.store_rows.proofs.ShownValues.{all_columns}
-use Rattle.store_rows.proofs.GetRequest as request
-use Rattle.store_rows.proofs.NextBranch as next
+use Rattle.store_rows.specs.{Rules.stored_rows, believed.BankTables.bank_tables, believed.View.Shows}
 
 -- what shows tables holds their rows
 pub holds_shown : (db : Database) (t : Tables) → Shows db t → HoldsBank db (stored_rows t)
@@ -55,32 +48,3 @@ stored_under at t free listed rows_of there text project k reads held same old n
     subst (λ o. TellsRow old new o r)
     (shown_as (width_of t) _ held same (has_key (pos k)) (rows_of rows) holds.rows.wide)
     (reads_key old new t free has.sound (rows_of rows) holds text project (pos k) reads r h)
-
--- ---- the other look-ups
-
--- the branch with the least number above one
-pub stored_next : (old new : State) (rows : StoredRows) → HoldsBank old.now rows
-    → (k : ℕ) (r : Result Row Error)
-    → QueriesRowInside NEXT_BRANCH.now (Int (pos k) ∷ []) old new r
-    → TellsRow old new (option_map given (find (is_above (pos k)) rows.branches)) r
-stored_next old new rows has k r h =
-    let holds = holds_list old.now rows has 1 bank.branch rows.branches refl refl in
-    subst (λ o. TellsRow old new o r)
-    (shown_as (2, 0) _ given (all_columns 2 0) (is_above (pos k)) rows.branches
-    holds.rows.wide)
-    (reads_next old new bank.branch refl has.sound rows.branches holds NEXT_BRANCH.now next.project (pos k)
-    (next.reads (pos k)) r h)
-
--- the request of a teller under its number
-pub stored_request : (old new : State) (rows : StoredRows) → HoldsBank old.now rows
-    → (a b : ℕ) (r : Result Row Error)
-    → QueriesRowInside GET_REQUEST.now (Int (pos a) ∷ Int (pos b) ∷ []) old new r
-    → TellsRow old new (option_map given (find (has_two (pos a) (pos b)) rows.requests)) r
-stored_request old new rows has a b r h =
-    let holds = holds_list old.now rows has 5 bank.request rows.requests refl refl in
-    subst (λ o. TellsRow old new o r)
-    (shown_as (7, 0) _ given (all_columns 7 0)
-    (has_two (pos a) (pos b)) rows.requests holds.rows.wide)
-    (reads_two old new bank.request refl has.sound rows.requests holds GET_REQUEST.now request.project (pos a)
-    (pos b) refl refl
-    (request.reads (pos a) (pos b)) r h)

@@ -42,8 +42,8 @@
 //!
 //! A [`TableFault`] says why a call failed: `Sqlite` that a call of `sqlite` did, with its error, and
 //! `Damaged` which rule a stored row breaks. Read next: `specs/believed/BankTables`, the tables with their columns;
-//! `specs/believed/View`, which rows a database shows; `specs/Calls`, what each function finds or leaves. The crate
-//! `bank_transactions` is a caller.
+//! `specs/believed/View`, which rows a database shows; `specs/believed/Readings`, what a row is read as;
+//! `specs/Calls`, what each function finds or leaves. The crate `bank_transactions` is a caller.
 #![tactic(auto)]
 
 mod branches;

@@ -1,15 +1,14 @@
 -- The rows of a bank's tables as a file holds them, whatever values they have, and the nine rules that the
 -- rows of a bank keep.
 use Rattle.std.specs.Prelude.{◌≡◌, ◌≢◌, ◌≤◌, ◌<◌, ◌≤ℤ◌, ◌+◌, ℕ, ℤ, pos, List, [], ◌∷◌, find, Option}
-use Rattle.std.specs.Prelude.{Some, None, Result, Err, option_and_then, IsSome}
+use Rattle.std.specs.Prelude.{Some, None, Result, Err, option_and_then, IsSome, ⊤}
 use Rattle.std.specs.List.{AllByRecursion}
 use Rattle.sqlite.specs.Effect.{Database, IsDatabase}
 use Rattle.message_records.specs.believed.Ranges.{whole_within}
 use Rattle.message_records.specs.declared.limits.TheConstants.{MAX_ACCOUNT, MAX_BRANCH, MAX_TELLER}
 use Rattle.posting_rules.specs.believed.Numbering.{branch_of_teller, branch_of_account, place_of_account}
 use Rattle.posting_rules.specs.declared.fault.Rule.{Rule}
-use Rattle.posting_rules.specs.declared.fault.Rule.TheVariants.{Meta, Teller, Account, Balance, Request}
-use Rattle.posting_rules.specs.declared.fault.Rule.TheVariants.{Value, Key, Floor, Reference}
+use Rattle.posting_rules.specs.declared.fault.Rule.TheVariants.{Meta, Teller, Account, Balance, Key}
 use Rattle.posting_rules.specs.declared.limits.TheConstants.{MAX_DECIDED, RECORDS_PER_BATCH}
 use Rattle.sql_meanings.specs.believed.Contents.{HoldsEach}
 use Rattle.sql_meanings.specs.believed.Entries.{Entry, has_key}
@@ -122,17 +121,18 @@ pub record AreFree (rows : StoredRows) : Type 0 where
       → row_under rows.accounts n ≡ None
   pub floors : (n : ℕ) → branch_under rows n ≡ None → row_under rows.floors n ≡ None
 
--- the nine rules, numbered 1 to 9 in this order
+-- what a rule says of several rows
+abbrev pub KeepsTogether : Rule → StoredRows → Type 0
+KeepsTogether Meta rows = (decided : ℕ) × HasDecided rows decided × (decided ≤ MAX_DECIDED)
+KeepsTogether Teller rows = TellersFit rows
+KeepsTogether Account rows = AccountsFit rows
+KeepsTogether Balance rows = AreAbove rows
+KeepsTogether Key rows = AreFree rows
+KeepsTogether _ rows = ⊤
+
+-- the nine rules
 abbrev pub KeepsRule : Rule → StoredRows → Type 0
-KeepsRule Meta rows = (decided : ℕ) × HasDecided rows decided × (decided ≤ MAX_DECIDED)
-KeepsRule Teller rows = TellersFit rows
-KeepsRule Account rows = AccountsFit rows
-KeepsRule Balance rows = EachKeeps Balance rows × AreAbove rows
-KeepsRule Request rows = EachKeeps Request rows
-KeepsRule Value rows = EachKeeps Value rows
-KeepsRule Key rows = AreFree rows
-KeepsRule Floor rows = EachKeeps Floor rows
-KeepsRule Reference rows = EachKeeps Reference rows
+KeepsRule rule rows = EachKeeps rule rows × KeepsTogether rule rows
 
 -- ---- a file that breaks a rule
 
@@ -140,8 +140,8 @@ KeepsRule Reference rows = EachKeeps Reference rows
 abbrev pub OfRows : (StoredRows → Type 0) → Database → Type 0
 OfRows P db = (rows : StoredRows) → HoldsBank db rows → P rows
 
--- The rows that the file holds don't keep the rule. No reading breaks rule 7, which is of the keys of new rows: that
--- one is taken is met by the INSERT of its row alone (`HasMet`).
+-- The rows that the file holds don't keep the rule. Rule 7 is of the keys of new rows: no row reads as breaking it, and
+-- that a key is taken is met by the INSERT of its row alone (`HasMet`).
 abbrev pub IsBroken : Rule → Database → Type 0
-IsBroken Key db = OfRows (λ _. ⊥) db
+IsBroken Key db = OfRows (λ rows. ¬ EachKeeps Key rows) db
 IsBroken rule db = OfRows (λ rows. ¬ KeepsRule rule rows) db

@@ -33,7 +33,7 @@ returns-then-is_some-is_open-clause-says g c =
     subst (λ (k : ℕ). FindsStored (branch_under rows k) read_branch (Ok c.in_ok-branch.branch))
     c.branch_of_account.ensures (c.in_ok-branch.ensures.stored clean rows there) in
     let same = fitting rows n c.in_ok-balance.balance c.in_ok-branch.branch
-    (c.in_ok-balance.ensures.told mid rows has).0 branch (keeps n some most) in
+    (c.in_ok-balance.ensures.told mid rows has).0 branch (keeps.1 n some most) in
     search rules)
 
 pub returns-clause-says : goal.returns-clause-says

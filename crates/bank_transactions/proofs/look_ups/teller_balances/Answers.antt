@@ -1,15 +1,15 @@
 -- What the balance of a teller tells.
-use Rattle.std.proofs.Common.{◌≡◌, ◌≤◌, ℕ, ℤ, Option, Some, None, Ok, Err, rules, refl, sym, ap, subst}
-use Rattle.std.proofs.Common.{◌∙◌, arith}
-use Rattle.std.specs.Prelude.{is_some}
+use Rattle.std.proofs.Common.{◌≡◌, ◌≤◌, ℕ, ℤ, Option, Some, None, Ok, Err, rules, refl, sym, subst, arith}
+use Rattle.std.specs.Prelude.{is_some, option_map}
 use Rattle.sqlite.specs.{Effect.Database, Held.state, State.HasCleanDisk}
-use Rattle.posting_rules.specs.{believed.Numbering.branch_of_teller, declared.rows.BranchRow.BranchRow}
-use Rattle.store_rows.specs.believed.{Readings.read_balance, Readings.read_branch, Stored.FindsStored}
-use Rattle.store_rows.specs.believed.Rules.{HoldsBank, OfRows, branch_under, row_under}
-use Rattle.bank_transactions.specs.believed.Stored.{IsStoredTeller}
+use Rattle.posting_rules.specs.believed.{LookUps.balance_of_branch, LookUps.both_of, Numbering.branch_of_teller}
+use Rattle.posting_rules.specs.declared.rows.BranchRow.{BranchRow}
+use Rattle.store_rows.specs.believed.{Readings.read_balance, Stored.FindsStored}
+use Rattle.store_rows.specs.believed.Rules.{HoldsBank, OfRows, StoredRows, row_under}
+use Rattle.bank_transactions.specs.{Filling.HoldsBranch, Stored.HoldsTellerRow, believed.Stored.IsStoredTeller}
 use Rattle.message_records.specs.declared.limits.TheConstants.{MAX_TELLER}
 use Rattle.store_rows.specs.declared.holders.Member.TheVariants as member
-use Rattle.bank_transactions.proofs.FailedBalances.{balance_failed}
+use Rattle.bank_transactions.proofs.{FailedBalances.balance_failed, HeldRows.both_held, HeldRows.teller_held}
 use Rattle.bank_transactions.proofs.ReadsInTurn.{after_found, one_alone, teller_alone, teller_told}
 use Rattle.bank_transactions.proofs.look_ups.teller_balances.Goals.{in_default-via-in-Some+in_default}
 use Rattle.bank_transactions.proofs.look_ups.teller_balances.Goals.{in_default-via-in-None+in_default}
@@ -21,35 +21,21 @@ module _ (old mid : Database) (n number : ℕ) (is : number ≡ branch_of_teller
   HasTeller x = OfRows (λ rows. FindsStored (row_under rows.tellers n) read_balance (Ok x)) old
 
   abbrev HasBranch : Option BranchRow → Type 0
-  HasBranch x = OfRows (λ rows. FindsStored (branch_under rows number) read_branch (Ok x)) mid
+  HasBranch x = OfRows (λ rows. HoldsBranch rows number x) mid
 
-  branch_there : (x : Option BranchRow) → HasBranch x
-      → OfRows (λ rows. FindsStored (branch_under rows (branch_of_teller n)) read_branch (Ok x)) old
-  branch_there x branch rows has =
-      subst (λ (k : ℕ). FindsStored (branch_under rows k) read_branch (Ok x)) is
-      (branch rows (subst (λ (db : Database). HoldsBank db rows) (sym same) has))
-
-  both_stored : (z : ℤ) (b : BranchRow) → HasTeller (Some z) → HasBranch (Some b)
-      → IsStoredTeller old n (Some (z, b.balance))
-  both_stored z b teller branch = record {
-    found = λ rows has.
-        let one = teller rows has in
-        let two = branch_there (Some b) branch rows has in
-        (one, (two.0, b, two.1, two.2, refl));
-    fits = λ rows has. (
-      λ there. ap is_some (branch_there (Some b) branch rows has).1,
-      λ there. ap is_some (teller rows has).1,
-    );
+  stored : (x : Option ℤ) (row : Option BranchRow) → HasTeller x → HasBranch row → is_some x ≡ is_some row
+      → IsStoredTeller old n (both_of x (option_map balance_of_branch row))
+  stored x row teller branch alike = record {
+    found = λ rows has. both_held rows n x row (held rows has) (there rows has);
+    fits = λ rows has. (held rows has).fits;
   }
+    where
+      there : (rows : StoredRows) → HoldsBank old rows → HoldsBranch rows (branch_of_teller n) row
+      there rows has = subst (λ (k : ℕ). HoldsBranch rows k row) is
+          (branch rows (subst (λ (db : Database). HoldsBank db rows) (sym same) has))
 
-  none_stored : HasTeller None → HasBranch None → IsStoredTeller old n None
-  none_stored teller branch = record {
-    found = teller;
-    fits = λ rows has. (
-      λ there. absurd (let none = ap is_some (teller rows has) in let both = sym none ∙ there in cc),
-      λ there. absurd (let none = ap is_some (branch_there None branch rows has) in let both = sym none ∙ there in cc),
-    );
-  }
+      held : (rows : StoredRows) → HoldsBank old rows → HoldsTellerRow rows n x
+      held rows has = teller_held rows n x row (teller rows has) (there rows has) alike
 
 pub returns-in_err-balance-clause-says : goal.returns-in_err-balance-clause-says
 returns-in_err-balance-clause-says g c =
@@ -93,8 +79,9 @@ returns-in-Some-Some-clause-stored g c clean =
     omega (arith, c.in_ok-branch.ensures.says.survives.clean, clean) in
     let teller = rw c.in-Some-Some.is-0 at (c.in_ok-balance.ensures.told mid) in
     let branch = rw c.in-Some-Some.is-1 at (c.in_ok-branch.ensures.stored clean) in
-    both_stored _ _ c.args.teller c.branch_of_teller.result c.branch_of_teller.ensures
-    (c.in_ok-balance.ensures.kept mid).0.now_is _ _ (λ rows has. (teller rows has).0) branch
+    stored _ _ c.args.teller c.branch_of_teller.result c.branch_of_teller.ensures
+    (c.in_ok-balance.ensures.kept mid).0.now_is (Some c.in-Some-Some.balance) (Some c.in-Some-Some.branch)
+    (λ rows has. (teller rows has).0) branch refl
 
 pub returns-in-None-None-clause-stored : goal.returns-in-None-None-clause-stored
 returns-in-None-None-clause-stored g c clean =
@@ -102,5 +89,5 @@ returns-in-None-None-clause-stored g c clean =
     omega (arith, c.in_ok-branch.ensures.says.survives.clean, clean) in
     let teller = rw c.in-None-None.is-0 at (c.in_ok-balance.ensures.told mid) in
     let branch = rw c.in-None-None.is-1 at (c.in_ok-branch.ensures.stored clean) in
-    none_stored _ _ c.args.teller c.branch_of_teller.result c.branch_of_teller.ensures
-    (c.in_ok-balance.ensures.kept mid).0.now_is (λ rows has. (teller rows has).0) branch
+    stored _ _ c.args.teller c.branch_of_teller.result c.branch_of_teller.ensures
+    (c.in_ok-balance.ensures.kept mid).0.now_is None None (λ rows has. (teller rows has).0) branch refl
