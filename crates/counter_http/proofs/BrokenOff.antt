@@ -15,9 +15,9 @@ use Rattle.counter_http.specs.believed.Answers.{Asked, asked_by, answer_of, unav
 use Rattle.counter_http.specs.believed.Turns.{Turn, commands_in, moments_in, text_in, commands_of, moments_of}
 use Rattle.counter_http.specs.believed.Turns.{texts_of, answers_to}
 use Rattle.counter_http.specs.Turns.{TurnIsAnsweredInPart, IsRefusedAt, ServingBreaksOff, TurnIsDealtWith}
-use Rattle.posting_core.proofs.Batched.{joined-append}
+use Rattle.posting_core.proofs.{Batched.joined-append, StreamedBatches.takes_more}
 use Rattle.counter_http.specs.believed.Serving.{At_message, At_refusal, Exits, AnswersAreWritten, ServesConnection}
-use Rattle.counter_http.proofs.Turning.{readings_append, takes_append, answers-append}
+use Rattle.counter_http.proofs.Turning.{readings_append, answers-append}
 use Rattle.posting_core.proofs.Stops.{refused_stop, stop_all, stop_part, written_part}
 use Rattle.counter_http.proofs.ConnectionLoop.{Going, turn_of, read_one_more}
 
@@ -45,7 +45,7 @@ answer_begun seen {r = r} {r' = r'} {w = w} {w' = w'} {w'' = w''} {k = k} {k' = 
     ∙ ap (λ (x : List ℕ). moments_of before ++ x) (append-nil (moments_in t)) in
     let takes : Takes (seen old) (seen new) (commands_of ts) =
     subst (λ (x : List Command). Takes (seen old) (seen new) x) (sym commands)
-    (takes_append (seen old) (seen now) (seen new) (commands_of before) (commands_in t) honest
+    (takes_more (seen old) (seen now) (seen new) (commands_of before) (commands_in t) honest
     g.answered.takes a.takes) in
     record {
       taken = ts;
@@ -111,7 +111,7 @@ bank_failed seen {r = r} {r' = r'} {w = w} {w' = w'} {w'' = w''} {k = k} {k' = k
     ∙ ap (λ (x : List ℕ). moments_of before ++ x) (append-nil (moments_in t)) in
     let takes : Takes (seen old) (seen b.stood) (commands_of before) =
     subst (λ (x : List Command). Takes (seen old) (seen b.stood) x) (append-nil (commands_of before))
-    (takes_append (seen old) (seen now) (seen b.stood) (commands_of before) [] b.honest_first g.answered.takes
+    (takes_more (seen old) (seen now) (seen b.stood) (commands_of before) [] b.honest_first g.answered.takes
     b.takes) in
     let honest : (seen new).honest → (seen now).honest = λ h. b.honest_first (b.honest h) in
     record {

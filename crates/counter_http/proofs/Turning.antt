@@ -2,11 +2,11 @@
 use Rattle.std.proofs.Common.{◌≡◌, ℕ, List, [], ◌∷◌, ◌++◌, Option, refl, sym, ap, subst, ◌∙◌, append-nil}
 use Rattle.std.proofs.{KnownBytes.Appends-trans, KnownBytes.Appends-nil, lemmas.List.Concat.flat_map-append}
 use Rattle.posting_rules.specs.{believed.Commands.Command, believed.Runs.followed_by}
-use Rattle.posting_rules.specs.believed.Counter.{Seen, ShowsLog, StandsAt, Takes}
+use Rattle.posting_rules.specs.believed.Counter.{Seen, Takes}
 use Rattle.posting_core.specs.{believed.Clock.after_one, believed.Clock.AreReadings, believed.Batches.joined}
 use Rattle.posting_rules.proofs.Sequence.{after-append}
 use Rattle.counter_http.specs.believed.Answers.{Asked, asked_by, answer_of}
-use Rattle.posting_core.proofs.Batched.{joined-append}
+use Rattle.posting_core.proofs.{Batched.joined-append, StreamedBatches.takes_more}
 use Rattle.counter_http.specs.believed.Turns.{Turn, commands_for, readings_for, commands_in, moments_in, commands_of}
 use Rattle.counter_http.specs.believed.Turns.{moments_of, answers_to}
 use Rattle.counter_http.specs.Turns.{AreAnswered, TurnIsAnswered}
@@ -15,18 +15,6 @@ pub readings_append : (k k' k'' : Option (List ℕ)) (xs ys : List ℕ) → AreR
     → AreReadings k' k'' ys → AreReadings k k'' (xs ++ ys)
 readings_append k k' k'' [] ys e more = subst (λ (o : Option (List ℕ)). AreReadings o k'' ys) e more
 readings_append k k' k'' (x ∷ xs) ys e more = (e.0, readings_append (after_one k) k' k'' xs ys e.1 more)
-
-pub takes_append : (c c' c'' : Seen) (cs ds : List Command) → (c''.honest → c'.honest) → Takes c c' cs
-    → Takes c' c'' ds → Takes c c'' (cs ++ ds)
-takes_append c c' c'' cs ds honest a b =
-    let same : (log : List Command)
-    → followed_by (followed_by log cs) ds ≡ followed_by log (cs ++ ds) = λ log. sym (after-append log cs ds) in
-    record {
-      shows = λ h log s. subst (λ (l : List Command). ShowsLog c'' l) (same log)
-          (b.shows h (followed_by log cs) (a.shows (honest h) log s));
-      stands = λ h log s. subst (λ (l : List Command). StandsAt c'' l) (same log)
-          (b.stands h (followed_by log cs) (a.stands (honest h) log s));
-    }
 
 pub answers-append : (log : List Command) (ts us : List Turn)
     → answers_to log (ts ++ us) ≡ answers_to log ts ++ answers_to (followed_by log (commands_of ts)) us
@@ -61,7 +49,7 @@ answered_more {w = w} {w' = w'} {w'' = w''} {k = k} {k' = k'} {k'' = k''} {c = c
       honest = λ h. a.honest (b.honest h);
       up = λ d. a.up (b.up d);
       takes = subst (λ (cs : List Command). Takes c c'' cs) (sym (flat_map-append commands_in ts us))
-          (takes_append c c' c'' (commands_of ts) (commands_of us) b.honest a.takes b.takes);
+          (takes_more c c' c'' (commands_of ts) (commands_of us) b.honest a.takes b.takes);
       answers = λ h log s.
           ap (λ (t : List ℕ). t ++ b.written) (a.answers (b.honest h) log s)
           ∙ ap (λ (t : List ℕ). joined (answers_to log ts) ++ t)

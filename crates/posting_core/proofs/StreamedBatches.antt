@@ -27,7 +27,7 @@ readings_more k k' k'' [] m e r =
 readings_more k k' k'' (x ∷ ms) m e r = (e.0, readings_more (after_one k) k' k'' ms m e.1 r)
 
 -- commands that were taken, and then others
-takes_more : (c c' c'' : Seen) (cs ds : List Command) → (c''.honest → c'.honest) → Takes c c' cs
+pub takes_more : (c c' c'' : Seen) (cs ds : List Command) → (c''.honest → c'.honest) → Takes c c' cs
     → Takes c' c'' ds → Takes c c'' (cs ++ ds)
 takes_more c c' c'' cs ds honest a b =
     let same : (log : List Command) → followed_by (followed_by log cs) ds ≡ followed_by log (cs ++ ds) = λ log. sym
