@@ -4,9 +4,8 @@ use Rattle.std.proofs.Common.{ap, subst, ◌∙◌, arith}
 use Rattle.std.specs.Prelude.{nat_abs, option_map, unwrap_or}
 use Rattle.std.proofs.lemmas.List.{length-append, length-map, map-append}
 use Rattle.message_records.specs.{declared.records.Outcome.Outcome, believed.Outcomes.code_of, Reading.outcome_with}
-use Rattle.message_records.specs.declared.records.Outcome.TheVariants.{Posted, NoTeller, WrongBranch, NoAccount}
-use Rattle.message_records.specs.declared.records.Outcome.TheVariants.{BelowFloor, OverLimit, ReusedNumber, Full}
 use Rattle.message_records.specs.declared.records.Outcome.TheVariants.{Malformed}
+use Rattle.message_records.proofs.SpelledReplies.{outcome_with-code}
 use Rattle.message_records.specs.believed.Records.{ReplyFields, RequestFields, unreferenced}
 use Rattle.posting_rules.specs.believed.Cases.{balance_shown}
 use Rattle.walked_rows.specs.{KeptRows.KeptItem, KeptRows.kept_item, Stored.posting_entry}
@@ -50,17 +49,6 @@ answered_same r r' y y' m m' h0 h1 h2 = cc
 number_back : (z : ℤ) (n : ℕ) → z ≡ pos n → n ≡ nat_abs z
 number_back z n is = sym (ap nat_abs is)
 
-pub code_back : (o : Outcome) → outcome_with (code_of o) ≡ Some o
-code_back Posted = refl
-code_back NoTeller = refl
-code_back WrongBranch = refl
-code_back NoAccount = refl
-code_back BelowFloor = refl
-code_back OverLimit = refl
-code_back ReusedNumber = refl
-code_back Full = refl
-code_back Malformed = refl
-
 module _ (row : KeptRequest) (r : RequestFields) (came : CameAs row r) where
   -- the request
   pub request_is : r ≡ request_in (kept_item row)
@@ -87,7 +75,7 @@ module _ (row : KeptRequest) (r : RequestFields) (came : CameAs row r) where
     outcome_is : y.outcome ≡ outcome_in (kept_item row)
     outcome_is =
         sym (ap (λ (z : ℤ). unwrap_or (outcome_with (nat_abs z)) Malformed) got.outcome
-        ∙ ap (λ (o : Option Outcome). unwrap_or o Malformed) (code_back y.outcome))
+        ∙ ap (λ (o : Option Outcome). unwrap_or o Malformed) (outcome_with-code y.outcome))
 
     -- and its reply
     pub reply_is : y ≡ reply_in (kept_item row)

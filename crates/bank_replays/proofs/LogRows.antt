@@ -22,7 +22,8 @@ use Rattle.walked_rows.proofs.Shown.{has_history, has_references, has_requests}
 use Rattle.walked_rows.proofs.RisingRows.{Rising, all-append, rising_keys, rising_more, rising_once, under_next}
 use Rattle.bank_replays.specs.Digests.{answered_after, answered_of, each_answered}
 use Rattle.bank_replays.specs.Requests.{answered_in, moment_under}
-use Rattle.bank_replays.proofs.Chained.{answered_same, code_back, reply_same, request_same}
+use Rattle.message_records.proofs.SpelledReplies.{outcome_with-code}
+use Rattle.bank_replays.proofs.Chained.{answered_same, reply_same, request_same}
 
 -- ---- the rows of `request`
 
@@ -134,7 +135,7 @@ answered_item : (n : ℕ) (e : DecidedRequest) (posting reference : Option Entry
 answered_item n e posting reference posted referred =
     let r = e.request in
     let outcome : unwrap_or (outcome_with (code_of e.outcome)) Malformed ≡ e.outcome =
-    ap (λ (o : Option Outcome). unwrap_or o Malformed) (code_back e.outcome) in
+    ap (λ (o : Option Outcome). unwrap_or o Malformed) (outcome_with-code e.outcome) in
     answered_same _ r _ (kept_reply (kept_fields e) r) _ (cond (is_posted e) e.moment 0)
     (request_same r.account r.account r.teller r.teller r.branch r.branch r.number r.number r.delta r.delta
     (option_map text_after reference) r.reference refl refl refl refl refl

@@ -32,7 +32,7 @@ code_below ReusedNumber = lit< tt
 code_below Full = lit< tt
 code_below Malformed = lit< tt
 
-outcome_with-code : (o : Outcome) → outcome_with (code_of o) ≡ Some o
+pub outcome_with-code : (o : Outcome) → outcome_with (code_of o) ≡ Some o
 outcome_with-code Posted = refl
 outcome_with-code NoTeller = refl
 outcome_with-code WrongBranch = refl
