@@ -4,7 +4,7 @@ use Rattle.std.proofs.Common.{◌≡◌, ℕ, ℤ, Bool, eqb, List, [], ◌∷�
 use Rattle.std.proofs.Common.{pos, true, sym, ap, subst, ◌∙◌, inl, inr, arith}
 use Rattle.std.specs.Prelude.{length, IfOk, IfSome, IsSome, IsTrue, is_some, option_and_then, option_map}
 use Rattle.std.specs.List.{AllByRecursion, find}
-use Rattle.std.proofs.lemmas.Bool.{eqb-true}
+use Rattle.std.proofs.lemmas.Bool.{and_parts, eqb-true}
 use Rattle.message_records.specs.{believed.Reading.request_of, believed.Records.RequestFields, declared.fault.Bad.Bad}
 use Rattle.posting_rules.specs.believed.LookUps.{account_balance_in, balance_of_branch, balance_of_teller, both_of}
 use Rattle.posting_rules.specs.believed.LookUps.{floor_in, found_in, kept_in}
@@ -20,7 +20,7 @@ use Rattle.posting_batch.specs.Batch.{HasFreeOrdinals, IsJudged, branch_filled, 
 use Rattle.posting_batch.specs.Batch.{floor_filled, no_slots, request_filled, teller_filled}
 use Rattle.posting_batch.specs.Slots.{account_slot_key, branch_slot_key, floor_slot_key, is_for, teller_slot_key}
 use Rattle.posting_batch.proofs.Covered.{Stands, homes_all, stands}
-use Rattle.posting_batch.proofs.{KeptSlots.both_true, Orders.rising_mapped, Overlaid.found_is, SlotsInOrder.made_all}
+use Rattle.posting_batch.proofs.{Orders.rising_mapped, Overlaid.found_is, SlotsInOrder.made_all}
 use Rattle.posting_batch.proofs.ToldTables.{IsOwn, tables_told, told_filled, told_free}
 use Rattle.sql_meanings.specs.believed.Entries.{Entry}
 use Rattle.sql_meanings.proofs.Changes.{found_key}
@@ -111,7 +111,7 @@ module _ (rows : StoredRows) where
   kept_at (s ∷ slots) all n m =
       elim (by_test (is_for n m s)) [
         | inl t ↦
-            let both = both_true (eqb s.teller n) (eqb s.number m) t in
+            let both = and_parts (eqb s.teller n) (eqb s.number m) t in
             rw t (subst (λ (j : ℕ). HoldsKept rows j m s.kept) (eqb-true s.teller n both.0)
             (subst (λ (j : ℕ). HoldsKept rows s.teller j s.kept) (eqb-true s.number m both.1) all.0))
         | inr f ↦ rw f (kept_at slots all.1 n m)

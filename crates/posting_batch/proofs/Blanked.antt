@@ -3,6 +3,7 @@ use Rattle.std.proofs.Common.{◌≡◌, ℕ, eqb, List, [], ◌∷◌, ◌++◌
 use Rattle.std.proofs.Common.{true, sym, ap, ◌∙◌, inl, inr}
 use Rattle.std.specs.Prelude.{IfSome, IsSome, ◌&&◌}
 use Rattle.std.specs.List.{find, AllByRecursion}
+use Rattle.std.proofs.lemmas.Bool.{and_parts}
 use Rattle.message_records.specs.{declared.fault.Bad.Bad, believed.Records.RequestFields}
 use Rattle.posting_rules.specs.{believed.Cases.case_of, believed.Changes.row_changed, believed.Kept.KeptFields}
 use Rattle.posting_rules.specs.{declared.judgments.Verdict.Verdict, declared.rows.HistoryRow.HistoryRow}
@@ -19,7 +20,7 @@ use Rattle.posting_batch.specs.Placed.{number_below, number_same, request_below,
 use Rattle.posting_batch.specs.Slots.{account_slot_key, branch_slot_key, floor_slot_key, teller_slot_key}
 use Rattle.posting_batch.specs.Slots.{empty_account, empty_branch, empty_floor, empty_request, empty_teller, is_for}
 use Rattle.posting_batch.specs.Slots.{slots_kept, with_account_changed, with_branch_changed, with_teller_changed}
-use Rattle.posting_batch.proofs.{KeptSlots.both_true, Orders.all-placed}
+use Rattle.posting_batch.proofs.Orders.{all-placed}
 
 abbrev branch_blank : BranchSlot → BranchSlot
 branch_blank s = empty_branch s.branch
@@ -224,7 +225,7 @@ keeps_more rows row k [] all = tt
 keeps_more rows row k (s ∷ slots) all = (
   elim (by_test (is_for row.teller row.number s)) [
     | inl t ↦
-        let both = both_true (eqb s.teller row.teller) (eqb s.number row.number) t in
+        let both = and_parts (eqb s.teller row.teller) (eqb s.number row.number) t in
         let teller : eqb row.teller s.teller ≡ true = eqb-flip row.teller s.teller ∙ both.0 in
         let number : eqb row.number s.number ≡ true = eqb-flip row.number s.number ∙ both.1 in
         let is : asks s row ≡ true = rw (teller, number) refl in

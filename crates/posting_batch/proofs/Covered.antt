@@ -2,7 +2,7 @@
 use Rattle.std.proofs.Common.{◌≡◌, ℕ, Bool, eqb, List, [], ◌∷◌, map, Option, Some, None, Result, Ok, Err, refl, sym}
 use Rattle.std.proofs.Common.{ap, subst, ◌∙◌, inl, inr}
 use Rattle.std.specs.{Prelude.IsSome, Prelude.IfSome, List.find, List.AllByRecursion, Option.option_map}
-use Rattle.std.proofs.lemmas.Bool.{eqb-true}
+use Rattle.std.proofs.lemmas.Bool.{and_parts, eqb-true}
 use Rattle.message_records.specs.{declared.fault.Bad.Bad, believed.Records.RequestFields}
 use Rattle.posting_rules.specs.believed.Numbering.{branch_of_teller, branch_of_account}
 use Rattle.posting_rules.specs.believed.LookUps.{kept_in, account_balance_in, balance_of_teller, floor_in}
@@ -16,7 +16,7 @@ use Rattle.posting_batch.specs.Overlay.{Overlay, by_slot, over, put_account, put
 use Rattle.posting_batch.specs.Placed.{placed, number_below, number_same, request_below}
 use Rattle.posting_batch.specs.Slots.{is_for, account_slot_key, teller_slot_key, branch_slot_key, floor_slot_key}
 use Rattle.posting_batch.specs.Slots.{empty_account, empty_teller, empty_branch, empty_floor}
-use Rattle.posting_batch.proofs.{KeptSlots.find-map, KeptSlots.both_true, Orders.all-placed, Orders.rising_mapped}
+use Rattle.posting_batch.proofs.{KeptSlots.find-map, Orders.all-placed, Orders.rising_mapped}
 use Rattle.posting_batch.proofs.{Overlaid.Fits, Overlaid.tables_made, SlotsInOrder.made_all}
 use Rattle.posting_batch.proofs.SlotsForRecords.{has_number, keeps_number, covers_all}
 
@@ -146,7 +146,7 @@ kept_at_key t [] n m = tt
 kept_at_key t (s ∷ slots) n m =
     elim (by_test (is_for n m s)) [
       | inl h ↦
-          let both = both_true (eqb s.teller n) (eqb s.number m) h in
+          let both = and_parts (eqb s.teller n) (eqb s.number m) h in
           rw h (ap (λ (j : ℕ). kept_in t.requests t.references j s.number) (eqb-true s.teller n both.0)
           ∙ ap (λ (j : ℕ). kept_in t.requests t.references n j) (eqb-true s.number m both.1))
       | inr g ↦ rw g (kept_at_key t slots n m)

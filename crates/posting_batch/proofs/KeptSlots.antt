@@ -3,7 +3,7 @@ use Rattle.std.proofs.Common.{◌≡◌, ℕ, Bool, true, false, cond, eqb, ltb,
 use Rattle.std.proofs.Common.{sym, ap, subst, ◌∙◌, inl, inr}
 use Rattle.std.specs.Prelude.{◌&&◌, IfSome}
 use Rattle.std.specs.{List.find, Option.option_map}
-use Rattle.std.proofs.lemmas.Bool.{eqb-true, eq-eqb}
+use Rattle.std.proofs.lemmas.Bool.{and_parts, eqb-true, eq-eqb}
 use Rattle.posting_rules.specs.declared.rows.{ReferenceRow.ReferenceRow, RequestRow.RequestRow}
 use Rattle.posting_rules.specs.believed.{Changes.row_put, Changes.reference_put, Kept.KeptFields, Kept.kept_with}
 use Rattle.posting_rules.specs.believed.LookUps.{kept_in, kept_of_row, reference_in, text_of_reference}
@@ -121,10 +121,6 @@ module _ (rows : List RequestRow) (references : List ReferenceRow) (x : RequestR
 
 -- ---- slots
 
-pub both_true : (a b : Bool) → (a && b) ≡ true → (a ≡ true) × (b ≡ true)
-both_true true b e = (refl, e)
-both_true false b e = absurd cc
-
 -- the slot that is found for a teller and a number is theirs
 found_pair : (slots : List RequestSlot) (n m : ℕ)
     → IfSome (find (is_for n m) slots) (λ s. is_for n m s ≡ true)
@@ -161,7 +157,7 @@ kept_fits slots rows references x reference free unreferenced none fits n m =
         (λ s. s.kept ≡ then_in rows references x reference n m)
     by_slots None is own = tt
     by_slots (Some s) is own =
-        let both = both_true (eqb s.teller n) (eqb s.number m) own in
+        let both = and_parts (eqb s.teller n) (eqb s.number m) own in
         let en : s.teller ≡ n = eqb-true s.teller n both.0 in
         let em : s.number ≡ m = eqb-true s.number m both.1 in
         let flip : is_for x.teller x.number s ≡ is_of n m x =
@@ -171,7 +167,7 @@ kept_fits slots rows references x reference free unreferenced none fits n m =
         (ap (λ (j : ℕ). eqb j x.number) em ∙ eqb-flip m x.number) in
         elim (by_test (is_of n m x)) [
           | inl t ↦
-              let tb = both_true (eqb x.teller n) (eqb x.number m) t in
+              let tb = and_parts (eqb x.teller n) (eqb x.number m) t in
               let xn : x.teller ≡ n = eqb-true x.teller n tb.0 in
               let xm : x.number ≡ m = eqb-true x.number m tb.1 in
               let hit : is_for x.teller x.number s ≡ true = flip ∙ t in
