@@ -1,8 +1,8 @@
 -- A batch whose requests were put in first: none of them was kept, so that its slots have what the tables have.
-use Rattle.std.proofs.Common.{◌≡◌, ◌∙◌, ℕ, eqb, pos, false, Bool, List, [], ◌∷◌, map, Option, Some, None, Result, Ok}
+use Rattle.std.proofs.Common.{◌≡◌, ◌∙◌, ℕ, eqb, pos, false, true, not, Bool, List, [], ◌∷◌, map, Option, Some, None, Result, Ok}
 use Rattle.std.proofs.Common.{Err, find, option_map, refl, sym, ap, subst, arith}
-use Rattle.std.proofs.lemmas.Bool.{eqb-true}
-use Rattle.std.specs.Prelude.{◌&&◌, IfSome, IsSome, IsTrue, is_none}
+use Rattle.std.proofs.lemmas.Bool.{and_parts, eq-eqb, eqb-true}
+use Rattle.std.specs.Prelude.{◌&&◌, ◌≢◌, IfSome, IsSome, IsTrue, is_none}
 use Rattle.std.specs.List.{AllByRecursion}
 use Rattle.sqlite.specs.{Effect.Database, Held.state, declared.transaction.Transaction.Transaction}
 use Rattle.sqlite.specs.State.{State, HasCleanDisk, KeepsCommit}
@@ -14,7 +14,7 @@ use Rattle.posting_batch.specs.{declared.batch.Batch.Batch, declared.slots.Reque
 use Rattle.posting_batch.specs.{Slots.empty_request, View.IsMadeOf, View.reads_of, View.view}
 use Rattle.posting_batch.specs.Batch.{IsAmong, KeepsNew, blanked, filled, has_gap, request_filled}
 use Rattle.posting_batch.specs.Overlay.{Overlay, requests_put, tables_over}
-use Rattle.posting_batch.proofs.{Blanked.blank_made, Blanked.made_unkept, KeptSlots.both_true}
+use Rattle.posting_batch.proofs.{Blanked.blank_made, Blanked.made_unkept}
 use Rattle.sql_meanings.specs.{Calls.Inside, Calls.Says, believed.Entries.Entry, believed.Entries.has_two}
 use Rattle.sql_meanings.proofs.{Changes.found_all, Changes.found_passes, NewPairs.neither}
 use Rattle.store_rows.specs.{believed.BankTables.request, believed.Failures.Additions, SeveralRows.IsNew}
@@ -49,10 +49,20 @@ one_nowhere es rows s new among = go (find asks rows) refl among
     go : (o : Option RequestRow) → find asks rows ≡ o → IsSome o → IsNowhere es s
     go None found there = absurd cc
     go (Some r) found there =
-        let both = both_true (eqb r.teller s.teller) (eqb r.number s.number) (found_passes asks rows r found) in
+        let both = and_parts (eqb r.teller s.teller) (eqb r.number s.number) (found_passes asks rows r found) in
         subst (λ (n : ℕ). find (has_two (pos n) (pos s.number)) es ≡ None) (eqb-true r.teller s.teller both.0)
         (subst (λ (n : ℕ). find (has_two (pos r.teller) (pos n)) es ≡ None) (eqb-true r.number s.number both.1)
         (found_all (IsNew es) asks rows r new found))
+
+apart : (same gap : Bool) → (not same && not gap) ≡ true → (same ≢ true) × (gap ≡ false)
+apart true gap is = absurd cc
+apart false true is = absurd cc
+apart false false is = ((λ same. absurd cc), refl)
+
+pub decided_all : (n m : ℕ) (gap whole : Bool) → whole ≡ (not (eqb n m) && not gap) → whole ≡ true
+    → (n ≢ m) × (gap ≡ false)
+decided_all n m gap whole is yes =
+    let both = apart (eqb n m) gap (sym is ∙ yes) in ((λ same. both.0 (eq-eqb n m same)), both.1)
 
 kept_there : (o : Option KeptFields) (A : Type 0) → is_none o ≡ false → IfSome o (λ k. A) → A
 kept_there None A none it = absurd cc
@@ -209,7 +219,7 @@ pub quiet : {S X : Type 0} {Met : Damage S} {g : Ghosts S} {old new : Transactio
 quiet {g = g} {old = old} {new = new} {r = r} does = record {
   same_reference = does.says.same_reference;
   told = λ clean. tt;
-  kept = λ clean live. commits_none (state g old.conn.now) (state g new.conn.now) r (does.says.kept clean live).0;
+  leaves = λ clean live. commits_none (state g old.conn.now) (state g new.conn.now) r (does.says.leaves clean live).0;
   survives = does.says.survives;
 }
 
@@ -240,11 +250,11 @@ module _ {S X : Type 0} {g : Ghosts S} {old mid new : Transaction S} {So : Table
           let before : HasCleanDisk (state g mid.conn.now) = omega (arith, second.says.survives.clean, clean) in
           let found = first.says.told before live t shows (so.ready t it) in
           let e = all clean live t shows found.0 in
-          let on = (first.says.kept before live).0 in
+          let on = (first.says.leaves before live).0 in
           let last = second.says.told clean (still_in (state g old.conn.now) (state g mid.conn.now) on live) t found.1
           (so.writes t it e) in
           (so.answers t it e, subst (λ (u : Tables). Shows (state g new.conn.now).now u) (so.tables t it e) last.1);
-      kept = λ clean live. (acts_wrote (blind first second)).says.kept clean live;
+      leaves = λ clean live. (acts_wrote (blind first second)).says.leaves clean live;
       survives = (blind first second).says.survives;
     };
   }
@@ -259,11 +269,11 @@ module _ {S X : Type 0} {g : Ghosts S} {old mid new : Transaction S} {So : Table
       told = λ clean live t shows it.
           let before : HasCleanDisk (state g mid.conn.now) = omega (arith, second.says.survives.clean, clean) in
           let found = first.says.told before live t shows (so.ready t it) in
-          let on = (first.says.kept before live).0 in
+          let on = (first.says.leaves before live).0 in
           same_fault (state g new.conn.now) (state g new.conn.now) (tables_over o t) (after t) (tt {0}) (wanted t) e
           (second.says.told clean (still_in (state g old.conn.now) (state g mid.conn.now) on live) t found.1
           (so.writes t it (all clean live t shows found.0)));
-      kept = λ clean live. (acts_wrote (blind first second)).says.kept clean live;
+      leaves = λ clean live. (acts_wrote (blind first second)).says.leaves clean live;
       survives = (blind first second).says.survives;
     };
   }
@@ -278,7 +288,7 @@ refused_new (Sqlite e) none first second = record {
   says = record {
     same_reference = (blind first second).says.same_reference;
     told = λ clean live t shows it. tt;
-    kept = λ clean live. (acts_wrote (blind first second)).says.kept clean live;
+    leaves = λ clean live. (acts_wrote (blind first second)).says.leaves clean live;
     survives = (blind first second).says.survives;
   };
 }
@@ -303,7 +313,7 @@ module _ {S : Type 0} {g : Ghosts S} {old mid done : Transaction S} (b : Batch) 
       → AllByRecursion (IsNowhere es) p'.kept
   all_new es holds =
       let before : HasCleanDisk (state g mid.conn.now) = omega (arith, puts.says.survives.clean) in
-      let stays = (look.says.kept before).0 in
+      let stays = (look.says.leaves before).0 in
       let there = subst (λ (db : Database). HoldsRows db request es) (sym stays.now) holds in
       let new = (unknown clean
       (still_in (state g old.conn.now) (state g mid.conn.now) stays.goes_on live) es there).0 in

@@ -1,6 +1,6 @@
 //! A batch is tried as if none of its requests were kept, which spares them their look-ups. Where the first one is
 //! kept, or the INSERT of one says otherwise, all is undone.
-ghost use Rattle.std.specs.Prelude.{◌≡◌, ◌≢◌, ℕ, List, length, false, true, is_some, IfSome, IsTrue, ⊤};
+ghost use Rattle.std.specs.Prelude.{◌≡◌, ◌&&◌, ◌==◌, not, ℕ, List, length, false, true, is_some, IfSome, IsTrue, ⊤};
 ghost use Rattle.sqlite.specs.State.{HasCleanDisk, KeepsCommit};
 ghost use Rattle.sqlite.specs.Held.{state};
 ghost use Rattle.posting_rules.specs.believed.Changes.{tables_past_all, replies_past_all};
@@ -53,7 +53,7 @@ fn may_be_kept(fault: &TableFault) -> bool
 
 // Whether each request was decided, and there was one: an INSERT tells of each.
 fn all_decided(overlay: &Overlay, before: u64) -> bool
-    ensures { result ≡ true → (overlay.now.decided ≢ before) × (has_gap (view overlay.now).kept ≡ false) }
+    ensures { result ≡ (not (overlay.now.decided == before) && not (has_gap (view overlay.now).kept)) }
 {
     overlay.decided != before && !overlay.has_gap()
 }

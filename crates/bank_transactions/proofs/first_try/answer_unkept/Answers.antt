@@ -7,7 +7,7 @@ use Rattle.posting_batch.specs.{Overlay.Overlay, View.view, declared.slots.Reque
 use Rattle.bank_transactions.proofs.{Added.adds_of_batch, JudgedSlots.judging_all, JudgedSlots.ready}
 use Rattle.bank_transactions.proofs.{Chained.acts_read, Chained.does_adds, Chained.does_err, HeldBatch.homes_made}
 use Rattle.bank_transactions.proofs.{HeldBatch.in_turn, LookUps.does_look, NewBatch.all_filled, NewBatch.all_held}
-use Rattle.bank_transactions.proofs.{NewBatch.answered_new, NewBatch.is_again, NewBatch.refused_new}
+use Rattle.bank_transactions.proofs.{NewBatch.answered_new, NewBatch.decided_all, NewBatch.is_again, NewBatch.refused_new}
 use Rattle.bank_transactions.proofs.{NewBatch.unanswered_new, Together.all_written, Together.requests_first}
 use Rattle.bank_transactions.proofs.first_try.answer_unkept.Goals as goal
 
@@ -58,7 +58,7 @@ returns-in_err-write_after-in-Ok-clause-says g c =
     omega (arith, end.says.survives.clean, clean) in
     all_filled c.args.batch p' o c.deref.result.now records made fk.says
     (ap (λ (v : SmallVec RequestSlot). v.items) fk.new_rows.3) j.again.keys j.again.own
-    (c.all_decided.ensures (search rules)).1 c.deref.ensures c.in-Ok.ensures.puts c.in-Ok.ensures.unknown before live
+    (decided_all _ _ _ _ c.all_decided.ensures (search rules)).1 c.deref.ensures c.in-Ok.ensures.puts c.in-Ok.ensures.unknown before live
     t shows e)
     (does_adds (λ clean.
     let before : HasCleanDisk (state g.S.Store c.put_requests.new.tx.conn.now) =
@@ -84,7 +84,7 @@ returns-in_ok-write_after-in-Ok-clause-says g c records made =
     omega (arith, end.says.survives.clean, clean) in
     all_filled c.args.batch p' o c.deref.result.now records made fk.says
     (ap (λ (v : SmallVec RequestSlot). v.items) fk.new_rows.3) j.again.keys j.again.own
-    (c.all_decided.ensures (search rules)).1 c.deref.ensures c.in-Ok.ensures.puts c.in-Ok.ensures.unknown before live
+    (decided_all _ _ _ _ c.all_decided.ensures (search rules)).1 c.deref.ensures c.in-Ok.ensures.puts c.in-Ok.ensures.unknown before live
     t shows e)
     (does_adds (λ clean.
     let before : HasCleanDisk (state g.S.Store c.put_requests.new.tx.conn.now) =
@@ -110,9 +110,9 @@ returns-in_ok-write_after-in-Ok-clause-busy g c clean live records made t shows 
     let found = fk.says.says.told first t shows (ready c.args.batch records made t it) in
     let e = all_filled c.args.batch p' o c.deref.result.now records made fk.says
     (ap (λ (v : SmallVec RequestSlot). v.items) fk.new_rows.3) j.again.keys j.again.own
-    (c.all_decided.ensures (search rules)).1 c.deref.ensures c.in-Ok.ensures.puts c.in-Ok.ensures.unknown before live
+    (decided_all _ _ _ _ c.all_decided.ensures (search rules)).1 c.deref.ensures c.in-Ok.ensures.puts c.in-Ok.ensures.unknown before live
     t shows found.0 in
-    absurd ((c.all_decided.ensures (search rules)).0 (ap (λ (u : Tables). u.decided) (so.tables t it e) ∙ none
+    absurd ((decided_all _ _ _ _ c.all_decided.ensures (search rules)).0 (ap (λ (u : Tables). u.decided) (so.tables t it e) ∙ none
     ∙ sym (ap (λ (q : Overlay). q.decided) e)))
 
 pub returns-in_ok-write_after-in-Ok-clause-stored : goal.returns-in_ok-write_after-in-Ok-clause-stored
@@ -127,7 +127,7 @@ returns-in_ok-write_after-in-Ok-clause-stored g c clean live records made rows h
     omega (arith, c.in-Ok.ensures.puts.says.survives.clean, before) in
     let held = all_held c.args.batch p' o c.deref.result.now records made fk.says
     (ap (λ (v : SmallVec RequestSlot). v.items) fk.new_rows.3) j.again.keys j.again.own
-    (c.all_decided.ensures (search rules)).1 c.deref.ensures c.in-Ok.ensures.puts c.in-Ok.ensures.unknown before live
+    (decided_all _ _ _ _ c.all_decided.ensures (search rules)).1 c.deref.ensures c.in-Ok.ensures.puts c.in-Ok.ensures.unknown before live
     (fk.stored first (homes_made c.args.batch records made)) in
     rw c.into_replies.ensures (in_turn rows c.args.batch _ records c.args.moment o c.judge-judged.result.replies.items
     made refl fk.same (held rows has) j.judged)
