@@ -6,7 +6,7 @@ use Rattle.posting_rules.specs.{believed.Runs.followed_by, believed.Tables.Table
 use Rattle.posting_rules.specs.believed.Counter.{Seen, StandsAt, LeavesOnly, ShowsPrefix, ShowsLog}
 use Rattle.posting_rules.proofs.{Remaining.leaves_weaker, Requests.are_new, Requests.none_shares}
 use Rattle.bank_lives.specs.believed.Lives.{EndsLife, Life}
-use Rattle.bank_lives.specs.believed.ManyLives.{Given, IsOpenedOn, Keeps, LeavesShown, Lives, ShowsKept, carried_over}
+use Rattle.bank_lives.specs.believed.ManyLives.{Given, IsOpenedOn, Outlasts, LeavesShown, Lives, ShowsAfter, carried_over}
 use Rattle.bank_lives.specs.believed.ManyLives.{created, found, released, replayed, stopped, unopened}
 use Rattle.bank_lives.proofs.Lived.{end_leaves, life_down, life_given, life_honest, life_lives}
 
@@ -55,9 +55,9 @@ stands_shown seen log up leaves shows = record {
 }
 
 -- what lives lead to from a log that others led to is what all of them lead to
-pub keeps_on : (start middle log : List Command) (earlier later : List Given) → Keeps start middle earlier
-    → Keeps middle log later → Keeps start log (later ++ earlier)
-keeps_on start middle log earlier [] first then = subst (λ (l : List Command). Keeps start l earlier) (sym then) first
+pub keeps_on : (start middle log : List Command) (earlier later : List Given) → Outlasts start middle earlier
+    → Outlasts middle log later → Outlasts start log (later ++ earlier)
+keeps_on start middle log earlier [] first then = subst (λ (l : List Command). Outlasts start l earlier) (sym then) first
 keeps_on start middle log earlier (life ∷ later) first (before, kept, count, least, most, is) =
     (before, keeps_on start middle before earlier later first kept, count, least, most, is)
 
@@ -104,7 +104,7 @@ module _ {M : Type 0} (seen : M → Seen) where
 
   -- a log that is, life by life, a prefix of what was given
   pub kept : (start : List Command) (lives : List Given) (first : M) → Lives seen start first lives
-      → (seen first).honest → (log : List Command) × Keeps start log lives × StandsAt (seen first) log
+      → (seen first).honest → (log : List Command) × Outlasts start log lives × StandsAt (seen first) log
   kept start [] first some h = (start, refl, before_life start first [] some h)
   kept start (life ∷ lives) first some h =
       let was = before_life start first (life ∷ lives) some h in
@@ -116,11 +116,11 @@ module _ {M : Type 0} (seen : M → Seen) where
   pub left_of : (start : List Command) (lives : List Given) (life : Given) (first now last : M)
       → Lives seen start first lives
       → Life seen first now life.commands life.least → EndsLife (seen now) (seen last) → (seen last).honest
-      → LeavesOnly (seen last) (ShowsKept start (life ∷ lives))
+      → LeavesOnly (seen last) (ShowsAfter start (life ∷ lives))
   left_of start lives life first now last some lived ends h =
       let it = kept start lives first some (life_honest seen first now life.commands life.least lived
       (ends.honest h)) in
-      leaves_weaker (seen last) (ShowsPrefix it.0 life.commands life.least) (ShowsKept start (life ∷ lives))
+      leaves_weaker (seen last) (ShowsPrefix it.0 life.commands life.least) (ShowsAfter start (life ∷ lives))
       (λ t b. record {
         log = followed_by it.0 (take b.count life.commands);
         keeps = (it.0, it.1, b.count, b.holds, b.within, refl);

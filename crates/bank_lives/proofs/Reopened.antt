@@ -11,7 +11,7 @@ use Rattle.bank_store.specs.Connections.{conn_seen, state_in}
 use Rattle.bank_store.specs.{believed.Seen.seen_in, declared.bank.Bank.Bank, declared.refused.Refused.Refused}
 use Rattle.bank_store.proofs.JustOpened.{stands_opened}
 use Rattle.posting_rules.proofs.Consistent.{consistent}
-use Rattle.bank_lives.specs.believed.{Lives.IsFoundAgain, ManyLives.Given, ManyLives.IsKept, ManyLives.Keeps}
+use Rattle.bank_lives.specs.believed.{Lives.IsFoundAgain, ManyLives.Given, ManyLives.IsFoundAfter, ManyLives.Outlasts}
 use Rattle.bank_lives.proofs.ManyLived.{Begins, each_once}
 
 -- one that was opened on trees which show a prefix stands there
@@ -50,8 +50,8 @@ found_at seen log given least count holds within stands one = record {
 
 -- a bank that stands at what the lives before it lead to
 pub kept_at : (seen : Seen) (start : List Command) (lives : List Given) (log : List Command)
-    → Keeps start log lives → (stands : StandsAt seen log)
-    → ((other : Tables) → seen.tables other → other ≡ stands.shows.tables) → IsKept seen start lives
+    → Outlasts start log lives → (stands : StandsAt seen log)
+    → ((other : Tables) → seen.tables other → other ≡ stands.shows.tables) → IsFoundAfter seen start lives
 kept_at seen start lives log keeps stands one = record {
   log = log;
   keeps = keeps;

@@ -7,7 +7,7 @@ use Rattle.posting_rules.specs.{Resends.Skips, believed.Tables.AreTablesOf}
 use Rattle.posting_rules.specs.believed.Runs.{followed_by, posts, replies_to, ArePosts}
 use Rattle.posting_rules.proofs.{Remaining.leaves_weaker, Sequence.after-append}
 use Rattle.posting_rules.proofs.Resends.{posts_both, shows_left_out, shows_log_left_out}
-use Rattle.bank_lives.specs.believed.ManyLives.{Given, Keeps, Lives}
+use Rattle.bank_lives.specs.believed.ManyLives.{Given, Outlasts, Lives}
 use Rattle.bank_lives.specs.Sending.{FindsSent, Sends, SendsFrom, begins, goes_on}
 use Rattle.bank_lives.proofs.ManyLived.{Begins, before_life, each_once, kept}
 use Rattle.bank_lives.proofs.Resent.{first_posts, first_replies, resend, within_front}
@@ -67,7 +67,7 @@ one_life_more was first log records answered place life it le sent on =
 module _ {M : Type 0} (seen : M → Seen) where
   posted : (start : List Command) (records : List (List ℕ)) (before sent : List Given) (answered : ℕ) (first : M)
       → Lives seen start first (sent ++ before) → Sends records sent answered → (seen first).honest
-      → (log : List Command) × Keeps start log before × Posted (seen first) log records answered
+      → (log : List Command) × Outlasts start log before × Posted (seen first) log records answered
   posted start records before sent answered first lives begins h =
       let it = kept seen start before first lives h in
       (it.0, it.1, none_posted (seen first) it.0 records it.2)
@@ -95,7 +95,7 @@ replies_on seen log records answered place commands it le sent =
 pub finds_sent : {M : Type 0} (seen : M → Seen) (start : List Command) (sent before : List Given)
     (records : List (List ℕ)) (answered : ℕ) (first : M) → Lives seen start first (sent ++ before)
     → Sends records sent answered → (seen first).honest
-    → (log : List Command) × Keeps start log before × FindsSent (seen first) log records answered
+    → (log : List Command) × Outlasts start log before × FindsSent (seen first) log records answered
 finds_sent seen start sent before records answered first lives sends h =
     let it = posted seen start records before sent answered first lives sends h in
     let log = it.0 in

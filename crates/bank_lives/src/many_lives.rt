@@ -7,7 +7,7 @@ ghost use Rattle.posting_rules.specs.believed.Counter.{LeavesOnly, StandsAt};
 ghost use Rattle.bank_store.specs.Connections.{conn_seen};
 ghost use Rattle.bank_store.specs.believed.Seen.{bank_seen, connection_of};
 ghost use Rattle.bank_lives.specs.believed.Lives.{EndsLife, IsCall, Life};
-ghost use Rattle.bank_lives.specs.believed.ManyLives.{Given, IsKept, IsOpenedOn, Keeps, Lives, ShowsKept};
+ghost use Rattle.bank_lives.specs.believed.ManyLives.{Given, IsFoundAfter, IsOpenedOn, Outlasts, Lives, ShowsAfter};
 ghost use Rattle.bank_lives.specs.believed.Moments.{Moment, Of_bank, seen_at};
 ghost use Rattle.bank_lives.specs.Replayed.{IsReplayed};
 ghost use Rattle.bank_lives.specs.Sending.{FindsSent, Sends};
@@ -57,17 +57,17 @@ pub fn replayed_law<S: Alter>(conn: &Connection<S>)
 pub fn lives_law<S: Alter>(_bank: &Bank<S>)
     ensures found { (start : List Command) (first : Moment S.Store) (lives : List Given)
         → Lives (seen_at S.Store) start first lives
-        → (seen_at S.Store first).honest → IsKept (seen_at S.Store first) start lives }
+        → (seen_at S.Store first).honest → IsFoundAfter (seen_at S.Store first) start lives }
     // So it goes on from a log that other lives led to, as over the files of another store.
     ensures on { (start middle : List Command) (first : Moment S.Store) (earlier later : List Given)
-        → Keeps start middle earlier → Lives (seen_at S.Store) middle first later
-        → (seen_at S.Store first).honest → IsKept (seen_at S.Store first) start (later ++ earlier) }
+        → Outlasts start middle earlier → Lives (seen_at S.Store) middle first later
+        → (seen_at S.Store first).honest → IsFoundAfter (seen_at S.Store first) start (later ++ earlier) }
     // Wherever the last life is stopped, all that may be left shows such a log.
     ensures left { (start : List Command) (lives : List Given) (life : Given) (first now last : Moment S.Store)
         → Lives (seen_at S.Store) start first lives
         → Life (seen_at S.Store) first now life.commands life.least
         → EndsLife (seen_at S.Store now) (seen_at S.Store last) → (seen_at S.Store last).honest
-        → LeavesOnly (seen_at S.Store last) (ShowsKept start (life ∷ lives)) }
+        → LeavesOnly (seen_at S.Store last) (ShowsAfter start (life ∷ lives)) }
 {}
 
 /// A sender who goes on, after any number of stops, from his first record that wasn't answered, or from a place
@@ -78,5 +78,5 @@ pub fn sender_law<S: Alter>(_bank: &Bank<S>)
         (records : List (List ℕ)) (answered : ℕ)
         → Lives (seen_at S.Store) start first (sent ++ before) → Sends records sent answered
         → (seen_at S.Store first).honest
-        → (log : List Command) × Keeps start log before × FindsSent (seen_at S.Store first) log records answered }
+        → (log : List Command) × Outlasts start log before × FindsSent (seen_at S.Store first) log records answered }
 {}

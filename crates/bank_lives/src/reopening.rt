@@ -9,7 +9,7 @@ ghost use Rattle.bank_store.specs.Connections.{conn_seen};
 ghost use Rattle.bank_store.specs.believed.Seen.{bank_seen};
 ghost use Rattle.bank_store.specs.StoreFaults.{KnowsCause};
 ghost use Rattle.bank_lives.specs.believed.Lives.{IsFoundAgain, Life};
-ghost use Rattle.bank_lives.specs.believed.ManyLives.{Given, IsKept, Lives};
+ghost use Rattle.bank_lives.specs.believed.ManyLives.{Given, IsFoundAfter, Lives};
 ghost use Rattle.bank_lives.specs.believed.Moments.{Moment, Of_bank, seen_at};
 
 use bank_store::{Bank, OpenFault, Refused, adopt};
@@ -42,13 +42,13 @@ pub fn reopen<S: Alter + Drop, T: Alter>(
         → (first : _) (log given : List Command) (least : ℕ) → StandsAt (bank_seen S.Store first) log
         → Life (λ bank. bank_seen S.Store bank) first stopped.now given least
         → IsFoundAgain (bank_seen T.Store bank) log given least) }
-    ensures kept { IfOk result (λ bank. (bank_seen T.Store bank).honest → Opens (state T.Store conn)
+    ensures lives { IfOk result (λ bank. (bank_seen T.Store bank).honest → Opens (state T.Store conn)
         → (bank_seen S.Store stopped.now).honest
         → (bank_seen S.Store stopped.now).left (state T.Store conn).now.trees
         → (start : List Command) (first : Moment S.Store) (life : Given) (lives : List Given)
         → Lives (seen_at S.Store) start first lives
         → Life (seen_at S.Store) first (Of_bank stopped.now) life.commands life.least
-        → IsKept (bank_seen T.Store bank) start (life ∷ lives)) }
+        → IsFoundAfter (bank_seen T.Store bank) start (life ∷ lives)) }
     ensures missed { IfErr result (λ refused. HasCleanDisk (state T.Store refused.conn)
         → Opens (state T.Store conn)
         → (bank_seen S.Store stopped.now).honest

@@ -12,7 +12,7 @@ use Rattle.bank_replays.specs.{Reading.ReadsBank, Replays.HasAnswered}
 
 module _ {S X E : Type 0} {g : Ghosts S} {old new : Bank S g} (r : Result X E) (reads : ReadsBank g old new r) where
   up : (bank_seen g new).is_down → (bank_seen g old).is_down
-  up = subst (λ kept. IsSome kept) reads.up
+  up = subst (λ cause. IsSome cause) reads.up
 
   still : (a : Result X E) → (HasCleanDisk (file_of new) → OnOk a (IsStill (file_of old) (file_of new)))
       → HasAnswered a → HasCleanDisk (file_of new) → IsStill (file_of old) (file_of new)

@@ -79,7 +79,7 @@ pub record RefusesBalance {S : Type 0} (g : Ghosts S) (old new : Bank S g)
   pub cause : told ≡ Err (OfBank Store) → KeepsCause g old new
   -- it is told to be damaged where the rows that the file held break that rule, and it holds them yet
   pub broken : (rule : Rule) → told ≡ Err (OfBank (Damaged rule)) → WasBroken g old new rule
-  pub kept : (rule : Rule) → told ≡ Err (OfBank (Damaged rule)) → (bank_seen g new).honest
+  pub unchanged : (rule : Rule) → told ≡ Err (OfBank (Damaged rule)) → (bank_seen g new).honest
       → database_of g new ≡ database_of g old
 
 -- what is left of the writer, of which it is known what its calls returned

@@ -12,10 +12,10 @@ use Rattle.bank_store.specs.{believed.Down.OfDamage, Down.GoesDown}
 
 module _ {S X : Type 0} {So : Tables → Type 0} {after : Tables → Tables} {wanted : Tables → X} (g : Ghosts S)
     (old mid new : Held S)
-    (kept : Option TableFault) (fault : Fault) (quiet : Survives (state g mid) (state g new) (λ _. ⊥)) where
+    (cause : Option TableFault) (fault : Fault) (quiet : Survives (state g mid) (state g new) (λ _. ⊥)) where
   of_damage : (Met : Damage S) → ((rule : Rule) → Met old mid rule → Met old new rule) → (e : TableFault)
       → TransactsBy {X = X} Met g old mid So after wanted (Err e)
-      → GoesDown (state g mid) (state g new) e kept fault
+      → GoesDown (state g mid) (state g new) e cause fault
       → OfDamage fault (λ rule. HasCleanDisk (state g new) → Met old new rule)
   of_damage Met wide (Sqlite error) does went =
       subst (λ (f : Fault). OfDamage f (λ rule. HasCleanDisk (state g new) → Met old new rule)) (sym went.1)
@@ -29,13 +29,13 @@ module _ {S X : Type 0} {So : Tables → Type 0} {after : Tables → Tables} {wa
 
   -- of a call that only reads
   pub consulted : (e : TableFault) → TransactsBy {X = X} (IsFirstBroken g) g old mid So after wanted (Err e)
-      → GoesDown (state g mid) (state g new) e kept fault
+      → GoesDown (state g mid) (state g new) e cause fault
       → OfDamage fault (λ rule. HasCleanDisk (state g new) → IsFirstBroken g old new rule)
   consulted e does went = of_damage (IsFirstBroken g) (λ rule it. it) e does went
 
   -- of a call that writes
   pub transacted : {Adds : Additions} (e : TableFault) → Transacts {X = X} g Adds old mid So after wanted (Err e)
-      → GoesDown (state g mid) (state g new) e kept fault
+      → GoesDown (state g mid) (state g new) e cause fault
       → OfDamage fault (λ rule. HasCleanDisk (state g new) → IsBrokenOrMet g Adds old new rule)
   transacted {Adds} e does went = of_damage (IsBrokenOrMet g Adds) (λ rule it. elim it [
     | inl broken ↦ inl broken

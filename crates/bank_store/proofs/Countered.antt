@@ -137,42 +137,42 @@ is_damaged Sound holds old new D E down never same = record {
   tables = λ clean t shows. subst (λ (db : Database). Shows db t) (sym (same clean)) shows;
 }
 
-kept_down : (kept : Option TableFault) (fault : TableFault) → kept ≡ Some fault → IsSome kept
-kept_down kept fault e = subst (λ (o : Option TableFault). IsSome o) (sym e) refl
+goes_down : (cause : Option TableFault) (fault : TableFault) → cause ≡ Some fault → IsSome cause
+goes_down cause fault e = subst (λ (o : Option TableFault). IsSome o) (sym e) refl
 
 -- a call that a fault ended, and that brought the bank down
 pub refuses : {S X : Type 0} {So : Tables → Type 0} {after : Tables → Tables} {wanted : Tables → X}
     {Met : Damage S} (g : Ghosts S) (old mid new : Held S) (holds : HoldsOfLogs So)
     (cs : List Command) (is : IsChange after cs) → AreCommands cs
-    → (D : Type 0) (e : TableFault) (kept : Option TableFault) (fault : Fault)
+    → (D : Type 0) (e : TableFault) (cause : Option TableFault) (fault : Fault)
     → TransactsBy {X = X} Met g old mid So after wanted (Err e)
-    → GoesDown (state g mid) (state g new) e kept fault → Survives (state g mid) (state g new) (λ _. ⊥)
-    → Refuses fault (seen_in (state g old) D) (seen_in (state g new) (IsSome kept)) cs
-refuses {S} {X} {So} {after} {wanted} {Met} g old mid new holds cs is are D e kept fault does down quiet =
+    → GoesDown (state g mid) (state g new) e cause fault → Survives (state g mid) (state g new) (λ _. ⊥)
+    → Refuses fault (seen_in (state g old) D) (seen_in (state g new) (IsSome cause)) cs
+refuses {S} {X} {So} {after} {wanted} {Met} g old mid new holds cs is are D e cause fault does down quiet =
     by_fault e does down
   where
     before : HasCleanDisk (state g new) → HasCleanDisk (state g mid)
     before clean = omega (arith, quiet.clean)
 
     Refused : Fault → Type 0
-    Refused f = Refuses f (seen_in (state g old) D) (seen_in (state g new) (IsSome kept)) cs
+    Refused f = Refuses f (seen_in (state g old) D) (seen_in (state g new) (IsSome cause)) cs
 
-    failed : (f : TableFault) → kept ≡ Some f → fault ≡ told.Store → Refused fault
+    failed : (f : TableFault) → cause ≡ Some f → fault ≡ told.Store → Refused fault
     failed f keeps same =
         subst Refused (sym same)
-        (cut_short holds cs is does are (state g new) D (IsSome kept) (kept_down kept f keeps)
+        (cut_short holds cs is does are (state g new) D (IsSome cause) (goes_down cause f keeps)
         (survives_then (state g old) (state g mid) (state g new) (MayLeaveAfter (state g old) So after)
         (λ _. ⊥)
         (MayLeaveAfter (state g old) So after)
         (λ clean db h. h) (λ clean db none. absurd none) does.survives quiet))
 
     by_fault : (f : TableFault) → TransactsBy {X = X} Met g old mid So after wanted (Err f)
-        → GoesDown (state g mid) (state g new) f kept fault → Refused fault
+        → GoesDown (state g mid) (state g new) f cause fault → Refused fault
     by_fault (Sqlite error) it went = failed (Sqlite error) went.0 went.1
     by_fault (Damaged rule) it (inl went) =
         subst Refused (sym went.1)
-        (is_damaged So holds (state g old) (state g new) D (IsSome kept)
-        (kept_down kept (Damaged rule) went.0)
+        (is_damaged So holds (state g old) (state g new) D (IsSome cause)
+        (goes_down cause (Damaged rule) went.0)
         (λ clean t shows sound. it.told (before clean) t shows sound)
         (λ clean. let same = went.2 clean in same.0.now_is ∙ (it.undone (before clean) same.0.was_open).1))
     by_fault (Damaged rule) it (inr went) = failed (Sqlite went.1.0) went.1.1 went.0
@@ -180,38 +180,38 @@ refuses {S} {X} {So} {after} {wanted} {Met} g old mid new holds cs is are D e ke
 -- where rows are told to be damaged, all that the file holds is as it was
 pub keeps_file : {S X : Type 0} {So : Tables → Type 0} {after : Tables → Tables} {wanted : Tables → X}
     {Met : Damage S} (g : Ghosts S) (old mid new : Held S) (e : TableFault)
-    (kept : Option TableFault) (fault : Fault) → TransactsBy {X = X} Met g old mid So after wanted (Err e)
-    → GoesDown (state g mid) (state g new) e kept fault
+    (cause : Option TableFault) (fault : Fault) → TransactsBy {X = X} Met g old mid So after wanted (Err e)
+    → GoesDown (state g mid) (state g new) e cause fault
     → Survives (state g mid) (state g new) (λ _. ⊥) → TellsDamage fault → HasCleanDisk (state g new)
     → (state g new).now ≡ (state g old).now
-keeps_file g old mid new (Sqlite error) kept fault does went quiet damage clean =
+keeps_file g old mid new (Sqlite error) cause fault does went quiet damage clean =
     absurd (subst TellsDamage went.1 damage)
-keeps_file g old mid new (Damaged rule) kept fault does (inl went) quiet damage clean =
+keeps_file g old mid new (Damaged rule) cause fault does (inl went) quiet damage clean =
     let same = went.2 clean in same.0.now_is ∙ (does.undone (omega (arith, quiet.clean)) same.0.was_open).1
-keeps_file g old mid new (Damaged rule) kept fault does (inr went) quiet damage clean =
+keeps_file g old mid new (Damaged rule) cause fault does (inr went) quiet damage clean =
     absurd (subst TellsDamage went.0 damage)
 
 damage_is_no_failure : (rule : Rule) → told.Damaged rule ≡ told.Store → ⊥
 damage_is_no_failure rule is = cc
 
-same_error : (kept : Option TableFault) (x e : Error) → kept ≡ Some (Sqlite e) → error_in kept ≡ Some x
+same_error : (cause : Option TableFault) (x e : Error) → cause ≡ Some (Sqlite e) → error_in cause ≡ Some x
     → e ≡ x
-same_error kept x e is says = let it = rw is at says in cc
+same_error cause x e is says = let it = rw is at says in cc
 
--- the error that is kept is one with which a call of `sqlite` failed
+-- the error that is cause is one with which a call of `sqlite` failed
 module _ {S X : Type 0} {So : Tables → Type 0} {after : Tables → Tables} {wanted : Tables → X}
-    {Met : Damage S} (g : Ghosts S) (old mid new : Held S) (kept : Option TableFault)
+    {Met : Damage S} (g : Ghosts S) (old mid new : Held S) (cause : Option TableFault)
     (fault : Fault) (quiet : Survives (state g mid) (state g new) (λ _. ⊥)) where
   pub failed_between : (e : TableFault) → TransactsBy {X = X} Met g old mid So after wanted (Err e)
-      → GoesDown (state g mid) (state g new) e kept fault
-      → HasCleanDisk (state g new) → (x : Error) → error_in kept ≡ Some x → HasFailedBetween g old new x
+      → GoesDown (state g mid) (state g new) e cause fault
+      → HasCleanDisk (state g new) → (x : Error) → error_in cause ≡ Some x → HasFailedBetween g old new x
   failed_between (Sqlite error) does went clean x says =
-      subst (HasFailedBetween g old new) (same_error kept x error went.0 says)
+      subst (HasFailedBetween g old new) (same_error cause x error went.0 says)
       (failed_within g old old mid new error (same_moment (state g old)) (comes quiet)
       (does.cause (omega (arith, quiet.clean))))
   failed_between (Damaged rule) does (inl went) clean x says = absurd (let it = rw went.0 at says in cc)
   failed_between (Damaged rule) does (inr went) clean x says =
-      subst (HasFailedBetween g old new) (same_error kept x went.1.0 went.1.1 says)
+      subst (HasFailedBetween g old new) (same_error cause x went.1.0 went.1.1 says)
       (record {
         at = mid;
         then = new;
@@ -221,16 +221,16 @@ module _ {S X : Type 0} {So : Tables → Type 0} {after : Tables → Tables} {wa
       })
 
 -- and it is there, where the store is told to have failed
-pub kept_error : (old new : State) (kept : Option TableFault) (fault : Fault) (e : TableFault)
-    → GoesDown old new e kept fault → fault ≡ told.Store → IsSome (error_in kept)
-kept_error old new kept fault (Sqlite error) went tells = rw went.0 refl
-kept_error old new kept fault (Damaged rule) (inl went) tells =
+pub cause_error : (old new : State) (cause : Option TableFault) (fault : Fault) (e : TableFault)
+    → GoesDown old new e cause fault → fault ≡ told.Store → IsSome (error_in cause)
+cause_error old new cause fault (Sqlite error) went tells = rw went.0 refl
+cause_error old new cause fault (Damaged rule) (inl went) tells =
     absurd (damage_is_no_failure rule (sym went.1 ∙ tells))
-kept_error old new kept fault (Damaged rule) (inr went) tells = rw went.1.1 refl
+cause_error old new cause fault (Damaged rule) (inr went) tells = rw went.1.1 refl
 
 -- damage keeps none
-pub no_error : (old new : State) (kept : Option TableFault) (fault : Fault) (e : TableFault)
-    → GoesDown old new e kept fault → TellsDamage fault → error_in kept ≡ None
-no_error old new kept fault (Sqlite error) went tells = absurd (subst TellsDamage went.1 tells)
-no_error old new kept fault (Damaged rule) (inl went) tells = rw went.0 refl
-no_error old new kept fault (Damaged rule) (inr went) tells = absurd (subst TellsDamage went.0 tells)
+pub no_error : (old new : State) (cause : Option TableFault) (fault : Fault) (e : TableFault)
+    → GoesDown old new e cause fault → TellsDamage fault → error_in cause ≡ None
+no_error old new cause fault (Sqlite error) went tells = absurd (subst TellsDamage went.1 tells)
+no_error old new cause fault (Damaged rule) (inl went) tells = rw went.0 refl
+no_error old new cause fault (Damaged rule) (inr went) tells = absurd (subst TellsDamage went.0 tells)

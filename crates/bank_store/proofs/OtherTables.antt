@@ -26,11 +26,11 @@ spares_done g old new x up spares =
     record { untried = λ down. absurd (up down); now = λ clean shown. spares.now clean; left = spares.left }
 
 -- a bank that goes down keeps what brought it down
-kept_down : (old new : State) (e : TableFault) (kept : Option TableFault) (told : Fault)
-    → GoesDown old new e kept told → IsSome kept
-kept_down old new (Sqlite e) kept told went = rw went.0 refl
-kept_down old new (Damaged rule) kept told (inl went) = rw went.0 refl
-kept_down old new (Damaged rule) kept told (inr went) = rw went.1.1 refl
+goes_down : (old new : State) (e : TableFault) (cause : Option TableFault) (told : Fault)
+    → GoesDown old new e cause told → IsSome cause
+goes_down old new (Sqlite e) cause told went = rw went.0 refl
+goes_down old new (Damaged rule) cause told (inl went) = rw went.0 refl
+goes_down old new (Damaged rule) cause told (inr went) = rw went.1.1 refl
 
 -- a call that a fault brought down
 pub spares_down : {S X : Type 0} (g : Ghosts S) (old new : Bank S g) (mid : Held S) (e : TableFault) (told : Fault)
@@ -42,7 +42,7 @@ pub spares_down : {S X : Type 0} (g : Ghosts S) (old new : Bank S g) (mid : Held
 spares_down g old new mid e told up spares undone went quiet none = record {
   untried = λ down. absurd (up down);
   now = λ clean shown.
-      let same = quiet clean (shown (kept_down (state g mid) (file_of new) e (fault_of new) told went)) in
+      let same = quiet clean (shown (goes_down (state g mid) (file_of new) e (fault_of new) told went)) in
       spares_same bank_names (database_of g old) (database_of g new)
       (same.now_is ∙ (undone (omega (arith, none.clean, clean)) same.was_open).1);
   left = survives_then (file_of old) (state g mid) (file_of new)

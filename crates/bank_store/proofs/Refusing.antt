@@ -18,7 +18,7 @@ use Rattle.bank_store.specs.believed.Down.{IsBankCall, KeepsCause, OfDamage, Was
 use Rattle.bank_store.specs.{Down.GoesDown, Seen.fault_of, declared.bank.Bank.Bank}
 use Rattle.bank_store.specs.believed.Seen.{bank_seen, cause_of, connection_of, database_of}
 use Rattle.bank_store.proofs.Broke.{consulted, transacted}
-use Rattle.bank_store.proofs.Countered.{HoldsOfLogs, failed_between, keeps_file, kept_error, no_error, refuses}
+use Rattle.bank_store.proofs.Countered.{HoldsOfLogs, failed_between, keeps_file, cause_error, no_error, refuses}
 
 -- It is refused as the trait says, for its reason; damage leaves the file as it was, and says this; neither
 -- memory nor an earlier fault is told; and what is honest was.
@@ -26,7 +26,7 @@ pub record Refusal {S : Type 0} (g : Ghosts S) (old new : Bank S g) (cs : List C
     (told : Fault) : Type 0 where
   pub fault : Refuses told (bank_seen g old) (bank_seen g new) cs
   pub why : bank_reason g told old new
-  pub kept : TellsDamage told → HasCleanDisk (state g (connection_of new))
+  pub unchanged : TellsDamage told → HasCleanDisk (state g (connection_of new))
       → database_of g new ≡ database_of g old
   pub broken : OfDamage told (λ rule. HasCleanDisk (state g (connection_of new))
       → Met (connection_of old) (connection_of new) rule)
@@ -40,7 +40,7 @@ pub refused_call : {S X : Type 0} (g : Ghosts S) (old new : Bank S g) (cs : List
     → IsBankCall {X = X} g old new cs (Err told)
 refused_call g old new cs told it up =
     call_refused (bank_seen g) (database_of g) (bank_reason g) old new cs up it.honest told it.frugal it.tried
-    it.fault it.why it.kept
+    it.fault it.why it.unchanged
 
 -- a call that was answered
 pub answered_call : {S X : Type 0} (g : Ghosts S) (old new : Bank S g) (cs : List Command) (x : X)
@@ -71,17 +71,17 @@ spared_call {S} {X} g bank cs result fault is tells up =
     (call_spared (bank_seen g) (database_of g) (bank_reason g) bank bank cs up (λ honest. honest)
     (unchanged_seen (bank_seen g bank)) tt refl)
 
-never_memory : (old new : State) (e : TableFault) (kept : Option TableFault) (fault : Fault)
-    → GoesDown old new e kept fault → fault ≢ Memory
-never_memory old new (Sqlite error) kept fault went memory = let both = sym went.1 ∙ memory in cc
-never_memory old new (Damaged rule) kept fault (inl went) memory = let both = sym went.1 ∙ memory in cc
-never_memory old new (Damaged rule) kept fault (inr went) memory = let both = sym went.0 ∙ memory in cc
+never_memory : (old new : State) (e : TableFault) (cause : Option TableFault) (fault : Fault)
+    → GoesDown old new e cause fault → fault ≢ Memory
+never_memory old new (Sqlite error) cause fault went memory = let both = sym went.1 ∙ memory in cc
+never_memory old new (Damaged rule) cause fault (inl went) memory = let both = sym went.1 ∙ memory in cc
+never_memory old new (Damaged rule) cause fault (inr went) memory = let both = sym went.0 ∙ memory in cc
 
-never_down : (old new : State) (e : TableFault) (kept : Option TableFault) (fault : Fault)
-    → GoesDown old new e kept fault → fault ≢ Down
-never_down old new (Sqlite error) kept fault went down = let both = sym went.1 ∙ down in cc
-never_down old new (Damaged rule) kept fault (inl went) down = let both = sym went.1 ∙ down in cc
-never_down old new (Damaged rule) kept fault (inr went) down = let both = sym went.0 ∙ down in cc
+never_down : (old new : State) (e : TableFault) (cause : Option TableFault) (fault : Fault)
+    → GoesDown old new e cause fault → fault ≢ Down
+never_down old new (Sqlite error) cause fault went down = let both = sym went.1 ∙ down in cc
+never_down old new (Damaged rule) cause fault (inl went) down = let both = sym went.1 ∙ down in cc
+never_down old new (Damaged rule) cause fault (inr went) down = let both = sym went.0 ∙ down in cc
 
 -- what the bank's fault says of the call
 reason_of : {S : Type 0} (g : Ghosts S) (old new : Bank S g) (told : Fault)
@@ -121,13 +121,13 @@ module _ {S X : Type 0} {So : Tables → Type 0} {after : Tables → Tables} {wa
             refuses g a mid c holds cs is are (IsSome (fault_of old)) e (fault_of new) told does down quiet;
         why =
             reason_of g old new told (λ tells. record {
-              kept = kept_error _ _ (fault_of new) told e down tells;
+              cause = cause_error _ _ (fault_of new) told e down tells;
               failed = failed_between g a mid c (fault_of new) told quiet e does down;
             })
             (of_wider told (λ rule. HasCleanDisk (state g c) → Met a c rule) (WasBrokenOrMet g AnyRow old new)
             (λ rule met clean. wide rule (met clean)) broken)
             (no_error _ _ (fault_of new) told e down);
-        kept = λ damage clean. keeps_file g a mid c e (fault_of new) told does down quiet damage clean;
+        unchanged = λ damage clean. keeps_file g a mid c e (fault_of new) told does down quiet damage clean;
         broken = broken;
         frugal = never_memory (state g mid) (state g c) e (fault_of new) told down;
         tried = never_down (state g mid) (state g c) e (fault_of new) told down;

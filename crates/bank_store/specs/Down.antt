@@ -12,17 +12,17 @@ use Rattle.store_rows.specs.believed.Rules.{IsBroken}
 use Rattle.bank_store.specs.believed.Seen.{database_of, file_of}
 use Rattle.bank_store.specs.declared.bank.Bank.{Bank}
 
--- the store failed, and its error is kept
+-- the store failed, and its error is cause
 abbrev pub StoreHasFailed : State → State → Option TableFault → Fault → Type 0
-StoreHasFailed old new kept fault =
-    (fault ≡ told.Store) × ((e : Error) × (kept ≡ Some (Sqlite e)) × (HasCleanDisk new → Fails old new ⊥ e))
+StoreHasFailed old new cause fault =
+    (fault ≡ told.Store) × ((e : Error) × (cause ≡ Some (Sqlite e)) × (HasCleanDisk new → Fails old new ⊥ e))
 
--- an error of the store is kept; damage is reported if the store still answers, and nothing has changed
+-- an error of the store is cause; damage is reported if the store still answers, and nothing has changed
 abbrev pub GoesDown : State → State → TableFault → Option TableFault → Fault → Type 0
-GoesDown old new (Sqlite e) kept fault = (kept ≡ Some (Sqlite e)) × (fault ≡ told.Store)
-GoesDown old new (Damaged rule) kept fault =
-    ((kept ≡ Some (Damaged rule)) × (fault ≡ told.Damaged rule) × (HasCleanDisk new → IsUnchanged old new))
-    ⊎ StoreHasFailed old new kept fault
+GoesDown old new (Sqlite e) cause fault = (cause ≡ Some (Sqlite e)) × (fault ≡ told.Store)
+GoesDown old new (Damaged rule) cause fault =
+    ((cause ≡ Some (Damaged rule)) × (fault ≡ told.Damaged rule) × (HasCleanDisk new → IsUnchanged old new))
+    ⊎ StoreHasFailed old new cause fault
 
 -- on an honest disk the rows that the file held before the call break the rule
 abbrev pub WasBroken : {S : Type 0} (g : Ghosts S) → Bank S g → Bank S g → Rule → Type 0

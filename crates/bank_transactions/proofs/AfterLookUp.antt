@@ -27,24 +27,24 @@ module _ {S X : Type 0} {g : Ghosts S} {old mid new : Transaction S} {So : Table
       → Acts g (AddsForRecords (state g old.conn.now).now count) old new Of after wanted r
   acts_since {r = r} count acts = record {
     says = says_then g old mid new look.says acts.says
-        (λ told kept told' live t shows so.
-        told' (still_in (state g old.conn.now) (state g mid.conn.now) kept.0.goes_on live) t
-        (subst (λ (db : Database). Shows db t) (sym kept.0.now) shows) so)
-        (λ kept kept' live.
-        let on = kept.0.goes_on in
-        let it = kept' (still_in (state g old.conn.now) (state g mid.conn.now) on live) in (
+        (λ told leaves told' live t shows so.
+        told' (still_in (state g old.conn.now) (state g mid.conn.now) leaves.0.goes_on live) t
+        (subst (λ (db : Database). Shows db t) (sym leaves.0.now) shows) so)
+        (λ leaves leaves' live.
+        let on = leaves.0.goes_on in
+        let it = leaves' (still_in (state g old.conn.now) (state g mid.conn.now) on live) in (
           keeps_then (state g old.conn.now) (state g mid.conn.now) (state g new.conn.now) r on it.0,
           blames_since (λ (db : Database). AddsForRecords db count) g old.conn.now mid.conn.now new.conn.now
-              (comes look.says.survives) kept.0.now r it.1,
+              (comes look.says.survives) leaves.0.now r it.1,
         ));
   }
 
   module _ (Made : List (List ℕ) → Type 0) (moment : ℕ) (tried : Result Tried TableFault)
       (quiet : Says g mid new (λ _ _. Unit {0}) (Inside KeepsCommit)) where
     pub quiet_since : Says g old new (λ _ _. Unit {0}) (Inside KeepsCommit)
-    quiet_since = says_then g old mid new look.says quiet (λ told kept told'. tt) (λ kept kept' live.
-        let on = kept.0.goes_on in
-        let it = kept' (still_in (state g old.conn.now) (state g mid.conn.now) on live) in
+    quiet_since = says_then g old mid new look.says quiet (λ told leaves told'. tt) (λ leaves leaves' live.
+        let on = leaves.0.goes_on in
+        let it = leaves' (still_in (state g old.conn.now) (state g mid.conn.now) on live) in
         record { was_open = λ h. on.opened (it.was_open h); committed = λ h. it.committed h ∙ on.committed })
 
     abbrev ActsFrom : Transaction S → Result (List (List ℕ)) TableFault → Type 0
@@ -64,7 +64,7 @@ module _ {S X : Type 0} {g : Ghosts S} {old mid new : Transaction S} {So : Table
     pub busy_since : IfSome (replies_of tried) (IsBusy mid) → IfSome (replies_of tried) (IsBusy old)
     busy_since = so_of {P = IsBusy mid} {Q = IsBusy old} (replies_of tried)
         (λ replies busy clean live records made t shows so none.
-        let stays = (look.says.kept (clean_between g old mid new look.says quiet clean)).0 in
+        let stays = (look.says.leaves (clean_between g old mid new look.says quiet clean)).0 in
         busy clean (still_in (state g old.conn.now) (state g mid.conn.now) stays.goes_on live) records made t
         (subst (λ (db : Database). Shows db t) (sym stays.now) shows) so none)
 
@@ -76,6 +76,6 @@ module _ {S X : Type 0} {g : Ghosts S} {old mid new : Transaction S} {So : Table
     pub stored_since : IfSome (replies_of tried) (AreStored mid) → IfSome (replies_of tried) (AreStored old)
     stored_since = so_of {P = AreStored mid} {Q = AreStored old} (replies_of tried)
         (λ replies stored clean live records made.
-        let stays = (look.says.kept (clean_between g old mid new look.says quiet clean)).0 in
+        let stays = (look.says.leaves (clean_between g old mid new look.says quiet clean)).0 in
         subst (λ (db : Database). RepliesToAllStored db moment records replies) stays.now
         (stored clean (still_in (state g old.conn.now) (state g mid.conn.now) stays.goes_on live) records made))

@@ -24,7 +24,7 @@ pub then_moment : (old mid new : State) → IsBefore old mid → IsBefore mid ne
 then_moment old mid new one two =
     record { faults = let a = one.faults in let b = two.faults in omega arith; limit = two.limit ∙ one.limit }
 
--- a transaction that goes on is kept from its commit by the store alone
+-- a transaction that goes on is leaves from its commit by the store alone
 pub commit_fails : (last new : State) (e : Error) → IsTrue last.in_transaction → FailsToCommit last new e
     → Fails last new ⊥ e
 commit_fails last new e live (inl fails) = fails
@@ -107,11 +107,11 @@ met_here g old new rule met =
 pub blames_put : {S : Type 0} (Adds : Additions) (g : Ghosts S) (old new : Held S) (text : List ℕ) (values : Row)
     (r : Result (Unit {0}) TableFault) → Adds text values → Puts text values (state g old) (state g new) r
     → Blames (HasMetBetween g Adds) g old new r
-blames_put Adds g old new text values (Ok done) own kept = tt
-blames_put Adds g old new text values (Err (Sqlite e)) own kept = failed_here g old new e kept.1
-blames_put Adds g old new text values (Err (Damaged rule)) own kept =
-    subst (λ (x : Rule). HasMetBetween g Adds old new x) (sym kept.1.0)
-    (met_here g old new Key (text, values, own, kept.1.1))
+blames_put Adds g old new text values (Ok done) own leaves = tt
+blames_put Adds g old new text values (Err (Sqlite e)) own leaves = failed_here g old new e leaves.1
+blames_put Adds g old new text values (Err (Damaged rule)) own leaves =
+    subst (λ (x : Rule). HasMetBetween g Adds old new x) (sym leaves.1.0)
+    (met_here g old new Key (text, values, own, leaves.1.1))
 
 -- ---- what is so of the rows that are put in
 

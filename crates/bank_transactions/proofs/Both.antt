@@ -27,7 +27,7 @@ does_both {S} {X} {Y} {Z} {g} {Adds} {old} {mid} {new} {So} {So'} {after} {after
             let first = (one.says.told before live t shows so).0 in
             let last = both.says.told clean live t shows (so, first) in
             (joins t so first last.0, last.1);
-        kept = both.says.kept;
+        leaves = both.says.leaves;
         survives = both.says.survives;
       };
     }

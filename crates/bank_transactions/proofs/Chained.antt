@@ -52,7 +52,7 @@ does_none stays = record {
   says = record {
     same_reference = refl;
     told = λ clean live t shows so. (refl, shows);
-    kept = λ clean live. (
+    leaves = λ clean live. (
       record { opened = λ h. h; committed = refl; mode = refl; spares = spares_itself bank_names _ },
       tt,
     );
@@ -70,12 +70,12 @@ pub does_then : {S X Y : Type 0} {g : Ghosts S} {Adds : Additions} {old mid new 
 does_then {S} {X} {Y} {g} {Adds} {old} {mid} {new} {So} {So'} {after} {after'} {w} {w'} {x} {r} {Met} one two ready =
     record {
       says = says_then g old mid new one.says two.says
-          (λ told kept told' live t shows so.
-          told' (still_in (state g old.conn.now) (state g mid.conn.now) (kept live).0 live) (after t)
+          (λ told leaves told' live t shows so.
+          told' (still_in (state g old.conn.now) (state g mid.conn.now) (leaves live).0 live) (after t)
           (told live t shows so).1 (ready t so))
-          (λ kept kept' live.
-          let on = (kept live).0 in
-          let last = kept' (still_in (state g old.conn.now) (state g mid.conn.now) on live) in (
+          (λ leaves leaves' live.
+          let on = (leaves live).0 in
+          let last = leaves' (still_in (state g old.conn.now) (state g mid.conn.now) on live) in (
             keeps_then (state g old.conn.now) (state g mid.conn.now) (state g new.conn.now) r on last.0,
             met_after Adds g old.conn.now mid.conn.now new.conn.now r (comes one.says.survives) last.1,
           ));
@@ -93,7 +93,7 @@ does_err {S} {X} {Y} {g} {old} {new} {So} {So'} {after} {after'} {w} {w'} {e} {M
     told = λ clean live t shows it. same_fault (state g new.conn.now) (state g new.conn.now) (after t)
         (after' t) (w t) (w' t) e
         (part.says.told clean live t shows (so t it));
-    kept = part.says.kept;
+    leaves = part.says.leaves;
     survives = part.says.survives;
   };
 }
@@ -112,7 +112,7 @@ does_for {S} {X} {g} {old} {new} {So} {So'} {after} {after'} {w} {w'} {r} part s
         subst (λ (u : Tables). LeavesAndAnswers (state g new.conn.now) u (w' t) r) is.1
         (subst (λ (x : X). LeavesAndAnswers (state g new.conn.now) (after t) x r) is.2
         (part.says.told clean live t shows is.0));
-    kept = part.says.kept;
+    leaves = part.says.leaves;
     survives = part.says.survives;
   };
 }
@@ -127,8 +127,8 @@ does_adds {S} {X} {g} {Adds} {Adds'} {old} {new} {So} {after} {w} {r} also part 
   says = record {
     same_reference = part.says.same_reference;
     told = part.says.told;
-    kept = λ clean live.
-        let it = part.says.kept clean live in
+    leaves = λ clean live.
+        let it = part.says.leaves clean live in
         (it.0, blames_also g old.conn.now new.conn.now r (also clean) it.1);
     survives = part.says.survives;
   };
@@ -164,7 +164,7 @@ does_but {S} {X} {Y} {Z} {g} {Adds} {old} {mid} {new} {So} {So'} {after} {after'
             same_fault (state g new.conn.now) (state g new.conn.now) (after' (after t)) (after'' t)
             (w' (after t)) (w'' t) e
             (both.says.told clean live t shows (so, first));
-        kept = both.says.kept;
+        leaves = both.says.leaves;
         survives = both.says.survives;
       };
     }
@@ -184,7 +184,7 @@ does_tell {S} {X} {Y} {g} {old} {new} {So} {So'} {after} {after'} {w} {w'} {x} {
         let found = part.says.told clean live t shows ready.0 in
         let is = ready.1 found.0 in
         (is.1, subst (λ (u : Tables). Shows (state g new.conn.now).now u) is.0 found.1);
-    kept = part.says.kept;
+    leaves = part.says.leaves;
     survives = part.says.survives;
   };
 }
@@ -210,7 +210,7 @@ does_both {S} {X} {Y} {Z} {g} {Adds} {old} {mid} {new} {So} {So'} {after} {after
               subst (λ (u : Tables). Shows (state g new.conn.now).now u) is.1
                   (both.says.told clean live t shows (so, first)).1,
             );
-        kept = both.says.kept;
+        leaves = both.says.leaves;
         survives = both.says.survives;
       };
     }
@@ -226,8 +226,8 @@ acts_as {S} {X} {Met} {g} {Adds} {old} {new} {So} {after} {w} {r} weaker part = 
   says = record {
     same_reference = part.says.same_reference;
     told = part.says.told;
-    kept = λ clean live.
-        let it = part.says.kept clean live in
+    leaves = λ clean live.
+        let it = part.says.leaves clean live in
         (it.0, broken_or_met Met g old.conn.now new.conn.now r weaker it.1);
     survives = part.says.survives;
   };

@@ -88,7 +88,7 @@ counted o n reads = record {
     same_reference = reads.same_reference;
     told = λ clean t shows so. let it =
         reads.told clean t shows so.0 in (ap (λ (k : ℕ). with_count k o) it.0, it.1);
-    kept = reads.kept;
+    leaves = reads.leaves;
     survives = reads.survives;
   };
 }

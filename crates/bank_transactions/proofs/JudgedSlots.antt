@@ -35,7 +35,7 @@ does_so {S} {X} {Y} {g} {old} {new} part same = record {
         let it = part.says.told clean live t shows so in
         let is = same t so it.0 in
         (is.1, subst (λ (u : Tables). stored.Shows (state g new.conn.now).now u) is.0 it.1);
-    kept = part.says.kept;
+    leaves = part.says.leaves;
     survives = part.says.survives;
   };
 }

@@ -28,10 +28,10 @@ pub leaves_err : {S X : Type 0} {g : Ghosts S} {old new : Transaction S} {after 
 leaves_err = record { shown = tt }
 
 -- a row that is put in
-pub leaves_add : {S : Type 0} {Kept : State → State → Type 0} (g : Ghosts S) (old new : Transaction S) (table : Table) (taken : Tables → Bool)
+pub leaves_add : {S : Type 0} {Left : State → State → Type 0} (g : Ghosts S) (old new : Transaction S) (table : Table) (taken : Tables → Bool)
     (more : Tables → Tables) (r : Result (Unit {0}) TableFault)
     → Says g old new (Inside (OfTables (λ before now t. PutsOneRow before now table (taken t) (more t) r)))
-    (Inside Kept)
+    (Inside Left)
     → Leaves g old new more r
 leaves_add g old new table taken more (Ok done) says =
     record { shown = λ clean live t shows. (says.told clean live t shows).1 }
@@ -46,7 +46,7 @@ pub leaves_then : {S X Y : Type 0} {g : Ghosts S} {old mid new : Transaction S} 
 leaves_then {S} {X} {Y} {g} {old} {mid} {new} {r = Ok y} first second left more = record {
   shown = λ clean live t shows.
       let before : HasCleanDisk (state g mid.conn.now) = omega (arith, second.says.survives.clean) in
-      let on = (first.says.kept before live).0 in
+      let on = (first.says.leaves before live).0 in
       more.shown clean (still_in (state g old.conn.now) (state g mid.conn.now) on live) _
       (left.shown before live t shows);
 }

@@ -51,7 +51,7 @@ reads_none stays is = record {
     same_reference = refl;
     told = λ clean t shows so.
         (is t so, stays_itself _);
-    kept = λ clean.
+    leaves = λ clean.
         (stays_itself _, tt);
     survives = stays;
   };
@@ -67,7 +67,7 @@ reads_so part same = record {
     same_reference = part.says.same_reference;
     told = λ clean t shows so. let is = same t so in let it =
         part.says.told clean t shows is.0 in (is.1 it.0, it.1);
-    kept = part.says.kept;
+    leaves = part.says.leaves;
     survives = part.says.survives;
   };
 }
@@ -81,7 +81,7 @@ reads_err {S} {X} {Y} {g} {old} {new} {So} {w} {w'} {e} part = record {
     same_reference = part.says.same_reference;
     told = λ clean t shows so. same_fault (state g old.conn.now) (state g new.conn.now) (w t) (w' t) e
         (part.says.told clean t shows so);
-    kept = part.says.kept;
+    leaves = part.says.leaves;
     survives = part.says.survives;
   };
 }
@@ -99,12 +99,12 @@ module _ {S X Y : Type 0} {g : Ghosts S} {old mid new : Transaction S} {So So' :
       let c = state g new.conn.now in
       record {
         says = says_then g old mid new one.says two.says
-            (λ told kept told' t shows so.
+            (λ told leaves told' t shows so.
             let first = (told t shows so).0 in
-            let then = told' t (subst (λ (db : Database). Shows db t) (sym kept.0.now) shows)
+            let then = told' t (subst (λ (db : Database). Shows db t) (sym leaves.0.now) shows)
             (ready t so first) in
-            (joins t so first then.0, stays_then a b c kept.0 then.1))
-            (λ kept kept'. (stays_then a b c kept.0 kept'.0, tt));
+            (joins t so first then.0, stays_then a b c leaves.0 then.1))
+            (λ leaves leaves'. (stays_then a b c leaves.0 leaves'.0, tt));
       }
 
   -- an error of the second is that of both
@@ -118,15 +118,15 @@ module _ {S X Y : Type 0} {g : Ghosts S} {old mid new : Transaction S} {So So' :
       let c = state g new.conn.now in
       record {
         says = says_then g old mid new one.says two.says
-            (λ told kept told' t shows so.
+            (λ told leaves told' t shows so.
             let first = (told t shows so).0 in
-            let then = told' t (subst (λ (db : Database). Shows db t) (sym kept.0.now) shows)
+            let then = told' t (subst (λ (db : Database). Shows db t) (sym leaves.0.now) shows)
             (ready t so first) in
-            same_fault a c (w' t) (w'' t) e (looked_then a b c (w' t) r kept.0 then))
-            (λ kept kept'. (
-              looks_then a b c r kept.0 kept'.0,
+            same_fault a c (w' t) (w'' t) e (looked_then a b c (w' t) r leaves.0 then))
+            (λ leaves leaves'. (
+              looks_then a b c r leaves.0 leaves'.0,
               blames_after (IsFirstBroken g) g old.conn.now mid.conn.now new.conn.now r
-                  (λ rule. subst (IsBroken rule) kept.0.now) (comes one.says.survives) kept'.1,
+                  (λ rule. subst (IsBroken rule) leaves.0.now) (comes one.says.survives) leaves'.1,
             ));
       }
 
@@ -138,7 +138,7 @@ fills put reads = record {
   says = record {
     same_reference = reads.same_reference;
     told = λ clean t shows so. let it = reads.told clean t shows so.0 in (ap put it.0, it.1);
-    kept = reads.kept;
+    leaves = reads.leaves;
     survives = reads.survives;
   };
 }
@@ -151,7 +151,7 @@ reads_where reads sound = record {
   says = record {
     same_reference = reads.same_reference;
     told = λ clean t shows so. reads.told clean t shows (sound t so);
-    kept = reads.kept;
+    leaves = reads.leaves;
     survives = reads.survives;
   };
 }
@@ -170,10 +170,10 @@ looks_again {S} {X} {g} {old} {mid} {new} {So} {Told} {w} {r} one two sound =
           (λ told same told' t shows so.
           looked_then a b c (w t) r (stays a b same)
           (told' t (subst (λ (db : Database). Shows db t) (sym same.0.now_is) shows) (sound t so)))
-          (λ same kept'. (
-            looks_then a b c r (stays a b same) kept'.0,
+          (λ same leaves'. (
+            looks_then a b c r (stays a b same) leaves'.0,
             blames_after (IsFirstBroken g) g old.conn.now mid.conn.now new.conn.now r
-                (λ rule. subst (IsBroken rule) same.0.now_is) (comes one.survives) kept'.1,
+                (λ rule. subst (IsBroken rule) same.0.now_is) (comes one.survives) leaves'.1,
           ));
     }
 
@@ -186,8 +186,8 @@ does_look {S} {X} {g} {old} {new} {So} {w} {r} reads = record {
     same_reference = reads.says.same_reference;
     told = λ clean live t shows so. looked (state g old.conn.now) (state g new.conn.now) t (w t) r shows
         (reads.says.told clean t shows so);
-    kept = λ clean live. let it =
-        reads.says.kept clean in (look_keeps (state g old.conn.now) (state g new.conn.now) r it.0, it.1);
+    leaves = λ clean live. let it =
+        reads.says.leaves clean in (look_keeps (state g old.conn.now) (state g new.conn.now) r it.0, it.1);
     survives = reads.says.survives;
   };
 }

@@ -110,7 +110,7 @@ module _ {S X : Type 0} {g : Ghosts S} {old new : Transaction S} (stored : Store
       record {
         same_reference = says.same_reference;
         told = λ clean t shows so. never_told {X = Unit {0}} a.now t shows (sound t so) a b tt fault (broken clean);
-        kept = λ clean. read_failed g old.conn.now new.conn.now fault (broken clean) (says.kept clean);
+        leaves = λ clean. read_failed g old.conn.now new.conn.now fault (broken clean) (says.leaves clean);
         survives = says.survives;
       }
 
@@ -124,7 +124,7 @@ module _ {S X : Type 0} {g : Ghosts S} {old new : Transaction S} (stored : Store
     told = λ clean t shows sound.
         let it = says.told clean (stored_rows t) (holds_shown (state g old.conn.now).now t shows) in
         (tells t sound it.0, stays (state g old.conn.now) (state g new.conn.now) it.1);
-    kept = λ clean. (stays (state g old.conn.now) (state g new.conn.now) (says.kept clean), tt);
+    leaves = λ clean. (stays (state g old.conn.now) (state g new.conn.now) (says.leaves clean), tt);
     survives = says.survives;
   }
 
@@ -153,7 +153,7 @@ meta_failed {S} {g} {old} {new} fault says =
     record {
       same_reference = says.same_reference;
       told = λ clean t shows sound. never_told {X = Unit {0}} a.now t shows sound a b tt fault (broken clean);
-      kept = λ clean. read_failed g old.conn.now new.conn.now fault (broken clean) (says.kept clean);
+      leaves = λ clean. read_failed g old.conn.now new.conn.now fault (broken clean) (says.leaves clean);
       survives = says.survives;
     }
 
@@ -162,8 +162,8 @@ pub looked_at : {S : Type 0} {g : Ghosts S} {old new : Transaction S} {Told : St
     → Says g old new Told IsUnchanged → Reads {X = Unit {0}} g old new (λ t. tt {0}) (Ok (tt {0}))
 looked_at {S} {g} {old} {new} says = record {
   same_reference = says.same_reference;
-  told = λ clean t shows sound. (refl, stays (state g old.conn.now) (state g new.conn.now) (says.kept clean));
-  kept = λ clean. (stays (state g old.conn.now) (state g new.conn.now) (says.kept clean), tt);
+  told = λ clean t shows sound. (refl, stays (state g old.conn.now) (state g new.conn.now) (says.leaves clean));
+  leaves = λ clean. (stays (state g old.conn.now) (state g new.conn.now) (says.leaves clean), tt);
   survives = says.survives;
 }
 
@@ -175,7 +175,7 @@ pub reads_broken : {S X : Type 0} {g : Ghosts S} {old new : Transaction S} {w : 
 reads_broken {S} {X} {g} {old} {new} rule reads broken = record {
   same_reference = reads.same_reference;
   told = λ clean t shows sound. unbroken (state g old.conn.now).now t shows sound rule (broken clean);
-  kept = λ clean. let on = (reads.kept clean).0.goes_on in
+  leaves = λ clean. let on = (reads.leaves clean).0.goes_on in
       (record { was_open = on.opened; committed = λ h. on.committed }, broken clean);
   survives = reads.survives;
 }
@@ -202,15 +202,15 @@ pub reads_both : {S X Y : Type 0} {g : Ghosts S} {old mid new : Transaction S} {
     → Reads g mid new w' (Ok y) → Reads {X = X × Y} g old new (λ t. (w t, w' t)) (Ok (x, y))
 reads_both {S} {X} {Y} {g} {old} {mid} {new} {w} {w'} {x} {y} one two =
     says_then g old mid new one two
-    (λ told kept told' t shows sound.
+    (λ told leaves told' t shows sound.
     let first = told t shows sound in
     let last = told' t (subst (λ (db : Database). Shows db t) (sym first.1.now) shows) sound in (
       pair first.0 last.0,
       stays_then (state g old.conn.now) (state g mid.conn.now)
           (state g new.conn.now) first.1 last.1,
     ))
-    (λ kept kept'.
-    (stays_then (state g old.conn.now) (state g mid.conn.now) (state g new.conn.now) kept.0 kept'.0, tt))
+    (λ leaves leaves'.
+    (stays_then (state g old.conn.now) (state g mid.conn.now) (state g new.conn.now) leaves.0 leaves'.0, tt))
 
 -- an answer that is put together from what was found
 pub reads_as : {S X Y : Type 0} {g : Ghosts S} {old new : Transaction S} {w : Tables → X} {w' : Tables → Y}
@@ -220,7 +220,7 @@ pub reads_as : {S X Y : Type 0} {g : Ghosts S} {old new : Transaction S} {w : Ta
 reads_as put reads same = record {
   same_reference = reads.same_reference;
   told = λ clean t shows sound. let it = reads.told clean t shows sound in (ap put it.0 ∙ same t, it.1);
-  kept = reads.kept;
+  leaves = reads.leaves;
   survives = reads.survives;
 }
 
@@ -231,7 +231,7 @@ pub reads_told : {S X Y : Type 0} {g : Ghosts S} {old new : Transaction S} {w : 
 reads_told reads tells = record {
   same_reference = reads.same_reference;
   told = λ clean t shows sound. let it = reads.told clean t shows sound in (tells t it.0, it.1);
-  kept = reads.kept;
+  leaves = reads.leaves;
   survives = reads.survives;
 }
 
@@ -247,15 +247,15 @@ pub reads_but : {S X : Type 0} {g : Ghosts S} {old mid new : Transaction S} {w :
     → Reads {X = Unit {0}} g old new (λ t. tt {0}) (Err e)
 reads_but {S} {X} {g} {old} {mid} {new} {w} {x} e one two =
     says_then g old mid new one two
-    (λ told kept told' t shows sound.
+    (λ told leaves told' t shows sound.
     still_fails (state g old.conn.now) (state g mid.conn.now) (state g new.conn.now) e
     (told' t (subst (λ (db : Database). Shows db t) (sym (told t shows sound).1.now) shows) sound))
-    (λ kept kept'. (
+    (λ leaves leaves'. (
       record {
-        was_open = λ h. kept.0.goes_on.opened (kept'.0.was_open h);
-        committed = λ h. kept'.0.committed h ∙ kept.0.goes_on.committed;
+        was_open = λ h. leaves.0.goes_on.opened (leaves'.0.was_open h);
+        committed = λ h. leaves'.0.committed h ∙ leaves.0.goes_on.committed;
       },
-      after g old.conn.now mid.conn.now new.conn.now e (comes one.survives) kept.0.now kept'.1,
+      after g old.conn.now mid.conn.now new.conn.now e (comes one.survives) leaves.0.now leaves'.1,
     ))
 
 -- the same, after a statement that changed nothing
@@ -268,7 +268,7 @@ after_found {S} {g} {old} {mid} {new} {Told} e one two =
     (λ told same told' t shows sound.
     still_fails (state g old.conn.now) (state g mid.conn.now) (state g new.conn.now) e
     (told' t (subst (λ (db : Database). Shows db t) (sym same.0.now_is) shows) sound))
-    (λ same kept'. second_failed g old.conn.now mid.conn.now new.conn.now e (comes one.survives) same kept')
+    (λ same leaves'. second_failed g old.conn.now mid.conn.now new.conn.now e (comes one.survives) same leaves')
 
 -- ---- a teller and its branch
 
@@ -316,7 +316,7 @@ module _ {S : Type 0} {g : Ghosts S} {old mid new : Transaction S} (n number : �
       let was = clean_between g old mid new first second clean in
       let fits = keeps.1 n above most in
       let branch = stored clean rows
-      (subst (λ (db : Database). HoldsBank db rows) (sym (first.kept was).0.now_is) has) in
+      (subst (λ (db : Database). HoldsBank db rows) (sym (first.leaves was).0.now_is) has) in
       alone (sym (some_stored (row_under rows.tellers n) read_balance x (first.told was rows has).0)
       ∙ alike _ _ fits.0 fits.1 ∙ ap (λ k. is_some (branch_under rows k)) (sym is)
       ∙ some_stored (branch_under rows number) read_branch row branch))

@@ -39,8 +39,8 @@ does_read g old new w r reads = record {
     same_reference = reads.same_reference;
     told = λ clean live t shows so. looked (state g old.conn.now) (state g new.conn.now) t (w t) r shows
         (reads.told clean t shows so);
-    kept = λ clean live. let it =
-        reads.kept clean in (look_keeps (state g old.conn.now) (state g new.conn.now) r it.0, it.1);
+    leaves = λ clean live. let it =
+        reads.leaves clean in (look_keeps (state g old.conn.now) (state g new.conn.now) r it.0, it.1);
     survives = reads.survives;
   };
 }
@@ -50,10 +50,10 @@ does_read g old new w r reads = record {
 -- a row that is put in, as long as the transaction goes on
 write_keeps : (old new : State) (text : List ℕ) (values : Row) (r : Result (Unit {0}) TableFault)
     → IsTrue old.in_transaction → Puts text values old new r → SparesIfOk old new r → CommitsNothing old new r
-write_keeps old new text values (Ok done) live kept spared = record {
-  opened = λ h. kept.was_open;
-  committed = kept.committed_is;
-  mode = kept.mode ∙ sym live;
+write_keeps old new text values (Ok done) live leaves spared = record {
+  opened = λ h. leaves.was_open;
+  committed = leaves.committed_is;
+  mode = leaves.mode ∙ sym live;
   spares = spared;
 }
 write_keeps old new text values (Err e) live (inl same, why) spared =
@@ -81,8 +81,8 @@ does_add {Adds = Adds} g old new text values table taken more r says own free = 
     told = λ clean live t shows so.
         added (state g old.conn.now) (state g new.conn.now) table (taken t) (more t) r (free t so)
         (says.told clean live t shows);
-    kept = λ clean live. let it =
-        says.kept clean live in (
+    leaves = λ clean live. let it =
+        says.leaves clean live in (
           write_keeps (state g old.conn.now)
               (state g new.conn.now) text values r live it.0 it.1,
           blames_put Adds g old.conn.now new.conn.now text values r own it.0,
@@ -103,12 +103,12 @@ written old new table there after (Err e) rule is writes = tt
 written_keeps : (old new : State) (text : List ℕ) (r : Result Bool Error) (rule : Rule)
     → IsTrue old.in_transaction → Changes text old new r → SparesIfOk old new r
     → CommitsNothing old new (expected r rule)
-written_keeps old new text (Ok true) rule live kept spared =
-    write_keeps old new text [] (Ok tt) live kept.0 spared
-written_keeps old new text (Ok false) rule live kept spared =
-    record { was_open = λ h. kept.0.was_open; committed = λ h. kept.0.committed_is }
-written_keeps old new text (Err e) rule live kept spared =
-    write_keeps old new text [] (Err (Sqlite e)) live kept tt
+written_keeps old new text (Ok true) rule live leaves spared =
+    write_keeps old new text [] (Ok tt) live leaves.0 spared
+written_keeps old new text (Ok false) rule live leaves spared =
+    record { was_open = λ h. leaves.0.was_open; committed = λ h. leaves.0.committed_is }
+written_keeps old new text (Err e) rule live leaves spared =
+    write_keeps old new text [] (Err (Sqlite e)) live leaves tt
 
 has_met : (Adds : Additions) (old new : State) (rule : Rule) (text : List ℕ) → IsUpdateOf rule text → MeetsNone text old new
     → HasMet Adds old new rule
@@ -125,10 +125,10 @@ has_met Adds old new Reference text of none = absurd of
 blames_changed : {S : Type 0} (Adds : Additions) (g : Ghosts S) (old new : Held S) (text : List ℕ) (r : Result Bool Error)
     (rule : Rule) → IsUpdateOf rule text
     → Changes text (state g old) (state g new) r → Blames (HasMetBetween g Adds) g old new (expected r rule)
-blames_changed Adds g old new text (Ok true) rule of kept = tt
-blames_changed Adds g old new text (Ok false) rule of kept =
-    met_here g old new rule (has_met Adds (state g old) (state g new) rule text of (kept.1 refl))
-blames_changed Adds g old new text (Err e) rule of kept = failed_here g old new e kept.1
+blames_changed Adds g old new text (Ok true) rule of leaves = tt
+blames_changed Adds g old new text (Ok false) rule of leaves =
+    met_here g old new rule (has_met Adds (state g old) (state g new) rule text of (leaves.1 refl))
+blames_changed Adds g old new text (Err e) rule of leaves = failed_here g old new e leaves.1
 
 -- a row that is there is written
 pub does_write : {S : Type 0} {So : Tables → Type 0} {Adds : Additions} (g : Ghosts S) (old new : Transaction S) (table : Table)
@@ -145,8 +145,8 @@ does_write {S} {So} {Adds} g old new table there after answer rule r text of is 
         told = λ clean live t shows it.
             written (state g old.conn.now) (state g new.conn.now) table (there t) (after t) answer rule
             (so t it) (says.told clean live t shows);
-        kept = λ clean live.
-            let it = says.kept clean live in (
+        leaves = λ clean live.
+            let it = says.leaves clean live in (
               written_keeps (state g old.conn.now) (state g new.conn.now) text answer rule live it.0 it.1,
               blames_changed Adds g old.conn.now new.conn.now text answer rule of it.0,
             );

@@ -44,22 +44,22 @@ completes {X} last new after wanted (Err fault) result given told ends =
 undone_by : (X : Type 0) (old last new : State) (fault : TableFault)
     → (IsTrue old.is_open → old.now ≡ old.committed)
     → KeepsCommit old last → IsRolledBack last new → Undoes {X = X} old new (Err fault)
-undone_by X old last new (Sqlite e) settled kept back = tt
-undone_by X old last new (Damaged rule) settled kept back = λ is_open.
+undone_by X old last new (Sqlite e) settled leaves back = tt
+undone_by X old last new (Damaged rule) settled leaves back = λ is_open.
     let last_open = back.was_open is_open in
-    let was_open = kept.was_open last_open in
-    (was_open, (back.undone is_open).0 ∙ kept.committed last_open ∙ sym (settled was_open))
+    let was_open = leaves.was_open last_open in
+    (was_open, (back.undone is_open).0 ∙ leaves.committed last_open ∙ sym (settled was_open))
 
 undoes : {X : Type 0} (old last new : State) (answer result : Result X TableFault)
     → (IsTrue old.is_open → old.now ≡ old.committed) → CommitsNothing old last answer
     → EndsBy last new answer result
     → Undoes old new result
-undoes old last new (Ok x) (Ok y) settled kept ends = tt
-undoes old last new (Ok x) (Err (Sqlite e)) settled kept ends = tt
-undoes old last new (Ok x) (Err (Damaged rule)) settled kept ends = absurd ends
-undoes {X} old last new (Err fault) result settled kept ends =
+undoes old last new (Ok x) (Ok y) settled leaves ends = tt
+undoes old last new (Ok x) (Err (Sqlite e)) settled leaves ends = tt
+undoes old last new (Ok x) (Err (Damaged rule)) settled leaves ends = absurd ends
+undoes {X} old last new (Err fault) result settled leaves ends =
     subst (λ (r : Result X TableFault). Undoes old new r) (sym ends.0)
-    (undone_by X old last new fault settled kept ends.1)
+    (undone_by X old last new fault settled leaves ends.1)
 
 left_by : {X : Type 0} (last : State) (after : Tables) (wanted : X) (answer : Result X TableFault)
     (left : Trees)
@@ -71,15 +71,15 @@ left_by last after wanted (Err fault) left told made = absurd made
 spared_now : {X : Type 0} (old last new : State) (answer result : Result X TableFault)
     → IfOk result (λ x. answer ≡ Ok x) → CommitsNothing old last answer → EndsBy last new answer result
     → OnOk result (SparesOthers old.now new.now)
-spared_now old last new (Ok x) (Ok y) given kept ends = subst (SparesOthers old.now) (sym ends.0) kept.spares
-spared_now old last new (Err e) (Ok y) given kept ends = absurd (let is = given in cc)
-spared_now old last new answer (Err e) given kept ends = tt
+spared_now old last new (Ok x) (Ok y) given leaves ends = subst (SparesOthers old.now) (sym ends.0) leaves.spares
+spared_now old last new (Err e) (Ok y) given leaves ends = absurd (let is = given in cc)
+spared_now old last new answer (Err e) given leaves ends = tt
 
 -- and so does what its commit may leave
 spared_left : {X : Type 0} (old last : State) (answer : Result X TableFault) (left : Trees)
     → CommitsNothing old last answer → MayCommit last answer left → LeavesOthers old.now left
-spared_left old last (Ok x) left kept made = (last.now, made.0, kept.spares)
-spared_left old last (Err e) left kept made = absurd made
+spared_left old last (Ok x) left leaves made = (last.now, made.0, leaves.spares)
+spared_left old last (Err e) left leaves made = absurd made
 
 blamed : {S X : Type 0} (Met : Damage S) (g : Ghosts S) (old start last new : Held S)
     (answer result : Result X TableFault)
@@ -89,16 +89,16 @@ blamed : {S X : Type 0} (Met : Damage S) (g : Ghosts S) (old start last new : He
     → Widens Met old start last new → Blames Met g start last answer
     → EndsBy (state g last) (state g new) answer result
     → Blames Met g old new result
-blamed Met g old start last new (Ok x) (Ok y) first then end live kept wide it ends = tt
-blamed Met g old start last new (Ok x) (Err (Sqlite e)) first then end live kept wide it ends = record {
+blamed Met g old start last new (Ok x) (Ok y) first then end live leaves wide it ends = tt
+blamed Met g old start last new (Ok x) (Err (Sqlite e)) first then end live leaves wide it ends = record {
   at = last;
   then = new;
   before = then_moment (state g old) (state g start) (state g last) first then;
-  failed = Committing (commit_fails (state g last) (state g new) e (kept.mode ∙ live) ends);
+  failed = Committing (commit_fails (state g last) (state g new) e (leaves.mode ∙ live) ends);
   after = same_moment (state g new);
 }
-blamed Met g old start last new (Ok x) (Err (Damaged rule)) first then end live kept wide it ends = absurd ends
-blamed {S} {X} Met g old start last new (Err fault) result first then end live kept wide it ends =
+blamed Met g old start last new (Ok x) (Err (Damaged rule)) first then end live leaves wide it ends = absurd ends
+blamed {S} {X} Met g old start last new (Err fault) result first then end live leaves wide it ends =
     subst (λ (r : Result X TableFault). Blames Met g old new r) (sym ends.0)
     (fault_within Met g old start last new fault wide first end it)
 
@@ -127,7 +127,7 @@ module _ {S X : Type 0} {Met : Damage S} {So : Tables → Type 0} {after : Table
   kept_so clean =
       subst (λ (h : Held S). CommitsNothing (state g h) (state g last.conn.now) answer
       × Blames Met g h last.conn.now answer) is
-      (does.says.kept clean (rw is refl))
+      (does.says.leaves clean (rw is refl))
 
   from_start : IsBefore (state g old) (state g start)
   from_start = record { faults = omega arith; limit = refl }

@@ -135,7 +135,7 @@ module _ {S : Type 0} (g : Ghosts S) (old : Held S) (begun last : Transaction S)
   kept_so : HasCleanDisk (state g mid) → KeepsCommit (state g start) (state g last.conn.now)
   kept_so clean =
       let before : HasCleanDisk (state g last.conn.now) = omega (arith, left.clean, clean) in
-      subst (λ (h : Held S). KeepsCommit (state g h) (state g last.conn.now)) is (says.kept before (rw is refl))
+      subst (λ (h : Held S). KeepsCommit (state g h) (state g last.conn.now)) is (says.leaves before (rw is refl))
 
   was_clean : HasCleanDisk (state g new) → HasCleanDisk (state g mid)
   was_clean clean = omega (arith, more.clean)
@@ -145,10 +145,10 @@ module _ {S : Type 0} (g : Ghosts S) (old : Held S) (begun last : Transaction S)
       → IsTrue (state g old).is_open × ((state g mid).now ≡ (state g old).now)
       × ((state g mid).committed ≡ (state g old).now)
   rolled clean is_open =
-      let kept = kept_so clean in
+      let leaves = kept_so clean in
       let last_open = (back clean).was_open is_open in
-      let was_open : IsTrue (state g old).is_open = kept.was_open last_open in
-      let same = kept.committed last_open ∙ sym (settled was_open) in
+      let was_open : IsTrue (state g old).is_open = leaves.was_open last_open in
+      let same = leaves.committed last_open ∙ sym (settled was_open) in
       (was_open, ((back clean).undone is_open).0 ∙ same, ((back clean).undone is_open).1 ∙ same)
 
   -- the store answered

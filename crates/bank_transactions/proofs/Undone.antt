@@ -13,22 +13,22 @@ use Rattle.bank_transactions.proofs.{Chained.does_for, Statements.does_read}
 -- what is rolled back shows what was committed first
 rolled : (old last new : State) → (IsTrue old.is_open → old.now ≡ old.committed) → KeepsCommit old last
     → IsRolledBack last new → IsUndone old new
-rolled old last new settled kept back = λ is_open.
+rolled old last new settled leaves back = λ is_open.
     let last_open = back.was_open is_open in
-    let was_open = kept.was_open last_open in
-    (was_open, (back.undone is_open).0 ∙ kept.committed last_open ∙ sym (settled was_open))
+    let was_open = leaves.was_open last_open in
+    (was_open, (back.undone is_open).0 ∙ leaves.committed last_open ∙ sym (settled was_open))
 
 by_end : {X : Type 0} (old last new : State) (answer result : Result X TableFault)
     → (IsTrue old.is_open → old.now ≡ old.committed) → IsTrue old.in_transaction
     → CommitsNothing old last answer → EndsBy last new answer result → OnErr result (IsUndone old new)
-by_end old last new (Ok x) (Ok y) settled live kept ends = tt
-by_end old last new (Ok x) (Err (Sqlite e)) settled live kept (inl failed) =
-    rolled old last new settled (record { was_open = kept.opened; committed = λ _. kept.committed }) failed.3
-by_end old last new (Ok x) (Err (Sqlite e)) settled live kept (inr idle) =
-    absurd (let bad : true ≡ false = sym (kept.mode ∙ live) ∙ idle.1 in cc)
-by_end old last new (Ok x) (Err (Damaged rule)) settled live kept ends = absurd ends
-by_end old last new (Err e) (Ok y) settled live kept ends = absurd (let is = ends.0 in cc)
-by_end old last new (Err e) (Err f) settled live kept ends = rolled old last new settled kept ends.1
+by_end old last new (Ok x) (Ok y) settled live leaves ends = tt
+by_end old last new (Ok x) (Err (Sqlite e)) settled live leaves (inl failed) =
+    rolled old last new settled (record { was_open = leaves.opened; committed = λ _. leaves.committed }) failed.3
+by_end old last new (Ok x) (Err (Sqlite e)) settled live leaves (inr idle) =
+    absurd (let bad : true ≡ false = sym (leaves.mode ∙ live) ∙ idle.1 in cc)
+by_end old last new (Ok x) (Err (Damaged rule)) settled live leaves ends = absurd ends
+by_end old last new (Err e) (Ok y) settled live leaves ends = absurd (let is = ends.0 in cc)
+by_end old last new (Err e) (Err f) settled live leaves ends = rolled old last new settled leaves ends.1
 
 -- of parts that read or write
 pub undoes : {S X : Type 0} {Met : Damage S} {So : Tables → Type 0} {after : Tables → Tables} {w : Tables → X}
@@ -42,10 +42,10 @@ undoes {S} {X} {answer = answer} {result = result} g old begun last end new is s
     subst (λ (h : Held S). UndoesFaults g old h result) same (λ clean.
     let before : HasCleanDisk (state g last.conn.now) = omega (arith, ends.survives.clean, clean) in
     let start : Held S = record old { in_transaction = true } in
-    let kept : CommitsNothing (state g start) (state g last.conn.now) answer =
+    let leaves : CommitsNothing (state g start) (state g last.conn.now) answer =
     subst (λ (h : Held S). CommitsNothing (state g h) (state g last.conn.now) answer) is
-    (does.says.kept before (rw is refl)).0 in
-    by_end (state g start) (state g last.conn.now) (state g end) answer result settled refl kept
+    (does.says.leaves before (rw is refl)).0 in
+    by_end (state g start) (state g last.conn.now) (state g end) answer result settled refl leaves
     (ends.told clean))
 
 -- of parts that only read

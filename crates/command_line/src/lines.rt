@@ -210,7 +210,7 @@ pub(crate) fn print_line<W: Sink>(line: &str, output: &mut W) -> Result<(), Comm
 
 // Flushes what was written, unless the write failed.
 fn finish<W: Sink>(written: io::Result<()>, output: &mut W) -> Result<(), CommandFault>
-    ensures kept { Keeps (W.contents output.old) (W.contents output.new) }
+    ensures stays { Keeps (W.contents output.old) (W.contents output.new) }
     ensures done { OnOk result (IsOk written) }
     ensures flushed { OnOk result (EndsWith IsFlush (W.told output.old) (W.told output.new)) }
     ensures fault { OnErr result (IsErrOf result CommandFault.Write) }

@@ -151,7 +151,7 @@ fn write_some<W: Sink>(writer: &mut W, bytes: &[u8]) -> Result<usize, WriteFaile
     requires { 1 ≤ length bytes.now }
     ensures some { IfOk result (λ n. (1 ≤ n) × (n ≤ length bytes.now)
         × Appends (W.contents writer.old) (W.contents writer.new) (take n bytes.now)) }
-    ensures kept { OnErr result (Keeps (W.contents writer.old) (W.contents writer.new)) }
+    ensures stays { OnErr result (Keeps (W.contents writer.old) (W.contents writer.new)) }
     ensures more { OnOk result (HasMore (W.told writer.old) (W.told writer.new)) }
     ensures failed { OnErr result (HasWriteFailed (W.told writer.old) (W.told writer.new)) }
 {

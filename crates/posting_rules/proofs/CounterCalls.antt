@@ -41,7 +41,7 @@ module _ {C K X : Type 0} (seen : C → Seen) (contents : C → K) (reason : Fau
     };
     why = why;
     spared = λ is. absurd (down_not_memory (one_fault {X = X} Down Memory is));
-    kept = λ damage. absurd damage;
+    unchanged = λ damage. absurd damage;
     down = λ was. refl;
     untried = λ is. refl;
     honest = λ honest. honest;
@@ -59,7 +59,7 @@ module _ {C K X : Type 0} (seen : C → Seen) (contents : C → K) (reason : Fau
     fault = tt;
     why = tt;
     spared = λ is. absurd (no_fault x Memory is);
-    kept = tt;
+    unchanged = tt;
     down = λ was. absurd (was_up was);
     untried = λ is. absurd (no_fault x Down is);
     honest = honest;
@@ -74,7 +74,7 @@ module _ {C K X : Type 0} (seen : C → Seen) (contents : C → K) (reason : Fau
     fault = unchanged;
     why = why;
     spared = λ is. same;
-    kept = λ damage. absurd damage;
+    unchanged = λ damage. absurd damage;
     down = λ was. absurd (was_up was);
     untried = λ is. absurd (memory_not_down (one_fault {X = X} Memory Down is));
     honest = honest;
@@ -85,13 +85,13 @@ module _ {C K X : Type 0} (seen : C → Seen) (contents : C → K) (reason : Fau
       → Refuses fault (seen old) (seen new) cs → reason fault old new
       → (TellsDamage fault → (seen new).honest → contents new ≡ contents old)
       → IsCounterCall {X = X} seen contents reason old new cs (Err fault)
-  call_refused fault frugal tried refuses why kept = record {
+  call_refused fault frugal tried refuses why unchanged = record {
     done = tt;
     up = tt;
     fault = refuses;
     why = why;
     spared = λ is. absurd (frugal (one_fault {X = X} fault Memory is));
-    kept = kept;
+    unchanged = unchanged;
     down = λ was. absurd (was_up was);
     untried = λ is. absurd (tried (one_fault {X = X} fault Down is));
     honest = honest;

@@ -20,9 +20,9 @@ kept_inside old new text params (Err e) (inl h) = h.1
 kept_inside old new text params (Err e) (inr h) = inl h.2
 
 -- a failure commits nothing
-pub kept : (old new : State) → IsUnchanged old new ⊎ IsRolledBack old new → KeepsCommit old new
-kept old new (inl same) = record { was_open = λ _. same.0.was_open; committed = λ _. same.0.committed_is }
-kept old new (inr back) = record { was_open = back.was_open; committed = λ live. (back.undone live).1 }
+pub keeps_commit : (old new : State) → IsUnchanged old new ⊎ IsRolledBack old new → KeepsCommit old new
+keeps_commit old new (inl same) = record { was_open = λ _. same.0.was_open; committed = λ _. same.0.committed_is }
+keeps_commit old new (inr back) = record { was_open = back.was_open; committed = λ live. (back.undone live).1 }
 
 -- a command that makes a table counts no rows
 counts_none : (old : State) (after : Database) (text : List ℕ) (tally : Tally)

@@ -11,7 +11,7 @@ use Rattle.sqlite_rules.specs.Lists.{Has}
 use Rattle.sql_meanings.specs.{Making.NotMade, believed.Contents.HoldsEach}
 use Rattle.sql_meanings.specs.StatementAnswers.{GoesOn, MakeFails, MakesTold}
 use Rattle.sql_meanings.proofs.{Afterwards.fails_since, Places.all_more, TableStands.then_keeps}
-use Rattle.sql_meanings.proofs.Makings.{holds_none, kept}
+use Rattle.sql_meanings.proofs.Makings.{holds_none, keeps_commit}
 use Rattle.store_rows.specs.Creation.{AreGrown, IsApart, TablesAreMade, MakesAll}
 use Rattle.store_rows.proofs.MadeSoFar.{Begun, IsNew, Reached, grows_alone, grows_more, keeps_itself, made_new}
 use Rattle.store_rows.proofs.MadeSoFar.{stay_new}
@@ -218,7 +218,7 @@ module _ (texts : List (List ℕ × Table)) {S : Type 0} (g : Ghosts S) (old mid
 -- a refusal commits nothing
 pub makes_leave : (texts : List (List ℕ × Table)) (old new : State) (e : Error)
     → MakesAll texts old new (Err e) → KeepsCommit old new
-makes_leave texts old new e (inl store) = kept old new (inr store.3)
+makes_leave texts old new e (inl store) = keeps_commit old new (inr store.3)
 makes_leave texts old new e (inr refused) = record {
   was_open = λ live. refused.2.0.was_open;
   committed = λ live.

@@ -227,6 +227,6 @@ module _ {R : Type 0} (kind : Kind R) (placed : IsPlaced kind) where
       (record {
         same_reference = says.same_reference;
         told = says.told;
-        kept = λ clean live. says.kept clean live first rest is among;
+        leaves = λ clean live. says.leaves clean live first rest is among;
         survives = says.survives;
       })

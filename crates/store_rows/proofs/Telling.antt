@@ -30,19 +30,19 @@ module _ {S : Type 0} (g : Ghosts S) (old new : Transaction S) where
     same_reference = says.same_reference;
     told = λ clean rows has. finds _ _ shown read (stored rows) answer result reads
         (seeks.told _ _ rows has answer (says.told clean));
-    kept = λ clean. looks _ _ read answer result reads (says.kept clean (seeks.only _));
+    leaves = λ clean. looks _ _ read answer result reads (says.leaves clean (seeks.only _));
     survives = says.survives;
   }
 
   -- a write reports what its statement leaves, of its tables and of the others
-  pub tells_tables : {Ran Kept Spared : State → State → Type 0} {Told : State → State → Tables → Type 0}
+  pub tells_tables : {Ran Left Spared : State → State → Type 0} {Told : State → State → Tables → Type 0}
       → ((before after : State) (t : Tables) → Shows before.now t → Ran before after → Told before after t)
       → ((before after : State) → Ran before after → Spared before after)
-      → Says g old new (Inside Ran) (Inside Kept)
-      → Says g old new (Inside (OfTables Told)) (Inside (λ before after. Kept before after × Spared before after))
+      → Says g old new (Inside Ran) (Inside Left)
+      → Says g old new (Inside (OfTables Told)) (Inside (λ before after. Left before after × Spared before after))
   tells_tables tells spares says = record {
     same_reference = says.same_reference;
     told = λ clean live t shows. tells _ _ t shows (says.told clean live);
-    kept = λ clean live. (says.kept clean live, spares _ _ (says.told clean live));
+    leaves = λ clean live. (says.leaves clean live, spares _ _ (says.told clean live));
     survives = says.survives;
   }

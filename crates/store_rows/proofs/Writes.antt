@@ -12,7 +12,7 @@ use Rattle.sql_meanings.specs.{Calls.Inside, Calls.Says, believed.Entries.Entry}
 use Rattle.sql_meanings.proofs.SetRows.{ChangesAs}
 use Rattle.store_rows.specs.{Calls.AddsRow, Calls.SetsNumber, believed.Failures.inserts, believed.SeveralRows.given}
 use Rattle.store_rows.specs.{declared.fault.TableFault.TableFault, declared.statements.TheConstants.MAX_KEY}
-use Rattle.store_rows.specs.Failures.{Puts as PutIsKept}
+use Rattle.store_rows.specs.Failures.{Puts as PutLeaves}
 use Rattle.store_rows.specs.Statements.{PutsIn, PutsRow, RunsUnder}
 use Rattle.store_rows.specs.declared.texts.TheConstants as text
 use Rattle.store_rows.proofs.TableKinds.{Kind, table_of, tells_added, tells_write}
@@ -58,11 +58,11 @@ module _ {R : Type 0} (kind : Kind R) (text : List ℕ) where
   by_insert : (r : R) → Has inserts text → (S : Type 0) (g : Ghosts S) (old new : Transaction S)
       (answer : Result (Unit {0}) TableFault) → PutsRow g old new text (given (kind.entry r)) answer
       → Says g old new (Inside (λ before after. PutsIn text (given (kind.entry r)) before after answer))
-      (Inside (λ before after. PutIsKept text (given (kind.entry r)) before after answer))
+      (Inside (λ before after. PutLeaves text (given (kind.entry r)) before after answer))
   by_insert r among S g old new answer says = record {
     same_reference = says.same_reference;
     told = says.told;
-    kept = λ clean live. says.kept clean live (kind.entry r).key _ refl among;
+    leaves = λ clean live. says.leaves clean live (kind.entry r).key _ refl among;
     survives = says.survives;
   }
 

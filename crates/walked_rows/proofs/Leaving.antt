@@ -10,7 +10,7 @@ use Rattle.sqlite.specs.declared.error.ErrorCode.TheVariants.{OperationInterrupt
 use Rattle.sqlite_trees.specs.declared.store.Store.{Ghosts}
 use Rattle.sql_meanings.specs.StatementAnswers.{IsStoreError, WriteFails}
 use Rattle.sql_meanings.proofs.{Afterwards.fails_since, Afterwards.rolled_since, Saying.survives_both}
-use Rattle.walked_rows.specs.Leaving.{IsKept, IsKeptIfAsked, OnlyReads, ReadsBy, ReadsIfAny}
+use Rattle.walked_rows.specs.Leaving.{IsSame, IsSameIfAsked, OnlyReads, ReadsBy, ReadsIfAny}
 
 -- ---- connections
 
@@ -21,12 +21,12 @@ module _ {S : Type 0} (g : Ghosts S) (b c : Held S) where
   clean_between survives clean = let more = survives.clean in omega arith
 
   -- what is shown is what was shown
-  pub shows_same : IsKeptIfAsked g b c → (state g c).now ≡ (state g b).now
+  pub shows_same : IsSameIfAsked g b c → (state g c).now ≡ (state g b).now
   shows_same (inl same) = same.0.now_is
   shows_same (inr is) = ap (λ h. (state g h).now) is
 
 module _ {S : Type 0} (g : Ghosts S) (a b c : Held S) where
-  shows_mid : IsKept g a b
+  shows_mid : IsSame g a b
       → StateShows (state g a) (state g b) (state g b).now (state g a).committed a.in_transaction
   shows_mid same = record {
     was_open = same.0.was_open;
@@ -36,43 +36,43 @@ module _ {S : Type 0} (g : Ghosts S) (a b c : Held S) where
     mode = same.0.mode;
   }
 
-  kept_on : IsKeptIfAsked g a b → IsKept g b c → IsKept g a c
-  kept_on (inl same) more = unchanged_then _ _ _ same more
-  kept_on (inr is) more = subst (λ h. IsKept g h c) is more
+  same_on : IsSameIfAsked g a b → IsSame g b c → IsSame g a c
+  same_on (inl same) more = unchanged_then _ _ _ same more
+  same_on (inr is) more = subst (λ h. IsSame g h c) is more
 
-  kept_then : IsKept g a b → IsKeptIfAsked g b c → IsKept g a c
-  kept_then same (inl more) = unchanged_then _ _ _ same more
-  kept_then same (inr is) = subst (IsKept g a) (sym is) same
+  same_then : IsSame g a b → IsSameIfAsked g b c → IsSame g a c
+  same_then same (inl more) = unchanged_then _ _ _ same more
+  same_then same (inr is) = subst (IsSame g a) (sym is) same
 
-  fails_on : IsKeptIfAsked g a b → WriteFails (state g b) (state g c) → WriteFails (state g a) (state g c)
-  fails_on so_far (inl more) = inl (kept_on so_far more)
+  fails_on : IsSameIfAsked g a b → WriteFails (state g b) (state g c) → WriteFails (state g a) (state g c)
+  fails_on so_far (inl more) = inl (same_on so_far more)
   fails_on (inl same) (inr back) = inr (rolled_since _ _ _ a.in_transaction (shows_mid same) same.1 back)
   fails_on (inr is) (inr back) = inr (subst (λ h. IsRolledBack (state g h) (state g c)) is back)
 
-  pub store_on : IsKeptIfAsked g a b → Survives (state g a) (state g b) (λ _. ⊥) → (e : Error)
+  pub store_on : IsSameIfAsked g a b → Survives (state g a) (state g b) (λ _. ⊥) → (e : Error)
       → IsStoreError (state g b) (state g c) e → IsStoreError (state g a) (state g c) e
   store_on (inr is) survives e failed = subst (λ h. IsStoreError (state g h) (state g c) e) is failed
   store_on (inl same) survives e (inl fails) =
       inl (fails_since _ _ _ ⊥ ⊥ (λ x. x) e a.in_transaction (shows_mid same) same.1 survives.counts fails)
-  store_on (inl same) survives e (inr kept) = inr (
+  store_on (inl same) survives e (inr unread) = inr (
     subst (λ limit. (e ≡ SqliteFailure OutOfMemory) ⊎ ((e ≡ SqliteFailure OperationInterrupted) × IsSome limit))
-        survives.limit kept.0,
-    unchanged_then _ _ _ same kept.1,
+        survives.limit unread.0,
+    unchanged_then _ _ _ same unread.1,
   )
 
 -- ---- reads
 
 module _ {S X E Y F : Type 0} {g : Ghosts S} {old new : Held S} where
   -- whatever is made of what left everything as it was
-  pub kept_any : {q : Result X E} → OnlyReads g old new q → (HasCleanDisk (state g new) → IsKept g old new)
+  pub same_any : {q : Result X E} → OnlyReads g old new q → (HasCleanDisk (state g new) → IsSame g old new)
       → (r : Result Y F) → OnlyReads g old new r
-  kept_any h kept (Ok y) = record { same = kept; err = λ clean. tt; mode = h.mode; survives = h.survives }
-  kept_any h kept (Err f) =
-      record { same = λ clean. tt; err = λ clean. inl (kept clean); mode = h.mode; survives = h.survives }
+  same_any h unread (Ok y) = record { same = unread; err = λ clean. tt; mode = h.mode; survives = h.survives }
+  same_any h unread (Err f) =
+      record { same = λ clean. tt; err = λ clean. inl (unread clean); mode = h.mode; survives = h.survives }
 
   -- whatever is made of an answer
   pub reads_any : {x : X} → OnlyReads {E = E} g old new (Ok x) → (r : Result Y F) → OnlyReads g old new r
-  reads_any h = kept_any h h.same
+  reads_any h = same_any h h.same
 
   -- the fault in other words
   pub fails_too : {e : E} {f : F} → OnlyReads {X = X} g old new (Err e) → OnlyReads {X = Y} g old new (Err f)
@@ -89,7 +89,7 @@ if_any {r = r} reads = record {
 }
 
 module _ {S X E Y F : Type 0} {g : Ghosts S} {old mid new : Held S} {x : X} {r : Result Y F} where
-  both : (A B : Held S → Held S → Type 0) → (A old mid → B mid new → IsKept g old new)
+  both : (A B : Held S → Held S → Type 0) → (A old mid → B mid new → IsSame g old new)
       → (A old mid → WriteFails (state g mid) (state g new) → WriteFails (state g old) (state g new))
       → ReadsBy {E = E} A g old mid (Ok x) → ReadsBy B g mid new r → OnlyReads g old new r
   both A B same fails first last =
@@ -103,9 +103,9 @@ module _ {S X E Y F : Type 0} {g : Ghosts S} {old mid new : Held S} {x : X} {r :
 
   -- a read after others, if there were any
   pub reads_on : ReadsIfAny {E = E} g old mid (Ok x) → OnlyReads g mid new r → OnlyReads g old new r
-  reads_on = both (IsKeptIfAsked g) (IsKept g) (kept_on g old mid new) (fails_on g old mid new)
+  reads_on = both (IsSameIfAsked g) (IsSame g) (same_on g old mid new) (fails_on g old mid new)
 
   -- others after a read, if there are any
   pub reads_then : OnlyReads {E = E} g old mid (Ok x) → ReadsIfAny g mid new r → OnlyReads g old new r
   reads_then =
-      both (IsKept g) (IsKeptIfAsked g) (kept_then g old mid new) (λ same. fails_on g old mid new (inl same))
+      both (IsSame g) (IsSameIfAsked g) (same_then g old mid new) (λ same. fails_on g old mid new (inl same))

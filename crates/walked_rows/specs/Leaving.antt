@@ -15,17 +15,17 @@ pub record ReadsBy {S X E : Type 0} (Same : Held S → Held S → Type 0) (g : G
   pub survives : Survives (state g old) (state g new) (λ _. ⊥)
 
 -- the store was open and is, and everything is as it was
-abbrev pub IsKept : {S : Type 0} → Ghosts S → Held S → Held S → Type 0
-IsKept g old new = IsUnchanged (state g old) (state g new)
+abbrev pub IsSame : {S : Type 0} → Ghosts S → Held S → Held S → Type 0
+IsSame g old new = IsUnchanged (state g old) (state g new)
 
 -- the same, or the store wasn't asked, open or not
-abbrev pub IsKeptIfAsked : {S : Type 0} → Ghosts S → Held S → Held S → Type 0
-IsKeptIfAsked g old new = IsKept g old new ⊎ (new ≡ old)
+abbrev pub IsSameIfAsked : {S : Type 0} → Ghosts S → Held S → Held S → Type 0
+IsSameIfAsked g old new = IsSame g old new ⊎ (new ≡ old)
 
 -- an answer leaves everything as it was
 abbrev pub OnlyReads : {S X E : Type 0} → Ghosts S → Held S → Held S → Result X E → Type 0
-OnlyReads g = ReadsBy (IsKept g) g
+OnlyReads g = ReadsBy (IsSame g) g
 
 -- the same, where there may be nothing to read
 abbrev pub ReadsIfAny : {S X E : Type 0} → Ghosts S → Held S → Held S → Result X E → Type 0
-ReadsIfAny g = ReadsBy (IsKeptIfAsked g) g
+ReadsIfAny g = ReadsBy (IsSameIfAsked g) g

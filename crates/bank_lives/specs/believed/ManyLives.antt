@@ -61,23 +61,23 @@ pub data Lives {M : Type 0} (seen : M → Seen) : List Command → M → List Gi
 
 -- the log is that at which the first life began and then, life by life, a prefix of what was given that holds
 -- all that was acknowledged
-abbrev pub Keeps : List Command → List Command → List Given → Type 0
-Keeps start log [] = log ≡ start
-Keeps start log (life ∷ lives) = (before : List Command) × Keeps start before lives × (count : ℕ)
+abbrev pub Outlasts : List Command → List Command → List Given → Type 0
+Outlasts start log [] = log ≡ start
+Outlasts start log (life ∷ lives) = (before : List Command) × Outlasts start before lives × (count : ℕ)
     × (life.least ≤ count) × (count ≤ length life.commands) × (log ≡ followed_by before (take count life.commands))
 
 -- It shows such a log, and so does whatever a crash leaves of it. Each request is posted once, and accounts,
 -- tellers, branches and the deltas of history have one sum (TPC-B clause 2).
-pub record IsKept (seen : Seen) (start : List Command) (lives : List Given) : Type 0 where
+pub record IsFoundAfter (seen : Seen) (start : List Command) (lives : List Given) : Type 0 where
   pub log : List Command
-  pub keeps : Keeps start log lives
+  pub keeps : Outlasts start log lives
   pub stands : StandsAt seen log
   pub once : AllPairs Differ (decided log)
   pub sums : (t : Tables) → seen.tables t → IsConsistent t
 
 -- the tables show such a log
-pub record ShowsKept (start : List Command) (lives : List Given) (tables : Tables) : Type 0 where
+pub record ShowsAfter (start : List Command) (lives : List Given) (tables : Tables) : Type 0 where
   pub log : List Command
-  pub keeps : Keeps start log lives
+  pub keeps : Outlasts start log lives
   pub are : AreCommands log
   pub shows : AreTablesOf tables log

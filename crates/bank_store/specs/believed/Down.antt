@@ -18,7 +18,7 @@ use Rattle.bank_store.specs.declared.bank.Bank.{Bank}
 -- between: no error is made up, none says that there is no such row, and none says that the key of a new row
 -- is taken.
 pub record KeepsCause {S : Type 0} (g : Ghosts S) (old new : Bank S g) : Type 0 where
-  pub kept : IsSome (cause_of new)
+  pub cause : IsSome (cause_of new)
   pub failed : HasCleanDisk (file_of new) → (e : Error) → cause_of new ≡ Some e
       → HasFailedBetween g (connection_of old) (connection_of new) e
 

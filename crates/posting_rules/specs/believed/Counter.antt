@@ -126,7 +126,7 @@ pub record IsCounterCall {C K X : Type 0} (seen : C → Seen) (contents : C → 
   pub why : IfErr result (λ fault. reason fault old new)
   -- for want of memory, or at damage, all that it keeps is as it was
   pub spared : IsErrOf result Memory → contents new ≡ contents old
-  pub kept : IfErr result (λ fault. TellsDamage fault → (seen new).honest → contents new ≡ contents old)
+  pub unchanged : IfErr result (λ fault. TellsDamage fault → (seen new).honest → contents new ≡ contents old)
   -- one that was down tried nothing, and is the counter that it was
   pub down : (seen old).is_down → IsErrOf result Down
   pub untried : IsErrOf result Down → new ≡ old

@@ -23,8 +23,8 @@ returns-clause-found g c =
     (λ other shown. c.trees_show_law.ensures.once (g.T.Store.view bank.conn.store).trees other at.shows.tables
     (bank.conn.schema, shown) (bank.conn.schema, at.shows.are))) c.adopt.result c.adopt.ensures.found
 
-pub returns-clause-kept : goal.returns-clause-kept
-returns-clause-kept g c =
+pub returns-clause-lives : goal.returns-clause-lives
+returns-clause-lives g c =
     if_ok _ _ (λ bank taken honest opens stopped left start first life lives some lived.
     let last = Of_bank c.args.stopped.now in
     let was = kept (seen_at g.S.Store) start lives first some (life_honest (seen_at g.S.Store) first last

@@ -95,7 +95,7 @@ returns-in_err-add_all g c =
     let fault = c.in_err-add_all.field-0.0 in
     let says = c.in_err-add_all.ensures in
     let same = refusal g c in
-    let up = subst (λ kept. IsSome kept) says.up in
+    let up = subst (λ cause. IsSome cause) says.up in
     record {
       bank = unaudited (bank_seen g.S.Store c.args.bank.now) (bank_seen g.S.Store c.add_all.new.bank) _ fault
           same
@@ -143,7 +143,7 @@ returns g c =
     let db = database_of g.S.Store c.args.bank.now in
     let says = c.in_ok-add_all.ensures in
     let all : c.add_all.result ≡ Ok tt = search rules in
-    let up = subst (λ kept. IsSome kept) says.up in
+    let up = subst (λ cause. IsSome cause) says.up in
     record {
       bank = record {
         tables = λ clean t shown. audited g c clean (stored t) (has_file db t shown);

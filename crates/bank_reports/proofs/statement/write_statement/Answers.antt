@@ -40,7 +40,7 @@ returns-then-is_down g c =
         fault = (Down, refl);
         cause = λ is. absurd (down_not_store _ Down refl refl is);
         broken = λ rule is. absurd (damaged_not_down _ rule is refl);
-        kept = λ rule is. absurd (damaged_not_down _ rule is refl);
+        unchanged = λ rule is. absurd (damaged_not_down _ rule is refl);
       };
       writer = record {
         silent = λ none. refl;
@@ -87,7 +87,7 @@ returns-in_err-balance g c =
         broken = λ rule is.
             subst (λ f. OfDamage f (WasBroken g.S.Store c.args.bank.now c.balance.new.self))
             (same_fault _ _ _ same is) says.broken;
-        kept = λ rule is. says.call.kept (rw (same_fault _ _ _ same is) tt);
+        unchanged = λ rule is. says.call.unchanged (rw (same_fault _ _ _ same is) tt);
       };
       writer = record {
         silent = λ none. refl;

@@ -41,7 +41,7 @@ returns-clause-looks g c =
       cause = rw (c.unread.ensures.told, ← same)
           (known_within g.S.Store old at then c.drop-tx-2.new.self.0 begun (still_clean ended) (comes ended)
           (unread_by c.in-Err.fault)
-          (read_failed g.S.Store at then c.in-Err.fault (λ clean. (c.in-Err.ensures.says.kept clean).1)));
+          (read_failed g.S.Store at then c.in-Err.fault (λ clean. (c.in-Err.ensures.says.leaves clean).1)));
       mode = search rules;
       survives = search rules;
     }

@@ -14,7 +14,7 @@ returns-in-Err-clause-says g c =
     record {
       same_reference = here.same_reference;
       told = λ clean live. rw c.unmoved.ensures (refused_unmoved c.args.from _ _ c.in-Err.e (here.told clean live));
-      kept = λ clean live. here.kept clean live;
+      leaves = λ clean live. here.leaves clean live;
       survives = here.survives;
     }
 
@@ -36,13 +36,13 @@ returns-in-Ok-true-clause-says g c =
       same_reference = two.same_reference ∙ one.same_reference;
       told = λ clean live.
           let before = still_clean two.survives clean in
-          let shows = one.kept before live in
+          let shows = one.leaves before live in
           let set = two.told clean shows.mode in
           moved c.args.from (s old) (s mid) (s new) (one.told before live).0 (rw c.in-Ok-true.field-0-test at set)
-          (two.kept clean shows.mode).1;
-      kept = λ clean live.
-          let shows = one.kept (still_clean two.survives clean) live in
-          goes_on (s old) (s mid) (s new) shows (two.kept clean shows.mode).0.0;
+          (two.leaves clean shows.mode).1;
+      leaves = λ clean live.
+          let shows = one.leaves (still_clean two.survives clean) live in
+          goes_on (s old) (s mid) (s new) shows (two.leaves clean shows.mode).0.0;
       survives = survives_both _ _ _ one.survives two.survives;
     }
 
@@ -58,13 +58,13 @@ returns-in-Ok-false-clause-says g c =
       same_reference = two.same_reference ∙ one.same_reference;
       told = λ clean live.
           let before = still_clean two.survives clean in
-          let shows = one.kept before live in
+          let shows = one.leaves before live in
           let set = two.told clean shows.mode in
           not_there c.args.from (s old) (s mid) (s new) (one.told before live).0 (rw c.in-Ok-false.field-0-test at set);
-      kept = λ clean live.
-          let shows = one.kept (still_clean two.survives clean) live in
+      leaves = λ clean live.
+          let shows = one.leaves (still_clean two.survives clean) live in
           commits_nothing (s old) (s new)
-          (goes_on (s old) (s mid) (s new) shows (two.kept clean shows.mode).0.0);
+          (goes_on (s old) (s mid) (s new) shows (two.leaves clean shows.mode).0.0);
       survives = survives_both _ _ _ one.survives two.survives;
     }
 
@@ -81,5 +81,5 @@ returns-in-Err-set_version-clause-cause g c live =
     (λ clean. (
       e,
       failed_here g.S.Store mid new e
-          (two.kept clean (one.kept (still_clean two.survives clean) live).mode).0.1,
+          (two.leaves clean (one.leaves (still_clean two.survives clean) live).mode).0.1,
     ))

@@ -60,7 +60,7 @@ returns-in-Err g c =
               c.in-Err.field-0,
               failed_here g.S.Store last new c.in-Err.field-0 (Committing (commit_fails (s last) (s new)
                   c.in-Err.field-0
-                  (changed.kept (still_clean c.commit.ensures.survives clean)
+                  (changed.leaves (still_clean c.commit.ensures.survives clean)
                   (live c.args.from g.S.Store old at last new is)).mode
                   (c.in-Err.ensures.cause clean))),
             ));

@@ -65,7 +65,7 @@ returns-in-Err-commit g c =
           rw (← same)
           (unmade_within g.S.Store old mid new new made (λ clean. clean) (same_moment (state g.S.Store new)) Store
           (commit_failed g.S.Store mid new c.in-Err-commit.field-0
-          (λ clean. (c.in-Ok.ensures.kept (still_clean c.commit.ensures.survives clean)
+          (λ clean. (c.in-Ok.ensures.leaves (still_clean c.commit.ensures.survives clean)
           (ap (λ h. h.in_transaction) c.begin-tx.ensures.begun)).mode) c.in-Err-commit.ensures.err));
       survives = search rules;
       mode = rw (← same) c.commit.ensures.ended;

@@ -35,7 +35,7 @@ loop-eight-preserved g c =
       unknown = λ clean live.
           let mid : HasCleanDisk (state g.S.Store c.loop-eight.tx.conn.now) =
           omega (arith, one.adds.survives.clean, clean) in
-          let on = (so_far.puts.so_far.says.kept mid live).0 in
+          let on = (so_far.puts.so_far.says.leaves mid live).0 in
           news_then _ _ _ so_far.puts.front eight (so_far.unknown mid live)
           (one.unknown clean (still_in _ _ on live));
     }
@@ -60,7 +60,7 @@ returns-clause-unknown g c =
     on_ok c.put_singly.result (λ one clean live.
     let mid : HasCleanDisk (state g.S.Store c.loop-eight.tx.conn.now) =
     omega (arith, c.put_singly.ensures.puts.says.survives.clean, clean) in
-    let on = (so_far.puts.so_far.says.kept mid live).0 in
+    let on = (so_far.puts.so_far.says.leaves mid live).0 in
     subst (λ (rows : List RequestRow). PutsNew (state g.S.Store c.args.tx.now.conn.now).now
     (state g.S.Store c.put_singly.new.tx.conn.now).now rows) (sym so_far.puts.are)
     (news_then _ _ _ so_far.puts.front c.loop-eight.left.now (so_far.unknown mid live)

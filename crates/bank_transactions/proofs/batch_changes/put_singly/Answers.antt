@@ -38,7 +38,7 @@ loop-row-preserved g c =
       unknown = λ clean live.
           let mid : HasCleanDisk (state g.S.Store c.loop-row.tx.conn.now) =
           omega (arith, one.adds.survives.clean, clean) in
-          let on = (so_far.puts.says.kept mid live).0 in
+          let on = (so_far.puts.says.leaves mid live).0 in
           subst (λ (rows : List RequestRow). PutsNew (state g.S.Store c.args.tx.now.conn.now).now
           (state g.S.Store c.add_request.new.tx.conn.now).now rows) (sym more)
           (news_then _ _ _ (take i xs) (x ∷ []) (so_far.unknown mid live)

@@ -59,14 +59,14 @@ returns-then-is_below-clause-says g c =
     (subst (IsStoredFloor db (branch_of_account n)) it.3
     (subst (λ (k : ℕ). IsStoredFloor db k c.in_ok-floor.floor) key
     (subst (λ (d : Database). IsStoredFloor d c.branch_of_account.result c.in_ok-floor.floor)
-    (one.says.kept before).0.now (two.stored clean))))
+    (one.says.leaves before).0.now (two.stored clean))))
     (not_above it.0 it.1 it.4))
 
 pub returns-clause-stored : goal.returns-clause-stored
 returns-clause-stored g c clean =
     let before : HasCleanDisk (state g.S.Store c.open_balance.new.tx.conn.now) =
     omega (arith, c.in_ok-floor.ensures.says.survives.clean, clean) in
-    let still = (c.in_ok-balance.ensures.says.kept before).0.now in
+    let still = (c.in_ok-balance.ensures.says.leaves before).0.now in
     let stored = c.in_ok-balance.ensures.stored before in
     let floor = subst (λ (k : ℕ). IsStoredFloor (state g.S.Store c.args.tx.now.conn.now).now k c.in_ok-floor.floor)
     c.branch_of_account.ensures

@@ -14,7 +14,7 @@ returns-in_default-clause-says g c = record {
     search rules,
   );
   same_reference = search rules;
-  kept = search rules;
+  leaves = search rules;
   survives = search rules;
 }
 

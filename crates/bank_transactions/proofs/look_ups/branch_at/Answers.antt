@@ -17,7 +17,7 @@ returns-in-None-clause-says g c = record {
   told = λ clean t shows sound.
       (no_branch_beyond t c.args.number sound (sym c.new.ensures ∙ c.in-None.is), search rules);
   same_reference = search rules;
-  kept = search rules;
+  leaves = search rules;
   survives = search rules;
 }
 

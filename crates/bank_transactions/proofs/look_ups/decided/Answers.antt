@@ -66,7 +66,7 @@ returns-clause-says g c = record {
       ∙ row_is m t.decided (sym c.in-Some.is ∙ told.0) in
       (ap nat_abs is, search rules);
   same_reference = search rules;
-  kept = search rules;
+  leaves = search rules;
   survives = search rules;
 }
 

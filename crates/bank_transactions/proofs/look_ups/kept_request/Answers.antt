@@ -55,7 +55,7 @@ returns-clause-stored g c clean rows has =
     let mid : HasCleanDisk (state g.S.Store c.find_request.new.tx.conn.now) =
     omega (arith, c.in_ok-reference.ensures.says.survives.clean, clean) in
     let found = rw c.in-Some.is at ((c.in_ok-row.ensures.told mid rows has).0) in
-    let there = subst (λ (db : Database). HoldsBank db rows) (sym (c.in_ok-row.ensures.kept mid).0.now_is) has in
+    let there = subst (λ (db : Database). HoldsBank db rows) (sym (c.in_ok-row.ensures.leaves mid).0.now_is) has in
     subst (λ (kept : KeptFields). HoldsKept rows c.args.teller c.args.number (Some kept))
     (sym c.kept_with.ensures)
     (kept_held rows c.args.teller c.args.number c.in-Some.row c.in_ok-reference.reference found

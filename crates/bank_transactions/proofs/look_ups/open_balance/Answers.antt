@@ -28,7 +28,7 @@ returns-then-is_some-is_open-clause-says g c =
     let mid : HasCleanDisk (state g.S.Store c.balance_of.new.tx.conn.now) =
     omega (arith, c.in_ok-branch.ensures.says.survives.clean, clean) in
     let there : HoldsBank (state g.S.Store c.balance_of.new.tx.conn.now).now rows =
-    subst (λ (db : Database). HoldsBank db rows) (sym (c.in_ok-balance.ensures.kept mid).0.now_is) has in
+    subst (λ (db : Database). HoldsBank db rows) (sym (c.in_ok-balance.ensures.leaves mid).0.now_is) has in
     let branch =
     subst (λ (k : ℕ). FindsStored (branch_under rows k) read_branch (Ok c.in_ok-branch.branch))
     c.branch_of_account.ensures (c.in_ok-branch.ensures.stored clean rows there) in
@@ -56,7 +56,7 @@ returns-clause-stored g c clean =
     let mid : HasCleanDisk (state g.S.Store c.balance_of.new.tx.conn.now) =
     omega (arith, c.in_ok-branch.ensures.says.survives.clean, clean) in
     let looked = c.in_ok-balance.ensures.told mid in
-    let still = (c.in_ok-balance.ensures.kept mid).0.now_is in
+    let still = (c.in_ok-balance.ensures.leaves mid).0.now_is in
     record {
       found = λ rows has. (looked rows has).0;
       fits = λ rows has.

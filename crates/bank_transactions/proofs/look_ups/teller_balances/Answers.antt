@@ -80,7 +80,7 @@ returns-in-Some-Some-clause-stored g c clean =
     let teller = rw c.in-Some-Some.is-0 at (c.in_ok-balance.ensures.told mid) in
     let branch = rw c.in-Some-Some.is-1 at (c.in_ok-branch.ensures.stored clean) in
     stored _ _ c.args.teller c.branch_of_teller.result c.branch_of_teller.ensures
-    (c.in_ok-balance.ensures.kept mid).0.now_is (Some c.in-Some-Some.balance) (Some c.in-Some-Some.branch)
+    (c.in_ok-balance.ensures.leaves mid).0.now_is (Some c.in-Some-Some.balance) (Some c.in-Some-Some.branch)
     (λ rows has. (teller rows has).0) branch refl
 
 pub returns-in-None-None-clause-stored : goal.returns-in-None-None-clause-stored
@@ -90,4 +90,4 @@ returns-in-None-None-clause-stored g c clean =
     let teller = rw c.in-None-None.is-0 at (c.in_ok-balance.ensures.told mid) in
     let branch = rw c.in-None-None.is-1 at (c.in_ok-branch.ensures.stored clean) in
     stored _ _ c.args.teller c.branch_of_teller.result c.branch_of_teller.ensures
-    (c.in_ok-balance.ensures.kept mid).0.now_is None None (λ rows has. (teller rows has).0) branch refl
+    (c.in_ok-balance.ensures.leaves mid).0.now_is None None (λ rows has. (teller rows has).0) branch refl

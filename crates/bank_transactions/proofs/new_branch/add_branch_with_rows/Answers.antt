@@ -113,13 +113,13 @@ returns-in_err-add_rows-clause-leaves g c =
     rw same leaves_err
 
 module _ (b count : ℕ) {S : Type 0} {g : Ghosts S} {x y : Transaction S} where
-  left : {Kept : State → State → Type 0} {r : Result (Unit {0}) TableFault} (balance : ℤ) → balance ≡ pos 0
+  left : {Left : State → State → Type 0} {r : Result (Unit {0}) TableFault} (balance : ℤ) → balance ≡ pos 0
       → Says g x y (Inside (OfTables (λ before now t.
       PutsOneRow before now branch (is_some (row_at branch_key t.branches b))
       (with_branch (row b count balance) t) r)))
-      (Inside Kept)
+      (Inside Left)
       → Leaves g x y (branched b count) r
-  left {Kept} {r} balance zero says = leaves_for
+  left {Left} {r} balance zero says = leaves_for
       (leaves_add g x y branch (λ t. is_some (row_at branch_key t.branches b))
       (λ t. with_branch (row b count balance) t) r says)
       (λ t. ap (λ (z : ℤ). with_branch (row b count z) t) zero)

@@ -86,7 +86,7 @@ returns-in_ok-add_whole_branch-in-Opened-clause-acts g c =
 pub returns-in_default-clause-stored : goal.returns-in_default-clause-stored
 returns-in_default-clause-stored g c clean live = record {
   answers = c.in_ok-opening.ensures.stored clean;
-  stays = λ other. (c.in_ok-opening.ensures.says.kept clean).0.now;
+  stays = λ other. (c.in_ok-opening.ensures.says.leaves clean).0.now;
   opens = λ is t shows. absurd (c.in_default.not-Opened is);
 }
 
@@ -95,7 +95,7 @@ returns-in_ok-add_whole_branch-in-Opened-clause-stored g c clean live =
     let added = c.in_ok-add_whole_branch-in-Opened.ensures in
     let mid : HasCleanDisk (state g.S.Store c.opening_of.new.tx.conn.now) =
     omega (arith, added.does.says.survives.clean, clean) in
-    let looked = (c.in_ok-opening.ensures.says.kept mid).0 in
+    let looked = (c.in_ok-opening.ensures.says.leaves mid).0 in
     record {
       answers = rw c.in-Opened.is at (c.in_ok-opening.ensures.stored mid);
       stays = λ other. absurd (other refl);

@@ -52,7 +52,7 @@ pub returns-clause-stored : goal.returns-clause-stored
 returns-clause-stored g c clean =
     let mid : HasCleanDisk (state g.S.Store c.branch_at.new.tx.conn.now) =
     omega (arith, c.in_ok-first.ensures.says.survives.clean, clean) in
-    let still = (c.in_ok-row.ensures.says.kept mid).0.now in
+    let still = (c.in_ok-row.ensures.says.leaves mid).0.now in
     let found = rw c.in-Some.is at (c.in_ok-row.ensures.stored mid) in
     let floor = subst (λ (d : Database). IsStoredFloor d c.get-2.result c.in_ok-first.first) still
     (c.in_ok-first.ensures.stored clean) in

@@ -51,7 +51,7 @@ returns-clause-stored g c clean homes rows has =
     let before : HasCleanDisk (state g.S.Store c.fill_known.new.tx.conn.now) =
     omega (arith, two.says.says.survives.clean, clean) in
     let first = one.stored before homes rows has in
-    let has1 = subst (λ (db : Database). HoldsBank db rows) (sym (one.says.says.kept before).0.now) has in
+    let has1 = subst (λ (db : Database). HoldsBank db rows) (sym (one.says.says.leaves before).0.now) has in
     record {
       branches = first.branches;
       floors = first.floors;

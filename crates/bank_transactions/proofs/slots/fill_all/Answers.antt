@@ -36,7 +36,7 @@ loop-slot-preserved g c =
           λ clean rows has.
           let mid : HasCleanDisk (state g.S.Store c.loop-slot.tx.conn.now) =
           omega (arith, one.says.says.survives.clean, clean) in
-          let there = subst (λ (db : Database). HoldsBank db rows) (sym (so_far.says.says.kept mid).0.now) has in
+          let there = subst (λ (db : Database). HoldsBank db rows) (sym (so_far.says.says.leaves mid).0.now) has in
           partly_next _ xs ys i (i + 1) x y (one_more i) lt (one.stored clean rows there)
           (so_far.stored mid rows has);
     }

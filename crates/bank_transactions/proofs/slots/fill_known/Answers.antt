@@ -122,10 +122,10 @@ returns-clause-stored g c clean homes rows has =
     omega (arith, two.says.says.survives.clean, clean2) in
     let clean0 : HasCleanDisk (state g.S.Store c.decided.new.tx.conn.now) =
     omega (arith, one.says.says.survives.clean, clean1) in
-    let has0 = subst (λ (db : Database). HoldsBank db rows) (sym (zero.says.kept clean0).0.now) has in
-    let has1 = subst (λ (db : Database). HoldsBank db rows) (sym (one.says.says.kept clean1).0.now) has0 in
-    let has2 = subst (λ (db : Database). HoldsBank db rows) (sym (two.says.says.kept clean2).0.now) has1 in
-    let has3 = subst (λ (db : Database). HoldsBank db rows) (sym (three.says.says.kept clean3).0.now) has2 in
+    let has0 = subst (λ (db : Database). HoldsBank db rows) (sym (zero.says.leaves clean0).0.now) has in
+    let has1 = subst (λ (db : Database). HoldsBank db rows) (sym (one.says.says.leaves clean1).0.now) has0 in
+    let has2 = subst (λ (db : Database). HoldsBank db rows) (sym (two.says.says.leaves clean2).0.now) has1 in
+    let has3 = subst (λ (db : Database). HoldsBank db rows) (sym (three.says.says.leaves clean3).0.now) has2 in
     let bs = put_back bv _ c.fill_all.new.slots c.deref_mut.ensures.value c.fill_all.auto.slots in
     let branches = one.stored clean1 rows has0 (nothing_asked _) in
     let fs = put_back fv _ c.fill_all-2.new.slots c.deref_mut-2.ensures.value c.fill_all-2.auto.slots in

@@ -27,6 +27,6 @@ returns-in-None-clause-says g c = record {
       let told = c.in_ok-balance.ensures.says.told clean t shows sound in
       (no_balance t c.args.teller sound (sym c.in-None.is ∙ told.0), told.1);
   same_reference = search rules;
-  kept = search rules;
+  leaves = search rules;
   survives = search rules;
 }

@@ -35,7 +35,7 @@ returns-then-is_some-clause-stored g c =
     (λ clean.
     let mid : HasCleanDisk (state g.S.Store c.balance_of.new.tx.conn.now) =
     omega (arith, c.teller_beside.ensures.says.survives.clean, clean) in
-    (c.in_ok-balance.ensures.kept mid).0.now_is)
+    (c.in_ok-balance.ensures.leaves mid).0.now_is)
     c.teller_beside.ensures.stored
 
 pub returns-clause-stored : goal.returns-clause-stored

@@ -20,7 +20,7 @@ returns-in-Err-2-clause-failed g c =
 
 pub writes-preserved : goal.writes-preserved
 writes-preserved g c = record {
-  kept = Keeps-trans _ _ _ c.writes.invariant.kept c.in-Err.ensures.bytes;
+  stays = Keeps-trans _ _ _ c.writes.invariant.stays c.in-Err.ensures.bytes;
   only = write_again _ c.take.result c.in-Err.e c.writes.invariant.only c.take.ensures.tells c.in-Err.is
       (same_kind c.kind.result c.in-Err.e c.if-eq.ensures c.kind.ensures);
 }

@@ -6,6 +6,6 @@ use Rattle.posting_core.proofs.transfer.write_some.Given as goal
 -- each write so far was interrupted
 abbrev pub invariant-writes : goal.invariant-writes
 invariant-writes g l = record {
-  kept : Keeps (g.W.Sink.contents l.fn.writer) (g.W.Sink.contents l.writer);
+  stays : Keeps (g.W.Sink.contents l.fn.writer) (g.W.Sink.contents l.writer);
   only : HasMadeOnly IsInterrupted (g.W.Sink.told l.fn.writer) (g.W.Sink.told l.writer) l.counter;
 }

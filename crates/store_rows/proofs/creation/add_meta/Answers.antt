@@ -8,7 +8,7 @@ returns g c = record {
   told = λ clean live made. starts _ _ c.execute.result made
       (rw (c.params-to_sql.ensures, c.params-to_sql-2.ensures, c.params-to_sql-3.ensures) at
       (c.execute.ensures.runs clean live));
-  kept = search rules;
+  leaves = search rules;
   same_reference = search rules;
   survives = search rules;
 }

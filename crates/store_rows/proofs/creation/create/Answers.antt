@@ -40,7 +40,7 @@ returns-in_err-commit-clause-cause g c =
     (arith, e.ensures.survives.clean) in
     let shows = subst (λ h. StateShows (state g.S.Store h) (state g.S.Store c.create_tables.new.tx.conn.now)
     (state g.S.Store c.create_tables.new.tx.conn.now).now (state g.S.Store h).committed true) begun
-    (made.kept clean0 live) in
+    (made.leaves clean0 live) in
     let more = subst (λ h. (state g.S.Store h).faults ≤
     (state g.S.Store c.create_tables.new.tx.conn.now).faults) begun made.survives.counts in
     rw same (fails_committed (state g.S.Store c.args.conn.now)

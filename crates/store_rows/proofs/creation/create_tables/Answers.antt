@@ -9,7 +9,7 @@ pub returns : goal.returns
 returns g c = record {
   same_reference = search rules;
   told = search rules;
-  kept = search rules;
+  leaves = search rules;
   survives = search rules;
 }
 
@@ -27,6 +27,6 @@ returns-in_err-add_meta g c =
           let made = one.told before live in
           rw same (starts_not _ _ _ e.field-0.0 made.0 made.1 made.2 one.survives.limit one.survives.counts
           (two.told clean made.1.0.mode made.0.empty));
-      kept = search rules;
+      leaves = search rules;
       survives = survives_both _ _ _ one.survives two.survives;
     }

@@ -18,7 +18,7 @@ returns g c = record {
   told = λ clean live t creates. makes_told _ _ c.args.text.now t creates sequence.0 sequence.1
       c.execute.result
       (c.execute.ensures.runs clean live);
-  kept = λ clean live. (
+  leaves = λ clean live. (
     kept_inside _ _ c.args.text.now [] c.execute.result (c.execute.ensures.runs clean live),
     failed _ _ c.args.text.now c.execute.result (c.execute.ensures.runs clean live),
   );

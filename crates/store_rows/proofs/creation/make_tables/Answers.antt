@@ -66,7 +66,7 @@ loop-at-preserved g c =
             (state g.S.Store c.make_table.new.tx.conn.now) n) (omega (arith, past))
             (one_more (drop first all_texts) g.S.Store c.args.tx.now.conn.now c.loop-at.tx.conn.now
             (state g.S.Store c.make_table.new.tx.conn.now) (at - first) next.0 has told
-            (here.kept clean still).0 here.survives.counts begun));
+            (here.leaves clean still).0 here.survives.counts begun));
         survives = survives_both _ _ _ so_far.survives here.survives;
       };
     }
@@ -95,7 +95,7 @@ returns-in_err-make_table-clause-says g c =
     record {
       same_reference = here.same_reference ∙ so_far.same_reference;
       told = λ clean live. rw same (fails clean live);
-      kept = λ clean live. rw same (makes_leave (drop first all_texts) (state g.S.Store old) new e (fails clean live));
+      leaves = λ clean live. rw same (makes_leave (drop first all_texts) (state g.S.Store old) new e (fails clean live));
       survives = survives_both _ _ _ so_far.survives here.survives;
     }
 
@@ -111,7 +111,7 @@ returns-in_err-make_table-clause-failed g c clean live =
     let mid = c.loop-at.tx.conn.now in
     let before : HasCleanDisk (state g.S.Store mid) = omega (arith, here.survives.clean) in
     let still = begun_live (drop first all_texts) g.S.Store old mid (at - first) (so_far.begun before live) live in
-    rw same (record { at = mid; before = so_far.survives; failed = (here.kept clean still).1 })
+    rw same (record { at = mid; before = so_far.survives; failed = (here.leaves clean still).1 })
 
 pub returns-clause-says : goal.returns-clause-says
 returns-clause-says g c =
@@ -127,6 +127,6 @@ returns-clause-says g c =
     record {
       same_reference = so_far.same_reference;
       told = λ clean live. ends clean live;
-      kept = λ clean live. (ends clean live).1.0;
+      leaves = λ clean live. (ends clean live).1.0;
       survives = so_far.survives;
     }

@@ -7,9 +7,9 @@ use Rattle.store_rows.proofs.metas.meta_row.Goals as goal
 pub returns : goal.returns
 returns g c = record {
   told = λ clean rows has. tells_meta _ _ rows has c.row_under.result (c.row_under.ensures.told clean);
-  kept = λ clean.
+  leaves = λ clean.
       let only = only_reads gets.meta.is c.args.tx.now.conn.now.schema in (
-        c.row_under.ensures.kept clean only,
+        c.row_under.ensures.leaves clean only,
         first_told _ _ _ _ c.row_under.result only
             (c.row_under.ensures.told clean),
       );

@@ -8,12 +8,12 @@ pub returns-clause-says : goal.returns-clause-says
 returns-clause-says g c = record {
   told = λ clean rows has. finds_meta _ _ (meta_in rows) c.meta_row.result c.found.result c.found.ensures
       (c.meta_row.ensures.told clean rows has);
-  kept = λ clean. looks _ _ meta_of c.meta_row.result c.found.result c.found.ensures
-      (c.meta_row.ensures.kept clean).0;
+  leaves = λ clean. looks _ _ meta_of c.meta_row.result c.found.result c.found.ensures
+      (c.meta_row.ensures.leaves clean).0;
   same_reference = search rules;
   survives = search rules;
 }
 
 pub returns-clause-other : goal.returns-clause-other
 returns-clause-other g c clean =
-    other_told _ c.meta_row.result c.found.result (c.meta_row.ensures.kept clean).1 c.found.ensures
+    other_told _ c.meta_row.result c.found.result (c.meta_row.ensures.leaves clean).1 c.found.ensures

@@ -16,7 +16,7 @@ returns-clause-says g c =
     record {
       same_reference = all.same_reference;
       told = λ clean live. told c.args.from _ _ c.make_tables.result (all.told clean live);
-      kept = λ clean live. all.kept clean live;
+      leaves = λ clean live. all.leaves clean live;
       survives = all.survives;
     }
 

@@ -8,7 +8,7 @@ pub returns : goal.returns
 returns g c = record {
   told = λ clean. rw (c.params-to_sql.ensures, as_integer c.args.key c.args.key refl (omega arith)) at
       (c.query_row.ensures.row clean);
-  kept = λ clean only.
+  leaves = λ clean only.
       asked _ _ _ _ c.query_row.result (c.query_row.ensures.row clean)
       (kept_reading _ _ _ _ c.query_row.result only (c.query_row.ensures.row clean));
   same_reference = search rules;

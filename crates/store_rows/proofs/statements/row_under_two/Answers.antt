@@ -12,7 +12,7 @@ returns g c = record {
     as_integer c.args.first c.args.first refl (omega arith),
     as_integer c.args.second c.args.second refl (omega arith),
   ) at (c.query_row.ensures.row clean);
-  kept = λ clean only.
+  leaves = λ clean only.
       asked _ _ _ _ c.query_row.result (c.query_row.ensures.row clean)
       (kept_reading _ _ _ _ c.query_row.result only (c.query_row.ensures.row clean));
   same_reference = search rules;

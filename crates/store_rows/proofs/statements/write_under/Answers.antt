@@ -18,7 +18,7 @@ returns g c = record {
     ) at (c.in_ok-count.ensures.runs clean live),
     refl,
   );
-  kept = λ clean live.
+  leaves = λ clean live.
       let ran = c.in_ok-count.ensures.runs clean live in
       (kept_inside _ _ _ _ (Ok c.in_ok-count.count) ran, λ none. (_, c.in_ok-count.count, ran, none));
   same_reference = search rules;
@@ -36,7 +36,7 @@ returns-in_err-count g c =
         as_integer c.args.key c.args.key refl (omega arith),
         to_z-of_z w64 c.args.number c.ranges.number,
       ) at (e.ensures.runs clean live));
-      kept = λ clean live. rw same (
+      leaves = λ clean live. rw same (
         kept_inside _ _ _ _ (Err e.field-0.0) (e.ensures.runs clean live),
         Changing _ _ (e.ensures.runs clean live),
       );

@@ -9,7 +9,7 @@ use Rattle.walked_rows.specs.{KeptRows.kept_item, Pairs.paired, Rising.RisesFrom
 use Rattle.walked_rows.specs.{Rows.rows_after, Stored.asked_pair, Stored.request_entry}
 use Rattle.walked_rows.proofs.{Gathering.after_key, Gathering.none_there, Joining.none_left, Keeping.keeps_none}
 use Rattle.walked_rows.proofs.{Keeping.keeps_on, Keeping.kept_after, Rises.one_more, Rises.rest_after}
-use Rattle.walked_rows.proofs.Leaving.{clean_between, fails_too, if_any, kept_any, reads_any, reads_on, shows_same}
+use Rattle.walked_rows.proofs.Leaving.{clean_between, fails_too, if_any, same_any, reads_any, reads_on, shows_same}
 use Rattle.walked_rows.proofs.Leaving.{store_on}
 use Rattle.walked_rows.proofs.kept.refer_each.Goals as goal
 
@@ -105,7 +105,7 @@ pub returns-in-Err-Damaged-clause-reads : goal.returns-in-Err-Damaged-clause-rea
 returns-in-Err-Damaged-clause-reads g c =
     let last = c.in-Err-Damaged.ensures in
     if_any (reads_on c.loop-asked.invariant.reads
-    (kept_any last.reads (λ clean. rw c.in-Err-Damaged.field-0-is at (last.damage clean)) _))
+    (same_any last.reads (λ clean. rw c.in-Err-Damaged.field-0-is at (last.damage clean)) _))
 
 pub returns-clause-reads : goal.returns-clause-reads
 returns-clause-reads g c =

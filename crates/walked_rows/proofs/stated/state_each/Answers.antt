@@ -7,7 +7,7 @@ use Rattle.walked_rows.specs.{Pairs.pair_with, Pairs.paired, Rising.RisesFrom, R
 use Rattle.walked_rows.specs.{Rows.rows_after, Rows.rows_from, Stored.posting_entry, Stored.stated_pair}
 use Rattle.walked_rows.proofs.{Gathering.after_key, Gathering.none_there, Rises.one_more, Rises.rest_after}
 use Rattle.walked_rows.proofs.Joining.{joins_on, none_left, pair_beside}
-use Rattle.walked_rows.proofs.Leaving.{clean_between, fails_too, if_any, kept_any, reads_any, reads_on, shows_same}
+use Rattle.walked_rows.proofs.Leaving.{clean_between, fails_too, if_any, same_any, reads_any, reads_on, shows_same}
 use Rattle.walked_rows.proofs.Leaving.{store_on}
 use Rattle.walked_rows.proofs.stated.state_each.Goals as goal
 
@@ -106,7 +106,7 @@ pub returns-in-Err-Damaged-clause-reads : goal.returns-in-Err-Damaged-clause-rea
 returns-in-Err-Damaged-clause-reads g c =
     let last = c.in-Err-Damaged.ensures in
     if_any (reads_on c.loop-posting.invariant.reads
-    (kept_any last.reads (λ clean. rw c.in-Err-Damaged.field-0-is at (last.damage clean)) _))
+    (same_any last.reads (λ clean. rw c.in-Err-Damaged.field-0-is at (last.damage clean)) _))
 
 pub returns-clause-reads : goal.returns-clause-reads
 returns-clause-reads g c =
