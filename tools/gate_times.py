@@ -7,7 +7,7 @@ the page from its second heading on, as it stands.
 What the gate prints goes to the file LOG.
 
 Each check of the gate is a process of its own. Once a second this reads from /proc how much processor time each has
-taken so far, and adds it up by crate: its proof, its tests and its must-fail edits.
+taken so far, and adds it up by crate: its proof, its tests and its must-fail edits. What others check is left out.
 """
 import os
 import re
@@ -44,19 +44,28 @@ def work_of(pid):
     return crate, "tests" if b"--test" in words else "proof"
 
 
+def is_under(pid, top):
+    """Whether a process is this one, or was begun by it or by what it began: other checks on the machine don't count."""
+    while pid > 1:
+        if pid == top:
+            return True
+        pid = int(read(f"/proc/{pid}/stat").rpartition(b")")[2].split()[1])
+    return False
+
+
 def spent_by(pid):
     """The processor seconds of a process, and its memory in bytes."""
     fields = read(f"/proc/{pid}/stat").rpartition(b")")[2].split()
     return (int(fields[11]) + int(fields[12])) / TICKS, int(fields[21]) * PAGE
 
 
-def sample(spent):
-    """Adds what the running checks have taken, and gives the memory of all of them."""
+def sample(spent, gate):
+    """Adds what the running checks of the gate have taken, and gives the memory of all of them."""
     held = 0
     for pid in filter(str.isdigit, os.listdir("/proc")):
         try:
             work = work_of(pid)
-            if work:
+            if work and is_under(int(pid), gate):
                 seconds, memory = spent_by(pid)
                 spent[pid, *work] = seconds
                 held += memory
@@ -93,7 +102,7 @@ def main():
         gate = subprocess.Popen(["rt", "ci", "--anew"], cwd=TOP, env={**os.environ, "RT_JOBS": str(min(CPUS, 4))},
                                 stdin=subprocess.DEVNULL, stdout=out, stderr=subprocess.STDOUT)
         while gate.poll() is None:
-            peak = max(peak, sample(spent))
+            peak = max(peak, sample(spent, gate.pid))
             time.sleep(1)
     minutes = (time.monotonic() - began) / 60
     with open(log, encoding="utf-8", errors="replace") as out:
