@@ -61,8 +61,8 @@ apart false false is = ((λ same. absurd cc), refl)
 
 pub decided_all : (n m : ℕ) (gap whole : Bool) → whole ≡ (not (eqb n m) && not gap) → whole ≡ true
     → (n ≢ m) × (gap ≡ false)
-decided_all n m gap whole is yes =
-    let both = apart (eqb n m) gap (sym is ∙ yes) in ((λ same. both.0 (eq-eqb n m same)), both.1)
+decided_all n m gap whole is whole_is =
+    let both = apart (eqb n m) gap (sym is ∙ whole_is) in ((λ same. both.0 (eq-eqb n m same)), both.1)
 
 kept_there : (o : Option KeptFields) (A : Type 0) → is_none o ≡ false → IfSome o (λ k. A) → A
 kept_there None A none it = absurd cc
