@@ -1,10 +1,11 @@
 -- What each probe reports of its table.
-use Rattle.std.proofs.Common.{◌≡◌, [], ◌∷◌, lit≤, refl}
-use Rattle.sqlite.specs.{Listing.listing_schema, Term.col}
+use Rattle.std.proofs.Common.{◌≡◌, [], lit≤, refl}
+use Rattle.sqlite.specs.Listing.{listing_schema}
 use Rattle.sqlite_tied.specs.Compute.{everything}
 use Rattle.sqlite_resolve.specs.Program as program
 use Rattle.sqlite_resolve.specs.Select.{ungrouped}
-use Rattle.sql_meanings.proofs.{Probing.ProbesAs, Texts.IsSelect, Texts.probes_by, Texts.select_of}
+use Rattle.sql_meanings.proofs.{Probing.ProbesAs, Texts.IsSelect, Texts.all_columns, Texts.all_places, Texts.probes_by}
+use Rattle.sql_meanings.proofs.Texts.{select_of}
 use Rattle.store_rows.specs.believed.BankTables as bank
 use Rattle.store_rows.specs.{Probes.probe_of, declared.probes.BankTable.BankTable}
 use Rattle.store_rows.specs.declared.probes.BankTable.TheVariants.{Meta, Branch, Teller, Account, History, Request}
@@ -12,17 +13,17 @@ use Rattle.store_rows.specs.declared.probes.BankTable.TheVariants.{Floor, Refere
 use Rattle.store_rows.specs.declared.texts.TheConstants.{PROBE_META, PROBE_BRANCH, PROBE_TELLER, PROBE_ACCOUNT}
 use Rattle.store_rows.specs.declared.texts.TheConstants.{PROBE_HISTORY, PROBE_REQUEST, PROBE_FLOOR, PROBE_REFERENCE}
 
-is_meta : IsSelect bank.meta PROBE_META.now 0 (0 ∷ 1 ∷ 2 ∷ [])
+is_meta : IsSelect bank.meta PROBE_META.now 0 (all_places bank.meta)
 unfolding everything
 is_meta = select_of bank.meta PROBE_META.now 0 _ _ _ _ _ _ _ _ _ refl refl refl (lit≤ tt) refl refl refl refl
     (λ tree. refl) (lit≤ tt)
 
 probes_meta : ProbesAs bank.meta PROBE_META.now
 unfolding is_meta everything listing_schema program.program ungrouped
-probes_meta = probes_by bank.meta PROBE_META.now _ is_meta (col 1 0 ∷ col 1 2 ∷ col 1 3 ∷ []) refl refl refl
+probes_meta = probes_by bank.meta PROBE_META.now _ is_meta (all_columns bank.meta) refl refl refl
     (λ schema p tree has. rw (has.low, has.found)) refl
 
-is_branch : IsSelect bank.branch PROBE_BRANCH.now 0 (0 ∷ 1 ∷ 2 ∷ [])
+is_branch : IsSelect bank.branch PROBE_BRANCH.now 0 (all_places bank.branch)
 unfolding everything
 is_branch = select_of bank.branch PROBE_BRANCH.now 0 _ _ _ _ _ _ _ _ _ refl refl refl (lit≤ tt) refl refl refl
     refl
@@ -30,11 +31,11 @@ is_branch = select_of bank.branch PROBE_BRANCH.now 0 _ _ _ _ _ _ _ _ _ refl refl
 
 probes_branch : ProbesAs bank.branch PROBE_BRANCH.now
 unfolding is_branch everything listing_schema program.program ungrouped
-probes_branch = probes_by bank.branch PROBE_BRANCH.now _ is_branch (col 1 0 ∷ col 1 2 ∷ col 1 3 ∷ []) refl refl
+probes_branch = probes_by bank.branch PROBE_BRANCH.now _ is_branch (all_columns bank.branch) refl refl
     refl
     (λ schema p tree has. rw (has.low, has.found)) refl
 
-is_teller : IsSelect bank.teller PROBE_TELLER.now 0 (0 ∷ 1 ∷ [])
+is_teller : IsSelect bank.teller PROBE_TELLER.now 0 (all_places bank.teller)
 unfolding everything
 is_teller = select_of bank.teller PROBE_TELLER.now 0 _ _ _ _ _ _ _ _ _ refl refl refl (lit≤ tt) refl refl refl
     refl
@@ -42,10 +43,10 @@ is_teller = select_of bank.teller PROBE_TELLER.now 0 _ _ _ _ _ _ _ _ _ refl refl
 
 probes_teller : ProbesAs bank.teller PROBE_TELLER.now
 unfolding is_teller everything listing_schema program.program ungrouped
-probes_teller = probes_by bank.teller PROBE_TELLER.now _ is_teller (col 1 0 ∷ col 1 2 ∷ []) refl refl refl
+probes_teller = probes_by bank.teller PROBE_TELLER.now _ is_teller (all_columns bank.teller) refl refl refl
     (λ schema p tree has. rw (has.low, has.found)) refl
 
-is_account : IsSelect bank.account PROBE_ACCOUNT.now 0 (0 ∷ 1 ∷ [])
+is_account : IsSelect bank.account PROBE_ACCOUNT.now 0 (all_places bank.account)
 unfolding everything
 is_account = select_of bank.account PROBE_ACCOUNT.now 0 _ _ _ _ _ _ _ _ _ refl refl refl (lit≤ tt) refl refl
     refl refl
@@ -53,10 +54,10 @@ is_account = select_of bank.account PROBE_ACCOUNT.now 0 _ _ _ _ _ _ _ _ _ refl r
 
 probes_account : ProbesAs bank.account PROBE_ACCOUNT.now
 unfolding is_account everything listing_schema program.program ungrouped
-probes_account = probes_by bank.account PROBE_ACCOUNT.now _ is_account (col 1 0 ∷ col 1 2 ∷ []) refl refl refl
+probes_account = probes_by bank.account PROBE_ACCOUNT.now _ is_account (all_columns bank.account) refl refl refl
     (λ schema p tree has. rw (has.low, has.found)) refl
 
-is_history : IsSelect bank.history PROBE_HISTORY.now 0 (0 ∷ 1 ∷ 2 ∷ 3 ∷ 4 ∷ 5 ∷ [])
+is_history : IsSelect bank.history PROBE_HISTORY.now 0 (all_places bank.history)
 unfolding everything
 is_history = select_of bank.history PROBE_HISTORY.now 0 _ _ _ _ _ _ _ _ _ refl refl refl (lit≤ tt) refl refl
     refl refl
@@ -64,11 +65,10 @@ is_history = select_of bank.history PROBE_HISTORY.now 0 _ _ _ _ _ _ _ _ _ refl r
 
 probes_history : ProbesAs bank.history PROBE_HISTORY.now
 unfolding is_history everything listing_schema program.program ungrouped
-probes_history = probes_by bank.history PROBE_HISTORY.now _ is_history
-    (col 1 0 ∷ col 1 2 ∷ col 1 3 ∷ col 1 4 ∷ col 1 5 ∷ col 1 6 ∷ []) refl refl refl
+probes_history = probes_by bank.history PROBE_HISTORY.now _ is_history (all_columns bank.history) refl refl refl
     (λ schema p tree has. rw (has.low, has.found)) refl
 
-is_request : IsSelect bank.request PROBE_REQUEST.now 0 (0 ∷ 1 ∷ 2 ∷ 3 ∷ 4 ∷ 5 ∷ 6 ∷ 7 ∷ [])
+is_request : IsSelect bank.request PROBE_REQUEST.now 0 (all_places bank.request)
 unfolding everything
 is_request = select_of bank.request PROBE_REQUEST.now 0 _ _ _ _ _ _ _ _ _ refl refl refl (lit≤ tt) refl refl
     refl refl
@@ -76,11 +76,10 @@ is_request = select_of bank.request PROBE_REQUEST.now 0 _ _ _ _ _ _ _ _ _ refl r
 
 probes_request : ProbesAs bank.request PROBE_REQUEST.now
 unfolding is_request everything listing_schema program.program ungrouped
-probes_request = probes_by bank.request PROBE_REQUEST.now _ is_request
-    (col 1 0 ∷ col 1 2 ∷ col 1 3 ∷ col 1 4 ∷ col 1 5 ∷ col 1 6 ∷ col 1 7 ∷ col 1 8 ∷ []) refl refl refl
+probes_request = probes_by bank.request PROBE_REQUEST.now _ is_request (all_columns bank.request) refl refl refl
     (λ schema p tree has. rw (has.low, has.found)) refl
 
-is_floor : IsSelect bank.floor PROBE_FLOOR.now 0 (0 ∷ 1 ∷ [])
+is_floor : IsSelect bank.floor PROBE_FLOOR.now 0 (all_places bank.floor)
 unfolding everything
 is_floor = select_of bank.floor PROBE_FLOOR.now 0 _ _ _ _ _ _ _ _ _ refl refl refl (lit≤ tt) refl refl refl
     refl
@@ -88,10 +87,10 @@ is_floor = select_of bank.floor PROBE_FLOOR.now 0 _ _ _ _ _ _ _ _ _ refl refl re
 
 probes_floor : ProbesAs bank.floor PROBE_FLOOR.now
 unfolding is_floor everything listing_schema program.program ungrouped
-probes_floor = probes_by bank.floor PROBE_FLOOR.now _ is_floor (col 1 0 ∷ col 1 2 ∷ []) refl refl refl
+probes_floor = probes_by bank.floor PROBE_FLOOR.now _ is_floor (all_columns bank.floor) refl refl refl
     (λ schema p tree has. rw (has.low, has.found)) refl
 
-is_reference : IsSelect bank.reference PROBE_REFERENCE.now 0 (0 ∷ 1 ∷ [])
+is_reference : IsSelect bank.reference PROBE_REFERENCE.now 0 (all_places bank.reference)
 unfolding everything
 is_reference = select_of bank.reference PROBE_REFERENCE.now 0 _ _ _ _ _ _ _ _ _ refl refl refl (lit≤ tt) refl
     refl refl refl
@@ -99,7 +98,7 @@ is_reference = select_of bank.reference PROBE_REFERENCE.now 0 _ _ _ _ _ _ _ _ _ 
 
 probes_reference : ProbesAs bank.reference PROBE_REFERENCE.now
 unfolding is_reference everything listing_schema program.program ungrouped
-probes_reference = probes_by bank.reference PROBE_REFERENCE.now _ is_reference (col 1 0 ∷ col 1 2 ∷ []) refl
+probes_reference = probes_by bank.reference PROBE_REFERENCE.now _ is_reference (all_columns bank.reference) refl
     refl refl
     (λ schema p tree has. rw (has.low, has.found)) refl
 

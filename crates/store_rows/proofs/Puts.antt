@@ -36,22 +36,22 @@ pub record PutsEntries : Type 0 where
 pub puts : PutsEntries
 unfolding everything
 puts = record {
-  meta = puts_by bank.meta text.ADD_META.now (given first_row) first_row 2 _ _ _ refl refl refl refl
+  meta = puts_by bank.meta text.ADD_META.now (given first_row) first_row _ _ _ refl refl refl refl
       (λ _ _. refl) (lit≤ tt) refl (λ _. refl) (refl, refl) tt (λ _. refl)
       (meta_checked (pos 1) (Null ∷ Int VERSION ∷ Int (pos 0) ∷ []) refl);
-  branch = λ r. puts_by bank.branch text.ADD_BRANCH.now (given (branch_entry r)) (branch_entry r) 2 _ _ _ refl
+  branch = λ r. puts_by bank.branch text.ADD_BRANCH.now (given (branch_entry r)) (branch_entry r) _ _ _ refl
       refl refl refl (λ _ _. refl) (lit≤ tt) refl (λ _. refl) (refl, refl) tt (λ _. refl) refl;
-  teller = λ r. puts_by bank.teller text.ADD_TELLER.now (given (teller_entry r)) (teller_entry r) 1 _ _ _ refl
+  teller = λ r. puts_by bank.teller text.ADD_TELLER.now (given (teller_entry r)) (teller_entry r) _ _ _ refl
       refl refl refl (λ _ _. refl) (lit≤ tt) refl (λ _. refl) (refl, refl) tt (λ _. refl) refl;
-  account = λ r. puts_by bank.account text.ADD_ACCOUNT.now (given (account_entry r)) (account_entry r) 1 _ _ _
+  account = λ r. puts_by bank.account text.ADD_ACCOUNT.now (given (account_entry r)) (account_entry r) _ _ _
       refl refl refl refl (λ _ _. refl) (lit≤ tt) refl (λ _. refl) (refl, refl) tt (λ _. refl) refl;
-  posting = λ r. puts_by bank.history text.ADD_HISTORY.now (given (history_entry r)) (history_entry r) 5 _ _ _
+  posting = λ r. puts_by bank.history text.ADD_HISTORY.now (given (history_entry r)) (history_entry r) _ _ _
       refl refl refl refl (λ _ _. refl) (lit≤ tt) refl (λ _. refl) (refl, refl) tt (λ _. refl) refl;
-  request = λ r. puts_by bank.request text.ADD_REQUEST.now (given (request_entry r)) (request_entry r) 7 _ _ _
+  request = λ r. puts_by bank.request text.ADD_REQUEST.now (given (request_entry r)) (request_entry r) _ _ _
       refl refl refl refl (λ _ _. refl) (lit≤ tt) refl (λ _. refl) (refl, refl) tt (λ _. refl) refl;
-  floor = λ r. puts_by bank.floor text.ADD_FLOOR.now (given (floor_entry r)) (floor_entry r) 1 _ _ _ refl
+  floor = λ r. puts_by bank.floor text.ADD_FLOOR.now (given (floor_entry r)) (floor_entry r) _ _ _ refl
       refl refl refl (λ _ _. refl) (lit≤ tt) refl (λ _. refl) (refl, refl) tt (λ _. refl) refl;
   reference = λ r short. puts_by bank.reference text.ADD_REFERENCE.now (given (reference_entry r))
-      (reference_entry r) 1 _ _ _ refl refl refl refl (λ _ _. refl) (lit≤ tt) refl (λ _. refl) (refl, refl)
+      (reference_entry r) _ _ _ refl refl refl refl (λ _ _. refl) (lit≤ tt) refl (λ _. refl) (refl, refl)
       (short, tt) (λ _. refl) refl;
 }

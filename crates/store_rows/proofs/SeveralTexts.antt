@@ -5,7 +5,7 @@ use Rattle.posting_rules.specs.declared.rows.{HistoryRow.HistoryRow, RequestRow.
 use Rattle.sqlite.specs.Table.{Table}
 use Rattle.sqlite_tied.specs.Compute.{everything}
 use Rattle.sql_meanings.specs.believed.Entries.{Entry}
-use Rattle.sql_meanings.proofs.{PutRows.PutsEachAs, SeveralRows.IsRowOf, Texts.each_terms, Texts.puts_each_by}
+use Rattle.sql_meanings.proofs.{PutRows.PutsEachAs, SeveralRows.IsRowOf, Texts.puts_each_by}
 use Rattle.store_rows.specs.believed.BankTables as bank
 use Rattle.store_rows.specs.believed.{SeveralRows.given, View.history_entry, View.request_entry}
 use Rattle.store_rows.specs.declared.texts.TheConstants as text
@@ -33,7 +33,7 @@ unfolding everything
 eight_postings a b c d e f g h =
     let rows = a ∷ b ∷ c ∷ d ∷ e ∷ f ∷ g ∷ h ∷ [] in
     puts_each_by bank.history text.ADD_EIGHT_POSTINGS.now (flat_map given (map history_entry rows))
-    (map history_entry rows) (each_terms 5 0 8) 7 _ _ _ refl refl refl refl (λ _ _. refl) (lit≤ tt) refl
+    (map history_entry rows) _ _ _ refl refl refl refl (λ _ _. refl) (lit≤ tt) refl
     (λ _. refl) (are_rows bank.history history_entry posting_is rows) (λ _. refl)
 
 pub eight_requests : (a b c d e f g h : RequestRow)
@@ -43,5 +43,5 @@ unfolding everything
 eight_requests a b c d e f g h =
     let rows = a ∷ b ∷ c ∷ d ∷ e ∷ f ∷ g ∷ h ∷ [] in
     puts_each_by bank.request text.ADD_EIGHT_REQUESTS.now (flat_map given (map request_entry rows))
-    (map request_entry rows) (each_terms 7 0 8) 9 _ _ _ refl refl refl refl (λ _ _. refl) (lit≤ tt) refl
+    (map request_entry rows) _ _ _ refl refl refl refl (λ _ _. refl) (lit≤ tt) refl
     (λ _. refl) (are_rows bank.request request_entry request_is rows) (λ _. refl)

@@ -1,8 +1,9 @@
 -- The tables of the bank, each with its typed rows: what a statement on one of them leaves is said once for
 -- all.
 use Rattle.std.proofs.Common.{◌++◌, ◌+◌, length, ◌≡◌, ℕ, ◌≤◌, pos, Bool, true, cond, nat_eq, is_some, List, [], ◌∷◌}
-use Rattle.std.proofs.Common.{map, find, slice_get, slice_set, Some, Option, Ok, Err, Result, refl, sym, ap, subst}
+use Rattle.std.proofs.Common.{drop, map, find, take, slice_get, slice_set, Some, Option, Ok, Err, Result, refl, sym, ap, subst}
 use Rattle.std.proofs.Common.{◌∙◌}
+use Rattle.std.specs.List.{flat_map}
 use Rattle.sqlite.specs.{Order.Row, Effect.Database, State.State, State.ExecutesInside, Table.Table}
 use Rattle.sqlite.specs.{declared.error.Error.Error, declared.types.Value.TheVariants.Int}
 use Rattle.sqlite_sql.specs.Ops.{fits_i64}
@@ -37,6 +38,16 @@ pub record Kind (R : Type 0) : Type 0 where
   pub again : (t : Tables) (rs : List R) → rows (having rs t) ≡ rs
   pub is_plain : IsPlain (uncounted table)
 
+-- the names of its key, of its columns of numbers and of those of texts after them
+abbrev key_name : Table → List ℕ
+key_name table = flat_map (λ c. c.name) (take 1 table.columns)
+
+abbrev number_names : Table → List (List ℕ)
+number_names table = map (λ c. c.name) (take (width_of table).0 (drop 1 table.columns))
+
+abbrev text_names : Table → List (List ℕ)
+text_names table = map (λ c. c.name) (drop (1 + (width_of table).0) table.columns)
+
 -- a table of a key, numbers and texts, where all that computes
 abbrev pub kind_of : {R : Type 0} (place : ℕ) (table : Table) (key : R → ℕ) (entry : R → Entry)
     (rows : Tables → List R)
@@ -44,13 +55,14 @@ abbrev pub kind_of : {R : Type 0} (place : ℕ) (table : Table) (key : R → ℕ
     → slice_get bank_tables place ≡ Some (uncounted table)
     → ((t : Tables) → slice_get (contents t) place ≡ Some (map entry (rows t)))
     → ((t : Tables) (rs : List R) → slice_set (contents t) place (map entry rs) ≡ contents (having rs t))
-    → ((t : Tables) (rs : List R) → rows (having rs t) ≡ rs) → (k : List ℕ) (names texts : List (List ℕ))
-    → table.references ≡ []
-    → table.key ≡ Some 0 → table.computed ≡ [] → width_of table ≡ (length names, length texts)
-    → length names + length texts ≤ 1999
-    → table.columns ≡ key_column k ∷ (map number_column names ++ map text_column texts) → Kind R
-kind_of place table key entry rows having keyed listed has replaced again k names texts free at_first
-    uncomputed wide narrow columns = record {
+    → ((t : Tables) (rs : List R) → rows (having rs t) ≡ rs) → table.references ≡ []
+    → table.key ≡ Some 0 → table.computed ≡ []
+    → width_of table ≡ (length (number_names table), length (text_names table))
+    → length (number_names table) + length (text_names table) ≤ 1999
+    → table.columns ≡ key_column (key_name table)
+    ∷ (map number_column (number_names table) ++ map text_column (text_names table)) → Kind R
+kind_of place table key entry rows having keyed listed has replaced again free at_first uncomputed wide narrow
+    columns = record {
       place = place;
       table = table;
       key = key;
@@ -66,9 +78,9 @@ kind_of place table key entry rows having keyed listed has replaced again k name
         free = free;
         keyed = at_first;
         uncomputed = uncomputed;
-        key = k;
-        names = names;
-        texts = texts;
+        key = key_name table;
+        names = number_names table;
+        texts = text_names table;
         columns = columns;
         width = wide;
         narrow = narrow;
