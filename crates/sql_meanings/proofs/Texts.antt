@@ -27,15 +27,15 @@ use Rattle.std.specs.Prelude.{◌≡◌, ◌≤◌, ◌<◌, ◌∷◌, ◌+◌,
 use Rattle.std.specs.List.{range_with_len}
 
 -- how many columns a table has after its key
-abbrev pub after_key : Table → ℕ
-after_key table = length table.columns - 1
+abbrev pub count_after_key : Table → ℕ
+count_after_key table = length table.columns - 1
 
 -- the places of all its columns, and what they show: the key is the row's own number
-abbrev pub all_places : Table → List ℕ
-all_places table = range_with_len 0 (length table.columns)
+abbrev pub places_of : Table → List ℕ
+places_of table = range_with_len 0 (length table.columns)
 
-abbrev pub all_columns : Table → List Term
-all_columns table = col 1 0 ∷ map (col 1) (range_with_len 2 (after_key table))
+abbrev pub columns_of : Table → List Term
+columns_of table = col 1 0 ∷ map (col 1) (range_with_len 2 (count_after_key table))
 
 -- a SELECT as it is written: it shows the columns at these places of one table
 pub record IsSelect (table : Table) (text : List ℕ) (count : ℕ) (places : List ℕ) : Type 0 where
@@ -188,21 +188,21 @@ pub puts_by : (table : Table) (text : List ℕ) (params : Row) (new : Entry) (P 
     → table.stamps.formats ≡ []
     → ((schema : Schema) (tree : ℕ)
     → new_rows schema (placed_at table tree) (small P.names + 0) columns rows ≡ Ok
-    (Values (put_terms (after_key table)) (after_key table + 2)))
+    (Values (put_terms (count_after_key table)) (count_after_key table + 2)))
     → length text ≤ P.tail → length params ≡ length P.names
-    → ((tree : ℕ) → value_rows (stamped (placed_at table tree) params) (after_key table + 2)
-    (length (put_terms (after_key table)) / (after_key table + 2)) (put_terms (after_key table))
+    → ((tree : ℕ) → value_rows (stamped (placed_at table tree) params) (count_after_key table + 2)
+    (length (put_terms (count_after_key table)) / (count_after_key table + 2)) (put_terms (count_after_key table))
     ≡ stored new ∷ [])
     → HasWidth (width_of table) new → AreShort new.texts
-    → ((tree : ℕ) → accepts_terms (put_terms (after_key table)) (stamped (placed_at table tree) params) ≡ true)
+    → ((tree : ℕ) → accepts_terms (put_terms (count_after_key table)) (stamped (placed_at table tree) params) ≡ true)
     → passes_checks table (stored new) ≡ true → PutsAs table text params new
 puts_by table text params new P columns rows parsed is plain untimed made whole counted gives wide
     short accepts passes = record {
-      terms = put_terms (after_key table);
-      width = after_key table + 2;
+      terms = put_terms (count_after_key table);
+      width = count_after_key table + 2;
       means = λ schema p tree has. means schema text (length params) _ _
           (inserts schema table.name p (placed_at table tree) has text P columns rows
-          (Values (put_terms (after_key table)) (after_key table + 2)) parsed is plain untimed
+          (Values (put_terms (count_after_key table)) (count_after_key table + 2)) parsed is plain untimed
           (made schema tree)) refl whole counted refl refl;
       gives = gives;
       wide = wide;
@@ -223,21 +223,21 @@ pub puts_each_by : (table : Table) (text : List ℕ) (params : Row) (news : List
     → P.formats ≡ []
     → table.stamps.formats ≡ []
     → ((schema : Schema) (tree : ℕ)
-    → new_rows schema (placed_at table tree) (small P.names + 0) columns rows ≡ Ok (Values (each_terms (after_key table) 0 (length news))
-    (after_key table + 2)))
+    → new_rows schema (placed_at table tree) (small P.names + 0) columns rows ≡ Ok (Values (each_terms (count_after_key table) 0 (length news))
+    (count_after_key table + 2)))
     → length text ≤ P.tail → length params ≡ length P.names
-    → ((tree : ℕ) → value_rows (stamped (placed_at table tree) params) (after_key table + 2) (length (each_terms (after_key table) 0 (length news)) / (after_key table + 2)) (each_terms (after_key table) 0 (length news))
+    → ((tree : ℕ) → value_rows (stamped (placed_at table tree) params) (count_after_key table + 2) (length (each_terms (count_after_key table) 0 (length news)) / (count_after_key table + 2)) (each_terms (count_after_key table) 0 (length news))
     ≡ map stored news)
     → AllByRecursion (IsRowOf table) news
-    → ((tree : ℕ) → accepts_terms (each_terms (after_key table) 0 (length news)) (stamped (placed_at table tree) params) ≡ true)
+    → ((tree : ℕ) → accepts_terms (each_terms (count_after_key table) 0 (length news)) (stamped (placed_at table tree) params) ≡ true)
     → PutsEachAs table text params news
 puts_each_by table text params news P columns rows parsed is plain untimed made whole counted gives
     are accepts = record {
-      terms = each_terms (after_key table) 0 (length news);
-      width = after_key table + 2;
+      terms = each_terms (count_after_key table) 0 (length news);
+      width = count_after_key table + 2;
       means = λ schema p tree has. means schema text (length params) _ _
-          (inserts schema table.name p (placed_at table tree) has text P columns rows (Values (each_terms (after_key table) 0 (length news))
-          (after_key table + 2)) parsed
+          (inserts schema table.name p (placed_at table tree) has text P columns rows (Values (each_terms (count_after_key table) 0 (length news))
+          (count_after_key table + 2)) parsed
           is plain untimed (made schema tree)) refl whole counted refl refl;
       gives = gives;
       are = are;

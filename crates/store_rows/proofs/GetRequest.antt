@@ -1,6 +1,6 @@
 -- The look-up of a request by its teller and number, of which UNIQUE leaves one at most.
 use Rattle.std.proofs.Common.{◌≡◌, ◌&&◌, ◌==◌, ℕ, ℤ, pos, true, false, List, [], ◌∷◌, codes, lit≤, refl, Ok}
-use Rattle.sqlite.specs.{Schema.Schema, Command.TheVariants.Select, Listing.understood, Term.Term, Term.col}
+use Rattle.sqlite.specs.{Schema.Schema, Command.TheVariants.Select, Listing.understood, Term.Term}
 use Rattle.sqlite.specs.{declared.types.Value.TheVariants.Int}
 use Rattle.sqlite_tied.specs.Compute.{everything}
 use Rattle.sqlite_draft.specs.declared.join.Step.TheVariants.{Inner}
@@ -12,7 +12,8 @@ use Rattle.sql_meanings.specs.{believed.Entries.has_two, StatementAnswers.OnlySh
 use Rattle.sql_meanings.specs.{Queries.by_two, Queries.two_are, Queries.no_limit, believed.Tables.placed_at}
 use Rattle.sql_meanings.proofs.{ByKey.Tests, ByKey.number_at, Means.Means, Means.means, ReadTables.ReadsAs}
 use Rattle.sql_meanings.proofs.{Selects.select_by_two, ShownColumns.outputs_at, ShownColumns.shows_named}
-use Rattle.sql_meanings.proofs.{Statements.HasTable, Texts.IsSelect, Texts.only_reads, Texts.select_of}
+use Rattle.sql_meanings.proofs.{Statements.HasTable, Texts.IsSelect, Texts.columns_of, Texts.only_reads}
+use Rattle.sql_meanings.proofs.Texts.{places_of, select_of}
 use Rattle.store_rows.specs.believed.{BankTables.request, View.request_entry}
 use Rattle.store_rows.specs.declared.texts.TheConstants.{GET_REQUEST}
 use Rattle.store_rows.proofs.RowLists.{same_number}
@@ -40,12 +41,12 @@ by_number tree = record {
 }
 
 abbrev outputs : ℕ → List Output
-outputs tree = outputs_at (placed_at request tree) (0 ∷ 1 ∷ 2 ∷ 3 ∷ 4 ∷ 5 ∷ 6 ∷ 7 ∷ [])
+outputs tree = outputs_at (placed_at request tree) (places_of request)
 
 abbrev pub project : List Term
-project = col 1 0 ∷ col 1 2 ∷ col 1 3 ∷ col 1 4 ∷ col 1 5 ∷ col 1 6 ∷ col 1 7 ∷ col 1 8 ∷ []
+project = columns_of request
 
-is_get : IsSelect request GET_REQUEST.now 2 (0 ∷ 1 ∷ 2 ∷ 3 ∷ 4 ∷ 5 ∷ 6 ∷ 7 ∷ [])
+is_get : IsSelect request GET_REQUEST.now 2 (places_of request)
 unfolding everything
 is_get = select_of request GET_REQUEST.now 2 _ _ _ _ _ _ _ _ _ refl refl refl (lit≤ tt) refl refl refl refl
     (λ tree. refl) (lit≤ tt)

@@ -4,7 +4,8 @@ use Rattle.sqlite.specs.Term.{col}
 use Rattle.sqlite_tied.specs.Compute.{everything}
 use Rattle.sqlite_resolve.specs.Program as program
 use Rattle.sqlite_resolve.specs.Select.{ungrouped}
-use Rattle.sql_meanings.proofs.{Keyed.Gets, Keyed.IsFirst, Keyed.first_key, Keyed.gets_by, Texts.select_of}
+use Rattle.sql_meanings.proofs.{Keyed.Gets, Keyed.IsFirst, Keyed.first_key, Keyed.gets_by, Texts.columns_of}
+use Rattle.sql_meanings.proofs.Texts.{places_of, select_of}
 use Rattle.store_rows.specs.believed.BankTables as bank
 use Rattle.store_rows.specs.declared.texts.TheConstants.{GET_META, GET_BRANCH, GET_TELLER, GET_ACCOUNT, GET_FLOOR}
 use Rattle.store_rows.specs.declared.texts.TheConstants.{GET_REFERENCE}
@@ -31,11 +32,11 @@ keys = record {
 
 pub record GetsRows : Type 0 where
   pub meta : Gets bank.meta GET_META.now (1 ∷ 2 ∷ []) (col 1 2 ∷ col 1 3 ∷ [])
-  pub branch : Gets bank.branch GET_BRANCH.now (0 ∷ 1 ∷ 2 ∷ []) (col 1 0 ∷ col 1 2 ∷ col 1 3 ∷ [])
+  pub branch : Gets bank.branch GET_BRANCH.now (places_of bank.branch) (columns_of bank.branch)
   pub teller : Gets bank.teller GET_TELLER.now (1 ∷ []) (col 1 2 ∷ [])
   pub account : Gets bank.account GET_ACCOUNT.now (1 ∷ []) (col 1 2 ∷ [])
-  pub floor : Gets bank.floor GET_FLOOR.now (0 ∷ 1 ∷ []) (col 1 0 ∷ col 1 2 ∷ [])
-  pub reference : Gets bank.reference GET_REFERENCE.now (0 ∷ 1 ∷ []) (col 1 0 ∷ col 1 2 ∷ [])
+  pub floor : Gets bank.floor GET_FLOOR.now (places_of bank.floor) (columns_of bank.floor)
+  pub reference : Gets bank.reference GET_REFERENCE.now (places_of bank.reference) (columns_of bank.reference)
 
 pub gets : GetsRows
 unfolding everything program.program ungrouped

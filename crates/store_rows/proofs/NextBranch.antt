@@ -1,6 +1,6 @@
 -- The look-up of the branch with the least number above one.
 use Rattle.std.proofs.Common.{◌≡◌, ℕ, ℤ, pos, true, false, List, [], ◌∷◌, codes, lit≤, refl, Ok}
-use Rattle.sqlite.specs.{Schema.Schema, Command.TheVariants.Select, Listing.understood, Term.Term, Term.col, Term.lit}
+use Rattle.sqlite.specs.{Schema.Schema, Command.TheVariants.Select, Listing.understood, Term.Term, Term.lit}
 use Rattle.sqlite.specs.{declared.types.Value.TheVariants.Int}
 use Rattle.sqlite_tied.specs.Compute.{everything}
 use Rattle.sqlite_draft.specs.declared.join.Step.TheVariants.{Inner}
@@ -11,17 +11,18 @@ use Rattle.sql_meanings.specs.{StatementAnswers.OnlyShows, believed.Tables.place
 use Rattle.sql_meanings.specs.Queries.{ascending, next_above, key_above}
 use Rattle.sql_meanings.proofs.{ByKey.key_at, Means.Means, Means.means, ReadTables.ReadsAs, Above.Beyond}
 use Rattle.sql_meanings.proofs.{Above.select_rising, ShownColumns.outputs_at, ShownColumns.shows_named}
-use Rattle.sql_meanings.proofs.{Statements.HasTable, Texts.IsSelect, Texts.only_reads, Texts.select_of}
+use Rattle.sql_meanings.proofs.{Statements.HasTable, Texts.IsSelect, Texts.columns_of, Texts.only_reads}
+use Rattle.sql_meanings.proofs.Texts.{places_of, select_of}
 use Rattle.store_rows.specs.{believed.BankTables.branch, declared.texts.TheConstants.NEXT_BRANCH}
 use Rattle.store_rows.proofs.Getting.{keys}
 
 abbrev outputs : ℕ → List Output
-outputs tree = outputs_at (placed_at branch tree) (0 ∷ 1 ∷ 2 ∷ [])
+outputs tree = outputs_at (placed_at branch tree) (places_of branch)
 
 abbrev pub project : List Term
-project = col 1 0 ∷ col 1 2 ∷ col 1 3 ∷ []
+project = columns_of branch
 
-is_next : IsSelect branch NEXT_BRANCH.now 1 (0 ∷ 1 ∷ 2 ∷ [])
+is_next : IsSelect branch NEXT_BRANCH.now 1 (places_of branch)
 unfolding everything
 is_next = select_of branch NEXT_BRANCH.now 1 _ _ _ _ _ _ _ _ _ refl refl refl (lit≤ tt) refl refl refl refl
     (λ tree. refl) (lit≤ tt)

@@ -4,7 +4,7 @@ use Rattle.sqlite.specs.Listing.{listing_schema}
 use Rattle.sqlite_tied.specs.Compute.{everything}
 use Rattle.sqlite_resolve.specs.Program as program
 use Rattle.sqlite_resolve.specs.Select.{ungrouped}
-use Rattle.sql_meanings.proofs.{Probing.ProbesAs, Texts.IsSelect, Texts.all_columns, Texts.all_places, Texts.probes_by}
+use Rattle.sql_meanings.proofs.{Probing.ProbesAs, Texts.IsSelect, Texts.columns_of, Texts.places_of, Texts.probes_by}
 use Rattle.sql_meanings.proofs.Texts.{select_of}
 use Rattle.store_rows.specs.believed.BankTables as bank
 use Rattle.store_rows.specs.{Probes.probe_of, declared.probes.BankTable.BankTable}
@@ -13,17 +13,17 @@ use Rattle.store_rows.specs.declared.probes.BankTable.TheVariants.{Floor, Refere
 use Rattle.store_rows.specs.declared.texts.TheConstants.{PROBE_META, PROBE_BRANCH, PROBE_TELLER, PROBE_ACCOUNT}
 use Rattle.store_rows.specs.declared.texts.TheConstants.{PROBE_HISTORY, PROBE_REQUEST, PROBE_FLOOR, PROBE_REFERENCE}
 
-is_meta : IsSelect bank.meta PROBE_META.now 0 (all_places bank.meta)
+is_meta : IsSelect bank.meta PROBE_META.now 0 (places_of bank.meta)
 unfolding everything
 is_meta = select_of bank.meta PROBE_META.now 0 _ _ _ _ _ _ _ _ _ refl refl refl (lit≤ tt) refl refl refl refl
     (λ tree. refl) (lit≤ tt)
 
 probes_meta : ProbesAs bank.meta PROBE_META.now
 unfolding is_meta everything listing_schema program.program ungrouped
-probes_meta = probes_by bank.meta PROBE_META.now _ is_meta (all_columns bank.meta) refl refl refl
+probes_meta = probes_by bank.meta PROBE_META.now _ is_meta (columns_of bank.meta) refl refl refl
     (λ schema p tree has. rw (has.low, has.found)) refl
 
-is_branch : IsSelect bank.branch PROBE_BRANCH.now 0 (all_places bank.branch)
+is_branch : IsSelect bank.branch PROBE_BRANCH.now 0 (places_of bank.branch)
 unfolding everything
 is_branch = select_of bank.branch PROBE_BRANCH.now 0 _ _ _ _ _ _ _ _ _ refl refl refl (lit≤ tt) refl refl refl
     refl
@@ -31,11 +31,11 @@ is_branch = select_of bank.branch PROBE_BRANCH.now 0 _ _ _ _ _ _ _ _ _ refl refl
 
 probes_branch : ProbesAs bank.branch PROBE_BRANCH.now
 unfolding is_branch everything listing_schema program.program ungrouped
-probes_branch = probes_by bank.branch PROBE_BRANCH.now _ is_branch (all_columns bank.branch) refl refl
+probes_branch = probes_by bank.branch PROBE_BRANCH.now _ is_branch (columns_of bank.branch) refl refl
     refl
     (λ schema p tree has. rw (has.low, has.found)) refl
 
-is_teller : IsSelect bank.teller PROBE_TELLER.now 0 (all_places bank.teller)
+is_teller : IsSelect bank.teller PROBE_TELLER.now 0 (places_of bank.teller)
 unfolding everything
 is_teller = select_of bank.teller PROBE_TELLER.now 0 _ _ _ _ _ _ _ _ _ refl refl refl (lit≤ tt) refl refl refl
     refl
@@ -43,10 +43,10 @@ is_teller = select_of bank.teller PROBE_TELLER.now 0 _ _ _ _ _ _ _ _ _ refl refl
 
 probes_teller : ProbesAs bank.teller PROBE_TELLER.now
 unfolding is_teller everything listing_schema program.program ungrouped
-probes_teller = probes_by bank.teller PROBE_TELLER.now _ is_teller (all_columns bank.teller) refl refl refl
+probes_teller = probes_by bank.teller PROBE_TELLER.now _ is_teller (columns_of bank.teller) refl refl refl
     (λ schema p tree has. rw (has.low, has.found)) refl
 
-is_account : IsSelect bank.account PROBE_ACCOUNT.now 0 (all_places bank.account)
+is_account : IsSelect bank.account PROBE_ACCOUNT.now 0 (places_of bank.account)
 unfolding everything
 is_account = select_of bank.account PROBE_ACCOUNT.now 0 _ _ _ _ _ _ _ _ _ refl refl refl (lit≤ tt) refl refl
     refl refl
@@ -54,10 +54,10 @@ is_account = select_of bank.account PROBE_ACCOUNT.now 0 _ _ _ _ _ _ _ _ _ refl r
 
 probes_account : ProbesAs bank.account PROBE_ACCOUNT.now
 unfolding is_account everything listing_schema program.program ungrouped
-probes_account = probes_by bank.account PROBE_ACCOUNT.now _ is_account (all_columns bank.account) refl refl refl
+probes_account = probes_by bank.account PROBE_ACCOUNT.now _ is_account (columns_of bank.account) refl refl refl
     (λ schema p tree has. rw (has.low, has.found)) refl
 
-is_history : IsSelect bank.history PROBE_HISTORY.now 0 (all_places bank.history)
+is_history : IsSelect bank.history PROBE_HISTORY.now 0 (places_of bank.history)
 unfolding everything
 is_history = select_of bank.history PROBE_HISTORY.now 0 _ _ _ _ _ _ _ _ _ refl refl refl (lit≤ tt) refl refl
     refl refl
@@ -65,10 +65,10 @@ is_history = select_of bank.history PROBE_HISTORY.now 0 _ _ _ _ _ _ _ _ _ refl r
 
 probes_history : ProbesAs bank.history PROBE_HISTORY.now
 unfolding is_history everything listing_schema program.program ungrouped
-probes_history = probes_by bank.history PROBE_HISTORY.now _ is_history (all_columns bank.history) refl refl refl
+probes_history = probes_by bank.history PROBE_HISTORY.now _ is_history (columns_of bank.history) refl refl refl
     (λ schema p tree has. rw (has.low, has.found)) refl
 
-is_request : IsSelect bank.request PROBE_REQUEST.now 0 (all_places bank.request)
+is_request : IsSelect bank.request PROBE_REQUEST.now 0 (places_of bank.request)
 unfolding everything
 is_request = select_of bank.request PROBE_REQUEST.now 0 _ _ _ _ _ _ _ _ _ refl refl refl (lit≤ tt) refl refl
     refl refl
@@ -76,10 +76,10 @@ is_request = select_of bank.request PROBE_REQUEST.now 0 _ _ _ _ _ _ _ _ _ refl r
 
 probes_request : ProbesAs bank.request PROBE_REQUEST.now
 unfolding is_request everything listing_schema program.program ungrouped
-probes_request = probes_by bank.request PROBE_REQUEST.now _ is_request (all_columns bank.request) refl refl refl
+probes_request = probes_by bank.request PROBE_REQUEST.now _ is_request (columns_of bank.request) refl refl refl
     (λ schema p tree has. rw (has.low, has.found)) refl
 
-is_floor : IsSelect bank.floor PROBE_FLOOR.now 0 (all_places bank.floor)
+is_floor : IsSelect bank.floor PROBE_FLOOR.now 0 (places_of bank.floor)
 unfolding everything
 is_floor = select_of bank.floor PROBE_FLOOR.now 0 _ _ _ _ _ _ _ _ _ refl refl refl (lit≤ tt) refl refl refl
     refl
@@ -87,10 +87,10 @@ is_floor = select_of bank.floor PROBE_FLOOR.now 0 _ _ _ _ _ _ _ _ _ refl refl re
 
 probes_floor : ProbesAs bank.floor PROBE_FLOOR.now
 unfolding is_floor everything listing_schema program.program ungrouped
-probes_floor = probes_by bank.floor PROBE_FLOOR.now _ is_floor (all_columns bank.floor) refl refl refl
+probes_floor = probes_by bank.floor PROBE_FLOOR.now _ is_floor (columns_of bank.floor) refl refl refl
     (λ schema p tree has. rw (has.low, has.found)) refl
 
-is_reference : IsSelect bank.reference PROBE_REFERENCE.now 0 (all_places bank.reference)
+is_reference : IsSelect bank.reference PROBE_REFERENCE.now 0 (places_of bank.reference)
 unfolding everything
 is_reference = select_of bank.reference PROBE_REFERENCE.now 0 _ _ _ _ _ _ _ _ _ refl refl refl (lit≤ tt) refl
     refl refl refl
@@ -98,7 +98,7 @@ is_reference = select_of bank.reference PROBE_REFERENCE.now 0 _ _ _ _ _ _ _ _ _ 
 
 probes_reference : ProbesAs bank.reference PROBE_REFERENCE.now
 unfolding is_reference everything listing_schema program.program ungrouped
-probes_reference = probes_by bank.reference PROBE_REFERENCE.now _ is_reference (all_columns bank.reference) refl
+probes_reference = probes_by bank.reference PROBE_REFERENCE.now _ is_reference (columns_of bank.reference) refl
     refl refl
     (λ schema p tree has. rw (has.low, has.found)) refl
 

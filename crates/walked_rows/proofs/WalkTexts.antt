@@ -2,7 +2,7 @@
 use Rattle.std.proofs.Common.{◌≡◌, ℕ, ℤ, pos, List, [], ◌∷◌, None, Some, Ok, codes, lit≤, refl, true, false}
 use Rattle.std.proofs.Common.{slice_get}
 use Rattle.sqlite.specs.{Order.Row, Schema.Schema, Table.Table, declared.types.Value.TheVariants.Int}
-use Rattle.sqlite.specs.Term.{Term, col, eval_all, lit}
+use Rattle.sqlite.specs.Term.{Term, eval_all, lit}
 use Rattle.sqlite_ast.specs.declared.Binary.TheVariants as binary
 use Rattle.sqlite_ast.specs.declared.{Expr.TheOpen.Expr-F, Expr.Expr, Expr.out-Expr, Sort.Sort, Sort.out-Sort}
 use Rattle.sqlite_draft.specs.declared.join.Step.TheVariants.{Inner}
@@ -18,13 +18,13 @@ use Rattle.sql_meanings.specs.believed.{Plain.key_column, Plain.number_column, T
 use Rattle.sql_meanings.specs.{Queries.ascending, Seeks.key_from, Seeks.next_from, Seeks.next_of_from}
 use Rattle.sql_meanings.proofs.{ByKey.Tests, ByKey.number_at, ReadTables.ReadsAs, ShownColumns.outputs_at}
 use Rattle.sql_meanings.proofs.{SeekTexts.seeks_by, SeekTexts.seeks_of_by, Statements.HasTable}
-use Rattle.sql_meanings.proofs.Texts.{IsSelect, only_reads, select_of}
+use Rattle.sql_meanings.proofs.Texts.{IsSelect, columns_of, only_reads, places_of, select_of}
 use Rattle.store_rows.specs.believed.BankTables as bank
 use Rattle.walked_rows.specs.{OnlyMeta.meta_with, References.text_shown, declared.ahead.TheConstants.AHEAD}
 use Rattle.walked_rows.specs.declared.texts.TheConstants.{ACCOUNTS_FROM, BRANCHES_FROM, FLOORS_FROM, METAS_FROM}
 use Rattle.walked_rows.specs.declared.texts.TheConstants.{POSTINGS_FROM, POSTINGS_OF, REFERENCES_FROM, REQUESTS_FROM}
 use Rattle.walked_rows.specs.declared.texts.TheConstants.{TELLERS_FROM}
-use Rattle.walked_rows.proofs.Shows.{shows_five, shows_one, shows_seven, shows_two, shows_text}
+use Rattle.walked_rows.proofs.Shows.{shows_all, shows_text}
 use Rattle.walked_rows.proofs.Sought.{Walks, WalksAs}
 
 -- the key of a table, where its name and its column compute
@@ -80,102 +80,100 @@ walks_by {table = table} {text = text} {places = places} is key project {sort = 
       whole = λ k. whole (Int k ∷ []);
     }
 
-is_tellers : IsSelect bank.teller TELLERS_FROM.now 1 (0 ∷ 1 ∷ [])
+is_tellers : IsSelect bank.teller TELLERS_FROM.now 1 (places_of bank.teller)
 unfolding everything
 is_tellers = select_of bank.teller TELLERS_FROM.now 1 _ _ _ _ _ _ _ _ _ refl refl refl (lit≤ tt) refl refl
     refl refl (λ tree. refl) (lit≤ tt)
 
-is_branches : IsSelect bank.branch BRANCHES_FROM.now 1 (0 ∷ 1 ∷ 2 ∷ [])
+is_branches : IsSelect bank.branch BRANCHES_FROM.now 1 (places_of bank.branch)
 unfolding everything
 is_branches = select_of bank.branch BRANCHES_FROM.now 1 _ _ _ _ _ _ _ _ _ refl refl refl (lit≤ tt) refl refl
     refl refl (λ tree. refl) (lit≤ tt)
 
-is_accounts : IsSelect bank.account ACCOUNTS_FROM.now 1 (0 ∷ 1 ∷ [])
+is_accounts : IsSelect bank.account ACCOUNTS_FROM.now 1 (places_of bank.account)
 unfolding everything
 is_accounts = select_of bank.account ACCOUNTS_FROM.now 1 _ _ _ _ _ _ _ _ _ refl refl refl (lit≤ tt) refl refl
     refl refl (λ tree. refl) (lit≤ tt)
 
-is_postings : IsSelect bank.history POSTINGS_FROM.now 1 (0 ∷ 1 ∷ 2 ∷ 3 ∷ 4 ∷ 5 ∷ [])
+is_postings : IsSelect bank.history POSTINGS_FROM.now 1 (places_of bank.history)
 unfolding everything
 is_postings = select_of bank.history POSTINGS_FROM.now 1 _ _ _ _ _ _ _ _ _ refl refl refl (lit≤ tt) refl refl
     refl refl (λ tree. refl) (lit≤ tt)
 
-is_requests : IsSelect bank.request REQUESTS_FROM.now 1 (0 ∷ 1 ∷ 2 ∷ 3 ∷ 4 ∷ 5 ∷ 6 ∷ 7 ∷ [])
+is_requests : IsSelect bank.request REQUESTS_FROM.now 1 (places_of bank.request)
 unfolding everything
 is_requests = select_of bank.request REQUESTS_FROM.now 1 _ _ _ _ _ _ _ _ _ refl refl refl (lit≤ tt) refl refl
     refl refl (λ tree. refl) (lit≤ tt)
 
 -- whatever CHECK it has
-is_metas : (checks : List Term) → IsSelect (meta_with checks) METAS_FROM.now 1 (0 ∷ 1 ∷ 2 ∷ [])
+is_metas : (checks : List Term) → IsSelect (meta_with checks) METAS_FROM.now 1 (places_of (meta_with checks))
 unfolding everything
 is_metas checks = select_of (meta_with checks) METAS_FROM.now 1 _ _ _ _ _ _ _ _ _ refl refl refl (lit≤ tt) refl refl
     refl refl (λ tree. refl) (lit≤ tt)
 
-is_floors : IsSelect bank.floor FLOORS_FROM.now 1 (0 ∷ 1 ∷ [])
+is_floors : IsSelect bank.floor FLOORS_FROM.now 1 (places_of bank.floor)
 unfolding everything
 is_floors = select_of bank.floor FLOORS_FROM.now 1 _ _ _ _ _ _ _ _ _ refl refl refl (lit≤ tt) refl refl
     refl refl (λ tree. refl) (lit≤ tt)
 
-is_references : IsSelect bank.reference REFERENCES_FROM.now 1 (0 ∷ 1 ∷ [])
+is_references : IsSelect bank.reference REFERENCES_FROM.now 1 (places_of bank.reference)
 unfolding everything
 is_references = select_of bank.reference REFERENCES_FROM.now 1 _ _ _ _ _ _ _ _ _ refl refl refl (lit≤ tt) refl
     refl refl refl (λ tree. refl) (lit≤ tt)
 
 pub walks_tellers : Walks bank.teller TELLERS_FROM.now
 unfolding is_tellers everything program.program ungrouped
-walks_tellers = walks_by is_tellers (codes "tid") (col 1 0 ∷ col 1 2 ∷ [])
+walks_tellers = walks_by is_tellers (codes "tid") (columns_of bank.teller)
     refl refl refl refl refl refl refl refl refl refl refl refl (λ tree. refl) (λ tree. refl) (λ tree. refl)
     (λ tree. refl) (λ tree. refl) (λ schema p tree has. rw (has.low, has.found))
-    (λ k schema p tree has. rw (has.low, has.found)) shows_one
+    (λ k schema p tree has. rw (has.low, has.found)) (shows_all bank.teller)
 
 pub walks_branches : Walks bank.branch BRANCHES_FROM.now
 unfolding is_branches everything program.program ungrouped
-walks_branches = walks_by is_branches (codes "bid") (col 1 0 ∷ col 1 2 ∷ col 1 3 ∷ [])
+walks_branches = walks_by is_branches (codes "bid") (columns_of bank.branch)
     refl refl refl refl refl refl refl refl refl refl refl refl (λ tree. refl) (λ tree. refl) (λ tree. refl)
     (λ tree. refl) (λ tree. refl) (λ schema p tree has. rw (has.low, has.found))
-    (λ k schema p tree has. rw (has.low, has.found)) shows_two
+    (λ k schema p tree has. rw (has.low, has.found)) (shows_all bank.branch)
 
 pub walks_accounts : Walks bank.account ACCOUNTS_FROM.now
 unfolding is_accounts everything program.program ungrouped
-walks_accounts = walks_by is_accounts (codes "aid") (col 1 0 ∷ col 1 2 ∷ [])
+walks_accounts = walks_by is_accounts (codes "aid") (columns_of bank.account)
     refl refl refl refl refl refl refl refl refl refl refl refl (λ tree. refl) (λ tree. refl) (λ tree. refl)
     (λ tree. refl) (λ tree. refl) (λ schema p tree has. rw (has.low, has.found))
-    (λ k schema p tree has. rw (has.low, has.found)) shows_one
+    (λ k schema p tree has. rw (has.low, has.found)) (shows_all bank.account)
 
 pub walks_postings : Walks bank.history POSTINGS_FROM.now
 unfolding is_postings everything program.program ungrouped
-walks_postings = walks_by is_postings (codes "ordinal")
-    (col 1 0 ∷ col 1 2 ∷ col 1 3 ∷ col 1 4 ∷ col 1 5 ∷ col 1 6 ∷ [])
+walks_postings = walks_by is_postings (codes "ordinal") (columns_of bank.history)
     refl refl refl refl refl refl refl refl refl refl refl refl (λ tree. refl) (λ tree. refl) (λ tree. refl)
     (λ tree. refl) (λ tree. refl) (λ schema p tree has. rw (has.low, has.found))
-    (λ k schema p tree has. rw (has.low, has.found)) shows_five
+    (λ k schema p tree has. rw (has.low, has.found)) (shows_all bank.history)
 
 pub walks_requests : Walks bank.request REQUESTS_FROM.now
 unfolding is_requests everything program.program ungrouped
-walks_requests = walks_by is_requests (codes "ordinal")
-    (col 1 0 ∷ col 1 2 ∷ col 1 3 ∷ col 1 4 ∷ col 1 5 ∷ col 1 6 ∷ col 1 7 ∷ col 1 8 ∷ [])
+walks_requests = walks_by is_requests (codes "ordinal") (columns_of bank.request)
     refl refl refl refl refl refl refl refl refl refl refl refl (λ tree. refl) (λ tree. refl) (λ tree. refl)
     (λ tree. refl) (λ tree. refl) (λ schema p tree has. rw (has.low, has.found))
-    (λ k schema p tree has. rw (has.low, has.found)) shows_seven
+    (λ k schema p tree has. rw (has.low, has.found)) (shows_all bank.request)
 
 pub walks_metas : (checks : List Term) → Walks (meta_with checks) METAS_FROM.now
 unfolding is_metas everything program.program ungrouped
-walks_metas checks = walks_by (is_metas checks) (codes "id") (col 1 0 ∷ col 1 2 ∷ col 1 3 ∷ [])
+walks_metas checks = walks_by (is_metas checks) (codes "id") (columns_of (meta_with checks))
     refl refl refl refl refl refl refl refl refl refl refl refl (λ tree. refl) (λ tree. refl) (λ tree. refl)
     (λ tree. refl) (λ tree. refl) (λ schema p tree has. rw (has.low, has.found))
-    (λ k schema p tree has. rw (has.low, has.found)) shows_two
+    (λ k schema p tree has. rw (has.low, has.found)) (shows_all (meta_with checks))
 
 pub walks_floors : Walks bank.floor FLOORS_FROM.now
 unfolding is_floors everything program.program ungrouped
-walks_floors = walks_by is_floors (codes "bid") (col 1 0 ∷ col 1 2 ∷ [])
+walks_floors = walks_by is_floors (codes "bid") (columns_of bank.floor)
     refl refl refl refl refl refl refl refl refl refl refl refl (λ tree. refl) (λ tree. refl) (λ tree. refl)
     (λ tree. refl) (λ tree. refl) (λ schema p tree has. rw (has.low, has.found))
-    (λ k schema p tree has. rw (has.low, has.found)) shows_one
+    (λ k schema p tree has. rw (has.low, has.found)) (shows_all bank.floor)
 
 -- each with its text
 pub walks_references : WalksAs text_shown bank.reference REFERENCES_FROM.now
 unfolding is_references everything program.program ungrouped
-walks_references = walks_by is_references (codes "ordinal") (col 1 0 ∷ col 1 2 ∷ [])
+walks_references = walks_by is_references (codes "ordinal") (columns_of bank.reference)
     refl refl refl refl refl refl refl refl refl refl refl refl (λ tree. refl) (λ tree. refl) (λ tree. refl)
     (λ tree. refl) (λ tree. refl) (λ schema p tree has. rw (has.low, has.found))
     (λ k schema p tree has. rw (has.low, has.found)) shows_text
@@ -193,7 +191,7 @@ account_of_history tree =
       by_bytes = refl;
     }
 
-pub is_postings_of : IsSelect bank.history POSTINGS_OF.now 2 (0 ∷ 1 ∷ 2 ∷ 3 ∷ 4 ∷ 5 ∷ [])
+pub is_postings_of : IsSelect bank.history POSTINGS_OF.now 2 (places_of bank.history)
 unfolding everything
 is_postings_of = select_of bank.history POSTINGS_OF.now 2 _ _ _ _ _ _ _ _ _ refl refl refl
     (lit≤ tt) refl refl refl refl
@@ -201,14 +199,14 @@ is_postings_of = select_of bank.history POSTINGS_OF.now 2 _ _ _ _ _ _ _ _ _ refl
 
 pub reads_postings_of : (one k : ℤ)
     → ReadsAs bank.history POSTINGS_OF.now (Int one ∷ Int k ∷ [])
-    (λ tree. next_of_from AHEAD tree (col 1 0 ∷ col 1 2 ∷ col 1 3 ∷ col 1 4 ∷ col 1 5 ∷ col 1 6 ∷ []))
+    (λ tree. next_of_from AHEAD tree (columns_of bank.history))
 unfolding is_postings_of account_of_history everything program.program ungrouped
 reads_postings_of one k = seeks_of_by bank.history POSTINGS_OF.now _ AHEAD
-    (col 1 0 ∷ col 1 2 ∷ col 1 3 ∷ col 1 4 ∷ col 1 5 ∷ col 1 6 ∷ []) (codes "ordinal")
+    (columns_of bank.history) (codes "ordinal")
     (key_of bank.history (codes "ordinal") (λ tree. refl) refl (λ tree. refl) (λ tree. refl))
     (λ tree. refl) (λ tree. refl)
     (codes "aid") account_of_history is_postings_of _ _ _ _ _ _ _ _ _ _ _ refl refl refl refl refl refl refl
     refl refl refl refl refl refl refl
     (λ schema p tree has. number_at schema p (placed_at bank.history tree) has.listed (codes "history")
-    (outputs_at (placed_at bank.history tree) (0 ∷ 1 ∷ 2 ∷ 3 ∷ 4 ∷ 5 ∷ [])) false 1 _ refl refl)
+    (outputs_at (placed_at bank.history tree) (places_of bank.history)) false 1 _ refl refl)
     (λ schema p tree has. rw (has.low, has.found)) one k (λ schema p tree has. rw (has.low, has.found))

@@ -5,7 +5,7 @@ use Rattle.sqlite.specs.{Held.state, declared.types.Value.TheVariants.Int}
 use Rattle.sql_meanings.proofs.Texts.{only_reads}
 use Rattle.store_rows.proofs.Lookups.{as_integer}
 use Rattle.store_rows.specs.believed.BankTables.{history}
-use Rattle.walked_rows.proofs.{Shows.shows_five, Sought.tells_of_from, Sought.tells_walk}
+use Rattle.walked_rows.proofs.{Shows.shows_all, Sought.tells_of_from, Sought.tells_walk}
 use Rattle.walked_rows.proofs.WalkTexts.{is_postings_of, reads_postings_of, walks_postings}
 use Rattle.walked_rows.proofs.postings.StoredPostingStoredRow.seek.Goals as goal
 
@@ -32,7 +32,7 @@ returns-in-Some-clause-told g c clean rows has =
     rw c.in-Some.is
     (tells_of_from (state g.S.Store c.args.conn.now)
     (state g.S.Store c.rows_shown-in-Some.new.conn) history refl rows has _ _ (λ v. v.items) one from
-    (reads_postings_of one from) (shows_five (Int one ∷ Int from ∷ [])) c.rows_shown-in-Some.result
+    (reads_postings_of one from) (shows_all history (Int one ∷ Int from ∷ [])) c.rows_shown-in-Some.result
     (rw (
       c.params-to_sql-in-Some.ensures,
       c.params-to_sql-in-Some-2.ensures,
