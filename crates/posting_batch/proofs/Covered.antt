@@ -16,7 +16,7 @@ use Rattle.posting_batch.specs.Overlay.{Overlay, by_slot, over, put_account, put
 use Rattle.posting_batch.specs.Placed.{placed, number_below, number_same, request_below}
 use Rattle.posting_batch.specs.Slots.{is_for, account_slot_key, teller_slot_key, branch_slot_key, floor_slot_key}
 use Rattle.posting_batch.specs.Slots.{empty_account, empty_teller, empty_branch, empty_floor}
-use Rattle.posting_batch.proofs.{KeptSlots.find-map, Orders.all-placed, Orders.rising_mapped}
+use Rattle.posting_batch.proofs.{KeptSlots.find-map, Orders.all-placed, Orders.rising_mapped, KeptSlots.there_mapped}
 use Rattle.posting_batch.proofs.{Overlaid.Fits, Overlaid.tables_made, SlotsInOrder.made_all}
 use Rattle.posting_batch.proofs.SlotsForRecords.{has_number, keeps_number, covers_all}
 
@@ -69,10 +69,6 @@ pub homes_all : (reads : List (Result RequestFields Bad)) → HasHomes (covering
 homes_all reads = homes_on no_slots reads (record { tellers = tt; accounts = tt; floors = tt })
 
 -- ---- slots that are filled
-
-there_mapped : {A : Type 0} (f : A → A) (o : Option A) → IsSome o → IsSome (option_map f o)
-there_mapped f None h = absurd cc
-there_mapped f (Some x) h = refl
 
 found_filled : {S : Type 0} (test : S → Bool) (f : S → S) → ((s : S) → test (f s) ≡ test s) → (slots : List S)
     → IsSome (find test slots) → IsSome (find test (map f slots))

@@ -20,12 +20,9 @@ use Rattle.posting_batch.specs.Slots.{is_for, slots_kept, with_kept, account_slo
 use Rattle.posting_batch.specs.Slots.{teller_slot_key, with_teller_changed, branch_slot_key, with_branch_changed}
 use Rattle.posting_batch.proofs.{KeptSlots.slot_for-kept, Orders.rising_mapped, Overlaid.Fits, Overlaid.found_is}
 use Rattle.posting_batch.proofs.StillFits.{with_is, with_fits, still_free}
+use Rattle.posting_batch.proofs.KeptSlots.{there_mapped}
 
 -- ---- slots go on covering what they covered
-
-there_mapped : {A : Type 0} (f : A → A) (o : Option A) → IsSome o → IsSome (option_map f o)
-there_mapped f None h = absurd cc
-there_mapped f (Some x) h = refl
 
 still_at : {S : Type 0} (key : S → ℕ) (k : ℕ) (set : S → S) → ((s : S) → key (set s) ≡ key s)
     → (slots : List S) (n : ℕ) → IsSome (row_at key slots n)

@@ -1,7 +1,7 @@
 -- What is kept in slots, where one request more is kept.
 use Rattle.std.proofs.Common.{◌≡◌, ℕ, Bool, true, false, cond, eqb, ltb, List, [], ◌∷◌, map, Option, Some, None, refl}
 use Rattle.std.proofs.Common.{sym, ap, subst, ◌∙◌, inl, inr}
-use Rattle.std.specs.Prelude.{◌&&◌, IfSome}
+use Rattle.std.specs.Prelude.{◌&&◌, IfSome, IsSome}
 use Rattle.std.specs.{List.find, Option.option_map}
 use Rattle.std.proofs.lemmas.Bool.{and_parts, eqb-true, eq-eqb}
 use Rattle.posting_rules.specs.declared.rows.{ReferenceRow.ReferenceRow, RequestRow.RequestRow}
@@ -26,9 +26,13 @@ find-map test f same (s ∷ slots) =
 abbrev is_of : ℕ → ℕ → RequestRow → Bool
 is_of n m r = (eqb r.teller n) && (eqb r.number m)
 
-map_none : {A B : Type 0} (f : A → B) (o : Option A) → option_map f o ≡ None → o ≡ None
+pub map_none : {A B : Type 0} (f : A → B) (o : Option A) → option_map f o ≡ None → o ≡ None
 map_none f None e = refl
 map_none f (Some x) e = absurd cc
+
+pub there_mapped : {A B : Type 0} (f : A → B) (o : Option A) → IsSome o → IsSome (option_map f o)
+there_mapped f None h = absurd cc
+there_mapped f (Some x) h = refl
 
 -- a row is put in that nobody looked for
 find-put_other : (x : RequestRow) (n m : ℕ) → is_of n m x ≡ false → (rows : List RequestRow)

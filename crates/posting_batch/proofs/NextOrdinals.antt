@@ -9,18 +9,14 @@ use Rattle.posting_rules.specs.believed.Cases.{case_of}
 use Rattle.posting_batch.specs.{believed.Batch.IsNextOrdinal, Overlay.Overlay}
 use Rattle.posting_batch.specs.Batch.{HasNextOrdinals, covering, covering_all}
 use Rattle.posting_batch.specs.Judging.{found_over, overlay_after, overlay_with, overlay_with_all, reference_after}
+use Rattle.posting_rules.proofs.Totals.{all_follow}
 
 -- ---- lists
 
-each_also : {R : Type 0} (P Q : R → Type 0) → ((r : R) → P r → Q r) → (rows : List R) → AllByRecursion P rows
-    → AllByRecursion Q rows
-each_also P Q also [] all = tt
-each_also P Q also (r ∷ rows) all = (also r all.0, each_also P Q also rows all.1)
-
-after : {R : Type 0} (P : R → Type 0) (rows : List R) (r : R) → AllByRecursion P rows → P r
-    → AllByRecursion P (rows ++ r ∷ [])
-after P [] r all one = (one, tt)
-after P (x ∷ rows) r all one = (all.0, after P rows r all.1 one)
+pub all_more : {A : Type 0} (P : A → Type 0) (xs ys : List A) → AllByRecursion P xs → AllByRecursion P ys
+    → AllByRecursion P (xs ++ ys)
+all_more P [] ys a b = b
+all_more P (x ∷ xs) ys a b = (a.0, all_more P xs ys a.1 b)
 
 -- ---- the ordinals of an overlay whose records are judged one after another
 
@@ -35,8 +31,8 @@ wider : {R : Type 0} (ordinal : R → ℕ) (first count : ℕ) (rows : List R)
     → AllByRecursion (λ r. IsNextOrdinal first count (ordinal r)) rows
     → AllByRecursion (λ r. IsNextOrdinal first (suc count) (ordinal r)) rows
 wider ordinal first count rows all =
-    each_also (λ r. IsNextOrdinal first count (ordinal r)) (λ r. IsNextOrdinal first (suc count) (ordinal r))
-    (λ r is. (is.0, let most = is.1 in omega arith)) rows all
+    all_follow (λ r. IsNextOrdinal first count (ordinal r)) (λ r. IsNextOrdinal first (suc count) (ordinal r)) rows
+    (λ r is. (is.0, let most = is.1 in omega arith)) all
 
 one_wider : (first count : ℕ) (o : Overlay) → Within first count o → Within first (suc count) o
 one_wider first count o it = record {
@@ -54,7 +50,8 @@ one_after : {R : Type 0} (ordinal : R → ℕ) (first count : ℕ) (rows : List 
     → IsNextOrdinal first (suc count) (ordinal r)
     → AllByRecursion (λ x. IsNextOrdinal first (suc count) (ordinal x)) (rows ++ r ∷ [])
 one_after ordinal first count rows r all one =
-    after (λ x. IsNextOrdinal first (suc count) (ordinal x)) rows r (wider ordinal first count rows all) one
+    all_more (λ x. IsNextOrdinal first (suc count) (ordinal x)) rows (r ∷ []) (wider ordinal first count rows all)
+    (one, tt)
 
 referred : (first count next : ℕ) (reference : Option (List ℕ)) (rows : List ReferenceRow)
     → AllByRecursion (λ r. IsNextOrdinal first count r.ordinal) rows → IsNextOrdinal first (suc count) next

@@ -31,10 +31,6 @@ has_request : (e : RequestSlot) (xs : List RequestSlot)
     → IsSome (find (is_for e.teller e.number) (placed request_below request_same e xs))
 has_request e xs = placed_has request_below request_same e (own e) xs
 
-keeps_request : (e : RequestSlot) (xs : List RequestSlot) (n m : ℕ) → IsSome (find (is_for n m) xs)
-    → IsSome (find (is_for n m) (placed request_below request_same e xs))
-keeps_request e xs n m there = placed_keeps request_below request_same e (is_for n m) xs there
-
 -- ---- slots for a record
 
 covers_new : (o : Overlay) (read : Result RequestFields Bad) → CoversRead (covering o read) read
@@ -69,7 +65,7 @@ covers_still o (Ok r) (Ok q) covers =
       its_branch = keeps (branch_of_account q.account) covers.its_branch;
       its_floor = keeps_number floor_slot_key (empty_floor (branch_of_account r.account)) o.floors
           (branch_of_account q.account) covers.its_floor;
-      kept = keeps_request (empty_request r.teller r.number) o.kept q.teller q.number covers.kept;
+      kept = placed_keeps request_below request_same (empty_request r.teller r.number) (is_for q.teller q.number) o.kept covers.kept;
     }
 
 covers_on : (o : Overlay) (reads : List (Result RequestFields Bad)) (other : Result RequestFields Bad)

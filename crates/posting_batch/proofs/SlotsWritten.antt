@@ -8,7 +8,7 @@ use Rattle.std.proofs.lemmas.Map.Keys.{IsDistinct-head, IsDistinct-tail}
 use Rattle.posting_rules.specs.believed.{Changes.row_changed, Tables.HasKeys, Tables.row_at}
 use Rattle.posting_rules.proofs.{Keyed.by_test, RowChanges.eqb-flip}
 use Rattle.posting_batch.specs.Overlay.{by_slot, over, changed_to}
-use Rattle.posting_batch.proofs.OverlaidRows.{key-by_slot, row_at-over}
+use Rattle.posting_batch.proofs.{OverlaidRows.key-by_slot, OverlaidRows.row_at-over, KeptSlots.there_mapped}
 
 -- no slot in front of another has its key
 pub not_before : {S : Type 0} (key : S → ℕ) (front : List S) (s : S) (rest : List S)
@@ -105,13 +105,9 @@ module _ {S R : Type 0} (slot_key : S → ℕ) (key : R → ℕ) (change_of : S 
       ∙ ap (λ (rs : List R). by_slot put (row_at slot_key (front ++ s ∷ []) (key r)) r ∷ rs)
       (over_more front s free rows)
 
-  mapped : {A : Type 0} (f : A → A) (o : Option A) → IsSome o → IsSome (option_map f o)
-  mapped f None h = absurd cc
-  mapped f (Some x) h = refl
-
   -- a row that was there is there while others are written
   pub over_there : (slots : List S) (rows : List R) (n : ℕ) → IsSome (row_at key rows n)
       → IsSome (row_at key (over slot_key key put slots rows) n)
   over_there slots rows n there =
       subst (λ (o : Option R). IsSome o) (sym (row_at-over slot_key key put same slots rows n))
-      (mapped (by_slot put (row_at slot_key slots n)) (row_at key rows n) there)
+      (there_mapped (by_slot put (row_at slot_key slots n)) (row_at key rows n) there)
