@@ -37,7 +37,7 @@ up_to rest g few through = record { few = few; long = g.long; wrote = g.wrote; t
 
 -- ---- how many bytes
 
-given-append : (xs ys : List ReadTold) → given (xs ++ ys) ≡ given xs + given ys
+pub given-append : (xs ys : List ReadTold) → given (xs ++ ys) ≡ given xs + given ys
 given-append [] ys = omega arith
 given-append (Gave n ∷ xs) ys = let e = given-append xs ys in omega arith
 given-append (Failed kind ∷ xs) ys = given-append xs ys

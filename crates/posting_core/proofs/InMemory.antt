@@ -39,10 +39,6 @@ pub branches_as_before : (t : Tables) (bs : List BranchRow) (ts : List TellerRow
     → bs ≡ t.branches → ts ≡ t.tellers → xs ≡ t.accounts → fs ≡ t.floors → with_branches t bs ts xs fs ≡ t
 branches_as_before t bs ts xs fs eb et ea ef = rw (eb, et, ea, ef) refl
 
-pub unmapped : {A B : Type 0} (f : A → B) (o : Option A) → option_map f o ≡ None → o ≡ None
-unmapped f None e = refl
-unmapped f (Some x) e = absurd cc
-
 -- ---- what the bank shows, whose rows are all that a crash leaves
 
 pub plain_shows : (bank : PlainBank) (log : List Command) → ShowsLog (plain_seen bank) log

@@ -95,7 +95,7 @@ writes {w = w} {w' = w'} (Err (Bank fault)) s log h shows =
 -- ---- what a crash leaves
 
 -- the bytes of so many replies acknowledge no more than these
-few_acknowledged : (xs ys : List (List ℕ)) (n : ℕ) → n ≤ length (joined xs)
+pub few_acknowledged : (xs ys : List (List ℕ)) (n : ℕ) → n ≤ length (joined xs)
     → acknowledged (xs ++ ys) n ≤ length xs
 few_acknowledged [] [] n le = omega arith
 few_acknowledged [] (y ∷ ys) zero le = omega arith

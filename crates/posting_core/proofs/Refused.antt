@@ -2,7 +2,7 @@
 use Rattle.std.proofs.Common.{◌≡◌, ◌≤◌, ◌<◌, ℕ, List, [], ◌∷◌, ◌++◌, length, Option, Err, refl, sym, ap, subst, ◌∙◌}
 use Rattle.std.proofs.Common.{length-append, arith}
 use Rattle.std.specs.List.{AllByRecursion}
-use Rattle.std.proofs.lemmas.List.{length-map}
+use Rattle.std.proofs.lemmas.List.{length-map, nil_from_length}
 use Rattle.posting_rules.specs.{declared.fault.Fault.Fault, declared.limits.TheConstants.RECORDS_PER_BATCH}
 use Rattle.posting_rules.specs.{believed.Commands.Command, believed.Commands.Post, believed.Counter.Seen}
 use Rattle.posting_rules.specs.{believed.Counter.Refuses, believed.Runs.posts, believed.Runs.ArePosts}
@@ -23,10 +23,6 @@ one_post_each (b ∷ bs) =
     length-append (posts b.moment b.records) (posts_of bs)
     ∙ (rw (length-map b.records (Post b.moment), one_post_each bs)
     (sym (length-append b.records (records_of bs))))
-
-none_long : {A : Type 0} (xs : List A) → length xs ≡ 0 → xs ≡ []
-none_long [] e = refl
-none_long (x ∷ xs) e = absurd (omega arith)
 
 -- ---- the bank refused a batch
 
@@ -71,7 +67,7 @@ refused_broken seen reason old stood new {r = r} {r' = r'} {done = done} {count 
       stood = stood;
       first = λ none. first (sym each ∙ ap length none);
       takes = g.takes;
-      up = λ d. let (before, none) = up d in (before, none_long (posts_of done) (each ∙ none));
+      up = λ d. let (before, none) = up d in (before, nil_from_length (posts_of done) (each ∙ none));
       refuses = a.refuses;
       why = why;
       tried = λ d. let e = down d in cc e;

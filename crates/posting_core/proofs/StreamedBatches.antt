@@ -14,11 +14,7 @@ use Rattle.posting_core.specs.believed.Batches.{posts_in, posts_of}
 use Rattle.posting_rules.proofs.Sequence.{after-append}
 use Rattle.posting_core.proofs.Batched.{joined_one_more, records_one_more, posts_of_one_more, replies_of_one_more}
 use Rattle.posting_core.proofs.Streaming.{Going}
-
-pub all_more : {A : Type 0} (P : A → Type 0) (xs ys : List A) → AllByRecursion P xs → AllByRecursion P ys
-    → AllByRecursion P (xs ++ ys)
-all_more P [] ys a b = b
-all_more P (x ∷ xs) ys a b = (a.0, all_more P xs ys a.1 b)
+pub use Rattle.posting_batch.proofs.NextOrdinals.{all_more}
 
 readings_more : (k k' k'' : Option (List ℕ)) (ms : List ℕ) (m : ℕ) → AreReadings k k' ms → IsReading k' k'' m
     → AreReadings k k'' (ms ++ m ∷ [])

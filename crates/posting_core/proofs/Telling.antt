@@ -10,6 +10,7 @@ use Rattle.posting_core.specs.believed.Told.{GrowsBy, EndsWith, IsEndOfInput, Re
 use Rattle.posting_core.specs.Told.{EndsWithMany, HasMore, HasReadFailed, HasWriteFailed, IsInterrupted}
 use Rattle.posting_core.specs.Told.{IsReadFailure, IsWornOut, IsWriteFailure, WriteTold, read_told, write_told}
 use Rattle.posting_core.specs.Told.{flush_told, IsFlush}
+use Rattle.posting_batch.proofs.NextOrdinals.{all_more}
 
 pub adds-more : {A : Type 0} (a b c : Option (List A)) (xs ys : List A) → GrowsBy a b xs → GrowsBy b c ys
     → GrowsBy a c (xs ++ ys)
@@ -105,18 +106,13 @@ pub record HasMadeOnly {A : Type 0} (P : A → Type 0) (old new : Option (List A
 pub only_none : {A : Type 0} (P : A → Type 0) (a : Option (List A)) → HasMadeOnly P a a 0
 only_none P a = record { calls = []; made = adds-none a; count_is = refl; are = tt }
 
-all_one_more : {A : Type 0} (P : A → Type 0) (xs : List A) (x : A) → AllByRecursion P xs → P x
-    → AllByRecursion P (xs ++ x ∷ [])
-all_one_more P [] x h p = (p, tt)
-all_one_more P (y ∷ ys) x h p = (h.0, all_one_more P ys x h.1 p)
-
 pub only_one : {A : Type 0} (P : A → Type 0) {a b c : Option (List A)} {count : ℕ} (x : A) (count' : ℕ)
     → HasMadeOnly P a b count → GrowsBy b c (x ∷ []) → P x → count' ≡ count + 1 → HasMadeOnly P a c count'
 only_one P {a = a} {b = b} {c = c} x count' h y p e = record {
   calls = h.calls ++ x ∷ [];
   made = adds-more a b c h.calls (x ∷ []) h.made y;
   count_is = omega (arith, length-append h.calls (x ∷ []), h.count_is);
-  are = all_one_more P h.calls x h.are p;
+  are = all_more P h.calls (x ∷ []) h.are (p, tt);
 }
 
 pub only_made : {A : Type 0} {P : A → Type 0} {a b : Option (List A)} {count : ℕ} → HasMadeOnly P a b count

@@ -5,8 +5,9 @@ use Rattle.posting_rules.specs.believed.Tables.{Tables, row_at, branch_key}
 use Rattle.posting_core.specs.{Appended.appended_opened, Plain.plain_tables}
 use Rattle.std.specs.Option.{option_map}
 use Rattle.posting_core.proofs.Appending.{opened_shown}
-use Rattle.posting_core.proofs.InMemory.{answered_plain, after_plain, branches_as_before, unmapped}
+use Rattle.posting_core.proofs.InMemory.{answered_plain, after_plain, branches_as_before}
 use Rattle.posting_core.proofs.plain_bank.PlainBankCounter.open_branch.Goals as goal
+use Rattle.posting_batch.proofs.KeptSlots.{map_none}
 
 pub returns-clause-call : goal.returns-clause-call
 returns-clause-call c =
@@ -16,7 +17,7 @@ returns-clause-call c =
     let same = branches_as_before t _ _ _ _ c.reserve.ensures.items c.reserve-2.ensures.items
     c.reserve-3.ensures.items c.reserve-4.ensures.items in
     let closed : row_at branch_key t.branches b ≡ None =
-    unmapped count_of_branch (row_at branch_key t.branches b)
+    map_none count_of_branch (row_at branch_key t.branches b)
     (ap (λ (rows : List BranchRow). option_map count_of_branch (row_at branch_key rows b))
     (sym c.deref.ensures.value)
     ∙ ap (λ (n : ℕ). option_map count_of_branch (row_at branch_key c.deref.result.now n))
