@@ -5,7 +5,7 @@ use Rattle.std.specs.{List.AllByRecursion, List.flat_map, declared.io.ErrorKind.
 use Rattle.std.proofs.lemmas.List.{map-append, Concat.flat_map-append}
 use Rattle.posting_rules.specs.{declared.fault.Fault.Fault, believed.Counter.Seen}
 use Rattle.posting_core.specs.believed.Told.{GrowsBy}
-use Rattle.posting_core.proofs.Telling.{adds-more, adds-none}
+use Rattle.posting_core.proofs.{StreamedBatches.all_more, Telling.adds-more, Telling.adds-none}
 use Rattle.counter_http.specs.{declared.fault.ServeFault.ServeFault, ListenFaults.after_connection}
 use Rattle.counter_http.specs.declared.fault.ServeFault.TheVariants as serve
 use Rattle.posting_rules.specs.declared.fault.Fault.TheVariants as bank
@@ -22,11 +22,6 @@ one_more : {C : Type 0} (seen : C → Seen) (reason : Fault → C → C → Type
 one_more seen reason [] c k old are one = (are.0, are.1, one, (refl, refl))
 one_more seen reason (d ∷ ds) c k old are one =
     (are.0, are.1, are.2, one_more seen reason ds c d.clock_after d.after are.3 one)
-
-pub all_and_one : {X : Type 0} (P : X → Type 0) (xs : List X) (x : X) → AllByRecursion P xs → P x
-    → AllByRecursion P (xs ++ x ∷ [])
-all_and_one P [] x all one = (one, tt)
-all_and_one P (y ∷ ys) x all one = (all.0, all_and_one P ys x all.1 one)
 
 -- ---- what a door returned
 
@@ -129,8 +124,8 @@ goes_on {C} seen reason known g g1 g2 g3 k k' k'' old mid new result n e chain o
     record {
       connections = more.connections ++ more.last ∷ [];
       are_served = more.are_served;
-      go_on = all_and_one (λ (c : Connection C). after_connection c.result ≡ Ok tt) more.connections more.last
-          more.go_on (ap after_connection more.result_is ∙ on);
+      go_on = all_more (λ (c : Connection C). after_connection c.result ≡ Ok tt) more.connections (more.last ∷ [])
+          more.go_on (ap after_connection more.result_is ∙ on, tt);
       count = more.count;
       given = more.given;
       own = more.own;
@@ -156,14 +151,8 @@ none_given seen reason known g g1 g2 k k' old new n all kind chain few refused =
 }
 
 never_network : (r : Result ℕ ServeFault) → after_connection r ≡ Err Network → ⊥
-never_network (Ok served) is = cc
-never_network (Err serve.Read) is = cc
-never_network (Err serve.Write) is = cc
-never_network (Err serve.Memory) is = cc
 never_network (Err (serve.Bank bank.Memory)) is = cc
-never_network (Err (serve.Bank bank.Store)) is = cc
-never_network (Err (serve.Bank bank.Down)) is = cc
-never_network (Err (serve.Bank (bank.Damaged rule))) is = cc
+never_network other is = cc
 
 pub ends : {C E : Type 0} (seen : C → Seen) (reason : Fault → C → C → Type 0) (known : E → Known)
     (g g1 g2 g3 : Option (List (DoorTold E))) (k k' k'' : Option (List ℕ)) (old mid new : C)

@@ -175,12 +175,9 @@ text_for seen old new (Err Memory) s log =
 -- what was written of it
 written_for : (result : Result ℕ ServeFault) (w w' : Option (List ℕ)) (written text : List ℕ)
     → Appends w w' written → AnswersAreWritten result written text → WritesAnswers result w w' text
-written_for (Ok count) w w' written text wrote is = subst (λ (x : List ℕ). Appends w w' x) is wrote
-written_for (Err Read) w w' written text wrote is = subst (λ (x : List ℕ). Appends w w' x) is wrote
 written_for (Err Write) w w' written text wrote is =
     (length written, subst (λ (x : List ℕ). Appends w w' x) is wrote)
-written_for (Err (Bank fault)) w w' written text wrote is = subst (λ (x : List ℕ). Appends w w' x) is wrote
-written_for (Err Memory) w w' written text wrote is = subst (λ (x : List ℕ). Appends w w' x) is wrote
+written_for other w w' written text wrote is = subst (λ (x : List ℕ). Appends w w' x) is wrote
 
 ended_for : {C : Type 0} (seen : C → Seen) {r r' : Option (List ℕ)} {q q' : Option (List ReadTold)}
     {w w' k k' : Option (List ℕ)} (old new : C) (result : Result ℕ ServeFault)
@@ -215,7 +212,7 @@ output_of seen {w = w} {w' = w'} old new result s =
 -- ---- what a crash leaves
 
 -- the first turns have no more commands than all
-commands_of_first : (n : ℕ) (ts : List Turn) → length (commands_of (take n ts)) ≤ length (commands_of ts)
+pub commands_of_first : (n : ℕ) (ts : List Turn) → length (commands_of (take n ts)) ≤ length (commands_of ts)
 commands_of_first n ts =
     let split = flat_map-append commands_in (take n ts) (drop n ts) in
     let all = ap commands_of (take-append-drop n ts) in

@@ -7,6 +7,7 @@ use Rattle.std.proofs.KnownBytes.{Appends-trans, Appends-nil}
 use Rattle.std.proofs.Math.Seq.{take-append-add, take-append_seam}
 use Rattle.std.proofs.lemmas.List.{length-append, length-take, take_all, take-append-drop, take-append-le}
 use Rattle.std.proofs.lemmas.List.{length-take-le}
+use Rattle.std.proofs.lemmas.Result.{on_ok_weaker}
 use Rattle.http.specs.StatusCode.{reason_phrase, code_digits}
 use Rattle.posting_core.specs.Told.{WriteTold}
 use Rattle.counter_http.specs.believed.Answers.{Answer, status_words, allow_line, close_line, answer_text, bare}
@@ -21,10 +22,6 @@ on_ok_true (Err x) p e = cc e
 pub on_err_true : {A E : Type 0} {P : Type 0} (r : Result A E) → OnErr r P → is_ok r ≡ false → P
 on_err_true (Ok x) p e = cc e
 on_err_true (Err x) p e = p
-
-on_ok_also : {A E : Type 0} {P Q : Type 0} (r : Result A E) → OnOk r P → (P → Q) → OnOk r Q
-on_ok_also (Ok x) p f = f p
-on_ok_also (Err x) p f = tt
 
 -- a prefix of a text is one of a longer text
 longer : (text more done : List ℕ) → done ≡ take (length done) text → done ≡ take (length done) (text ++ more)
@@ -131,8 +128,8 @@ telling {a = a} {b = b} {held = held} {text = text} e t =
     subst (λ (x : Bool). IsWrittenOrHeld a b x held text) e t
 
 -- what two texts at the front are
-front_four : (a b c d : List ℕ) → ((a ++ b) ++ c) ++ d ≡ a ++ ((b ++ c) ++ d)
-front_four a b c d = ap (λ (x : List ℕ). x ++ d) (append_assoc a b c) ∙ append_assoc a (b ++ c) d
+pub three : (t a b c : List ℕ) → ((t ++ a) ++ b) ++ c ≡ t ++ ((a ++ b) ++ c)
+three t a b c = simp append_assoc
 
 pub first_is : (a : Answer) (digits phrase : List ℕ) → digits ≡ code_digits a.code
     → phrase ≡ unwrap_or (reason_phrase a.code) []
@@ -142,7 +139,7 @@ unfolding first_lines status_words
 first_is a digits phrase d p =
     rw (d, p) (ap (λ (x : List ℕ). ((x ++ codes "\r\nContent-Type: ") ++ a.media)
     ++ codes "\r\nContent-Length: ")
-    (front_four (codes "HTTP/1.1 ") (code_digits a.code) (codes " ") (unwrap_or (reason_phrase a.code) [])))
+    (three (codes "HTTP/1.1 ") (code_digits a.code) (codes " ") (unwrap_or (reason_phrase a.code) [])))
 
 -- the reason phrase, where there is one
 pub phrase_is : {X : Type 0} (f : X → List ℕ) (o : Option X) (x : X) (r : Option (List ℕ)) → f x ≡ []
@@ -194,13 +191,10 @@ told_all a b c held text r t w =
       length t.written + w.0,
       subst (λ (x : List ℕ). Appends a c x) begins
           (Appends-trans a b c t.written (take w.0 held) t.wrote w.2),
-      on_ok_also r w.3 (λ e. omega (arith, e, len)),
+      on_ok_weaker r (λ e. omega (arith, e, len)) w.3,
     )
 
 -- ---- the lines after the length
-
-pub three : (t a b c : List ℕ) → ((t ++ a) ++ b) ++ c ≡ t ++ ((a ++ b) ++ c)
-three t a b c = simp append_assoc
 
 pub allowed : {X : Type 0} (f : X → List ℕ) (o : Option X) (x : X) → o ≡ Some x
     → (codes "Allow: " ++ f x) ++ codes "\r\n" ≡ allow_line (option_map f o)

@@ -8,9 +8,10 @@ use Rattle.std.proofs.{lemmas.List.length-append, lemmas.List.length-take-le, le
 use Rattle.std.proofs.{lemmas.List.take-append-le, Math.Seq.get_or-append_seam, Math.Seq.take-append_seam}
 use Rattle.posting_rules.specs.{believed.Commands.Command, believed.Counter.Seen, declared.fault.Fault.Fault}
 use Rattle.posting_core.specs.{Stream.given, believed.Batches.joined}
-use Rattle.posting_core.specs.believed.Told.{Failed, Gave, GrowsBy, ReadTold}
+use Rattle.posting_core.specs.believed.Told.{GrowsBy, ReadTold}
 use Rattle.posting_core.specs.Told.{Beside, IsThrough, WriteTold, read_told, unknown}
-use Rattle.posting_core.proofs.{Followed.gave_none, Followed.gave_some, Telling.adds-more, Telling.adds-none}
+use Rattle.posting_core.proofs.Followed.{gave_none, gave_some, given-append}
+use Rattle.posting_core.proofs.Telling.{adds-more, adds-none}
 use Rattle.counter_http.specs.{Outputs.AnswersWhole, believed.Serving.BeginsWithNoMessage, Next.asked, Next.IsWhole}
 use Rattle.counter_http.specs.{declared.next.Whole.Whole, Turns.TurnIsDealtWith}
 use Rattle.counter_http.specs.Prompt.{AnswersBeforeReads, HoldsAnswers, IsPrompt}
@@ -53,11 +54,6 @@ holds_as {w} {t} {c} {c'} {input} {input'} {sink} {sink'} one two h =
     (subst (λ (x : List ℕ). HoldsAnswers w t c c' x sink) one h)
 
 -- ---- one read more
-
-given-append : (xs ys : List ReadTold) → given (xs ++ ys) ≡ given xs + given ys
-given-append [] ys = omega arith
-given-append (Gave n ∷ xs) ys = let e = given-append xs ys in omega arith
-given-append (Failed kind ∷ xs) ys = given-append xs ys
 
 given_front : (n : ℕ) (xs : List ReadTold) → given (take n xs) ≤ given xs
 given_front n xs =

@@ -7,6 +7,7 @@ use Rattle.std.specs.List.{list_any, AllByRecursion, position_or_len}
 use Rattle.std.specs.{Str.IsUtf8, Str.is_utf8, Option.option_map}
 use Rattle.std.proofs.lemmas.Str.{IsUtf8-from_is_utf8, is_utf8-from_IsUtf8}
 use Rattle.std.proofs.lemmas.Bool.{cases_Bool, cases_eq, cases_lt, le-ltb, ne_eqb, lt-ltb}
+use Rattle.posting_rules.proofs.RowChanges.{eqb-flip}
 use Rattle.matchit.specs.{Rows.RowsOf, Router.RouteOf}
 use Rattle.counter_http.specs.declared.routes.Route.{Route, TheVariants.Posting, TheVariants.Branches}
 use Rattle.matchit.specs.Seek.{step, or_else, param_step, seek, first, has_slash}
@@ -58,12 +59,6 @@ literal_step rs b path e f =
 abbrev row : List ℕ → RouteOf Route → Rs
 row text k = (text, k) ∷ []
 
-eqb_sym : (a b : ℕ) → eqb a b ≡ eqb b a
-eqb_sym a b = elim (cases_eq a b) [
-  | inl e ↦ rw e refl
-  | inr n ↦ ne_eqb a b n ∙ sym (ne_eqb b a (λ e. n (sym e)))
-]
-
 apart : (x y : ℕ) → x < y → eqb x y ≡ false
 apart x y lt = ne_eqb x y (λ e. absurd (omega arith))
 
@@ -81,8 +76,8 @@ seek_row (x ∷ text) k (b ∷ path) all =
     literal_step (row (x ∷ text) k) b path (step_other x 256 text k (apart x 256 all.0))
     (step_other x 257 text k (apart x 257 (omega (arith, all.0))))
     ∙ elim (cases_Bool (eqb x b)) [
-      | inl t ↦ let u : eqb b x ≡ true = eqb_sym b x ∙ t in rw (t, u) (seek_row text k path all.1)
-      | inr f ↦ let u : eqb b x ≡ false = eqb_sym b x ∙ f in rw (f, u) (seek_none 0 path)
+      | inl t ↦ let u : eqb b x ≡ true = eqb-flip b x ∙ t in rw (t, u) (seek_row text k path all.1)
+      | inr f ↦ let u : eqb b x ≡ false = eqb-flip b x ∙ f in rw (f, u) (seek_none 0 path)
     ]
 
 -- ---- a row that ends with a parameter
@@ -139,9 +134,9 @@ seek_account (x ∷ lit) k (b ∷ path) all bytes =
     literal_step (row (x ∷ (lit ++ 256 ∷ [])) k) b path (step_other x 256 _ k (apart x 256 all.0))
     (step_other x 257 _ k (apart x 257 (omega (arith, all.0))))
     ∙ elim (cases_Bool (eqb x b)) [
-      | inl t ↦ let u : eqb b x ≡ true = eqb_sym b x
+      | inl t ↦ let u : eqb b x ≡ true = eqb-flip b x
           ∙ t in rw (t, u, ltb_suc (length lit) (length path)) (seek_account lit k path all.1 bytes.1)
-      | inr f ↦ let u : eqb b x ≡ false = eqb_sym b x ∙ f in rw (f, u) (seek_none 0 path)
+      | inr f ↦ let u : eqb b x ≡ false = eqb-flip b x ∙ f in rw (f, u) (seek_none 0 path)
     ]
 
 -- ---- the three routes
@@ -187,9 +182,9 @@ second_post q =
 second_other : (c : ℕ) (q : List ℕ) → eqb c 97 ≡ false → eqb c 98 ≡ false → eqb c 112 ≡ false
     → option_map value_in (seek 0 after_slash (c ∷ q)) ≡ route_named (47 ∷ c ∷ q)
 second_other c q a b p =
-    let a' : eqb 97 c ≡ false = eqb_sym 97 c ∙ a in
-    let b' : eqb 98 c ≡ false = eqb_sym 98 c ∙ b in
-    let p' : eqb 112 c ≡ false = eqb_sym 112 c ∙ p in
+    let a' : eqb 97 c ≡ false = eqb-flip 97 c ∙ a in
+    let b' : eqb 98 c ≡ false = eqb-flip 98 c ∙ b in
+    let p' : eqb 112 c ≡ false = eqb-flip 112 c ∙ p in
     let none : step c after_slash ≡ no_rows = rw (a', b', p') refl in
     ap (option_map value_in) (literal_step after_slash c q refl refl ∙ ap (λ (rs : Rs). seek 0 rs q) none
     ∙ seek_none 0 q)
@@ -220,7 +215,7 @@ routed (b ∷ p) bytes = elim (cases_eq b 47) [
       (ap (option_map value_in) (literal_step all_routes 47 p refl refl) ∙ second p bytes.1)
   | inr n ↦
       let u : eqb b 47 ≡ false = ne_eqb b 47 n in
-      let v : eqb 47 b ≡ false = eqb_sym 47 b ∙ u in
+      let v : eqb 47 b ≡ false = eqb-flip 47 b ∙ u in
       let none : step b all_routes ≡ no_rows = rw v refl in
       ap (option_map value_in) (literal_step all_routes b p refl refl ∙ ap (λ (rs : Rs). seek 0 rs p) none
       ∙ seek_none 0 p) ∙ (rw u refl)

@@ -2,7 +2,7 @@
 use Rattle.std.proofs.Common.{◌≡◌, ℕ, Bool, true, false, cond, eqb, List, [], ◌∷◌, ◌++◌, map, Option, Some, None}
 use Rattle.std.proofs.Common.{refl, sym, ap, subst, ◌∙◌, inl, inr}
 use Rattle.std.specs.Prelude.{ℤ, nat_eq, IsSome}
-use Rattle.std.specs.{List.AllByRecursion, Option.option_map, Option.option_or}
+use Rattle.std.specs.{List.AllByRecursion, Option.option_or}
 use Rattle.std.proofs.lemmas.{Bool.eqb-true, List.Folds.find-append}
 use Rattle.std.proofs.lemmas.Map.Keys.{IsDistinct-head, IsDistinct-tail}
 use Rattle.posting_rules.specs.believed.{Changes.row_changed, Tables.HasKeys, Tables.row_at}

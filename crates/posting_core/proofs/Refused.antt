@@ -1,6 +1,6 @@
 -- What stands where the bank refused a batch of a stream.
 use Rattle.std.proofs.Common.{◌≡◌, ◌≤◌, ◌<◌, ℕ, List, [], ◌∷◌, ◌++◌, length, Option, Err, refl, sym, ap, subst, ◌∙◌}
-use Rattle.std.proofs.Common.{length-append, arith}
+use Rattle.std.proofs.Common.{length-append}
 use Rattle.std.specs.List.{AllByRecursion}
 use Rattle.std.proofs.lemmas.List.{length-map, nil_from_length}
 use Rattle.posting_rules.specs.{declared.fault.Fault.Fault, declared.limits.TheConstants.RECORDS_PER_BATCH}
@@ -10,8 +10,7 @@ use Rattle.posting_rules.specs.declared.fault.Fault.TheVariants.{Memory, Store, 
 use Rattle.posting_core.specs.{declared.stream.StreamFault.StreamFault, Batches.BreaksOff, Stream.IfTaken}
 use Rattle.posting_core.specs.declared.stream.StreamFault.TheVariants.{Truncated, Read, Write, Bank}
 use Rattle.posting_core.specs.believed.Batches.{Batch, IsRecord, joined, records_of, posts_of}
-use Rattle.posting_core.specs.believed.Stream.{IfBank, IsRefusedAfterBatches, UnlessDown, posted_records}
-use Rattle.posting_core.specs.believed.Stream.{whole_records}
+use Rattle.posting_core.specs.believed.Stream.{IfBank, IsRefusedAfterBatches, UnlessDown, posted_records, whole_records}
 use Rattle.posting_core.proofs.Batched.{all_posts, posted_is, posts_of_one_more, whole_records_are}
 use Rattle.posting_core.proofs.{Streaming.Going, StreamedBatches.read_batch, StreamedBatches.whole_batch}
 

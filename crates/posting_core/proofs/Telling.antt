@@ -7,9 +7,8 @@ use Rattle.std.specs.{IoError.error_kind, contracts.io.ErrorKind.the_type, List.
 use Rattle.std.specs.declared.io.{Error.Error, ErrorKind.ErrorKind, ErrorKind.TheVariants.Interrupted}
 use denote.Enum.Bare.{sameb, same_true}
 use Rattle.posting_core.specs.believed.Told.{GrowsBy, EndsWith, IsEndOfInput, ReadTold}
-use Rattle.posting_core.specs.Told.{EndsWithMany, HasMore, HasReadFailed, HasWriteFailed, IsInterrupted}
-use Rattle.posting_core.specs.Told.{IsReadFailure, IsWornOut, IsWriteFailure, WriteTold, read_told, write_told}
-use Rattle.posting_core.specs.Told.{flush_told, IsFlush}
+use Rattle.posting_core.specs.Told.{EndsWithMany, HasMore, HasReadFailed, HasWriteFailed, IsInterrupted, IsReadFailure}
+use Rattle.posting_core.specs.Told.{IsWornOut, IsWriteFailure, WriteTold, read_told, write_told, flush_told, IsFlush}
 use Rattle.posting_batch.proofs.NextOrdinals.{all_more}
 
 pub adds-more : {A : Type 0} (a b c : Option (List A)) (xs ys : List A) → GrowsBy a b xs → GrowsBy b c ys
