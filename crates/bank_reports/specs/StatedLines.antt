@@ -1,26 +1,19 @@
 -- The statement of an account after a log: its posted requests in order, each with the balance after it.
-use Rattle.std.specs.Prelude.{ℕ, pos, ◌+◌, ◌==◌, ◌&&◌, Bool, List, [], ◌∷◌, ◌++◌, length, if◌then◌else◌}
-use Rattle.walked_rows.specs.declared.postings.StoredPosting.{StoredPosting}
+use Rattle.std.specs.Prelude.{ℕ, ◌+◌, ◌==◌, ◌&&◌, Bool, List, [], ◌∷◌, ◌++◌, length, if◌then◌else◌}
 use Rattle.walked_rows.specs.declared.stated.StatedPosting.{StatedPosting}
 use Rattle.posting_rules.specs.believed.Commands.{Command}
 use Rattle.posting_rules.specs.believed.Entries.{DecidedRequest, is_posted, account_balance, decided}
+use Rattle.posting_rules.specs.believed.Tables.{history_row_of}
 use Rattle.report_contents.specs.Lines.{text_of}
+use Rattle.report_contents.specs.Stored.{posting_stored}
 use Rattle.report_contents.specs.StatementText.{heading_line, names_line, posting_line, closing_line}
 
--- a posting under its ordinal, as a file has it
-abbrev pub posting_of : ℕ → DecidedRequest → StoredPosting
-posting_of ordinal e = record {
-  ordinal = ordinal;
-  account = pos e.request.account;
-  teller = pos e.request.teller;
-  branch = pos e.request.branch;
-  delta = e.request.delta;
-  moment = e.moment;
-}
-
--- with the reference of its request
+-- a posting under its ordinal, as a file has it, with the reference of its request
 abbrev pub stated_of : ℕ → DecidedRequest → StatedPosting
-stated_of ordinal e = record { posting = posting_of ordinal e; reference = e.request.reference }
+stated_of ordinal e = record {
+  posting = posting_stored (history_row_of ordinal e);
+  reference = e.request.reference;
+}
 
 -- it was posted to this account
 abbrev pub is_posted_to : ℕ → DecidedRequest → Bool
