@@ -1,14 +1,14 @@
 -- The two are one row.
-use Rattle.std.proofs.Common.{sym, ◌∙◌}
-use Rattle.bank_replays.proofs.SameNumbers.{posting_rows}
+use Rattle.std.proofs.Common.{[], ◌∷◌, sym, ap, ◌∙◌}
+use Rattle.walked_rows.specs.StepOutcomes.{entry_of}
+use Rattle.bank_replays.proofs.SameNumbers.{number, same_numbers, whole}
 use Rattle.bank_replays.proofs.compared.StoredPostingCompared.is_same.Goals as goal
 
 pub returns : goal.returns
 returns c are =
-    posting_rows c.args.self.now.ordinal c.args.due.now.ordinal
-    c.args.self.now.account c.args.due.now.account
-    c.args.self.now.teller c.args.due.now.teller
-    c.args.self.now.branch c.args.due.now.branch
-    c.args.self.now.delta c.args.due.now.delta
-    c.args.self.now.moment c.args.due.now.moment
-    (sym c.eq.ensures ∙ are)
+    let s = c.args.self.now in
+    let d = c.args.due.now in
+    ap entry_of (same_numbers
+    (whole s.ordinal d.ordinal ∷ number s.account d.account ∷ number s.teller d.teller ∷ number s.branch d.branch
+    ∷ number s.delta d.delta ∷ whole s.moment d.moment ∷ [])
+    (sym c.eq.ensures ∙ are))
