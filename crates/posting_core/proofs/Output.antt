@@ -113,12 +113,9 @@ part_short t u e = omega (arith, ap length e, length-take (length t) u)
 written_few : {r r' w w' k k' : Option (List ℕ)} {c c' : Seen} (result : Result ℕ StreamFault)
     (s : Streamed r r' w w' k k' c c' result) (log : List Command)
     → c'.honest → ShowsLog c log → length s.written ≤ length (joined (replies_to log (posts_of s.taken)))
-written_few (Ok count) s log h shows = let e = ap length (s.replies h log shows) in omega arith
-written_few (Err (Truncated n)) s log h shows = let e = ap length (s.replies h log shows) in omega arith
-written_few (Err Read) s log h shows = let e = ap length (s.replies h log shows) in omega arith
 written_few (Err Write) s log h shows = part_short s.written (joined (replies_to log (posts_of s.taken)))
     (s.replies h log shows)
-written_few (Err (Bank fault)) s log h shows = let e = ap length (s.replies h log shows) in omega arith
+written_few other s log h shows = let e = ap length (s.replies h log shows) in omega arith
 
 -- what was acknowledged was taken
 acknowledged_taken : (log : List Command) (bs refused : List Batch) (n : ℕ)

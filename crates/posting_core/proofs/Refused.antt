@@ -90,7 +90,6 @@ pub up_broken : (v v' : Option (List ℕ)) (old stood new : Seen) (cs : List Com
 up_broken v v' old stood new cs Write a up before = λ d. absurd (up d)
 up_broken v v' old stood new cs (Bank Memory) a up before = λ d. before (a.refuses.down d)
 up_broken v v' old stood new cs (Bank Store) a up before = tt
-up_broken v v' old stood new cs (Bank Down) a up before = tt
-up_broken v v' old stood new cs (Bank (Damaged rule)) a up before = tt
 up_broken v v' old stood new cs Read a up before = absurd a
 up_broken v v' old stood new cs (Truncated n) a up before = absurd a
+up_broken v v' old stood new cs other a up before = tt

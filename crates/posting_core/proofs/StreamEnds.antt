@@ -5,7 +5,7 @@ use Rattle.std.specs.{List.AllByRecursion, Io.KnownBytes.Consumes, Io.KnownBytes
 use Rattle.std.proofs.KnownBytes.{Appends-trans, Appends-kept}
 use Rattle.posting_rules.specs.{declared.fault.Fault.Fault, believed.Commands.Command, believed.Tables.AreTablesOf}
 use Rattle.posting_rules.specs.declared.limits.TheConstants.{RECORDS_PER_BATCH}
-use Rattle.posting_rules.specs.declared.fault.Fault.TheVariants.{Memory, Store, Down, Damaged}
+use Rattle.posting_rules.specs.declared.fault.Fault.TheVariants.{Memory}
 use Rattle.posting_core.specs.{declared.stream.StreamFault.StreamFault, believed.Clock.AreReadings, Clock.IsReading}
 use Rattle.posting_core.specs.{Batches.BreaksOff, believed.Told.ReadTold, Told.Beside, Told.WriteTold}
 use Rattle.posting_core.specs.declared.stream.StreamFault.TheVariants.{Truncated, Read, Write, Bank}
@@ -119,9 +119,7 @@ unchanged_shows c c' log u s = record {
 refused_shows : (fault : Fault) (c c' : Seen) (log cs : List Command) → Refuses fault c c' cs → ShowsLog c log
     → IfUp fault (ShowsLog c' log)
 refused_shows Memory c c' log cs u s = unchanged_shows c c' log u s
-refused_shows Store c c' log cs u s = tt
-refused_shows Down c c' log cs u s = tt
-refused_shows (Damaged rule) c c' log cs u s = tt
+refused_shows other c c' log cs u s = tt
 
 refused_stands : (fault : Fault) (c c' : Seen) (log cs : List Command) → Refuses fault c c' cs
     → StandsAt c log → IfUp fault (StandsAt c' log)
@@ -130,9 +128,7 @@ refused_stands Memory c c' log cs u s = record {
   up = λ d. s.up (u.down d);
   survives = leaves_still c c' (λ t. AreTablesOf t log) u.left s.survives;
 }
-refused_stands Store c c' log cs u s = tt
-refused_stands Down c c' log cs u s = tt
-refused_stands (Damaged rule) c c' log cs u s = tt
+refused_stands other c c' log cs u s = tt
 
 -- a batch broke off
 pub end_broken : (fault : StreamFault) {r r' w w' w'' k k' k'' : Option (List ℕ)}

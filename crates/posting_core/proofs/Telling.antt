@@ -102,9 +102,6 @@ pub record HasMadeOnly {A : Type 0} (P : A → Type 0) (old new : Option (List A
   pub count_is : length calls ≡ count
   pub are : AllByRecursion P calls
 
-pub only_none : {A : Type 0} (P : A → Type 0) (a : Option (List A)) → HasMadeOnly P a a 0
-only_none P a = record { calls = []; made = adds-none a; count_is = refl; are = tt }
-
 pub only_one : {A : Type 0} (P : A → Type 0) {a b c : Option (List A)} {count : ℕ} (x : A) (count' : ℕ)
     → HasMadeOnly P a b count → GrowsBy b c (x ∷ []) → P x → count' ≡ count + 1 → HasMadeOnly P a c count'
 only_one P {a = a} {b = b} {c = c} x count' h y p e = record {

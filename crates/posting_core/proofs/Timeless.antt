@@ -8,7 +8,7 @@ use Rattle.message_records.specs.believed.Records.{RequestFields, ReplyFields}
 use Rattle.message_records.specs.believed.{Reading.request_of, Spelling.reply_spelling}
 use Rattle.posting_rules.specs.{declared.judgments.Found.Found, believed.Kept.KeptFields, believed.Cases.case_of}
 use Rattle.posting_rules.specs.declared.judgments.Verdict.{Verdict}
-use Rattle.posting_rules.specs.declared.judgments.Verdict.TheVariants.{Unkept, Again, Refused, Posted}
+use Rattle.posting_rules.specs.declared.judgments.Verdict.TheVariants.{Unkept}
 use Rattle.posting_rules.specs.believed.Numbering.{branch_of_teller, branch_of_account}
 use Rattle.posting_rules.specs.believed.Commands.{Command, Post, opened, is_teller_open, is_account_open, Terms}
 use Rattle.posting_rules.specs.believed.Commands.{floor_of}
@@ -77,9 +77,7 @@ reply_zeroed opened es (Err e) = refl
 verdict_zeroed : (m : ℕ) (r : RequestFields) (v : Verdict) (es : List DecidedRequest)
     → zeroed (with_verdict m r v es) ≡ with_verdict 0 r v (zeroed es)
 verdict_zeroed m r (Unkept o) es = refl
-verdict_zeroed m r (Again a) es = refl
-verdict_zeroed m r (Refused o) es = refl
-verdict_zeroed m r (Posted a t b) es = refl
+verdict_zeroed m r other es = refl
 
 pub record_zeroed : (m : ℕ) (opened : ℕ → Option Terms) (es : List DecidedRequest)
     (read : Result RequestFields Bad)
