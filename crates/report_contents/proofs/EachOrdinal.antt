@@ -6,16 +6,6 @@ use Rattle.std.proofs.lemmas.Map.Keys.{IsDistinct-head, IsDistinct-tail}
 use Rattle.posting_rules.specs.believed.Tables.{row_at, HasKeys}
 
 module _ {R : Type 0} (key : R → ℕ) where
-  -- a row that is found has the key, and what holds of all rows holds of it
-  pub found : (P : R → Type 0) (rows : List R) (o : ℕ) (r : R) → row_at key rows o ≡ Some r
-      → AllByRecursion P rows → (key r ≡ o) × P r
-  found P [] o r h all = absurd cc
-  found P (x ∷ xs) o r h all = elim (cases_Bool (eqb (key x) o)) [
-    | inl t ↦ let same : x ≡ r = let e = rw t at h in cc in
-        subst (λ y. (key y ≡ o) × P y) same (eqb-true (key x) o t, all.0)
-    | inr f ↦ found P xs o r (rw f at h) all.1
-  ]
-
   -- each row is found under its key, if that is its alone
   pub each_found : (P : R → Type 0) (rows : List R) → HasKeys key rows
       → ((r : R) → row_at key rows (key r) ≡ Some r → P r) → AllByRecursion P rows

@@ -1,16 +1,9 @@
 -- Small facts of lists, tests and look-ups.
-use Rattle.std.proofs.Common.{◌≡◌, Bool, true, false, not, ◌&&◌, List, [], ◌∷◌, ◌++◌, map}
+use Rattle.std.proofs.Common.{◌≡◌, Bool, true, false, ◌&&◌, List, [], ◌∷◌, ◌++◌, map}
 use Rattle.std.proofs.Common.{FitsSigned, filter, length, refl, inl, inr, arith, of_z, rules, w64}
 use Rattle.std.specs.Prelude.{ℤ, ◌==◌}
 use Rattle.std.specs.{List.AllByRecursion, Ordering.int_eq}
 use Rattle.std.proofs.{Math.Dec.eqb, lemmas.Bool.cases_Bool, lemmas.Bool.eqb-true, lemmas.Int.ints}
-
-pub not_false : (b : Bool) → not b ≡ false → b ≡ true
-not_false true h = refl
-not_false false h = absurd cc
-
-pub true_not : (b : Bool) → b ≡ true → not b ≡ false
-true_not b h = rw h refl
 
 pub same_int : (a b : ℤ) → int_eq a b ≡ true → a ≡ b
 same_int a b h = grind (arith, ints, h)

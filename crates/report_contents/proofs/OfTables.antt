@@ -1,14 +1,12 @@
 -- The same of tables of a bank.
 use Rattle.std.proofs.Common.{◌≡◌, ℕ, pos, Bool, true, eqb, List, [], ◌∷◌, map, filter, Option, Some, None, refl, sym}
 use Rattle.std.proofs.Common.{ap, subst, ◌∙◌, inl, inr, arith}
-use Rattle.std.specs.Prelude.{ℤ, ◌&&◌, nat_eq, nat_le, option_map}
+use Rattle.std.specs.Prelude.{◌&&◌, nat_eq, nat_le, option_map}
 use Rattle.std.specs.{List.AllByRecursion, List.IsDistinct, Ordering.int_eq}
 use Rattle.std.proofs.lemmas.{Bool.cases_Bool, Int.ints}
 use Rattle.message_records.specs.{believed.Outcomes.code_of, believed.Outcomes.has_balance}
 use Rattle.message_records.specs.{declared.records.Outcome.Outcome}
-use Rattle.message_records.specs.declared.records.Outcome.TheVariants.{Posted, NoTeller, WrongBranch, BelowFloor}
-use Rattle.message_records.specs.declared.records.Outcome.TheVariants.{NoAccount, OverLimit, ReusedNumber, Full}
-use Rattle.message_records.specs.declared.records.Outcome.TheVariants.{Malformed}
+use Rattle.message_records.specs.declared.records.Outcome.TheVariants.{Posted}
 use Rattle.posting_rules.specs.{declared.rows.HistoryRow.HistoryRow, believed.Numbering.branch_of_teller}
 use Rattle.posting_rules.specs.declared.rows.{RequestRow.RequestRow, TellerRow.TellerRow, BranchRow.BranchRow}
 use Rattle.posting_rules.specs.believed.Laws.{total, tellers_of, Match, IsConsistent}
@@ -22,15 +20,10 @@ use Rattle.report_contents.specs.Consistency.{TellsOfTables, IsSoundFile, HasOrd
 use Rattle.report_contents.proofs.{Lists.one_four, Lists.all_one_four, Lists.same_int, Lists.int_same, Telling.tells}
 
 -- a value of each row
-values : {X Y : Type 0} (f : X → Y) (v : Y → ℤ) (w : X → ℤ) → ((x : X) → v (f x) ≡ w x)
+values : {X Y Z : Type 0} (f : X → Y) (v : Y → Z) (w : X → Z) → ((x : X) → v (f x) ≡ w x)
     → (xs : List X) → map v (map f xs) ≡ map w xs
 values f v w same [] = refl
 values f v w same (x ∷ xs) = rw (same x, values f v w same xs) refl
-
-keys_are : {X Y : Type 0} (f : X → Y) (v : Y → ℕ) (w : X → ℕ) → ((x : X) → v (f x) ≡ w x)
-    → (xs : List X) → map v (map f xs) ≡ map w xs
-keys_are f v w same [] = refl
-keys_are f v w same (x ∷ xs) = rw (same x, keys_are f v w same xs) refl
 
 -- the row under a key
 under : {X Y : Type 0} (f : X → Y) (v : Y → ℕ) (w : X → ℕ) → ((x : X) → v (f x) ≡ w x)
@@ -61,14 +54,7 @@ sum_is b rows = ap (λ l. total (map teller_balance l)) (tellers_kept b rows)
 
 posted_is : (o : Outcome) → int_eq (pos (code_of o)) (pos 0) ≡ has_balance o
 posted_is Posted = refl
-posted_is NoTeller = refl
-posted_is WrongBranch = refl
-posted_is NoAccount = refl
-posted_is BelowFloor = refl
-posted_is OverLimit = refl
-posted_is ReusedNumber = refl
-posted_is Full = refl
-posted_is Malformed = refl
+posted_is other = refl
 
 same_pos : (a b : ℕ) → int_eq (pos a) (pos b) ≡ true → a ≡ b
 same_pos a b h = grind (arith, ints, h)
@@ -166,9 +152,9 @@ pub tells_of_tables : TellsOfTables
 tells_of_tables t hs rs =
     let keys : HasOrdinals (stored t) = record {
       requests = subst (IsDistinct nat_eq)
-          (sym (keys_are request_stored request_ordinal request_key (λ x. refl) t.requests)) rs;
+          (sym (values request_stored request_ordinal request_key (λ x. refl) t.requests)) rs;
       history = subst (IsDistinct nat_eq)
-          (sym (keys_are posting_stored posting_ordinal history_key (λ x. refl) t.history)) hs;
+          (sym (values posting_stored posting_ordinal history_key (λ x. refl) t.history)) hs;
     } in
     let it = tells (stored t) keys in
     (λ h. consistent t (it.0 h), λ c. it.1 (sound t c))

@@ -12,8 +12,7 @@ use Rattle.report_contents.proofs.Lists.{same_int, int_same}
 use Rattle.std.proofs.{Math.IntN.+ℤ_assoc, lemmas.Int.ints, lemmas.Int.to_z-of_z, lemmas.Bool.Decides.nat_tests}
 use Rattle.std.proofs.{lemmas.Grind.get_or-set_at, lemmas.List.Elements.filter-append}
 use Rattle.std.proofs.lemmas.Bool.{cases_Bool, eqb-true, le-leb}
-use Rattle.std.proofs.lemmas.List.{length-append, map-append, get_or-set_other, get_or-set_same, set-get_or}
-use Rattle.std.proofs.lemmas.List.{take_more_set}
+use Rattle.std.proofs.lemmas.List.{length-append, map-append, get_or-set_other, get_or_default, take_more_set}
 use Rattle.posting_rules.specs.{believed.Numbering.branch_of_teller, believed.Laws.total}
 use Rattle.report_contents.specs.declared.{sum.Sum.Sum, audit.BranchLine.BranchLine}
 use Rattle.report_contents.specs.Audit.{teller_sum, teller_balance, lines_of, line_of, differs}
@@ -121,17 +120,12 @@ sum_is v b from count fit is small few =
 
 -- ---- the sums of each branch
 
--- what stands at a place that is there
-pub any_default : (l : List ℤ) (i : ℕ) (d d' : ℤ) → i < length l → get_or l i d' ≡ get_or l i d
-any_default l i d d' low = ap (λ x. get_or x i d') (sym (set-get_or l i d))
-    ∙ get_or-set_same l i (get_or l i d) d' low
-
 -- where sums are small, so is the one at a place
 pub small_at : (sums : List ℤ) (p count : ℕ) (v : ℤ) → AreSmall sums count → p < length sums → v
     ≡ get_or sums p v
     → (v ≡ get_or sums p (pos 0)) × (nat_abs v ≤ 9223372036854775808 * count)
 small_at sums p count v small low is =
-    let stands : v ≡ get_or sums p (pos 0) = is ∙ any_default sums p (pos 0) v low in
+    let stands : v ≡ get_or sums p (pos 0) = is ∙ get_or_default sums p v (pos 0) low in
     (stands, subst (λ (z : ℤ). nat_abs z ≤ 9223372036854775808 * count) (sym stands) (small p))
 
 not_there : (p i : ℕ) → nat_eq p i ≡ false → i ≡ p → ⊥

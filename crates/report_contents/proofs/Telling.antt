@@ -2,6 +2,8 @@
 use Rattle.std.proofs.Common.{◌≡◌, ℕ, true, false, not, List, [], ◌∷◌, map, filter, length, Option, Some, None, refl}
 use Rattle.std.proofs.Common.{ap, subst, ◌∙◌}
 use Rattle.std.specs.{Prelude.is_some, Prelude.nat_eq, Ordering.int_eq, List.AllByRecursion}
+use Rattle.std.proofs.lemmas.Bool.{not-false, not_from_true}
+use Rattle.walked_rows.proofs.RisingRows.{found_under}
 use Rattle.walked_rows.specs.declared.{branches.StoredBranch.StoredBranch, postings.StoredPosting.StoredPosting}
 use Rattle.walked_rows.specs.declared.{requests.StoredRequest.StoredRequest}
 use Rattle.report_contents.specs.{declared.audit.Audit.Audit, Stored.StoredTables}
@@ -9,9 +11,8 @@ use Rattle.report_contents.specs.Audit.{is_matched, request_under, posting_under
 use Rattle.report_contents.specs.Audit.{unmatched, lines_of, line_of, differs, teller_sum, request_ordinal}
 use Rattle.report_contents.specs.Audit.{posting_ordinal, is_sound, audit_of}
 use Rattle.report_contents.specs.Consistency.{TellsOfStored, IsSoundFile, HasOrdinals}
-use Rattle.report_contents.proofs.Lists.{five, all_five, not_false, true_not, same_int, int_same, none_pass}
-use Rattle.report_contents.proofs.Lists.{pass_none, no_map, no_parts, empty_list}
-use Rattle.report_contents.proofs.EachOrdinal.{found, each_found}
+use Rattle.report_contents.proofs.Lists.{five, all_five, same_int, int_same, none_pass, pass_none, no_map, no_parts}
+use Rattle.report_contents.proofs.{EachOrdinal.each_found, Lists.empty_list}
 
 module _ (t : StoredTables) where
   -- ---- ordinals
@@ -22,10 +23,10 @@ module _ (t : StoredTables) where
       → AllByRecursion (λ h. is_odd_posting t h ≡ false) t.history → is_matched a b ≡ true
   matched_by o None None p q rs hs = refl
   matched_by o (Some r) b p q rs hs =
-      let it = found request_ordinal (λ r. is_odd_request t r ≡ false) t.requests o r p rs in
-      subst (λ x. is_matched (Some r) x ≡ true) (ap (posting_under t) it.0 ∙ q) (not_false _ it.1)
+      let it = found_under request_ordinal (λ r. is_odd_request t r ≡ false) t.requests o r p rs in
+      subst (λ x. is_matched (Some r) x ≡ true) (ap (posting_under t) it.0 ∙ q) (not-false _ it.1)
   matched_by o None (Some h) p q rs hs =
-      let it = found posting_ordinal (λ h. is_odd_posting t h ≡ false) t.history o h q hs in
+      let it = found_under posting_ordinal (λ h. is_odd_posting t h ≡ false) t.history o h q hs in
       let none : request_under t h.ordinal ≡ None = ap (request_under t) it.0 ∙ p in
       absurd (let odd = rw none at it.1 in cc)
 
@@ -49,7 +50,7 @@ module _ (t : StoredTables) where
       → unmatched t ≡ []
   none_odd keys each =
       let rs = each_found request_ordinal (λ r. is_odd_request t r ≡ false) t.requests keys.requests
-      (λ r is. true_not _ (subst (λ x. is_matched x (posting_under t r.ordinal) ≡ true) is
+      (λ r is. not_from_true _ (subst (λ x. is_matched x (posting_under t r.ordinal) ≡ true) is
       (each r.ordinal))) in
       let hs = each_found posting_ordinal (λ h. is_odd_posting t h ≡ false) t.history keys.history
       (λ h is. there (request_under t h.ordinal) h
@@ -66,7 +67,7 @@ module _ (t : StoredTables) where
           → AllByRecursion (λ l. differs l ≡ false) (map (line_of t.tellers) bs)
           → AllByRecursion (λ r. teller_sum t.tellers r.branch ≡ r.balance) bs
       go [] all = tt
-      go (b ∷ bs) all = (same_int _ _ (not_false _ all.0), go bs all.1)
+      go (b ∷ bs) all = (same_int _ _ (not-false _ all.0), go bs all.1)
 
   lines_none : (bs : List StoredBranch)
       → AllByRecursion (λ r. teller_sum t.tellers r.branch ≡ r.balance) bs
@@ -76,7 +77,7 @@ module _ (t : StoredTables) where
       go : (bs : List StoredBranch) → AllByRecursion (λ r. teller_sum t.tellers r.branch ≡ r.balance) bs
           → AllByRecursion (λ l. differs l ≡ false) (map (line_of t.tellers) bs)
       go [] all = tt
-      go (b ∷ bs) all = (true_not _ (int_same _ _ all.0), go bs all.1)
+      go (b ∷ bs) all = (not_from_true _ (int_same _ _ all.0), go bs all.1)
 
 -- the audit says so exactly where it is so
 pub tells : TellsOfStored

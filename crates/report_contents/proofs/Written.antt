@@ -1,10 +1,9 @@
 -- Texts that are written one after another.
 use Rattle.std.proofs.Common.{◌≡◌, ◌+◌, ℕ, List, [], ◌∷◌, ◌++◌, map, length, take, drop}
 use Rattle.std.proofs.Common.{get_or, Option, Result, Ok, Err, sym, ap, subst, ◌∙◌, arith}
-use Rattle.std.specs.Prelude.{OnErr, OnOk, ◌<◌}
+use Rattle.std.specs.Prelude.{OnErr, ◌<◌}
 use Rattle.std.specs.Io.KnownBytes.{Appends}
-use Rattle.std.proofs.{KnownBytes.Appends-nil, KnownBytes.Appends-trans, Math.Seq.take-append-add}
-use Rattle.std.proofs.{Math.Seq.take-length}
+use Rattle.std.proofs.{KnownBytes.Appends-nil, KnownBytes.Appends-trans, Math.Seq.take-append-add, Math.Seq.take-length}
 use Rattle.std.proofs.lemmas.List.{take-append-le, take_more, take-append-drop, length-append, map-append}
 use Rattle.posting_core.specs.Told.{HasMore, HasWriteFailed, IsWriteFailure, WriteTold}
 use Rattle.posting_core.proofs.Telling.{more_failed}
@@ -59,14 +58,6 @@ later_failed h f = more_failed IsWriteFailure h f
 pub on_err_any : {A E : Type 0} {P : Type 0} (r : Result A E) → P → OnErr r P
 on_err_any (Ok x) p = tt
 on_err_any (Err e) p = p
-
-pub on_err : {A E : Type 0} {P Q : Type 0} (r : Result A E) → (P → Q) → OnErr r P → OnErr r Q
-on_err (Ok x) f h = tt
-on_err (Err e) f h = f h
-
-pub on_ok : {A E : Type 0} {P Q : Type 0} (r : Result A E) → (P → Q) → OnOk r P → OnOk r Q
-on_ok (Ok x) f h = f h
-on_ok (Err e) f h = tt
 
 -- ---- lines of a list
 

@@ -1,7 +1,7 @@
 -- One byte more, which is ASCII.
 use Rattle.std.proofs.Common.{◌<◌, drop, length, sym, ap, subst, arith, rules}
-use Rattle.std.proofs.lemmas.List.{length-append}
-use Rattle.report_contents.proofs.Printable.{from_one, one_byte, one_is_ascii}
+use Rattle.std.proofs.lemmas.List.{drop_more, length-append}
+use Rattle.report_contents.proofs.Printable.{one_byte, one_is_ascii}
 use Rattle.report_contents.proofs.lines.push_text.Goals as goal
 
 pub push-requires : goal.push-requires
@@ -11,7 +11,7 @@ push-requires g c =
     let ascii : c.from.result < 128 =
     subst (λ n. n < 128) (sym c.from.ensures) (one_is_ascii text i c.loop-byte-test.true c.loop-byte.invariant.1) in
     let lens = ap length c.loop-byte.invariant.0 in
-    let left = ap length (from_one text i c.loop-byte-test.true) in (
+    let left = ap length (drop_more text i 0 c.loop-byte-test.true) in (
       search rules,
       omega (
         arith,

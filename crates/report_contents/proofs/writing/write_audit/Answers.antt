@@ -1,6 +1,6 @@
 -- The numbers, the branches that differ, and the verdict.
 use Rattle.std.proofs.Common.{◌≡◌, ℕ, List, [], ◌∷◌, ◌++◌, map, Option, sym, ap, ◌∙◌, append-nil}
-use Rattle.std.proofs.KnownBytes.{Appends-trans}
+use Rattle.std.proofs.{lemmas.Result.on_err_weaker, lemmas.Result.on_ok_weaker, KnownBytes.Appends-trans}
 use Rattle.std.specs.Io.KnownBytes.{Appends}
 use Rattle.posting_core.specs.Told.{IsFlush}
 use Rattle.posting_core.proofs.Telling.{more_more, more_last}
@@ -9,7 +9,6 @@ use Rattle.report_contents.specs.{Audit.is_sound, Lines.text_of, Written.Appends
 use Rattle.report_contents.specs.AuditText.{audit_text, branch_line, number_lines, verdict_line}
 use Rattle.report_contents.proofs.Joined.{text_of-append}
 use Rattle.report_contents.proofs.Written.{first_part, same_part, same_all, then_part, later_failed, on_err_any}
-use Rattle.report_contents.proofs.Written.{on_err, on_ok}
 use Rattle.report_contents.proofs.writing.write_audit.Goals as goal
 
 numbers : Audit → List ℕ
@@ -85,7 +84,7 @@ returns-in_err-put_branches-clause-failed g c =
 pub returns-clause-ok : goal.returns-clause-ok
 returns-clause-ok g c =
     let said = c.verdict_text.ensures ∙ ap verdict_line c.is_consistent.ensures in
-    on_ok c.put_last.result (λ last. all_three c.args.audit.now _ _ _ _
+    on_ok_weaker c.put_last.result (λ last. all_three c.args.audit.now _ _ _ _
     (same_all _ _ (numbers_are _ _ _ c.as_str.ensures.value c.numbers_text.ensures) c.in_ok-put.ensures.ok)
     (same_all _ _ (ap shown c.as_slice.ensures) c.in_ok-put_branches.ensures.ok) (same_all _ _ said last))
     c.put_last.ensures.ok
@@ -93,19 +92,19 @@ returns-clause-ok g c =
 pub returns-clause-err : goal.returns-clause-err
 returns-clause-err g c =
     let said = c.verdict_text.ensures ∙ ap verdict_line c.is_consistent.ensures in
-    on_err c.put_last.result (λ last. two_and_part c.args.audit.now _ _ _ _
+    on_err_weaker c.put_last.result (λ last. two_and_part c.args.audit.now _ _ _ _
     (same_all _ _ (numbers_are _ _ _ c.as_str.ensures.value c.numbers_text.ensures) c.in_ok-put.ensures.ok)
     (same_all _ _ (ap shown c.as_slice.ensures) c.in_ok-put_branches.ensures.ok) (same_part _ _ said last))
     c.put_last.ensures.err
 
 pub returns-clause-flushed : goal.returns-clause-flushed
 returns-clause-flushed g c =
-    on_ok c.put_last.result
+    on_ok_weaker c.put_last.result
     (λ e. more_last IsFlush (more_more c.in_ok-put.ensures.more c.in_ok-put_branches.ensures.more) e)
     c.put_last.ensures.flushed
 
 pub returns-clause-failed : goal.returns-clause-failed
 returns-clause-failed g c =
-    on_err c.put_last.result
+    on_err_weaker c.put_last.result
     (λ e. later_failed (more_more c.in_ok-put.ensures.more c.in_ok-put_branches.ensures.more) e)
     c.put_last.ensures.failed
