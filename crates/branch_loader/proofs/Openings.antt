@@ -62,8 +62,7 @@ counted-push given Differs =
 
 with_answer-total : (loaded : Loaded) (o : Opening) → total (with_answer loaded o) ≡ total loaded + 1
 with_answer-total loaded Opened = omega arith
-with_answer-total loaded Already = omega arith
-with_answer-total loaded Differs = omega arith
+with_answer-total loaded other = omega arith
 
 -- ---- what a crash may leave
 

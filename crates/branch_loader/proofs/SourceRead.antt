@@ -6,7 +6,6 @@ use Rattle.csv.specs.declared.error.{Error.Error, ErrorKind.ErrorKind}
 use Rattle.posting_core.specs.{believed.Told.GrowsBy, believed.Told.EndsWith, Told.HasMore}
 use Rattle.posting_core.proofs.Telling.{more_last}
 use Rattle.branch_loader.specs.{declared.fault.PlanFault.PlanFault, believed.Plans.Rows, believed.Plans.Row}
-use Rattle.branch_loader.specs.declared.fault.PlanFault.TheVariants.{Header, Columns, Branch, Accounts, Floor, Twice}
 use Rattle.branch_loader.specs.declared.fault.PlanFault.TheVariants.{Csv, Memory}
 use Rattle.branch_loader.specs.Records.{Fields, RecordTold, Found, Failed, WasRecord, WasFailure, record_told}
 use Rattle.branch_loader.specs.Plans.{IsToldSo, names, row_of, row_of_parts, row_of_fields, parts_of}
@@ -69,12 +68,7 @@ not_of_row : (fault : PlanFault) (a b : Option (List RecordTold)) → IsOfRow (E
 unfolding IsOfRow
 not_of_row Csv a b h = absurd h
 not_of_row Memory a b h = absurd h
-not_of_row Header a b h = tt
-not_of_row (Columns n) a b h = tt
-not_of_row (Branch n) a b h = tt
-not_of_row (Accounts n) a b h = tt
-not_of_row (Floor n) a b h = tt
-not_of_row (Twice n) a b h = tt
+not_of_row other a b h = tt
 
 pub row_told : (has_floors : Bool) (before : Rows) (fields : Fields) (fault : PlanFault)
     (a b : Option (List RecordTold))

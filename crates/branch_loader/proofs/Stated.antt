@@ -6,21 +6,15 @@ use Rattle.branch_loader.specs.Plans.{IsPlan, TellsPlan, header_of, plan_of_list
 use Rattle.branch_loader.specs.Plans.{row_of_listed, rows_by}
 use Rattle.branch_loader.specs.{believed.Plans.Rows, believed.Plans.Row, declared.fault.PlanFault.PlanFault}
 use Rattle.branch_loader.specs.Records.{TakesRecord, Records, Fields}
-use Rattle.branch_loader.specs.declared.fault.PlanFault.TheVariants.{Header, Columns, Accounts, Floor, Twice, Csv}
-use Rattle.branch_loader.specs.declared.fault.PlanFault.TheVariants.{Memory}
+use Rattle.branch_loader.specs.declared.fault.PlanFault.TheVariants.{Header, Csv, Memory}
 use Rattle.branch_loader.specs.declared.fault.PlanFault.TheVariants as Fault
 use Rattle.branch_loader.proofs.Rows.{listed-longer, listed-same}
 
 -- an answer that tells a fault
 pub tells-fault : (stated : Result Rows PlanFault) (f : PlanFault) → stated ≡ Err f → TellsPlan stated (Err f)
-tells-fault stated Header e = e
-tells-fault stated (Columns n) e = e
-tells-fault stated (Fault.Branch n) e = e
-tells-fault stated (Accounts n) e = e
-tells-fault stated (Floor n) e = e
-tells-fault stated (Twice n) e = e
 tells-fault stated Csv e = tt
 tells-fault stated Memory e = tt
+tells-fault stated other e = e
 
 -- the rows go on by one where the next thing states a row
 pub rows_by-ok : {A : Type 0} (row : Rows → A → Result Row PlanFault) (before : Rows) (x : A) (rest : List A)

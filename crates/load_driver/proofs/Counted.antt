@@ -6,9 +6,7 @@ use Rattle.std.proofs.lemmas.List.Sums.{sum_by-cons}
 use Rattle.message_records.specs.declared.records.Outcome.{Outcome}
 use Rattle.message_records.specs.believed.{Outcomes.code_of, Outcomes.has_balance, Records.ReplyFields}
 use Rattle.message_records.specs.believed.Spelling.{digits, reply_spelling}
-use Rattle.message_records.specs.declared.records.Outcome.TheVariants.{Posted, NoTeller, WrongBranch, NoAccount}
-use Rattle.message_records.specs.declared.records.Outcome.TheVariants.{BelowFloor, OverLimit, ReusedNumber, Full}
-use Rattle.message_records.specs.declared.records.Outcome.TheVariants.{Malformed}
+use Rattle.message_records.specs.declared.records.Outcome.TheVariants.{Posted}
 use Rattle.posting_rules.specs.believed.Commands.{Command, Open, Post}
 use Rattle.posting_rules.specs.believed.{Entries.reply, Runs.followed_by, Runs.replies_to}
 use Rattle.load_driver.specs.{Counted.is_posted, believed.Records.posted_among}
@@ -17,14 +15,7 @@ by_outcome : (outcome : Outcome) (rest : List ℕ)
     → is_posted (codes "DR01" ++ (digits 2 (code_of outcome) ++ rest)) ≡ has_balance outcome
 unfolding digits
 by_outcome Posted rest = refl
-by_outcome NoTeller rest = refl
-by_outcome WrongBranch rest = refl
-by_outcome NoAccount rest = refl
-by_outcome BelowFloor rest = refl
-by_outcome OverLimit rest = refl
-by_outcome ReusedNumber rest = refl
-by_outcome Full rest = refl
-by_outcome Malformed rest = refl
+by_outcome other rest = refl
 
 -- a reply tells of a posting just where its outcome is that
 is_posted-spelling : (r : ReplyFields) → is_posted (reply_spelling r) ≡ has_balance r.outcome

@@ -1,6 +1,6 @@
 -- Records that are drawn one after another.
-use Rattle.std.proofs.Common.{◌≡◌, ◌+◌, ℕ, zero, suc, List, [], ◌∷◌, ◌++◌, refl, sym, ap, ◌∙◌, arith}
-use Rattle.std.proofs.Common.{add-one, append-nil, append_assoc}
+use Rattle.std.proofs.Common.{◌≡◌, ◌+◌, ℕ, zero, suc, List, [], ◌∷◌, ◌++◌, refl, sym, ap, ◌∙◌, arith, add-one}
+use Rattle.std.proofs.{Common.append-nil, Common.append_assoc, Math.Nat.add-suc}
 use Rattle.message_records.specs.believed.Spelling.{request_spelling}
 use Rattle.branch_loader.specs.believed.Plans.{Rows}
 use Rattle.load_driver.specs.{believed.Requests.request_at, believed.Records.drawn}
@@ -16,9 +16,6 @@ pub drawn_more : (rows : Rows) (seed from n : ℕ)
 unfolding drawn
 drawn_more rows seed from n = ap (drawn rows seed from) (add-one n)
 
-suc_plus : (m n : ℕ) → m + suc n ≡ suc (m + n)
-suc_plus m n = omega arith
-
 -- some from one on, and further ones
 pub drawn_on : (rows : Rows) (seed m n : ℕ)
     → drawn rows seed 0 m ++ drawn rows seed m n ≡ drawn rows seed 0 (m + n)
@@ -31,4 +28,4 @@ drawn_on rows seed m (suc n) =
     sym (append_assoc (drawn rows seed 0 m) (drawn rows seed m n) last)
     ∙ ap (λ (t : List (List ℕ)). t ++ last) (drawn_on rows seed m n)
     ∙ ap (λ (k : ℕ). drawn rows seed 0 (m + n) ++ request_spelling (request_at rows seed k) ∷ []) (sym from)
-    ∙ ap (drawn rows seed 0) (sym (suc_plus m n))
+    ∙ ap (drawn rows seed 0) (sym (add-suc m n))

@@ -5,12 +5,13 @@ use Rattle.std.specs.{Prelude.min, List.AllByRecursion}
 use Rattle.std.proofs.lemmas.List.{length-append, length-take-le}
 use Rattle.posting_rules.specs.declared.fault.Fault.{Fault}
 use Rattle.posting_rules.specs.believed.{Commands.Command, Runs.followed_by, Runs.posts}
-use Rattle.posting_rules.specs.declared.fault.Fault.TheVariants.{Memory, Store, Down, Damaged}
+use Rattle.posting_rules.specs.declared.fault.Fault.TheVariants.{Memory}
 use Rattle.posting_rules.specs.believed.Counter.{Seen, ShowsLog, Takes, Refuses}
 use Rattle.posting_core.specs.believed.Batches.{Batch, moments_of, posts_of, records_of}
 use Rattle.posting_core.specs.{believed.Clock.AreReadings, Clock.IsReading, believed.Stream.IfUp}
-use Rattle.posting_core.proofs.{Batched.posts_of_one_more, Batched.records_one_more, StreamedBatches.clock_batch}
-use Rattle.posting_core.proofs.{StreamedBatches.takes_batch, Stops.refused_stop, Stops.stop_all, Stops.stop_part}
+use Rattle.posting_core.proofs.{Batched.posts_of_one_more, Batched.records_one_more, StreamedBatches.all_more}
+use Rattle.posting_core.proofs.{StreamedBatches.clock_batch, StreamedBatches.takes_batch, Stops.refused_stop}
+use Rattle.posting_core.proofs.Stops.{stop_all, stop_part}
 use Rattle.branch_loader.specs.believed.Plans.{Rows}
 use Rattle.load_driver.specs.{Counts.Driving, Counted.IsCounted, believed.Drives.Submits}
 use Rattle.load_driver.specs.{declared.drive.Driven.Driven, declared.drive_fault.DriveFault.TheVariants.Bank}
@@ -27,10 +28,6 @@ full_more : (bs : List Batch) (b : Batch) → Are64 bs → 1 ≤ length b.record
 full_more [] b all some few = ((some, few), tt)
 full_more (x ∷ []) b all some few = (all.0, ((some, few), tt))
 full_more (x ∷ y ∷ bs) b all some few = (all.0, full_more (y ∷ bs) b all.1 some few)
-
-all_more : (bs : List Batch) (b : Batch) → Are64 bs → length b.records ≡ 64 → Are64 (bs ++ b ∷ [])
-all_more [] b all one = (one, tt)
-all_more (x ∷ bs) b all one = (all.0, all_more bs b all.1 one)
 
 -- ---- where a drive stands
 
@@ -119,7 +116,8 @@ module _ {C : Type 0} (seen : C → Seen) (old now new : C) (k k' k'' : Option (
         given = omega (arith, given, g.given, within);
         records = are_drawn ∙ ap (drawn first.rows first.seed 0) (sym given);
         number = so_many ∙ sym given;
-        all_64 = λ lt. all_more g.batches batch (g.all_64 (omega arith)) (long ∙ whole (omega arith));
+        all_64 = λ lt. all_more (λ (b : Batch). length b.records ≡ 64) g.batches (batch ∷ []) (g.all_64 (omega arith))
+            (long ∙ whole (omega arith), tt);
         full = are_full;
         clock = clock_batch k k' k'' g.batches batch g.clock reading;
         takes = takes_batch (seen old) (seen now) (seen new) g.batches batch honest g.takes counted.takes;
@@ -200,9 +198,7 @@ end_done seen old now k k' first driver count left driven g none =
 pub up_refused : (old new : Seen) (cs : List Command) (fault : Fault) → Refuses fault old new cs
     → (old.is_down → ⊥) → IfUp fault (new.is_down → ⊥)
 up_refused old new cs Memory refuses up = λ down. up (refuses.down down)
-up_refused old new cs Store refuses up = tt
-up_refused old new cs Down refuses up = tt
-up_refused old new cs (Damaged rule) refuses up = tt
+up_refused old new cs other refuses up = tt
 
 -- ---- the size of a batch, where some records are left
 

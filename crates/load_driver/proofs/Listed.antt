@@ -1,9 +1,9 @@
 -- The open branches are listed one after another.
 use Rattle.std.proofs.Common.{◌≡◌, ◌≤◌, ◌<◌, ◌+◌, ◌-◌, ℕ, zero, suc, true, false, List, [], ◌∷◌, ◌++◌, Some, None}
 use Rattle.std.proofs.Common.{Result, Ok, Err, leb, refl, sym, ap, ◌∙◌, arith, append-nil, inl, inr}
+use Rattle.std.proofs.{lemmas.Bool.Decides.nat_tests, lemmas.Bool.cases_Bool, Math.Nat.add-suc, lemmas.Int.ints}
 use Rattle.std.specs.List.{AllByRecursion}
 use Rattle.std.specs.Prelude.{nat_eq, ◌&&◌, ◌≤ℤ◌, ℤ, pos, Option, IfSome, int_le}
-use Rattle.std.proofs.lemmas.{Bool.Decides.nat_tests, Int.ints, Bool.cases_Bool}
 use Rattle.message_records.specs.believed.Ranges.{whole_within}
 use Rattle.posting_rules.specs.declared.counter.BranchLine.{BranchLine}
 use Rattle.posting_rules.specs.believed.Commands.{Command, opened}
@@ -76,9 +76,6 @@ up_to_more (q ∷ rows) most p above low =
 
 -- ---- the branches of a log
 
-suc_plus : (m n : ℕ) → m + suc n ≡ suc (m + n)
-suc_plus m n = omega arith
-
 -- where none of the next numbers is open, no branch is added
 pub none_more : (log : List Command) (low n : ℕ)
     → ((branch : ℕ) → low < branch → branch ≤ low + n → opened log branch ≡ None)
@@ -86,7 +83,7 @@ pub none_more : (log : List Command) (low n : ℕ)
 unfolding open_up_to
 none_more log low zero none = ap (open_up_to log) (let e : low + 0 ≡ low = omega arith in e)
 none_more log low (suc n) none =
-    ap (open_up_to log) (suc_plus low n)
+    ap (open_up_to log) (add-suc low n)
     ∙ ap (λ o. open_up_to log (low + n) ++ row_if_open (suc (low + n)) o)
     (none (suc (low + n)) (omega arith) (omega arith))
     ∙ append-nil (open_up_to log (low + n))

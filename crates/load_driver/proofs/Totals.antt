@@ -3,7 +3,7 @@ use Rattle.std.proofs.Common.{◌≡◌, ◌≢◌, ◌<◌, ◌≤◌, ◌+◌,
 use Rattle.std.proofs.Common.{true, false, not, length, get_or, map, All, arith, refl, sym, ap, None, subst, nat_eq}
 use Rattle.std.proofs.Common.{nat_lt, cond}
 use Rattle.std.specs.{Prelude.Contains, List.AllByRecursion, List.IsDistinct, List.flat_map}
-use Rattle.std.proofs.lemmas.{Bool.cases_Bool, Bool.false≢true, Bool.Decides.nat_tests}
+use Rattle.std.proofs.lemmas.{Bool.cases_Bool, Bool.false≢true, Bool.Decides.nat_tests, List.Elements.All-tail}
 use Rattle.std.proofs.lemmas.{List.FromFn.length-range_with_len, List.Sums.sum_by-cons, Map.Keys.apart_from_distinct}
 use Rattle.std.proofs.lemmas.List.{get_or-map, length-append, length-map}
 use Rattle.posting_rules.specs.{declared.limits.TheConstants.TELLERS_PER_BRANCH, believed.Numbering.first_account}
@@ -19,9 +19,6 @@ first_or_rest p rows q (suc k, within, is) = inr (k, omega arith, is)
 
 in_rest : (p : Row) (rows : Rows) (q : Row) → Contains rows q → Contains (p ∷ rows) q
 in_rest p rows q (k, within, is) = (suc k, omega arith, is)
-
-tail_rows : (p : Row) (rows : Rows) → All IsRow (p ∷ rows) → All IsRow rows
-tail_rows p rows all = λ k d within. all (suc k) d (omega arith)
 
 -- ---- counts of accounts
 
@@ -131,7 +128,7 @@ pub elsewhere : (branch : ℕ) (rows : Rows) (place : ℕ) → All IsRow rows
 elsewhere branch [] place all within = absurd (omega arith)
 elsewhere branch (p ∷ rows) place all within =
     by (cases_Bool (nat_eq p.0 branch)) (cases_Bool (nat_lt place p.1))
-    (λ left small. elsewhere branch rows left (tail_rows p rows all) small)
+    (λ left small. elsewhere branch rows left (All-tail IsRow p rows all) small)
   where
     by : (nat_eq p.0 branch ≡ true) ⊎ (nat_eq p.0 branch ≡ false)
         → (nat_lt place p.1 ≡ true) ⊎ (nat_lt place p.1 ≡ false)
