@@ -4,6 +4,7 @@ use Rattle.std.proofs.lemmas.List.{length-map}
 use Rattle.std.specs.List.{AllByRecursion}
 use Rattle.sqlite.specs.{Effect.Database, Order.Row}
 use Rattle.sqlite_rules.specs.Lists.{Has}
+use Rattle.sqlite_rules.proofs.ListLemmas.{all_has}
 use Rattle.message_records.specs.believed.{Reading.request_of, Records.RequestFields}
 use Rattle.posting_batch.specs.{believed.Batch.IsNextOrdinal, Judging.overlay_with, Overlay.Overlay, View.IsMadeOf}
 use Rattle.posting_batch.specs.{View.reads_of, View.view, declared.batch.Batch.Batch}
@@ -14,11 +15,6 @@ use Rattle.bank_transactions.specs.believed.Additions.{AddsForRecords, FollowsCo
 use Rattle.bank_transactions.specs.Additions.{AddsNew, adds_so}
 use Rattle.bank_transactions.specs.{Filling.emptied, believed.Stored.HoldsDecided}
 
-each_of : {R : Type 0} (P : R → Type 0) (rows : List R) (r : R) → AllByRecursion P rows → Has rows r → P r
-each_of P [] r all none = absurd none
-each_of P (x ∷ rows) r all (inl same) = subst P (sym same) all.0
-each_of P (x ∷ rows) r all (inr more) = each_of P rows r all.1 more
-
 module _ (db : Database) (o judged : Overlay) (count : ℕ) (held : OfRows (λ rows. HoldsDecided rows o.decided) db)
     (next : HasNextOrdinals o.decided count judged) where
   follows : (ordinal : ℕ) → IsNextOrdinal o.decided count ordinal → FollowsCount db count ordinal
@@ -28,7 +24,7 @@ module _ (db : Database) (o judged : Overlay) (count : ℕ) (held : OfRows (λ r
       → AllByRecursion (λ r. IsNextOrdinal o.decided count (ordinal r)) rows
       → (r : R) → Has rows r → FollowsCount db count (ordinal r)
   own ordinal rows all r has =
-      follows (ordinal r) (each_of (λ x. IsNextOrdinal o.decided count (ordinal x)) rows r all has)
+      follows (ordinal r) (all_has (λ x. IsNextOrdinal o.decided count (ordinal x)) rows r all has)
 
   adds_own : (text : List ℕ) (values : Row) → AddsNew judged text values
       → AddsForRecords db count text values

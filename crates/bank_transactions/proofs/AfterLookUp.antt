@@ -1,6 +1,7 @@
 -- A look-up whose answer is let go, and then a part that acts: it is as if there had been that part alone.
-use Rattle.std.proofs.Common.{◌∙◌, ℕ, List, length, Option, Some, None, Result, Ok, sym, subst}
+use Rattle.std.proofs.Common.{◌∙◌, ℕ, List, length, Result, Ok, sym, subst}
 use Rattle.std.specs.Prelude.{IfSome, IsTrue}
+use Rattle.std.proofs.lemmas.Option.{IfSome_then}
 use Rattle.sqlite.specs.{Effect.Database, Held.state, declared.transaction.Transaction.Transaction}
 use Rattle.sqlite.specs.State.{HasCleanDisk, KeepsCommit}
 use Rattle.sqlite_trees.specs.declared.store.Store.{Ghosts}
@@ -10,13 +11,9 @@ use Rattle.sql_meanings.specs.Calls.{Inside, Says}
 use Rattle.sql_meanings.proofs.Saying.{clean_between, says_then}
 use Rattle.store_rows.specs.{believed.View.Shows, declared.fault.TableFault.TableFault}
 use Rattle.bank_transactions.specs.{believed.Additions.AddsForRecords, believed.Batches.DecidesNone}
-use Rattle.bank_transactions.specs.{Doing.Acts, Filling.ReadsWhere, Tries.answer_of, Tries.replies_of}
+use Rattle.bank_transactions.specs.{Doing.Acts, Doing.ReadsWhere, Tries.answer_of, Tries.replies_of}
 use Rattle.bank_transactions.specs.{believed.Stored.RepliesToAllStored, declared.first_try.Tried.Tried}
 use Rattle.bank_transactions.proofs.{Blamed.blames_since, Blamed.comes, Chained.keeps_then, Chained.still_in}
-
-so_of : {A : Type 0} {P Q : A → Type 0} (o : Option A) → ((x : A) → P x → Q x) → IfSome o P → IfSome o Q
-so_of None so it = tt
-so_of (Some x) so it = so x it
 
 module _ {S X : Type 0} {g : Ghosts S} {old mid new : Transaction S} {So : Tables → Type 0} {w : Tables → X} {x : X}
     (look : ReadsWhere g old mid So w (Ok x)) where
@@ -53,7 +50,7 @@ module _ {S X : Type 0} {g : Ghosts S} {old mid new : Transaction S} {So : Table
         (λ tables. tables_past_all tables moment records) (λ tables. replies_past_all tables moment records) answer
 
     pub says_since : IfSome (answer_of tried) (ActsFrom mid) → IfSome (answer_of tried) (ActsFrom old)
-    says_since = so_of {P = ActsFrom mid} {Q = ActsFrom old} (answer_of tried)
+    says_since says = IfSome_then (answer_of tried) {P = ActsFrom mid} {Q = ActsFrom old} says
         (λ answer acts records made. acts_since (length records) (acts records made))
 
     abbrev IsBusy : Transaction S → List (List ℕ) → Type 0
@@ -62,7 +59,7 @@ module _ {S X : Type 0} {g : Ghosts S} {old mid new : Transaction S} {So : Table
         → AreOfALog t → DecidesNone t moment records → ⊥
 
     pub busy_since : IfSome (replies_of tried) (IsBusy mid) → IfSome (replies_of tried) (IsBusy old)
-    busy_since = so_of {P = IsBusy mid} {Q = IsBusy old} (replies_of tried)
+    busy_since is = IfSome_then (replies_of tried) {P = IsBusy mid} {Q = IsBusy old} is
         (λ replies busy clean live records made t shows so none.
         let stays = (look.says.leaves (clean_between g old mid new look.says quiet clean)).0 in
         busy clean (still_in (state g old.conn.now) (state g mid.conn.now) stays.goes_on live) records made t
@@ -74,7 +71,7 @@ module _ {S X : Type 0} {g : Ghosts S} {old mid new : Transaction S} {So : Table
         → RepliesToAllStored (state g begun.conn.now).now moment records replies
 
     pub stored_since : IfSome (replies_of tried) (AreStored mid) → IfSome (replies_of tried) (AreStored old)
-    stored_since = so_of {P = AreStored mid} {Q = AreStored old} (replies_of tried)
+    stored_since are = IfSome_then (replies_of tried) {P = AreStored mid} {Q = AreStored old} are
         (λ replies stored clean live records made.
         let stays = (look.says.leaves (clean_between g old mid new look.says quiet clean)).0 in
         subst (λ (db : Database). RepliesToAllStored db moment records replies) stays.now

@@ -1,13 +1,12 @@
 -- What is told to be damaged, and that the rows that the file holds break that rule.
 use Rattle.std.proofs.Common.{◌≡◌, ◌≢◌, ◌≤◌, ◌<◌, ◌≤ℤ◌, ℕ, ℤ, pos, Bool, true, find, Option, Some, Result, Ok, Err}
 use Rattle.std.proofs.Common.{refl, sym, ap, subst, ◌∙◌, arith}
-use Rattle.std.specs.{Prelude.IsTrue, Ordering.int_cmp, Ordering.is_gt}
+use Rattle.std.specs.{Ordering.int_cmp, Ordering.is_gt}
 use Rattle.std.proofs.lemmas.Int.{ints}
 use Rattle.sqlite.specs.{Effect.Database, State.State}
 use Rattle.message_records.specs.declared.limits.TheConstants.{MAX_ACCOUNT}
 use Rattle.posting_rules.specs.{believed.Numbering.branch_of_account, declared.fault.Rule.Rule}
-use Rattle.posting_rules.specs.declared.fault.Rule.TheVariants.{Meta, Teller, Account, Balance, Request, Value, Key}
-use Rattle.posting_rules.specs.declared.fault.Rule.TheVariants.{Floor, Reference}
+use Rattle.posting_rules.specs.declared.fault.Rule.TheVariants.{Meta, Balance, Value, Key}
 use Rattle.posting_rules.specs.declared.{limits.TheConstants.MAX_DECIDED, rows.BranchRow.BranchRow}
 use Rattle.sql_meanings.specs.believed.Entries.{Entry, has_key, has_two}
 use Rattle.sql_meanings.specs.Entries.{is_above}
@@ -20,11 +19,11 @@ use Rattle.store_rows.specs.believed.Readings.{read_account, read_balance, read_
 use Rattle.store_rows.specs.believed.Readings.{read_request, read_teller}
 use Rattle.store_rows.specs.believed.Rules.{EachKeeps, HoldsBank, IsBroken, OfRows, StoredRows, HasDecided, row_under}
 use Rattle.store_rows.specs.believed.BankTables as bank
-use Rattle.store_rows.specs.believed.{SeveralRows.given, Stored.FindsStored}
+use Rattle.store_rows.specs.believed.{Stored.FindsStored}
 use Rattle.store_rows.specs.declared.fault.TableFault.TheVariants.{Sqlite, Damaged}
 use Rattle.store_rows.specs.declared.holders.Member.TheVariants as member
 use Rattle.bank_transactions.specs.believed.Stored.{IsStoredFloor}
-use Rattle.store_rows.proofs.{Seeking.balance_shown, StoredRows.holds_list}
+use Rattle.store_rows.proofs.{StoredRows.holds_list}
 use Rattle.store_rows.proofs.Readings.{balance_is, branch_is, floor_is}
 
 -- damage is of the rows of this database

@@ -134,41 +134,6 @@ does_adds {S} {X} {g} {Adds} {Adds'} {old} {new} {So} {after} {w} {r} also part 
   };
 }
 
--- ---- where the answer of the first part counts too
-
-module _ {S X Y : Type 0} {g : Ghosts S} {Adds : Additions} {old mid new : Transaction S} {So So' : Tables → Type 0}
-    {after after' : Tables → Tables}
-    {w : Tables → X} {w' : Tables → Y} {x : X} {r : Result Y TableFault} {Met : Damage S}
-    (one : DoesBy Met g old mid So after w (Ok x)) (two : Does g Adds mid new So' after' w' r)
-    (ready : (t : Tables) → So t → x ≡ w t → So' (after t)) where
-  -- one part, and then another, for tables of which the first answer is known
-  pub knowing : Does g Adds old new (λ t. So t × (x ≡ w t)) (λ t. after' (after t)) (λ t. w' (after t)) r
-  knowing = does_then (does_for one (λ t so. (so.0, refl, refl))) two (λ t so. ready t so.0 so.1)
-
--- an error of the second is that of both
-pub does_but : {S X Y Z : Type 0} {g : Ghosts S} {Adds : Additions} {old mid new : Transaction S} {So So' : Tables → Type 0}
-    {after after' after'' : Tables → Tables}
-    {w : Tables → X} {w' : Tables → Y} {w'' : Tables → Z} {x : X} {e : TableFault} {Met : Damage S}
-    → DoesBy Met g old mid So after w (Ok x)
-    → Does g Adds mid new So' after' w' (Err e)
-    → ((t : Tables) → So t → x ≡ w t → So' (after t)) → Does g Adds old new So after'' w'' (Err e)
-does_but {S} {X} {Y} {Z} {g} {Adds} {old} {mid} {new} {So} {So'} {after} {after'} {after''} {w} {w'} {w''} {x} {e}
-    {Met} one two ready =
-    let both = knowing one two ready in
-    record {
-      says = record {
-        same_reference = both.says.same_reference;
-        told = λ clean live t shows so.
-            let before : HasCleanDisk (state g mid.conn.now) = omega (arith, two.says.survives.clean) in
-            let first = (one.says.told before live t shows so).0 in
-            same_fault (state g new.conn.now) (state g new.conn.now) (after' (after t)) (after'' t)
-            (w' (after t)) (w'' t) e
-            (both.says.told clean live t shows (so, first));
-        leaves = both.says.leaves;
-        survives = both.says.survives;
-      };
-    }
-
 -- the answer of the part tells that of the whole
 pub does_tell : {S X Y : Type 0} {g : Ghosts S} {old new : Transaction S} {So So' : Tables → Type 0}
     {after after' : Tables → Tables}
@@ -189,31 +154,51 @@ does_tell {S} {X} {Y} {g} {old} {new} {So} {So'} {after} {after'} {w} {w'} {x} {
   };
 }
 
--- the same of two, of which the second is done
-pub does_both : {S X Y Z : Type 0} {g : Ghosts S} {Adds : Additions} {old mid new : Transaction S} {So So' : Tables → Type 0}
-    {after after' after'' : Tables → Tables}
-    {w : Tables → X} {w' : Tables → Y} {w'' : Tables → Z} {x : X} {y : Y} {z : Z} {Met : Damage S}
-    → DoesBy Met g old mid So after w (Ok x) → Does g Adds mid new So' after' w' (Ok y)
-    → ((t : Tables) → So t → x ≡ w t → So' (after t) × (after' (after t) ≡ after'' t) × (z ≡ w'' t))
-    → Does g Adds old new So after'' w'' (Ok z)
-does_both {S} {X} {Y} {Z} {g} {Adds} {old} {mid} {new} {So} {So'} {after} {after'} {after''} {w} {w'} {w''} {x} {y}
-    {z} {Met} one two ready =
-    let both = knowing one two (λ t so found. (ready t so found).0) in
-    record {
-      says = record {
-        same_reference = both.says.same_reference;
-        told = λ clean live t shows so.
-            let before : HasCleanDisk (state g mid.conn.now) = omega (arith, two.says.survives.clean) in
-            let first = (one.says.told before live t shows so).0 in
-            let is = ready t so first in (
-              is.2,
-              subst (λ (u : Tables). Shows (state g new.conn.now).now u) is.1
-                  (both.says.told clean live t shows (so, first)).1,
-            );
-        leaves = both.says.leaves;
-        survives = both.says.survives;
-      };
-    }
+-- what is so of the tables in any case needn't be asked for
+pub does_known : {S X : Type 0} {g : Ghosts S} {old new : Transaction S} {So Known : Tables → Type 0}
+    {after : Tables → Tables} {w : Tables → X} {r : Result X TableFault} {Met : Damage S}
+    → (HasCleanDisk (state g new.conn.now) → IsTrue (state g old.conn.now).in_transaction → (t : Tables)
+    → Shows (state g old.conn.now).now t → So t → Known t)
+    → DoesBy Met g old new (λ t. So t × Known t) after w r → DoesBy Met g old new So after w r
+does_known known part = record {
+  says = record {
+    same_reference = part.says.same_reference;
+    told = λ clean live t shows so. part.says.told clean live t shows (so, known clean live t shows so);
+    leaves = part.says.leaves;
+    survives = part.says.survives;
+  };
+}
+
+-- ---- where the answer of the first part counts too
+
+module _ {S X Y : Type 0} {g : Ghosts S} {Adds : Additions} {old mid new : Transaction S} {So So' : Tables → Type 0}
+    {after after' : Tables → Tables} {w : Tables → X} {w' : Tables → Y} {x : X} {Met : Damage S}
+    (one : DoesBy Met g old mid So after w (Ok x)) where
+  -- one part, and then another, for tables of which the first answer is known
+  knowing : {r : Result Y TableFault} → Does g Adds mid new So' after' w' r
+      → ((t : Tables) → So t → x ≡ w t → So' (after t))
+      → Does g Adds old new (λ t. So t × (x ≡ w t)) (λ t. after' (after t)) (λ t. w' (after t)) r
+  knowing two ready = does_then (does_for one (λ t so. (so.0, refl, refl))) two (λ t so. ready t so.0 so.1)
+
+  module _ {Z : Type 0} {after'' : Tables → Tables} {w'' : Tables → Z} where
+    -- it is known of them all
+    all_known : {r : Result Y TableFault} {r' : Result Z TableFault} → Does g Adds mid new So' after' w' r
+        → Does g Adds old new (λ t. So t × (x ≡ w t)) after'' w'' r' → Does g Adds old new So after'' w'' r'
+    all_known two = does_known (λ clean live t shows so.
+        let before : HasCleanDisk (state g mid.conn.now) = omega (arith, two.says.survives.clean) in
+        (one.says.told before live t shows so).0)
+
+    -- an error of the second is that of both
+    pub does_but : {e : TableFault} → Does g Adds mid new So' after' w' (Err e)
+        → ((t : Tables) → So t → x ≡ w t → So' (after t)) → Does g Adds old new So after'' w'' (Err e)
+    does_but two ready = all_known two (does_err (knowing two ready) (λ t so. so))
+
+    -- the answer of both comes from the two
+    pub does_both : {y : Y} {z : Z} → Does g Adds mid new So' after' w' (Ok y)
+        → ((t : Tables) → So t → x ≡ w t → So' (after t) × (after' (after t) ≡ after'' t) × (z ≡ w'' t))
+        → Does g Adds old new So after'' w'' (Ok z)
+    does_both two ready = all_known two (does_tell (knowing two (λ t so found. (ready t so found).0))
+        (λ t so. (so, λ is. let it = ready t so.0 so.1 in (it.1, it.2))))
 
 -- ---- a part that reads and then writes
 

@@ -1,16 +1,20 @@
 -- All slots of a batch are filled.
-use Rattle.std.proofs.Common.{◌≡◌, ℕ, List, [], ◌∷◌, map, Ok, refl, sym, ap, subst, ◌∙◌}
-use Rattle.std.specs.{Prelude.⊤, List.AllByRecursion}
+use Rattle.std.proofs.Common.{◌≡◌, ℕ, List, map, Ok, refl, ap, ◌∙◌}
+use Rattle.std.specs.{Prelude.IsSome, Prelude.⊤, List.AllByRecursion}
 use Rattle.sqlite.specs.declared.transaction.Transaction.{Transaction}
 use Rattle.sqlite_trees.specs.declared.store.Store.{Ghosts}
+use Rattle.sqlite_trees.proofs.ListLemmas.{all-map, all_of, map-map}
 use Rattle.posting_rules.specs.believed.Numbering.{branch_of_teller, branch_of_account}
-use Rattle.posting_rules.specs.{Damage.IsUndamaged, believed.Tables.Tables}
+use Rattle.posting_rules.specs.{Damage.IsUndamaged, believed.Tables.Tables, believed.Tables.branch_key}
+use Rattle.posting_rules.specs.believed.Tables.{row_at}
 use Rattle.posting_batch.specs.declared.slots.{AccountSlot.AccountSlot, TellerSlot.TellerSlot, BranchSlot.BranchSlot}
 use Rattle.posting_batch.specs.declared.slots.{FloorSlot.FloorSlot, RequestSlot.RequestSlot}
 use Rattle.posting_batch.specs.{Batch.HasHomes, Batch.branch_filled, Batch.floor_filled, Batch.teller_filled}
 use Rattle.posting_batch.specs.{Batch.account_filled, Batch.filled, Batch.request_filled, Overlay.Overlay}
-use Rattle.bank_transactions.specs.{Doing.Reads, Filling.ReadsWhere, Filling.TellsBranch, Filling.known}
-use Rattle.bank_transactions.proofs.{LookUps.reads_both, FilledSlots.tells_all}
+use Rattle.posting_batch.specs.Slots.{branch_slot_key, row_of_slot}
+use Rattle.bank_transactions.specs.{Doing.Reads, Doing.ReadsWhere, Filling.TellsBranch, Filling.emptied, Filling.known}
+use Rattle.bank_transactions.specs.Filling.{emptied_account, emptied_branch, emptied_floor, emptied_request, emptied_teller}
+use Rattle.bank_transactions.proofs.{HeldSlots.know_all, LookUps.reads_both, LookUps.reads_so}
 
 -- nothing is damaged, and each branch that is asked for has its slot
 abbrev pub So : Overlay → Tables → Type 0
@@ -47,51 +51,20 @@ same_known o n b b' f f' e e' a a' eb ef ee ea = rw (eb, ef, ee, ea) refl
 
 -- nothing is asked of them
 pub nothing_asked : {A : Type 0} (xs : List A) → AllByRecursion (λ _. ⊤) xs
-nothing_asked [] = tt
-nothing_asked (x ∷ xs) = (tt, nothing_asked xs)
+nothing_asked = all_of (λ _. ⊤) (λ x. tt)
 
+-- the slots of branches that are filled tell, for those that ask of them
 tells_so : {A : Type 0} (branch_of : A → ℕ) (t : Tables) (slots told : List BranchSlot) (others xs : List A)
-    → AllByRecursion (λ s. TellsBranch (map (branch_filled t) slots) t (branch_of s)) others → told
-    ≡ map (branch_filled t) slots → xs ≡ others
+    → AllByRecursion (λ s. IsSome (row_at branch_slot_key slots (branch_of s))) others
+    → told ≡ map (branch_filled t) slots → xs ≡ others
     → AllByRecursion (λ s. TellsBranch told t (branch_of s)) xs
-tells_so {A} branch_of t slots told others xs tells is same =
-    subst (λ (bs : List BranchSlot). AllByRecursion (λ s. TellsBranch bs t (branch_of s)) xs) (sym is)
-    (subst (λ (ys : List A). AllByRecursion
-    (λ s. TellsBranch (map (branch_filled t) slots) t (branch_of s)) ys) (sym same) tells)
-
--- the slots of branches tell, for those of tellers and of accounts
-pub for_tellers : (o p : Overlay) (t : Tables) (told : List BranchSlot) (xs : List TellerSlot) → So o t
-    → p.branches ≡ map (branch_filled t) o.branches → told ≡ p.branches → xs ≡ o.tellers
-    → IsUndamaged t × AllByRecursion (λ s. TellsBranch told t (branch_of_teller s.teller)) xs
-for_tellers o p t told xs so e same is = (
-  so.0,
-  tells_so (λ s. branch_of_teller s.teller) t o.branches told o.tellers xs
-      (tells_all (λ s. branch_of_teller s.teller) t o.branches o.tellers so.1.tellers) (same ∙ e) is,
-)
-
-pub for_accounts : (o p : Overlay) (t : Tables) (told : List BranchSlot) (xs : List AccountSlot) → So o t
-    → p.branches ≡ map (branch_filled t) o.branches → told ≡ p.branches → xs ≡ o.accounts
-    → IsUndamaged t × AllByRecursion (λ s. TellsBranch told t (branch_of_account s.account)) xs
-for_accounts o p t told xs so e same is = (
-  so.0,
-  tells_so (λ s. branch_of_account s.account) t o.branches told o.accounts xs
-      (tells_all (λ s. branch_of_account s.account) t o.branches o.accounts so.1.accounts) (same ∙ e) is,
-)
+tells_so branch_of t slots told others xs asked is same =
+    know_all branch_slot_key row_of_slot emptied_branch (λ n s. refl) (λ n row. row ≡ row_at branch_key t.branches n)
+    branch_of slots told (map (branch_filled t) slots) others xs is same
+    (map-map emptied_branch (branch_filled t) slots)
+    (all-map _ (branch_filled t) slots (all_of _ (λ s. refl) slots)) asked
 
 -- ---- the count, and the slots of one table more
-
-counted : {S : Type 0} {g : Ghosts S} {a b : Transaction S} (o : Overlay) (n : ℕ)
-    → Reads g a b (λ t. t.decided) (Ok n)
-    → ReadsWhere g a b (So o) (λ t. with_count t.decided o) (Ok (with_count n o))
-counted o n reads = record {
-  says = record {
-    same_reference = reads.same_reference;
-    told = λ clean t shows so. let it =
-        reads.told clean t shows so.0 in (ap (λ (k : ℕ). with_count k o) it.0, it.1);
-    leaves = reads.leaves;
-    survives = reads.survives;
-  };
-}
 
 part : {S A : Type 0} {g : Ghosts S} {a b c : Transaction S} {So' : Tables → Type 0} (o : Overlay)
     (put : List A → Overlay → Overlay) (fill : Tables → A → A) (p : Overlay) (f : Tables → Overlay)
@@ -131,25 +104,10 @@ abbrev OfAccounts : List BranchSlot → List AccountSlot → Tables → Type 0
 OfAccounts told xs t = IsUndamaged t
     × AllByRecursion (λ s. TellsBranch told t (branch_of_account s.account)) xs
 
-module _ {o p : Overlay} where
-  -- what each fill asks for is so after the one before it
-  pub plain : {A : Type 0} (f : Tables → Overlay) (xs : List A) (t : Tables) → So o t → p ≡ f t → Plain xs t
-  plain f xs t so e = (so.0, nothing_asked xs)
-
-  pub tellers_ready : {told : List BranchSlot} {xs : List TellerSlot} → told ≡ p.branches → xs ≡ o.tellers
-      → (t : Tables) → So o t → p ≡ to_floors o t → OfTellers told xs t
-  tellers_ready {told} {xs} same is t so e =
-      for_tellers o p t told xs so (ap (λ (q : Overlay). q.branches) e) same is
-
-  pub accounts_ready : {told : List BranchSlot} {xs : List AccountSlot} → told ≡ p.branches → xs ≡ o.accounts
-      → (t : Tables) → So o t → p ≡ to_tellers o t → OfAccounts told xs t
-  accounts_ready {told} {xs} same is t so e =
-      for_accounts o p t told xs so (ap (λ (q : Overlay). q.branches) e) same is
-
 module _ {S : Type 0} {g : Ghosts S} {a b : Transaction S} where
   pub count_in : (o : Overlay) (n : ℕ) → Reads g a b (λ t. t.decided) (Ok n)
       → ReadsWhere g a b (So o) (with_counted o) (Ok (with_count n o))
-  count_in o n reads = counted o n reads
+  count_in o n reads = reads_so reads (λ t so. (so.0, λ e. ap (λ (k : ℕ). with_count k o) e))
 
   module _ {c : Transaction S} {o p : Overlay} where
     pub branches_in : {xs ys : List BranchSlot} → ReadsWhere g a b (So o) (with_counted o) (Ok p)
@@ -157,14 +115,14 @@ module _ {S : Type 0} {g : Ghosts S} {a b : Transaction S} where
         → ReadsWhere g a c (So o) (to_branches o) (Ok (with_branches ys p))
     branches_in {xs} {ys} first is second =
         part o with_branches branch_filled p (with_counted o) xs o.branches ys is first second
-        (plain (with_counted o) xs)
+        (λ t so e. (so.0, nothing_asked xs))
 
     pub floors_in : {xs ys : List FloorSlot} → ReadsWhere g a b (So o) (to_branches o) (Ok p) → xs ≡ o.floors
         → ReadsWhere g b c (Plain xs) (λ t. map (floor_filled t) xs) (Ok ys)
         → ReadsWhere g a c (So o) (to_floors o) (Ok (with_floors ys p))
     floors_in {xs} {ys} first is second =
         part o with_floors floor_filled p (to_branches o) xs o.floors ys is first second
-        (plain (to_branches o) xs)
+        (λ t so e. (so.0, nothing_asked xs))
 
     pub tellers_in : {told : List BranchSlot} {xs ys : List TellerSlot}
         → ReadsWhere g a b (So o) (to_floors o) (Ok p) → told ≡ p.branches → xs ≡ o.tellers
@@ -172,7 +130,11 @@ module _ {S : Type 0} {g : Ghosts S} {a b : Transaction S} where
         → ReadsWhere g a c (So o) (to_tellers o) (Ok (with_tellers ys p))
     tellers_in {told} {xs} {ys} first same is second =
         part o with_tellers teller_filled p (to_floors o) xs o.tellers ys is first second
-        (tellers_ready same is)
+        (λ t so e. (
+          so.0,
+          tells_so (λ s. branch_of_teller s.teller) t o.branches told o.tellers xs so.1.tellers
+              (same ∙ ap (λ (q : Overlay). q.branches) e) is,
+        ))
 
     pub accounts_in : {told : List BranchSlot} {xs ys : List AccountSlot}
         → ReadsWhere g a b (So o) (to_tellers o) (Ok p) → told ≡ p.branches → xs ≡ o.accounts
@@ -180,7 +142,11 @@ module _ {S : Type 0} {g : Ghosts S} {a b : Transaction S} where
         → ReadsWhere g a c (So o) (to_accounts o) (Ok (with_accounts ys p))
     accounts_in {told} {xs} {ys} first same is second =
         part o with_accounts account_filled p (to_tellers o) xs o.accounts ys is first second
-        (accounts_ready same is)
+        (λ t so e. (
+          so.0,
+          tells_so (λ s. branch_of_account s.account) t o.branches told o.accounts xs so.1.accounts
+              (same ∙ ap (λ (q : Overlay). q.branches) e) is,
+        ))
 
     -- what is kept of requests, after all that
     pub kept_after : {xs ys : List RequestSlot} → ReadsWhere g a b (So o) (λ t. known t o) (Ok p) → xs ≡ o.kept
@@ -188,4 +154,19 @@ module _ {S : Type 0} {g : Ghosts S} {a b : Transaction S} where
         → ReadsWhere g a c (So o) (λ t. filled t o) (Ok (with_kept ys p))
     kept_after {xs} {ys} first is second =
         part o with_kept request_filled p (λ t. known t o) xs o.kept ys is first second
-        (plain (λ t. known t o) xs)
+        (λ t so e. (so.0, nothing_asked xs))
+
+-- ---- without what they are filled with
+
+pub emptied_known : (o : Overlay) (n : ℕ) (b : List BranchSlot) (f : List FloorSlot) (e : List TellerSlot)
+    (a : List AccountSlot) → map emptied_branch b ≡ map emptied_branch o.branches
+    → map emptied_floor f ≡ map emptied_floor o.floors
+    → map emptied_teller e ≡ map emptied_teller o.tellers
+    → map emptied_account a ≡ map emptied_account o.accounts
+    → emptied (with_accounts a (with_tellers e (with_floors f (with_branches b (with_count n o))))) ≡ emptied o
+emptied_known o n b f e a eb ef ee ea = rw (eb, ef, ee, ea) refl
+
+-- and with those of requests
+pub emptied_kept : (p : Overlay) (k : List RequestSlot) → map emptied_request k ≡ map emptied_request p.kept
+    → emptied (with_kept k p) ≡ emptied p
+emptied_kept p k ek = rw ek refl

@@ -2,11 +2,11 @@
 -- a file holds: those of a batch, and a single one.
 use Rattle.std.proofs.Common.{◌≡◌, ℕ, ℤ, Bool, eqb, List, [], ◌∷◌, map, Option, Some, None, Result, Ok, Err, refl}
 use Rattle.std.proofs.Common.{pos, true, sym, ap, subst, ◌∙◌, inl, inr, arith}
-use Rattle.std.specs.Prelude.{length, IfOk, IfSome, IsSome, IsTrue, is_some, option_and_then, option_map}
+use Rattle.std.specs.Prelude.{length, IfOk, IfSome, IsSome, IsTrue, option_and_then, option_map}
 use Rattle.std.specs.List.{AllByRecursion, find}
-use Rattle.std.proofs.lemmas.Bool.{and_parts, eqb-true}
+use Rattle.std.proofs.lemmas.{Bool.and_parts, Bool.eqb-true, Result.IfOk-weaker}
 use Rattle.message_records.specs.{believed.Reading.request_of, believed.Records.RequestFields, declared.fault.Bad.Bad}
-use Rattle.posting_rules.specs.believed.LookUps.{account_balance_in, balance_of_branch, balance_of_teller, both_of}
+use Rattle.posting_rules.specs.believed.LookUps.{account_balance_in, balance_of_teller}
 use Rattle.posting_rules.specs.believed.LookUps.{floor_in, found_in, kept_in}
 use Rattle.posting_rules.specs.believed.Numbering.{branch_of_account, branch_of_teller}
 use Rattle.posting_rules.specs.believed.Tables.{Tables, branch_key, row_at, teller_key}
@@ -26,6 +26,7 @@ use Rattle.sql_meanings.specs.believed.Entries.{Entry}
 use Rattle.sql_meanings.proofs.Changes.{found_key}
 use Rattle.sqlite.specs.{Effect.Database, Held.Held, Held.state, State.HasCleanDisk}
 use Rattle.sqlite_trees.specs.declared.store.Store.{Ghosts}
+use Rattle.sqlite_trees.proofs.ListLemmas.{all_weaker, map-map}
 use Rattle.store_rows.specs.believed.Rules.{HoldsBank, OfRows, StoredRows, branch_under, row_under}
 use Rattle.store_rows.specs.believed.{Readings.read_balance, Stored.FindsStored}
 use Rattle.store_rows.specs.declared.fault.TableFault.{TableFault}
@@ -35,26 +36,19 @@ use Rattle.bank_transactions.specs.Filling.{AreHeld, BranchHeld, HoldsBranch, Re
 use Rattle.bank_transactions.specs.Filling.{emptied_branch, emptied_floor, emptied_request, emptied_teller}
 use Rattle.bank_transactions.specs.believed.Stored.{HasRead, HasStored, HoldsAccount, HoldsFloor, HoldsKept}
 use Rattle.bank_transactions.specs.believed.Stored.{HoldsTeller, IsStoredFound, RepliesInTurn}
-use Rattle.bank_transactions.proofs.{HeldRows.both_held, HeldSlots.at_key, Together.within_or_none}
+use Rattle.bank_transactions.proofs.{HeldRows.both_held, HeldSlots.at_key, SoundRows.within_or_none, Transacted.of_given}
 
 -- ---- an overlay that is filled again
-
-pub map_twice : {A B C : Type 0} (f : B → C) (g : A → B) (h : A → C) → ((a : A) → f (g a) ≡ h a) → (xs : List A)
-    → map f (map g xs) ≡ map h xs
-map_twice f g h same [] = refl
-map_twice {A} {B} {C} f g h same (x ∷ xs) =
-    ap (λ (c : C). c ∷ map f (map g xs)) (same x)
-    ∙ ap (λ (cs : List C). h x ∷ cs) (map_twice f g h same xs)
 
 -- what slots were filled with before doesn't count
 module _ (t : Tables) where
   filled_again : (o : Overlay) → filled t (emptied o) ≡ filled t o
   filled_again o = rw (
-    map_twice (branch_filled t) emptied_branch (branch_filled t) (λ s. refl) o.branches,
-    map_twice (floor_filled t) emptied_floor (floor_filled t) (λ s. refl) o.floors,
-    map_twice (teller_filled t) emptied_teller (teller_filled t) (λ s. refl) o.tellers,
-    map_twice (account_filled t) emptied_account (account_filled t) (λ s. refl) o.accounts,
-    map_twice (request_filled t) emptied_request (request_filled t) (λ s. refl) o.kept,
+    map-map (branch_filled t) emptied_branch o.branches,
+    map-map (floor_filled t) emptied_floor o.floors,
+    map-map (teller_filled t) emptied_teller o.tellers,
+    map-map (account_filled t) emptied_account o.accounts,
+    map-map (request_filled t) emptied_request o.kept,
   ) refl
 
   filled_over : (o p : Overlay) → emptied o ≡ emptied p → filled t o ≡ filled t p
@@ -98,11 +92,6 @@ told : {S X : Type 0} (content : S → X) (P : X → Type 0) (x : X) (o : Option
     → IfSome o (λ s. P (content s)) → IfSome o (λ s. content s ≡ x) → P x
 told content P x None there held is = absurd cc
 told content P x (Some s) there held is = subst P is held
-
-each : {S : Type 0} (P Q : S → Type 0) → ((s : S) → P s → Q s) → (slots : List S) → AllByRecursion P slots
-    → AllByRecursion Q slots
-each P Q so [] all = tt
-each P Q so (s ∷ slots) all = (so s all.0, each P Q so slots all.1)
 
 module _ (rows : StoredRows) where
   kept_at : (slots : List RequestSlot) → AllByRecursion (RequestHeld rows) slots → (n m : ℕ)
@@ -194,7 +183,7 @@ module _ (free : ℕ) (rows : StoredRows) (reads : List (Result RequestFields Ba
 
   filled_so : slots ≡ filled its_tables (covering_all no_slots reads)
   filled_so = sym (told_filled free slots rises
-      (each (BranchHeld rows) IsOwn (λ s it. own_row rows s.branch s.stored it) slots.branches held.branches))
+      (all_weaker (BranchHeld rows) IsOwn (λ s it. own_row rows s.branch s.stored it) slots.branches held.branches))
       ∙ filled_over its_tables slots (covering_all no_slots reads) same
 
   they_stand : Stands slots its_tables reads
@@ -274,14 +263,10 @@ pub stored_after : {S X : Type 0} (g : Ghosts S) (Made : List (List ℕ) → Typ
     → Q (state g begun).now records x)
     → IfOk result (λ x. HasCleanDisk (state g new) → (records : List (List ℕ)) → Made records
     → Q (state g old).now records x)
-stored_after g Made Q old begun last end new answer (Err fault) is ends same stored = tt
-stored_after g Made Q old begun last end new (Err fault) (Ok y) is ends same stored =
-    absurd (let no = ends.given in cc)
-stored_after {S} {X} g Made Q old begun last end new (Ok x) (Ok y) is ends same stored = λ clean records made.
+stored_after {S} g Made Q old begun last end new answer result is ends same stored =
+    IfOk-weaker result _ _ (λ y it clean records made.
     let ended : HasCleanDisk (state g end) = subst (λ (h : Held S). HasCleanDisk (state g h))
     (sym (same records made)) clean in
     let before : HasCleanDisk (state g last) = omega (arith, ends.survives.clean) in
-    let given : x ≡ y = (let it = ends.given in cc) in
-    subst (λ (z : X). Q (state g old).now records z) given
-    (subst (λ (db : Database). Q db records x) (ap (λ (h : Held S). (state g h).now) is)
-    (stored before records made))
+    subst (λ (db : Database). Q db records y) (ap (λ (h : Held S). (state g h).now) is) (it before records made))
+    (of_given _ answer result ends.given stored)

@@ -7,18 +7,13 @@ use Rattle.smallvec.specs.SmallVec.{SmallVec, with_items}
 use Rattle.smallvec.proofs.SmallVecLemmas.{items-with_items}
 use Rattle.posting_rules.specs.believed.Tables.{row_at}
 use Rattle.posting_rules.proofs.Keyed.{by_test}
-use Rattle.posting_batch.specs.declared.slots.{AccountSlot.AccountSlot, BranchSlot.BranchSlot, FloorSlot.FloorSlot}
-use Rattle.posting_batch.specs.declared.slots.{RequestSlot.RequestSlot, TellerSlot.TellerSlot}
-use Rattle.posting_batch.specs.Overlay.{Overlay}
+use Rattle.posting_batch.specs.declared.slots.{BranchSlot.BranchSlot, FloorSlot.FloorSlot}
 use Rattle.posting_batch.specs.Slots.{branch_slot_key, floor_of_slot, floor_slot_key, in_slot, row_of_slot}
 use Rattle.posting_batch.proofs.KeptSlots.{find-map}
 use Rattle.store_rows.specs.believed.Rules.{StoredRows}
-use Rattle.bank_transactions.specs.Filling.{BranchHeld, FloorHeld, HoldsBranch, TellsFloor, TellsStored, emptied}
-use Rattle.bank_transactions.specs.Filling.{emptied_account, emptied_branch, emptied_floor, emptied_request}
-use Rattle.bank_transactions.specs.Filling.{emptied_teller}
+use Rattle.bank_transactions.specs.Filling.{BranchHeld, FloorHeld, HoldsBranch, TellsFloor, TellsStored}
+use Rattle.bank_transactions.specs.Filling.{emptied_branch, emptied_floor}
 use Rattle.bank_transactions.specs.believed.Stored.{HoldsFloor}
-use Rattle.bank_transactions.proofs.FilledBatch.{with_accounts, with_branches, with_count, with_floors, with_kept}
-use Rattle.bank_transactions.proofs.FilledBatch.{with_tellers}
 
 -- what is so of each slot under its own key is so of the one that is found under a key
 pub at_key : {S : Type 0} (key : S → ℕ) (P : ℕ → S → Type 0) (slots : List S)
@@ -68,7 +63,7 @@ module _ {S X : Type 0} (key : S → ℕ) (content : S → Option X) (bare : S �
       tell_all old new others same held homes.1,
     )
 
-    know_all : (old told new : List S) (others xs : List A) → told ≡ new → xs ≡ others
+    pub know_all : (old told new : List S) (others xs : List A) → told ≡ new → xs ≡ others
         → map bare new ≡ map bare old → Each new
         → AllByRecursion (λ x. IsSome (row_at key old (number x))) others
         → AllByRecursion (λ x. Tells told (number x)) xs
@@ -96,17 +91,3 @@ module _ {A : Type 0} (branch_of : A → ℕ) (rows : StoredRows) where
 pub put_back : {A : Type 0} (v : SmallVec A) (xs ys : List A) → xs ≡ v.items → length ys ≡ length xs
     → (with_items v ys).items ≡ ys
 put_back v xs ys is same = items-with_items v ys (same ∙ ap length is)
-
--- the overlay with filled slots, without what they are filled with
-pub emptied_known : (o : Overlay) (n : ℕ) (b : List BranchSlot) (f : List FloorSlot) (e : List TellerSlot)
-    (a : List AccountSlot) → map emptied_branch b ≡ map emptied_branch o.branches
-    → map emptied_floor f ≡ map emptied_floor o.floors
-    → map emptied_teller e ≡ map emptied_teller o.tellers
-    → map emptied_account a ≡ map emptied_account o.accounts
-    → emptied (with_accounts a (with_tellers e (with_floors f (with_branches b (with_count n o))))) ≡ emptied o
-emptied_known o n b f e a eb ef ee ea = rw (eb, ef, ee, ea) refl
-
--- and with those of requests
-pub emptied_kept : (p : Overlay) (k : List RequestSlot) → map emptied_request k ≡ map emptied_request p.kept
-    → emptied (with_kept k p) ≡ emptied p
-emptied_kept p k ek = rw ek refl

@@ -1,6 +1,6 @@
 -- Records whose slots are filled, judged and written: a single one, and those of a batch.
 use Rattle.std.proofs.Common.{◌≡◌, ℕ, List, length, map, Result, Ok, Err, refl, sym, ap, subst, ◌∙◌}
-use Rattle.sqlite.specs.{Held.state, declared.transaction.Transaction.Transaction}
+use Rattle.sqlite.specs.declared.transaction.Transaction.{Transaction}
 use Rattle.sqlite_trees.specs.declared.store.Store.{Ghosts}
 use Rattle.message_records.specs.believed.{Reading.request_of, Records.RequestFields, Spelling.reply_spelling}
 use Rattle.posting_rules.specs.believed.Changes.{tables_past_all, replies_past_all, tables_with, reply_bytes}
@@ -15,30 +15,10 @@ use Rattle.posting_batch.proofs.{Covered.stands, Covered.homes_all, FreeOrdinals
 use Rattle.posting_batch.proofs.OneRecord.{one_adds, one_back, one_changes, one_filled, one_homes, one_judged}
 use Rattle.posting_batch.proofs.OneRecord.{one_reply, one_rising, one_tables}
 use Rattle.store_rows.specs.{believed.Failures.Additions, declared.fault.TableFault.TableFault}
-use Rattle.store_rows.specs.believed.View as stored
-use Rattle.bank_transactions.specs.{believed.Causes.Damage, Causes.IsFirstBroken}
+use Rattle.bank_transactions.specs.{Causes.IsFirstBroken}
 use Rattle.bank_transactions.specs.Doing.{Acts, Does, DoesBy}
-use Rattle.bank_transactions.proofs.Chained.{acts_read, acts_wrote, does_but, does_for}
-use Rattle.bank_transactions.proofs.{Both.does_both, Together.Written}
-
--- the same, said in other words where the answer is known
-pub does_so : {S X Y : Type 0} {g : Ghosts S} {old new : Transaction S} {So : Tables → Type 0}
-    {after after' : Tables → Tables}
-    {w : Tables → X} {w' : Tables → Y} {x : X} {y : Y} {Met : Damage S}
-    → DoesBy Met g old new So after w (Ok x)
-    → ((t : Tables) → So t → x ≡ w t → (after t ≡ after' t) × (y ≡ w' t))
-    → DoesBy Met g old new So after' w' (Ok y)
-does_so {S} {X} {Y} {g} {old} {new} part same = record {
-  says = record {
-    same_reference = part.says.same_reference;
-    told = λ clean live t shows so.
-        let it = part.says.told clean live t shows so in
-        let is = same t so it.0 in
-        (is.1, subst (λ (u : Tables). stored.Shows (state g new.conn.now).now u) is.0 it.1);
-    leaves = part.says.leaves;
-    survives = part.says.survives;
-  };
-}
+use Rattle.bank_transactions.proofs.Chained.{acts_read, acts_wrote, does_both, does_but, does_for, does_tell}
+use Rattle.bank_transactions.proofs.Together.{Written}
 
 abbrev pub Ready : Overlay → Tables → Type 0
 Ready o t = IsUndamaged t × HasHomes o
@@ -57,42 +37,43 @@ pub record Judging {X : Type 0} (So : Tables → Type 0) (after : Tables → Tab
   pub back : judged.decided ≡ filled_slots.decided → (t : Tables) → So t → filled_slots ≡ filled t slots
       → after t ≡ t
 
-module _ {S X : Type 0} {g : Ghosts S} {old mid : Transaction S} {So : Tables → Type 0}
-    {after : Tables → Tables} {wanted : Tables → X} {p p' o : Overlay} {x : X}
-    (so : Judging So after wanted p p' o x)
-    (first : DoesBy (IsFirstBroken g) g old mid (Ready p) (λ t. t) (λ t. filled t p) (Ok p')) where
-  filled_so : DoesBy (IsFirstBroken g) g old mid So (λ t. t) (λ t. filled t p) (Ok p')
-  filled_so = does_for first (λ t it. (so.ready t it, refl, refl))
-
-  -- where the count stays, it is the one that was read
-  pub counts_none : (t : Tables) → So t → p' ≡ filled t p → (after t).decided ≡ t.decided
-      → o.decided ≡ p'.decided
-  counts_none t it e none = ap (λ (u : Tables). u.decided) (so.tables t it e) ∙ none
-      ∙ sym (ap (λ (q : Overlay). q.decided) e)
-
-  -- nothing is written, and the tables are as they were
-  pub answered_idle : {Adds : Additions} → o.decided ≡ p'.decided → Acts g Adds old mid So after wanted (Ok x)
-  answered_idle none =
-      acts_read (does_so filled_so (λ t it e. (sym (so.back none t it e), so.answers t it e)))
-
-  abbrev Knows : Tables → Type 0
+module _ {X : Type 0} {So : Tables → Type 0} {after : Tables → Tables} {wanted : Tables → X} {p p' o : Overlay}
+    {x : X} (so : Judging So after wanted p p' o x) where
+  abbrev pub Knows : Tables → Type 0
   Knows t = So t × (p' ≡ filled t p)
 
-  written_so : {Adds : Additions} {new : Transaction S} {r : Result (Unit {0}) TableFault}
+  pub written_so : {S : Type 0} {g : Ghosts S} {Adds : Additions} {mid new : Transaction S}
+      {r : Result (Unit {0}) TableFault}
       → Does {X = Unit {0}} g Adds mid new (Written o) (λ t. tables_over o t) (λ _. tt {0}) r
       → Does {X = Unit {0}} g Adds mid new Knows after (λ _. tt {0}) r
   written_so second = does_for second (λ t it. (so.writes t it.0 it.1, so.tables t it.0 it.1, refl))
 
-  pub answered_written : {Adds : Additions} {new : Transaction S}
-      → Does {X = Unit {0}} g Adds mid new (Written o) (λ t. tables_over o t) (λ _. tt {0}) (Ok (tt {0}))
-      → Acts g Adds old new So after wanted (Ok x)
-  answered_written second =
-      acts_wrote (does_both filled_so (written_so second) (λ t it e. (it, e)) (λ t it e f. so.answers t it e))
+  module _ {S : Type 0} {g : Ghosts S} {old mid : Transaction S}
+      (first : DoesBy (IsFirstBroken g) g old mid (Ready p) (λ t. t) (λ t. filled t p) (Ok p')) where
+    filled_so : DoesBy (IsFirstBroken g) g old mid So (λ t. t) (λ t. filled t p) (Ok p')
+    filled_so = does_for first (λ t it. (so.ready t it, refl, refl))
 
-  pub answered_not : {Adds : Additions} {new : Transaction S} {e : TableFault}
-      → Does {X = Unit {0}} g Adds mid new (Written o) (λ t. tables_over o t) (λ _. tt {0}) (Err e)
-      → Acts {X = X} g Adds old new So after wanted (Err e)
-  answered_not second = acts_wrote (does_but filled_so (written_so second) (λ t it e. (it, e)))
+    -- where the count stays, it is the one that was read
+    pub counts_none : (t : Tables) → So t → p' ≡ filled t p → (after t).decided ≡ t.decided
+        → o.decided ≡ p'.decided
+    counts_none t it e none = ap (λ (u : Tables). u.decided) (so.tables t it e) ∙ none
+        ∙ sym (ap (λ (q : Overlay). q.decided) e)
+
+    -- nothing is written, and the tables are as they were
+    pub answered_idle : {Adds : Additions} → o.decided ≡ p'.decided → Acts g Adds old mid So after wanted (Ok x)
+    answered_idle none =
+        acts_read (does_tell first (λ t it. (so.ready t it, λ e. (sym (so.back none t it e), so.answers t it e))))
+
+    pub answered_written : {Adds : Additions} {new : Transaction S}
+        → Does {X = Unit {0}} g Adds mid new (Written o) (λ t. tables_over o t) (λ _. tt {0}) (Ok (tt {0}))
+        → Acts g Adds old new So after wanted (Ok x)
+    answered_written second =
+        acts_wrote (does_both filled_so (written_so second) (λ t it e. ((it, e), refl, so.answers t it e)))
+
+    pub answered_not : {Adds : Additions} {new : Transaction S} {e : TableFault}
+        → Does {X = Unit {0}} g Adds mid new (Written o) (λ t. tables_over o t) (λ _. tt {0}) (Err e)
+        → Acts {X = X} g Adds old new So after wanted (Err e)
+    answered_not second = acts_wrote (does_but filled_so (written_so second) (λ t it e. (it, e)))
 
 -- ---- a batch
 

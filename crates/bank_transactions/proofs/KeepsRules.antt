@@ -1,8 +1,8 @@
 -- Undamaged tables keep each of the nine rules, but that of the keys of new rows, of which more is known of a log.
-use Rattle.std.proofs.Common.{◌≡◌, ◌≢◌, ◌≤◌, ℕ, suc, pos, Bool, true, false, List, [], ◌∷◌, map, Option, Some, None}
-use Rattle.std.proofs.Common.{Result, Ok, Err, option_map, refl, sym, ap, subst, ◌∙◌, arith}
-use Rattle.std.specs.Prelude.{◌&&◌, cond, ◌≤ℤ◌, nat_le, is_some, option_and_then}
-use Rattle.std.specs.List.{AllByRecursion, Contains}
+use Rattle.std.proofs.Common.{◌≡◌, ◌≢◌, ◌≤◌, ℕ, pos, true, false, List, map, Option, Some, None}
+use Rattle.std.proofs.Common.{Result, Ok, Err, option_map, refl, sym, ap, subst, ◌∙◌}
+use Rattle.std.specs.Prelude.{◌≤ℤ◌, is_some, option_and_then}
+use Rattle.std.specs.List.{Contains}
 use Rattle.sqlite.specs.Effect.{Database}
 use Rattle.message_records.specs.{believed.Ranges.whole_within, declared.limits.TheConstants.MAX_BRANCH}
 use Rattle.posting_rules.specs.believed.Commands.{Terms, is_within}
@@ -10,10 +10,11 @@ use Rattle.posting_rules.specs.believed.Numbering.{branch_of_teller, branch_of_a
 use Rattle.posting_rules.specs.{Damage.IsUndamaged, LookUps.terms_of_branch, declared.fault.Rule.Rule}
 use Rattle.posting_rules.specs.believed.LookUps.{balance_of_account, floor_in, lowest_of}
 use Rattle.posting_rules.specs.believed.Tables.{Tables, row_at, account_key, branch_key, floor_key, teller_key}
-use Rattle.posting_rules.specs.declared.fault.Rule.TheVariants.{Meta, Teller, Account, Balance, Request, Value, Key}
-use Rattle.posting_rules.specs.declared.fault.Rule.TheVariants.{Floor, Reference}
+use Rattle.posting_rules.specs.declared.fault.Rule.TheVariants.{Meta, Teller, Account, Balance, Key}
 use Rattle.posting_rules.specs.declared.rows.{AccountRow.AccountRow, BranchRow.BranchRow, FloorRow.FloorRow}
 use Rattle.sql_meanings.specs.believed.Entries.{Entry}
+use Rattle.sqlite_rules.proofs.ListLemmas.{all_from, contains_had}
+use Rattle.sqlite_trees.proofs.ListLemmas.{all-map}
 use Rattle.store_rows.specs.{believed.Columns.number_at, Rules.stored_rows, declared.metas.TheConstants.VERSION}
 use Rattle.store_rows.specs.believed.Readings.{read_account, read_branch, read_floor, read_posting, read_reference}
 use Rattle.store_rows.specs.believed.Readings.{read_request, read_teller}
@@ -26,25 +27,16 @@ use Rattle.store_rows.proofs.Readings.{account_back, branch_back, floor_back, po
 use Rattle.store_rows.proofs.Readings.{request_back, teller_back}
 use Rattle.store_rows.proofs.{RowLists.found_row, RowLists.taken_row_key, StoredRows.holds_shown}
 use Rattle.bank_transactions.proofs.FittingAccounts.{le_number, le_test, same_entry}
-use Rattle.bank_transactions.proofs.SoundRows.{no_branch_beyond, no_floor_beyond, not_below}
+use Rattle.bank_transactions.proofs.SoundRows.{no_branch_beyond, no_floor_beyond, not_below, same_number}
 
 -- ---- each row
-
-each_entry : {R : Type 0} (entry : R → Entry) (P : Entry → Type 0) (rows : List R)
-    → ((r : R) → Contains rows r → P (entry r))
-    → AllByRecursion P (map entry rows)
-each_entry entry P [] all = tt
-each_entry entry P (r ∷ rows) all = (
-  all r (0, omega arith, refl),
-  each_entry entry P rows (λ x has. all x (let lt = has.1 in (suc has.0, omega arith, has.2))),
-)
 
 module _ (t : Tables) (sound : IsUndamaged t) where
   -- each row reads as a value
   reads : {R X : Type 0} (entry : R → Entry) (read : Entry → Result X Rule) (rule : Rule) (rows : List R)
       → ((r : R) → Contains rows r → (x : X) × (read (entry r) ≡ Ok x)) → NoneBreaks rule read (map entry rows)
-  reads entry read rule rows back = each_entry entry (λ e. read e ≢ Err rule) rows
-      (λ r has no. let it = back r has in let is = it.1 in cc)
+  reads entry read rule rows back = all-map (λ e. read e ≢ Err rule) entry rows (all_from _ rows
+      (λ r has no. let it = back r (contains_had rows r has) in let is = it.1 in cc))
 
   -- so none breaks a rule
   pub each_keeps : (rule : Rule) → EachKeeps rule (stored_rows t)
@@ -71,17 +63,7 @@ module _ (t : Tables) (sound : IsUndamaged t) where
       → option_and_then (row_under (map entry rows)) o ≡ option_map entry (row_at key rows n)
   under_number key entry keyed rows beyond n None is = sym (ap (option_map entry) (sym (beyond n is)))
   under_number key entry keyed rows beyond n (Some m) is =
-      let same : m ≡ n = within_is n m is in
-      ap (row_under (map entry rows)) same
-      ∙ found_row key entry keyed n rows
-    where
-      within_is : (n m : ℕ) → whole_within 1 MAX_BRANCH n ≡ Some m → m ≡ n
-      within_is n m is = go (nat_le 1 n) (nat_le n MAX_BRANCH) is
-        where
-          go : (a b : Bool) → cond (a && b) (Some n) None ≡ Some m → m ≡ n
-          go true true is = cc
-          go true false is = absurd cc
-          go false b is = absurd cc
+      ap (row_under (map entry rows)) (same_number n m is) ∙ found_row key entry keyed n rows
 
   -- the branch under a number
   under_is : (n : ℕ) → branch_under (stored_rows t) n

@@ -3,7 +3,6 @@ pub mod Blamed
 pub mod Broken
 pub mod Chained
 pub mod Left
-pub mod FailedBalances
 pub mod FittingAccounts
 pub mod HeldRows
 pub mod HeldSlots
@@ -14,12 +13,9 @@ pub mod ReadsInTurn
 pub mod SoundRows
 pub mod Statements
 pub mod Transacted
-pub mod Undone
-pub mod Both
 pub mod LookUps
 pub mod Loops
 pub mod Partly
-pub mod FilledSlots
 pub mod Rows
 pub mod FilledBatch
 pub mod Together

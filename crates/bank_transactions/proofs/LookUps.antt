@@ -1,59 +1,81 @@
 -- Look-ups one after another.
-use Rattle.std.proofs.Common.{◌≡◌, Ok, Err, Result, refl, sym, ap, subst, ◌∙◌}
-use Rattle.sqlite.specs.{Effect.Database, Held.state, declared.transaction.Transaction.Transaction}
-use Rattle.sqlite.specs.State.{State, IsUnchanged, Survives}
+use Rattle.std.proofs.Common.{◌≡◌, Ok, Err, Result, refl, sym, subst, ◌∙◌}
+use Rattle.std.specs.Prelude.{IfOk}
+use Rattle.sqlite.specs.{Effect.Database, Held.Held, Held.state, declared.transaction.Transaction.Transaction}
+use Rattle.sqlite.specs.State.{State, HasCleanDisk, IsUnchanged, Survives}
 use Rattle.sqlite_trees.specs.declared.store.Store.{Ghosts}
+use Rattle.posting_rules.specs.{Damage.IsUndamaged, Sound.AreSound, believed.Tables.Tables}
+use Rattle.posting_rules.specs.declared.fault.Rule.{Rule}
 use Rattle.sql_meanings.specs.Calls.{Says}
-use Rattle.posting_rules.specs.{Damage.IsUndamaged, believed.Tables.Tables}
-use Rattle.sql_meanings.proofs.{Saying.says_then, Sparing.spares_itself}
+use Rattle.sql_meanings.proofs.{Saying.says_then, Sparing.spares_itself, Sparing.spares_same}
 use Rattle.store_rows.specs.believed.{Sparing.bank_names, View.Shows, Rules.IsBroken}
 use Rattle.store_rows.specs.declared.fault.TableFault.{TableFault, TheVariants.Sqlite, TheVariants.Damaged}
-use Rattle.bank_transactions.specs.{Causes.IsFirstBroken, Filling.ReadsWhere}
-use Rattle.bank_transactions.specs.Doing.{DoesBy, ChangesNothing, IsLookedUp, Reads, Stays}
-use Rattle.bank_transactions.proofs.{Blamed.blames_after, Blamed.comes, Statements.looked, Statements.look_keeps}
-use Rattle.bank_transactions.proofs.ReadsInTurn.{stays, stays_then}
+use Rattle.bank_transactions.specs.{believed.Causes.IsBefore, Causes.Blames, Causes.IsFirstBroken}
+use Rattle.bank_transactions.specs.Doing.{ChangesNothing, CommitsNothing, DoesBy, LeavesAndAnswers, Reads, ReadsWhere}
+use Rattle.bank_transactions.specs.Doing.{Stays}
+use Rattle.bank_transactions.proofs.{Blamed.comes, Blamed.fault_within, Blamed.same_moment, Chained.does_for}
+use Rattle.bank_transactions.proofs.{Chained.keeps_then, KeepsRules.unbroken}
 
-looks_then : {X : Type 0} (old mid new : State) (r : Result X TableFault) → Stays old mid
-    → ChangesNothing mid new r
-    → ChangesNothing old new r
-looks_then old mid new (Ok x) one two = stays_then old mid new one two
-looks_then old mid new (Err e) one two = record {
-  was_open = λ h. one.goes_on.opened (two.was_open h);
-  committed = λ h. two.committed h ∙ one.goes_on.committed;
+-- what is unchanged stays as it is
+pub stays : (old new : State) → IsUnchanged old new → Stays old new
+stays old new same = record {
+  goes_on = record {
+    opened = λ h. same.0.was_open;
+    committed = same.0.committed_is;
+    mode = same.0.mode;
+    spares = spares_same bank_names old.now new.now same.0.now_is;
+  };
+  now = same.0.now_is;
 }
 
-looked_then : {X : Type 0} (old mid new : State) (w : X) (r : Result X TableFault) → Stays old mid
-    → IsLookedUp mid new w r → IsLookedUp old new w r
-looked_then old mid new w (Ok x) one two = (two.0, stays_then old mid new one two.1)
-looked_then old mid new w (Err (Sqlite e)) one two = tt
-looked_then old mid new w (Err (Damaged rule)) one two = two
-
--- no damage that a part tells is none that the whole does
-same_fault : {X Y : Type 0} (old new : State) (x : X) (y : Y) (e : TableFault) → IsLookedUp old new x (Err e)
-    → IsLookedUp old new y (Err e)
-same_fault old new x y (Sqlite e) told = tt
-same_fault old new x y (Damaged rule) told = told
-
--- nothing was done
-stays_itself : (s : State) → Stays s s
-stays_itself s = record {
-  goes_on = record { opened = λ h. h; committed = refl; mode = refl; spares = spares_itself bank_names s.now };
-  now = refl;
-}
+-- what both leave
+leaves_then : {S X : Type 0} (g : Ghosts S) (old mid new : Held S) (r : Result X TableFault)
+    → Stays (state g old) (state g mid) → IsBefore (state g old) (state g mid)
+    → ChangesNothing (state g mid) (state g new) r × Blames (IsFirstBroken g) g mid new r
+    → ChangesNothing (state g old) (state g new) r × Blames (IsFirstBroken g) g old new r
+leaves_then g old mid new (Ok x) one before two = (
+  record {
+    goes_on = keeps_then (state g old) (state g mid) (state g new) (Ok x) one.goes_on two.0.goes_on;
+    now = two.0.now ∙ one.now;
+  },
+  tt,
+)
+leaves_then {X = X} g old mid new (Err e) one before two = (
+  keeps_then {X = X} (state g old) (state g mid) (state g new) (Err e) one.goes_on two.0,
+  fault_within (IsFirstBroken g) g old mid new new e (λ rule. subst (IsBroken rule) one.now) before
+      (same_moment (state g new)) two.1,
+)
 
 -- nothing yet
 pub reads_none : {S X : Type 0} {g : Ghosts S} {tx : Transaction S} {So : Tables → Type 0} {w : Tables → X}
     {x : X}
     → Survives (state g tx.conn.now) (state g tx.conn.now) (λ _. ⊥) → ((t : Tables) → So t → x ≡ w t)
     → ReadsWhere g tx tx So w (Ok x)
-reads_none stays is = record {
+reads_none same is = record {
   says = record {
     same_reference = refl;
-    told = λ clean t shows so.
-        (is t so, stays_itself _);
-    leaves = λ clean.
-        (stays_itself _, tt);
-    survives = stays;
+    told = λ clean t shows so. is t so;
+    leaves = λ clean. (
+      record {
+        goes_on = record { opened = λ h. h; committed = refl; mode = refl; spares = spares_itself bank_names _ };
+        now = refl;
+      },
+      tt,
+    );
+    survives = same;
+  };
+}
+
+-- a statement that changed nothing, and was to tell nothing of the tables
+pub looked_at : {S : Type 0} {g : Ghosts S} {old new : Transaction S} {So : Tables → Type 0}
+    {Told : State → State → Type 0}
+    → Says g old new Told IsUnchanged → ReadsWhere {X = Unit {0}} g old new So (λ t. tt {0}) (Ok (tt {0}))
+looked_at {g = g} {old = old} {new = new} says = record {
+  says = record {
+    same_reference = says.same_reference;
+    told = λ clean t shows so. refl;
+    leaves = λ clean. (stays (state g old.conn.now) (state g new.conn.now) (says.leaves clean), tt);
+    survives = says.survives;
   };
 }
 
@@ -65,23 +87,23 @@ pub reads_so : {S X Y : Type 0} {g : Ghosts S} {old new : Transaction S} {So So'
 reads_so part same = record {
   says = record {
     same_reference = part.says.same_reference;
-    told = λ clean t shows so. let is = same t so in let it =
-        part.says.told clean t shows is.0 in (is.1 it.0, it.1);
+    told = λ clean t shows so. let is = same t so in is.1 (part.says.told clean t shows is.0);
     leaves = part.says.leaves;
     survives = part.says.survives;
   };
 }
 
--- an error is that of whatever was looked for
-pub reads_err : {S X Y : Type 0} {g : Ghosts S} {old new : Transaction S} {So : Tables → Type 0} {w : Tables → X}
-    {w' : Tables → Y} {e : TableFault} → ReadsWhere {X = X} g old new So w (Err e)
-    → ReadsWhere {X = Y} g old new So w' (Err e)
-reads_err {S} {X} {Y} {g} {old} {new} {So} {w} {w'} {e} part = record {
+-- what was read is damage
+pub reads_broken : {S X Y : Type 0} {g : Ghosts S} {old new : Transaction S} {So : Tables → Type 0} {w : Tables → X}
+    {w' : Tables → Y} {x : X} (rule : Rule) → ReadsWhere g old new So w (Ok x)
+    → (HasCleanDisk (state g new.conn.now) → IsBroken rule (state g old.conn.now).now)
+    → ReadsWhere g old new So w' (Err (Damaged rule))
+reads_broken rule part broken = record {
   says = record {
     same_reference = part.says.same_reference;
-    told = λ clean t shows so. same_fault (state g old.conn.now) (state g new.conn.now) (w t) (w' t) e
-        (part.says.told clean t shows so);
-    leaves = part.says.leaves;
+    told = λ clean t shows so. tt;
+    leaves = λ clean. let on = (part.says.leaves clean).0.goes_on in
+        (record { was_open = on.opened; committed = λ h. on.committed }, broken clean);
     survives = part.says.survives;
   };
 }
@@ -93,101 +115,76 @@ module _ {S X Y : Type 0} {g : Ghosts S} {old mid new : Transaction S} {So So' :
       → ReadsWhere g mid new So' w' (Ok y)
       → ((t : Tables) → So t → x ≡ w t → So' t) → ((t : Tables) → So t → x ≡ w t → y ≡ w' t → z ≡ w'' t)
       → ReadsWhere g old new So w'' (Ok z)
-  reads_both {Z} {w''} {y} {z} one two ready joins =
-      let a = state g old.conn.now in
-      let b = state g mid.conn.now in
-      let c = state g new.conn.now in
-      record {
-        says = says_then g old mid new one.says two.says
-            (λ told leaves told' t shows so.
-            let first = (told t shows so).0 in
-            let then = told' t (subst (λ (db : Database). Shows db t) (sym leaves.0.now) shows)
-            (ready t so first) in
-            (joins t so first then.0, stays_then a b c leaves.0 then.1))
-            (λ leaves leaves'. (stays_then a b c leaves.0 leaves'.0, tt));
-      }
+  reads_both {y = y} one two ready joins = record {
+    says = says_then g old mid new one.says two.says
+        (λ told leaves told' t shows so.
+        let first = told t shows so in
+        joins t so first (told' t (subst (λ (db : Database). Shows db t) (sym leaves.0.now) shows)
+        (ready t so first)))
+        (λ leaves. leaves_then g old.conn.now mid.conn.now new.conn.now (Ok y) leaves.0 (comes one.says.survives));
+  }
+
+  -- the second tells the answer of both
+  pub reads_after : {r : Result Y TableFault} → ReadsWhere g old mid So w (Ok x) → ReadsWhere g mid new So' w' r
+      → ((t : Tables) → So t → So' t) → ReadsWhere g old new So w' r
+  reads_after {r} one two ready = record {
+    says = says_then g old mid new one.says two.says
+        (λ told leaves told' t shows so.
+        told' t (subst (λ (db : Database). Shows db t) (sym leaves.0.now) shows) (ready t so))
+        (λ leaves. leaves_then g old.conn.now mid.conn.now new.conn.now r leaves.0 (comes one.says.survives));
+  }
 
   -- an error of the second is that of both
   pub reads_but : {Z : Type 0} {w'' : Tables → Z} {e : TableFault} → ReadsWhere g old mid So w (Ok x)
-      → ReadsWhere g mid new So' w' (Err e)
-      → ((t : Tables) → So t → x ≡ w t → So' t) → ReadsWhere g old new So w'' (Err e)
-  reads_but {Z} {w''} {e} one two ready =
-      let r : Result Y TableFault = Err e in
-      let a = state g old.conn.now in
-      let b = state g mid.conn.now in
-      let c = state g new.conn.now in
-      record {
-        says = says_then g old mid new one.says two.says
-            (λ told leaves told' t shows so.
-            let first = (told t shows so).0 in
-            let then = told' t (subst (λ (db : Database). Shows db t) (sym leaves.0.now) shows)
-            (ready t so first) in
-            same_fault a c (w' t) (w'' t) e (looked_then a b c (w' t) r leaves.0 then))
-            (λ leaves leaves'. (
-              looks_then a b c r leaves.0 leaves'.0,
-              blames_after (IsFirstBroken g) g old.conn.now mid.conn.now new.conn.now r
-                  (λ rule. subst (IsBroken rule) leaves.0.now) (comes one.says.survives) leaves'.1,
-            ));
-      }
+      → ReadsWhere g mid new So' w' (Err e) → ReadsWhere g old new So w'' (Err e)
+  reads_but {e = e} one two = record {
+    says = says_then g old mid new one.says two.says (λ told leaves told' t shows so. tt)
+        (λ leaves. leaves_then {X = Y} g old.conn.now mid.conn.now new.conn.now (Err e) leaves.0
+        (comes one.says.survives));
+  }
 
--- a look-up of one key fills a slot
-pub fills : {S X A : Type 0} {g : Ghosts S} {old new : Transaction S} {Knows : Tables → Type 0}
-    {w : Tables → X} {x : X} (put : X → A) → Reads g old new w (Ok x)
-    → ReadsWhere g old new (λ t. IsUndamaged t × Knows t) (λ t. put (w t)) (Ok (put x))
-fills put reads = record {
-  says = record {
-    same_reference = reads.same_reference;
-    told = λ clean t shows so. let it = reads.told clean t shows so.0 in (ap put it.0, it.1);
-    leaves = reads.leaves;
-    survives = reads.survives;
-  };
-}
+pair : {X Y : Type 0} {a x : X} {b y : Y} → a ≡ x → b ≡ y → ◌≡◌ {A = X × Y} (a, b) (x, y)
+pair e f = cc
 
--- a look-up of undamaged tables
-pub reads_where : {S X : Type 0} {g : Ghosts S} {old new : Transaction S} {So : Tables → Type 0} {w : Tables → X}
-    {r : Result X TableFault} → Reads g old new w r → ((t : Tables) → So t → IsUndamaged t)
-    → ReadsWhere g old new So w r
-reads_where reads sound = record {
-  says = record {
-    same_reference = reads.same_reference;
-    told = λ clean t shows so. reads.told clean t shows (sound t so);
-    leaves = reads.leaves;
-    survives = reads.survives;
-  };
-}
+-- both answers
+pub reads_pair : {S X Y : Type 0} {g : Ghosts S} {old mid new : Transaction S} {So : Tables → Type 0} {w : Tables → X}
+    {w' : Tables → Y} {x : X} {y : Y} → ReadsWhere g old mid So w (Ok x) → ReadsWhere g mid new So w' (Ok y)
+    → ReadsWhere {X = X × Y} g old new So (λ t. (w t, w' t)) (Ok (x, y))
+reads_pair one two = reads_both one two (λ t so first. so) (λ t so first last. pair first last)
 
--- after a statement that changed nothing all is looked up again
-pub looks_again : {S X : Type 0} {g : Ghosts S} {old mid new : Transaction S} {So : Tables → Type 0}
-    {Told : State → State → Type 0} {w : Tables → X} {r : Result X TableFault}
-    → Says g old mid Told IsUnchanged → Reads g mid new w r
-    → ((t : Tables) → So t → IsUndamaged t) → ReadsWhere g old new So w r
-looks_again {S} {X} {g} {old} {mid} {new} {So} {Told} {w} {r} one two sound =
-    let a = state g old.conn.now in
-    let b = state g mid.conn.now in
-    let c = state g new.conn.now in
-    record {
-      says = says_then g old mid new one two
-          (λ told same told' t shows so.
-          looked_then a b c (w t) r (stays a b same)
-          (told' t (subst (λ (db : Database). Shows db t) (sym same.0.now_is) shows) (sound t so)))
-          (λ same leaves'. (
-            looks_then a b c r (stays a b same) leaves'.0,
-            blames_after (IsFirstBroken g) g old.conn.now mid.conn.now new.conn.now r
-                (λ rule. subst (IsBroken rule) same.0.now_is) (comes one.survives) leaves'.1,
-          ));
-    }
+-- ---- what they do
+
+-- of undamaged tables no damage is told, since it is of the rows that were there
+looked : {S X : Type 0} (g : Ghosts S) (old new : Held S) (t : Tables) (w : X) (r : Result X TableFault)
+    → Shows (state g old).now t → IsUndamaged t → IfOk r (λ x. x ≡ w)
+    → ChangesNothing (state g old) (state g new) r × Blames (IsFirstBroken g) g old new r
+    → LeavesAndAnswers (state g new) t w r
+looked g old new t w (Ok x) shows sound told leaves =
+    (told, subst (λ (db : Database). Shows db t) (sym leaves.0.now) shows)
+looked g old new t w (Err (Sqlite e)) shows sound told leaves = tt
+looked g old new t w (Err (Damaged rule)) shows sound told leaves =
+    unbroken (state g old).now t shows sound rule leaves.1
+
+look_keeps : {X : Type 0} (old new : State) (r : Result X TableFault) → ChangesNothing old new r
+    → CommitsNothing old new r
+look_keeps old new (Ok x) looks = looks.goes_on
+look_keeps old new (Err e) looks = looks
 
 -- a look-up leaves the tables
 pub does_look : {S X : Type 0} {g : Ghosts S} {old new : Transaction S} {So : Tables → Type 0}
     {w : Tables → X} {r : Result X TableFault} → ReadsWhere g old new So w r
-    → DoesBy (IsFirstBroken g) g old new So (λ t. t) w r
-does_look {S} {X} {g} {old} {new} {So} {w} {r} reads = record {
+    → ((t : Tables) → So t → IsUndamaged t) → DoesBy (IsFirstBroken g) g old new So (λ t. t) w r
+does_look {S} {X} {g} {old} {new} {So} {w} {r} reads sound = record {
   says = record {
     same_reference = reads.says.same_reference;
-    told = λ clean live t shows so. looked (state g old.conn.now) (state g new.conn.now) t (w t) r shows
-        (reads.says.told clean t shows so);
+    told = λ clean live t shows so. looked g old.conn.now new.conn.now t (w t) r shows (sound t so)
+        (reads.says.told clean t shows so) (reads.says.leaves clean);
     leaves = λ clean live. let it =
         reads.says.leaves clean in (look_keeps (state g old.conn.now) (state g new.conn.now) r it.0, it.1);
     survives = reads.says.survives;
   };
 }
+
+pub does_read : {S X : Type 0} {g : Ghosts S} {old new : Transaction S} {w : Tables → X} {r : Result X TableFault}
+    → Reads g old new w r → DoesBy (IsFirstBroken g) g old new AreSound (λ t. t) w r
+does_read reads = does_for (does_look reads (λ t sound. sound)) (λ t sound. (sound.undamaged, refl, refl))

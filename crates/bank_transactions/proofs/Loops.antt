@@ -1,25 +1,20 @@
 -- Slots are filled, and rows are written, one after another.
 use Rattle.std.proofs.Common.{◌≡◌, ℕ, zero, suc, ◌+◌, ◌<◌, List, [], ◌∷◌, ◌++◌, map, length, take, drop, set, get_or}
-use Rattle.std.proofs.Common.{Ok, Result, refl, sym, ap, subst, ◌∙◌, arith, inl, inr}
+use Rattle.std.proofs.Common.{Ok, Result, refl, sym, ap, subst, ◌∙◌, inl, inr}
 use Rattle.std.specs.List.{AllByRecursion}
 use Rattle.std.proofs.lemmas.List.{append-nil, append_assoc, take_more, take-append-drop, Edits.map_over_more}
 use Rattle.std.proofs.Math.Seq.{drop-cons}
 use Rattle.sqlite.specs.declared.transaction.Transaction.{Transaction}
 use Rattle.sqlite_trees.specs.declared.store.Store.{Ghosts}
+use Rattle.sqlite_trees.proofs.ListLemmas.{all-get_or}
 use Rattle.sqlite_rules.specs.Lists.{Has}
+use Rattle.sqlite_rules.proofs.ListLemmas.{has_at, has_left, has_right}
 use Rattle.posting_rules.specs.believed.Tables.{Tables}
 use Rattle.store_rows.specs.{believed.Failures.Additions, declared.fault.TableFault.TableFault}
-use Rattle.bank_transactions.specs.{Additions.AddsAlike, Doing.Does, Filling.ReadsWhere, InParts.InParts}
-use Rattle.bank_transactions.specs.{InTurn.InTurn}
+use Rattle.bank_transactions.specs.{Additions.AddsAlike, Doing.Does, Doing.ReadsWhere, InTurn.InParts, InTurn.InTurn}
 use Rattle.bank_transactions.proofs.{Chained.does_adds, Chained.does_then, Chained.does_for, LookUps.reads_both}
 
 -- ---- places of a list
-
-pub all_at : {A : Type 0} (P : A → Type 0) (xs : List A) (i : ℕ) (d : A) → AllByRecursion P xs → i < length xs
-    → P (get_or xs i d)
-all_at P [] i d all lt = absurd (omega arith)
-all_at P (x ∷ xs) zero d all lt = all.0
-all_at P (x ∷ xs) (suc i) d all lt = all_at P xs i d all.1 (omega arith)
 
 -- the place that a walk is at is as it was
 item_is : {A : Type 0} (f : A → A) (xs : List A) (i : ℕ) (x : A) → get_or (map f (take i xs) ++ drop i xs) i x
@@ -41,7 +36,7 @@ pub next_is : {A : Type 0} (fill : Tables → A → A) (P : A → Type 0) (xs ys
     → AllByRecursion P xs → P (get_or ys i x)
 next_is {A} fill P xs ys i x t lt so_far all =
     subst (λ (s : A). P s) (sym (ap (λ (zs : List A). get_or zs i x) so_far ∙ item_is (fill t) xs i x))
-    (all_at P xs i x all lt)
+    (all-get_or P xs i x all lt)
 
 -- one more is filled
 pub fill_more : {S A : Type 0} {g : Ghosts S} {old mid new : Transaction S} {So So' : Tables → Type 0}
@@ -72,27 +67,12 @@ split_at : {A : Type 0} (xs : List A) (i : ℕ) (x : A) → i < length xs → xs
 split_at {A} xs i x lt = sym (take-append-drop i xs)
     ∙ ap (λ (rest : List A). take i xs ++ rest) (drop-cons xs i x lt)
 
-has_at : {A : Type 0} (xs : List A) (i : ℕ) (d : A) → i < length xs → Has xs (get_or xs i d)
-has_at [] i d lt = absurd (omega arith)
-has_at (x ∷ xs) zero d lt = inl refl
-has_at (x ∷ xs) (suc i) d lt = inr (has_at xs i d (omega arith))
-
 -- one of them
 has_one : {A : Type 0} (xs : List A) (i : ℕ) (x : A) → i < length xs → x ≡ get_or xs i x → (y : A)
     → Has (x ∷ []) y → Has xs y
 has_one {A} xs i x lt is y (inl same) =
-    subst (λ (s : A). Has xs s) (sym (same ∙ is)) (has_at xs i x lt)
+    subst (λ (s : A). Has xs s) (sym same) (has_at xs i x lt is)
 has_one xs i x lt is y (inr none) = absurd none
-
--- some of them, in their midst
-has_first : {A : Type 0} (some rest : List A) (y : A) → Has some y → Has (some ++ rest) y
-has_first (x ∷ some) rest y (inl same) = inl same
-has_first (x ∷ some) rest y (inr more) = inr (has_first some rest y more)
-has_first [] rest y none = absurd none
-
-has_after : {A : Type 0} (front rest : List A) (y : A) → Has rest y → Has (front ++ rest) y
-has_after [] rest y has = has
-has_after (x ∷ front) rest y has = inr (has_after front rest y has)
 
 -- one more of the changes that are made one after another
 pub make_more : {S A : Type 0} {g : Ghosts S} {Adds : List A → Additions} {old mid new : Transaction S} {r : Result (Unit {0}) TableFault}
@@ -138,7 +118,7 @@ some_more {S} {A} {g} {Adds} {old} {mid} {new} {r} {made} {May} {rows} {left} la
     λ t may. law.next stands.front some rest t (subst (λ (l : List A). May l t) all may) in
     let among : (y : A) → Has some y → Has rows y =
     λ y has. subst (λ (l : List A). Has l y) (sym all)
-    (has_after stands.front (some ++ rest) y (has_first some rest y has)) in
+    (has_right stands.front (some ++ rest) y (has_left some rest y has)) in
     does_for (does_then stands.so_far (does_adds (λ clean. alike.more some rows among) next)
     (λ t may. (so t may).0)) (λ t may. (may, (so t may).1, refl))
 

@@ -7,6 +7,7 @@ use Rattle.std.specs.List.{AllByRecursion}
 use Rattle.sqlite.specs.{Effect.Database, Held.state, declared.transaction.Transaction.Transaction}
 use Rattle.sqlite.specs.State.{State, HasCleanDisk, KeepsCommit}
 use Rattle.sqlite_trees.specs.declared.store.Store.{Ghosts}
+use Rattle.sqlite_trees.proofs.ListLemmas.{map-map}
 use Rattle.message_records.specs.believed.Reading.{request_of}
 use Rattle.posting_rules.specs.believed.{Kept.KeptFields, LookUps.kept_in, LookUps.kept_of_row, Tables.Tables}
 use Rattle.posting_rules.specs.declared.rows.RequestRow.{RequestRow}
@@ -26,11 +27,12 @@ use Rattle.store_rows.proofs.{TheTables.requests}
 use Rattle.sqlite_rules.specs.Lists.{Has}
 use Rattle.bank_transactions.specs.{believed.Additions.AddsRequests, believed.Causes.Damage, Causes.IsFirstBroken}
 use Rattle.bank_transactions.specs.{believed.Stored.HoldsKept, Writing.MayAddRequests}
-use Rattle.bank_transactions.specs.Doing.{Acts, CommitsNothing, Does, DoesBy}
-use Rattle.bank_transactions.specs.Filling.{AreHeld, AreKnown, ReadsWhere, RequestHeld, emptied, known}
+use Rattle.bank_transactions.specs.Doing.{Acts, CommitsNothing, Does, DoesBy, ReadsWhere}
+use Rattle.bank_transactions.specs.Filling.{AreHeld, AreKnown, RequestHeld, emptied, known}
 use Rattle.bank_transactions.specs.Tries.{IsMadeAgain, may_be_kept}
-use Rattle.bank_transactions.proofs.{JudgedSlots.Judging, JudgedSlots.Ready, HeldBatch.map_twice, Together.Written}
-use Rattle.bank_transactions.proofs.Chained.{acts_wrote, does_for, does_then, same_fault, still_in}
+use Rattle.bank_transactions.proofs.JudgedSlots.{Judging, Knows, Ready, written_so}
+use Rattle.bank_transactions.proofs.Together.{Written}
+use Rattle.bank_transactions.proofs.Chained.{acts_wrote, does_err, does_for, does_known, does_tell, does_then, still_in}
 
 -- ---- slots
 
@@ -166,11 +168,11 @@ requests_held db rows has =
 
 blank_emptied : (o : Overlay) → blanked (emptied o) ≡ blanked o
 blank_emptied o = rw (
-  map_twice _ _ _ (λ s. refl) o.branches,
-  map_twice _ _ _ (λ s. refl) o.floors,
-  map_twice _ _ _ (λ s. refl) o.tellers,
-  map_twice _ _ _ (λ s. refl) o.accounts,
-  map_twice _ _ _ (λ s. refl) o.kept,
+  map-map _ _ o.branches,
+  map-map _ _ o.floors,
+  map-map _ _ o.tellers,
+  map-map _ _ o.accounts,
+  map-map _ _ o.kept,
 ) refl
 
 blank_same : (o p : Overlay) → emptied o ≡ emptied p → blanked o ≡ blanked p
@@ -239,44 +241,33 @@ module _ {S X : Type 0} {g : Ghosts S} {old mid new : Transaction S} {So : Table
     (first : DoesBy (IsFirstBroken g) g old mid (Ready p) (λ t. t) (λ t. known t p) (Ok p'))
     (all : HasCleanDisk (state g new.conn.now) → IsTrue (state g old.conn.now).in_transaction → (t : Tables)
     → Shows (state g old.conn.now).now t → p' ≡ known t p → p' ≡ filled t p) where
+  -- the slots are filled as they were found, since none is of a request that was kept
+  found_so : {Adds : Additions} {r : Result (Unit {0}) TableFault}
+      → Does {X = Unit {0}} g Adds mid new (Written o) (λ t. tables_over o t) (λ _. tt {0}) r
+      → HasCleanDisk (state g new.conn.now) → IsTrue (state g old.conn.now).in_transaction → (t : Tables)
+      → Shows (state g old.conn.now).now t → So t → p' ≡ filled t p
+  found_so second clean live t shows it =
+      let before : HasCleanDisk (state g mid.conn.now) = omega (arith, second.says.survives.clean, clean) in
+      all clean live t shows (first.says.told before live t shows (so.ready t it)).0
+
+  done_so : {Adds : Additions} {r : Result (Unit {0}) TableFault}
+      → Does {X = Unit {0}} g Adds mid new (Written o) (λ t. tables_over o t) (λ _. tt {0}) r
+      → Does {X = Unit {0}} g Adds old new (Knows so) after (λ _. tt {0}) r
+  done_so second = does_then (does_for first (λ t it. (so.ready t it.0, refl, refl))) (written_so so second)
+      (λ t it. it)
+
   -- the records are answered
   pub answered_new : {Adds : Additions}
       → Does {X = Unit {0}} g Adds mid new (Written o) (λ t. tables_over o t) (λ _. tt {0}) (Ok (tt {0}))
       → Acts g Adds old new So after wanted (Ok x)
-  answered_new second = record {
-    says = record {
-      same_reference = (blind first second).says.same_reference;
-      told = λ clean live t shows it.
-          let before : HasCleanDisk (state g mid.conn.now) = omega (arith, second.says.survives.clean, clean) in
-          let found = first.says.told before live t shows (so.ready t it) in
-          let e = all clean live t shows found.0 in
-          let on = (first.says.leaves before live).0 in
-          let last = second.says.told clean (still_in (state g old.conn.now) (state g mid.conn.now) on live) t found.1
-          (so.writes t it e) in
-          (so.answers t it e, subst (λ (u : Tables). Shows (state g new.conn.now).now u) (so.tables t it e) last.1);
-      leaves = λ clean live. (acts_wrote (blind first second)).says.leaves clean live;
-      survives = (blind first second).says.survives;
-    };
-  }
+  answered_new second = acts_wrote (does_known (found_so second)
+      (does_tell (done_so second) (λ t it. (it, λ e. (refl, so.answers t it.0 it.1)))))
 
   -- an error of the last part is that of all
   pub unanswered_new : {Adds : Additions} {e : TableFault}
       → Does {X = Unit {0}} g Adds mid new (Written o) (λ t. tables_over o t) (λ _. tt {0}) (Err e)
       → Acts {X = X} g Adds old new So after wanted (Err e)
-  unanswered_new {e = e} second = record {
-    says = record {
-      same_reference = (blind first second).says.same_reference;
-      told = λ clean live t shows it.
-          let before : HasCleanDisk (state g mid.conn.now) = omega (arith, second.says.survives.clean, clean) in
-          let found = first.says.told before live t shows (so.ready t it) in
-          let on = (first.says.leaves before live).0 in
-          same_fault (state g new.conn.now) (state g new.conn.now) (tables_over o t) (after t) (tt {0}) (wanted t) e
-          (second.says.told clean (still_in (state g old.conn.now) (state g mid.conn.now) on live) t found.1
-          (so.writes t it (all clean live t shows found.0)));
-      leaves = λ clean live. (acts_wrote (blind first second)).says.leaves clean live;
-      survives = (blind first second).says.survives;
-    };
-  }
+  unanswered_new second = acts_wrote (does_known (found_so second) (does_err (done_so second) (λ t it. it)))
 
 -- the requests weren't put in, and none may be kept
 pub refused_new : {S X Y : Type 0} {g : Ghosts S} {Adds : Additions} {old mid new : Transaction S}

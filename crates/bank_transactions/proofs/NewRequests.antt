@@ -1,9 +1,9 @@
 -- Requests that are put in several at a time, each of which had no like.
-use Rattle.std.proofs.Common.{◌≡◌, ◌++◌, Bool, List, [], ◌∷◌, Option, Some, None, find, is_some, refl, ap, Result, Ok}
-use Rattle.std.proofs.Common.{Err}
-use Rattle.std.specs.{List.AllByRecursion, Prelude.OnOk, Prelude.pos}
+use Rattle.std.proofs.Common.{◌≡◌, ◌++◌, Bool, List, [], Option, Some, None, find, is_some, refl, ap}
+use Rattle.std.specs.Prelude.{pos}
 use Rattle.sqlite.specs.Effect.{Database}
 use Rattle.sqlite_rules.specs.Lists.{Has}
+use Rattle.sqlite_trees.proofs.ListLemmas.{all-append, all_weaker}
 use Rattle.posting_rules.specs.declared.rows.RequestRow.{RequestRow}
 use Rattle.sql_meanings.specs.believed.Entries.{Entry, has_two}
 use Rattle.sql_meanings.proofs.{Changes.found_passes, NewPairs.found_has, NewPairs.none_passes}
@@ -21,19 +21,6 @@ not_found p some all within none = go (find p some) refl
         let yes = found_passes p some e found in
         absurd cc
 
-new_before : (some all : List Entry) → ((e : Entry) → Has some e → Has all e) → (news : List RequestRow)
-    → AllByRecursion (IsNew all) news → AllByRecursion (IsNew some) news
-new_before some all within [] are = tt
-new_before some all within (r ∷ news) are = (
-  not_found (has_two (pos r.teller) (pos r.number)) some all within are.0,
-  new_before some all within news are.1,
-)
-
-after : (rows : List Entry) (front news : List RequestRow) → AllByRecursion (IsNew rows) front
-    → AllByRecursion (IsNew rows) news → AllByRecursion (IsNew rows) (front ++ news)
-after rows [] news one two = two
-after rows (r ∷ front) news one two = (one.0, after rows front news one.1 two)
-
 -- nothing yet
 pub news_none : (db : Database) → PutsNew db db []
 news_none db rows holds = (tt, record { all = rows; holds = holds; still = λ e has. has })
@@ -44,15 +31,11 @@ pub news_then : (old mid new : Database) (front news : List RequestRow) → Puts
 news_then old mid new front news one two rows holds =
     let first = one rows holds in
     let last = two first.1.all first.1.holds in (
-      after rows front news first.0 (new_before rows first.1.all first.1.still news last.0),
+      all-append (IsNew rows) front news first.0 (all_weaker (IsNew first.1.all) (IsNew rows)
+          (λ r. not_found (has_two (pos r.teller) (pos r.number)) rows first.1.all first.1.still) news last.0),
       record {
         all = last.1.all;
         holds = last.1.holds;
         still = λ e has. last.1.still e (first.1.still e has);
       },
     )
-
--- what follows where there is an answer
-pub on_ok : {X E A B : Type 0} (r : Result X E) → (A → B) → OnOk r A → OnOk r B
-on_ok (Ok x) so it = so it
-on_ok (Err e) so it = tt

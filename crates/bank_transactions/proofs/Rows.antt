@@ -3,8 +3,9 @@ use Rattle.std.proofs.Common.{◌≡◌, ℕ, List, [], ◌∷◌, Option, Resul
 use Rattle.std.proofs.Common.{inl, inr}
 use Rattle.std.proofs.lemmas.List.{append-nil}
 use Rattle.std.specs.{List.AllByRecursion, Prelude.ℤ, Prelude.is_some}
-use Rattle.sqlite.specs.{Order.Row, Table.Table, declared.transaction.Transaction.Transaction}
+use Rattle.sqlite.specs.{Table.Table, declared.transaction.Transaction.Transaction}
 use Rattle.sqlite_rules.specs.Lists.{Has}
+use Rattle.sqlite_rules.proofs.ListLemmas.{all_from}
 use Rattle.sqlite_trees.specs.declared.store.Store.{Ghosts}
 use Rattle.posting_rules.specs.declared.rows.{HistoryRow.HistoryRow, RequestRow.RequestRow, ReferenceRow.ReferenceRow}
 use Rattle.posting_rules.specs.believed.Changes.{with_history, with_reference, with_request, row_changed, row_put}
@@ -12,51 +13,78 @@ use Rattle.posting_rules.specs.believed.Changes.{with_branch_balance, with_telle
 use Rattle.posting_batch.specs.{Batch.PutsFree, Slots.account_slot_key, Slots.teller_slot_key, Slots.branch_slot_key}
 use Rattle.posting_batch.specs.Overlay.{each_put, history_put, requests_put, references_put, changed_to, over}
 use Rattle.posting_batch.specs.Overlay.{accounts_over, tellers_over, branches_over}
-use Rattle.sql_meanings.specs.{Calls.Says, Calls.Inside, believed.Entries.Entry}
+use Rattle.sql_meanings.specs.believed.Entries.{Entry}
 use Rattle.store_rows.specs.believed.BankTables as bank
-use Rattle.store_rows.specs.{Calls.OfTables, believed.Failures.Additions, Failures.Puts, Holders.with_balance}
-use Rattle.store_rows.specs.{Sparing.SparesIfOk, TableAnswers.PutsOneRow, declared.fault.TableFault.TableFault}
+use Rattle.store_rows.specs.{Calls.AddsRow, believed.Failures.Additions, Holders.with_balance}
+use Rattle.store_rows.specs.declared.fault.TableFault.{TableFault}
 use Rattle.store_rows.specs.believed.SeveralRows.{given, given_each}
 use Rattle.store_rows.specs.SeveralRows.{AddsRows, meets_key, with_each}
 use Rattle.store_rows.specs.believed.View.{history_entry, reference_entry, request_entry}
 use Rattle.store_rows.specs.believed.Inserts.{eight_postings_insert, eight_requests_insert, posting_insert}
 use Rattle.store_rows.specs.believed.Inserts.{reference_insert, request_insert}
 use Rattle.store_rows.specs.declared.holders.Holder.TheVariants.{Account, Teller, Branch}
-use Rattle.bank_transactions.specs.believed.Additions.{AddsPostings, AddsReferences, AddsRequests}
+use Rattle.bank_transactions.specs.believed.Additions.{AddsEach, AddsPostings, AddsReferences, AddsRequests}
 use Rattle.bank_transactions.specs.{Doing.Does, InTurn.ArePlaced}
 use Rattle.bank_transactions.proofs.{Chained.does_for, Statements.does_add}
 use Rattle.posting_rules.specs.ChangesByKey as steps
 use Rattle.posting_rules.specs.believed.Tables.{Tables, row_at, branch_key, teller_key, account_key, history_key}
-use Rattle.posting_rules.specs.believed.Tables.{request_key}
+use Rattle.posting_rules.specs.believed.Tables.{reference_key, request_key}
 use Rattle.posting_batch.specs.declared.slots.{AccountSlot.AccountSlot, TellerSlot.TellerSlot, BranchSlot.BranchSlot}
 use Rattle.posting_batch.proofs.NewRows.{account_same, teller_same, branch_same}
 use Rattle.posting_batch.proofs.SlotsWritten.{over_changed, over_unchanged}
-use Rattle.bank_transactions.specs.Writing.{MayAddPostings, MayAddRequests, by_change}
+use Rattle.bank_transactions.specs.Writing.{MayAddPostings, MayAddReferences, MayAddRequests, by_change}
 
 -- ---- new rows
 
-within : {R : Type 0} (rows some : List R) → ((r : R) → Has some r → Has rows r) → AllByRecursion (Has rows) some
-within rows [] all = tt
-within rows (r ∷ some) all = (all r (inl refl), within rows some (λ x has. all x (inr has)))
-
 -- each row is one of them
 all_in : {R : Type 0} (rows : List R) → AllByRecursion (Has rows) rows
-all_in rows = within rows rows (λ r has. has)
+all_in rows = all_from (Has rows) rows (λ r has. has)
 
 -- a row is put in under a key that is free
-pub row_added : {S R : Type 0} {g : Ghosts S} {old new : Transaction S} {r : Result (Unit {0}) TableFault}
-    {Adds : Additions} (text : List ℕ) (values : Row) (table : Table)
-    (key : R → ℕ) (rows : Tables → List R) (put : R → Tables → Tables) (made : List R → Tables → Tables)
-    (row : R)
-    → ((t : Tables) → put row t ≡ made (row ∷ []) t) → Adds text values
-    → Says g old new (Inside (OfTables (λ before now t.
-    PutsOneRow before now table (is_some (row_at key (rows t) (key row))) (put row t) r)))
-    (Inside (λ before now. Puts text values before now r × SparesIfOk before now r))
-    → Does g Adds old new (λ t. PutsFree key (row ∷ []) (rows t)) (made (row ∷ [])) (λ _. tt) r
-row_added {S} {R} {g} {old} {new} {r} text values table key rows put made row is own says =
-    does_for (does_add {So = λ t. PutsFree key (row ∷ []) (rows t)} g old new text values table
-    (λ t. is_some (row_at key (rows t) (key row))) (put row) r says own (λ t free. ap is_some free.0))
+row_added : {S R : Type 0} {g : Ghosts S} {old new : Transaction S} {r : Result (Unit {0}) TableFault}
+    {texts : List (List ℕ)} (text : List ℕ) (table : Table) (entry : R → Entry) (key : R → ℕ) (rows : Tables → List R)
+    (put : R → Tables → Tables) (made : List R → Tables → Tables) (row : R)
+    → ((t : Tables) → put row t ≡ made (row ∷ []) t) → Has texts text
+    → AddsRow g old new text (given (entry row)) table (λ t. is_some (row_at key (rows t) (key row))) (put row) r
+    → Does g (AddsEach texts entry (Has (row ∷ []))) old new (λ t. PutsFree key (row ∷ []) (rows t)) (made (row ∷ []))
+    (λ _. tt) r
+row_added {S} {R} {g} {old} {new} {r} {texts} text table entry key rows put made row is among says =
+    does_for (does_add {So = λ t. PutsFree key (row ∷ []) (rows t)} g old new text (given (entry row)) table
+    (λ t. is_some (row_at key (rows t) (key row))) (put row) r says
+    (record { among = among; rows = row ∷ []; are = sym (append-nil (given (entry row))); each = all_in (row ∷ []) })
+    (λ t free. ap is_some free.0))
     (λ t free. (free, is t, refl))
+
+pub posting_added : {S : Type 0} {g : Ghosts S} {old new : Transaction S} {r : Result (Unit {0}) TableFault}
+    (row : HistoryRow)
+    → AddsRow g old new posting_insert (given (history_entry row)) bank.history
+    (λ t. is_some (row_at history_key t.history row.ordinal)) (with_history row) r
+    → Does g (AddsPostings (Has (row ∷ []))) old new (MayAddPostings (row ∷ [])) (history_put (row ∷ [])) (λ _. tt) r
+unfolding with_history
+posting_added row says =
+    row_added posting_insert bank.history history_entry history_key (λ t. t.history) with_history history_put row
+    (λ t. refl) (inl refl) says
+
+pub request_added : {S : Type 0} {g : Ghosts S} {old new : Transaction S} {r : Result (Unit {0}) TableFault}
+    (row : RequestRow)
+    → AddsRow g old new request_insert (given (request_entry row)) bank.request
+    (λ t. is_some (row_at request_key t.requests row.ordinal)) (with_request row) r
+    → Does g (AddsRequests (Has (row ∷ []))) old new (MayAddRequests (row ∷ [])) (requests_put (row ∷ [])) (λ _. tt) r
+unfolding with_request
+request_added row says =
+    row_added request_insert bank.request request_entry request_key (λ t. t.requests) with_request requests_put row
+    (λ t. refl) (inl refl) says
+
+pub reference_added : {S : Type 0} {g : Ghosts S} {old new : Transaction S} {r : Result (Unit {0}) TableFault}
+    (row : ReferenceRow)
+    → AddsRow g old new reference_insert (given (reference_entry row)) bank.reference
+    (λ t. is_some (row_at reference_key t.references row.ordinal)) (with_reference row.ordinal (Some row.reference)) r
+    → Does g (AddsReferences (Has (row ∷ []))) old new (MayAddReferences (row ∷ [])) (references_put (row ∷ []))
+    (λ _. tt) r
+unfolding with_reference
+reference_added row says =
+    row_added reference_insert bank.reference reference_entry reference_key (λ t. t.references)
+    (λ x. with_reference x.ordinal (Some x.reference)) references_put row (λ t. refl) (inl refl) says
 
 -- ---- several new rows
 
@@ -113,49 +141,6 @@ requests_added news says =
     rows_added request_key (λ t. t.requests) (λ t rows. record t { requests = rows })
     (record { own = λ t. refl; held = λ t rs. refl; again = λ t rs others. refl }) eight_requests_insert request_entry
     bank.request news (record { among = inr (inl refl); rows = news; are = refl; each = all_in news }) says
-
--- ---- one new row
-
-pub adds_posting : (row : HistoryRow) → AddsPostings (Has (row ∷ [])) posting_insert (given (history_entry row))
-adds_posting row =
-    record {
-      among = inl refl;
-      rows = row ∷ [];
-      are = sym (append-nil (given (history_entry row)));
-      each = all_in (row ∷ []);
-    }
-
-pub adds_request : (row : RequestRow) → AddsRequests (Has (row ∷ [])) request_insert (given (request_entry row))
-adds_request row =
-    record {
-      among = inl refl;
-      rows = row ∷ [];
-      are = sym (append-nil (given (request_entry row)));
-      each = all_in (row ∷ []);
-    }
-
-pub adds_reference : (row : ReferenceRow)
-    → AddsReferences (Has (row ∷ [])) reference_insert (given (reference_entry row))
-adds_reference row =
-    record {
-      among = inl refl;
-      rows = row ∷ [];
-      are = sym (append-nil (given (reference_entry row)));
-      each = all_in (row ∷ []);
-    }
-
-pub posting_put : (row : HistoryRow) (t : Tables) → with_history row t ≡ history_put (row ∷ []) t
-unfolding with_history
-posting_put row t = refl
-
-pub request_put : (row : RequestRow) (t : Tables) → with_request row t ≡ requests_put (row ∷ []) t
-unfolding with_request
-request_put row t = refl
-
-pub reference_put : (row : ReferenceRow) (t : Tables)
-    → with_reference row.ordinal (Some row.reference) t ≡ references_put (row ∷ []) t
-unfolding with_reference
-reference_put row t = refl
 
 -- ---- slots
 

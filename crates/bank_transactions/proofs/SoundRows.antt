@@ -1,9 +1,9 @@
 -- The rows of undamaged tables are sound: what is looked up is found as it is.
-use Rattle.std.proofs.Common.{◌≡◌, ◌⊎◌, ℕ, suc, ℤ, pos, ◌≤◌, ◌≤ℤ◌, ◌∙◌, ap, Bool, true, leb, List, [], ◌∷◌, Option}
+use Rattle.std.proofs.Common.{◌≡◌, ◌⊎◌, ℕ, ℤ, pos, ◌≤◌, ◌≤ℤ◌, ◌∙◌, ap, Bool, true, leb, List, Option}
 use Rattle.std.proofs.Common.{Some, None, Result, Ok, refl, sym, subst, arith, inl, inr, map, find}
 use Rattle.std.specs.Prelude.{nat_eq, nat_lt, IsSome, ◌&&◌}
 use Rattle.std.specs.{List.Contains, Option.option_map}
-use Rattle.std.proofs.lemmas.Bool.{eqb-true, Decides.nat_tests}
+use Rattle.std.proofs.lemmas.{Bool.eqb-true, Bool.Decides.nat_tests, Iterator.Adapters.option_map_id}
 use Rattle.message_records.specs.{believed.Ranges.whole_within, declared.limits.TheConstants.MAX_BRANCH}
 use Rattle.posting_rules.specs.declared.rows.{BranchRow.BranchRow, RequestRow.RequestRow, TellerRow.TellerRow}
 use Rattle.posting_rules.specs.declared.rows.{AccountRow.AccountRow, FloorRow.FloorRow, ReferenceRow.ReferenceRow}
@@ -14,6 +14,7 @@ use Rattle.posting_rules.specs.believed.Tables.{Tables, row_at, branch_key, tell
 use Rattle.posting_rules.specs.believed.Tables.{reference_key, request_key}
 use Rattle.posting_rules.proofs.Keyed.{by_test, found_passes}
 use Rattle.sql_meanings.specs.{believed.Entries.Entry, believed.Entries.has_two, Entries.is_above}
+use Rattle.sqlite_rules.proofs.ListLemmas.{contains_had, has_found}
 use Rattle.store_rows.specs.{Columns.branch_above, Columns.request_in, Holders.balance_in, Holders.entry_under}
 use Rattle.store_rows.specs.{Rules.stored_rows, believed.Rules.row_under, believed.Stored.FindsStored}
 use Rattle.store_rows.specs.believed.Readings.{read_balance, read_branch, read_floor, read_reference, read_request}
@@ -33,15 +34,7 @@ by_option (Some x) = inr (x, refl)
 -- what a test finds is one of the rows
 pub found_within : {X : Type 0} (test : X → Bool) (xs : List X) (x : X) → find test xs ≡ Some x
     → Contains xs x
-found_within test [] x e = absurd cc
-found_within test (y ∷ ys) x e =
-    elim (by_test (test y)) [
-      | inl t ↦ let is : y ≡ x = (let g = rw t at e in cc) in (0, omega arith, is)
-      | inr f ↦
-          let rest = found_within test ys x (let g = rw f at e in g) in
-          let lt = rest.1 in
-          (suc rest.0, omega arith, rest.2)
-    ]
+found_within test xs x e = contains_had xs x (has_found test xs x e).0
 
 key_of_found : {R : Type 0} (key : R → ℕ) (rows : List R) (n : ℕ) (r : R) → row_at key rows n ≡ Some r → key r
     ≡ n
@@ -51,11 +44,30 @@ not_outside : (least most n : ℕ) → least ≤ n → n ≤ most → whole_with
 not_outside least most n low high e =
     let test : (leb least n && leb n most) ≡ true = grind (arith, nat_tests) in let within = rw test at e in cc
 
--- ---- what a look-up of sound rows reads
+pub within_or_none : (n : ℕ) → (whole_within 1 MAX_BRANCH n ≡ Some n) ⊎ (whole_within 1 MAX_BRANCH n ≡ None)
+within_or_none n =
+    elim (by_test (leb 1 n && leb n MAX_BRANCH)) [ inl t ↦ inl (rw t refl) | inr f ↦ inr (rw f refl) ]
 
-same_option : {X : Type 0} (o : Option X) → option_map (λ (x : X). x) o ≡ o
-same_option None = refl
-same_option (Some x) = refl
+-- a number of branches is the one that it was made of
+pub same_number : (n b : ℕ) → whole_within 1 MAX_BRANCH n ≡ Some b → b ≡ n
+same_number n b made = elim (within_or_none n) [
+  | inl is ↦ cc
+  | inr none ↦ absurd (let no = sym none ∙ made in cc)
+]
+
+-- no row has a number outside those of branches
+none_beyond : {R : Type 0} (key : R → ℕ) (rows : List R) (n : ℕ)
+    → ((r : R) → row_at key rows n ≡ Some r → (1 ≤ key r) × (key r ≤ MAX_BRANCH))
+    → whole_within 1 MAX_BRANCH n ≡ None → None ≡ row_at key rows n
+none_beyond key rows n within e =
+    elim (by_option (row_at key rows n)) [
+      | inl none ↦ sym none
+      | inr some ↦ absurd (let same = key_of_found key rows n some.0 some.1 in
+          let it = within some.0 some.1 in
+          not_outside 1 MAX_BRANCH n (rw (← same) it.0) (rw (← same) it.1) e)
+    ]
+
+-- ---- what a look-up of sound rows reads
 
 -- a row that reads as a value is reported as that value
 found_so : {R X : Type 0} (entry : R → Entry) (value : R → X) (read : Entry → Result X Rule) (o : Option R)
@@ -84,16 +96,8 @@ branch_is t n r sound e = (
 -- no branch has a number outside those of branches
 pub no_branch_beyond : (t : Tables) (n : ℕ) → IsUndamaged t → whole_within 1 MAX_BRANCH n ≡ None → None
     ≡ row_at branch_key t.branches n
-no_branch_beyond t n sound e =
-    elim (by_option (row_at branch_key t.branches n)) [
-      | inl none ↦ sym none
-      | inr some ↦ absurd (let is = branch_is t n some.0 sound some.1 in
-          let same = is.0 in
-          let low = is.1.some in
-          let high = is.1.most in
-          not_outside 1 MAX_BRANCH n (rw (← same) low)
-          (let le : some.0.branch ≤ MAX_BRANCH = omega arith in rw (← same) le) e)
-    ]
+no_branch_beyond t n sound = none_beyond branch_key t.branches n (λ r is.
+    let it = (branch_is t n r sound is).1 in (it.some, omega arith))
 
 -- the branch that is looked up
 pub branch_found : (t : Tables) (n : ℕ) → IsUndamaged t → (found : Option BranchRow)
@@ -103,7 +107,7 @@ branch_found t n sound found finds =
     found_so branch_entry (λ r. r) read_branch (row_at branch_key t.branches n)
     (λ r is. branch_back r (branch_is t n r sound is).1) _ (found_row branch_key branch_entry (λ _. refl) n t.branches)
     found finds
-    ∙ same_option (row_at branch_key t.branches n)
+    ∙ option_map_id (row_at branch_key t.branches n)
 
 -- and the one above a number
 pub next_found : (t : Tables) (n : ℕ) → IsUndamaged t → (found : Option BranchRow)
@@ -114,7 +118,7 @@ next_found t n sound found finds =
     (λ r is. branch_back r (sound.each_branch r (found_within (λ x. nat_lt n x.branch) t.branches r is))) _
     (found_by branch_key branch_entry (λ _. refl) (is_above (pos n)) (λ r. nat_lt n r.branch)
     (is_row_above branch_key branch_entry (λ _. refl) n) t.branches) found finds
-    ∙ same_option (branch_above t n)
+    ∙ option_map_id (branch_above t n)
 
 -- ---- floors
 
@@ -128,16 +132,8 @@ floor_is t n r sound e = (
 -- no floor is of a branch with a number outside those of branches
 pub no_floor_beyond : (t : Tables) (n : ℕ) → IsUndamaged t → whole_within 1 MAX_BRANCH n ≡ None → None
     ≡ row_at floor_key t.floors n
-no_floor_beyond t n sound e =
-    elim (by_option (row_at floor_key t.floors n)) [
-      | inl none ↦ sym none
-      | inr some ↦ absurd (let is = floor_is t n some.0 sound some.1 in
-          let same = is.0 in
-          let low = is.1.some in
-          let high = is.1.most in
-          not_outside 1 MAX_BRANCH n (rw (← same) low)
-          (let le : some.0.branch ≤ MAX_BRANCH = omega arith in rw (← same) le) e)
-    ]
+no_floor_beyond t n sound = none_beyond floor_key t.floors n (λ r is.
+    let it = (floor_is t n r sound is).1 in (it.some, omega arith))
 
 -- the floor that is looked up
 pub floor_found : (t : Tables) (n : ℕ) → IsUndamaged t → (found : Option FloorRow)
@@ -147,7 +143,7 @@ floor_found t n sound found finds =
     found_so floor_entry (λ r. r) read_floor (row_at floor_key t.floors n)
     (λ r is. floor_back r (floor_is t n r sound is).1) _ (found_row floor_key floor_entry (λ _. refl) n t.floors)
     found finds
-    ∙ same_option (row_at floor_key t.floors n)
+    ∙ option_map_id (row_at floor_key t.floors n)
 
 -- no account is below its floor
 pub not_below : (t : Tables) (n : ℕ) (balance lowest : ℤ) → IsUndamaged t
@@ -206,7 +202,7 @@ request_found t a b sound found finds =
     found_so request_entry (λ r. r) read_request (request_in t a b)
     (λ r is. request_back r (sound.each_request r (found_within _ t.requests r is))) _
     (found_by request_key request_entry (λ _. refl) (has_two (pos a) (pos b)) _ (has_both a b) t.requests) found finds
-    ∙ same_option (request_in t a b)
+    ∙ option_map_id (request_in t a b)
 
 -- and its reference
 pub reference_found : (t : Tables) (n : ℕ) → IsUndamaged t → (found : Option ReferenceRow)
@@ -216,4 +212,4 @@ reference_found t n sound found finds =
     found_so reference_entry (λ r. r) read_reference (row_at reference_key t.references n)
     (λ r is. reference_back r (sound.each_reference r (found_within (λ x. nat_eq x.ordinal n) t.references r is))) _
     (found_row reference_key reference_entry (λ _. refl) n t.references) found finds
-    ∙ same_option (row_at reference_key t.references n)
+    ∙ option_map_id (row_at reference_key t.references n)

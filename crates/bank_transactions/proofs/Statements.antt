@@ -1,49 +1,19 @@
--- What the statements do to the tables: a look-up, a row that is put in, a row that is written.
+-- What the statements do to the tables: a row that is put in, a row that is written.
 use Rattle.std.proofs.Common.{◌≡◌, false, true, Ok, Err, Result, refl, sym, subst, ◌∙◌, inl, inr}
 use Rattle.std.specs.Prelude.{IsTrue, Bool, List, [], ℕ}
-use Rattle.sqlite.specs.{Effect.Database, State.State, Held.Held, Held.state, Order.Row, Table.Table}
+use Rattle.sqlite.specs.{State.State, Held.Held, Held.state, Order.Row, Table.Table}
 use Rattle.sqlite.specs.{declared.error.Error.Error, declared.transaction.Transaction.Transaction}
 use Rattle.sqlite_trees.specs.declared.store.Store.{Ghosts}
-use Rattle.posting_rules.specs.{Damage.IsUndamaged, believed.Tables.Tables, declared.fault.Rule.Rule}
+use Rattle.posting_rules.specs.{believed.Tables.Tables, declared.fault.Rule.Rule}
 use Rattle.posting_rules.specs.declared.fault.Rule.TheVariants.{Meta, Teller, Account, Balance, Request, Value, Key}
 use Rattle.posting_rules.specs.declared.fault.Rule.TheVariants.{Floor, Reference}
-use Rattle.sql_meanings.specs.Calls.{Says, Inside}
-use Rattle.store_rows.specs.{Calls.OfTables, Failures.Changes, Failures.Puts, Sparing.SparesIfOk, believed.View.Shows}
+use Rattle.store_rows.specs.{Calls.AddsRow, Calls.SetsNumber, Failures.Changes, Failures.Puts, Sparing.SparesIfOk}
 use Rattle.store_rows.specs.believed.Failures.{Additions, HasMet, IsUpdateOf, MeetsNone}
 use Rattle.store_rows.specs.TableAnswers.{PutsOneRow, SetsRow}
 use Rattle.store_rows.specs.declared.fault.TableFault.{TableFault, TheVariants.Sqlite, TheVariants.Damaged}
-use Rattle.bank_transactions.specs.{believed.Causes.HasMetBetween, Causes.Blames, Causes.IsFirstBroken}
-use Rattle.bank_transactions.specs.Doing.{ChangesNothing, CommitsNothing, Does, DoesBy, LeavesAndAnswers, IsLookedUp}
-use Rattle.bank_transactions.specs.Doing.{Reads, expected}
+use Rattle.bank_transactions.specs.{believed.Causes.HasMetBetween, Causes.Blames}
+use Rattle.bank_transactions.specs.Doing.{CommitsNothing, Does, LeavesAndAnswers, expected}
 use Rattle.bank_transactions.proofs.Blamed.{blames_put, failed_here, met_here}
-
--- ---- look-ups
-
-pub looked : {X : Type 0} (old new : State) (t : Tables) (w : X) (r : Result X TableFault) → Shows old.now t
-    → IsLookedUp old new w r → LeavesAndAnswers new t w r
-looked old new t w (Ok x) shows told = (told.0, subst (λ (db : Database). Shows db t) (sym told.1.now) shows)
-looked old new t w (Err (Sqlite e)) shows told = tt
-looked old new t w (Err (Damaged rule)) shows told = told
-
-pub look_keeps : {X : Type 0} (old new : State) (r : Result X TableFault) → ChangesNothing old new r
-    → CommitsNothing old new r
-look_keeps old new (Ok x) looks = looks.goes_on
-look_keeps old new (Err e) looks = looks
-
--- a look-up leaves the tables
-pub does_read : {S X : Type 0} (g : Ghosts S) (old new : Transaction S) (w : Tables → X)
-    (r : Result X TableFault) → Reads g old new w r
-    → DoesBy (IsFirstBroken g) g old new IsUndamaged (λ t. t) w r
-does_read g old new w r reads = record {
-  says = record {
-    same_reference = reads.same_reference;
-    told = λ clean live t shows so. looked (state g old.conn.now) (state g new.conn.now) t (w t) r shows
-        (reads.told clean t shows so);
-    leaves = λ clean live. let it =
-        reads.leaves clean in (look_keeps (state g old.conn.now) (state g new.conn.now) r it.0, it.1);
-    survives = reads.survives;
-  };
-}
 
 -- ---- a row that is put in
 
@@ -72,9 +42,7 @@ added old new table taken after (Err (Damaged rule)) free adds = let is = adds.1
 pub does_add : {S : Type 0} {So : Tables → Type 0} {Adds : Additions} (g : Ghosts S) (old new : Transaction S)
     (text : List ℕ) (values : Row) (table : Table) (taken : Tables → Bool) (more : Tables → Tables)
     (r : Result (Unit {0}) TableFault)
-    → Says g old new (Inside (OfTables (λ before now t. PutsOneRow before now table (taken t) (more t) r)))
-    (Inside (λ before now. Puts text values before now r × SparesIfOk before now r))
-    → Adds text values → ((t : Tables) → So t → taken t ≡ false) → Does g Adds old new So more (λ _. tt) r
+    → AddsRow g old new text values table taken more r → Adds text values → ((t : Tables) → So t → taken t ≡ false) → Does g Adds old new So more (λ _. tt) r
 does_add {Adds = Adds} g old new text values table taken more r says own free = record {
   says = record {
     same_reference = says.same_reference;
@@ -135,8 +103,7 @@ pub does_write : {S : Type 0} {So : Tables → Type 0} {Adds : Additions} (g : G
     (there : Tables → Bool) (after : Tables → Tables)
     (answer : Result Bool Error) (rule : Rule) (r : Result (Unit {0}) TableFault) (text : List ℕ)
     → IsUpdateOf rule text → r ≡ expected answer rule
-    → Says g old new (Inside (OfTables (λ before now t. SetsRow before now table (there t) (after t) answer)))
-    (Inside (λ before now. Changes text before now answer × SparesIfOk before now answer))
+    → SetsNumber g old new table text there after answer
     → ((t : Tables) → So t → IsTrue (there t)) → Does g Adds old new So after (λ _. tt) r
 does_write {S} {So} {Adds} g old new table there after answer rule r text of is says so =
     subst (λ (x : Result (Unit {0}) TableFault). Does g Adds old new So after (λ _. tt) x) (sym is) (record {

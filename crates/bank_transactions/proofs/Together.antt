@@ -1,6 +1,6 @@
 -- All rows of a batch are written.
-use Rattle.std.proofs.Common.{◌≡◌, ◌⊎◌, ℕ, leb, List, [], ◌∷◌, Option, Some, None, Ok, Result, refl, subst, inl, inr}
-use Rattle.std.specs.Prelude.{ℤ, IsSome, IfSome, ◌&&◌}
+use Rattle.std.proofs.Common.{◌≡◌, ℕ, List, [], ◌∷◌, Option, Some, None, Ok, Result, refl, subst, inl, inr}
+use Rattle.std.specs.Prelude.{ℤ, IsSome, IfSome}
 use Rattle.std.specs.List.{AllByRecursion}
 use Rattle.message_records.specs.{believed.Ranges.whole_within, declared.limits.TheConstants.MAX_BRANCH}
 use Rattle.sqlite.specs.{Order.Row, declared.transaction.Transaction.Transaction}
@@ -9,7 +9,6 @@ use Rattle.sqlite_trees.specs.declared.store.Store.{Ghosts}
 use Rattle.posting_rules.specs.declared.rows.{BranchRow.BranchRow, RequestRow.RequestRow}
 use Rattle.posting_rules.specs.Damage.{IsUndamaged}
 use Rattle.posting_rules.specs.believed.Tables.{Tables, row_at, branch_key}
-use Rattle.posting_rules.proofs.Keyed.{by_test}
 use Rattle.posting_batch.specs.declared.slots.BranchSlot.{BranchSlot}
 use Rattle.posting_batch.specs.Batch.{HasRisingSlots, ChangesRows, AddsFreeRows}
 use Rattle.posting_batch.specs.Overlay.{Overlay, accounts_over, tellers_over, branches_over, history_put}
@@ -20,16 +19,12 @@ use Rattle.store_rows.specs.{believed.Failures.Additions, declared.fault.TableFa
 use Rattle.bank_transactions.specs.believed.Additions.{AddsPostings, AddsReferences, AddsRequests}
 use Rattle.bank_transactions.specs.{Additions.AddsNew, Additions.NoRow, Doing.Does}
 use Rattle.bank_transactions.proofs.Chained.{does_adds, does_for, does_then}
-use Rattle.bank_transactions.proofs.SoundRows.{no_branch_beyond}
+use Rattle.bank_transactions.proofs.SoundRows.{no_branch_beyond, within_or_none}
 use Rattle.bank_transactions.specs.Writing.{AreBranchNumbers, MayChangeAccounts, MayChangeTellers, MayAddPostings}
 use Rattle.bank_transactions.specs.Writing.{MayAddReferences, MayAddRequests, MayChangeBranches, MayWriteAfter}
 use Rattle.bank_transactions.specs.Writing.{after_requests}
 
 -- ---- the numbers of branches that have a row
-
-pub within_or_none : (n : ℕ) → (whole_within 1 MAX_BRANCH n ≡ Some n) ⊎ (whole_within 1 MAX_BRANCH n ≡ None)
-within_or_none n =
-    elim (by_test (leb 1 n && leb n MAX_BRANCH)) [ inl t ↦ inl (rw t refl) | inr f ↦ inr (rw f refl) ]
 
 not_there : (o : Option BranchRow) → IsSome o → None ≡ o → ⊥
 not_there None there is = absurd cc

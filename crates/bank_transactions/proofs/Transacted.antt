@@ -1,6 +1,6 @@
 -- A transaction from its start to its end: what it tells, what a crash may leave of it, and why it failed.
 use Rattle.std.proofs.Common.{◌≡◌, ℕ, Result, Ok, Err, refl, sym, subst, arith, inl, inr, ◌∙◌}
-use Rattle.std.specs.Prelude.{true, IfOk, IsTrue, OnOk}
+use Rattle.std.specs.Prelude.{false, true, IfOk, IsTrue, OnErr, OnOk}
 use Rattle.sqlite.specs.State.{State, HasCleanDisk, IsRolledBack, KeepsCommit, Survives}
 use Rattle.sqlite.specs.{Held.Held, Held.state, Tree.Trees, declared.transaction.Transaction.Transaction}
 use Rattle.sqlite_trees.specs.declared.store.Store.{Ghosts}
@@ -14,10 +14,10 @@ use Rattle.bank_transactions.specs.believed.Causes.{Damage, IsBefore}
 use Rattle.bank_transactions.specs.Causes.{Blames, IsFirstBroken}
 use Rattle.bank_transactions.specs.Doing.{Acts, LeavesAndAnswers, Completes, DoesBy, Ends, EndsBy, CommitsNothing}
 use Rattle.bank_transactions.specs.Doing.{MayLeaveAfter, MayCommit, Reads, Undoes, Consults, SparesTheirs, Transacts}
-use Rattle.bank_transactions.specs.Doing.{TransactsBy}
+use Rattle.bank_transactions.specs.{Doing.TransactsBy, Undone.IsUndone, Undone.UndoesFaults}
 use Rattle.bank_transactions.proofs.Blamed.{Widens, comes, commit_fails, fault_within, met_within, same_moment}
 use Rattle.bank_transactions.proofs.Blamed.{then_moment}
-use Rattle.bank_transactions.proofs.{Chained.does_for, Statements.does_read}
+use Rattle.bank_transactions.proofs.LookUps.{does_read}
 
 -- ---- by what its parts answered, and with what it ended
 
@@ -41,25 +41,31 @@ completes {X} last new after wanted (Err fault) result given told ends =
     subst (λ (r : Result X TableFault). Completes new after wanted r) (sym ends.0)
     (not_done last new after wanted fault told)
 
-undone_by : (X : Type 0) (old last new : State) (fault : TableFault)
-    → (IsTrue old.is_open → old.now ≡ old.committed)
-    → KeepsCommit old last → IsRolledBack last new → Undoes {X = X} old new (Err fault)
-undone_by X old last new (Sqlite e) settled leaves back = tt
-undone_by X old last new (Damaged rule) settled leaves back = λ is_open.
+-- after a fault all is as it was
+pub rolled : (old last new : State) → (IsTrue old.is_open → old.now ≡ old.committed) → KeepsCommit old last
+    → IsRolledBack last new → IsUndone old new
+rolled old last new settled leaves back = λ is_open.
     let last_open = back.was_open is_open in
     let was_open = leaves.was_open last_open in
     (was_open, (back.undone is_open).0 ∙ leaves.committed last_open ∙ sym (settled was_open))
 
-undoes : {X : Type 0} (old last new : State) (answer result : Result X TableFault)
-    → (IsTrue old.is_open → old.now ≡ old.committed) → CommitsNothing old last answer
-    → EndsBy last new answer result
-    → Undoes old new result
-undoes old last new (Ok x) (Ok y) settled leaves ends = tt
-undoes old last new (Ok x) (Err (Sqlite e)) settled leaves ends = tt
-undoes old last new (Ok x) (Err (Damaged rule)) settled leaves ends = absurd ends
-undoes {X} old last new (Err fault) result settled leaves ends =
-    subst (λ (r : Result X TableFault). Undoes old new r) (sym ends.0)
-    (undone_by X old last new fault settled leaves ends.1)
+by_end : {X : Type 0} (old last new : State) (answer result : Result X TableFault)
+    → (IsTrue old.is_open → old.now ≡ old.committed) → IsTrue old.in_transaction
+    → CommitsNothing old last answer → EndsBy last new answer result → OnErr result (IsUndone old new)
+by_end old last new (Ok x) (Ok y) settled live leaves ends = tt
+by_end old last new (Ok x) (Err (Sqlite e)) settled live leaves (inl failed) =
+    rolled old last new settled (record { was_open = leaves.opened; committed = λ _. leaves.committed }) failed.3
+by_end old last new (Ok x) (Err (Sqlite e)) settled live leaves (inr idle) =
+    absurd (let bad : true ≡ false = sym (leaves.mode ∙ live) ∙ idle.1 in cc)
+by_end old last new (Ok x) (Err (Damaged rule)) settled live leaves ends = absurd ends
+by_end old last new (Err e) (Ok y) settled live leaves ends = absurd (let is = ends.0 in cc)
+by_end old last new (Err e) (Err f) settled live leaves ends = rolled old last new settled leaves ends.1
+
+-- so it is after damage
+of_damage : {X : Type 0} (old new : State) (r : Result X TableFault) → OnErr r (IsUndone old new) → Undoes old new r
+of_damage old new (Ok x) it = tt
+of_damage old new (Err (Sqlite e)) it = tt
+of_damage old new (Err (Damaged rule)) it = it
 
 left_by : {X : Type 0} (last : State) (after : Tables) (wanted : X) (answer : Result X TableFault)
     (left : Trees)
@@ -161,14 +167,16 @@ module _ {S X : Type 0} {Met : Damage S} {So : Tables → Type 0} {after : Table
         does.says.survives ends.survives));
   }
 
+  undone_so : UndoesFaults g old new result
+  undone_so clean = by_end (state g start) (state g last.conn.now) (state g new) answer result settled refl
+      (kept_so (clean_before clean)).0 (ends.told clean)
+
   transacted : Widens Met old start last.conn.now new → TransactsBy Met g old new So after w result
   transacted wide = record {
     told = λ clean t shows so.
         completes (state g last.conn.now) (state g new) (after t) (w t) answer result
         ends.given (told_so (clean_before clean) t shows so) (ends.told clean);
-    undone = λ clean.
-        undoes (state g start) (state g last.conn.now) (state g new) answer result settled
-        (kept_so (clean_before clean)).0 (ends.told clean);
+    undone = λ clean. of_damage (state g old) (state g new) result (undone_so clean);
     survives = stop_so;
     cause = λ clean.
         blamed Met g old start last.conn.now new answer result from_start within (comes ends.survives) refl
@@ -218,8 +226,18 @@ consults {S} {X} {w} {answer} {result} g old begun last end new is settled reads
     subst (λ (h : Held S). Consults g old h AreSound w result) same
     (transacted {Met = IsFirstBroken g} {So = AreSound} {after = λ t. t}
     {w = w} g old begun last end is settled
-    (does_for (does_read g begun last w answer reads) (λ t sound. (sound.undamaged, refl, refl))) ends
-    (λ rule it. it))
+    (does_read reads) ends (λ rule it. it))
+
+-- after a fault all is undone, whatever the parts do
+pub undoes : {S X : Type 0} {Met : Damage S} {So : Tables → Type 0} {after : Tables → Tables} {w : Tables → X}
+    {answer result : Result X TableFault} (g : Ghosts S) (old : Held S) (begun last : Transaction S)
+    (end new : Held S)
+    → begun.conn.now ≡ record old { in_transaction = true }
+    → (IsTrue (state g old).is_open → (state g old).now ≡ (state g old).committed)
+    → DoesBy Met g begun last So after w answer → Ends g last.conn.now end answer result → end ≡ new
+    → UndoesFaults g old new result
+undoes {result = result} g old begun last end new is settled does ends same =
+    subst (λ (h : Held _). UndoesFaults g old h result) same (undone_so g old begun last end is settled does ends)
 
 -- what is so of the answer of the parts is so of what is given
 pub of_given : {X : Type 0} (P : X → Type 0) (answer result : Result X TableFault)

@@ -1,6 +1,7 @@
 -- A try that was given up, and then a call: it is as if there had been the call alone.
 use Rattle.std.proofs.Common.{◌≡◌, ◌∙◌, ℕ, List, Result, Ok, Err, refl, sym, ap, subst, arith}
-use Rattle.std.specs.Prelude.{false, true, length, None, IfOk, IfSome, IsTrue, OnErr, OnOk}
+use Rattle.std.specs.Prelude.{false, true, length, None, IfOk, IfSome, IsTrue, OnOk}
+use Rattle.std.proofs.lemmas.Result.{IfOk-weaker, on_err_weaker, on_ok_weaker}
 use Rattle.sqlite.specs.{Effect.Database, Held.Held, Held.state, Tree.Trees, declared.error.Error.Error}
 use Rattle.sqlite.specs.State.{Fails, IsRolledBack, IsUnchanged, KeepsCommit, State, HasCleanDisk, Survives}
 use Rattle.sqlite.proofs.{Callers.survives_begin, StateLemmas.survives_then}
@@ -19,21 +20,16 @@ use Rattle.bank_transactions.specs.{believed.Stored.RepliesToAllStored, declared
 use Rattle.bank_transactions.specs.believed.Causes.{IsBefore}
 use Rattle.bank_transactions.specs.Doing.{Acts, Ends, MayLeaveAfter, Transacts, Undoes}
 use Rattle.bank_transactions.specs.Tries.{IsAsBefore, answer_of, batch_of, replies_of}
-use Rattle.bank_transactions.specs.Undone.{IsUndone, UndoesFaults}
+use Rattle.bank_transactions.specs.Undone.{UndoesFaults}
 use Rattle.bank_transactions.specs.declared.first_try.Tried.TheVariants.{Answered, Again}
 use Rattle.bank_transactions.proofs.Blamed.{blames_since, comes, same_moment, then_moment}
-use Rattle.bank_transactions.proofs.{Transacted.transacts_records, Undone.undoes}
+use Rattle.bank_transactions.proofs.Transacted.{rolled, transacts_records}
 
 undoes_again : {X : Type 0} (old mid new : State) (r : Result X TableFault) → IsTrue old.is_open
     → mid.now ≡ old.now → Undoes mid new r → Undoes old new r
 undoes_again old mid new (Ok x) there same undone = tt
 undoes_again old mid new (Err (Sqlite e)) there same undone = tt
 undoes_again old mid new (Err (Damaged rule)) there same undone = λ still. (there, (undone still).1 ∙ same)
-
-faults_again : {X : Type 0} (old mid new : State) (r : Result X TableFault) → IsTrue old.is_open
-    → mid.now ≡ old.now → OnErr r (IsUndone mid new) → OnErr r (IsUndone old new)
-faults_again old mid new (Ok x) there same undone = tt
-faults_again old mid new (Err e) there same undone = λ still. (there, (undone still).1 ∙ same)
 
 module _ {S : Type 0} (g : Ghosts S) (old mid new : Held S) (before : IsAsBefore g old mid) where
   module _ {X : Type 0} {So : Tables → Type 0} {after : Tables → Tables} {w : Tables → X}
@@ -87,7 +83,7 @@ module _ {S : Type 0} (g : Ghosts S) (old mid new : Held S) (before : IsAsBefore
         → UndoesFaults g mid new r → UndoesFaults g old new r
     faults_undone r records made undone = λ clean.
         let it = same_there records made clean in
-        faults_again (state g old) (state g mid) (state g new) r it.1 it.2 (undone clean)
+        on_err_weaker r (λ same is_open. (it.1, (same is_open).1 ∙ it.2)) (undone clean)
 
     pub idle_again : {X : Type 0} (moment : ℕ) (r : Result X TableFault)
         → OnOk r (HasCleanDisk (state g new) → (records : List (List ℕ)) → Again records → (t : Tables)
@@ -96,22 +92,20 @@ module _ {S : Type 0} (g : Ghosts S) (old mid new : Held S) (before : IsAsBefore
         → OnOk r (HasCleanDisk (state g new) → (records : List (List ℕ)) → Made records → (t : Tables)
         → Shows (state g old).now t → AreOfALog t → DecidesNone t moment records
         → KeepsOnly (state g old) (state g new) t)
-    idle_again moment (Ok x) idle = λ clean records made t shows so none.
+    idle_again moment r = on_ok_weaker r (λ idle clean records made t shows so none.
         let same = (same_there records made clean).2 in
         let it = idle clean records (from records made) t (subst (λ (db : Database). Shows db t) (sym same) shows) so
         none in
-        record { same = it.same ∙ same; shows = it.shows; survives = it.survives }
-    idle_again moment (Err e) idle = tt
+        record { same = it.same ∙ same; shows = it.shows; survives = it.survives })
 
     pub stored_again : {X : Type 0} (Q : Database → List (List ℕ) → X → Type 0) (r : Result X TableFault)
         → IfOk r (λ x. HasCleanDisk (state g new) → (records : List (List ℕ)) → Again records
         → Q (state g mid).now records x)
         → IfOk r (λ x. HasCleanDisk (state g new) → (records : List (List ℕ)) → Made records
         → Q (state g old).now records x)
-    stored_again Q (Ok x) stored = λ clean records made.
+    stored_again Q r = IfOk-weaker r _ _ (λ x stored clean records made.
         subst (λ (db : Database). Q db records x) (same_there records made clean).2
-        (stored clean records (from records made))
-    stored_again Q (Err e) stored = tt
+        (stored clean records (from records made)))
 
 -- ---- a try that is given up
 
@@ -140,17 +134,6 @@ module _ {S : Type 0} (g : Ghosts S) (old : Held S) (begun last : Transaction S)
   was_clean : HasCleanDisk (state g new) → HasCleanDisk (state g mid)
   was_clean clean = omega (arith, more.clean)
 
-  -- what was shown is committed, and shown again
-  rolled : HasCleanDisk (state g mid) → IsTrue (state g mid).is_open
-      → IsTrue (state g old).is_open × ((state g mid).now ≡ (state g old).now)
-      × ((state g mid).committed ≡ (state g old).now)
-  rolled clean is_open =
-      let leaves = kept_so clean in
-      let last_open = (back clean).was_open is_open in
-      let was_open : IsTrue (state g old).is_open = leaves.was_open last_open in
-      let same = leaves.committed last_open ∙ sym (settled was_open) in
-      (was_open, ((back clean).undone is_open).0 ∙ same, ((back clean).undone is_open).1 ∙ same)
-
   -- the store answered
   pub as_before : (HasCleanDisk (state g new) → IsUnchanged (state g mid) (state g new)) → IsAsBefore g old new
   as_before same = record {
@@ -158,7 +141,8 @@ module _ {S : Type 0} (g : Ghosts S) (old : Held S) (begun last : Transaction S)
     survives = quiet_so (λ _. ⊥);
     same = λ clean.
         let it = (same clean).0 in
-        let was = rolled (was_clean clean) it.was_open in
+        let was = rolled (state g start) (state g last.conn.now) (state g mid) settled (kept_so (was_clean clean))
+        (back (was_clean clean)) it.was_open in
         (it.is_open, was.0, it.now_is ∙ was.1);
   }
 
@@ -183,14 +167,6 @@ module _ {S : Type 0} (g : Ghosts S) (old : Held S) (begun last : Transaction S)
     mode = mode;
     spares = record { now = λ clean. tt; left = quiet_so _ };
   }
-
-  pub not_asked_undone : (X : Type 0) (e : Error)
-      → (HasCleanDisk (state g new) → Fails (state g mid) (state g new) ⊥ e)
-      → UndoesFaults {X = X} g old new (Err (Sqlite e))
-  not_asked_undone X e fails = λ clean is_open.
-      let it = (fails clean).3 in
-      let was = rolled (was_clean clean) (it.was_open is_open) in
-      (was.0, (it.undone is_open).0 ∙ was.2)
 
 -- ---- a try that has answered
 
@@ -258,12 +234,6 @@ module _ {S : Type 0} (g : Ghosts S) (Made : List (List ℕ) → Type 0) (moment
       (λ answer answered acts its records made.
       transacts_records (length records) g old begun last end new is settled (acts records made) its
       (same records made)) it
-
-  pub tried_undone : batch_of tried ≡ None → IfSome (answer_of tried) ActsFor
-      → IfSome (answer_of result) (λ answer. (records : List (List ℕ)) → Made records → UndoesFaults g old new answer)
-  tried_undone none it = ends_tried g last.conn.now end {P = ActsFor} tried result none ends
-      (λ answer answered acts its records made.
-      undoes g old begun last end new is settled (acts records made) its (same records made)) it
 
   pub tried_busy : IfSome (replies_of tried) (λ replies. HasCleanDisk (state g last.conn.now)
       → IsTrue (state g begun.conn.now).in_transaction → (records : List (List ℕ)) → Made records → (t : Tables)

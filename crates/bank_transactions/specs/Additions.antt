@@ -1,8 +1,8 @@
 -- The rows that parts of a call put in, and those of their parts.
-use Rattle.std.specs.Prelude.{◌⊎◌, ℕ, List, [], ◌∷◌}
-use Rattle.std.specs.List.{AllByRecursion}
+use Rattle.std.specs.Prelude.{◌⊎◌, ℕ, List}
 use Rattle.sqlite.specs.Order.{Row}
 use Rattle.sqlite_rules.specs.Lists.{Has}
+use Rattle.sqlite_trees.proofs.ListLemmas.{all_weaker}
 use Rattle.posting_batch.specs.Overlay.{Overlay}
 use Rattle.sql_meanings.specs.believed.Entries.{Entry}
 use Rattle.store_rows.specs.believed.Failures.{Additions}
@@ -25,16 +25,11 @@ pub record AddsAlike {A : Type 0} (Adds : List A → Additions) : Type 0 where
 pub adds_none : {A : Type 0} → AddsAlike {A = A} (λ changes. NoRow)
 adds_none = record { more = λ some all within text values none. none }
 
-pub each_so : {R : Type 0} (P Q : R → Type 0) → ((r : R) → P r → Q r) → (rows : List R) → AllByRecursion P rows
-    → AllByRecursion Q rows
-each_so P Q so [] all = tt
-each_so P Q so (r ∷ rows) all = (so r all.0, each_so P Q so rows all.1)
-
 pub adds_so : {R : Type 0} (texts : List (List ℕ)) (entry : R → Entry) (P Q : R → Type 0)
     → ((r : R) → P r → Q r) → (text : List ℕ) (values : Row) → AddsEach texts entry P text values
     → AddsEach texts entry Q text values
 adds_so texts entry P Q so text values adds =
-    record { among = adds.among; rows = adds.rows; are = adds.are; each = each_so P Q so adds.rows adds.each }
+    record { among = adds.among; rows = adds.rows; are = adds.are; each = all_weaker P Q so adds.rows adds.each }
 
 pub adds_each : {R : Type 0} (texts : List (List ℕ)) (entry : R → Entry)
     → AddsAlike (λ (rows : List R). AddsEach texts entry (Has rows))

@@ -40,20 +40,19 @@ abbrev pub ChangesNothing : {X : Type 0} → State → State → Result X TableF
 ChangesNothing old new (Ok x) = Stays old new
 ChangesNothing old new (Err fault) = KeepsCommit old new
 
--- the answer is what was looked for, and nothing has changed; the tables are never reported as damaged
-abbrev pub IsLookedUp : {X : Type 0} → State → State → X → Result X TableFault → Type 0
-IsLookedUp old new wanted (Ok found) = (found ≡ wanted) × Stays old new
-IsLookedUp old new wanted (Err (Sqlite e)) = ⊤
-IsLookedUp old new wanted (Err (Damaged rule)) = ⊥
+-- In tables that are so, the answer is what was looked for. Whatever the rows, nothing has changed after `Ok`, and
+-- damage is of the rows that were there: where they break no rule, none is told.
+pub record ReadsWhere {S X : Type 0} (g : Ghosts S) (old new : Transaction S) (So : Tables → Type 0)
+    (wanted : Tables → X) (result : Result X TableFault) : Type 0 where
+  pub says : Says g old new
+      (OfTables (λ before now tables. So tables → IfOk result (λ found. found ≡ wanted tables)))
+      (λ before now. ChangesNothing before now result
+      × Blames (IsFirstBroken g) g old.conn.now new.conn.now result)
 
--- in undamaged tables it is what was looked for; damage is of the rows that were there
+-- in undamaged tables
 abbrev pub Reads : {S X : Type 0} → Ghosts S → Transaction S → Transaction S → (Tables → X)
     → Result X TableFault → Type 0
-Reads g old new wanted result =
-    Says g old new
-    (OfTables (λ before now tables. IsUndamaged tables → IsLookedUp before now (wanted tables) result))
-    (λ before now. ChangesNothing before now result
-    × Blames (IsFirstBroken g) g old.conn.now new.conn.now result)
+Reads g old new = ReadsWhere g old new IsUndamaged
 
 -- ---- a part that writes
 

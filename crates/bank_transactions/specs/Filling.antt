@@ -1,8 +1,6 @@
 -- What the parts of filling a batch say.
 use Rattle.std.specs.Prelude.{◌≡◌, ℕ, List, map, Option, None, Result, Ok, Err}
 use Rattle.std.specs.List.{AllByRecursion}
-use Rattle.sqlite.specs.declared.transaction.Transaction.{Transaction}
-use Rattle.sqlite_trees.specs.declared.store.Store.{Ghosts}
 use Rattle.posting_rules.specs.Damage.{IsUndamaged}
 use Rattle.posting_rules.specs.believed.Tables.{Tables, row_at, branch_key}
 use Rattle.posting_rules.specs.declared.rows.BranchRow.{BranchRow}
@@ -14,14 +12,10 @@ use Rattle.posting_batch.specs.declared.slots.TellerSlot.{TellerSlot}
 use Rattle.posting_batch.specs.Batch.{filled}
 use Rattle.posting_batch.specs.Overlay.{Overlay}
 use Rattle.posting_batch.specs.Slots.{in_slot, row_of_slot, branch_slot_key, slot_floor}
-use Rattle.sql_meanings.specs.Calls.{Says}
-use Rattle.store_rows.specs.Calls.{OfTables}
 use Rattle.store_rows.specs.believed.Readings.{read_branch}
 use Rattle.store_rows.specs.believed.Rules.{StoredRows, branch_under}
 use Rattle.store_rows.specs.believed.Stored.{FindsStored}
 use Rattle.store_rows.specs.declared.fault.TableFault.{TableFault}
-use Rattle.bank_transactions.specs.Causes.{Blames, IsFirstBroken}
-use Rattle.bank_transactions.specs.Doing.{IsLookedUp, ChangesNothing}
 use Rattle.bank_transactions.specs.believed.Stored.{HoldsAccount, HoldsDecided, HoldsFloor, HoldsKept}
 use Rattle.bank_transactions.specs.Stored.{HoldsTellerRow}
 
@@ -29,15 +23,6 @@ use Rattle.bank_transactions.specs.Stored.{HoldsTellerRow}
 abbrev pub handing : {X Y : Type 0} → Y → Result X TableFault → Result Y TableFault
 handing y (Ok x) = Ok y
 handing y (Err e) = Err e
-
--- In tables that are so, the answer is what was looked for. Whatever the rows, nothing has changed after
--- `Ok`, and damage is of the rows that were there.
-pub record ReadsWhere {S X : Type 0} (g : Ghosts S) (old new : Transaction S) (So : Tables → Type 0)
-    (wanted : Tables → X) (result : Result X TableFault) : Type 0 where
-  pub says : Says g old new
-      (OfTables (λ before now tables. So tables → IsLookedUp before now (wanted tables) result))
-      (λ before now. ChangesNothing before now result
-      × Blames (IsFirstBroken g) g old.conn.now new.conn.now result)
 
 -- nothing is damaged, and this is the row of the branch under a number, where it is open
 abbrev pub HasBranch : Option BranchRow → ℕ → Tables → Type 0

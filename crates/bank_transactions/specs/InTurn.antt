@@ -1,5 +1,5 @@
--- Changes of one table are made one after another: what is so of all is so of the next one, after those
--- before it.
+-- Changes of one table are made one after another, or new rows several at a time: what is so of all is so of the
+-- next ones, after those before them.
 use Rattle.std.proofs.Common.{◌≡◌, ℕ, List, [], ◌∷◌, ◌++◌, Option, Some, None, refl, sym, ap, subst, ◌∙◌}
 use Rattle.std.specs.Prelude.{ℤ, IsSome, IfSome}
 use Rattle.std.specs.List.{AllByRecursion, IsDistinct}
@@ -12,7 +12,6 @@ use Rattle.posting_batch.specs.Overlay.{each_put, over, changed_to, accounts_ove
 use Rattle.posting_batch.specs.Overlay.{branches_over, history_put, requests_put, references_put}
 use Rattle.posting_batch.specs.Slots.{account_slot_key, teller_slot_key, branch_slot_key}
 use Rattle.posting_batch.proofs.NewRows.{account_same, teller_same, branch_same}
-use Rattle.posting_batch.proofs.Overlaid.{each_put-append}
 use Rattle.posting_batch.proofs.SlotsWritten.{not_before, over_none, over_more, over_there}
 use Rattle.bank_transactions.specs.Writing.{MayChange, MayChangeAccounts, MayChangeTellers, MayChangeBranches}
 use Rattle.bank_transactions.specs.Writing.{MayAddPostings, MayAddRequests, MayAddReferences}
@@ -24,6 +23,12 @@ pub record InTurn {A : Type 0} (made : List A → Tables → Tables)
   pub none : (t : Tables) → t ≡ made [] t
   pub next : (front : List A) (change : A) (rest : List A) (t : Tables) → May (front ++ change ∷ rest) t
       → May (change ∷ []) (made front t) × (made (change ∷ []) (made front t) ≡ made (front ++ change ∷ []) t)
+
+-- Changes that may be made together may be made some of them after others, and come to the same.
+pub record InParts {A : Type 0} (made : List A → Tables → Tables)
+    (May : List A → Tables → Type 0) : Type 0 where
+  pub next : (front some rest : List A) (t : Tables) → May (front ++ (some ++ rest)) t
+      → May some (made front t) × (made some (made front t) ≡ made (front ++ some) t)
 
 -- the rows of one of the tables, and the tables with other rows there
 pub record ArePlaced {R : Type 0} (rows : Tables → List R)
@@ -111,25 +116,40 @@ branches_in_turn =
 
 -- ---- new rows
 
-free_next : {R : Type 0} (key : R → ℕ) (front : List R) (x : R) (rest rows : List R)
-    → PutsFree key (front ++ x ∷ rest) rows → row_at key (each_put key front rows) (key x) ≡ None
-free_next key [] x rest rows free = free.0
-free_next key (y ∷ front) x rest rows free = free_next key front x rest (row_put key y rows) free.1
+module _ {R : Type 0} (key : R → ℕ) where
+  free_first : (some rest rows : List R) → PutsFree key (some ++ rest) rows → PutsFree key some rows
+  free_first [] rest rows free = tt
+  free_first (r ∷ some) rest rows free = (free.0, free_first some rest (row_put key r rows) free.1)
 
-rows_in_turn : {R : Type 0} (key : R → ℕ) (rows : Tables → List R) (with_rows : Tables → List R → Tables)
-    → ArePlaced rows with_rows
-    → InTurn (λ news t. with_rows t (each_put key news (rows t))) (λ news t. PutsFree key news (rows t))
-rows_in_turn {R} key rows with_rows placed = record {
-  none = placed.own;
-  next = λ front x rest t free.
-      let before = each_put key front (rows t) in (
-        subst (λ (rs : List R). PutsFree key (x ∷ []) rs) (sym (placed.held t before))
-            (free_next key front x rest (rows t) free, tt),
-        placed.again t before (each_put key (x ∷ []) (rows (with_rows t before)))
-            ∙ ap (λ (rs : List R). with_rows t (each_put key (x ∷ []) rs)) (placed.held t before)
-            ∙ ap (with_rows t) (sym (each_put-append key front x (rows t))),
-      );
-}
+  free_after : (front rest rows : List R) → PutsFree key (front ++ rest) rows
+      → PutsFree key rest (each_put key front rows)
+  free_after [] rest rows free = free
+  free_after (r ∷ front) rest rows free = free_after front rest (row_put key r rows) free.1
+
+  put_after : (front some rows : List R)
+      → each_put key some (each_put key front rows) ≡ each_put key (front ++ some) rows
+  put_after [] some rows = refl
+  put_after (r ∷ front) some rows = put_after front some (row_put key r rows)
+
+  rows_in_parts : (rows : Tables → List R) (with_rows : Tables → List R → Tables) → ArePlaced rows with_rows
+      → InParts (λ news t. with_rows t (each_put key news (rows t))) (λ news t. PutsFree key news (rows t))
+  rows_in_parts rows with_rows placed = record {
+    next = λ front some rest t free.
+        let before = each_put key front (rows t) in (
+          subst (λ (rs : List R). PutsFree key some rs) (sym (placed.held t before))
+              (free_first some rest before (free_after front (some ++ rest) (rows t) free)),
+          placed.again t before (each_put key some (rows (with_rows t before)))
+              ∙ ap (λ (rs : List R). with_rows t (each_put key some rs)) (placed.held t before)
+              ∙ ap (with_rows t) (put_after front some (rows t)),
+        );
+  }
+
+  rows_in_turn : (rows : Tables → List R) (with_rows : Tables → List R → Tables) → ArePlaced rows with_rows
+      → InTurn (λ news t. with_rows t (each_put key news (rows t))) (λ news t. PutsFree key news (rows t))
+  rows_in_turn rows with_rows placed = record {
+    none = placed.own;
+    next = λ front x. (rows_in_parts rows with_rows placed).next front (x ∷ []);
+  }
 
 pub postings_in_turn : InTurn history_put MayAddPostings
 postings_in_turn =
@@ -144,4 +164,14 @@ requests_in_turn =
 pub references_in_turn : InTurn references_put MayAddReferences
 references_in_turn =
     rows_in_turn reference_key (λ t. t.references) (λ t rows. record t { references = rows })
+    (record { own = λ t. refl; held = λ t rs. refl; again = λ t rs others. refl })
+
+pub postings_in_parts : InParts history_put MayAddPostings
+postings_in_parts =
+    rows_in_parts history_key (λ t. t.history) (λ t rows. record t { history = rows })
+    (record { own = λ t. refl; held = λ t rs. refl; again = λ t rs others. refl })
+
+pub requests_in_parts : InParts requests_put MayAddRequests
+requests_in_parts =
+    rows_in_parts request_key (λ t. t.requests) (λ t rows. record t { requests = rows })
     (record { own = λ t. refl; held = λ t rs. refl; again = λ t rs others. refl })

@@ -10,7 +10,6 @@ pub mod Filling
 pub mod Floors
 pub mod Writing
 pub mod Additions
-pub mod InParts
 pub mod InTurn
 pub mod Batches
 pub mod Tries

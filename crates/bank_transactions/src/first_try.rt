@@ -7,7 +7,6 @@ ghost use Rattle.posting_rules.specs.believed.Changes.{tables_past_all, replies_
 ghost use Rattle.posting_rules.specs.believed.LookUps.{kept_in};
 ghost use Rattle.posting_rules.specs.believed.Sound.{AreOfALog};
 ghost use Rattle.posting_rules.specs.believed.Tables.{Tables};
-ghost use Rattle.posting_rules.specs.Damage.{IsUndamaged};
 ghost use Rattle.posting_batch.specs.Batch.{has_gap};
 ghost use Rattle.posting_batch.specs.View.{reads_of, view, IsMadeOf};
 ghost use Rattle.sql_meanings.specs.Calls.{Inside, Says};
@@ -15,7 +14,6 @@ ghost use Rattle.store_rows.specs.believed.View.{Shows};
 ghost use Rattle.bank_transactions.specs.believed.Additions.{AddsForRecords};
 ghost use Rattle.bank_transactions.specs.believed.Batches.{DecidesNone};
 ghost use Rattle.bank_transactions.specs.Doing.{Acts, Reads, Transacts};
-ghost use Rattle.bank_transactions.specs.Filling.{ReadsWhere};
 ghost use Rattle.bank_transactions.specs.believed.Stored.{RepliesToAllStored};
 ghost use Rattle.bank_transactions.specs.Tries.{IsAsBefore, IsMadeAgain, answer_of, batch_of, replies_of};
 ghost use Rattle.bank_transactions.specs.Tries.{first_kept, may_be_kept};
@@ -69,8 +67,7 @@ fn is_kept<S: Alter>(tx: &mut Transaction<'_, S>, slot: RequestSlot) -> Result<b
 
 // Whether the first request of a batch is kept, by rising tellers and numbers.
 fn keeps_first<S: Alter>(tx: &mut Transaction<'_, S>, overlay: &Overlay) -> Result<bool, TableFault>
-    ensures { ReadsWhere S.Store tx.old tx.new IsUndamaged
-        (λ tables. first_kept tables (view overlay.now).kept) result }
+    ensures { Reads S.Store tx.old tx.new (λ tables. first_kept tables (view overlay.now).kept) result }
 {
     match overlay.kept.first() {
         Some(slot) => is_kept(tx, *slot),

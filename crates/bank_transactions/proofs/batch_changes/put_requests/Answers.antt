@@ -1,13 +1,13 @@
 -- Eight requests more are put in, and at the end those that are left.
 use Rattle.std.proofs.Common.{◌≡◌, ◌++◌, [], List, Err, rules, arith, refl, sym, subst}
-use Rattle.std.proofs.lemmas.List.{take-append-drop}
+use Rattle.std.proofs.lemmas.{List.take-append-drop, Result.on_ok_weaker}
 use Rattle.sqlite.specs.{Held.state, State.HasCleanDisk}
 use Rattle.posting_rules.specs.declared.rows.RequestRow.{RequestRow}
 use Rattle.store_rows.specs.SeveralRows.{PutsNew}
-use Rattle.bank_transactions.specs.{Additions.adds_each, InParts.requests_in_parts, InTurn.requests_in_turn}
+use Rattle.bank_transactions.specs.{Additions.adds_each, InTurn.requests_in_parts, InTurn.requests_in_turn}
 use Rattle.bank_transactions.proofs.Chained.{does_err, does_none, does_for, still_in}
 use Rattle.bank_transactions.proofs.{Loops.all_more, Loops.some_more, Loops.stands_more, Rows.requests_added}
-use Rattle.bank_transactions.proofs.NewRequests.{news_none, news_then, on_ok}
+use Rattle.bank_transactions.proofs.NewRequests.{news_none, news_then}
 use Rattle.bank_transactions.proofs.batch_changes.put_requests.Goals as goal
 
 pub loop-eight-init : goal.loop-eight-init
@@ -57,7 +57,7 @@ returns-clause-puts g c =
 pub returns-clause-unknown : goal.returns-clause-unknown
 returns-clause-unknown g c =
     let so_far = c.loop-eight.invariant in
-    on_ok c.put_singly.result (λ one clean live.
+    on_ok_weaker c.put_singly.result (λ one clean live.
     let mid : HasCleanDisk (state g.S.Store c.loop-eight.tx.conn.now) =
     omega (arith, c.put_singly.ensures.puts.says.survives.clean, clean) in
     let on = (so_far.puts.so_far.says.leaves mid live).0 in

@@ -3,14 +3,12 @@ use Rattle.std.proofs.Common.{◌≡◌, ◌<◌, ◌+◌, ◌++◌, [], ◌∷�
 use Rattle.std.proofs.Common.{sym, ap}
 use Rattle.std.proofs.{lemmas.List.take_more, Math.Seq.take-length}
 use Rattle.sqlite.specs.{Held.state, State.HasCleanDisk}
-use Rattle.posting_rules.specs.believed.{Changes.with_request, Tables.request_key}
 use Rattle.posting_rules.specs.declared.rows.RequestRow.{RequestRow}
 use Rattle.posting_batch.specs.Overlay.{requests_put}
-use Rattle.store_rows.specs.{believed.BankTables.request, believed.SeveralRows.given, SeveralRows.PutsNew}
-use Rattle.store_rows.specs.{believed.View.request_entry, believed.Inserts.request_insert}
+use Rattle.store_rows.specs.SeveralRows.{PutsNew}
 use Rattle.bank_transactions.specs.{Additions.adds_each, InTurn.requests_in_turn, Writing.MayAddRequests}
 use Rattle.bank_transactions.proofs.Chained.{does_none, does_err, does_for, still_in}
-use Rattle.bank_transactions.proofs.{Loops.make_more, Rows.adds_request, Rows.request_put, Rows.row_added}
+use Rattle.bank_transactions.proofs.{Loops.make_more, Rows.request_added}
 use Rattle.bank_transactions.proofs.NewRequests.{news_none, news_then}
 use Rattle.bank_transactions.proofs.batch_changes.put_singly.Goals as goal
 
@@ -32,9 +30,7 @@ loop-row-preserved g c =
     take_more xs i x lt ∙ ap (λ (r : RequestRow). take i xs ++ r ∷ []) (sym c.row-item.is) in
     record {
       puts = make_more requests_put MayAddRequests requests_in_turn (adds_each _ _) xs i x lt c.row-item.is
-          so_far.puts
-          (row_added request_insert (given (request_entry x)) request request_key (λ t. t.requests) with_request
-          requests_put x (request_put x) (adds_request x) one.adds);
+          so_far.puts (request_added x one.adds);
       unknown = λ clean live.
           let mid : HasCleanDisk (state g.S.Store c.loop-row.tx.conn.now) =
           omega (arith, one.adds.survives.clean, clean) in
@@ -53,9 +49,7 @@ returns-in_err-add_request-clause-puts g c =
     let x = c.row-item.result in
     let lt : i < length xs = omega arith in
     rw same (does_err (make_more requests_put MayAddRequests requests_in_turn (adds_each _ _) xs i x lt
-    c.row-item.is c.loop-row.invariant.puts
-    (row_added request_insert (given (request_entry x)) request request_key (λ t. t.requests) with_request
-    requests_put x (request_put x) (adds_request x) c.in_err-add_request.ensures.adds)) (λ t so. so))
+    c.row-item.is c.loop-row.invariant.puts (request_added x c.in_err-add_request.ensures.adds)) (λ t so. so))
 
 pub returns-clause-puts : goal.returns-clause-puts
 returns-clause-puts g c =

@@ -12,7 +12,7 @@ use Rattle.bank_transactions.proofs.batches.answer_batch.Goals as goal
 pub returns-in_err-fill-clause-says : goal.returns-in_err-fill-clause-says
 returns-in_err-fill-clause-says g c records made =
     let same : c.from_residual.result ≡ Err c.in_err-fill.field-0.0 = search rules in
-    rw same (acts_read (does_err (does_look c.in_err-fill.ensures.says) (ready c.args.batch records made)))
+    rw same (acts_read (does_err (does_look c.in_err-fill.ensures.says (λ t so. so.0)) (ready c.args.batch records made)))
 
 pub returns-in_err-write-clause-says : goal.returns-in_err-write-clause-says
 returns-in_err-write-clause-says g c records made =
@@ -22,7 +22,7 @@ returns-in_err-write-clause-says g c records made =
     c.args.moment (view c.judge-judged.result.overlay) c.judge-judged.result.replies.items made refl
     j.judged j.shown j.rising j.idle in
     let fill = c.in_ok-fill.ensures in
-    rw same (answered_not so (does_look fill.says) (does_adds (λ clean.
+    rw same (answered_not so (does_look fill.says (λ t so. so.0)) (does_adds (λ clean.
     let before : HasCleanDisk (state g.S.Store c.fill.new.tx.conn.now) = omega
     (arith, c.in_err-write.ensures.says.survives.clean, clean) in
     adds_of_batch c.args.batch records (view c.fill.new.overlay) (view c.judge-judged.result.overlay) _ made
@@ -36,7 +36,7 @@ returns-clause-says g c records made =
     let so = judging_all c.args.batch _ records
     c.args.moment (view c.judge-judged.result.overlay) c.judge-judged.result.replies.items made refl
     j.judged j.shown j.rising j.idle in
-    let first = does_look c.in_ok-fill.ensures.says in
+    let first = does_look c.in_ok-fill.ensures.says (λ t so. so.0) in
     rw c.into_replies.ensures (elim c.if-judged-before.branch [
       | then-judged-before+in_ok-write w ↦
           rw w.tx-is (answered_written so first (does_adds (λ clean.
@@ -58,19 +58,19 @@ returns-clause-idle g c clean records made t shows so none =
     let it = judging_all c.args.batch _ records
     c.args.moment (view c.judge-judged.result.overlay) c.judge-judged.result.replies.items made refl
     j.judged j.shown j.rising j.idle in
-    let first = does_look fill.says in
+    let first = does_look fill.says (λ t so. so.0) in
     elim c.if-judged-before.branch [
       | then-judged-before+in_ok-write w ↦
           let before : HasCleanDisk (state g.S.Store c.fill.new.tx.conn.now) = omega
           (arith, w.in_ok-write.ensures.says.survives.clean, rw w.tx-is at clean) in
           let told = fill.says.says.told before t shows (ready c.args.batch records made t so) in
-          absurd (w.if-judged-before.true (counts_none it first t so told.0 none))
+          absurd (w.if-judged-before.true (counts_none it first t so told none))
       | else-judged-before w ↦
           let told = fill.says.says.told (rw w.tx-is at clean) t shows
           (ready c.args.batch records made t so) in
           rw w.tx-is (record {
-            leads = it.back (omega (arith, w.if-judged-before.false)) t so told.0;
-            stays = told.1;
+            leads = it.back (omega (arith, w.if-judged-before.false)) t so told;
+            stays = (fill.says.says.leaves (rw w.tx-is at clean)).0;
           })
     ]
 

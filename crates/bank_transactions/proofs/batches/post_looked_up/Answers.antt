@@ -2,7 +2,7 @@
 use Rattle.std.proofs.Common.{length, rules}
 use Rattle.posting_batch.specs.View.{IsMadeOf}
 use Rattle.bank_transactions.specs.believed.Stored.{RepliesToAllStored}
-use Rattle.bank_transactions.proofs.{HeldBatch.stored_after, Undone.undoes, Idle.ends_items, Idle.idle_after}
+use Rattle.bank_transactions.proofs.{HeldBatch.stored_after, Transacted.undoes, Idle.ends_items, Idle.idle_after}
 use Rattle.bank_transactions.proofs.Transacted.{of_given, transacts_records}
 use Rattle.bank_transactions.proofs.batches.post_looked_up.Goals as goal
 

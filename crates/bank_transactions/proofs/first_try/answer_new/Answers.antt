@@ -9,7 +9,7 @@ pub returns-in_err-keeps_first-clause-says : goal.returns-in_err-keeps_first-cla
 returns-in_err-keeps_first-clause-says g c =
     let same : c.from_residual.result ≡ Err c.in_err-keeps_first.field-0.0 = search rules in
     rw same (λ records made. acts_read
-    (does_err (does_look c.in_err-keeps_first.ensures) (λ t it. (ready c.args.batch records made t it).0)))
+    (does_err (does_look c.in_err-keeps_first.ensures (λ t sound. sound)) (λ t it. (ready c.args.batch records made t it).0)))
 
 pub returns-clause-says : goal.returns-clause-says
 returns-clause-says g c =

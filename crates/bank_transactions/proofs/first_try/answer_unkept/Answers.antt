@@ -15,7 +15,7 @@ pub returns-in_err-fill_known-clause-says : goal.returns-in_err-fill_known-claus
 returns-in_err-fill_known-clause-says g c =
     let same : c.from_residual.result ≡ Err c.in_err-fill_known.field-0.0 = search rules in
     rw same (λ records made. acts_read
-    (does_err (does_look c.in_err-fill_known.ensures.says) (ready c.args.batch records made)))
+    (does_err (does_look c.in_err-fill_known.ensures.says (λ t so. so.0)) (ready c.args.batch records made)))
 
 pub returns-then-not-all_decided-clause-again : goal.returns-then-not-all_decided-clause-again
 returns-then-not-all_decided-clause-again g c =
@@ -33,7 +33,7 @@ pub returns-in-Err-2-clause-says : goal.returns-in-Err-2-clause-says
 returns-in-Err-2-clause-says g c records made =
     let fk = c.in_ok-fill_known.ensures in
     let puts = requests_first (view c.judge-judged.result.overlay) c.deref.ensures c.in-Err.ensures.puts in
-    refused_new c.in-Err.fault (search rules) (does_look fk.says) (does_adds (λ clean.
+    refused_new c.in-Err.fault (search rules) (does_look fk.says (λ t so. so.0)) (does_adds (λ clean.
     let first : HasCleanDisk (state g.S.Store c.fill_known.new.tx.conn.now) =
     omega (arith, puts.says.survives.clean, clean) in
     adds_of_batch c.args.batch records (view c.fill_known.new.overlay) (view c.judge-judged.result.overlay) _ made
@@ -52,7 +52,7 @@ returns-in_err-write_after-in-Ok-clause-says g c =
     let end = c.in_err-write_after-in-Ok.ensures in
     let so = judging_all c.args.batch _ records c.args.moment o c.judge-judged.result.replies.items made refl
     j.judged j.shown j.rising j.idle in
-    unanswered_new so (does_look fk.says)
+    unanswered_new so (does_look fk.says (λ t so. so.0))
     (λ clean live t shows e.
     let before : HasCleanDisk (state g.S.Store c.put_requests.new.tx.conn.now) =
     omega (arith, end.says.survives.clean, clean) in
@@ -78,7 +78,7 @@ returns-in_ok-write_after-in-Ok-clause-says g c records made =
     let end = c.in_ok-write_after-in-Ok.ensures in
     let so = judging_all c.args.batch _ records c.args.moment o c.judge-judged.result.replies.items made refl
     j.judged j.shown j.rising j.idle in
-    rw c.into_replies.ensures (answered_new so (does_look fk.says)
+    rw c.into_replies.ensures (answered_new so (does_look fk.says (λ t so. so.0))
     (λ clean live t shows e.
     let before : HasCleanDisk (state g.S.Store c.put_requests.new.tx.conn.now) =
     omega (arith, end.says.survives.clean, clean) in
@@ -111,7 +111,7 @@ returns-in_ok-write_after-in-Ok-clause-busy g c clean live records made t shows 
     let e = all_filled c.args.batch p' o c.deref.result.now records made fk.says
     (ap (λ (v : SmallVec RequestSlot). v.items) fk.new_rows.3) j.again.keys j.again.own
     (decided_all _ _ _ _ c.all_decided.ensures (search rules)).1 c.deref.ensures c.in-Ok.ensures.puts c.in-Ok.ensures.unknown before live
-    t shows found.0 in
+    t shows found in
     absurd ((decided_all _ _ _ _ c.all_decided.ensures (search rules)).0 (ap (λ (u : Tables). u.decided) (so.tables t it e) ∙ none
     ∙ sym (ap (λ (q : Overlay). q.decided) e)))
 

@@ -10,7 +10,7 @@ use Rattle.posting_rules.specs.declared.fault.Rule.TheVariants.{Balance}
 use Rattle.store_rows.specs.believed.{Readings.read_balance, Rules.row_under, Stored.FindsStored}
 use Rattle.bank_transactions.specs.{Floors.falls_below, believed.Stored.IsStoredFloor}
 use Rattle.bank_transactions.proofs.{Broken.below_broken, FittingAccounts.is_above}
-use Rattle.bank_transactions.proofs.ReadsInTurn.{reads_both, reads_broken, reads_but, reads_told}
+use Rattle.bank_transactions.proofs.LookUps.{reads_broken, reads_but, reads_pair, reads_so}
 use Rattle.bank_transactions.proofs.floors.balance_and_floor.Goals as goal
 
 -- there are both, and the balance is below the floor
@@ -26,18 +26,18 @@ not_above balance lowest below above = grind (arith, ints)
 pub returns-in_err-balance-clause-says : goal.returns-in_err-balance-clause-says
 returns-in_err-balance-clause-says g c =
     let same : c.from_residual.result ≡ Err c.in_err-balance.field-0.0 = search rules in
-    rw same c.in_err-balance.ensures.says
+    rw same (record { says = c.in_err-balance.ensures.says.says })
 
 pub returns-in_err-floor-clause-says : goal.returns-in_err-floor-clause-says
 returns-in_err-floor-clause-says g c =
     let same : c.from_residual-in_err-floor.result ≡ Err c.in_err-floor.field-0.0 = search rules in
-    rw same (reads_but c.in_err-floor.field-0.0 c.in_ok-balance.ensures.says c.in_err-floor.ensures.says)
+    rw same (reads_but c.in_ok-balance.ensures.says c.in_err-floor.ensures.says)
 
 pub returns-clause-says : goal.returns-clause-says
 returns-clause-says g c =
     let key = c.branch_of_account.ensures in
-    reads_told (reads_both c.in_ok-balance.ensures.says c.in_ok-floor.ensures.says)
-    (λ t told. told ∙ ap (λ k. (account_balance_in t c.args.account, floor_in t k)) key)
+    reads_so (reads_pair c.in_ok-balance.ensures.says c.in_ok-floor.ensures.says)
+    (λ t sound. (sound, λ told. told ∙ ap (λ k. (account_balance_in t c.args.account, floor_in t k)) key))
 
 pub returns-then-is_below-clause-says : goal.returns-then-is_below-clause-says
 returns-then-is_below-clause-says g c =
@@ -50,23 +50,23 @@ returns-then-is_below-clause-says g c =
     let some : 1 ≤ n = search rules in
     let most : n ≤ MAX_ACCOUNT = search rules in
     let db = (state g.S.Store c.args.tx.now.conn.now).now in
-    reads_broken Balance (reads_both one.says two.says) (λ clean.
+    reads_broken Balance (reads_pair one.says two.says) (λ clean.
     let before : HasCleanDisk (state g.S.Store c.open_balance.new.tx.conn.now) =
-    omega (arith, two.says.survives.clean, clean) in
+    omega (arith, two.says.says.survives.clean, clean) in
     below_broken db n it.0 it.1 some most
     (λ rows has. subst (λ (b : Option ℤ). FindsStored (row_under rows.accounts n) read_balance (Ok b))
     it.2 ((one.stored before).found rows has))
     (subst (IsStoredFloor db (branch_of_account n)) it.3
     (subst (λ (k : ℕ). IsStoredFloor db k c.in_ok-floor.floor) key
     (subst (λ (d : Database). IsStoredFloor d c.branch_of_account.result c.in_ok-floor.floor)
-    (one.says.leaves before).0.now (two.stored clean))))
+    (one.says.says.leaves before).0.now (two.stored clean))))
     (not_above it.0 it.1 it.4))
 
 pub returns-clause-stored : goal.returns-clause-stored
 returns-clause-stored g c clean =
     let before : HasCleanDisk (state g.S.Store c.open_balance.new.tx.conn.now) =
-    omega (arith, c.in_ok-floor.ensures.says.survives.clean, clean) in
-    let still = (c.in_ok-balance.ensures.says.leaves before).0.now in
+    omega (arith, c.in_ok-floor.ensures.says.says.survives.clean, clean) in
+    let still = (c.in_ok-balance.ensures.says.says.leaves before).0.now in
     let stored = c.in_ok-balance.ensures.stored before in
     let floor = subst (λ (k : ℕ). IsStoredFloor (state g.S.Store c.args.tx.now.conn.now).now k c.in_ok-floor.floor)
     c.branch_of_account.ensures

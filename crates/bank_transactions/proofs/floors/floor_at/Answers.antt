@@ -3,27 +3,21 @@ use Rattle.std.proofs.Common.{◌≡◌, Err, rules, sym, ap, ◌∙◌}
 use Rattle.std.specs.Prelude.{option_map}
 use Rattle.posting_rules.specs.{believed.LookUps.lowest_of, believed.Tables.floor_key, believed.Tables.row_at}
 use Rattle.store_rows.specs.believed.{Readings.read_floor, Rules.row_under}
-use Rattle.bank_transactions.proofs.{Broken.floor_broken, ReadsInTurn.find_failed, ReadsInTurn.find_tells}
+use Rattle.bank_transactions.proofs.{Broken.floor_broken, LookUps.reads_none, ReadsInTurn.find_failed}
+use Rattle.bank_transactions.proofs.ReadsInTurn.{find_tells}
 use Rattle.bank_transactions.proofs.SoundRows.{floor_found, no_floor_beyond}
 use Rattle.bank_transactions.proofs.floors.floor_at.Goals as goal
 
 pub returns-in_default-clause-says : goal.returns-in_default-clause-says
-returns-in_default-clause-says g c = record {
-  told = λ clean t shows sound. (
-    ap (option_map lowest_of) (no_floor_beyond t c.args.number sound (sym c.new.ensures ∙ c.in_default.is)),
-    search rules,
-  );
-  same_reference = search rules;
-  leaves = search rules;
-  survives = search rules;
-}
+returns-in_default-clause-says g c =
+    reads_none (search rules) (λ t sound.
+    ap (option_map lowest_of) (no_floor_beyond t c.args.number sound (sym c.new.ensures ∙ c.in_default.is)))
 
 pub returns-in_err-row-clause-says : goal.returns-in_err-row-clause-says
 returns-in_err-row-clause-says g c =
-    let fault = c.in_err-row.field-0.0 in
-    let same : c.from_residual.result ≡ Err fault = search rules in
-    rw same (find_failed (λ rows. row_under rows.floors c.in-Some.branch) read_floor fault (λ t sound. sound)
-    (floor_broken _ c.in-Some.branch fault) c.in_err-row.ensures.looks_up)
+    let same : c.from_residual.result ≡ Err c.in_err-row.field-0.0 = search rules in
+    rw same (find_failed (λ rows. row_under rows.floors c.in-Some.branch) read_floor
+    (floor_broken _ c.in-Some.branch _) c.in_err-row.ensures.looks_up)
 
 pub returns-in_default-2-clause-says : goal.returns-in_default-2-clause-says
 returns-in_default-2-clause-says g c =

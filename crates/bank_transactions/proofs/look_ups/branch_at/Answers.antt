@@ -8,18 +8,14 @@ use Rattle.sql_meanings.specs.believed.Entries.{Entry, has_key}
 use Rattle.std.proofs.Common.{pos}
 use Rattle.store_rows.specs.believed.{Readings.read_branch, Rules.StoredRows, Rules.branch_under, Rules.row_under}
 use Rattle.store_rows.specs.{believed.Stored.FindsStored, declared.fault.TableFault.TableFault}
-use Rattle.bank_transactions.proofs.{Broken.branch_broken, ReadsInTurn.read_so, ReadsInTurn.reads_found}
+use Rattle.bank_transactions.proofs.{Broken.branch_broken, LookUps.reads_none, ReadsInTurn.read_so}
+use Rattle.bank_transactions.proofs.ReadsInTurn.{reads_found}
 use Rattle.bank_transactions.proofs.SoundRows.{branch_found, no_branch_beyond}
 use Rattle.bank_transactions.proofs.look_ups.branch_at.Goals as goal
 
 pub returns-in-None-clause-says : goal.returns-in-None-clause-says
-returns-in-None-clause-says g c = record {
-  told = λ clean t shows sound.
-      (no_branch_beyond t c.args.number sound (sym c.new.ensures ∙ c.in-None.is), search rules);
-  same_reference = search rules;
-  leaves = search rules;
-  survives = search rules;
-}
+returns-in-None-clause-says g c =
+    reads_none (search rules) (λ t sound. no_branch_beyond t c.args.number sound (sym c.new.ensures ∙ c.in-None.is))
 
 pub returns-in-Some-clause-says : goal.returns-in-Some-clause-says
 returns-in-Some-clause-says g c =

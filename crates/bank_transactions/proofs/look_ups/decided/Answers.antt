@@ -7,8 +7,8 @@ use Rattle.posting_rules.specs.declared.{fault.Rule.TheVariants.Meta, limits.The
 use Rattle.store_rows.specs.{believed.Columns.meta_in, believed.View.meta_entry}
 use Rattle.store_rows.specs.{declared.metas.TheConstants.VERSION, declared.metas.StoredMeta.StoredMeta}
 use Rattle.store_rows.proofs.MetaRow.{has_one}
-use Rattle.bank_transactions.proofs.{Broken.meta_broken, ReadsInTurn.looked_at, ReadsInTurn.meta_failed}
-use Rattle.bank_transactions.proofs.ReadsInTurn.{reads_broken}
+use Rattle.bank_transactions.proofs.{Broken.meta_broken, LookUps.looked_at, LookUps.reads_broken}
+use Rattle.bank_transactions.proofs.ReadsInTurn.{meta_failed}
 use Rattle.bank_transactions.proofs.look_ups.decided.Goals.{then-meta-lt0-via-then-meta-lt0}
 use Rattle.bank_transactions.proofs.{look_ups.decided.Goals.then-meta-lt0-via-else-meta-lt0+then-meta-gt-MAX_DECIDED}
 use mir.Val.{to_z, of_z}
@@ -26,9 +26,8 @@ decided_of m n version is = cc
 
 pub returns-in_err-meta-clause-says : goal.returns-in_err-meta-clause-says
 returns-in_err-meta-clause-says g c =
-    let fault = c.in_err-meta.field-0.0 in
-    let same : c.from_residual.result ≡ Err fault = search rules in
-    rw same (meta_failed fault c.in_err-meta.ensures.says)
+    let same : c.from_residual.result ≡ Err c.in_err-meta.field-0.0 = search rules in
+    rw same (meta_failed c.in_err-meta.ensures.says)
 
 pub returns-in_default-clause-says : goal.returns-in_default-clause-says
 returns-in_default-clause-says g c =
@@ -58,16 +57,16 @@ returns-then-meta-lt0-clause-says g c =
 
 pub returns-clause-says : goal.returns-clause-says
 returns-clause-says g c = record {
-  told = λ clean t shows sound.
-      let m = c.in-Some.meta in
-      let told = c.in_ok-meta.ensures.says.told clean (meta_entry VERSION t.decided ∷ []) (has_one _ t shows) in
-      let same : to_z w64 (of_z w64 m.decided) ≡ m.decided = search rules in
-      let is : to_z w64 (of_z w64 m.decided) ≡ pos t.decided = same
-      ∙ row_is m t.decided (sym c.in-Some.is ∙ told.0) in
-      (ap nat_abs is, search rules);
-  same_reference = search rules;
-  leaves = search rules;
-  survives = search rules;
+  says = record {
+    told = λ clean t shows sound.
+        let m = c.in-Some.meta in
+        let told = c.in_ok-meta.ensures.says.told clean (meta_entry VERSION t.decided ∷ []) (has_one _ t shows) in
+        let same : to_z w64 (of_z w64 m.decided) ≡ m.decided = search rules in
+        ap nat_abs (same ∙ row_is m t.decided (sym c.in-Some.is ∙ told.0));
+    same_reference = search rules;
+    leaves = search rules;
+    survives = search rules;
+  };
 }
 
 -- a number that isn't negative is the whole number of its size

@@ -9,15 +9,15 @@ use Rattle.store_rows.specs.{Columns.request_in, believed.Readings.read_request,
 use Rattle.store_rows.specs.believed.{Rules.StoredRows, Stored.FindsStored}
 use Rattle.bank_transactions.specs.believed.Stored.{HoldsKept, HoldsReference}
 use Rattle.bank_transactions.proofs.{Broken.request_broken, SoundRows.request_found}
-use Rattle.bank_transactions.proofs.ReadsInTurn.{after_found, find_failed, find_tells, reads_both, reads_told}
+use Rattle.bank_transactions.proofs.LookUps.{looked_at, reads_both, reads_but}
+use Rattle.bank_transactions.proofs.ReadsInTurn.{find_failed, find_tells}
 use Rattle.bank_transactions.proofs.look_ups.kept_request.Goals as goal
 
 pub returns-in_err-row-clause-says : goal.returns-in_err-row-clause-says
 returns-in_err-row-clause-says g c =
-    let fault = c.in_err-row.field-0.0 in
-    let same : c.from_residual.result ≡ Err fault = search rules in
-    rw same (find_failed (λ rows. find (has_two (pos c.args.teller) (pos c.args.number)) rows.requests) read_request fault
-    (λ t sound. sound) (request_broken _ c.args.teller c.args.number fault) c.in_err-row.ensures)
+    let same : c.from_residual.result ≡ Err c.in_err-row.field-0.0 = search rules in
+    rw same (find_failed (λ rows. find (has_two (pos c.args.teller) (pos c.args.number)) rows.requests) read_request
+    (request_broken _ c.args.teller c.args.number _) c.in_err-row.ensures)
 
 pub returns-in_default-clause-says : goal.returns-in_default-clause-says
 returns-in_default-clause-says g c =
@@ -29,7 +29,7 @@ returns-in_default-clause-says g c =
 pub returns-in_err-reference-clause-says : goal.returns-in_err-reference-clause-says
 returns-in_err-reference-clause-says g c =
     let same : c.from_residual-in_err-reference.result ≡ Err c.in_err-reference.field-0.0 = search rules in
-    rw same (after_found c.in_err-reference.field-0.0 c.in_ok-row.ensures c.in_err-reference.ensures.says)
+    rw same (reads_but (looked_at c.in_ok-row.ensures) c.in_err-reference.ensures.says)
 
 pub returns-clause-says : goal.returns-clause-says
 returns-clause-says g c =
@@ -37,11 +37,9 @@ returns-clause-says g c =
     let first = find_tells (λ rows. find (has_two (pos c.args.teller) (pos c.args.number)) rows.requests) read_request
     {w = λ t. request_in t c.args.teller c.args.number} _ c.in_ok-row.ensures
     (λ t sound finds. sym c.in-Some.is ∙ request_found t c.args.teller c.args.number sound _ finds) in
-    reads_told (reads_both first c.in_ok-reference.ensures.says)
-    (λ t told.
-    ap Some c.kept_with.ensures
-    ∙ ap (λ reference. Some (kept_with reference row.decision)) (ap (λ p. p.1) told)
-    ∙ ap (option_map (kept_of_row t.references)) (ap (λ p. p.0) told))
+    reads_both first c.in_ok-reference.ensures.says (λ t sound at. sound) (λ t sound at its.
+    ap Some c.kept_with.ensures ∙ ap (λ reference. Some (kept_with reference row.decision)) its
+    ∙ ap (option_map (kept_of_row t.references)) at)
 
 -- a row and the reference under its ordinal
 kept_held : (rows : StoredRows) (teller number : ℕ) (row : RequestRow) (reference : Option (List ℕ))
@@ -53,7 +51,7 @@ kept_held rows teller number row reference found held = (found.0, row, found.1, 
 pub returns-clause-stored : goal.returns-clause-stored
 returns-clause-stored g c clean rows has =
     let mid : HasCleanDisk (state g.S.Store c.find_request.new.tx.conn.now) =
-    omega (arith, c.in_ok-reference.ensures.says.survives.clean, clean) in
+    omega (arith, c.in_ok-reference.ensures.says.says.survives.clean, clean) in
     let found = rw c.in-Some.is at ((c.in_ok-row.ensures.told mid rows has).0) in
     let there = subst (λ (db : Database). HoldsBank db rows) (sym (c.in_ok-row.ensures.leaves mid).0.now_is) has in
     subst (λ (kept : KeptFields). HoldsKept rows c.args.teller c.args.number (Some kept))

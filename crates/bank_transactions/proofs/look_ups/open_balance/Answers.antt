@@ -1,12 +1,13 @@
 -- What the balance of an account tells.
-use Rattle.std.proofs.Common.{◌≡◌, ◌≤◌, ℕ, Ok, Err, rules, sym, ap, subst, arith}
+use Rattle.std.proofs.Common.{◌≡◌, ◌≤◌, ℕ, Ok, Err, rules, sym, subst, arith}
 use Rattle.sqlite.specs.{Effect.Database, Held.state, State.HasCleanDisk}
 use Rattle.store_rows.specs.believed.{Readings.read_branch, Rules.HoldsBank, Rules.branch_under, Stored.FindsStored}
 use Rattle.message_records.specs.declared.limits.TheConstants.{MAX_ACCOUNT}
 use Rattle.posting_rules.specs.declared.fault.Rule.TheVariants as broken
 use Rattle.store_rows.specs.{Holders.entry_under, believed.Readings.read_balance}
-use Rattle.bank_transactions.proofs.{FittingAccounts.fits, FittingAccounts.fitting, FailedBalances.balance_failed}
-use Rattle.bank_transactions.proofs.ReadsInTurn.{after_found, find_tells, reads_both, reads_broken, reads_told}
+use Rattle.bank_transactions.proofs.{FittingAccounts.fits, FittingAccounts.fitting}
+use Rattle.bank_transactions.proofs.LookUps.{looked_at, reads_both, reads_broken, reads_but, reads_pair}
+use Rattle.bank_transactions.proofs.ReadsInTurn.{balance_failed, find_tells}
 use Rattle.bank_transactions.proofs.SoundRows.{member_found}
 use Rattle.store_rows.specs.declared.holders.Member.TheVariants.{Account}
 use Rattle.bank_transactions.proofs.look_ups.open_balance.Goals as goal
@@ -14,19 +15,18 @@ use Rattle.bank_transactions.proofs.look_ups.open_balance.Goals as goal
 pub returns-in_err-balance-clause-says : goal.returns-in_err-balance-clause-says
 returns-in_err-balance-clause-says g c =
     let same : c.from_residual.result ≡ Err c.in_err-balance.field-0.0 = search rules in
-    rw same (balance_failed
-    (λ t sound. sound) (Account c.args.account) c.in_err-balance.field-0.0 c.in_err-balance.ensures)
+    rw same (balance_failed (Account c.args.account) c.in_err-balance.ensures)
 
 pub returns-then-is_some-is_open-clause-says : goal.returns-then-is_some-is_open-clause-says
 returns-then-is_some-is_open-clause-says g c =
     let n = c.args.account in
     let some : 1 ≤ n = search rules in
     let most : n ≤ MAX_ACCOUNT = search rules in
-    reads_broken broken.Account (reads_both (find_tells (entry_under (Account n)) read_balance c.in_ok-balance.balance
+    reads_broken broken.Account (reads_pair (find_tells (entry_under (Account n)) read_balance c.in_ok-balance.balance
     c.in_ok-balance.ensures (λ t sound finds. member_found (Account n) t sound c.in_ok-balance.balance finds))
     c.in_ok-branch.ensures.says) (λ clean rows has keeps.
     let mid : HasCleanDisk (state g.S.Store c.balance_of.new.tx.conn.now) =
-    omega (arith, c.in_ok-branch.ensures.says.survives.clean, clean) in
+    omega (arith, c.in_ok-branch.ensures.says.says.survives.clean, clean) in
     let there : HoldsBank (state g.S.Store c.balance_of.new.tx.conn.now).now rows =
     subst (λ (db : Database). HoldsBank db rows) (sym (c.in_ok-balance.ensures.leaves mid).0.now_is) has in
     let branch =
@@ -38,10 +38,10 @@ returns-then-is_some-is_open-clause-says g c =
 
 pub returns-clause-says : goal.returns-clause-says
 returns-clause-says g c =
-    reads_told (reads_both (find_tells (entry_under (Account c.args.account)) read_balance c.in_ok-balance.balance
+    reads_both (find_tells (entry_under (Account c.args.account)) read_balance c.in_ok-balance.balance
     c.in_ok-balance.ensures
     (λ t sound finds. member_found (Account c.args.account) t sound c.in_ok-balance.balance finds))
-    c.in_ok-branch.ensures.says) (λ t told. ap (λ p. p.0) told)
+    c.in_ok-branch.ensures.says (λ t sound is. sound) (λ t sound is its. is)
 
 pub returns-then-is_some-is_open-clause-stored : goal.returns-then-is_some-is_open-clause-stored
 returns-then-is_some-is_open-clause-stored g c = tt
@@ -49,12 +49,12 @@ returns-then-is_some-is_open-clause-stored g c = tt
 pub returns-in_err-branch-clause-says : goal.returns-in_err-branch-clause-says
 returns-in_err-branch-clause-says g c =
     let same : c.from_residual-in_err-branch.result ≡ Err c.in_err-branch.field-0.0 = search rules in
-    rw same (after_found c.in_err-branch.field-0.0 c.in_ok-balance.ensures c.in_err-branch.ensures.says)
+    rw same (reads_but (looked_at c.in_ok-balance.ensures) c.in_err-branch.ensures.says)
 
 pub returns-clause-stored : goal.returns-clause-stored
 returns-clause-stored g c clean =
     let mid : HasCleanDisk (state g.S.Store c.balance_of.new.tx.conn.now) =
-    omega (arith, c.in_ok-branch.ensures.says.survives.clean, clean) in
+    omega (arith, c.in_ok-branch.ensures.says.says.survives.clean, clean) in
     let looked = c.in_ok-balance.ensures.told mid in
     let still = (c.in_ok-balance.ensures.leaves mid).0.now_is in
     record {

@@ -9,10 +9,9 @@ use Rattle.bank_transactions.proofs.look_ups.reference_at.Goals as goal
 
 pub returns-in_err-row-clause-says : goal.returns-in_err-row-clause-says
 returns-in_err-row-clause-says g c =
-    let fault = c.in_err-row.field-0.0 in
-    let same : c.from_residual.result ≡ Err fault = search rules in
-    rw same (find_failed (λ rows. row_under rows.references c.args.ordinal) read_reference fault (λ t sound. sound)
-    (reference_broken _ c.args.ordinal fault) c.in_err-row.ensures)
+    let same : c.from_residual.result ≡ Err c.in_err-row.field-0.0 = search rules in
+    rw same (find_failed (λ rows. row_under rows.references c.args.ordinal) read_reference
+    (reference_broken _ c.args.ordinal _) c.in_err-row.ensures)
 
 pub returns-in_default-clause-says : goal.returns-in_default-clause-says
 returns-in_default-clause-says g c =

@@ -9,8 +9,8 @@ use Rattle.store_rows.specs.believed.Rules.{HoldsBank, OfRows, StoredRows, row_u
 use Rattle.bank_transactions.specs.{Filling.HoldsBranch, Stored.HoldsTellerRow, believed.Stored.IsStoredTeller}
 use Rattle.message_records.specs.declared.limits.TheConstants.{MAX_TELLER}
 use Rattle.store_rows.specs.declared.holders.Member.TheVariants as member
-use Rattle.bank_transactions.proofs.{FailedBalances.balance_failed, HeldRows.both_held, HeldRows.teller_held}
-use Rattle.bank_transactions.proofs.ReadsInTurn.{after_found, one_alone, teller_alone, teller_told}
+use Rattle.bank_transactions.proofs.{HeldRows.both_held, HeldRows.teller_held, LookUps.looked_at, LookUps.reads_but}
+use Rattle.bank_transactions.proofs.ReadsInTurn.{balance_failed, one_alone, teller_alone, teller_told}
 use Rattle.bank_transactions.proofs.look_ups.teller_balances.Goals.{in_default-via-in-Some+in_default}
 use Rattle.bank_transactions.proofs.look_ups.teller_balances.Goals.{in_default-via-in-None+in_default}
 use Rattle.bank_transactions.proofs.look_ups.teller_balances.Goals as goal
@@ -40,8 +40,7 @@ module _ (old mid : Database) (n number : ℕ) (is : number ≡ branch_of_teller
 pub returns-in_err-balance-clause-says : goal.returns-in_err-balance-clause-says
 returns-in_err-balance-clause-says g c =
     let same : c.from_residual.result ≡ Err c.in_err-balance.field-0.0 = search rules in
-    rw same (balance_failed
-    (λ t sound. sound) (member.Teller c.args.teller) c.in_err-balance.field-0.0 c.in_err-balance.ensures)
+    rw same (balance_failed (member.Teller c.args.teller) c.in_err-balance.ensures)
 
 pub returns-in-Some-Some-clause-says : goal.returns-in-Some-Some-clause-says
 returns-in-Some-Some-clause-says g c =
@@ -69,14 +68,14 @@ returns-in_default-clause-says g c =
 pub returns-in_err-branch-clause-says : goal.returns-in_err-branch-clause-says
 returns-in_err-branch-clause-says g c =
     let same : c.from_residual-in_err-branch.result ≡ Err c.in_err-branch.field-0.0 = search rules in
-    rw same (after_found c.in_err-branch.field-0.0 c.in_ok-balance.ensures c.in_err-branch.ensures.says)
+    rw same (reads_but (looked_at c.in_ok-balance.ensures) c.in_err-branch.ensures.says)
 
 -- ---- of the stored rows
 
 pub returns-in-Some-Some-clause-stored : goal.returns-in-Some-Some-clause-stored
 returns-in-Some-Some-clause-stored g c clean =
     let mid : HasCleanDisk (state g.S.Store c.balance_of.new.tx.conn.now) =
-    omega (arith, c.in_ok-branch.ensures.says.survives.clean, clean) in
+    omega (arith, c.in_ok-branch.ensures.says.says.survives.clean, clean) in
     let teller = rw c.in-Some-Some.is-0 at (c.in_ok-balance.ensures.told mid) in
     let branch = rw c.in-Some-Some.is-1 at (c.in_ok-branch.ensures.stored clean) in
     stored _ _ c.args.teller c.branch_of_teller.result c.branch_of_teller.ensures
@@ -86,7 +85,7 @@ returns-in-Some-Some-clause-stored g c clean =
 pub returns-in-None-None-clause-stored : goal.returns-in-None-None-clause-stored
 returns-in-None-None-clause-stored g c clean =
     let mid : HasCleanDisk (state g.S.Store c.balance_of.new.tx.conn.now) =
-    omega (arith, c.in_ok-branch.ensures.says.survives.clean, clean) in
+    omega (arith, c.in_ok-branch.ensures.says.says.survives.clean, clean) in
     let teller = rw c.in-None-None.is-0 at (c.in_ok-balance.ensures.told mid) in
     let branch = rw c.in-None-None.is-1 at (c.in_ok-branch.ensures.stored clean) in
     stored _ _ c.args.teller c.branch_of_teller.result c.branch_of_teller.ensures

@@ -2,15 +2,13 @@
 use Rattle.std.proofs.Common.{◌≡◌, ◌+◌, ◌<◌, ◌≤◌, ℕ, ℤ, None, Ok, Err, Result, false, rules, refl, ap, subst, inl}
 use Rattle.std.proofs.Common.{inr}
 use Rattle.std.specs.Prelude.{is_some, pos}
-use Rattle.sqlite.specs.{State.State, declared.transaction.Transaction.Transaction}
+use Rattle.sqlite.specs.declared.transaction.Transaction.{Transaction}
 use Rattle.sqlite_trees.specs.declared.store.Store.{Ghosts}
 use Rattle.posting_rules.specs.declared.rows.BranchRow.{BranchRow}
 use Rattle.posting_rules.specs.{believed.Changes.with_branch, Sound.AreSound, believed.Commands.opened_with}
 use Rattle.posting_rules.specs.believed.Numbering.{first_teller, first_account}
 use Rattle.posting_rules.specs.believed.Tables.{Tables, row_at, branch_key, branch_row_of}
-use Rattle.sql_meanings.specs.Calls.{Says, Inside}
-use Rattle.store_rows.specs.{Calls.OfTables, Failures.Puts, Sparing.SparesIfOk, TableAnswers.PutsOneRow}
-use Rattle.store_rows.specs.{believed.Inserts.branch_insert, declared.fault.TableFault.TableFault}
+use Rattle.store_rows.specs.{Calls.AddsRow, believed.Inserts.branch_insert, declared.fault.TableFault.TableFault}
 use Rattle.store_rows.specs.believed.{Failures.Additions, BankTables.branch, SeveralRows.given, View.branch_entry}
 use Rattle.bank_transactions.specs.believed.Additions.{AddsBranch, AddsRange}
 use Rattle.bank_transactions.specs.{Doing.Does, Doing.Leaves, NewRows.is_taken, NewRows.with_new_rows}
@@ -39,11 +37,8 @@ module _ (b count : ℕ) where
 
   module _ {S : Type 0} {g : Ghosts S} {x y : Transaction S} where
     put : {r : Result (Unit {0}) TableFault} (balance : ℤ) → balance ≡ pos 0
-        → Says g x y (Inside (OfTables (λ before now t.
-        PutsOneRow before now branch (is_some (row_at branch_key t.branches b))
-        (with_branch (row balance) t) r)))
-        (Inside (λ before now. Puts branch_insert (given (branch_entry (row balance))) before now r
-        × SparesIfOk before now r))
+        → AddsRow g x y branch_insert (given (branch_entry (row balance))) branch
+        (λ t. is_some (row_at branch_key t.branches b)) (with_branch (row balance)) r
         → Does g Its x y IsNew branched (λ _. tt) r
     put {r} balance zero says = does_for
         (does_add {So = IsNew} {Adds = Its} g x y branch_insert (given (branch_entry (row balance))) branch
@@ -113,13 +108,11 @@ returns-in_err-add_rows-clause-leaves g c =
     rw same leaves_err
 
 module _ (b count : ℕ) {S : Type 0} {g : Ghosts S} {x y : Transaction S} where
-  left : {Left : State → State → Type 0} {r : Result (Unit {0}) TableFault} (balance : ℤ) → balance ≡ pos 0
-      → Says g x y (Inside (OfTables (λ before now t.
-      PutsOneRow before now branch (is_some (row_at branch_key t.branches b))
-      (with_branch (row b count balance) t) r)))
-      (Inside Left)
+  left : {r : Result (Unit {0}) TableFault} (balance : ℤ) → balance ≡ pos 0
+      → AddsRow g x y branch_insert (given (branch_entry (row b count balance))) branch
+      (λ t. is_some (row_at branch_key t.branches b)) (with_branch (row b count balance)) r
       → Leaves g x y (branched b count) r
-  left {Left} {r} balance zero says = leaves_for
+  left {r} balance zero says = leaves_for
       (leaves_add g x y branch (λ t. is_some (row_at branch_key t.branches b))
       (λ t. with_branch (row b count balance) t) r says)
       (λ t. ap (λ (z : ℤ). with_branch (row b count z) t) zero)

@@ -1,5 +1,5 @@
 -- A row more, with nothing on it.
-use Rattle.std.proofs.Common.{◌≡◌, rules, pos, refl}
+use Rattle.std.proofs.Common.{◌≡◌, rules, refl}
 use Rattle.store_rows.specs.believed.{BankTables.account, BankTables.teller, SeveralRows.given}
 use Rattle.bank_transactions.specs.believed.Additions.{entry_of, insert_of}
 use Rattle.bank_transactions.specs.NewRows.{is_taken, with_new}
@@ -11,34 +11,30 @@ pub returns-in-Tellers-clause-does : goal.returns-in-Tellers-clause-does
 returns-in-Tellers-clause-does g c =
     let n = c.args.number in
     let same : c.unwrap-teller.result ≡ n = search rules in
-    let nothing : c.zero-balance.result ≡ pos 0 = c.zero-balance.ensures in
     rw c.in-Tellers.is
     (does_add g.S.Store _ _ (insert_of Tellers) (given (entry_of Tellers n)) teller (is_taken Tellers n)
-    (with_new Tellers n) _ (rw (same, nothing) at c.add_member.ensures) (refl, refl) (λ t free. free))
+    (with_new Tellers n) _ (rw (same, c.zero-balance.ensures) at c.add_member.ensures) (refl, refl) (λ t free. free))
 
 pub returns-in-Accounts-clause-does : goal.returns-in-Accounts-clause-does
 returns-in-Accounts-clause-does g c =
     let n = c.args.number in
     let same : c.unwrap-account.result ≡ n = search rules in
-    let nothing : c.zero-balance.result ≡ pos 0 = c.zero-balance.ensures in
     rw c.in-Accounts.is
     (does_add g.S.Store _ _ (insert_of Accounts) (given (entry_of Accounts n)) account (is_taken Accounts n)
-    (with_new Accounts n) _ (rw (same, nothing) at c.add_member-in-Accounts.ensures) (refl, refl) (λ t free. free))
+    (with_new Accounts n) _ (rw (same, c.zero-balance.ensures) at c.add_member-in-Accounts.ensures) (refl, refl) (λ t free. free))
 
 pub returns-in-Tellers-clause-leaves : goal.returns-in-Tellers-clause-leaves
 returns-in-Tellers-clause-leaves g c =
     let n = c.args.number in
     let same : c.unwrap-teller.result ≡ n = search rules in
-    let nothing : c.zero-balance.result ≡ pos 0 = c.zero-balance.ensures in
     rw c.in-Tellers.is
     (leaves_add g.S.Store _ _ teller (is_taken Tellers n) (with_new Tellers n) _
-    (rw (same, nothing) at c.add_member.ensures))
+    (rw (same, c.zero-balance.ensures) at c.add_member.ensures))
 
 pub returns-in-Accounts-clause-leaves : goal.returns-in-Accounts-clause-leaves
 returns-in-Accounts-clause-leaves g c =
     let n = c.args.number in
     let same : c.unwrap-account.result ≡ n = search rules in
-    let nothing : c.zero-balance.result ≡ pos 0 = c.zero-balance.ensures in
     rw c.in-Accounts.is
     (leaves_add g.S.Store _ _ account (is_taken Accounts n) (with_new Accounts n) _
-    (rw (same, nothing) at c.add_member-in-Accounts.ensures))
+    (rw (same, c.zero-balance.ensures) at c.add_member-in-Accounts.ensures))

@@ -1,13 +1,10 @@
 -- One row more.
-use Rattle.std.proofs.Common.{◌≡◌, ◌+◌, ◌<◌, ℕ, suc, Err, Ok, false, rules, sym, subst, arith}
+use Rattle.std.proofs.Common.{◌≡◌, ◌+◌, ◌<◌, ℕ, add-one, Err, Ok, false, rules, sym, subst, arith}
 use Rattle.bank_transactions.specs.{believed.Additions.AddsRange, Doing.Does, Doing.Leaves}
 use Rattle.bank_transactions.specs.NewRows.{is_taken, with_new_rows}
 use Rattle.bank_transactions.proofs.Chained.{does_adds, does_none, does_then, does_err}
 use Rattle.bank_transactions.proofs.Left.{leaves_err, leaves_none, leaves_then}
 use Rattle.bank_transactions.proofs.new_branch.add_rows.Goals as goal
-
-one_more : (n : ℕ) → n + 1 ≡ suc n
-one_more n = omega arith
 
 pub loop-place-init : goal.loop-place-init
 loop-place-init g c = record { does = does_none (search rules); leaves = leaves_none }
@@ -20,7 +17,7 @@ loop-place-preserved g c =
     let count = c.args.count in
     let so_far = c.loop-place.invariant in
     let one = c.in_ok-add_new.ensures in
-    let next = sym (one_more c.loop-place.place) in
+    let next = sym (add-one c.loop-place.place) in
     record {
       does =
           subst (λ n. Does {X = Unit {0}} g.S.Store (AddsRange kind first count) c.args.tx.now c.add_new.new.tx

@@ -2,13 +2,13 @@
 use Rattle.std.proofs.Common.{◌≡◌, ℕ, Option, None, Some, Err, rules, refl, sym, ◌∙◌, arith, subst}
 use Rattle.posting_rules.specs.{believed.Changes.tables_opened, Changes.opened_where, Changes.tables_with_branch}
 use Rattle.posting_rules.specs.{believed.Commands.Terms, believed.Commands.opened_with, believed.Counter.opening_for}
-use Rattle.posting_rules.specs.{believed.LookUps.floor_in, LookUps.terms_in, LookUps.terms_of_branch}
+use Rattle.posting_rules.specs.{believed.LookUps.floor_in, LookUps.terms_of_branch}
 use Rattle.posting_rules.specs.{declared.counter.Opening.TheVariants.Opened, declared.rows.BranchRow.BranchRow}
 use Rattle.posting_rules.specs.believed.Tables.{Tables, row_at, branch_key}
 use Rattle.std.specs.Option.{option_map}
-use Rattle.bank_transactions.proofs.Chained.{acts_read, acts_wrote, does_both, does_but, does_err, does_for}
+use Rattle.bank_transactions.proofs.Chained.{acts_read, acts_wrote, does_both, does_but, does_err}
 use Rattle.bank_transactions.proofs.Chained.{does_tell, still_in}
-use Rattle.bank_transactions.proofs.Statements.{does_read}
+use Rattle.bank_transactions.proofs.LookUps.{does_read}
 use Rattle.sqlite.specs.{Effect.Database, Held.state, State.HasCleanDisk}
 use Rattle.store_rows.specs.believed.View.{Shows}
 use Rattle.bank_transactions.proofs.new_branch.open_inside.Goals as goal
@@ -33,20 +33,15 @@ opened_now t b terms is = rw is refl
 pub returns-in_err-opening-clause-acts : goal.returns-in_err-opening-clause-acts
 returns-in_err-opening-clause-acts g c =
     let same : c.from_residual.result ≡ Err c.in_err-opening.field-0.0 = search rules in
-    rw same (acts_read (does_err
-    (does_read g.S.Store c.args.tx.now c.opening_of.new.tx
-    (λ t. opening_for (terms_in t c.args.branch) (opened_with c.args.count c.args.floor)) _
-    c.in_err-opening.ensures.says)
-    (λ t sound. sound.undamaged)))
+    rw same (acts_read (does_err (does_read c.in_err-opening.ensures.says) (λ t sound. sound)))
 
 pub returns-in_default-clause-acts : goal.returns-in_default-clause-acts
 returns-in_default-clause-acts g c =
     let b = c.args.branch in
     let terms = opened_with c.args.count c.args.floor in
-    acts_read (does_tell
-    (does_read g.S.Store c.args.tx.now c.opening_of.new.tx _ _ c.in_ok-opening.ensures.says)
+    acts_read (does_tell (does_read c.in_ok-opening.ensures.says)
     (λ t sound. (
-      sound.undamaged,
+      sound,
       λ found. (
         stays_open t b terms (row_at branch_key t.branches b)
             (λ opened. c.in_default.not-Opened (found ∙ sym opened)),
@@ -61,8 +56,7 @@ returns-in_err-add_whole_branch-in-Opened-clause-acts g c =
     let same : c.from_residual-in_err-add_whole_branch-in-Opened.result
     ≡ Err c.in_err-add_whole_branch-in-Opened.field-0.0 = search rules in
     rw same (acts_wrote (does_but
-    (does_for (does_read g.S.Store c.args.tx.now c.opening_of.new.tx _ _ c.in_ok-opening.ensures.says)
-    (λ t sound. (sound.undamaged, refl, refl)))
+    (does_read c.in_ok-opening.ensures.says)
     c.in_err-add_whole_branch-in-Opened.ensures.does
     (λ t sound found. (
       sound,
@@ -74,8 +68,7 @@ returns-in_ok-add_whole_branch-in-Opened-clause-acts g c =
     let b = c.args.branch in
     let terms = opened_with c.args.count c.args.floor in
     acts_wrote (does_both
-    (does_for (does_read g.S.Store c.args.tx.now c.opening_of.new.tx _ _ c.in_ok-opening.ensures.says)
-    (λ t sound. (sound.undamaged, refl, refl)))
+    (does_read c.in_ok-opening.ensures.says)
     c.in_ok-add_whole_branch-in-Opened.ensures.does
     (λ t sound found.
     let at = not_there t b terms (row_at branch_key t.branches b) (sym c.in-Opened.is ∙ found) in
@@ -86,7 +79,7 @@ returns-in_ok-add_whole_branch-in-Opened-clause-acts g c =
 pub returns-in_default-clause-stored : goal.returns-in_default-clause-stored
 returns-in_default-clause-stored g c clean live = record {
   answers = c.in_ok-opening.ensures.stored clean;
-  stays = λ other. (c.in_ok-opening.ensures.says.leaves clean).0.now;
+  stays = λ other. (c.in_ok-opening.ensures.says.says.leaves clean).0.now;
   opens = λ is t shows. absurd (c.in_default.not-Opened is);
 }
 
@@ -95,7 +88,7 @@ returns-in_ok-add_whole_branch-in-Opened-clause-stored g c clean live =
     let added = c.in_ok-add_whole_branch-in-Opened.ensures in
     let mid : HasCleanDisk (state g.S.Store c.opening_of.new.tx.conn.now) =
     omega (arith, added.does.says.survives.clean, clean) in
-    let looked = (c.in_ok-opening.ensures.says.leaves mid).0 in
+    let looked = (c.in_ok-opening.ensures.says.says.leaves mid).0 in
     record {
       answers = rw c.in-Opened.is at (c.in_ok-opening.ensures.stored mid);
       stays = λ other. absurd (other refl);

@@ -4,7 +4,7 @@ use Rattle.posting_rules.specs.believed.Commands.{Terms, opened_with}
 use Rattle.posting_rules.specs.{believed.Counter.opening_for, believed.LookUps.floor_in, LookUps.terms_in}
 use Rattle.posting_rules.specs.{declared.counter.Opening.TheVariants.Opened, declared.rows.BranchRow.BranchRow}
 use Rattle.posting_rules.specs.believed.Tables.{Tables, row_at, branch_key}
-use Rattle.bank_transactions.proofs.ReadsInTurn.{reads_both, reads_but, reads_told}
+use Rattle.bank_transactions.proofs.LookUps.{reads_both, reads_but}
 use Rattle.sqlite.specs.{Effect.Database, Held.state, State.HasCleanDisk}
 use Rattle.store_rows.specs.believed.{Readings.read_branch, Rules.StoredRows, Rules.branch_under, Stored.FindsStored}
 use Rattle.bank_transactions.specs.believed.Stored.{HoldsFloor, HoldsTerms, IsStoredFloor}
@@ -21,22 +21,22 @@ open_so t b terms row is = rw is refl
 pub returns-in_err-row-clause-says : goal.returns-in_err-row-clause-says
 returns-in_err-row-clause-says g c =
     let same : c.from_residual.result ≡ Err c.in_err-row.field-0.0 = search rules in
-    rw same c.in_err-row.ensures.says
+    rw same (record { says = c.in_err-row.ensures.says.says })
 
 pub returns-in_err-first-clause-says : goal.returns-in_err-first-clause-says
 returns-in_err-first-clause-says g c =
     let same : c.from_residual-in_err-first.result ≡ Err c.in_err-first.field-0.0 = search rules in
-    rw same (reads_but c.in_err-first.field-0.0 c.in_ok-row.ensures.says c.in_err-first.ensures.says)
+    rw same (reads_but c.in_ok-row.ensures.says c.in_err-first.ensures.says)
 
 pub returns-clause-says : goal.returns-clause-says
 returns-clause-says g c =
     let b = c.args.branch in
     let terms = opened_with c.args.count c.args.floor.now in
     rw c.opened_again.ensures
-    (reads_told (reads_both c.in_ok-row.ensures.says c.in_ok-first.ensures.says) (λ t told.
+    (reads_both c.in_ok-row.ensures.says c.in_ok-first.ensures.says (λ t sound is. sound) (λ t sound is first.
     let at : row_at branch_key t.branches b ≡ Some c.in-Some.row =
-    ap (row_at branch_key t.branches) (sym c.get.ensures.value) ∙ sym (ap (λ p. p.0) told) ∙ c.in-Some.is in
-    let its : c.in_ok-first.first ≡ floor_in t b = ap (λ p. p.1) told ∙ ap (floor_in t) c.get-2.ensures.value in
+    ap (row_at branch_key t.branches) (sym c.get.ensures.value) ∙ sym is ∙ c.in-Some.is in
+    let its : c.in_ok-first.first ≡ floor_in t b = first ∙ ap (floor_in t) c.get-2.ensures.value in
     rw its (open_so t b terms c.in-Some.row at)))
 
 -- ---- of the stored rows
@@ -51,8 +51,8 @@ terms_held rows b n m row floor one two finds holds =
 pub returns-clause-stored : goal.returns-clause-stored
 returns-clause-stored g c clean =
     let mid : HasCleanDisk (state g.S.Store c.branch_at.new.tx.conn.now) =
-    omega (arith, c.in_ok-first.ensures.says.survives.clean, clean) in
-    let still = (c.in_ok-row.ensures.says.leaves mid).0.now in
+    omega (arith, c.in_ok-first.ensures.says.says.survives.clean, clean) in
+    let still = (c.in_ok-row.ensures.says.says.leaves mid).0.now in
     let found = rw c.in-Some.is at (c.in_ok-row.ensures.stored mid) in
     let floor = subst (λ (d : Database). IsStoredFloor d c.get-2.result c.in_ok-first.first) still
     (c.in_ok-first.ensures.stored clean) in

@@ -1,7 +1,6 @@
 -- The transaction has one part, which reads.
 use Rattle.std.proofs.Common.{rules}
-use Rattle.bank_transactions.specs.NextBranch.{line_above}
-use Rattle.bank_transactions.proofs.{Transacted.consults, Transacted.of_given, Undone.undoes_reads}
+use Rattle.bank_transactions.proofs.{LookUps.does_read, Transacted.consults, Transacted.of_given, Transacted.undoes}
 use Rattle.bank_transactions.proofs.next_branch.read_next_branch.Goals as goal
 
 pub returns-clause-says : goal.returns-clause-says
@@ -17,5 +16,6 @@ returns-clause-within g c =
 
 pub returns-clause-undone : goal.returns-clause-undone
 returns-clause-undone g c =
-    undoes_reads g.S.Store (λ tables. line_above tables c.args.after) c.args.conn.now c.begin-tx.result c.branch_after-next.new.tx c.finish.new.tx.0
-    c.conn-1.given.0 c.begin-tx.ensures.begun c.begin-tx.ensures.settled c.branch_after-next.ensures.says c.finish.ensures (search rules)
+    undoes g.S.Store c.args.conn.now c.begin-tx.result c.branch_after-next.new.tx c.finish.new.tx.0
+    c.conn-1.given.0 c.begin-tx.ensures.begun c.begin-tx.ensures.settled (does_read c.branch_after-next.ensures.says)
+    c.finish.ensures (search rules)

@@ -13,7 +13,7 @@ use Rattle.bank_transactions.proofs.posting.post_inside.Goals as goal
 pub returns-in_err-fill-clause-acts : goal.returns-in_err-fill-clause-acts
 returns-in_err-fill-clause-acts g c =
     let same : c.from_residual.result ≡ Err c.in_err-fill.field-0.0 = search rules in
-    rw same (acts_read (does_err (does_look c.in_err-fill.ensures.says)
+    rw same (acts_read (does_err (does_look c.in_err-fill.ensures.says (λ t so. so.0))
     (ready_one c.args.request.now (view c.for_request-overlay.result) c.for_request-overlay.ensures.covers)))
 
 pub returns-in_err-write-clause-acts : goal.returns-in_err-write-clause-acts
@@ -24,7 +24,7 @@ returns-in_err-write-clause-acts g c =
     c.for_request-overlay.ensures.covers c.judge-reply.ensures.reply c.judge-reply.ensures.overlay in
     let fill = c.in_ok-fill.ensures in
     let made = c.for_request-overlay.ensures.covers in
-    rw same (answered_not so (does_look fill.says) (does_adds (λ clean.
+    rw same (answered_not so (does_look fill.says (λ t so. so.0)) (does_adds (λ clean.
     let before : HasCleanDisk (state g.S.Store c.fill.new.tx.conn.now) = omega
     (arith, c.in_err-write.ensures.says.survives.clean, clean) in
     adds_of_one c.args.request.now c.args.moment (view c.for_request-overlay.result) (view c.fill.new.overlay)
@@ -38,7 +38,7 @@ returns-clause-acts g c =
     let so = judging_one c.args.request.now c.args.moment (view c.for_request-overlay.result)
     (view c.fill.new.overlay) (view c.judge-reply.new.self) c.judge-reply.result
     c.for_request-overlay.ensures.covers c.judge-reply.ensures.reply c.judge-reply.ensures.overlay in
-    let first = does_look c.in_ok-fill.ensures.says in
+    let first = does_look c.in_ok-fill.ensures.says (λ t so. so.0) in
     elim c.if-overlay-before.branch [
       | then-overlay-before+in_ok-write w ↦
           rw w.tx-is (answered_written so first (does_adds (λ clean.

@@ -1,7 +1,7 @@
 -- What the balance of an account tells.
 use Rattle.std.proofs.Common.{◌≡◌, Err, rules, arith}
 use Rattle.store_rows.specs.declared.holders.Member.TheVariants.{Account}
-use Rattle.bank_transactions.proofs.{FailedBalances.balance_failed, LookUps.looks_again, LookUps.reads_where}
+use Rattle.bank_transactions.proofs.{LookUps.looked_at, LookUps.reads_after, ReadsInTurn.balance_failed}
 use Rattle.bank_transactions.proofs.{ReadsInTurn.find_tells, SoundRows.member_found}
 use Rattle.store_rows.specs.{Holders.entry_under, believed.Readings.read_balance}
 use Rattle.sqlite.specs.{Held.state, State.HasCleanDisk}
@@ -12,21 +12,18 @@ use Rattle.bank_transactions.proofs.slots.account_within.Goals as goal
 
 pub returns-in_err-balance-clause-says : goal.returns-in_err-balance-clause-says
 returns-in_err-balance-clause-says g c =
-    let fault = c.in_err-balance.field-0.0 in
-    let same : c.from_residual.result ≡ Err fault = search rules in
-    rw same (record {
-      says = balance_failed (λ t so. so.0) (Account c.args.account) fault c.in_err-balance.ensures;
-    })
+    let same : c.from_residual.result ≡ Err c.in_err-balance.field-0.0 = search rules in
+    rw same (balance_failed (Account c.args.account) c.in_err-balance.ensures)
 
 pub returns-clause-says : goal.returns-clause-says
 returns-clause-says g c =
-    reads_where (find_tells (entry_under (Account c.args.account)) read_balance _ c.in_ok-balance.ensures
-    (λ t sound finds. member_found (Account c.args.account) t sound c.in_ok-balance.balance finds)) (λ t so. so.0)
+    find_tells (entry_under (Account c.args.account)) read_balance _ c.in_ok-balance.ensures
+    (λ t so finds. member_found (Account c.args.account) t so.0 c.in_ok-balance.balance finds)
 
 -- both rows are looked up again
 pub returns-then-is_some-is_open-clause-says : goal.returns-then-is_some-is_open-clause-says
 returns-then-is_some-is_open-clause-says g c =
-    looks_again c.in_ok-balance.ensures c.account_beside.ensures.says (λ t so. so.0)
+    reads_after (looked_at c.in_ok-balance.ensures) c.account_beside.ensures.says (λ t so. so.0)
 
 pub returns-then-is_some-is_open-clause-stored : goal.returns-then-is_some-is_open-clause-stored
 returns-then-is_some-is_open-clause-stored g c =
@@ -36,7 +33,7 @@ returns-then-is_some-is_open-clause-stored g c =
     × HoldsFloor rows (branch_of_account c.args.account) c.args.floor) _ _ c.account_beside.result
     (λ clean.
     let mid : HasCleanDisk (state g.S.Store c.balance_of.new.tx.conn.now) =
-    omega (arith, c.account_beside.ensures.says.survives.clean, clean) in
+    omega (arith, c.account_beside.ensures.says.says.survives.clean, clean) in
     (c.in_ok-balance.ensures.leaves mid).0.now_is)
     c.account_beside.ensures.stored
 

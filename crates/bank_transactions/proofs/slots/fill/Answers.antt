@@ -6,20 +6,20 @@ use Rattle.smallvec.specs.SmallVec.{SmallVec, with_items}
 use Rattle.posting_batch.specs.{declared.slots.RequestSlot.RequestSlot, View.view}
 use Rattle.store_rows.specs.believed.Rules.{HoldsBank}
 use Rattle.bank_transactions.specs.Filling.{RequestHeld, emptied_request}
-use Rattle.bank_transactions.proofs.HeldSlots.{emptied_kept, put_back}
-use Rattle.bank_transactions.proofs.LookUps.{reads_but, reads_err, reads_so}
-use Rattle.bank_transactions.proofs.FilledBatch.{kept_after, nothing_asked, plain, with_kept}
+use Rattle.bank_transactions.proofs.HeldSlots.{put_back}
+use Rattle.bank_transactions.proofs.LookUps.{reads_but, reads_so}
+use Rattle.bank_transactions.proofs.FilledBatch.{emptied_kept, kept_after, nothing_asked, with_kept}
 use Rattle.bank_transactions.proofs.slots.fill.Goals as goal
 
 pub returns-in_err-fill_known-clause-says : goal.returns-in_err-fill_known-clause-says
 returns-in_err-fill_known-clause-says g c =
     let same : c.from_residual.result ≡ Err c.in_err-fill_known.field-0.0 = search rules in
-    rw same (reads_err c.in_err-fill_known.ensures.says)
+    rw same (record { says = c.in_err-fill_known.ensures.says.says })
 
 pub returns-in_err-fill_all-clause-says : goal.returns-in_err-fill_all-clause-says
 returns-in_err-fill_all-clause-says g c =
     let same : c.from_residual-in_err-fill_all.result ≡ Err c.in_err-fill_all.field-0.0 = search rules in
-    rw same (reads_but c.in_ok-fill_known.ensures.says c.in_err-fill_all.ensures.says (plain _ _))
+    rw same (reads_but c.in_ok-fill_known.ensures.says c.in_err-fill_all.ensures.says)
 
 pub returns-clause-says : goal.returns-clause-says
 returns-clause-says g c =

@@ -1,14 +1,11 @@
 -- One slot more is filled.
-use Rattle.std.proofs.Common.{◌<◌, Err, ◌≡◌, ◌+◌, ℕ, suc, length, rules, arith, refl, sym, subst, ◌∙◌}
+use Rattle.std.proofs.Common.{◌<◌, Err, ◌≡◌, ◌+◌, add-one, length, rules, arith, refl, sym, subst, ◌∙◌}
 use Rattle.sqlite.specs.{Effect.Database, Held.state, State.HasCleanDisk}
 use Rattle.store_rows.specs.believed.Rules.{HoldsBank}
 use Rattle.bank_transactions.proofs.LookUps.{reads_none, reads_but, reads_so}
 use Rattle.bank_transactions.proofs.Loops.{fill_more, all_filled, next_is}
 use Rattle.bank_transactions.proofs.Partly.{all_bare, all_held, partly_next, partly_none}
 use Rattle.bank_transactions.proofs.slots.fill_all.Goals as goal
-
-one_more : (n : ℕ) → n + 1 ≡ suc n
-one_more n = omega arith
 
 pub loop-slot-init : goal.loop-slot-init
 loop-slot-init g c = record {
@@ -31,27 +28,20 @@ loop-slot-preserved g c =
     record {
       says = fill_more fill xs ys i x y lt c.slot-item.is so_far.says one.says
           (λ t so first. (so.0, next_is fill (g.T.Slot.Knows c.args.branches.now t) xs ys i x t lt first so.1));
-      same = partly_next _ xs ys i (i + 1) x y (one_more i) lt one.same so_far.same;
+      same = partly_next _ xs ys i (i + 1) x y (add-one i) lt one.same so_far.same;
       stored =
           λ clean rows has.
           let mid : HasCleanDisk (state g.S.Store c.loop-slot.tx.conn.now) =
           omega (arith, one.says.says.survives.clean, clean) in
           let there = subst (λ (db : Database). HoldsBank db rows) (sym (so_far.says.says.leaves mid).0.now) has in
-          partly_next _ xs ys i (i + 1) x y (one_more i) lt (one.stored clean rows there)
+          partly_next _ xs ys i (i + 1) x y (add-one i) lt (one.stored clean rows there)
           (so_far.stored mid rows has);
     }
 
 pub returns-in_err-slot-clause-says : goal.returns-in_err-slot-clause-says
 returns-in_err-slot-clause-says g c =
-    let fill = g.T.Slot.filled_from in
     let same : c.from_residual.result ≡ Err c.in_err-slot.field-0.0 = search rules in
-    let xs = c.args.slots.now in
-    let ys = c.loop-slot.slots in
-    let i = c.loop-slot.slot-index in
-    let x = c.slot-item.result in
-    let lt : i < length xs = omega arith in
-    rw same (reads_but c.loop-slot.invariant.says c.in_err-slot.ensures.says
-    (λ t so first. (so.0, next_is fill (g.T.Slot.Knows c.args.branches.now t) xs ys i x t lt first so.1)))
+    rw same (reads_but c.loop-slot.invariant.says c.in_err-slot.ensures.says)
 
 pub returns-clause-says : goal.returns-clause-says
 returns-clause-says g c =

@@ -4,7 +4,7 @@ use Rattle.std.specs.List.{AllByRecursion}
 use Rattle.sqlite.specs.{Held.state, State.HasCleanDisk}
 use Rattle.posting_rules.specs.Damage.{IsUndamaged}
 use Rattle.store_rows.specs.believed.Rules.{OfRows}
-use Rattle.bank_transactions.specs.Filling.{ReadsWhere}
+use Rattle.bank_transactions.specs.Doing.{ReadsWhere}
 use Rattle.bank_transactions.proofs.{Loops.filled_so_far, Partly.Partly}
 use Rattle.bank_transactions.proofs.slots.fill_all.Given as goal
 

@@ -8,37 +8,34 @@ use Rattle.posting_batch.specs.{declared.slots.FloorSlot.FloorSlot, declared.slo
 use Rattle.store_rows.specs.believed.Rules.{HoldsBank}
 use Rattle.bank_transactions.specs.Filling.{AccountHeld, BranchHeld, FloorHeld, TellerHeld, emptied_account}
 use Rattle.bank_transactions.specs.Filling.{emptied_branch, emptied_floor, emptied_teller}
-use Rattle.bank_transactions.proofs.HeldSlots.{emptied_known, know_branches, know_floors, put_back}
+use Rattle.bank_transactions.proofs.HeldSlots.{know_branches, know_floors, put_back}
 use Rattle.smallvec.specs.SmallVec.{with_items}
 use Rattle.sqlite_trees.proofs.ListLemmas.{all_both}
 use Rattle.bank_transactions.proofs.LookUps.{reads_but, reads_so}
-use Rattle.bank_transactions.proofs.FilledBatch.{accounts_in, accounts_ready, branches_in, count_in, floors_in, plain}
-use Rattle.bank_transactions.proofs.FilledBatch.{nothing_asked, same_known, tellers_in, tellers_ready}
+use Rattle.bank_transactions.proofs.FilledBatch.{accounts_in, branches_in, count_in, floors_in, nothing_asked}
+use Rattle.bank_transactions.proofs.FilledBatch.{emptied_known, same_known, tellers_in}
 use Rattle.bank_transactions.proofs.slots.fill_known.Goals as goal
 
 pub returns-in_err-fill_all-clause-says : goal.returns-in_err-fill_all-clause-says
 returns-in_err-fill_all-clause-says g c =
     let same : c.from_residual-in_err-fill_all.result ≡ Err c.in_err-fill_all.field-0.0 = search rules in
     let s1 = count_in {g = g.S.Store} (view c.args.overlay.now) _ c.in_ok-overlay.ensures.says in
-    rw same (reads_but s1 c.in_err-fill_all.ensures.says (plain _ _))
+    rw same (reads_but s1 c.in_err-fill_all.ensures.says)
 
 pub returns-in_err-fill_all-2-clause-says : goal.returns-in_err-fill_all-2-clause-says
 returns-in_err-fill_all-2-clause-says g c =
     let same : c.from_residual-in_err-fill_all-2.result ≡ Err c.in_err-fill_all-2.field-0.0 = search rules in
     let s1 = count_in {g = g.S.Store} (view c.args.overlay.now) _ c.in_ok-overlay.ensures.says in
     let s2 = branches_in s1 c.deref_mut.ensures.value c.in_ok-fill_all.ensures.says in
-    rw same (reads_but s2 c.in_err-fill_all-2.ensures.says (plain _ _))
+    rw same (reads_but s2 c.in_err-fill_all-2.ensures.says)
 
 pub returns-in_err-fill_all-3-clause-says : goal.returns-in_err-fill_all-3-clause-says
 returns-in_err-fill_all-3-clause-says g c =
     let same : c.from_residual-in_err-fill_all-3.result ≡ Err c.in_err-fill_all-3.field-0.0 = search rules in
-    let bs = put_back c.args.overlay.now.branches _ c.fill_all.new.slots c.deref_mut.ensures.value
-    c.fill_all.auto.slots in
     let s1 = count_in {g = g.S.Store} (view c.args.overlay.now) _ c.in_ok-overlay.ensures.says in
     let s2 = branches_in s1 c.deref_mut.ensures.value c.in_ok-fill_all.ensures.says in
     let s3 = floors_in s2 c.deref_mut-2.ensures.value c.in_ok-fill_all-2.ensures.says in
-    rw same (reads_but s3 c.in_err-fill_all-3.ensures.says
-    (tellers_ready (c.deref.ensures ∙ bs) c.deref_mut-3.ensures.value))
+    rw same (reads_but s3 c.in_err-fill_all-3.ensures.says)
 
 pub returns-in_err-fill_all-4-clause-says : goal.returns-in_err-fill_all-4-clause-says
 returns-in_err-fill_all-4-clause-says g c =
@@ -50,8 +47,7 @@ returns-in_err-fill_all-4-clause-says g c =
     let s3 = floors_in s2 c.deref_mut-2.ensures.value c.in_ok-fill_all-2.ensures.says in
     let s4 = tellers_in s3
     (c.deref.ensures ∙ bs) c.deref_mut-3.ensures.value c.in_ok-fill_all-3.ensures.says in
-    rw same (reads_but s4 c.in_err-fill_all-4.ensures.says
-    (accounts_ready (c.deref-2.ensures ∙ bs) c.deref_mut-4.ensures.value))
+    rw same (reads_but s4 c.in_err-fill_all-4.ensures.says)
 
 pub returns-clause-says : goal.returns-clause-says
 returns-clause-says g c =
@@ -122,7 +118,7 @@ returns-clause-stored g c clean homes rows has =
     omega (arith, two.says.says.survives.clean, clean2) in
     let clean0 : HasCleanDisk (state g.S.Store c.decided.new.tx.conn.now) =
     omega (arith, one.says.says.survives.clean, clean1) in
-    let has0 = subst (λ (db : Database). HoldsBank db rows) (sym (zero.says.leaves clean0).0.now) has in
+    let has0 = subst (λ (db : Database). HoldsBank db rows) (sym (zero.says.says.leaves clean0).0.now) has in
     let has1 = subst (λ (db : Database). HoldsBank db rows) (sym (one.says.says.leaves clean1).0.now) has0 in
     let has2 = subst (λ (db : Database). HoldsBank db rows) (sym (two.says.says.leaves clean2).0.now) has1 in
     let has3 = subst (λ (db : Database). HoldsBank db rows) (sym (three.says.says.leaves clean3).0.now) has2 in

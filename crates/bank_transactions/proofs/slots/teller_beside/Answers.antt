@@ -1,11 +1,11 @@
 -- Where there are no two balances there is none.
-use Rattle.std.proofs.Common.{◌≡◌, ℕ, Option, Some, None, rules, refl, sym, ◌∙◌}
+use Rattle.std.proofs.Common.{◌≡◌, ℕ, Option, Some, None, refl, sym, ◌∙◌}
 use Rattle.std.specs.Prelude.{IsSome, is_some, option_map}
 use Rattle.posting_rules.specs.{believed.Numbering.branch_of_teller, Damage.IsUndamaged}
 use Rattle.posting_rules.specs.{declared.rows.BranchRow.BranchRow, declared.rows.TellerRow.TellerRow}
 use Rattle.posting_rules.specs.believed.LookUps.{balance_of_branch, balance_of_teller, both_of, teller_balances_in}
 use Rattle.posting_rules.specs.believed.Tables.{Tables, row_at, branch_key, teller_key}
-use Rattle.bank_transactions.proofs.SoundRows.{teller_some}
+use Rattle.bank_transactions.proofs.{LookUps.reads_so, SoundRows.teller_some}
 use Rattle.bank_transactions.proofs.slots.teller_beside.Goals as goal
 
 not_one : (a : Option TellerRow) (b : Option BranchRow) → (IsSome a → is_some a ≡ is_some b)
@@ -22,11 +22,6 @@ no_balance t n sound none =
     (λ there. sound.tellers n (teller_some t n sound there)) none
 
 pub returns-in-None-clause-says : goal.returns-in-None-clause-says
-returns-in-None-clause-says g c = record {
-  told = λ clean t shows sound.
-      let told = c.in_ok-balance.ensures.says.told clean t shows sound in
-      (no_balance t c.args.teller sound (sym c.in-None.is ∙ told.0), told.1);
-  same_reference = search rules;
-  leaves = search rules;
-  survives = search rules;
-}
+returns-in-None-clause-says g c =
+    reads_so c.in_ok-balance.ensures.says
+    (λ t sound. (sound, λ told. no_balance t c.args.teller sound (sym c.in-None.is ∙ told)))

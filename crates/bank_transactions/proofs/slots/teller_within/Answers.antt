@@ -1,7 +1,7 @@
 -- What the balance of a teller tells.
 use Rattle.std.proofs.Common.{◌≡◌, Err, rules, arith}
 use Rattle.store_rows.specs.declared.holders.Member.TheVariants.{Teller}
-use Rattle.bank_transactions.proofs.{FailedBalances.balance_failed, LookUps.looks_again, LookUps.reads_where}
+use Rattle.bank_transactions.proofs.{LookUps.looked_at, LookUps.reads_after, ReadsInTurn.balance_failed}
 use Rattle.bank_transactions.proofs.{ReadsInTurn.find_tells, SoundRows.member_found}
 use Rattle.store_rows.specs.{Holders.entry_under, believed.Readings.read_balance}
 use Rattle.sqlite.specs.{Held.state, State.HasCleanDisk}
@@ -12,20 +12,17 @@ use Rattle.bank_transactions.proofs.slots.teller_within.Goals as goal
 
 pub returns-in_err-balance-clause-says : goal.returns-in_err-balance-clause-says
 returns-in_err-balance-clause-says g c =
-    let fault = c.in_err-balance.field-0.0 in
-    let same : c.from_residual.result ≡ Err fault = search rules in
-    rw same (record {
-      says = balance_failed (λ t so. so.0) (Teller c.args.teller) fault c.in_err-balance.ensures;
-    })
+    let same : c.from_residual.result ≡ Err c.in_err-balance.field-0.0 = search rules in
+    rw same (balance_failed (Teller c.args.teller) c.in_err-balance.ensures)
 
 pub returns-clause-says : goal.returns-clause-says
 returns-clause-says g c =
-    reads_where (find_tells (entry_under (Teller c.args.teller)) read_balance _ c.in_ok-balance.ensures
-    (λ t sound finds. member_found (Teller c.args.teller) t sound c.in_ok-balance.balance finds)) (λ t so. so.0)
+    find_tells (entry_under (Teller c.args.teller)) read_balance _ c.in_ok-balance.ensures
+    (λ t so finds. member_found (Teller c.args.teller) t so.0 c.in_ok-balance.balance finds)
 
 -- both rows are looked up again
 pub returns-then-is_some-clause-says : goal.returns-then-is_some-clause-says
-returns-then-is_some-clause-says g c = looks_again c.in_ok-balance.ensures c.teller_beside.ensures.says (λ t so. so.0)
+returns-then-is_some-clause-says g c = reads_after (looked_at c.in_ok-balance.ensures) c.teller_beside.ensures.says (λ t so. so.0)
 
 pub returns-then-is_some-clause-stored : goal.returns-then-is_some-clause-stored
 returns-then-is_some-clause-stored g c =
@@ -34,7 +31,7 @@ returns-then-is_some-clause-stored g c =
     (λ rows. HoldsBranch rows (branch_of_teller c.args.teller) c.args.branch) _ _ c.teller_beside.result
     (λ clean.
     let mid : HasCleanDisk (state g.S.Store c.balance_of.new.tx.conn.now) =
-    omega (arith, c.teller_beside.ensures.says.survives.clean, clean) in
+    omega (arith, c.teller_beside.ensures.says.says.survives.clean, clean) in
     (c.in_ok-balance.ensures.leaves mid).0.now_is)
     c.teller_beside.ensures.stored
 

@@ -1,6 +1,6 @@
 -- The parts of the transaction are one, which reads and then writes.
 use Rattle.std.proofs.Common.{rules}
-use Rattle.bank_transactions.proofs.{Transacted.transacts, Undone.undoes, Left.opens_after}
+use Rattle.bank_transactions.proofs.{Transacted.transacts, Transacted.undoes, Left.opens_after}
 use Rattle.bank_transactions.specs.believed.Stored.{OpensByStored}
 use Rattle.posting_rules.specs.believed.Commands.{opened_with}
 use Rattle.bank_transactions.proofs.transactions.open_branch.Goals as goal

@@ -1,6 +1,6 @@
 -- The parts of the transaction are one, which reads and then writes.
 use Rattle.std.proofs.Common.{rules}
-use Rattle.bank_transactions.proofs.{Transacted.transacts_records, Undone.undoes}
+use Rattle.bank_transactions.proofs.Transacted.{transacts_records, undoes}
 use Rattle.bank_transactions.proofs.transactions.post.Goals as goal
 
 pub returns-clause-transacts : goal.returns-clause-transacts

@@ -1,7 +1,6 @@
 -- The transaction has one part, which reads.
 use Rattle.std.proofs.Common.{rules}
-use Rattle.posting_rules.specs.believed.LookUps.{account_balance_in}
-use Rattle.bank_transactions.proofs.{Transacted.consults, Undone.undoes_reads}
+use Rattle.bank_transactions.proofs.{LookUps.does_read, Transacted.consults, Transacted.undoes}
 use Rattle.bank_transactions.proofs.transactions.read_balance.Goals as goal
 
 pub returns-clause-says : goal.returns-clause-says
@@ -12,5 +11,6 @@ returns-clause-says g c =
 
 pub returns-clause-undone : goal.returns-clause-undone
 returns-clause-undone g c =
-    undoes_reads g.S.Store (λ tables. account_balance_in tables c.args.account) c.args.conn.now c.begin-tx.result c.open_balance-balance.new.tx c.finish.new.tx.0
-    c.conn-1.given.0 c.begin-tx.ensures.begun c.begin-tx.ensures.settled c.open_balance-balance.ensures.says c.finish.ensures (search rules)
+    undoes g.S.Store c.args.conn.now c.begin-tx.result c.open_balance-balance.new.tx c.finish.new.tx.0
+    c.conn-1.given.0 c.begin-tx.ensures.begun c.begin-tx.ensures.settled (does_read c.open_balance-balance.ensures.says)
+    c.finish.ensures (search rules)

@@ -1,19 +1,12 @@
 -- The changed balance of one slot, whose number may be none of branches.
-use Rattle.std.proofs.Common.{◌≡◌, ℕ, Some, None, Option, rules, refl, sym, subst, ◌∙◌, inl, inr}
+use Rattle.std.proofs.Common.{◌≡◌, ℕ, Some, None, Option, rules, refl, sym, subst, ◌∙◌}
 use Rattle.std.specs.Prelude.{ℤ, IfSome}
 use Rattle.message_records.specs.{believed.Ranges.whole_within, declared.limits.TheConstants.MAX_BRANCH}
 use Rattle.posting_rules.specs.believed.Tables.{Tables}
 use Rattle.store_rows.specs.{Holders.HasRow, Holders.with_balance, declared.holders.Holder.TheVariants.Branch}
 use Rattle.bank_transactions.specs.{Additions.NoRow, Doing.Does, Writing.by_change}
-use Rattle.bank_transactions.proofs.{Chained.does_for, Chained.does_none, Rows.branch_made, Together.within_or_none}
+use Rattle.bank_transactions.proofs.{Chained.does_for, Chained.does_none, Rows.branch_made, SoundRows.same_number}
 use Rattle.bank_transactions.proofs.batch_changes.BranchSlotChange.make.Goals as goal
-
--- a number of branches is the one that it was made of
-same_number : (n b : ℕ) → whole_within 1 MAX_BRANCH n ≡ Some b → b ≡ n
-same_number n b made = elim (within_or_none n) [
-  | inl is ↦ cc
-  | inr none ↦ absurd (let no = sym none ∙ made in cc)
-]
 
 -- a slot whose number is none of branches changes nothing, where it may be written
 not_changed : (changed : Option ℤ) (n : ℕ) (t made : Tables) (written : ℤ → Tables)
