@@ -1,7 +1,6 @@
 -- Rows whose numbers are the same, one by one.
-use Rattle.std.proofs.Common.{◌≡◌, ◌∙◌, ℕ, ℤ, Bool, pos, true, List, [], ◌∷◌, map, ap, refl, arith}
+use Rattle.std.proofs.Common.{◌≡◌, ◌∙◌, ◌&&◌, ℕ, ℤ, Bool, pos, true, List, [], ◌∷◌, map, eqb, int_eq, ap, refl, arith}
 use Rattle.std.proofs.lemmas.{Bool.and_parts, Bool.eqb-true, Int.ints}
-use Rattle.std.specs.Prelude.{◌&&◌, eqb, int_eq}
 
 -- what two rows have in one column
 pub data Two : Type 0 where

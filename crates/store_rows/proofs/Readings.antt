@@ -1,25 +1,23 @@
 -- What the columns of a row were, where they were read; and that sound rows read as themselves.
 use Rattle.std.proofs.Common.{◌≡◌, ◌≤◌, ◌≤ℤ◌, ◌*◌, ◌++◌, ℕ, zero, suc, ℤ, pos, negsuc, Bool, true, false, cond, List, []}
-use Rattle.std.proofs.Common.{◌∷◌, Some, None, Option, Result, Ok, Err, refl, ap, subst, ◌∙◌, arith}
+use Rattle.std.proofs.Common.{◌∷◌, Some, None, Result, Ok, Err, refl, ap, subst, ◌∙◌, arith}
 use Rattle.std.specs.{Prelude.◌&&◌, Prelude.int_lt, Prelude.nat_abs, Prelude.nat_le, Prelude.slice_index_or}
-use Rattle.std.specs.{Prelude.IsTrue, Option.ok_or}
+use Rattle.std.specs.Option.{ok_or}
 use Rattle.std.proofs.lemmas.{Bool.Decides.nat_tests, Int.ints}
 use Rattle.sqlite.specs.Order.{Row, column}
 use Rattle.sqlite.specs.declared.types.Value.{Value, TheVariants.Blob, TheVariants.Int, TheVariants.Null}
 use Rattle.sqlite.specs.declared.types.Value.TheVariants.{Real, Text}
 use Rattle.message_records.specs.{believed.Outcomes.code_of, believed.Reading.◌>>=◌, declared.records.Outcome.Outcome}
-use Rattle.message_records.specs.believed.{Ranges.cents_within, Ranges.whole_within, Records.reference_from}
+use Rattle.message_records.specs.believed.{Ranges.cents_within, Ranges.whole_within}
 use Rattle.message_records.specs.declared.records.Outcome.TheVariants.{Posted, NoTeller, WrongBranch, NoAccount}
 use Rattle.message_records.specs.declared.records.Outcome.TheVariants.{OverLimit, ReusedNumber, Full, BelowFloor}
 use Rattle.message_records.specs.declared.records.Outcome.TheVariants.{Malformed}
 use Rattle.message_records.specs.declared.limits.TheConstants.{MAX_ACCOUNT, MAX_BALANCE, MAX_BRANCH, MAX_DELTA}
 use Rattle.message_records.specs.declared.limits.TheConstants.{MAX_MOMENT, MAX_NUMBER, MAX_TELLER}
-use Rattle.posting_rules.specs.believed.Kept.{is_kept_with}
 use Rattle.posting_rules.specs.Damage.{IsSoundAccount, IsSoundBranch, IsSoundFloor, IsSoundPosting}
 use Rattle.posting_rules.specs.Damage.{IsSoundReference, IsSoundRequest, IsSoundTeller}
-use Rattle.posting_rules.specs.declared.fault.Rule.{Rule, TheVariants.Balance, TheVariants.Floor, TheVariants.Meta}
-use Rattle.posting_rules.specs.declared.fault.Rule.TheVariants.{Teller, Account, Key, Request, Value as OfValue}
-use Rattle.posting_rules.specs.declared.fault.Rule.TheVariants.{Reference}
+use Rattle.posting_rules.specs.declared.fault.Rule.{Rule, TheVariants.Balance, TheVariants.Floor}
+use Rattle.posting_rules.specs.declared.fault.Rule.TheVariants.{Value as OfValue}
 use Rattle.posting_rules.specs.declared.limits.TheConstants.{ACCOUNTS_PER_BRANCH, LAST_BRANCH, MAX_ACCOUNTS}
 use Rattle.posting_rules.specs.declared.limits.TheConstants.{MAX_DECIDED, TELLERS_PER_BRANCH}
 use Rattle.posting_rules.specs.declared.rows.{AccountRow.AccountRow, BranchRow.BranchRow, FloorRow.FloorRow}
@@ -27,10 +25,10 @@ use Rattle.posting_rules.specs.declared.rows.{HistoryRow.HistoryRow, ReferenceRo
 use Rattle.posting_rules.specs.declared.rows.TellerRow.{TellerRow}
 use Rattle.sql_meanings.specs.believed.Entries.{Entry, numbers, texts_held}
 use Rattle.store_rows.specs.believed.{Columns.number_at, SeveralRows.given}
-use Rattle.store_rows.specs.believed.Readings.{balance_of, branch_of, cents, floor_of, lowest, number, outcome_with}
-use Rattle.store_rows.specs.believed.Readings.{outcome_of, read_account, read_balance, read_branch, read_floor}
+use Rattle.store_rows.specs.believed.Readings.{branch_of, cents, floor_of, lowest, number, outcome_with}
+use Rattle.store_rows.specs.believed.Readings.{read_account, read_balance, read_branch, read_floor}
 use Rattle.store_rows.specs.believed.Readings.{read_posting, read_reference, read_request, read_teller, reference}
-use Rattle.store_rows.specs.believed.Readings.{decision_of, reference_of, request_of, whole}
+use Rattle.store_rows.specs.believed.Readings.{whole}
 use Rattle.store_rows.specs.believed.View.{account_entry, branch_entry, floor_entry, history_entry, reference_entry}
 use Rattle.store_rows.specs.believed.View.{request_entry, teller_entry}
 

@@ -4,7 +4,7 @@ use Rattle.std.specs.Prelude.{ℕ, List, [], ◌∷◌, None, Result, is_ok, ◌
 use Rattle.message_records.specs.declared.fault.Bad.{Bad}
 use Rattle.message_records.specs.believed.Records.{RequestFields}
 use Rattle.message_records.specs.believed.Reading.{plain_request_of, request_of}
-use Rattle.posting_rules.specs.believed.Commands.{Command, Open, Post, Terms, opened, opened_with}
+use Rattle.posting_rules.specs.believed.Commands.{Command, Open, Post, Terms, opened_with}
 
 -- what a version knows of a command
 pub record Edition : Type 0 where
