@@ -73,77 +73,41 @@ apart {s = s} {t = t} same other =
     let equal : bytes_eq s t ≡ true = (bytes_eq-Decides s t).1 same in
     cc
 
--- a `load` has its plan
-pub plan_of_load : (p : Text × List Row) → p.0 ≡ codes "load" → HasMoreValues p
-    → HasText (codes "plan") p.1
-plan_of_load p name has = elim has [
-  | inl load ↦ load.1
-  | inr (inl drive) ↦ absurd (apart (sym drive.0 ∙ name) refl)
-  | inr (inr (inl statement)) ↦ absurd (apart (sym statement.0 ∙ name) refl)
-  | inr (inr (inr (inl serve))) ↦ absurd (apart (sym serve.0 ∙ name) refl)
-  | inr (inr (inr (inr (inl digest)))) ↦ absurd (apart (sym digest.0 ∙ name) refl)
-  | inr (inr (inr (inr (inr export)))) ↦ absurd (apart (sym export.0 ∙ name) refl)
-]
+no : {own s t : Text} {X : Type 0} → own ≡ s → own ≡ t → bytes_eq s t ≡ false → X
+no is also differs = absurd (apart (sym is ∙ also) differs)
 
--- a `drive` has its numbers
-pub numbers_of_drive : (p : Text × List Row) → p.0 ≡ codes "drive" → HasMoreValues p
-    → HasNumber (codes "seed") 0 MAX_SEED p.1 × HasNumber (codes "count") 1 MAX_DRIVEN p.1
-numbers_of_drive p name has = elim has [
-  | inl load ↦ absurd (apart (sym load.0 ∙ name) refl)
-  | inr (inl drive) ↦ (drive.1, drive.2)
-  | inr (inr (inl statement)) ↦ absurd (apart (sym statement.0 ∙ name) refl)
-  | inr (inr (inr (inl serve))) ↦ absurd (apart (sym serve.0 ∙ name) refl)
-  | inr (inr (inr (inr (inl digest)))) ↦ absurd (apart (sym digest.0 ∙ name) refl)
-  | inr (inr (inr (inr (inr export)))) ↦ absurd (apart (sym export.0 ∙ name) refl)
-]
-
--- a `statement` has the number of an account
-pub account_of_statement : (p : Text × List Row) → p.0 ≡ codes "statement" → HasMoreValues p
-    → HasNumber (codes "account") 1 MAX_ACCOUNT p.1
-account_of_statement p name has = elim has [
-  | inl load ↦ absurd (apart (sym load.0 ∙ name) refl)
-  | inr (inl drive) ↦ absurd (apart (sym drive.0 ∙ name) refl)
-  | inr (inr (inl statement)) ↦ statement.1
-  | inr (inr (inr (inl serve))) ↦ absurd (apart (sym serve.0 ∙ name) refl)
-  | inr (inr (inr (inr (inl digest)))) ↦ absurd (apart (sym digest.0 ∙ name) refl)
-  | inr (inr (inr (inr (inr export)))) ↦ absurd (apart (sym export.0 ∙ name) refl)
-]
-
--- a `serve` has its address and its number
-pub values_of_serve : (p : Text × List Row) → p.0 ≡ codes "serve" → HasMoreValues p
-    → HasText (codes "address") p.1 × HasNumber (codes "connections") 1 MAX_CONNECTIONS p.1
-values_of_serve p name has = elim has [
-  | inl load ↦ absurd (apart (sym load.0 ∙ name) refl)
-  | inr (inl drive) ↦ absurd (apart (sym drive.0 ∙ name) refl)
-  | inr (inr (inl statement)) ↦ absurd (apart (sym statement.0 ∙ name) refl)
-  | inr (inr (inr (inl serve))) ↦ (serve.1, serve.2)
-  | inr (inr (inr (inr (inl digest)))) ↦ absurd (apart (sym digest.0 ∙ name) refl)
-  | inr (inr (inr (inr (inr export)))) ↦ absurd (apart (sym export.0 ∙ name) refl)
-]
-
--- a `digest` has a count of requests
-pub requests_of_digest : (p : Text × List Row) → p.0 ≡ codes "digest" → HasMoreValues p
-    → HasNumber (codes "requests") 0 MAX_REQUESTS p.1
-requests_of_digest p name has = elim has [
-  | inl load ↦ absurd (apart (sym load.0 ∙ name) refl)
-  | inr (inl drive) ↦ absurd (apart (sym drive.0 ∙ name) refl)
-  | inr (inr (inl statement)) ↦ absurd (apart (sym statement.0 ∙ name) refl)
-  | inr (inr (inr (inl serve))) ↦ absurd (apart (sym serve.0 ∙ name) refl)
-  | inr (inr (inr (inr (inl digest)))) ↦ digest.1
-  | inr (inr (inr (inr (inr export)))) ↦ absurd (apart (sym export.0 ∙ name) refl)
-]
-
--- an `export` has one, or none
-pub after_of_export : (p : Text × List Row) → p.0 ≡ codes "export" → HasMoreValues p
-    → HasNumberIfAny (codes "after") 0 MAX_REQUESTS p.1
-after_of_export p name has = elim has [
-  | inl load ↦ absurd (apart (sym load.0 ∙ name) refl)
-  | inr (inl drive) ↦ absurd (apart (sym drive.0 ∙ name) refl)
-  | inr (inr (inl statement)) ↦ absurd (apart (sym statement.0 ∙ name) refl)
-  | inr (inr (inr (inl serve))) ↦ absurd (apart (sym serve.0 ∙ name) refl)
-  | inr (inr (inr (inr (inl digest)))) ↦ absurd (apart (sym digest.0 ∙ name) refl)
-  | inr (inr (inr (inr (inr export)))) ↦ export.1
-]
+-- the values that there are by the name: with `load`, `drive`, `statement`, `serve`, `digest` and `export`
+pub values_by_name : (p : Text × List Row) → HasMoreValues p → (p.0 ≡ codes "load" → HasText (codes "plan") p.1)
+    × (p.0 ≡ codes "drive" → HasNumber (codes "seed") 0 MAX_SEED p.1 × HasNumber (codes "count") 1 MAX_DRIVEN p.1)
+    × (p.0 ≡ codes "statement" → HasNumber (codes "account") 1 MAX_ACCOUNT p.1)
+    × (p.0 ≡ codes "serve" → HasText (codes "address") p.1
+    × HasNumber (codes "connections") 1 MAX_CONNECTIONS p.1)
+    × (p.0 ≡ codes "digest" → HasNumber (codes "requests") 0 MAX_REQUESTS p.1)
+    × (p.0 ≡ codes "export" → HasNumberIfAny (codes "after") 0 MAX_REQUESTS p.1)
+values_by_name p (inl h) =
+    (λ _. h.1, λ n. no h.0 n refl, λ n. no h.0 n refl, λ n. no h.0 n refl, λ n. no h.0 n refl, λ n. no h.0 n refl)
+values_by_name p (inr (inl h)) = (
+  λ n. no h.0 n refl,
+  λ _. (h.1, h.2),
+  λ n. no h.0 n refl,
+  λ n. no h.0 n refl,
+  λ n. no h.0 n refl,
+  λ n. no h.0 n refl,
+)
+values_by_name p (inr (inr (inl h))) =
+    (λ n. no h.0 n refl, λ n. no h.0 n refl, λ _. h.1, λ n. no h.0 n refl, λ n. no h.0 n refl, λ n. no h.0 n refl)
+values_by_name p (inr (inr (inr (inl h)))) = (
+  λ n. no h.0 n refl,
+  λ n. no h.0 n refl,
+  λ n. no h.0 n refl,
+  λ _. (h.1, h.2),
+  λ n. no h.0 n refl,
+  λ n. no h.0 n refl,
+)
+values_by_name p (inr (inr (inr (inr (inl h))))) =
+    (λ n. no h.0 n refl, λ n. no h.0 n refl, λ n. no h.0 n refl, λ n. no h.0 n refl, λ _. h.1, λ n. no h.0 n refl)
+values_by_name p (inr (inr (inr (inr (inr h))))) =
+    (λ n. no h.0 n refl, λ n. no h.0 n refl, λ n. no h.0 n refl, λ n. no h.0 n refl, λ n. no h.0 n refl, λ _. h.1)
 
 -- ---- numbers
 
@@ -209,7 +173,7 @@ pub drive_read : (p : Text × List Row) (file : Bor Text) (seed count : ℕ) →
     → IsReadFor (codes "count") p.1 count
     → IsCommandOf p (Drive file seed count) × AreInRange (Drive file seed count)
 drive_read p file seed count name more is_file seed_read count_read =
-    let has = numbers_of_drive p name more in
+    let has = (values_by_name p more).1 name in
     let seed_in = seed_read 0 MAX_SEED has.0 in
     let count_in = count_read 1 MAX_DRIVEN has.1 in
     ((name, is_file, seed_in.0, count_in.0), (seed_in.2, count_in.1, count_in.2))
@@ -221,7 +185,7 @@ pub serve_read : (p : Text × List Row) (file address : Bor Text) (connections :
     → IsReadFor (codes "connections") p.1 connections
     → IsCommandOf p (Serve file address connections) × AreInRange (Serve file address connections)
 serve_read p file address connections name more is_file is_address connections_read =
-    let has = values_of_serve p name more in
+    let has = (values_by_name p more).3 name in
     let number_in = connections_read 1 MAX_CONNECTIONS has.1 in
     ((name, is_file, is_address, number_in.0), (number_in.1, number_in.2))
 

@@ -1,5 +1,5 @@
 -- Words that ask for help fail with the help.
-use Rattle.std.proofs.Common.{◌≡◌, ◌∙◌, ◌⊎◌, ap, refl, sym, inl, inr, List, [], ◌∷◌, codes, Result, Ok, Err, IsErrAnd}
+use Rattle.std.proofs.Common.{◌≡◌, ◌∙◌, ◌⊎◌, ap, sym, inl, inr, List, [], codes, Result, Ok, Err, IsErrAnd}
 use Rattle.clap.specs.Words.{FailsBy, HasKind, Kinds, Text, fault_of}
 use Rattle.clap.specs.declared.error.Error.{Error}
 use Rattle.clap.proofs.OnLiterals.{clap_on_literals}
@@ -7,96 +7,30 @@ use Rattle.command_line.specs.CommandLine.{bank_app}
 use Rattle.command_line.specs.Words.{AsksForHelp, AsksForHelpOn, IsHelp, words_read}
 use Rattle.command_line.proofs.OwnWords.{help_alone, help_at_read, read_as_they_are}
 
-at_bank : (program : Text) (rest : List Text)
-    → fault_of bank_app (program ∷ codes "--help" ∷ rest) ≡ help_alone
-unfolding clap_on_literals
-at_bank program rest = refl
-
-at_init : (program : Text) → fault_of bank_app (program ∷ codes "init" ∷ codes "--help" ∷ []) ≡ help_alone
-unfolding clap_on_literals
-at_init program = refl
-
-at_load : (program : Text) → fault_of bank_app (program ∷ codes "load" ∷ codes "--help" ∷ []) ≡ help_alone
-unfolding clap_on_literals
-at_load program = refl
-
-at_post : (program : Text) → fault_of bank_app (program ∷ codes "post" ∷ codes "--help" ∷ []) ≡ help_alone
-unfolding clap_on_literals
-at_post program = refl
-
-at_drive : (program : Text) → fault_of bank_app (program ∷ codes "drive" ∷ codes "--help" ∷ []) ≡ help_alone
-unfolding clap_on_literals
-at_drive program = refl
-
-at_audit : (program : Text) → fault_of bank_app (program ∷ codes "audit" ∷ codes "--help" ∷ []) ≡ help_alone
-unfolding clap_on_literals
-at_audit program = refl
-
-at_statement : (program : Text)
-    → fault_of bank_app (program ∷ codes "statement" ∷ codes "--help" ∷ []) ≡ help_alone
-unfolding clap_on_literals
-at_statement program = refl
-
-at_serve : (program : Text) → fault_of bank_app (program ∷ codes "serve" ∷ codes "--help" ∷ []) ≡ help_alone
-unfolding clap_on_literals
-at_serve program = refl
-
-at_migrate : (program : Text)
-    → fault_of bank_app (program ∷ codes "migrate" ∷ codes "--help" ∷ []) ≡ help_alone
-unfolding clap_on_literals
-at_migrate program = refl
-
-at_encode : (program : Text) → fault_of bank_app (program ∷ codes "encode" ∷ codes "--help" ∷ []) ≡ help_alone
-unfolding clap_on_literals
-at_encode program = refl
-
-at_decode : (program : Text) → fault_of bank_app (program ∷ codes "decode" ∷ codes "--help" ∷ []) ≡ help_alone
-unfolding clap_on_literals
-at_decode program = refl
-
-at_replay : (program : Text) → fault_of bank_app (program ∷ codes "replay" ∷ codes "--help" ∷ []) ≡ help_alone
-unfolding clap_on_literals
-at_replay program = refl
-
-at_digest : (program : Text) → fault_of bank_app (program ∷ codes "digest" ∷ codes "--help" ∷ []) ≡ help_alone
-unfolding clap_on_literals
-at_digest program = refl
-
-at_export : (program : Text) → fault_of bank_app (program ∷ codes "export" ∷ codes "--help" ∷ []) ≡ help_alone
-unfolding clap_on_literals
-at_export program = refl
-
-at_plan : (program : Text) → fault_of bank_app (program ∷ codes "plan" ∷ codes "--help" ∷ []) ≡ help_alone
-unfolding clap_on_literals
-at_plan program = refl
-
 -- each is a request for help as it stands, but for the last
 asked : (words : List Text) → AsksForHelp words
     → (fault_of bank_app words ≡ help_alone) ⊎ AsksForHelpOn (codes "help") words
-asked words (inl bank) = inl (ap (fault_of bank_app) bank.2 ∙ at_bank bank.0 bank.1)
-asked words (inr (inl init)) = inl (ap (fault_of bank_app) init.1 ∙ at_init init.0)
-asked words (inr (inr (inl load))) = inl (ap (fault_of bank_app) load.1 ∙ at_load load.0)
-asked words (inr (inr (inr (inl post)))) = inl (ap (fault_of bank_app) post.1 ∙ at_post post.0)
-asked words (inr (inr (inr (inr (inl drive))))) = inl (ap (fault_of bank_app) drive.1 ∙ at_drive drive.0)
-asked words (inr (inr (inr (inr (inr (inl audit)))))) = inl (ap (fault_of bank_app) audit.1 ∙ at_audit audit.0)
-asked words (inr (inr (inr (inr (inr (inr (inl statement))))))) =
-    inl (ap (fault_of bank_app) statement.1 ∙ at_statement statement.0)
-asked words (inr (inr (inr (inr (inr (inr (inr (inl serve)))))))) =
-    inl (ap (fault_of bank_app) serve.1 ∙ at_serve serve.0)
-asked words (inr (inr (inr (inr (inr (inr (inr (inr (inl migrate))))))))) =
-    inl (ap (fault_of bank_app) migrate.1 ∙ at_migrate migrate.0)
-asked words (inr (inr (inr (inr (inr (inr (inr (inr (inr (inl encode)))))))))) =
-    inl (ap (fault_of bank_app) encode.1 ∙ at_encode encode.0)
+unfolding clap_on_literals
+asked words (inl bank) = inl (ap (fault_of bank_app) bank.2)
+asked words (inr (inl init)) = inl (ap (fault_of bank_app) init.1)
+asked words (inr (inr (inl load))) = inl (ap (fault_of bank_app) load.1)
+asked words (inr (inr (inr (inl post)))) = inl (ap (fault_of bank_app) post.1)
+asked words (inr (inr (inr (inr (inl drive))))) = inl (ap (fault_of bank_app) drive.1)
+asked words (inr (inr (inr (inr (inr (inl audit)))))) = inl (ap (fault_of bank_app) audit.1)
+asked words (inr (inr (inr (inr (inr (inr (inl statement))))))) = inl (ap (fault_of bank_app) statement.1)
+asked words (inr (inr (inr (inr (inr (inr (inr (inl serve)))))))) = inl (ap (fault_of bank_app) serve.1)
+asked words (inr (inr (inr (inr (inr (inr (inr (inr (inl migrate))))))))) = inl (ap (fault_of bank_app) migrate.1)
+asked words (inr (inr (inr (inr (inr (inr (inr (inr (inr (inl encode)))))))))) = inl (ap (fault_of bank_app) encode.1)
 asked words (inr (inr (inr (inr (inr (inr (inr (inr (inr (inr (inl decode))))))))))) =
-    inl (ap (fault_of bank_app) decode.1 ∙ at_decode decode.0)
+    inl (ap (fault_of bank_app) decode.1)
 asked words (inr (inr (inr (inr (inr (inr (inr (inr (inr (inr (inr (inl replay)))))))))))) =
-    inl (ap (fault_of bank_app) replay.1 ∙ at_replay replay.0)
+    inl (ap (fault_of bank_app) replay.1)
 asked words (inr (inr (inr (inr (inr (inr (inr (inr (inr (inr (inr (inr (inl digest))))))))))))) =
-    inl (ap (fault_of bank_app) digest.1 ∙ at_digest digest.0)
+    inl (ap (fault_of bank_app) digest.1)
 asked words (inr (inr (inr (inr (inr (inr (inr (inr (inr (inr (inr (inr (inr (inl export)))))))))))))) =
-    inl (ap (fault_of bank_app) export.1 ∙ at_export export.0)
+    inl (ap (fault_of bank_app) export.1)
 asked words (inr (inr (inr (inr (inr (inr (inr (inr (inr (inr (inr (inr (inr (inr (inl plan))))))))))))))) =
-    inl (ap (fault_of bank_app) plan.1 ∙ at_plan plan.0)
+    inl (ap (fault_of bank_app) plan.1)
 asked words (inr (inr (inr (inr (inr (inr (inr (inr (inr (inr (inr (inr (inr (inr (inr help))))))))))))))) = inr help
 
 -- and each is one as it is read

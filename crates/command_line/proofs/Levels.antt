@@ -1,12 +1,11 @@
 -- What is known of a level of the command line at which clap finds no fault.
-use Rattle.std.proofs.Common.{◌≡◌, ◌⊎◌, ◌&&◌, ◌||◌, Bool, true, false, not, refl, subst, List, [], ◌∷◌, Some, None}
-use Rattle.std.proofs.Common.{is_some}
+use Rattle.std.proofs.Common.{◌≡◌, ◌⊎◌, ◌&&◌, Bool, true, false, not, refl, subst, List, [], ◌∷◌, Some, None, is_some}
+use Rattle.std.proofs.lemmas.Bool.{or_parts}
 use Rattle.std.specs.{Prelude.find, List.list_any, Str.bytes_eq}
-use Rattle.clap.specs.{Facts.explicit_source, Simple.Shape, Takes.is_given}
 use Rattle.clap.specs.Walk.{Names, Row, Rule, Text, arg_by_id, finished, first_of, nothing_held, one_of, rows_after}
-use Rattle.clap.specs.Walk.{settled, walk, walk_from}
-use Rattle.clap.specs.Kinds.{Kinds, check_kinds, or_else}
 use Rattle.clap.specs.Faults.{check_fault, defaults_fault, level_fault, settle_fault, walk_fault}
+use Rattle.clap.specs.{Kinds.Kinds, Kinds.check_kinds, Kinds.or_else, Walk.settled, Walk.walk, Walk.walk_from}
+use Rattle.clap.specs.{Facts.explicit_source, Takes.is_given, Simple.Shape}
 use Rattle.command_line.proofs.Rows.{ArePlainRules, HasValue, given_value, no_first, no_second, value_or_none}
 use Rattle.command_line.proofs.Walked.{rows_sound}
 
@@ -66,10 +65,6 @@ none_wanted : (wants : Bool) → check_kinds false false wants ≡ [] → wants 
 none_wanted false none = refl
 none_wanted true none = cc
 
-neither : (b c : Bool) → (b || c) ≡ false → (b ≡ false) × (c ≡ false)
-neither false c none = (refl, none)
-neither true c none = cc
-
 -- an argument that is required is given where none is missing
 given_of : (p : Rule → Bool) (rules : List Rule) (rows : List Row) (a : Rule)
     → list_any (λ x. x.required && not (is_given x.id rows)) rules ≡ false
@@ -79,8 +74,8 @@ given_of p [] rows a none found required = cc
 given_of p (x ∷ xs) rows a none found required =
     let here = x.required && not (is_given x.id rows) in
     let later = list_any (λ y. y.required && not (is_given y.id rows)) xs in
-    go (p x) refl (neither here later none).0
-    (λ other. given_of p xs rows a (neither here later none).1 other required)
+    go (p x) refl (or_parts here later none).0
+    (λ other. given_of p xs rows a (or_parts here later none).1 other required)
   where
     given : (r g : Bool) → r ≡ true → (r && not g) ≡ false → g ≡ true
     given true true is none = refl

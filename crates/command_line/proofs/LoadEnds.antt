@@ -8,8 +8,7 @@ use Rattle.posting_core.specs.{believed.Told.ReadTold, Told.HasWriteFailed, Told
 use Rattle.report_contents.specs.Written.{AppendsPart}
 use Rattle.branch_loader.specs.{believed.Plans.Rows, Plans.ReadsPlan, declared.loader.Loaded.Loaded}
 use Rattle.branch_loader.specs.declared.fault.PlanFault.{PlanFault}
-use Rattle.branch_loader.specs.declared.fault.PlanFault.TheVariants.{Header, Columns, Branch, Accounts, Floor, Twice}
-use Rattle.branch_loader.specs.declared.fault.PlanFault.TheVariants.{Csv, Memory}
+use Rattle.branch_loader.specs.declared.fault.PlanFault.TheVariants.{Header, Memory}
 use Rattle.command_line.specs.{Faults.fault_of_bank, Faults.fault_of_plan, Lines.loaded_line, Looking.IsOfPlanFile}
 use Rattle.command_line.specs.{Looking.IsPlanFault, declared.fault.CommandFault.CommandFault}
 use Rattle.command_line.specs.{declared.fault.CommandFault.TheVariants.Write, declared.status.Status.Status}
@@ -19,13 +18,7 @@ use Rattle.command_line.specs.Working.{IsRefusedLoad, Loads, LoadsAnswer, LoadsF
 -- each fault of a plan is told as one
 of_plan : (fault : PlanFault) → IsPlanFault (fault_of_plan fault)
 of_plan Header = tt
-of_plan (Columns n) = tt
-of_plan (Branch n) = tt
-of_plan (Accounts n) = tt
-of_plan (Floor n) = tt
-of_plan (Twice n) = tt
-of_plan Csv = tt
-of_plan Memory = tt
+of_plan other = tt
 
 -- no fault of a plan is one of the output, and none of a bank
 not_write : (fault : PlanFault) → fault_of_plan fault ≡ Write → ⊥
@@ -33,9 +26,7 @@ not_write fault e = subst IsPlanFault e (of_plan fault)
 
 pub never_write : (fault : Fault) → fault_of_bank fault ≡ Write → ⊥
 never_write bank.Memory e = cc e
-never_write bank.Store e = cc e
-never_write bank.Down e = cc e
-never_write (bank.Damaged rule) e = cc e
+never_write other e = cc e
 
 -- ---- a plan that is read from a source
 
@@ -102,21 +93,7 @@ module _ {C : Type 0} (seen : C → Seen) (reason : Fault → C → C → Type 0
 of_file : (told : CommandFault) → IsOfPlanFile told → IsPlanFault told
 of_file fault.Memory is = tt
 of_file (fault.Plan plan) is = tt
-of_file fault.Store is = absurd is
-of_file (fault.Damaged rule) is = absurd is
-of_file fault.Read is = absurd is
-of_file fault.Write is = absurd is
-of_file (fault.Truncated n) is = absurd is
-of_file (fault.Postings sheet) is = absurd is
-of_file (fault.Reply place bad) is = absurd is
-of_file fault.AlreadyBank is = absurd is
-of_file fault.NoBank is = absurd is
-of_file fault.Foreign is = absurd is
-of_file (fault.Version n) is = absurd is
-of_file fault.NoBranches is = absurd is
-of_file (fault.NoAccount n) is = absurd is
-of_file (fault.NoRequest n) is = absurd is
-of_file fault.Network is = absurd is
+of_file other is = absurd is
 
 -- the file wasn't opened
 pub unopened : {C : Type 0} (seen : C → Seen) (reason : Fault → C → C → Type 0) (w : Option (List ℕ)) (bank : C)

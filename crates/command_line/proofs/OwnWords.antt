@@ -15,10 +15,6 @@ abbrev AsksOnHelp : List Text → Type 0
 AsksOnHelp words = AsksForHelpOn (codes "help") words
 
 pub read_as_they_are : (words : List Text) → (words_read words ≡ words) ⊎ AsksOnHelp words
-read_as_they_are [] = inl refl
-read_as_they_are (program ∷ []) = inl refl
-read_as_they_are (program ∷ name ∷ []) = inl refl
-read_as_they_are (program ∷ name ∷ flag ∷ more ∷ rest) = inl refl
 read_as_they_are (program ∷ name ∷ flag ∷ []) =
     go (bytes_eq name (codes "help")) refl (bytes_eq flag (codes "--help")) refl
   where
@@ -32,6 +28,7 @@ read_as_they_are (program ∷ name ∷ flag ∷ []) =
         let first : name ≡ codes "help" = (bytes_eq-Decides name (codes "help")).0 named in
         let second : flag ≡ codes "--help" = (bytes_eq-Decides flag (codes "--help")).0 flagged in
         inr (program, rw (first, second) refl)
+read_as_they_are other = inl refl
 
 -- ---- what clap says of them
 

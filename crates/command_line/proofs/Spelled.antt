@@ -1,41 +1,36 @@
 -- What clap reads in words that spell a command: that command.
 use Rattle.std.proofs.Common.{◌≡◌, ◌∙◌, ◌&&◌, true, false, refl, sym, ap, ap₂, inl, inr, List, [], ◌∷◌, Some, None}
 use Rattle.std.proofs.Common.{codes, Result, Ok, Err, IsErrAnd, drop}
-use Rattle.std.specs.Prelude.{IsSomeAnd, MatchResult}
+use Rattle.std.specs.{Prelude.IsSomeAnd, Prelude.MatchResult, Prelude.Bool, List.list_any, Str.bytes_eq}
+use Rattle.std.proofs.lemmas.Option.{same_Some}
 use Rattle.clap.specs.Walk.{Row, Text, first_of, nothing_held, one_of, rows_after}
-use Rattle.clap.specs.Simple.{Shape, rows_at, subcommand_of}
-use Rattle.clap.specs.{Takes.level_passes, Takes.takes, Words.kind_of, declared.error.Error.Error}
-use Rattle.clap.specs.declared.error.kind.ErrorKind.TheVariants.{OutOfMemory}
+use Rattle.clap.specs.{declared.error.kind.ErrorKind.TheVariants.OutOfMemory, Takes.level_passes, Takes.takes}
+use Rattle.clap.specs.{Simple.Shape, Simple.rows_at, Simple.subcommand_of, declared.error.Error.Error, Words.kind_of}
 use Rattle.command_line.specs.{declared.reading.Command.Command, CommandLine.MAX_REQUESTS, CommandLine.bank_app}
-use Rattle.command_line.specs.declared.reading.Command.TheVariants.{Audit, Decode, Digest, Drive, Encode, Export}
-use Rattle.command_line.specs.declared.reading.Command.TheVariants.{Init, Load, Migrate, Plan, Post, Replay, Serve}
-use Rattle.command_line.specs.declared.reading.Command.TheVariants.{Statement}
+use Rattle.command_line.specs.declared.reading.Command.TheVariants.{Audit, Decode, Digest, Drive, Encode, Export, Init}
+use Rattle.command_line.specs.declared.reading.Command.TheVariants.{Load, Migrate, Plan, Post, Replay, Serve, Statement}
 use Rattle.message_records.specs.declared.limits.TheConstants.{MAX_ACCOUNT}
-use Rattle.command_line.specs.Words.{AskToExport, IsCommandOf, IsReadFrom, IsSpelled, IsSpelledBy, IsSpelledOnFile}
-use Rattle.command_line.specs.Words.{IsText, IsWantOfMemory, begins_with_dash, number_if_any, number_of}
-use Rattle.command_line.proofs.Getters.{apart}
+use Rattle.command_line.specs.Words.{AskToExport, AskWithFile, IsCommandOf, IsReadFrom, IsSpelled, IsSpelledBy}
+use Rattle.command_line.specs.Words.{IsSpelledOnFile, IsText, IsWantOfMemory, begins_with_dash, number_if_any, number_of}
 use Rattle.command_line.proofs.Shapes.{IsReadAs, alone, file_and_account, file_and_address, file_and_after}
-use Rattle.command_line.proofs.Shapes.{file_and_numbers, file_and_requests, one_file, two_files}
-use Rattle.command_line.proofs.SpelledFiles.{audit_read, decode_read, encode_read, init_read, load_goes, load_read}
-use Rattle.command_line.proofs.SpelledFiles.{migrate_read, one_goes, plan_read, post_read, replay_read, two_held}
-use Rattle.command_line.proofs.SpelledNumbers.{digest_goes, digest_passes, digest_read, drive_goes, drive_passes}
+use Rattle.command_line.proofs.SpelledFiles.{audit_read, decode_read, encode_read, init_read, load_read}
+use Rattle.command_line.proofs.SpelledNumbers.{digest_read, drive_goes, drive_passes}
 use Rattle.command_line.proofs.SpelledNumbers.{drive_read, drive_words, export_all_goes, export_all_passes}
 use Rattle.command_line.proofs.SpelledNumbers.{export_all_read, export_goes, export_passes, export_read, export_words}
-use Rattle.command_line.proofs.SpelledNumbers.{with_file, serve_goes, serve_passes, serve_read, serve_words}
-use Rattle.command_line.proofs.SpelledNumbers.{statement_goes, statement_passes, statement_read, with_address}
-use Rattle.command_line.proofs.SpelledNumbers.{with_seed}
+use Rattle.command_line.proofs.SpelledNumbers.{two_passes, with_file, serve_goes, serve_passes, serve_read, serve_words}
+use Rattle.command_line.proofs.SpelledNumbers.{statement_read, with_address}
+use Rattle.command_line.proofs.SpelledFiles.{migrate_read, one_goes, plan_read, post_read, replay_read, two_go, two_held}
 use Rattle.command_line.proofs.Valued.{before, file_held, given, no_dash, rows_to, stops, taken_to}
+use Rattle.command_line.proofs.Shapes.{file_and_numbers, file_and_requests, one_file, two_files}
+use Rattle.command_line.proofs.{SpelledNumbers.with_seed, Getters.apart}
 
 -- ---- the command that is told
-
-same_text : (s t : Text) → Some s ≡ Some t → s ≡ t
-same_text s t same = cc
 
 -- the command has a value in these rows
 text_told : (id : Text) (rows : List Row) (text told : Text) → first_of id rows ≡ Some text
     → IsText id rows told
     → text ≡ told
-text_told id rows text told first is = same_text text told (sym first ∙ is)
+text_told id rows text told first is = same_Some text told (sym first ∙ is)
 
 -- the command's name
 abbrev word_of : Command → Text
@@ -55,20 +50,9 @@ word_of Encode = codes "encode"
 word_of Decode = codes "decode"
 
 named : (p : Text × List Row) (command : Command) → IsCommandOf p command → p.0 ≡ word_of command
-named p (Init f) told = told.0
-named p (Load f q) told = told.0
-named p (Post f) told = told.0
-named p (Drive f s n) told = told.0
-named p (Audit f) told = told.0
-named p (Statement f n) told = told.0
-named p (Replay f) told = told.0
-named p (Digest f n) told = told.0
-named p (Export f n) told = told.0
-named p (Plan f) told = told.0
-named p (Serve f a n) told = told.0
-named p (Migrate f) told = told.0
 named p Encode told = told
 named p Decode told = told
+named p other told = told.0
 
 encode_told : (rows : List Row) (words : List Text) (command : Command)
     → drop 1 words ≡ codes "encode" ∷ [] → IsCommandOf (codes "encode", rows) command
@@ -82,46 +66,31 @@ decode_told : (rows : List Row) (words : List Text) (command : Command)
 decode_told rows words Decode are told = are
 decode_told rows words other are told = absurd (apart (named (codes "decode", rows) other told) refl)
 
-init_told : (rows : List Row) (file : Text) (words : List Text) (command : Command)
-    → IsText (codes "file") rows file → drop 1 words ≡ codes "init" ∷ file ∷ []
-    → IsCommandOf (codes "init", rows) command
-    → IsSpelledBy words command
-init_told rows file words (Init f) first are told =
-    rw (← text_told (codes "file") rows file f.now first told.1) are
-init_told rows file words other first are told = absurd (apart (named (codes "init", rows) other told) refl)
+-- the name is that of a command with a file alone
+abbrev is_of_one_file : Text → Bool
+is_of_one_file name = list_any (bytes_eq name) (codes "init" ∷ codes "post" ∷ codes "audit" ∷ codes "replay"
+    ∷ codes "plan" ∷ codes "migrate" ∷ [])
 
-post_told : (rows : List Row) (file : Text) (words : List Text) (command : Command)
-    → IsText (codes "file") rows file → drop 1 words ≡ codes "post" ∷ file ∷ []
-    → IsCommandOf (codes "post", rows) command
-    → IsSpelledBy words command
-post_told rows file words (Post f) first are told =
-    rw (← text_told (codes "file") rows file f.now first told.1) are
-post_told rows file words other first are told = absurd (apart (named (codes "post", rows) other told) refl)
+-- the words are the name and the file that are told
+told_file : (name : Text) (rows : List Row) (file : Text) (words : List Text) {own : Text} (now : Text)
+    → IsText (codes "file") rows file → (name ≡ own) × IsText (codes "file") rows now
+    → drop 1 words ≡ name ∷ file ∷ [] → drop 1 words ≡ own ∷ now ∷ []
+told_file name rows file words now first told are =
+    are ∙ ap₂ (λ (n t : Text). n ∷ t ∷ []) told.0 (text_told (codes "file") rows file now first told.1)
 
-audit_told : (rows : List Row) (file : Text) (words : List Text) (command : Command)
-    → IsText (codes "file") rows file → drop 1 words ≡ codes "audit" ∷ file ∷ []
-    → IsCommandOf (codes "audit", rows) command
-    → IsSpelledBy words command
-audit_told rows file words (Audit f) first are told =
-    rw (← text_told (codes "file") rows file f.now first told.1) are
-audit_told rows file words other first are told = absurd (apart (named (codes "audit", rows) other told) refl)
-
-replay_told : (rows : List Row) (file : Text) (words : List Text) (command : Command)
-    → IsText (codes "file") rows file → drop 1 words ≡ codes "replay" ∷ file ∷ []
-    → IsCommandOf (codes "replay", rows) command
-    → IsSpelledBy words command
-replay_told rows file words (Replay f) first are told =
-    rw (← text_told (codes "file") rows file f.now first told.1) are
-replay_told rows file words other first are told =
-    absurd (apart (named (codes "replay", rows) other told) refl)
-
-plan_told : (rows : List Row) (file : Text) (words : List Text) (command : Command)
-    → IsText (codes "file") rows file → drop 1 words ≡ codes "plan" ∷ file ∷ []
-    → IsCommandOf (codes "plan", rows) command
-    → IsSpelledBy words command
-plan_told rows file words (Plan f) first are told =
-    rw (← text_told (codes "file") rows file f.now first told.1) are
-plan_told rows file words other first are told = absurd (apart (named (codes "plan", rows) other told) refl)
+one_told : (name : Text) (rows : List Row) (file : Text) (words : List Text) (command : Command)
+    → is_of_one_file name ≡ true → IsText (codes "file") rows file → drop 1 words ≡ name ∷ file ∷ []
+    → IsCommandOf (name, rows) command → IsSpelledBy words command
+one_told name rows file words (Init f) of_one first are told = told_file name rows file words f.now first told are
+one_told name rows file words (Post f) of_one first are told = told_file name rows file words f.now first told are
+one_told name rows file words (Audit f) of_one first are told = told_file name rows file words f.now first told are
+one_told name rows file words (Replay f) of_one first are told = told_file name rows file words f.now first told are
+one_told name rows file words (Plan f) of_one first are told = told_file name rows file words f.now first told are
+one_told name rows file words (Migrate f) of_one first are told = told_file name rows file words f.now first told are
+one_told name rows file words other of_one first are told =
+    let bad : is_of_one_file (word_of other) ≡ true =
+    ap is_of_one_file (sym (named (name, rows) other told)) ∙ of_one in
+    cc
 
 load_told : (rows : List Row) (file plan : Text) (words : List Text) (command : Command)
     → IsText (codes "file") rows file → IsText (codes "plan") rows plan
@@ -214,15 +183,6 @@ serve_told rows file address connections words (Serve f a n) first second third 
 serve_told rows file address connections words other first second third are told =
     absurd (apart (named (codes "serve", rows) other told) refl)
 
-migrate_told : (rows : List Row) (file : Text) (words : List Text) (command : Command)
-    → IsText (codes "file") rows file → drop 1 words ≡ codes "migrate" ∷ file ∷ []
-    → IsCommandOf (codes "migrate", rows) command
-    → IsSpelledBy words command
-migrate_told rows file words (Migrate f) first are told =
-    rw (← text_told (codes "file") rows file f.now first told.1) are
-migrate_told rows file words other first are told =
-    absurd (apart (named (codes "migrate", rows) other told) refl)
-
 -- ---- one file
 
 one_first : (name file : Text) → begins_with_dash file ≡ false
@@ -249,6 +209,18 @@ module _ (s : Shape) (name : Text) (own : List Text) (is : IsReadAs s name own) 
       → IsSomeAnd (Some (rows_at s own)) (λ p. IsCommandOf p command)
   read_as command read = rw (ap (subcommand_of bank_app) are ∙ is.rows program) at read
 
+-- words of a command with a file alone
+one_taken : (name : Text) → ((file : Text) → IsReadAs (one_file name) name (file ∷ [])) → (words : List Text)
+    → AskWithFile name words → takes bank_app words ≡ true
+one_taken name is words s = taken_as (one_file name) name _ (is s.1) words s.0 s.3 (one_passes name s.1 s.2)
+
+one_at_ok : (name : Text) → is_of_one_file name ≡ true → ((file : Text) → IsReadAs (one_file name) name (file ∷ []))
+    → (words : List Text) (command : Command) → IsReadFrom words command → AskWithFile name words
+    → IsSpelledBy words command
+one_at_ok name of_one is words command read s =
+    one_told name (rows_after (one_file name).rules [] (s.1 ∷ [])) s.1 words command of_one (one_first name s.1 s.2)
+    (ap (drop 1) s.3) (read_as (one_file name) name _ (is s.1) words s.0 s.3 command read)
+
 export_taken : (words : List Text) → AskToExport words → takes bank_app words ≡ true
 export_taken words (inl s) =
     taken_as file_and_after (codes "export") _ (export_all_read s.1) words s.0 s.3
@@ -259,40 +231,33 @@ export_taken words (inr s) =
 
 -- clap takes such words
 taken_on_file : (words : List Text) → IsSpelledOnFile words → takes bank_app words ≡ true
-taken_on_file words (inl s) =
-    taken_as (one_file (codes "init")) (codes "init") _ (init_read s.1) words s.0 s.3
-    (one_passes (codes "init") s.1 s.2)
+taken_on_file words (inl s) = one_taken (codes "init") init_read words s
 taken_on_file words (inr (inl s)) =
     taken_as two_files (codes "load") _ (load_read s.1 s.2) words s.0 s.5
-    (taken_to two_files (s.1 ∷ s.2 ∷ []) (two_held (codes "plan") s.1 s.2) (load_goes s.1 s.2 s.3 s.4) refl)
-taken_on_file words (inr (inr (inl s))) =
-    taken_as (one_file (codes "post")) (codes "post") _ (post_read s.1) words s.0 s.3
-    (one_passes (codes "post") s.1 s.2)
+    (taken_to two_files (s.1 ∷ s.2 ∷ []) (two_held (codes "plan") s.1 s.2)
+    (two_go two_files (codes "plan") s.1 s.2 s.3 s.4 (refl, refl, refl, refl)) refl)
+taken_on_file words (inr (inr (inl s))) = one_taken (codes "post") post_read words s
 taken_on_file words (inr (inr (inr (inl s)))) =
     taken_as file_and_numbers (codes "drive") _ (drive_read s.1 s.2 s.3) words s.0 s.7
     (drive_passes s.1 s.2 s.3 s.4 s.5 s.6)
-taken_on_file words (inr (inr (inr (inr (inl s))))) =
-    taken_as (one_file (codes "audit")) (codes "audit") _ (audit_read s.1) words s.0 s.3
-    (one_passes (codes "audit") s.1 s.2)
+taken_on_file words (inr (inr (inr (inr (inl s))))) = one_taken (codes "audit") audit_read words s
 taken_on_file words (inr (inr (inr (inr (inr (inl s)))))) =
     taken_as file_and_account (codes "statement") _ (statement_read s.1 s.2) words s.0 s.5
-    (statement_passes s.1 s.2 s.3 s.4)
+    (two_passes file_and_account (codes "account") 1 MAX_ACCOUNT s.1 s.2 s.3 s.4 (refl, refl, refl, refl)
+    (λ passes. rw passes refl))
 taken_on_file words (inr (inr (inr (inr (inr (inr (inl s))))))) =
     taken_as file_and_address (codes "serve") _ (serve_read s.1 s.2 s.3) words s.0 s.7
     (serve_passes s.1 s.2 s.3 s.4 s.5 s.6)
-taken_on_file words (inr (inr (inr (inr (inr (inr (inr (inl s)))))))) =
-    taken_as (one_file (codes "migrate")) (codes "migrate") _ (migrate_read s.1) words s.0 s.3
-    (one_passes (codes "migrate") s.1 s.2)
+taken_on_file words (inr (inr (inr (inr (inr (inr (inr (inl s)))))))) = one_taken (codes "migrate") migrate_read words s
 taken_on_file words (inr (inr (inr (inr (inr (inr (inr (inr (inl s))))))))) =
-    taken_as (one_file (codes "replay")) (codes "replay") _ (replay_read s.1) words s.0 s.3
-    (one_passes (codes "replay") s.1 s.2)
+    one_taken (codes "replay") replay_read words s
 taken_on_file words (inr (inr (inr (inr (inr (inr (inr (inr (inr (inl s)))))))))) =
     taken_as file_and_requests (codes "digest") _ (digest_read s.1 s.2) words s.0 s.5
-    (digest_passes s.1 s.2 s.3 s.4)
+    (two_passes file_and_requests (codes "requests") 0 MAX_REQUESTS s.1 s.2 s.3 s.4 (refl, refl, refl, refl)
+    (λ passes. rw passes refl))
 taken_on_file words (inr (inr (inr (inr (inr (inr (inr (inr (inr (inr (inl s))))))))))) = export_taken words s
 taken_on_file words (inr (inr (inr (inr (inr (inr (inr (inr (inr (inr (inr s))))))))))) =
-    taken_as (one_file (codes "plan")) (codes "plan") _ (plan_read s.1) words s.0 s.3
-    (one_passes (codes "plan") s.1 s.2)
+    one_taken (codes "plan") plan_read words s
 
 alone_passes : (name : Text) → level_passes (alone name) [] nothing_held [] false ≡ true
 alone_passes name =
@@ -324,21 +289,15 @@ export_at_ok words command read (inr s) =
 -- words that spell a command tell that command
 on_file_at_ok : (words : List Text) (command : Command) → IsReadFrom words command → IsSpelledOnFile words
     → IsSpelledBy words command
-on_file_at_ok words command read (inl s) =
-    init_told (rows_after (one_file (codes "init")).rules [] (s.1 ∷ [])) s.1 words command
-    (one_first (codes "init") s.1 s.2) (ap (drop 1) s.3)
-    (read_as (one_file (codes "init")) (codes "init") _ (init_read s.1) words s.0 s.3 command read)
+on_file_at_ok words command read (inl s) = one_at_ok (codes "init") refl init_read words command read s
 on_file_at_ok words command read (inr (inl s)) =
     let rows = rows_after two_files.rules [] (s.1 ∷ s.2 ∷ []) in
     let end = rows_to two_files (s.1 ∷ s.2 ∷ []) (two_held (codes "plan") s.1 s.2)
-    (load_goes s.1 s.2 s.3 s.4) in
+    (two_go two_files (codes "plan") s.1 s.2 s.3 s.4 (refl, refl, refl, refl)) in
     load_told rows s.1 s.2 words command
     (ap (first_of (codes "file")) end) (ap (first_of (codes "plan")) end) (ap (drop 1) s.5)
     (read_as two_files (codes "load") _ (load_read s.1 s.2) words s.0 s.5 command read)
-on_file_at_ok words command read (inr (inr (inl s))) =
-    post_told (rows_after (one_file (codes "post")).rules [] (s.1 ∷ [])) s.1 words command
-    (one_first (codes "post") s.1 s.2) (ap (drop 1) s.3)
-    (read_as (one_file (codes "post")) (codes "post") _ (post_read s.1) words s.0 s.3 command read)
+on_file_at_ok words command read (inr (inr (inl s))) = one_at_ok (codes "post") refl post_read words command read s
 on_file_at_ok words command read (inr (inr (inr (inl s)))) =
     let rows = rows_after file_and_numbers.rules [] (drive_words s.1 s.2 s.3) in
     let end = rows_to file_and_numbers (drive_words s.1 s.2 s.3)
@@ -349,13 +308,12 @@ on_file_at_ok words command read (inr (inr (inr (inl s)))) =
     (ap (drop 1) s.7)
     (read_as file_and_numbers (codes "drive") _ (drive_read s.1 s.2 s.3) words s.0 s.7 command read)
 on_file_at_ok words command read (inr (inr (inr (inr (inl s))))) =
-    audit_told (rows_after (one_file (codes "audit")).rules [] (s.1 ∷ [])) s.1 words command
-    (one_first (codes "audit") s.1 s.2) (ap (drop 1) s.3)
-    (read_as (one_file (codes "audit")) (codes "audit") _ (audit_read s.1) words s.0 s.3 command read)
+    one_at_ok (codes "audit") refl audit_read words command read s
 on_file_at_ok words command read (inr (inr (inr (inr (inr (inl s)))))) =
     let rows = rows_after file_and_account.rules [] (s.1 ∷ s.2 ∷ []) in
     let end = rows_to file_and_account (s.1 ∷ s.2 ∷ []) (two_held (codes "account") s.1 s.2)
-    (statement_goes s.1 s.2 s.3 (no_dash 1 MAX_ACCOUNT s.2 s.4)) in
+    (two_go file_and_account (codes "account") s.1 s.2 s.3 (no_dash 1 MAX_ACCOUNT s.2 s.4)
+    (refl, refl, refl, refl)) in
     statement_told rows s.1 s.2 words command
     (ap (first_of (codes "file")) end) (ap (one_of (codes "account")) end) (ap (drop 1) s.5)
     (read_as file_and_account (codes "statement") _ (statement_read s.1 s.2) words s.0 s.5 command read)
@@ -368,26 +326,21 @@ on_file_at_ok words command read (inr (inr (inr (inr (inr (inr (inl s))))))) =
     (ap (one_of (codes "connections")) end) (ap (drop 1) s.7)
     (read_as file_and_address (codes "serve") _ (serve_read s.1 s.2 s.3) words s.0 s.7 command read)
 on_file_at_ok words command read (inr (inr (inr (inr (inr (inr (inr (inl s)))))))) =
-    migrate_told (rows_after (one_file (codes "migrate")).rules [] (s.1 ∷ [])) s.1 words command
-    (one_first (codes "migrate") s.1 s.2) (ap (drop 1) s.3)
-    (read_as (one_file (codes "migrate")) (codes "migrate") _ (migrate_read s.1) words s.0 s.3 command read)
+    one_at_ok (codes "migrate") refl migrate_read words command read s
 on_file_at_ok words command read (inr (inr (inr (inr (inr (inr (inr (inr (inl s))))))))) =
-    replay_told (rows_after (one_file (codes "replay")).rules [] (s.1 ∷ [])) s.1 words command
-    (one_first (codes "replay") s.1 s.2) (ap (drop 1) s.3)
-    (read_as (one_file (codes "replay")) (codes "replay") _ (replay_read s.1) words s.0 s.3 command read)
+    one_at_ok (codes "replay") refl replay_read words command read s
 on_file_at_ok words command read (inr (inr (inr (inr (inr (inr (inr (inr (inr (inl s)))))))))) =
     let rows = rows_after file_and_requests.rules [] (s.1 ∷ s.2 ∷ []) in
     let end = rows_to file_and_requests (s.1 ∷ s.2 ∷ []) (two_held (codes "requests") s.1 s.2)
-    (digest_goes s.1 s.2 s.3 (no_dash 0 MAX_REQUESTS s.2 s.4)) in
+    (two_go file_and_requests (codes "requests") s.1 s.2 s.3 (no_dash 0 MAX_REQUESTS s.2 s.4)
+    (refl, refl, refl, refl)) in
     digest_told rows s.1 s.2 words command
     (ap (first_of (codes "file")) end) (ap (one_of (codes "requests")) end) (ap (drop 1) s.5)
     (read_as file_and_requests (codes "digest") _ (digest_read s.1 s.2) words s.0 s.5 command read)
 on_file_at_ok words command read (inr (inr (inr (inr (inr (inr (inr (inr (inr (inr (inl s))))))))))) =
     export_at_ok words command read s
 on_file_at_ok words command read (inr (inr (inr (inr (inr (inr (inr (inr (inr (inr (inr s))))))))))) =
-    plan_told (rows_after (one_file (codes "plan")).rules [] (s.1 ∷ [])) s.1 words command
-    (one_first (codes "plan") s.1 s.2) (ap (drop 1) s.3)
-    (read_as (one_file (codes "plan")) (codes "plan") _ (plan_read s.1) words s.0 s.3 command read)
+    one_at_ok (codes "plan") refl plan_read words command read s
 
 pub spelled_at_ok : (words : List Text) (command : Command) → IsReadFrom words command → IsSpelled words
     → IsSpelledBy words command

@@ -1,7 +1,8 @@
 -- What clap reads in the words of a command with files alone: `init`, `post`, `audit`, `replay`, `plan`, `migrate` and
 -- `load`; and in those of one with none: `encode` and `decode`.
-use Rattle.std.proofs.Common.{◌≡◌, false, refl, [], ◌∷◌, Some, codes}
-use Rattle.clap.specs.Walk.{Text, Walk, nothing_held}
+use Rattle.std.proofs.Common.{◌≡◌, false, true, refl, [], ◌∷◌, Some, codes}
+use Rattle.clap.specs.Walk.{Text, Walk, arg_by_index, nothing_held, to_positional, value}
+use Rattle.clap.specs.{Simple.Shape, Takes.step_passes}
 use Rattle.clap.proofs.OnLiterals.{clap_on_literals}
 use Rattle.command_line.specs.Words.{begins_with_dash}
 use Rattle.command_line.proofs.Shapes.{IsReadAs, alone, one_file, two_files}
@@ -57,13 +58,21 @@ abbrev pub two_held : Text → Text → Text → Walk
 two_held id file second =
     before (record { rows = row_with (codes "file") file ∷ []; pending = Some (id, second ∷ []); skip = 0 }) 3
 
-pub load_goes : (file plan : Text) → begins_with_dash file ≡ false → begins_with_dash plan ≡ false
-    → Goes two_files (before nothing_held 1) (file ∷ plan ∷ []) (two_held (codes "plan") file plan)
-load_goes file plan dash plan_dash =
-    let s = two_files in
-    let end = two_held (codes "plan") file plan in
-    value_goes s nothing_held 1 (before (file_held file) 2) end file (plan ∷ []) dash refl refl
-    (value_goes s (file_held file) 2 end end plan [] plan_dash refl refl (stops s end))
+-- the command takes FILE, and then the second value under this id
+abbrev pub TakesTwo : Shape → Text → Text → Text → Type 0
+TakesTwo s id file second = (step_passes s 1 nothing_held value ≡ true)
+    × (to_positional s.rules (arg_by_index s.rules 1) file (before nothing_held 1) nothing_held
+    ≡ before (file_held file) 2)
+    × (step_passes s 2 (file_held file) value ≡ true)
+    × (to_positional s.rules (arg_by_index s.rules 2) second (before (file_held file) 2) (file_held file)
+    ≡ two_held id file second)
+
+pub two_go : (s : Shape) (id file second : Text) → begins_with_dash file ≡ false → begins_with_dash second ≡ false
+    → TakesTwo s id file second → Goes s (before nothing_held 1) (file ∷ second ∷ []) (two_held id file second)
+two_go s id file second dash second_dash takes =
+    let end = two_held id file second in
+    value_goes s nothing_held 1 (before (file_held file) 2) end file (second ∷ []) dash takes.0 takes.1
+    (value_goes s (file_held file) 2 end end second [] second_dash takes.2 takes.3 (stops s end))
 
 pub load_read : (file plan : Text) → IsReadAs two_files (codes "load") (file ∷ plan ∷ [])
 unfolding clap_on_literals

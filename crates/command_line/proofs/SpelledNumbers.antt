@@ -1,16 +1,15 @@
 -- What clap reads in the words of a command with numbers: `statement`, `digest`, `export`, `drive` and `serve`.
-use Rattle.std.proofs.Common.{◌≡◌, true, false, refl, List, [], ◌∷◌, codes}
+use Rattle.std.proofs.Common.{◌≡◌, ℕ, true, false, refl, List, [], ◌∷◌, codes}
 use Rattle.clap.specs.Walk.{Row, Text, nothing_held, walked}
-use Rattle.clap.specs.{Takes.level_passes, Takes.turn_passes, ValueTests.accepts, Words.IsUnsignedIn}
+use Rattle.clap.specs.{Simple.Shape, Takes.level_passes, Takes.turn_passes, ValueTests.accepts, Words.IsUnsignedIn}
 use Rattle.clap.proofs.{OnLiterals.clap_on_literals, ValueTestLemmas.Accepts-accepts}
 use Rattle.clap.specs.declared.builder.value_parser.ValueParser.TheVariants.{Unsigned}
 use Rattle.load_driver.specs.declared.drive.TheConstants.{MAX_DRIVEN}
-use Rattle.message_records.specs.declared.limits.TheConstants.{MAX_ACCOUNT}
 use Rattle.command_line.specs.{declared.limits.TheConstants.MAX_CONNECTIONS, Words.begins_with_dash}
 use Rattle.command_line.specs.CommandLine.{MAX_REQUESTS, MAX_SEED}
 use Rattle.command_line.proofs.Shapes.{IsReadAs, file_and_account, file_and_address, file_and_after, file_and_numbers}
 use Rattle.command_line.proofs.Shapes.{file_and_requests}
-use Rattle.command_line.proofs.SpelledFiles.{two_held}
+use Rattle.command_line.proofs.SpelledFiles.{TakesTwo, two_go, two_held}
 use Rattle.command_line.proofs.Valued.{Goes, asked, before, ends_well, file_held, given, goes_on, no_dash}
 use Rattle.command_line.proofs.Valued.{option_goes, row_with, stops, taken_to, value_goes}
 
@@ -18,56 +17,21 @@ use Rattle.command_line.proofs.Valued.{option_goes, row_with, stops, taken_to, v
 abbrev pub with_file : Text → List Row
 with_file file = row_with (codes "file") file ∷ []
 
--- ---- a file and the number of an account
+-- ---- a file and a number, which is that of an account, or a count of requests
 
-pub statement_goes : (file account : Text) → begins_with_dash file ≡ false → begins_with_dash account ≡ false
-    → Goes file_and_account (before nothing_held 1) (file ∷ account ∷ [])
-    (two_held (codes "account") file account)
-statement_goes file account dash account_dash =
-    let s = file_and_account in
-    let end = two_held (codes "account") file account in
-    value_goes s nothing_held 1 (before (file_held file) 2) end file (account ∷ []) dash refl refl
-    (value_goes s (file_held file) 2 end end account [] account_dash refl refl (stops s end))
-
-statement_ends : (file account : Text) → accepts false (Unsigned 1 MAX_ACCOUNT) account ≡ true
-    → ends_well file_and_account (two_held (codes "account") file account).held ≡ true
-statement_ends file account passes = rw passes refl
-
-pub statement_passes : (file account : Text) → begins_with_dash file ≡ false
-    → IsUnsignedIn 1 MAX_ACCOUNT account
-    → level_passes file_and_account [] nothing_held (file ∷ account ∷ []) false ≡ true
-statement_passes file account dash account_in =
-    taken_to file_and_account (file ∷ account ∷ []) (two_held (codes "account") file account)
-    (statement_goes file account dash (no_dash 1 MAX_ACCOUNT account account_in))
-    (statement_ends file account (Accepts-accepts false (Unsigned 1 MAX_ACCOUNT) account account_in))
+pub two_passes : (s : Shape) (id : Text) (least most : ℕ) (file number : Text) → begins_with_dash file ≡ false
+    → IsUnsignedIn least most number → TakesTwo s id file number
+    → (accepts false (Unsigned least most) number ≡ true → ends_well s (two_held id file number).held ≡ true)
+    → level_passes s [] nothing_held (file ∷ number ∷ []) false ≡ true
+two_passes s id least most file number dash number_in takes ends =
+    taken_to s (file ∷ number ∷ []) (two_held id file number)
+    (two_go s id file number dash (no_dash least most number number_in) takes)
+    (ends (Accepts-accepts false (Unsigned least most) number number_in))
 
 pub statement_read : (file account : Text)
     → IsReadAs file_and_account (codes "statement") (file ∷ account ∷ [])
 unfolding clap_on_literals
 statement_read file account = record { rows = λ program. refl; taken = λ program. refl }
-
--- ---- a file and a count of requests
-
-pub digest_goes : (file requests : Text) → begins_with_dash file ≡ false → begins_with_dash requests ≡ false
-    → Goes file_and_requests (before nothing_held 1) (file ∷ requests ∷ [])
-    (two_held (codes "requests") file requests)
-digest_goes file requests dash requests_dash =
-    let s = file_and_requests in
-    let end = two_held (codes "requests") file requests in
-    value_goes s nothing_held 1 (before (file_held file) 2) end file (requests ∷ []) dash refl refl
-    (value_goes s (file_held file) 2 end end requests [] requests_dash refl refl (stops s end))
-
-digest_ends : (file requests : Text) → accepts false (Unsigned 0 MAX_REQUESTS) requests ≡ true
-    → ends_well file_and_requests (two_held (codes "requests") file requests).held ≡ true
-digest_ends file requests passes = rw passes refl
-
-pub digest_passes : (file requests : Text) → begins_with_dash file ≡ false
-    → IsUnsignedIn 0 MAX_REQUESTS requests
-    → level_passes file_and_requests [] nothing_held (file ∷ requests ∷ []) false ≡ true
-digest_passes file requests dash requests_in =
-    taken_to file_and_requests (file ∷ requests ∷ []) (two_held (codes "requests") file requests)
-    (digest_goes file requests dash (no_dash 0 MAX_REQUESTS requests requests_in))
-    (digest_ends file requests (Accepts-accepts false (Unsigned 0 MAX_REQUESTS) requests requests_in))
 
 pub digest_read : (file requests : Text)
     → IsReadAs file_and_requests (codes "digest") (file ∷ requests ∷ [])

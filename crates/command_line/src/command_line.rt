@@ -1,13 +1,12 @@
 //! The program's command line as `clap` gets it: its commands, their arguments, and the texts of help.
 ghost use Rattle.std.specs.Prelude.{◌≡◌, IfOk, false};
 ghost use Rattle.clap.specs.Words.{App, Rule, app_of, new_app, rule_of, with_rule, with_subcommand};
-ghost use Rattle.command_line.specs.CommandLine.{IsApp, audit_app, bank_alone, bank_app, drive_app, file_rule};
-ghost use Rattle.command_line.specs.CommandLine.{decode_app, digest_app, encode_app, export_app, init_app};
-ghost use Rattle.command_line.specs.CommandLine.{load_app, migrate_app, number_rule, optional_rule, plan_app};
-ghost use Rattle.command_line.specs.CommandLine.{post_app, replay_app, required_rule, serve_app, statement_app};
+ghost use Rattle.command_line.specs.CommandLine.{IsApp, bank_alone, bank_app, digest_app, drive_app, export_app};
+ghost use Rattle.command_line.specs.CommandLine.{file_rule, init_app, load_app, number_rule, optional_rule};
+ghost use Rattle.command_line.specs.CommandLine.{required_rule, serve_app, statement_app};
 
 use crate::limits::MAX_CONNECTIONS;
-use crate::texts;
+use crate::texts::{self, CommandTexts};
 use clap::builder::ValueParser;
 use clap::{Arg, Command};
 use load_driver::MAX_DRIVEN;
@@ -20,18 +19,18 @@ pub fn bank_command<'a>(alloc: Global) -> Result<Command<'a>, AllocError>
 {
     let bank = with_command(bank_alone(alloc), init_command(alloc));
     let bank = with_command(bank, load_command(alloc));
-    let bank = with_command(bank, post_command(alloc));
+    let bank = with_command(bank, command_on_file(alloc, "post", texts::POST));
     let bank = with_command(bank, drive_command(alloc));
-    let bank = with_command(bank, audit_command(alloc));
+    let bank = with_command(bank, command_on_file(alloc, "audit", texts::AUDIT));
     let bank = with_command(bank, statement_command(alloc));
-    let bank = with_command(bank, replay_command(alloc));
+    let bank = with_command(bank, command_on_file(alloc, "replay", texts::REPLAY));
     let bank = with_command(bank, digest_command(alloc));
     let bank = with_command(bank, export_command(alloc));
-    let bank = with_command(bank, plan_command(alloc));
+    let bank = with_command(bank, command_on_file(alloc, "plan", texts::PLAN));
     let bank = with_command(bank, serve_command(alloc));
-    let bank = with_command(bank, migrate_command(alloc));
-    let bank = with_command(bank, encode_command(alloc));
-    with_command(bank, decode_command(alloc))
+    let bank = with_command(bank, command_on_file(alloc, "migrate", texts::MIGRATE));
+    let bank = with_command(bank, command_alone(alloc, "encode", texts::ENCODE));
+    with_command(bank, command_alone(alloc, "decode", texts::DECODE))
 }
 
 // The command line with one more command, where both could be made. No caller has to let go of one where
@@ -61,20 +60,18 @@ fn bank_alone<'a>(alloc: Global) -> Result<Command<'a>, AllocError>
         .bin_name("bank")
 }
 
-// A command of this name with its three texts, which takes FILE first.
+// A command of this name with its texts, which takes FILE first.
 fn command_on_file<'a>(
     alloc: Global,
     name: &'a str,
-    about: &'a str,
-    at_length: &'a str,
-    details: &'a str,
+    said: CommandTexts,
 ) -> Result<Command<'a>, AllocError>
     ensures { IfOk result (IsApp (with_rule (new_app name.now) file_rule)) }
 {
     Command::new(alloc, name)
-        .about(about)
-        .long_about(at_length)
-        .after_long_help(details)
+        .about(said.about)
+        .long_about(said.at_length)
+        .after_long_help(said.details)
         .arg(required_argument(alloc, "file", "FILE", texts::FILE))
 }
 
@@ -93,107 +90,41 @@ fn with_argument<'a>(
 fn init_command<'a>(alloc: Global) -> Result<Command<'a>, AllocError>
     ensures { IfOk result (IsApp init_app) }
 {
-    let init = command_on_file(
-        alloc,
-        "init",
-        texts::INIT,
-        texts::INIT_AT_LENGTH,
-        texts::INIT_DETAILS,
-    )?;
+    let init = command_on_file(alloc, "init", texts::INIT)?;
     Ok(init.after_help(texts::INIT_EXAMPLE))
 }
 
 fn load_command<'a>(alloc: Global) -> Result<Command<'a>, AllocError>
     ensures { IfOk result (IsApp load_app) }
 {
-    let load = command_on_file(
-        alloc,
-        "load",
-        texts::LOAD,
-        texts::LOAD_AT_LENGTH,
-        texts::LOAD_DETAILS,
-    );
+    let load = command_on_file(alloc, "load", texts::LOAD);
     let plan = required_argument(alloc, "plan", "CSV", texts::PLAN_FILE);
     with_argument(load, plan)
-}
-
-fn post_command<'a>(alloc: Global) -> Result<Command<'a>, AllocError>
-    ensures { IfOk result (IsApp post_app) }
-{
-    command_on_file(
-        alloc,
-        "post",
-        texts::POST,
-        texts::POST_AT_LENGTH,
-        texts::POST_DETAILS,
-    )
 }
 
 fn drive_command<'a>(alloc: Global) -> Result<Command<'a>, AllocError>
     ensures { IfOk result (IsApp drive_app) }
 {
-    let drive = command_on_file(
-        alloc,
-        "drive",
-        texts::DRIVE,
-        texts::DRIVE_AT_LENGTH,
-        texts::DRIVE_DETAILS,
-    );
+    let drive = command_on_file(alloc, "drive", texts::DRIVE);
     let seed = number_option(alloc, "seed", "S", 0, u64::MAX, texts::SEED);
     let count = number_option(alloc, "count", "N", 1, MAX_DRIVEN, texts::COUNT);
     with_argument(with_argument(drive, seed), count)
 }
 
-fn audit_command<'a>(alloc: Global) -> Result<Command<'a>, AllocError>
-    ensures { IfOk result (IsApp audit_app) }
-{
-    command_on_file(
-        alloc,
-        "audit",
-        texts::AUDIT,
-        texts::AUDIT_AT_LENGTH,
-        texts::AUDIT_DETAILS,
-    )
-}
-
 fn statement_command<'a>(alloc: Global) -> Result<Command<'a>, AllocError>
     ensures { IfOk result (IsApp statement_app) }
 {
-    let statement = command_on_file(
-        alloc,
-        "statement",
-        texts::STATEMENT,
-        texts::STATEMENT_AT_LENGTH,
-        texts::STATEMENT_DETAILS,
-    )?;
+    let statement = command_on_file(alloc, "statement", texts::STATEMENT)?;
     let account = required_argument(alloc, "account", "ACCOUNT", texts::ACCOUNT).value_parser(
         ValueParser::unsigned(1, MAX_ACCOUNT),
     );
     statement.after_help(texts::STATEMENT_EXAMPLE).arg(account)
 }
 
-fn replay_command<'a>(alloc: Global) -> Result<Command<'a>, AllocError>
-    ensures { IfOk result (IsApp replay_app) }
-{
-    command_on_file(
-        alloc,
-        "replay",
-        texts::REPLAY,
-        texts::REPLAY_AT_LENGTH,
-        texts::REPLAY_DETAILS,
-    )
-}
-
 fn digest_command<'a>(alloc: Global) -> Result<Command<'a>, AllocError>
     ensures { IfOk result (IsApp digest_app) }
 {
-    let digest = command_on_file(
-        alloc,
-        "digest",
-        texts::DIGEST,
-        texts::DIGEST_AT_LENGTH,
-        texts::DIGEST_DETAILS,
-    )?;
+    let digest = command_on_file(alloc, "digest", texts::DIGEST)?;
     let requests = required_argument(alloc, "requests", "N", texts::REQUESTS).value_parser(
         ValueParser::unsigned(0, u64::MAX),
     );
@@ -203,39 +134,15 @@ fn digest_command<'a>(alloc: Global) -> Result<Command<'a>, AllocError>
 fn export_command<'a>(alloc: Global) -> Result<Command<'a>, AllocError>
     ensures { IfOk result (IsApp export_app) }
 {
-    let export = command_on_file(
-        alloc,
-        "export",
-        texts::EXPORT,
-        texts::EXPORT_AT_LENGTH,
-        texts::EXPORT_DETAILS,
-    );
+    let export = command_on_file(alloc, "export", texts::EXPORT);
     let after = optional_number(alloc, "after", "N", 0, u64::MAX, texts::AFTER);
     with_argument(export, after)
-}
-
-fn plan_command<'a>(alloc: Global) -> Result<Command<'a>, AllocError>
-    ensures { IfOk result (IsApp plan_app) }
-{
-    command_on_file(
-        alloc,
-        "plan",
-        texts::PLAN,
-        texts::PLAN_AT_LENGTH,
-        texts::PLAN_DETAILS,
-    )
 }
 
 fn serve_command<'a>(alloc: Global) -> Result<Command<'a>, AllocError>
     ensures { IfOk result (IsApp serve_app) }
 {
-    let serve = command_on_file(
-        alloc,
-        "serve",
-        texts::SERVE,
-        texts::SERVE_AT_LENGTH,
-        texts::SERVE_DETAILS,
-    );
+    let serve = command_on_file(alloc, "serve", texts::SERVE);
     let address = required_argument(alloc, "address", "ADDR", texts::ADDRESS);
     let connections = number_option(
         alloc,
@@ -248,57 +155,19 @@ fn serve_command<'a>(alloc: Global) -> Result<Command<'a>, AllocError>
     with_argument(with_argument(serve, address), connections)
 }
 
-fn migrate_command<'a>(alloc: Global) -> Result<Command<'a>, AllocError>
-    ensures { IfOk result (IsApp migrate_app) }
-{
-    command_on_file(
-        alloc,
-        "migrate",
-        texts::MIGRATE,
-        texts::MIGRATE_AT_LENGTH,
-        texts::MIGRATE_DETAILS,
-    )
-}
-
-// A command of this name with its three texts, which takes no argument.
+// A command of this name with its texts, which takes no argument.
 fn command_alone<'a>(
     alloc: Global,
     name: &'a str,
-    about: &'a str,
-    at_length: &'a str,
-    details: &'a str,
+    said: CommandTexts,
 ) -> Result<Command<'a>, AllocError>
     ensures { IfOk result (IsApp (new_app name.now)) }
 {
     Ok(
         Command::new(alloc, name)
-            .about(about)
-            .long_about(at_length)
-            .after_long_help(details),
-    )
-}
-
-fn encode_command<'a>(alloc: Global) -> Result<Command<'a>, AllocError>
-    ensures { IfOk result (IsApp encode_app) }
-{
-    command_alone(
-        alloc,
-        "encode",
-        texts::ENCODE,
-        texts::ENCODE_AT_LENGTH,
-        texts::ENCODE_DETAILS,
-    )
-}
-
-fn decode_command<'a>(alloc: Global) -> Result<Command<'a>, AllocError>
-    ensures { IfOk result (IsApp decode_app) }
-{
-    command_alone(
-        alloc,
-        "decode",
-        texts::DECODE,
-        texts::DECODE_AT_LENGTH,
-        texts::DECODE_DETAILS,
+            .about(said.about)
+            .long_about(said.at_length)
+            .after_long_help(said.details),
     )
 }
 

@@ -8,15 +8,15 @@ pub returns : goal.returns
 returns c =
     let init = c.with_command-bank.ensures bank_alone init_app c.bank_alone.ensures c.init_command.ensures in
     let load = c.with_command-bank-2.ensures _ load_app init c.load_command.ensures in
-    let post = c.with_command-bank-3.ensures _ post_app load c.post_command.ensures in
+    let post = c.with_command-bank-3.ensures _ post_app load c.command_on_file.ensures in
     let drive = c.with_command-bank-4.ensures _ drive_app post c.drive_command.ensures in
-    let audit = c.with_command-bank-5.ensures _ audit_app drive c.audit_command.ensures in
+    let audit = c.with_command-bank-5.ensures _ audit_app drive c.command_on_file-2.ensures in
     let statement = c.with_command-bank-6.ensures _ statement_app audit c.statement_command.ensures in
-    let replay = c.with_command-bank-7.ensures _ replay_app statement c.replay_command.ensures in
+    let replay = c.with_command-bank-7.ensures _ replay_app statement c.command_on_file-3.ensures in
     let digest = c.with_command-bank-8.ensures _ digest_app replay c.digest_command.ensures in
     let export = c.with_command-bank-9.ensures _ export_app digest c.export_command.ensures in
-    let plan = c.with_command-bank-10.ensures _ plan_app export c.plan_command.ensures in
+    let plan = c.with_command-bank-10.ensures _ plan_app export c.command_on_file-4.ensures in
     let serve = c.with_command-bank-11.ensures _ serve_app plan c.serve_command.ensures in
-    let migrate = c.with_command-bank-12.ensures _ migrate_app serve c.migrate_command.ensures in
-    let encode = c.with_command-bank-13.ensures _ encode_app migrate c.encode_command.ensures in
-    c.with_command.ensures _ decode_app encode c.decode_command.ensures
+    let migrate = c.with_command-bank-12.ensures _ migrate_app serve c.command_on_file-5.ensures in
+    let encode = c.with_command-bank-13.ensures _ encode_app migrate c.command_alone.ensures in
+    c.with_command.ensures _ decode_app encode c.command_alone-2.ensures

@@ -5,8 +5,7 @@ use Rattle.load_driver.specs.declared.drive.TheConstants.{MAX_DRIVEN}
 use Rattle.message_records.specs.declared.limits.TheConstants.{MAX_ACCOUNT}
 use Rattle.command_line.specs.CommandLine.{MAX_REQUESTS, MAX_SEED}
 use Rattle.command_line.specs.{Words.IsNumber, declared.limits.TheConstants.MAX_CONNECTIONS}
-use Rattle.command_line.proofs.Getters.{account_of_statement, after_of_export, drive_read, numbers_of_drive}
-use Rattle.command_line.proofs.Getters.{plan_of_load, requests_of_digest, serve_read, values_of_serve, within_same}
+use Rattle.command_line.proofs.Getters.{drive_read, serve_read, values_by_name, within_same}
 use Rattle.load_driver.proofs.Listed.{within}
 use Rattle.command_line.proofs.reading.command_with_values.Goals as goal
 
@@ -14,7 +13,7 @@ use Rattle.command_line.proofs.reading.command_with_values.Goals as goal
 
 pub text_in-plan-requires : goal.text_in-plan-requires
 text_in-plan-requires c =
-    plan_of_load (c.args.name.now, rows_of (found_of c.args.values.now)) c.in-load.is c.requires.more
+    (values_by_name (c.args.name.now, rows_of (found_of c.args.values.now)) c.requires.more).0 c.in-load.is
 
 pub returns-in-load-clause-command : goal.returns-in-load-clause-command
 returns-in-load-clause-command c = (c.in-load.is, c.requires.file, c.text_in-plan.ensures)
@@ -23,14 +22,12 @@ returns-in-load-clause-command c = (c.in-load.is, c.requires.file, c.text_in-pla
 
 pub number_in-seed-requires : goal.number_in-seed-requires
 number_in-seed-requires c =
-    let has = numbers_of_drive (c.args.name.now, rows_of (found_of c.args.values.now)) c.in-drive.is
-    c.requires.more in
+    let has = (values_by_name (c.args.name.now, rows_of (found_of c.args.values.now)) c.requires.more).1 c.in-drive.is in
     (0, MAX_SEED, has.0)
 
 pub number_in-count-requires : goal.number_in-count-requires
 number_in-count-requires c =
-    let has = numbers_of_drive (c.args.name.now, rows_of (found_of c.args.values.now)) c.in-drive.is
-    c.requires.more in
+    let has = (values_by_name (c.args.name.now, rows_of (found_of c.args.values.now)) c.requires.more).1 c.in-drive.is in
     (1, MAX_DRIVEN, has.1)
 
 pub returns-in-drive : goal.returns-in-drive
@@ -45,19 +42,19 @@ returns-in-drive c =
 pub number_in-number-requires : goal.number_in-number-requires
 number_in-number-requires c =
     let found = found_of c.args.values.now in
-    (1, MAX_ACCOUNT, account_of_statement (c.args.name.now, rows_of found) c.in-statement.is c.requires.more)
+    (1, MAX_ACCOUNT, (values_by_name (c.args.name.now, rows_of found) c.requires.more).2 c.in-statement.is)
 
 pub unwrap-account-requires : goal.unwrap-account-requires
 unwrap-account-requires c =
     let found = found_of c.args.values.now in
-    let has = account_of_statement (c.args.name.now, rows_of found) c.in-statement.is c.requires.more in
+    let has = (values_by_name (c.args.name.now, rows_of found) c.requires.more).2 c.in-statement.is in
     let read = c.number_in-number.ensures 1 MAX_ACCOUNT has in
     rw (c.new.ensures, within MAX_ACCOUNT c.number_in-number.result read.1 read.2) refl
 
 pub returns-in-statement-clause-command : goal.returns-in-statement-clause-command
 returns-in-statement-clause-command c =
     let found = found_of c.args.values.now in
-    let has = account_of_statement (c.args.name.now, rows_of found) c.in-statement.is c.requires.more in
+    let has = (values_by_name (c.args.name.now, rows_of found) c.requires.more).2 c.in-statement.is in
     let number = c.number_in-number.result in
     let read = c.number_in-number.ensures 1 MAX_ACCOUNT has in
     let same : number ≡ c.unwrap-account.result =
@@ -73,31 +70,30 @@ returns-in-statement-clause-command c =
 pub number_in-requests-requires : goal.number_in-requests-requires
 number_in-requests-requires c =
     let found = found_of c.args.values.now in
-    (0, MAX_REQUESTS, requests_of_digest (c.args.name.now, rows_of found) c.in-digest.is c.requires.more)
+    (0, MAX_REQUESTS, (values_by_name (c.args.name.now, rows_of found) c.requires.more).4 c.in-digest.is)
 
 pub returns-in-digest-clause-command : goal.returns-in-digest-clause-command
 returns-in-digest-clause-command c =
     let found = found_of c.args.values.now in
-    let has = requests_of_digest (c.args.name.now, rows_of found) c.in-digest.is c.requires.more in
+    let has = (values_by_name (c.args.name.now, rows_of found) c.requires.more).4 c.in-digest.is in
     (c.in-digest.is, c.requires.file, (c.number_in-requests.ensures 0 MAX_REQUESTS has).0)
 
 pub returns-in-export-clause-command : goal.returns-in-export-clause-command
 returns-in-export-clause-command c =
     let found = found_of c.args.values.now in
-    let has = after_of_export (c.args.name.now, rows_of found) c.in-export.is c.requires.more in
+    let has = (values_by_name (c.args.name.now, rows_of found) c.requires.more).5 c.in-export.is in
     (c.in-export.is, c.requires.file, c.number_if_any-after.ensures 0 MAX_REQUESTS has)
 
 -- ---- an address and a count of connections
 
 pub number_in-connections-requires : goal.number_in-connections-requires
 number_in-connections-requires c =
-    let has = values_of_serve (c.args.name.now, rows_of (found_of c.args.values.now)) c.in-serve.is
-    c.requires.more in
+    let has = (values_by_name (c.args.name.now, rows_of (found_of c.args.values.now)) c.requires.more).3 c.in-serve.is in
     (1, MAX_CONNECTIONS, has.1)
 
 pub text_in-address-requires : goal.text_in-address-requires
 text_in-address-requires c =
-    (values_of_serve (c.args.name.now, rows_of (found_of c.args.values.now)) c.in-serve.is c.requires.more).0
+    ((values_by_name (c.args.name.now, rows_of (found_of c.args.values.now)) c.requires.more).3 c.in-serve.is).0
 
 pub returns-in-serve : goal.returns-in-serve
 returns-in-serve c =
