@@ -1,5 +1,5 @@
 -- Why the store is told to have failed, as a bank is looked for or made.
-use Rattle.std.proofs.Common.{refl, Bool, Option, Ok, Err, Result, List, ℕ, inl, inr, arith}
+use Rattle.std.proofs.Common.{refl, Bool, Option, Err, Result, List, ℕ, inl, inr, arith}
 use Rattle.std.specs.Prelude.{IfErr, IsTrue}
 use Rattle.std.proofs.lemmas.Bool.{cases_Bool}
 use Rattle.sqlite.specs.{Table.Table, Tree.Trees, State.State, State.HasCleanDisk, State.Survives, Held.Held}
@@ -14,8 +14,7 @@ use Rattle.bank_transactions.proofs.Blamed.{comes, commit_fails, failed_here, fa
 use Rattle.bank_store.specs.{MetaRow.ChecksMeta, OpenFaults.of_the_store, OpenFaults.unmade_by, OpenFaults.unread_by}
 use Rattle.bank_store.specs.StoreFaults.{CallFailed, IsOpenCall, KnowsCause, KnowsWhyUnmade, LooksIn, MakingFailed}
 use Rattle.posting_rules.specs.declared.open_fault.OpenFault.{OpenFault}
-use Rattle.posting_rules.specs.declared.open_fault.OpenFault.TheVariants.{Store, NotBlank, Blank, Foreign, Version}
-use Rattle.posting_rules.specs.declared.open_fault.OpenFault.TheVariants.{Damaged}
+use Rattle.posting_rules.specs.declared.open_fault.OpenFault.TheVariants.{Store}
 use Rattle.bank_store.proofs.Unmade.{if_err}
 
 module _ {S : Type 0} (g : Ghosts S) (old new : Held S) where
@@ -87,43 +86,26 @@ module _ {S : Type 0} (g : Ghosts S) (old mid end new : Held S) (one : IsBefore 
 
   pub known_within : (fault : OpenFault) → KnowsCause g mid end fault → KnowsCause g old new fault
   known_within Store knows = λ now. call_failed_within (knows (clean now))
-  known_within NotBlank knows = tt
-  known_within Blank knows = tt
-  known_within Foreign knows = tt
-  known_within (Version n) knows = tt
-  known_within (Damaged rule) knows = tt
+  known_within other knows = tt
 
   pub unmade_within : (fault : OpenFault) → KnowsWhyUnmade g mid end fault → KnowsWhyUnmade g old new fault
   unmade_within Store knows = λ now. elim (knows (clean now)) [
     | inl call ↦ inl (call_failed_within call)
     | inr making ↦ inr (making_failed_within making)
   ]
-  unmade_within NotBlank knows = tt
-  unmade_within Blank knows = tt
-  unmade_within Foreign knows = tt
-  unmade_within (Version n) knows = tt
-  unmade_within (Damaged rule) knows = tt
+  unmade_within other knows = tt
 
 module _ {S : Type 0} (g : Ghosts S) (old new : Held S) where
   -- where a bank was looked for before it is made
   pub unmade_as_known : (fault : OpenFault) → KnowsCause g old new fault → KnowsWhyUnmade g old new fault
   unmade_as_known Store knows = λ clean. inl (knows clean)
-  unmade_as_known NotBlank knows = tt
-  unmade_as_known Blank knows = tt
-  unmade_as_known Foreign knows = tt
-  unmade_as_known (Version n) knows = tt
-  unmade_as_known (Damaged rule) knows = tt
+  unmade_as_known other knows = tt
 
   -- what is said against the row of the bank is no failure of the store
   pub checks_known : (stored : Option StoredMeta) (r : Result (Unit {0}) OpenFault) → ChecksMeta stored r
       → IfErr r (KnowsCause g old new)
-  checks_known stored (Ok done) checks = tt
   checks_known stored (Err Store) checks = absurd checks
-  checks_known stored (Err NotBlank) checks = tt
-  checks_known stored (Err Blank) checks = tt
-  checks_known stored (Err Foreign) checks = tt
-  checks_known stored (Err (Version n)) checks = tt
-  checks_known stored (Err (Damaged rule)) checks = tt
+  checks_known stored other checks = tt
 
 -- ---- one call after another
 

@@ -8,8 +8,7 @@ use Rattle.sqlite_rules.specs.Lists.{Has}
 use Rattle.posting_rules.specs.{believed.Commands.Command, believed.Commands.AreCommands, Damage.IsUndamaged}
 use Rattle.posting_rules.specs.{declared.open_fault.OpenFault.OpenFault, declared.limits.TheConstants.MAX_DECIDED}
 use Rattle.posting_rules.specs.believed.Tables.{Tables, AreTablesOf as Show}
-use Rattle.posting_rules.specs.declared.fault.Rule.TheVariants.{Meta, Teller, Account, Balance, Request, Value, Key}
-use Rattle.posting_rules.specs.declared.fault.Rule.TheVariants.{Floor, Reference}
+use Rattle.posting_rules.specs.declared.fault.Rule.TheVariants.{Meta, Value}
 use Rattle.posting_rules.proofs.Undamaged.{undamaged}
 use Rattle.sql_meanings.proofs.Contents.{each_defined}
 use Rattle.sql_meanings.specs.believed.Entries.{Entry}
@@ -25,8 +24,7 @@ use Rattle.bank_store.specs.MetaRow.{HasOnlyRow, LacksOnlyRow}
 use Rattle.bank_store.specs.{OpenFaults.RowIsUnread, declared.presence.Presence.Presence}
 use Rattle.bank_store.specs.TablePresence.{Lacks, IsPresent, IsReadable}
 use Rattle.bank_store.specs.declared.presence.Presence.TheVariants.{Absent, Partial, Whole}
-use Rattle.posting_rules.specs.declared.open_fault.OpenFault.TheVariants.{Store, NotBlank, Blank, Foreign, Version}
-use Rattle.posting_rules.specs.declared.open_fault.OpenFault.TheVariants.{Damaged}
+use Rattle.posting_rules.specs.declared.open_fault.OpenFault.TheVariants.{Store, Blank, Foreign, Version, Damaged}
 use Rattle.store_rows.proofs.MetaRow.{has_one}
 use Rattle.walked_rows.proofs.Shown.{has_meta}
 use Rattle.bank_store.proofs.{MetaRow.other_version, Probed.as_before}
@@ -80,19 +78,9 @@ module _ (old mid new : State) (stored : Option StoredMeta) (tables : IsPresent 
   pub looked : (r : Result (Unit {0}) OpenFault) → ChecksMeta stored r → SeeksTables old new r
   looked (Ok done) checks = record { tables = tables; meta = row_is IsOurs checks; same = same }
   looked (Err Store) checks = absurd checks
-  looked (Err NotBlank) checks = absurd checks
-  looked (Err Blank) checks = absurd checks
-  looked (Err Foreign) checks = absurd checks
   looked (Err (Version n)) checks = ((tables.0, row_is (IsOfVersion n) checks), same)
   looked (Err (Damaged Meta)) checks = ((tables, inl (row_is IsNoCount checks)), same)
-  looked (Err (Damaged Teller)) checks = absurd checks
-  looked (Err (Damaged Account)) checks = absurd checks
-  looked (Err (Damaged Balance)) checks = absurd checks
-  looked (Err (Damaged Request)) checks = absurd checks
-  looked (Err (Damaged Value)) checks = absurd checks
-  looked (Err (Damaged Key)) checks = absurd checks
-  looked (Err (Damaged Floor)) checks = absurd checks
-  looked (Err (Damaged Reference)) checks = absurd checks
+  looked other checks = absurd checks
 
 -- what was found of the tables, and whether the row of the bank is the only one
 module _ (old mid new : State) (there : TablesAreFound old mid) where
@@ -126,7 +114,6 @@ module _ (old mid : State) (same : IsAsBefore old mid) where
 
   misses_at : (fault : OpenFault) → Misses mid fault → Misses old fault
   misses_at Store misses = tt
-  misses_at NotBlank misses = absurd misses
   misses_at Blank misses = present_at Absent misses
   misses_at Foreign misses = (
     present_at Partial misses.0,
@@ -143,27 +130,17 @@ module _ (old mid : State) (same : IsAsBefore old mid) where
       | inr (ours, lacks) ↦ inr (meta_at IsOurs ours, subst (LacksOnlyRow VERSION) same.now_is lacks)
     ],
   )
-  misses_at (Damaged Teller) misses = absurd misses
-  misses_at (Damaged Account) misses = absurd misses
-  misses_at (Damaged Balance) misses = absurd misses
-  misses_at (Damaged Request) misses = absurd misses
   misses_at (Damaged Value) misses = (
     present_at Whole misses.0,
     meta_at (λ _. ⊥) misses.1,
     subst HasOtherValue same.now_is misses.2,
   )
-  misses_at (Damaged Key) misses = absurd misses
-  misses_at (Damaged Floor) misses = absurd misses
-  misses_at (Damaged Reference) misses = absurd misses
+  misses_at other misses = absurd misses
 
   pub reads_at : (new : State) (fault : OpenFault) → IsReadOnly {X = Unit {0}} mid new (Err fault)
       → IsReadOnly {X = Unit {0}} old new (Err fault)
   reads_at new Store reads = λ still. as_before old mid new same (reads still)
-  reads_at new NotBlank reads = as_before old mid new same reads
-  reads_at new Blank reads = as_before old mid new same reads
-  reads_at new Foreign reads = as_before old mid new same reads
-  reads_at new (Version n) reads = as_before old mid new same reads
-  reads_at new (Damaged rule) reads = as_before old mid new same reads
+  reads_at new other reads = as_before old mid new same reads
 
   -- what is found then was there before
   pub found_at : (new : State) → TablesAreFound mid new → TablesAreFound old new
@@ -231,7 +208,6 @@ not_missing stored ours (inr outside) =
 pub known : (old : State) (fault : OpenFault) (t : Tables) (log : List Command) → Misses old fault
     → Shows old.now t → AreCommands log → Show t log → fault ≡ Store
 known old Store t log misses shows are log_shown = refl
-known old NotBlank t log misses shows are log_shown = absurd misses
 known old Blank t log misses shows are log_shown = absurd (no_bank old.now t misses shows)
 known old Foreign t log misses shows are log_shown =
     absurd (lacks_none old.now t shows misses.0.1.0 misses.0.1.1 misses.0.1.2)
@@ -246,12 +222,6 @@ known old (Damaged Meta) t log misses shows are log_shown =
       | inr (ours, lacks) ↦ absurd (lacks bank.meta.checks rows (has_meta old.now t shows)
           (t.decided, refl, sound.decided))
     ]
-known old (Damaged Teller) t log misses shows are log_shown = absurd misses
-known old (Damaged Account) t log misses shows are log_shown = absurd misses
-known old (Damaged Balance) t log misses shows are log_shown = absurd misses
-known old (Damaged Request) t log misses shows are log_shown = absurd misses
 known old (Damaged Value) t log misses shows are log_shown =
     absurd (misses.1 (meta_entry VERSION t.decided ∷ []) (has_one old.now t shows))
-known old (Damaged Key) t log misses shows are log_shown = absurd misses
-known old (Damaged Floor) t log misses shows are log_shown = absurd misses
-known old (Damaged Reference) t log misses shows are log_shown = absurd misses
+known old other t log misses shows are log_shown = absurd misses

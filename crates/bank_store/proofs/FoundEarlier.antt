@@ -8,10 +8,8 @@ use Rattle.sqlite_rules.specs.Lists.{Has}
 use Rattle.posting_rules.specs.{believed.Commands.Command, believed.Commands.AreCommands, Editions.AreTablesIn}
 use Rattle.posting_rules.specs.{believed.Editions.plain, believed.Tables.Tables, believed.Tables.AreTablesOf}
 use Rattle.posting_rules.specs.{declared.limits.TheConstants.MAX_DECIDED, declared.open_fault.OpenFault.OpenFault}
-use Rattle.posting_rules.specs.declared.fault.Rule.TheVariants.{Meta, Teller, Account, Balance, Request, Value, Key}
-use Rattle.posting_rules.specs.declared.fault.Rule.TheVariants.{Floor, Reference}
-use Rattle.posting_rules.specs.declared.open_fault.OpenFault.TheVariants.{Store, NotBlank, Blank, Foreign, Version}
-use Rattle.posting_rules.specs.declared.open_fault.OpenFault.TheVariants.{Damaged}
+use Rattle.posting_rules.specs.declared.fault.Rule.TheVariants.{Meta, Teller, Value}
+use Rattle.posting_rules.specs.declared.open_fault.OpenFault.TheVariants.{Store, Blank, Foreign, Version, Damaged}
 use Rattle.posting_rules.proofs.Editions.{carries_over, has_no_floors, has_no_references, plain_are_commands}
 use Rattle.posting_rules.proofs.Undamaged.{undamaged}
 use Rattle.sql_meanings.proofs.Contents.{each_defined, held}
@@ -27,8 +25,7 @@ use Rattle.store_rows.proofs.Lacking.{lacking_refused}
 use Rattle.bank_store.specs.{Connections.IsAsBefore, Connections.IsReadOnly, FoundBank.BankIsFound, FoundBank.MetaIs}
 use Rattle.bank_store.specs.{FoundBank.Misses, OpenFaults.of_the_store, declared.presence.Presence.Presence}
 use Rattle.walked_rows.specs.Rows.{HasStoredRows}
-use Rattle.bank_store.specs.MetaRow.{ChecksCount, ChecksOnly, HasOnlyRow, IsNoCount, IsOfVersion, IsOurs}
-use Rattle.bank_store.specs.MetaRow.{LacksOnlyRow}
+use Rattle.bank_store.specs.MetaRow.{ChecksCount, ChecksOnly, HasOnlyRow, IsNoCount, IsOfVersion, IsOurs, LacksOnlyRow}
 use Rattle.bank_store.specs.Migration.{BankIsMoved, HasEarlier, HasEarlierTables, IsCounted, IsFrom, IsOfEarlier}
 use Rattle.bank_store.specs.Migration.{IsUnmoved, Migrates, Misplaces, MissesEarlier, TellsNoEarlier, IsUncounted}
 use Rattle.bank_store.specs.Migration.{MovesFound, SeeksEarlier, ShowsEarlier, earlier_probes}
@@ -196,7 +193,6 @@ module _ (from : ℕ) (old : State) (log : List Command) (it : ShowsEarlier from
   -- as one of this version it is missed for its version
   missed_as : (fault : OpenFault) → Misses old fault → TellsNoEarlier fault → fault ≡ Store
   missed_as Store misses other = refl
-  missed_as NotBlank misses other = absurd misses
   missed_as Blank misses other = absurd (lacks_meta from old.now log it misses.0)
   missed_as Foreign misses other = absurd (misses.1 (pos from) row (has_row from old.now log it) is_one)
   missed_as (Version n) misses other =
@@ -209,13 +205,8 @@ module _ (from : ℕ) (old : State) (log : List Command) (it : ShowsEarlier from
     | inr (ours, lacks) ↦ absurd (is_one.2 (ap version_in (one_row IsOurs ours).1))
   ]
   missed_as (Damaged Teller) misses other = absurd misses
-  missed_as (Damaged Account) misses other = absurd misses
-  missed_as (Damaged Balance) misses other = absurd misses
-  missed_as (Damaged Request) misses other = absurd misses
   missed_as (Damaged Value) misses other = absurd (one_row (λ _. ⊥) misses.1)
-  missed_as (Damaged Key) misses other = absurd misses
-  missed_as (Damaged Floor) misses other = absurd misses
-  missed_as (Damaged Reference) misses other = absurd misses
+  missed_as rest misses other = absurd misses
 
   within : it.tables.decided ≤ MAX_DECIDED
   within = (undamaged it.tables (plain from log) (plain_are_commands from log it.commands)
@@ -223,10 +214,7 @@ module _ (from : ℕ) (old : State) (log : List Command) (it : ShowsEarlier from
 
   not_missed : (fault : OpenFault) → MissesEarlier from old.now fault → fault ≡ Store
   not_missed Store misses = refl
-  not_missed NotBlank misses = absurd misses
-  not_missed Blank misses = absurd misses
   not_missed Foreign misses = absurd (lacks_none from old.now log it misses.0 misses.1 misses.2)
-  not_missed (Version n) misses = absurd misses
   not_missed (Damaged Meta) misses = elim misses.1 [
     | inl uncounted ↦ elim (one_row IsUncounted uncounted) [
       | inl none ↦ absurd (cc)
@@ -237,31 +225,16 @@ module _ (from : ℕ) (old : State) (log : List Command) (it : ShowsEarlier from
         (it.tables.decided, refl, within))
   ]
   not_missed (Damaged Teller) misses = absurd misses
-  not_missed (Damaged Account) misses = absurd misses
-  not_missed (Damaged Balance) misses = absurd misses
-  not_missed (Damaged Request) misses = absurd misses
   not_missed (Damaged Value) misses = absurd (one_row (λ _. ⊥) misses.1)
-  not_missed (Damaged Key) misses = absurd misses
-  not_missed (Damaged Floor) misses = absurd misses
-  not_missed (Damaged Reference) misses = absurd misses
+  not_missed other misses = absurd misses
 
   not_unmoved : TakesLacking from old.now.schema → (fault : OpenFault) → IsUnmoved from old.now fault → fault ≡ Store
   not_unmoved takes Store why = refl
-  not_unmoved takes NotBlank why = absurd why
-  not_unmoved takes Blank why = absurd why
   not_unmoved takes Foreign why =
       absurd (let own = ap of_the_store (lacking_refused from it.earlier old.now.schema takes why.0 why.2) in
       let other = why.1 in cc)
-  not_unmoved takes (Version n) why = absurd why
   not_unmoved takes (Damaged Meta) why = absurd (let none = one_row (λ stored. stored ≡ None) why in cc)
-  not_unmoved takes (Damaged Teller) why = absurd why
-  not_unmoved takes (Damaged Account) why = absurd why
-  not_unmoved takes (Damaged Balance) why = absurd why
-  not_unmoved takes (Damaged Request) why = absurd why
-  not_unmoved takes (Damaged Value) why = absurd why
-  not_unmoved takes (Damaged Key) why = absurd why
-  not_unmoved takes (Damaged Floor) why = absurd why
-  not_unmoved takes (Damaged Reference) why = absurd why
+  not_unmoved takes other why = absurd why
 
   pub not_misplaced : TakesLacking from old.now.schema → (fault : OpenFault) → Misplaces old fault → fault ≡ Store
   not_misplaced takes fault (inl misses) = missed_as fault misses.0 misses.1

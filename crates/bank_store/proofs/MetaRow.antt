@@ -14,11 +14,7 @@ use Rattle.bank_store.specs.{MetaRow.IsOfOtherType, MetaRow.IsOfVersion, MetaRow
 
 by_cause : (c : StoreError) → unread_by (Sqlite (store_error c)) ≡ Store
 by_cause cause.OutOfMemory = refl
-by_cause cause.Io = refl
-by_cause cause.Corrupt = refl
-by_cause cause.Full = refl
-by_cause cause.Broken = refl
-by_cause cause.Unstorable = refl
+by_cause other = refl
 
 -- an error of the store says nothing of the row
 by_store : (old new : State) (e : Error) → IsStoreError old new e → unread_by (Sqlite e) ≡ Store

@@ -1,11 +1,11 @@
 -- What the probes tell of several tables, and that nothing has changed.
 use Rattle.std.proofs.Common.{◌≡◌, ◌<◌, ◌+◌, suc, ℕ, Bool, true, false, List, [], ◌∷◌, ◌++◌, length, map, take}
-use Rattle.std.proofs.Common.{get_or, Ok, refl, ap, subst, ◌∙◌, inl, inr, arith}
+use Rattle.std.proofs.Common.{get_or, Ok, refl, ap, subst, ◌∙◌, inl, arith}
 use Rattle.std.proofs.{Math.Seq.take-suc, lemmas.List.map-append}
 use Rattle.std.specs.List.{AllByRecursion}
 use Rattle.sqlite.specs.{Table.Table, Effect.Database, State.State, State.HasCleanDisk, Held.Held, Held.state}
 use Rattle.sqlite_trees.specs.declared.store.Store.{Ghosts}
-use Rattle.sqlite_rules.specs.Lists.{Has}
+use Rattle.sqlite_rules.proofs.ListLemmas.{has_left, has_right}
 use Rattle.sqlite_trees.proofs.ListLemmas.{all-append}
 use Rattle.sql_meanings.specs.StatementAnswers.{TellsProbe, TellsUnderstood}
 use Rattle.store_rows.specs.{Calls.Probes, Probes.probe_of, declared.probes.BankTable.BankTable}
@@ -16,15 +16,6 @@ use Rattle.bank_store.specs.TablePresence.{IsReadable, Lacks, OneOf, IsPresent, 
 -- a table, and the statement that reads all its columns
 abbrev Probe : Type 0
 Probe = List ℕ × Table
-
-has_left : (xs ys : List Probe) (t : Probe) → Has xs t → Has (xs ++ ys) t
-has_left [] ys t has = absurd has
-has_left (x ∷ xs) ys t (inl is) = inl is
-has_left (x ∷ xs) ys t (inr has) = inr (has_left xs ys t has)
-
-has_right : (xs ys : List Probe) (t : Probe) → Has ys t → Has (xs ++ ys) t
-has_right [] ys t has = has
-has_right (x ∷ xs) ys t has = inr (has_right xs ys t has)
 
 module _ (P : Probe → Type 0) (x : Probe) (xs : List Probe) (y : Probe) (ys : List Probe) where
   abbrev both : List Probe

@@ -1,7 +1,8 @@
 -- What several steps of a walk leave of a connection.
 use Rattle.std.proofs.Common.{List, sym, subst, ◌∙◌, IsTrue}
-use Rattle.sqlite.specs.{Table.Table, Effect.Database, State.State, State.Survives}
-use Rattle.sqlite.proofs.StateLemmas.{survives_then}
+use Rattle.sqlite.specs.{Table.Table, Effect.Database, State.State}
+-- a crash leaves what it could leave before
+pub use Rattle.sql_meanings.proofs.Saying.{survives_both as quiet_then}
 use Rattle.walked_rows.specs.Pairs.{HasPairs, Pair}
 use Rattle.bank_store.specs.Walks.{IsUntouchedIfOpen, IsStill}
 
@@ -36,9 +37,3 @@ still_undone old new a is_open =
       committed_is = a.1;
       mode = a.2;
     }
-
--- a crash leaves what it could leave before
-pub quiet_then : (old mid new : State) → Survives old mid (λ _. ⊥) → Survives mid new (λ _. ⊥)
-    → Survives old new (λ _. ⊥)
-quiet_then old mid new a b =
-    survives_then old mid new (λ _. ⊥) (λ _. ⊥) (λ _. ⊥) (λ clean db h. h) (λ clean db h. h) a b

@@ -3,8 +3,7 @@ use Rattle.std.proofs.Common.{◌≡◌, ℕ, List, true, Ok, Err, Result, refl,
 use Rattle.std.specs.Prelude.{IfErr, IsSome}
 use Rattle.sqlite.specs.{Table.Table, Effect.Database, State.State, State.store_error, declared.error.Error.Error}
 use Rattle.sqlite_trees.specs.declared.error.StoreError.{StoreError}
-use Rattle.sqlite_trees.specs.declared.error.StoreError.TheVariants.{OutOfMemory, Io, Corrupt, Full, Broken}
-use Rattle.sqlite_trees.specs.declared.error.StoreError.TheVariants.{Unstorable}
+use Rattle.sqlite_trees.specs.declared.error.StoreError.TheVariants.{OutOfMemory}
 use Rattle.sqlite_schema.specs.Names.{table_named, view_named}
 use Rattle.posting_rules.proofs.Keyed.{by_test}
 use Rattle.sql_meanings.specs.Making.{KeepsTables}
@@ -21,11 +20,7 @@ use Rattle.posting_rules.specs.declared.open_fault.OpenFault.{OpenFault, TheVari
 -- what the store names is its own
 pub own_error : (cause : StoreError) → of_the_store (store_error cause) ≡ true
 own_error OutOfMemory = refl
-own_error Io = refl
-own_error Corrupt = refl
-own_error Full = refl
-own_error Broken = refl
-own_error Unstorable = refl
+own_error other = refl
 
 pub refused_because : (old new : State) (e : Error) (fault : OpenFault) → fault ≡ unmade_by e
     → CreatesBank old new (Err e) → fault ≡ NotBlank → IsRefusedOnTheWay old

@@ -1,6 +1,7 @@
 -- What a step of a walk gives, of what was read ahead.
 use Rattle.std.proofs.Common.{◌≡◌, ◌≤◌, ◌≤ℤ◌, ◌+ℤ◌, ◌+◌, pos, subst, ℕ, ℤ, zero, suc, List, [], ◌∷◌, ◌++◌, map, drop}
-use Rattle.std.proofs.Common.{length, slice_get, Some, None, Option, Result, Ok, Err, refl, sym, ap, ◌∙◌, arith}
+use Rattle.std.proofs.Common.{length, slice_get, Some, None, Option, Result, Ok, Err, sym, ap, ◌∙◌, arith}
+use Rattle.std.proofs.lemmas.List.{drop_all}
 use Rattle.posting_rules.specs.declared.fault.{Fault.Fault, Rule.Rule}
 use Rattle.posting_rules.specs.declared.fault.Fault.TheVariants as fault
 use Rattle.sqlite.specs.declared.error.Error.{Error}
@@ -58,17 +59,6 @@ same_fault r f other is that = let it = sym is ∙ that in cc
 -- after the last row none is to come
 pub none_after_end : {X : Type 0} (stage : Stage) → stage ≡ Ended → (items : List X) → coming stage items ≡ []
 none_after_end stage is items = ap (λ s. coming s items) is
-
--- a list of no length holds nothing
-pub nothing_read : {R : Type 0} (rs : List R) → length rs ≤ 0 → rs ≡ []
-nothing_read [] low = refl
-nothing_read (r ∷ rs) low = absurd (omega arith)
-
-drop_all : {X : Type 0} (n : ℕ) (xs : List X) → length xs ≤ n → drop n xs ≡ []
-drop_all zero [] low = refl
-drop_all zero (x ∷ xs) low = absurd (omega arith)
-drop_all (suc n) [] low = refl
-drop_all (suc n) (x ∷ xs) low = drop_all n xs (omega arith)
 
 next_of : {X : Type 0} (n : ℕ) (xs : List X) (x : X) → slice_get xs n ≡ Some x
     → drop n xs ≡ x ∷ drop (suc n) xs

@@ -1,10 +1,10 @@
 -- What is read ahead is what was to come.
 use Rattle.std.proofs.Common.{◌≡◌, ◌≤◌, length, filter, subst, refl, rules, arith, w64, to_z, of_z}
-use Rattle.std.proofs.lemmas.Int.{to_z-of_z}
+use Rattle.std.proofs.lemmas.{Int.to_z-of_z, List.drop_all}
 use Rattle.sqlite.specs.Held.{state}
 use Rattle.sql_meanings.specs.StatementAnswers.{IsStoreError}
 use Rattle.walked_rows.specs.StepOutcomes.{BreaksFirst}
-use Rattle.bank_store.proofs.WalkSteps.{from_rest, nothing_read, refilled, rises_on, told_of}
+use Rattle.bank_store.proofs.WalkSteps.{from_rest, refilled, rises_on, told_of}
 use Rattle.bank_store.proofs.walks.Walk.refill.Goals as goal
 
 pub returns-then-self-len : goal.returns-then-self-len
@@ -63,7 +63,7 @@ returns-in-Ok g c =
           rises_on (λ r. g.R.WalkedRow.key (g.R.WalkedRow.item r)) k from w.rows.items w.given w.rest low
           c.in-Some.is before
           _ _ (rw same at c.in-Ok.ensures.rises);
-      rest = λ low. c.in-Ok.ensures.ended (nothing_read c.read_rows-answer.new.rows.items low);
+      rest = λ low. c.in-Ok.ensures.ended (drop_all 0 c.read_rows-answer.new.rows.items low);
       going = c.requires;
       failed = tt;
     }
