@@ -10,7 +10,7 @@ use Rattle.posting_rules.specs.believed.Runs.{followed_by, posts, replies_to, Ar
 use Rattle.posting_rules.proofs.Resends.{adds_nothing, posts_both}
 use Rattle.posting_rules.proofs.Sequence.{after-append, one_reply_each}
 use Rattle.posting_core.specs.believed.Stream.{posted_records}
-use Rattle.posting_core.proofs.Timeless.{zeroed, record_zeroed, reply_zeroed}
+use Rattle.posting_core.proofs.{Again.posts_are, Timeless.zeroed, Timeless.record_zeroed, Timeless.reply_zeroed}
 
 -- ---- what replies depend on
 
@@ -200,10 +200,6 @@ resend all front (Post m b ∷ p) (Post n c ∷ r) zero (x ∷ records) e ha hp 
 records_posted : (m : ℕ) (records : List (List ℕ)) → posted_records (posts m records) ≡ records
 records_posted m [] = refl
 records_posted m (r ∷ rs) = ap (λ (xs : List (List ℕ)). r ∷ xs) (records_posted m rs)
-
-posts_are : (m : ℕ) (records : List (List ℕ)) → ArePosts (posts m records)
-posts_are m [] = tt
-posts_are m (r ∷ rs) = posts_are m rs
 
 front_replies : (log : List Command) (m n : ℕ) (records : List (List ℕ))
     → replies_to log (posts m (take n records)) ≡ take n (replies_to log (posts m records))

@@ -1,24 +1,24 @@
 -- What each stream says, as a call of the counter's life.
-use Rattle.std.proofs.Common.{◌≡◌, ◌≤◌, ℕ, zero, suc, ◌-◌, List, [], ◌∷◌, ◌++◌, length, take, drop, Option, Result}
-use Rattle.std.proofs.Common.{Ok, Err, refl, sym, ap, subst, ◌∙◌, arith, append-nil, length-append, length-take, inl}
-use Rattle.std.proofs.Common.{inr}
+use Rattle.std.proofs.Common.{◌≡◌, ◌≤◌, ℕ, List, [], ◌++◌, length, take, drop, Option, Result, Ok, Err, refl, sym, ap}
+use Rattle.std.proofs.Common.{subst, ◌∙◌, arith, append-nil, length-append, length-take, inl, inr}
 use Rattle.std.proofs.lemmas.List.Concat.{flat_map-append}
 use Rattle.std.specs.Prelude.{IfErr}
 use Rattle.posting_rules.specs.{declared.fault.Fault.Fault, believed.Commands.Command, believed.Tables.AreTablesOf}
 use Rattle.posting_rules.specs.declared.fault.Fault.TheVariants.{Memory, Store, Down, Damaged}
 use Rattle.posting_rules.specs.believed.Counter.{Seen, StandsAt, LeavesOnly, ShowsPrefix, ShowsLog, Takes, Refuses}
 use Rattle.posting_rules.specs.believed.Counter.{IsSeenUnchanged}
-use Rattle.posting_rules.specs.believed.Runs.{followed_by, replies_to, ArePosts}
+use Rattle.posting_rules.specs.believed.Runs.{followed_by, replies_to}
 use Rattle.posting_rules.proofs.{Remaining.leaves_still, Sequence.one_reply_each, Sequence.replies_to-append}
-use Rattle.posting_core.specs.believed.Batches.{Batch, joined, posts_in, posts_of}
+use Rattle.posting_core.specs.believed.Batches.{joined, posts_in, posts_of}
 use Rattle.posting_core.specs.believed.Stream.{IfBank, IsRefusedAfterBatches, Streamed, acknowledged}
 use Rattle.posting_core.specs.declared.stream.StreamFault.{StreamFault}
 use Rattle.posting_core.specs.declared.stream.StreamFault.TheVariants as stream
-use Rattle.posting_core.proofs.Stops.{stop_part}
+use Rattle.posting_core.proofs.{Batched.all_posts, Output.few_acknowledged, Stops.stop_part}
 use Rattle.counter_http.specs.{believed.Outputs.acknowledged_records, declared.fault.ServeFault.ServeFault}
 use Rattle.counter_http.specs.believed.Serving.{Exits, At_message, At_last, At_refusal}
-use Rattle.counter_http.specs.believed.Turns.{Turn, commands_in, commands_of, answers_to}
+use Rattle.counter_http.specs.believed.Turns.{Turn, commands_of, answers_to}
 use Rattle.counter_http.specs.declared.fault.ServeFault.TheVariants as serving
+use Rattle.counter_http.proofs.Outputs.{commands_of_first}
 use Rattle.branch_loader.specs.believed.Loading.{IsRefusedAfter}
 use Rattle.load_driver.specs.believed.Drives.{Drives, EndsDrive}
 use Rattle.load_driver.specs.declared.{drive.Driven.Driven, drive_fault.DriveFault.DriveFault}
@@ -105,16 +105,6 @@ module _ {C : Type 0} (seen : C → Seen) (reason : Fault → C → C → Type 0
       → IfErr result (λ fault. IfBank fault (IsRefusedAfterBatches seen reason old new r r'))
       → ((seen old).is_down → ⊥)
       → IsStream (seen old) (seen new) (posts_of did.taken) (posts_of did.refused)
-  posted_is_stream (Ok count) did refused up =
-      stood_is_stream (seen old) (seen new) (posts_of did.taken) (posts_of did.refused) up did.honest did.stands
-  posted_is_stream (Err (stream.Truncated n)) did refused up =
-      stood_is_stream (seen old) (seen new) (posts_of did.taken) (posts_of did.refused) up did.honest did.stands
-  posted_is_stream (Err stream.Read) did refused up =
-      stood_is_stream (seen old) (seen new) (posts_of did.taken) (posts_of did.refused) up did.honest did.stands
-  posted_is_stream (Err stream.Write) did refused up =
-      stood_is_stream (seen old) (seen new) (posts_of did.taken) (posts_of did.refused) up did.honest did.stands
-  posted_is_stream (Err (stream.Bank Memory)) did refused up =
-      stood_is_stream (seen old) (seen new) (posts_of did.taken) (posts_of did.refused) up did.honest did.stands
   posted_is_stream (Err (stream.Bank Store)) did refused up =
       cut_is_stream (seen old) (seen new) (posts_of did.taken) (posts_of did.refused) up did.honest
       (λ h log at. refused.refuses.down)
@@ -127,43 +117,19 @@ module _ {C : Type 0} (seen : C → Seen) (reason : Fault → C → C → Type 0
       cut_is_stream (seen old) (seen new) (posts_of did.taken) (posts_of did.refused) up did.honest
       (λ h log at. refused.refuses.down)
       (λ h log at. rw (sym (flat_map-append posts_in did.taken did.refused)) (did.survives h log at))
-
--- the bytes of so many texts acknowledge no more than these
-few_acknowledged : (xs ys : List (List ℕ)) (n : ℕ) → n ≤ length (joined xs)
-    → acknowledged (xs ++ ys) n ≤ length xs
-few_acknowledged [] [] n le = omega arith
-few_acknowledged [] (y ∷ ys) zero le = omega arith
-few_acknowledged [] (y ∷ ys) (suc n) le = absurd (omega arith)
-few_acknowledged (x ∷ xs) ys zero le = omega arith
-few_acknowledged (x ∷ xs) ys (suc n) le =
-    let fits : suc n - length x ≤ length (joined xs) = omega (arith, length-append x (joined xs)) in
-    let rest = few_acknowledged xs ys (suc n - length x) fits in
-    omega arith
+  posted_is_stream other did refused up =
+      stood_is_stream (seen old) (seen new) (posts_of did.taken) (posts_of did.refused) up did.honest did.stands
 
 few_written : (result : Result ℕ StreamFault) {r r' w w' k k' : Option (List ℕ)} {c c' : Seen}
     (did : Streamed r r' w w' k k' c c' result) (log : List Command) → c'.honest → ShowsLog c log
     → length did.written ≤ length (joined (replies_to log (posts_of did.taken)))
-few_written (Ok count) did log h shows = let e = ap length (did.replies h log shows) in omega arith
-few_written (Err (stream.Truncated n)) did log h shows =
-    let e = ap length (did.replies h log shows) in omega arith
-few_written (Err stream.Read) did log h shows = let e = ap length (did.replies h log shows) in omega arith
 few_written (Err stream.Write) did log h shows =
     omega (
       arith,
       ap length (did.replies h log shows),
       length-take (length did.written) (joined (replies_to log (posts_of did.taken))),
     )
-few_written (Err (stream.Bank fault)) did log h shows =
-    let e = ap length (did.replies h log shows) in omega arith
-
-posts_in_are : (m : ℕ) (records : List (List ℕ)) (cs : List Command) → ArePosts cs
-    → ArePosts (posts_in (record { moment = m; records = records }) ++ cs)
-posts_in_are m [] cs h = h
-posts_in_are m (x ∷ xs) cs h = posts_in_are m xs cs h
-
-posts_of_are : (bs : List Batch) → ArePosts (posts_of bs)
-posts_of_are [] = tt
-posts_of_are (b ∷ bs) = posts_in_are b.moment b.records (posts_of bs) (posts_of_are bs)
+few_written other did log h shows = let e = ap length (did.replies h log shows) in omega arith
 
 pub acknowledged_is_taken : (result : Result ℕ StreamFault) {r r' w w' k k' : Option (List ℕ)} {c c' : Seen}
     (did : Streamed r r' w w' k k' c c' result) (log : List Command) → c'.honest → ShowsLog c log
@@ -175,7 +141,7 @@ acknowledged_is_taken result did log h shows =
     ∙ replies_to-append log taken (posts_of did.refused) in
     let few = few_acknowledged (replies_to log taken) (replies_to (followed_by log taken) (posts_of did.refused))
     (length did.written) (few_written result did log h shows) in
-    rw split (omega (arith, few, one_reply_each log taken (posts_of_are did.taken)))
+    rw split (omega (arith, few, one_reply_each log taken (all_posts did.taken)))
 
 -- ---- a connection
 
@@ -207,20 +173,9 @@ module _ {C : Type 0} (seen : C → Seen) (E : Type 0) (old new : C) where
       (subst (λ x. IsStream (seen old) (seen old) (commands_of x) (commands_of refused)) (sym none)
       (stood_is_stream (seen old) (seen old) [] (commands_of refused) up (λ h. h) (λ h log at. at)))
 
-fewer_commands : (n : ℕ) (turns : List Turn) → length (commands_of (take n turns)) ≤ length (commands_of turns)
-fewer_commands zero turns = omega arith
-fewer_commands (suc n) [] = omega arith
-fewer_commands (suc n) (t ∷ turns) =
-    omega (
-      arith,
-      fewer_commands n turns,
-      length-append (commands_in t) (commands_of turns),
-      length-append (commands_in t) (commands_of (take n turns)),
-    )
-
 pub answered_is_taken : (log : List Command) (turns : List Turn) (bytes : ℕ)
     → acknowledged_records log turns bytes ≤ length (commands_of turns)
-answered_is_taken log turns bytes = fewer_commands (acknowledged (answers_to log turns) bytes) turns
+answered_is_taken log turns bytes = commands_of_first (acknowledged (answers_to log turns) bytes) turns
 
 -- ---- openings, and a drive
 
