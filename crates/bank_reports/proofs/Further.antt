@@ -6,10 +6,9 @@ use Rattle.std.specs.Io.KnownBytes.{Appends}
 use Rattle.std.proofs.{KnownBytes.Appends-nil, KnownBytes.Appends-trans}
 use Rattle.std.proofs.lemmas.List.{length-append, map-append}
 use Rattle.message_records.specs.declared.limits.TheConstants.{MAX_BALANCE}
-use Rattle.posting_rules.specs.declared.fault.{Fault.Fault, Rule.Rule}
+use Rattle.posting_rules.specs.declared.fault.{Fault.Fault}
 use Rattle.posting_rules.specs.declared.fault.Fault.TheVariants.{Memory, Store, Down, Damaged}
-use Rattle.posting_rules.specs.declared.fault.Rule.TheVariants.{Meta, Teller, Account, Balance, Request, Value, Key}
-use Rattle.posting_rules.specs.declared.fault.Rule.TheVariants.{Floor, Reference}
+use Rattle.posting_rules.specs.declared.fault.Rule.TheVariants.{Balance, Value}
 use Rattle.walked_rows.specs.{declared.stated.StatedPosting.StatedPosting, Pairs.Pair}
 use Rattle.walked_rows.specs.Stored.{BreaksStated, stated_pair}
 use Rattle.report_contents.specs.{Lines.text_of}
@@ -18,7 +17,7 @@ use Rattle.report_contents.proofs.Joined.{text_of-snoc}
 use Rattle.report_contents.proofs.Written.{same_all, same_part, then_part, whole_part}
 use Rattle.bank_store.specs.Walking.{Steps}
 use Rattle.bank_reports.specs.declared.fault.ReportFault.{ReportFault}
-use Rattle.bank_reports.specs.declared.fault.ReportFault.TheVariants.{NoAccount, Write, Bank}
+use Rattle.bank_reports.specs.declared.fault.ReportFault.TheVariants.{Write, Bank}
 use Rattle.bank_reports.specs.Postings.{delta_of, sum_of, WritesLine, WritesPostings, Why}
 use Rattle.bank_reports.proofs.Lined.{lines-snoc, sum_of-snoc}
 
@@ -79,12 +78,19 @@ module _ (all : List Pair) (old : Option (List ℕ)) where
           many = length-append far.given (r ∷ []) ∙ ap (λ n. n + 1) far.many;
         }
 
-    line_damaged : (rule : Rule) → WritesLine r balance mid new (Err (Bank (Damaged rule)))
-        → WritesPostings all old new (Err (Bank (Damaged rule)))
-    line_damaged Meta wrote = absurd wrote
-    line_damaged Teller wrote = absurd wrote
-    line_damaged Account wrote = absurd wrote
-    line_damaged Balance wrote = record {
+    -- a line that ended it
+    pub line_err : (fault : ReportFault) → WritesLine r balance mid new (Err fault)
+        → WritesPostings all old new (Err fault)
+    line_err Write wrote = record {
+      given = far.given ++ r ∷ [];
+      rest = left;
+      are = are_more far.given r coming left is far.are;
+      why = tt;
+      wrote = same_part old new (text_more far.given r)
+          (then_part old mid new _ _ far.wrote
+          (same_part mid new (ap (λ (z : ℤ). posting_line r (z +ℤ delta_of r)) far.sum) wrote));
+    }
+    line_err (Bank (Damaged Balance)) wrote = record {
       given = far.given;
       rest = coming;
       are = far.are;
@@ -96,29 +102,7 @@ module _ (all : List Pair) (old : Option (List ℕ)) where
           (subst (λ (o : Option (List ℕ)). Appends old o (text_of (posting_lines (pos 0) far.given)))
           (sym wrote.0) far.wrote);
     }
-    line_damaged Request wrote = absurd wrote
-    line_damaged Value wrote = absurd wrote
-    line_damaged Key wrote = absurd wrote
-    line_damaged Floor wrote = absurd wrote
-    line_damaged Reference wrote = absurd wrote
-
-    -- a line that ended it
-    pub line_err : (fault : ReportFault) → WritesLine r balance mid new (Err fault)
-        → WritesPostings all old new (Err fault)
-    line_err NoAccount wrote = absurd wrote
-    line_err Write wrote = record {
-      given = far.given ++ r ∷ [];
-      rest = left;
-      are = are_more far.given r coming left is far.are;
-      why = tt;
-      wrote = same_part old new (text_more far.given r)
-          (then_part old mid new _ _ far.wrote
-          (same_part mid new (ap (λ (z : ℤ). posting_line r (z +ℤ delta_of r)) far.sum) wrote));
-    }
-    line_err (Bank Memory) wrote = absurd wrote
-    line_err (Bank Store) wrote = absurd wrote
-    line_err (Bank Down) wrote = absurd wrote
-    line_err (Bank (Damaged rule)) wrote = line_damaged rule wrote
+    line_err other wrote = absurd wrote
 
   module _ (coming : List Pair) (new : Option (List ℕ)) (balance : ℤ) (count : ℕ)
       (far : IsFar all coming old new balance count) where

@@ -4,7 +4,8 @@ use Rattle.std.specs.Prelude.{OnErr, OnOk}
 use Rattle.posting_rules.specs.{declared.fault.Fault.Fault, declared.fault.Rule.Rule, believed.Commands.Command}
 use Rattle.posting_rules.specs.{believed.Runs.followed_by, believed.Tables.AreTablesOf}
 use Rattle.posting_rules.specs.declared.fault.Fault.TheVariants.{Memory, Store, Down, Damaged}
-use Rattle.posting_rules.specs.believed.Counter.{Seen, ShowsLog, StandsAt, Refuses, LeavesNoMore, LeavesOnly}
+use Rattle.posting_rules.specs.believed.Counter.{Seen, ShowsLog, StandsAt, Refuses, LeavesOnly}
+use Rattle.posting_rules.proofs.Remaining.{leaves_still}
 use Rattle.bank_reports.specs.{declared.fault.ReportFault.ReportFault, Postings.HasAnswered, Postings.HasWritten}
 use Rattle.bank_reports.specs.declared.fault.ReportFault.TheVariants.{NoAccount, Write, Bank}
 
@@ -62,13 +63,6 @@ written_of (Err NoAccount) found answered = absurd (found refl)
 written_of (Err Write) found answered = tt
 written_of (Err (Bank fault)) found answered = absurd answered
 
-leaves_same : (old new : Seen) (log : List Command) → LeavesNoMore old new
-    → LeavesOnly old (λ t. AreTablesOf t log) → LeavesOnly new (λ t. AreTablesOf t log)
-leaves_same old new log no_more only remains left =
-    let before = no_more remains left in
-    let it = only before.0 before.1 in
-    (it.0, before.2 it.0 it.1, it.2)
-
 -- a call that was refused for want of anything but memory leaves the counter down
 pub refused_down : (fault : Fault) (old new : Seen) (commands : List Command) → (fault ≡ Memory → ⊥)
     → Refuses fault old new commands → new.is_down
@@ -98,9 +92,9 @@ none_taken (suc n) = refl
 pub refused_leaves : (fault : Fault) (old new : Seen) → Refuses fault old new [] → new.honest
     → (log : List Command) → StandsAt old log
     → LeavesOnly new (λ t. AreTablesOf t log)
-refused_leaves Memory old new refused honest log at = leaves_same old new log refused.left at.survives
+refused_leaves Memory old new refused honest log at = leaves_still old new (λ t. AreTablesOf t log) refused.left at.survives
 refused_leaves Store old new refused honest log at = λ remains left.
     let it = refused.survives honest log at remains left in
     (it.0, it.1, subst (λ cs. AreTablesOf it.0 (followed_by log cs)) (none_taken it.2.count) it.2.shows)
-refused_leaves Down old new refused honest log at = leaves_same old new log refused.left at.survives
+refused_leaves Down old new refused honest log at = leaves_still old new (λ t. AreTablesOf t log) refused.left at.survives
 refused_leaves (Damaged rule) old new refused honest log at = absurd (refused.never_shown honest log at.shows)
