@@ -1,18 +1,15 @@
 -- Whatever refers to a table with no foreign key of its own, an edit leaves in it what the edit says.
-use Rattle.sql_meanings.specs.Names.{ℕ, List, [], length, Ok, Result, Some, None, Option, ℤ, filter_map, flat_map}
+use Rattle.sql_meanings.specs.Names.{ℕ, List, [], length, Ok, Some, None, Option, ℤ, filter_map, flat_map}
 use Rattle.sql_meanings.specs.Names.{list_any, Schema, Table, Trees, Keys, Reference, ParentKey, parent_key, Deed}
 use Rattle.sql_meanings.specs.Names.{Has, taken_by, work_by, work_for, works, pairs, deed_for, Leads, Writes}
 use Rattle.sql_meanings.proofs.Names.{suc, zero, refl, nat_lt, ap, sym, subst, ◌∙◌, inl, inr, cases_Bool, all_has}
-use Rattle.sql_meanings.proofs.Names.{has_either, has_left, has_right}
+use Rattle.sql_meanings.proofs.Names.{has_either, has_left, has_right, same_value}
 use Rattle.std.specs.List.{cons_option}
 use Rattle.sqlite_value.specs.Order.{Row}
 use Rattle.sqlite_rules.specs.Edit.{Edit, Applies, edited}
 use Rattle.sqlite_rules.specs.Action.{Work, loses, Acts, ActsOn, Goes, refuses, max_depth, action_edit, End}
 use Rattle.sql_meanings.specs.believed.Making.{Stands}
 use Rattle.std.specs.Prelude.{◌≡◌, ◌≢◌, ◌+◌, ◌==◌, ◌∷◌, ◌&&◌, ◌⊎◌}
-
-ok_same : {B E : Type 0} {a b : B} → ◌≡◌ {A = Result B E} (Ok a) (Ok b) → a ≡ b
-ok_same e = cc
 
 abbrev Good : Schema → Work → Type 0
 Good schema w = Has schema.tables w.child × Has w.child.references w.ref
@@ -124,7 +121,7 @@ module _ (schema : Schema) (keys : Keys) where
 
     -- all that is set off leaves a table with no foreign key
     pub settles : (n : ℕ) (next : Trees) → Rests (Leads schema keys n) next
-    settles zero next db stack good h = ap (λ (t : Trees). t table.tree) (ok_same h.1)
+    settles zero next db stack good h = ap (λ (t : Trees). t table.tree) (same_value h.1)
     settles (suc n) next db stack good (below, w, is, acts) =
         acts_now (Leads schema keys n) db next (settles n next) below w
         (good w (subst (λ l. Has l w) (sym is) (has_right below (w ∷ []) w (inl refl))))

@@ -1,5 +1,5 @@
 -- The test of a column against a parameter, and an UPDATE by it.
-use Rattle.sql_meanings.specs.Names.{ℕ, List, [], Ok, Some, None, slice_get, Bool, true, false, cond, Compare, Eq}
+use Rattle.sql_meanings.specs.Names.{ℕ, List, [], Ok, Some, None, slice_get, Bool, true, false, Compare, Eq}
 use Rattle.sql_meanings.specs.Names.{column_named, place_of, Column, Program, Term, col, op2, Schema, Table, Expr}
 use Rattle.sql_meanings.specs.Names.{out-Expr, Expr-F, Parsed, Inner, Output, Carried, nothing, chosen, Name, Context}
 use Rattle.sql_meanings.specs.Names.{declared, compared, affinity_of, converted, may_be_text, lower_to, compiled}
@@ -7,7 +7,7 @@ use Rattle.sql_meanings.specs.Names.{first, with_command}
 use Rattle.sql_meanings.proofs.Names.{suc, refl, nat_lt, ◌∙◌}
 use Rattle.sqlite_value.specs.declared.keys.Collation.TheVariants.{Binary}
 use Rattle.sqlite_schema.specs.declared.command.Command.TheVariants.{Update}
-use Rattle.sqlite_resolve.specs.{declared.compare.Affinity.Affinity, Compare.of_column, Compare.of_declared}
+use Rattle.sqlite_resolve.specs.{Compare.of_column, Compare.of_declared}
 use Rattle.sql_meanings.proofs.{Columns.over_one, Columns.column_is, Statements.HasTable, Statements.updates}
 use Rattle.sql_meanings.proofs.Expressions.{st, lower_parameter, lower_column, lower_equal}
 use Rattle.sqlite_ast.specs.declared.Binary.TheVariants as binary
@@ -16,6 +16,7 @@ use Rattle.sqlite_resolve.specs.declared.compare.Affinity.TheVariants as affinit
 use Rattle.sqlite_resolve.specs.Write as w
 use Rattle.sqlite_resolve.specs.Program as prog
 use Rattle.std.specs.Prelude.{◌≡◌, ◌-◌, ◌==◌, ◌∷◌}
+use Rattle.sql_meanings.proofs.EntryLists.{either}
 
 -- a column of numbers is compared with a parameter as it is
 pub compared_is : (cx : Context) (at m : ℕ) → affinity_of cx (col 1 at) ≡ affinity.Numeric
@@ -47,10 +48,6 @@ pub key_at : (schema : Schema) (name : Name) (p : ℕ) (shown : List Output) (ma
     → affinity_of (over_one schema name p shown may) (col 1 0) ≡ affinity.Numeric
 unfolding affinity_of of_column
 key_at schema name p shown may = refl
-
-either : (b : Bool) (x : Affinity) → cond b x x ≡ x
-either true x = refl
-either false x = refl
 
 -- a parameter has no type of its own
 pub parameter_at : (schema : Schema) (name : Name) (p : ℕ) (shown : List Output) (may : Bool) (m : ℕ)

@@ -3,7 +3,7 @@ use Rattle.sql_meanings.specs.Names.{ℕ, ℤ, List, [], map, filter, find, cond
 use Rattle.sql_meanings.specs.Names.{is_eq, int_eq, match_ordering, AllByRecursion, Null, Int, Text, put_row}
 use Rattle.sql_meanings.specs.Names.{without_rowid, is_true, from_truth, binary, Compare, Eq, Binary}
 use Rattle.sql_meanings.proofs.Names.{inl, inr, refl, ap, ◌∙◌, Less, Equal, Greater, Ordering, int_cmp, arith, ints}
-use Rattle.sql_meanings.proofs.Names.{cases_Bool, value_cmp-Int}
+use Rattle.sql_meanings.proofs.Names.{cases_Bool, value_cmp-Int, and-true}
 use Rattle.sqlite.specs.{Tree.has_rowid, Cast.cast}
 use Rattle.sqlite_sql.specs.Ops.{unary}
 use Rattle.sqlite_value.specs.Order.{value_cmp}
@@ -11,9 +11,12 @@ use Rattle.sqlite_trees.proofs.ListLemmas.{filter-map}
 use Rattle.sqlite_schema.specs.declared.schema.Kind.TheVariants.{Integer}
 use Rattle.sql_meanings.specs.believed.Entries.{Entry, Rise, has_key, stored}
 use Rattle.sql_meanings.specs.Entries.{listed, put}
-use Rattle.std.specs.Prelude.{◌≡◌, ◌∷◌}
+use Rattle.std.specs.Prelude.{◌≡◌, ◌∷◌, ◌&&◌}
 
 -- a choice between the same
+pub and_both : (a b : Bool) → (a && (b && true)) ≡ (a && b)
+and_both a b = ap (λ c. a && c) (and-true b)
+
 pub either : {X : Type 0} (b : Bool) (x : X) → cond b x x ≡ x
 either true x = refl
 either false x = refl

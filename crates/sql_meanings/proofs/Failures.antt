@@ -1,6 +1,5 @@
 -- What the ways to fail have in common.
-use Rattle.sql_meanings.specs.Names.{false, Table, State, store_error, Error, StoreError, OutOfMemory, Io}
-use Rattle.sql_meanings.specs.Names.{Corrupt, Full, Broken, Unstorable}
+use Rattle.sql_meanings.specs.Names.{false, Table, State, store_error, Error, StoreError, OutOfMemory}
 use Rattle.sql_meanings.proofs.Names.{inl, inr, refl, ap, ◌∙◌}
 use Rattle.sql_meanings.specs.believed.StatementAnswers.{is_taken_key}
 use Rattle.sql_meanings.specs.StatementAnswers.{PutFails, SetFails}
@@ -8,11 +7,7 @@ use Rattle.std.specs.Prelude.{◌≡◌}
 
 store_other : (cause : StoreError) → is_taken_key (store_error cause) ≡ false
 store_other OutOfMemory = refl
-store_other Io = refl
-store_other Corrupt = refl
-store_other Full = refl
-store_other Broken = refl
-store_other Unstorable = refl
+store_other other = refl
 
 module _ (old new : State) (table : Table) (P : Type 0) (e : Error) where
   -- the same, where that there are no such rows is said in another way

@@ -6,7 +6,7 @@ use Rattle.sql_meanings.specs.Names.{SchemaTooBig, index_named, same_name, table
 use Rattle.sql_meanings.specs.Names.{planned, timed, meaning, returning, command, create_table, creates, is_attached}
 use Rattle.sql_meanings.specs.Names.{is_reserved, with_command}
 use Rattle.sql_meanings.proofs.Names.{refl, sym, ap, ◌∙◌, inl, inr, append-nil, suc, zero, and_right, cases_Bool}
-use Rattle.sql_meanings.proofs.Names.{or_parts}
+use Rattle.sql_meanings.proofs.Names.{or_parts, not-false}
 use Rattle.sqlite.specs.Command.TheVariants.{CreateTable as MakeTable}
 use Rattle.sqlite_ast.specs.declared.CreateTable.{CreateTable}
 use Rattle.sqlite_catalog.proofs.StepLemmas.{no_table, no_index, no_view}
@@ -79,17 +79,13 @@ counting_still xs ys h = at_place (position_from test 0 xs) refl h
         there None found h = absurd (cc)
         there (Some t) found h = rw (placed_more test xs ys 0 at is, there_still xs ys at t found) refl
 
-not_false : (b : Bool) → not b ≡ false → b ≡ true
-not_false true h = refl
-not_false false h = absurd (cc)
-
 -- a table that counts no rows needs none
 pub needs_none : (schema : Schema) (t : Table) → t.is_counted ≡ false → lacks_sequence schema ≡ false
     → lacks_sequence (created schema t) ≡ false
 needs_none schema t uncounted has = elim (cases_Bool (counts_rows schema)) [
   | inl some ↦
       let there : not (is_some (sequence schema)) ≡ false = rw some at has in
-      let still = counting_still schema.tables (record t { tree = next_tree schema } ∷ []) (not_false _ there) in
+      let still = counting_still schema.tables (record t { tree = next_tree schema } ∷ []) (not-false _ there) in
       ap (λ b. counts_rows (created schema t) && not b) still ∙ and_right (counts_rows (created schema t)) false refl
   | inr none ↦
       ap (λ b. b && not (is_some (sequence (created schema t)))) (counts_created schema t uncounted none)

@@ -1,8 +1,8 @@
 -- What a keyed SELECT answers.
-use Rattle.sql_meanings.specs.Names.{ℕ, ℤ, List, [], length, map, filter, find, cond, Bool, true, false, Some, None}
+use Rattle.sql_meanings.specs.Names.{ℕ, ℤ, List, [], map, filter, find, cond, Bool, true, false, Some, None}
 use Rattle.sql_meanings.specs.Names.{Option, flat_map, Value, Int, Row, Term, Env, eval_all, holds, col, IsAnswerAs}
 use Rattle.sql_meanings.specs.Names.{matches_as, inner, end, output, Trees}
-use Rattle.sql_meanings.proofs.Names.{refl, sym, ap, subst, ◌∙◌, arith, length_permutation, map-map}
+use Rattle.sql_meanings.proofs.Names.{refl, sym, ap, subst, ◌∙◌, length_permutation, map-map, nil_from_length}
 use Rattle.std.specs.List.Sorted.{IsPermutation}
 use Rattle.sqlite.specs.Query.{Output}
 use Rattle.sqlite.proofs.Callers.{one_permutation}
@@ -39,15 +39,11 @@ keyed_matches lost db k more (e ∷ es) =
     ∙ rw (when_met k more e, keyed_matches lost db k more es)
     (sym (map_cond (met k more) (has_key k e) e (filter (has_key k) es)))
 
-none_permuted : {X : Type 0} (ys : List X) → length ys ≡ 0 → ys ≡ []
-none_permuted [] h = refl
-none_permuted (y ∷ ys) h = absurd (omega arith)
-
 -- a list of one element at most has one order
 pub small_permutation : {X Y : Type 0} (f : X → Y) (o : Option X) (ys : List Y)
     → IsPermutation (map f (listed o)) ys
     → ys ≡ map f (listed o)
-small_permutation f None ys h = none_permuted ys (length_permutation [] ys h)
+small_permutation f None ys h = nil_from_length ys (length_permutation [] ys h)
 small_permutation f (Some x) ys h = one_permutation (f x) ys h
 
 -- the rows that a keyed query shows are those of the entry with the key

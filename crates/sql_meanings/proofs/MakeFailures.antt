@@ -14,7 +14,7 @@ use Rattle.sqlite_catalog.specs.declared.error.Refusal.TheVariants.{BadText, Vio
 use Rattle.sql_meanings.specs.Making.{CreatesOnly, IsMakeable, NotMade, RefusesNew}
 use Rattle.sql_meanings.specs.StatementAnswers.{MakeFails, MakesTold}
 use Rattle.sql_meanings.proofs.{Makings.made_by, NumberRows.none_indexed, Stopping.Stops, Stopping.fails_for}
-use Rattle.sql_meanings.proofs.{Stopping.stops, PuttingIn.never, PuttingIn.stopped, Writing.same_value}
+use Rattle.sql_meanings.proofs.{Stopping.stops, PuttingIn.never, PuttingIn.stopped, Names.same_value}
 use Rattle.std.specs.Prelude.{◌≡◌, ◌⊎◌, ◌+◌, ◌^◌, ◌==◌, ◌≤◌}
 
 module _ (text : List ℕ) (t : Table) (make : IsMakeable text t) (db : Database) where

@@ -1,15 +1,16 @@
 -- A CREATE TABLE inside a transaction, done: the table is there and empty, and what stood stands on.
 use Rattle.sql_meanings.specs.Names.{ℕ, List, [], None, Ok, Err, Result, false, unwrap_or, Table, Row, CreateTable}
 use Rattle.sql_meanings.specs.Names.{Database, IsDatabase, understood, Does, MakesSequence, MakesTable, Tally}
-use Rattle.sql_meanings.specs.Names.{no_rows, Gives, Then, State, ExecutesIn, Executes, ExecutesInside, KeepsCommit}
-use Rattle.sql_meanings.specs.Names.{IsUnchanged, IsRolledBack, KeepsCounts, mode_of, Error}
+use Rattle.sql_meanings.specs.Names.{no_rows, Gives, Then, State, ExecutesIn, Executes, ExecutesInside}
+use Rattle.sql_meanings.specs.Names.{KeepsCounts, mode_of, Error}
 use Rattle.sql_meanings.proofs.Names.{inl, inr, refl, sym, ap, subst, ◌∙◌, IsPlain, command_of, runs_as, through}
 use Rattle.sqlite.proofs.Callers.{statement_of}
 use Rattle.sql_meanings.specs.{believed.Entries.IsTree, believed.Making.Stands, StatementAnswers.WriteKept}
 use Rattle.sql_meanings.specs.believed.Tables.{Holds, placed_at, tree_of, width_of}
 use Rattle.sql_meanings.specs.Making.{AddsTable, CreatesOnly}
-use Rattle.sql_meanings.proofs.{Defining.stands_defined, TableStands.adds, Writing.same_value}
-use Rattle.std.specs.Prelude.{◌≡◌, ◌⊎◌}
+use Rattle.sql_meanings.proofs.{Defining.stands_defined, TableStands.adds, Names.same_value}
+use Rattle.std.specs.Prelude.{◌≡◌}
+pub use Rattle.sqlite.proofs.InsideLemmas.{unchanged_keeps as keeps_commit}
 
 -- whatever is executed inside
 pub kept_inside : (old new : State) (text : List ℕ) (params : Row) (r : Result ℕ Error)
@@ -20,10 +21,6 @@ kept_inside old new text params (Err e) (inl h) = h.1
 kept_inside old new text params (Err e) (inr h) = inl h.2
 
 -- a failure commits nothing
-pub keeps_commit : (old new : State) → IsUnchanged old new ⊎ IsRolledBack old new → KeepsCommit old new
-keeps_commit old new (inl same) = record { was_open = λ _. same.0.was_open; committed = λ _. same.0.committed_is }
-keeps_commit old new (inr back) = record { was_open = back.was_open; committed = λ live. (back.undone live).1 }
-
 -- a command that makes a table counts no rows
 counts_none : (old : State) (after : Database) (text : List ℕ) (tally : Tally)
     → Does old.step_limit (mode_of old) [] old.now text None CreateTable (Ok (tally, after))

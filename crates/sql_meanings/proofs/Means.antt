@@ -1,8 +1,7 @@
 -- What a text means under a schema, as a caller's proof takes it.
-use Rattle.sql_meanings.specs.Names.{ℕ, List, [], length, None, Ok, Err, Result, false, Schema, Row}
-use Rattle.sql_meanings.specs.Names.{Command, understood, reads_listing, State, IsNoStatement, Error, Compiled}
-use Rattle.sql_meanings.specs.Names.{CompileError, compiled}
-use Rattle.sql_meanings.proofs.Names.{inl, inr, sym, ap, subst, ◌∙◌, IsPlain, command_of}
+use Rattle.sql_meanings.specs.Names.{ℕ, List, [], length, None, Ok, Err, false, Schema, Row, Command, understood}
+use Rattle.sql_meanings.specs.Names.{reads_listing, State, IsNoStatement, Error, Compiled, compiled}
+use Rattle.sql_meanings.proofs.Names.{inl, inr, sym, ap, subst, ◌∙◌, IsPlain, command_of, same_value}
 use Rattle.std.specs.Prelude.{◌≡◌, ◌≤◌}
 
 -- one statement, with so many parameters, that is this command
@@ -51,15 +50,12 @@ module _ (schema : Schema) (text : List ℕ) (count : ℕ) (command : Command)
   plain_is = subst IsPlain (sym m.is) (m.bare, m.timeless)
 
 -- a text that means something is one statement
-same_compiled : {a b : Compiled} → ◌≡◌ {A = Result Compiled CompileError} (Ok a) (Ok b) → a ≡ b
-same_compiled e = cc
-
 -- such a text is not refused as no statement
 pub no_refusal : (text : List ℕ) (params : Row) (command : Command) (s : State) (e : Error)
     → Means s.now.schema text (length params) command → ¬ IsNoStatement s text params e
 no_refusal text params command s e m (inl h) = absurd (let it : Ok m.found ≡ Err h.0 = sym m.is ∙ h.1 in cc)
 no_refusal text params command s e m (inr h) =
-    let same : m.found ≡ h.0 = same_compiled (sym m.is ∙ h.1) in
+    let same : m.found ≡ h.0 = same_value (sym m.is ∙ h.1) in
     elim h.2 [
       | inl tail ↦ tail.0 (subst (λ (c : Compiled). length text ≤ c.tail) same m.whole)
       | inr (inl count) ↦ count.0 (subst (λ (c : Compiled). length params ≡ length c.names) same m.given)

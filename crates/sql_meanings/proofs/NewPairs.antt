@@ -5,7 +5,8 @@ use Rattle.sql_meanings.proofs.Names.{inl, inr, refl, sym, ap, ◌∙◌, Less, 
 use Rattle.sql_meanings.specs.believed.Entries.{Entry, has_key, has_two}
 use Rattle.sql_meanings.specs.{Entries.put, SeveralRows.meets_key, SeveralRows.put_each}
 use Rattle.sql_meanings.proofs.{Changes.found_passes, EntryLists.flip, TwoColumns.Clear, TwoColumns.not_both}
-use Rattle.std.specs.Prelude.{◌≡◌, ◌⊎◌, ◌||◌, ◌∷◌}
+use Rattle.std.specs.Prelude.{◌≡◌, ◌⊎◌, ◌∷◌}
+pub use Rattle.sql_meanings.proofs.Names.{or_parts as neither}
 
 -- ---- what is found
 
@@ -55,10 +56,6 @@ has_put new x (e ∷ es) free has = go (int_cmp e.key new.key) free has (has_put
     go Less free (inr has) more = inr (more free has)
     go Equal free has more = absurd cc
     go Greater free has more = inr has
-
-pub neither : (a b : Bool) → (a || b) ≡ false → (a ≡ false) × (b ≡ false)
-neither true b h = absurd cc
-neither false b h = (refl, h)
 
 -- and so they do where more are put in
 pub has_each : (news es : List Entry) (x : Entry) → meets_key news es ≡ false → Has es x → Has (put_each news es) x

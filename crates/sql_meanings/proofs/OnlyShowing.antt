@@ -4,7 +4,7 @@ use Rattle.sql_meanings.specs.Names.{Row, Command, Parsed, Compiled, CompileErro
 use Rattle.sql_meanings.specs.Names.{timed, meaning, returning, command, shows, read, understood, listing_schema}
 use Rattle.sql_meanings.specs.Names.{reads_listing, if_select, is_select, NoSuchTable, State, IsUnchanged, QueriesRow}
 use Rattle.sql_meanings.specs.Names.{QueriesRowInside, FailsToQuery, IsNotRun, Error, QueryReturnedNoRows}
-use Rattle.sql_meanings.specs.Names.{store_error, StoreError, OutOfMemory, Io, Corrupt, Full, Broken, Unstorable}
+use Rattle.sql_meanings.specs.Names.{store_error, StoreError, OutOfMemory}
 use Rattle.sql_meanings.proofs.Names.{inl, inr, refl, sym, subst, ◌∙◌}
 use Rattle.sqlite.specs.State.{Shown}
 use Rattle.sql_meanings.proofs.Statements.{compiled_select}
@@ -76,11 +76,7 @@ kept_reading old new text params (Err e) only (inr late) = absurd
 -- no fault of the store is told as no rows
 pub no_rows_error : (cause : StoreError) → ¬ (QueryReturnedNoRows ≡ store_error cause)
 no_rows_error OutOfMemory e = cc
-no_rows_error Io e = cc
-no_rows_error Corrupt e = cc
-no_rows_error Full e = cc
-no_rows_error Broken e = cc
-no_rows_error Unstorable e = cc
+no_rows_error other e = cc
 
 -- an answer of no rows has changed nothing
 pub kept_none : (old new : State) → ReadKept {X = Row} old new (Err QueryReturnedNoRows) → IsUnchanged old new

@@ -3,7 +3,7 @@ use Rattle.sql_meanings.specs.Names.{ℕ, ℤ, pos, List, [], map, filter, find,
 use Rattle.sql_meanings.specs.Names.{AllByRecursion, flat_map, list_all, is_gt, Value, Int, Row, Binary, is_true}
 use Rattle.sql_meanings.specs.Names.{binary, Compare, Gt, Trees, IsAscending, Term, Env, eval_all, holds}
 use Rattle.sql_meanings.specs.Names.{lit, col, Query, Join, IsAnswerAs, matches_as, page, inner, end, output}
-use Rattle.sql_meanings.proofs.Names.{take, refl, ap, subst, ◌∙◌, Less, int_cmp, IsPermutation, value_cmp-Int}
+use Rattle.sql_meanings.proofs.Names.{take, refl, ap, subst, ◌∙◌, Less, int_cmp, IsPermutation, value_cmp-Int, and-true}
 use Rattle.sql_meanings.proofs.Names.{map-map}
 use Rattle.sqlite.specs.{Order.value_cmp, Term.eval, Query.output_cmp, Query.Output}
 use Rattle.sqlite_sql.proofs.QueryLemmas.{output_cmp_total}
@@ -11,7 +11,7 @@ use Rattle.sql_meanings.specs.believed.Entries.{Entry, IsTree, Rise, stored}
 use Rattle.sql_meanings.specs.Entries.{is_above, listed}
 use Rattle.sql_meanings.specs.Queries.{ascending, above, key_above, query}
 use Rattle.sql_meanings.proofs.{EntryLists.Above, EntryLists.truth_back, TestedAnswers.passing, RisingOrder.sorted_is}
-use Rattle.std.specs.Prelude.{◌≡◌, ◌&&◌, ◌∷◌}
+use Rattle.std.specs.Prelude.{◌≡◌, ◌∷◌}
 
 module _ (from : Join) (tests project : List Term) (most : Term) (f : Entry → Env) (keyed : (e : Entry)
     → eval (col 1 0) (f e) ≡ Int e.key) where
@@ -74,12 +74,8 @@ int_above : (a b : ℤ) → is_true (binary (Compare Gt Binary) (Int a) (Int b))
 unfolding binary
 int_above a b = truth_back _ ∙ ap is_gt (value_cmp-Int a b)
 
-and_true : (b : Bool) → (b && true) ≡ b
-and_true true = refl
-and_true false = refl
-
 passes_above : (k : ℤ) (e : Entry) → list_all (holds ((Int k ∷ []) ∷ stored e ∷ [])) key_above ≡ is_above k e
-passes_above k e = rw (int_above e.key k) (and_true (is_above k e))
+passes_above k e = rw (int_above e.key k) (and-true (is_above k e))
 
 first_of : {X Y : Type 0} (g : X → Y) (p : X → Bool) (xs : List X)
     → take 1 (map g (filter p xs)) ≡ map g (listed (find p xs))

@@ -1,7 +1,9 @@
 -- The element at a place of a list.
-use Rattle.sql_meanings.specs.Names.{ℕ, length, List, [], slice_get, Some, AllByRecursion}
+use Rattle.sql_meanings.specs.Names.{ℕ, List, [], slice_get, Some, AllByRecursion}
 use Rattle.sql_meanings.proofs.Names.{zero, suc, drop, take, refl, sym, ap, subst, ◌∙◌, arith}
-use Rattle.std.specs.Prelude.{◌≡◌, ◌+◌, ◌<◌, ◌∷◌}
+use Rattle.std.specs.Prelude.{◌≡◌, ◌+◌, ◌∷◌}
+-- one stands at each place
+pub use Rattle.sqlite.proofs.StateLemmas.{is_cached as some_at}
 
 -- of the one at a place
 pub each_at : {X : Type 0} (P : X → Type 0) (xs : List X) → AllByRecursion P xs → (n : ℕ) (x : X)
@@ -9,12 +11,6 @@ pub each_at : {X : Type 0} (P : X → Type 0) (xs : List X) → AllByRecursion P
 each_at P [] all n x is = absurd cc
 each_at P (y ∷ xs) all zero x is = let same : y ≡ x = cc in subst P same all.0
 each_at P (y ∷ xs) all (suc n) x is = each_at P xs all.1 n x is
-
--- one stands at each place
-pub some_at : {X : Type 0} (xs : List X) (n : ℕ) → n < length xs → (x : X) × (slice_get xs n ≡ Some x)
-some_at [] n low = absurd (omega arith)
-some_at (y ∷ xs) zero low = (y, refl)
-some_at (y ∷ xs) (suc n) low = some_at xs n (omega arith)
 
 -- of one more
 pub all_more : {X : Type 0} (P : X → Type 0) (xs : List X) (n : ℕ) (x : X) → slice_get xs n ≡ Some x

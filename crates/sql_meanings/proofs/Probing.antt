@@ -6,7 +6,7 @@ use Rattle.sql_meanings.specs.Names.{table_in, bound, bounds, body, parts, named
 use Rattle.sql_meanings.specs.Names.{single, source, sources, whole, with, level, query_to, query, compiled, first}
 use Rattle.sql_meanings.specs.Names.{planned, timed, meaning, returning, command, read, understood, listing_schema}
 use Rattle.sql_meanings.specs.Names.{Error, SqlInputError, State, Fails, IsUnchanged, IsNotRun, store_error, Database}
-use Rattle.sql_meanings.specs.Names.{IsDatabase, StoreError, OutOfMemory, Io, Corrupt, Full, Broken, Unstorable}
+use Rattle.sql_meanings.specs.Names.{IsDatabase, StoreError, OutOfMemory}
 use Rattle.sql_meanings.proofs.Names.{suc, refl, ap, sym, ◌∙◌, inl, inr}
 use Rattle.sqlite_ast.specs.declared.Source.{Source as From}
 use Rattle.sqlite_schema.specs.declared.program.Table.{Table as Let}
@@ -89,11 +89,7 @@ not_run old new text e only (inr fails) = inr fails
 module _ (old new : State) (text : List ℕ) (only : OnlyShows text 0 (understood old.now.schema text)) where
   not_stored : (cause : StoreError) → is_text_refused (store_error cause) ≡ false
   not_stored OutOfMemory = refl
-  not_stored Io = refl
-  not_stored Corrupt = refl
-  not_stored Full = refl
-  not_stored Broken = refl
-  not_stored Unstorable = refl
+  not_stored other = refl
 
   by_error : (e : Error)
       → ((f : CompileError) × (e ≡ SqlInputError f) × (understood old.now.schema text ≡ Err f)

@@ -1,12 +1,11 @@
 -- Why rows can't be put in.
-use Rattle.sql_meanings.specs.Names.{ℕ, List, [], map, find, length, true, false, None, Some, Option, is_some, Ok}
-use Rattle.sql_meanings.specs.Names.{Err, AllByRecursion, Row, Schema, Trees, Table, Edit, edit_of, edited, Values}
-use Rattle.sql_meanings.specs.Names.{Command, Insert, Does, Concludes, Returns, Tested, IsDatabase, value_rows, Part}
-use Rattle.sql_meanings.specs.Names.{Gives, Edited, Task, Then, Counts, Written, count_of, stamped, State}
-use Rattle.sql_meanings.specs.Names.{ExecutesInside, IsUnchanged, mode_of, text_of, Error, SqliteFailure, Chosen}
-use Rattle.sql_meanings.specs.Names.{Compiled, fits_i64, ForeignKey, Unique, All, Enforced, Refers, are_fresh}
-use Rattle.sql_meanings.specs.Names.{left_by, Has}
-use Rattle.sql_meanings.proofs.Names.{inl, inr, refl, sym, ap, subst, ◌∙◌, ∥∥₁_elim, all_has}
+use Rattle.sql_meanings.specs.Names.{ℕ, List, [], map, find, length, true, false, None, Some, Option, is_some, Ok, Err}
+use Rattle.sql_meanings.specs.Names.{AllByRecursion, Row, Schema, Trees, Table, Edit, edit_of, edited, Values, Command}
+use Rattle.sql_meanings.specs.Names.{Insert, Does, Concludes, Returns, Tested, IsDatabase, value_rows, Part, Gives}
+use Rattle.sql_meanings.specs.Names.{Edited, Task, Then, Counts, Written, count_of, stamped, State, ExecutesInside}
+use Rattle.sql_meanings.specs.Names.{IsUnchanged, mode_of, text_of, Error, SqliteFailure, Chosen, Compiled, fits_i64}
+use Rattle.sql_meanings.specs.Names.{ForeignKey, Unique, All, Enforced, Refers, are_fresh, left_by, Has}
+use Rattle.sql_meanings.proofs.Names.{inl, inr, refl, sym, ap, subst, ◌∙◌, ∥∥₁_elim, all_has, same_value}
 use Rattle.std.proofs.Common.{fold}
 use Rattle.sqlite.specs.Rows.{Sourced, Counter, Inserts, higher, last_id}
 use Rattle.sqlite_rules.proofs.TableLemmas.{put_all_keeps}
@@ -21,7 +20,7 @@ use Rattle.sql_meanings.proofs.PutRows.{PutsAs, PutsEachAs, news_are, put_are, p
 use Rattle.sql_meanings.proofs.SeveralRows.{IsKey, fit_at, or_nothing}
 use Rattle.sql_meanings.proofs.Refusals.{EditStops, IsFit, edit_stops, forbids}
 use Rattle.sql_meanings.proofs.PuttingIn.{key_taken, never, none_in, put_in_applies, stopped}
-use Rattle.sql_meanings.proofs.Writing.{same_value, uncounted, went}
+use Rattle.sql_meanings.proofs.Writing.{uncounted, went}
 use Rattle.sqlite.specs.declared.error.ErrorCode.TheVariants as code
 use Rattle.sqlite_schema.specs.declared.command.Source.TheVariants as from
 use Rattle.std.specs.Prelude.{◌≡◌, ◌⊎◌, ◌∷◌, ◌/◌}

@@ -1,9 +1,9 @@
 -- New rows are put into a table.
-use Rattle.sql_meanings.specs.Names.{ℕ, List, [], map, find, length, is_some, Ok, Bool, not, true, false, Row, Schema}
+use Rattle.sql_meanings.specs.Names.{ℕ, List, [], map, find, length, is_some, Ok, not, true, false, Row, Schema}
 use Rattle.sql_meanings.specs.Names.{Trees, Table, Term, Edit, edit_of, edited, are_fresh, left_by, put_all, Chosen}
 use Rattle.sql_meanings.specs.Names.{Values, Insert, IsDatabase, value_rows, stamped, State, Executes, AllByRecursion}
 use Rattle.sql_meanings.specs.Names.{Enforced, Has, passes_checks, accepts_terms}
-use Rattle.sql_meanings.proofs.Names.{refl, sym, ap, subst, ◌∙◌, all_has}
+use Rattle.sql_meanings.proofs.Names.{refl, sym, ap, subst, ◌∙◌, all_has, not-false, not-true}
 use Rattle.sql_meanings.specs.believed.Entries.{HasWidth, Entry, has_key, stored}
 use Rattle.sql_meanings.specs.Entries.{AreShort, put}
 use Rattle.sql_meanings.specs.{SeveralRows.meets_key, SeveralRows.put_each, Making.SparesTables}
@@ -14,15 +14,7 @@ use Rattle.sql_meanings.proofs.Writing.{Wrote, inserts, uncounted}
 use Rattle.sql_meanings.proofs.TableWrites.{IsPlain, Leaves, steps_by}
 use Rattle.std.specs.Prelude.{◌≡◌, ◌∷◌, ◌/◌}
 
-not_false : (b : Bool) → not b ≡ true → b ≡ false
-not_false true h = absurd cc
-not_false false h = refl
-
 -- a test that fails with another that holds fails itself
-not_true : (b : Bool) → not b ≡ false → b ≡ true
-not_true true h = refl
-not_true false h = absurd cc
-
 -- with these parameters the text puts these rows into the table
 pub record PutsEachAs (table : Table) (text : List ℕ) (params : Row) (news : List Entry) : Type 0 where
   pub terms : List Term
@@ -104,7 +96,7 @@ module _ (old new : State) (t : Table) (is : IsPlain (uncounted t)) (sound : ∥
     -- where they aren't, a key is taken
     pub taken_are : are_fresh (left_by db (put_by (map stored news))) (put_by (map stored news)).news ≡ false
         → meets_key news es ≡ true
-    taken_are h = not_true _ (sym fresh_are ∙ h)
+    taken_are h = not-false _ (sym fresh_are ∙ h)
 
     -- the rows are put in their places, where their keys were free, and every other table is as it was
     pub puts_rows : (count : ℕ) → Executes text params old new (Ok count)
@@ -125,7 +117,7 @@ module _ (old new : State) (t : Table) (is : IsPlain (uncounted t)) (sound : ∥
             sound = wrote.sound;
             marks = wrote.marks;
           },
-          not_false _ (sym fresh_are ∙ wrote.fresh),
+          not-true _ (sym fresh_are ∙ wrote.fresh),
           spares (map stored news) count wrote,
         )
 

@@ -1,7 +1,6 @@
 -- The look-ups of a table that a database holds: by its key, by two columns, and of the next key.
-use Rattle.sql_meanings.specs.Names.{ℕ, ℤ, List, [], find, slice_get, Some, option_map, Result, Row, Null, Int}
-use Rattle.sql_meanings.specs.Names.{overlay, Table, Term, eval_all, IsDatabase, State, QueriesRowInside, Error}
-use Rattle.sql_meanings.specs.Names.{plain}
+use Rattle.sql_meanings.specs.Names.{ℕ, ℤ, List, [], find, slice_get, Some, option_map, Result, Row, Null, Int, overlay}
+use Rattle.sql_meanings.specs.Names.{Table, Term, eval_all, IsDatabase, State, QueriesRowInside, Error, plain}
 use Rattle.sql_meanings.proofs.{Names.get_or, Names.∥∥₁_elim, KeyedAnswers.keyed_answer, OrderedAnswers.next_answer}
 use Rattle.sql_meanings.proofs.{TwoColumns.Clear, TwoColumns.clear, TwoColumns.two_answer, TablesBeside.standing}
 use Rattle.sql_meanings.specs.believed.Entries.{Entry, has_key, has_two, stored}

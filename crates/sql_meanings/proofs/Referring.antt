@@ -1,32 +1,18 @@
 -- A foreign key that names no table's row is set off by no edit of it, and is kept by it.
-use Rattle.sql_meanings.specs.Names.{ℕ, List, [], not, Bool, true, false, Some, None, Option, find, length}
-use Rattle.sql_meanings.specs.Names.{option_and_then, filter_map, flat_map, list_all, Schema, Table, Trees, Row, All}
+use Rattle.sql_meanings.specs.Names.{ℕ, List, [], not, Bool, true, false, Some, None, Option, length}
+use Rattle.sql_meanings.specs.Names.{filter_map, flat_map, list_all, Schema, Table, Trees, Row, All}
 use Rattle.sql_meanings.specs.Names.{Keys, Enforced, Reference, same_name, ParentKey, Refers, parent_key, Deed, Has}
 use Rattle.sql_meanings.specs.Names.{is_referred, deed_for, pairs, work_by, work_for, works}
 use Rattle.sql_meanings.proofs.Names.{inl, inr, nat_lt, refl, sym, ap, subst, ◌∙◌, arith, cases_Bool, or_parts}
+use Rattle.sql_meanings.proofs.Names.{eqb-true}
 use Rattle.std.proofs.lemmas.Bool.{not-false}
-use Rattle.sqlite_schema.specs.Rules.{has_null, has_parent, is_held, is_key_if_to, key_in, key_places}
+use Rattle.sqlite_schema.specs.Rules.{has_null, has_parent, is_held, is_key_if_to}
 use Rattle.sqlite_rules.specs.Edit.{Edit}
-use Rattle.sqlite_rules.proofs.ListLemmas.{fails_has, has_found, some_from, some_has}
-use Rattle.sqlite_rules.proofs.RuleLemmas.{key_tree, parent_is_table, refers_at, refers_from}
+use Rattle.sqlite_rules.proofs.ListLemmas.{fails_has, some_from, some_has}
+use Rattle.sqlite_rules.proofs.PlaceLemmas.{named_parent}
+use Rattle.sqlite_rules.proofs.RuleLemmas.{parent_is_table, refers_at, refers_from}
 use Rattle.sql_meanings.specs.{believed.Making.Stands, StatementAnswers.is_parent}
 use Rattle.std.specs.Prelude.{◌≡◌, ◌≢◌, ◌⊎◌, ◌==◌, ◌∷◌, ◌||◌, ◌&&◌}
-
--- the table that a reference finds has its parent's name
-parent_named : (tables : List Table) (ref : Reference) (key : ParentKey) → parent_key tables ref ≡ Some key
-    → (t : Table) × Has tables t × (t.tree ≡ key.0) × (same_name t.name ref.parent ≡ true)
-parent_named tables ref key h = go (find (λ t. same_name t.name ref.parent) tables) refl h
-  where
-    placed : (t : Table) (o : Option (List ℕ)) → option_and_then (key_in t) o ≡ Some key → t.tree ≡ key.0
-    placed t None k = absurd cc
-    placed t (Some places) k = key_tree t places key k
-
-    go : (o : Option Table) → find (λ t. same_name t.name ref.parent) tables ≡ o
-        → option_and_then (λ t. option_and_then (key_in t) (key_places t ref.parent_columns)) o ≡ Some key
-        → (t : Table) × Has tables t × (t.tree ≡ key.0) × (same_name t.name ref.parent ≡ true)
-    go None found k = absurd cc
-    go (Some t) found k = let there = has_found _ tables t found in
-        (t, there.0, placed t (key_places t ref.parent_columns) k, there.1)
 
 -- a reference that names the table makes it a parent
 makes_parent : (schema : Schema) (table child : Table) (ref : Reference) → Has schema.tables child
@@ -35,9 +21,6 @@ makes_parent : (schema : Schema) (table child : Table) (ref : Reference) → Has
 makes_parent schema table child ref listed known same =
     some_from _ schema.tables child listed
     (some_from (λ (r : Reference). same_name table.name r.parent) child.references ref known same)
-
-eqb_same : (m n : ℕ) → (m == n) ≡ true → m ≡ n
-eqb_same m n h = grind arith
 
 -- nothing is set off where each reference sets nothing off
 none_for : (schema : Schema) (keys : Keys) (tree : ℕ) (olds news : List Row) (child : Table)
@@ -64,7 +47,7 @@ module _ (schema : Schema) (table : Table) (stands : Stands schema table) where
       → Has child.references ref
       → parent_key schema.tables ref ≡ Some key → key.0 ≡ table.tree → is_parent schema table ≡ true
   in_tree child ref key listed known is same =
-      let found = parent_named schema.tables ref key is in
+      let found = named_parent schema.tables ref key is in
       let it : found.0 ≡ table = stands.apart found.0 found.1 (found.2 ∙ same) in
       makes_parent schema table child ref listed known
       (subst (λ (t : Table). same_name t.name ref.parent ≡ true) it found.3)
@@ -78,7 +61,7 @@ module _ (schema : Schema) (table : Table) (stands : Stands schema table) where
   no_work moves child ref listed known none (Some deed) None is = refl
   no_work moves child ref listed known none (Some deed) (Some key) is =
       elim (cases_Bool (key.0 == table.tree)) [
-        | inl same ↦ absurd (let parent = in_tree child ref key listed known is (eqb_same _ _ same) in cc)
+        | inl same ↦ absurd (let parent = in_tree child ref key listed known is (eqb-true _ _ same) in cc)
         | inr other ↦ rw other
       ]
 
@@ -101,9 +84,9 @@ module _ (schema : Schema) (table : Table) (stands : Stands schema table) where
         → parent_key schema.tables ref ≡ Some key → (r : Row) → Has (db key.0) r → Has (next key.0) r
     stays child ref key listed known is r there = elim (cases_Bool (key.0 == table.tree)) [
       | inl same ↦ elim grows [
-        | inl none ↦ absurd (let parent = in_tree child ref key listed known is (eqb_same _ _ same) in cc)
-        | inr more ↦ subst (λ n. Has (next n) r) (sym (eqb_same _ _ same))
-            (more r (subst (λ n. Has (db n) r) (eqb_same _ _ same) there))
+        | inl none ↦ absurd (let parent = in_tree child ref key listed known is (eqb-true _ _ same) in cc)
+        | inr more ↦ subst (λ n. Has (next n) r) (sym (eqb-true _ _ same))
+            (more r (subst (λ n. Has (db n) r) (eqb-true _ _ same) there))
       ]
       | inr other ↦
           let t = parent_is_table schema.tables ref key is in

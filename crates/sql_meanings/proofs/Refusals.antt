@@ -5,7 +5,7 @@ use Rattle.sql_meanings.specs.Names.{IsDatabase, edit_error, Edited, Error, Sqli
 use Rattle.sql_meanings.specs.Names.{IsStorable, IsStorableRow, clashes, index_reals, passes_checks, table_reals}
 use Rattle.sql_meanings.specs.Names.{Index, PrimaryKey, Unique, ForeignKey, Enforced, Refusal, Violates, Has, Writes}
 use Rattle.sql_meanings.specs.Names.{works, are_fresh, is_referred, left_by, taken_by}
-use Rattle.sql_meanings.proofs.Names.{inl, inr, refl, sym, ap, subst, ◌∙◌, arith, cases_Bool, ∥∥₁_elim}
+use Rattle.sql_meanings.proofs.Names.{inl, inr, refl, sym, ap, subst, ◌∙◌, arith, cases_Bool, ∥∥₁_elim, eqb-true}
 use Rattle.std.proofs.lemmas.Bool.{cases_lt}
 use Rattle.sqlite.specs.Edit.{IsRefused}
 use Rattle.sqlite_trees.specs.Tree.{rowid, with_tree}
@@ -164,9 +164,6 @@ held_at : (schema : Schema) (one two : Trees) (t : Table) (row : Row) → Has sc
 held_at schema one two t row listed same there keeps =
     rw same (keeps_at Unique schema one t row keeps listed (subst (λ rows. Has rows row) same there))
 
-same_tree : (m n : ℕ) → (m == n) ≡ true → n ≡ m
-same_tree m n h = grind arith
-
 all_pass : {A : Type 0} (p q : A → Bool) → ((x : A) → p x ≡ false → q x ≡ true) → (xs : List A)
     → list_any p xs ≡ false
     → list_all q xs ≡ true
@@ -189,7 +186,7 @@ breaks_none schema db tree rows none keeps = keeps_from Unique schema (with_tree
       | inl here ↦ all_pass (λ (i : Index). i.is_unique && (i.table == tree))
           (λ (i : Index). not (guards i t && clashes i.order i.columns (with_tree db tree rows t.tree) row))
           (λ i free. unclashed (guards i t) _
-          (subst (λ n. (i.is_unique && (i.table == n)) ≡ false) (same_tree t.tree tree here) free))
+          (subst (λ n. (i.is_unique && (i.table == n)) ≡ false) (sym (eqb-true t.tree tree here)) free))
           schema.indexes none
       | inr away ↦ held_at schema db (with_tree db tree rows) t row listed (rw away refl) there keeps
     ])
@@ -208,7 +205,7 @@ forbids schema db table entries rows sound are broken = (
       (keeps_from Unique schema (with_tree db (tree_of schema table.name) rows) (λ t row listed there.
       elim (cases_Bool (t.tree == tree_of schema table.name)) [
         | inl here ↦ held_at schema trees (with_tree db (tree_of schema table.name) rows) t row listed
-            (rw here (are ∙ sym same ∙ ap trees (same_tree t.tree (tree_of schema table.name) here))) there
+            (rw here (are ∙ sym same ∙ ap trees (sym (eqb-true t.tree (tree_of schema table.name) here)))) there
             (other.obeys.rules Unique)
         | inr away ↦ held_at schema db (with_tree db (tree_of schema table.name) rows) t row listed
             (rw away refl) there

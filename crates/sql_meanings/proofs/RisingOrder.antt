@@ -1,7 +1,7 @@
 -- A list that rises strictly is the only sorted order of its elements.
 use Rattle.sql_meanings.specs.Names.{List, [], length, filter, Bool, true, false, cond, AllByRecursion, IsAscending}
-use Rattle.sql_meanings.proofs.Names.{inl, inr, refl, ap, subst, ◌∙◌, arith, Ordering, Less, Equal, Greater}
-use Rattle.sql_meanings.proofs.Names.{IsPermutation, length_permutation}
+use Rattle.sql_meanings.proofs.Names.{inl, inr, refl, ap, subst, ◌∙◌, arith, Ordering, Less}
+use Rattle.sql_meanings.proofs.Names.{IsPermutation, length_permutation, nil_from_length, tied_itself}
 use Rattle.std.proofs.{Common.is_lt, Common.is_gt, Common.is_eq, lemmas.List.Sorted.IsPermutation-sym}
 use Rattle.std.specs.{Cmp.IsTotalOrder, Ordering.ordering_reverse, List.Sorted.IsSorted}
 use Rattle.sqlite_trees.proofs.ListLemmas.{all-permutation, filter_all, all_weaker, IsPermutation-filter}
@@ -12,14 +12,6 @@ module _ {X : Type 0} (cmp : X → X → Ordering) (total : IsTotalOrder cmp) wh
   -- not above
   abbrev pub AtMost : X → X → Type 0
   AtMost a b = is_gt (cmp a b) ≡ false
-
-  self : (o : Ordering) → o ≡ ordering_reverse o → o ≡ Equal
-  self Less h = cc
-  self Equal h = refl
-  self Greater h = cc
-
-  same_is_equal : (x : X) → cmp x x ≡ Equal
-  same_is_equal x = self (cmp x x) (total.antisymm x x)
 
   not_below : (x y : X) → cmp x y ≡ Less → is_gt (cmp y x) ≡ false → X → y ≡ x
   not_below x y low most d = absurd
@@ -39,13 +31,9 @@ module _ {X : Type 0} (cmp : X → X → Ordering) (total : IsTotalOrder cmp) wh
       go true is h more = absurd cc
       go false is h more = (is, more h)
 
-  empty : {Y : Type 0} (ys : List Y) → length ys ≡ 0 → ys ≡ []
-  empty [] h = refl
-  empty (y ∷ ys) h = absurd (omega arith)
-
   later : (x z : X) → (z ≡ x) ⊎ (cmp x z ≡ Less) → is_eq (cmp x z) ≡ false → is_lt (cmp x z) ≡ true
   later x z (inl same) apart = absurd (let here = subst (λ w. is_eq (cmp x w) ≡ false) same apart in
-      let e = ap is_eq (same_is_equal x) in cc)
+      let e = ap is_eq (tied_itself total x) in cc)
   later x z (inr low) apart = ap is_lt low
 
   joined : (x : X) (zs : List X) → AllByRecursion (λ z. (z ≡ x) ⊎ (cmp x z ≡ Less)) zs
@@ -62,7 +50,7 @@ module _ {X : Type 0} (cmp : X → X → Ordering) (total : IsTotalOrder cmp) wh
   -- the elements after the first are those that are above it
   above_first : (x : X) (ys : List X) → AllByRecursion (λ z. is_lt (cmp x z) ≡ true) ys
       → filter (λ z. is_lt (cmp x z)) (x ∷ ys) ≡ ys
-  above_first x ys h = rw (same_is_equal x) (filter_all (λ z. is_lt (cmp x z)) ys h)
+  above_first x ys h = rw (tied_itself total x) (filter_all (λ z. is_lt (cmp x z)) ys h)
 
   tails : (x : X) (xs ys : List X) → AllByRecursion (λ z. cmp x z ≡ Less) xs → IsPermutation (x ∷ xs) (x ∷ ys)
       → IsPermutation xs ys
@@ -73,8 +61,8 @@ module _ {X : Type 0} (cmp : X → X → Ordering) (total : IsTotalOrder cmp) wh
       let once : IsPermutation (filter eq (x ∷ xs)) (filter eq (x ∷ ys)) = IsPermutation-filter eq (x ∷ xs)
       (x ∷ ys) perm in
       let one : length (filter eq (x ∷ ys)) ≡ length (filter eq (x ∷ xs)) = length_permutation _ _ once in
-      let none : filter eq ys ≡ [] = empty (filter eq ys)
-      (let e = rw (same_is_equal x, no_equal x xs low) at one in omega (arith, e)) in
+      let none : filter eq ys ≡ [] = nil_from_length (filter eq ys)
+      (let e = rw (tied_itself total x, no_equal x xs low) at one in omega (arith, e)) in
       let up = joined x ys marked.1 (none_in eq ys none) in
       let lt = λ (z : X). is_lt (cmp x z) in
       subst (λ l. IsPermutation l ys) (above_first x xs (all_weaker _ _ (λ z h. ap is_lt h) xs low))
@@ -84,7 +72,7 @@ module _ {X : Type 0} (cmp : X → X → Ordering) (total : IsTotalOrder cmp) wh
   -- by neighbours
   pub only_order : (xs ys : List X) → IsAscending (λ a b. cmp a b ≡ Less) xs → IsAscending AtMost ys
       → IsPermutation xs ys → ys ≡ xs
-  only_order [] ys up sorted perm = empty ys (length_permutation [] ys perm)
+  only_order [] ys up sorted perm = nil_from_length ys (length_permutation [] ys perm)
   only_order (x ∷ xs) [] up sorted perm = absurd
       (let e = length_permutation (x ∷ xs) [] perm in omega (arith, e))
   only_order (x ∷ xs) (y ∷ ys) up sorted perm =
@@ -92,7 +80,7 @@ module _ {X : Type 0} (cmp : X → X → Ordering) (total : IsTotalOrder cmp) wh
       all-permutation _ (x ∷ xs) (y ∷ ys) perm (inl refl, all_weaker _ _ (λ z h. inr h) xs up.0) in
       let least : AllByRecursion (AtMost y) (x ∷ xs) =
       all-permutation (AtMost y) (y ∷ ys) (x ∷ xs) (IsPermutation-sym (x ∷ xs) (y ∷ ys) perm) (
-        ap is_gt (same_is_equal y),
+        ap is_gt (tied_itself total y),
         sorted.0,
       ) in
       let first : y ≡ x = first_is x y marked.0 least.0 in

@@ -1,11 +1,11 @@
 -- What a query of one table answers that asks for the next rows from a key on.
-use Rattle.sql_meanings.specs.Names.{ℕ, ℤ, List, [], map, filter, Bool, true, false, flat_map, list_all, is_ge}
+use Rattle.sql_meanings.specs.Names.{ℕ, ℤ, List, [], map, filter, true, flat_map, list_all, is_ge}
 use Rattle.sql_meanings.specs.Names.{int_eq, Value, Int, Row, Binary, is_true, binary, Compare, Ge, Trees}
 use Rattle.sql_meanings.specs.Names.{Term, Env, eval_all, holds, IsAnswerAs, matches_as, page, inner, end}
-use Rattle.sql_meanings.proofs.Names.{refl, ap, ◌∙◌, int_cmp, value_cmp-Int}
+use Rattle.sql_meanings.proofs.Names.{refl, ap, ◌∙◌, int_cmp, value_cmp-Int, and-true}
 use Rattle.sql_meanings.specs.believed.Entries.{Entry, IsTree, stored}
 use Rattle.sql_meanings.specs.Seeks.{is_from, is_of_from, key_from, next_from, next_of_from, of_from}
-use Rattle.sql_meanings.proofs.EntryLists.{int_equals, text_apart, truth_back}
+use Rattle.sql_meanings.proofs.EntryLists.{and_both, int_equals, text_apart, truth_back}
 use Rattle.sql_meanings.proofs.TestedAnswers.{passing}
 use Rattle.sql_meanings.proofs.OrderedAnswers.{ordered_answer, rise_filter}
 use Rattle.std.specs.Prelude.{◌≡◌, ◌&&◌, ◌∷◌}
@@ -14,17 +14,8 @@ int_from : (a b : ℤ) → is_true (binary (Compare Ge Binary) (Int a) (Int b)) 
 unfolding binary
 int_from a b = truth_back _ ∙ ap is_ge (value_cmp-Int a b)
 
-and_true : (b : Bool) → (b && true) ≡ b
-and_true true = refl
-and_true false = refl
-
-both_true : (a b : Bool) → (a && (b && true)) ≡ (a && b)
-both_true true true = refl
-both_true true false = refl
-both_true false b = refl
-
 passes_from : (k : ℤ) (e : Entry) → list_all (holds ((Int k ∷ []) ∷ stored e ∷ [])) key_from ≡ is_from k e
-passes_from k e = rw (int_from e.key k) (and_true (is_from k e))
+passes_from k e = rw (int_from e.key k) (and-true (is_from k e))
 
 first_two : (one k key n : ℤ) (more : List ℤ) (texts : List (List ℕ))
     → list_all (holds ((Int one ∷ Int k ∷ [])
@@ -40,7 +31,7 @@ unfolding binary
 passes_of one k key [] [] = refl
 passes_of one k key [] (s ∷ texts) = rw (text_apart s one) refl
 passes_of one k key (n ∷ more) texts = first_two one k key n more texts
-    ∙ both_true (int_eq n one) (is_ge (int_cmp key k))
+    ∙ and_both (int_eq n one) (is_ge (int_cmp key k))
 
 -- the rows from the parameter on, by rising keys, cut by the limit
 pub from_answer : (lost : Value) {width : ℕ × ℕ} (most t : ℕ) (project : List Term) (db : Trees) (k : ℤ)

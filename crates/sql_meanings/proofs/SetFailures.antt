@@ -17,7 +17,7 @@ use Rattle.sql_meanings.proofs.Changes.{found_all, found_key, taken_is}
 use Rattle.sql_meanings.proofs.EntryLists.{none_without, without, without_stored}
 use Rattle.sql_meanings.proofs.{KeyedAnswers.keyed_answer, Means.Means, Means.no_refusal, ReadTables.under_overlay}
 use Rattle.sql_meanings.proofs.{SetRows.ChangesAs, SetRows.set_rows, TablesBeside.Standing, TablesBeside.standing}
-use Rattle.sql_meanings.proofs.{PuttingIn.never, PuttingIn.stopped, Writing.same_value, Writing.went}
+use Rattle.sql_meanings.proofs.{PuttingIn.never, PuttingIn.stopped, Names.same_value, Writing.went}
 use Rattle.sql_meanings.proofs.Referring.{asks_parent, nothing_set_off, refers_after}
 use Rattle.sql_meanings.proofs.Refusals.{EditStops, IsFit, edit_stops, forbids}
 use Rattle.sql_meanings.proofs.Stopping.{Stops, fails_for, fails_split, stops}

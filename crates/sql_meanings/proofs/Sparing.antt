@@ -7,7 +7,7 @@ use Rattle.sql_meanings.specs.Names.{Executes, ExecutesIn, mode_of, shows_rows, 
 use Rattle.sql_meanings.specs.Names.{compiled, first, insert, insert_or_abort, meaning, planned, returning}
 use Rattle.sql_meanings.specs.Names.{formats_of, new_rows, shows, small, timed, update, program, Checked, and_then}
 use Rattle.sql_meanings.specs.Names.{Name, Compiled, CompileError, Writes, taken_by}
-use Rattle.sql_meanings.proofs.Names.{inl, inr, refl, sym, ap, subst, ◌∙◌, cases_Bool}
+use Rattle.sql_meanings.proofs.Names.{inl, inr, refl, sym, ap, subst, ◌∙◌, cases_Bool, same_value}
 use Rattle.sqlite_schema.specs.declared.command.Returning.{Returning}
 use Rattle.sqlite.specs.{Rows.CountsIn, Rows.counting, Source.Source}
 use Rattle.std.specs.Ordering.{int_cmp, is_lt}
@@ -16,7 +16,7 @@ use Rattle.sqlite.specs.Clock.{timed as with_time}
 use Rattle.sqlite_resolve.specs.{Compile.on_table, Compile.target, Body.table_at, Write.updated, Lowering.or_else}
 use Rattle.sql_meanings.specs.{believed.Making.Stands, believed.Tables.tree_of}
 use Rattle.sql_meanings.proofs.Actions.{apart_from, good_works, settles}
-use Rattle.sql_meanings.proofs.Writing.{same_value, went}
+use Rattle.sql_meanings.proofs.Writing.{went}
 use Rattle.sql_meanings.specs.believed.Sparing.{IsNot, SparesAllBut, sequence_name}
 use Rattle.sqlite_ast.specs.declared.Conflict.TheVariants as conflict
 use Rattle.sqlite_ast.specs.declared.Statement.TheVariants as written
@@ -46,9 +46,6 @@ done (Err e) f b h = absurd (cc)
 found_in : {A : Type 0} (o : Option A) (e : CompileError) (a : A) → or_else o e ≡ Ok a → o ≡ Some a
 found_in (Some x) e a h = cc
 found_in None e a h = absurd (cc)
-
-same_done : {A : Type 0} {a b : A} → ◌≡◌ {A = Checked A} (Ok a) (Ok b) → a ≡ b
-same_done e = cc
 
 -- the table of a name, and its place
 pub record IsAt (schema : Schema) (name : Name) (p : ℕ) (table : Table) : Type 0 where
@@ -126,7 +123,7 @@ module _ (schema : Schema) (name : Name) where
       let draft = done (updated schema on.0 on.1 sets test)
       (λ d. and_then (program schema [] d) (λ p. Ok (Update on.0 p))) k on.3 in
       let query = done (program schema [] draft.0) (λ p. Ok (Update on.0 p)) k draft.2 in
-      record { place = on.0; table = on.1; query = query.0; at = on.2; is = sym (same_done query.2) }
+      record { place = on.0; table = on.1; query = query.0; at = on.2; is = sym (same_value query.2) }
 
   insert_writes : (base : ℕ) (columns : List Name) (rows : Rows) (k : Command)
       → insert_or_abort schema base name columns rows [] ≡ Ok k → PutsInto schema name k
@@ -135,7 +132,7 @@ module _ (schema : Schema) (name : Name) where
       let on = on_table_done (λ at table. and_then (new_rows schema table base columns rows) (λ s. Ok (Insert at s)))
       k h in
       let source = done (new_rows schema on.1 base columns rows) (λ s. Ok (Insert on.0 s)) k on.3 in
-      record { place = on.0; table = on.1; from = source.0; at = on.2; is = sym (same_done source.2) }
+      record { place = on.0; table = on.1; from = source.0; at = on.2; is = sym (same_value source.2) }
 
   module _ (text : List ℕ) (P : Parsed) (c : Compiled) (parsed : first text ≡ Ok P)
       (h : compiled schema text ≡ Ok c) where
@@ -143,7 +140,7 @@ module _ (schema : Schema) (name : Name) where
         → (r : Checked Command) → update schema name sets test ≡ r → r ≡ Ok c.command
     unfolding compiled planned timed meaning returning command shows
     updated_as sets test is (Ok k) made =
-        let whole = rw (parsed, is, made) at h in ap Ok (ap (λ (it : Compiled). it.command) (same_done whole))
+        let whole = rw (parsed, is, made) at h in ap Ok (ap (λ (it : Compiled). it.command) (same_value whole))
     updated_as sets test is (Err e) made = absurd (let whole = rw (parsed, is, made) at h in cc)
 
     abbrev base : ℕ
@@ -154,7 +151,7 @@ module _ (schema : Schema) (name : Name) where
         → (r : Checked Command) → insert_or_abort schema base name columns rows [] ≡ r → r ≡ Ok c.command
     unfolding compiled planned timed meaning returning command shows
     inserted_as columns rows is (Ok k) made =
-        let whole = rw (parsed, is, made) at h in ap Ok (ap (λ (it : Compiled). it.command) (same_done whole))
+        let whole = rw (parsed, is, made) at h in ap Ok (ap (λ (it : Compiled). it.command) (same_value whole))
     inserted_as columns rows is (Err e) made = absurd (let whole = rw (parsed, is, made) at h in cc)
 
   update_compiled : (text : List ℕ) → IsUpdateOf text name → (c : Compiled) → compiled schema text ≡ Ok c

@@ -1,10 +1,9 @@
 -- The error of a write inside a transaction: the text is no statement, the command tells it, or the store
 -- failed.
 use Rattle.sql_meanings.specs.Names.{ℕ, List, [], None, Some, Ok, Err, Bool, true, false, ⊤, Row, Command, Insert}
-use Rattle.sql_meanings.specs.Names.{Update, CreateTable, understood, Does, State, mode_of, ExecutesIn}
-use Rattle.sql_meanings.specs.Names.{ExecutesInside, IsNoStatement, IsNotRun, IsUnchanged, Fails, HasCause}
-use Rattle.sql_meanings.specs.Names.{shows_rows, text_of, Error, Compiled, StoreError, OutOfMemory, Io, Corrupt, Full}
-use Rattle.sql_meanings.specs.Names.{Broken, Unstorable}
+use Rattle.sql_meanings.specs.Names.{Update, CreateTable, understood, Does, State, mode_of, ExecutesIn, ExecutesInside}
+use Rattle.sql_meanings.specs.Names.{IsNoStatement, IsNotRun, IsUnchanged, Fails, HasCause, shows_rows, text_of, Error}
+use Rattle.sql_meanings.specs.Names.{Compiled, StoreError, OutOfMemory, Io, Corrupt, Full, Broken, Unstorable}
 use Rattle.sql_meanings.proofs.Names.{inl, inr, append-nil, refl, ap, subst, ◌∙◌}
 use Rattle.sqlite.specs.{Clock.timed, Effect.is_query}
 use Rattle.sqlite.specs.State.{EndsScope, Escapes, IsMisplaced, RunsCommand, is_pragma}

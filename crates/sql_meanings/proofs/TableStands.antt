@@ -1,10 +1,10 @@
 -- A table that stands in any schema, and what a CREATE TABLE keeps and adds.
-use Rattle.sql_meanings.specs.Names.{ℕ, List, [], find, slice_get, Bool, true, false, Some, None, Option, Ok, Result}
+use Rattle.sql_meanings.specs.Names.{ℕ, List, [], find, slice_get, true, false, Some, None, Option, Ok}
 use Rattle.sql_meanings.specs.Names.{position_from, Table, Schema, Trees, Database, Tally, Does, MakesTable}
 use Rattle.sql_meanings.specs.Names.{MakesSequence, lacks_sequence, no_rows, sequence_text, Then, Gives, CreateTable}
 use Rattle.sql_meanings.specs.Names.{table_defined_by, Mode, same_name, Has, IsSound}
 use Rattle.sql_meanings.proofs.Names.{inl, inr, suc, refl, sym, ap, subst, ◌∙◌, nat_le, arith, cases_Bool, through}
-use Rattle.sql_meanings.proofs.Names.{all_has, has_either, has_left, has_right}
+use Rattle.sql_meanings.proofs.Names.{all_has, has_either, has_left, has_right, same_value, eqb-true}
 use Rattle.std.proofs.lemmas.List.Folds.{list_any-append}
 use Rattle.sqlite_catalog.specs.{Calls.CreatesTable, Change.created, Change.next_tree}
 use Rattle.sqlite_value.specs.Order.{Row}
@@ -13,7 +13,7 @@ use Rattle.sqlite_catalog.proofs.StepLemmas.{table_below, same_itself}
 use Rattle.sql_meanings.proofs.{Statements.HasTable, Growing.low_tree, Growing.sequenced}
 use Rattle.sql_meanings.specs.believed.Making.{Stands}
 use Rattle.sql_meanings.specs.Making.{AddsTable, IsGrown, KeepsWhatStood, counts_rows}
-use Rattle.std.specs.Prelude.{◌≡◌, ◌⊎◌, ◌+◌, ◌^◌, ◌<◌, ◌==◌, ◌∷◌}
+use Rattle.std.specs.Prelude.{◌≡◌, ◌+◌, ◌^◌, ◌<◌, ◌==◌, ◌∷◌}
 
 -- a table stands on as another is made
 pub stands_after : (schema : Schema) (new table : Table) → Stands schema table
@@ -45,9 +45,6 @@ stands_new schema table free = record {
 
 -- ---- what a statement takes of a table, from these
 
-eqb_true : (m n : ℕ) → (m == n) ≡ true → m ≡ n
-eqb_true m n h = grind arith
-
 eqb_itself : (n : ℕ) → (n == n) ≡ true
 eqb_itself n = grind arith
 
@@ -55,17 +52,13 @@ eqb_itself n = grind arith
 pub high_not : (n : ℕ) → n < 65536 → nat_le (2 ^ 31) n ≡ false
 high_not n low = grind arith
 
-test_cases : (b : Bool) → (b ≡ true) ⊎ (b ≡ false)
-test_cases true = inl refl
-test_cases false = inr refl
-
 -- a table that has its tree to itself is found by it
 pub found_apart : (tables : List Table) (table : Table) → Has tables table
     → ((t : Table) → Has tables t → t.tree ≡ table.tree → t ≡ table)
     → find (λ t. t.tree == table.tree) tables ≡ Some table
 found_apart [] table h apart = absurd h
-found_apart (u ∷ tables) table h apart = elim (test_cases (u.tree == table.tree)) [
-  | inl same ↦ rw same (ap Some (apart u (inl refl) (eqb_true _ _ same)))
+found_apart (u ∷ tables) table h apart = elim (cases_Bool (u.tree == table.tree)) [
+  | inl same ↦ rw same (ap Some (apart u (inl refl) (eqb-true _ _ same)))
   | inr other ↦ rw other (elim h [
     | inl is ↦ absurd (let e = eqb_itself table.tree in let f =
         subst (λ (t : Table). (t.tree == table.tree) ≡ false) (sym is) other in
@@ -138,9 +131,6 @@ keeps_sequence old after h = elim (sequenced old after h) [
   | inr made ↦ keeps_made old after sequence_text made
 ]
 
-ok_same : {B E : Type 0} {a b : B} → ◌≡◌ {A = Result B E} (Ok a) (Ok b) → a ≡ b
-ok_same e = cc
-
 -- a table more that doesn't count its rows
 pub counts_created : (schema : Schema) (t : Table) → t.is_counted ≡ false → counts_rows schema ≡ false
     → counts_rows (created schema t) ≡ false
@@ -181,8 +171,8 @@ adds limit mode params old after text tally t defined free h =
     let both = through (MakesTable text old) MakesSequence all.0 all.1 in
     let mid = both.0 in
     let made : CreatesTable old.schema text old.trees mid.schema mid.trees = both.1 in
-    let last : all.0 ≡ after = ap (λ (p : Tally × Database). p.1) (sym (ok_same all.2)) in
-    let is : made.table ≡ t = ok_same (sym made.defined ∙ defined) in
+    let last : all.0 ≡ after = ap (λ (p : Tally × Database). p.1) (sym (same_value all.2)) in
+    let is : made.table ≡ t = same_value (sym made.defined ∙ defined) in
     let new : Table = record t { tree = next_tree old.schema } in
     let second : KeepsWhatStood mid after =
     subst (KeepsWhatStood mid) last (keeps_sequence mid all.0 both.2) in

@@ -10,10 +10,11 @@ use Rattle.std.specs.{Ordering.is_ne, List.Sorted.IsPermutation}
 use Rattle.sqlite_value.specs.Keys.{first_key}
 use Rattle.sqlite_sql.specs.declared.ops.CompareOp.TheVariants.{Ne}
 use Rattle.sqlite_schema.specs.Rules.{agree, differ}
+use Rattle.sqlite_rules.proofs.ProbeLemmas.{mapped_has}
 use Rattle.sqlite_catalog.proofs.AlterLemmas.{keys_are_unique}
 use Rattle.sql_meanings.specs.believed.Entries.{Entry, IsTree, Rise, begins_with, has_two, stored}
 use Rattle.sql_meanings.specs.{Entries.listed, Queries.no_limit, Queries.query, Queries.two_are}
-use Rattle.sql_meanings.proofs.EntryLists.{Above, int_equals, text_apart, truth_back}
+use Rattle.sql_meanings.proofs.EntryLists.{Above, and_both, int_equals, text_apart, truth_back}
 use Rattle.sql_meanings.proofs.{KeyedAnswers.small_permutation, TestedAnswers.looked_up}
 use Rattle.std.specs.Prelude.{◌≡◌, ◌⊎◌, ◌∷◌, ◌&&◌, ◌||◌}
 
@@ -24,11 +25,6 @@ first_two_test : (one two key : ℤ) (t n : ℤ) (more : List ℤ) (texts : List
     ≡ (int_eq t one && (int_eq n two && true))
 first_two_test one two key t n more texts = rw (int_equals t one, int_equals n two)
 
-and_true : (a b : Bool) → (a && (b && true)) ≡ (a && b)
-and_true true true = refl
-and_true true false = refl
-and_true false b = refl
-
 passes_is : (one two key : ℤ) (values : List ℤ) (texts : List (List ℕ))
     → list_all (holds ((Int one ∷ Int two ∷ [])
     ∷ stored (record { key = key; values = values; texts = texts }) ∷ [])) (two_are 2 3)
@@ -38,7 +34,7 @@ passes_is one two key [] [] = refl
 passes_is one two key [] (s ∷ texts) = rw (text_apart s one) refl
 passes_is one two key (t ∷ []) [] = and_right _ false refl
 passes_is one two key (t ∷ []) (s ∷ texts) = rw (text_apart s two) (and_right _ false refl)
-passes_is one two key (t ∷ n ∷ more) texts = first_two_test one two key t n more texts ∙ and_true (int_eq t one)
+passes_is one two key (t ∷ n ∷ more) texts = first_two_test one two key t n more texts ∙ and_both (int_eq t one)
     (int_eq n two)
 
 -- ---- UNIQUE
@@ -57,11 +53,6 @@ none_any p (y ∷ xs) x h k = go (p y) refl h k (none_any p xs x)
     go true apart h k more = absurd (true≢false h)
     go false apart h (inl e) more = ap p e ∙ apart
     go false apart h (inr k) more = more h k
-
-has_stored : (es : List Entry) (e : Entry) → Has es e → Has (map stored es) (stored e)
-has_stored [] e h = absurd h
-has_stored (x ∷ es) e (inl same) = inl (ap stored same)
-has_stored (x ∷ es) e (inr h) = inr (has_stored es e h)
 
 same_two : (a b k : ℤ) → is_eq (int_cmp a k) ≡ true → is_eq (int_cmp b k) ≡ true → is_eq (int_cmp a b) ≡ true
 same_two a b k p q = grind (arith, ints)
@@ -96,7 +87,7 @@ pub not_both : (all : List Entry) (one two : ℤ) (e x : Entry) → Clear all �
     → int_cmp e.key x.key ≡ Less
     → has_two one two e ≡ true → has_two one two x ≡ true → ⊥
 not_both all one two e x clear he hx low p q =
-    let none = none_any _ (map stored all) (stored e) (clear x hx) (has_stored all e he) in
+    let none = none_any _ (map stored all) (stored e) (clear x hx) (mapped_has stored all e he) in
     true≢false (sym (two_clash one two e.key x.key e.values x.values e.texts x.texts low p q) ∙ none)
 
 none_above : (all : List Entry) (one two : ℤ) (e : Entry) → Clear all → Has all e → has_two one two e ≡ true
@@ -131,7 +122,7 @@ pub clear : (schema : Schema) (db : Trees) (t : Table) (es : List Entry) → IsS
     → slice_get t.uniques 0 ≡ Some (2 ∷ 3 ∷ [])
     → get_or t.orders 0 plain ≡ plain → db t.tree ≡ map stored es → Clear es
 clear schema db t es sound listed unique order are e h =
-    let there : Has (db t.tree) (stored e) = subst (λ rs. Has rs (stored e)) (sym are) (has_stored es e h) in
+    let there : Has (db t.tree) (stored e) = subst (λ rs. Has rs (stored e)) (sym are) (mapped_has stored es e h) in
     subst (λ rs. clashes plain (2 ∷ 3 ∷ []) rs (stored e) ≡ false) are
     (subst (λ how. clashes how (2 ∷ 3 ∷ []) (db t.tree) (stored e) ≡ false) order
     (keys_are_unique schema db t 0 (2 ∷ 3 ∷ []) (stored e) sound listed unique there))

@@ -1,9 +1,9 @@
 -- What an INSERT of given values and an UPDATE leave, in any table that stands, whatever else the schema has.
-use Rattle.sql_meanings.specs.Names.{ℕ, List, [], length, true, false, Some, Ok, Err, Result, slice_get, unwrap_or}
+use Rattle.sql_meanings.specs.Names.{ℕ, List, [], length, true, false, Some, Ok, Err, slice_get, unwrap_or}
 use Rattle.sql_meanings.specs.Names.{Row, Term, Table, Schema, Trees, Values, Insert, Update, Program, Keys, Enforced}
 use Rattle.sql_meanings.specs.Names.{Chosen, Given, Edit, edit_of, are_fresh, left_by, ids_of, Writes, Tally, Written}
 use Rattle.sql_meanings.specs.Names.{stamped, Database, IsDatabase, Answers, value_rows, State, Executes}
-use Rattle.sql_meanings.proofs.Names.{inl, inr, refl, sym, ap, subst, ◌∙◌, runs_as}
+use Rattle.sql_meanings.proofs.Names.{inl, inr, refl, sym, ap, subst, ◌∙◌, runs_as, same_value}
 use Rattle.sql_meanings.specs.believed.Making.{Stands}
 use Rattle.sql_meanings.proofs.{Actions.Leaves, Actions.writes_leave, Means.Means, Means.meant_is, Means.plain_is}
 use Rattle.std.specs.Prelude.{◌≡◌, ◌⊎◌, ◌/◌}
@@ -15,9 +15,6 @@ went (inl stopped) = absurd (let e = stopped.2 in cc)
 went (inr on) = on
 
 -- one value
-pub same_value : {B E : Type 0} {a b : B} → ◌≡◌ {A = Result B E} (Ok a) (Ok b) → a ≡ b
-same_value e = cc
-
 -- a write of one table that is done
 pub record Wrote (old new : State) (edit : Edit) (count : ℕ) : Type 0 where
   pub schema : new.now.schema ≡ old.now.schema
