@@ -1,6 +1,5 @@
 //! The replay of a bank.
 ghost use Rattle.std.specs.Prelude.{◌≡◌, List, Err, IfOk, OnOk};
-ghost use Rattle.sqlite.specs.Files.{over_files};
 ghost use Rattle.sqlite.specs.Held.{IsNew, state};
 ghost use Rattle.sqlite.specs.State.{HasCleanDisk};
 ghost use Rattle.posting_rules.specs.believed.Commands.{Command};
@@ -86,6 +85,41 @@ fn replay_beside<S: Alter, T: Alter + Drop, W: Watch + Drop>(
     Ok(Replay::Agrees(digest_all(bank)?))
 }
 
+// A new bank in a store that holds nothing.
+fn new_bank<T: Alter + Drop>(alloc: Global, conn: Connection<T>) -> Result<Bank<T>, Fault>
+    requires { IsNew conn }
+    ensures { IfOk result (ShowsSome T.Store) }
+{
+    match create(alloc, conn) {
+        Ok(bank) => Ok(bank),
+        Err(
+            Refused {
+                fault: _fault,
+                conn: _conn,
+            },
+        ) => Err(Fault::Memory),
+    }
+}
+
+// Replays a bank beside a new one, whose store is never in doubt. That it is any such store keeps the proof short.
+fn replay_over<S: Alter, T: Alter + Drop, W: Watch + Drop>(
+    bank: &mut Bank<S>,
+    conn: Connection<T>,
+    watch: W,
+) -> Result<Replay, Fault>
+    requires clean { (c : _) → HasCleanDisk (state T.Store c) }
+    requires new { IsNew conn }
+    ensures bank { ReadsBank S.Store bank.old bank.new result }
+    ensures agrees { HasCleanDisk (file_of bank.new) → (f : FileTables)
+        → HasTables (database_of S.Store bank.old) f
+        → OnAgrees result (λ d. (log : List Command) × ShowsLog (bank_seen S.Store bank.old) log) }
+    ensures digest { HasCleanDisk (file_of bank.new) → (all : List KeptItem)
+        → HasKept (database_of S.Store bank.old) all → OnAgrees result (IsDigestIn all) }
+{
+    let due = new_bank(bank.alloc(), conn)?;
+    replay_beside(bank, due, watch)
+}
+
 // How the second bank is held. Its files lie in memory, so that its log is copied back early.
 const HELD: Options = Options {
     cache_pages: 4_000,
@@ -105,21 +139,6 @@ fn memory_pages(alloc: Global) -> Result<Connection<FileStore<Ram>>, Fault>
     match Connection::open_files(alloc, files, HELD) {
         Ok(conn) => Ok(conn),
         Err((_error, _left)) => Err(Fault::Memory),
-    }
-}
-
-// A new bank in memory.
-fn memory_bank(alloc: Global) -> Result<Bank<FileStore<Ram>>, Fault>
-    ensures { IfOk result (λ bank. ShowsSome over_files bank) }
-{
-    match create(alloc, memory_pages(alloc)?) {
-        Ok(bank) => Ok(bank),
-        Err(
-            Refused {
-                fault: _fault,
-                conn: _conn,
-            },
-        ) => Err(Fault::Memory),
     }
 }
 
@@ -153,6 +172,6 @@ pub fn replay<S: Alter, W: Watch + Drop>(bank: &mut Bank<S>, watch: W) -> Result
     if bank.is_down() {
         return Err(Fault::Down);
     }
-    let due = memory_bank(bank.alloc())?;
-    replay_beside(bank, due, watch)
+    let pages = memory_pages(bank.alloc())?;
+    replay_over(bank, pages, watch)
 }

@@ -21,9 +21,9 @@ returns-then-is_down g c = record {
   spares = idle_spares g.S.Store c.args.bank.now.conn;
 }
 
-pub returns-in_err-due : goal.returns-in_err-due
-returns-in_err-due g c =
-    let same : c.from_residual.result ≡ Err c.in_err-due.field-0.0 = search rules in
+pub returns-in_err-pages : goal.returns-in_err-pages
+returns-in_err-pages g c =
+    let same : c.from_residual.result ≡ Err c.in_err-pages.field-0.0 = search rules in
     record {
       agrees = λ clean f has. rw same tt;
       digest = λ clean all has. rw same tt;
@@ -35,12 +35,12 @@ returns-in_err-due g c =
       spares = idle_spares g.S.Store c.args.bank.now.conn;
     }
 
-pub replay_beside-requires : goal.replay_beside-requires
-replay_beside-requires g c = record { clean = never_in_doubt (λ file. refl); shows = c.in_ok-due.ensures }
+pub replay_over-requires : goal.replay_over-requires
+replay_over-requires g c = record { clean = never_in_doubt (λ file. refl); new = c.in_ok-pages.ensures }
 
 pub returns : goal.returns
 returns g c =
-    let says = c.replay_beside.ensures in
+    let says = c.replay_over.ensures in
     let db = database_of g.S.Store c.args.bank.now in
     record {
       agrees = says.agrees;

@@ -1,0 +1,13 @@
+-- What the replay beside the new bank says, where that was made.
+use Rattle.std.proofs.Common.{rules, ◌≡◌, Err}
+use Rattle.bank_replays.proofs.Read.{none_read}
+use Rattle.bank_replays.proofs.replays.replay_over.Goals as goal
+
+pub returns-in_err-due : goal.returns-in_err-due
+returns-in_err-due g c =
+    let same : c.from_residual.result ≡ Err c.in_err-due.field-0.0 = search rules in
+    record {
+      bank = none_read _ _;
+      agrees = λ clean f has. rw same tt;
+      digest = λ clean all has. rw same tt;
+    }
