@@ -1,6 +1,6 @@
 //! The replay of a bank.
 ghost use Rattle.std.specs.Prelude.{◌≡◌, List, Err, IfOk, OnOk};
-ghost use Rattle.sqlite.specs.Held.{IsNew, state};
+ghost use Rattle.sqlite.specs.Held.{IsNew};
 ghost use Rattle.sqlite.specs.State.{HasCleanDisk};
 ghost use Rattle.posting_rules.specs.believed.Commands.{Command};
 ghost use Rattle.posting_rules.specs.believed.Counter.{ShowsLog};
@@ -13,7 +13,7 @@ ghost use Rattle.bank_store.specs.Leaving.{StandsWhileOpen, TakesNone};
 ghost use Rattle.bank_replays.specs.Digests.{IsDigestIn, IsDigestOf, answered_after};
 ghost use Rattle.bank_replays.specs.FileTables.{FileTables, HasTables};
 ghost use Rattle.bank_replays.specs.Reading.{ReadsBank};
-ghost use Rattle.bank_replays.specs.Refilling.{ShowsSome};
+ghost use Rattle.bank_replays.specs.Refilling.{IsNeverInDoubt, ShowsSome};
 ghost use Rattle.bank_replays.specs.Replays.{HasAnswered, OnAgrees};
 
 use crate::comparing::compare_all;
@@ -69,7 +69,7 @@ fn replay_beside<S: Alter, T: Alter + Drop, W: Watch + Drop>(
     due: Bank<T>,
     watch: W,
 ) -> Result<Replay, Fault>
-    requires clean { (c : _) → HasCleanDisk (state T.Store c) }
+    requires clean { IsNeverInDoubt T.Store }
     requires shows { ShowsSome T.Store due }
     ensures bank { ReadsBank S.Store bank.old bank.new result }
     ensures agrees { HasCleanDisk (file_of bank.new) → (f : FileTables)
@@ -107,7 +107,7 @@ fn replay_over<S: Alter, T: Alter + Drop, W: Watch + Drop>(
     conn: Connection<T>,
     watch: W,
 ) -> Result<Replay, Fault>
-    requires clean { (c : _) → HasCleanDisk (state T.Store c) }
+    requires clean { IsNeverInDoubt T.Store }
     requires new { IsNew conn }
     ensures bank { ReadsBank S.Store bank.old bank.new result }
     ensures agrees { HasCleanDisk (file_of bank.new) → (f : FileTables)

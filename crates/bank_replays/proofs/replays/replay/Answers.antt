@@ -36,7 +36,10 @@ returns-in_err-pages g c =
     }
 
 pub replay_over-requires : goal.replay_over-requires
-replay_over-requires g c = record { clean = never_in_doubt (λ file. refl); new = c.in_ok-pages.ensures }
+replay_over-requires g c = record {
+  clean = record { clean = never_in_doubt (λ file. refl) };
+  new = c.in_ok-pages.ensures;
+}
 
 pub returns : goal.returns
 returns g c =

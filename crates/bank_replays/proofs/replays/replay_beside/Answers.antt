@@ -52,6 +52,7 @@ returns g c =
     let compared = c.in_ok-difference.ensures in
     let digested = c.in_ok-digest_all.ensures in
     let both = read_then filled.bank compared.bank in
+    let sure = c.requires.clean.clean in
     record {
       bank = read_any (read_then both digested.bank) _;
       agrees = λ clean f has.
@@ -59,8 +60,8 @@ returns g c =
           let earlier = clean_before compared.bank before in
           let due = file_of c.in_ok-due.due in
           let same = subst (λ (d : Database). SameTables d due.now) (filled.bank.still earlier).0
-          (compared.same before (c.requires.clean (connection_of c.compare_all.new.due)) (rw c.in_default.is refl)) in
-          let it = filled.shows c.requires.shows (c.requires.clean (connection_of c.in_ok-due.due)) in
+          (compared.same before (sure (connection_of c.compare_all.new.due)) (rw c.in_default.is refl)) in
+          let it = filled.shows c.requires.shows (sure (connection_of c.in_ok-due.due)) in
           (it.0, same_log (file_of c.args.bank.now) due _ _ f has same it.0 it.1);
       digest = λ clean all has.
           digested.rows clean all
