@@ -5,7 +5,8 @@ use Rattle.std.proofs.{KnownBytes.Appends-trans, lemmas.List.map-append}
 use Rattle.posting_rules.specs.believed.Tables.{row_at}
 use Rattle.sql_meanings.specs.believed.Entries.{Entry}
 use Rattle.store_rows.proofs.RowLists.{found_row}
-use Rattle.walked_rows.specs.{Pairs.row_under, Stored.branch_entry, Stored.number_after, StoredBeside.floor_entry}
+use Rattle.store_rows.specs.believed.Columns.{number_at}
+use Rattle.walked_rows.specs.{Pairs.row_under, Stored.branch_entry, StoredBeside.floor_entry}
 use Rattle.walked_rows.specs.{declared.branches.StoredBranch.StoredBranch, declared.floors.StoredFloor.StoredFloor}
 use Rattle.report_contents.specs.{Lines.text_of, Written.AppendsPart}
 use Rattle.report_contents.proofs.Joined.{text_of-append, text_of-snoc}
@@ -16,13 +17,13 @@ use Rattle.bank_replays.proofs.Wrote.{end_part, end_wrote}
 -- a branch's floor is the one that the file has under its number
 pub floor_is : (floors : List StoredFloor) (b : ℕ)
     → option_map lowest_of (row_at branch_of floors b)
-    ≡ option_map (number_after 0) (row_under (map floor_entry floors) (pos b))
+    ≡ option_map (number_at 0) (row_under (map floor_entry floors) (pos b))
 floor_is floors b =
     shown (row_at branch_of floors b)
-    ∙ ap (option_map (number_after 0)) (sym (found_row branch_of floor_entry (λ r. refl) b floors))
+    ∙ ap (option_map (number_at 0)) (sym (found_row branch_of floor_entry (λ r. refl) b floors))
   where
     shown : (x : Option StoredFloor)
-        → option_map lowest_of x ≡ option_map (number_after 0) (option_map floor_entry x)
+        → option_map lowest_of x ≡ option_map (number_at 0) (option_map floor_entry x)
     shown None = refl
     shown (Some f) = refl
 

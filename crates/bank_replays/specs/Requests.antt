@@ -7,9 +7,9 @@ use Rattle.message_records.specs.Reading.{outcome_with}
 use Rattle.message_records.specs.believed.Records.{ReplyFields, RequestFields, unreferenced}
 use Rattle.posting_rules.specs.believed.Cases.{balance_shown}
 use Rattle.sql_meanings.specs.believed.Entries.{Entry}
+use Rattle.store_rows.specs.believed.Columns.{number_at}
 use Rattle.walked_rows.specs.KeptRows.{KeptItem}
 use Rattle.walked_rows.specs.References.{text_after}
-use Rattle.walked_rows.specs.Stored.{number_after}
 
 -- a request as it came, the reply that it got, and the moment of its posting, zero where it wasn't posted
 pub record AnsweredRequest : Type 0 where
@@ -21,34 +21,34 @@ pub record AnsweredRequest : Type 0 where
 
 abbrev pub request_in : KeptItem → RequestFields
 request_in k = record {
-  account = nat_abs (number_after 2 k.entry);
-  teller = nat_abs (number_after 0 k.entry);
-  branch = nat_abs (number_after 3 k.entry);
-  number = nat_abs (number_after 1 k.entry);
-  delta = number_after 4 k.entry;
+  account = nat_abs (number_at 2 k.entry);
+  teller = nat_abs (number_at 0 k.entry);
+  branch = nat_abs (number_at 3 k.entry);
+  number = nat_abs (number_at 1 k.entry);
+  delta = number_at 4 k.entry;
   reference = option_map text_after k.reference;
 }
 
 abbrev pub outcome_in : KeptItem → Outcome
-outcome_in k = unwrap_or (outcome_with (nat_abs (number_after 5 k.entry))) Malformed
+outcome_in k = unwrap_or (outcome_with (nat_abs (number_at 5 k.entry))) Malformed
 
 abbrev pub reply_in : KeptItem → ReplyFields
 reply_in k = record {
   outcome = outcome_in k;
   request = Some (unreferenced (request_in k));
-  balance = balance_shown (outcome_in k) (number_after 6 k.entry);
+  balance = balance_shown (outcome_in k) (number_at 6 k.entry);
 }
 
 abbrev pub moment_under : Option Entry → ℕ
 moment_under None = 0
-moment_under (Some posting) = nat_abs (number_after 4 posting)
+moment_under (Some posting) = nat_abs (number_at 4 posting)
 
 abbrev pub answered_in : KeptItem → AnsweredRequest
 answered_in k = record { request = request_in k; reply = reply_in k; moment = moment_under k.posting }
 
 -- no number of the row is below zero that is none in a request, and its outcome is one
 pub record IsRequestRow (k : KeptItem) : Type 0 where
-  pub account : number_after 2 k.entry ≡ pos (request_in k).account
-  pub teller : number_after 0 k.entry ≡ pos (request_in k).teller
-  pub branch : number_after 3 k.entry ≡ pos (request_in k).branch
-  pub number : number_after 1 k.entry ≡ pos (request_in k).number
+  pub account : number_at 2 k.entry ≡ pos (request_in k).account
+  pub teller : number_at 0 k.entry ≡ pos (request_in k).teller
+  pub branch : number_at 3 k.entry ≡ pos (request_in k).branch
+  pub number : number_at 1 k.entry ≡ pos (request_in k).number

@@ -10,9 +10,9 @@ use Rattle.posting_core.specs.Told.{HasMore, HasWriteFailed, IsFlush, WriteTold}
 use Rattle.report_contents.specs.Lines.{text_of}
 use Rattle.report_contents.specs.Written.{AppendsPart}
 use Rattle.sql_meanings.specs.believed.Entries.{Entry}
+use Rattle.store_rows.specs.believed.Columns.{number_at}
 use Rattle.walked_rows.specs.KeptRows.{KeptItem, kept_key}
 use Rattle.walked_rows.specs.Pairs.{row_under}
-use Rattle.walked_rows.specs.Stored.{number_after}
 use Rattle.walked_rows.specs.declared.floors.StoredFloor.{StoredFloor}
 use Rattle.bank_replays.specs.Requests.{AnsweredRequest, request_in}
 use Rattle.bank_replays.specs.declared.fault.ReplayFault.{ReplayFault}
@@ -78,11 +78,11 @@ text_of_floor (Some lowest) = signed_decimal lowest
 -- the line of a branch with such a text: its number, how many accounts it has, and the text
 abbrev pub line_with : Entry → List ℕ → List ℕ
 line_with e floor =
-    signed_decimal e.key ++ (44 ∷ (signed_decimal (number_after 0 e) ++ (44 ∷ (floor ++ (10 ∷ [])))))
+    signed_decimal e.key ++ (44 ∷ (signed_decimal (number_at 0 e) ++ (44 ∷ (floor ++ (10 ∷ [])))))
 
 -- and with the floor that a row has under its number
 abbrev pub plan_line : List Entry → Entry → List ℕ
-plan_line floors e = line_with e (text_of_floor (option_map (number_after 0) (row_under floors e.key)))
+plan_line floors e = line_with e (text_of_floor (option_map (number_at 0) (row_under floors e.key)))
 
 -- the lines of branches
 abbrev pub plan_lines : List Entry → List Entry → List ℕ

@@ -1,7 +1,6 @@
 //! The request that a kept row came as, and the reply that it got.
-ghost use Rattle.std.specs.Prelude.{◌≡◌, pos, IfSome, MatchOption};
+ghost use Rattle.std.specs.Prelude.{◌≡◌, pos, IfSome};
 ghost use Rattle.message_records.specs.believed.Outcomes.{code_of};
-ghost use Rattle.walked_rows.specs.Reading.{IsOutside};
 ghost use Rattle.bank_replays.specs.Came.{CameAs, GotReply};
 
 use message_records::{Cents, Outcome, Reply, Request, Whole};
@@ -9,7 +8,7 @@ use walked_rows::KeptRequest;
 
 // The number, unless it is out of the range.
 fn whole<const LEAST: u64, const MOST: u64>(number: i64) -> Option<Whole<LEAST, MOST>>
-    ensures { MatchOption result (IsOutside LEAST MOST number) (λ n. number ≡ pos n) }
+    ensures { IfSome result (λ n. number ≡ pos n) }
 {
     if number < 0 {
         return None;

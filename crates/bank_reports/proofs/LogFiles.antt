@@ -1,5 +1,5 @@
 -- The file of a bank that shows a log.
-use Rattle.std.proofs.Common.{◌≡◌, ◌<◌, ◌∙◌, ℕ, pos, true, false, List, [], ◌∷◌, map, Less, int_cmp, refl, sym, ap}
+use Rattle.std.proofs.Common.{◌≡◌, ◌<◌, ◌∙◌, ℕ, pos, true, false, List, [], ◌∷◌, map, Less, Ok, int_cmp, refl, sym, ap}
 use Rattle.std.proofs.Common.{subst, inl, inr, arith}
 use Rattle.std.specs.{Prelude.nat_eq, Prelude.IsTrue, List.AllByRecursion, List.Contains, List.IsDistinct}
 use Rattle.std.proofs.lemmas.{Bool.cases_Bool, Bool.eqb-true, Int.ints}
@@ -8,14 +8,18 @@ use Rattle.sqlite.specs.Effect.{Database}
 use Rattle.posting_rules.specs.{believed.Commands.Command, believed.Commands.AreCommands, Damage.IsUndamaged}
 use Rattle.posting_rules.specs.{believed.Laws.IsConsistent}
 use Rattle.posting_rules.specs.believed.Tables.{Tables, AreTablesOf, history_key, request_key}
+use Rattle.posting_rules.specs.declared.{fault.Rule.Rule, limits.TheConstants.LAST_BRANCH}
+use Rattle.posting_rules.specs.declared.limits.TheConstants.{MAX_DECIDED}
 use Rattle.posting_rules.proofs.{Consistent.consistent, Undamaged.undamaged}
 use Rattle.sql_meanings.specs.believed.Entries.{Entry, Rise}
 use Rattle.store_rows.specs.believed.BankTables as bank
+use Rattle.store_rows.specs.believed.SeveralRows.{given}
 use Rattle.store_rows.specs.believed.View as view
 use Rattle.store_rows.specs.believed.View.{Shows}
-use Rattle.walked_rows.specs.Rows.{HasStoredRows}
+use Rattle.walked_rows.specs.{Kinds.Kind, Rows.HasStoredRows, StepOutcomes.BreaksBy}
 use Rattle.walked_rows.specs.Stored.{account_entry, branch_entry, posting_entry, request_entry, teller_entry}
-use Rattle.walked_rows.specs.Stored.{IsNoAccount, IsNoBranch, IsNoPosting, IsNoRequest, IsNoTeller}
+use Rattle.walked_rows.specs.Stored.{account_kind, branch_kind, posting_kind, request_kind, teller_kind}
+use Rattle.walked_rows.specs.declared.limits.TheConstants.{LAST_ACCOUNT, LAST_TELLER, MAX_COUNTED}
 use Rattle.walked_rows.proofs.Shown.{has_accounts, has_branches, has_history, has_requests, has_tellers}
 use Rattle.report_contents.specs.Audit.{audit_of, is_sound, posting_ordinal, request_ordinal}
 use Rattle.report_contents.specs.Consistency.{HasOrdinals}
@@ -23,7 +27,8 @@ use Rattle.report_contents.specs.Stored.{StoredTables, account_stored, branch_st
 use Rattle.report_contents.specs.Stored.{stored, teller_stored}
 use Rattle.report_contents.proofs.OfTables.{tells_of_tables}
 use Rattle.bank_reports.specs.Files.{HasBroken, HasBrokenRow, HasFile, rows_in}
-use Rattle.bank_reports.proofs.{Passed.split_map, StatementReports.all_after, StatementReports.outside_none}
+use Rattle.bank_reports.proofs.{Passed.split_map, StatementReports.all_after, StatementReports.in_range}
+use Rattle.bank_reports.proofs.StatementReports.{reads_posting}
 
 -- ---- keys that rise are distinct
 
@@ -97,37 +102,30 @@ balanced t log shows =
 
 -- ---- none of them is broken
 
-none_broken : {X R : Type 0} (f : X → R) (entry : R → Entry) (Breaks : Entry → Type 0)
-    (P : X → Type 0) → ((x : X) → P x → Breaks (entry (f x)) → ⊥)
-    → (xs : List X) → ((x : X) → Contains xs x → P x) → HasBroken Breaks (map entry (map f xs))
+none_broken : {X R : Type 0} (f : X → R) (kind : Kind R) (broken : Rule) (P : X → Type 0)
+    → ((x : X) → P x → kind.reading (given (kind.entry (f x))) ≡ Ok (f x))
+    → (xs : List X) → ((x : X) → Contains xs x → P x) → HasBroken (BreaksBy kind.reading broken) (map kind.entry (map f xs))
     → ⊥
-none_broken f entry Breaks P never xs each broken =
+none_broken f kind broken P reads xs each breaks =
     let all = recursion_from_All P xs (λ k d low. each _ (All-contains_itself xs k d low)) in
-    let row = split_map entry (map f xs) broken.0 broken.1 broken.2 broken.3 in
+    let row = split_map kind.entry (map f xs) breaks.0 breaks.1 breaks.2 breaks.3 in
     let it = split_map f xs row.0 row.1 row.2 row.3 in
     let here = all_after P it.0 (it.1 ∷ it.2) (subst (AllByRecursion P) it.3 all) in
-    never it.1 here.0 (subst Breaks (row.4 ∙ ap entry it.4) broken.4)
+    let none = sym (reads it.1 here.0) ∙ subst (BreaksBy kind.reading broken) (row.4 ∙ ap kind.entry it.4) breaks.4 in cc
 
-module _ (t : Tables) (log : List Command) (are : AreCommands log) (shows : AreTablesOf t log) where
+module _ (t : Tables) (log : List Command) (are : AreCommands log) (shows : AreTablesOf t log) (broken : Rule) where
   sound : IsUndamaged t
   sound = undamaged t log are shows
 
-  pub not_damaged : HasBrokenRow (rows_in (stored t)) → ⊥
-  not_damaged (inl h) = none_broken branch_stored branch_entry IsNoBranch _ (λ r s is. elim is [
-    | inl key ↦ outside_none 1 _ r.branch s.some s.most key
-    | inr count ↦ outside_none 1 _ r.accounts s.few s.many count
-  ]) t.branches sound.each_branch h
-  not_damaged (inr (inl h)) =
-      none_broken teller_stored teller_entry IsNoTeller _
-      (λ r s is. outside_none 1 _ r.teller s.some s.most is) t.tellers sound.each_teller h
-  not_damaged (inr (inr (inl h))) =
-      none_broken account_stored account_entry IsNoAccount _
-      (λ r s is. outside_none 1 _ r.account s.some s.most is) t.accounts sound.each_account h
-  not_damaged (inr (inr (inr (inl h)))) =
-      none_broken posting_stored posting_entry IsNoPosting _ (λ r s is. elim is [
-        | inl key ↦ outside_none 1 _ r.ordinal s.ordinal_above s.ordinal key
-        | inr moment ↦ outside_none 0 _ r.moment (omega arith) s.moment moment
-      ]) t.history sound.each_posting h
-  not_damaged (inr (inr (inr (inr h)))) =
-      none_broken request_stored request_entry IsNoRequest _
-      (λ r s is. outside_none 1 _ r.ordinal s.ordinal_above s.ordinal is) t.requests sound.each_request h
+  pub not_damaged : HasBrokenRow broken (rows_in (stored t)) → ⊥
+  not_damaged (inl h) = none_broken branch_stored branch_kind broken _
+      (λ r s. rw (in_range 1 LAST_BRANCH r.branch s.some s.most, in_range 1 MAX_COUNTED r.accounts s.few s.many) refl)
+      t.branches sound.each_branch h
+  not_damaged (inr (inl h)) = none_broken teller_stored teller_kind broken _
+      (λ r s. rw (in_range 1 LAST_TELLER r.teller s.some s.most) refl) t.tellers sound.each_teller h
+  not_damaged (inr (inr (inl h))) = none_broken account_stored account_kind broken _
+      (λ r s. rw (in_range 1 LAST_ACCOUNT r.account s.some s.most) refl) t.accounts sound.each_account h
+  not_damaged (inr (inr (inr (inl h)))) = none_broken posting_stored posting_kind broken _
+      (λ r s. reads_posting (posting_stored r) s.ordinal_above s.ordinal s.moment) t.history sound.each_posting h
+  not_damaged (inr (inr (inr (inr h)))) = none_broken request_stored request_kind broken _
+      (λ r s. rw (in_range 1 MAX_DECIDED r.ordinal s.ordinal_above s.ordinal) refl) t.requests sound.each_request h

@@ -5,11 +5,12 @@ use Rattle.posting_rules.specs.believed.Tables.{row_at}
 use Rattle.sql_meanings.specs.believed.Entries.{Entry}
 use Rattle.sql_meanings.proofs.Places.{all_weaker}
 use Rattle.store_rows.proofs.RowLists.{found_row}
+use Rattle.store_rows.specs.believed.Columns.{number_at}
 use Rattle.walked_rows.specs.declared.{accounts.StoredAccount.StoredAccount, branches.StoredBranch.StoredBranch}
 use Rattle.walked_rows.specs.declared.{tellers.StoredTeller.StoredTeller, postings.StoredPosting.StoredPosting}
 use Rattle.walked_rows.specs.declared.{requests.StoredRequest.StoredRequest, joined.Joined.Joined}
 use Rattle.walked_rows.specs.Pairs.{pair_of, pair_with, paired, row_under}
-use Rattle.walked_rows.specs.Stored.{account_entry, asked_pair, branch_entry, number_after, posted_pair}
+use Rattle.walked_rows.specs.Stored.{account_entry, asked_pair, branch_entry, posted_pair}
 use Rattle.walked_rows.specs.Stored.{posting_entry, request_entry, teller_entry}
 use Rattle.report_contents.specs.{Added.HasBeside, Beside.rows_of, Stored.StoredTables}
 use Rattle.report_contents.specs.Audit.{posting_ordinal, posting_under, request_ordinal, request_under}
@@ -20,36 +21,36 @@ use Rattle.bank_reports.specs.{declared.sums.Sums.Sums, Adding.HasSums, Adding.b
 pub posting_in : Entry → StoredPosting
 posting_in e = record {
   ordinal = nat_abs e.key;
-  account = number_after 0 e;
-  teller = number_after 1 e;
-  branch = number_after 2 e;
-  delta = number_after 3 e;
-  moment = nat_abs (number_after 4 e);
+  account = number_at 0 e;
+  teller = number_at 1 e;
+  branch = number_at 2 e;
+  delta = number_at 3 e;
+  moment = nat_abs (number_at 4 e);
 }
 
 request_in : Entry → StoredRequest
 request_in e = record {
   ordinal = nat_abs e.key;
-  teller = number_after 0 e;
-  number = number_after 1 e;
-  account = number_after 2 e;
-  branch = number_after 3 e;
-  delta = number_after 4 e;
-  outcome = number_after 5 e;
-  balance = number_after 6 e;
+  teller = number_at 0 e;
+  number = number_at 1 e;
+  account = number_at 2 e;
+  branch = number_at 3 e;
+  delta = number_at 4 e;
+  outcome = number_at 5 e;
+  balance = number_at 6 e;
 }
 
 account_in : Entry → StoredAccount
-account_in e = record { account = nat_abs e.key; balance = number_after 0 e }
+account_in e = record { account = nat_abs e.key; balance = number_at 0 e }
 
 teller_in : Entry → StoredTeller
-teller_in e = record { teller = nat_abs e.key; balance = number_after 0 e }
+teller_in e = record { teller = nat_abs e.key; balance = number_at 0 e }
 
 branch_in : Entry → StoredBranch
 branch_in e = record {
   branch = nat_abs e.key;
-  accounts = nat_abs (number_after 0 e);
-  balance = number_after 1 e;
+  accounts = nat_abs (number_at 0 e);
+  balance = number_at 1 e;
 }
 
 pub posting_back : (r : StoredPosting) → posting_in (posting_entry r) ≡ r

@@ -1,11 +1,11 @@
 -- What is told of a statement of a bank that shows a log.
 use Rattle.std.proofs.Common.{◌≡◌, ◌<◌, ◌≤◌, ◌+◌, ◌++◌, ℕ, Bool, true, false, cond, List, [], ◌∷◌, length, map}
 use Rattle.std.proofs.Common.{Option, Some, None, Result, Ok, Err, refl, sym, ap, subst, ◌∙◌, inl, inr, arith}
-use Rattle.std.specs.Prelude.{ℤ, pos, ◌+ℤ◌, ◌-◌, ◌^◌, nat_abs, option_map, IfSome, IsSomeAnd}
+use Rattle.std.specs.Prelude.{ℤ, ◌&&◌, nat_le, pos, ◌+ℤ◌, ◌-◌, ◌^◌, nat_abs, option_map, IfSome, IsSomeAnd}
 use Rattle.std.specs.{List.AllByRecursion, Io.KnownBytes.Appends}
-use Rattle.std.proofs.lemmas.{Int.ints, List.length-append}
+use Rattle.std.proofs.lemmas.{Bool.Decides.nat_tests, Int.ints, List.length-append}
 use Rattle.message_records.proofs.References.{reference_again}
-use Rattle.message_records.specs.believed.Records.{reference_from}
+use Rattle.message_records.specs.believed.Ranges.{whole_within}
 use Rattle.message_records.specs.Records.{IsReference}
 use Rattle.message_records.specs.declared.limits.TheConstants.{MAX_BALANCE, MAX_MOMENT}
 use Rattle.posting_rules.specs.declared.limits.TheConstants.{MAX_DECIDED}
@@ -13,8 +13,10 @@ use Rattle.posting_rules.specs.declared.fault.{Rule.Rule, Fault.TheVariants.Dama
 use Rattle.posting_rules.specs.believed.Commands.{Command, AreCommands, is_account_open, opened}
 use Rattle.posting_rules.specs.believed.Entries.{DecidedRequest, decided, account_balance, balance_after}
 use Rattle.posting_rules.proofs.SoundEntries.{AreSound, are_sound, few_enough}
-use Rattle.walked_rows.specs.{Pairs.Pair, Reading.IsOutside, References.BreaksReference, References.text_entry}
-use Rattle.walked_rows.specs.{Stored.BreaksStated, Stored.stated_pair, declared.stated.StatedPosting.StatedPosting}
+use Rattle.store_rows.specs.believed.SeveralRows.{given}
+use Rattle.walked_rows.specs.{Pairs.Pair, References.BreaksReference, References.text_entry}
+use Rattle.walked_rows.specs.Stored.{BreaksStated, posting_entry, posting_of, stated_pair}
+use Rattle.walked_rows.specs.declared.{postings.StoredPosting.StoredPosting, stated.StatedPosting.StatedPosting}
 use Rattle.walked_rows.proofs.RisingRows.{all-append}
 use Rattle.report_contents.specs.Written.{AppendsPart}
 use Rattle.report_contents.proofs.Written.{first_part, same_all, same_part}
@@ -44,24 +46,23 @@ readable a (e ∷ es) sound = last (is_posted_to a e) (few_enough (e ∷ es) sou
         ((omega arith, omega (arith, few), sound.0.moment, sound.0.request.reference), tt)
     last false few earlier = earlier
 
-pub outside_none : (least most n : ℕ) → least ≤ n → n ≤ most → IsOutside least most (pos n)
-    → ⊥
-outside_none least most n low high (inl under) = omega (arith, ints, under)
-outside_none least most n low high (inr over) = omega (arith, ints, over)
+pub in_range : (least most n : ℕ) → least ≤ n → n ≤ most → whole_within least most n ≡ Some n
+in_range least most n low high = let test : (nat_le least n && nat_le n most) ≡ true =
+    grind (arith, nat_tests) in rw test refl
 
-not_none : (text : List ℕ) → IsReference text → reference_from text ≡ None → ⊥
-not_none text is none = let it = sym (reference_again text is) ∙ none in cc
+pub reads_posting : (r : StoredPosting) → 1 ≤ r.ordinal → r.ordinal ≤ MAX_DECIDED → r.moment ≤ MAX_MOMENT
+    → posting_of (given (posting_entry r)) ≡ Ok r
+reads_posting r some most moment =
+    rw (in_range 1 MAX_DECIDED r.ordinal some most, in_range 0 MAX_MOMENT r.moment (omega arith) moment) refl
 
 is_read : (o : ℕ) (broken : Rule) (reference : Option (List ℕ)) → IfSome reference IsReference
     → IsSomeAnd (option_map (text_entry o) reference) (BreaksReference broken) → ⊥
 is_read o broken None can broke = broke
-is_read o broken (Some text) can broke = not_none text can broke.1
+is_read o broken (Some text) can broke = let it = rw (reference_again text can) at broke in cc
 
 not_broken : (s : StatedPosting) (broken : Rule) → IsReadable s → BreaksStated broken (stated_pair s) → ⊥
-not_broken s broken can (inl own) = elim own.1 [
-  | inl ordinal ↦ outside_none 1 MAX_DECIDED s.posting.ordinal can.0 can.1 ordinal
-  | inr moment ↦ outside_none 0 MAX_MOMENT s.posting.moment (omega arith) can.2 moment
-]
+not_broken s broken can (inl own) =
+    let it = sym (reads_posting s.posting can.0 can.1 can.2) ∙ own in cc
 not_broken s broken can (inr beside) = is_read s.posting.ordinal broken s.reference can.3 beside
 
 pub all_after : {X : Type 0} (P : X → Type 0) (xs ys : List X) → AllByRecursion P (xs ++ ys)

@@ -12,7 +12,6 @@ use Rattle.posting_rules.specs.believed.Tables.{AreTablesOf, Tables}
 use Rattle.posting_rules.specs.declared.fault.Fault.{Fault}
 use Rattle.posting_rules.specs.declared.fault.Fault.TheVariants.{Damaged, Store}
 use Rattle.posting_rules.specs.declared.fault.Rule.{Rule}
-use Rattle.posting_rules.specs.declared.fault.Rule.TheVariants.{Value}
 use Rattle.report_contents.specs.Audit.{audit_of, is_sound}
 use Rattle.report_contents.specs.Consistency.{IsSoundFile}
 use Rattle.report_contents.specs.Stored.{StoredTables, stored}
@@ -65,7 +64,7 @@ pub record AuditsFile {S : Type 0} (g : Ghosts S) (old new : Bank S g) (told : R
       → IfOk told (λ a. IsTrue (is_sound a) ↔ IsSoundFile t)
   -- it is told to be damaged where a number of a row is out of its range
   pub damaged : (rule : Rule) → told ≡ Err (Damaged rule) → (f : FileRows) → HasFile (database_of g old) f
-      → (rule ≡ Value) × HasBrokenRow f
+      → HasBrokenRow rule f
   -- the store is said to have failed where a read did
   pub store : told ≡ Err Store → (f : FileRows) → HasFile (database_of g old) f
       → HasFailedToRead g (connection_of old) (connection_of new)

@@ -1,13 +1,15 @@
 -- The rows that an audit reads of a file.
 use Rattle.std.specs.Prelude.{◌≡◌, ◌⊎◌, ◌++◌, ◌∷◌, List, map}
 use Rattle.sqlite.specs.Effect.{Database}
+use Rattle.posting_rules.specs.declared.fault.Rule.{Rule}
 use Rattle.sql_meanings.specs.believed.Entries.{Entry}
 use Rattle.store_rows.specs.believed.BankTables.{account as account_table, branch as branch_table}
 use Rattle.store_rows.specs.believed.BankTables.{history as history_table}
 use Rattle.store_rows.specs.believed.BankTables.{request as request_table, teller as teller_table}
 use Rattle.walked_rows.specs.Rows.{HasStoredRows}
+use Rattle.walked_rows.specs.StepOutcomes.{BreaksBy}
 use Rattle.walked_rows.specs.Stored.{account_entry, branch_entry, posting_entry, request_entry, teller_entry}
-use Rattle.walked_rows.specs.Stored.{IsNoAccount, IsNoBranch, IsNoPosting, IsNoRequest, IsNoTeller}
+use Rattle.walked_rows.specs.Stored.{account_of, branch_of, posting_of, request_of, teller_of}
 use Rattle.report_contents.specs.Stored.{StoredTables}
 
 -- the rows of five tables
@@ -41,8 +43,9 @@ abbrev pub HasBroken : {X : Type 0} → (X → Type 0) → List X → Type 0
 HasBroken {X} Breaks xs = (before : List X) × (x : X) × (more : List X) × (xs ≡ before ++ x ∷ more)
     × Breaks x
 
--- a key, a count of accounts or a moment is out of its range
-abbrev pub HasBrokenRow : FileRows → Type 0
-HasBrokenRow f =
-    HasBroken IsNoBranch f.branches ⊎ HasBroken IsNoTeller f.tellers ⊎ HasBroken IsNoAccount f.accounts
-    ⊎ HasBroken IsNoPosting f.history ⊎ HasBroken IsNoRequest f.requests
+-- a key, a count of accounts or a moment is out of its range, so that a row is read as damage of this rule
+abbrev pub HasBrokenRow : Rule → FileRows → Type 0
+HasBrokenRow broken f =
+    HasBroken (BreaksBy branch_of broken) f.branches ⊎ HasBroken (BreaksBy teller_of broken) f.tellers
+    ⊎ HasBroken (BreaksBy account_of broken) f.accounts ⊎ HasBroken (BreaksBy posting_of broken) f.history
+    ⊎ HasBroken (BreaksBy request_of broken) f.requests

@@ -2,7 +2,6 @@
 ghost use Rattle.std.specs.Prelude.{◌≡◌, ◌≢◌, Err, IfErr, OnOk};
 ghost use Rattle.sqlite.specs.State.{HasCleanDisk};
 ghost use Rattle.posting_rules.specs.declared.fault.Fault.TheVariants.{Down, Memory};
-ghost use Rattle.posting_rules.specs.declared.fault.Rule.TheVariants.{Value};
 ghost use Rattle.report_contents.specs.Beside.{no_rows, rows_of};
 ghost use Rattle.report_contents.specs.Stored.{StoredTables};
 ghost use Rattle.bank_store.specs.believed.Seen.{bank_seen, connection_of, database_of, file_of};
@@ -28,7 +27,7 @@ pub(crate) fn add_all<S: Alter>(bank: &mut Bank<S>, sums: &mut Sums) -> Result<(
         → OnOk result ((t : StoredTables) × (rows_in t ≡ f) × HasSums sums.new (rows_of t)) }
     ensures told { HasCleanDisk (file_of bank.new) → (f : FileRows)
         → HasFile (database_of S.Store bank.old) f
-        → IfErr result (SaysOf (λ rule. (rule ≡ Value) × HasBrokenRow f)
+        → IfErr result (SaysOf (λ rule. HasBrokenRow rule f)
         (HasFailedToRead S.Store (connection_of bank.old) (connection_of bank.new))) }
     ensures frugal { result ≢ Err Memory }
     ensures tried { result ≡ Err Down → (bank_seen S.Store bank.old).is_down }

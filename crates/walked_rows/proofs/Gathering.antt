@@ -5,13 +5,14 @@ use Rattle.std.proofs.Common.{int_cmp, Less, arith, append_assoc, w64, to_z, of_
 use Rattle.std.specs.Ordering.{is_ge}
 use Rattle.std.proofs.lemmas.{Bool.cases_Bool, Bool.Decides.nat_tests, Int.ints, Int.to_z-of_z}
 use Rattle.sqlite.specs.Order.{Row}
-use Rattle.posting_rules.specs.declared.fault.Rule.{Rule}
-use Rattle.sql_meanings.specs.believed.Entries.{Entry, HasWidth, Rise}
+use Rattle.sql_meanings.specs.believed.{Entries.Entry, Entries.Rise, Tables.width_of}
 use Rattle.sql_meanings.specs.Seeks.{is_from}
 use Rattle.sql_meanings.proofs.{Changes.found_all, Changes.found_passes, EntryLists.Above}
 use Rattle.store_rows.proofs.Lookups.{as_integer}
+use Rattle.store_rows.specs.believed.SeveralRows.{given}
 use Rattle.store_rows.specs.declared.fault.TableFault.{TableFault, TheVariants.Sqlite, TheVariants.Damaged}
-use Rattle.walked_rows.specs.StepOutcomes.{BreaksFirst, IsRefusedMemory, ReadsNext}
+use Rattle.walked_rows.specs.Kinds.{IsRow, Kind}
+use Rattle.walked_rows.specs.StepOutcomes.{BreaksBy, BreaksFirst, ReadsNext}
 use Rattle.walked_rows.specs.{Rows.IsWide, Rows.rows_from, declared.ahead.TheConstants.AHEAD}
 
 -- ---- how the rows that are yet to come grow fewer
@@ -78,10 +79,9 @@ pub full_there : {X : Type 0} (n : ℕ) (xs : List X) → 0 < n → nat_eq (leng
 full_there n xs room full none = let h = rw none at full in grind (arith, nat_tests)
 
 -- no rows are shown of those that are to come where there are none
-pub no_more : (shown_as : Entry → Row) (es : List Entry) (found : List Row) → length found ≤ 0
-    → found ≡ map shown_as (take AHEAD es) → es ≡ []
-no_more shown_as [] found low is = refl
-no_more shown_as (e ∷ es) found low is = absurd (omega (arith, ap length is))
+pub no_more : (es : List Entry) (found : List Row) → length found ≤ 0 → found ≡ map given (take AHEAD es) → es ≡ []
+no_more [] found low is = refl
+no_more (e ∷ es) found low is = absurd (omega (arith, ap length is))
 
 -- ---- a row of those that were found
 
@@ -93,24 +93,23 @@ found_of p (x ∷ xs) e more is = elim (cases_Bool (p x)) [
   | inr away ↦ rw away (found_of p xs e more (rw away at is))
 ]
 
-first_of : (shown_as : Entry → Row) (most : ℕ) (before after : List Entry) (d : Row)
-    → length before < length (map shown_as (take most (before ++ after)))
+first_of : (most : ℕ) (before after : List Entry) (d : Row)
+    → length before < length (map given (take most (before ++ after)))
     → (e : Entry) × (more : List Entry) × (after ≡ e ∷ more)
-    × (get_or (map shown_as (take most (before ++ after))) (length before) d ≡ shown_as e)
-first_of shown_as zero before after d low = absurd (omega arith)
-first_of shown_as (suc n) [] [] d low = absurd (omega arith)
-first_of shown_as (suc n) [] (e ∷ more) d low = (e, more, refl, refl)
-first_of shown_as (suc n) (x ∷ before) after d low = first_of shown_as n before after d (omega arith)
+    × (get_or (map given (take most (before ++ after))) (length before) d ≡ given e)
+first_of zero before after d low = absurd (omega arith)
+first_of (suc n) [] [] d low = absurd (omega arith)
+first_of (suc n) [] (e ∷ more) d low = (e, more, refl, refl)
+first_of (suc n) (x ∷ before) after d low = first_of n before after d (omega arith)
 
-module _ {R : Type 0} (shown_as : Entry → Row) (entry : R → Entry) (Breaks : Rule → Entry → Type 0)
-    (width : ℕ × ℕ) (most : ℕ) (found : List Row) (from : ℤ) (rows : List Entry)
-    (rise : Rise rows) (wide : IsWide width rows)
-    (is : found ≡ map shown_as (take most (rows_from from rows))) where
+module _ {R : Type 0} (kind : Kind R) (most : ℕ) (found : List Row) (from : ℤ) (rows : List Entry)
+    (rise : Rise rows) (wide : IsWide (width_of kind.table) rows)
+    (is : found ≡ map given (take most (rows_from from rows))) where
   -- so many were gathered, and from a number on the others follow
   abbrev pub Gathered : List R → ℤ → Type 0
-  Gathered done next = rows_from from rows ≡ map entry done ++ rows_from next rows
+  Gathered done next = rows_from from rows ≡ map kind.entry done ++ rows_from next rows
 
-  as_many : (xs : List R) → length (map entry xs) ≡ length xs
+  as_many : (xs : List R) → length (map kind.entry xs) ≡ length xs
   as_many [] = refl
   as_many (x ∷ xs) = ap suc (as_many xs)
 
@@ -118,48 +117,48 @@ module _ {R : Type 0} (shown_as : Entry → Row) (entry : R → Entry) (Breaks :
       (at : row ≡ get_or found (length done) row)
       (so_far : Gathered done next) where
     -- the next row that was found is the next one
-    next_is : (e : Entry) × (find (is_from next) rows ≡ Some e) × (row ≡ shown_as e)
-        × HasWidth width e
+    next_is : (e : Entry) × (find (is_from next) rows ≡ Some e) × (row ≡ given e)
+        × IsRow kind e
     next_is =
-        let all : found ≡ map shown_as (take most (map entry done ++ rows_from next rows)) =
-        is ∙ ap (λ l. map shown_as (take most l)) so_far in
-        let count : length (map entry done) ≡ length done = as_many done in
+        let all : found ≡ map given (take most (map kind.entry done ++ rows_from next rows)) =
+        is ∙ ap (λ l. map given (take most l)) so_far in
+        let count : length (map kind.entry done) ≡ length done = as_many done in
         let it =
-        first_of shown_as most (map entry done) (rows_from next rows) row (omega (arith, ap length all, count)) in
+        first_of most (map kind.entry done) (rows_from next rows) row (omega (arith, ap length all, count)) in
         let some = found_of (is_from next) rows it.0 it.1 it.2 in (
           it.0,
           some,
           at ∙ ap (λ l. get_or l (length done) row) all
-              ∙ ap (λ n. get_or (map shown_as (take most (map entry done ++ rows_from next rows))) n row) (sym count)
+              ∙ ap (λ n. get_or (map given (take most (map kind.entry done ++ rows_from next rows))) n row) (sym count)
               ∙ it.3,
-          found_all (λ x. HasWidth width x) (is_from next) rows it.0 wide some,
+          found_all (λ x. IsRow kind x) (is_from next) rows it.0 wide some,
         )
 
     -- it was read
-    pub gathers_on : (r : R) → ReadsNext shown_as Breaks width entry next row (Ok r)
-        → Gathered (done ++ r ∷ []) ((entry r).key +ℤ pos 1)
+    pub gathers_on : (r : R) → ReadsNext kind next row (Ok r)
+        → Gathered (done ++ r ∷ []) ((kind.entry r).key +ℤ pos 1)
     gathers_on r read =
         let it = next_is in
-        let same : entry r ≡ it.0 = read.0 it.0 it.2 it.3 in
-        so_far ∙ ap (λ l. map entry done ++ l) (first_left next rows it.0 rise it.1)
-        ∙ ap (λ x. map entry done ++ (x ∷ rows_from (x.key +ℤ pos 1) rows)) (sym same)
-        ∙ sym (append_assoc (map entry done) (entry r ∷ []) (rows_from ((entry r).key +ℤ pos 1) rows))
-        ∙ ap (λ l. l ++ rows_from ((entry r).key +ℤ pos 1) rows) (sym (map_after done r))
+        let same : kind.entry r ≡ it.0 = read.0 it.0 it.2 it.3 in
+        so_far ∙ ap (λ l. map kind.entry done ++ l) (first_left next rows it.0 rise it.1)
+        ∙ ap (λ x. map kind.entry done ++ (x ∷ rows_from (x.key +ℤ pos 1) rows)) (sym same)
+        ∙ sym (append_assoc (map kind.entry done) (kind.entry r ∷ []) (rows_from ((kind.entry r).key +ℤ pos 1) rows))
+        ∙ ap (λ l. l ++ rows_from ((kind.entry r).key +ℤ pos 1) rows) (sym (map_after done r))
       where
-        map_after : (xs : List R) (x : R) → map entry (xs ++ x ∷ []) ≡ map entry xs ++ entry x ∷ []
+        map_after : (xs : List R) (x : R) → map kind.entry (xs ++ x ∷ []) ≡ map kind.entry xs ++ kind.entry x ∷ []
         map_after [] x = refl
-        map_after (y ∷ ys) x = ap (λ l. entry y ∷ l) (map_after ys x)
+        map_after (y ∷ ys) x = ap (λ l. kind.entry y ∷ l) (map_after ys x)
 
     -- a number of it is out of its range, and none was gathered before it
     pub gathers_none : (fault : TableFault) → done ≡ []
-        → ReadsNext {R = R} shown_as Breaks width entry next row (Err fault)
-        → BreaksFirst IsRefusedMemory Breaks (rows_from from rows) fault
-    gathers_none (Sqlite e) none read = let it = next_is in read it.0 it.2 it.3
+        → ReadsNext kind next row (Err fault)
+        → BreaksFirst (λ _. ⊥) (BreaksBy kind.reading) (rows_from from rows) fault
+    gathers_none (Sqlite e) none read = read
     gathers_none (Damaged broken) none read =
         let it = next_is in
         let broke = read it.0 it.2 it.3 (found_passes (is_from next) rows it.0 it.1) in (
           it.0,
           rows_from (it.0.key +ℤ pos 1) rows,
-          so_far ∙ ap (λ l. map entry l ++ rows_from next rows) none ∙ first_left next rows it.0 rise it.1,
+          so_far ∙ ap (λ l. map kind.entry l ++ rows_from next rows) none ∙ first_left next rows it.0 rise it.1,
           broke,
         )

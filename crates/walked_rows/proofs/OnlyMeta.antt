@@ -10,10 +10,9 @@ use Rattle.sqlite_schema.specs.declared.command.Command.TheVariants as command
 use Rattle.sql_meanings.specs.{believed.Entries.Entry, StatementAnswers.OnlyShows}
 use Rattle.sql_meanings.proofs.OnlyShowing.{no_rows_error}
 use Rattle.store_rows.specs.believed.Failures.{Asking, HasFailed}
-use Rattle.store_rows.specs.declared.metas.StoredMeta.{StoredMeta}
+use Rattle.store_rows.specs.{believed.SeveralRows.given, declared.metas.StoredMeta.StoredMeta}
 use Rattle.walked_rows.specs.OnlyMeta.{TakesOnly, TakesRow, TellsOnly, meta_with}
 use Rattle.walked_rows.specs.Rows.{HasStoredRows, IsWide, LEAST, entry_key, rows_from}
-use Rattle.walked_rows.specs.StepOutcomes.{shown, shown_row}
 use Rattle.walked_rows.specs.declared.{ahead.TheConstants.AHEAD, texts.TheConstants.METAS_FROM}
 use Rattle.walked_rows.proofs.{Keys.all_left, Sought.all_given, Sought.tells_walk, WalkTexts.walks_metas}
 
@@ -23,7 +22,7 @@ first_is : {X : Type 0} (x y : X) → x ∷ [] ≡ y ∷ [] → x ≡ y
 first_is x y same = cc
 
 one_told : (key : ℤ) (values : List ℤ) (texts : List (List ℕ)) (m : Option StoredMeta) → length values ≡ 2
-    → length texts ≡ 0 → TakesRow (shown_row (record { key = key; values = values; texts = texts })) m
+    → length texts ≡ 0 → TakesRow (given (record { key = key; values = values; texts = texts })) m
     → TellsOnly (record { key = key; values = values; texts = texts } ∷ []) m
 one_told key [] texts m wide none takes = absurd (omega arith)
 one_told key (a ∷ []) texts m wide none takes = absurd (omega arith)
@@ -32,9 +31,9 @@ one_told key (a ∷ b ∷ []) (t ∷ texts) m wide none takes = absurd (omega ar
 one_told key (a ∷ b ∷ []) [] (Some m) wide none takes =
     let it = takes key a b refl in rw (it.0, it.1, it.2) refl
 one_told key (a ∷ b ∷ []) [] None wide none takes =
-    λ version decided same. takes version decided (ap shown_row (first_is _ _ same))
+    λ version decided same. takes version decided (ap given (first_is _ _ same))
 
-pub only_told : (rows : List Entry) (found : List Row) (m : Option StoredMeta) → found ≡ shown (take AHEAD rows)
+pub only_told : (rows : List Entry) (found : List Row) (m : Option StoredMeta) → found ≡ map given (take AHEAD rows)
     → IsWide (2, 0) rows → TakesOnly found m → TellsOnly rows m
 only_told [] found m is wide takes =
     subst (TellsOnly []) (sym (subst (λ l. TakesOnly l m) is takes)) (λ version decided same. cc)
@@ -51,7 +50,7 @@ tells_only old new checks rows has found m shows takes =
     let told = tells_walk old new (walks_metas checks) rows has {V = List Row} (λ v. v) LEAST (Ok found) shows in
     let all : rows_from LEAST (filter (λ _. true) rows) ≡ rows =
     ap (rows_from LEAST) (all_given rows) ∙ all_left entry_key rows has.least in
-    only_told rows found m (told ∙ ap (λ es. map shown_row (take AHEAD es)) all) has.holds.rows.wide takes
+    only_told rows found m (told ∙ ap (λ es. map given (take AHEAD es)) all) has.holds.rows.wide takes
 
 -- ---- why it isn't known
 

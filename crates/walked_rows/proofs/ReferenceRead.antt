@@ -3,7 +3,7 @@ use Rattle.std.proofs.Common.{◌≡◌, ℕ, ℤ, pos, List, [], ◌∷◌, map
 use Rattle.std.proofs.Common.{refl, sym, ap, subst, ◌∙◌}
 use Rattle.std.specs.Prelude.{IsSomeAnd, MatchResult, option_map}
 use Rattle.sqlite.specs.{Order.Row, Order.column, Program.overlay, Schema.Schema, Listing.understood, Term.Term}
-use Rattle.sqlite.specs.{Term.col, Term.eval_all, declared.error.Error.Error, declared.types.Value.Value}
+use Rattle.sqlite.specs.{Term.col, Term.eval_all, declared.error.Error.Error}
 use Rattle.sqlite.specs.State.{State, FailsToQuery, Shown}
 use Rattle.sqlite.specs.declared.types.Value.TheVariants.{Null, Int, Text}
 use Rattle.sqlite_tied.specs.Compute.{everything}
@@ -16,12 +16,13 @@ use Rattle.sql_meanings.proofs.{Changes.found_all, Changes.found_key, KeyedAnswe
 use Rattle.sql_meanings.proofs.{ReadSeeks.reads_all, ReadTables.under_overlay, Texts.only_reads, Texts.select_of}
 use Rattle.sql_meanings.proofs.Keyed.{Gets, first_key, gets_by}
 use Rattle.store_rows.specs.believed.BankTables as bank
+use Rattle.store_rows.specs.believed.SeveralRows.{given}
 use Rattle.store_rows.specs.declared.fault.TableFault.{TableFault, TheVariants.Sqlite, TheVariants.Damaged}
 use Rattle.store_rows.proofs.ShownValues.{places_are, text_shown}
 use Rattle.walked_rows.specs.Pairs.{BreaksUnder, row_under}
-use Rattle.walked_rows.specs.References.{BreaksReference, ReadsFirst, text_after, text_entry}
+use Rattle.walked_rows.specs.References.{BreaksReference, ReadsFirst, text_entry}
 use Rattle.walked_rows.specs.{Rows.HasStoredRows, declared.texts.TheConstants.REFERENCE_UNDER}
-use Rattle.walked_rows.proofs.Sought.{store_error}
+use Rattle.walked_rows.proofs.{EntryShown.same_entry, Sought.store_error}
 
 -- ---- the statement
 
@@ -46,18 +47,20 @@ only_references = only_reads gets.is
 abbrev shown_of : ℤ → Entry → Row
 shown_of k e = eval_all project ((Int k ∷ []) ∷ stored e ∷ [])
 
-shows_text : (k : ℤ) (e : Entry) → HasWidth (0, 1) e → shown_of k e ≡ Text (text_after e) ∷ []
-shows_text k e wide = ap (λ (v : Value). v ∷ []) (text_shown e wide)
+same_text : (text other : List ℕ) → Text text ≡ Text other → text ≡ other
+same_text text other same = cc
 
-same_entry : (k key : ℤ) (vs values : List ℤ) (ts texts : List (List ℕ)) → k ≡ key → vs ≡ values → ts ≡ texts
-    → (let it : Entry = record { key = k; values = vs; texts = ts } in it)
-    ≡ record { key = key; values = values; texts = texts }
-same_entry k key vs values ts texts one two three = cc
+same_number : (a b : ℤ) → Int a ≡ Int b → a ≡ b
+same_number a b same = cc
 
-is_text : (n : ℕ) (e : Entry) → HasWidth (0, 1) e → e.key ≡ pos n → text_entry n (text_after e) ≡ e
-is_text n e wide at =
-    same_entry (pos n) e.key [] e.values (text_after e ∷ []) e.texts (sym at)
-    (places_are (pos 0) 0 e.values wide.0) (places_are [] 1 e.texts wide.1)
+-- a row is what its columns show
+pub reference_is : (e : Entry) (row : Row) → row ≡ given e → HasWidth (0, 1) e → (n : ℕ) (text : List ℕ)
+    → column row 0 ≡ Int (pos n) → column row 1 ≡ Text text → text_entry n text ≡ e
+reference_is e row is wide n text key shows =
+    same_entry (pos n) e.key [] e.values (text ∷ []) e.texts (same_number _ _ (sym key ∙ ap (λ (r : Row). column r 0) is))
+    (places_are (pos 0) 0 e.values wide.0)
+    (ap (λ t. t ∷ []) (same_text _ _ (sym shows ∙ ap (λ (r : Row). column r 1) is ∙ text_shown e wide))
+    ∙ places_are [] 1 e.texts wide.1)
 
 -- ---- what is read of it
 
@@ -68,14 +71,13 @@ module _ (Because : Error → Type 0) (n : ℕ) where
   Tells under (Err (Sqlite e)) = Because e
   Tells under (Err (Damaged broken)) = IsSomeAnd under (BreaksReference broken)
 
-  reads_row : (e : Entry) → HasWidth (0, 1) e → e.key ≡ pos n → (row : Row)
-      → column row 0 ≡ Text (text_after e) → (r : Result (Option (List ℕ)) TableFault)
-      → ReadsFirst (row ∷ []) r → Tells (Some e) r
-  reads_row e wide at row shows (Ok (Some text)) read =
-      ap Some (ap (text_entry n) (read (text_after e) shows) ∙ is_text n e wide at)
-  reads_row e wide at row shows (Ok None) read = absurd read
-  reads_row e wide at row shows (Err (Sqlite x)) read = absurd read
-  reads_row e wide at row shows (Err (Damaged broken)) read = read (text_after e) shows
+  reads_row : (e : Entry) → HasWidth (0, 1) e → e.key ≡ pos n → (r : Result (Option (List ℕ)) TableFault)
+      → ReadsFirst (shown_of (pos n) e ∷ []) r → Tells (Some e) r
+  reads_row e wide at (Ok (Some text)) read =
+      ap Some (reference_is e (given e) refl wide n text (ap (λ z. Int z) at) read)
+  reads_row e wide at (Ok None) read = absurd read
+  reads_row e wide at (Err (Sqlite x)) read = absurd read
+  reads_row e wide at (Err (Damaged broken)) read = read
 
   reads_none : (r : Result (Option (List ℕ)) TableFault) → r ≡ Ok None → Tells None r
   reads_none r is = rw is refl
@@ -85,9 +87,7 @@ module _ (Because : Error → Type 0) (n : ℕ) where
       → (r : Result (Option (List ℕ)) TableFault) → ReadsFirst found r → Tells under r
   reads_of None is found are r read = reads_none r (subst (λ l. ReadsFirst l r) are read)
   reads_of (Some e) is found are r read =
-      let both = is e refl in
-      reads_row e both.0 both.1 (shown_of (pos n) e) (ap (λ row. column row 0) (shows_text (pos n) e both.0)) r
-      (subst (λ l. ReadsFirst l r) are read)
+      let both = is e refl in reads_row e both.0 both.1 r (subst (λ l. ReadsFirst l r) are read)
 
   in_words : (all : List Entry) (r : Result (Option (List ℕ)) TableFault) → Tells (row_under all (pos n)) r
       → MatchResult r (λ found. option_map (text_entry n) found ≡ row_under all (pos n))

@@ -6,15 +6,16 @@ use Rattle.std.proofs.lemmas.Bool.{cases_Bool}
 use Rattle.sqlite.specs.{Order.Row, Schema.Schema, Table.Table, Term.Term, Term.eval_all, Listing.understood}
 use Rattle.sqlite.specs.{declared.error.Error.Error, declared.types.Value.TheVariants.Int}
 use Rattle.sqlite.specs.State.{State, FailsToQuery, IsUnchanged, Shown}
-use Rattle.sql_meanings.specs.believed.Entries.{Entry, HasWidth, numbers, stored}
+use Rattle.sql_meanings.specs.believed.Entries.{Entry, HasWidth, stored}
 use Rattle.sql_meanings.specs.StatementAnswers.{IsStoreError, OnlyShows, ReadFails, WriteFails}
 use Rattle.sql_meanings.specs.Seeks.{begins, is_from, is_of_from, next_from, next_of_from}
 use Rattle.sql_meanings.specs.believed.Tables.{width_of}
 use Rattle.sql_meanings.proofs.{ReadSeeks.kept_all, ReadSeeks.reads_from, ReadSeeks.reads_of_from, ReadTables.ReadsAs}
 use Rattle.posting_rules.specs.declared.fault.Rule.{Rule}
+use Rattle.store_rows.specs.believed.SeveralRows.{given}
 use Rattle.store_rows.specs.declared.fault.TableFault.{TableFault, TheVariants.Sqlite, TheVariants.Damaged}
-use Rattle.walked_rows.specs.StepOutcomes.{BreaksFirst, IsRefusedMemory, all_numbers, shown, shown_row}
-use Rattle.walked_rows.specs.{Rows.HasStoredRows, Rows.IsWide, Rows.rows_from, declared.ahead.TheConstants.AHEAD}
+use Rattle.walked_rows.specs.{Rows.HasStoredRows, Rows.IsWide, Rows.rows_from, StepOutcomes.BreaksFirst}
+use Rattle.walked_rows.specs.declared.ahead.TheConstants.{AHEAD}
 
 -- ---- lists
 
@@ -59,12 +60,11 @@ taken f zero xs = refl
 taken f (suc n) [] = refl
 taken f (suc n) (x ∷ xs) = ap (λ l. f x ∷ l) (taken f n xs)
 
-same_shown : (shown_as : Entry → Row) (width : ℕ × ℕ) (f : Entry → Row)
-    → ((e : Entry) → HasWidth width e → f e ≡ shown_as e) → (es : List Entry)
-    → IsWide width es → map f es ≡ map shown_as es
-same_shown shown_as width f same [] all = refl
-same_shown shown_as width f same (e ∷ es) all =
-    rw (same e all.0) (ap (λ l. shown_as e ∷ l) (same_shown shown_as width f same es all.1))
+same_shown : (width : ℕ × ℕ) (f : Entry → Row) → ((e : Entry) → HasWidth width e → f e ≡ given e)
+    → (es : List Entry) → IsWide width es → map f es ≡ map given es
+same_shown width f same [] all = refl
+same_shown width f same (e ∷ es) all =
+    rw (same e all.0) (ap (λ l. given e ∷ l) (same_shown width f same es all.1))
 
 -- ---- what is reported
 
@@ -77,23 +77,23 @@ module _ (old new : State) (table : Table) (free : table.references ≡ []) (row
     (has : HasStoredRows old.now table rows)
     (text : List ℕ) (project : List Term) {V : Type 0} (items : V → List Row) where
   -- the rows from a number on
-  pub tells_from : (shown_as : Entry → Row) (k : ℤ)
+  pub tells_from : (k : ℤ)
       → ReadsAs table text (Int k ∷ []) (λ t. next_from AHEAD t project)
       → ((e : Entry) → HasWidth (width_of table) e
-      → eval_all project ((Int k ∷ []) ∷ stored e ∷ []) ≡ shown_as e)
+      → eval_all project ((Int k ∷ []) ∷ stored e ∷ []) ≡ given e)
       → (r : Result V Error) → MatchResult r (λ v. Shown text (Int k ∷ []) old new (items v))
       (FailsToQuery text (Int k ∷ []) old new)
-      → MatchResult r (λ v. items v ≡ map shown_as (take AHEAD (rows_from k (filter (λ _. true) rows))))
+      → MatchResult r (λ v. items v ≡ map given (take AHEAD (rows_from k (filter (λ _. true) rows))))
       (IsStoreError old new)
-  tells_from shown_as k reads whole (Ok v) ok =
+  tells_from k reads whole (Ok v) ok =
       let told = reads_from old new table free has.sound rows has.holds text AHEAD project k reads
       (Ok (items v)) ok in
       told.0 ∙ ap (take AHEAD)
-      (same_shown shown_as (width_of table) _ whole (filter (is_from k) rows)
+      (same_shown (width_of table) _ whole (filter (is_from k) rows)
       (wide_filter _ (is_from k) rows has.holds.rows.wide))
-      ∙ taken shown_as AHEAD (filter (is_from k) rows)
-      ∙ ap (λ es. map shown_as (take AHEAD (rows_from k es))) (sym (all_given rows))
-  tells_from shown_as k reads whole (Err e) err =
+      ∙ taken given AHEAD (filter (is_from k) rows)
+      ∙ ap (λ es. map given (take AHEAD (rows_from k es))) (sym (all_given rows))
+  tells_from k reads whole (Err e) err =
       store_error old new e (reads_from old new table free has.sound rows has.holds text AHEAD project k reads
       (Err e) err)
 
@@ -101,47 +101,43 @@ module _ (old new : State) (table : Table) (free : table.references ≡ []) (row
   pub tells_of_from : (one k : ℤ)
       → ReadsAs table text (Int one ∷ Int k ∷ []) (λ t. next_of_from AHEAD t project)
       → ((e : Entry) → HasWidth (width_of table) e
-      → eval_all project ((Int one ∷ Int k ∷ []) ∷ stored e ∷ []) ≡ numbers (all_numbers e))
+      → eval_all project ((Int one ∷ Int k ∷ []) ∷ stored e ∷ []) ≡ given e)
       → (r : Result V Error)
       → MatchResult r (λ v. Shown text (Int one ∷ Int k ∷ []) old new (items v))
       (FailsToQuery text (Int one ∷ Int k ∷ []) old new)
       → MatchResult r (λ v. items v
-      ≡ shown (take AHEAD (rows_from k (filter (λ e. begins one e.values) rows)))) (IsStoreError old new)
+      ≡ map given (take AHEAD (rows_from k (filter (λ e. begins one e.values) rows)))) (IsStoreError old new)
   tells_of_from one k reads whole (Ok v) ok =
       let told = reads_of_from old new table free has.sound rows has.holds text AHEAD project one k reads
       (Ok (items v)) ok in
       told.0 ∙ ap (take AHEAD)
-      (same_shown shown_row (width_of table) _ whole (filter (is_of_from one k) rows)
+      (same_shown (width_of table) _ whole (filter (is_of_from one k) rows)
       (wide_filter _ (is_of_from one k) rows has.holds.rows.wide))
-      ∙ taken shown_row AHEAD (filter (is_of_from one k) rows)
-      ∙ ap (λ es. shown (take AHEAD es)) (both_given one k rows)
+      ∙ taken given AHEAD (filter (is_of_from one k) rows)
+      ∙ ap (λ es. map given (take AHEAD es)) (both_given one k rows)
   tells_of_from one k reads whole (Err e) err =
       store_error old new e (reads_of_from old new table free has.sound rows has.holds text AHEAD project one
       k reads (Err e) err)
 
 -- What is known of the statement of a walk: it only shows rows, and these are shown so, from a number on.
-pub record WalksAs (shown_as : Entry → Row) (table : Table) (text : List ℕ) : Type 0 where
+pub record Walks (table : Table) (text : List ℕ) : Type 0 where
   pub project : List Term
   pub free : table.references ≡ []
   pub only : (schema : Schema) → OnlyShows text 1 (understood schema text)
   pub reads : (k : ℤ) → ReadsAs table text (Int k ∷ []) (λ t. next_from AHEAD t project)
   pub whole : (k : ℤ) (e : Entry) → HasWidth (width_of table) e
-      → eval_all project ((Int k ∷ []) ∷ stored e ∷ []) ≡ shown_as e
-
--- all numbers of the rows
-abbrev pub Walks : Table → List ℕ → Type 0
-Walks = WalksAs shown_row
+      → eval_all project ((Int k ∷ []) ∷ stored e ∷ []) ≡ given e
 
 -- so it tells them
-pub tells_walk : (old new : State) {shown_as : Entry → Row} {table : Table} {text : List ℕ}
-    (walk : WalksAs shown_as table text)
+pub tells_walk : (old new : State) {table : Table} {text : List ℕ}
+    (walk : Walks table text)
     (rows : List Entry) (has : HasStoredRows old.now table rows) {V : Type 0} (items : V → List Row) (k : ℤ)
     (r : Result V Error) → MatchResult r (λ v. Shown text (Int k ∷ []) old new (items v))
     (FailsToQuery text (Int k ∷ []) old new)
-    → MatchResult r (λ v. items v ≡ map shown_as (take AHEAD (rows_from k (filter (λ _. true) rows))))
+    → MatchResult r (λ v. items v ≡ map given (take AHEAD (rows_from k (filter (λ _. true) rows))))
     (IsStoreError old new)
-tells_walk old new {shown_as} {table} {text} walk rows has items k =
-    tells_from old new table walk.free rows has text walk.project items shown_as k (walk.reads k)
+tells_walk old new {table} {text} walk rows has items k =
+    tells_from old new table walk.free rows has text walk.project items k (walk.reads k)
     (walk.whole k)
 
 module _ (old new : State) (text : List ℕ) (params : Row)
@@ -163,9 +159,8 @@ pub match_err : {X E : Type 0} (P : X → Type 0) (Q T : E → Type 0) (r : Resu
 match_err P Q T (Ok x) f h = h
 match_err P Q T (Err e) f h = f e h
 
--- memory was refused, and nothing has changed
-pub refused_memory : (old new : State) (Breaks : Rule → Entry → Type 0) (rows : List Entry) → IsUnchanged old new
-    → (fault : TableFault)
-    → BreaksFirst IsRefusedMemory Breaks rows fault → BreaksFirst (IsStoreError old new) Breaks rows fault
-refused_memory old new Breaks rows same (Sqlite e) refused = inr (inl refused, same)
-refused_memory old new Breaks rows same (Damaged broken) broke = broke
+-- where the store can't have failed
+pub never_first : (Failed : Error → Type 0) (Breaks : Rule → Entry → Type 0) (rows : List Entry) (fault : TableFault)
+    → BreaksFirst (λ _. ⊥) Breaks rows fault → BreaksFirst Failed Breaks rows fault
+never_first Failed Breaks rows (Sqlite e) never = absurd never
+never_first Failed Breaks rows (Damaged broken) broke = broke

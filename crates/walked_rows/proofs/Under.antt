@@ -1,16 +1,15 @@
 -- The first of the rows that were found beside others.
 use Rattle.std.proofs.Common.{◌≡◌, ◌<ℤ◌, ◌≤ℤ◌, ◌+ℤ◌, ◌<◌, ℕ, suc, ℤ, pos, List, [], ◌∷◌, map, find, drop, length}
-use Rattle.std.proofs.Common.{get_or, Err, true, false, Some, None, Option, int_cmp, refl, sym, ap, subst, ◌∙◌, inl}
+use Rattle.std.proofs.Common.{get_or, true, false, Some, None, Option, int_cmp, refl, sym, ap, subst, ◌∙◌, inl}
 use Rattle.std.proofs.Common.{inr, arith}
 use Rattle.std.specs.{Prelude.IfSome, Ordering.int_eq, Ordering.is_ge}
 use Rattle.std.proofs.{Math.Seq.drop-cons, lemmas.Bool.cases_Bool, lemmas.Int.ints}
-use Rattle.sqlite.specs.{State.State, State.IsUnchanged, declared.error.Error.Error}
+use Rattle.sqlite.specs.declared.error.Error.{Error}
 use Rattle.posting_rules.specs.declared.fault.Rule.{Rule}
 use Rattle.sql_meanings.specs.believed.Entries.{Entry, Rise, has_key}
-use Rattle.sql_meanings.specs.{StatementAnswers.IsStoreError, Seeks.is_from}
+use Rattle.sql_meanings.specs.Seeks.{is_from}
 use Rattle.store_rows.specs.declared.fault.TableFault.{TableFault, TheVariants.Sqlite, TheVariants.Damaged}
-use Rattle.walked_rows.specs.{StepOutcomes.BreaksFirst, StepOutcomes.IsRefusedMemory, Pairs.BreaksUnder}
-use Rattle.walked_rows.specs.{Pairs.TellsKey, Pairs.row_under, Rising.RisesFrom, Rows.rows_from}
+use Rattle.walked_rows.specs.{StepOutcomes.BreaksFirst, Pairs.BreaksUnder, Pairs.row_under, Rising.RisesFrom, Rows.rows_from}
 use Rattle.walked_rows.proofs.Gathering.{first_left, found_of}
 
 -- ---- keys
@@ -78,19 +77,11 @@ pub broken_first : {X : Type 0} (Because : Error → Type 0) (Breaks : Rule → 
     → BreaksFirst Because Breaks items (Damaged broken)
 broken_first Because Breaks items fault broken is h = subst (BreaksFirst Because Breaks items) is h
 
--- its key can't be read
-pub key_fails : (Breaks : Rule → Entry → Type 0) (k : ℤ) (es : List Entry) (e : Entry) (fault : TableFault)
-    → TellsKey e (Err fault)
-    → BreaksUnder IsRefusedMemory Breaks k es fault
-key_fails Breaks k es e (Sqlite x) tells = tells
-key_fails Breaks k es e (Damaged broken) tells = absurd tells
-
--- memory was refused, and nothing has changed
-pub refused_under : (old new : State) (Breaks : Rule → Entry → Type 0) (k : ℤ) (es : List Entry)
-    → IsUnchanged old new → (fault : TableFault)
-    → BreaksUnder IsRefusedMemory Breaks k es fault → BreaksUnder (IsStoreError old new) Breaks k es fault
-refused_under old new Breaks k es same (Sqlite e) refused = inr (inl refused, same)
-refused_under old new Breaks k es same (Damaged broken) broke = broke
+-- where the store can't have failed
+pub never_under : (Failed : Error → Type 0) (Breaks : Rule → Entry → Type 0) (k : ℤ) (es : List Entry)
+    (fault : TableFault) → BreaksUnder (λ _. ⊥) Breaks k es fault → BreaksUnder Failed Breaks k es fault
+never_under Failed Breaks k es (Sqlite e) never = absurd never
+never_under Failed Breaks k es (Damaged broken) broke = broke
 
 -- ---- keys that rise
 

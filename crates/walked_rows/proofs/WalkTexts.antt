@@ -18,14 +18,15 @@ use Rattle.sql_meanings.specs.believed.{Plain.key_column, Plain.number_column, T
 use Rattle.sql_meanings.specs.{Queries.ascending, Seeks.key_from, Seeks.next_from, Seeks.next_of_from}
 use Rattle.sql_meanings.proofs.{ByKey.Tests, ByKey.number_at, ReadTables.ReadsAs, ShownColumns.outputs_at}
 use Rattle.sql_meanings.proofs.{SeekTexts.seeks_by, SeekTexts.seeks_of_by, Statements.HasTable}
-use Rattle.sql_meanings.proofs.Texts.{IsSelect, columns_of, only_reads, places_of, select_of}
+use Rattle.sql_meanings.proofs.Texts.{IsSelect, columns_of, count_after_key, only_reads, places_of, select_of}
 use Rattle.store_rows.specs.believed.BankTables as bank
-use Rattle.walked_rows.specs.{OnlyMeta.meta_with, References.text_shown, declared.ahead.TheConstants.AHEAD}
+use Rattle.store_rows.specs.believed.SeveralRows.{given}
+use Rattle.store_rows.proofs.ShownValues.{all_columns}
+use Rattle.walked_rows.specs.{OnlyMeta.meta_with, declared.ahead.TheConstants.AHEAD}
 use Rattle.walked_rows.specs.declared.texts.TheConstants.{ACCOUNTS_FROM, BRANCHES_FROM, FLOORS_FROM, METAS_FROM}
 use Rattle.walked_rows.specs.declared.texts.TheConstants.{POSTINGS_FROM, POSTINGS_OF, REFERENCES_FROM, REQUESTS_FROM}
 use Rattle.walked_rows.specs.declared.texts.TheConstants.{TELLERS_FROM}
-use Rattle.walked_rows.proofs.Shows.{shows_all, shows_text}
-use Rattle.walked_rows.proofs.Sought.{Walks, WalksAs}
+use Rattle.walked_rows.proofs.Sought.{Walks}
 
 -- the key of a table, where its name and its column compute
 abbrev key_of : (table : Table) (name : Name)
@@ -45,7 +46,7 @@ key_of table name named there is_at by_bytes tree = record {
 
 -- A SELECT by rising keys, from a number on, shows the rows so, where that computes: its words, the key of its
 -- table, and what it is as a query.
-walks_by : {shown_as : Entry → Row} {table : Table} {text : List ℕ} {places : List ℕ} (is : IsSelect table text 1 places)
+walks_by : {table : Table} {text : List ℕ} {places : List ℕ} (is : IsSelect table text 1 places)
     (key : Name) (project : List Term) {sort : Sort} {cap test e a b : Expr} {most : Name}
     → is.order ≡ sort ∷ [] → is.limit ≡ Some cap → is.filter ≡ Some test
     → out-Sort sort ≡ record { key = e; descending = false; nulls_first = None }
@@ -66,8 +67,8 @@ walks_by : {shown_as : Entry → Row} {table : Table} {text : List ℕ} {places 
     → ((k : ℤ) (schema : Schema) (p tree : ℕ) → HasTable schema table.name p (placed_at table tree)
     → accepts_program schema [] (next_from AHEAD tree project) (Int k ∷ []) ≡ true)
     → ((params : Row) (e : Entry) → HasWidth (width_of table) e
-    → eval_all project (params ∷ stored e ∷ []) ≡ shown_as e)
-    → WalksAs shown_as table text
+    → eval_all project (params ∷ stored e ∷ []) ≡ given e)
+    → Walks table text
 walks_by {table = table} {text = text} {places = places} is key project {sort = sort} {cap = cap} {test = test} {e = e} {a = a} {b = b} {most = most} ordered limited
     filtered sorts by_key above left right capped value free there named is_at by_bytes plain unnamed typed
     accepts whole = record {
@@ -126,57 +127,56 @@ unfolding is_tellers everything program.program ungrouped
 walks_tellers = walks_by is_tellers (codes "tid") (columns_of bank.teller)
     refl refl refl refl refl refl refl refl refl refl refl refl (λ tree. refl) (λ tree. refl) (λ tree. refl)
     (λ tree. refl) (λ tree. refl) (λ schema p tree has. rw (has.low, has.found))
-    (λ k schema p tree has. rw (has.low, has.found)) (shows_all bank.teller)
+    (λ k schema p tree has. rw (has.low, has.found)) (λ _. all_columns 1 0)
 
 pub walks_branches : Walks bank.branch BRANCHES_FROM.now
 unfolding is_branches everything program.program ungrouped
 walks_branches = walks_by is_branches (codes "bid") (columns_of bank.branch)
     refl refl refl refl refl refl refl refl refl refl refl refl (λ tree. refl) (λ tree. refl) (λ tree. refl)
     (λ tree. refl) (λ tree. refl) (λ schema p tree has. rw (has.low, has.found))
-    (λ k schema p tree has. rw (has.low, has.found)) (shows_all bank.branch)
+    (λ k schema p tree has. rw (has.low, has.found)) (λ _. all_columns 2 0)
 
 pub walks_accounts : Walks bank.account ACCOUNTS_FROM.now
 unfolding is_accounts everything program.program ungrouped
 walks_accounts = walks_by is_accounts (codes "aid") (columns_of bank.account)
     refl refl refl refl refl refl refl refl refl refl refl refl (λ tree. refl) (λ tree. refl) (λ tree. refl)
     (λ tree. refl) (λ tree. refl) (λ schema p tree has. rw (has.low, has.found))
-    (λ k schema p tree has. rw (has.low, has.found)) (shows_all bank.account)
+    (λ k schema p tree has. rw (has.low, has.found)) (λ _. all_columns 1 0)
 
 pub walks_postings : Walks bank.history POSTINGS_FROM.now
 unfolding is_postings everything program.program ungrouped
 walks_postings = walks_by is_postings (codes "ordinal") (columns_of bank.history)
     refl refl refl refl refl refl refl refl refl refl refl refl (λ tree. refl) (λ tree. refl) (λ tree. refl)
     (λ tree. refl) (λ tree. refl) (λ schema p tree has. rw (has.low, has.found))
-    (λ k schema p tree has. rw (has.low, has.found)) (shows_all bank.history)
+    (λ k schema p tree has. rw (has.low, has.found)) (λ _. all_columns (count_after_key bank.history) 0)
 
 pub walks_requests : Walks bank.request REQUESTS_FROM.now
 unfolding is_requests everything program.program ungrouped
 walks_requests = walks_by is_requests (codes "ordinal") (columns_of bank.request)
     refl refl refl refl refl refl refl refl refl refl refl refl (λ tree. refl) (λ tree. refl) (λ tree. refl)
     (λ tree. refl) (λ tree. refl) (λ schema p tree has. rw (has.low, has.found))
-    (λ k schema p tree has. rw (has.low, has.found)) (shows_all bank.request)
+    (λ k schema p tree has. rw (has.low, has.found)) (λ _. all_columns (count_after_key bank.request) 0)
 
 pub walks_metas : (checks : List Term) → Walks (meta_with checks) METAS_FROM.now
 unfolding is_metas everything program.program ungrouped
 walks_metas checks = walks_by (is_metas checks) (codes "id") (columns_of (meta_with checks))
     refl refl refl refl refl refl refl refl refl refl refl refl (λ tree. refl) (λ tree. refl) (λ tree. refl)
     (λ tree. refl) (λ tree. refl) (λ schema p tree has. rw (has.low, has.found))
-    (λ k schema p tree has. rw (has.low, has.found)) (shows_all (meta_with checks))
+    (λ k schema p tree has. rw (has.low, has.found)) (λ _. all_columns 2 0)
 
 pub walks_floors : Walks bank.floor FLOORS_FROM.now
 unfolding is_floors everything program.program ungrouped
 walks_floors = walks_by is_floors (codes "bid") (columns_of bank.floor)
     refl refl refl refl refl refl refl refl refl refl refl refl (λ tree. refl) (λ tree. refl) (λ tree. refl)
     (λ tree. refl) (λ tree. refl) (λ schema p tree has. rw (has.low, has.found))
-    (λ k schema p tree has. rw (has.low, has.found)) (shows_all bank.floor)
+    (λ k schema p tree has. rw (has.low, has.found)) (λ _. all_columns 1 0)
 
--- each with its text
-pub walks_references : WalksAs text_shown bank.reference REFERENCES_FROM.now
+pub walks_references : Walks bank.reference REFERENCES_FROM.now
 unfolding is_references everything program.program ungrouped
 walks_references = walks_by is_references (codes "ordinal") (columns_of bank.reference)
     refl refl refl refl refl refl refl refl refl refl refl refl (λ tree. refl) (λ tree. refl) (λ tree. refl)
     (λ tree. refl) (λ tree. refl) (λ schema p tree has. rw (has.low, has.found))
-    (λ k schema p tree has. rw (has.low, has.found)) shows_text
+    (λ k schema p tree has. rw (has.low, has.found)) (λ _. all_columns 0 1)
 
 -- the account of a posting
 account_of_history : (tree : ℕ) → Tests (placed_at bank.history tree) (codes "aid") 2

@@ -7,7 +7,6 @@ pub mod OnlyMeta
 pub mod StepOutcomes
 pub mod PairKeys
 pub mod Pairs
-pub mod Reading
 pub mod References
 pub mod Rising
 pub mod Room

@@ -1,6 +1,6 @@
 -- Rows of a table, each with the row of another one under its key, if there is one.
-use Rattle.std.specs.Prelude.{◌≡◌, ◌⊎◌, ◌++◌, ◌<ℤ◌, ℤ, List, map, find, Option, Some, None, Result, Ok, Err}
-use Rattle.std.specs.Prelude.{IsSomeAnd, option_map, ⊤}
+use Rattle.std.specs.Prelude.{◌≡◌, ◌⊎◌, ◌++◌, ◌<ℤ◌, ℤ, List, map, find, Option, Some, None, IsSomeAnd}
+use Rattle.std.specs.Prelude.{option_map, ⊤}
 use Rattle.sqlite.specs.declared.error.Error.{Error}
 use Rattle.sqlite.specs.Table.{Table}
 use Rattle.sqlite.specs.Effect.{Database}
@@ -8,7 +8,6 @@ use Rattle.sql_meanings.specs.believed.Entries.{Entry, has_key}
 use Rattle.posting_rules.specs.declared.fault.Rule.{Rule}
 use Rattle.store_rows.specs.declared.fault.TableFault.{TableFault}
 use Rattle.store_rows.specs.declared.fault.TableFault.TheVariants.{Sqlite, Damaged}
-use Rattle.walked_rows.specs.StepOutcomes.{IsRefusedMemory}
 use Rattle.walked_rows.specs.Rows.{HasStoredRows, rows_after, rows_from}
 use Rattle.walked_rows.specs.declared.joined.Joined.{Joined}
 
@@ -57,12 +56,6 @@ BreaksPair Breaks BreaksOther broken p = Breaks broken p.entry ⊎ IsSomeAnd p.b
 abbrev pub BreaksUnder : (Error → Type 0) → (Rule → Entry → Type 0) → ℤ → List Entry → TableFault → Type 0
 BreaksUnder Failed Breaks key others (Sqlite e) = Failed e
 BreaksUnder Failed Breaks key others (Damaged broken) = IsSomeAnd (row_under others key) (Breaks broken)
-
--- the key of a row; or memory for it was refused
-abbrev pub TellsKey : Entry → Result ℤ TableFault → Type 0
-TellsKey e (Ok key) = key ≡ e.key
-TellsKey e (Err (Sqlite x)) = IsRefusedMemory x
-TellsKey e (Err (Damaged broken)) = ⊥
 
 -- the key is below the number from which on the others follow, if others do
 abbrev pub ComesBefore : Option ℤ → ℤ → Type 0

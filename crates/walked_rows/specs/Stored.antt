@@ -1,18 +1,19 @@
 -- The stored rows: keys, counts and moments within their ranges, and the other numbers whatever they are.
-use Rattle.std.specs.Prelude.{◌⊎◌, ℕ, pos, ℤ, [], ◌∷◌, slice_index_or, Bool, true, Option, Some, None, refl}
-use Rattle.std.specs.Prelude.{option_map}
-use Rattle.std.proofs.Common.{lit≤}
+use Rattle.std.specs.Prelude.{ℕ, pos, [], ◌∷◌, Bool, true, Option, Some, None, Ok, refl, option_map}
+use Rattle.sqlite.specs.Order.{column}
+use Rattle.message_records.specs.believed.Reading.{◌>>=◌}
 use Rattle.message_records.specs.declared.limits.TheConstants.{MAX_MOMENT}
 use Rattle.posting_rules.specs.declared.fault.Rule.{Rule}
+use Rattle.posting_rules.specs.declared.fault.Rule.TheVariants.{Value as OfValue}
 use Rattle.posting_rules.specs.declared.limits.TheConstants.{LAST_BRANCH, MAX_DECIDED}
 use Rattle.sql_meanings.specs.believed.Entries.{Entry}
 use Rattle.sql_meanings.specs.Seeks.{begins}
 use Rattle.store_rows.specs.believed.BankTables.{account, branch, history, request, teller}
+use Rattle.store_rows.specs.believed.Readings.{Reading, number, whole}
 use Rattle.walked_rows.specs.Kinds.{Kind, given_all}
-use Rattle.walked_rows.specs.StepOutcomes.{BreaksValue}
 use Rattle.walked_rows.specs.Pairs.{BreaksPair, Pair, pair_of}
-use Rattle.walked_rows.specs.Reading.{IsOutside}
 use Rattle.walked_rows.specs.References.{BreaksReference, text_entry}
+use Rattle.walked_rows.specs.StepOutcomes.{BreaksBy}
 use Rattle.walked_rows.specs.declared.limits.TheConstants.{LAST_ACCOUNT, LAST_TELLER, MAX_COUNTED}
 use Rattle.walked_rows.specs.declared.branches.StoredBranch.{StoredBranch}
 use Rattle.walked_rows.specs.declared.tellers.StoredTeller.{StoredTeller}
@@ -22,35 +23,40 @@ use Rattle.walked_rows.specs.declared.requests.StoredRequest.{StoredRequest}
 use Rattle.walked_rows.specs.declared.joined.Joined.{Joined}
 use Rattle.walked_rows.specs.declared.stated.StatedPosting.{StatedPosting}
 
--- one of the numbers after the key
-abbrev pub number_after : ℕ → Entry → ℤ
-number_after at e = slice_index_or e.values at (pos 0)
+-- ---- how a file holds a row, and what its columns are read as
 
--- a row of `branch`
+-- bid, accounts, balance
 abbrev pub branch_entry : StoredBranch → Entry
 branch_entry r = record { key = pos r.branch; values = pos r.accounts ∷ r.balance ∷ []; texts = [] }
 
--- no branch has this number, or it can't have so many accounts
-abbrev pub IsNoBranch : Entry → Type 0
-IsNoBranch e = IsOutside 1 LAST_BRANCH e.key ⊎ IsOutside 1 MAX_COUNTED (number_after 0 e)
+abbrev pub branch_of : Reading StoredBranch
+branch_of row = do
+  branch ← whole 1 LAST_BRANCH OfValue (column row 0)
+  accounts ← whole 1 MAX_COUNTED OfValue (column row 1)
+  balance ← number (column row 2)
+  Ok (record { branch = branch; accounts = accounts; balance = balance })
 
--- a row of `teller`
+-- tid, balance
 abbrev pub teller_entry : StoredTeller → Entry
 teller_entry r = record { key = pos r.teller; values = r.balance ∷ []; texts = [] }
 
--- no teller has this number
-abbrev pub IsNoTeller : Entry → Type 0
-IsNoTeller e = IsOutside 1 LAST_TELLER e.key
+abbrev pub teller_of : Reading StoredTeller
+teller_of row = do
+  teller ← whole 1 LAST_TELLER OfValue (column row 0)
+  balance ← number (column row 1)
+  Ok (record { teller = teller; balance = balance })
 
--- a row of `account`
+-- aid, balance
 abbrev pub account_entry : StoredAccount → Entry
 account_entry r = record { key = pos r.account; values = r.balance ∷ []; texts = [] }
 
--- no account has this number
-abbrev pub IsNoAccount : Entry → Type 0
-IsNoAccount e = IsOutside 1 LAST_ACCOUNT e.key
+abbrev pub account_of : Reading StoredAccount
+account_of row = do
+  account ← whole 1 LAST_ACCOUNT OfValue (column row 0)
+  balance ← number (column row 1)
+  Ok (record { account = account; balance = balance })
 
--- a row of `history`
+-- ordinal, aid, tid, bid, delta, moment
 abbrev pub posting_entry : StoredPosting → Entry
 posting_entry r = record {
   key = pos r.ordinal;
@@ -58,11 +64,24 @@ posting_entry r = record {
   texts = [];
 }
 
--- no posting has this ordinal, or this moment
-abbrev pub IsNoPosting : Entry → Type 0
-IsNoPosting e = IsOutside 1 MAX_DECIDED e.key ⊎ IsOutside 0 MAX_MOMENT (number_after 4 e)
+abbrev pub posting_of : Reading StoredPosting
+posting_of row = do
+  ordinal ← whole 1 MAX_DECIDED OfValue (column row 0)
+  account ← number (column row 1)
+  teller ← number (column row 2)
+  branch ← number (column row 3)
+  delta ← number (column row 4)
+  moment ← whole 0 MAX_MOMENT OfValue (column row 5)
+  Ok (record {
+    ordinal = ordinal;
+    account = account;
+    teller = teller;
+    branch = branch;
+    delta = delta;
+    moment = moment;
+  })
 
--- a row of `request`
+-- ordinal, tid, number, aid, bid, delta, outcome, balance
 abbrev pub request_entry : StoredRequest → Entry
 request_entry r = record {
   key = pos r.ordinal;
@@ -70,9 +89,26 @@ request_entry r = record {
   texts = [];
 }
 
--- no request has this ordinal
-abbrev pub IsNoRequest : Entry → Type 0
-IsNoRequest e = IsOutside 1 MAX_DECIDED e.key
+abbrev pub request_of : Reading StoredRequest
+request_of row = do
+  ordinal ← whole 1 MAX_DECIDED OfValue (column row 0)
+  teller ← number (column row 1)
+  asked ← number (column row 2)
+  account ← number (column row 3)
+  branch ← number (column row 4)
+  delta ← number (column row 5)
+  outcome ← number (column row 6)
+  balance ← number (column row 7)
+  Ok (record {
+    ordinal = ordinal;
+    teller = teller;
+    number = asked;
+    account = account;
+    branch = branch;
+    delta = delta;
+    outcome = outcome;
+    balance = balance;
+  })
 
 -- the posting is one of this account, or any if none is named
 abbrev pub is_of : Option ℕ → Entry → Bool
@@ -82,29 +118,25 @@ is_of (Some account) e = begins (pos account) e.values
 -- ---- what walks go by
 
 abbrev pub branch_kind : Kind StoredBranch
-branch_kind = given_all branch 3 branch_entry IsNoBranch refl refl (lit≤ tt)
+branch_kind = given_all branch branch_entry branch_of
 
 abbrev pub teller_kind : Kind StoredTeller
-teller_kind = given_all teller 2 teller_entry IsNoTeller refl refl (lit≤ tt)
+teller_kind = given_all teller teller_entry teller_of
 
 abbrev pub account_kind : Kind StoredAccount
-account_kind = given_all account 2 account_entry IsNoAccount refl refl (lit≤ tt)
+account_kind = given_all account account_entry account_of
 
 abbrev pub posting_kind : Kind StoredPosting
 posting_kind = record {
   table = history;
-  columns = 6;
   entry = posting_entry;
-  Breaks = IsNoPosting;
+  reading = posting_of;
   is_given = is_of;
-  are_all = refl;
-  untexted = refl;
-  are_few = lit≤ tt;
   all_given = λ e. refl;
 }
 
 abbrev pub request_kind : Kind StoredRequest
-request_kind = given_all request 8 request_entry IsNoRequest refl refl (lit≤ tt)
+request_kind = given_all request request_entry request_of
 
 -- ---- rows with what is beside them
 
@@ -113,14 +145,14 @@ abbrev pub asked_pair : Joined StoredRequest StoredPosting → Pair
 asked_pair = pair_of request_entry posting_entry
 
 abbrev pub BreaksAsked : Rule → Pair → Type 0
-BreaksAsked = BreaksPair (BreaksValue IsNoRequest) (BreaksValue IsNoPosting)
+BreaksAsked = BreaksPair (BreaksBy request_of) (BreaksBy posting_of)
 
 -- a row of `history`, with the one of `request` under its ordinal
 abbrev pub posted_pair : Joined StoredPosting StoredRequest → Pair
 posted_pair = pair_of posting_entry request_entry
 
 abbrev pub BreaksPosted : Rule → Pair → Type 0
-BreaksPosted = BreaksPair (BreaksValue IsNoPosting) (BreaksValue IsNoRequest)
+BreaksPosted = BreaksPair (BreaksBy posting_of) (BreaksBy request_of)
 
 -- a row of `history`, with the one of `request_reference` under its ordinal
 abbrev pub stated_pair : StatedPosting → Pair
@@ -134,4 +166,4 @@ abbrev pub is_stated_of : Option ℕ → Pair → Bool
 is_stated_of of p = is_of of p.entry
 
 abbrev pub BreaksStated : Rule → Pair → Type 0
-BreaksStated = BreaksPair (BreaksValue IsNoPosting) BreaksReference
+BreaksStated = BreaksPair (BreaksBy posting_of) BreaksReference

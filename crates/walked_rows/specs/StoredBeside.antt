@@ -1,34 +1,41 @@
--- The stored rows of `meta` and of `branch_floor`.
-use Rattle.std.specs.Prelude.{pos, [], ◌∷◌, refl}
-use Rattle.std.proofs.Common.{lit≤}
+-- The stored rows of `meta` and of `branch_floor`: keys within their ranges, the other numbers whatever they are.
+use Rattle.std.specs.Prelude.{pos, [], ◌∷◌, Ok}
+use Rattle.sqlite.specs.Order.{column}
+use Rattle.message_records.specs.believed.Reading.{◌>>=◌}
+use Rattle.posting_rules.specs.declared.fault.Rule.TheVariants.{Value as OfValue}
 use Rattle.posting_rules.specs.declared.limits.TheConstants.{LAST_BRANCH}
 use Rattle.sql_meanings.specs.believed.Entries.{Entry}
 use Rattle.store_rows.specs.believed.BankTables.{floor, meta}
+use Rattle.store_rows.specs.believed.Readings.{Reading, number, whole}
 use Rattle.walked_rows.specs.Kinds.{Kind, given_all}
-use Rattle.walked_rows.specs.Reading.{IsOutside}
 use Rattle.walked_rows.specs.declared.floors.StoredFloor.{StoredFloor}
 use Rattle.walked_rows.specs.declared.metas.StoredMeta.{StoredMeta}
 
--- a row of `meta`
+-- id, version, decided
 abbrev pub meta_entry : StoredMeta → Entry
 meta_entry r = record { key = pos r.id; values = r.version ∷ r.decided ∷ []; texts = [] }
 
--- the row isn't that of the bank
-abbrev pub IsNoMeta : Entry → Type 0
-IsNoMeta e = IsOutside 1 1 e.key
+abbrev pub meta_of : Reading StoredMeta
+meta_of row = do
+  id ← whole 1 1 OfValue (column row 0)
+  version ← number (column row 1)
+  decided ← number (column row 2)
+  Ok (record { id = id; version = version; decided = decided })
 
--- a row of `branch_floor`
+-- bid, lowest
 abbrev pub floor_entry : StoredFloor → Entry
 floor_entry r = record { key = pos r.branch; values = r.lowest ∷ []; texts = [] }
 
--- no branch has this number
-abbrev pub IsNoFloor : Entry → Type 0
-IsNoFloor e = IsOutside 1 LAST_BRANCH e.key
+abbrev pub floor_of : Reading StoredFloor
+floor_of row = do
+  branch ← whole 1 LAST_BRANCH OfValue (column row 0)
+  lowest ← number (column row 1)
+  Ok (record { branch = branch; lowest = lowest })
 
 -- ---- what walks go by
 
 abbrev pub meta_kind : Kind StoredMeta
-meta_kind = given_all meta 3 meta_entry IsNoMeta refl refl (lit≤ tt)
+meta_kind = given_all meta meta_entry meta_of
 
 abbrev pub floor_kind : Kind StoredFloor
-floor_kind = given_all floor 2 floor_entry IsNoFloor refl refl (lit≤ tt)
+floor_kind = given_all floor floor_entry floor_of

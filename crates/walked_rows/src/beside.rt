@@ -1,15 +1,16 @@
 //! The rows of a table that are beside those that were read ahead of another one.
-ghost use Rattle.std.specs.Prelude.{◌≡◌, ◌<ℤ◌, ◌++◌, ◌∷◌, List, pos, map, take, option_map, IfOk, IfSome};
+ghost use Rattle.std.specs.Prelude.{◌≡◌, ◌<ℤ◌, ◌++◌, ◌∷◌, List, Ok, pos, map, take, option_map, IfOk, IfSome};
 ghost use Rattle.std.specs.Prelude.{MatchResult};
 ghost use Rattle.sqlite.specs.State.{HasCleanDisk};
 ghost use Rattle.sqlite.specs.Held.{state};
 ghost use Rattle.sqlite.specs.Order.{Row as StoredColumns};
-ghost use Rattle.sql_meanings.specs.believed.Entries.{Entry, Rise, numbers};
+ghost use Rattle.sql_meanings.specs.believed.Entries.{Entry, Rise};
 ghost use Rattle.sql_meanings.specs.StatementAnswers.{IsStoreError};
 ghost use Rattle.sql_meanings.specs.believed.Tables.{width_of};
+ghost use Rattle.store_rows.specs.believed.SeveralRows.{given};
 ghost use Rattle.walked_rows.specs.Leaving.{OnlyReads};
-ghost use Rattle.walked_rows.specs.StepOutcomes.{BreaksValue, IsRefusedMemory, all_numbers, shown};
-ghost use Rattle.walked_rows.specs.Pairs.{BreaksUnder, TellsKey, row_under};
+ghost use Rattle.walked_rows.specs.Pairs.{BreaksUnder, row_under};
+ghost use Rattle.walked_rows.specs.StepOutcomes.{BreaksBy};
 ghost use Rattle.walked_rows.specs.Rows.{HasStoredRows, IsWide, rows_after, rows_from};
 
 use crate::ahead::{AHEAD, gather};
@@ -22,8 +23,7 @@ use store_rows::TableFault;
 
 // The key of the first of the rows that were found.
 fn first_key(found: &[Row]) -> Result<i64, TableFault>
-    ensures { (e : Entry) → (more : List StoredColumns) → found.now ≡ numbers (all_numbers e) ∷ more
-        → TellsKey e result }
+    ensures { (e : Entry) → (more : List StoredColumns) → found.now ≡ given e ∷ more → result ≡ Ok e.key }
 {
     match found.first() {
         Some(row) => number_at(row, 0),
@@ -39,10 +39,10 @@ fn gather_beside<O: StoredRow>(
     rows: &mut ArrayVec<O, AHEAD>,
 ) -> Result<Option<i64>, TableFault>
     ensures told { (all : List Entry) → Rise all → IsWide (width_of O.StoredRow.kind.table) all
-        → found.now ≡ shown (take AHEAD (rows_from from all))
+        → found.now ≡ map given (take AHEAD (rows_from from all))
         → MatchResult result
         (λ rest. rows_from from all ≡ map O.StoredRow.kind.entry rows.new.items ++ rows_after rest all)
-        (BreaksUnder IsRefusedMemory (BreaksValue O.StoredRow.kind.Breaks) from all) }
+        (BreaksUnder (λ _. ⊥) (BreaksBy O.StoredRow.kind.reading) from all) }
     ensures beyond { IfOk result (λ rest. IfSome rest (λ k. from <ℤ k)) }
 {
     match gather(found, from, rows) {
@@ -71,7 +71,7 @@ pub(crate) fn read_beside<S: Alter, O: StoredRow>(
         → MatchResult result
         (λ rest. rows_from from all ≡ map O.StoredRow.kind.entry rows.new.items ++ rows_after rest all)
         (BreaksUnder (IsStoreError (state S.Store conn.old) (state S.Store conn.new))
-        (BreaksValue O.StoredRow.kind.Breaks) from all) }
+        (BreaksBy O.StoredRow.kind.reading) from all) }
     ensures beyond { IfOk result (λ rest. IfSome rest (λ k. from <ℤ k)) }
     ensures reads { OnlyReads S.Store conn.old conn.new result }
 {

@@ -1,12 +1,13 @@
 //! The rows of `branch`.
 use crate::limits::MAX_COUNTED;
-use crate::numbers::whole;
+use crate::numbers::{number_at, whole_at};
 use crate::statements::rows_shown;
 use crate::stored_row::{RowsRead, StoredRow};
 use crate::texts::BRANCHES_FROM;
 use message_records::{Account, Whole};
 use posting_rules::LAST_BRANCH;
-use sqlite::{Alter, Connection, params};
+use sqlite::{Alter, Connection, Row, params};
+use store_rows::TableFault;
 
 /// A row of `branch`: 1..=`LAST_BRANCH`, how many accounts it has, 1..=`MAX_COUNTED`, and its balance,
 /// whatever it is.
@@ -32,15 +33,11 @@ impl StoredRow for StoredBranch {
 
     ghost kind = { branch_kind };
 
-    fn columns() -> usize {
-        3
-    }
-
-    fn of(numbers: &[i64]) -> Option<Self> {
-        Some(StoredBranch {
-            branch: whole(numbers[0])?,
-            accounts: whole(numbers[1])?,
-            balance: numbers[2],
+    fn of(row: &Row) -> Result<Self, TableFault> {
+        Ok(StoredBranch {
+            branch: whole_at(row, 0)?,
+            accounts: whole_at(row, 1)?,
+            balance: number_at(row, 2)?,
         })
     }
 

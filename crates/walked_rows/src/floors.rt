@@ -1,11 +1,12 @@
 //! The rows of `branch_floor`.
-use crate::numbers::whole;
+use crate::numbers::{number_at, whole_at};
 use crate::statements::rows_shown;
 use crate::stored_row::{RowsRead, StoredRow};
 use crate::texts::FLOORS_FROM;
 use message_records::{Account, Whole};
 use posting_rules::LAST_BRANCH;
-use sqlite::{Alter, Connection, params};
+use sqlite::{Alter, Connection, Row, params};
+use store_rows::TableFault;
 
 /// A row of `branch_floor`: 1..=`LAST_BRANCH`, and the lowest balance that the accounts of the branch may
 /// have, in cents, whatever it is.
@@ -29,14 +30,10 @@ impl StoredRow for StoredFloor {
 
     ghost kind = { floor_kind };
 
-    fn columns() -> usize {
-        2
-    }
-
-    fn of(numbers: &[i64]) -> Option<Self> {
-        Some(StoredFloor {
-            branch: whole(numbers[0])?,
-            lowest: numbers[1],
+    fn of(row: &Row) -> Result<Self, TableFault> {
+        Ok(StoredFloor {
+            branch: whole_at(row, 0)?,
+            lowest: number_at(row, 1)?,
         })
     }
 

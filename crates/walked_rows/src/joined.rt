@@ -7,7 +7,7 @@ ghost use Rattle.sqlite.specs.Held.{state};
 ghost use Rattle.sql_meanings.specs.believed.Entries.{Entry, Rise};
 ghost use Rattle.sql_meanings.specs.StatementAnswers.{IsStoreError};
 ghost use Rattle.walked_rows.specs.Leaving.{OnlyReads, ReadsIfAny};
-ghost use Rattle.walked_rows.specs.StepOutcomes.{BreaksFirst, BreaksValue};
+ghost use Rattle.walked_rows.specs.StepOutcomes.{BreaksBy, BreaksFirst};
 ghost use Rattle.walked_rows.specs.Pairs.{AreJoined, BreaksPair, BreaksUnder, HasPairs, ComesBefore, Pair};
 ghost use Rattle.walked_rows.specs.Pairs.{pair_key, pair_of, paired};
 ghost use Rattle.walked_rows.specs.Rising.{RisesFrom};
@@ -109,7 +109,7 @@ fn join_ahead<S: Alter, R: StoredRow, O: StoredRow>(
         (AreJoined (pair_of R.StoredRow.kind.entry O.StoredRow.kind.entry) others base start
         rows.new.items)
         (BreaksUnder (IsStoreError (state S.Store conn.old) (state S.Store conn.new))
-        (BreaksValue O.StoredRow.kind.Breaks) start others) }
+        (BreaksBy O.StoredRow.kind.reading) start others) }
     ensures rises { IfOk result
         (λ rest. RisesFrom start
         (map (λ j. entry_key (R.StoredRow.kind.entry j.stored)) rows.new.items) rest) }
@@ -142,7 +142,7 @@ fn join_first<S: Alter, R: StoredRow, O: StoredRow>(
         (AreJoined (pair_of R.StoredRow.kind.entry O.StoredRow.kind.entry) others base from
         rows.new.items)
         (BreaksFirst (IsStoreError (state S.Store conn.old) (state S.Store conn.new))
-        (BreaksPair (BreaksValue R.StoredRow.kind.Breaks) (BreaksValue O.StoredRow.kind.Breaks))
+        (BreaksPair (BreaksBy R.StoredRow.kind.reading) (BreaksBy O.StoredRow.kind.reading))
         (paired others (rows_from from base))) }
     ensures ended { IfOk result (λ next. rows.new.items ≡ [] → next ≡ None) }
     ensures rises { (from : ℤ) → RisesFrom from (map (λ r. entry_key (R.StoredRow.kind.entry r)) own.now) rest
@@ -179,7 +179,7 @@ fn fill_joined<S: Alter, R: StoredRow, O: StoredRow>(
         rest
         given)
         (BreaksFirst (IsStoreError (state S.Store conn.old) (state S.Store conn.new))
-        (BreaksPair (BreaksValue R.StoredRow.kind.Breaks) (BreaksValue O.StoredRow.kind.Breaks))
+        (BreaksPair (BreaksBy R.StoredRow.kind.reading) (BreaksBy O.StoredRow.kind.reading))
         (items_from pair_key from given)) }
     ensures ended { IfOk result (λ rest. rows.new.items ≡ [] → rest ≡ None) }
     ensures rises { IfOk result
@@ -221,7 +221,7 @@ impl<R: Paired, O: Paired> WalkedRow for Joined<R, O> {
 
     ghost key = { pair_key };
 
-    ghost Breaks = { BreaksPair (BreaksValue R.StoredRow.kind.Breaks) (BreaksValue O.StoredRow.kind.Breaks) };
+    ghost Breaks = { BreaksPair (BreaksBy R.StoredRow.kind.reading) (BreaksBy O.StoredRow.kind.reading) };
 
     ghost is_given = { λ of p. true };
 

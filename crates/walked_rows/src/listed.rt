@@ -1,16 +1,11 @@
 //! The rows of `request_reference`.
-ghost use Rattle.sqlite.specs.Order.{column};
-ghost use Rattle.walked_rows.specs.References.{BreaksListed, ReadsOrdinal, listed_entry, text_shown};
-
-use crate::ahead::{AHEAD, ReadRow, gather};
-use crate::numbers::{number_at, whole};
+use crate::numbers::whole_at;
 use crate::references::reference_at;
 use crate::statements::rows_shown;
+use crate::stored_row::{RowsRead, StoredRow};
 use crate::texts::REFERENCES_FROM;
-use crate::walked::WalkedRow;
-use arrayvec::ArrayVec;
 use message_records::{Account, REFERENCE_BYTES, Reference, Whole};
-use posting_rules::{Ordinal, Rule};
+use posting_rules::Ordinal;
 use sqlite::{Alter, Connection, Row, params};
 use store_rows::TableFault;
 
@@ -30,67 +25,23 @@ impl Default for StoredReference {
     }
 }
 
-// The ordinal that a row shows first.
-fn ordinal_of(row: &Row) -> Result<Ordinal, TableFault>
-    ensures { ReadsOrdinal (column row.now 0) result }
-{
-    match whole(number_at(row, 0)?) {
-        Some(ordinal) => Ok(ordinal),
-        None => Err(TableFault::Damaged(Rule::Value)),
-    }
-}
+impl StoredRow for StoredReference {
+    ghost use Rattle.walked_rows.specs.References.{reference_kind};
 
-impl ReadRow for StoredReference {
-    ghost shown_as = { text_shown };
+    ghost kind = { reference_kind };
 
-    ghost width = { (0, 1) };
-
-    ghost entry = { listed_entry };
-
-    ghost Breaks = { BreaksListed };
-
-    fn read(row: &Row) -> Result<Self, TableFault> {
-        let ordinal = ordinal_of(row)?;
-        let reference = reference_at(row, 1)?;
-        Ok(StoredReference { ordinal, reference })
+    fn of(row: &Row) -> Result<Self, TableFault> {
+        Ok(StoredReference {
+            ordinal: whole_at(row, 0)?,
+            reference: reference_at(row, 1)?,
+        })
     }
 
-    fn number(&self) -> u64 {
+    fn seek<S: Alter>(conn: &mut Connection<S>, _of: Option<Account>, from: i64) -> RowsRead {
+        rows_shown(conn, REFERENCES_FROM, params![from])
+    }
+
+    fn key(&self) -> u64 {
         self.ordinal.get()
-    }
-}
-
-impl WalkedRow for StoredReference {
-    ghost use Rattle.std.specs.Prelude.{true, refl};
-    ghost use Rattle.sql_meanings.specs.believed.Entries.{Entry};
-    ghost use Rattle.store_rows.specs.believed.BankTables.{reference as reference_table};
-    ghost use Rattle.walked_rows.specs.Rows.{HasStoredRows, entry_key};
-
-    ghost Item = { Entry };
-
-    ghost item = { listed_entry };
-
-    ghost key = { entry_key };
-
-    ghost Breaks = { BreaksListed };
-
-    ghost is_given = { λ of e. true };
-
-    ghost HasItems = { λ db rows. HasStoredRows db reference_table rows };
-
-    ghost have_keys = { λ db rows has. has.least };
-
-    ghost all_given = { λ e. refl };
-
-    fn read_some<S: Alter>(
-        conn: &mut Connection<S>,
-        _of: Option<Account>,
-        from: i64,
-        rows: &mut ArrayVec<Self, AHEAD>,
-    ) -> Result<Option<i64>, TableFault> {
-        match rows_shown(conn, REFERENCES_FROM, params![from]) {
-            Ok(found) => gather(&found, from, rows),
-            Err(e) => Err(TableFault::Sqlite(e)),
-        }
     }
 }

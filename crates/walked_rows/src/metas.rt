@@ -1,10 +1,11 @@
 //! The rows of `meta`.
-use crate::numbers::whole;
+use crate::numbers::{number_at, whole_at};
 use crate::statements::rows_shown;
 use crate::stored_row::{RowsRead, StoredRow};
 use crate::texts::METAS_FROM;
 use message_records::{Account, Whole};
-use sqlite::{Alter, Connection, params};
+use sqlite::{Alter, Connection, Row, params};
+use store_rows::TableFault;
 
 /// A row of `meta`, whose id is 1: the version of the tables, and how many requests are decided, whatever
 /// they are.
@@ -30,15 +31,11 @@ impl StoredRow for StoredMeta {
 
     ghost kind = { meta_kind };
 
-    fn columns() -> usize {
-        3
-    }
-
-    fn of(numbers: &[i64]) -> Option<Self> {
-        Some(StoredMeta {
-            id: whole(numbers[0])?,
-            version: numbers[1],
-            decided: numbers[2],
+    fn of(row: &Row) -> Result<Self, TableFault> {
+        Ok(StoredMeta {
+            id: whole_at(row, 0)?,
+            version: number_at(row, 1)?,
+            decided: number_at(row, 2)?,
         })
     }
 

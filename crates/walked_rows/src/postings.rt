@@ -1,11 +1,12 @@
 //! The rows of `history`.
-use crate::numbers::whole;
+use crate::numbers::{number_at, whole_at};
 use crate::statements::rows_shown;
 use crate::stored_row::{RowsRead, StoredRow};
 use crate::texts::{POSTINGS_FROM, POSTINGS_OF};
 use message_records::{Account, Moment, Whole};
 use posting_rules::Ordinal;
-use sqlite::{Alter, Connection, params};
+use sqlite::{Alter, Connection, Row, params};
+use store_rows::TableFault;
 
 /// A row of `history`: the ordinal of its request and its moment within their ranges, and the other numbers,
 /// whatever they are.
@@ -37,18 +38,14 @@ impl StoredRow for StoredPosting {
 
     ghost kind = { posting_kind };
 
-    fn columns() -> usize {
-        6
-    }
-
-    fn of(numbers: &[i64]) -> Option<Self> {
-        Some(StoredPosting {
-            ordinal: whole(numbers[0])?,
-            account: numbers[1],
-            teller: numbers[2],
-            branch: numbers[3],
-            delta: numbers[4],
-            moment: whole(numbers[5])?,
+    fn of(row: &Row) -> Result<Self, TableFault> {
+        Ok(StoredPosting {
+            ordinal: whole_at(row, 0)?,
+            account: number_at(row, 1)?,
+            teller: number_at(row, 2)?,
+            branch: number_at(row, 3)?,
+            delta: number_at(row, 4)?,
+            moment: whole_at(row, 5)?,
         })
     }
 

@@ -1,16 +1,18 @@
 //! The reference under an ordinal, if there is one.
-ghost use Rattle.std.specs.Prelude.{◌≡◌, ◌≤◌, List, pos, option_map, IfErr, MatchResult};
+ghost use Rattle.std.specs.Prelude.{◌≡◌, ◌≤◌, List, pos, option_map, IfErr, IfOk, MatchResult};
 ghost use Rattle.sqlite.specs.State.{HasCleanDisk};
 ghost use Rattle.sqlite.specs.Held.{state};
 ghost use Rattle.sqlite.specs.Order.{column};
+ghost use Rattle.sqlite.specs.declared.types.Value.TheVariants.{Text};
 ghost use Rattle.sql_meanings.specs.believed.Entries.{Entry};
 ghost use Rattle.sql_meanings.specs.StatementAnswers.{IsStoreError};
 ghost use Rattle.posting_rules.specs.declared.limits.TheConstants.{MAX_DECIDED};
+ghost use Rattle.store_rows.specs.TableAnswers.{Gives};
 ghost use Rattle.store_rows.specs.believed.BankTables.{reference as reference_table};
+ghost use Rattle.store_rows.specs.believed.Readings.{reference};
 ghost use Rattle.walked_rows.specs.Leaving.{OnlyReads};
 ghost use Rattle.walked_rows.specs.Pairs.{BreaksUnder, row_under};
-ghost use Rattle.walked_rows.specs.References.{BreaksReference, KeepsAtDamage, ReadsFirst, ReadsReference};
-ghost use Rattle.walked_rows.specs.References.{text_entry};
+ghost use Rattle.walked_rows.specs.References.{BreaksReference, KeepsAtDamage, ReadsFirst, text_entry};
 ghost use Rattle.walked_rows.specs.Rows.{HasStoredRows};
 
 use crate::statements::rows_shown;
@@ -23,7 +25,8 @@ use store_rows::TableFault;
 
 /// The reference in a column.
 pub(crate) fn reference_at(row: &Row, at: usize) -> Result<Reference, TableFault>
-    ensures { ReadsReference (column row.now at) result }
+    ensures reads { Gives (reference (column row.now at)) result }
+    ensures is { IfOk result (λ text. column row.now at ≡ Text text) }
 {
     match row.get_ref(at) {
         Ok(ValueRef::Text(text)) => {

@@ -1,11 +1,12 @@
 //! The rows of `request`.
-use crate::numbers::whole;
+use crate::numbers::{number_at, whole_at};
 use crate::statements::rows_shown;
 use crate::stored_row::{RowsRead, StoredRow};
 use crate::texts::REQUESTS_FROM;
 use message_records::{Account, Whole};
 use posting_rules::Ordinal;
-use sqlite::{Alter, Connection, params};
+use sqlite::{Alter, Connection, Row, params};
+use store_rows::TableFault;
 
 /// A row of `request`: its ordinal within the range, and the other numbers, whatever they are. The outcome is
 /// a code.
@@ -41,20 +42,16 @@ impl StoredRow for StoredRequest {
 
     ghost kind = { request_kind };
 
-    fn columns() -> usize {
-        8
-    }
-
-    fn of(numbers: &[i64]) -> Option<Self> {
-        Some(StoredRequest {
-            ordinal: whole(numbers[0])?,
-            teller: numbers[1],
-            number: numbers[2],
-            account: numbers[3],
-            branch: numbers[4],
-            delta: numbers[5],
-            outcome: numbers[6],
-            balance: numbers[7],
+    fn of(row: &Row) -> Result<Self, TableFault> {
+        Ok(StoredRequest {
+            ordinal: whole_at(row, 0)?,
+            teller: number_at(row, 1)?,
+            number: number_at(row, 2)?,
+            account: number_at(row, 3)?,
+            branch: number_at(row, 4)?,
+            delta: number_at(row, 5)?,
+            outcome: number_at(row, 6)?,
+            balance: number_at(row, 7)?,
         })
     }
 

@@ -1,18 +1,20 @@
 //! What a row of one table is, as it is stored.
-ghost use Rattle.std.specs.Prelude.{◌≡◌, ◌≤◌, pos, List, MatchResult, filter, length, take};
+ghost use Rattle.std.specs.Prelude.{◌≡◌, ◌≤◌, pos, List, IfOk, MatchResult, filter, map, take};
 ghost use Rattle.sqlite.specs.State.{HasCleanDisk};
 ghost use Rattle.sqlite.specs.Held.{state};
 ghost use Rattle.sql_meanings.specs.believed.Entries.{Entry};
 ghost use Rattle.sql_meanings.specs.StatementAnswers.{IsStoreError};
-ghost use Rattle.walked_rows.specs.Kinds.{Kind};
+ghost use Rattle.store_rows.specs.TableAnswers.{Gives};
+ghost use Rattle.store_rows.specs.believed.SeveralRows.{given};
+ghost use Rattle.walked_rows.specs.Kinds.{IsRow, Kind};
 ghost use Rattle.walked_rows.specs.Leaving.{OnlyReads};
-ghost use Rattle.walked_rows.specs.StepOutcomes.{Stores, shown};
 ghost use Rattle.walked_rows.specs.Rows.{HasStoredRows, rows_from};
 
 use crate::ahead::AHEAD;
 use message_records::Account;
 use posting_rules::MAX_DECIDED;
 use sqlite::{Alter, Connection, Error, Row};
+use store_rows::TableFault;
 
 /// The rows that a statement found.
 pub type RowsRead = Result<Vec<Row>, Error>;
@@ -22,21 +24,17 @@ pub trait StoredRow: Copy + Default {
     /// What a walk goes by in its table.
     ghost kind: { Kind Self };
 
-    /// How many numbers a row has.
-    fn columns() -> usize
-        ensures { result ≡ kind.columns };
-
-    /// The row that the numbers are, unless one is out of its range.
-    fn of(numbers: &[i64]) -> Option<Self>
-        requires { length numbers.now ≡ kind.columns }
-        ensures { Stores kind.entry kind.Breaks numbers.now result };
+    /// The row that the columns are, or the first rule that one of them breaks.
+    fn of(row: &Row) -> Result<Self, TableFault>
+        ensures reads { Gives (kind.reading row.now) result }
+        ensures is { (e : Entry) → row.now ≡ given e → IsRow kind e → IfOk result (λ r. kind.entry r ≡ e) };
 
     /// The rows with the least keys from one on, at most `AHEAD`.
     fn seek<S: Alter>(conn: &mut Connection<S>, of: Option<Account>, from: i64) -> RowsRead
         ensures told { HasCleanDisk (state S.Store conn.new) → (rows : List Entry)
             → HasStoredRows (state S.Store conn.old).now kind.table rows
             → MatchResult result (λ found. found.items
-            ≡ shown (take AHEAD (rows_from from (filter (kind.is_given of) rows))))
+            ≡ map given (take AHEAD (rows_from from (filter (kind.is_given of) rows))))
             (IsStoreError (state S.Store conn.old) (state S.Store conn.new)) }
         ensures reads { OnlyReads S.Store conn.old conn.new result };
 

@@ -1,11 +1,12 @@
 //! The rows of `teller`.
 use crate::limits::LAST_TELLER;
-use crate::numbers::whole;
+use crate::numbers::{number_at, whole_at};
 use crate::statements::rows_shown;
 use crate::stored_row::{RowsRead, StoredRow};
 use crate::texts::TELLERS_FROM;
 use message_records::{Account, Whole};
-use sqlite::{Alter, Connection, params};
+use sqlite::{Alter, Connection, Row, params};
+use store_rows::TableFault;
 
 /// A row of `teller`: 1..=`LAST_TELLER`, and its balance, whatever it is.
 #[derive(Clone, Copy, Debug, PartialEq, Eq)]
@@ -28,14 +29,10 @@ impl StoredRow for StoredTeller {
 
     ghost kind = { teller_kind };
 
-    fn columns() -> usize {
-        2
-    }
-
-    fn of(numbers: &[i64]) -> Option<Self> {
-        Some(StoredTeller {
-            teller: whole(numbers[0])?,
-            balance: numbers[1],
+    fn of(row: &Row) -> Result<Self, TableFault> {
+        Ok(StoredTeller {
+            teller: whole_at(row, 0)?,
+            balance: number_at(row, 1)?,
         })
     }
 

@@ -60,7 +60,7 @@ pub trait WalkedRow: Copy + Default {
 
 impl<R: StoredRow> WalkedRow for R {
     ghost use Rattle.sql_meanings.specs.believed.Entries.{Entry};
-    ghost use Rattle.walked_rows.specs.StepOutcomes.{BreaksValue};
+    ghost use Rattle.walked_rows.specs.StepOutcomes.{BreaksBy};
     ghost use Rattle.walked_rows.specs.Rows.{HasStoredRows, entry_key};
 
     ghost Item = { Entry };
@@ -69,7 +69,7 @@ impl<R: StoredRow> WalkedRow for R {
 
     ghost key = { entry_key };
 
-    ghost Breaks = { BreaksValue R.StoredRow.kind.Breaks };
+    ghost Breaks = { BreaksBy R.StoredRow.kind.reading };
 
     ghost is_given = { R.StoredRow.kind.is_given };
 

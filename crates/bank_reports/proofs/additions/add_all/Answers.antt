@@ -1,11 +1,11 @@
 -- One pass after another.
-use Rattle.std.proofs.Common.{rules, ◌≡◌, Err}
+use Rattle.std.proofs.Common.{rules, ◌≡◌, Err, inl, inr}
 use Rattle.sqlite.specs.{State.HasCleanDisk, Held.state}
 use Rattle.walked_rows.specs.Pairs.{paired}
 use Rattle.report_contents.specs.Beside.{no_rows}
 use Rattle.bank_reports.specs.Adding.{with_accounts, with_branches, with_requests, with_tellers}
 use Rattle.bank_reports.specs.Failures.{HasFailedToRead}
-use Rattle.bank_reports.proofs.Broken.{broken_account, broken_asked, broken_branch, broken_posted, broken_teller}
+use Rattle.bank_reports.proofs.Broken.{broken_asked, broken_posted}
 use Rattle.bank_reports.proofs.Passed.{asked_in, clean_mid, has_mid, passed_five, passed_four, passed_then}
 use Rattle.bank_reports.proofs.Passed.{passed_three, posted_in, says_any, says_after}
 use Rattle.bank_reports.proofs.Read.{read, read_is, read_sums}
@@ -56,7 +56,7 @@ returns-in_err-add_each-clause-told g c clean f has =
     let same : c.from_residual.result ≡ Err c.in_err-add_each.field-0.0 = search rules in
     let late : HasCleanDisk (state g.S.Store c.add_each.new.bank.conn) = search rules in
     rw same (says_any (HasFailedToRead g.S.Store c.args.bank.now.conn c.add_each.new.bank.conn)
-    c.in_err-add_each.field-0.0 (broken_teller f) (last.told late f.tellers has.tellers))
+    c.in_err-add_each.field-0.0 (λ _ h. inr (inl h)) (last.told late f.tellers has.tellers))
 
 pub returns-in_err-add_each-2-clause-told : goal.returns-in_err-add_each-2-clause-told
 returns-in_err-add_each-2-clause-told g c clean f has =
@@ -67,7 +67,7 @@ returns-in_err-add_each-2-clause-told g c clean f has =
     let passed = c.in_ok-add_each.ensures.passed in
     let there = has_mid f passed last.passed late has in
     rw same (says_after g.S.Store c.args.bank.now.conn c.add_each.new.bank.conn c.add_each-2.new.bank.conn
-    c.in_err-add_each-2.field-0.0 (broken_branch f) passed
+    c.in_err-add_each-2.field-0.0 (λ _ h. inl h) passed
     (last.told late f.branches there.branches))
 
 pub returns-in_err-add_each-2-clause-passed : goal.returns-in_err-add_each-2-clause-passed
@@ -85,7 +85,7 @@ returns-in_err-add_each-3-clause-told g c clean f has =
     let passed = passed_then c.in_ok-add_each.ensures.passed c.in_ok-add_each-2.ensures.passed in
     let there = has_mid f passed last.passed late has in
     rw same (says_after g.S.Store c.args.bank.now.conn c.add_each-2.new.bank.conn c.add_each-3.new.bank.conn
-    c.in_err-add_each-3.field-0.0 (broken_account f) passed
+    c.in_err-add_each-3.field-0.0 (λ _ h. inr (inr (inl h))) passed
     (last.told late f.accounts there.accounts))
 
 pub returns-in_err-add_each-3-clause-passed : goal.returns-in_err-add_each-3-clause-passed

@@ -101,8 +101,8 @@ returns-in_err-add_all g c =
           same
           (λ broken is clean log s.
           let has = has_file (database_of g.S.Store c.args.bank.now) s.tables s.are in
-          let it = rw is at (says.told clean (rows_in (stored s.tables)) has) in
-          not_damaged s.tables log s.commands s.shows it.1)
+          not_damaged s.tables log s.commands s.shows broken
+          (rw is at (says.told clean (rows_in (stored s.tables)) has)))
           (reads_take_none old new _ _ _ (λ yes. absurd (rw same at yes)) says.passed.survives up);
       file = λ clean. record {
         numbers = λ f has. rw same tt;

@@ -11,14 +11,14 @@ pub loop-row-preserved : goal.loop-row-preserved
 loop-row-preserved g c =
     let from = c.args.from in
     let same = to_z-of_z w64 from c.ranges.from in
-    let entry = g.R.ReadRow.entry in
+    let entry = g.R.StoredRow.kind.entry in
     let found = c.args.found.now in
     let items = c.loop-row.rows.items in
     let row = c.row-item.result in
     let next = to_z w64 c.loop-row.next-bits in
     let count = c.loop-row.invariant.count in
     let low = subst (λ n. n < length found) (sym count) c.loop-row-test.true in
-    let key = after_key c.number.result (entry c.in-Ok.read).key c.number.ensures.key c.number.ensures.most in
+    let key = after_key c.key.result (entry c.in-Ok.read).key c.key.ensures.key c.key.ensures.most in
     let at = c.row-item.is ∙ ap (λ n. get_or found n row) (sym count) in
     rw same record {
       count = c.push.ensures.len ∙ ap (λ n. n + 1) count;
@@ -28,7 +28,7 @@ loop-row-preserved g c =
           (rw same at c.loop-row.invariant.rises) (le_from _ _ c.in-Ok.ensures.1));
       told = λ rows rise wide is.
           rw (c.push.ensures.items, key)
-          (gathers_on g.R.ReadRow.shown_as entry g.R.ReadRow.Breaks g.R.ReadRow.width AHEAD found from rows rise wide is items next row low at
+          (gathers_on g.R.StoredRow.kind AHEAD found from rows rise wide is items next row low at
           ((rw same at (c.loop-row.invariant.told rows rise wide)) is) c.in-Ok.read c.in-Ok.ensures);
     }
 
@@ -55,7 +55,7 @@ returns-then-is_empty g c =
     let none = none_there items (sym c.if-is_empty.ensures) in
     record {
       told = λ rows rise wide is.
-          gathers_none g.R.ReadRow.shown_as g.R.ReadRow.entry g.R.ReadRow.Breaks g.R.ReadRow.width AHEAD found from rows rise wide is items
+          gathers_none g.R.StoredRow.kind AHEAD found from rows rise wide is items
           (to_z w64 c.loop-row.next-bits) row low at
           ((rw same at (c.loop-row.invariant.told rows rise wide)) is) c.in-Err.fault none c.in-Err.ensures;
       ended = tt;
@@ -80,10 +80,10 @@ returns-then-is_empty-2 g c =
     let low : length c.args.found.now ≤ 0 =
     omega (arith, c.loop-row.invariant.count, c.loop-row-test.false, ap length none) in
     record {
-      told = λ rows rise wide is. rw none (no_more g.R.ReadRow.shown_as (rows_from from rows) c.args.found.now low is);
+      told = λ rows rise wide is. rw none (no_more (rows_from from rows) c.args.found.now low is);
       ended = λ nothing. refl;
       rises =
-          rest_after (λ r. entry_key (g.R.ReadRow.entry r)) from items (to_z w64 c.loop-row.next-bits)
+          rest_after (λ r. entry_key (g.R.StoredRow.kind.entry r)) from items (to_z w64 c.loop-row.next-bits)
           None
           (rw same at c.loop-row.invariant.rises) tt;
     }

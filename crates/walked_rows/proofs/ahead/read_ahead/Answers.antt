@@ -2,11 +2,11 @@
 use Rattle.std.proofs.Common.{filter, ◌∙◌, w64}
 use Rattle.std.proofs.lemmas.Int.{to_z-of_z}
 use Rattle.sqlite.specs.Held.{state}
-use Rattle.sql_meanings.specs.believed.Tables.{width_of}
+use Rattle.sql_meanings.specs.{StatementAnswers.IsStoreError, believed.Tables.width_of}
 use Rattle.sql_meanings.proofs.OrderedAnswers.{rise_filter}
-use Rattle.walked_rows.specs.{StepOutcomes.BreaksValue, Rows.rows_from}
+use Rattle.walked_rows.specs.{StepOutcomes.BreaksBy, Rows.rows_from}
 use Rattle.walked_rows.proofs.Leaving.{fails_too, reads_any}
-use Rattle.walked_rows.proofs.Sought.{match_err, refused_memory, wide_filter}
+use Rattle.walked_rows.proofs.Sought.{match_err, never_first, wide_filter}
 use Rattle.walked_rows.proofs.ahead.read_ahead.Goals as goal
 
 pub returns-in-Ok : goal.returns-in-Ok
@@ -21,8 +21,7 @@ returns-in-Ok g c =
           let is_given = g.R.StoredRow.kind.is_given c.args.of in
           let given = filter is_given rows in
           match_err _ _ _ c.gather.result
-          (refused_memory old new (BreaksValue g.R.StoredRow.kind.Breaks) (rows_from c.args.from given)
-          (sought.reads.same clean))
+          (never_first (IsStoreError old new) (BreaksBy g.R.StoredRow.kind.reading) (rows_from c.args.from given))
           ((rw whole at (gathered.told given (rise_filter is_given rows has.holds.rows.rise)
           (wide_filter (width_of g.R.StoredRow.kind.table) is_given rows has.holds.rows.wide)))
           (c.deref.ensures.value ∙ (rw whole at (sought.told clean rows has))));

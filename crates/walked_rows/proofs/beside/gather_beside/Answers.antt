@@ -1,34 +1,31 @@
 -- What is gathered beside other rows. What `gather` told is named: a search for it takes long.
-use Rattle.std.proofs.Common.{◌≡◌, ◌≤ℤ◌, Err, take, sym, ap, subst, ◌∙◌, rules, w64, to_z, of_z}
+use Rattle.std.proofs.Common.{◌≡◌, ◌≤ℤ◌, map, take, sym, ap, subst, ◌∙◌, rules, w64, to_z, of_z}
 use Rattle.std.specs.Prelude.{IsSomeAnd}
 use Rattle.std.proofs.lemmas.Int.{to_z-of_z}
-use Rattle.walked_rows.specs.StepOutcomes.{BreaksValue, IsRefusedMemory, shown}
-use Rattle.walked_rows.specs.{Rows.entry_key, Rows.rows_from, declared.ahead.TheConstants.AHEAD}
-use Rattle.walked_rows.proofs.Under.{beyond, broken_first, first_under, from_its_key, key_fails}
+use Rattle.store_rows.specs.believed.SeveralRows.{given}
+use Rattle.walked_rows.specs.{StepOutcomes.BreaksBy, Rows.entry_key, Rows.rows_from, declared.ahead.TheConstants.AHEAD}
+use Rattle.walked_rows.proofs.Under.{beyond, broken_first, first_under, from_its_key}
 use Rattle.walked_rows.proofs.beside.gather_beside.Goals as goal
 
 pub returns-in_err-key-in-Err-Damaged-clause-told : goal.returns-in_err-key-in-Err-Damaged-clause-told
 returns-in_err-key-in-Err-Damaged-clause-told g c all rise wide is =
     let from = c.args.from in
     let same = to_z-of_z w64 from c.ranges.from in
-    let broke = broken_first IsRefusedMemory (BreaksValue g.O.StoredRow.kind.Breaks) (rows_from from all) _ _
+    let broke = broken_first (λ _. ⊥) (BreaksBy g.O.StoredRow.kind.reading) (rows_from from all) _ _
     c.in-Err-Damaged.field-0-is ((rw same at (c.in-Err-Damaged.ensures.told all rise wide)) is) in
-    let fault = c.in_err-key-in-Err-Damaged.field-0.0 in
-    let residual : c.from_residual.result ≡ Err fault = search rules in
-    rw residual (key_fails (BreaksValue g.O.StoredRow.kind.Breaks) from all broke.0 fault
-    (c.in_err-key-in-Err-Damaged.ensures broke.0 _ (is ∙ ap (λ l. shown (take AHEAD l)) broke.2)))
+    absurd (let h = c.in_err-key-in-Err-Damaged.ensures broke.0 _ (is ∙ ap (λ l. map given (take AHEAD l)) broke.2) in cc)
 
 pub returns-then-key-from-clause-told : goal.returns-then-key-from-clause-told
 returns-then-key-from-clause-told g c all rise wide is =
     let from = c.args.from in
     let same = to_z-of_z w64 from c.ranges.from in
-    let broke = broken_first IsRefusedMemory (BreaksValue g.O.StoredRow.kind.Breaks) (rows_from from all) _ _
+    let broke = broken_first (λ _. ⊥) (BreaksBy g.O.StoredRow.kind.reading) (rows_from from all) _ _
     c.in-Err-Damaged.field-0-is ((rw same at (c.in-Err-Damaged.ensures.told all rise wide)) is) in
-    let key =
-    c.in_ok-key-in-Err-Damaged.ensures broke.0 _ (is ∙ ap (λ l. shown (take AHEAD l)) broke.2) in
+    let key : c.in_ok-key-in-Err-Damaged.key ≡ broke.0.key =
+    let h = c.in_ok-key-in-Err-Damaged.ensures broke.0 _ (is ∙ ap (λ l. map given (take AHEAD l)) broke.2) in cc in
     let within : c.in_ok-key-in-Err-Damaged.key ≤ℤ from = search rules in
     let low = subst (λ k. k ≤ℤ from) key within in
-    subst (λ o. IsSomeAnd o (BreaksValue g.O.StoredRow.kind.Breaks c.in-Err-Damaged.rule))
+    subst (λ o. IsSomeAnd o (BreaksBy g.O.StoredRow.kind.reading c.in-Err-Damaged.rule))
     (sym (first_under from all broke.0 broke.1 broke.2 low)) broke.3
 
 pub returns-in-Ok-clause-beyond : goal.returns-in-Ok-clause-beyond
@@ -41,10 +38,10 @@ pub returns-else-key-from-clause-told : goal.returns-else-key-from-clause-told
 returns-else-key-from-clause-told g c all rise wide is =
     let from = c.args.from in
     let same = to_z-of_z w64 from c.ranges.from in
-    let broke = broken_first IsRefusedMemory (BreaksValue g.O.StoredRow.kind.Breaks) (rows_from from all) _ _
+    let broke = broken_first (λ _. ⊥) (BreaksBy g.O.StoredRow.kind.reading) (rows_from from all) _ _
     c.in-Err-Damaged.field-0-is ((rw same at (c.in-Err-Damaged.ensures.told all rise wide)) is) in
-    let key =
-    c.in_ok-key-in-Err-Damaged.ensures broke.0 _ (is ∙ ap (λ l. shown (take AHEAD l)) broke.2) in
+    let key : c.in_ok-key-in-Err-Damaged.key ≡ broke.0.key =
+    let h = c.in_ok-key-in-Err-Damaged.ensures broke.0 _ (is ∙ ap (λ l. map given (take AHEAD l)) broke.2) in cc in
     let it : rows_from from all ≡ rows_from c.in_ok-key-in-Err-Damaged.key all =
     subst (λ k. rows_from from all ≡ rows_from k all) (sym key)
     (from_its_key from all broke.0 broke.1 rise broke.2) in

@@ -1,12 +1,13 @@
 -- What is read beside other rows is gathered of what was found. Each clause is named: a search for them takes
 -- long.
-use Rattle.std.proofs.Common.{None, ap, take, ◌∙◌, w64}
+use Rattle.std.proofs.Common.{None, ap, map, take, ◌∙◌, w64}
 use Rattle.std.proofs.lemmas.Int.{to_z-of_z}
 use Rattle.sqlite.specs.Held.{state}
-use Rattle.walked_rows.specs.StepOutcomes.{BreaksValue, shown}
-use Rattle.walked_rows.specs.{Rows.rows_from, declared.ahead.TheConstants.AHEAD}
+use Rattle.sql_meanings.specs.StatementAnswers.{IsStoreError}
+use Rattle.store_rows.specs.believed.SeveralRows.{given}
+use Rattle.walked_rows.specs.{StepOutcomes.BreaksBy, Rows.rows_from, declared.ahead.TheConstants.AHEAD}
 use Rattle.walked_rows.proofs.Leaving.{fails_too, reads_any}
-use Rattle.walked_rows.proofs.{Sought.all_pass, Sought.match_err, Under.refused_under}
+use Rattle.walked_rows.proofs.{Sought.all_pass, Sought.match_err, Under.never_under}
 use Rattle.walked_rows.proofs.beside.read_beside.Goals as goal
 
 pub returns-in-Ok : goal.returns-in-Ok
@@ -21,10 +22,9 @@ returns-in-Ok g c =
       told = λ clean all has.
           let whole = all_pass (g.O.StoredRow.kind.is_given None) g.O.StoredRow.kind.all_given all in
           let found = (rw same at (sought.told clean all has))
-          ∙ ap (λ es. shown (take AHEAD (rows_from from es))) whole in
+          ∙ ap (λ es. map given (take AHEAD (rows_from from es))) whole in
           match_err _ _ _ c.gather_beside.result
-          (refused_under old new (BreaksValue g.O.StoredRow.kind.Breaks) from all
-          (sought.reads.same clean))
+          (never_under (IsStoreError old new) (BreaksBy g.O.StoredRow.kind.reading) from all)
           ((rw same at (gathered.told all has.holds.rows.rise has.holds.rows.wide))
           (c.deref.ensures.value ∙ found));
       beyond = rw same at gathered.beyond;

@@ -4,7 +4,7 @@ use Rattle.std.proofs.lemmas.{Int.to_z-of_z, Result.MatchResult-weaker}
 use Rattle.sqlite.specs.Held.{state}
 use Rattle.sql_meanings.specs.StatementAnswers.{IsStoreError}
 use Rattle.sql_meanings.proofs.OrderedAnswers.{rise_filter}
-use Rattle.walked_rows.specs.{StepOutcomes.BreaksValue, Pairs.pair_of, Rows.HasStoredRows}
+use Rattle.walked_rows.specs.{StepOutcomes.BreaksBy, Pairs.pair_of, Rows.HasStoredRows}
 use Rattle.walked_rows.proofs.Filling.{breaks_given, breaks_own, filled}
 use Rattle.walked_rows.proofs.Leaving.{clean_between, reads_then, store_on}
 use Rattle.walked_rows.proofs.joined.fill_joined.Goals as goal
@@ -37,7 +37,7 @@ returns-in-Ok g c =
           (filled (pair_of g.R.StoredRow.kind.entry g.O.StoredRow.kind.entry) has.others has.rows given all
           has.are from c.join_first.new.rows.items)
           (breaks_given has.others has.rows given all has.are from _
-          (BreaksValue g.R.StoredRow.kind.Breaks) (BreaksValue g.O.StoredRow.kind.Breaks) _
+          (BreaksBy g.R.StoredRow.kind.reading) (BreaksBy g.O.StoredRow.kind.reading) _
           (store_on g.S.Store c.args.conn.now mid new (inl unchanged) read.reads.survives));
       ended = joined.ended;
       rises =
@@ -53,7 +53,7 @@ returns-in-Err g c =
       told = λ clean all has.
           breaks_own has.others has.rows (g.R.StoredRow.kind.is_given c.args.of) all has.are c.args.from
           (IsStoreError (state g.S.Store c.args.conn.now) (state g.S.Store c.read_ahead.new.conn))
-          (BreaksValue g.R.StoredRow.kind.Breaks) (BreaksValue g.O.StoredRow.kind.Breaks)
+          (BreaksBy g.R.StoredRow.kind.reading) (BreaksBy g.O.StoredRow.kind.reading)
           c.in-Err.fault (rw whole at (read.told clean has.rows has.has));
       ended = tt;
       rises = tt;

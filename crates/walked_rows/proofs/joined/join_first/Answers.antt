@@ -4,7 +4,7 @@ use Rattle.std.proofs.lemmas.Result.{MatchResult-weaker}
 use Rattle.sqlite.specs.Held.{state}
 use Rattle.store_rows.proofs.Lookups.{as_integer}
 use Rattle.sql_meanings.specs.StatementAnswers.{IsStoreError}
-use Rattle.walked_rows.specs.{StepOutcomes.BreaksValue, Pairs.pair_of, Rows.entry_key, Rows.rows_after}
+use Rattle.walked_rows.specs.{StepOutcomes.BreaksBy, Pairs.pair_of, Rows.entry_key, Rows.rows_after}
 use Rattle.walked_rows.proofs.Filling.{breaks_first, first_is, from_first, joined_first, none_joined, nothing_is}
 use Rattle.walked_rows.proofs.Filling.{nothing_joined, rises_itself, rises_too}
 use Rattle.walked_rows.proofs.Leaving.{if_any}
@@ -42,7 +42,7 @@ returns-in-Some g c =
           c.join_ahead.new.rows.items)
           (breaks_first others base from start (entry row) after is at
           (IsStoreError (state g.S.Store c.args.conn.now) (state g.S.Store c.join_ahead.new.conn))
-          (BreaksValue g.R.StoredRow.kind.Breaks) (BreaksValue g.O.StoredRow.kind.Breaks));
+          (BreaksBy g.R.StoredRow.kind.reading) (BreaksBy g.O.StoredRow.kind.reading));
       ended =
           none_joined c.join_ahead.new.rows.items c.join_ahead.result
           (c.join_ahead.ensures.some row more first at);

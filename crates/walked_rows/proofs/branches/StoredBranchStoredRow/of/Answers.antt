@@ -1,15 +1,7 @@
--- The row is these numbers.
-use Rattle.std.proofs.Common.{◌≡◌, ◌<◌, ℕ, pos, sym, ◌∙◌, rules, lit≤, get_or, length, w64, to_z, of_z}
-use Rattle.std.proofs.lemmas.Int.{to_z-of_z}
-use Rattle.walked_rows.proofs.Widths.{three_are}
+-- The row is what its columns show.
+use Rattle.std.proofs.Common.{rules}
+use Rattle.walked_rows.proofs.EntryShown.{entry_is}
 use Rattle.walked_rows.proofs.branches.StoredBranchStoredRow.of.Goals as goal
 
-pub returns : goal.returns
-returns c =
-    let ns = c.args.numbers.now in
-    let wide : length ns ≡ 3 = c.requires in
-    let same : (k : ℕ) → k < 3 → to_z w64 (of_z w64 (get_or ns k (pos 0))) ≡ get_or ns k (pos 0) =
-    λ k low. search (rules, to_z-of_z) in
-    rw (same 2 (lit≤ tt))
-    (three_are ns (pos c.in_ok-whole.field-0) (pos c.in_ok-whole-2.field-0) wide
-    (sym (same 0 (lit≤ tt)) ∙ c.in_ok-whole.ensures) (sym (same 1 (lit≤ tt)) ∙ c.in_ok-whole-2.ensures))
+pub returns-clause-is : goal.returns-clause-is
+returns-clause-is c e is wide = search (rules, entry_is 2 e c.args.row.now is wide)

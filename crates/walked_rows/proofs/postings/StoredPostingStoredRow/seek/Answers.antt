@@ -1,11 +1,12 @@
 -- What the statement shows.
-use Rattle.std.proofs.Common.{[], ◌∷◌, pos, refl, arith, w64}
+use Rattle.std.proofs.Common.{pos, refl, arith, w64}
 use Rattle.std.proofs.lemmas.Int.{to_z-of_z}
-use Rattle.sqlite.specs.{Held.state, declared.types.Value.TheVariants.Int}
-use Rattle.sql_meanings.proofs.Texts.{only_reads}
+use Rattle.sqlite.specs.Held.{state}
+use Rattle.sql_meanings.proofs.Texts.{count_after_key, only_reads}
 use Rattle.store_rows.proofs.Lookups.{as_integer}
 use Rattle.store_rows.specs.believed.BankTables.{history}
-use Rattle.walked_rows.proofs.{Shows.shows_all, Sought.tells_of_from, Sought.tells_walk}
+use Rattle.store_rows.proofs.ShownValues.{all_columns}
+use Rattle.walked_rows.proofs.Sought.{tells_of_from, tells_walk}
 use Rattle.walked_rows.proofs.WalkTexts.{is_postings_of, reads_postings_of, walks_postings}
 use Rattle.walked_rows.proofs.postings.StoredPostingStoredRow.seek.Goals as goal
 
@@ -32,7 +33,7 @@ returns-in-Some-clause-told g c clean rows has =
     rw c.in-Some.is
     (tells_of_from (state g.S.Store c.args.conn.now)
     (state g.S.Store c.rows_shown-in-Some.new.conn) history refl rows has _ _ (λ v. v.items) one from
-    (reads_postings_of one from) (shows_all history (Int one ∷ Int from ∷ [])) c.rows_shown-in-Some.result
+    (reads_postings_of one from) (all_columns (count_after_key history) 0) c.rows_shown-in-Some.result
     (rw (
       c.params-to_sql-in-Some.ensures,
       c.params-to_sql-in-Some-2.ensures,

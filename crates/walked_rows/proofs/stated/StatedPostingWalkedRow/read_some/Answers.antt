@@ -5,8 +5,8 @@ use Rattle.sqlite.specs.Held.{state}
 use Rattle.sql_meanings.specs.StatementAnswers.{IsStoreError}
 use Rattle.sql_meanings.proofs.OrderedAnswers.{rise_filter}
 use Rattle.store_rows.specs.believed.BankTables.{reference as reference_table}
-use Rattle.walked_rows.specs.{StepOutcomes.BreaksValue, References.BreaksReference, Rows.HasStoredRows}
-use Rattle.walked_rows.specs.Stored.{IsNoPosting, is_of, stated_pair}
+use Rattle.walked_rows.specs.{StepOutcomes.BreaksBy, References.BreaksReference, Rows.HasStoredRows}
+use Rattle.walked_rows.specs.Stored.{is_of, posting_of, stated_pair}
 use Rattle.walked_rows.proofs.Filling.{breaks_given, breaks_own, filled}
 use Rattle.walked_rows.proofs.Leaving.{clean_between, reads_then, store_on}
 use Rattle.walked_rows.proofs.stated.StatedPostingWalkedRow.read_some.Goals as goal
@@ -40,7 +40,7 @@ returns-in-Ok g c =
           (filter given has.rows) has.others (rise_filter given has.rows has.has.holds.rows.rise) others)) told)
           (filled stated_pair has.others has.rows given all has.are from c.state_each.new.rows.items)
           (breaks_given has.others has.rows given all has.are from _
-          (BreaksValue IsNoPosting) BreaksReference _
+          (BreaksBy posting_of) BreaksReference _
           (store_on g.S.Store c.args.conn.now mid new (inl unchanged) read.reads.survives));
       ended = stated.ended;
       rises = rw whole at stated.rises;
@@ -55,7 +55,7 @@ returns-in-Err g c =
       told = λ clean all has.
           breaks_own has.others has.rows (is_of c.args.of) all has.are c.args.from
           (IsStoreError (state g.S.Store c.args.conn.now) (state g.S.Store c.read_ahead.new.conn))
-          (BreaksValue IsNoPosting) BreaksReference
+          (BreaksBy posting_of) BreaksReference
           c.in-Err.fault (rw whole at (read.told clean has.rows has.has));
       ended = tt;
       rises = tt;
