@@ -3,7 +3,8 @@ use Rattle.std.proofs.Common.{◌≡◌, ◌+◌, ◌++◌, ℕ, ℤ, pos, List,
 use Rattle.std.proofs.Common.{ap, subst, ◌∙◌, arith}
 use Rattle.std.specs.Prelude.{nat_abs, option_map, unwrap_or}
 use Rattle.std.proofs.lemmas.List.{length-append, length-map, map-append}
-use Rattle.message_records.specs.{declared.records.Outcome.Outcome, Reading.outcome_with}
+use Rattle.message_records.specs.believed.Outcomes.{outcome_with}
+use Rattle.message_records.specs.declared.records.Outcome.{Outcome}
 use Rattle.message_records.specs.declared.records.Outcome.TheVariants.{Malformed}
 use Rattle.message_records.proofs.SpelledReplies.{outcome_with-code}
 use Rattle.message_records.specs.believed.Records.{ReplyFields, RequestFields, unreferenced}

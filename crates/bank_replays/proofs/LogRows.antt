@@ -5,7 +5,7 @@ use Rattle.std.specs.{Prelude.pos, Prelude.option_map, Prelude.unwrap_or, List.A
 use Rattle.std.proofs.lemmas.{Bool.cases_Bool, Bool.eq-eqb, Bool.eqb-true, List.map-append}
 use Rattle.sqlite.specs.Effect.{Database}
 use Rattle.message_records.specs.{declared.records.Outcome.Outcome, declared.records.Outcome.TheVariants.Malformed}
-use Rattle.message_records.specs.{believed.Outcomes.code_of, Reading.outcome_with, believed.Records.unreferenced}
+use Rattle.message_records.specs.believed.{Outcomes.code_of, Outcomes.outcome_with, Records.unreferenced}
 use Rattle.posting_rules.specs.{believed.Cases.balance_shown, believed.Cases.kept_reply, believed.Commands.Command}
 use Rattle.posting_rules.specs.{declared.rows.HistoryRow.HistoryRow, declared.rows.RequestRow.RequestRow}
 use Rattle.posting_rules.specs.believed.Entries.{DecidedRequest, decided, is_posted, kept_fields}

@@ -3,7 +3,7 @@ use Rattle.std.specs.Prelude.{◌≡◌, ℕ, pos, nat_abs, Option, Some, None, 
 use Rattle.std.specs.Prelude.{unwrap_or}
 use Rattle.message_records.specs.declared.records.Outcome.{Outcome}
 use Rattle.message_records.specs.declared.records.Outcome.TheVariants.{Malformed}
-use Rattle.message_records.specs.Reading.{outcome_with}
+use Rattle.message_records.specs.believed.Outcomes.{outcome_with}
 use Rattle.message_records.specs.believed.Records.{ReplyFields, RequestFields, unreferenced}
 use Rattle.posting_rules.specs.believed.Cases.{balance_shown}
 use Rattle.sql_meanings.specs.believed.Entries.{Entry}

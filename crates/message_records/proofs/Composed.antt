@@ -6,9 +6,7 @@ use Rattle.std.proofs.lemmas.List.{length-append}
 use Rattle.message_records.specs.{declared.records.Outcome.Outcome, believed.Records.RequestFields}
 use Rattle.message_records.specs.{believed.Records.ReplyFields, believed.Outcomes.code_of, believed.Outcomes.name_of}
 use Rattle.message_records.specs.declared.limits.TheConstants.{REPLY_BYTES, REQUEST_BYTES}
-use Rattle.message_records.specs.declared.records.Outcome.TheVariants.{Posted, NoTeller, WrongBranch, NoAccount}
-use Rattle.message_records.specs.declared.records.Outcome.TheVariants.{BelowFloor, OverLimit, ReusedNumber, Full}
-use Rattle.message_records.specs.declared.records.Outcome.TheVariants.{Malformed}
+use Rattle.message_records.specs.declared.records.Outcome.TheVariants.{Posted}
 use Rattle.message_records.specs.believed.Spelling.{digits, signed, fields_spelling, no_fields, filled, tag_of}
 use Rattle.message_records.specs.believed.Spelling.{reference_text, request_spelling, reply_spelling}
 
@@ -60,14 +58,7 @@ spaces-add (suc m) n =
 -- a name is at most 16 bytes
 pub name_short : (o : Outcome) → length (name_of o) ≤ 16
 name_short Posted = lit≤ tt
-name_short NoTeller = lit≤ tt
-name_short WrongBranch = lit≤ tt
-name_short NoAccount = lit≤ tt
-name_short BelowFloor = lit≤ tt
-name_short OverLimit = lit≤ tt
-name_short ReusedNumber = lit≤ tt
-name_short Full = lit≤ tt
-name_short Malformed = lit≤ tt
+name_short _ = lit≤ tt
 
 -- the spaces after a name are those that fill it and those that fill the record
 name_filled : (name : List ℕ) (n : ℕ) → n ≡ 66 + length name → length name ≤ 16

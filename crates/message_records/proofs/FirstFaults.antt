@@ -7,11 +7,11 @@ use Rattle.std.proofs.lemmas.Bool.{not-true, not-false}
 use Rattle.message_records.specs.{declared.fault.BadReply.BadReply, declared.records.Outcome.Outcome}
 use Rattle.message_records.specs.{believed.Spelling.filled, Outcomes.has_request, believed.Reading.number_of}
 use Rattle.message_records.specs.declared.fault.BadReply.TheVariants as bad_reply
-use Rattle.message_records.specs.believed.Outcomes.{name_of, has_balance}
+use Rattle.message_records.specs.believed.Outcomes.{name_of, has_balance, outcome_with}
 use Rattle.message_records.specs.declared.limits.TheConstants.{REPLY_BYTES}
 use Rattle.message_records.specs.believed.Records.{RequestFields, ReplyFields, unreferenced}
 use Rattle.message_records.specs.Records.{IsShownRequest, reply_from, agree}
-use Rattle.message_records.specs.Reading.{outcome_with, shown_request_of, balance_of, reply_of}
+use Rattle.message_records.specs.Reading.{shown_request_of, balance_of, reply_of}
 use Rattle.message_records.proofs.{Pieces.field_length, References.unreferenced_same, ReadReplies.shown_takes}
 
 -- the outcome that the bytes name

@@ -1,22 +1,21 @@
 -- A reply that is read is spelled so.
-use Rattle.std.proofs.Common.{◌≡◌, ℕ, ◌≤◌, true, false, cond, eqb, List, ◌∷◌, ◌++◌, length, take, drop, replicate}
-use Rattle.std.proofs.Common.{Option, Some, None, Result, Ok, Err, refl, sym, ap, subst, ◌∙◌, arith, inl, inr}
+use Rattle.std.proofs.Common.{◌≡◌, ℕ, ◌≤◌, Bool, true, false, eqb, find, List, [], ◌∷◌, ◌++◌, length, take, drop}
+use Rattle.std.proofs.Common.{replicate, Option, Some, None, Result, Ok, Err, refl, sym, ap, subst, ◌∙◌, arith, inl}
+use Rattle.std.proofs.Common.{inr}
 use Rattle.std.specs.Prelude.{ℤ, pos, nat_abs, codes, is_some, IfSome, IfOk, unwrap_or, option_and_then}
 use Rattle.std.specs.Option.{ok_or}
 use Rattle.std.proofs.lemmas.Bool.{eqb-true}
 use Rattle.message_records.specs.declared.limits.TheConstants.{MAX_BALANCE, REPLY_BYTES}
 use Rattle.message_records.specs.declared.{fault.Bad.Bad, fault.BadReply.BadReply, records.Outcome.Outcome}
 use Rattle.message_records.specs.declared.fault.BadReply.TheVariants as bad_reply
-use Rattle.message_records.specs.declared.records.Outcome.TheVariants.{Posted, NoTeller, WrongBranch, NoAccount}
-use Rattle.message_records.specs.declared.records.Outcome.TheVariants.{BelowFloor, OverLimit, ReusedNumber, Full}
-use Rattle.message_records.specs.declared.records.Outcome.TheVariants.{Malformed}
-use Rattle.message_records.specs.believed.Outcomes.{code_of, name_of, has_balance}
+use Rattle.message_records.specs.declared.records.Outcome.TheVariants.{Posted, Malformed}
+use Rattle.message_records.specs.believed.Outcomes.{code_of, name_of, has_balance, outcome_with, outcomes}
 use Rattle.message_records.specs.{Outcomes.has_request, Records.IsShownRequest, Records.IsReply}
 use Rattle.message_records.specs.believed.Records.{RequestFields, ReplyFields}
 use Rattle.message_records.specs.believed.Spelling.{digits, signed, fields_spelling, no_fields, filled}
 use Rattle.message_records.specs.believed.Spelling.{reply_spelling}
 use Rattle.message_records.specs.believed.Reading.{◌>>=◌, number_of, signed_of, text_at, fields_of}
-use Rattle.message_records.specs.Reading.{outcome_with, shown_in_reply, no_fields_of, shown_request_of, balance_of}
+use Rattle.message_records.specs.Reading.{shown_in_reply, no_fields_of, shown_request_of, balance_of}
 use Rattle.message_records.specs.Reading.{reply_of}
 use Rattle.message_records.proofs.{Digits.chosen, Digits.number_takes, Amounts.signed_takes, Amounts.and_then_some}
 use Rattle.message_records.proofs.{Fields.fields_take, SpelledReplies.zero_balance}
@@ -24,27 +23,17 @@ use Rattle.message_records.proofs.Pieces.{field_joined, last_joined, field_lengt
 
 -- ---- outcomes
 
--- the code is this outcome's, or the outcome is one of the others
-coded : (n code : ℕ) (x o : Outcome) (others : Option Outcome) → cond (eqb n code) (Some x) others ≡ Some o
-    → code ≡ code_of x
-    → (others ≡ Some o → n ≡ code_of o) → n ≡ code_of o
-coded n code x o others e c rest =
-    elim (chosen (eqb n code) (Some x) others (Some o) e) [
-      | inl t ↦ let same : x ≡ o = let h = t.1 in cc in eqb-true n code t.0 ∙ c ∙ ap code_of same
-      | inr f ↦ rest f.1
+-- what a test finds passes it
+found_passes : (test : Outcome → Bool) (os : List Outcome) (o : Outcome) → find test os ≡ Some o → test o ≡ true
+found_passes test [] o e = absurd cc
+found_passes test (x ∷ os) o e =
+    elim (chosen (test x) (Some x) (find test os) (Some o) e) [
+      | inl t ↦ let same : x ≡ o = let h = t.1 in cc in subst (λ y. test y ≡ true) same t.0
+      | inr f ↦ found_passes test os o f.1
     ]
 
 outcome_with-takes : (n : ℕ) (o : Outcome) → outcome_with n ≡ Some o → n ≡ code_of o
-outcome_with-takes n o e =
-    coded n 0 Posted o _ e refl (λ e1.
-    coded n 11 NoTeller o _ e1 refl (λ e2.
-    coded n 12 WrongBranch o _ e2 refl (λ e3.
-    coded n 13 NoAccount o _ e3 refl (λ e4.
-    coded n 14 OverLimit o _ e4 refl (λ e5.
-    coded n 15 ReusedNumber o _ e5 refl (λ e6.
-    coded n 16 Full o _ e6 refl (λ e7.
-    coded n 17 BelowFloor o _ e7 refl (λ e8.
-    coded n 90 Malformed o None e8 refl (λ e9. absurd cc)))))))))
+outcome_with-takes n o e = sym (eqb-true (code_of o) n (found_passes (λ x. eqb (code_of x) n) outcomes o e))
 
 outcome_takes : (o : Outcome) (cs : List ℕ) → length cs ≡ 2
     → option_and_then outcome_with (number_of cs) ≡ Some o
@@ -103,14 +92,7 @@ shown_takes Malformed q bytes len e =
     let taken = no_fields_take q bytes len e in
     subst (λ (y : Option RequestFields). IsShown Malformed y bytes) taken.0
     (record { spelled = taken.1; shows = refl; in_range = tt })
-shown_takes Posted q bytes len e = request_shown Posted q bytes refl len e
-shown_takes NoTeller q bytes len e = request_shown NoTeller q bytes refl len e
-shown_takes WrongBranch q bytes len e = request_shown WrongBranch q bytes refl len e
-shown_takes NoAccount q bytes len e = request_shown NoAccount q bytes refl len e
-shown_takes BelowFloor q bytes len e = request_shown BelowFloor q bytes refl len e
-shown_takes OverLimit q bytes len e = request_shown OverLimit q bytes refl len e
-shown_takes ReusedNumber q bytes len e = request_shown ReusedNumber q bytes refl len e
-shown_takes Full q bytes len e = request_shown Full q bytes refl len e
+shown_takes o q bytes len e = request_shown o q bytes refl len e
 
 -- ---- the balance
 
@@ -137,14 +119,7 @@ balance_takes Posted q bytes len e =
     (ok_or_some (signed_of bytes) bad_reply.Balance read.0 read.1) in
     subst (λ (y : Option ℤ). IsBalance Posted y bytes) some
     (record { spelled = taken.0; shows = refl; in_range = omega (arith, taken.1) })
-balance_takes NoTeller q bytes len e = no_balance NoTeller q bytes refl e
-balance_takes WrongBranch q bytes len e = no_balance WrongBranch q bytes refl e
-balance_takes NoAccount q bytes len e = no_balance NoAccount q bytes refl e
-balance_takes BelowFloor q bytes len e = no_balance BelowFloor q bytes refl e
-balance_takes OverLimit q bytes len e = no_balance OverLimit q bytes refl e
-balance_takes ReusedNumber q bytes len e = no_balance ReusedNumber q bytes refl e
-balance_takes Full q bytes len e = no_balance Full q bytes refl e
-balance_takes Malformed q bytes len e = no_balance Malformed q bytes refl e
+balance_takes o q bytes len e = no_balance o q bytes refl e
 
 -- ---- the reply
 

@@ -6,13 +6,11 @@ use Rattle.message_records.specs.{declared.limits.TheConstants.MAX_BALANCE, decl
 use Rattle.message_records.specs.{Outcomes.has_request, believed.Records.RequestFields, believed.Records.ReplyFields}
 use Rattle.message_records.specs.{Records.IsShownRequest, Records.IsReply, believed.Reading.number_of}
 use Rattle.message_records.specs.declared.fault.BadReply.TheVariants as bad_reply
-use Rattle.message_records.specs.declared.records.Outcome.TheVariants.{Posted, NoTeller, WrongBranch, NoAccount}
-use Rattle.message_records.specs.declared.records.Outcome.TheVariants.{BelowFloor, OverLimit, ReusedNumber, Full}
-use Rattle.message_records.specs.declared.records.Outcome.TheVariants.{Malformed}
-use Rattle.message_records.specs.believed.Outcomes.{code_of, name_of, has_balance}
+use Rattle.message_records.specs.declared.records.Outcome.TheVariants.{Posted, Malformed}
+use Rattle.message_records.specs.believed.Outcomes.{code_of, name_of, has_balance, outcome_with}
 use Rattle.message_records.specs.believed.Spelling.{digits, signed, fields_spelling, no_fields, filled}
 use Rattle.message_records.specs.believed.Spelling.{reply_spelling}
-use Rattle.message_records.specs.Reading.{outcome_with, shown_in_reply, no_fields_of, shown_request_of, balance_of}
+use Rattle.message_records.specs.Reading.{shown_in_reply, no_fields_of, shown_request_of, balance_of}
 use Rattle.message_records.specs.Reading.{reply_of}
 use Rattle.message_records.proofs.{Digits.length-digits, Digits.number_of-digits, Amounts.length-signed}
 use Rattle.message_records.proofs.{Amounts.signed_again, Pieces.field_next, Pieces.last_field, Pieces.text_again}
@@ -23,37 +21,16 @@ use Rattle.message_records.proofs.{References.unreferenced_same, Fields.length-f
 -- a code has two digits
 pub code_below : (o : Outcome) → code_of o < 10 ^ 2
 code_below Posted = lit< tt
-code_below NoTeller = lit< tt
-code_below WrongBranch = lit< tt
-code_below NoAccount = lit< tt
-code_below BelowFloor = lit< tt
-code_below OverLimit = lit< tt
-code_below ReusedNumber = lit< tt
-code_below Full = lit< tt
-code_below Malformed = lit< tt
+code_below _ = lit< tt
 
 pub outcome_with-code : (o : Outcome) → outcome_with (code_of o) ≡ Some o
 outcome_with-code Posted = refl
-outcome_with-code NoTeller = refl
-outcome_with-code WrongBranch = refl
-outcome_with-code NoAccount = refl
-outcome_with-code BelowFloor = refl
-outcome_with-code OverLimit = refl
-outcome_with-code ReusedNumber = refl
-outcome_with-code Full = refl
-outcome_with-code Malformed = refl
+outcome_with-code _ = refl
 
 -- a filled name is 16 bytes
 pub length-name : (o : Outcome) → length (filled 16 (name_of o)) ≡ 16
 length-name Posted = refl
-length-name NoTeller = refl
-length-name WrongBranch = refl
-length-name NoAccount = refl
-length-name BelowFloor = refl
-length-name OverLimit = refl
-length-name ReusedNumber = refl
-length-name Full = refl
-length-name Malformed = refl
+length-name _ = refl
 
 -- the outcome is read from its two digits
 outcome_again : (o : Outcome) (cs : List ℕ) → cs ≡ digits 2 (code_of o)

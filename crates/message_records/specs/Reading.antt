@@ -1,37 +1,21 @@
 -- What reading a reply gives: its value, or its first faulty field from the left.
-use Rattle.std.specs.Prelude.{ℕ, ℤ, ◌==◌, List, ◌∷◌}
-use Rattle.std.specs.Prelude.{slice_range, Option, Some, None, Result, Ok, Err, if◌then◌else◌, codes}
+use Rattle.std.specs.Prelude.{ℕ, ℤ, List, ◌∷◌}
+use Rattle.std.specs.Prelude.{slice_range, Option, Some, None, Result, Ok, Err, codes}
 use Rattle.std.specs.Prelude.{replicate, option_and_then}
 use Rattle.std.specs.Option.{ok_or}
 use Rattle.message_records.specs.declared.records.Outcome.{Outcome}
-use Rattle.message_records.specs.declared.records.Outcome.TheVariants.{Posted, NoTeller, WrongBranch}
-use Rattle.message_records.specs.declared.records.Outcome.TheVariants.{NoAccount, BelowFloor, OverLimit}
-use Rattle.message_records.specs.declared.records.Outcome.TheVariants.{ReusedNumber, Full, Malformed}
+use Rattle.message_records.specs.declared.records.Outcome.TheVariants.{Posted, Malformed}
 use Rattle.message_records.specs.declared.fault.Bad.{Bad}
 use Rattle.message_records.specs.declared.fault.Bad.TheVariants as bad
 use Rattle.message_records.specs.declared.fault.BadReply.{BadReply}
 use Rattle.message_records.specs.declared.fault.BadReply.TheVariants as bad_reply
 use Rattle.message_records.specs.declared.limits.TheConstants.{REPLY_BYTES}
-use Rattle.message_records.specs.believed.Outcomes.{name_of}
+use Rattle.message_records.specs.believed.Outcomes.{name_of, outcome_with}
 use Rattle.message_records.specs.believed.Records.{RequestFields, ReplyFields}
 use Rattle.message_records.specs.believed.Spelling.{filled}
 use Rattle.message_records.specs.believed.Reading.{fields_of, number_of, signed_of, text_at, ◌>>=◌}
 
 -- ---- replies
-
--- the outcome that has this code
-abbrev pub outcome_with : ℕ → Option Outcome
-outcome_with code =
-    if code == 0 then Some Posted
-    else if code == 11 then Some NoTeller
-    else if code == 12 then Some WrongBranch
-    else if code == 13 then Some NoAccount
-    else if code == 14 then Some OverLimit
-    else if code == 15 then Some ReusedNumber
-    else if code == 16 then Some Full
-    else if code == 17 then Some BelowFloor
-    else if code == 90 then Some Malformed
-    else None
 
 -- a field of a request is a field of its reply, which has filler in the place of a reference
 abbrev pub in_reply : Bad → BadReply

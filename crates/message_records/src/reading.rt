@@ -3,13 +3,12 @@ ghost use Rattle.std.specs.Prelude.{◌≡◌, ◌≤◌, ◌<◌, ◌^◌, ◌-
 ghost use Rattle.std.specs.Prelude.{IfErr, Ok, nat_abs, option_and_then};
 ghost use Rattle.std.specs.Str.{bytes_eq};
 ghost use Rattle.message_records.specs.believed.Ranges.{whole_within};
-ghost use Rattle.message_records.specs.believed.Outcomes.{has_balance};
+ghost use Rattle.message_records.specs.believed.Outcomes.{has_balance, outcome_with};
 ghost use Rattle.message_records.specs.Outcomes.{has_request};
 ghost use Rattle.message_records.specs.believed.Records.{RequestFields, ReplyFields};
 ghost use Rattle.message_records.specs.Records.{IsRequest, IsReply};
 ghost use Rattle.message_records.specs.believed.Spelling.{request_spelling, filled, reply_spelling};
 ghost use Rattle.message_records.specs.believed.Reading.{number_of, signed_of, fields_of, request_of};
-ghost use Rattle.message_records.specs.Reading.{outcome_with};
 ghost use Rattle.message_records.specs.believed.Reading.{plain_request_of, referenced_request_of};
 ghost use Rattle.message_records.specs.Reading.{no_fields_of, shown_request_of, balance_of, reply_of};
 
@@ -129,18 +128,7 @@ fn read_outcome(digits: &[u8]) -> Option<Outcome>
     requires { length digits.now ≤ 12 }
     ensures { result ≡ option_and_then outcome_with (number_of digits.now) }
 {
-    match read_digits(digits)? {
-        0 => Some(Outcome::Posted),
-        11 => Some(Outcome::NoTeller),
-        12 => Some(Outcome::WrongBranch),
-        13 => Some(Outcome::NoAccount),
-        14 => Some(Outcome::OverLimit),
-        15 => Some(Outcome::ReusedNumber),
-        16 => Some(Outcome::Full),
-        17 => Some(Outcome::BelowFloor),
-        90 => Some(Outcome::Malformed),
-        _ => None,
-    }
+    Outcome::with_code(read_digits(digits)?)
 }
 
 // The request that a reply with this outcome shows.

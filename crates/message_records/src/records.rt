@@ -175,7 +175,7 @@ pub enum Outcome {
 }
 
 impl Outcome {
-    ghost use Rattle.message_records.specs.believed.Outcomes.{code_of, name_of};
+    ghost use Rattle.message_records.specs.believed.Outcomes.{code_of, name_of, outcome_with};
 
     /// The code in the reply: two digits, 0..=99.
     #[must_use]
@@ -193,6 +193,25 @@ impl Outcome {
             Outcome::ReusedNumber => 15,
             Outcome::Full => 16,
             Outcome::Malformed => 90,
+        }
+    }
+
+    /// The outcome that has this code, if one has.
+    #[must_use]
+    pub fn with_code(code: u64) -> Option<Self>
+        ensures { result ≡ outcome_with code }
+    {
+        match code {
+            0 => Some(Outcome::Posted),
+            11 => Some(Outcome::NoTeller),
+            12 => Some(Outcome::WrongBranch),
+            13 => Some(Outcome::NoAccount),
+            14 => Some(Outcome::OverLimit),
+            15 => Some(Outcome::ReusedNumber),
+            16 => Some(Outcome::Full),
+            17 => Some(Outcome::BelowFloor),
+            90 => Some(Outcome::Malformed),
+            _ => None,
         }
     }
 

@@ -7,13 +7,11 @@ use Rattle.std.proofs.lemmas.{Bool.Decides.nat_tests, Int.ints}
 use Rattle.sqlite.specs.Order.{Row, column}
 use Rattle.sqlite.specs.declared.types.Value.{Value, TheVariants.Blob, TheVariants.Int, TheVariants.Null}
 use Rattle.sqlite.specs.declared.types.Value.TheVariants.{Real, Text}
-use Rattle.message_records.specs.{believed.Outcomes.code_of, believed.Reading.◌>>=◌, declared.records.Outcome.Outcome}
-use Rattle.message_records.specs.believed.{Ranges.cents_within, Ranges.whole_within}
-use Rattle.message_records.specs.declared.records.Outcome.TheVariants.{Posted, NoTeller, WrongBranch, NoAccount}
-use Rattle.message_records.specs.declared.records.Outcome.TheVariants.{OverLimit, ReusedNumber, Full, BelowFloor}
-use Rattle.message_records.specs.declared.records.Outcome.TheVariants.{Malformed}
+use Rattle.message_records.specs.believed.Reading.{◌>>=◌}
+use Rattle.message_records.specs.believed.Ranges.{cents_within, whole_within}
 use Rattle.message_records.specs.declared.limits.TheConstants.{MAX_ACCOUNT, MAX_BALANCE, MAX_BRANCH, MAX_DELTA}
 use Rattle.message_records.specs.declared.limits.TheConstants.{MAX_MOMENT, MAX_NUMBER, MAX_TELLER}
+use Rattle.message_records.proofs.SpelledReplies.{outcome_with-code}
 use Rattle.posting_rules.specs.Damage.{IsSoundAccount, IsSoundBranch, IsSoundFloor, IsSoundPosting}
 use Rattle.posting_rules.specs.Damage.{IsSoundReference, IsSoundRequest, IsSoundTeller}
 use Rattle.posting_rules.specs.declared.fault.Rule.{Rule, TheVariants.Balance, TheVariants.Floor}
@@ -25,7 +23,7 @@ use Rattle.posting_rules.specs.declared.rows.{HistoryRow.HistoryRow, ReferenceRo
 use Rattle.posting_rules.specs.declared.rows.TellerRow.{TellerRow}
 use Rattle.sql_meanings.specs.believed.Entries.{Entry, numbers, texts_held}
 use Rattle.store_rows.specs.believed.{Columns.number_at, SeveralRows.given}
-use Rattle.store_rows.specs.believed.Readings.{branch_of, cents, floor_of, lowest, number, outcome_with}
+use Rattle.store_rows.specs.believed.Readings.{branch_of, cents, floor_of, lowest, number}
 use Rattle.store_rows.specs.believed.Readings.{read_account, read_balance, read_branch, read_floor}
 use Rattle.store_rows.specs.believed.Readings.{read_posting, read_reference, read_request, read_teller, reference}
 use Rattle.store_rows.specs.believed.Readings.{whole}
@@ -170,17 +168,6 @@ in_range least most n low high = let test : (nat_le least n && nat_le n most) �
 in_limit : (limit : ℕ) (z : ℤ) → nat_abs z ≤ limit → cents_within limit z ≡ Some z
 in_limit limit z le = let test : nat_le (nat_abs z) limit ≡ true = grind (arith, nat_tests) in rw test refl
 
-pub outcome_back : (o : Outcome) → outcome_with (pos (code_of o)) ≡ Some o
-outcome_back Posted = refl
-outcome_back NoTeller = refl
-outcome_back WrongBranch = refl
-outcome_back NoAccount = refl
-outcome_back OverLimit = refl
-outcome_back ReusedNumber = refl
-outcome_back Full = refl
-outcome_back BelowFloor = refl
-outcome_back Malformed = refl
-
 low_enough : (z : ℤ) → z ≤ℤ pos 0 → int_lt (pos 0) z ≡ false
 low_enough z le = grind (arith, ints)
 
@@ -222,7 +209,7 @@ request_back r is = rw (
   in_range 1 MAX_ACCOUNT r.decision.account is.fields.account_above is.fields.account,
   in_range 1 MAX_BRANCH r.decision.branch is.fields.branch_above is.fields.branch,
   in_limit MAX_DELTA r.decision.delta is.fields.delta,
-  outcome_back r.decision.outcome,
+  outcome_with-code r.decision.outcome,
   in_limit MAX_BALANCE r.decision.balance is.balance,
   is.decision,
 ) refl

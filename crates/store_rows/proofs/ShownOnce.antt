@@ -1,7 +1,9 @@
 -- Trees show one bank at most, and who opens on them finds it.
 use Rattle.std.proofs.Common.{◌++◌, ◌≡◌, ℕ, ℤ, pos, nat_abs, List, [], ◌∷◌, map, refl, sym, ap, subst, ◌∙◌}
 use Rattle.std.specs.Prelude.{Option, slice_index_or, unwrap_or}
+use Rattle.message_records.specs.believed.Outcomes.{outcome_with}
 use Rattle.message_records.specs.declared.records.Outcome.{Outcome, TheVariants.Malformed}
+use Rattle.message_records.proofs.SpelledReplies.{outcome_with-code}
 use Rattle.sqlite.specs.{Order.Row, declared.types.Value.Value, Table.Table, Tree.Trees}
 use Rattle.sqlite.specs.declared.types.Value.TheVariants.{Null, Int, Real, Text, Blob}
 use Rattle.sqlite.specs.Effect.{Database, IsDatabase}
@@ -14,8 +16,6 @@ use Rattle.sql_meanings.proofs.Trees.{same_schema}
 use Rattle.store_rows.specs.{believed.BankTables.bank_tables, Creation.new_tables, View.contents}
 use Rattle.store_rows.specs.believed.View.{Shows, ShowsTrees, branch_entry, teller_entry, account_entry}
 use Rattle.store_rows.specs.believed.View.{history_entry, request_entry, floor_entry, reference_entry}
-use Rattle.store_rows.specs.believed.Readings.{outcome_with}
-use Rattle.store_rows.proofs.Readings.{outcome_back}
 
 -- what can be read back is shown by one row alone, and so are lists of it
 module _ {X Y : Type 0} (f : X → Y) (back : Y → X) (same : (x : X) → back (f x) ≡ x) where
@@ -131,7 +131,7 @@ request_in e = record {
     account = at e 2;
     branch = at e 3;
     delta = amount e 4;
-    outcome = unwrap_or (outcome_with (amount e 5)) Malformed;
+    outcome = unwrap_or (outcome_with (at e 5)) Malformed;
     balance =
         amount e 6;
   };
@@ -147,7 +147,7 @@ request_back r = ap (λ o. let it : RequestRow = record r {
     outcome = o;
     balance = r.decision.balance;
   };
-} in it) (ap (λ (o : Option Outcome). unwrap_or o Malformed) (outcome_back r.decision.outcome))
+} in it) (ap (λ (o : Option Outcome). unwrap_or o Malformed) (outcome_with-code r.decision.outcome))
 
 -- ---- one bank
 

@@ -79,18 +79,10 @@ pub(crate) fn outcome_at(row: &Row, at: usize) -> Result<Outcome, TableFault>
     ensures { Gives (outcome_of (column row.now at)) result }
 {
     let value = integer_at(row, at)?;
-    match value {
-        0 => Ok(Outcome::Posted),
-        11 => Ok(Outcome::NoTeller),
-        12 => Ok(Outcome::WrongBranch),
-        13 => Ok(Outcome::NoAccount),
-        14 => Ok(Outcome::OverLimit),
-        15 => Ok(Outcome::ReusedNumber),
-        16 => Ok(Outcome::Full),
-        17 => Ok(Outcome::BelowFloor),
-        90 => Ok(Outcome::Malformed),
-        _ => Err(TableFault::Damaged(Rule::Request)),
+    if value < 0 {
+        return Err(TableFault::Damaged(Rule::Request));
     }
+    Outcome::with_code(value as u64).ok_or(TableFault::Damaged(Rule::Request))
 }
 
 // The reference in a column. A value of another type is damage of another rule.

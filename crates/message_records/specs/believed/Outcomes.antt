@@ -1,5 +1,6 @@
 -- What becomes of a request: the code and the name that its reply carries.
-use Rattle.std.specs.Prelude.{ℕ, List, codes, Bool, true, false}
+use Rattle.std.specs.Prelude.{ℕ, List, [], ◌∷◌, codes, Bool, true, false, ◌==◌, Option}
+use Rattle.std.specs.List.{find}
 use Rattle.message_records.specs.declared.records.Outcome.{Outcome}
 use Rattle.message_records.specs.declared.records.Outcome.TheVariants.{Posted, NoTeller, WrongBranch}
 use Rattle.message_records.specs.declared.records.Outcome.TheVariants.{NoAccount, BelowFloor, OverLimit}
@@ -15,6 +16,14 @@ code_of OverLimit = 14
 code_of ReusedNumber = 15
 code_of Full = 16
 code_of Malformed = 90
+
+-- all of them
+abbrev pub outcomes : List Outcome
+outcomes = Posted ∷ NoTeller ∷ WrongBranch ∷ NoAccount ∷ BelowFloor ∷ OverLimit ∷ ReusedNumber ∷ Full ∷ Malformed ∷ []
+
+-- the outcome that has this code
+abbrev pub outcome_with : ℕ → Option Outcome
+outcome_with code = find (λ o. code_of o == code) outcomes
 
 abbrev pub name_of : Outcome → List ℕ
 name_of Posted = codes "POSTED"

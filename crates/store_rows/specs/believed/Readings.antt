@@ -1,20 +1,17 @@
 -- What the columns of a row are read as: its typed values, or the first rule from the left that one breaks.
-use Rattle.std.specs.Prelude.{◌*◌, ℕ, ℤ, pos, negsuc, List, [], ◌∷◌, Option, Some, None, Result, Ok}
-use Rattle.std.specs.Prelude.{Err, if◌then◌else◌, int_lt}
+use Rattle.std.specs.Prelude.{◌*◌, ℕ, ℤ, pos, negsuc, List, [], ◌∷◌, Result, Ok, Err, if◌then◌else◌}
+use Rattle.std.specs.Prelude.{int_lt}
 use Rattle.std.specs.Option.{ok_or}
-use Rattle.std.specs.Ordering.{int_eq}
 use Rattle.sqlite.specs.Order.{Row, column}
 use Rattle.sqlite.specs.declared.types.Value.{Value}
 use Rattle.sqlite.specs.declared.types.Value.TheVariants.{Int, Text}
+use Rattle.message_records.specs.believed.Outcomes.{outcome_with}
 use Rattle.message_records.specs.believed.Ranges.{cents_within, whole_within}
 use Rattle.message_records.specs.believed.Reading.{◌>>=◌}
 use Rattle.message_records.specs.believed.Records.{reference_from}
 use Rattle.message_records.specs.declared.limits.TheConstants.{MAX_ACCOUNT, MAX_BALANCE, MAX_BRANCH, MAX_DELTA}
 use Rattle.message_records.specs.declared.limits.TheConstants.{MAX_MOMENT, MAX_NUMBER, MAX_TELLER}
 use Rattle.message_records.specs.declared.records.Outcome.{Outcome}
-use Rattle.message_records.specs.declared.records.Outcome.TheVariants.{Posted, NoTeller, WrongBranch, NoAccount}
-use Rattle.message_records.specs.declared.records.Outcome.TheVariants.{OverLimit, ReusedNumber, Full, BelowFloor}
-use Rattle.message_records.specs.declared.records.Outcome.TheVariants.{Malformed}
 use Rattle.posting_rules.specs.believed.Kept.{DecisionFields, is_kept_with}
 use Rattle.posting_rules.specs.declared.fault.Rule.{Rule}
 use Rattle.posting_rules.specs.declared.fault.Rule.TheVariants.{Balance, Floor, Reference, Request, Value as OfValue}
@@ -60,24 +57,13 @@ lowest v = do
   z ← cents MAX_BALANCE Floor v
   if int_lt (pos 0) z then Err Floor else Ok z
 
--- the outcome with this code
-abbrev pub outcome_with : ℤ → Option Outcome
-outcome_with z =
-    if int_eq z (pos 0) then Some Posted
-    else if int_eq z (pos 11) then Some NoTeller
-    else if int_eq z (pos 12) then Some WrongBranch
-    else if int_eq z (pos 13) then Some NoAccount
-    else if int_eq z (pos 14) then Some OverLimit
-    else if int_eq z (pos 15) then Some ReusedNumber
-    else if int_eq z (pos 16) then Some Full
-    else if int_eq z (pos 17) then Some BelowFloor
-    else if int_eq z (pos 90) then Some Malformed
-    else None
+-- the outcome that has this code
+abbrev pub outcome_from : ℤ → Result Outcome Rule
+outcome_from (pos code) = ok_or (outcome_with code) Request
+outcome_from (negsuc n) = Err Request
 
 abbrev pub outcome_of : Value → Result Outcome Rule
-outcome_of v = do
-  z ← number v
-  ok_or (outcome_with z) Request
+outcome_of v = number v >>= outcome_from
 
 -- the text in it, which is a reference
 abbrev pub reference : Value → Result (List ℕ) Rule

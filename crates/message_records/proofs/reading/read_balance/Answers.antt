@@ -1,23 +1,14 @@
 use Rattle.std.proofs.Common.{◌≡◌, ◌≢◌, ◌∷◌, List, ℕ, Ok, None, true, refl, replicate, rules}
 use Rattle.std.specs.Str.{bytes_eq}
 use Rattle.message_records.specs.{declared.records.Outcome.Outcome, Reading.balance_of}
-use Rattle.message_records.specs.declared.records.Outcome.TheVariants.{Posted, NoTeller, WrongBranch, NoAccount}
-use Rattle.message_records.specs.declared.records.Outcome.TheVariants.{BelowFloor, OverLimit, ReusedNumber, Full}
-use Rattle.message_records.specs.declared.records.Outcome.TheVariants.{Malformed}
+use Rattle.message_records.specs.declared.records.Outcome.TheVariants.{Posted}
 use Rattle.message_records.proofs.reading.read_balance.Goals as goal
 
 -- zeros are the balance of a request that isn't posted
 no_balance : (o : Outcome) (bytes : List ℕ) → o ≢ Posted → true ≡ bytes_eq bytes (43 ∷ replicate 12 48)
     → Ok None ≡ balance_of o bytes
 no_balance Posted bytes other zeros = absurd (other refl)
-no_balance NoTeller bytes other zeros = rw (← zeros) refl
-no_balance WrongBranch bytes other zeros = rw (← zeros) refl
-no_balance NoAccount bytes other zeros = rw (← zeros) refl
-no_balance BelowFloor bytes other zeros = rw (← zeros) refl
-no_balance OverLimit bytes other zeros = rw (← zeros) refl
-no_balance ReusedNumber bytes other zeros = rw (← zeros) refl
-no_balance Full bytes other zeros = rw (← zeros) refl
-no_balance Malformed bytes other zeros = rw (← zeros) refl
+no_balance _ bytes other zeros = rw (← zeros) refl
 
 pub returns-in_ok-expect_text-in_default : goal.returns-in_ok-expect_text-in_default
 returns-in_ok-expect_text-in_default c = record {
