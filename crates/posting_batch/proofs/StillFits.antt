@@ -6,14 +6,14 @@ use Rattle.message_records.specs.{declared.fault.Bad.Bad, believed.Records.Reque
 use Rattle.posting_rules.specs.declared.{judgments.Found.Found, judgments.Verdict.Verdict, rows.RequestRow.RequestRow}
 use Rattle.posting_rules.specs.declared.judgments.Verdict.TheVariants.{Unkept, Again, Refused, Posted}
 use Rattle.posting_rules.specs.declared.rows.ReferenceRow.{ReferenceRow}
-use Rattle.posting_rules.specs.believed.{Cases.case_of, Cases.plus_within, Numbering.branch_of_teller}
+use Rattle.posting_rules.specs.believed.{Cases.case_of, Numbering.branch_of_teller}
 use Rattle.posting_rules.specs.believed.Changes.{row_changed, row_put, tables_after, tables_read}
 use Rattle.posting_rules.specs.believed.Entries.{DecidedRequest, refused_entry, posted_entry}
 use Rattle.posting_rules.specs.believed.LookUps.{kept_in, account_balance_in, balance_of_teller, found_in}
 use Rattle.posting_rules.specs.believed.Tables.{Tables, row_at, branch_key, teller_key, request_key, request_row_of}
 use Rattle.posting_rules.specs.believed.Tables.{reference_key}
 use Rattle.posting_rules.proofs.RowChanges.{row_at-changed}
-use Rattle.posting_rules.proofs.Verdicts.{by_posting, by_account, by_new, by_known, by_teller}
+use Rattle.posting_rules.proofs.Verdicts.{by_case}
 use Rattle.posting_batch.specs.{Batch.CoversRead, Batch.HasFreeOrdinals, Overlay.Overlay, Overlay.tables_over}
 use Rattle.posting_batch.specs.Judging.{found_over, overlay_kept, overlay_after, overlay_with}
 use Rattle.posting_batch.specs.Slots.{is_for, account_slot_key, with_account_changed, teller_slot_key}
@@ -32,15 +32,8 @@ IsNewIn f (Posted account teller branch) = f.kept ≡ None
 
 -- what is decided now was not
 pub new_case_of : (f : Found) (r : RequestFields) → IsNewIn f (case_of f r)
-unfolding case_of
 new_case_of f r =
-    let P = λ (v : Verdict). IsNewIn f v in
-    by_teller P f.teller f r tt (λ z tellers.
-    by_known P f.kept f r z.0 z.1 tt (λ reply. tt) (λ new.
-    by_new P f r z.0 z.1 tt (λ room. new) (λ room its.
-    by_account P f.account f.floor z.0 z.1 r.delta new new (λ a accounts above.
-    by_posting P (plus_within a r.delta) (plus_within z.0 r.delta) (plus_within z.1 r.delta) new
-    (λ x y w ex ey ew. new)))))
+    by_case (λ v. IsNewIn f v) f r (λ o. tt) (λ reply. tt) (λ o kept unposted new room. new) (λ x y w h. h.new)
 
 -- a change of a slot that keeps a property
 module _ {S : Type 0} (key : S → ℕ) (k : ℕ) (set : S → S) (kept : (s : S) → key (set s) ≡ key s)

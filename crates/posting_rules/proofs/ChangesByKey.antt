@@ -2,8 +2,8 @@
 use Rattle.std.proofs.Common.{◌≡◌, ℕ, suc, ◌+◌, ◌<◌, ◌≤◌, List, Option, Some, None, refl, ap, ◌∙◌, arith}
 use Rattle.std.specs.{Prelude.ℤ, Prelude.pos, Prelude.is_some, Prelude.IsSome, Option.option_map}
 use Rattle.message_records.specs.believed.Records.{RequestFields}
-use Rattle.posting_rules.specs.{declared.judgments.Verdict.Verdict, declared.judgments.Verdict.TheVariants.Posted}
-use Rattle.posting_rules.specs.{declared.rows.FloorRow.FloorRow, believed.Cases.case_of, believed.Cases.plus_within}
+use Rattle.posting_rules.specs.declared.judgments.Verdict.TheVariants.{Posted}
+use Rattle.posting_rules.specs.{declared.rows.FloorRow.FloorRow, believed.Cases.case_of}
 use Rattle.posting_rules.specs.{believed.Entries.DecidedRequest, ChangesByKey.AddsFloor, ChangesByKey.OpensBranch}
 use Rattle.posting_rules.specs.{Sound.AreSound, declared.limits.TheConstants.MAX_ACCOUNTS}
 use Rattle.posting_rules.specs.believed.Commands.{Command, AreCommands, Terms}
@@ -14,7 +14,7 @@ use Rattle.posting_rules.specs.believed.LookUps.{found_in}
 use Rattle.posting_rules.specs.believed.Numbering.{branch_of_teller, first_teller, first_account}
 use Rattle.posting_rules.proofs.{Undamaged.undamaged, Ready.AreReady, Ready.ready_sound, Ready.no_teller}
 use Rattle.posting_rules.proofs.{Ready.no_account, RowChanges.row_adds, RowChanges.rows_add, RowChanges.next_is_free}
-use Rattle.posting_rules.proofs.Verdicts.{by_posting, by_account, by_new, by_known, by_teller}
+use Rattle.posting_rules.proofs.Verdicts.{by_case}
 use Rattle.posting_rules.specs.believed.Changes.{rows_put, new_teller, new_account, with_branch_balance}
 use Rattle.posting_rules.specs.believed.Changes.{with_teller_balance, with_account_balance, with_branch, with_history}
 use Rattle.posting_rules.specs.believed.Changes.{with_floor, floor_put, tables_moved, with_tellers, with_accounts}
@@ -58,27 +58,20 @@ there_unmapped f None h = absurd cc
 -- they are there where a request is posted
 pub posted_rows : (t : Tables) (r : RequestFields) (a te b : ℤ) → case_of (found_in t r) r ≡ Posted a te b
     → HasRowsOf t r
-unfolding case_of
 posted_rows t r a te b =
-    let f = found_in t r in
     let its_teller = row_at teller_key t.tellers r.teller in
     let its_branch = row_at branch_key t.branches (branch_of_teller r.teller) in
-    let P = λ (v : Verdict). v ≡ Posted a te b → HasRowsOf t r in
-    by_teller P f.teller f r (λ e. absurd cc) (λ z tellers.
-    by_known P f.kept f r z.0 z.1 (λ e. absurd cc) (λ reply e. absurd cc) (λ new.
-    by_new P f r z.0 z.1 (λ e. absurd cc) (λ room e. absurd cc) (λ room its.
-    by_account P f.account f.floor z.0 z.1 r.delta (λ e. absurd cc) (λ e. absurd cc) (λ x accounts above.
-    by_posting P (plus_within x r.delta) (plus_within z.0 r.delta) (plus_within z.1 r.delta) (λ e. absurd cc)
-    (λ u v w eu ev ew e.
+    by_case (λ v. v ≡ Posted a te b → HasRowsOf t r) (found_in t r) r (λ o e. absurd cc) (λ reply e. absurd cc)
+    (λ o kept unposted new room e. absurd cc) (λ u v w h e.
     let two = both_there (option_map balance_of_teller its_teller)
-    (option_map balance_of_branch its_branch) z tellers in
+    (option_map balance_of_branch its_branch) h.tellers h.teller_is in
     record {
-      account = some_mapped balance_of_account (row_at account_key t.accounts r.account) x accounts;
+      account = some_mapped balance_of_account (row_at account_key t.accounts r.account) h.balance h.account_is;
       teller = there_unmapped balance_of_teller its_teller two.0;
-      branch = ap (λ (n : ℕ). is_some (row_at branch_key t.branches n)) its
+      branch = ap (λ (n : ℕ). is_some (row_at branch_key t.branches n)) h.its_branch
           ∙ there_unmapped balance_of_branch its_branch two.1;
-      its_branch = its;
-    })))))
+      its_branch = h.its_branch;
+    })
 
 -- ---- an opening
 

@@ -4,7 +4,7 @@ use Rattle.std.proofs.Common.{None, Result, Ok, Err, refl, subst, arith, lit≤}
 use Rattle.std.specs.{Prelude.pos, Prelude.nat_abs, Prelude.IfSome, Option.option_or}
 use Rattle.std.proofs.lemmas.Bool.{eqb-true}
 use Rattle.posting_rules.specs.{declared.limits.TheConstants.MAX_DECIDED, declared.judgments.Verdict.Verdict}
-use Rattle.posting_rules.specs.{believed.Kept.is_kept_with, believed.Cases.case_of, believed.Cases.plus_within}
+use Rattle.posting_rules.specs.believed.{Cases.case_of, Kept.is_kept_with}
 use Rattle.message_records.specs.declared.limits.TheConstants.{MAX_MOMENT, MAX_BALANCE}
 use Rattle.message_records.specs.{declared.fault.Bad.Bad, Records.IsRequest, believed.Reading.request_of}
 use Rattle.message_records.specs.believed.Records.{RequestFields}
@@ -12,7 +12,7 @@ use Rattle.message_records.proofs.Requests.{read_in_range}
 use Rattle.posting_rules.specs.declared.judgments.Verdict.TheVariants.{Unkept, Again, Refused, Posted}
 use Rattle.posting_rules.specs.believed.Commands.{Command, Open, Post, IsCommand, AreCommands, opened, Terms}
 use Rattle.posting_rules.specs.believed.Entries.{DecidedRequest, facts, with_verdict, with_record, decided}
-use Rattle.posting_rules.proofs.Verdicts.{IsVerdict, verdict_is, by_teller, by_known, by_new, by_account, by_posting}
+use Rattle.posting_rules.proofs.Verdicts.{IsVerdict, by_case, verdict_is}
 
 -- ---- what is open
 
@@ -60,16 +60,9 @@ IsKeepable v = Unit {0}
 
 keepable : (opened : ℕ → Option Terms) (es : List DecidedRequest) (r : RequestFields)
     → IsKeepable (case_of (facts opened es r) r)
-unfolding case_of
 keepable opened es r =
-    let f = facts opened es r in
-    let P = λ (v : Verdict). IsKeepable v in
-    by_teller P f.teller f r tt (λ z tellers.
-    by_known P f.kept f r z.0 z.1 tt (λ a. tt) (λ new.
-    by_new P f r z.0 z.1 tt (λ room. refl) (λ room its.
-    by_account P f.account f.floor z.0 z.1 r.delta refl refl (λ a accounts above.
-    by_posting P (plus_within a r.delta) (plus_within z.0 r.delta) (plus_within z.1 r.delta) refl
-    (λ x y w ex ey ew. tt)))))
+    by_case (λ v. IsKeepable v) (facts opened es r) r (λ o. tt) (λ a. tt) (λ o kept unposted new room. kept)
+    (λ x y w h. tt)
 
 sound_verdict : (opened : ℕ → Option Terms) (es : List DecidedRequest) (m : ℕ) (r : RequestFields) (v : Verdict)
     → IsVerdict opened es r v → IsKeepable v → IsRequest r → m ≤ MAX_MOMENT → AreSound es

@@ -1,10 +1,11 @@
 -- What a verdict says of what was known.
 use Rattle.std.proofs.Common.{◌≡◌, ℕ, ◌<◌, ◌≤◌, Bool, true, false, cond, eqb, leb, List, length, Option, Some, None}
 use Rattle.std.proofs.Common.{refl, sym, ap, subst, arith, inl, inr}
-use Rattle.std.specs.Prelude.{ℤ, ◌+ℤ◌, ◌≤ℤ◌, nat_abs, IfSome}
+use Rattle.std.specs.Prelude.{ℤ, pos, ◌+ℤ◌, ◌≤ℤ◌, nat_abs, IfSome}
 use Rattle.std.proofs.lemmas.{Bool.eqb-true, Bool.leb-true, Bool.leb-false, Int.ints}
 use Rattle.posting_rules.specs.{declared.limits.TheConstants.MAX_DECIDED, declared.judgments.Found.Found}
 use Rattle.posting_rules.specs.{declared.judgments.Verdict.Verdict, believed.Kept.KeptFields}
+use Rattle.posting_rules.specs.believed.Kept.{is_kept_with}
 use Rattle.message_records.specs.declared.{limits.TheConstants.MAX_BALANCE, records.Outcome.Outcome}
 use Rattle.message_records.specs.declared.records.Outcome.TheVariants as outcome
 use Rattle.message_records.specs.believed.{Outcomes.has_balance, Records.RequestFields, Records.ReplyFields}
@@ -109,34 +110,70 @@ module _ (P : Verdict → Type 0) where
   by_teller None f r closed some = closed
   by_teller (Some z) f r closed some = some z refl
 
+-- what was found where a request is posted
+pub record IsFoundPosted (f : Found) (r : RequestFields) (account teller branch : ℤ) : Type 0 where
+  pub new : f.kept ≡ None
+  pub room : f.decided < MAX_DECIDED
+  pub its_branch : r.branch ≡ branch_of_teller r.teller
+  pub tellers : ℤ × ℤ
+  pub teller_is : f.teller ≡ Some tellers
+  pub balance : ℤ
+  pub account_is : f.account ≡ Some balance
+  pub above : is_below f.floor (balance +ℤ r.delta) ≡ false
+  pub account_sum : plus_within balance r.delta ≡ Some account
+  pub teller_sum : plus_within tellers.0 r.delta ≡ Some teller
+  pub branch_sum : plus_within tellers.1 r.delta ≡ Some branch
+
+-- what is shown of each verdict is shown of that on a request: a refused one is kept, and nothing was
+pub by_case : (P : Verdict → Type 0) (f : Found) (r : RequestFields) → ((o : Outcome) → P (Unkept o))
+    → ((a : ReplyFields) → P (Again a))
+    → ((o : Outcome) → is_kept_with o (pos 0) ≡ true → has_balance o ≡ false → f.kept ≡ None
+    → f.decided < MAX_DECIDED → P (Refused o))
+    → ((x y z : ℤ) → IsFoundPosted f r x y z → P (Posted x y z)) → P (case_of f r)
+unfolding case_of
+by_case P f r unkept again refused posted =
+    by_teller P f.teller f r (unkept outcome.NoTeller) (λ z tellers.
+    by_known P f.kept f r z.0 z.1 (unkept outcome.ReusedNumber) again (λ new.
+    by_new P f r z.0 z.1 (unkept outcome.Full) (refused outcome.WrongBranch refl refl new) (λ room its.
+    by_account P f.account f.floor z.0 z.1 r.delta (refused outcome.NoAccount refl refl new room)
+    (refused outcome.BelowFloor refl refl new room) (λ a account above.
+    by_posting P (plus_within a r.delta) (plus_within z.0 r.delta) (plus_within z.1 r.delta)
+    (refused outcome.OverLimit refl refl new room) (λ x y w ex ey ew. posted x y w (record {
+      new = new;
+      room = room;
+      its_branch = its;
+      tellers = z;
+      teller_is = tellers;
+      balance = a;
+      account_is = account;
+      above = above;
+      account_sum = ex;
+      teller_sum = ey;
+      branch_sum = ew;
+    }))))))
+
 -- what the case of a request says, by what stands before it
 pub verdict_is : (opened : ℕ → Option Terms) (es : List DecidedRequest) (r : RequestFields)
     → IsVerdict opened es r (case_of (facts opened es r) r)
-unfolding case_of
 verdict_is opened es r =
     let f = facts opened es r in
-    let P = λ (v : Verdict). IsVerdict opened es r v in
-    by_teller P f.teller f r tt (λ z tellers.
-    by_known P f.kept f r z.0 z.1 tt (λ a. tt) (λ new.
-    by_new P f r z.0 z.1 tt (λ room. record { new = new; room = room; unposted = refl }) (λ room its.
-    by_account P f.account f.floor z.0 z.1 r.delta (record { new = new; room = room; unposted = refl })
-    (record { new = new; room = room; unposted = refl }) (λ a accounts above.
-    by_posting P (plus_within a r.delta) (plus_within z.0 r.delta) (plus_within z.1 r.delta)
-    (record { new = new; room = room; unposted = refl }) (λ x y w ex ey ew.
+    by_case (IsVerdict opened es r) f r (λ o. tt) (λ a. tt)
+    (λ o kept unposted new room. record { new = new; room = room; unposted = unposted }) (λ x y w h.
+    let z = h.tellers in
     let open_t = when (is_teller_open opened r.teller)
-    (teller_balance es r.teller, branch_balance es (branch_of_teller r.teller)) z tellers in
-    let open_a = when (is_account_open opened r.account) (account_balance es r.account) a accounts in
+    (teller_balance es r.teller, branch_balance es (branch_of_teller r.teller)) z h.teller_is in
+    let open_a = when (is_account_open opened r.account) (account_balance es r.account) h.balance h.account_is in
     record {
-      new = new;
-      room = room;
+      new = h.new;
+      room = h.room;
       teller_open = open_t.0;
-      its_branch = its;
+      its_branch = h.its_branch;
       account_open = open_a.0;
-      account_is = rw open_a.1 (plus_is a r.delta x ex);
-      above = subst (λ (z : ℤ). IfSome f.floor (λ floor. floor ≤ℤ z)) (sym (plus_is a r.delta x ex).sum)
-          (is_above f.floor (a +ℤ r.delta) above);
+      account_is = rw open_a.1 (plus_is h.balance r.delta x h.account_sum);
+      above = subst (λ (z : ℤ). IfSome f.floor (λ floor. floor ≤ℤ z))
+          (sym (plus_is h.balance r.delta x h.account_sum).sum) (is_above f.floor (h.balance +ℤ r.delta) h.above);
       teller_is = let e : teller_balance es r.teller ≡ z.0 = ap (λ (v : ℤ × ℤ). v.0) open_t.1 in rw e
-          (plus_is z.0 r.delta y ey);
+          (plus_is z.0 r.delta y h.teller_sum);
       branch_is = let e : branch_balance es (branch_of_teller r.teller) ≡ z.1 = ap
-          (λ (v : ℤ × ℤ). v.1) open_t.1 in rw e (plus_is z.1 r.delta w ew);
-    })))))
+          (λ (v : ℤ × ℤ). v.1) open_t.1 in rw e (plus_is z.1 r.delta w h.branch_sum);
+    })
