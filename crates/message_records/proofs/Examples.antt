@@ -1,5 +1,5 @@
 -- Two requests and two replies, worked out to the byte.
-use Rattle.std.specs.Prelude.{◌≡◌, ℕ, pos, List, ◌∷◌, ◌++◌, take, drop, Some, None, Ok, Err, refl, codes, replicate}
+use Rattle.std.specs.Prelude.{◌≡◌, ℕ, ℤ, pos, List, ◌∷◌, ◌++◌, take, drop, Some, None, Ok, Err, refl, codes, replicate}
 use Rattle.message_records.specs.declared.fault.Bad.TheVariants as bad
 use Rattle.message_records.specs.declared.records.Outcome.TheVariants.{Posted, Malformed}
 use Rattle.message_records.specs.believed.Records.{RequestFields, ReplyFields, referenced}
@@ -7,9 +7,20 @@ use Rattle.message_records.specs.believed.Spelling.{digits, fields_spelling, req
 use Rattle.message_records.specs.believed.Reading.{fields_of, plain_request_of, referenced_request_of, request_of}
 use Rattle.message_records.specs.Reading.{no_fields_of, reply_of}
 
+-- account, teller, branch, number and amount
+abbrev pub plain_request : ℕ → ℕ → ℕ → ℕ → ℤ → RequestFields
+plain_request account teller branch number delta = record {
+  account = account;
+  teller = teller;
+  branch = branch;
+  number = number;
+  delta = delta;
+  reference = None;
+}
+
 -- five dollars to account 1, from teller 1 of branch 1, under the number 1
 deposit : RequestFields
-deposit = record { account = 1; teller = 1; branch = 1; number = 1; delta = pos 500; reference = None }
+deposit = plain_request 1 1 1 1 (pos 500)
 
 deposit_bytes : List ℕ
 deposit_bytes = codes "DC01000000000001000000010000010000000001+0000000500" ++ replicate 49 32

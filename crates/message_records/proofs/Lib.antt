@@ -1,5 +1,5 @@
 -- Lemmas on the spellings, from digits up to whole records, and worked examples.
-mod Examples
+pub mod Examples
 pub mod Digits
 pub mod Amounts
 pub mod Pieces

@@ -4,6 +4,7 @@ use Rattle.message_records.specs.declared.{fault.Bad.Bad, records.Outcome.Outcom
 use Rattle.message_records.specs.declared.records.Outcome.TheVariants.{Posted, ReusedNumber, NoAccount, BelowFloor}
 use Rattle.message_records.specs.declared.records.Outcome.TheVariants.{WrongBranch}
 use Rattle.message_records.specs.believed.Records.{RequestFields, ReplyFields, referenced}
+use Rattle.message_records.proofs.Examples.{plain_request}
 use Rattle.posting_rules.specs.believed.{Cases.case_of, Commands.opened_with}
 use Rattle.posting_rules.specs.believed.Tables.{Tables, branch_row_of, teller_row_of, account_row_of, floor_row_of}
 use Rattle.posting_rules.specs.believed.Tables.{reference_row_of}
@@ -12,14 +13,7 @@ use Rattle.posting_batch.specs.{Judging.overlay_with_all, Judging.replies_over, 
 
 -- account, teller, branch, number and amount
 request : ℕ → ℕ → ℕ → ℕ → ℤ → Result RequestFields Bad
-request a t b n z = Ok (record {
-  account = a;
-  teller = t;
-  branch = b;
-  number = n;
-  delta = z;
-  reference = None;
-})
+request a t b n z = Ok (plain_request a t b n z)
 
 -- branch 1 with three accounts and a floor of -1000 cents, and branch 2 with two; of their tellers the first
 bank : Tables

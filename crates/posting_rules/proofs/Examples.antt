@@ -2,6 +2,7 @@
 use Rattle.std.specs.Prelude.{◌≡◌, ℕ, zero, suc, Bool, true, false, List, [], ◌∷◌, ◌++◌, map, pos, negsuc, refl}
 use Rattle.std.specs.Prelude.{codes, replicate, Some, None, ℤ}
 use Rattle.message_records.specs.believed.Records.{RequestFields}
+use Rattle.message_records.proofs.Examples.{plain_request}
 use Rattle.message_records.specs.declared.records.Outcome.TheVariants.{WrongBranch, BelowFloor, OverLimit}
 use Rattle.message_records.specs.believed.Spelling.{digits, fields_spelling, reply_spelling}
 use Rattle.message_records.specs.believed.Reading.{fields_of, plain_request_of, referenced_request_of, request_of}
@@ -198,24 +199,10 @@ balances_at_the_floor = (refl, refl)
 
 -- a request of teller 1 of branch 1 on account 100001, and one of teller 2 on account 1
 on_branch_two : ℕ → ℤ → RequestFields
-on_branch_two number delta = record {
-  account = 100001;
-  teller = 1;
-  branch = 1;
-  number = number;
-  delta = delta;
-  reference = None;
-}
+on_branch_two number delta = plain_request 100001 1 1 number delta
 
 on_branch_one : ℤ → RequestFields
-on_branch_one delta = record {
-  account = 1;
-  teller = 2;
-  branch = 1;
-  number = 1;
-  delta = delta;
-  reference = None;
-}
+on_branch_one delta = plain_request 1 2 1 1 delta
 
 -- so many postings of -9,999,999,999 cents to account 100001, whose branch has no floor
 drained_by : ℕ → List DecidedRequest

@@ -5,7 +5,10 @@ use Rattle.walked_rows.specs.declared.{postings.StoredPosting.StoredPosting, sta
 use Rattle.walked_rows.specs.declared.{requests.StoredRequest.StoredRequest, tellers.StoredTeller.StoredTeller}
 use Rattle.walked_rows.specs.declared.{accounts.StoredAccount.StoredAccount, branches.StoredBranch.StoredBranch}
 use Rattle.report_contents.specs.declared.audit.Audit.{Audit}
-use Rattle.report_contents.specs.{Stored.StoredTables, Audit.audit_of, StatementText.statement_text}
+use Rattle.message_records.proofs.Examples.{plain_request}
+use Rattle.posting_rules.specs.believed.{Entries.posted_entry, Tables.history_row_of}
+use Rattle.report_contents.specs.{Audit.audit_of, Stored.StoredTables, Stored.posting_stored}
+use Rattle.report_contents.specs.StatementText.{statement_text}
 use Rattle.report_contents.specs.AuditText.{audit_text, number_line, branch_line}
 
 teller : ℕ → ℤ → StoredTeller
@@ -19,24 +22,11 @@ branch n accounts balance = record { branch = n; accounts = accounts; balance = 
 
 -- five dollars to account 1, and seven from account 100001
 deposit : StoredPosting
-deposit = record {
-  ordinal = 1;
-  account = pos 1;
-  teller = pos 1;
-  branch = pos 1;
-  delta = pos 500;
-  moment = 1000;
-}
+deposit = posting_stored (history_row_of 1 (posted_entry 1000 (plain_request 1 1 1 1 (pos 500)) (pos 500)))
 
 withdrawal : StoredPosting
-withdrawal = record {
-  ordinal = 2;
-  account = pos 100001;
-  teller = pos 1;
-  branch = pos 1;
-  delta = negsuc 699;
-  moment = 2000;
-}
+withdrawal =
+    posting_stored (history_row_of 2 (posted_entry 2000 (plain_request 100001 1 1 2 (negsuc 699)) (negsuc 699)))
 
 asked : StoredPosting → ℕ → ℤ → StoredRequest
 asked h number balance = record {
