@@ -12,7 +12,7 @@ use Rattle.message_records.specs.declared.limits.TheConstants.{REPLY_BYTES}
 use Rattle.message_records.specs.believed.Records.{RequestFields, ReplyFields, unreferenced}
 use Rattle.message_records.specs.Records.{IsShownRequest, reply_from, agree}
 use Rattle.message_records.specs.Reading.{shown_request_of, balance_of, reply_of}
-use Rattle.message_records.proofs.{Pieces.field_length, References.unreferenced_same, ReadReplies.shown_takes}
+use Rattle.message_records.proofs.{Pieces.field_length, ReadReplies.shown_takes}
 
 -- the outcome that the bytes name
 abbrev pub outcome_in : List ℕ → Option Outcome
@@ -105,7 +105,7 @@ same_agree false b e = rw (← e) refl
 -- what a reply shows has no reference
 shown_same : (q : Option RequestFields) → IfSome q IsShownRequest → option_map unreferenced q ≡ q
 shown_same None h = refl
-shown_same (Some r) h = ap Some (unreferenced_same r h.1)
+shown_same (Some r) h = ap Some h.1
 
 pub parts_found : (bytes name : List ℕ) (o : Outcome) (q : Option RequestFields) (b : Option ℤ)
     (made : Option ReplyFields)

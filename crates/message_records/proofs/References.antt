@@ -5,7 +5,7 @@ use Rattle.std.proofs.lemmas.Bool.{and_parts, eqb-true}
 use Rattle.message_records.specs.declared.limits.TheConstants.{REFERENCE_BYTES}
 use Rattle.message_records.specs.believed.Records.{RequestFields, is_printable}
 use Rattle.message_records.specs.Records.{IsReference}
-use Rattle.message_records.specs.Records.{IsRequest, IsShownRequest}
+use Rattle.message_records.specs.Records.{IsRequest}
 use Rattle.message_records.specs.believed.Records.{is_reference, reference_from, unreferenced, referenced}
 use Rattle.message_records.proofs.Digits.{chosen}
 
@@ -43,10 +43,6 @@ in_range r h is = record {
   delta = h.delta;
   reference = is;
 }
-
--- a request that has no reference is as a reply shows it
-pub is_shown : (r : RequestFields) → IsRequest (unreferenced r) → r.reference ≡ None → IsShownRequest r
-is_shown r h none = (in_range r h (subst (λ (q : Option (List ℕ)). IfSome q IsReference) (sym none) tt), none)
 
 -- the request with what may be a reference in the place of its own
 abbrev with_reference : RequestFields → Option (List ℕ) → RequestFields

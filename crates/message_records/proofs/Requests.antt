@@ -125,7 +125,7 @@ plain_takes r bytes len e =
     (replicate 49 32) taken.0 from_filler in
     let from_tag = field_joined 0 4 bytes (codes "DC01") _ tag.0 from_fields in
     subst (λ (y : RequestFields). (bytes ≡ request_spelling y) × IsRequest y) r-is
-    (from_tag ∙ sym (spelled fields.0 None taken.1.1), taken.1.0)
+    (from_tag ∙ sym (spelled fields.0 None (ap (λ y. y.reference) (sym taken.1.1))), taken.1.0)
 
 -- the reference is none of the fields
 fields_alike : (r : RequestFields) (text : List ℕ) → fields_spelling (referenced text r) ≡ fields_spelling r
@@ -155,8 +155,7 @@ referenced_takes r bytes len e =
     let from_fields = field_joined 4 47 bytes (fields_spelling made) (filled 49 text)
     (taken.0 ∙ sym (fields_alike fields.0 text)) from_reference in
     let from_tag = field_joined 0 4 bytes (codes "DC02") _ tag.0 from_fields in
-    let bare : IsRequest (unreferenced made) = subst IsRequest (sym (unreferenced_same fields.0 taken.1.1))
-    taken.1.0 in
+    let bare : IsRequest (unreferenced made) = subst IsRequest (sym taken.1.1) taken.1.0 in
     subst (λ (y : RequestFields). (bytes ≡ request_spelling y) × IsRequest y) r-is
     (from_tag ∙ sym (spelled made (Some text) refl), in_range made bare read.1)
 

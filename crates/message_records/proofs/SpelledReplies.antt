@@ -14,7 +14,7 @@ use Rattle.message_records.specs.Reading.{shown_in_reply, no_fields_of, shown_re
 use Rattle.message_records.specs.Reading.{reply_of}
 use Rattle.message_records.proofs.{Digits.length-digits, Digits.number_of-digits, Amounts.length-signed}
 use Rattle.message_records.proofs.{Amounts.signed_again, Pieces.field_next, Pieces.last_field, Pieces.text_again}
-use Rattle.message_records.proofs.{References.unreferenced_same, Fields.length-fields, Fields.fields_again}
+use Rattle.message_records.proofs.Fields.{length-fields, fields_again}
 
 -- ---- outcomes
 
@@ -51,7 +51,7 @@ shown_again Malformed None bytes s h e = ap no_fields_of e ∙ no_fields_again
 shown_again Malformed (Some r) bytes s h e = absurd cc
 shown_again _ None bytes s h e = absurd cc
 shown_again _ (Some r) bytes s h e = ap shown_in_reply
-    (fields_again r bytes h.0 e ∙ ap Ok (unreferenced_same r h.1))
+    (fields_again r bytes h.0 e ∙ ap Ok h.1)
 
 -- the balance of a refused request is zero
 pub zero_balance : signed 12 (pos 0) ≡ 43 ∷ replicate 12 48

@@ -40,7 +40,7 @@ request_from account teller branch number delta reference =
 
 -- a request in its ranges, as a reply shows it
 abbrev pub IsShownRequest : RequestFields → Type 0
-IsShownRequest r = IsRequest r × (r.reference ≡ None)
+IsShownRequest r = IsRequest r × (unreferenced r ≡ r)
 
 -- it shows a request and a balance just where its outcome has them, each in its range
 pub record IsReply (r : ReplyFields) : Type 0 where

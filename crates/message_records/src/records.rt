@@ -257,10 +257,10 @@ pub struct Reply {
 }
 
 impl Model for Reply {
-    ghost use Rattle.std.specs.Prelude.{◌≡◌, is_some, IfSome, None};
+    ghost use Rattle.std.specs.Prelude.{◌≡◌, is_some, IfSome};
     ghost use Rattle.message_records.specs.believed.Outcomes.{has_balance};
     ghost use Rattle.message_records.specs.Outcomes.{has_request};
-    ghost use Rattle.message_records.specs.believed.Records.{ReplyFields};
+    ghost use Rattle.message_records.specs.believed.Records.{ReplyFields, unreferenced};
 
     ghost Value = { ReplyFields };
 
@@ -268,13 +268,13 @@ impl Model for Reply {
 
     ghost invariant = { λ a. (is_some a.request ≡ has_request a.outcome)
         × (is_some a.balance ≡ has_balance a.outcome)
-        × IfSome a.request (λ r. r.reference ≡ None) };
+        × IfSome a.request (λ r. unreferenced r ≡ r) };
 
     ghost inverse = { λ r. record { outcome = r.outcome; request = r.request; balance = r.balance } };
 }
 
 impl Reply {
-    ghost use Rattle.std.specs.Prelude.{is_some, None};
+    ghost use Rattle.std.specs.Prelude.{is_some};
     ghost use Rattle.message_records.specs.believed.Outcomes.{has_balance};
     ghost use Rattle.message_records.specs.Outcomes.{has_request};
     ghost use Rattle.message_records.specs.Records.{reply_from};
@@ -323,7 +323,7 @@ impl Reply {
     pub(crate) fn shown(&self) -> (Option<Request>, Option<Cents>)
         ensures request { result.0 ≡ self.now.request }
         ensures shows_request { is_some self.now.request ≡ has_request self.now.outcome }
-        ensures unreferenced { IfSome self.now.request (λ r. r.reference ≡ None) }
+        ensures unreferenced { IfSome self.now.request (λ r. unreferenced r ≡ r) }
         ensures balance { result.1 ≡ self.now.balance }
         ensures shows_balance { is_some self.now.balance ≡ has_balance self.now.outcome }
     {

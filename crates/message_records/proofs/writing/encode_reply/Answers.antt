@@ -6,7 +6,7 @@ use Rattle.message_records.specs.{believed.Outcomes.name_of}
 use Rattle.message_records.specs.believed.Records.{RequestFields, unreferenced}
 use Rattle.message_records.specs.Records.{IsRequest, IsShownRequest, IsReply}
 use Rattle.message_records.specs.believed.Spelling.{signed, no_fields, fields_spelling}
-use Rattle.message_records.proofs.{Composed.reply_put, References.is_shown, SpelledReplies.reply_again}
+use Rattle.message_records.proofs.{Composed.reply_put, SpelledReplies.reply_again}
 use Rattle.message_records.proofs.writing.encode_reply.Goals as goal
 
 pub returns-clause-spelling : goal.returns-clause-spelling
@@ -32,10 +32,10 @@ returns-clause-spelling c =
 abbrev InFields : RequestFields → Type 0
 InFields r = IsRequest (unreferenced r)
 
-all_shown : (q : Option RequestFields) → IfSome q InFields → IfSome q (λ r. r.reference ≡ None)
+all_shown : (q : Option RequestFields) → IfSome q InFields → IfSome q (λ r. unreferenced r ≡ r)
     → IfSome q IsShownRequest
-all_shown None h none = tt
-all_shown (Some r) h none = is_shown r h none
+all_shown None h same = tt
+all_shown (Some r) h same = (subst IsRequest same h, same)
 
 pub returns-clause-read_again : goal.returns-clause-read_again
 returns-clause-read_again c =
