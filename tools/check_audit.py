@@ -16,6 +16,8 @@ import subprocess
 import sys
 import tempfile
 
+import replay
+
 HERE = os.path.dirname(os.path.dirname(os.path.abspath(__file__)))
 BANK = os.path.join(HERE, "crates", "bank", "out", "bank")
 
@@ -131,7 +133,7 @@ def set_back(file, version):
     conn.commit()
     conn.close()
     told = subprocess.run([BANK, "migrate", file], capture_output=True, text=True, check=False)
-    if (told.stdout, told.stderr, told.returncode) != (f"migrated {version} to 3\n", "", 0):
+    if (told.stdout, told.stderr, told.returncode) != (f"migrated {version} to {replay.VERSION}\n", "", 0):
         sys.exit(f"check_audit: status {told.returncode} of migrate\n{told.stderr}{told.stdout}")
 
 

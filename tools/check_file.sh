@@ -45,6 +45,7 @@ sqlite3 -header "$file" \
     "SELECT * FROM request_reference" \
     "SELECT title FROM note"
 is_sound "$file"
+present=$("$bank" --version | sed 's/.*version \([0-9]*\).*/\1/')
 # A version, and how many of its branches have a floor.
 for pair in "1 0" "2 1"; do
     old=$work/version_${pair% *}.db
@@ -53,7 +54,7 @@ for pair in "1 0" "2 1"; do
     rows "$old" >"$work/before"
     "$bank" migrate "$old"
     rows "$old" | cmp - "$work/before"
-    test "$(sqlite3 -separator ' ' "$old" "SELECT version, (SELECT count(*) FROM branch_floor), (SELECT count(*) FROM request_reference) FROM meta")" = "3 ${pair#* } 0" ||
+    test "$(sqlite3 -separator ' ' "$old" "SELECT version, (SELECT count(*) FROM branch_floor), (SELECT count(*) FROM request_reference) FROM meta")" = "$present ${pair#* } 0" ||
         { echo "check_file: version ${pair% *} isn't migrated" >&2; exit 1; }
     is_sound "$old"
 done

@@ -11,18 +11,20 @@ import hashlib
 import sqlite3
 import sys
 
+VERSION = 3
 LIMIT = 999_999_999_999
 POSTED, WRONG_BRANCH, NO_ACCOUNT, OVER_LIMIT, BELOW_FLOOR = 0, 12, 13, 14, 17
 NAMES = {0: "POSTED", 12: "WRONG BRANCH", 13: "NO ACCOUNT", 14: "OVER LIMIT", 17: "BELOW FLOOR"}
 
-# Each table in the order in which they are compared: the word for its rows, its greatest key, and its columns.
+# Each table in the order in which they are compared: the word for its rows, its greatest key, and its columns, as a
+# file has them.
 TABLES = {
     "meta": ("meta", 1, "id", "version", "decided"),
     "branch": ("branch", 9_999, "bid", "accounts", "balance"),
     "branch_floor": ("floor", 9_999, "bid", "lowest"),
     "request": ("request", 10**12, "ordinal", "tid", "number", "aid", "bid", "delta", "outcome", "balance"),
     "request_reference": ("reference", 10**12, "ordinal", "reference"),
-    "history": ("posting", 10**12, "ordinal", "aid", "tid", "bid", "moment", "delta"),
+    "history": ("posting", 10**12, "ordinal", "aid", "tid", "bid", "delta", "moment"),
     "account": ("account", 999_900_000, "aid", "balance"),
     "teller": ("teller", 99_990, "tid", "balance"),
 }
@@ -71,10 +73,10 @@ class Book:
         if outcome == POSTED:
             self.rows["account"][aid], self.rows["teller"][tid] = (after[0],), (after[1],)
             self.rows["branch"][bid] = (self.rows["branch"][bid][0], after[2])
-            self.rows["history"][self.decided] = (aid, tid, bid, moment, delta)
+            self.rows["history"][self.decided] = (aid, tid, bid, delta, moment)
 
     def tables(self):
-        return self.rows | {"meta": {1: (3, self.decided)}}
+        return self.rows | {"meta": {1: (VERSION, self.decided)}}
 
 
 def branch_of_teller(tid):
@@ -86,7 +88,7 @@ def branch_of_account(aid):
 
 
 def moment_of(posting):
-    return posting[3] if posting else 0
+    return posting[4] if posting else 0
 
 
 def is_request(tid, number, aid, bid, delta):

@@ -17,19 +17,10 @@ import driver_vectors
 import replay as rules
 
 TRIALS = Path(__file__).resolve().parent.parent / "crates" / "bank_trials"
-SCHEMA = """
-CREATE TABLE meta (id INTEGER PRIMARY KEY CHECK (id = 1), version INTEGER NOT NULL, decided INTEGER NOT NULL) STRICT;
-CREATE TABLE branch (bid INTEGER PRIMARY KEY, accounts INTEGER NOT NULL, balance INTEGER NOT NULL) STRICT;
-CREATE TABLE teller (tid INTEGER PRIMARY KEY, balance INTEGER NOT NULL) STRICT;
-CREATE TABLE account (aid INTEGER PRIMARY KEY, balance INTEGER NOT NULL) STRICT;
-CREATE TABLE history (ordinal INTEGER PRIMARY KEY, aid INTEGER NOT NULL, tid INTEGER NOT NULL, bid INTEGER NOT NULL,
-    delta INTEGER NOT NULL, moment INTEGER NOT NULL) STRICT;
-CREATE TABLE request (ordinal INTEGER PRIMARY KEY, tid INTEGER NOT NULL, number INTEGER NOT NULL, aid INTEGER NOT NULL,
-    bid INTEGER NOT NULL, delta INTEGER NOT NULL, outcome INTEGER NOT NULL, balance INTEGER NOT NULL,
-    UNIQUE (tid, number)) STRICT;
-CREATE TABLE branch_floor (bid INTEGER PRIMARY KEY, lowest INTEGER NOT NULL) STRICT;
-CREATE TABLE request_reference (ordinal INTEGER PRIMARY KEY, reference TEXT NOT NULL) STRICT;
-"""
+SCHEMA = ";".join(
+    f"CREATE TABLE {table} ({key} INTEGER PRIMARY KEY, "
+    + ", ".join(f"{column} {'TEXT' if column == 'reference' else 'INTEGER'} NOT NULL" for column in columns) + ") STRICT"
+    for table, (_, _, key, *columns) in rules.TABLES.items())
 RECORD = re.compile(rb"DC0(?:1|2)(\d{12})(\d{8})(\d{6})(\d{10})([+-]\d{10})", re.ASCII)
 
 
