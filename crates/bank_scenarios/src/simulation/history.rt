@@ -4,10 +4,10 @@ use crate::answers::is_floor;
 use crate::draws::{Draws, draw_group};
 use anyhow::{Context, Result, ensure};
 use message_records::{
-    Account, Branch, Cents, Moment, Outcome, REFERENCE_BYTES, REPLY_BYTES, REQUEST_BYTES, Reply,
+    Account, Branch, Cents, Moment, REFERENCE_BYTES, REPLY_BYTES, REQUEST_BYTES, Reply,
     decode_reply, decode_request,
 };
-use posting_core::{Counter, PlainBank};
+use posting_core::{Counter, Decision, PlainBank};
 use std::alloc::Global;
 
 /// What a bank is given.
@@ -96,30 +96,25 @@ fn reference_in(record: &[u8; REQUEST_BYTES]) -> Option<[u8; REFERENCE_BYTES]> {
     Some(*reference.text())
 }
 
-// A reply to a decided request, as the tables keep it.
+// A reply to a decided request, as the tables keep it; none to one that isn't kept.
 fn entry_of(
     reply: &Reply,
     reference: Option<[u8; REFERENCE_BYTES]>,
     ordinal: i64,
 ) -> Option<Entry> {
     let request = reply.request()?;
-    let outcome = match reply.outcome() {
-        Outcome::Posted => 0,
-        Outcome::WrongBranch => 12,
-        Outcome::NoAccount => 13,
-        Outcome::OverLimit => 14,
-        Outcome::BelowFloor => 17,
-        _ => return None,
-    };
+    let (account, branch, delta) = (request.account(), request.branch(), request.delta());
+    let balance = reply.balance().unwrap_or(Cents::zero());
+    let decision = Decision::new(account, branch, delta, reply.outcome(), balance)?;
     Some(Entry {
         ordinal,
-        account: signed(request.account().get()),
+        account: signed(account.get()),
         teller: signed(request.teller().get()),
-        branch: signed(request.branch().get()),
+        branch: signed(branch.get()),
         number: signed(request.number().get()),
-        delta: request.delta().get(),
-        outcome,
-        balance: reply.balance().map_or(0, |balance| balance.get()),
+        delta: delta.get(),
+        outcome: i64::from(decision.outcome().code()),
+        balance: balance.get(),
         reference,
     })
 }
