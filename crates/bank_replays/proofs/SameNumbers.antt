@@ -1,6 +1,12 @@
 -- Rows whose numbers are the same, one by one.
 use Rattle.std.proofs.Common.{◌≡◌, ◌∙◌, ◌&&◌, ℕ, ℤ, Bool, pos, true, List, [], ◌∷◌, map, eqb, int_eq, ap, refl, arith}
 use Rattle.std.proofs.lemmas.{Bool.and_parts, Bool.eqb-true, Int.ints}
+use Rattle.sql_meanings.specs.believed.Entries.{Entry}
+
+-- the row that these numbers are, the key first
+abbrev pub entry_of : List ℤ → Entry
+entry_of [] = record { key = pos 0; values = []; texts = [] }
+entry_of (k ∷ values) = record { key = k; values = values; texts = [] }
 
 -- what two rows have in one column
 pub data Two : Type 0 where

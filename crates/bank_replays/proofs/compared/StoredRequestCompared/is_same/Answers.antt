@@ -1,7 +1,6 @@
 -- The two are one row.
 use Rattle.std.proofs.Common.{[], ◌∷◌, sym, ap, ◌∙◌}
-use Rattle.walked_rows.specs.StepOutcomes.{entry_of}
-use Rattle.bank_replays.proofs.SameNumbers.{number, same_numbers, whole}
+use Rattle.bank_replays.proofs.SameNumbers.{entry_of, number, same_numbers, whole}
 use Rattle.bank_replays.proofs.compared.StoredRequestCompared.is_same.Goals as goal
 
 pub returns : goal.returns
