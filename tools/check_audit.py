@@ -1,5 +1,5 @@
 #!/usr/bin/env python3
-"""Compares the audits of the built program with sums that the C library of SQLite adds up by SQL.
+"""Compares the audits of the built program with those of tools/oracle.py, by SQL.
 
 Each of 20 files is a bank that the program made, loaded and drove from a seed. A third of them are then set back to
 version 1 or 2 by SQL, and migrated. Half are changed by SQL, in ways that are drawn from the seed too: balances, deltas,
@@ -12,54 +12,11 @@ gate.
 import os
 import random
 import sqlite3
-import subprocess
 import sys
 import tempfile
 
-import replay
-
-HERE = os.path.dirname(os.path.dirname(os.path.abspath(__file__)))
-BANK = os.path.join(HERE, "crates", "bank", "out", "bank")
-
-# What the program prints of any bank, by SQL alone.
-NUMBERS = [
-    ("branches", "SELECT count(*) FROM branch"),
-    ("tellers", "SELECT count(*) FROM teller"),
-    ("accounts", "SELECT count(*) FROM account"),
-    ("requests", "SELECT count(*) FROM request"),
-    ("history", "SELECT count(*) FROM history"),
-    ("account sum", "SELECT ifnull(sum(balance), 0) FROM account"),
-    ("teller sum", "SELECT ifnull(sum(balance), 0) FROM teller"),
-    ("branch sum", "SELECT ifnull(sum(balance), 0) FROM branch"),
-    ("history sum", "SELECT ifnull(sum(delta), 0) FROM history"),
-    ("unmatched", """
-        SELECT (SELECT count(*) FROM request r WHERE r.outcome = 0 AND NOT EXISTS (
-                    SELECT 1 FROM history h WHERE h.ordinal = r.ordinal AND h.aid = r.aid AND h.tid = r.tid
-                    AND h.bid = r.bid AND h.delta = r.delta))
-             + (SELECT count(*) FROM history h WHERE NOT EXISTS (
-                    SELECT 1 FROM request r WHERE r.ordinal = h.ordinal AND r.outcome = 0))"""),
-]
-
-BRANCHES = """
-    SELECT bid, tellers, balance FROM (
-        SELECT bid, balance, (SELECT ifnull(sum(t.balance), 0) FROM teller t
-                              WHERE t.tid BETWEEN 10 * (bid - 1) + 1 AND 10 * bid) AS tellers FROM branch)
-    WHERE tellers <> balance ORDER BY bid"""
-
-
-def by_sql(file):
-    """The text of the audit and the program's status, as SQL gives them."""
-    conn = sqlite3.connect(file)
-    numbers = {name: conn.execute(text).fetchone()[0] for name, text in NUMBERS}
-    lines = [f"{name:<12}{numbers[name]:>20}" for name, _ in NUMBERS]
-    differ = conn.execute(BRANCHES).fetchall()
-    conn.close()
-    lines += [f"branch {bid} tellers {tellers} balance {balance}" for bid, tellers, balance in differ]
-    sums = {numbers[name] for name in ("account sum", "teller sum", "branch sum", "history sum")}
-    sound = len(sums) == 1 and not differ and numbers["unmatched"] == 0
-    lines.append("CONSISTENT" if sound else "INCONSISTENT")
-    return "".join(line + "\n" for line in lines), 0 if sound else 5
-
+import oracle
+from serve_client import done, need_program, run
 
 def one(conn, draw, text):
     """One of the keys that a query gives, none where it gives none."""
@@ -116,11 +73,11 @@ def make(file, plan, draw, seed):
         out.write("branch,accounts,floor\n")
         for branch in branches:
             out.write(f"{branch},{draw.randint(1, 200)},{draw.choice(['', 0, -draw.randint(1, 10**6)])}\n")
-    subprocess.run([BANK, "init", file], check=True, stdout=subprocess.DEVNULL)
-    subprocess.run([BANK, "load", file, plan], check=True, stdout=subprocess.DEVNULL)
+    done("init", file)
+    done("load", file, plan)
     if branches:
         count = str(draw.choice([1, 30, 64, 65, 500]))
-        subprocess.run([BANK, "drive", file, "--seed", str(seed), "--count", count], check=True, stdout=subprocess.DEVNULL)
+        done("drive", file, "--seed", str(seed), "--count", count)
 
 
 def set_back(file, version):
@@ -132,15 +89,13 @@ def set_back(file, version):
     conn.execute("UPDATE meta SET version = ?", (version,))
     conn.commit()
     conn.close()
-    told = subprocess.run([BANK, "migrate", file], capture_output=True, text=True, check=False)
-    if (told.stdout, told.stderr, told.returncode) != (f"migrated {version} to {replay.VERSION}\n", "", 0):
-        sys.exit(f"check_audit: status {told.returncode} of migrate\n{told.stderr}{told.stdout}")
+    if done("migrate", file) != f"migrated {version} to {oracle.VERSION}\n".encode():
+        sys.exit(f"check_audit: migrate of version {version}")
 
 
 def main():
     """Makes the files and compares."""
-    if not os.access(BANK, os.X_OK):
-        sys.exit("check_audit: build the program first: (cd crates/bank && rt run -- --help)")
+    need_program()
     files = int(sys.argv[1]) if len(sys.argv) > 1 else 20
     sound = 0
     with tempfile.TemporaryDirectory() as work:
@@ -152,11 +107,10 @@ def main():
                 set_back(file, 1 + seed % 2)
             if seed % 2 == 1:
                 damage(file, draw)
-            told = subprocess.run([BANK, "audit", file], capture_output=True, text=True, check=False)
-            text, status = by_sql(file)
-            if (told.stdout, told.stderr, told.returncode) != (text, "", status):
-                sys.exit(f"check_audit: seed {seed}: status {told.returncode}, not {status}\n"
-                         f"{told.stderr}{told.stdout}by SQL:\n{text}")
+            text, status = oracle.audit(file)
+            told = run("audit", file)
+            if told != (text.encode(), b"", status):
+                sys.exit(f"check_audit: seed {seed}: {told}, by SQL {status}:\n{text}")
             sound += status == 0
     print(f"check_audit: {files} files, {sound} of them consistent: each audit is that of the SQL")
 

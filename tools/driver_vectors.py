@@ -13,6 +13,8 @@ usage: driver_vectors.py SEED COUNT BRANCH:ACCOUNTS..
 
 import sys
 
+import oracle
+
 MASK32 = 2**32 - 1
 MASK64 = 2**64 - 1
 MULTIPLIER_64 = 6364136223846793005
@@ -112,12 +114,8 @@ def requests(seed, rows):
         yield account, teller, branch, numbers[teller], delta
 
 
-def spelling(account, teller, branch, number, delta):
-    return f"DC01{account:012}{teller:08}{branch:06}{number:010}{delta:+011}" + " " * 49
-
-
 if __name__ == "__main__":
     seed, count = int(sys.argv[1]), int(sys.argv[2])
     rows = [tuple(int(n) for n in row.split(":")) for row in sys.argv[3:]]
     for _, request in zip(range(count), requests(seed, rows)):
-        print(spelling(*request).rstrip(), request)
+        print(oracle.record(*request).decode().rstrip(), request)

@@ -3,8 +3,8 @@
 
     tools/http_model.py [COUNT] [SEED]
 
-The model walks over an input by the rules of the counter over HTTP, with a grammar of request heads of its own and a bank
-of two branches. The program, `http_stdio.rt.in`, is proved and built first, as a crate of its own above copies of those that
+The model walks over an input by a grammar of request heads of its own, and answers by tools/oracle.py, of a bank of two
+branches. The program, `http_stdio.rt.in`, is proved and built first, as a crate of its own above copies of those that
 it uses. All of it stands outside the gate.
 """
 import os
@@ -15,12 +15,13 @@ import sys
 import tempfile
 from concurrent.futures import ThreadPoolExecutor
 
+import oracle
+
 HERE = os.path.dirname(os.path.dirname(os.path.abspath(__file__)))
 BELOW = ["message_records", "posting_rules", "posting_core", "counter_http"]
 
 MAX_HEAD, MAX_FIELDS, MAX_BODY = 8192, 32, 4096
 TOKEN = frozenset(b"!#$%&'*+-.^_`|~0123456789ABCDEFGHIJKLMNOPQRSTUVWXYZabcdefghijklmnopqrstuvwxyz")
-PHRASES = {200: b"OK", 400: b"Bad Request", 404: b"Not Found", 405: b"Method Not Allowed"}
 
 
 # ---- heads
@@ -97,136 +98,27 @@ def asks_to_close(fields):
                for name, value in fields)
 
 
-# ---- the bank
-
-class Bank:
-    """Branch 1 with three accounts and branch 2 with two."""
-
-    LIMIT = 999_999_999_999
-
-    def __init__(self):
-        self.accounts = {1: 3, 2: 2}
-        self.account, self.teller, self.branch, self.kept = {}, {}, {}, {}
-
-    def is_open(self, account):
-        branch, place = (account - 1) // 100_000 + 1, (account - 1) % 100_000 + 1
-        return account >= 1 and place <= self.accounts.get(branch, 0)
-
-    @staticmethod
-    def decode(record):
-        reference = None
-        if record[:4] == b"DC02":
-            reference = record[51:71]
-        if record[:4] not in (b"DC01", b"DC02") or record[40] not in b"+-":
-            return None
-        if reference is not None and any(not 32 <= b <= 126 for b in reference):
-            return None
-        filler = record[51:] if reference is None else record[71:]
-        if filler != b" " * len(filler):
-            return None
-        digits = record[4:40] + record[41:51]
-        if any(not 48 <= b <= 57 for b in digits):
-            return None
-        account, teller, branch, number = (int(record[a:b]) for a, b in ((4, 16), (16, 24), (24, 30), (30, 40)))
-        delta = int(record[40:51])
-        if not (account and teller and branch and number) or (delta == 0 and record[40] == 45):
-            return None
-        return account, teller, branch, number, delta, reference
-
-    def submit(self, record):
-        request = self.decode(record)
-        if request is None:
-            return reply(90, b"MALFORMED", b"0" * 36 + b"+0000000000", 0)
-        account, teller, branch, number, delta, reference = request
-        echo = record[4:51]
-        home = (teller - 1) // 10 + 1
-        if home not in self.accounts:
-            return reply(11, b"NO TELLER", echo, 0)
-        kept = self.kept.get((teller, number))
-        if kept is not None:
-            same = kept[0] == (account, branch, delta, reference)
-            return kept[1] if same else reply(15, b"REUSED NUMBER", echo, 0)
-        answer = self.decide(account, teller, branch, home, delta, echo)
-        self.kept[teller, number] = ((account, branch, delta, reference), answer)
-        return answer
-
-    def decide(self, account, teller, branch, home, delta, echo):
-        if branch != home:
-            return reply(12, b"WRONG BRANCH", echo, 0)
-        if not self.is_open(account):
-            return reply(13, b"NO ACCOUNT", echo, 0)
-        balances = [(self.account, account), (self.teller, teller), (self.branch, branch)]
-        if any(abs(table.get(key, 0) + delta) > self.LIMIT for table, key in balances):
-            return reply(14, b"OVER LIMIT", echo, 0)
-        for table, key in balances:
-            table[key] = table.get(key, 0) + delta
-        return reply(0, b"POSTED", echo, self.account[account])
-
-
-def reply(code, name, echo, balance):
-    sign = b"-" if balance < 0 else b"+"
-    text = b"DR01%02d" % code + echo + sign + b"%012d" % abs(balance) + name.ljust(16)
-    return text.ljust(200)
-
-
 # ---- the walk
-
-def answer(code, media, body, allow=b"", closes=False, shows=True):
-    text = b"HTTP/1.1 %d %s\r\nContent-Type: %s\r\nContent-Length: %d\r\n" % (code, PHRASES[code], media, len(body))
-    if allow:
-        text += b"Allow: " + allow + b"\r\n"
-    if closes:
-        text += b"Connection: close\r\n"
-    return text + b"\r\n" + (body if shows else b"")
-
-
-def bare(code, allow=b""):
-    return code, b"text/plain", b"%d %s\n" % (code, PHRASES[code]), allow
-
-
-def route(bank, method, target, body):
-    path = target.split(b"?")[0]
-    try:
-        path.decode("utf-8")
-    except UnicodeDecodeError:
-        return bare(404)
-    if path == b"/post":
-        if method != b"POST":
-            return bare(405, b"POST")
-        if len(body) != 100:
-            return bare(400)
-        return 200, b"application/octet-stream", bank.submit(body), b""
-    name = path[9:] if path.startswith(b"/account/") else b""
-    is_account = bool(name) and b"/" not in name
-    if path != b"/branches" and not is_account:
-        return bare(404)
-    if method not in (b"GET", b"HEAD"):
-        return bare(405, b"GET, HEAD")
-    if path == b"/branches":
-        lines = [b"%6d %7d %14d\n" % (b, n, bank.branch.get(b, 0)) for b, n in sorted(bank.accounts.items())]
-        return 200, b"text/plain", b"".join(lines), b""
-    if len(name) > 12 or name[:1] == b"0" or any(not 48 <= b <= 57 for b in name) or not bank.is_open(int(name)):
-        return bare(404)
-    return 200, b"text/plain", b"account %s balance %d\n" % (name, bank.account.get(int(name), 0)), b""
-
 
 def walk(data):
     """The answers to an input."""
-    bank, out = Bank(), b""
+    book, out = oracle.Book(), b""
+    book.open(1, 3)
+    book.open(2, 2)
     while data:
         head = head_at(data)
         if head is None:
-            code, media, body, allow = bare(400)
-            return out + answer(code, media, body, allow, True)
+            code, media, body, allow = oracle.bare(400)
+            return out + oracle.answer(code, media, body, allow, True)
         method, target, minor, fields, end = head
         shows = method != b"HEAD"
         length = body_length(fields)
         if length is None or len(data) < end + length:
-            code, media, body, allow = bare(400)
-            return out + answer(code, media, body, allow, True, shows)
+            code, media, body, allow = oracle.bare(400)
+            return out + oracle.answer(code, media, body, allow, True, shows)
         closes = minor == 0 or asks_to_close(fields)
-        code, media, body, allow = route(bank, method, target, data[end:end + length])
-        out += answer(code, media, body, allow, closes, shows)
+        code, media, body, allow = oracle.routed(book, method, target, data[end:end + length])
+        out += oracle.answer(code, media, body, allow, closes, shows)
         if closes:
             return out
         data = data[end + length:]
@@ -240,11 +132,8 @@ def record(draw):
     teller, number = draw.choice([1] * 5 + [2, 11, 20, 21]), draw.choice([1, 1, 2, 3])
     branch = (teller - 1) // 10 + 1 if draw.random() < 0.9 else draw.choice([1, 2, 3])
     delta = draw.choice([500, 500, -700, 0, 9_999_999_999, -9_999_999_999])
-    sign = b"-" if delta < 0 else b"+"
-    text = b"DC01%012d%08d%06d%010d%s%010d" % (account, teller, branch, number, sign, abs(delta))
-    if draw.random() < 0.3:
-        text = b"DC02" + text[4:] + draw.choice([b"RENT MAY", b"RENT JUN", b""])
-    return damaged(draw, text.ljust(100), 0.1)
+    reference = draw.choice(["RENT MAY", "RENT JUN", ""]) if draw.random() < 0.3 else None
+    return damaged(draw, oracle.record(account, teller, branch, number, delta, reference), 0.1)
 
 
 def damaged(draw, text, chance):

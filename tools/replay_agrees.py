@@ -1,5 +1,5 @@
 #!/usr/bin/env python3
-"""Compares the built program's replays, digests, records and plans with those of tools/replay.py, on drawn files.
+"""Compares the built program's replays, digests, records and plans with those of tools/oracle.py, on drawn files.
 
 Each file is a bank of drawn branches, some with floors, some opened between records, with records that are posted and
 refused, some with references and some that come again. A third are then set back to version 1 or 2 by SQL, and
@@ -12,14 +12,11 @@ them, which agrees too and keeps as many requests. It needs the built program, a
 import os
 import random
 import sqlite3
-import subprocess
 import sys
 import tempfile
 
-import replay
-
-HERE = os.path.dirname(os.path.dirname(os.path.abspath(__file__)))
-BANK = os.environ.get("BANK", os.path.join(HERE, "crates", "bank", "out", "bank"))
+import oracle
+from serve_client import done, need_program, run
 
 # Changes by hand: a statement for keys and amounts that are drawn.
 CHANGES = [
@@ -52,19 +49,6 @@ CHANGES = [
 ]
 
 
-def run(*words, data=b""):
-    told = subprocess.run([BANK, *words], input=data, capture_output=True, check=False)
-    return told.stdout, told.stderr, told.returncode
-
-
-def done(*words, data=b""):
-    """The output of a command that has to succeed."""
-    output, faults, status = run(*words, data=data)
-    if status:
-        sys.exit(f"replay_agrees: status {status} of {' '.join(words)}: {faults.decode()}")
-    return output
-
-
 def draw_plan(draw):
     return {bid: (draw.randint(1, 5), draw.choice([None, None, 0, -draw.randint(1, 2000)]))
             for bid in draw.sample([1, 2, 3, 50, 9999], draw.randint(1, 4))}
@@ -87,7 +71,7 @@ def draw_record(draw, plan, sent):
     named = bid + (draw.random() < 0.05)
     delta = draw.choice([draw.randint(-3000, 3000), 0, 9_999_999_999, -9_999_999_999])
     reference = draw.choice([None, None, "RENT", ""])
-    return replay.record_of(replay.fields_of(aid, tid, named, draw.randint(1, 400), delta), reference)
+    return oracle.record(aid, tid, named, draw.randint(1, 400), delta, reference)
 
 
 def make(work, file, draw):
@@ -113,7 +97,7 @@ def by_sql(file, text):
 
 def migrated(file):
     """Sets a bank back to version 2, or to version 1 if it has no floors, and carries it over."""
-    version = 2 if tables_of(file)["branch_floor"] else 1
+    version = 2 if oracle.tables_of(file)["branch_floor"] else 1
     floors = "DROP TABLE branch_floor; " if version == 1 else ""
     by_sql(file, f"{floors}DROP TABLE request_reference; UPDATE meta SET version = {version}")
     done("migrate", file)
@@ -121,19 +105,12 @@ def migrated(file):
 
 def change(file, draw):
     """Changes a bank by hand, in one way or two."""
-    tables = tables_of(file)
+    tables = oracle.tables_of(file)
     keys = {"account": "account", "teller": "teller", "branch": "branch", "ordinal": "request"}
     for _ in range(draw.randint(1, 2)):
         drawn = {name: draw.choice(list(tables[table]) or [1]) for name, table in keys.items()}
-        drawn |= {"amount": draw.choice([1, -1, 100, -5000]), "outcome": draw.choice(list(replay.NAMES))}
+        drawn |= {"amount": draw.choice([1, -1, 100, -5000]), "outcome": draw.choice(oracle.KEPT)}
         by_sql(file, draw.choice(CHANGES).format(**drawn))
-
-
-def tables_of(file):
-    conn = sqlite3.connect(file)
-    tables = replay.tables_of(conn)
-    conn.close()
-    return tables
 
 
 def compare(file, words, lines, status):
@@ -161,8 +138,7 @@ def again(work, file, requests):
 
 
 def main():
-    if not os.access(BANK, os.X_OK):
-        sys.exit("replay_agrees: build the program first: (cd crates/bank && rt run -- --help)")
+    need_program()
     files = int(sys.argv[1]) if len(sys.argv) > 1 else 20
     first = int(sys.argv[2]) if len(sys.argv) > 2 else 0
     agree = 0
@@ -175,17 +151,17 @@ def main():
                 migrated(file)
             if seed % 2 == 1:
                 change(file, draw)
-            tables = tables_of(file)
-            lines, status = replay.replay(tables)
+            tables = oracle.tables_of(file)
+            lines, status = oracle.replay(tables)
             compare(file, ("replay", file), lines, status)
             if status == 0:
                 agree += 1
-                requests = list(replay.requests_of(tables))
+                requests = list(oracle.requests_of(tables))
                 some = draw.randint(0, len(requests))
-                compare(file, ("digest", file, str(some)), replay.digest_lines(requests[:some]), 0)
+                compare(file, ("digest", file, str(some)), oracle.digest_lines(requests[:some]), 0)
                 compare(file, ("digest", file, str(len(requests) + 1)), [f"bank: no request {len(requests) + 1}"], 4)
                 again(work, file, len(requests))
-    print(f"replay_agrees: {files} files, {agree} of them agree: each replay is that of tools/replay.py")
+    print(f"replay_agrees: {files} files, {agree} of them agree: each replay is that of tools/oracle.py")
 
 
 main()

@@ -1,5 +1,5 @@
 #!/usr/bin/env python3
-"""What the scenarios of `bank_trials` have to answer to each step `replay`, made by the rules of tools/replay.py.
+"""What the scenarios of `bank_trials` have to answer to each step `replay`, made by the rules of tools/oracle.py.
 
 It shares no code with the bank: a bank is tables of SQLite's C library. It plays those scenarios of `stdin` that have
 such a step, up to the last one, and prints what `stdout` has to have there, and at each step `number`. With --check it
@@ -14,27 +14,13 @@ import sys
 from pathlib import Path
 
 import driver_vectors
-import replay as rules
+import oracle
 
 TRIALS = Path(__file__).resolve().parent.parent / "crates" / "bank_trials"
 SCHEMA = ";".join(
     f"CREATE TABLE {table} ({key} INTEGER PRIMARY KEY, "
     + ", ".join(f"{column} {'TEXT' if column == 'reference' else 'INTEGER'} NOT NULL" for column in columns) + ") STRICT"
-    for table, (_, _, key, *columns) in rules.TABLES.items())
-RECORD = re.compile(rb"DC0(?:1|2)(\d{12})(\d{8})(\d{6})(\d{10})([+-]\d{10})", re.ASCII)
-
-
-def request_of(record):
-    """The fields and the reference of 100 bytes, none if they are no request."""
-    found = RECORD.match(record)
-    if not found:
-        return None
-    aid, tid, bid, number, delta = map(int, found.groups())
-    is_spelled = found.group(5) != b"-0000000000" and rules.is_request(tid, number, aid, bid, delta)
-    reference, filler = (record[51:71], record[71:]) if record[3:4] == b"2" else (None, record[51:])
-    if not is_spelled or filler.strip(b" ") or reference and not all(32 <= byte <= 126 for byte in reference):
-        return None
-    return (tid, number, aid, bid, delta), reference.decode() if reference is not None else None
+    for table, (_, _, key, *columns) in oracle.TABLES.items())
 
 
 def record_of(text):
@@ -42,7 +28,7 @@ def record_of(text):
     if text.startswith("DC"):
         return text.ljust(100).encode()
     numbers, _, reference = text.partition(" for ")
-    return rules.record_of(rules.fields_of(*map(int, numbers.split())), reference or None)
+    return oracle.record(*map(int, numbers.split()), reference or None)
 
 
 class Draws:
@@ -77,7 +63,7 @@ class Draws:
         place = count if self.below(20) == 0 else self.below(count)
         aid = 100_000 * other + 1 + place
         reference = chr(ord("A") + number % 20) * 20 if number % 3 == 0 else None
-        return rules.record_of(rules.fields_of(aid, tid, bid, number, self.amount()), reference)
+        return oracle.record(aid, tid, bid, number, self.amount(), reference)
 
     def again(self, sent):
         place = self.below(max(len(sent), 1))
@@ -105,11 +91,11 @@ class Bank:
     """A bank of a scenario: what it was given, and its tables once a step has looked at them."""
 
     def __init__(self):
-        self.book, self.changed = rules.Book(), None
+        self.book, self.changed = oracle.Book(), None
 
     def give(self, moment, record):
         assert self.changed is None, "a posting behind SQL"
-        request = request_of(record)
+        request = oracle.request_of(record)
         if request:
             self.book.decide(moment, *request)
 
@@ -129,7 +115,7 @@ class Bank:
     def drive(self, seed, count, group=None):
         plan = [(bid, row[0]) for bid, row in self.book.rows["branch"].items()]
         for place, request in zip(range(count if plan else 0), driver_vectors.requests(seed, plan)):
-            self.give(place // group if group else 0, driver_vectors.spelling(*request).encode())
+            self.give(place // group if group else 0, oracle.record(*request))
 
     def tables(self):
         """Its tables under SQL."""
@@ -138,14 +124,14 @@ class Bank:
         conn = sqlite3.connect(":memory:")
         conn.executescript(SCHEMA)
         for table, rows in self.book.tables().items():
-            columns = rules.TABLES[table][2:]
+            columns = oracle.TABLES[table][2:]
             text = f"INSERT INTO {table} ({', '.join(columns)}) VALUES ({', '.join('?' * len(columns))})"
             conn.executemany(text, [(key, *row) for key, row in rows.items()])
         return conn
 
     def replay(self):
         """The answer to the step: requests and digest, or the first difference, or the fault."""
-        lines, status = rules.replay(rules.tables_of(self.tables()))
+        lines, status = oracle.replay(oracle.tables_of(self.tables()))
         if status == 0:
             return f"agrees: requests {lines[0].split()[-1]} digest {lines[1].split()[-1]}"
         return lines[0].removeprefix("bank: ")

@@ -1,10 +1,12 @@
-"""What the scripts around `bank serve` share: a bank with a plan, a running server, records, and a connection to it."""
+"""What the scripts around the program share: a run of it, a bank with a plan, a running server and a connection to it."""
 import os
 import socket
 import subprocess
 import sys
 import threading
 import time
+
+from oracle import record  # noqa: F401
 
 HERE = os.path.dirname(os.path.dirname(os.path.abspath(__file__)))
 # BANK in the environment names another program.
@@ -20,14 +22,22 @@ def make_bank(file, plan):
     """A new bank in the file, with the branches of a plan: (branch, accounts) one after another."""
     with open(file + ".csv", "w") as csv:
         csv.write("branch,accounts\n" + "".join(f"{branch},{accounts}\n" for branch, accounts in plan))
-    subprocess.run([BANK, "init", file], check=True, stdout=subprocess.DEVNULL)
-    subprocess.run([BANK, "load", file, file + ".csv"], check=True, stdout=subprocess.DEVNULL)
+    done("init", file)
+    done("load", file, file + ".csv")
 
 
-def record(account, teller, branch, number, delta):
-    """A request of 100 bytes."""
-    sign = "-" if delta < 0 else "+"
-    return f"DC01{account:012d}{teller:08d}{branch:06d}{number:010d}{sign}{abs(delta):010d}{'':49}".encode()
+def run(*words, data=b""):
+    """A run of the program: its output, its faults and its status."""
+    told = subprocess.run([BANK, *words], input=data, capture_output=True, check=False)
+    return told.stdout, told.stderr, told.returncode
+
+
+def done(*words, data=b""):
+    """The output of a command that has to succeed."""
+    output, faults, status = run(*words, data=data)
+    if status:
+        sys.exit(f"status {status} of {' '.join(words)}: {faults.decode()}")
+    return output
 
 
 class Server:

@@ -15,12 +15,11 @@ import csv
 import io
 import os
 import random
-import subprocess
 import sys
 import tempfile
 
-HERE = os.path.dirname(os.path.dirname(os.path.abspath(__file__)))
-BANK = os.path.join(HERE, "crates", "bank", "out", "bank")
+import oracle
+import serve_client
 
 COLUMNS = ["account", "teller", "number", "delta"]
 HEADERS = [COLUMNS, COLUMNS + ["branch"], COLUMNS + ["reference"], COLUMNS + ["branch", "reference"]]
@@ -39,20 +38,17 @@ WRONG = {
 
 
 def run(words, data, status):
-    done = subprocess.run([BANK, *words], input=data, capture_output=True)
-    if done.returncode != status:
-        sys.exit(f"bank {' '.join(words)}: status {done.returncode}, not {status}: {done.stderr!r}")
-    return done.stdout, done.stderr
+    output, faults, ended = serve_client.run(*words, data=data)
+    if ended != status:
+        sys.exit(f"bank {' '.join(words)}: status {ended}, not {status}: {faults!r}")
+    return output, faults
 
 
 def spelled(row):
-    delta = int(row["delta"])
-    branch = int(row.get("branch") or (int(row["teller"]) - 1) // 10 + 1)
-    fields = "%012d%08d%06d%010d%s%010d" % (int(row["account"]), int(row["teller"]), branch, int(row["number"]),
-                                           "-" if delta < 0 else "+", abs(delta))
-    reference = row.get("reference", "")
-    text = "DC02" + fields + reference.ljust(20) if reference else "DC01" + fields
-    return text.ljust(100).encode()
+    teller = int(row["teller"])
+    branch = int(row.get("branch") or oracle.branch_of_teller(teller))
+    reference = row.get("reference") or None
+    return oracle.record(int(row["account"]), teller, branch, int(row["number"]), int(row["delta"]), reference)
 
 
 def drawn(draw, count, header):
@@ -101,11 +97,7 @@ def decoded(replies):
 
 def rounds(draw, count, folder):
     bank = os.path.join(folder, "rounds.db")
-    plan = os.path.join(folder, "plan.csv")
-    with open(plan, "w") as file:
-        file.write("branch,accounts\n" + "".join(f"{b},{ACCOUNTS}\n" for b in range(1, BRANCHES + 1)))
-    run(["init", bank], b"", 0)
-    run(["load", bank, plan], b"", 0)
+    serve_client.make_bank(bank, [(branch, ACCOUNTS) for branch in range(1, BRANCHES + 1)])
     faults = 0
     for i in range(16):
         header = HEADERS[i % 4]
@@ -167,8 +159,7 @@ def is_told(text, fault, rows):
 
 def main():
     count = int(sys.argv[1]) if len(sys.argv) > 1 else 100_000
-    if not os.path.exists(BANK):
-        sys.exit(f"{BANK} isn't built")
+    serve_client.need_program()
     with tempfile.TemporaryDirectory() as folder:
         faults = rounds(random.Random(56), count, folder)
     print(f"sheet_rounds: {count} postings there and back; {faults} sheets with a fault, each by its row and column")

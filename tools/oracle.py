@@ -1,0 +1,339 @@
+"""The rules of the bank once more, for all scripts that reckon by themselves: records and replies, judging, the tables, what
+a replay and a digest print, an audit by SQL, and the answers over HTTP.
+
+It shares no code with the bank, and reads files by the C library of SQLite. The rules are those of docs/USING.md.
+"""
+import hashlib
+import re
+import sqlite3
+
+VERSION = 3
+LIMIT = 999_999_999_999
+POSTED, NO_TELLER, WRONG_BRANCH, NO_ACCOUNT, OVER_LIMIT, REUSED_NUMBER, BELOW_FLOOR, MALFORMED = 0, 11, 12, 13, 14, 15, 17, 90
+NAMES = {POSTED: "POSTED", NO_TELLER: "NO TELLER", WRONG_BRANCH: "WRONG BRANCH", NO_ACCOUNT: "NO ACCOUNT",
+         OVER_LIMIT: "OVER LIMIT", REUSED_NUMBER: "REUSED NUMBER", BELOW_FLOOR: "BELOW FLOOR", MALFORMED: "MALFORMED"}
+KEPT = (POSTED, WRONG_BRANCH, NO_ACCOUNT, OVER_LIMIT, BELOW_FLOOR)
+
+# Each table in the order in which they are compared: the word for its rows, its greatest key, and its columns, as a
+# file has them.
+TABLES = {
+    "meta": ("meta", 1, "id", "version", "decided"),
+    "branch": ("branch", 9_999, "bid", "accounts", "balance"),
+    "branch_floor": ("floor", 9_999, "bid", "lowest"),
+    "request": ("request", 10**12, "ordinal", "tid", "number", "aid", "bid", "delta", "outcome", "balance"),
+    "request_reference": ("reference", 10**12, "ordinal", "reference"),
+    "history": ("posting", 10**12, "ordinal", "aid", "tid", "bid", "delta", "moment"),
+    "account": ("account", 999_900_000, "aid", "balance"),
+    "teller": ("teller", 99_990, "tid", "balance"),
+}
+# What a column is called before what differs in it, if not by its name.
+CALLED = {"aid": "account ", "tid": "teller ", "bid": "branch ", "balance": "", "lowest": "", "reference": ""}
+RECORD = re.compile(rb"DC0(?:1|2)(\d{12})(\d{8})(\d{6})(\d{10})([+-]\d{10})", re.ASCII)
+
+
+def branch_of_teller(tid):
+    return (tid + 9) // 10
+
+
+def branch_of_account(aid):
+    return (aid + 99_999) // 100_000
+
+
+# ---- records and replies
+
+def fields_of(aid, tid, bid, number, delta):
+    """How a request's numbers are spelled in its record and in its reply."""
+    return f"{aid:012}{tid:08}{bid:06}{number:010}{delta:+011}"
+
+
+def record_of(fields, reference=None):
+    text = "DC01" + fields if reference is None else f"DC02{fields}{reference:<20}"
+    return text.ljust(100).encode()
+
+
+def record(account, teller, branch, number, delta, reference=None):
+    """A request of 100 bytes."""
+    return record_of(fields_of(account, teller, branch, number, delta), reference)
+
+
+def reply_of(outcome, fields, balance=0):
+    """A reply of 200 bytes."""
+    return f"DR01{outcome:02}{fields}{balance:+013}{NAMES[outcome]}".ljust(200).encode()
+
+
+def is_request(tid, number, aid, bid, delta):
+    return (1 <= tid <= 99_999_999 and 1 <= number <= 9_999_999_999 and 1 <= aid <= LIMIT and 1 <= bid <= 999_999
+            and abs(delta) <= 9_999_999_999)
+
+
+def request_of(text):
+    """The numbers of 100 bytes (teller, number, account, branch, delta) and the reference; none if they are no request."""
+    found = RECORD.match(text)
+    if not found:
+        return None
+    aid, tid, bid, number, delta = map(int, found.groups())
+    is_spelled = found.group(5) != b"-0000000000" and is_request(tid, number, aid, bid, delta)
+    reference, filler = (text[51:71], text[71:]) if text[3:4] == b"2" else (None, text[51:])
+    if not is_spelled or filler.strip(b" ") or reference and not all(32 <= byte <= 126 for byte in reference):
+        return None
+    return (tid, number, aid, bid, delta), reference.decode() if reference is not None else None
+
+
+# ---- postings
+
+class Book:
+    """The tables of a bank, by the rules of its postings."""
+
+    def __init__(self):
+        self.rows = {table: {} for table in TABLES}
+        self.decided, self.kept = 0, {}
+
+    def open(self, bid, count, floor=None):
+        self.rows["branch"][bid] = (count, 0)
+        self.rows["teller"].update({tid: (0,) for tid in range(10 * bid - 9, 10 * bid + 1)})
+        self.rows["account"].update({100_000 * (bid - 1) + place: (0,) for place in range(1, count + 1)})
+        if floor is not None:
+            self.rows["branch_floor"][bid] = (floor,)
+
+    def judge(self, tid, aid, bid, delta):
+        """The outcome of a request that is decided, and the new balances of its account, teller and branch."""
+        if bid != branch_of_teller(tid):
+            return WRONG_BRANCH, (0,)
+        if aid not in self.rows["account"]:
+            return NO_ACCOUNT, (0,)
+        holders = ("account", aid), ("teller", tid), ("branch", bid)
+        after = [self.rows[table][key][-1] + delta for table, key in holders]
+        floor = self.rows["branch_floor"].get(branch_of_account(aid))
+        if floor and after[0] < floor[0]:
+            return BELOW_FLOOR, (0,)
+        return (POSTED, after) if max(map(abs, after)) <= LIMIT else (OVER_LIMIT, (0,))
+
+    def decide(self, moment, request, reference):
+        """Keeps a request, unless its teller isn't open or has used the number."""
+        tid, number, aid, bid, delta = request
+        if tid not in self.rows["teller"] or (tid, number) in self.kept:
+            return
+        outcome, after = self.judge(tid, aid, bid, delta)
+        self.decided += 1
+        self.kept[tid, number] = self.decided
+        self.rows["request"][self.decided] = (*request, outcome, after[0])
+        if reference is not None:
+            self.rows["request_reference"][self.decided] = (reference,)
+        if outcome == POSTED:
+            self.rows["account"][aid], self.rows["teller"][tid] = (after[0],), (after[1],)
+            self.rows["branch"][bid] = (self.rows["branch"][bid][0], after[2])
+            self.rows["history"][self.decided] = (aid, tid, bid, delta, moment)
+
+    def answer(self, moment, text):
+        """The reply to 100 bytes, whether they are a request or not."""
+        found = request_of(text)
+        if found is None:
+            return reply_of(MALFORMED, "0" * 36 + "+0000000000")
+        (tid, number, aid, bid, delta), reference = found
+        fields = fields_of(aid, tid, bid, number, delta)
+        if tid not in self.rows["teller"]:
+            return reply_of(NO_TELLER, fields)
+        self.decide(moment, *found)
+        ordinal = self.kept[tid, number]
+        *request, outcome, balance = self.rows["request"][ordinal]
+        if (tuple(request), self.rows["request_reference"].get(ordinal, (None,))[0]) != found:
+            return reply_of(REUSED_NUMBER, fields)
+        return reply_of(outcome, fields, balance)
+
+    def tables(self):
+        return self.rows | {"meta": {1: (VERSION, self.decided)}}
+
+
+# ---- a file's tables, a replay and a digest
+
+def tables_of(file):
+    """The rows of a file's tables, by table and key; of a path or of a connection."""
+    conn = sqlite3.connect(file) if isinstance(file, str) else file
+    rows = {table: {row[0]: row[1:] for row in conn.execute(f"SELECT {', '.join(columns)} FROM {table}")}
+            for table, (_, _, *columns) in TABLES.items()}
+    if conn is not file:
+        conn.close()
+    return rows
+
+
+def moment_of(posting):
+    return posting[4] if posting else 0
+
+
+def requests_of(tables):
+    """Each kept request with its reference and its posting, none where it has none."""
+    for ordinal, request in sorted(tables["request"].items()):
+        yield request, tables["request_reference"].get(ordinal, (None,))[0], tables["history"].get(ordinal)
+
+
+def made_anew(tables):
+    """The tables that the kept requests lead to, where each branch is opened as late as it can be. It isn't opened with
+    a floor above zero, and one that no balance reaches is none."""
+    book, moment = Book(), 0
+    plan = {bid: (row[0], tables["branch_floor"].get(bid, (None,))[0]) for bid, row in tables["branch"].items()}
+
+    def open_for(bid):
+        count, floor = plan.pop(bid, (0, None))
+        floor = floor if floor is not None and abs(floor) <= LIMIT else None
+        if count and (floor or 0) <= 0:
+            book.open(bid, count, floor)
+
+    for (*request, outcome, _), reference, posting in requests_of(tables):
+        if is_request(*request):
+            open_for(branch_of_teller(request[0]))
+            if outcome not in (WRONG_BRANCH, NO_ACCOUNT):
+                open_for(branch_of_account(request[2]))
+            moment = moment_of(posting) if posting else moment
+            book.decide(moment, request, reference)
+    for bid in sorted(plan):
+        open_for(bid)
+    return book.tables()
+
+
+def entry_of(request, reference, posting):
+    """What is chained of a kept request: its record, its reply, and the moment of its posting."""
+    tid, number, aid, bid, delta, outcome, balance = request
+    fields = fields_of(aid, tid, bid, number, delta)
+    return record_of(fields, reference) + reply_of(outcome, fields, balance) + moment_of(posting).to_bytes(8, "big")
+
+
+def digest_lines(requests):
+    """How many requests there are, and the digest that is chained over them."""
+    chain = bytes(32)
+    for kept in requests:
+        chain = hashlib.sha256(chain + entry_of(*kept)).digest()
+    return [f"{'requests':<12}{len(requests):>20}", f"{'digest':<12}{chain.hex()}"]
+
+
+def unread(table, row):
+    """The rule that a row breaks which can't be read, 0 if it can be."""
+    key, *rest = row
+    if not 1 <= key <= TABLES[table][1]:
+        return 6
+    if table == "branch" and not 1 <= rest[0] <= 100_000:
+        return 6
+    if table == "history" and not 0 <= moment_of(rest) <= 253_402_300_799:
+        return 6
+    is_text = table != "request_reference" or len(rest[0]) == 20 and all(" " <= byte <= "~" for byte in rest[0])
+    return 0 if is_text else 9
+
+
+def difference(tables, due):
+    """The line of the first difference, or of a row that can't be read; none where there is neither."""
+    for table, (word, _, _, *columns) in TABLES.items():
+        for key in sorted(tables[table].keys() | due[table].keys()):
+            one, other = tables[table].get(key), due[table].get(key)
+            if one and unread(table, (key, *one)):
+                return f"bank: damaged rule {unread(table, (key, *one))}"
+            if one != other:
+                return difference_line(f"{word} {key}", columns, one, other)
+    return None
+
+
+def difference_line(row, columns, one, other):
+    """The first column in which two rows differ, or which of them isn't there."""
+    if one is None or other is None:
+        sides = ["no row" if side is None else "a row" for side in (one, other)]
+        return f"{row} stands {sides[0]} due {sides[1]}"
+    place = next(place for place, _ in enumerate(columns) if one[place] != other[place])
+    name = CALLED.get(columns[place], f"{columns[place]} ")
+    return f"{row} {name}stands {one[place]} due {other[place]}"
+
+
+def replay(tables):
+    """What the bank prints of a replay, and its status."""
+    for table in ("branch", "branch_floor", "request", "history", "request_reference"):
+        for key, row in sorted(tables[table].items()):
+            if unread(table, (key, *row)):
+                return [f"bank: damaged rule {unread(table, (key, *row))}"], 3
+    line = difference(tables, made_anew(tables))
+    if line:
+        return ([line], 3) if line.startswith("bank: ") else ([line, "DIFFERS"], 5)
+    return digest_lines(list(requests_of(tables))) + ["AGREES"], 0
+
+
+# ---- an audit by SQL
+
+NUMBERS = [
+    ("branches", "SELECT count(*) FROM branch"),
+    ("tellers", "SELECT count(*) FROM teller"),
+    ("accounts", "SELECT count(*) FROM account"),
+    ("requests", "SELECT count(*) FROM request"),
+    ("history", "SELECT count(*) FROM history"),
+    ("account sum", "SELECT ifnull(sum(balance), 0) FROM account"),
+    ("teller sum", "SELECT ifnull(sum(balance), 0) FROM teller"),
+    ("branch sum", "SELECT ifnull(sum(balance), 0) FROM branch"),
+    ("history sum", "SELECT ifnull(sum(delta), 0) FROM history"),
+    ("unmatched", """
+        SELECT (SELECT count(*) FROM request r WHERE r.outcome = 0 AND NOT EXISTS (
+                    SELECT 1 FROM history h WHERE h.ordinal = r.ordinal AND h.aid = r.aid AND h.tid = r.tid
+                    AND h.bid = r.bid AND h.delta = r.delta))
+             + (SELECT count(*) FROM history h WHERE NOT EXISTS (
+                    SELECT 1 FROM request r WHERE r.ordinal = h.ordinal AND r.outcome = 0))"""),
+]
+BRANCHES = """
+    SELECT bid, tellers, balance FROM (
+        SELECT bid, balance, (SELECT ifnull(sum(t.balance), 0) FROM teller t
+                              WHERE t.tid BETWEEN 10 * (bid - 1) + 1 AND 10 * bid) AS tellers FROM branch)
+    WHERE tellers <> balance ORDER BY bid"""
+
+
+def audit(file):
+    """The text of an audit and its status, of a path."""
+    conn = sqlite3.connect(file)
+    numbers = {name: conn.execute(text).fetchone()[0] for name, text in NUMBERS}
+    lines = [f"{name:<12}{numbers[name]:>20}" for name, _ in NUMBERS]
+    differ = conn.execute(BRANCHES).fetchall()
+    conn.close()
+    lines += [f"branch {bid} tellers {tellers} balance {balance}" for bid, tellers, balance in differ]
+    sums = {numbers[name] for name in ("account sum", "teller sum", "branch sum", "history sum")}
+    sound = len(sums) == 1 and not differ and numbers["unmatched"] == 0
+    lines.append("CONSISTENT" if sound else "INCONSISTENT")
+    return "".join(line + "\n" for line in lines), 0 if sound else 5
+
+
+# ---- answers over HTTP
+
+PHRASES = {200: b"OK", 400: b"Bad Request", 404: b"Not Found", 405: b"Method Not Allowed", 503: b"Service Unavailable"}
+BYTES, TEXT = b"application/octet-stream", b"text/plain"
+
+
+def answer(code, media, body, allow=b"", closes=False, shows=True):
+    """The bytes of an answer; one to HEAD doesn't show its body."""
+    text = b"HTTP/1.1 %d %s\r\nContent-Type: %s\r\nContent-Length: %d\r\n" % (code, PHRASES[code], media, len(body))
+    text += b"Allow: " + allow + b"\r\n" if allow else b""
+    text += b"Connection: close\r\n" if closes else b""
+    return text + b"\r\n" + (body if shows else b"")
+
+
+def bare(code, allow=b""):
+    """What an answer says that has nothing to say but its code."""
+    return code, TEXT, b"%d %s\n" % (code, PHRASES[code]), allow
+
+
+def routed(book, method, target, body):
+    """What a message is answered by a bank with these tables, at the moment 0."""
+    path = target.split(b"?")[0]
+    if path == b"/post":
+        if method != b"POST":
+            return bare(405, b"POST")
+        return (200, BYTES, book.answer(0, body), b"") if len(body) == 100 else bare(400)
+    account = re.fullmatch(rb"/account/([^/]+)", path, re.DOTALL)
+    if path != b"/branches" and not account or not is_utf8(path):
+        return bare(404)
+    if method not in (b"GET", b"HEAD"):
+        return bare(405, b"GET, HEAD")
+    if path == b"/branches":
+        rows = sorted(book.rows["branch"].items())
+        return 200, TEXT, b"".join(b"%6d %7d %14d\n" % (bid, *row) for bid, row in rows), b""
+    number = account.group(1)
+    balance = book.rows["account"].get(int(number)) if re.fullmatch(rb"[1-9][0-9]{0,11}", number) else None
+    return (200, TEXT, b"account %s balance %d\n" % (number, *balance), b"") if balance else bare(404)
+
+
+def is_utf8(text):
+    try:
+        text.decode("utf-8")
+    except UnicodeDecodeError:
+        return False
+    return True
