@@ -16,3 +16,5 @@ pub mod StreamEnds
 pub mod Through
 pub mod Refused
 pub mod Output
+pub mod LogGrowth
+pub mod EntryParts

@@ -10,3 +10,5 @@ pub mod Stream
 pub mod Readings
 pub mod Again
 pub mod Sparing
+pub mod LogEntries
+pub mod Entries

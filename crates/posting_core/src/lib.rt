@@ -33,6 +33,7 @@
 mod branches;
 mod clock;
 mod ends;
+mod entries;
 mod once;
 mod plain_bank;
 mod resends;
@@ -43,6 +44,7 @@ mod walking;
 
 pub use clock::{Clock, StoredClock};
 pub use ends::{Sink, Source};
+pub use entries::{ENTRY_BYTES, Entry, decode_entry, encode_entry, entries_are_added};
 pub use once::{OnceFault, answer_once};
 pub use plain_bank::PlainBank;
 pub use posting_batch::{
