@@ -1,10 +1,20 @@
 #!/usr/bin/env python3
-"""Runs the built program where files may not grow beyond a limit, where the disk is full, and where a file is taken away or
-can't be read. What is told is a store fault or that there is no bank, and a beginning of the replies was written. When the
-cause is mended, the same records get the replies of a run that nothing disturbed, so that each acknowledged one is found
-again; the audit is CONSISTENT, and the tables are those of that run. It needs the built program, and root for a disk of its
-own and for another user; without, it says what it left out. It stands outside the gate.
-    tools/fail_files.py [CAUSE..]"""
+"""Runs the built program where it is killed, stopped, or where its files fail, one cause after another, and then as if
+nothing had happened: each acknowledged posting stands once, with its first reply.
+
+    tools/failures.py [CAUSE..]      all causes, or these
+
+posts           `post` is killed at random moments (LIVES times), and sent again from the first record with no reply
+serves          the same of `serve`, by TELLERS clients at once, each with 8 messages on their way
+inits           `init` is stopped at each call that writes or syncs, and made again where there is no bank; needs strace
+limited, limited_at_the_making, full, taken_away, taken_away_beneath, unreadable
+                files may not grow beyond a limit, the disk is full, a file is taken away or can't be read. What is told is
+                a store fault or that there is no bank, and a prefix of the replies was written; once the cause is mended
+                the same records get the replies of a run that nothing disturbed, the audit is CONSISTENT, and the tables
+                are those of that run. Needs root for a disk of its own and for another user; without, it says what it left out
+
+LIVES, RECORDS and TELLERS in the environment say how often, of how many records, and by how many. It needs the built
+program, and stands outside the gate."""
 import os
 import random
 import resource
@@ -12,10 +22,15 @@ import shutil
 import subprocess
 import sys
 import tempfile
+import threading
 import time
 
 from refuse_memory import Folder, Wrong, ensure
-from serve_client import BANK, make_bank, need_program, record
+from serve_client import BANK, Server, make_bank, need_program, post, read_answer, record, run
+
+LIVES, RECORDS, TELLERS = (int(os.environ.get(name, usual)) for name, usual in
+                           (("LIVES", 100), ("RECORDS", 20_000), ("TELLERS", 16)))
+AHEAD = 8
 
 PLAN = [(1, 3), (2, 200)]
 ACCOUNTS = [1, 2, 3, 100001, 100050, 100200]
@@ -70,7 +85,7 @@ class Bench(Folder):
         return file
 
     def is_told(self, ended, allowed):
-        """The run ended as it may where there is a cause, with a beginning of the replies."""
+        """The run ended as it may where there is a cause, with a prefix of the replies."""
         status, output, fault = ended
         ensure((status, fault) in allowed, f"status {status}, {fault!r}")
         ensure(self.whole.startswith(output) and len(output) % 200 == 0, "other replies")
@@ -233,22 +248,139 @@ def unreadable(bench):
         os.chmod(changed, before)
         bench.is_mended(file)
 
+# ---- kills
+
+def posts(bench):
+    """Kills `post`, and resends from the first record that has no whole reply."""
+    file, given = bench.new_bank("killed"), many(bench)
+    replies, kills = b"", 0
+    for _ in range(LIVES):
+        process = subprocess.Popen([BANK, "post", file], stdin=subprocess.PIPE, stdout=subprocess.PIPE,
+                                   stderr=subprocess.DEVNULL)
+        timer = threading.Timer(random.uniform(0.0, 0.08), process.kill)
+        timer.start()
+        part = process.communicate(given[len(replies) // 2:])[0]
+        timer.join()
+        kills += process.returncode < 0
+        replies += part[:len(part) // 200 * 200]
+    before = len(replies) // 200
+    replies += run("post", file, data=given[len(replies) // 2:])[0]
+    bench.cause = f"{kills} kills of post in {LIVES} lives, {before} of {RECORDS} records answered in them"
+    ensure(replies == bench.many and run("post", file, data=given)[0] == bench.many, "the replies differ")
+    bench.note(0, b"the replies are those of one run")
+
+
+def many(bench):
+    """The records for kills, with the replies of a run that nobody kills."""
+    given = b"".join(records(RECORDS))
+    bench.many = run("post", bench.new_bank("many"), data=given)[0]
+    return given
+
+
+class Sender(threading.Thread):
+    """One client's own records, from the first that has no answer; it comes again where its connection is closed, until the
+    counter is gone."""
+
+    def __init__(self, server, pending):
+        super().__init__()
+        self.server, self.pending, self.replies = server, pending, []
+        self.start()
+
+    def run(self):
+        while len(self.replies) < len(self.pending) and self.server.process.poll() is None:
+            try:
+                with self.server.connect() as connection:
+                    self.converse(connection)
+            except OSError:
+                time.sleep(0.001)
+
+    def converse(self, connection):
+        sent, buffered = len(self.replies), b""
+        while len(self.replies) < len(self.pending):
+            while sent < min(len(self.pending), len(self.replies) + AHEAD):
+                connection.sendall(post(self.pending[sent]))
+                sent += 1
+            answer = read_answer(connection, buffered)
+            if answer is None or answer[0] != 200:
+                return
+            self.replies.append(answer[1])
+            buffered = answer[2]
+
+
+def serves(bench):
+    """Kills `serve` beneath clients that post at once, each its own tellers' records, so that every reply but for its
+    balance is known; the tables but for moments and ordinals are those of one run."""
+    file, given = bench.new_bank("served"), many(bench)
+    sorts = [[record for i, record in enumerate(records(RECORDS)) if i % 20 % TELLERS == it] for it in range(TELLERS)]
+    replies, kills = [[] for _ in sorts], 0
+    for life in range(LIVES + 1):
+        server = Server(file, 1000)
+        timer = threading.Timer(random.uniform(0.0, 0.08), server.process.kill)
+        if life < LIVES:
+            timer.start()
+        senders = [Sender(server, sort[len(had):]) for sort, had in zip(sorts, replies)]
+        for sender, had in zip(senders, replies):
+            sender.join()
+            had += sender.replies
+        if life == LIVES:
+            server.process.kill()
+        kills += server.end() < 0 and life < LIVES
+    bench.cause = f"{kills} kills of serve in {LIVES} lives, beneath {TELLERS} clients"
+    ensure(all(reply[4:6] == b"00" for had in replies for reply in had), "not all are posted")
+    ensure([len(had) for had in replies] == [len(sort) for sort in sorts], "not all are answered")
+    again = run("post", file, data=given)[0]
+    told = dict(zip((it for sort in sorts for it in sort), (it for had in replies for it in had)))
+    ensure(all(told[given[at:at + 100]] == again[2 * at:2 * at + 200] for at in range(0, len(given), 100)),
+           "a resend gets another reply")
+    ensure(run("audit", file)[0].endswith(b"\nCONSISTENT\n") and run("replay", file)[2] == 0, "the books differ")
+    ensure(count_of(file) == RECORDS, "not each is posted once")
+    bench.note(0, b"each is posted once, with its first reply")
+
+
+def count_of(file):
+    return int(run("replay", file)[0].split()[1])
+
+
+def inits(bench):
+    """Stops `init` at each call that writes or syncs."""
+    file, found, stops = bench.path + "/made.db", 0, 0
+    for call in ("pwrite64", "ftruncate", "fdatasync", "fsync"):
+        for at in range(1, 1000):
+            for end in ("", "-wal"):
+                if os.path.exists(file + end):
+                    os.remove(file + end)
+            stopped = subprocess.run(["strace", "-f", "-o", bench.path + "/trace", "-e",
+                                      f"inject={call}:error=EIO:signal=KILL:when={at}", BANK, "init", file],
+                                     capture_output=True, check=False)
+            if stopped.returncode == 0:
+                break
+            stops += 1
+            told = run("post", file)
+            found += told[2] == 0
+            if told[2]:
+                ensure(told[1] == NO_BANK and run("init", file)[2] == 0, f"{call} {at}: {told}")
+            ensure(run("load", file, bench.path + "/whole.db.csv")[2] == 0, f"{call} {at}: not loaded")
+    bench.cause = f"{stops} stops of init"
+    bench.note(0, b"after %d of them the bank was there, after the others none, and it was made" % found)
+
+
+CAUSES = (posts, serves, inits, limited, limited_at_the_making, full, taken_away, taken_away_beneath, unreadable)
+
 
 def main():
     need_program()
     with tempfile.TemporaryDirectory() as path:
         os.chmod(path, 0o755)
         bench = Bench(path, 2_000)
-        for cause in (limited, limited_at_the_making, full, taken_away, taken_away_beneath, unreadable):
+        for cause in CAUSES:
             if sys.argv[1:] and cause.__name__ not in sys.argv[1:]:
                 continue
             try:
                 cause(bench)
             except Wrong as wrong:
-                sys.exit(f"fail_files: {bench.cause}: {wrong}")
+                sys.exit(f"failures: {bench.cause}: {wrong}")
         for cause, told in bench.told.items():
             print(f"{cause}: " + "; ".join(f"{said} ({count})" for said, count in sorted(told.items())))
-        print(f"fail_files: {bench.runs} runs; mended, each bank has all that was acknowledged, and its audit is CONSISTENT")
 
 
 if __name__ == "__main__":
