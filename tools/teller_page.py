@@ -43,7 +43,7 @@ KEPT = """new Promise((yes, no) => { const ask = indexedDB.open('counter'); ask.
 # Teller 1 has used this number.
 AHEAD = """new Promise((yes, no) => { const ask = indexedDB.open('counter'); ask.onerror = no; ask.onsuccess = () => {
     const change = ask.result.transaction('numbers', 'readwrite');
-    change.objectStore('numbers').put(%d, 1);
+    change.objectStore('numbers').put(%d, 'own 1');
     change.oncomplete = () => { ask.result.close(); yes(0) } } })"""
 # The lines of its list, the newest first: number, account, amount, reference, answer, balance.
 LINES = """[...document.querySelectorAll('.posting')].map(line =>
@@ -61,8 +61,13 @@ def same(name, got, wanted):
         raise Failed(f"{name}: wanted {wanted!r}, got {got!r}")
 
 
-def money(cents):
+def typed(cents):
     return f"{'-' if cents < 0 else ''}{abs(cents) // 100}.{abs(cents) % 100:02}"
+
+
+def money(cents):
+    """As the page shows it: units by thousands, with a narrow space."""
+    return f"{'-' if cents < 0 else ''}{abs(cents) // 100:,}.{abs(cents) % 100:02}".replace(",", "\u202f")
 
 
 def holds(name, text, *parts):
@@ -295,16 +300,18 @@ def words(place, page):
           "Balance then0.00")
 
     page.browser.run("(document.getElementById('account').focus(), 0)")
-    page.browser.keys("3", TAB, TAB, TAB, TAB, ENTER)
+    page.browser.keys("3", TAB, TAB, TAB, TAB, TAB, ENTER)
     page.until("the balance", "document.getElementById('done').textContent", "Account 3 has 900.00.")
     page.browser.run("(document.getElementById('ask-branches').focus(), 0)")
     page.browser.keys(ENTER)
     page.until("the branches", "document.getElementById('branch-rows').textContent.length > 0")
     same("a branch", page.browser.run("[...document.querySelectorAll('#branch-rows tr')].map(row => "
-                                      "[...row.cells].map(cell => cell.textContent))[2]"), ["31", "1", "9999999999.00"])
+                                      "[...row.cells].map(cell => cell.textContent))[2]"), ["31", "1", money(999999999900)])
     same("another teller's record", page.browser.run(
         f"fetch('/post', {{method: 'POST', body: {json.dumps(record(1, 2, 1, 77, 7777).decode())}, headers: "
         "{'Content-Type': 'application/octet-stream'}}).then(got => got.status)"), 403)
+
+    buttons(place, page)
 
     # A second tab isn't the teller's, until the first is closed.
     before = page.browser.other_tab(place.address())
@@ -313,6 +320,38 @@ def words(place, page):
     page.browser.close_tab(before)
     strangers_page(place, page)
     page.kill()
+
+
+def buttons(place, page):
+    """In and Out, the question above an amount, a search, a double click, and sending a day again."""
+    click = "(document.getElementById('%s').click(), 0)"
+    page.browser.run("(document.getElementById('account').focus(), 0)")
+    page.browser.keys("2", TAB, "3.00", TAB, "BY BUTTON")
+    page.browser.run(click % "out")
+    page.browser.run(click % "out")
+    page.listed("BY BUTTON")
+    page.settled()
+    same("an amount that is paid out", page.browser.run(LINES)[0][2:5], ["-3.00", "BY BUTTON", "Posted"])
+    same("a second click", page.browser.run(NOTES)[1], "")
+    page.browser.run("(document.getElementById('ask-above').value = '1000', 0)")
+    page.browser.keys("2", TAB, "1234567.89", TAB, "LARGE", ENTER)
+    page.until("a question", "document.getElementById('sure').open")
+    holds("a question", page.browser.run("document.getElementById('sure-text').textContent"), money(123456789))
+    page.browser.keys(TAB, ENTER)
+    page.listed("LARGE")
+    page.settled()
+    page.browser.run("(document.getElementById('ask-above').value = '', document.getElementById('search').value = "
+                     "'by b', document.getElementById('search').dispatchEvent(new Event('input')), 0)")
+    same("a search", [line[3] for line in page.browser.run(LINES)], ["BY BUTTON"])
+    page.browser.run("(document.getElementById('search').value = '', "
+                     "document.getElementById('search').dispatchEvent(new Event('input')), 0)")
+    before = page.browser.run(f"{KEPT}.then(all => all.map(it => it.answer))")
+    page.browser.run(click % "send-again")
+    page.browser.keys(TAB, ENTER)
+    page.until("all go out again", "document.getElementById('resend').open", False)
+    page.settled()
+    same("the answers when a day is sent again", page.browser.run(f"{KEPT}.then(all => all.map(it => it.answer))"), before)
+    page.browser.run("(document.getElementById('account').focus(), 0)")
 
 
 def reused(place, page):
@@ -394,7 +433,7 @@ def killed(place, page, count, kills):
             killer.wanted.put((what, draw.uniform(0, 0.1)))
         dies = "browser" in after[done]
         after[done] = []
-        page.enter(account, money(cents), reference)
+        page.enter(account, typed(cents), reference)
         if not dies or draw.randrange(2):
             page.listed(reference)
             done += 1
