@@ -19,7 +19,7 @@ PAGE = TOP / "docs" / "BELIEVE.md"
 README = TOP / "README.md"
 
 # The promise, what a user of the library calls, and all that README claims: crate, function and clauses (none: all).
-PROMISE = [("bank_lives", "reopen", ["found", "lives"])]
+PROMISE = [("bank_lives", "reopen", ["lives"])]
 CALLS = PROMISE + [
     ("bank_lives", "lives_law", []),
     ("bank_lives", "calls_law", []),
@@ -261,7 +261,7 @@ def page():
         "",
         "| For | Definitions |",
         "|---|---|",
-        f"| README's promise: `reopen` (`found`, `lives`) | {said}; {len(rust)} Rust types and constants, {listed_names} names of the kit |",
+        f"| README's promise: `reopen` (`lives`) | {said}; {len(rust)} Rust types and constants, {listed_names} names of the kit |",
         f"| with `lives_law`, `calls_law` and `streams_law`, which say what is acknowledged, and `submit`, `submit_all`, `open_branch` | {said_calls} |",
         f"| all ten claims of README | {said_claims} |",
         "",
