@@ -7,7 +7,6 @@ use Rattle.branch_loader.specs.Plans.{row_of_listed, rows_by}
 use Rattle.branch_loader.specs.{believed.Plans.Rows, believed.Plans.Row, declared.fault.PlanFault.PlanFault}
 use Rattle.branch_loader.specs.Records.{TakesRecord, Records, Fields}
 use Rattle.branch_loader.specs.declared.fault.PlanFault.TheVariants.{Header, Csv, Memory}
-use Rattle.branch_loader.specs.declared.fault.PlanFault.TheVariants as Fault
 use Rattle.branch_loader.proofs.Rows.{listed-longer, listed-same}
 
 -- an answer that tells a fault

@@ -3,3 +3,5 @@ pub mod Faults
 pub mod Records
 pub mod Plans
 pub mod Loading
+pub mod Following
+pub mod Followed

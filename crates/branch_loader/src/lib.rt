@@ -30,17 +30,26 @@
 //! or that memory was refused. Nothing is opened then. A fault of [`load`] is the counter's: the branches before it
 //! are open, and a plan can be loaded again, since an open branch stays as it is.
 //!
-//! Read next: [`read_plan`] and [`load`]; `specs/Plans`, which says what a plan is.
+//! [`follow`] takes a counter along the log of another one: it posts the entries of a stream at their moments, and opens
+//! a branch of a plan before the first entry that needs it. [`FollowFault`] says why it ends before its input does.
+//!
+//! Read next: [`read_plan`] and [`load`]; `specs/Plans`, which says what a plan is; [`follow`], with its contract in
+//! `specs/Followed`.
 #![tactic(auto)]
 
+mod entry_stream;
 mod fault;
+mod follow_fault;
+mod followers;
 mod loader;
 mod plan;
 mod read;
 mod records;
 mod text;
 
+pub use entry_stream::{FollowWatch, follow};
 pub use fault::PlanFault;
+pub use follow_fault::{FollowFault, OtherReply};
 pub use loader::{Loaded, load};
 pub use plan::{Plan, PlanRow};
 pub use read::{next_record, read_plan};

@@ -67,7 +67,7 @@ posted_is (b ∷ bs) = posted_more b.moment b.records (posts_of bs) ∙ ap (λ (
 -- ---- bytes and records
 
 -- chunks and what is after them are the bytes again
-chunks_joined : (n k : ℕ) (xs : List ℕ) → k * n ≤ length xs
+pub chunks_joined : (n k : ℕ) (xs : List ℕ) → k * n ≤ length xs
     → joined (first_chunks n k xs) ++ drop (k * n) xs ≡ xs
 chunks_joined n zero xs le = let z : 0 * n ≡ 0 = omega arith in ap (λ (j : ℕ). drop j xs) z
 chunks_joined n (suc k) xs le =
@@ -81,7 +81,7 @@ chunks_joined n (suc k) xs le =
     (sym (drop-drop (k * n) n xs)) ∙ chunks_joined n k (drop n xs) rest_le)
     ∙ take-append-drop n xs
 
-chunks_whole : (n k : ℕ) (xs : List ℕ) → k * n ≤ length xs
+pub chunks_whole : (n k : ℕ) (xs : List ℕ) → k * n ≤ length xs
     → AllByRecursion (λ x. length x ≡ n) (first_chunks n k xs)
 chunks_whole n zero xs le = tt
 chunks_whole n (suc k) xs le =

@@ -1,0 +1,135 @@
+-- What following a log does: what the bank took of its entries, and how it stops.
+use Rattle.std.specs.Prelude.{◌≡◌, ◌≢◌, ◌<◌, ◌+◌, ◌==◌, ◌++◌, ℕ, List, ◌∷◌, map, length, Option, option_map}
+use Rattle.std.specs.Prelude.{Result, Ok, Err}
+use Rattle.std.specs.List.{AllByRecursion, find}
+use Rattle.posting_rules.specs.believed.Commands.{Command, Terms}
+use Rattle.posting_rules.specs.believed.Counter.{Refuses, Seen, ShowsLog, Takes}
+use Rattle.posting_rules.specs.believed.Runs.{replies_to}
+use Rattle.posting_rules.specs.declared.fault.Fault.{Fault}
+use Rattle.posting_rules.specs.declared.fault.Fault.TheVariants.{Down}
+use Rattle.posting_rules.specs.declared.limits.TheConstants.{RECORDS_PER_BATCH}
+use Rattle.posting_core.specs.Entries.{ArePostsOf, IsEntry, IsMomentOf, IsNoEntry, record_text, reply_text}
+use Rattle.posting_core.specs.LogEntries.{AnsweredRequest, entries_of}
+use Rattle.branch_loader.specs.Plans.{terms_of}
+use Rattle.branch_loader.specs.believed.Plans.{Row, Rows}
+use Rattle.branch_loader.specs.declared.follow_fault.FollowFault.{FollowFault}
+use Rattle.branch_loader.specs.declared.follow_fault.FollowFault.TheVariants.{Bank, Differs, NoEntry}
+use Rattle.branch_loader.specs.declared.followers.Waiting.{Waiting}
+
+-- ---- what is planned
+
+-- the plan's row of a branch
+abbrev pub row_of : Rows → ℕ → Option Row
+row_of rows branch = find (λ p. p.0 == branch) rows
+
+-- what the plan opens it with
+abbrev pub planned : Rows → ℕ → Option Terms
+planned rows branch = option_map terms_of (row_of rows branch)
+
+-- ---- what a bank took
+
+-- the records and the replies of entries that are posted at one moment
+pub record AreTexts (moment : ℕ) (records replies : List (List ℕ)) (entries : List AnsweredRequest) : Type 0 where
+  pub records_are : records ≡ map record_text entries
+  pub replies_are : replies ≡ map reply_text entries
+  pub moments : AllByRecursion (λ a. IsMomentOf a moment) entries
+
+-- entries that are yet to be posted
+abbrev pub IsWaiting : Waiting → List AnsweredRequest → Type 0
+IsWaiting w entries = AreTexts w.moment w.records.items w.replies.items entries
+
+-- one more may wait
+abbrev pub HasRoom : Waiting → Type 0
+HasRoom w = (length w.records.items < RECORDS_PER_BATCH) × (length w.replies.items < RECORDS_PER_BATCH)
+
+-- it took the commands that some entries are: openings as planned, and posts of the entries at their moments
+pub record HasTaken {C : Type 0} (seen : C → Seen) (spares : C → C → Type 0) (rows : Rows) (old new : C)
+    (entries : List AnsweredRequest) (commands : List Command) : Type 0 where
+  pub are : ArePostsOf (planned rows) entries commands
+  pub takes : Takes (seen old) (seen new) commands
+  pub honest : (seen new).honest → (seen old).honest
+  pub up : (seen new).is_down → (seen old).is_down
+  pub idle : (seen old).is_down → new ≡ old
+  pub others : spares old new
+
+-- whatever log it showed, each got the reply of its entry
+abbrev pub GaveReplies : (old new : Seen) → List AnsweredRequest → List Command → Type 0
+GaveReplies old new entries commands = new.honest → (log : List Command) → ShowsLog old log
+    → replies_to log commands ≡ map reply_text entries
+
+-- it took them, and gave these replies
+pub record HasFollowed {C : Type 0} (seen : C → Seen) (spares : C → C → Type 0) (rows : Rows) (old new : C)
+    (entries : List AnsweredRequest) : Type 0 where
+  pub commands : List Command
+  pub taken : HasTaken seen spares rows old new entries commands
+  pub replies : GaveReplies (seen old) (seen new) entries commands
+
+-- it took all of these but the last, which wait
+pub record IsFollowing {C : Type 0} (seen : C → Seen) (spares : C → C → Type 0) (rows : Rows) (old new : C)
+    (given : List AnsweredRequest) (w : Waiting) : Type 0 where
+  pub done : List AnsweredRequest
+  pub left : List AnsweredRequest
+  pub all : done ++ left ≡ given
+  pub followed : HasFollowed seen spares rows old new done
+  pub waits : IsWaiting w left
+
+-- ---- how it stops
+
+-- it took the commands of some, stood there, and refused those of the next
+pub record IsRefusedFollowing {C : Type 0} (seen : C → Seen) (spares : C → C → Type 0)
+    (reason : Fault → C → C → Type 0) (rows : Rows) (old new : C) (entries : List AnsweredRequest) (fault : Fault)
+    : Type 0 where
+  pub done : List AnsweredRequest
+  pub tried : List AnsweredRequest
+  pub all : done ++ tried ≡ entries
+  pub stood : C
+  pub followed : HasFollowed seen spares rows old stood done
+  pub refused : List Command
+  pub are : ArePostsOf (planned rows) tried refused
+  pub refuses : Refuses fault (seen stood) (seen new) refused
+  pub why : reason fault stood new
+  pub honest : (seen new).honest → (seen stood).honest
+  pub down : (seen stood).is_down → fault ≡ Down
+  pub untried : fault ≡ Down → new ≡ stood
+  pub others : spares old new
+
+-- it took them, and gave another reply than an entry's
+pub record HasDiffered {C : Type 0} (seen : C → Seen) (spares : C → C → Type 0) (rows : Rows) (old new : C)
+    (entries : List AnsweredRequest) : Type 0 where
+  pub commands : List Command
+  pub taken : HasTaken seen spares rows old new entries commands
+  pub other : (seen new).honest → (log : List Command) → ShowsLog (seen old) log
+      → replies_to log commands ≢ map reply_text entries
+
+-- why it stops where entries are posted, and what was done with those that were given
+abbrev pub Stops : {C : Type 0} → (C → Seen) → (C → C → Type 0) → (Fault → C → C → Type 0) → Rows → (old new : C)
+    → List AnsweredRequest → FollowFault → Type 0
+Stops seen spares reason rows old new entries (Bank fault) =
+    IsRefusedFollowing seen spares reason rows old new entries fault
+Stops seen spares reason rows old new entries (Differs other) = HasDiffered seen spares rows old new entries
+Stops seen spares reason rows old new entries fault = ⊥
+
+-- ---- some entries
+
+-- these texts are entries, and after those that were given they were followed, but for the last, which wait
+abbrev pub TakesSome : {C : Type 0} → (C → Seen) → (C → C → Type 0) → (old new : C) → Rows → List (List ℕ) → Waiting
+    → Type 0
+TakesSome {C} seen spares old new plan texts w = (first : C) (rows : Rows) (given : List AnsweredRequest) → plan ≡ rows
+    → HasFollowed seen spares rows first old given
+    → (entries : List AnsweredRequest) × AllByRecursion IsEntry entries × (entries_of entries ≡ texts)
+    × IsFollowing seen spares rows first new (given ++ entries) w
+
+-- all of the texts are entries, and were followed after those that were given; or the first of them, and the next is
+-- none, or it stopped at the last of them. So many were followed before.
+abbrev pub TakesAll : {C : Type 0} → (C → Seen) → (C → C → Type 0) → (Fault → C → C → Type 0) → Rows → (old new : C)
+    → List AnsweredRequest → List (List ℕ) → ℕ → Result (Unit {0}) FollowFault → Type 0
+TakesAll seen spares reason rows old new given texts before (Ok done) =
+    (entries : List AnsweredRequest) × AllByRecursion IsEntry entries × (entries_of entries ≡ texts)
+    × HasFollowed seen spares rows old new (given ++ entries)
+TakesAll seen spares reason rows old new given texts before (Err (NoEntry count)) =
+    (entries : List AnsweredRequest) × (text : List ℕ) × (rest : List (List ℕ)) × AllByRecursion IsEntry entries
+    × (entries_of entries ++ text ∷ rest ≡ texts) × HasFollowed seen spares rows old new (given ++ entries)
+    × (count ≡ before + length entries) × IsNoEntry text
+TakesAll seen spares reason rows old new given texts before (Err fault) =
+    (entries : List AnsweredRequest) × (rest : List (List ℕ)) × AllByRecursion IsEntry entries
+    × (entries_of entries ++ rest ≡ texts) × Stops seen spares reason rows old new (given ++ entries) fault

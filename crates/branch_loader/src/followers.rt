@@ -1,0 +1,311 @@
+//! Entries of a log are posted at their moments, and branches of a plan are opened where the first entry needs them.
+ghost use Rattle.std.specs.Prelude.{◌≡◌, ◌≢◌, ◌≤◌, ◌<◌, ◌+◌, ◌^◌, ◌++◌, ◌∷◌, [], List, IfOk, IfSome, IsTrue, ◌↔◌};
+ghost use Rattle.std.specs.Prelude.{MatchResult, OnOk, length};
+ghost use Rattle.message_records.specs.believed.Outcomes.{has_balance};
+ghost use Rattle.posting_core.specs.Entries.{IsMomentOf, answered};
+ghost use Rattle.posting_core.specs.LogEntries.{AnsweredRequest};
+ghost use Rattle.branch_loader.specs.Following.{AreTexts, HasFollowed, HasRoom, IsFollowing, IsWaiting};
+ghost use Rattle.branch_loader.specs.Following.{Stops, TakesAll, row_of};
+ghost use Rattle.branch_loader.specs.believed.Plans.{Rows};
+ghost use Rattle.branch_loader.specs.Plans.{IsRow};
+
+use crate::follow_fault::{FollowFault, OtherReply};
+use crate::plan::{Plan, PlanRow};
+use arrayvec::ArrayVec;
+use message_records::{Moment, Outcome, REPLY_BYTES, REQUEST_BYTES, encode_reply, encode_request};
+use posting_core::{
+    Count, Counter, ENTRY_BYTES, Entry, LAST_BRANCH, RECORDS_PER_BATCH, branch_of_account,
+    branch_of_teller, decode_entry,
+};
+use std::alloc::{AllocError, Global};
+
+/// The records that are yet to be posted, all at one moment, and the replies of their entries.
+#[derive(Drop)]
+pub(crate) struct Waiting {
+    moment: Moment,
+    records: ArrayVec<[u8; REQUEST_BYTES], RECORDS_PER_BATCH>,
+    replies: ArrayVec<[u8; REPLY_BYTES], RECORDS_PER_BATCH>,
+}
+
+// Whether these are the replies of the entries.
+fn are_due(given: &[[u8; REPLY_BYTES]], due: &[[u8; REPLY_BYTES]]) -> bool
+    ensures { IsTrue result ↔ (given.now ≡ due.now) }
+{
+    given == due
+}
+
+// The first reply that is another than its entry's.
+fn first_other(given: &[[u8; REPLY_BYTES]], due: &[[u8; REPLY_BYTES]]) -> OtherReply {
+    for (stands, due) in given.iter().zip(due.iter()) {
+        if stands != due {
+            return OtherReply {
+                stands: *stands,
+                due: *due,
+            };
+        }
+    }
+    OtherReply {
+        stands: [b' '; REPLY_BYTES],
+        due: [b' '; REPLY_BYTES],
+    }
+}
+
+// Posts records together, whose entries have these replies.
+fn post_together<C: Counter>(
+    moment: Moment,
+    records: &[[u8; REQUEST_BYTES]],
+    due: &[[u8; REPLY_BYTES]],
+    counter: &mut C,
+) -> Result<(), FollowFault>
+    requires { length records.now ≤ RECORDS_PER_BATCH }
+    ensures { (first : C) (rows : Rows) (done entries : List AnsweredRequest)
+        → HasFollowed C.seen C.spares rows first counter.old done
+        → AreTexts moment records.now due.now entries
+        → MatchResult result (λ _. HasFollowed C.seen C.spares rows first counter.new (done ++ entries))
+        (Stops C.seen C.spares C.reason rows first counter.new (done ++ entries)) }
+{
+    if records.is_empty() {
+        return Ok(());
+    }
+    let replies = counter.submit_all(moment, records)?;
+    if are_due(replies.as_slice(), due) {
+        Ok(())
+    } else {
+        Err(FollowFault::Differs(first_other(replies.as_slice(), due)))
+    }
+}
+
+// Posts what waits.
+fn post_waiting<C: Counter>(waiting: &mut Waiting, counter: &mut C) -> Result<(), FollowFault>
+    ensures follows { (first : C) (rows : Rows) (given : List AnsweredRequest)
+        → IsFollowing C.seen C.spares rows first counter.old given waiting.old
+        → MatchResult result (λ _. HasFollowed C.seen C.spares rows first counter.new given)
+        (Stops C.seen C.spares C.reason rows first counter.new given) }
+    ensures empty { OnOk result (IsWaiting waiting.new []) }
+    ensures moment { waiting.new.moment ≡ waiting.old.moment }
+{
+    post_together(
+        waiting.moment,
+        waiting.records.as_slice(),
+        waiting.replies.as_slice(),
+        counter,
+    )?;
+    waiting.records.clear();
+    waiting.replies.clear();
+    Ok(())
+}
+
+// The first row of a branch.
+fn find_row(rows: &[PlanRow], branch: u64) -> Option<PlanRow>
+    ensures { result ≡ row_of rows.now branch }
+{
+    for row in rows {
+        if row.0.get() == branch {
+            return Some(*row);
+        }
+    }
+    None
+}
+
+// The plan's row of a branch.
+fn row_of(plan: &Plan, branch: u64) -> Option<PlanRow>
+    ensures value { result ≡ row_of plan.now branch }
+    ensures named { IfSome result (λ row. row.0 ≡ branch) }
+    ensures within { IfSome result IsRow }
+{
+    find_row(plan.rows(), branch)
+}
+
+// Opens a branch as the plan has it, if it has the branch.
+fn open_planned<C: Counter>(plan: &Plan, branch: u64, counter: &mut C) -> Result<(), FollowFault>
+    ensures { (first : C) (rows : Rows) (done : List AnsweredRequest) → plan.now ≡ rows
+        → HasFollowed C.seen C.spares rows first counter.old done
+        → MatchResult result (λ _. HasFollowed C.seen C.spares rows first counter.new done)
+        (Stops C.seen C.spares C.reason rows first counter.new done) }
+{
+    let Some(row) = row_of(plan, branch) else {
+        return Ok(());
+    };
+    let (branch, accounts, floor) = row;
+    counter.open_branch(branch, accounts, floor)?;
+    Ok(())
+}
+
+impl Waiting {
+    // Nothing waits.
+    pub(crate) fn none() -> Waiting
+        ensures { IsWaiting result [] }
+    {
+        Waiting {
+            moment: Moment::new(0).unwrap(),
+            records: ArrayVec::new(),
+            replies: ArrayVec::new(),
+        }
+    }
+
+    // An entry waits, too.
+    fn push(&mut self, entry: &Entry)
+        requires { HasRoom self.old }
+        ensures { (entries : List AnsweredRequest) → IsWaiting self.old entries
+            → IsMomentOf (answered entry.now) self.old.moment
+            → IsWaiting self.new (entries ++ answered entry.now ∷ []) }
+    {
+        self.records.push(encode_request(&entry.request));
+        self.replies.push(encode_reply(&entry.reply));
+    }
+}
+
+/// Follows the entries of a log, one by one.
+#[derive(Drop)]
+pub(crate) struct Follower<'p> {
+    plan: &'p Plan,
+    // By the branch's number, whether the plan was looked at for it.
+    looked: Vec<bool>,
+    pub(crate) waiting: Waiting,
+}
+
+// Whether a request with this outcome is posted.
+fn is_posted(outcome: Outcome) -> bool
+    ensures { result ≡ has_balance outcome }
+{
+    match outcome {
+        Outcome::Posted => true,
+        _ => false,
+    }
+}
+
+// Whether a request with this outcome was judged by its account, which is open then.
+fn had_account(outcome: Outcome) -> bool {
+    outcome != Outcome::WrongBranch && outcome != Outcome::NoAccount
+}
+
+impl<'p> Follower<'p> {
+    // No entry was followed yet.
+    pub(crate) fn over(alloc: Global, plan: &'p Plan) -> Result<Follower<'p>, AllocError>
+        ensures { IfOk result (λ follower. (follower.plan.now ≡ plan.now) × IsWaiting follower.waiting []) }
+    {
+        let looked = vec![in alloc; false; LAST_BRANCH as usize + 1]?;
+        Ok(Follower {
+            plan,
+            looked,
+            waiting: Waiting::none(),
+        })
+    }
+
+    // Posts what waits.
+    pub(crate) fn post<C: Counter>(&mut self, counter: &mut C) -> Result<(), FollowFault>
+        ensures follows { (first : C) (rows : Rows) (given : List AnsweredRequest)
+            → self.old.plan.now ≡ rows → IsFollowing C.seen C.spares rows first counter.old given self.old.waiting
+            → MatchResult result (λ _. HasFollowed C.seen C.spares rows first counter.new given)
+            (Stops C.seen C.spares C.reason rows first counter.new given) }
+        ensures empty { OnOk result (IsWaiting self.new.waiting []) }
+        ensures plan { self.new.plan.now ≡ self.old.plan.now }
+    {
+        post_waiting(&mut self.waiting, counter)
+    }
+
+    // Opens a branch, if the plan has it and it wasn't asked for yet, after all that came before.
+    fn open<C: Counter>(&mut self, branch: u64, counter: &mut C) -> Result<(), FollowFault>
+        ensures follows { (first : C) (rows : Rows) (given : List AnsweredRequest)
+            → self.old.plan.now ≡ rows → IsFollowing C.seen C.spares rows first counter.old given self.old.waiting
+            → MatchResult result
+            (λ _. IsFollowing C.seen C.spares rows first counter.new given self.new.waiting)
+            (Stops C.seen C.spares C.reason rows first counter.new given) }
+        ensures plan { self.new.plan.now ≡ self.old.plan.now }
+    {
+        let Some(looked) = self.looked.get_mut(branch as usize) else {
+            return Ok(());
+        };
+        if *looked {
+            return Ok(());
+        }
+        *looked = true;
+        self.post(counter)?;
+        open_planned(self.plan, branch, counter)
+    }
+
+    // Posts what waits at another moment, or is as much as is posted together.
+    fn make_room<C: Counter>(&mut self, moment: Moment, counter: &mut C) -> Result<(), FollowFault>
+        ensures follows { (first : C) (rows : Rows) (given : List AnsweredRequest)
+            → self.old.plan.now ≡ rows → IsFollowing C.seen C.spares rows first counter.old given self.old.waiting
+            → MatchResult result
+            (λ _. IsFollowing C.seen C.spares rows first counter.new given self.new.waiting)
+            (Stops C.seen C.spares C.reason rows first counter.new given) }
+        ensures moment { OnOk result (self.new.waiting.moment ≡ moment) }
+        ensures room { OnOk result (HasRoom self.new.waiting) }
+        ensures plan { self.new.plan.now ≡ self.old.plan.now }
+    {
+        if moment == self.waiting.moment
+            && !self.waiting.records.is_full()
+            && !self.waiting.replies.is_full()
+        {
+            return Ok(());
+        }
+        self.post(counter)?;
+        self.waiting.moment = moment;
+        Ok(())
+    }
+
+    // The moment at which an entry is posted: its own, or where it wasn't posted that of those before it.
+    fn moment_for(&self, entry: &Entry) -> Moment
+        ensures { IsMomentOf (answered entry.now) result }
+    {
+        if is_posted(entry.reply.outcome()) {
+            entry.moment
+        } else {
+            self.waiting.moment
+        }
+    }
+
+    // Takes an entry, once the branches that it needs are open.
+    pub(crate) fn take<C: Counter>(
+        &mut self,
+        entry: &Entry,
+        counter: &mut C,
+    ) -> Result<(), FollowFault>
+        ensures follows { (first : C) (rows : Rows) (given : List AnsweredRequest)
+            → self.old.plan.now ≡ rows → IsFollowing C.seen C.spares rows first counter.old given self.old.waiting
+            → MatchResult result
+            (λ _. IsFollowing C.seen C.spares rows first counter.new (given ++ answered entry.now ∷ [])
+            self.new.waiting)
+            (Stops C.seen C.spares C.reason rows first counter.new given) }
+        ensures plan { self.new.plan.now ≡ self.old.plan.now }
+    {
+        self.open(branch_of_teller(entry.request.teller()), counter)?;
+        if had_account(entry.reply.outcome()) {
+            self.open(branch_of_account(entry.request.account()), counter)?;
+        }
+        let moment = self.moment_for(entry);
+        self.make_room(moment, counter)?;
+        self.waiting.push(entry);
+        Ok(())
+    }
+
+    // Takes entries, and posts all that waits, up to bytes that are no entry.
+    pub(crate) fn take_all<C: Counter>(
+        &mut self,
+        entries: &[[u8; ENTRY_BYTES]],
+        before: Count,
+        counter: &mut C,
+    ) -> Result<(), FollowFault>
+        requires waits { IsWaiting self.old.waiting [] }
+        requires few { before + length entries.now < 2 ^ 128 }
+        ensures follows { (first : C) (rows : Rows) (given : List AnsweredRequest)
+            → self.old.plan.now ≡ rows → HasFollowed C.seen C.spares rows first counter.old given
+            → TakesAll C.seen C.spares C.reason rows first counter.new given entries.now before result }
+        ensures empty { OnOk result (IsWaiting self.new.waiting []) }
+        ensures plan { self.new.plan.now ≡ self.old.plan.now }
+    {
+        for i in 0..entries.len() {
+            let entry = match decode_entry(&entries[i]) {
+                Some(entry) => entry,
+                None => {
+                    self.post(counter)?;
+                    return Err(FollowFault::NoEntry(before + i as Count));
+                }
+            };
+            self.take(&entry, counter)?;
+        }
+        self.post(counter)
+    }
+}
