@@ -1,13 +1,13 @@
 -- What is found after any number of lives.
 use Rattle.std.proofs.Common.{◌≡◌, ◌≤◌, ℕ, List, [], ◌∷◌, ◌++◌, length, take, refl, sym, subst, arith, inl, inr}
 use Rattle.std.proofs.Math.Seq.{take-length}
-use Rattle.posting_rules.specs.{believed.Commands.Command, believed.Entries.decided, Laws.NoneShares}
+use Rattle.posting_rules.specs.{believed.Commands.Command, believed.Entries.decided, believed.Laws.NoneShares}
 use Rattle.posting_rules.specs.{believed.Runs.followed_by, believed.Tables.Tables, believed.Tables.AreTablesOf}
 use Rattle.posting_rules.specs.believed.Counter.{Seen, StandsAt, LeavesOnly, ShowsPrefix, ShowsLog}
 use Rattle.posting_rules.proofs.{Remaining.leaves_weaker, Requests.are_new, Requests.none_shares}
 use Rattle.bank_lives.specs.believed.Lives.{EndsLife, Life}
-use Rattle.bank_lives.specs.believed.ManyLives.{Given, IsOpenedOn, Outlasts, LeavesShown, Lives, ShowsAfter, carried_over}
-use Rattle.bank_lives.specs.believed.ManyLives.{created, found, released, replayed, stopped, unopened}
+use Rattle.bank_lives.specs.believed.ManyLives.{Given, IsOpenedOn, Outlasts, LeavesShown, Lives, ShowsAfter}
+use Rattle.bank_lives.specs.believed.ManyLives.{found, released, replayed, stopped, unopened}
 use Rattle.bank_lives.proofs.Lived.{end_leaves, life_down, life_given, life_honest, life_lives}
 
 -- each request is posted once, whatever led to a log
@@ -71,8 +71,6 @@ module _ {M : Type 0} (seen : M → Seen) where
 
   pub before_life : (start : List Command) (first : M) (lives : List Given) → Lives seen start first lives
       → (seen first).honest → Before start first lives
-  before_life start first lives (created it stands) h = stands h
-  before_life start first lives (carried_over it from log stands) h = stands h
   before_life start first lives (found it log stands) h = stands h
   before_life start first lives (replayed opened it log leaves shown lived up) h =
       let stood = stands_shown (seen opened) log (λ down. up (life_down seen opened it [] 0 lived down)) leaves

@@ -3,16 +3,14 @@ use Rattle.std.proofs.Common.{◌≡◌, ◌≤◌, ℕ, List, length, take, Res
 use Rattle.std.specs.Prelude.{IfOk, IfErr}
 use Rattle.sqlite.specs.State.{HasCleanDisk, State, Survives, Opens}
 use Rattle.sqlite.specs.{Tree.Trees, Effect.Database, Held.state}
-use Rattle.posting_rules.specs.believed.{Commands.Command, Runs.followed_by, Tables.Tables, Laws.IsConsistent}
-use Rattle.posting_rules.specs.believed.Counter.{Seen, StandsAt, ShowsPrefix}
+use Rattle.posting_rules.specs.believed.{Commands.Command, Runs.followed_by, Tables.Tables}
+use Rattle.posting_rules.specs.believed.Counter.{ShowsPrefix}
 use Rattle.store_rows.specs.believed.View.{Shows, ShowsTrees}
 use Rattle.sqlite_trees.specs.declared.store.Store.{Ghosts}
 use Rattle.bank_store.specs.Connections.{conn_seen, state_in}
 use Rattle.bank_store.specs.{believed.Seen.seen_in, declared.bank.Bank.Bank, declared.refused.Refused.Refused}
 use Rattle.bank_store.proofs.JustOpened.{stands_opened}
-use Rattle.posting_rules.proofs.Consistent.{consistent}
-use Rattle.bank_lives.specs.believed.{Lives.IsFoundAgain, ManyLives.Given, ManyLives.IsFoundAfter, ManyLives.Outlasts}
-use Rattle.bank_lives.proofs.ManyLived.{Begins, each_once}
+use Rattle.bank_lives.proofs.ManyLived.{Begins}
 
 -- one that was opened on trees which show a prefix stands there
 pub begins_opened : (s : State) (log given : List Command) (least : ℕ) → Opens s
@@ -26,38 +24,6 @@ begins_opened s log given least opens settled finds (t, left, b) = record {
   within = b.within;
   stands = stands_opened s ⊥ (λ none. none) opens settled t (followed_by log (take b.count given)) b.are left
       (finds t left) b.shows;
-}
-
--- the tables that it shows are consistent
-sums_at : (seen : Seen) (log : List Command) (stands : StandsAt seen log)
-    → ((other : Tables) → seen.tables other → other ≡ stands.shows.tables)
-    → (t : Tables) → seen.tables t → IsConsistent t
-sums_at seen log stands one other shown = subst (λ (it : Tables). IsConsistent it)
-    (sym (one other shown)) (consistent stands.shows.tables log stands.shows.shows)
-
--- a bank that stands at a prefix
-pub found_at : (seen : Seen) (log given : List Command) (least count : ℕ) → least ≤ count
-    → count ≤ length given → (stands : StandsAt seen (followed_by log (take count given)))
-    → ((other : Tables) → seen.tables other → other ≡ stands.shows.tables) → IsFoundAgain seen log given least
-found_at seen log given least count holds within stands one = record {
-  count = count;
-  holds = holds;
-  within = within;
-  stands = stands;
-  once = each_once (followed_by log (take count given));
-  sums = sums_at seen (followed_by log (take count given)) stands one;
-}
-
--- a bank that stands at what the lives before it lead to
-pub kept_at : (seen : Seen) (start : List Command) (lives : List Given) (log : List Command)
-    → Outlasts start log lives → (stands : StandsAt seen log)
-    → ((other : Tables) → seen.tables other → other ≡ stands.shows.tables) → IsFoundAfter seen start lives
-kept_at seen start lives log keeps stands one = record {
-  log = log;
-  keeps = keeps;
-  stands = stands;
-  once = each_once log;
-  sums = sums_at seen log stands one;
 }
 
 -- a connection that was refused leaves what was found as it was opened

@@ -47,8 +47,9 @@ pub fn replayed_law<S: Alter>(conn: &Connection<S>)
 {}
 
 /// **After any number of lives the bank shows a log that is, life by life, a prefix of what was given, which
-/// holds all that was acknowledged. Each request is posted once, every branch has the sum of its tellers, and
-/// accounts, tellers and the deltas of history have one sum** (TPC-B clause 2). A bank that was made begins with
+/// holds all that was acknowledged.** In every log each request is posted once, every branch has the sum of its
+/// tellers, and accounts, tellers and the deltas of history have one sum (TPC-B clause 2; the laws
+/// `each_request_once` and `tables_are_consistent` of `posting_rules`). A bank that was made begins with
 /// no command, one that was carried over from an earlier version with the plain log of its file, one that
 /// [`reopen`](crate::reopen) found over the files of another store with the log at which it stands (`on`), and one
 /// of anyone's, of which a replay said that it agrees, with the log that its tables show ([`replayed_law`]). Each

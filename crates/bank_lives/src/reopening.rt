@@ -8,7 +8,7 @@ ghost use Rattle.posting_rules.specs.believed.Counter.{LeavesOnly, ShowsPrefix, 
 ghost use Rattle.bank_store.specs.Connections.{conn_seen};
 ghost use Rattle.bank_store.specs.believed.Seen.{bank_seen};
 ghost use Rattle.bank_store.specs.StoreFaults.{KnowsCause};
-ghost use Rattle.bank_lives.specs.believed.Lives.{IsFoundAgain, Life};
+ghost use Rattle.bank_lives.specs.believed.Lives.{Life};
 ghost use Rattle.bank_lives.specs.believed.ManyLives.{Given, IsFoundAfter, Lives};
 ghost use Rattle.bank_lives.specs.believed.Moments.{Moment, Of_bank, seen_at};
 
@@ -19,11 +19,12 @@ use store_rows::trees_show_law;
 
 /// Takes up the bank over a connection that was opened on what a crash left of another bank.
 ///
-/// `stopped` is that bank at the moment of the crash, after whatever calls it was given. The bank that is
-/// found shows the log that the life began with and a prefix of the commands that were given, which holds
-/// every one that was acknowledged. Each request is posted once, and every branch has the sum of its tellers
-/// (TPC-B clause 2). So it is after any number of lives (`kept`): the bank that is found is the first of the
-/// next life. All this is said of disks that return what was written, as long as nobody else writes the files.
+/// `stopped` is that bank at the moment of the crash, after any number of lives and whatever calls it was given in
+/// the last. The bank that is found shows the log that the first life began with and then, life by life, a prefix of
+/// the commands that were given, which holds every one that was acknowledged. It is the first bank of the next life.
+/// In such a log each request is posted once, and every branch has the sum of its tellers (TPC-B clause 2): the laws
+/// `each_request_once` and `tables_are_consistent` of `posting_rules`. All this is said of disks that return what was
+/// written, as long as nobody else writes the files.
 ///
 /// # Errors
 ///
@@ -36,12 +37,6 @@ pub fn reopen<S: Alter + Drop, T: Alter>(
     conn: Connection<T>,
 ) -> Result<Bank<T>, Refused<T>>
     requires { conn.in_transaction ≡ false }
-    ensures found { IfOk result (λ bank. (bank_seen T.Store bank).honest → Opens (state T.Store conn)
-        → (bank_seen S.Store stopped.now).honest
-        → (bank_seen S.Store stopped.now).left (state T.Store conn).now.trees
-        → (first : _) (log given : List Command) (least : ℕ) → StandsAt (bank_seen S.Store first) log
-        → Life (λ bank. bank_seen S.Store bank) first stopped.now given least
-        → IsFoundAgain (bank_seen T.Store bank) log given least) }
     ensures lives { IfOk result (λ bank. (bank_seen T.Store bank).honest → Opens (state T.Store conn)
         → (bank_seen S.Store stopped.now).honest
         → (bank_seen S.Store stopped.now).left (state T.Store conn).now.trees

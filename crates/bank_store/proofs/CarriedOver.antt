@@ -2,7 +2,7 @@
 use Rattle.std.proofs.Common.{ℕ, pos, List, Ok, Err, refl, ap, subst, ◌∙◌, inl, inr}
 use Rattle.sqlite.specs.{Held.Held, Held.state, State.State, State.HasCleanDisk, State.Survives}
 use Rattle.sqlite_trees.specs.declared.store.Store.{Ghosts}
-use Rattle.posting_rules.specs.{believed.Commands.Command, believed.Counter.StandsAt, believed.Editions.plain}
+use Rattle.posting_rules.specs.{believed.Commands.Command, believed.Counter.StandsAt, Editions.plain}
 use Rattle.posting_rules.proofs.Editions.{plain_are_commands}
 use Rattle.bank_store.specs.Migration.{BankIsMoved, HasCarriedOver, HasMoved, IsFromEarlier, IsMigrated, KnowsAnswer}
 use Rattle.bank_store.specs.Migration.{LeavesBank, Migrates, Misplaces, ShowsEarlier}

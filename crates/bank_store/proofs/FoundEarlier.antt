@@ -6,7 +6,7 @@ use Rattle.std.specs.List.{take-map}
 use Rattle.sqlite.specs.{Table.Table, Effect.Database, State.State}
 use Rattle.sqlite_rules.specs.Lists.{Has}
 use Rattle.posting_rules.specs.{believed.Commands.Command, believed.Commands.AreCommands, Editions.AreTablesIn}
-use Rattle.posting_rules.specs.{believed.Editions.plain, believed.Tables.Tables, believed.Tables.AreTablesOf}
+use Rattle.posting_rules.specs.{Editions.plain, believed.Tables.Tables, believed.Tables.AreTablesOf}
 use Rattle.posting_rules.specs.{declared.limits.TheConstants.MAX_DECIDED, declared.open_fault.OpenFault.OpenFault}
 use Rattle.posting_rules.specs.declared.fault.Rule.TheVariants.{Meta, Teller, Value}
 use Rattle.posting_rules.specs.declared.open_fault.OpenFault.TheVariants.{Store, Blank, Foreign, Version, Damaged}

@@ -11,7 +11,7 @@ use Rattle.sqlite.specs.declared.error.Error.{Error}
 use Rattle.sqlite_trees.specs.declared.store.Store.{Ghosts}
 use Rattle.posting_rules.specs.believed.Commands.{Command, AreCommands}
 use Rattle.posting_rules.specs.believed.Counter.{LeavesOnly, ShowsLog, StandsAt}
-use Rattle.posting_rules.specs.believed.Editions.{plain}
+use Rattle.posting_rules.specs.Editions.{plain}
 use Rattle.posting_rules.specs.Editions.{AreTablesIn}
 use Rattle.posting_rules.specs.believed.Tables.{Tables, AreTablesOf}
 use Rattle.posting_rules.specs.declared.fault.Rule.TheVariants.{Meta, Value}

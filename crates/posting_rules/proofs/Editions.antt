@@ -18,8 +18,8 @@ use Rattle.posting_rules.specs.believed.Entries.{DecidedRequest, facts, refused_
 use Rattle.posting_rules.specs.believed.Entries.{with_record, decided}
 use Rattle.posting_rules.specs.believed.Tables.{Tables, HasRows, AreTablesOf, row_at, floor_key, floor_row_of}
 use Rattle.posting_rules.specs.believed.Tables.{reference_key, reference_row}
-use Rattle.posting_rules.specs.believed.Editions.{Edition, before_floors, before_references, present, edition, known}
-use Rattle.posting_rules.specs.believed.Editions.{plain}
+use Rattle.posting_rules.specs.Editions.{Edition, before_floors, before_references, present, edition, known}
+use Rattle.posting_rules.specs.Editions.{plain}
 use Rattle.posting_rules.specs.Editions.{opened_in, decided_in, AreTablesIn}
 use Rattle.posting_rules.proofs.Keyed.{by_test}
 

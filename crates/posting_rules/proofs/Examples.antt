@@ -8,7 +8,7 @@ use Rattle.message_records.specs.believed.Spelling.{digits, fields_spelling, rep
 use Rattle.message_records.specs.believed.Reading.{fields_of, plain_request_of, referenced_request_of, request_of}
 use Rattle.posting_rules.specs.believed.Commands.{Command, Open, Post, opened, opened_with}
 use Rattle.posting_rules.specs.{believed.Cases.case_of, declared.judgments.Verdict.TheVariants.Refused}
-use Rattle.posting_rules.specs.believed.Editions.{edition, plain}
+use Rattle.posting_rules.specs.Editions.{edition, plain}
 use Rattle.posting_rules.specs.Editions.{opened_in, decided_in}
 use Rattle.posting_rules.specs.believed.Entries.{DecidedRequest, facts, is_posted, posted_entry, decided, reply}
 use Rattle.posting_rules.specs.believed.Entries.{teller_balance, branch_balance}

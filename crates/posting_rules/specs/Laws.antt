@@ -1,6 +1,6 @@
 -- Laws of every log, beside the consistency condition.
-use Rattle.std.specs.Prelude.{◌≡◌, ◌≤◌, ◌≤ℤ◌, ℕ, ℤ, nat_abs, List}
-use Rattle.std.specs.Prelude.{AllPairs, IfSome}
+use Rattle.std.specs.Prelude.{◌≡◌, ◌≤◌, ◌≤ℤ◌, ℕ, nat_abs, List}
+use Rattle.std.specs.Prelude.{IfSome}
 use Rattle.message_records.specs.declared.limits.TheConstants.{MAX_BALANCE}
 use Rattle.posting_rules.specs.believed.Commands.{Command, AreCommands, opened, floor_of}
 use Rattle.posting_rules.specs.believed.Numbering.{branch_of_account}
@@ -8,11 +8,6 @@ use Rattle.posting_rules.specs.believed.Entries.{decided, account_balance, telle
 use Rattle.posting_rules.specs.believed.Entries.{branch_balance}
 use Rattle.posting_rules.specs.believed.Tables.{Tables, AreTablesOf}
 use Rattle.posting_rules.specs.believed.Runs.{replies_to}
-use Rattle.posting_rules.specs.believed.Laws.{Differ, IsConsistent}
-
--- no two decided requests share teller and number
-abbrev pub NoneShares : Type 0
-NoneShares = (log : List Command) → AllPairs Differ (decided log)
 
 -- ---- balances
 
@@ -30,9 +25,6 @@ abbrev pub AccountsStayAbove : Type 0
 AccountsStayAbove = (log : List Command) → AreCommands log → (account : ℕ)
     → IfSome (floor_of (λ b. opened log b) (branch_of_account account))
     (λ floor. floor ≤ℤ account_balance (decided log) account)
-
-abbrev pub TablesAreConsistent : Type 0
-TablesAreConsistent = (t : Tables) (log : List Command) → AreTablesOf t log → IsConsistent t
 
 -- ---- the tables say all that matters of a log
 

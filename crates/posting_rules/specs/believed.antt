@@ -4,7 +4,6 @@ pub mod Kept
 pub mod Cases
 pub mod Entries
 pub mod Tables
-pub mod Editions
 pub mod LookUps
 pub mod Runs
 pub mod Laws

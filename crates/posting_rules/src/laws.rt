@@ -1,7 +1,8 @@
 //! Laws of the bank, for every log of commands. Each is a function that does nothing: its contract is the
 //! law.
 ghost use Rattle.posting_rules.specs.Stated.{DecidedAsStated, RepliedAsStated};
-ghost use Rattle.posting_rules.specs.Laws.{NoneShares, BalancesStayWithin, TablesAreConsistent};
+ghost use Rattle.posting_rules.specs.believed.Laws.{NoneShares, TablesAreConsistent};
+ghost use Rattle.posting_rules.specs.Laws.{BalancesStayWithin};
 ghost use Rattle.posting_rules.specs.Laws.{AccountsStayAbove, EqualTablesAnswerAlike};
 ghost use Rattle.posting_rules.specs.Alike.{OpeningsAnswerAlike, BalancesAnswerAlike, BranchesAnswerAlike};
 ghost use Rattle.posting_rules.specs.Damage.{TablesAreUndamaged};

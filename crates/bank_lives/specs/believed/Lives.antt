@@ -1,13 +1,11 @@
--- The life of a counter from call to call, how it ends, and what is found after it was stopped.
-use Rattle.std.specs.Prelude.{◌≡◌, ◌≤◌, ◌⊎◌, ℕ, zero, suc, ◌+◌, List, [], ◌++◌, length, take, AllPairs}
+-- The life of a counter from call to call, and how it ends.
+use Rattle.std.specs.Prelude.{◌≡◌, ◌≤◌, ◌⊎◌, ℕ, zero, suc, ◌+◌, List, [], ◌++◌, length}
 use Rattle.posting_rules.specs.declared.fault.Fault.{Fault}
 use Rattle.posting_rules.specs.declared.fault.Fault.TheVariants.{Memory, Store, Down, Damaged}
 use Rattle.posting_rules.specs.believed.Commands.{Command}
 use Rattle.posting_rules.specs.believed.Counter.{Seen, StandsAt, LeavesOnly, LeavesNoMore, ShowsPrefix}
-use Rattle.posting_rules.specs.believed.Entries.{decided}
-use Rattle.posting_rules.specs.believed.Laws.{Differ, IsConsistent}
 use Rattle.posting_rules.specs.believed.Runs.{followed_by}
-use Rattle.posting_rules.specs.believed.Tables.{Tables, AreTablesOf}
+use Rattle.posting_rules.specs.believed.Tables.{AreTablesOf}
 
 -- ---- one call
 
@@ -60,16 +58,3 @@ pub record EndsLife (now last : Seen) : Type 0 where
   pub survives : last.honest → (log : List Command) → StandsAt now log
       → LeavesOnly last (λ t. AreTablesOf t log)
   pub down : last.honest → now.is_down → LeavesNoMore now last
-
--- ---- after a crash
-
--- It shows the log that the life began with and a prefix of the commands that were given in it, which
--- holds every one that was acknowledged, and so does whatever a crash leaves of it. Each request is posted
--- once, and accounts, tellers, branches and the deltas of history have one sum (TPC-B clause 2).
-pub record IsFoundAgain (seen : Seen) (log given : List Command) (least : ℕ) : Type 0 where
-  pub count : ℕ
-  pub holds : least ≤ count
-  pub within : count ≤ length given
-  pub stands : StandsAt seen (followed_by log (take count given))
-  pub once : AllPairs Differ (decided (followed_by log (take count given)))
-  pub sums : (t : Tables) → seen.tables t → IsConsistent t

@@ -1,10 +1,7 @@
 -- Any number of lives, one after another, and what is found at last.
-use Rattle.std.specs.Prelude.{◌≡◌, ◌≤◌, ℕ, List, [], ◌∷◌, length, take, AllPairs}
+use Rattle.std.specs.Prelude.{◌≡◌, ◌≤◌, ℕ, List, [], ◌∷◌, length, take}
 use Rattle.posting_rules.specs.believed.Commands.{Command, AreCommands}
 use Rattle.posting_rules.specs.believed.Counter.{LeavesOnly, Seen, ShowsLog, StandsAt}
-use Rattle.posting_rules.specs.believed.Editions.{plain}
-use Rattle.posting_rules.specs.believed.Entries.{decided}
-use Rattle.posting_rules.specs.believed.Laws.{Differ, IsConsistent}
 use Rattle.posting_rules.specs.believed.Runs.{followed_by}
 use Rattle.posting_rules.specs.believed.Tables.{Tables, AreTablesOf}
 use Rattle.bank_lives.specs.believed.Lives.{Life, EndsLife}
@@ -32,13 +29,8 @@ given_nothing = record { commands = []; least = 0 }
 -- The log that the first life began at, the moment at which a life begins, and what the lives before it were
 -- given, the last of them first.
 pub data Lives {M : Type 0} (seen : M → Seen) : List Command → M → List Given → Type 0 where
-  -- a new bank
-  created : (first : M) → ((seen first).honest → StandsAt (seen first) []) → Lives seen [] first []
-  -- a bank of an earlier version that was carried over, and stands at the plain log of what it showed
-  carried_over : (first : M) (from : ℕ) (log : List Command)
-      → ((seen first).honest → StandsAt (seen first) (plain from log))
-      → Lives seen (plain from log) first []
-  -- a bank that was found standing at a log, as `reopen` says of one over the files of another store
+  -- a bank that stands at a log: a new one at none, one of an earlier version that was carried over at the plain log
+  -- of its file, one over the files of another store at the log at which `reopen` says that it was found
   found : (first : M) (log : List Command) → ((seen first).honest → StandsAt (seen first) log)
       → Lives seen log first []
   -- a file of anyone's that was opened and shows a log, as `replay` says of one that agrees: what was called between
@@ -66,14 +58,11 @@ Outlasts start log [] = log ≡ start
 Outlasts start log (life ∷ lives) = (before : List Command) × Outlasts start before lives × (count : ℕ)
     × (life.least ≤ count) × (count ≤ length life.commands) × (log ≡ followed_by before (take count life.commands))
 
--- It shows such a log, and so does whatever a crash leaves of it. Each request is posted once, and accounts,
--- tellers, branches and the deltas of history have one sum (TPC-B clause 2).
+-- It shows such a log, and so does whatever a crash leaves of it.
 pub record IsFoundAfter (seen : Seen) (start : List Command) (lives : List Given) : Type 0 where
   pub log : List Command
   pub keeps : Outlasts start log lives
   pub stands : StandsAt seen log
-  pub once : AllPairs Differ (decided log)
-  pub sums : (t : Tables) → seen.tables t → IsConsistent t
 
 -- the tables show such a log
 pub record ShowsAfter (start : List Command) (lives : List Given) (tables : Tables) : Type 0 where

@@ -79,7 +79,7 @@ case_of f r = teller_case f.teller f r
 -- the reply in each case; it shows the request without its reference
 abbrev pub reply_in : Verdict → RequestFields → ReplyFields
 reply_in (Unkept outcome) r = record { outcome = outcome; request = Some (unreferenced r); balance = None }
-reply_in (Again reply) r = reply
+reply_in (Again first) r = first
 reply_in (Refused outcome) r = record { outcome = outcome; request = Some (unreferenced r); balance = None }
 reply_in (Posted account teller branch) r = record {
   outcome = outcome.Posted;

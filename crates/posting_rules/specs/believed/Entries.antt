@@ -81,7 +81,7 @@ posted_entry moment r balance = record (refused_entry moment r outcome.Posted) {
 -- the decided requests, with this one where it is decided now
 abbrev pub with_verdict : ℕ → RequestFields → Verdict → List DecidedRequest → List DecidedRequest
 with_verdict moment r (Unkept outcome) es = es
-with_verdict moment r (Again reply) es = es
+with_verdict moment r (Again first) es = es
 with_verdict moment r (Refused outcome) es = refused_entry moment r outcome ∷ es
 with_verdict moment r (Posted account teller branch) es = posted_entry moment r account ∷ es
 

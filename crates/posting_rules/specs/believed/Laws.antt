@@ -1,14 +1,15 @@
 -- What holds of every log: the consistency condition (TPC-B clause 2) and what else a banker relies on.
 use Rattle.std.specs.Prelude.{◌≡◌, ℕ, ℤ, pos, ◌+ℤ◌, List, [], ◌∷◌, map, filter, Option}
-use Rattle.std.specs.Prelude.{Some, None, true, ◌==◌, ◌&&◌, nat_le}
+use Rattle.std.specs.Prelude.{Some, None, true, ◌==◌, ◌&&◌, nat_le, AllPairs}
 use Rattle.std.specs.List.{AllByRecursion}
 use Rattle.message_records.specs.believed.Outcomes.{has_balance}
 use Rattle.posting_rules.specs.declared.rows.TellerRow.{TellerRow}
 use Rattle.posting_rules.specs.declared.rows.HistoryRow.{HistoryRow}
 use Rattle.posting_rules.specs.declared.rows.RequestRow.{RequestRow}
+use Rattle.posting_rules.specs.believed.Commands.{Command}
 use Rattle.posting_rules.specs.believed.Numbering.{branch_of_teller}
-use Rattle.posting_rules.specs.believed.Entries.{DecidedRequest}
-use Rattle.posting_rules.specs.believed.Tables.{Tables, row_at, history_key, request_key}
+use Rattle.posting_rules.specs.believed.Entries.{DecidedRequest, decided}
+use Rattle.posting_rules.specs.believed.Tables.{Tables, AreTablesOf, row_at, history_key, request_key}
 use Rattle.posting_rules.specs.believed.LookUps.{balance_of_branch, balance_of_teller, balance_of_account}
 
 -- ---- each request once
@@ -16,6 +17,10 @@ use Rattle.posting_rules.specs.believed.LookUps.{balance_of_branch, balance_of_t
 -- two decided requests have different tellers or different numbers
 abbrev pub Differ : DecidedRequest → DecidedRequest → Type 0
 Differ d e = d.request.teller ≡ e.request.teller → d.request.number ≡ e.request.number → ⊥
+
+-- no two decided requests share teller and number
+abbrev pub NoneShares : Type 0
+NoneShares = (log : List Command) → AllPairs Differ (decided log)
 
 -- ---- the consistency condition, on tables alone
 
@@ -48,3 +53,7 @@ pub record IsConsistent (t : Tables) : Type 0 where
   -- history has a row for each posted request and no other, and its deltas have that sum too
   pub matched : (o : ℕ) → Match (row_at request_key t.requests o) (row_at history_key t.history o)
   pub history : total (map delta_of t.history) ≡ total (map balance_of_account t.accounts)
+
+-- so it is of the tables of every log
+abbrev pub TablesAreConsistent : Type 0
+TablesAreConsistent = (t : Tables) (log : List Command) → AreTablesOf t log → IsConsistent t

@@ -6,22 +6,8 @@ use Rattle.bank_store.specs.believed.Seen.{bank_seen}
 use Rattle.bank_store.proofs.Unmade.{if_err}
 use Rattle.bank_lives.specs.believed.Moments.{Of_bank, seen_at}
 use Rattle.bank_lives.proofs.{Lived.life_honest, Lived.life_leaves, ManyLived.kept}
-use Rattle.bank_lives.proofs.Reopened.{begins_opened, found_at, if_ok, kept_at, refused_leaves}
+use Rattle.bank_lives.proofs.Reopened.{begins_opened, if_ok, refused_leaves}
 use Rattle.bank_lives.proofs.reopening.reopen.Goals as goal
-
-pub returns-clause-found : goal.returns-clause-found
-returns-clause-found g c =
-    if_ok _ _ (λ bank taken honest opens stopped left first log given least stood life.
-    let it = begins_opened (state g.T.Store c.args.conn) log given least opens
-    (λ db may. g.met.T.Store.settled c.args.conn.store db opens.is_open may)
-    (λ t shown. c.trees_show_law.ensures.finds opens.is_open t shown)
-    (life_leaves (λ bank. bank_seen g.S.Store bank) first c.args.stopped.now given least life stopped log stood
-    (g.T.Store.view c.args.conn.store).trees left) in
-    let at = taken.stands honest _ it.stands in
-    found_at (bank_seen g.T.Store bank) log given least it.count it.holds it.within
-    at
-    (λ other shown. c.trees_show_law.ensures.once (g.T.Store.view bank.conn.store).trees other at.shows.tables
-    (bank.conn.schema, shown) (bank.conn.schema, at.shows.are))) c.adopt.result c.adopt.ensures.found
 
 pub returns-clause-lives : goal.returns-clause-lives
 returns-clause-lives g c =
@@ -35,11 +21,11 @@ returns-clause-lives g c =
     (life_leaves (seen_at g.S.Store) first last life.commands life.least lived stopped was.0 was.2
     (g.T.Store.view c.args.conn.store).trees left) in
     let at = taken.stands honest _ it.stands in
-    kept_at (bank_seen g.T.Store bank) start (life ∷ lives) (followed_by was.0 (take it.count life.commands))
-    (was.0, was.1, it.count, it.holds, it.within, refl)
-    at
-    (λ other shown. c.trees_show_law.ensures.once (g.T.Store.view bank.conn.store).trees other at.shows.tables
-    (bank.conn.schema, shown) (bank.conn.schema, at.shows.are))) c.adopt.result c.adopt.ensures.found
+    record {
+      log = followed_by was.0 (take it.count life.commands);
+      keeps = (was.0, was.1, it.count, it.holds, it.within, refl);
+      stands = at;
+    }) c.adopt.result c.adopt.ensures.found
 
 pub returns-clause-missed : goal.returns-clause-missed
 returns-clause-missed g c =
