@@ -3,16 +3,25 @@
 # copy is audited and replayed, and its first requests are compared with those of the evening before. Ends with status 0
 # if all is well; any other status is an alarm, and a line on standard error says of what.
 #
-#     examples/evening.sh FILE FOLDER [DIGESTS]
+#     examples/evening.sh [--after-recovery] FILE FOLDER [DIGESTS]
 #
 # FILE is the bank. FOLDER, a new one each evening, gets the copy, its audit and its replay. The file DIGESTS gets a line
 # `requests N digest D` each evening: let it be where nobody who can write FILE can write. If it isn't named, it is beside
-# FOLDER. STOP and START are the commands that stop and start the counter, and BANK is the program; without them it is
-# the service of examples/bank.service.
+# FOLDER. After a recovery, whose postings have other moments, `--after-recovery` accepts requests that differ from those
+# of the evening before, says so, and adds the new line.
+#
+# STOP and START are the commands that stop and start the counter, OPEN is one that succeeds once it answers, within
+# SECONDS_TO_OPEN, and BANK is the program; without them it is the service of examples/bank.service, and 300 seconds.
 set -eu
 stop="${STOP:-systemctl stop bank}"
 start="${START:-systemctl start bank}"
+open="${OPEN:-runuser -u www-data -- curl -sfo /dev/null http://127.0.0.1:8080/branches}"
 bank="${BANK:-bank}"
+recovered=no
+if [ "${1:-}" = --after-recovery ]; then
+    recovered=yes
+    shift
+fi
 file="${1:?the bank}"
 folder="${2:?a folder for the copy}"
 name="$(basename "$file")"
@@ -22,6 +31,19 @@ digests="${3:-$(dirname "$folder")/$name.digests}"
 alarm() {
     echo "evening: $1" >&2
     exit 1
+}
+# An alarm, unless the bank was recovered since.
+differs() {
+    if [ "$recovered" = no ]; then alarm "$1"; fi
+    echo "evening: accepted after a recovery: $1"
+}
+# A large bank takes its time to open.
+opens() {
+    for _ in $(seq "${SECONDS_TO_OPEN:-300}"); do
+        if $open; then return; fi
+        sleep 1
+    done
+    return 1
 }
 copy_both() {
     cp "$file" "$copy" && if [ -e "$file-wal" ]; then cp "$file-wal" "$copy-wal"; fi
@@ -43,6 +65,7 @@ if $stop && copy_both; then copied=yes; fi
 trap - EXIT
 $start || alarm "the counter did not start"
 if [ "$copied" = no ]; then alarm "$file was not copied"; fi
+opens || alarm "the counter did not open: see \`journalctl -u bank\`"
 sync "$copy" "$folder"
 
 "$bank" audit "$copy" >"$copy.audit" || alarm "bank audit ended with status $?: see $copy.audit"
@@ -50,9 +73,10 @@ sync "$copy" "$folder"
 if [ -s "$digests" ]; then
     before="$(tail -1 "$digests")"
     count="$(cut -d ' ' -f 2 <<<"$before")"
-    "$bank" digest "$copy" "$count" >"$copy.digest" || alarm "$copy has not the $count requests of the evening before"
-    if [ "$(one_line "$copy.digest")" != "$before" ]; then
-        alarm "the first $count requests are not those of the evening before: see $copy.digest and $digests"
+    if ! "$bank" digest "$copy" "$count" >"$copy.digest"; then
+        differs "$copy has not the $count requests of the evening before"
+    elif [ "$(one_line "$copy.digest")" != "$before" ]; then
+        differs "the first $count requests are not those of the evening before: see $copy.digest and $digests"
     fi
 fi
 one_line "$copy.replay" >>"$digests"

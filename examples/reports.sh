@@ -5,10 +5,17 @@
 #
 # It needs `sqlite3`. No command may run on FILE while it is copied: see examples/evening.sh, whose copy serves as FILE.
 # FOLDER gets postings.csv, all postings; without it there is none. The day is today if none is named.
+#
+# The views are in a file of their own, over the bank that it attaches: one in the bank's file, as with OVER, the bank
+# could not read.
 set -eu
 file="${1:?the bank, or a copy of it}"
 day="${2:-$(date -u +%F)}"
 folder="${3:-}"
+if [ "$(date -u -d "$day" +%F 2>/dev/null)" != "$day" ]; then
+    echo "reports: $day is no date such as $(date -u +%F)" >&2
+    exit 2
+fi
 work="$(mktemp -d)"
 trap 'rm -rf "$work"' EXIT
 cp "$file" "$work/copy.db"
@@ -16,18 +23,20 @@ if [ -e "$file-wal" ]; then cp "$file-wal" "$work/copy.db-wal"; fi
 
 ask() {
     echo "== $1"
-    sqlite3 -header "-${3:-column}" "$work/copy.db" "$2"
+    sqlite3 -header "-${3:-column}" -cmd ".read $work/views.sql" :memory: "$2"
 }
 
 # A posting with its time, its amount in units and hundredths, and its reference.
-sqlite3 "$work/copy.db" "
-CREATE VIEW posting AS SELECT ordinal, datetime(moment, 'unixepoch') AS time, bid AS branch, tid AS teller,
+cat >"$work/views.sql" <<END
+ATTACH '$work/copy.db' AS bank;
+CREATE TEMP VIEW posting AS SELECT ordinal, datetime(moment, 'unixepoch') AS time, bid AS branch, tid AS teller,
     aid AS account, delta, printf('%+.2f', delta / 100.0) AS amount,
     coalesce(rtrim(reference), '') AS reference
   FROM history LEFT JOIN request_reference USING (ordinal);
-CREATE VIEW today AS SELECT * FROM posting WHERE date(time) = '$day';
-CREATE TABLE outcome (code INTEGER PRIMARY KEY, name TEXT);
-INSERT INTO outcome VALUES (12, 'WRONG BRANCH'), (13, 'NO ACCOUNT'), (14, 'OVER LIMIT'), (17, 'BELOW FLOOR');"
+CREATE TEMP VIEW today AS SELECT * FROM posting WHERE date(time) = '$day';
+CREATE TEMP TABLE outcome (code INTEGER PRIMARY KEY, name TEXT);
+INSERT INTO outcome VALUES (12, 'WRONG BRANCH'), (13, 'NO ACCOUNT'), (14, 'OVER LIMIT'), (17, 'BELOW FLOOR');
+END
 
 ask "$day: totals by branch" "SELECT branch, count(*) AS postings,
     printf('%+.2f', sum(max(delta, 0)) / 100.0) AS paid_in, printf('%+.2f', sum(min(delta, 0)) / 100.0) AS paid_out,

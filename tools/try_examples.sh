@@ -59,12 +59,16 @@ same "$(grep -c . out/postings.csv)" "$(($(sqlite3 my.db 'SELECT count(*) FROM h
 same "$(awk '/totals by branch/ { on = 1 } /: postings/ { on = 0 } on && /^[0-9]/ { sum += $5 } END { printf "%.2f", sum }' reports)" \
     "$(sqlite3 my.db 'SELECT printf("%.2f", sum(balance) / 100.0) FROM branch')" "the totals of $day"
 "$bank" audit my.db | grep -q "^CONSISTENT$" || fail "reports.sh changed the bank"
+for it in yesterday 28.11.2026 2026-02-30 2026-1-1; do
+    if "$top/examples/reports.sh" my.db "$it" >/dev/null 2>&1; then fail "reports.sh took $it for a date"; fi
+done
 echo "reports.sh"
 
 # Evenings of copies of this bank, in the folder `safe`.
 evening() {
     rm -f started
-    STOP="${stop:-true}" START="touch started" BANK="$bank" "$top/examples/evening.sh" "$@" >said 2>&1
+    STOP="${stop:-true}" START="touch started" OPEN="${open:-test -e started}" BANK="$bank" \
+        "$top/examples/evening.sh" "$@" >said 2>&1
 }
 is_started() {
     [ -e started ] || fail "the counter was not started again: $(cat said)"
@@ -100,6 +104,12 @@ changed() {
 changed 'UPDATE teller SET balance = balance + 1 WHERE tid = 1' 'bank audit ended with status 5' 4
 changed 'UPDATE account SET balance = balance + 300 - 200 * aid WHERE aid < 3' 'bank replay ended with status 5' 5
 changed 'UPDATE history SET moment = moment - 1 WHERE ordinal = 1' 'are not those of the evening before' 6
+evening --after-recovery changed.db safe/8 safe/recovered.digests || fail "an evening after a recovery: $(cat said)"
+cp safe/my.db.digests safe/recovered.digests
+evening --after-recovery changed.db safe/9 safe/recovered.digests || fail "an evening after a recovery: $(cat said)"
+grep -q "^evening: accepted after a recovery: .*are not those" said || fail "an evening that says nothing: $(cat said)"
+evening changed.db safe/10 safe/recovered.digests || fail "an evening after that one: $(cat said)"
+stop=true open=false SECONDS_TO_OPEN=1 alarms "the counter did not open" my.db safe/11
 alarms "has not the $count requests" safe/1/my.db safe/7 safe/my.db.digests
 echo "evening.sh"
 
