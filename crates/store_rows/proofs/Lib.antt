@@ -5,6 +5,7 @@ pub mod CreateTexts
 pub mod CreationEnds
 pub mod CreationSteps
 pub mod EmptyFile
+mod AsMade
 pub mod Failing
 pub mod Lacking
 pub mod FoundRows
