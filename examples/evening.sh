@@ -6,13 +6,15 @@
 #     examples/evening.sh [--after-recovery] FILE FOLDER [DIGESTS]
 #
 # FILE is the bank. FOLDER, a new one each evening, gets the copy, its audit and its replay. The file DIGESTS gets a line
-# `requests N digest D` each evening: let it be where nobody who can write FILE can write. If it isn't named, it is beside
-# FOLDER. After a recovery, whose postings have other moments, `--after-recovery` accepts requests that differ from those
+# `requests N digest D` each evening, and DIGESTS.plan the branches with their accounts and floors, which no digest has: let
+# both be where nobody who can write FILE can write. If it isn't named, it is beside FOLDER. A branch that was opened since
+# the evening before is shown; one whose accounts or floor changed, or that went, is an alarm. After a recovery, whose postings have other moments, `--after-recovery` accepts requests that differ from those
 # of the evening before, says so, and adds the new line.
 #
 # STOP and START are the commands that stop and start the counter, OPEN is one that succeeds once it answers, within
 # SECONDS_TO_OPEN, and BANK is the program; without them it is the service of examples/bank.service, and 300 seconds.
-set -eu
+set -eu -o pipefail
+export LC_ALL=C
 stop="${STOP:-systemctl stop bank}"
 start="${START:-systemctl start bank}"
 open="${OPEN:-runuser -u www-data -- curl -sfo /dev/null http://127.0.0.1:8080/branches}"
@@ -79,5 +81,12 @@ if [ -s "$digests" ]; then
         differs "the first $count requests are not those of the evening before: see $copy.digest and $digests"
     fi
 fi
+"$bank" plan "$copy" | sort >"$copy.plan" || alarm "bank plan failed"
+if [ -s "$digests.plan" ]; then
+    changed="$(comm -23 "$digests.plan" "$copy.plan" | paste -sd ' ' -)"
+    if [ -n "$changed" ]; then differs "not as the evening before: the branches (branch,accounts,floor) $changed"; fi
+    comm -13 "$digests.plan" "$copy.plan" | sed 's/^/evening: opened since (branch,accounts,floor): /'
+fi
+cp "$copy.plan" "$digests.plan"
 one_line "$copy.replay" >>"$digests"
 tail -qn 1 "$copy.audit" "$copy.replay" "$digests"
