@@ -33,13 +33,14 @@
 //! judging and after it. Read next: `specs/Writing`, what a batch writes; `specs/Batches`, what one leaves
 //! in which nothing is decided; `Transacts` of `bank_transactions/specs/Doing`, by which [`post_all`] is
 //! said.
-ghost use Rattle.std.specs.Prelude.{◌≡◌, ℕ, List, length, false, IfOk, OnOk};
+ghost use Rattle.std.specs.Prelude.{◌≡◌, ℕ, List, length, false, None, IfOk, IsTrue, OnOk};
 ghost use Rattle.sqlite.specs.State.{HasCleanDisk};
 ghost use Rattle.sqlite.specs.Held.{state};
 ghost use Rattle.posting_rules.specs.believed.Changes.{tables_past_all, replies_past_all};
 ghost use Rattle.posting_rules.specs.believed.Sound.{AreOfALog};
 ghost use Rattle.posting_rules.specs.believed.Tables.{Tables};
 ghost use Rattle.posting_batch.specs.View.{reads_of, IsMadeOf};
+ghost use Rattle.store_rows.specs.Definitions.{IsOtherTable};
 ghost use Rattle.store_rows.specs.believed.View.{Shows};
 ghost use Rattle.bank_transactions.specs.believed.Additions.{AddsForRecords};
 ghost use Rattle.bank_transactions.specs.Doing.{Acts, Transacts};
@@ -55,7 +56,7 @@ use crate::{begin, finish};
 use message_records::{Moment, REPLY_BYTES};
 use posting_batch::Batch;
 use sqlite::{Alter, Connection, Transaction};
-use store_rows::TableFault;
+use store_rows::{TableFault, other_table};
 
 /// Answers the records that a batch is made of, in order. A batch in which nothing is decided writes nothing.
 pub fn answer_batch<S: Alter>(
@@ -116,6 +117,18 @@ fn post_looked_up<S: Alter>(
     finish(tx, replies)
 }
 
+// Whether a batch is tried before its requests are looked up: only where the tables are defined as they are made,
+// so that an INSERT tells of a request that is kept. A single request is looked up, which costs less than a try that
+// is refused.
+fn is_tried<S: Alter>(conn: &Connection<S>, batch: &Batch) -> bool
+    ensures { IsTrue result → IsOtherTable (state S.Store conn.now).now.schema None }
+{
+    match other_table(conn) {
+        Some(_) => false,
+        None => batch.overlay.kept.len() > 1,
+    }
+}
+
 /// Answers the records that a batch is made of, in order. They stand together or not at all. Where none of
 /// them is decided, the tables are as they were, and a crash leaves nothing else.
 pub fn post_all<S: Alter>(
@@ -141,8 +154,7 @@ pub fn post_all<S: Alter>(
     ensures undone { (records : List (List ℕ)) → IsMadeOf batch records
         → UndoesFaults S.Store conn.old conn.new (items_of result) }
 {
-    // A single request is looked up, which costs less than a try that is refused.
-    if batch.overlay.kept.len() < 2 {
+    if !is_tried(conn, &batch) {
         return post_looked_up(conn, moment, batch);
     }
     match try_new(conn, moment, batch)? {

@@ -1,6 +1,6 @@
 //! A batch is tried as if none of its requests were kept, which spares them their look-ups. Where the first one is
 //! kept, or the INSERT of one says otherwise, all is undone.
-ghost use Rattle.std.specs.Prelude.{◌≡◌, ◌&&◌, ◌==◌, not, ℕ, List, length, false, true, is_some, IfSome, IsTrue, ⊤};
+ghost use Rattle.std.specs.Prelude.{◌≡◌, ◌&&◌, ◌==◌, not, ℕ, List, length, false, true, is_some, IfSome, IsTrue, None, ⊤};
 ghost use Rattle.sqlite.specs.State.{HasCleanDisk, KeepsCommit};
 ghost use Rattle.sqlite.specs.Held.{state};
 ghost use Rattle.posting_rules.specs.believed.Changes.{tables_past_all, replies_past_all};
@@ -10,6 +10,7 @@ ghost use Rattle.posting_rules.specs.believed.Tables.{Tables};
 ghost use Rattle.posting_batch.specs.Batch.{has_gap};
 ghost use Rattle.posting_batch.specs.View.{reads_of, view, IsMadeOf};
 ghost use Rattle.sql_meanings.specs.Calls.{Inside, Says};
+ghost use Rattle.store_rows.specs.Definitions.{IsOtherTable};
 ghost use Rattle.store_rows.specs.believed.View.{Shows};
 ghost use Rattle.bank_transactions.specs.believed.Additions.{AddsForRecords};
 ghost use Rattle.bank_transactions.specs.believed.Batches.{DecidesNone};
@@ -140,13 +141,15 @@ fn answer_new<S: Alter>(
     answer_unkept(tx, moment, batch)
 }
 
-/// Tries a batch as if none of its requests were kept. Where one may be, nothing was done.
+/// Tries a batch as if none of its requests were kept. Where one may be, nothing was done. That an INSERT tells of
+/// it rests on the tables as they are made.
 pub(crate) fn try_new<S: Alter>(
     conn: &mut Connection<S>,
     moment: Moment,
     batch: Batch,
 ) -> Result<Tried, TableFault>
-    requires { conn.old.in_transaction ≡ false }
+    requires mode { conn.old.in_transaction ≡ false }
+    requires made { IsOtherTable (state S.Store conn.old).now.schema None }
     ensures says { IfSome (answer_of result) (λ answer. (records : List (List ℕ)) → IsMadeOf batch records
         → Transacts S.Store (AddsForRecords (state S.Store conn.old).now (length records)) conn.old conn.new
         AreOfALog (λ tables. tables_past_all tables moment records)
