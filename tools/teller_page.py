@@ -325,7 +325,7 @@ def words(place, page):
 def buttons(place, page):
     """In and Out, the question above an amount, a search, a double click, and sending a day again."""
     click = "(document.getElementById('%s').click(), 0)"
-    page.browser.run("(document.getElementById('account').focus(), 0)")
+    page.browser.run("(document.getElementById('form').reset(), document.getElementById('account').focus(), 0)")
     page.browser.keys("2", TAB, "3.00", TAB, "BY BUTTON")
     page.browser.run(click % "out")
     page.browser.run(click % "out")
