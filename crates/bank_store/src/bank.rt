@@ -214,6 +214,8 @@ impl<S: Alter + Drop> Counter for Bank<S> {
     ghost use Rattle.std.specs.Prelude.{Ok};
     ghost use Rattle.message_records.specs.believed.Reading.{request_of};
     ghost use Rattle.message_records.specs.believed.Records.{RequestFields};
+    ghost use Rattle.message_records.specs.declared.fault.Bad.{Bad};
+    ghost use Rattle.posting_rules.specs.believed.Entries.{malformed_reply};
     ghost use Rattle.bank_transactions.specs.believed.Additions.{AddsBranch, AddsForRecords};
     ghost use Rattle.bank_transactions.specs.believed.Causes.{IsBefore};
     ghost use Rattle.bank_transactions.specs.believed.Stored.{IsStoredBalance, OpensByStored};
@@ -259,6 +261,10 @@ impl<S: Alter + Drop> Counter for Bank<S> {
         // Whatever rows the file holds.
         ensures stored { IfOk result (λ out. (bank_seen S.Store self.new).honest → (r : RequestFields)
             → request_of bytes.now ≡ Ok r → RepliesToStored (database_of S.Store self.old) r out) }
+        // Bytes that are no request are told so, whatever rows the file holds, and the bank is as it was.
+        ensures malformed { ((bank_seen S.Store self.old).is_down → ⊥) → (bad : Bad)
+            → request_of bytes.now ≡ Err bad
+            → (result ≡ Ok (reply_spelling malformed_reply)) × (self.new ≡ self.old) }
         // A key that is taken is the next ordinal's, unless the file has no bank's tables.
         ensures own { IfErr result (λ fault. OfDamage fault
             (WasBrokenOrMet S.Store (AddsForRecords (database_of S.Store self.old) 1) self.old self.new)) }

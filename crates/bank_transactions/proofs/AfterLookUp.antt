@@ -6,7 +6,8 @@ use Rattle.sqlite.specs.{Effect.Database, Held.state, declared.transaction.Trans
 use Rattle.sqlite.specs.State.{HasCleanDisk, KeepsCommit}
 use Rattle.sqlite_trees.specs.declared.store.Store.{Ghosts}
 use Rattle.posting_rules.specs.believed.Changes.{replies_past_all, tables_past_all}
-use Rattle.posting_rules.specs.believed.{Sound.AreOfALog, Tables.Tables}
+use Rattle.posting_rules.specs.believed.Tables.{Tables}
+use Rattle.posting_batch.specs.Batch.{AreReadyFor}
 use Rattle.sql_meanings.specs.Calls.{Inside, Says}
 use Rattle.sql_meanings.proofs.Saying.{clean_between, says_then}
 use Rattle.store_rows.specs.{believed.View.Shows, declared.fault.TableFault.TableFault}
@@ -46,7 +47,7 @@ module _ {S X : Type 0} {g : Ghosts S} {old mid new : Transaction S} {So : Table
 
     abbrev ActsFrom : Transaction S → Result (List (List ℕ)) TableFault → Type 0
     ActsFrom begun answer = (records : List (List ℕ)) → Made records
-        → Acts g (AddsForRecords (state g begun.conn.now).now (length records)) begun new AreOfALog
+        → Acts g (AddsForRecords (state g begun.conn.now).now (length records)) begun new (AreReadyFor (length records))
         (λ tables. tables_past_all tables moment records) (λ tables. replies_past_all tables moment records) answer
 
     pub says_since : IfSome (answer_of tried) (ActsFrom mid) → IfSome (answer_of tried) (ActsFrom old)
@@ -56,7 +57,7 @@ module _ {S X : Type 0} {g : Ghosts S} {old mid new : Transaction S} {So : Table
     abbrev IsBusy : Transaction S → List (List ℕ) → Type 0
     IsBusy begun replies = HasCleanDisk (state g new.conn.now) → IsTrue (state g begun.conn.now).in_transaction
         → (records : List (List ℕ)) → Made records → (t : Tables) → Shows (state g begun.conn.now).now t
-        → AreOfALog t → DecidesNone t moment records → ⊥
+        → AreReadyFor (length records) t → DecidesNone t moment records → ⊥
 
     pub busy_since : IfSome (replies_of tried) (IsBusy mid) → IfSome (replies_of tried) (IsBusy old)
     busy_since is = IfSome_then (replies_of tried) {P = IsBusy mid} {Q = IsBusy old} is

@@ -1,9 +1,10 @@
 -- A batch in a transaction of its own, and one in which nothing is decided.
 use Rattle.std.proofs.Common.{◌≡◌, ℕ, List, Result, Ok, Err, true, ap, sym, subst, ◌∙◌, arith}
-use Rattle.std.specs.Prelude.{OnOk, Vec}
+use Rattle.std.specs.Prelude.{OnOk, Vec, length}
 use Rattle.sqlite.specs.{Effect.Database, State.HasCleanDisk, Held.Held, Held.state}
 use Rattle.sqlite_trees.specs.declared.store.Store.{Ghosts}
-use Rattle.posting_rules.specs.believed.{Sound.AreOfALog, Tables.Tables}
+use Rattle.posting_rules.specs.believed.Tables.{Tables}
+use Rattle.posting_batch.specs.Batch.{AreReadyFor}
 use Rattle.store_rows.specs.{believed.View.Shows, declared.fault.TableFault.TableFault}
 use Rattle.bank_transactions.specs.{Doing.Ends, believed.Batches.DecidesNone}
 use Rattle.bank_transactions.specs.Batches.{items_of, WritesNothing, KeepsOnly}
@@ -35,13 +36,13 @@ module _ (Made : List (List ℕ) → Type 0) (moment : ℕ) {S : Type 0} (g : Gh
   abbrev IdleWithin : Held S → Held S → Type 0
   IdleWithin begun last = HasCleanDisk (state g last) → (records : List (List ℕ)) → Made records
       → (t : Tables)
-      → Shows (state g begun).now t → AreOfALog t → DecidesNone t moment records
+      → Shows (state g begun).now t → AreReadyFor (length records) t → DecidesNone t moment records
       → WritesNothing (state g begun) (state g last) t moment records
 
   -- after it
   abbrev IdleAfter : Held S → Held S → Type 0
   IdleAfter old new = HasCleanDisk (state g new) → (records : List (List ℕ)) → Made records → (t : Tables)
-      → Shows (state g old).now t → AreOfALog t → DecidesNone t moment records
+      → Shows (state g old).now t → AreReadyFor (length records) t → DecidesNone t moment records
       → KeepsOnly (state g old) (state g new) t
 
   pub idle_after : {X : Type 0} (old begun last end new : Held S) (answer result : Result X TableFault)

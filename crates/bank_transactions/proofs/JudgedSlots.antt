@@ -4,14 +4,13 @@ use Rattle.sqlite.specs.declared.transaction.Transaction.{Transaction}
 use Rattle.sqlite_trees.specs.declared.store.Store.{Ghosts}
 use Rattle.message_records.specs.believed.{Reading.request_of, Records.RequestFields, Spelling.reply_spelling}
 use Rattle.posting_rules.specs.believed.Changes.{tables_past_all, replies_past_all, tables_with, reply_bytes}
-use Rattle.posting_rules.specs.believed.{Commands.Command, Tables.Tables, Tables.AreTablesOf}
-use Rattle.posting_rules.specs.{believed.Runs.posts, Damage.IsUndamaged, believed.Sound.AreOfALog, Sound.AreSound}
-use Rattle.posting_rules.proofs.{Ready.ready_sound, Undamaged.undamaged}
+use Rattle.posting_rules.specs.{believed.Tables.Tables, Damage.IsUndamaged, Sound.AreSound}
+use Rattle.posting_rules.proofs.Ready.{ready_sound}
 use Rattle.posting_batch.specs.{declared.batch.Batch.Batch, Judging.overlay_with, Judging.reply_over, Overlay.Overlay}
 use Rattle.posting_batch.specs.{Overlay.tables_over, View.view, View.reads_of, View.IsMadeOf, View.IsFilledFrom}
 use Rattle.posting_batch.specs.Batch.{HasHomes, HasRisingSlots, ChangesRows, AddsFreeRows, filled, covering, no_slots}
-use Rattle.posting_batch.specs.Batch.{HasFreeOrdinals, IsJudged, IsShown}
-use Rattle.posting_batch.proofs.{Covered.stands, Covered.homes_all, FreeOrdinals.free_shown}
+use Rattle.posting_batch.specs.{Batch.IsJudged, Batch.AreReadyFor, Batch.HasFreeOrdinals}
+use Rattle.posting_batch.proofs.Covered.{stands, homes_all}
 use Rattle.posting_batch.proofs.OneRecord.{one_adds, one_back, one_changes, one_filled, one_homes, one_judged}
 use Rattle.posting_batch.proofs.OneRecord.{one_reply, one_rising, one_tables}
 use Rattle.store_rows.specs.{believed.Failures.Additions, declared.fault.TableFault.TableFault}
@@ -22,9 +21,6 @@ use Rattle.bank_transactions.proofs.Together.{Written}
 
 abbrev pub Ready : Overlay → Tables → Type 0
 Ready o t = IsUndamaged t × HasHomes o
-
-sound : (t : Tables) → AreOfALog t → IsUndamaged t
-sound t it = undamaged t it.0 it.1 it.2
 
 -- what judging records comes to, whose slots were these and are filled now
 pub record Judging {X : Type 0} (So : Tables → Type 0) (after : Tables → Tables) (wanted : Tables → X)
@@ -77,39 +73,37 @@ module _ {X : Type 0} {So : Tables → Type 0} {after : Tables → Tables} {want
 
 -- ---- a batch
 
-pub ready : (b : Batch) (records : List (List ℕ)) → IsMadeOf b records → (t : Tables) → AreOfALog t
-    → Ready (view b.overlay) t
+pub ready : (b : Batch) (records : List (List ℕ)) → IsMadeOf b records → (t : Tables)
+    → AreReadyFor (length records) t → Ready (view b.overlay) t
 ready b records made t it =
-    (sound t it, subst HasHomes (sym made.overlay) (homes_all (map request_of records)))
+    (it.0, subst HasHomes (sym made.overlay) (homes_all (map request_of records)))
 
 pub judging_all : (b b' : Batch) (records : List (List ℕ)) (m : ℕ) (o : Overlay) (items : List (List ℕ))
     → IsMadeOf b records → reads_of b' ≡ reads_of b
     → ((t : Tables) (rs : List (List ℕ)) → IsFilledFrom b' t rs → HasFreeOrdinals t (length rs)
     → IsJudged o items t m rs)
-    → ((t : Tables) (rs : List (List ℕ)) → IsFilledFrom b' t rs → (log : List Command)
-    → AreTablesOf t log → IsShown o items t log (posts m rs))
     → (HasRisingSlots (view b'.overlay) → HasRisingSlots o)
     → (o.decided ≡ b'.overlay.decided → o ≡ view b'.overlay)
-    → Judging AreOfALog (λ t. tables_past_all t m records) (λ t. replies_past_all t m records)
-    (view b.overlay) (view b'.overlay) o items
-judging_all b b' records m o items made same judged shown rising idle =
+    → Judging (AreReadyFor (length records)) (λ t. tables_past_all t m records)
+    (λ t. replies_past_all t m records) (view b.overlay) (view b'.overlay) o items
+judging_all b b' records m o items made same judged rising idle =
     let is : (t : Tables) → view b'.overlay ≡ filled t (view b.overlay) → IsFilledFrom b' t records =
     λ t e. record {
       reads = same ∙ made.reads;
       overlay = e ∙ ap (λ (p : Overlay). filled t p) made.overlay;
     } in
-    let so : (t : Tables) → AreOfALog t → view b'.overlay ≡ filled t (view b.overlay)
+    let so : (t : Tables) → AreReadyFor (length records) t → view b'.overlay ≡ filled t (view b.overlay)
     → IsJudged o items t m records =
-    λ t it e. judged t records (is t e) (free_shown t it.0 (length records) it.2) in
+    λ t it e. judged t records (is t e) it.1 in
     record {
       ready = ready b records made;
       tables = λ t it e. (so t it e).tables;
       answers = λ t it e. (so t it e).answers;
       writes = λ t it e. (
-        sound t it,
+        it.0,
         rising (subst HasRisingSlots (sym (is t e).overlay) (stands t (map request_of records)).rising),
         (so t it e).changes,
-        (shown t records (is t e) it.0 it.2).adds,
+        (so t it e).adds,
       );
       back = λ none t it e.
           sym (so t it e).tables

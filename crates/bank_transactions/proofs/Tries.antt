@@ -8,7 +8,8 @@ use Rattle.sqlite.proofs.{Callers.survives_begin, StateLemmas.survives_then}
 use Rattle.sqlite.specs.declared.transaction.Transaction.{Transaction}
 use Rattle.sqlite_trees.specs.declared.store.Store.{Ghosts}
 use Rattle.posting_rules.specs.believed.Changes.{replies_past_all, tables_past_all}
-use Rattle.posting_rules.specs.believed.{Sound.AreOfALog, Tables.Tables}
+use Rattle.posting_rules.specs.believed.Tables.{Tables}
+use Rattle.posting_batch.specs.Batch.{AreReadyFor}
 use Rattle.sql_meanings.specs.Calls.{Inside, Says}
 use Rattle.sql_meanings.proofs.Saying.{survives_both}
 use Rattle.store_rows.specs.believed.Failures.{Additions, Committing}
@@ -87,10 +88,10 @@ module _ {S : Type 0} (g : Ghosts S) (old mid new : Held S) (before : IsAsBefore
 
     pub idle_again : {X : Type 0} (moment : ℕ) (r : Result X TableFault)
         → OnOk r (HasCleanDisk (state g new) → (records : List (List ℕ)) → Again records → (t : Tables)
-        → Shows (state g mid).now t → AreOfALog t → DecidesNone t moment records
+        → Shows (state g mid).now t → AreReadyFor (length records) t → DecidesNone t moment records
         → KeepsOnly (state g mid) (state g new) t)
         → OnOk r (HasCleanDisk (state g new) → (records : List (List ℕ)) → Made records → (t : Tables)
-        → Shows (state g old).now t → AreOfALog t → DecidesNone t moment records
+        → Shows (state g old).now t → AreReadyFor (length records) t → DecidesNone t moment records
         → KeepsOnly (state g old) (state g new) t)
     idle_again moment r = on_ok_weaker r (λ idle clean records made t shows so none.
         let same = (same_there records made clean).2 in
@@ -223,12 +224,12 @@ module _ {S : Type 0} (g : Ghosts S) (Made : List (List ℕ) → Type 0) (moment
 
   abbrev ActsFor : Result (List (List ℕ)) TableFault → Type 0
   ActsFor answer = (records : List (List ℕ)) → Made records
-      → Acts g (AddsForRecords (state g begun.conn.now).now (length records)) begun last AreOfALog
+      → Acts g (AddsForRecords (state g begun.conn.now).now (length records)) begun last (AreReadyFor (length records))
       (λ tables. tables_past_all tables moment records) (λ tables. replies_past_all tables moment records) answer
 
   pub tried_says : batch_of tried ≡ None → IfSome (answer_of tried) ActsFor
       → IfSome (answer_of result) (λ answer. (records : List (List ℕ)) → Made records
-      → Transacts g (AddsForRecords (state g old).now (length records)) old new AreOfALog
+      → Transacts g (AddsForRecords (state g old).now (length records)) old new (AreReadyFor (length records))
       (λ tables. tables_past_all tables moment records) (λ tables. replies_past_all tables moment records) answer)
   tried_says none it = ends_tried g last.conn.now end {P = ActsFor} tried result none ends
       (λ answer answered acts its records made.
@@ -237,9 +238,9 @@ module _ {S : Type 0} (g : Ghosts S) (Made : List (List ℕ) → Type 0) (moment
 
   pub tried_busy : IfSome (replies_of tried) (λ replies. HasCleanDisk (state g last.conn.now)
       → IsTrue (state g begun.conn.now).in_transaction → (records : List (List ℕ)) → Made records → (t : Tables)
-      → Shows (state g begun.conn.now).now t → AreOfALog t → DecidesNone t moment records → ⊥)
+      → Shows (state g begun.conn.now).now t → AreReadyFor (length records) t → DecidesNone t moment records → ⊥)
       → IfSome (replies_of result) (λ replies. HasCleanDisk (state g new) → (records : List (List ℕ)) → Made records
-      → (t : Tables) → Shows (state g old).now t → AreOfALog t → DecidesNone t moment records → ⊥)
+      → (t : Tables) → Shows (state g old).now t → AreReadyFor (length records) t → DecidesNone t moment records → ⊥)
   tried_busy = of_tried tried result ends.given (λ replies busy clean records made t shows so none.
       busy (was_clean_at records made clean) (rw is refl) records made t (rw is shows) so none)
 

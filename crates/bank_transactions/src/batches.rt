@@ -37,8 +37,8 @@ ghost use Rattle.std.specs.Prelude.{◌≡◌, ℕ, List, length, false, None, I
 ghost use Rattle.sqlite.specs.State.{HasCleanDisk};
 ghost use Rattle.sqlite.specs.Held.{state};
 ghost use Rattle.posting_rules.specs.believed.Changes.{tables_past_all, replies_past_all};
-ghost use Rattle.posting_rules.specs.believed.Sound.{AreOfALog};
 ghost use Rattle.posting_rules.specs.believed.Tables.{Tables};
+ghost use Rattle.posting_batch.specs.Batch.{AreReadyFor};
 ghost use Rattle.posting_batch.specs.View.{reads_of, IsMadeOf};
 ghost use Rattle.store_rows.specs.Definitions.{IsOtherTable};
 ghost use Rattle.store_rows.specs.believed.View.{Shows};
@@ -66,12 +66,12 @@ pub fn answer_batch<S: Alter>(
 ) -> Result<Vec<[u8; REPLY_BYTES]>, TableFault>
     ensures says { (records : List (List ℕ)) → IsMadeOf batch records
         → Acts S.Store (AddsForRecords (state S.Store tx.old.conn.now).now (length records)) tx.old tx.new
-        AreOfALog (λ tables. tables_past_all tables moment records)
+        (AreReadyFor (length records)) (λ tables. tables_past_all tables moment records)
         (λ tables. replies_past_all tables moment records) (items_of result) }
     ensures count { IfOk result (λ replies. length replies.items ≡ length (reads_of batch)) }
     ensures idle { OnOk result
         (HasCleanDisk (state S.Store tx.new.conn.now) → (records : List (List ℕ)) → IsMadeOf batch records
-        → (tables : Tables) → Shows (state S.Store tx.old.conn.now).now tables → AreOfALog tables
+        → (tables : Tables) → Shows (state S.Store tx.old.conn.now).now tables → AreReadyFor (length records) tables
         → DecidesNone tables moment records
         → WritesNothing (state S.Store tx.old.conn.now)
         (state S.Store tx.new.conn.now) tables moment records) }
@@ -97,12 +97,12 @@ fn post_looked_up<S: Alter>(
     requires { conn.old.in_transaction ≡ false }
     ensures says { (records : List (List ℕ)) → IsMadeOf batch records
         → Transacts S.Store (AddsForRecords (state S.Store conn.old).now (length records)) conn.old conn.new
-        AreOfALog (λ tables. tables_past_all tables moment records)
+        (AreReadyFor (length records)) (λ tables. tables_past_all tables moment records)
         (λ tables. replies_past_all tables moment records) (items_of result) }
     ensures count { IfOk result (λ replies. length replies.items ≡ length (reads_of batch)) }
     ensures idle { OnOk result
         (HasCleanDisk (state S.Store conn.new) → (records : List (List ℕ)) → IsMadeOf batch records
-        → (tables : Tables) → Shows (state S.Store conn.old).now tables → AreOfALog tables
+        → (tables : Tables) → Shows (state S.Store conn.old).now tables → AreReadyFor (length records) tables
         → DecidesNone tables moment records
         → KeepsOnly (state S.Store conn.old) (state S.Store conn.new) tables) }
     // Whatever rows the file holds.
@@ -139,12 +139,12 @@ pub fn post_all<S: Alter>(
     requires { conn.old.in_transaction ≡ false }
     ensures says { (records : List (List ℕ)) → IsMadeOf batch records
         → Transacts S.Store (AddsForRecords (state S.Store conn.old).now (length records)) conn.old conn.new
-        AreOfALog (λ tables. tables_past_all tables moment records)
+        (AreReadyFor (length records)) (λ tables. tables_past_all tables moment records)
         (λ tables. replies_past_all tables moment records) (items_of result) }
     ensures count { IfOk result (λ replies. length replies.items ≡ length (reads_of batch)) }
     ensures idle { OnOk result
         (HasCleanDisk (state S.Store conn.new) → (records : List (List ℕ)) → IsMadeOf batch records
-        → (tables : Tables) → Shows (state S.Store conn.old).now tables → AreOfALog tables
+        → (tables : Tables) → Shows (state S.Store conn.old).now tables → AreReadyFor (length records) tables
         → DecidesNone tables moment records
         → KeepsOnly (state S.Store conn.old) (state S.Store conn.new) tables) }
     // Whatever rows the file holds.

@@ -5,9 +5,9 @@ ghost use Rattle.sqlite.specs.State.{HasCleanDisk, KeepsCommit};
 ghost use Rattle.sqlite.specs.Held.{state};
 ghost use Rattle.posting_rules.specs.believed.Changes.{tables_past_all, replies_past_all};
 ghost use Rattle.posting_rules.specs.believed.LookUps.{kept_in};
-ghost use Rattle.posting_rules.specs.believed.Sound.{AreOfALog};
 ghost use Rattle.posting_rules.specs.believed.Tables.{Tables};
 ghost use Rattle.posting_batch.specs.Batch.{has_gap};
+ghost use Rattle.posting_batch.specs.Batch.{AreReadyFor};
 ghost use Rattle.posting_batch.specs.View.{reads_of, view, IsMadeOf};
 ghost use Rattle.sql_meanings.specs.Calls.{Inside, Says};
 ghost use Rattle.store_rows.specs.Definitions.{IsOtherTable};
@@ -85,12 +85,12 @@ fn answer_unkept<S: Alter>(
 ) -> Result<Tried, TableFault>
     ensures says { IfSome (answer_of result) (λ answer. (records : List (List ℕ)) → IsMadeOf batch records
         → Acts S.Store (AddsForRecords (state S.Store tx.old.conn.now).now (length records)) tx.old tx.new
-        AreOfALog (λ tables. tables_past_all tables moment records)
+        (AreReadyFor (length records)) (λ tables. tables_past_all tables moment records)
         (λ tables. replies_past_all tables moment records) answer) }
     ensures count { IfSome (replies_of result) (λ replies. length replies ≡ length (reads_of batch)) }
     ensures busy { IfSome (replies_of result) (λ _. HasCleanDisk (state S.Store tx.new.conn.now)
         → IsTrue (state S.Store tx.old.conn.now).in_transaction → (records : List (List ℕ)) → IsMadeOf batch records
-        → (tables : Tables) → Shows (state S.Store tx.old.conn.now).now tables → AreOfALog tables
+        → (tables : Tables) → Shows (state S.Store tx.old.conn.now).now tables → AreReadyFor (length records) tables
         → DecidesNone tables moment records → ⊥) }
     ensures stored { IfSome (replies_of result) (λ replies. HasCleanDisk (state S.Store tx.new.conn.now)
         → IsTrue (state S.Store tx.old.conn.now).in_transaction → (records : List (List ℕ)) → IsMadeOf batch records
@@ -122,12 +122,12 @@ fn answer_new<S: Alter>(
 ) -> Result<Tried, TableFault>
     ensures says { IfSome (answer_of result) (λ answer. (records : List (List ℕ)) → IsMadeOf batch records
         → Acts S.Store (AddsForRecords (state S.Store tx.old.conn.now).now (length records)) tx.old tx.new
-        AreOfALog (λ tables. tables_past_all tables moment records)
+        (AreReadyFor (length records)) (λ tables. tables_past_all tables moment records)
         (λ tables. replies_past_all tables moment records) answer) }
     ensures count { IfSome (replies_of result) (λ replies. length replies ≡ length (reads_of batch)) }
     ensures busy { IfSome (replies_of result) (λ _. HasCleanDisk (state S.Store tx.new.conn.now)
         → IsTrue (state S.Store tx.old.conn.now).in_transaction → (records : List (List ℕ)) → IsMadeOf batch records
-        → (tables : Tables) → Shows (state S.Store tx.old.conn.now).now tables → AreOfALog tables
+        → (tables : Tables) → Shows (state S.Store tx.old.conn.now).now tables → AreReadyFor (length records) tables
         → DecidesNone tables moment records → ⊥) }
     ensures stored { IfSome (replies_of result) (λ replies. HasCleanDisk (state S.Store tx.new.conn.now)
         → IsTrue (state S.Store tx.old.conn.now).in_transaction → (records : List (List ℕ)) → IsMadeOf batch records
@@ -152,12 +152,12 @@ pub(crate) fn try_new<S: Alter>(
     requires made { IsOtherTable (state S.Store conn.old).now.schema None }
     ensures says { IfSome (answer_of result) (λ answer. (records : List (List ℕ)) → IsMadeOf batch records
         → Transacts S.Store (AddsForRecords (state S.Store conn.old).now (length records)) conn.old conn.new
-        AreOfALog (λ tables. tables_past_all tables moment records)
+        (AreReadyFor (length records)) (λ tables. tables_past_all tables moment records)
         (λ tables. replies_past_all tables moment records) answer) }
     ensures count { IfSome (replies_of result) (λ replies. length replies ≡ length (reads_of batch)) }
     ensures busy { IfSome (replies_of result) (λ _.
         HasCleanDisk (state S.Store conn.new) → (records : List (List ℕ)) → IsMadeOf batch records
-        → (tables : Tables) → Shows (state S.Store conn.old).now tables → AreOfALog tables
+        → (tables : Tables) → Shows (state S.Store conn.old).now tables → AreReadyFor (length records) tables
         → DecidesNone tables moment records → ⊥) }
     ensures stored { IfSome (replies_of result) (λ replies. HasCleanDisk (state S.Store conn.new)
         → (records : List (List ℕ)) → IsMadeOf batch records

@@ -1,23 +1,22 @@
 -- The rows that a batch changes are there, and the keys of its new rows are free.
 use Rattle.std.proofs.Common.{◌≡◌, ℕ, ◌+◌, eqb, List, [], ◌∷◌, ◌++◌, map, length, Option, Some, None, Result, Ok, Err}
-use Rattle.std.proofs.Common.{refl, sym, ap, subst, ◌∙◌, inl, inr}
+use Rattle.std.proofs.Common.{refl, suc, sym, ap, subst, ◌∙◌, inl, inr, arith}
 use Rattle.std.specs.{Prelude.ℤ, Prelude.IsSome, Prelude.IfSome, List.AllByRecursion, Option.option_map}
 use Rattle.std.proofs.lemmas.Bool.{eqb-true}
-use Rattle.message_records.specs.{declared.fault.Bad.Bad, believed.Reading.request_of, believed.Records.RequestFields}
+use Rattle.message_records.specs.{declared.fault.Bad.Bad, believed.Records.RequestFields}
 use Rattle.posting_rules.specs.{declared.judgments.Found.Found, declared.judgments.Verdict.Verdict}
 use Rattle.posting_rules.specs.{declared.rows.BranchRow.BranchRow, declared.rows.TellerRow.TellerRow}
 use Rattle.posting_rules.specs.{declared.rows.AccountRow.AccountRow, declared.rows.ReferenceRow.ReferenceRow}
 use Rattle.posting_rules.specs.{believed.Cases.case_of, Changes.HasRowsOf, believed.Numbering.branch_of_teller}
 use Rattle.posting_rules.specs.declared.judgments.Verdict.TheVariants.{Unkept, Again, Refused, Posted}
-use Rattle.posting_rules.specs.believed.{Changes.row_changed, Changes.row_put, Commands.Command, Commands.Post}
+use Rattle.posting_rules.specs.believed.{Changes.row_changed, Changes.row_put}
 use Rattle.posting_rules.specs.believed.Entries.{refused_entry, posted_entry}
 use Rattle.posting_rules.specs.believed.LookUps.{balance_of_branch, balance_of_teller, balance_of_account}
 use Rattle.posting_rules.specs.ChangesByKey as steps
-use Rattle.posting_rules.specs.believed.Tables.{Tables, AreTablesOf, row_at, branch_key, teller_key, account_key}
+use Rattle.posting_rules.specs.believed.Tables.{Tables, row_at, branch_key, teller_key, account_key}
 use Rattle.posting_rules.specs.believed.Tables.{history_key, request_key, request_row_of, history_row_of}
 use Rattle.posting_rules.specs.believed.Tables.{reference_key, reference_row_of}
-use Rattle.posting_rules.proofs.{Keyed.by_test, Records.past_shown, ChangesByKey.posted_rows}
-use Rattle.posting_rules.proofs.Ready.{AreReady, ready_shown}
+use Rattle.posting_rules.proofs.{Keyed.by_test, ChangesByKey.posted_rows}
 use Rattle.posting_batch.specs.declared.slots.{AccountSlot.AccountSlot, TellerSlot.TellerSlot, BranchSlot.BranchSlot}
 use Rattle.posting_batch.specs.Batch.{CoversRead, CoversAll, HasNoChange, ChangesRows, PutsFree, AddsFreeRows}
 use Rattle.posting_batch.specs.Batch.{HasFreeOrdinals}
@@ -26,8 +25,8 @@ use Rattle.posting_batch.specs.Overlay.{Overlay, by_slot, over, put_account, put
 use Rattle.posting_batch.specs.Overlay.{tables_over}
 use Rattle.posting_batch.specs.Slots.{account_slot_key, with_account_changed, teller_slot_key, with_teller_changed}
 use Rattle.posting_batch.specs.Slots.{branch_slot_key, with_branch_changed}
-use Rattle.posting_batch.proofs.{InOrder.still_covers, Overlaid.Fits, Overlaid.found_is, FreeOrdinals.free_shown}
-use Rattle.posting_batch.proofs.StillFits.{with_is, with_fits, still_free}
+use Rattle.posting_batch.proofs.{InOrder.still_covers, Overlaid.Fits, Overlaid.found_is}
+use Rattle.posting_batch.proofs.StillFits.{with_fits, still_free}
 use Rattle.posting_batch.proofs.OverlaidRows.{row_at-over, put_same}
 
 -- ---- what leaves a row its key
@@ -163,44 +162,48 @@ references_more ordinal None rs rows free next = free
 references_more ordinal (Some text) rs rows free next =
     puts_more reference_key rs (reference_row_of ordinal text) rows free next
 
-adds_after : (o : Overlay) (t : Tables) (m : ℕ) (r : RequestFields) (v : Verdict) → AreReady (tables_over o t)
-    → AddsFreeRows o t → AddsFreeRows (overlay_after o m r v) t
-adds_after o t m r (Unkept x) ready adds = adds
-adds_after o t m r (Again x) ready adds = adds
-adds_after o t m r (Refused x) ready adds = record {
+-- the first of them
+first_free : (t : Tables) (count : ℕ) → HasFreeOrdinals t (suc count) → HasFreeOrdinals t 1
+first_free t count free = record {
+  requests = λ o is. free.requests o (is.0, omega (arith, is.1));
+  postings = λ o is. free.postings o (is.0, omega (arith, is.1));
+  references = λ o is. free.references o (is.0, omega (arith, is.1));
+}
+
+adds_after : (o : Overlay) (t : Tables) (m : ℕ) (r : RequestFields) (v : Verdict)
+    → HasFreeOrdinals (tables_over o t) 1 → AddsFreeRows o t → AddsFreeRows (overlay_after o m r v) t
+adds_after o t m r (Unkept x) free adds = adds
+adds_after o t m r (Again x) free adds = adds
+adds_after o t m r (Refused x) free adds = record {
   history = adds.history;
   requests = puts_more request_key o.requests
-      (request_row_of (o.decided + 1) (refused_entry m r x)) t.requests adds.requests ready.next_request;
+      (request_row_of (o.decided + 1) (refused_entry m r x)) t.requests adds.requests (free.requests (o.decided + 1) (omega arith, omega arith));
   references = references_more (o.decided + 1) r.reference o.references t.references adds.references
-      ready.next_reference;
+      (free.references (o.decided + 1) (omega arith, omega arith));
 }
-adds_after o t m r (Posted a te b) ready adds = record {
+adds_after o t m r (Posted a te b) free adds = record {
   history = puts_more history_key o.history
-      (history_row_of (o.decided + 1) (posted_entry m r a)) t.history adds.history ready.next_posting;
+      (history_row_of (o.decided + 1) (posted_entry m r a)) t.history adds.history (free.postings (o.decided + 1) (omega arith, omega arith));
   requests = puts_more request_key o.requests
-      (request_row_of (o.decided + 1) (posted_entry m r a)) t.requests adds.requests ready.next_request;
+      (request_row_of (o.decided + 1) (posted_entry m r a)) t.requests adds.requests (free.requests (o.decided + 1) (omega arith, omega arith));
   references = references_more (o.decided + 1) r.reference o.references t.references adds.references
-      ready.next_reference;
+      (free.references (o.decided + 1) (omega arith, omega arith));
 }
 
-pub adds_with : (o : Overlay) (t : Tables) (m : ℕ) (read : Result RequestFields Bad) → AreReady (tables_over o t)
-    → AddsFreeRows o t → AddsFreeRows (overlay_with o m read) t
-adds_with o t m (Err fault) ready adds = adds
-adds_with o t m (Ok r) ready adds = adds_after o t m r (case_of (found_over o r) r) ready adds
+pub adds_with : (o : Overlay) (t : Tables) (m : ℕ) (read : Result RequestFields Bad) (count : ℕ)
+    → HasFreeOrdinals (tables_over o t) (suc count) → AddsFreeRows o t → AddsFreeRows (overlay_with o m read) t
+adds_with o t m (Err fault) count free adds = adds
+adds_with o t m (Ok r) count free adds =
+    adds_after o t m r (case_of (found_over o r) r) (first_free (tables_over o t) count free) adds
 
-adds_on : (o : Overlay) (t : Tables) (log : List Command) (m : ℕ) (records : List (List ℕ)) → Fits o t
-    → CoversAll o (map request_of records)
-    → AreTablesOf (tables_over o t) log → AddsFreeRows o t
-    → AddsFreeRows (overlay_with_all o m (map request_of records)) t
-adds_on o t log m [] fits covers shows adds = adds
-adds_on o t log m (bytes ∷ records) fits covers shows adds =
-    let read = request_of bytes in
-    adds_on (overlay_with o m read) t (Post m bytes ∷ log) m records
-    (with_fits o t m read 0 (free_shown (tables_over o t) log 1 shows) fits covers.0)
-    (still_covers o m read (map request_of records) covers.1)
-    (subst (λ (u : Tables). AreTablesOf u (Post m bytes ∷ log)) (sym (with_is o t m read fits covers.0))
-    (past_shown (tables_over o t) log m bytes shows))
-    (adds_with o t m read (ready_shown (tables_over o t) log shows) adds)
+adds_on : (o : Overlay) (t : Tables) (m : ℕ) (reads : List (Result RequestFields Bad))
+    → HasFreeOrdinals (tables_over o t) (length reads) → Fits o t → CoversAll o reads → AddsFreeRows o t
+    → AddsFreeRows (overlay_with_all o m reads) t
+adds_on o t m [] free fits covers adds = adds
+adds_on o t m (read ∷ reads) free fits covers adds =
+    adds_on (overlay_with o m read) t m reads (still_free o t m read (length reads) free fits covers.0)
+    (with_fits o t m read (length reads) free fits covers.0)
+    (still_covers o m read reads covers.1) (adds_with o t m read (length reads) free adds)
 
 -- no new row is under a key that is taken
 pub adds_none : (o : Overlay) (t : Tables) → HasNoChange o → AddsFreeRows o t
@@ -211,9 +214,7 @@ adds_none o t un = record {
 }
 
 -- the keys of the new rows of a batch are free
-pub all_adds : (o : Overlay) (t : Tables) (log : List Command) (m : ℕ) (records : List (List ℕ)) → Fits o t
-    → HasNoChange o → CoversAll o (map request_of records)
-    → AreTablesOf (tables_over o t) log → AddsFreeRows (overlay_with_all o m (map request_of records)) t
-all_adds o t log m records fits un covers shows =
-    adds_on o t log m records fits covers shows
-    (adds_none o t un)
+pub all_adds : (o : Overlay) (t : Tables) (m : ℕ) (reads : List (Result RequestFields Bad))
+    → HasFreeOrdinals (tables_over o t) (length reads) → Fits o t → HasNoChange o → CoversAll o reads
+    → AddsFreeRows (overlay_with_all o m reads) t
+all_adds o t m reads free fits un covers = adds_on o t m reads free fits covers (adds_none o t un)

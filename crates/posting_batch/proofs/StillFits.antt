@@ -56,8 +56,8 @@ record IsFreeNext (t : Tables) : Type 0 where
 
 next_free : (t : Tables) (count : ℕ) → HasFreeOrdinals t (suc count) → IsFreeNext t
 next_free t count free = record {
-  request = free.requests (t.decided + 1) (omega arith) (omega arith);
-  reference = free.references (t.decided + 1) (omega arith) (omega arith);
+  request = free.requests (t.decided + 1) (omega arith, omega arith);
+  reference = free.references (t.decided + 1) (omega arith, omega arith);
 }
 
 more_kept : (o : Overlay) (t : Tables) (e : DecidedRequest) → Fits o t → IsFreeNext (tables_over o t)

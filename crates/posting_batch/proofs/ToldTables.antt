@@ -15,7 +15,8 @@ use Rattle.posting_rules.specs.declared.rows.{ReferenceRow.ReferenceRow, Request
 use Rattle.posting_batch.specs.declared.slots.{AccountSlot.AccountSlot, BranchSlot.BranchSlot, FloorSlot.FloorSlot}
 use Rattle.posting_batch.specs.declared.slots.{RequestSlot.RequestSlot, TellerSlot.TellerSlot}
 use Rattle.posting_batch.specs.Batch.{HasRisingSlots, account_filled, branch_filled, filled, request_filled}
-use Rattle.posting_batch.specs.Batch.{floor_filled, teller_filled, HasFreeOrdinals}
+use Rattle.posting_batch.specs.Batch.{floor_filled, teller_filled}
+use Rattle.posting_batch.specs.Batch.{HasFreeOrdinals}
 use Rattle.posting_batch.specs.{Overlay.Overlay, Placed.IsRising, Placed.number_below, Placed.request_below}
 use Rattle.posting_batch.specs.Slots.{account_slot_key, branch_slot_key, floor_slot_key, teller_slot_key}
 
@@ -282,13 +283,14 @@ tables_told free o = let slots = numbered (suc (o.decided + free)) o.kept in rec
 
 pub told_free : (free : ℕ) (o : Overlay) → HasFreeOrdinals (tables_told free o) free
 told_free free o = record {
-  requests = λ k lt le. above_told request_key request_told
+  requests = λ k is. above_told request_key request_told
       (λ p. if_made (make_request p.0 p.1) (λ r. request_key r ≡ p.0) (λ a. refl) p.1.kept)
-      (suc (o.decided + free)) k o.kept (omega arith);
-  references = λ k lt le. above_told reference_key reference_told
+      (suc (o.decided + free)) k o.kept (omega (arith, is.1));
+  postings = λ k is. refl;
+  references = λ k is. above_told reference_key reference_told
       (λ p. if_made (reference_row_of p.0) (λ r. reference_key r ≡ p.0) (λ a. refl)
       (referring_of p.1.kept))
-      (suc (o.decided + free)) k o.kept (omega arith);
+      (suc (o.decided + free)) k o.kept (omega (arith, is.1));
 }
 
 -- ---- the overlay is filled from them

@@ -5,12 +5,11 @@ use Rattle.std.specs.List.{find, list_any, AllByRecursion}
 use Rattle.std.specs.Option.{option_map}
 use Rattle.message_records.specs.declared.fault.Bad.{Bad}
 use Rattle.message_records.specs.believed.Records.{RequestFields}
+use Rattle.posting_rules.specs.Damage.{IsUndamaged}
 use Rattle.posting_rules.specs.believed.Changes.{row_put, tables_past_all, replies_past_all}
-use Rattle.posting_rules.specs.believed.Commands.{Command}
 use Rattle.posting_rules.specs.believed.Numbering.{branch_of_teller, branch_of_account}
 use Rattle.posting_rules.specs.believed.LookUps.{kept_in, account_balance_in, balance_of_teller, floor_in}
-use Rattle.posting_rules.specs.believed.Runs.{followed_by, replies_to}
-use Rattle.posting_rules.specs.believed.Tables.{Tables, AreTablesOf, row_at, branch_key, teller_key, account_key}
+use Rattle.posting_rules.specs.believed.Tables.{Tables, row_at, branch_key, teller_key, account_key}
 use Rattle.posting_rules.specs.believed.Tables.{history_key, request_key, reference_key}
 use Rattle.posting_rules.specs.declared.rows.RequestRow.{RequestRow}
 use Rattle.posting_batch.specs.declared.slots.AccountSlot.{AccountSlot}
@@ -149,11 +148,15 @@ filled t o = record o {
 
 -- ---- its records are judged
 
--- so many ordinals from the next one on have no request, and no reference
+-- so many ordinals that follow the count have no request, no posting and no reference
 pub record HasFreeOrdinals (t : Tables) (count : ℕ) : Type 0 where
-  pub requests : (o : ℕ) → t.decided < o → o ≤ t.decided + count → row_at request_key t.requests o ≡ None
-  pub references : (o : ℕ) → t.decided < o → o ≤ t.decided + count
-      → row_at reference_key t.references o ≡ None
+  pub requests : (o : ℕ) → IsNextOrdinal t.decided count o → row_at request_key t.requests o ≡ None
+  pub postings : (o : ℕ) → IsNextOrdinal t.decided count o → row_at history_key t.history o ≡ None
+  pub references : (o : ℕ) → IsNextOrdinal t.decided count o → row_at reference_key t.references o ≡ None
+
+-- tables on which so many records can build: they keep the rules of damage, and so many ordinals are free
+abbrev pub AreReadyFor : ℕ → Tables → Type 0
+AreReadyFor count t = IsUndamaged t × HasFreeOrdinals t count
 
 -- a balance is changed only where the row is there
 pub record ChangesRows (o : Overlay) (t : Tables) : Type 0 where
@@ -181,19 +184,13 @@ pub record HasNextOrdinals (decided count : ℕ) (o : Overlay) : Type 0 where
   pub requests : AllByRecursion (λ r. IsNextOrdinal decided count r.ordinal) o.requests
   pub references : AllByRecursion (λ r. IsNextOrdinal decided count r.ordinal) o.references
 
--- the records leave these tables and are answered these replies; a balance is changed only where the row is
+-- the records leave these tables and are answered these replies; a balance is changed only where the row is, and
+-- the keys of the new rows are free
 pub record IsJudged (o : Overlay) (replies : List (List ℕ)) (t : Tables) (moment : ℕ)
     (records : List (List ℕ)) : Type 0 where
   pub tables : tables_over o t ≡ tables_past_all t moment records
   pub answers : replies ≡ replies_past_all t moment records
   pub changes : ChangesRows o t
-
--- it comes to the log with these commands after it, and answers their replies; the keys of the new rows are
--- free
-pub record IsShown (o : Overlay) (replies : List (List ℕ)) (t : Tables) (log : List Command)
-    (commands : List Command) : Type 0 where
-  pub shows : AreTablesOf (tables_over o t) (followed_by log commands)
-  pub answers : replies ≡ replies_to log commands
   pub adds : AddsFreeRows o t
 
 -- ---- it is judged again

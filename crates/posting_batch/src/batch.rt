@@ -4,11 +4,10 @@ ghost use Rattle.std.specs.Prelude.{IfOk};
 ghost use Rattle.smallvec.specs.SmallVec.{HasRoomFor};
 ghost use Rattle.message_records.specs.believed.Reading.{request_of};
 ghost use Rattle.posting_rules.specs.declared.limits.TheConstants.{RECORDS_PER_BATCH};
-ghost use Rattle.posting_rules.specs.believed.Commands.{Command};
-ghost use Rattle.posting_rules.specs.believed.Runs.{posts};
-ghost use Rattle.posting_rules.specs.believed.Tables.{Tables, AreTablesOf};
-ghost use Rattle.posting_batch.specs.Batch.{CoversAll, HasFreeOrdinals, HasNextOrdinals, HasRisingSlots};
-ghost use Rattle.posting_batch.specs.Batch.{IsJudged, IsShown, blanked};
+ghost use Rattle.posting_rules.specs.believed.Tables.{Tables};
+ghost use Rattle.posting_batch.specs.Batch.{CoversAll, HasNextOrdinals, HasRisingSlots};
+ghost use Rattle.posting_batch.specs.Batch.{HasFreeOrdinals};
+ghost use Rattle.posting_batch.specs.Batch.{IsJudged, blanked};
 
 use crate::cover::decode_all;
 use crate::overlay::Overlay;
@@ -111,10 +110,6 @@ impl Batch {
         ensures judged { (t : Tables) (records : List (List ℕ)) → IsFilledFrom self t records
             → HasFreeOrdinals t (length records)
             → IsJudged (view result.overlay) result.replies.items t moment records }
-        // The same of a log that the tables show.
-        ensures shown { (t : Tables) (records : List (List ℕ)) → IsFilledFrom self t records
-            → (log : List Command) → AreTablesOf t log
-            → IsShown (view result.overlay) result.replies.items t log (posts moment records) }
         // Where no row is new before it, the new ones are under the next ordinals, at most one a record.
         ensures next { HasNextOrdinals self.overlay.decided 0 (view self.overlay)
             → HasNextOrdinals self.overlay.decided (length (reads_of self)) (view result.overlay) }

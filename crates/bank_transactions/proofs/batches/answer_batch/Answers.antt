@@ -20,7 +20,7 @@ returns-in_err-write-clause-says g c records made =
     let same : c.from_residual-in_err-write.result ≡ Err c.in_err-write.field-0.0 = search rules in
     let so = judging_all c.args.batch _ records
     c.args.moment (view c.judge-judged.result.overlay) c.judge-judged.result.replies.items made refl
-    j.judged j.shown j.rising j.idle in
+    j.judged j.rising j.idle in
     let fill = c.in_ok-fill.ensures in
     rw same (answered_not so (does_look fill.says (λ t so. so.0)) (does_adds (λ clean.
     let before : HasCleanDisk (state g.S.Store c.fill.new.tx.conn.now) = omega
@@ -35,7 +35,7 @@ returns-clause-says g c records made =
     let j = c.judge-judged.ensures in
     let so = judging_all c.args.batch _ records
     c.args.moment (view c.judge-judged.result.overlay) c.judge-judged.result.replies.items made refl
-    j.judged j.shown j.rising j.idle in
+    j.judged j.rising j.idle in
     let first = does_look c.in_ok-fill.ensures.says (λ t so. so.0) in
     rw c.into_replies.ensures (elim c.if-judged-before.branch [
       | then-judged-before+in_ok-write w ↦
@@ -57,7 +57,7 @@ returns-clause-idle g c clean records made t shows so none =
     let fill = c.in_ok-fill.ensures in
     let it = judging_all c.args.batch _ records
     c.args.moment (view c.judge-judged.result.overlay) c.judge-judged.result.replies.items made refl
-    j.judged j.shown j.rising j.idle in
+    j.judged j.rising j.idle in
     let first = does_look fill.says (λ t so. so.0) in
     elim c.if-judged-before.branch [
       | then-judged-before+in_ok-write w ↦

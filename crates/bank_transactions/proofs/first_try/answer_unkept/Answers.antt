@@ -51,7 +51,7 @@ returns-in_err-write_after-in-Ok-clause-says g c =
     let j = c.judge-judged.ensures in
     let end = c.in_err-write_after-in-Ok.ensures in
     let so = judging_all c.args.batch _ records c.args.moment o c.judge-judged.result.replies.items made refl
-    j.judged j.shown j.rising j.idle in
+    j.judged j.rising j.idle in
     unanswered_new so (does_look fk.says (λ t so. so.0))
     (λ clean live t shows e.
     let before : HasCleanDisk (state g.S.Store c.put_requests.new.tx.conn.now) =
@@ -77,7 +77,7 @@ returns-in_ok-write_after-in-Ok-clause-says g c records made =
     let j = c.judge-judged.ensures in
     let end = c.in_ok-write_after-in-Ok.ensures in
     let so = judging_all c.args.batch _ records c.args.moment o c.judge-judged.result.replies.items made refl
-    j.judged j.shown j.rising j.idle in
+    j.judged j.rising j.idle in
     rw c.into_replies.ensures (answered_new so (does_look fk.says (λ t so. so.0))
     (λ clean live t shows e.
     let before : HasCleanDisk (state g.S.Store c.put_requests.new.tx.conn.now) =
@@ -102,7 +102,7 @@ returns-in_ok-write_after-in-Ok-clause-busy g c clean live records made t shows 
     let fk = c.in_ok-fill_known.ensures in
     let j = c.judge-judged.ensures in
     let so = judging_all c.args.batch _ records c.args.moment o c.judge-judged.result.replies.items made refl
-    j.judged j.shown j.rising j.idle in
+    j.judged j.rising j.idle in
     let before : HasCleanDisk (state g.S.Store c.put_requests.new.tx.conn.now) =
     omega (arith, c.in_ok-write_after-in-Ok.ensures.says.survives.clean, clean) in
     let first : HasCleanDisk (state g.S.Store c.fill_known.new.tx.conn.now) =

@@ -1,5 +1,5 @@
 -- What a record comes to.
-use Rattle.std.proofs.Common.{◌≡◌, [], ◌∷◌, Ok, Result, rules, sym, subst, ◌∙◌}
+use Rattle.std.proofs.Common.{◌≡◌, [], ◌∷◌, Ok, Err, Result, rules, sym, subst, ◌∙◌}
 use Rattle.std.proofs.lemmas.Result.{err_from_is_err_and}
 use Rattle.std.specs.Prelude.{IsSome}
 use Rattle.message_records.specs.{believed.Reading.request_of, believed.Records.RequestFields, declared.fault.Bad.Bad}
@@ -14,6 +14,9 @@ use Rattle.bank_store.proofs.bank.BankCounter.submit.Goals as goal
 
 same_request : {a b : RequestFields} → ◌≡◌ {A = Result RequestFields Bad} (Ok a) (Ok b) → a ≡ b
 same_request is = cc
+
+no_request : {a : RequestFields} {bad : Bad} → ◌≡◌ {A = Result RequestFields Bad} (Ok a) (Err bad) → ⊥
+no_request is = cc
 
 -- what its refusal says
 refused : (g : Over) (c : goal.After-go_down g)
@@ -55,6 +58,7 @@ returns-in-Ok-post g c =
       stored = λ clean r is.
           subst (λ (q : RequestFields). RepliesToStored (database_of g.S.Store c.args.self.now) q c.in-Ok-post.reply)
           (same_request (sym read ∙ is)) (c.in-Ok-post.ensures.stored clean);
+      malformed = λ up bad is. absurd (no_request (sym read ∙ is));
       own = tt;
       spares = spares_done g.S.Store c.args.self.now _ _ c.in_ok-up.ensures.up says.spares;
     }
@@ -62,12 +66,14 @@ returns-in-Ok-post g c =
 pub returns-in-Err : goal.returns-in-Err
 returns-in-Err g c =
     let no = refused g c in
+    let read : request_of c.args.bytes.now ≡ Ok c.in-Ok.request = search rules in
     record {
       answer = tt;
       call = refused_call g.S.Store c.args.self.now c.go_down.new.self _ c.go_down.result no
           c.in_ok-up.ensures.up;
       frugal = λ same. no.frugal (let it = same in cc);
       stored = tt;
+      malformed = λ up bad is. absurd (no_request (sym read ∙ is));
       own = no.broken;
       spares = spares_down g.S.Store c.args.self.now c.go_down.new.self c.post.new.conn c.in-Err.fault
           c.go_down.result c.in_ok-up.ensures.up c.in-Err.ensures.transacts.spares

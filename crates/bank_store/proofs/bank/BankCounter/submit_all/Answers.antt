@@ -1,10 +1,13 @@
 -- What records come to.
-use Rattle.std.proofs.Common.{length, refl, ap, ◌∙◌}
+use Rattle.std.proofs.Common.{ℕ, length, refl, ap, ◌∙◌}
 use Rattle.std.specs.Prelude.{IsSome}
 use Rattle.std.proofs.lemmas.{Result.err_from_is_err_and, List.length-map}
 use Rattle.message_records.specs.believed.Reading.{request_of}
-use Rattle.posting_rules.specs.{believed.Commands.AreCommands, believed.Runs.posts, believed.Sound.AreOfALog}
+use Rattle.posting_rules.specs.believed.{Commands.AreCommands, Runs.posts}
 use Rattle.posting_rules.proofs.Records.{all_replies, are_posts, posts_all}
+use Rattle.posting_rules.proofs.Undamaged.{undamaged}
+use Rattle.posting_batch.specs.Batch.{AreReadyFor}
+use Rattle.posting_batch.proofs.FreeOrdinals.{free_shown}
 use Rattle.bank_store.specs.believed.Seen.{database_of}
 use Rattle.bank_store.proofs.{Causes.still_clean, bank.BankCounter.submit_all.Given.Over}
 use Rattle.bank_store.proofs.Countered.{HoldsOfLogs, none_or_all, none_or_all_down, takes}
@@ -14,8 +17,8 @@ use Rattle.bank_store.proofs.Refusing.{Refusal}
 use Rattle.bank_transactions.specs.{believed.Additions.AddsForRecords, believed.Causes.IsBrokenOrMet}
 use Rattle.bank_store.proofs.bank.BankCounter.submit_all.Goals as goal
 
-of_logs : HoldsOfLogs AreOfALog
-of_logs t log are shows = (log, are, shows)
+of_logs : (count : ℕ) → HoldsOfLogs (AreReadyFor count)
+of_logs count t log are shows = (undamaged t log are shows, free_shown t log count shows)
 
 -- what its refusal says
 refused : (g : Over) (c : goal.After-go_down g)
@@ -27,8 +30,8 @@ refused g c =
     let rs = c.args.records.now in
     let are : AreCommands (posts m rs) =
     are_posts m rs (c.range_law.ensures.most) c.told-records in
-    transaction_refused g.S.Store c.args.self.now c.go_down.new.self c.post_all.new.conn of_logs (posts m rs)
-    (posts_all m rs) are
+    transaction_refused g.S.Store c.args.self.now c.go_down.new.self c.post_all.new.conn (of_logs (length rs))
+    (posts m rs) (posts_all m rs) are
     c.in-Err.fault c.go_down.result c.go_down.ensures.down c.go_down.ensures.survives
     (c.in-Err.ensures.says rs c.in_ok-batch.ensures.made)
 
@@ -44,16 +47,16 @@ returns-in-Ok g c =
     record {
       count = c.in-Ok.ensures.count ∙ ap length made.reads ∙ length-map rs request_of;
       answer =
-          λ clean log s. (says.told clean s.tables s.are (of_logs s.tables log s.commands s.shows)).0
+          λ clean log s. (says.told clean s.tables s.are (of_logs (length rs) s.tables log s.commands s.shows)).0
           ∙ all_replies s.tables log m rs s.shows;
       call =
           answered_call g.S.Store c.args.self.now _ (posts m rs) _ c.in_ok-up.ensures.up c.in_ok-up.ensures.up
-          (takes of_logs (posts m rs) (posts_all m rs) are Down Down c.in_ok-up.ensures.up says)
+          (takes (of_logs (length rs)) (posts m rs) (posts_all m rs) are Down Down c.in_ok-up.ensures.up says)
           (still_clean says.survives);
-      none_or_all = none_or_all of_logs (posts m rs) (posts_all m rs) says _ Down Down says.survives;
+      none_or_all = none_or_all (of_logs (length rs)) (posts m rs) (posts_all m rs) says _ Down Down says.survives;
       idle =
           λ clean t shows so none.
-          let it = c.in-Ok.ensures.idle clean rs made t shows so none in
+          let it = c.in-Ok.ensures.idle clean rs made t shows (of_logs (length rs) t so.0 so.1 so.2) none in
           record {
             tables = it.shows;
             survives = λ trees may. (t, it.survives trees may, refl);
@@ -76,7 +79,7 @@ returns-in-Err g c =
           c.in_ok-up.ensures.up;
       none_or_all =
           none_or_all_down g.S.Store c.args.self.now.conn c.post_all.new.conn c.go_down.new.self.conn _
-          of_logs all (posts_all c.args.moment rs) (IsSome c.args.self.now.fault)
+          (of_logs (length rs)) all (posts_all c.args.moment rs) (IsSome c.args.self.now.fault)
           (IsSome c.go_down.new.self.fault) (c.in-Err.ensures.says rs c.in_ok-batch.ensures.made)
           c.go_down.ensures.survives;
       idle = tt;

@@ -3,14 +3,13 @@ use Rattle.std.proofs.lemmas.List.{length-map}
 use Rattle.message_records.specs.declared.fault.Bad.{Bad}
 use Rattle.message_records.specs.believed.{Reading.request_of, Records.RequestFields, Spelling.reply_spelling}
 use Rattle.posting_rules.specs.believed.Changes.{tables_past_all, replies_past_all}
-use Rattle.posting_rules.specs.believed.{Runs.followed_by, Runs.posts, Tables.Tables, Tables.AreTablesOf}
-use Rattle.posting_rules.proofs.Records.{all_past}
-use Rattle.posting_rules.proofs.Records as past
+use Rattle.posting_rules.specs.believed.Tables.{Tables}
 use Rattle.posting_batch.specs.Batch.{ChangesRows, HasRisingSlots, AddsFreeRows, covering_all, no_slots, filled}
-use Rattle.posting_batch.specs.Batch.{HasFreeOrdinals, HasNextOrdinals, KeepsNew, blanked}
+use Rattle.posting_batch.specs.Batch.{HasNextOrdinals, KeepsNew, blanked}
+use Rattle.posting_batch.specs.Batch.{HasFreeOrdinals}
 use Rattle.posting_batch.specs.{Judging.overlay_with_all, Judging.replies_over, View.view}
 use Rattle.posting_batch.specs.Overlay.{Overlay, tables_over}
-use Rattle.posting_batch.proofs.{Blanked.blank_all, Blanked.keeps_all, Covered.stands, FreeOrdinals.free_shown}
+use Rattle.posting_batch.proofs.{Blanked.blank_all, Blanked.keeps_all, Covered.stands}
 use Rattle.posting_batch.proofs.{NewRows.all_changes, NewRows.all_adds, NextOrdinals.next_all}
 use Rattle.posting_batch.proofs.Idle.{all_answered, all_idle, all_rows}
 use Rattle.posting_batch.proofs.InOrder.{all_tables, all_replies, all_rising, judged}
@@ -24,6 +23,7 @@ returns-clause-judged c t records is free =
     let it = stands t reads in
     let over : HasFreeOrdinals (tables_over old t) (length records) =
     subst (λ (u : Tables). HasFreeOrdinals u (length records)) (sym it.same) free in
+    let each = subst (λ (n : ℕ). HasFreeOrdinals (tables_over old t) n) (sym (length-map records request_of)) over in
     let after = judged m c.judge_records.ensures.overlay (c.deref.ensures.value ∙ is.reads) is.overlay in
     let told : c.judge_records.new.replies.items ≡ replies_past_all t m records =
     c.judge_records.ensures.replies
@@ -40,8 +40,9 @@ returns-clause-judged c t records is free =
           ∙ ap (λ (u : Tables). tables_past_all u m records) it.same;
       answers = told;
       changes = subst (λ (o : Overlay). ChangesRows o t) (sym after)
-          (all_changes old t m reads (subst (λ (n : ℕ). HasFreeOrdinals (tables_over old t) n)
-          (sym (length-map records request_of)) over) it.fits it.unchanged it.covers);
+          (all_changes old t m reads each it.fits it.unchanged it.covers);
+      adds = subst (λ (o : Overlay). AddsFreeRows o t) (sym after)
+          (all_adds old t m reads each it.fits it.unchanged it.covers);
     }
 
 pub returns-clause-rising : goal.returns-clause-rising
@@ -57,23 +58,6 @@ returns-clause-count c =
     ∙ ap (λ (items : List (List ℕ)). length (items
     ++ map reply_spelling (replies_over old c.args.moment reads))) c.args.self.fresh
     ∙ all_answered old c.args.moment reads ∙ ap length c.deref.ensures.value
-
-pub returns-clause-shown : goal.returns-clause-shown
-returns-clause-shown c t records is log shows =
-    let m = c.args.moment in
-    let reads : List (Result RequestFields Bad) = map request_of records in
-    let old = filled t (covering_all no_slots reads) in
-    let it = stands t reads in
-    let after = judged m c.judge_records.ensures.overlay (c.deref.ensures.value ∙ is.reads) is.overlay in
-    let so = returns-clause-judged c t records is (free_shown t log (length records) shows) in
-    record {
-      shows = subst (λ (u : Tables). AreTablesOf u (followed_by log (posts m records))) (sym so.tables)
-          (all_past t log m records shows);
-      answers = so.answers ∙ past.all_replies t log m records shows;
-      adds = subst (λ (o : Overlay). AddsFreeRows o t) (sym after)
-          (all_adds old t log m records it.fits it.unchanged it.covers
-          (subst (λ (u : Tables). AreTablesOf u log) (sym it.same) shows));
-    }
 
 pub returns-clause-next : goal.returns-clause-next
 returns-clause-next c none =
