@@ -5,7 +5,7 @@ use Rattle.std.specs.{Prelude.nat_eq, Prelude.IsTrue, List.AllByRecursion, List.
 use Rattle.std.proofs.lemmas.{Bool.cases_Bool, Bool.eqb-true, Int.ints}
 use Rattle.std.proofs.lemmas.List.Elements.{All-contains_itself, recursion_from_All}
 use Rattle.sqlite.specs.Effect.{Database}
-use Rattle.posting_rules.specs.{believed.Commands.Command, believed.Commands.AreCommands, Damage.IsUndamaged}
+use Rattle.posting_rules.specs.{believed.Commands.Command, believed.Commands.AreCommands, believed.Damage.IsUndamaged}
 use Rattle.posting_rules.specs.{believed.Laws.IsConsistent}
 use Rattle.posting_rules.specs.believed.Tables.{Tables, AreTablesOf, history_key, request_key}
 use Rattle.posting_rules.specs.declared.{fault.Rule.Rule, limits.TheConstants.LAST_BRANCH}

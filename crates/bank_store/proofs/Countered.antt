@@ -1,5 +1,5 @@
 -- A transaction on a connection, as a call of a counter.
-use Rattle.std.proofs.Common.{◌≡◌, List, length, Option, Some, None, Result, Ok, Err, refl, sym, subst, ◌∙◌, arith}
+use Rattle.std.proofs.Common.{◌≡◌, ℕ, List, length, Option, Some, None, Result, Ok, Err, refl, sym, subst, ◌∙◌, arith}
 use Rattle.std.proofs.Common.{inl, inr}
 use Rattle.std.specs.Prelude.{IsSome}
 use Rattle.std.proofs.Math.Seq.{take-length}
@@ -13,7 +13,9 @@ use Rattle.posting_rules.specs.believed.Commands.{Command, AreCommands}
 use Rattle.posting_rules.specs.believed.Counter.{ShowsLog, ShowsPrefix, Takes, IsCutShort, IsDamaged, Refuses}
 use Rattle.posting_rules.specs.believed.Counter.{TellsDamage}
 use Rattle.posting_rules.specs.believed.Tables.{Tables, AreTablesOf as Show}
-use Rattle.posting_rules.proofs.{Calls.IsChange, Sequence.commands_after}
+use Rattle.posting_rules.proofs.{Calls.IsChange, Sequence.commands_after, Undamaged.undamaged}
+use Rattle.posting_batch.specs.believed.Batch.{AreReadyFor}
+use Rattle.posting_batch.proofs.FreeOrdinals.{free_shown}
 use Rattle.store_rows.specs.{believed.View.Shows, declared.fault.TableFault.TableFault, believed.Failures.Committing}
 use Rattle.store_rows.specs.declared.fault.TableFault.TheVariants.{Sqlite, Damaged}
 use Rattle.bank_transactions.specs.{believed.Causes.Damage, believed.Causes.HasFailedBetween, Doing.MayLeaveAfter}
@@ -40,6 +42,10 @@ none_of_them t log cs are shows =
 -- the tables of every log are so
 abbrev pub HoldsOfLogs : (Tables → Type 0) → Type 0
 HoldsOfLogs Sound = (t : Tables) (log : List Command) → AreCommands log → Show t log → Sound t
+
+-- so many records can build on them
+pub of_logs : (count : ℕ) → HoldsOfLogs (AreReadyFor count)
+of_logs count t log are shows = (undamaged t log are shows, free_shown t log count shows)
 
 module _ {S X : Type 0} {So : Tables → Type 0} {after : Tables → Tables} {wanted : Tables → X} {g : Ghosts S}
     {old new : Held S} {r : Result X TableFault} {Met : Damage S}

@@ -5,7 +5,7 @@ use Rattle.std.specs.Prelude.{◌⊎◌, ◌≢◌, ◌<ℤ◌}
 use Rattle.std.proofs.lemmas.Int.{ints}
 use Rattle.sqlite.specs.{Table.Table, Effect.Database, State.State}
 use Rattle.sqlite_rules.specs.Lists.{Has}
-use Rattle.posting_rules.specs.{believed.Commands.Command, believed.Commands.AreCommands, Damage.IsUndamaged}
+use Rattle.posting_rules.specs.{believed.Commands.Command, believed.Commands.AreCommands, believed.Damage.IsUndamaged}
 use Rattle.posting_rules.specs.{declared.open_fault.OpenFault.OpenFault, declared.limits.TheConstants.MAX_DECIDED}
 use Rattle.posting_rules.specs.believed.Tables.{Tables, AreTablesOf as Show}
 use Rattle.posting_rules.specs.declared.fault.Rule.TheVariants.{Meta, Value}

@@ -221,16 +221,15 @@ impl<S: Alter + Drop> Counter for Bank<S> {
     ghost use Rattle.bank_transactions.specs.believed.Stored.{IsStoredBalance, OpensByStored};
     ghost use Rattle.bank_transactions.specs.Stored.{IsStoredNext};
     ghost use Rattle.bank_transactions.specs.believed.Stored.{RepliesToAllStored, RepliesToStored};
-    ghost use Rattle.bank_transactions.specs.believed.Batches.{DecidesNone};
     ghost use Rattle.bank_store.specs.believed.Down.{AnswersBy, IsBankCall, OfDamage, WasBrokenOrMet};
     ghost use Rattle.bank_store.specs.Down.{WasBroken};
     ghost use Rattle.bank_store.specs.believed.Down.{bank_reason};
-    ghost use Rattle.bank_store.specs.believed.NoneOrAll.{LeavesNoneOrAll, IsIdle};
+    ghost use Rattle.bank_store.specs.believed.NoneOrAll.{LeavesBatch, LeavesNoneOrAll, LeavesRecords};
     ghost use Rattle.bank_store.specs.believed.Seen.{bank_seen, database_of, file_of};
     ghost use Rattle.bank_store.specs.believed.Sparing.{SparesOtherTables};
     ghost use Rattle.bank_store.specs.SparedTables.{some_or_none, spared_itself, spared_then};
     ghost use Rattle.sqlite.specs.Effect.{Database};
-    ghost use Rattle.posting_rules.specs.believed.Sound.{AreOfALog};
+    ghost use Rattle.posting_batch.specs.believed.Batch.{AreReadyFor};
 
     ghost seen = { λ bank. bank_seen S.Store bank };
 
@@ -261,6 +260,10 @@ impl<S: Alter + Drop> Counter for Bank<S> {
         // Whatever rows the file holds.
         ensures stored { IfOk result (λ out. (bank_seen S.Store self.new).honest → (r : RequestFields)
             → request_of bytes.now ≡ Ok r → RepliesToStored (database_of S.Store self.old) r out) }
+        // Be the tables of a log or not.
+        ensures leaves { IfOk result (λ out. (bank_seen S.Store self.new).honest → (r : RequestFields)
+            → request_of bytes.now ≡ Ok r → (t : Tables) → (bank_seen S.Store self.old).tables t → AreReadyFor 1 t
+            → LeavesRecords S.Store self.new t moment (bytes.now ∷ []) (out ∷ [])) }
         // Bytes that are no request are told so, whatever rows the file holds, and the bank is as it was.
         ensures malformed { ((bank_seen S.Store self.old).is_down → ⊥) → (bad : Bad)
             → request_of bytes.now ≡ Err bad
@@ -298,10 +301,11 @@ impl<S: Alter + Drop> Counter for Bank<S> {
         ensures call { IsBankCall S.Store self.old self.new (posts moment records.now) result }
         ensures none_or_all { LeavesNoneOrAll (bank_seen S.Store self.old) (bank_seen S.Store self.new)
             (posts moment records.now) }
-        // A batch in which no record is decided changes nothing, nor what a crash leaves.
-        ensures idle { OnOk result ((bank_seen S.Store self.new).honest → (t : Tables)
-            → (bank_seen S.Store self.old).tables t → AreOfALog t → DecidesNone t moment records.now
-            → IsIdle S.Store self.old self.new t) }
+        // Be the tables of a log or not. A batch in which no record is decided changes nothing, nor what a crash
+        // leaves.
+        ensures leaves { IfOk result (λ replies. (bank_seen S.Store self.new).honest → (t : Tables)
+            → (bank_seen S.Store self.old).tables t → AreReadyFor (length records.now) t
+            → LeavesBatch S.Store self.old self.new t moment records.now replies.items) }
         // Whatever rows the file holds.
         ensures stored { IfOk result (λ replies. (bank_seen S.Store self.new).honest
             → RepliesToAllStored (database_of S.Store self.old) moment records.now replies.items) }

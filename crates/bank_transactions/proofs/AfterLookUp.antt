@@ -7,7 +7,7 @@ use Rattle.sqlite.specs.State.{HasCleanDisk, KeepsCommit}
 use Rattle.sqlite_trees.specs.declared.store.Store.{Ghosts}
 use Rattle.posting_rules.specs.believed.Changes.{replies_past_all, tables_past_all}
 use Rattle.posting_rules.specs.believed.Tables.{Tables}
-use Rattle.posting_batch.specs.Batch.{AreReadyFor}
+use Rattle.posting_batch.specs.believed.Batch.{AreReadyFor}
 use Rattle.sql_meanings.specs.Calls.{Inside, Says}
 use Rattle.sql_meanings.proofs.Saying.{clean_between, says_then}
 use Rattle.store_rows.specs.{believed.View.Shows, declared.fault.TableFault.TableFault}

@@ -5,7 +5,7 @@ use Rattle.sqlite.specs.declared.transaction.Transaction.{Transaction}
 use Rattle.sqlite_trees.specs.declared.store.Store.{Ghosts}
 use Rattle.sqlite_trees.proofs.ListLemmas.{all-map, all_of, map-map}
 use Rattle.posting_rules.specs.believed.Numbering.{branch_of_teller, branch_of_account}
-use Rattle.posting_rules.specs.{Damage.IsUndamaged, believed.Tables.Tables, believed.Tables.branch_key}
+use Rattle.posting_rules.specs.{believed.Damage.IsUndamaged, believed.Tables.Tables, believed.Tables.branch_key}
 use Rattle.posting_rules.specs.believed.Tables.{row_at}
 use Rattle.posting_batch.specs.declared.slots.{AccountSlot.AccountSlot, TellerSlot.TellerSlot, BranchSlot.BranchSlot}
 use Rattle.posting_batch.specs.declared.slots.{FloorSlot.FloorSlot, RequestSlot.RequestSlot}

@@ -3,7 +3,7 @@ use Rattle.std.proofs.Common.{◌≡◌, ◌≤ℤ◌, ℕ, ℤ, pos, Bool, true
 use Rattle.std.proofs.Common.{arith}
 use Rattle.std.specs.Prelude.{false, int_lt, is_some, nat_le, option_map}
 use Rattle.std.proofs.lemmas.{Int.ints, Bool.Decides.nat_tests}
-use Rattle.posting_rules.specs.{believed.Commands.is_within, LookUps.terms_of_branch}
+use Rattle.posting_rules.specs.{believed.Commands.is_within, believed.LookUps.terms_of_branch}
 use Rattle.posting_rules.specs.believed.Numbering.{branch_of_account, place_of_account}
 use Rattle.posting_rules.specs.declared.rows.BranchRow.{BranchRow}
 use Rattle.sql_meanings.specs.believed.Entries.{Entry}

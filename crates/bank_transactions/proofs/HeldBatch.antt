@@ -16,7 +16,7 @@ use Rattle.posting_batch.specs.{declared.batch.Batch.Batch, declared.slots.Reque
 use Rattle.posting_batch.specs.{Judging.found_over, Overlay.Overlay, Placed.IsRising, Placed.number_below}
 use Rattle.posting_batch.specs.{Placed.request_below, View.IsFilledFrom, View.IsMadeOf, View.reads_of, View.view}
 use Rattle.posting_batch.specs.Batch.{CoversAll, CoversRead, HasHomes, HasRisingSlots, account_filled}
-use Rattle.posting_batch.specs.Batch.{HasFreeOrdinals}
+use Rattle.posting_batch.specs.believed.Batch.{HasFreeOrdinals}
 use Rattle.posting_batch.specs.Batch.{IsJudged, branch_filled, covering, covering_all, filled}
 use Rattle.posting_batch.specs.Batch.{floor_filled, no_slots, request_filled, teller_filled}
 use Rattle.posting_batch.specs.Slots.{account_slot_key, branch_slot_key, floor_slot_key, is_for, teller_slot_key}

@@ -2,7 +2,7 @@
 use Rattle.std.proofs.Common.{◌≡◌, ℕ, ℤ, false, Option, Some, None, Result, Ok, Err, refl, sym, ap, subst, ◌∙◌}
 use Rattle.std.specs.Prelude.{IfOk, is_some, option_map}
 use Rattle.sqlite.specs.Effect.{Database}
-use Rattle.posting_rules.specs.{believed.Commands.is_within, LookUps.terms_of_branch}
+use Rattle.posting_rules.specs.{believed.Commands.is_within, believed.LookUps.terms_of_branch}
 use Rattle.posting_rules.specs.believed.Numbering.{branch_of_account, branch_of_teller, place_of_account}
 use Rattle.posting_rules.specs.{believed.LookUps.balance_of_branch, believed.LookUps.both_of}
 use Rattle.posting_rules.specs.declared.rows.BranchRow.{BranchRow}

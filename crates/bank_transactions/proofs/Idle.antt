@@ -4,7 +4,7 @@ use Rattle.std.specs.Prelude.{OnOk, Vec, length}
 use Rattle.sqlite.specs.{Effect.Database, State.HasCleanDisk, Held.Held, Held.state}
 use Rattle.sqlite_trees.specs.declared.store.Store.{Ghosts}
 use Rattle.posting_rules.specs.believed.Tables.{Tables}
-use Rattle.posting_batch.specs.Batch.{AreReadyFor}
+use Rattle.posting_batch.specs.believed.Batch.{AreReadyFor}
 use Rattle.store_rows.specs.{believed.View.Shows, declared.fault.TableFault.TableFault}
 use Rattle.bank_transactions.specs.{Doing.Ends, believed.Batches.DecidesNone}
 use Rattle.bank_transactions.specs.Batches.{items_of, WritesNothing, KeepsOnly}
@@ -43,7 +43,7 @@ module _ (Made : List (List ℕ) → Type 0) (moment : ℕ) {S : Type 0} (g : Gh
   abbrev IdleAfter : Held S → Held S → Type 0
   IdleAfter old new = HasCleanDisk (state g new) → (records : List (List ℕ)) → Made records → (t : Tables)
       → Shows (state g old).now t → AreReadyFor (length records) t → DecidesNone t moment records
-      → KeepsOnly (state g old) (state g new) t
+      → KeepsOnly (state g old) (state g new) t moment records
 
   pub idle_after : {X : Type 0} (old begun last end new : Held S) (answer result : Result X TableFault)
       → begun ≡ record old { in_transaction = true } → Ends g last end answer result
@@ -59,7 +59,9 @@ module _ (Made : List (List ℕ) → Type 0) (moment : ℕ) {S : Type 0} (g : Gh
       let it = idle before records made t first so none in
       let told = ends.told ended in
       let left = told.1 t (subst (λ (db : Database). Shows db t) (sym it.stays.now) first) in
-      subst (λ (h : Held S). KeepsOnly (state g old) (state g h) t) (same records made) (record {
+      subst (λ (h : Held S). KeepsOnly (state g old) (state g h) t moment records)
+      (same records made) (record {
+        leads = it.leads;
         same = told.0 ∙ it.stays.now ∙ ap (λ (h : Held S). (state g h).now) is;
         shows = left.0;
         survives = left.1;

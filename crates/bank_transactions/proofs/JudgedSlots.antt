@@ -4,12 +4,11 @@ use Rattle.sqlite.specs.declared.transaction.Transaction.{Transaction}
 use Rattle.sqlite_trees.specs.declared.store.Store.{Ghosts}
 use Rattle.message_records.specs.believed.{Reading.request_of, Records.RequestFields, Spelling.reply_spelling}
 use Rattle.posting_rules.specs.believed.Changes.{tables_past_all, replies_past_all, tables_with, reply_bytes}
-use Rattle.posting_rules.specs.{believed.Tables.Tables, Damage.IsUndamaged, Sound.AreSound}
-use Rattle.posting_rules.proofs.Ready.{ready_sound}
+use Rattle.posting_rules.specs.{believed.Tables.Tables, believed.Damage.IsUndamaged}
 use Rattle.posting_batch.specs.{declared.batch.Batch.Batch, Judging.overlay_with, Judging.reply_over, Overlay.Overlay}
 use Rattle.posting_batch.specs.{Overlay.tables_over, View.view, View.reads_of, View.IsMadeOf, View.IsFilledFrom}
 use Rattle.posting_batch.specs.Batch.{HasHomes, HasRisingSlots, ChangesRows, AddsFreeRows, filled, covering, no_slots}
-use Rattle.posting_batch.specs.{Batch.IsJudged, Batch.AreReadyFor, Batch.HasFreeOrdinals}
+use Rattle.posting_batch.specs.{Batch.IsJudged, believed.Batch.AreReadyFor, believed.Batch.HasFreeOrdinals}
 use Rattle.posting_batch.proofs.Covered.{stands, homes_all}
 use Rattle.posting_batch.proofs.OneRecord.{one_adds, one_back, one_changes, one_filled, one_homes, one_judged}
 use Rattle.posting_batch.proofs.OneRecord.{one_reply, one_rising, one_tables}
@@ -116,14 +115,14 @@ judging_all b b' records m o items made same judged rising idle =
 pub homes_one : (r : RequestFields) (p : Overlay) → p ≡ covering no_slots (Ok r) → HasHomes p
 homes_one r p made = subst HasHomes (sym made) (one_homes r)
 
-pub ready_one : (r : RequestFields) (p : Overlay) → p ≡ covering no_slots (Ok r) → (t : Tables) → AreSound t
-    → Ready p t
-ready_one r p made t it = (it.undamaged, homes_one r p made)
+pub ready_one : (r : RequestFields) (p : Overlay) → p ≡ covering no_slots (Ok r) → (t : Tables)
+    → AreReadyFor 1 t → Ready p t
+ready_one r p made t it = (it.0, homes_one r p made)
 
 pub judging_one : (r : RequestFields) (m : ℕ) (p p' o : Overlay) (reply : List ℕ)
     → p ≡ covering no_slots (Ok r) → reply ≡ reply_spelling (reply_over p' (Ok r))
     → o ≡ overlay_with p' m (Ok r)
-    → Judging AreSound (λ t. tables_with t m r) (λ t. reply_bytes t r) p p' o reply
+    → Judging (AreReadyFor 1) (λ t. tables_with t m r) (λ t. reply_bytes t r) p p' o reply
 judging_one r m p p' o reply made told after =
     let is : (t : Tables) → p' ≡ filled t p → p' ≡ one_filled t m r =
     λ t e. e ∙ ap (λ (q : Overlay). filled t q) made in
@@ -135,10 +134,10 @@ judging_one r m p p' o reply made told after =
       answers = λ t it e.
           told ∙ ap (λ (q : Overlay). reply_spelling (reply_over q (Ok r))) (is t e) ∙ one_reply t m r;
       writes = λ t it e. (
-        it.undamaged,
+        it.0,
         subst HasRisingSlots (sym (so t e)) (one_rising t m r),
         subst (λ (q : Overlay). ChangesRows q t) (sym (so t e)) (one_changes t m r),
-        subst (λ (q : Overlay). AddsFreeRows q t) (sym (so t e)) (one_adds t m r (ready_sound t it)),
+        subst (λ (q : Overlay). AddsFreeRows q t) (sym (so t e)) (one_adds t m r it.1),
       );
       back = λ none t it e.
           one_back t m r (sym (ap (λ (q : Overlay). q.decided) (so t e)) ∙ none

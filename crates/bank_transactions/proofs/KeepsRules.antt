@@ -7,7 +7,7 @@ use Rattle.sqlite.specs.Effect.{Database}
 use Rattle.message_records.specs.{believed.Ranges.whole_within, declared.limits.TheConstants.MAX_BRANCH}
 use Rattle.posting_rules.specs.believed.Commands.{Terms, is_within}
 use Rattle.posting_rules.specs.believed.Numbering.{branch_of_teller, branch_of_account, place_of_account}
-use Rattle.posting_rules.specs.{Damage.IsUndamaged, LookUps.terms_of_branch, declared.fault.Rule.Rule}
+use Rattle.posting_rules.specs.{believed.Damage.IsUndamaged, believed.LookUps.terms_of_branch, declared.fault.Rule.Rule}
 use Rattle.posting_rules.specs.believed.LookUps.{balance_of_account, floor_in, lowest_of}
 use Rattle.posting_rules.specs.believed.Tables.{Tables, row_at, account_key, branch_key, floor_key, teller_key}
 use Rattle.posting_rules.specs.declared.fault.Rule.TheVariants.{Meta, Teller, Account, Balance, Key}

@@ -6,7 +6,7 @@ use Rattle.sqlite.specs.{Effect.Database, Held.Held, Held.state, declared.transa
 use Rattle.sqlite.specs.State.{State, HasCleanDisk, KeepsCommit}
 use Rattle.sqlite_trees.specs.declared.store.Store.{Ghosts}
 use Rattle.message_records.specs.declared.limits.TheConstants.{MAX_TELLER}
-use Rattle.posting_rules.specs.{Damage.IsUndamaged, believed.Numbering.branch_of_teller}
+use Rattle.posting_rules.specs.{believed.Damage.IsUndamaged, believed.Numbering.branch_of_teller}
 use Rattle.posting_rules.specs.believed.LookUps.{balance_of_branch, both_of, teller_balances_in}
 use Rattle.posting_rules.specs.believed.Tables.{Tables, row_at, branch_key}
 use Rattle.posting_rules.specs.declared.{fault.Rule.Rule, rows.BranchRow.BranchRow}

@@ -7,8 +7,8 @@ use Rattle.std.proofs.lemmas.{Bool.eqb-true, Bool.Decides.nat_tests, Iterator.Ad
 use Rattle.message_records.specs.{believed.Ranges.whole_within, declared.limits.TheConstants.MAX_BRANCH}
 use Rattle.posting_rules.specs.declared.rows.{BranchRow.BranchRow, RequestRow.RequestRow, TellerRow.TellerRow}
 use Rattle.posting_rules.specs.declared.rows.{AccountRow.AccountRow, FloorRow.FloorRow, ReferenceRow.ReferenceRow}
-use Rattle.posting_rules.specs.{Damage.IsUndamaged, Damage.IsSoundBranch, Damage.IsSoundTeller, Damage.IsSoundAccount}
-use Rattle.posting_rules.specs.{Damage.IsSoundFloor, believed.Numbering.branch_of_account, declared.fault.Rule.Rule}
+use Rattle.posting_rules.specs.{believed.Damage.IsUndamaged, believed.Damage.IsSoundBranch, believed.Damage.IsSoundTeller, believed.Damage.IsSoundAccount}
+use Rattle.posting_rules.specs.{believed.Damage.IsSoundFloor, believed.Numbering.branch_of_account, declared.fault.Rule.Rule}
 use Rattle.posting_rules.specs.believed.LookUps.{account_balance_in, balance_of_account, balance_of_teller, floor_in}
 use Rattle.posting_rules.specs.believed.Tables.{Tables, row_at, branch_key, teller_key, account_key, floor_key}
 use Rattle.posting_rules.specs.believed.Tables.{reference_key, request_key}

@@ -7,7 +7,7 @@ use Rattle.sqlite.specs.{Order.Row, declared.transaction.Transaction.Transaction
 use Rattle.sqlite_rules.specs.Lists.{Has}
 use Rattle.sqlite_trees.specs.declared.store.Store.{Ghosts}
 use Rattle.posting_rules.specs.declared.rows.{BranchRow.BranchRow, RequestRow.RequestRow}
-use Rattle.posting_rules.specs.Damage.{IsUndamaged}
+use Rattle.posting_rules.specs.believed.Damage.{IsUndamaged}
 use Rattle.posting_rules.specs.believed.Tables.{Tables, row_at, branch_key}
 use Rattle.posting_batch.specs.declared.slots.BranchSlot.{BranchSlot}
 use Rattle.posting_batch.specs.Batch.{HasRisingSlots, ChangesRows, AddsFreeRows}

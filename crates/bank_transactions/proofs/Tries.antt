@@ -9,7 +9,7 @@ use Rattle.sqlite.specs.declared.transaction.Transaction.{Transaction}
 use Rattle.sqlite_trees.specs.declared.store.Store.{Ghosts}
 use Rattle.posting_rules.specs.believed.Changes.{replies_past_all, tables_past_all}
 use Rattle.posting_rules.specs.believed.Tables.{Tables}
-use Rattle.posting_batch.specs.Batch.{AreReadyFor}
+use Rattle.posting_batch.specs.believed.Batch.{AreReadyFor}
 use Rattle.sql_meanings.specs.Calls.{Inside, Says}
 use Rattle.sql_meanings.proofs.Saying.{survives_both}
 use Rattle.store_rows.specs.believed.Failures.{Additions, Committing}
@@ -89,15 +89,15 @@ module _ {S : Type 0} (g : Ghosts S) (old mid new : Held S) (before : IsAsBefore
     pub idle_again : {X : Type 0} (moment : ℕ) (r : Result X TableFault)
         → OnOk r (HasCleanDisk (state g new) → (records : List (List ℕ)) → Again records → (t : Tables)
         → Shows (state g mid).now t → AreReadyFor (length records) t → DecidesNone t moment records
-        → KeepsOnly (state g mid) (state g new) t)
+        → KeepsOnly (state g mid) (state g new) t moment records)
         → OnOk r (HasCleanDisk (state g new) → (records : List (List ℕ)) → Made records → (t : Tables)
         → Shows (state g old).now t → AreReadyFor (length records) t → DecidesNone t moment records
-        → KeepsOnly (state g old) (state g new) t)
+        → KeepsOnly (state g old) (state g new) t moment records)
     idle_again moment r = on_ok_weaker r (λ idle clean records made t shows so none.
         let same = (same_there records made clean).2 in
         let it = idle clean records (from records made) t (subst (λ (db : Database). Shows db t) (sym same) shows) so
         none in
-        record { same = it.same ∙ same; shows = it.shows; survives = it.survives })
+        record { leads = it.leads; same = it.same ∙ same; shows = it.shows; survives = it.survives })
 
     pub stored_again : {X : Type 0} (Q : Database → List (List ℕ) → X → Type 0) (r : Result X TableFault)
         → IfOk r (λ x. HasCleanDisk (state g new) → (records : List (List ℕ)) → Again records

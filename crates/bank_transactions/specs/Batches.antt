@@ -18,8 +18,9 @@ pub record WritesNothing (old new : State) (t : Tables) (moment : ℕ) (records 
   pub leads : tables_past_all t moment records ≡ t
   pub stays : Stays old new
 
--- all is as it was, these tables are there, and everything that a crash may leave has them
-pub record KeepsOnly (old new : State) (t : Tables) : Type 0 where
+-- all is as it was, the records lead to the tables that were there, and everything that a crash may leave has them
+pub record KeepsOnly (old new : State) (t : Tables) (moment : ℕ) (records : List (List ℕ)) : Type 0 where
+  pub leads : tables_past_all t moment records ≡ t
   pub same : new.now ≡ old.now
   pub shows : Shows new.now t
   pub survives : (left : Trees) → new.may_leave left → ShowsTrees left t

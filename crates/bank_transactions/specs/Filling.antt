@@ -1,7 +1,7 @@
 -- What the parts of filling a batch say.
 use Rattle.std.specs.Prelude.{◌≡◌, ℕ, List, map, Option, None, Result, Ok, Err}
 use Rattle.std.specs.List.{AllByRecursion}
-use Rattle.posting_rules.specs.Damage.{IsUndamaged}
+use Rattle.posting_rules.specs.believed.Damage.{IsUndamaged}
 use Rattle.posting_rules.specs.believed.Tables.{Tables, row_at, branch_key}
 use Rattle.posting_rules.specs.declared.rows.BranchRow.{BranchRow}
 use Rattle.posting_batch.specs.declared.slots.AccountSlot.{AccountSlot}

@@ -3,7 +3,7 @@ ghost use Rattle.std.specs.Mem.{type_size};
 ghost use Rattle.std.specs.Prelude.{◌*◌, ◌^◌, ◌<◌, [], ◌∷◌, List, IfSome, IsTrue, OnOk};
 ghost use Rattle.sqlite.specs.Held.{state};
 ghost use Rattle.sqlite.specs.State.{HasCleanDisk};
-ghost use Rattle.posting_rules.specs.Damage.{IsUndamaged};
+ghost use Rattle.posting_rules.specs.believed.Damage.{IsUndamaged};
 ghost use Rattle.posting_rules.specs.believed.Tables.{Tables};
 ghost use Rattle.posting_batch.specs.Batch.{HasRisingSlots, ChangesRows, AddsFreeRows};
 ghost use Rattle.posting_batch.specs.Overlay.{tables_over, accounts_over, tellers_over, branches_over};

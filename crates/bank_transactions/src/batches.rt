@@ -38,7 +38,7 @@ ghost use Rattle.sqlite.specs.State.{HasCleanDisk};
 ghost use Rattle.sqlite.specs.Held.{state};
 ghost use Rattle.posting_rules.specs.believed.Changes.{tables_past_all, replies_past_all};
 ghost use Rattle.posting_rules.specs.believed.Tables.{Tables};
-ghost use Rattle.posting_batch.specs.Batch.{AreReadyFor};
+ghost use Rattle.posting_batch.specs.believed.Batch.{AreReadyFor};
 ghost use Rattle.posting_batch.specs.View.{reads_of, IsMadeOf};
 ghost use Rattle.store_rows.specs.Definitions.{IsOtherTable};
 ghost use Rattle.store_rows.specs.believed.View.{Shows};
@@ -104,7 +104,7 @@ fn post_looked_up<S: Alter>(
         (HasCleanDisk (state S.Store conn.new) → (records : List (List ℕ)) → IsMadeOf batch records
         → (tables : Tables) → Shows (state S.Store conn.old).now tables → AreReadyFor (length records) tables
         → DecidesNone tables moment records
-        → KeepsOnly (state S.Store conn.old) (state S.Store conn.new) tables) }
+        → KeepsOnly (state S.Store conn.old) (state S.Store conn.new) tables moment records) }
     // Whatever rows the file holds.
     ensures stored { IfOk result (λ replies. HasCleanDisk (state S.Store conn.new)
         → (records : List (List ℕ)) → IsMadeOf batch records
@@ -146,7 +146,7 @@ pub fn post_all<S: Alter>(
         (HasCleanDisk (state S.Store conn.new) → (records : List (List ℕ)) → IsMadeOf batch records
         → (tables : Tables) → Shows (state S.Store conn.old).now tables → AreReadyFor (length records) tables
         → DecidesNone tables moment records
-        → KeepsOnly (state S.Store conn.old) (state S.Store conn.new) tables) }
+        → KeepsOnly (state S.Store conn.old) (state S.Store conn.new) tables moment records) }
     // Whatever rows the file holds.
     ensures stored { IfOk result (λ replies. HasCleanDisk (state S.Store conn.new)
         → (records : List (List ℕ)) → IsMadeOf batch records

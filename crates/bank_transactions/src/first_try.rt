@@ -7,7 +7,7 @@ ghost use Rattle.posting_rules.specs.believed.Changes.{tables_past_all, replies_
 ghost use Rattle.posting_rules.specs.believed.LookUps.{kept_in};
 ghost use Rattle.posting_rules.specs.believed.Tables.{Tables};
 ghost use Rattle.posting_batch.specs.Batch.{has_gap};
-ghost use Rattle.posting_batch.specs.Batch.{AreReadyFor};
+ghost use Rattle.posting_batch.specs.believed.Batch.{AreReadyFor};
 ghost use Rattle.posting_batch.specs.View.{reads_of, view, IsMadeOf};
 ghost use Rattle.sql_meanings.specs.Calls.{Inside, Says};
 ghost use Rattle.store_rows.specs.Definitions.{IsOtherTable};

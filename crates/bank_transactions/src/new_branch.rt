@@ -6,7 +6,7 @@ ghost use Rattle.posting_rules.specs.believed.Changes.{tables_opened, with_floor
 ghost use Rattle.posting_rules.specs.Changes.{tables_with_branch};
 ghost use Rattle.posting_rules.specs.believed.Commands.{opened_with};
 ghost use Rattle.posting_rules.specs.believed.Counter.{opening_for};
-ghost use Rattle.posting_rules.specs.LookUps.{terms_in};
+ghost use Rattle.posting_rules.specs.believed.LookUps.{terms_in};
 ghost use Rattle.posting_rules.specs.Sound.{AreSound};
 ghost use Rattle.posting_rules.specs.believed.Tables.{row_at, branch_key, floor_key};
 ghost use Rattle.bank_transactions.specs.believed.Additions.{AddsBranch, AddsFloor, AddsOne, AddsRange};

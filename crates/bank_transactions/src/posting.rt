@@ -1,10 +1,10 @@
 //! A single request is judged in slots of its own, as a batch is, and what changes is written. They lie in the
 //! value itself, so that it takes no memory.
 ghost use Rattle.posting_rules.specs.believed.Changes.{tables_with, reply_bytes};
-ghost use Rattle.posting_rules.specs.Sound.{AreSound};
 ghost use Rattle.std.specs.Prelude.{IfOk};
 ghost use Rattle.sqlite.specs.Held.{state};
 ghost use Rattle.sqlite.specs.State.{HasCleanDisk};
+ghost use Rattle.posting_batch.specs.believed.Batch.{AreReadyFor};
 ghost use Rattle.bank_transactions.specs.believed.Additions.{AddsForRecords};
 ghost use Rattle.bank_transactions.specs.Doing.{Acts};
 ghost use Rattle.bank_transactions.specs.believed.Stored.{RepliesToStored};
@@ -24,8 +24,8 @@ pub(crate) fn post_inside<S: Alter>(
     moment: Moment,
     request: &Request,
 ) -> Result<[u8; REPLY_BYTES], TableFault>
-    ensures acts { Acts S.Store (AddsForRecords (state S.Store tx.old.conn.now).now 1) tx.old tx.new AreSound
-        (λ tables. tables_with tables moment request.now)
+    ensures acts { Acts S.Store (AddsForRecords (state S.Store tx.old.conn.now).now 1) tx.old tx.new
+        (AreReadyFor 1) (λ tables. tables_with tables moment request.now)
         (λ tables. reply_bytes tables request.now) result }
     ensures stored { IfOk result (λ reply. HasCleanDisk (state S.Store tx.new.conn.now)
         → RepliesToStored (state S.Store tx.old.conn.now).now request.now reply) }

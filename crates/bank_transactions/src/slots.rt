@@ -5,7 +5,7 @@ ghost use Rattle.std.specs.Option.{option_map};
 ghost use Rattle.sqlite.specs.Held.{state};
 ghost use Rattle.sqlite.specs.State.{HasCleanDisk};
 ghost use Rattle.posting_rules.specs.believed.Numbering.{branch_of_teller, branch_of_account};
-ghost use Rattle.posting_rules.specs.Damage.{IsUndamaged};
+ghost use Rattle.posting_rules.specs.believed.Damage.{IsUndamaged};
 ghost use Rattle.posting_rules.specs.believed.LookUps.{account_balance_in, balance_of_teller};
 ghost use Rattle.posting_rules.specs.believed.Tables.{Tables, row_at, teller_key};
 ghost use Rattle.posting_batch.specs.declared.slots.BranchSlot.{BranchSlot};

@@ -7,8 +7,9 @@ ghost use Rattle.posting_rules.specs.Changes.{tables_with_branch};
 ghost use Rattle.posting_rules.specs.believed.Commands.{opened_with};
 ghost use Rattle.posting_rules.specs.believed.Counter.{opening_for};
 ghost use Rattle.posting_rules.specs.believed.LookUps.{account_balance_in};
-ghost use Rattle.posting_rules.specs.LookUps.{terms_in};
+ghost use Rattle.posting_rules.specs.believed.LookUps.{terms_in};
 ghost use Rattle.posting_rules.specs.Sound.{AreSound};
+ghost use Rattle.posting_batch.specs.believed.Batch.{AreReadyFor};
 ghost use Rattle.bank_transactions.specs.believed.Additions.{AddsBranch, AddsForRecords};
 ghost use Rattle.bank_transactions.specs.Doing.{Consults, Ends, Transacts};
 ghost use Rattle.bank_transactions.specs.believed.Stored.{IsStoredBalance, OpensByStored, RepliesToStored};
@@ -86,8 +87,8 @@ pub fn post<S: Alter>(
     request: &Request,
 ) -> Result<[u8; REPLY_BYTES], TableFault>
     requires { conn.old.in_transaction ≡ false }
-    ensures transacts { Transacts S.Store (AddsForRecords (state S.Store conn.old).now 1) conn.old conn.new AreSound
-        (λ tables. tables_with tables moment request.now) (λ tables. reply_bytes tables request.now) result }
+    ensures transacts { Transacts S.Store (AddsForRecords (state S.Store conn.old).now 1) conn.old conn.new
+        (AreReadyFor 1) (λ tables. tables_with tables moment request.now) (λ tables. reply_bytes tables request.now) result }
     // Whatever rows the file holds.
     ensures stored { IfOk result (λ reply. HasCleanDisk (state S.Store conn.new)
         → RepliesToStored (state S.Store conn.old).now request.now reply) }

@@ -14,7 +14,7 @@ use Rattle.posting_rules.specs.believed.Tables.{Tables, AreTablesOf, row_at, his
 use Rattle.posting_rules.specs.believed.Tables.{history_row_of, request_row_of, reference_row_of}
 use Rattle.posting_rules.proofs.RowChanges.{row_at-put}
 use Rattle.posting_rules.proofs.TablesWithRecord.{history_row_past, request_row_past, reference_row_past}
-use Rattle.posting_batch.specs.Batch.{HasFreeOrdinals}
+use Rattle.posting_batch.specs.believed.Batch.{HasFreeOrdinals}
 
 -- in the tables of a log they are free
 pub free_shown : (t : Tables) (log : List Command) (count : ℕ) → AreTablesOf t log → HasFreeOrdinals t count

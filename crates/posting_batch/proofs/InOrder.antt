@@ -13,7 +13,7 @@ use Rattle.posting_rules.proofs.Keyed.{by_test}
 use Rattle.posting_rules.proofs.RowChanges.{changed_at, key-changed_at, row_at-changed}
 use Rattle.posting_batch.specs.{declared.slots.RequestSlot.RequestSlot, Overlay.Overlay, Overlay.tables_over}
 use Rattle.posting_batch.specs.Batch.{Covers, CoversRead, CoversAll, HasRisingSlots}
-use Rattle.posting_batch.specs.Batch.{HasFreeOrdinals}
+use Rattle.posting_batch.specs.believed.Batch.{HasFreeOrdinals}
 use Rattle.posting_batch.specs.Judging.{found_over, overlay_after, overlay_with, overlay_with_all, reply_over}
 use Rattle.posting_batch.specs.Judging.{replies_over}
 use Rattle.posting_batch.specs.Placed.{number_below, request_below, IsRising}

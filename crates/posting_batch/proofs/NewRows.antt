@@ -19,7 +19,7 @@ use Rattle.posting_rules.specs.believed.Tables.{reference_key, reference_row_of}
 use Rattle.posting_rules.proofs.{Keyed.by_test, ChangesByKey.posted_rows}
 use Rattle.posting_batch.specs.declared.slots.{AccountSlot.AccountSlot, TellerSlot.TellerSlot, BranchSlot.BranchSlot}
 use Rattle.posting_batch.specs.Batch.{CoversRead, CoversAll, HasNoChange, ChangesRows, PutsFree, AddsFreeRows}
-use Rattle.posting_batch.specs.Batch.{HasFreeOrdinals}
+use Rattle.posting_batch.specs.believed.Batch.{HasFreeOrdinals}
 use Rattle.posting_batch.specs.Judging.{found_over, reference_after, overlay_after, overlay_with, overlay_with_all}
 use Rattle.posting_batch.specs.Overlay.{Overlay, by_slot, over, put_account, put_teller, put_branch, each_put}
 use Rattle.posting_batch.specs.Overlay.{tables_over}

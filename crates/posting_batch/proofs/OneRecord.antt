@@ -1,11 +1,10 @@
 -- A single request, judged in the slots that are placed for it and filled from tables.
-use Rattle.std.proofs.Common.{◌≡◌, ◌∙◌, ◌+◌, ℕ, [], ◌∷◌, Ok, ap, sym, subst, arith}
+use Rattle.std.proofs.Common.{◌≡◌, ◌∙◌, ℕ, [], ◌∷◌, Ok, ap, sym, subst}
 use Rattle.message_records.specs.believed.{Records.RequestFields, Spelling.reply_spelling}
 use Rattle.posting_rules.specs.believed.Changes.{tables_read, tables_with, reply_bytes, reply_read}
 use Rattle.posting_rules.specs.believed.Tables.{Tables}
-use Rattle.posting_rules.proofs.Ready.{AreReady}
 use Rattle.posting_batch.specs.Batch.{AddsFreeRows, ChangesRows, HasHomes, HasRisingSlots, covering, filled, no_slots}
-use Rattle.posting_batch.specs.Batch.{HasFreeOrdinals}
+use Rattle.posting_batch.specs.believed.Batch.{HasFreeOrdinals}
 use Rattle.posting_batch.specs.{Judging.overlay_with, Judging.reply_over, Overlay.Overlay, Overlay.tables_over}
 use Rattle.posting_batch.proofs.Covered.{Stands, homes_all, stands}
 use Rattle.posting_batch.proofs.{Idle.all_idle, InOrder.all_rising, InOrder.reply_is, StillFits.with_is}
@@ -13,14 +12,6 @@ use Rattle.posting_batch.proofs.NewRows.{adds_none, adds_with, changes_none, cha
 
 pub one_homes : (r : RequestFields) → HasHomes (covering no_slots (Ok r))
 one_homes r = homes_all (Ok r ∷ [])
-
--- of tables on which the next record can build the next ordinal is free
-free_ready : (t : Tables) → AreReady t → HasFreeOrdinals t 1
-free_ready t ready = record {
-  requests = λ o is. let e : o ≡ t.decided + 1 = omega (arith, is.0, is.1) in rw e ready.next_request;
-  postings = λ o is. let e : o ≡ t.decided + 1 = omega (arith, is.0, is.1) in rw e ready.next_posting;
-  references = λ o is. let e : o ≡ t.decided + 1 = omega (arith, is.0, is.1) in rw e ready.next_reference;
-}
 
 module _ (t : Tables) (m : ℕ) (r : RequestFields) where
   abbrev pub one_filled : Overlay
@@ -47,9 +38,9 @@ module _ (t : Tables) (m : ℕ) (r : RequestFields) where
   one_changes = changes_with one_filled t m (Ok r) one_stands.fits one_stands.covers.0
       (changes_none one_filled t one_stands.unchanged)
 
-  pub one_adds : AreReady t → AddsFreeRows one_judged t
-  one_adds ready = adds_with one_filled t m (Ok r) 0
-      (subst (λ (u : Tables). HasFreeOrdinals u 1) (sym one_stands.same) (free_ready t ready))
+  pub one_adds : HasFreeOrdinals t 1 → AddsFreeRows one_judged t
+  one_adds free = adds_with one_filled t m (Ok r) 0
+      (subst (λ (u : Tables). HasFreeOrdinals u 1) (sym one_stands.same) free)
       (adds_none one_filled t one_stands.unchanged)
 
   -- where it isn't decided, the tables are as they were

@@ -14,7 +14,7 @@ use Rattle.posting_rules.specs.believed.Tables.{Tables, row_at, branch_key, tell
 use Rattle.posting_rules.specs.believed.Tables.{reference_key}
 use Rattle.posting_rules.proofs.RowChanges.{row_at-changed}
 use Rattle.posting_rules.proofs.Verdicts.{by_case}
-use Rattle.posting_batch.specs.{Batch.CoversRead, Batch.HasFreeOrdinals, Overlay.Overlay, Overlay.tables_over}
+use Rattle.posting_batch.specs.{Batch.CoversRead, believed.Batch.HasFreeOrdinals, Overlay.Overlay, Overlay.tables_over}
 use Rattle.posting_batch.specs.Judging.{found_over, overlay_kept, overlay_after, overlay_with}
 use Rattle.posting_batch.specs.Slots.{is_for, account_slot_key, with_account_changed, teller_slot_key}
 use Rattle.posting_batch.specs.Slots.{with_teller_changed, branch_slot_key, with_branch_changed}

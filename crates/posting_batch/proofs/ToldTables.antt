@@ -16,7 +16,7 @@ use Rattle.posting_batch.specs.declared.slots.{AccountSlot.AccountSlot, BranchSl
 use Rattle.posting_batch.specs.declared.slots.{RequestSlot.RequestSlot, TellerSlot.TellerSlot}
 use Rattle.posting_batch.specs.Batch.{HasRisingSlots, account_filled, branch_filled, filled, request_filled}
 use Rattle.posting_batch.specs.Batch.{floor_filled, teller_filled}
-use Rattle.posting_batch.specs.Batch.{HasFreeOrdinals}
+use Rattle.posting_batch.specs.believed.Batch.{HasFreeOrdinals}
 use Rattle.posting_batch.specs.{Overlay.Overlay, Placed.IsRising, Placed.number_below, Placed.request_below}
 use Rattle.posting_batch.specs.Slots.{account_slot_key, branch_slot_key, floor_slot_key, teller_slot_key}
 

@@ -5,7 +5,6 @@ use Rattle.std.specs.List.{find, list_any, AllByRecursion}
 use Rattle.std.specs.Option.{option_map}
 use Rattle.message_records.specs.declared.fault.Bad.{Bad}
 use Rattle.message_records.specs.believed.Records.{RequestFields}
-use Rattle.posting_rules.specs.Damage.{IsUndamaged}
 use Rattle.posting_rules.specs.believed.Changes.{row_put, tables_past_all, replies_past_all}
 use Rattle.posting_rules.specs.believed.Numbering.{branch_of_teller, branch_of_account}
 use Rattle.posting_rules.specs.believed.LookUps.{kept_in, account_balance_in, balance_of_teller, floor_in}
@@ -147,16 +146,6 @@ filled t o = record o {
 }
 
 -- ---- its records are judged
-
--- so many ordinals that follow the count have no request, no posting and no reference
-pub record HasFreeOrdinals (t : Tables) (count : ℕ) : Type 0 where
-  pub requests : (o : ℕ) → IsNextOrdinal t.decided count o → row_at request_key t.requests o ≡ None
-  pub postings : (o : ℕ) → IsNextOrdinal t.decided count o → row_at history_key t.history o ≡ None
-  pub references : (o : ℕ) → IsNextOrdinal t.decided count o → row_at reference_key t.references o ≡ None
-
--- tables on which so many records can build: they keep the rules of damage, and so many ordinals are free
-abbrev pub AreReadyFor : ℕ → Tables → Type 0
-AreReadyFor count t = IsUndamaged t × HasFreeOrdinals t count
 
 -- a balance is changed only where the row is there
 pub record ChangesRows (o : Overlay) (t : Tables) : Type 0 where

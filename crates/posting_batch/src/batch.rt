@@ -6,7 +6,7 @@ ghost use Rattle.message_records.specs.believed.Reading.{request_of};
 ghost use Rattle.posting_rules.specs.declared.limits.TheConstants.{RECORDS_PER_BATCH};
 ghost use Rattle.posting_rules.specs.believed.Tables.{Tables};
 ghost use Rattle.posting_batch.specs.Batch.{CoversAll, HasNextOrdinals, HasRisingSlots};
-ghost use Rattle.posting_batch.specs.Batch.{HasFreeOrdinals};
+ghost use Rattle.posting_batch.specs.believed.Batch.{HasFreeOrdinals};
 ghost use Rattle.posting_batch.specs.Batch.{IsJudged, blanked};
 
 use crate::cover::decode_all;

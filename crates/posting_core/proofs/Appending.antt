@@ -5,7 +5,7 @@ use Rattle.std.proofs.Common.{◌∙◌, arith}
 use Rattle.std.specs.{Prelude.ℤ, Prelude.pos, Prelude.All, List.AllByRecursion, Option.option_map}
 use Rattle.std.proofs.lemmas.{List.Elements.recursion_from_All, Bool.Decides.nat_tests}
 use Rattle.posting_rules.specs.{declared.rows.FloorRow.FloorRow, declared.rows.ReferenceRow.ReferenceRow}
-use Rattle.posting_rules.specs.{believed.LookUps.floor_in, LookUps.terms_of_branch, ChangesByKey.AddsFloor}
+use Rattle.posting_rules.specs.{believed.LookUps.floor_in, believed.LookUps.terms_of_branch, ChangesByKey.AddsFloor}
 use Rattle.posting_rules.specs.declared.limits.TheConstants.{MAX_ACCOUNTS}
 use Rattle.posting_rules.specs.believed.Changes.{row_changed, row_put, reference_put, tables_kept, tables_posted}
 use Rattle.posting_rules.specs.believed.Changes.{with_decided, with_request, with_reference, with_history}

@@ -5,7 +5,7 @@ ghost use Rattle.posting_rules.specs.declared.rows.BranchRow.{BranchRow};
 ghost use Rattle.posting_rules.specs.Branches.{IsAtMostZero, IsNextIn};
 ghost use Rattle.posting_rules.specs.believed.Tables.{branch_key, floor_key, row_at};
 ghost use Rattle.posting_rules.specs.believed.LookUps.{lowest_of};
-ghost use Rattle.posting_rules.specs.LookUps.{count_of_branch};
+ghost use Rattle.posting_rules.specs.believed.LookUps.{count_of_branch};
 ghost use Rattle.posting_core.specs.Appended.{floor_after};
 
 use crate::walking::put;

@@ -4,7 +4,7 @@ use Rattle.std.specs.Option.{option_map}
 use Rattle.message_records.specs.believed.{Records.RequestFields, Reading.request_of, Spelling.reply_spelling}
 use Rattle.posting_rules.specs.{declared.rows.BranchRow.BranchRow, believed.Runs.followed_by}
 use Rattle.posting_rules.specs.{believed.Entries.decided, believed.Entries.reply, believed.LookUps.floor_in}
-use Rattle.posting_rules.specs.{LookUps.terms_in, LookUps.terms_of_branch, declared.limits.TheConstants.MAX_ACCOUNTS}
+use Rattle.posting_rules.specs.{believed.LookUps.terms_in, believed.LookUps.terms_of_branch, declared.limits.TheConstants.MAX_ACCOUNTS}
 use Rattle.posting_rules.specs.believed.Commands.{Command, Open, Post, opened, Terms}
 use Rattle.posting_rules.specs.believed.Counter.{opening_for, opening_after}
 use Rattle.posting_rules.specs.believed.Tables.{Tables, row_at, branch_key, AreTablesOf as Show}

@@ -12,7 +12,7 @@ use Rattle.posting_rules.specs.believed.Tables.{Tables, HasRows, AreTablesOf, ro
 use Rattle.posting_rules.specs.believed.Tables.{teller_row, teller_row_of, account_row_of, floor_row_of}
 use Rattle.posting_rules.specs.believed.LookUps.{found_in, both_of, teller_balances_in, account_balance_in, floor_in}
 use Rattle.posting_rules.specs.believed.LookUps.{lowest_of, balance_of_branch, balance_of_teller, balance_of_account}
-use Rattle.posting_rules.specs.LookUps.{terms_in, terms_of_branch}
+use Rattle.posting_rules.specs.believed.LookUps.{terms_in, terms_of_branch}
 use Rattle.posting_rules.proofs.Requests.{AreNew, kept_shown}
 
 -- an open teller has its branch's row

@@ -6,7 +6,7 @@ use Rattle.std.proofs.lemmas.{Bool.eqb-true, List.Elements.All-contains}
 use Rattle.posting_rules.specs.{declared.rows.BranchRow.BranchRow, Branches.IsNextIn, Branches.IsNextBranch}
 use Rattle.posting_rules.specs.{Branches.line_in, believed.Commands.Command, believed.Commands.opened}
 use Rattle.posting_rules.specs.{believed.Entries.branch_balance, believed.Entries.decided, believed.LookUps.floor_in}
-use Rattle.posting_rules.specs.{believed.LookUps.balance_of_branch, LookUps.terms_of_branch}
+use Rattle.posting_rules.specs.{believed.LookUps.balance_of_branch, believed.LookUps.terms_of_branch}
 use Rattle.posting_rules.specs.believed.Tables.{Tables, AreTablesOf, row_at, branch_key, branch_row_of}
 use Rattle.posting_rules.proofs.{Keyed.by_test, Keyed.found_passes, Looked.terms_shown, Undamaged.row_at-contained}
 

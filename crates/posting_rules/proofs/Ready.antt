@@ -10,7 +10,7 @@ use Rattle.posting_rules.specs.believed.Entries.{account_balance, teller_balance
 use Rattle.posting_rules.specs.believed.Tables.{Tables, AreTablesOf, HasKeys, row_at, branch_key, teller_key}
 use Rattle.posting_rules.specs.believed.Tables.{account_key, history_key, request_key, branch_row_of, teller_row_of}
 use Rattle.posting_rules.specs.believed.Tables.{account_row_of, floor_key, floor_row_of, reference_key}
-use Rattle.posting_rules.specs.LookUps.{terms_in, terms_of_branch}
+use Rattle.posting_rules.specs.believed.LookUps.{terms_in, terms_of_branch}
 use Rattle.posting_rules.specs.believed.Numbering.{branch_of_teller, branch_of_account, place_of_account}
 use Rattle.posting_rules.specs.believed.Numbering.{first_teller, first_account}
 use Rattle.posting_rules.proofs.Looked.{terms_shown}

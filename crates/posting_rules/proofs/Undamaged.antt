@@ -23,8 +23,8 @@ use Rattle.posting_rules.specs.believed.Tables.{account_key, history_key, reques
 use Rattle.posting_rules.specs.believed.Tables.{account_row_of, history_row, history_row_of, request_row}
 use Rattle.posting_rules.specs.believed.Tables.{request_row_of, floor_key, floor_row_of, reference_key, reference_row}
 use Rattle.posting_rules.specs.believed.Tables.{reference_row_of}
-use Rattle.posting_rules.specs.Damage.{IsSoundBranch, IsSoundTeller, IsSoundAccount, IsSoundRequest, IsSoundPosting}
-use Rattle.posting_rules.specs.Damage.{IsSoundFloor, IsSoundReference, FieldsAreInRange, IsUndamaged}
+use Rattle.posting_rules.specs.believed.Damage.{IsSoundBranch, IsSoundTeller, IsSoundAccount, IsSoundRequest, IsSoundPosting}
+use Rattle.posting_rules.specs.believed.Damage.{IsSoundFloor, IsSoundReference, FieldsAreInRange, IsUndamaged}
 use Rattle.posting_rules.proofs.{Keyed.by_test, Verdicts.when, Ready.ready_shown, Looked.floor_shown}
 use Rattle.posting_rules.proofs.{AboveFloors.stays_above, Totals.each_under_its_key, BalanceLimits.stays_within}
 use Rattle.posting_rules.proofs.NamedOpen.{some_within}

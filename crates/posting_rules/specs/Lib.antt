@@ -3,7 +3,6 @@ pub mod FaultTexts
 pub mod Kept
 pub mod Cases
 pub mod Editions
-pub mod LookUps
 pub mod ChangesByKey
 pub mod Stated
 pub mod Laws

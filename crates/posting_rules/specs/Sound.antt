@@ -1,5 +1,5 @@
 -- Tables in which each row that a call looks for is found.
-use Rattle.posting_rules.specs.Damage.{IsUndamaged}
+use Rattle.posting_rules.specs.believed.Damage.{IsUndamaged}
 use Rattle.posting_rules.specs.believed.Tables.{Tables, HasKeys, branch_key, teller_key, account_key}
 use Rattle.posting_rules.specs.believed.Tables.{history_key, request_key, floor_key, reference_key}
 

@@ -5,8 +5,8 @@ pub mod Cases
 pub mod Entries
 pub mod Tables
 pub mod LookUps
+pub mod Damage
 pub mod Runs
 pub mod Laws
 pub mod Counter
 pub mod Changes
-pub mod Sound

@@ -12,8 +12,8 @@ use Rattle.message_records.specs.believed.Ranges.{cents_within, whole_within}
 use Rattle.message_records.specs.declared.limits.TheConstants.{MAX_ACCOUNT, MAX_BALANCE, MAX_BRANCH, MAX_DELTA}
 use Rattle.message_records.specs.declared.limits.TheConstants.{MAX_MOMENT, MAX_NUMBER, MAX_TELLER}
 use Rattle.message_records.proofs.SpelledReplies.{outcome_with-code}
-use Rattle.posting_rules.specs.Damage.{IsSoundAccount, IsSoundBranch, IsSoundFloor, IsSoundPosting}
-use Rattle.posting_rules.specs.Damage.{IsSoundReference, IsSoundRequest, IsSoundTeller}
+use Rattle.posting_rules.specs.believed.Damage.{IsSoundAccount, IsSoundBranch, IsSoundFloor, IsSoundPosting}
+use Rattle.posting_rules.specs.believed.Damage.{IsSoundReference, IsSoundRequest, IsSoundTeller}
 use Rattle.posting_rules.specs.declared.fault.Rule.{Rule, TheVariants.Balance, TheVariants.Floor}
 use Rattle.posting_rules.specs.declared.fault.Rule.TheVariants.{Value as OfValue}
 use Rattle.posting_rules.specs.declared.limits.TheConstants.{ACCOUNTS_PER_BRANCH, LAST_BRANCH, MAX_ACCOUNTS}

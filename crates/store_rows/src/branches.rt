@@ -1,7 +1,7 @@
 //! The table of branches.
 ghost use Rattle.std.specs.Prelude.{find, is_some, pos, IfOk, IfSome};
 ghost use Rattle.sql_meanings.specs.Entries.{is_above};
-ghost use Rattle.posting_rules.specs.Damage.{IsSoundBranch};
+ghost use Rattle.posting_rules.specs.believed.Damage.{IsSoundBranch};
 ghost use Rattle.posting_rules.specs.believed.Tables.{row_at, branch_key};
 ghost use Rattle.posting_rules.specs.believed.Changes.{with_branch};
 ghost use Rattle.store_rows.specs.Calls.{AddsRow, LooksUp};

@@ -10,6 +10,7 @@ use Rattle.posting_rules.specs.declared.rows.AccountRow.{AccountRow}
 use Rattle.posting_rules.specs.declared.rows.RequestRow.{RequestRow}
 use Rattle.posting_rules.specs.declared.rows.FloorRow.{FloorRow}
 use Rattle.posting_rules.specs.declared.rows.ReferenceRow.{ReferenceRow}
+use Rattle.posting_rules.specs.believed.Commands.{Terms, opened_with}
 use Rattle.posting_rules.specs.believed.Numbering.{branch_of_teller, branch_of_account}
 use Rattle.posting_rules.specs.believed.Kept.{KeptFields, kept_with}
 use Rattle.posting_rules.specs.believed.Tables.{Tables, row_at, branch_key, teller_key, account_key, floor_key}
@@ -21,6 +22,16 @@ lowest_of r = r.lowest
 -- the floor of a branch's accounts
 abbrev pub floor_in : Tables → ℕ → Option ℤ
 floor_in t b = option_map lowest_of (row_at floor_key t.floors b)
+
+abbrev pub count_of_branch : BranchRow → ℕ
+count_of_branch r = r.accounts
+
+abbrev pub terms_of_branch : Option ℤ → BranchRow → Terms
+terms_of_branch floor r = opened_with (count_of_branch r) floor
+
+-- what a branch is open with
+abbrev pub terms_in : Tables → ℕ → Option Terms
+terms_in t b = option_map (terms_of_branch (floor_in t b)) (row_at branch_key t.branches b)
 
 abbrev pub balance_of_branch : BranchRow → ℤ
 balance_of_branch r = r.balance

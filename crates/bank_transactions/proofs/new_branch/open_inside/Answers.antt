@@ -2,7 +2,7 @@
 use Rattle.std.proofs.Common.{◌≡◌, ℕ, Option, None, Some, Err, rules, refl, sym, ◌∙◌, arith, subst}
 use Rattle.posting_rules.specs.{believed.Changes.tables_opened, Changes.opened_where, Changes.tables_with_branch}
 use Rattle.posting_rules.specs.{believed.Commands.Terms, believed.Commands.opened_with, believed.Counter.opening_for}
-use Rattle.posting_rules.specs.{believed.LookUps.floor_in, LookUps.terms_of_branch}
+use Rattle.posting_rules.specs.{believed.LookUps.floor_in, believed.LookUps.terms_of_branch}
 use Rattle.posting_rules.specs.{declared.counter.Opening.TheVariants.Opened, declared.rows.BranchRow.BranchRow}
 use Rattle.posting_rules.specs.believed.Tables.{Tables, row_at, branch_key}
 use Rattle.std.specs.Option.{option_map}

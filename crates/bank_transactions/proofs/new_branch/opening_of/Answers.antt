@@ -1,7 +1,7 @@
 -- What a branch was opened with, if it was.
 use Rattle.std.proofs.Common.{◌≡◌, ℕ, ℤ, None, Option, Some, Ok, Err, rules, refl, sym, ap, ◌∙◌, arith, subst}
 use Rattle.posting_rules.specs.believed.Commands.{Terms, opened_with}
-use Rattle.posting_rules.specs.{believed.Counter.opening_for, believed.LookUps.floor_in, LookUps.terms_in}
+use Rattle.posting_rules.specs.{believed.Counter.opening_for, believed.LookUps.floor_in, believed.LookUps.terms_in}
 use Rattle.posting_rules.specs.{declared.counter.Opening.TheVariants.Opened, declared.rows.BranchRow.BranchRow}
 use Rattle.posting_rules.specs.believed.Tables.{Tables, row_at, branch_key}
 use Rattle.bank_transactions.proofs.LookUps.{reads_both, reads_but}

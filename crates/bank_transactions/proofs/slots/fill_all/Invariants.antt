@@ -2,7 +2,7 @@
 use Rattle.std.proofs.Common.{◌≡◌, Ok}
 use Rattle.std.specs.List.{AllByRecursion}
 use Rattle.sqlite.specs.{Held.state, State.HasCleanDisk}
-use Rattle.posting_rules.specs.Damage.{IsUndamaged}
+use Rattle.posting_rules.specs.believed.Damage.{IsUndamaged}
 use Rattle.store_rows.specs.believed.Rules.{OfRows}
 use Rattle.bank_transactions.specs.Doing.{ReadsWhere}
 use Rattle.bank_transactions.proofs.{Loops.filled_so_far, Partly.Partly}

@@ -1,7 +1,7 @@
 -- Where there are no two balances there is none.
 use Rattle.std.proofs.Common.{◌≡◌, ℕ, Option, Some, None, refl, sym, ◌∙◌}
 use Rattle.std.specs.Prelude.{IsSome, is_some, option_map}
-use Rattle.posting_rules.specs.{believed.Numbering.branch_of_teller, Damage.IsUndamaged}
+use Rattle.posting_rules.specs.{believed.Numbering.branch_of_teller, believed.Damage.IsUndamaged}
 use Rattle.posting_rules.specs.{declared.rows.BranchRow.BranchRow, declared.rows.TellerRow.TellerRow}
 use Rattle.posting_rules.specs.believed.LookUps.{balance_of_branch, balance_of_teller, both_of, teller_balances_in}
 use Rattle.posting_rules.specs.believed.Tables.{Tables, row_at, branch_key, teller_key}

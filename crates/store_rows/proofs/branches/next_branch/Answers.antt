@@ -2,7 +2,7 @@
 use Rattle.std.proofs.Common.{Result, Option, Ok, Err, Some, None}
 use Rattle.std.specs.Prelude.{IfOk, IfSome}
 use Rattle.sqlite.specs.{Order.Row, declared.error.Error.Error}
-use Rattle.posting_rules.specs.{Damage.IsSoundBranch, declared.rows.BranchRow.BranchRow}
+use Rattle.posting_rules.specs.{believed.Damage.IsSoundBranch, declared.rows.BranchRow.BranchRow}
 use Rattle.store_rows.specs.{Failures.ReadsAnswer, believed.Readings.branch_of, declared.fault.TableFault.TableFault}
 use Rattle.store_rows.proofs.{Readings.sound_branch, Seeking.seeks_next, Telling.looks_up}
 use Rattle.store_rows.proofs.branches.next_branch.Goals as goal

@@ -1,13 +1,17 @@
 -- What a record comes to.
-use Rattle.std.proofs.Common.{◌≡◌, [], ◌∷◌, Ok, Err, Result, rules, sym, subst, ◌∙◌}
+use Rattle.std.proofs.Common.{◌≡◌, ℕ, List, [], ◌∷◌, Ok, Err, Result, rules, sym, ap, subst, ◌∙◌}
 use Rattle.std.proofs.lemmas.Result.{err_from_is_err_and}
 use Rattle.std.specs.Prelude.{IsSome}
 use Rattle.message_records.specs.{believed.Reading.request_of, believed.Records.RequestFields, declared.fault.Bad.Bad}
 use Rattle.bank_transactions.specs.believed.{Stored.RepliesToStored, Additions.AddsForRecords, Causes.IsBrokenOrMet}
+use Rattle.sqlite.specs.Held.{state}
+use Rattle.store_rows.specs.believed.View.{Shows}
+use Rattle.posting_rules.specs.believed.Changes.{reply_read, tables_past, tables_read, tables_with}
+use Rattle.posting_rules.specs.believed.Tables.{Tables}
 use Rattle.bank_store.specs.believed.Seen.{database_of}
 use Rattle.posting_rules.specs.believed.Commands.{Post, AreCommands}
-use Rattle.posting_rules.proofs.{Calls.posts, Calls.replies, ChangesByKey.sound_tables}
-use Rattle.bank_store.proofs.{Causes.still_clean, Countered.takes, bank.BankCounter.submit.Given.Over}
+use Rattle.posting_rules.proofs.{Calls.posts, Calls.replies}
+use Rattle.bank_store.proofs.{Causes.still_clean, Countered.of_logs, Countered.takes, bank.BankCounter.submit.Given.Over}
 use Rattle.bank_store.proofs.OtherTables.{spares_done, spares_down, spares_untouched}
 use Rattle.bank_store.proofs.Refusing.{answered_call, refused_call, transaction_refused, untried_call, Refusal}
 use Rattle.bank_store.proofs.bank.BankCounter.submit.Goals as goal
@@ -29,7 +33,7 @@ refused g c =
     let read : request_of bytes ≡ Ok c.in-Ok.request = search rules in
     let are : AreCommands (Post m bytes ∷ []) =
     ((c.range_law.ensures.most, search rules), tt) in
-    transaction_refused g.S.Store c.args.self.now c.go_down.new.self c.post.new.conn sound_tables
+    transaction_refused g.S.Store c.args.self.now c.go_down.new.self c.post.new.conn (of_logs 1)
     (Post m bytes ∷ [])
     (posts m bytes c.in-Ok.request read) are c.in-Err.fault c.go_down.result c.go_down.ensures.down
     c.go_down.ensures.survives
@@ -47,17 +51,29 @@ returns-in-Ok-post g c =
     record {
       answer =
           λ clean log s. (says.told clean s.tables s.are
-          (sound_tables s.tables log s.commands s.shows)).0
+          (of_logs 1 s.tables log s.commands s.shows)).0
           ∙ replies s.tables log bytes c.in-Ok.request read s.shows;
       call =
           answered_call g.S.Store c.args.self.now _ (Post m bytes ∷ []) _ c.in_ok-up.ensures.up
           c.in_ok-up.ensures.up
-          (takes sound_tables (Post m bytes ∷ []) (posts m bytes c.in-Ok.request read) are Down Down
+          (takes (of_logs 1) (Post m bytes ∷ []) (posts m bytes c.in-Ok.request read) are Down Down
           c.in_ok-up.ensures.up says) (still_clean says.survives);
       frugal = λ same. (let it = same in cc);
       stored = λ clean r is.
           subst (λ (q : RequestFields). RepliesToStored (database_of g.S.Store c.args.self.now) q c.in-Ok-post.reply)
           (same_request (sym read ∙ is)) (c.in-Ok-post.ensures.stored clean);
+      leaves =
+          λ clean r is t shows so.
+          let told = says.told clean t shows so in
+          let past : tables_with t m c.in-Ok.request ≡ tables_past t m bytes =
+          ap (λ (x : Result RequestFields Bad). tables_read t m x) (sym read) in
+          record {
+            tables = subst (λ (u : Tables). Shows (state g.S.Store c.post.new.conn).now u) past told.1;
+            survives = λ trees may. (tables_with t m c.in-Ok.request, told.2 trees may, past);
+            answers =
+                ap (λ (out : List ℕ). out ∷ [])
+                (told.0 ∙ ap (λ (x : Result RequestFields Bad). reply_read t x) (sym read));
+          };
       malformed = λ up bad is. absurd (no_request (sym read ∙ is));
       own = tt;
       spares = spares_done g.S.Store c.args.self.now _ _ c.in_ok-up.ensures.up says.spares;
@@ -73,6 +89,7 @@ returns-in-Err g c =
           c.in_ok-up.ensures.up;
       frugal = λ same. no.frugal (let it = same in cc);
       stored = tt;
+      leaves = tt;
       malformed = λ up bad is. absurd (no_request (sym read ∙ is));
       own = no.broken;
       spares = spares_down g.S.Store c.args.self.now c.go_down.new.self c.post.new.conn c.in-Err.fault

@@ -1,24 +1,18 @@
 -- What records come to.
-use Rattle.std.proofs.Common.{ℕ, length, refl, ap, ◌∙◌}
+use Rattle.std.proofs.Common.{length, refl, ap, ◌∙◌}
 use Rattle.std.specs.Prelude.{IsSome}
 use Rattle.std.proofs.lemmas.{Result.err_from_is_err_and, List.length-map}
 use Rattle.message_records.specs.believed.Reading.{request_of}
-use Rattle.posting_rules.specs.believed.{Commands.AreCommands, Runs.posts}
+use Rattle.posting_rules.specs.believed.{Changes.tables_past_all, Commands.AreCommands, Runs.posts}
 use Rattle.posting_rules.proofs.Records.{all_replies, are_posts, posts_all}
-use Rattle.posting_rules.proofs.Undamaged.{undamaged}
-use Rattle.posting_batch.specs.Batch.{AreReadyFor}
-use Rattle.posting_batch.proofs.FreeOrdinals.{free_shown}
 use Rattle.bank_store.specs.believed.Seen.{database_of}
 use Rattle.bank_store.proofs.{Causes.still_clean, bank.BankCounter.submit_all.Given.Over}
-use Rattle.bank_store.proofs.Countered.{HoldsOfLogs, none_or_all, none_or_all_down, takes}
+use Rattle.bank_store.proofs.Countered.{none_or_all, none_or_all_down, of_logs, takes}
 use Rattle.bank_store.proofs.OtherTables.{spares_done, spares_down, spares_untouched}
 use Rattle.bank_store.proofs.Refusing.{answered_call, refused_call, spared_call, transaction_refused, untried_call}
 use Rattle.bank_store.proofs.Refusing.{Refusal}
 use Rattle.bank_transactions.specs.{believed.Additions.AddsForRecords, believed.Causes.IsBrokenOrMet}
 use Rattle.bank_store.proofs.bank.BankCounter.submit_all.Goals as goal
-
-of_logs : (count : ℕ) → HoldsOfLogs (AreReadyFor count)
-of_logs count t log are shows = (undamaged t log are shows, free_shown t log count shows)
 
 -- what its refusal says
 refused : (g : Over) (c : goal.After-go_down g)
@@ -54,13 +48,16 @@ returns-in-Ok g c =
           (takes (of_logs (length rs)) (posts m rs) (posts_all m rs) are Down Down c.in_ok-up.ensures.up says)
           (still_clean says.survives);
       none_or_all = none_or_all (of_logs (length rs)) (posts m rs) (posts_all m rs) says _ Down Down says.survives;
-      idle =
-          λ clean t shows so none.
-          let it = c.in-Ok.ensures.idle clean rs made t shows (of_logs (length rs) t so.0 so.1 so.2) none in
+      leaves =
+          λ clean t shows so.
+          let told = says.told clean t shows so in
           record {
-            tables = it.shows;
-            survives = λ trees may. (t, it.survives trees may, refl);
-            still = it.same;
+            leaves = record {
+              tables = told.1;
+              survives = λ trees may. (tables_past_all t m rs, told.2 trees may, refl);
+              answers = told.0;
+            };
+            idle = λ none. let it = c.in-Ok.ensures.idle clean rs made t shows so none in (it.leads, it.same);
           };
       stored = λ clean. c.in-Ok.ensures.stored clean rs made;
       own = tt;
@@ -82,7 +79,7 @@ returns-in-Err g c =
           (of_logs (length rs)) all (posts_all c.args.moment rs) (IsSome c.args.self.now.fault)
           (IsSome c.go_down.new.self.fault) (c.in-Err.ensures.says rs c.in_ok-batch.ensures.made)
           c.go_down.ensures.survives;
-      idle = tt;
+      leaves = tt;
       stored = tt;
       own = no.broken;
       spares = spares_down g.S.Store c.args.self.now c.go_down.new.self c.post_all.new.conn c.in-Err.fault

@@ -6,7 +6,7 @@ use Rattle.posting_rules.specs.believed.Changes.{tables_past_all, replies_past_a
 use Rattle.posting_rules.specs.believed.Tables.{Tables}
 use Rattle.posting_batch.specs.Batch.{ChangesRows, HasRisingSlots, AddsFreeRows, covering_all, no_slots, filled}
 use Rattle.posting_batch.specs.Batch.{HasNextOrdinals, KeepsNew, blanked}
-use Rattle.posting_batch.specs.Batch.{HasFreeOrdinals}
+use Rattle.posting_batch.specs.believed.Batch.{HasFreeOrdinals}
 use Rattle.posting_batch.specs.{Judging.overlay_with_all, Judging.replies_over, View.view}
 use Rattle.posting_batch.specs.Overlay.{Overlay, tables_over}
 use Rattle.posting_batch.proofs.{Blanked.blank_all, Blanked.keeps_all, Covered.stands}

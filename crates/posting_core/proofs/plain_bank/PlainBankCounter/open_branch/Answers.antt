@@ -1,6 +1,6 @@
 use Rattle.std.proofs.Common.{◌≡◌, None, ℕ, List, [], ◌∷◌, sym, ap, ◌∙◌}
 use Rattle.posting_rules.specs.{declared.rows.BranchRow.BranchRow, declared.counter.Opening.TheVariants.Opened}
-use Rattle.posting_rules.specs.{believed.Commands.Open, believed.Commands.opened_with, LookUps.count_of_branch}
+use Rattle.posting_rules.specs.{believed.Commands.Open, believed.Commands.opened_with, believed.LookUps.count_of_branch}
 use Rattle.posting_rules.specs.believed.Tables.{Tables, row_at, branch_key}
 use Rattle.posting_core.specs.{Appended.appended_opened, Plain.plain_tables}
 use Rattle.std.specs.Option.{option_map}
