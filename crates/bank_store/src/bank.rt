@@ -29,7 +29,7 @@ use posting_rules::{
 use sqlite::{Alter, Connection, Error};
 use std::alloc::Global;
 use std::fmt;
-use store_rows::{BankTable, TableFault, probe_table};
+use store_rows::{BankTable, TableFault, other_table, probe_table};
 use walked_rows::{AHEAD, WalkedRow};
 
 /// A bank over a connection, with the calls of [`Counter`]. Each call is one transaction, which is committed
@@ -149,9 +149,11 @@ impl<S: Alter> Bank<S> {
     ghost use Rattle.std.specs.Prelude.{◌++◌, filter, is_some, map, MatchResult};
     ghost use Rattle.sqlite.specs.State.{HasCleanDisk};
     ghost use Rattle.sql_meanings.specs.StatementAnswers.{IsStoreError};
+    ghost use Rattle.store_rows.specs.Definitions.{IsOtherTable};
     ghost use Rattle.walked_rows.specs.StepOutcomes.{BreaksFirst};
     ghost use Rattle.walked_rows.specs.Rising.{RisesFrom};
     ghost use Rattle.walked_rows.specs.Rows.{items_after, items_from};
+    ghost use Rattle.bank_store.specs.believed.Seen.{database_of};
     ghost use Rattle.bank_store.specs.Seen.{alloc_of};
     ghost use Rattle.bank_store.specs.Walks.{IsStill, IsUntouchedIfOpen};
 
@@ -161,6 +163,15 @@ impl<S: Alter> Bank<S> {
         ensures { result ≡ is_some self.now.fault }
     {
         self.fault.is_some()
+    }
+
+    /// The first of its tables that the file defines otherwise than [`create`](crate::create) makes it, none where it
+    /// defines each so. Only there is a batch tried before its requests are looked up.
+    #[must_use]
+    pub fn other_table(&self) -> Option<BankTable>
+        ensures { IsOtherTable (database_of S.Store self.now).schema result }
+    {
+        other_table(&self.conn)
     }
 
     /// The allocator that the bank was made or taken up with.

@@ -78,6 +78,7 @@ pub use posting_rules::{
     Ordinal, RECORDS_PER_BATCH, Rule,
 };
 pub use refused::Refused;
+pub use store_rows::BankTable;
 pub use walked_rows::{
     Joined, KeptRequest, StatedPosting, StoredAccount, StoredBranch, StoredFloor, StoredMeta,
     StoredPosting, StoredReference, StoredRequest, StoredTeller,
