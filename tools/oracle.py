@@ -26,6 +26,21 @@ TABLES = {
     "account": ("account", 999_900_000, "aid", "balance"),
     "teller": ("teller", 99_990, "tid", "balance"),
 }
+# The tables as `init` makes them, in its order.
+MADE = {
+    "meta": "id INTEGER PRIMARY KEY CHECK (id = 1), version INTEGER NOT NULL, decided INTEGER NOT NULL",
+    "branch": "bid INTEGER PRIMARY KEY, accounts INTEGER NOT NULL, balance INTEGER NOT NULL",
+    "teller": "tid INTEGER PRIMARY KEY, balance INTEGER NOT NULL",
+    "account": "aid INTEGER PRIMARY KEY, balance INTEGER NOT NULL",
+    "history": "ordinal INTEGER PRIMARY KEY, aid INTEGER NOT NULL, tid INTEGER NOT NULL, bid INTEGER NOT NULL,"
+               " delta INTEGER NOT NULL, moment INTEGER NOT NULL",
+    "request": "ordinal INTEGER PRIMARY KEY, tid INTEGER NOT NULL, number INTEGER NOT NULL, aid INTEGER NOT NULL,"
+               " bid INTEGER NOT NULL, delta INTEGER NOT NULL, outcome INTEGER NOT NULL, balance INTEGER NOT NULL,"
+               " UNIQUE (tid, number)",
+    "branch_floor": "bid INTEGER PRIMARY KEY, lowest INTEGER NOT NULL",
+    "request_reference": "ordinal INTEGER PRIMARY KEY, reference TEXT NOT NULL",
+}
+SCHEMA = ";".join(f"CREATE TABLE {table} ({columns}) STRICT" for table, columns in MADE.items())
 # What a column is called before what differs in it, if not by its name.
 CALLED = {"aid": "account ", "tid": "teller ", "bid": "branch ", "balance": "", "lowest": "", "reference": ""}
 RECORD = re.compile(rb"DC0(?:1|2)(\d{12})(\d{8})(\d{6})(\d{10})([+-]\d{10})", re.ASCII)
@@ -156,6 +171,28 @@ def tables_of(file):
     return rows
 
 
+def definition(conn, table):
+    """What SQLite says of a table: its columns, its indexes, what refers to others, and the words of its other rules."""
+    text = conn.execute("SELECT sql FROM sqlite_master WHERE type = 'table' AND name = ?", (table,)).fetchone()
+    indexes = conn.execute(f"PRAGMA index_list({table})").fetchall()
+    return (text and re.findall(r"STRICT|CHECK *\(.*?\)|AUTOINCREMENT|COLLATE \w+", text[0], re.IGNORECASE),
+            conn.execute(f"PRAGMA table_xinfo({table})").fetchall(),
+            sorted((row[2:], conn.execute(f"PRAGMA index_xinfo({row[1]})").fetchall()) for row in indexes),
+            conn.execute(f"PRAGMA foreign_key_list({table})").fetchall(),
+            conn.execute("SELECT name FROM sqlite_master WHERE type = 'trigger' AND tbl_name = ?", (table,)).fetchall())
+
+
+def other_table(file):
+    """The first table that a file defines otherwise than `init` makes it, none where it defines each so."""
+    conn = sqlite3.connect(file) if isinstance(file, str) else file
+    made = sqlite3.connect(":memory:")
+    made.executescript(SCHEMA)
+    found = next((table for table in MADE if definition(conn, table) != definition(made, table)), None)
+    if conn is not file:
+        conn.close()
+    return found
+
+
 def moment_of(posting):
     return posting[4] if posting else 0
 
@@ -240,8 +277,11 @@ def difference_line(row, columns, one, other):
     return f"{row} {name}stands {one[place]} due {other[place]}"
 
 
-def replay(tables):
-    """What the bank prints of a replay, and its status."""
+def replay(file):
+    """What the bank prints of a replay of a path or of a connection, and its status."""
+    if other_table(file):
+        return [f"table {other_table(file)} is defined otherwise", "DIFFERS"], 5
+    tables = tables_of(file)
     for table in ("branch", "branch_floor", "request", "history", "request_reference"):
         for key, row in sorted(tables[table].items()):
             if unread(table, (key, *row)):

@@ -11,14 +11,13 @@ import oracle
 
 
 def main():
-    tables = oracle.tables_of(sys.argv[1])
     if len(sys.argv) > 2:
-        requests = list(oracle.requests_of(tables))
+        requests = list(oracle.requests_of(oracle.tables_of(sys.argv[1])))
         first = int(sys.argv[2])
         few = first > len(requests)
         lines, status = ([f"bank: no request {first}"], 4) if few else (oracle.digest_lines(requests[:first]), 0)
     else:
-        lines, status = oracle.replay(tables)
+        lines, status = oracle.replay(sys.argv[1])
     print("\n".join(lines), file=sys.stderr if status in (3, 4) else sys.stdout)
     sys.exit(status)
 

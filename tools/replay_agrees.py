@@ -152,7 +152,7 @@ def main():
             if seed % 2 == 1:
                 change(file, draw)
             tables = oracle.tables_of(file)
-            lines, status = oracle.replay(tables)
+            lines, status = oracle.replay(file)
             compare(file, ("replay", file), lines, status)
             if status == 0:
                 agree += 1

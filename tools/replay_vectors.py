@@ -17,10 +17,6 @@ import driver_vectors
 import oracle
 
 TRIALS = Path(__file__).resolve().parent.parent / "crates" / "bank_trials"
-SCHEMA = ";".join(
-    f"CREATE TABLE {table} ({key} INTEGER PRIMARY KEY, "
-    + ", ".join(f"{column} {'TEXT' if column == 'reference' else 'INTEGER'} NOT NULL" for column in columns) + ") STRICT"
-    for table, (_, _, key, *columns) in oracle.TABLES.items())
 
 
 def record_of(text):
@@ -122,7 +118,7 @@ class Bank:
         if self.changed:
             return self.changed
         conn = sqlite3.connect(":memory:")
-        conn.executescript(SCHEMA)
+        conn.executescript(oracle.SCHEMA)
         for table, rows in self.book.tables().items():
             columns = oracle.TABLES[table][2:]
             text = f"INSERT INTO {table} ({', '.join(columns)}) VALUES ({', '.join('?' * len(columns))})"
@@ -131,7 +127,7 @@ class Bank:
 
     def replay(self):
         """The answer to the step: requests and digest, or the first difference, or the fault."""
-        lines, status = oracle.replay(oracle.tables_of(self.tables()))
+        lines, status = oracle.replay(self.tables())
         if status == 0:
             return f"agrees: requests {lines[0].split()[-1]} digest {lines[1].split()[-1]}"
         return lines[0].removeprefix("bank: ")

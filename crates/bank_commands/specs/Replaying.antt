@@ -18,12 +18,12 @@ use Rattle.bank_store.specs.believed.Seen.{bank_seen, database_of}
 use Rattle.bank_store.specs.Seen.{fault_of}
 use Rattle.bank_store.specs.declared.bank.Bank.{Bank}
 use Rattle.bank_replays.specs.Digests.{DigestsFirst, DigestsRows, IsDigestIn, IsDigestOf, answered_after}
-use Rattle.bank_replays.specs.FileTables.{FileTables, HasTables}
-use Rattle.bank_replays.specs.Replays.{HasAnswered, OnAgrees}
+use Rattle.bank_replays.specs.FileTables.{IsKept}
+use Rattle.bank_replays.specs.Replays.{HasAnswered, OnAgrees, TellsTables, other_text}
 use Rattle.bank_replays.specs.Writing.{LeavesWriter, WritesText, plan_text, records_after, records_of}
 use Rattle.bank_replays.specs.declared.chain.Digest.{Digest}
 use Rattle.bank_replays.specs.declared.difference.Replay.{Replay}
-use Rattle.bank_replays.specs.declared.difference.Replay.TheVariants.{Agrees, Differs}
+use Rattle.bank_replays.specs.declared.difference.Replay.TheVariants.{Agrees, Differs, Otherwise}
 use Rattle.bank_replays.specs.declared.fault.ReplayFault.{ReplayFault}
 use Rattle.bank_replays.specs.declared.fault.ReplayFault.TheVariants as written
 use Rattle.command_line.specs.Faults.{fault_of_bank}
@@ -53,19 +53,22 @@ TellsFault fault w w' told = (told ≡ Err fault) × Keeps w w'
 
 -- ---- a replay
 
--- the digest and the verdict were printed; or a text, which `Difference` doesn't say, and the verdict
+-- the digest and the verdict were printed; or a text, which `Difference` doesn't say, or a table, and the verdict
 abbrev pub PrintsReplay : Result Replay Fault → (w w' : Option (List ℕ)) → (t t' : Option (List WriteTold))
     → Result Status CommandFault → Type 0
 PrintsReplay (Ok (Agrees d)) w w' t t' told =
     TellsText statuses.Done (agreeing_lines d.requests d.sha256) w w' t t' told
 PrintsReplay (Ok (Differs d)) w w' t t' told =
     (text : List ℕ) × TellsText statuses.Differs (differing_lines text) w w' t t' told
+PrintsReplay (Ok (Otherwise table)) w w' t t' told =
+    TellsText statuses.Differs (differing_lines (other_text table)) w w' t t' told
 PrintsReplay (Err fault) w w' t t' told = TellsFault (fault_of_bank fault) w w' told
 
 -- a bank was replayed, whatever rows its file has
 pub record ReplaysBank {S : Type 0} (g : Ghosts S) (found : Result Replay Fault) (old new : Bank S g)
     : Type 0 where
-  pub agrees : (bank_seen g new).honest → (f : FileTables) → HasTables (database_of g old) f
+  pub tables : TellsTables (database_of g old).schema found
+  pub agrees : (bank_seen g new).honest → IsKept (database_of g old)
       → OnAgrees found (λ d. (log : List Command) × ShowsLog (bank_seen g old) log)
   pub digest : (bank_seen g new).honest → (all : List KeptItem) → HasKept (database_of g old) all
       → OnAgrees found (IsDigestIn all)

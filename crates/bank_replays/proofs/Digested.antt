@@ -7,7 +7,7 @@ use Rattle.walked_rows.specs.KeptRows.{KeptItem}
 use Rattle.bank_replays.specs.Digests.{DigestsFirst, DigestsRows, IsDigestIn, IsDigestOf}
 use Rattle.bank_replays.specs.Requests.{AnsweredRequest, answered_in}
 use Rattle.bank_replays.specs.{Replays.OnAgrees, declared.chain.Digest.Digest, declared.difference.Replay.Replay}
-use Rattle.bank_replays.specs.declared.difference.Replay.TheVariants.{Agrees, Differs}
+use Rattle.bank_replays.specs.declared.difference.Replay.TheVariants.{Agrees, Differs, Otherwise}
 
 module _ (count : ℕ) (all : List KeptItem) (d : Digest) (is : IsDigestIn (take count all) d) where
   pub rows_fewer : d.requests < count → length all < count
@@ -35,4 +35,5 @@ pub agrees_log : (all : List KeptItem) (requests : List AnsweredRequest) → map
     → (result : Result Replay Fault) → OnAgrees result (IsDigestIn all) → OnAgrees result (IsDigestOf requests)
 agrees_log all requests same (Ok (Agrees d)) is = subst (λ (l : List AnsweredRequest). IsDigestOf l d) same is.0
 agrees_log all requests same (Ok (Differs d)) is = tt
+agrees_log all requests same (Ok (Otherwise table)) is = tt
 agrees_log all requests same (Err fault) is = tt

@@ -1,6 +1,9 @@
 -- What the proofs of a replay share.
 pub mod Read
 pub mod Tables
+pub mod AskedFirst
+mod AnyRows
+pub mod AllKept
 pub mod AllTables
 pub mod Comparisons
 pub mod Begun

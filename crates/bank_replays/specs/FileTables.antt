@@ -1,12 +1,23 @@
 -- The rows of all eight tables of a file.
-use Rattle.std.specs.Prelude.{◌≡◌, List, [], ◌∷◌, map, nat_abs, pos}
-use Rattle.sqlite.specs.Effect.{Database}
+use Rattle.std.specs.Prelude.{◌≡◌, ℤ, List, [], ◌∷◌, map, nat_abs, pos, true}
+use Rattle.std.specs.List.{AllByRecursion}
+use Rattle.std.specs.Ordering.{int_cmp, is_ge}
+use Rattle.sqlite.specs.Effect.{Database, IsDatabase}
+use Rattle.sqlite.specs.Order.{Row}
+use Rattle.sqlite.specs.declared.types.Value.{Value}
+use Rattle.sqlite.specs.declared.types.Value.TheVariants.{Int}
+use Rattle.sqlite_trees.specs.Tree.{rowid}
+use Rattle.sqlite_trees.specs.View.{IsShaped}
+use Rattle.sqlite_trees.specs.declared.store.Shape.TheVariants.{Table as Shaped}
 use Rattle.posting_rules.specs.believed.Tables.{Tables}
 use Rattle.sql_meanings.specs.believed.Entries.{Entry}
 use Rattle.store_rows.specs.believed.BankTables.{account, branch, floor, history, meta, reference, request, teller}
 use Rattle.store_rows.specs.believed.View as view
 use Rattle.store_rows.specs.declared.metas.TheConstants.{VERSION}
-use Rattle.walked_rows.specs.Rows.{HasStoredRows}
+use Rattle.sql_meanings.specs.believed.Tables.{tree_of}
+use Rattle.store_rows.specs.Definitions.{made}
+use Rattle.store_rows.specs.Probes.{all_tables}
+use Rattle.walked_rows.specs.Rows.{HasStoredRows, LEAST}
 
 pub record FileTables : Type 0 where
   pub metas : List Entry
@@ -45,3 +56,19 @@ rows_due t = record {
   floors = map view.floor_entry t.floors;
   references = map view.reference_entry t.references;
 }
+
+-- ---- what `sqlite` keeps of an open file, whoever wrote it
+
+-- a number of 64 bits is at least this
+abbrev pub IsFromLeast : Value → Type 0
+IsFromLeast v = (n : ℤ) → v ≡ Int n → is_ge (int_cmp n LEAST) ≡ true
+
+-- these are the rows of a table: they are under rising numbers of 64 bits
+pub record IsTreeOfRows (rows : List Row) : Type 0 where
+  pub shaped : IsShaped Shaped rows
+  pub least : AllByRecursion (λ r. IsFromLeast (rowid r)) rows
+
+-- the database is sound, and so are the rows of each table of a bank, whatever their numbers are
+pub record IsKept (db : Database) : Type 0 where
+  pub sound : IsDatabase db
+  pub rows : AllByRecursion (λ t. IsTreeOfRows (db.trees (tree_of db.schema (made t).name))) all_tables

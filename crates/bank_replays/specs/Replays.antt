@@ -1,9 +1,12 @@
 -- What a replay says.
-use Rattle.std.specs.Prelude.{Result, Ok, Err, ⊤}
+use Rattle.std.specs.Prelude.{◌++◌, ℕ, List, codes, Some, None, Result, Ok, Err, ⊤}
+use Rattle.sqlite.specs.Schema.{Schema}
 use Rattle.posting_rules.specs.declared.fault.Fault.{Fault}
 use Rattle.bank_replays.specs.declared.chain.Digest.{Digest}
 use Rattle.bank_replays.specs.declared.difference.Replay.{Replay}
-use Rattle.bank_replays.specs.declared.difference.Replay.TheVariants.{Agrees, Differs}
+use Rattle.bank_replays.specs.declared.difference.Replay.TheVariants.{Agrees, Differs, Otherwise}
+use Rattle.store_rows.specs.Definitions.{IsOtherTable, made}
+use Rattle.store_rows.specs.declared.probes.BankTable.{BankTable}
 
 -- there was no fault
 abbrev pub HasAnswered : {X E : Type 0} → Result X E → Type 0
@@ -14,4 +17,23 @@ HasAnswered (Err fault) = ⊥
 abbrev pub OnAgrees : Result Replay Fault → (Digest → Type 0) → Type 0
 OnAgrees (Ok (Agrees d)) P = P d
 OnAgrees (Ok (Differs d)) P = ⊤
+OnAgrees (Ok (Otherwise table)) P = ⊤
 OnAgrees (Err fault) P = ⊤
+
+-- rows were compared
+abbrev pub HasLookedAtRows : Result Replay Fault → Type 0
+HasLookedAtRows (Ok (Agrees d)) = ⊤
+HasLookedAtRows (Ok (Differs d)) = ⊤
+HasLookedAtRows (Ok (Otherwise table)) = ⊥
+HasLookedAtRows (Err fault) = ⊤
+
+-- Rows are compared only where each table is defined as a bank's is made; else this is the first that isn't.
+abbrev pub TellsTables : Schema → Result Replay Fault → Type 0
+TellsTables schema (Ok (Agrees d)) = IsOtherTable schema None
+TellsTables schema (Ok (Differs d)) = IsOtherTable schema None
+TellsTables schema (Ok (Otherwise table)) = IsOtherTable schema (Some table)
+TellsTables schema (Err fault) = ⊤
+
+-- the line of such a table
+abbrev pub other_text : BankTable → List ℕ
+other_text table = codes "table " ++ ((made table).name ++ codes " is defined otherwise")

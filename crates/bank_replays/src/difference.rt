@@ -1,5 +1,7 @@
 //! What a replay says: where the rows of two banks differ.
 use crate::chain::Digest;
+use bank_store::BankTable;
+use std::fmt;
 use walked_rows::{
     StoredAccount, StoredBranch, StoredFloor, StoredMeta, StoredPosting, StoredReference,
     StoredRequest, StoredTeller,
@@ -25,6 +27,22 @@ pub enum Difference {
     Reference(Sides<StoredReference>),
 }
 
+/// A table that a file defines otherwise than a bank's is made, as a line shows it.
+#[derive(Clone, Copy, Debug, PartialEq, Eq, Drop)]
+pub struct OtherTable(pub BankTable);
+
+impl fmt::Display for OtherTable {
+    ghost use Rattle.std.specs.Prelude.{Some};
+    ghost use Rattle.bank_replays.specs.Replays.{other_text};
+
+    ghost output = { λ it. Some (other_text it.0) };
+
+    fn fmt<W: fmt::Write>(&self, f: &mut fmt::Formatter<W>) -> fmt::Result {
+        let name = self.0.name();
+        write!(f, "table {name} is defined otherwise")
+    }
+}
+
 /// What a replay says of a bank.
 #[derive(Clone, Copy, Debug, PartialEq, Eq)]
 pub enum Replay {
@@ -32,4 +50,6 @@ pub enum Replay {
     Agrees(Digest),
     /// They aren't. This is the first difference.
     Differs(Difference),
+    /// Its file defines this table otherwise than a bank's is made, and the rows weren't looked at.
+    Otherwise(BankTable),
 }

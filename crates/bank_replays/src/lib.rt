@@ -15,7 +15,7 @@
 //! pub fn first_replay<S: Alter>(bank: &mut Bank<S>) -> Result<bool, Fail> {
 //!     match replay(bank, Unwatched)? {
 //!         Replay::Agrees(_) => Ok(true),
-//!         Replay::Differs(_) => Ok(false),
+//!         Replay::Differs(_) | Replay::Otherwise(_) => Ok(false),
 //!     }
 //! }
 //! ```
@@ -30,8 +30,8 @@
 //! records that they came as, and [`write_plan`] the open branches as a plan, so that another bank can be given
 //! both. A [`Difference`] is shown as a line, as `account 2 stands 0 due -100`.
 //!
-//! The file is to define the tables as a bank's are defined: this isn't asked, and `agrees` of [`replay`] takes
-//! it as its premise (`HasTables` of `specs/FileTables`).
+//! It asks first whether the file defines its tables as a bank's are made: where it defines one otherwise, its rows may
+//! be read otherwise, and [`Replay::Otherwise`] names it.
 #![tactic(auto)]
 
 mod chain;
@@ -52,7 +52,7 @@ mod watch;
 mod writes;
 
 pub use chain::Digest;
-pub use difference::{Difference, Replay, Sides};
+pub use difference::{Difference, OtherTable, Replay, Sides};
 pub use digests::digest;
 pub use exports::export;
 pub use fault::ReplayFault;

@@ -11,10 +11,10 @@ ghost use Rattle.bank_store.specs.Seen.{fault_of};
 ghost use Rattle.bank_store.specs.Sparing.{SparesWhileOpen};
 ghost use Rattle.bank_store.specs.Leaving.{StandsWhileOpen, TakesNone};
 ghost use Rattle.bank_replays.specs.Digests.{IsDigestIn, IsDigestOf, answered_after};
-ghost use Rattle.bank_replays.specs.FileTables.{FileTables, HasTables};
+ghost use Rattle.bank_replays.specs.FileTables.{FileTables, HasTables, IsKept};
 ghost use Rattle.bank_replays.specs.Reading.{ReadsBank};
 ghost use Rattle.bank_replays.specs.Refilling.{IsNeverInDoubt, ShowsSome};
-ghost use Rattle.bank_replays.specs.Replays.{HasAnswered, OnAgrees};
+ghost use Rattle.bank_replays.specs.Replays.{HasAnswered, HasLookedAtRows, OnAgrees, TellsTables};
 
 use crate::comparing::compare_all;
 use crate::difference::Replay;
@@ -72,6 +72,7 @@ fn replay_beside<S: Alter, T: Alter + Drop, W: Watch + Drop>(
     requires clean { IsNeverInDoubt T.Store }
     requires shows { ShowsSome T.Store due }
     ensures bank { ReadsBank S.Store bank.old bank.new result }
+    ensures compared { HasLookedAtRows result }
     ensures agrees { HasCleanDisk (file_of bank.new) → (f : FileTables)
         → HasTables (database_of S.Store bank.old) f
         → OnAgrees result (λ d. (log : List Command) × ShowsLog (bank_seen S.Store bank.old) log) }
@@ -110,6 +111,7 @@ fn replay_over<S: Alter, T: Alter + Drop, W: Watch + Drop>(
     requires clean { IsNeverInDoubt T.Store }
     requires new { IsNew conn }
     ensures bank { ReadsBank S.Store bank.old bank.new result }
+    ensures compared { HasLookedAtRows result }
     ensures agrees { HasCleanDisk (file_of bank.new) → (f : FileTables)
         → HasTables (database_of S.Store bank.old) f
         → OnAgrees result (λ d. (log : List Command) × ShowsLog (bank_seen S.Store bank.old) log) }
@@ -142,8 +144,9 @@ fn memory_pages(alloc: Global) -> Result<Connection<FileStore<Ram>>, Fault>
     }
 }
 
-/// Replays a bank: a second bank is made in memory and given what the file's rows say, and all tables of the
-/// two are compared. Where they agree, the requests are digested. `watch` is told how far it is.
+/// Replays a bank whose file defines its tables as a bank's are made: a second bank is made in memory and given what
+/// the file's rows say, and all tables of the two are compared. Where they agree, the requests are digested. `watch`
+/// is told how far it is.
 ///
 /// # Errors
 ///
@@ -156,9 +159,9 @@ fn memory_pages(alloc: Global) -> Result<Connection<FileStore<Ram>>, Fault>
 /// | [`Fault::Down`] | the bank was down, and nothing was read |
 /// | [`Fault::Damaged`] | a row can't be read: a number of it is out of its column's range, or a reference is none |
 pub fn replay<S: Alter, W: Watch + Drop>(bank: &mut Bank<S>, watch: W) -> Result<Replay, Fault>
-    ensures agrees { (bank_seen S.Store bank.new).honest → (f : FileTables)
-        → HasTables (database_of S.Store bank.old) f
-        → OnAgrees result (λ d. (log : List Command) × ShowsLog (bank_seen S.Store bank.old) log) }
+    ensures agrees { TellsTables (database_of S.Store bank.old).schema result
+        × ((bank_seen S.Store bank.new).honest → IsKept (database_of S.Store bank.old)
+        → OnAgrees result (λ d. (log : List Command) × ShowsLog (bank_seen S.Store bank.old) log)) }
     ensures digest { (bank_seen S.Store bank.new).honest → (all : List KeptItem)
         → HasKept (database_of S.Store bank.old) all → OnAgrees result (IsDigestIn all) }
     ensures log { (bank_seen S.Store bank.new).honest → (log : List Command)
@@ -171,6 +174,9 @@ pub fn replay<S: Alter, W: Watch + Drop>(bank: &mut Bank<S>, watch: W) -> Result
 {
     if bank.is_down() {
         return Err(Fault::Down);
+    }
+    if let Some(table) = bank.other_table() {
+        return Ok(Replay::Otherwise(table));
     }
     let pages = memory_pages(bank.alloc())?;
     replay_over(bank, pages, watch)

@@ -1,5 +1,5 @@
 //! What the replay of a bank in tables says.
-use bank_replays::{Digest, Replay, Unwatched, replay};
+use bank_replays::{Digest, OtherTable, Replay, Unwatched, replay};
 use bank_store::Bank;
 use sqlite::Alter;
 use std::alloc::{AllocError, Global};
@@ -25,6 +25,7 @@ pub fn replayed<S: Alter>(alloc: Global, bank: &mut Bank<S>) -> Result<String, A
     match replay(bank, Unwatched) {
         Ok(Replay::Agrees(digest)) => agreed(alloc, &digest),
         Ok(Replay::Differs(difference)) => difference.to_string(alloc),
+        Ok(Replay::Otherwise(table)) => OtherTable(table).to_string(alloc),
         Err(fault) => fault.to_string(alloc),
     }
 }

@@ -19,7 +19,8 @@ returns g c =
         c.replay.result,
         c.print_replay-told.ensures,
         record {
-          agrees = it.agrees;
+          tables = it.agrees.0;
+          agrees = it.agrees.1;
           digest = it.digest;
           log = it.log;
           bank = it.bank;

@@ -1,7 +1,9 @@
 -- What a replay says and leaves.
-use Rattle.std.proofs.Common.{rules, ◌≡◌, Bool, Err, false, true, refl}
+use Rattle.std.proofs.Common.{rules, ◌≡◌, Bool, Err, None, Some, false, true, refl}
 use Rattle.bank_store.specs.believed.Seen.{bank_seen, database_of}
 use Rattle.bank_store.proofs.{ReadsLeave.idle_takes, Spared.idle_spares}
+use Rattle.store_rows.specs.Definitions.{IsOtherTable}
+use Rattle.bank_replays.proofs.{AllKept.has_tables, AskedFirst.told_tables}
 use Rattle.bank_replays.proofs.{InMemory.never_in_doubt, Digested.agrees_log, Leaves.read_spares, Leaves.read_stands}
 use Rattle.bank_replays.proofs.{Leaves.read_takes, LogRows.has_kept, LogRows.kept_answered, LogRows.kept_of}
 use Rattle.bank_replays.proofs.replays.replay.Goals as goal
@@ -11,7 +13,7 @@ tested_up tested is_down same up down = cc
 
 pub returns-then-is_down : goal.returns-then-is_down
 returns-then-is_down g c = record {
-  agrees = λ clean f has. tt;
+  agrees = (tt, λ clean kept. tt);
   digest = λ clean all has. tt;
   log = λ clean log shows. tt;
   bank = idle_takes (bank_seen g.S.Store c.args.bank.now) _;
@@ -21,11 +23,25 @@ returns-then-is_down g c = record {
   spares = idle_spares g.S.Store c.args.bank.now.conn;
 }
 
+pub returns-in-Some : goal.returns-in-Some
+returns-in-Some g c =
+    let some : c.other_table.result ≡ Some c.in-Some.table = search rules in
+    record {
+      agrees = (rw some at c.other_table.ensures, λ clean kept. tt);
+      digest = λ clean all has. tt;
+      log = λ clean log shows. tt;
+      bank = idle_takes (bank_seen g.S.Store c.args.bank.now) _;
+      down = λ down. absurd (tested_up _ _ c.is_down.ensures c.if-is_down.false down);
+      up = refl;
+      stands = λ clean up is_open log at. at;
+      spares = idle_spares g.S.Store c.args.bank.now.conn;
+    }
+
 pub returns-in_err-pages : goal.returns-in_err-pages
 returns-in_err-pages g c =
     let same : c.from_residual.result ≡ Err c.in_err-pages.field-0.0 = search rules in
     record {
-      agrees = λ clean f has. rw same tt;
+      agrees = (rw same tt, λ clean kept. rw same tt);
       digest = λ clean all has. rw same tt;
       log = λ clean log shows. rw same tt;
       bank = idle_takes (bank_seen g.S.Store c.args.bank.now) _;
@@ -44,9 +60,14 @@ replay_over-requires g c = record {
 pub returns : goal.returns
 returns g c =
     let says = c.replay_over.ensures in
+    let none : c.other_table.result ≡ None = search rules in
     let db = database_of g.S.Store c.args.bank.now in
+    let made : IsOtherTable db.schema None = rw none at c.other_table.ensures in
     record {
-      agrees = says.agrees;
+      agrees = (
+        told_tables db.schema _ says.compared made,
+        λ clean kept. let it = has_tables db made kept in says.agrees clean it.0 it.1,
+      );
       digest = says.digest;
       log = λ clean log shows.
           agrees_log (kept_of db shows.tables log shows.are shows.shows) _

@@ -13,6 +13,7 @@ returns-in_err-due g c =
     let same : c.from_residual.result ≡ Err c.in_err-due.field-0.0 = search rules in
     record {
       bank = rw same (read_fails c.in_err-due.field-0.0 c.in_err-due.ensures.bank);
+      compared = rw same tt;
       agrees = λ clean f has. rw same tt;
       digest = λ clean all has. rw same tt;
     }
@@ -23,6 +24,7 @@ returns-in_err-difference g c =
     let same : c.from_residual-in_err-difference.result ≡ Err fault = search rules in
     record {
       bank = rw same (read_fails fault (read_then c.in_ok-due.ensures.bank c.in_err-difference.ensures.bank));
+      compared = rw same tt;
       agrees = λ clean f has. rw same tt;
       digest = λ clean all has. rw same tt;
     }
@@ -30,6 +32,7 @@ returns-in_err-difference g c =
 pub returns-in-Some : goal.returns-in-Some
 returns-in-Some g c = record {
   bank = read_any (read_then c.in_ok-due.ensures.bank c.in_ok-difference.ensures.bank) _;
+  compared = tt;
   agrees = λ clean f has. tt;
   digest = λ clean all has. tt;
 }
@@ -42,6 +45,7 @@ returns-in_err-digest_all g c =
       bank = rw same (read_fails fault
           (read_then (read_then c.in_ok-due.ensures.bank c.in_ok-difference.ensures.bank)
           c.in_err-digest_all.ensures.bank));
+      compared = rw same tt;
       agrees = λ clean f has. rw same tt;
       digest = λ clean all has. rw same tt;
     }
@@ -55,6 +59,7 @@ returns g c =
     let sure = c.requires.clean.clean in
     record {
       bank = read_any (read_then both digested.bank) _;
+      compared = tt;
       agrees = λ clean f has.
           let before = clean_before digested.bank clean in
           let earlier = clean_before compared.bank before in

@@ -8,6 +8,7 @@ returns-in_err-due g c =
     let same : c.from_residual.result ≡ Err c.in_err-due.field-0.0 = search rules in
     record {
       bank = none_read _ _;
+      compared = rw same tt;
       agrees = λ clean f has. rw same tt;
       digest = λ clean all has. rw same tt;
     }
