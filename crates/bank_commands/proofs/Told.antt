@@ -35,7 +35,8 @@ use Rattle.command_line.specs.Working.{DrivesOver, LoadsOver, MayTellListening, 
 use Rattle.command_line.specs.Working.{TellsListeningInPart, TellsLoad, done_after, ended_by_load}
 use Rattle.bank_commands.specs.Commands.{EndsPost, PrintsDrive, PrintsLoad, PrintsServe, StatesOver, TellsLine}
 use Rattle.bank_commands.specs.Commands.{ended_by, stated_by}
-use Rattle.bank_commands.specs.{Over.IsRefusedOver, Over.RunsOver, Running.PrintsNone, Running.Tells}
+use Rattle.bank_commands.specs.{Over.IsRefusedOver, Over.RunsOver}
+use Rattle.bank_commands.specs.Running.{LeavesClock, LeavesInput, PrintsNone, Tells}
 use Rattle.bank_commands.specs.Replaying.{PrintsDigest, PrintsReplay, ended_by_writing, ended_with}
 use Rattle.bank_commands.proofs.Endings.{input_is_not_usage, system_is_not_usage}
 
@@ -235,6 +236,18 @@ tells_idle (commands.Serve file address connections) f r w has = inl (inl (Keeps
 tells_idle (commands.Migrate file) f r w has = inl ((f, refl), Keeps-refl w)
 tells_idle commands.Encode f r w has = absurd has
 tells_idle commands.Decode f r w has = absurd has
+
+pub input_left : (c : Command) (r : Option (List ℕ)) → LeavesInput c r r
+input_left (commands.Post file) r = tt
+input_left commands.Encode r = tt
+input_left commands.Decode r = tt
+input_left other r = refl
+
+pub clock_left : (c : Command) (k : Option (List ℕ)) → LeavesClock c k k
+clock_left (commands.Post file) k = tt
+clock_left (commands.Drive file seed count) k = tt
+clock_left (commands.Serve file address connections) k = tt
+clock_left other k = refl
 
 -- ---- no command ends the program as a mistake in the words
 

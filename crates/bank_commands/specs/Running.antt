@@ -1,7 +1,7 @@
 -- What a command does over a connection, by its words; how a run of the program ends, and what it prints. r and r'
 -- are the known bytes of the input before and after, w and w' those of the output, k and k' the clock's known
 -- readings.
-use Rattle.std.specs.Prelude.{◌≡◌, ◌≢◌, ◌⊎◌, ℕ, Bool, List, [], Option, None, Result, Ok, Err, IfOk}
+use Rattle.std.specs.Prelude.{⊤, ◌≡◌, ◌≢◌, ◌⊎◌, ℕ, Bool, List, [], Option, None, Result, Ok, Err, IfOk}
 use Rattle.std.specs.Io.KnownBytes.{Keeps}
 use Rattle.clap.specs.Words.{IsAmong, Text, fault_of}
 use Rattle.clap.specs.declared.error.kind.ErrorKind.{ErrorKind}
@@ -87,6 +87,22 @@ Tells (commands.Migrate file) r r' w w' told =
 Tells commands.Encode r r' w w' told = EncodesSheet r r' w w' told
 Tells commands.Decode r r' w w' told = DecodesReplies r r' w w' told
 
+-- ---- what it leaves alone
+
+-- the input is as it was, but for the commands that read it
+abbrev pub LeavesInput : Command → (r r' : Option (List ℕ)) → Type 0
+LeavesInput (commands.Post file) r r' = ⊤
+LeavesInput commands.Encode r r' = ⊤
+LeavesInput commands.Decode r r' = ⊤
+LeavesInput _ r r' = r' ≡ r
+
+-- and so is the clock, but for the commands that post
+abbrev pub LeavesClock : Command → (k k' : Option (List ℕ)) → Type 0
+LeavesClock (commands.Post file) k k' = ⊤
+LeavesClock (commands.Drive file seed count) k k' = ⊤
+LeavesClock (commands.Serve file address connections) k k' = ⊤
+LeavesClock _ k k' = k' ≡ k
+
 -- ---- a run
 
 -- how the program ends after a command
@@ -103,12 +119,14 @@ Says e e' waiting (Err fault) =
 
 -- The words spell a command, which ended so and printed this, and so does the program. e and e' are the known bytes of
 -- standard error before and after, and typed says whether the input is a terminal.
-pub record RunsSpelled (words : List Text) (typed : Bool) (r r' w w' e e' : Option (List ℕ)) (status : Status)
-    : Type 0 where
+pub record RunsSpelled (words : List Text) (typed : Bool) (r r' w w' e e' k k' : Option (List ℕ))
+    (status : Status) : Type 0 where
   pub command : Command
   pub spelled : IsSpelledBy words command
   pub told : Result Status CommandFault
   pub tells : Tells command r r' w w' told
+  pub input : LeavesInput command r r'
+  pub clock : LeavesClock command k k'
   pub ends : status ≡ status_after told
   -- what it waits for is told only where the input is typed
   pub said : Says e e' (prompt_line typed command) told
@@ -116,4 +134,4 @@ pub record RunsSpelled (words : List Text) (typed : Bool) (r r' w w' e e' : Opti
 -- or there was no memory to read them, and nothing was read, printed or asked
 abbrev pub Runs : List Text → (typed : Bool) → (r r' w w' e e' k k' : Option (List ℕ)) → Status → Type 0
 Runs words typed r r' w w' e e' k k' status =
-    RunsSpelled words typed r r' w w' e e' status ⊎ ((status ≡ System) × (r' ≡ r) × Keeps w w' × (k' ≡ k))
+    RunsSpelled words typed r r' w w' e e' k k' status ⊎ ((status ≡ System) × (r' ≡ r) × Keeps w w' × (k' ≡ k))

@@ -1,7 +1,7 @@
 //! A command over a connection, by its words.
 ghost use Rattle.std.specs.Prelude.{◌≡◌, false};
 ghost use Rattle.command_line.specs.Words.{AreInRange};
-ghost use Rattle.bank_commands.specs.Running.{DoesOver, Tells};
+ghost use Rattle.bank_commands.specs.Running.{DoesOver, LeavesClock, LeavesInput, Tells};
 
 use crate::ended::Ended;
 use crate::progress::Progress;
@@ -32,6 +32,8 @@ pub fn command_over<S: Alter + Drop, R: Read, W: Write, K: Clock>(
         command.now result.told }
     ensures tells { Tells command.now (R.remaining input.old) (R.remaining input.new)
         (W.contents output.old) (W.contents output.new) result.told }
+    ensures input { LeavesInput command.now (R.remaining input.old) (R.remaining input.new) }
+    ensures clock { LeavesClock command.now (K.readings clock.old) (K.readings clock.new) }
     ensures idle { result.conn.in_transaction ≡ false }
 {
     match *command {

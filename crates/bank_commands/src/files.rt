@@ -2,7 +2,7 @@
 //! opened at, and a closed file is nothing that a clause can name, so that the contract says only how a command ends
 //! and what it prints. All that is done with the bank is done by [`command_over`].
 ghost use Rattle.command_line.specs.Words.{AreInRange};
-ghost use Rattle.bank_commands.specs.Running.{Tells};
+ghost use Rattle.bank_commands.specs.Running.{LeavesClock, LeavesInput, Tells};
 
 use crate::command::command_over;
 use crate::ended::Ended;
@@ -23,8 +23,10 @@ pub(crate) fn command_in<S: Start, R: Read, W: Write, K: Clock>(
     clock: &mut K,
 ) -> Result<Status, CommandFault>
     requires { AreInRange command.now }
-    ensures { Tells command.now (R.remaining input.old) (R.remaining input.new) (W.contents output.old)
+    ensures tells { Tells command.now (R.remaining input.old) (R.remaining input.new) (W.contents output.old)
         (W.contents output.new) result }
+    ensures input { LeavesInput command.now (R.remaining input.old) (R.remaining input.new) }
+    ensures clock { LeavesClock command.now (K.readings clock.old) (K.readings clock.new) }
 {
     let (file, finds_bank) = match *command {
         Command::Encode => return translate_sheet(rt.alloc(), input, output),

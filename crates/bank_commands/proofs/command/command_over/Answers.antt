@@ -9,23 +9,25 @@ returns-in-Init g c =
     rw c.in-Init.is record {
       does = it.inits;
       tells = prints_none _ _ _ _ c.init_over.result.told it.inits (λ _ _ did. did.2);
+      input = refl;
+      clock = refl;
       idle = it.idle;
     }
 
 pub returns-in-Load : goal.returns-in-Load
 returns-in-Load g c =
     let it = c.load_over.ensures in
-    rw c.in-Load.is record { does = it.loads; tells = it.prints; idle = it.idle }
+    rw c.in-Load.is record { does = it.loads; tells = it.prints; input = refl; clock = refl; idle = it.idle }
 
 pub returns-in-Post : goal.returns-in-Post
 returns-in-Post g c =
     let it = c.post_over.ensures in
-    rw c.in-Post.is record { does = it.posts; tells = it.ends; idle = it.idle }
+    rw c.in-Post.is record { does = it.posts; tells = it.ends; input = tt; clock = tt; idle = it.idle }
 
 pub returns-in-Drive : goal.returns-in-Drive
 returns-in-Drive g c =
     let it = c.drive_over.ensures in
-    rw c.in-Drive.is record { does = it.drives; tells = it.prints; idle = it.idle }
+    rw c.in-Drive.is record { does = it.drives; tells = it.prints; input = refl; clock = tt; idle = it.idle }
 
 pub returns-in-Audit : goal.returns-in-Audit
 returns-in-Audit g c =
@@ -33,6 +35,8 @@ returns-in-Audit g c =
     rw c.in-Audit.is record {
       does = it.audits;
       tells = prints_none _ _ _ _ c.audit_over.result.told it.audits.0 (λ _ _ did. (did.1.0, did.1.1));
+      input = refl;
+      clock = refl;
       idle = it.idle;
     }
 
@@ -42,6 +46,8 @@ returns-in-Statement g c =
     rw c.in-Statement.is record {
       does = it.states;
       tells = states_done _ _ _ _ _ _ c.statement_over.result.told it.states;
+      input = refl;
+      clock = refl;
       idle = it.idle;
     }
 
@@ -51,6 +57,8 @@ returns-in-Replay g c =
     rw c.in-Replay.is record {
       does = it.replays;
       tells = prints_none _ _ _ _ c.replay_over.result.told it.replays.0 (λ _ _ did. (did.1.0, did.1.1));
+      input = refl;
+      clock = refl;
       idle = it.idle;
     }
 
@@ -60,6 +68,8 @@ returns-in-Digest g c =
     rw c.in-Digest.is record {
       does = it.digests;
       tells = prints_none _ _ _ _ c.digest_over.result.told it.digests.0 (λ _ _ did. (did.1.0, did.1.1));
+      input = refl;
+      clock = refl;
       idle = it.idle;
     }
 
@@ -69,6 +79,8 @@ returns-in-Export g c =
     rw c.in-Export.is record {
       does = it.exports;
       tells = written_done _ _ c.export_over.result.told it.exports.0 (λ _ _ did. (did.1.0, did.1.1));
+      input = refl;
+      clock = refl;
       idle = it.idle;
     }
 
@@ -78,13 +90,15 @@ returns-in-Plan g c =
     rw c.in-Plan.is record {
       does = it.plans;
       tells = written_done _ _ c.plan_over.result.told it.plans.0 (λ _ _ did. (did.1.0, did.1.1));
+      input = refl;
+      clock = refl;
       idle = it.idle;
     }
 
 pub returns-in-Serve : goal.returns-in-Serve
 returns-in-Serve g c =
     let it = c.serve_over.ensures in
-    rw c.in-Serve.is record { does = it.serves; tells = it.prints; idle = it.idle }
+    rw c.in-Serve.is record { does = it.serves; tells = it.prints; input = refl; clock = tt; idle = it.idle }
 
 pub returns-in-Migrate : goal.returns-in-Migrate
 returns-in-Migrate g c =
@@ -92,6 +106,8 @@ returns-in-Migrate g c =
     rw c.in-Migrate.is record {
       does = it.migrates;
       tells = prints_none _ _ _ _ c.migrate_over.result.told it.migrates (λ _ _ did. (did.0, did.3));
+      input = refl;
+      clock = refl;
       idle = it.idle;
     }
 
@@ -100,9 +116,9 @@ returns-in-Migrate g c =
 pub returns-in-Encode : goal.returns-in-Encode
 returns-in-Encode g c =
     let it = c.translate_sheet.ensures in
-    rw c.in-Encode.is record { does = (refl, it); tells = it; idle = c.requires.mode }
+    rw c.in-Encode.is record { does = (refl, it); tells = it; input = tt; clock = refl; idle = c.requires.mode }
 
 pub returns-in-Decode : goal.returns-in-Decode
 returns-in-Decode g c =
     let it = c.translate_replies.ensures in
-    rw c.in-Decode.is record { does = (refl, it); tells = it; idle = c.requires.mode }
+    rw c.in-Decode.is record { does = (refl, it); tells = it; input = tt; clock = refl; idle = c.requires.mode }

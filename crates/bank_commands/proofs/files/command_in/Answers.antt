@@ -1,25 +1,37 @@
-use Rattle.std.proofs.Common.{◌≡◌, rules, Err}
+use Rattle.std.proofs.Common.{◌≡◌, refl, rules, Err}
 use Rattle.command_line.specs.declared.fault.CommandFault.TheVariants.{Store}
-use Rattle.bank_commands.proofs.Told.{HasFile, tells_idle}
+use Rattle.bank_commands.proofs.Told.{HasFile, clock_left, input_left, tells_idle}
 use Rattle.bank_commands.proofs.files.command_in.Goals as goal
 
 pub returns-in-Encode : goal.returns-in-Encode
-returns-in-Encode g c = rw c.in-Encode.is c.translate_sheet.ensures
+returns-in-Encode g c =
+    rw c.in-Encode.is record { tells = c.translate_sheet.ensures; input = tt; clock = refl }
 
 pub returns-in-Decode : goal.returns-in-Decode
-returns-in-Decode g c = rw c.in-Decode.is c.translate_replies.ensures
+returns-in-Decode g c =
+    rw c.in-Decode.is record { tells = c.translate_replies.ensures; input = tt; clock = refl }
 
 pub returns-in_err-look_for : goal.returns-in_err-look_for
 returns-in_err-look_for g c =
     let f = c.in_err-look_for.field-0.0 in
     let same : c.from_residual.result ≡ Err f = search rules in
     let has : HasFile c.args.command.now = search rules in
-    rw same (tells_idle _ f _ _ has)
+    record {
+      tells = rw same (tells_idle _ f _ _ has);
+      input = input_left c.args.command.now _;
+      clock = clock_left c.args.command.now _;
+    }
 
 pub returns-in_default : goal.returns-in_default
 returns-in_default g c =
     let has : HasFile c.args.command.now = search rules in
-    tells_idle _ Store _ _ has
+    record {
+      tells = tells_idle _ Store _ _ has;
+      input = input_left c.args.command.now _;
+      clock = clock_left c.args.command.now _;
+    }
 
 pub returns-in-Err : goal.returns-in-Err
-returns-in-Err g c = c.command_over-told.ensures.tells
+returns-in-Err g c =
+    let it = c.command_over-told.ensures in
+    record { tells = it.tells; input = it.input; clock = it.clock }

@@ -45,12 +45,14 @@ returns-in-Ok-command_in g c =
       silent = λ refused. absurd (refused.some says.fault);
       unread = λ some. absurd (some says.fault);
       help = λ asks. absurd (says.help asks);
-      taken = λ spelled. told_is_not_usage c.in-Ok.command _ _ _ _ c.in-Ok-command_in.status did;
+      taken = λ spelled. told_is_not_usage c.in-Ok.command _ _ _ _ c.in-Ok-command_in.status did.tells;
       runs = λ spelled. inl record {
         command = c.in-Ok.command;
         spelled = says.spelled spelled;
         told = Ok c.in-Ok-command_in.status;
-        tells = did;
+        tells = did.tells;
+        input = did.input;
+        clock = did.clock;
         ends = refl;
         said = in_part _ _ _ _ _ c.prompt.ensures;
       };
@@ -69,7 +71,9 @@ returns-in-Err-command_in g c =
         command = c.in-Ok.command;
         spelled = says.spelled spelled;
         told = Err c.in-Err-command_in.fault;
-        tells = c.in-Err-command_in.ensures;
+        tells = c.in-Err-command_in.ensures.tells;
+        input = c.in-Err-command_in.ensures.input;
+        clock = c.in-Err-command_in.ensures.clock;
         ends = c.tell.ensures.status;
         said = (_, in_part _ _ _ _ _ c.prompt.ensures, c.tell.ensures.said);
       };
