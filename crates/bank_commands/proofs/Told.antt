@@ -355,5 +355,5 @@ told_is_not_usage (commands.Plan file) r r' w w' status told = done_is_not_usage
 told_is_not_usage (commands.Serve file address connections) r r' w w' status told = done_is_not_usage status told.0
 told_is_not_usage (commands.Migrate file) r r' w w' status (inl none) = not_a_fault status _ none.0.1
 told_is_not_usage (commands.Migrate file) r r' w w' status (inr told) = done_is_not_usage status told.1.0
-told_is_not_usage commands.Encode r r' w w' status told = encoded_is_not_usage told.0 status told.2
-told_is_not_usage commands.Decode r r' w w' status told = decoded_is_not_usage told.0 status told.2
+told_is_not_usage commands.Encode r r' w w' status told = encoded_is_not_usage told.sheet status told.ended
+told_is_not_usage commands.Decode r r' w w' status told = decoded_is_not_usage told.replies status told.ended

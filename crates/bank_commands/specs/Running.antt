@@ -57,8 +57,8 @@ DoesOver g conn back r r' w w' k k' (commands.Export file after) told =
     ExportsOver g conn back after w w' None None told
 DoesOver g conn back r r' w w' k k' (commands.Plan file) told = PlansOver g conn back w w' None None told
 DoesOver g conn back r r' w w' k k' (commands.Migrate file) told = Migrates g conn back w w' told
-DoesOver g conn back r r' w w' k k' commands.Encode told = (back ≡ conn) × EncodesSheet r r' w w' told
-DoesOver g conn back r r' w w' k k' commands.Decode told = (back ≡ conn) × DecodesReplies r r' w w' told
+DoesOver g conn back r r' w w' k k' commands.Encode told = (back ≡ conn) × EncodesSheet r r' None None w w' None None told
+DoesOver g conn back r r' w w' k k' commands.Decode told = (back ≡ conn) × DecodesReplies r r' None None w w' None None told
 
 -- ---- how it ends and what it prints, whatever bank is there; the text of `post`, `statement`, `export` and `plan` is
 -- the bank's
@@ -84,8 +84,8 @@ Tells (commands.Plan file) r r' w w' told = IfOk told (λ status. status ≡ Don
 Tells (commands.Serve file address connections) r r' w w' told = PrintsServe w w' told
 Tells (commands.Migrate file) r r' w w' told =
     PrintsNone w w' told ((migrated : Migrated) × TellsLine w w' (migration_line migrated) told)
-Tells commands.Encode r r' w w' told = EncodesSheet r r' w w' told
-Tells commands.Decode r r' w w' told = DecodesReplies r r' w w' told
+Tells commands.Encode r r' w w' told = EncodesSheet r r' None None w w' None None told
+Tells commands.Decode r r' w w' told = DecodesReplies r r' None None w w' None None told
 
 -- ---- what it leaves alone
 

@@ -1,7 +1,9 @@
 -- What `encode` and `decode` read and write, and how they end.
 use Rattle.std.specs.Prelude.{◌≡◌, ℕ, List, Option, Result, Ok, Err}
-use Rattle.posting_sheets.specs.Encoding.{Encodes}
-use Rattle.posting_sheets.specs.Replies.{Decodes}
+use Rattle.posting_core.specs.believed.Told.{ReadTold}
+use Rattle.posting_core.specs.Told.{WriteTold}
+use Rattle.posting_sheets.specs.Encoding.{Encodes, SheetFaultIsOfItsEnd}
+use Rattle.posting_sheets.specs.Replies.{Decodes, RepliesFaultIsOfItsEnd}
 use Rattle.posting_sheets.specs.declared.fault.RepliesFault.{RepliesFault}
 use Rattle.posting_sheets.specs.declared.fault.SheetFault.{SheetFault}
 use Rattle.command_line.specs.Faults.{fault_of_replies, fault_of_sheet}
@@ -19,11 +21,22 @@ abbrev pub ended_by_replies : Result ℕ RepliesFault → Result Status CommandF
 ended_by_replies (Ok count) = Ok Done
 ended_by_replies (Err fault) = Err (fault_of_replies fault)
 
--- records of a sheet were written, and the command ended as the sheet did
-abbrev pub EncodesSheet : (r r' w w' : Option (List ℕ)) → Result Status CommandFault → Type 0
-EncodesSheet r r' w w' result = (end : Result ℕ SheetFault) × Encodes r r' w w' end × (result ≡ ended_by_sheet end)
+-- Records of a sheet were written, and the command ended as the sheet did. The known bytes of the input before and after
+-- are r and r', those of the output w and w'; what the calls of its ends are known to have returned is q and q' of the
+-- input, and t and t' of the output.
+pub record EncodesSheet (r r' : Option (List ℕ)) (q q' : Option (List ReadTold)) (w w' : Option (List ℕ))
+    (t t' : Option (List WriteTold)) (told : Result Status CommandFault) : Type 0 where
+  pub sheet : Result ℕ SheetFault
+  pub encodes : Encodes r r' w w' sheet
+  -- the input was read to its end, or why not
+  pub ends : SheetFaultIsOfItsEnd sheet r' q q' t t'
+  pub ended : told ≡ ended_by_sheet sheet
 
--- a sheet of replies was written, and the command ended as they did
-abbrev pub DecodesReplies : (r r' w w' : Option (List ℕ)) → Result Status CommandFault → Type 0
-DecodesReplies r r' w w' result =
-    (end : Result ℕ RepliesFault) × Decodes r r' w w' end × (result ≡ ended_by_replies end)
+-- A sheet of replies was written, and the command ended as they did.
+pub record DecodesReplies (r r' : Option (List ℕ)) (q q' : Option (List ReadTold)) (w w' : Option (List ℕ))
+    (t t' : Option (List WriteTold)) (told : Result Status CommandFault) : Type 0 where
+  pub replies : Result ℕ RepliesFault
+  pub decodes : Decodes r r' w w' replies
+  -- the input was read to its end, or why not
+  pub ends : RepliesFaultIsOfItsEnd replies r' q q' t t'
+  pub ended : told ≡ ended_by_replies replies

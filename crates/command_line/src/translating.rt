@@ -13,8 +13,8 @@ pub fn translate_sheet<R: Source, W: Sink>(
     input: &mut R,
     output: &mut W,
 ) -> Result<Status, CommandFault>
-    ensures { EncodesSheet (R.remaining input.old) (R.remaining input.new)
-        (W.contents output.old) (W.contents output.new) result }
+    ensures { EncodesSheet (R.remaining input.old) (R.remaining input.new) (R.told input.old) (R.told input.new)
+        (W.contents output.old) (W.contents output.new) (W.told output.old) (W.told output.new) result }
 {
     match encode_sheet(alloc, input, output) {
         Ok(_) => Ok(Status::Done),
@@ -28,8 +28,8 @@ pub fn translate_replies<R: Source, W: Sink>(
     input: &mut R,
     output: &mut W,
 ) -> Result<Status, CommandFault>
-    ensures { DecodesReplies (R.remaining input.old) (R.remaining input.new)
-        (W.contents output.old) (W.contents output.new) result }
+    ensures { DecodesReplies (R.remaining input.old) (R.remaining input.new) (R.told input.old) (R.told input.new)
+        (W.contents output.old) (W.contents output.new) (W.told output.old) (W.told output.new) result }
 {
     match decode_replies(alloc, input, output) {
         Ok(_) => Ok(Status::Done),
