@@ -2,7 +2,7 @@
 use Rattle.std.specs.Prelude.{⊤, IfErr, IfOk, IsErrAnd, if◌then◌else◌}
 use Rattle.std.proofs.Common.{◌≡◌, ◌≢◌, ◌⊎◌, ◌∙◌, ◌≤◌, ap, inl, inr, refl, subst, sym, ℕ, List, Option, Result, Ok}
 use Rattle.std.proofs.Common.{Err, Bool, false, true, Some, None, OnErr, OnOk, IsErrOf, length, take}
-use Rattle.std.specs.Io.KnownBytes.{Appends, Keeps}
+use Rattle.std.specs.{Io.KnownBytes.Appends, Io.KnownBytes.Keeps, declared.net.socket_addr.SocketAddr.SocketAddr}
 use Rattle.std.proofs.{KnownBytes.Keeps-refl, lemmas.Result.err_from_is_err_and}
 use Rattle.sqlite.specs.Held.{Held}
 use Rattle.sqlite_trees.specs.declared.store.Store.{Ghosts}
@@ -10,8 +10,11 @@ use Rattle.posting_rules.specs.declared.{fault.Fault.Fault, open_fault.OpenFault
 use Rattle.posting_rules.specs.believed.Counter.{Seen}
 use Rattle.posting_rules.specs.declared.fault.Fault.TheVariants as bank
 use Rattle.posting_rules.specs.declared.open_fault.OpenFault.TheVariants as opening
-use Rattle.posting_core.specs.{believed.Stream.Streamed, declared.stream.StreamFault.StreamFault}
+use Rattle.posting_core.specs.{believed.Stream.Streamed, believed.Told.ReadTold}
+use Rattle.posting_core.specs.declared.stream.StreamFault.{StreamFault}
+use Rattle.counter_http.specs.declared.listen_fault.ListenFault.{ListenFault}
 use Rattle.posting_core.specs.declared.stream.StreamFault.TheVariants as stream
+use Rattle.branch_loader.specs.{believed.Plans.Rows, declared.fault.PlanFault.PlanFault}
 use Rattle.branch_loader.specs.declared.loader.Loaded.{Loaded}
 use Rattle.posting_sheets.specs.declared.fault.{RepliesFault.RepliesFault, SheetFault.SheetFault}
 use Rattle.report_contents.specs.declared.audit.Audit.{Audit}
@@ -23,7 +26,7 @@ use Rattle.bank_replays.specs.declared.fault.ReplayFault.TheVariants as written
 use Rattle.bank_store.specs.declared.{bank.Bank.Bank, refused.Refused.Refused}
 use Rattle.command_line.specs.{Auditing.Prints, declared.fault.CommandFault.CommandFault}
 use Rattle.command_line.specs.{declared.reading.Command.Command, declared.status.Status.Status, Lines.driven_line}
-use Rattle.command_line.specs.{Lines.loaded_line, Statuses.status_of_loaded}
+use Rattle.command_line.specs.{Lines.listening_line, Lines.loaded_line, Statuses.status_of_loaded}
 use Rattle.command_line.specs.Faults.{IsOfFile, fault_of_opening, fault_of_stream, status_of}
 use Rattle.command_line.specs.declared.fault.CommandFault.TheVariants as fault
 use Rattle.command_line.specs.declared.reading.Command.TheVariants as commands
@@ -31,8 +34,8 @@ use Rattle.command_line.specs.declared.status.Status.TheVariants.{Differs, Done,
 use Rattle.load_driver.specs.believed.Drives.{Drives}
 use Rattle.load_driver.specs.declared.{drive.Driven.Driven, drive_fault.DriveFault.DriveFault}
 use Rattle.command_line.specs.Translating.{ended_by_replies, ended_by_sheet}
-use Rattle.command_line.specs.Working.{DrivesOver, LoadsOver, MayTellListening, TellsDrive, TellsListening}
-use Rattle.command_line.specs.Working.{TellsListeningInPart, TellsLoad, done_after, ended_by_load}
+use Rattle.command_line.specs.Working.{DrivesOver, LoadsAnswer, LoadsOver, ServesOver, TellsDrive, TellsLoad}
+use Rattle.command_line.specs.Working.{TellsServing, done_after, ended_by_load}
 use Rattle.bank_commands.specs.Commands.{EndsPost, PrintsDrive, PrintsLoad, PrintsServe, StatesOver, TellsLine}
 use Rattle.bank_commands.specs.Commands.{ended_by, stated_by}
 use Rattle.bank_commands.specs.{Over.IsRefusedOver, Over.RunsOver}
@@ -106,10 +109,17 @@ module _ (w w' : Option (List ℕ)) (told : Result Status CommandFault) where
       rw part.0 (inr (refl, status_of_loaded loaded, loaded_line loaded, (loaded, refl, refl), part.1))
   tells_load (Err f) silent = rw silent.0 (inl silent.1)
 
-  pub prints_load : {C : Type 0} (seen : C → Seen) (reason : Fault → C → C → Type 0) (old new : C)
-      → LoadsOver seen reason w w' (λ end. told ≡ end) old new → PrintsLoad w w' told
-  prints_load seen reason old new (inl idle) = rw idle.0.0.2 (inl idle.0.1)
-  prints_load seen reason old new (inr it) = tells_load it.0 it.1
+  tells_plan : {C : Type 0} (seen : C → Seen) (reason : Fault → C → C → Type 0) (old new : C)
+      (answer : Result Rows PlanFault) → LoadsAnswer seen reason w w' (λ end. told ≡ end) answer old new
+      → PrintsLoad w w' told
+  tells_plan seen reason old new (Ok rows) it = tells_load it.0 it.1
+  tells_plan seen reason old new (Err f) it = rw it.0.0 (inl it.0.1)
+
+  pub prints_load : {C P : Type 0} (seen : C → Seen) (reason : Fault → C → C → Type 0) (IsNamed : P → Type 0)
+      (known : P → Option (List ℕ) × Option (List ReadTold)) (old new : C)
+      → LoadsOver seen reason IsNamed known w w' (λ end. told ≡ end) old new → PrintsLoad w w' told
+  prints_load seen reason IsNamed known old new (inl idle) = rw idle.0.2 (inl idle.1)
+  prints_load seen reason IsNamed known old new (inr it) = tells_plan seen reason old new it.3.answer it.3.does
 
   tells_drive : {C : Type 0} (seen : C → Seen) (old new : C) (k k' : Option (List ℕ)) (seed count : ℕ)
       (answer : Result Driven DriveFault) → TellsDrive (λ end. told ≡ end) w w' count answer
@@ -130,33 +140,18 @@ module _ (w w' : Option (List ℕ)) (told : Result Status CommandFault) where
       → DrivesOver seen reason k k' w w' seed count (λ end. told ≡ end) old new → PrintsDrive w w' count told
   prints_drive seen reason old new k k' seed count it = tells_drive seen old new k k' seed count it.0 it.1 it.2
 
-is_write : (f : CommandFault) → (f ≡ fault.Write) ⊎ (f ≢ fault.Write)
-is_write fault.Write = inl refl
-is_write fault.Store = inr (λ bad. cc)
-is_write fault.Memory = inr (λ bad. cc)
-is_write (fault.Damaged rule) = inr (λ bad. cc)
-is_write fault.Read = inr (λ bad. cc)
-is_write (fault.Truncated count) = inr (λ bad. cc)
-is_write (fault.Plan plan) = inr (λ bad. cc)
-is_write fault.AlreadyBank = inr (λ bad. cc)
-is_write fault.NoBank = inr (λ bad. cc)
-is_write fault.Foreign = inr (λ bad. cc)
-is_write (fault.Version version) = inr (λ bad. cc)
-is_write fault.NoBranches = inr (λ bad. cc)
-is_write (fault.NoAccount account) = inr (λ bad. cc)
-is_write (fault.NoRequest count) = inr (λ bad. cc)
-is_write fault.Network = inr (λ bad. cc)
-is_write (fault.Postings sheet) = inr (λ bad. cc)
-is_write (fault.Reply place field) = inr (λ bad. cc)
+  tells_serve : (address : SocketAddr) → Appends w w' (listening_line address)
+      → (answer : Result (Unit {0}) ListenFault) → TellsServing (λ end. told ≡ end) answer → PrintsServe w w' told
+  tells_serve address line (Ok done) ends = rw ends (refl, address, line)
+  tells_serve address line (Err f) ends = rw ends (inr (address, inl line))
 
-pub prints_serve : (w w' : Option (List ℕ)) (told : Result (Unit {0}) CommandFault)
-    → OnOk told (TellsListening w w') → IfErr told (λ f. f ≢ fault.Write → MayTellListening w w')
-    → (IsErrOf told fault.Write → TellsListeningInPart w w') → PrintsServe w w' (done_after told)
-prints_serve w w' (Ok done) line silent part = (refl, line)
-prints_serve w w' (Err f) line silent part = elim (is_write f) [
-  | inl is ↦ inr (is, part (ap Err is))
-  | inr other ↦ inl (silent other)
-]
+  pub prints_serve : {C : Type 0} (seen : C → Seen) (reason : Fault → C → C → Type 0) (old new : C)
+      (k k' : Option (List ℕ)) (count : ℕ)
+      → ServesOver seen reason k k' w w' count (λ end. told ≡ end) old new → PrintsServe w w' told
+  prints_serve seen reason old new k k' count (inl none) = rw none.0 (inl none.1)
+  prints_serve seen reason old new k k' count (inr (address, inl part)) =
+      rw part.0 (inr (address, inr (refl, part.1)))
+  prints_serve seen reason old new k k' count (inr (address, inr it)) = tells_serve address it.0 it.1 it.2
 
 -- a stream never ends with a fault of a file
 not_of_file : {Q : Type 0} (f : StreamFault) → IsOfFile (fault_of_stream f) → Q

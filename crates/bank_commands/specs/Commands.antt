@@ -4,6 +4,7 @@
 -- t' of the output; beside which sinks the input is known to have been read is b and b'.
 use Rattle.std.specs.Prelude.{◌≡◌, ◌≢◌, ◌⊎◌, ◌+◌, ℕ, List, Option, Result, Ok, Err, IfErr, IfOk, OnOk}
 use Rattle.std.specs.Io.KnownBytes.{Appends, IsAtEnd, Keeps}
+use Rattle.std.specs.declared.net.socket_addr.SocketAddr.{SocketAddr}
 use Rattle.sqlite.specs.Held.{Held}
 use Rattle.sqlite_trees.specs.declared.store.Store.{Ghosts}
 use Rattle.posting_rules.specs.declared.fault.Fault.{Fault}
@@ -30,10 +31,10 @@ use Rattle.bank_reports.specs.declared.fault.ReportFault.TheVariants as report
 use Rattle.store_rows.specs.declared.metas.TheConstants.{VERSION}
 use Rattle.command_line.specs.Auditing.{Prints}
 use Rattle.command_line.specs.Faults.{IsOfFile, fault_of_bank, fault_of_stream}
-use Rattle.command_line.specs.Lines.{already_line, created_line, driven_line, loaded_line, migrated_line}
+use Rattle.command_line.specs.Lines.{already_line, created_line, driven_line, listening_line, loaded_line}
+use Rattle.command_line.specs.Lines.{migrated_line}
 use Rattle.command_line.specs.Statuses.{status_of_loaded}
-use Rattle.command_line.specs.Working.{DrivesOver, LoadsOver, MayTellListening, ServesOver, TellsListening}
-use Rattle.command_line.specs.Working.{TellsListeningInPart}
+use Rattle.command_line.specs.Working.{DrivesOver, LoadsOver, ServesOver}
 use Rattle.command_line.specs.declared.fault.CommandFault.{CommandFault}
 use Rattle.command_line.specs.declared.fault.CommandFault.TheVariants as faults
 use Rattle.command_line.specs.declared.status.Status.{Status}
@@ -67,11 +68,13 @@ Migrates g conn back w w' told = RunsOver g (IsUnmovedOver g conn) back told (w'
 
 -- ---- records and branches are added
 
-abbrev pub Loads : {S : Type 0} (g : Ghosts S) → (conn back : Held S) → (w w' : Option (List ℕ))
+-- IsNamed says of a source that it is the plan's, and known what is known of one
+abbrev pub Loads : {S P : Type 0} (g : Ghosts S) → (conn back : Held S) → (IsNamed : P → Type 0)
+    → (known : P → Option (List ℕ) × Option (List ReadTold)) → (w w' : Option (List ℕ))
     → Result Status CommandFault → Type 0
-Loads g conn back w w' told =
+Loads g conn back IsNamed known w w' told =
     FindsOver g conn back told (w' ≡ w)
-    (λ old new. LoadsOver (bank_seen g) (bank_reason g) w w' (λ end. told ≡ end) old new
+    (λ old new. LoadsOver (bank_seen g) (bank_reason g) IsNamed known w w' (λ end. told ≡ end) old new
     × ((bank_seen g new).honest → (bank_seen g old).honest))
 
 -- how a stream ends the command
@@ -98,7 +101,7 @@ abbrev pub Serves : {S : Type 0} (g : Ghosts S) → (conn back : Held S) → (w 
     → (count : ℕ) → Result Status CommandFault → Type 0
 Serves g conn back w w' k k' count told =
     FindsOver g conn back told ((w' ≡ w) × (k' ≡ k))
-    (ServesOver (bank_seen g) (bank_reason g) k k' count (λ end. told ≡ end))
+    (ServesOver (bank_seen g) (bank_reason g) k k' w w' count (λ end. told ≡ end))
 
 -- ---- reports
 
@@ -164,8 +167,10 @@ PrintsDrive w w' count told = PrintsOne w w'
 
 -- where it listens, before it serves
 abbrev pub PrintsServe : (w w' : Option (List ℕ)) → Result Status CommandFault → Type 0
-PrintsServe w w' (Ok status) = (status ≡ Done) × TellsListening w w'
-PrintsServe w w' (Err fault) = MayTellListening w w' ⊎ ((fault ≡ faults.Write) × TellsListeningInPart w w')
+PrintsServe w w' (Ok status) = (status ≡ Done) × (address : SocketAddr) × Appends w w' (listening_line address)
+PrintsServe w w' (Err fault) = Keeps w w'
+    ⊎ ((address : SocketAddr) × (Appends w w' (listening_line address)
+    ⊎ ((fault ≡ faults.Write) × AppendsPart w w' (listening_line address))))
 
 -- all input was read, or none where there was no bank
 abbrev pub EndsPost : (r r' w w' : Option (List ℕ)) → Result Status CommandFault → Type 0

@@ -8,6 +8,7 @@ use Rattle.clap.specs.declared.error.kind.ErrorKind.{ErrorKind}
 use Rattle.sqlite.specs.Held.{Held}
 use Rattle.sqlite_trees.specs.declared.store.Store.{Ghosts}
 use Rattle.posting_rules.specs.declared.fault.Fault.{Fault}
+use Rattle.posting_core.specs.believed.Told.{ReadTold}
 use Rattle.report_contents.specs.Written.{AppendsPart}
 use Rattle.report_contents.specs.declared.audit.Audit.{Audit}
 use Rattle.bank_store.specs.declared.migration.Migrated.{Migrated}
@@ -37,28 +38,31 @@ pub record AreRefused (words : List Text) : Type 0 where
 
 -- ---- what a command does with the connection conn, which it hands back as back
 
-abbrev pub DoesOver : {S : Type 0} (g : Ghosts S) → (conn back : Held S) → (r r' w w' k k' : Option (List ℕ))
+-- IsNamed says of a source that it is that of the plan of a name, and known what is known of one
+abbrev pub DoesOver : {S P : Type 0} (g : Ghosts S) → (conn back : Held S) → (IsNamed : List ℕ → P → Type 0)
+    → (known : P → Option (List ℕ) × Option (List ReadTold)) → (r r' w w' k k' : Option (List ℕ))
     → Command → Result Status CommandFault → Type 0
-DoesOver g conn back r r' w w' k k' (commands.Init file) told = Inits g conn back w w' told
-DoesOver g conn back r r' w w' k k' (commands.Load file plan) told = Loads g conn back w w' told
-DoesOver g conn back r r' w w' k k' (commands.Post file) told =
+DoesOver g conn back IsNamed known r r' w w' k k' (commands.Init file) told = Inits g conn back w w' told
+DoesOver g conn back IsNamed known r r' w w' k k' (commands.Load file plan) told =
+    Loads g conn back (IsNamed plan.now) known w w' told
+DoesOver g conn back IsNamed known r r' w w' k k' (commands.Post file) told =
     Posts g conn back r r' None None None None w w' None None k k' told
-DoesOver g conn back r r' w w' k k' (commands.Drive file seed count) told =
+DoesOver g conn back IsNamed known r r' w w' k k' (commands.Drive file seed count) told =
     DrivesBank g conn back w w' k k' seed count told
-DoesOver g conn back r r' w w' k k' (commands.Audit file) told = AuditsOver g conn back w w' told
-DoesOver g conn back r r' w w' k k' (commands.Statement file account) told =
+DoesOver g conn back IsNamed known r r' w w' k k' (commands.Audit file) told = AuditsOver g conn back w w' told
+DoesOver g conn back IsNamed known r r' w w' k k' (commands.Statement file account) told =
     StatesOver g conn back account w w' None None told
-DoesOver g conn back r r' w w' k k' (commands.Serve file address connections) told =
+DoesOver g conn back IsNamed known r r' w w' k k' (commands.Serve file address connections) told =
     Serves g conn back w w' k k' connections told
-DoesOver g conn back r r' w w' k k' (commands.Replay file) told = ReplaysOver g conn back w w' None None told
-DoesOver g conn back r r' w w' k k' (commands.Digest file requests) told =
+DoesOver g conn back IsNamed known r r' w w' k k' (commands.Replay file) told = ReplaysOver g conn back w w' None None told
+DoesOver g conn back IsNamed known r r' w w' k k' (commands.Digest file requests) told =
     DigestsOver g conn back requests w w' None None told
-DoesOver g conn back r r' w w' k k' (commands.Export file after) told =
+DoesOver g conn back IsNamed known r r' w w' k k' (commands.Export file after) told =
     ExportsOver g conn back after w w' None None told
-DoesOver g conn back r r' w w' k k' (commands.Plan file) told = PlansOver g conn back w w' None None told
-DoesOver g conn back r r' w w' k k' (commands.Migrate file) told = Migrates g conn back w w' told
-DoesOver g conn back r r' w w' k k' commands.Encode told = (back ≡ conn) × EncodesSheet r r' None None w w' None None told
-DoesOver g conn back r r' w w' k k' commands.Decode told = (back ≡ conn) × DecodesReplies r r' None None w w' None None told
+DoesOver g conn back IsNamed known r r' w w' k k' (commands.Plan file) told = PlansOver g conn back w w' None None told
+DoesOver g conn back IsNamed known r r' w w' k k' (commands.Migrate file) told = Migrates g conn back w w' told
+DoesOver g conn back IsNamed known r r' w w' k k' commands.Encode told = (back ≡ conn) × EncodesSheet r r' None None w w' None None told
+DoesOver g conn back IsNamed known r r' w w' k k' commands.Decode told = (back ≡ conn) × DecodesReplies r r' None None w w' None None told
 
 -- ---- how it ends and what it prints, whatever bank is there; the text of `post`, `statement`, `export` and `plan` is
 -- the bank's

@@ -1,6 +1,7 @@
 //! A command over a connection, by its words.
 ghost use Rattle.std.specs.Prelude.{◌≡◌, false};
 ghost use Rattle.command_line.specs.Words.{AreInRange};
+ghost use Rattle.command_line.specs.Working.{known_source};
 ghost use Rattle.bank_commands.specs.Running.{DoesOver, LeavesClock, LeavesInput, Tells};
 
 use crate::ended::Ended;
@@ -9,7 +10,7 @@ use crate::{
     audit_over, digest_over, drive_over, export_over, init_over, load_over, migrate_over,
     plan_over, post_over, replay_over, serve_over, statement_over,
 };
-use command_line::{Command, translate_replies, translate_sheet};
+use command_line::{Command, Plans, translate_replies, translate_sheet};
 use posting_core::Clock;
 use sqlite::{Alter, Connection};
 use sqlite_trees::store::Store;
@@ -17,17 +18,19 @@ use std::io::{Read, Write};
 
 /// Does the command with the bank of a connection, whatever the command's file is, and hands the connection back. A
 /// command that needs no bank hands it back as it was given.
-pub fn command_over<S: Alter + Drop, R: Read, W: Write, K: Clock>(
+pub fn command_over<S: Alter + Drop, P: Plans, R: Read, W: Write, K: Clock>(
     rt: &HostRuntime,
     conn: Connection<S>,
     command: &Command<'_>,
+    plans: &P,
     input: &mut R,
     output: &mut W,
     clock: &mut K,
 ) -> Ended<S>
     requires mode { conn.in_transaction ≡ false }
     requires range { AreInRange command.now }
-    ensures does { DoesOver S.Store conn result.conn (R.remaining input.old) (R.remaining input.new)
+    ensures does { DoesOver S.Store conn result.conn (P.is_named plans.now)
+        (known_source P.Plan.remaining P.Plan.told) (R.remaining input.old) (R.remaining input.new)
         (W.contents output.old) (W.contents output.new) (K.readings clock.old) (K.readings clock.new)
         command.now result.told }
     ensures tells { Tells command.now (R.remaining input.old) (R.remaining input.new)
@@ -38,7 +41,7 @@ pub fn command_over<S: Alter + Drop, R: Read, W: Write, K: Clock>(
 {
     match *command {
         Command::Init { .. } => init_over(rt.alloc(), conn, output),
-        Command::Load { plan, .. } => load_over(rt, conn, plan, output),
+        Command::Load { plan, .. } => load_over(rt.alloc(), conn, plans, plan, output),
         Command::Post { .. } => post_over(rt.alloc(), conn, input, output, clock),
         Command::Drive { seed, count, .. } => {
             drive_over(rt.alloc(), conn, seed, count, output, clock)

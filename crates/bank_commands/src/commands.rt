@@ -2,20 +2,19 @@
 ghost use Rattle.std.specs.Prelude.{◌≡◌, ◌≤◌, Result, IsErrOf, false};
 ghost use Rattle.posting_core.specs.Told.{HasWriteFailed};
 ghost use Rattle.load_driver.specs.declared.drive.TheConstants.{MAX_DRIVEN};
-ghost use Rattle.command_line.specs.Working.{done_after, ended_by_load};
+ghost use Rattle.command_line.specs.Working.{done_after, ended_by_load, known_source};
 ghost use Rattle.bank_commands.specs.Commands.{DrivesBank, EndsPost, Inits, Loads, Posts, PrintsDrive};
 ghost use Rattle.bank_commands.specs.Commands.{PrintsLoad, ended_by};
 
 use crate::ended::{Ended, find, refuse};
 use bank_store::create;
 use branch_loader::Loaded;
-use command_line::{CommandFault, Status, drive_into, load_into, print_created};
+use command_line::{CommandFault, Plans, Status, drive_into, load_into, print_created};
 use load_driver::MAX_DRIVEN;
 use posting_core::{Clock, Count, Sink, Source, StreamFault, post_stream};
 use sqlite::{Alter, Connection};
 use sqlite_trees::store::Store;
 use std::alloc::Global;
-use std::rt::Files;
 
 /// Makes a bank, and prints `created`.
 pub fn init_over<S: Alter + Drop, W: Sink>(
@@ -40,25 +39,27 @@ pub fn init_over<S: Alter + Drop, W: Sink>(
     }
 }
 
-/// Opens the branches of the plan in a file in the bank that is found, and prints how many got each answer.
-pub fn load_over<R: Files + AllocGlobal, S: Alter + Drop, W: Sink>(
-    rt: &R,
+/// Opens the branches of the plan of a name in the bank that is found, and prints how many got each answer.
+pub fn load_over<S: Alter + Drop, P: Plans, W: Sink>(
+    alloc: Global,
     conn: Connection<S>,
+    plans: &P,
     plan: &str,
     output: &mut W,
 ) -> Ended<S>
     requires { conn.in_transaction ≡ false }
-    ensures loads { Loads S.Store conn result.conn (W.contents output.old) (W.contents output.new) result.told }
+    ensures loads { Loads S.Store conn result.conn (P.is_named plans.now plan.now)
+        (known_source P.Plan.remaining P.Plan.told) (W.contents output.old) (W.contents output.new) result.told }
     ensures prints { PrintsLoad (W.contents output.old) (W.contents output.new) result.told }
     ensures unprinted { IsErrOf result.told CommandFault.Write
         → HasWriteFailed (W.told output.old) (W.told output.new) }
     ensures idle { result.conn.in_transaction ≡ false }
 {
-    let mut bank = match find(rt.alloc(), conn) {
+    let mut bank = match find(alloc, conn) {
         Ok(bank) => bank,
         Err(ended) => return ended,
     };
-    let told = loaded(load_into(rt, plan, &mut bank, output));
+    let told = loaded(load_into(alloc, plans, plan, &mut bank, output));
     Ended {
         told,
         conn: bank.release(),

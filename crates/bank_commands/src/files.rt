@@ -7,11 +7,33 @@ ghost use Rattle.bank_commands.specs.Running.{LeavesClock, LeavesInput, Tells};
 use crate::command::command_over;
 use crate::ended::Ended;
 use bank_files::open;
-use command_line::{Command, CommandFault, Status, translate_replies, translate_sheet};
+use command_line::{Command, CommandFault, Plans, Status, translate_replies, translate_sheet};
 use posting_core::Clock;
 use sqlite::Start;
-use std::fs;
+use std::fs::{self, File};
 use std::io::{Read, Write};
+
+/// The plans in files, by their paths.
+pub struct PlanFiles<'r> {
+    rt: &'r HostRuntime,
+}
+
+impl<'r> PlanFiles<'r> {
+    pub fn new(rt: &'r HostRuntime) -> PlanFiles<'r> {
+        PlanFiles { rt }
+    }
+}
+
+impl Plans for PlanFiles<'_> {
+    type Plan = File;
+
+    fn open_plan(&self, path: &str) -> Result<File, CommandFault> {
+        match fs::open(self.rt, path) {
+            Ok(file) => Ok(file),
+            Err(error) => Err(CommandFault::of_plan_file(&error)),
+        }
+    }
+}
 
 /// Does the command with the bank of its file, if it has one: all commands but `init` are to find a bank there.
 pub(crate) fn command_in<S: Start, R: Read, W: Write, K: Clock>(
@@ -50,7 +72,7 @@ pub(crate) fn command_in<S: Start, R: Read, W: Write, K: Clock>(
     let Ok(conn) = open(rt, file, start) else {
         return Err(CommandFault::Store);
     };
-    let Ended { told, conn } = command_over(rt, conn, command, input, output, clock);
+    let Ended { told, conn } = command_over(rt, conn, command, &PlanFiles::new(rt), input, output, clock);
     // What was committed is kept even if this fails, so that no fault is reported.
     if let Err((_, store)) = conn.close_files() {
         drop(store.close());

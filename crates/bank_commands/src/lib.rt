@@ -15,13 +15,16 @@
 //! ghost use Rattle.std.specs.Prelude.{◌≡◌, false};
 //!
 //! use bank_commands::{Ended, init_over, load_over, post_over};
+//! use command_line::Plans;
 //! use posting_core::Clock;
 //! use sqlite::{Alter, Connection};
+//! use std::alloc::Global;
 //! use std::io::{Read, Write};
 //!
-//! pub fn first_commands<S: Alter + Drop, R: Read, W: Write, K: Clock>(
-//!     rt: &HostRuntime,
+//! pub fn first_commands<S: Alter + Drop, P: Plans, R: Read, W: Write, K: Clock>(
+//!     alloc: Global,
 //!     conn: Connection<S>,
+//!     plans: &P,
 //!     plan: &str,
 //!     input: &mut R,
 //!     output: &mut W,
@@ -29,9 +32,9 @@
 //! ) -> Ended<S>
 //!     requires { conn.in_transaction ≡ false }
 //! {
-//!     let made = init_over(rt.alloc(), conn, output);
-//!     let loaded = load_over(rt, made.conn, plan, output);
-//!     post_over(rt.alloc(), loaded.conn, input, output, clock)
+//!     let made = init_over(alloc, conn, output);
+//!     let loaded = load_over(alloc, made.conn, plans, plan, output);
+//!     post_over(alloc, loaded.conn, input, output, clock)
 //! }
 //! ```
 //!
@@ -65,6 +68,7 @@ mod serving;
 pub use command::command_over;
 pub use commands::{drive_over, init_over, load_over, post_over};
 pub use ended::Ended;
+pub use files::PlanFiles;
 pub use migration::migrate_over;
 pub use replaying::{digest_over, export_over, plan_over, replay_over};
 pub use reports::{audit_over, statement_over};

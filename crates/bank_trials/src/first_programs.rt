@@ -7,7 +7,7 @@ mod words;
 mod work;
 
 use anyhow::{Result, bail};
-use bank_commands::Ended;
+use bank_commands::{Ended, PlanFiles};
 use command_line::Status;
 use commands::first_commands;
 use connections::first_connections;
@@ -65,7 +65,16 @@ fn play_commands(
 ) -> Result<Status> {
     let conn = Connection::open_in_memory(rt.alloc())?;
     let mut clock = StoredClock::new(Vec::new(rt.alloc()));
-    let Ended { told, conn } = first_commands(rt, conn, plan, &mut input, output, &mut clock);
+    let plans = PlanFiles::new(rt);
+    let Ended { told, conn } = first_commands(
+        rt.alloc(),
+        conn,
+        &plans,
+        plan,
+        &mut input,
+        output,
+        &mut clock,
+    );
     drop(conn);
     Ok(told?)
 }

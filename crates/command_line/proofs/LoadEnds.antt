@@ -8,21 +8,16 @@ use Rattle.posting_core.specs.{believed.Told.ReadTold, Told.HasWriteFailed, Told
 use Rattle.report_contents.specs.Written.{AppendsPart}
 use Rattle.branch_loader.specs.{believed.Plans.Rows, Plans.ReadsPlan, declared.loader.Loaded.Loaded}
 use Rattle.branch_loader.specs.declared.fault.PlanFault.{PlanFault}
-use Rattle.branch_loader.specs.declared.fault.PlanFault.TheVariants.{Header, Memory}
+use Rattle.branch_loader.specs.declared.fault.PlanFault.TheVariants.{Memory}
 use Rattle.command_line.specs.{Faults.fault_of_bank, Faults.fault_of_plan, Lines.loaded_line, Looking.IsOfPlanFile}
-use Rattle.command_line.specs.{Looking.IsPlanFault, declared.fault.CommandFault.CommandFault}
-use Rattle.command_line.specs.{declared.fault.CommandFault.TheVariants.Write, declared.status.Status.Status}
-use Rattle.command_line.specs.declared.fault.CommandFault.TheVariants as fault
-use Rattle.command_line.specs.Working.{IsRefusedLoad, Loads, LoadsAnswer, LoadsFrom, LoadsOver, ended_by_load}
-
--- each fault of a plan is told as one
-of_plan : (fault : PlanFault) → IsPlanFault (fault_of_plan fault)
-of_plan Header = tt
-of_plan other = tt
+use Rattle.command_line.specs.declared.fault.CommandFault.{CommandFault}
+use Rattle.command_line.specs.declared.fault.CommandFault.TheVariants.{Write}
+use Rattle.command_line.specs.Working.{IsRefusedLoad, Loads, LoadsFrom, LoadsOver, ended_by_load}
 
 -- no fault of a plan is one of the output, and none of a bank
 not_write : (fault : PlanFault) → fault_of_plan fault ≡ Write → ⊥
-not_write fault e = subst IsPlanFault e (of_plan fault)
+not_write Memory e = cc e
+not_write other e = cc e
 
 pub never_write : (fault : Fault) → fault_of_bank fault ≡ Write → ⊥
 never_write bank.Memory e = cc e
@@ -88,31 +83,16 @@ module _ {C : Type 0} (seen : C → Seen) (reason : Fault → C → C → Type 0
     unprinted = λ is. cc;
   }
 
--- ---- a plan in a file
+-- ---- a plan of a name
 
-of_file : (told : CommandFault) → IsOfPlanFile told → IsPlanFault told
-of_file fault.Memory is = tt
-of_file (fault.Plan plan) is = tt
-of_file other is = absurd is
-
--- the file wasn't opened
-pub unopened : {C : Type 0} (seen : C → Seen) (reason : Fault → C → C → Type 0) (w : Option (List ℕ)) (bank : C)
+-- it wasn't opened
+pub unopened : {C P : Type 0} (seen : C → Seen) (reason : Fault → C → C → Type 0) (IsNamed : P → Type 0)
+    (known : P → Option (List ℕ) × Option (List ReadTold)) (w : Option (List ℕ)) (bank : C)
     (result : Result Loaded CommandFault) (told : CommandFault) → result ≡ Err told → IsOfPlanFile told
-    → LoadsOver seen reason w w (λ end. ended_by_load result ≡ end) bank bank
-unopened seen reason w bank result told same is =
-    rw same (inl (((told, of_file told is, refl), Keeps-refl w), refl))
+    → LoadsOver seen reason IsNamed known w w (λ end. ended_by_load result ≡ end) bank bank
+unopened seen reason IsNamed known w bank result told same is =
+    rw same (inl ((told, is, refl), Keeps-refl w, refl))
 
--- no fault of its file is one of the output
+-- no fault of its opening is one of the output
 pub file_not_write : (told : CommandFault) → IsOfPlanFile told → told ≡ Write → ⊥
 file_not_write told is e = subst IsOfPlanFile e is
-
--- what was done with a source's plan was done with a plan
-pub over : {C : Type 0} (seen : C → Seen) (reason : Fault → C → C → Type 0) {r r' : Option (List ℕ)} {q q' : Option (List ReadTold)}
-    {w w' : Option (List ℕ)} (Ends : Result Status CommandFault → Type 0) {old new : C}
-    → LoadsFrom seen reason r r' q q' w w' Ends old new → LoadsOver seen reason w w' Ends old new
-over {C} seen reason {w = w} {w' = w'} Ends {old = old} {new = new} it = by it.answer it.does
-  where
-    by : (answer : Result Rows PlanFault) → LoadsAnswer seen reason w w' Ends answer old new
-        → LoadsOver seen reason w w' Ends old new
-    by (Ok rows) d = inr (d.0, d.1, (rows, d.2))
-    by (Err fault) d = inl (((fault_of_plan fault, of_plan fault, d.0.0), d.0.1), d.1)

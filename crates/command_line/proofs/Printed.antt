@@ -1,18 +1,17 @@
--- What was printed of a drive, of connections that were served, and of a replay.
-use Rattle.std.proofs.Common.{◌≡◌, ◌≢◌, ◌≤◌, ap, inl, inr, refl, ℕ, List, [], length, take, Option, Result, Ok, Err}
-use Rattle.std.proofs.Common.{OnOk, IfErr, arith, subst, sym}
+-- What was printed of a drive and of a replay.
+use Rattle.std.proofs.Common.{◌≡◌, ◌≤◌, ap, inl, inr, refl, ℕ, List, [], length, take, Option, Result, Ok, Err}
+use Rattle.std.proofs.Common.{OnOk, arith, subst, sym}
 use Rattle.std.proofs.{lemmas.List.take_all, KnownBytes.Appends-nil, KnownBytes.Keeps-refl}
 use Rattle.std.specs.{Prelude.OnErr, Result.IsErrOf, Io.KnownBytes.Appends}
-use Rattle.std.specs.{declared.net.socket_addr.SocketAddr.SocketAddr}
 use Rattle.posting_rules.specs.{believed.Counter.Seen, declared.fault.Fault.Fault}
 use Rattle.posting_core.proofs.Telling.{adds-none}
 use Rattle.posting_core.specs.{believed.Told.EndsWith, Told.HasWriteFailed, Told.IsFlush, Told.WriteTold}
 use Rattle.report_contents.specs.Written.{AppendsPart}
 use Rattle.load_driver.specs.{believed.Drives.Drives, declared.drive.Driven.Driven}
-use Rattle.command_line.specs.Lines.{PrintsLine, WritesOut, driven_line, listening_line}
+use Rattle.command_line.specs.Lines.{PrintsLine, WritesOut, driven_line}
 use Rattle.command_line.specs.declared.fault.CommandFault.{CommandFault, TheVariants.Memory, TheVariants.Write}
 use Rattle.command_line.specs.Replaying.{PrintsText}
-use Rattle.command_line.specs.Working.{DrivesOver, MayTellListening, TellsDriven, TellsListening, done_after}
+use Rattle.command_line.specs.Working.{DrivesOver, TellsDriven, done_after}
 
 -- a prefix of a text
 pub part_of : {old new : Option (List ℕ)} {text : List ℕ}
@@ -54,20 +53,6 @@ in_part text w w' t t' (inr part) = part.0
 -- none was due
 pub none_due : (w : Option (List ℕ)) (t : Option (List WriteTold)) → WritesOut [] w w t t
 none_due w t = inl (Appends-nil w, inl (adds-none t))
-
--- ---- the line, whatever address it tells
-
-pub told_at : (r : Result (Unit {0}) CommandFault) (bound : SocketAddr) (old new : Option (List ℕ))
-    → OnOk r (Appends old new (listening_line bound))
-    → OnOk r (TellsListening old new)
-told_at (Ok done) bound old new line = (bound, line)
-told_at (Err fault) bound old new line = tt
-
-pub may_tell : (r : Result (Unit {0}) CommandFault) (bound : SocketAddr) (old new : Option (List ℕ))
-    → IfErr r (λ fault. fault ≢ Write → Appends old new (listening_line bound))
-    → IfErr r (λ fault. fault ≢ Write → MayTellListening old new)
-may_tell (Ok done) bound old new told = tt
-may_tell (Err fault) bound old new told = λ other. inr (bound, told other)
 
 -- ---- how a drive ends
 

@@ -30,9 +30,3 @@ abbrev pub IsOfPlanFile : CommandFault → Type 0
 IsOfPlanFile Memory = ⊤
 IsOfPlanFile (Plan Csv) = ⊤
 IsOfPlanFile _ = ⊥
-
--- the fault is one of a plan, or want of memory
-abbrev pub IsPlanFault : CommandFault → Type 0
-IsPlanFault Memory = ⊤
-IsPlanFault (Plan fault) = ⊤
-IsPlanFault _ = ⊥

@@ -23,7 +23,7 @@ use Rattle.posting_core.specs.believed.Told.{ReadTold}
 use Rattle.report_contents.specs.Written.{AppendsPart}
 use Rattle.command_line.specs.Faults.{fault_of_bank, fault_of_drive, fault_of_plan, fault_of_serving}
 use Rattle.command_line.specs.Lines.{driven_line, listening_line, loaded_line}
-use Rattle.command_line.specs.Looking.{IsPlanFault}
+use Rattle.command_line.specs.Looking.{IsOfPlanFile}
 use Rattle.command_line.specs.Statuses.{status_of_loaded}
 use Rattle.command_line.specs.declared.fault.CommandFault.{CommandFault}
 use Rattle.command_line.specs.declared.fault.CommandFault.TheVariants.{Network, Write}
@@ -55,18 +55,6 @@ LoadsAs seen reason rows (Err fault) old new = IsRefusedLoad seen reason rows fa
 abbrev pub TellsDriven : ℕ → Option (List ℕ) → Option (List ℕ) → Type 0
 TellsDriven count old new =
     (driven : Driven) × (driven.posted + driven.refused ≡ count) × Appends old new (driven_line count driven)
-
--- the line that says where the counter listens was printed
-abbrev pub TellsListening : Option (List ℕ) → Option (List ℕ) → Type 0
-TellsListening old new = (address : SocketAddr) × Appends old new (listening_line address)
-
--- a prefix of that line was written
-abbrev pub TellsListeningInPart : Option (List ℕ) → Option (List ℕ) → Type 0
-TellsListeningInPart old new = (address : SocketAddr) × AppendsPart old new (listening_line address)
-
--- nothing was printed but that, if anything was
-abbrev pub MayTellListening : Option (List ℕ) → Option (List ℕ) → Type 0
-MayTellListening old new = Keeps old new ⊎ TellsListening old new
 
 -- ---- how a command ends that worked with a bank, and what it printed: w and w' are the known bytes of the
 -- output, and Ends says of a result whether the command ends with it
@@ -118,17 +106,6 @@ ended_by_load (Err fault) = Err fault
 
 -- ---- the work of such a command
 
--- nothing was done with the bank, and Idle holds; or what was done with it was printed
-abbrev pub Works : {C X : Type 0} → (Idle : Type 0) → (Tells : X → Type 0) → (Did : X → C → C → Type 0)
-    → (old new : C) → Type 0
-Works {C} {X} Idle Tells Did old new = (Idle × (new ≡ old)) ⊎ ((told : X) × Tells told × Did told old new)
-
--- a plan was loaded into a bank, or it couldn't be read
-abbrev pub LoadsOver : {C : Type 0} → (C → Seen) → (reason : Fault → C → C → Type 0)
-    → (w w' : Option (List ℕ)) → (Ends : Result Status CommandFault → Type 0) → (old new : C) → Type 0
-LoadsOver seen reason w w' Ends = Works (EndsInFault IsPlanFault Ends × Keeps w w') (TellsLoad Ends w w')
-    (λ told old new. (rows : Rows) × LoadsAs seen reason rows told old new)
-
 -- the plan that was answered was loaded into a bank; or it is none, and the bank was left as it was
 abbrev pub LoadsAnswer : {C : Type 0} → (C → Seen) → (reason : Fault → C → C → Type 0)
     → (w w' : Option (List ℕ)) → (Ends : Result Status CommandFault → Type 0) → Result Rows PlanFault
@@ -146,6 +123,21 @@ pub record LoadsFrom {C : Type 0} (seen : C → Seen) (reason : Fault → C → 
   pub reads : ReadsPlan r r' q q' answer
   pub does : LoadsAnswer seen reason w w' Ends answer old new
 
+-- what is known of a source: its bytes, and what its reads returned
+abbrev pub known_source : {P : Type 0} → (P → Option (List ℕ)) → (P → Option (List ReadTold)) → P
+    → Option (List ℕ) × Option (List ReadTold)
+known_source remaining told plan = (remaining plan, told plan)
+
+-- that of a plan that was opened by its name, as far as it was read; or none was, and the bank was left as it was.
+-- IsNamed says of a source that the name is its, and known what is known of one
+abbrev pub LoadsOver : {C P : Type 0} → (C → Seen) → (reason : Fault → C → C → Type 0) → (IsNamed : P → Type 0)
+    → (known : P → Option (List ℕ) × Option (List ReadTold)) → (w w' : Option (List ℕ))
+    → (Ends : Result Status CommandFault → Type 0) → (old new : C) → Type 0
+LoadsOver {P = P} seen reason IsNamed known w w' Ends old new =
+    (EndsInFault IsOfPlanFile Ends × Keeps w w' × (new ≡ old))
+    ⊎ ((plan : P) × (left : P) × IsNamed plan
+    × LoadsFrom seen reason (known plan).0 (known left).0 (known plan).1 (known left).1 w w' Ends old new)
+
 -- so many records of a seed were submitted to a bank, or as many as it took; it refused a call for the reason
 -- that its fault gives
 abbrev pub DrivesOver : {C : Type 0} → (C → Seen) → (reason : Fault → C → C → Type 0)
@@ -156,15 +148,21 @@ DrivesOver seen reason k k' w w' seed count Ends old new =
     × Drives seen old new k k' seed count told
     × IfErr told (λ fault. IfRefused fault (IsOfCall seen reason old new))
 
--- the address can't be had, or the line that says it can't be written
-abbrev pub IsOfListening : CommandFault → Type 0
-IsOfListening fault = (fault ≡ Network) ⊎ (fault ≡ Write)
-
--- so many connections were served by a bank, or as many as it and the network let; or the counter doesn't
--- listen
-abbrev pub ServesOver : {C : Type 0} → (C → Seen) → (reason : Fault → C → C → Type 0)
-    → (k k' : Option (List ℕ)) → (count : ℕ) → (Ends : Result Status CommandFault → Type 0) → (old new : C)
+-- The counter listened at an address, said so, and served so many connections by a bank, or as many as it and the
+-- network let; or the line couldn't be written, and nothing was served.
+abbrev pub ServesAt : {C : Type 0} → (C → Seen) → (reason : Fault → C → C → Type 0) → SocketAddr
+    → (k k' w w' : Option (List ℕ)) → (count : ℕ) → (Ends : Result Status CommandFault → Type 0) → (old new : C)
     → Type 0
-ServesOver seen reason k k' count Ends =
-    Works (EndsInFault IsOfListening Ends × (k' ≡ k)) (TellsServing Ends)
-    (λ told old new. ServesConnections seen reason k k' old new count told)
+ServesAt seen reason address k k' w w' count Ends old new =
+    (Ends (Err Write) × AppendsPart w w' (listening_line address) × (k' ≡ k) × (new ≡ old))
+    ⊎ (Appends w w' (listening_line address) × (told : Result (Unit {0}) ListenFault) × TellsServing Ends told
+    × ServesConnections seen reason k k' old new count told)
+
+-- So it did at the address that it was told; or it doesn't listen there, and nothing was done. No clause says of a
+-- listener where it is bound, so that any address may stand here: `bind` of `src/serving` is to be read.
+abbrev pub ServesOver : {C : Type 0} → (C → Seen) → (reason : Fault → C → C → Type 0)
+    → (k k' w w' : Option (List ℕ)) → (count : ℕ) → (Ends : Result Status CommandFault → Type 0) → (old new : C)
+    → Type 0
+ServesOver seen reason k k' w w' count Ends old new =
+    (Ends (Err Network) × Keeps w w' × (k' ≡ k) × (new ≡ old))
+    ⊎ ((address : SocketAddr) × ServesAt seen reason address k k' w w' count Ends old new)

@@ -46,7 +46,7 @@ pub use lines::{
     ListeningLine, explain, print_already, print_created, print_driven, print_listening,
     print_loaded, print_migrated, tell, tell_no_words,
 };
-pub use loading::{load_from, load_into};
+pub use loading::{Plans, load_from, load_into};
 pub use prompting::prompt;
 pub use reading::{Command, read_words};
 pub use replaying::{print_agreeing, print_differing, print_digest};

@@ -1,12 +1,8 @@
 //! What `serve` does with a bank.
-ghost use Rattle.std.specs.Prelude.{◌≡◌, ◌≢◌, IfErr, OnOk};
+ghost use Rattle.std.specs.Prelude.{◌≡◌, IfErr};
 ghost use Rattle.std.specs.Result.{IsErrOf};
-ghost use Rattle.std.specs.Io.KnownBytes.{Appends};
-ghost use Rattle.command_line.specs.Lines.{listening_line};
-ghost use Rattle.command_line.specs.Working.{MayTellListening, ServesOver, TellsListening};
-ghost use Rattle.command_line.specs.Working.{TellsListeningInPart, done_after};
+ghost use Rattle.command_line.specs.Working.{ServesAt, ServesOver, done_after};
 ghost use Rattle.posting_core.specs.Told.{HasWriteFailed};
-ghost use Rattle.report_contents.specs.Written.{AppendsPart};
 
 use crate::{CommandFault, ListeningLine, print_listening};
 use counter_http::serve_connections;
@@ -22,15 +18,11 @@ pub fn listen<C: Counter, W: Sink, K: Clock>(
     output: &mut W,
     clock: &mut K,
 ) -> Result<(), CommandFault>
-    ensures line { OnOk result (TellsListening (W.contents output.old) (W.contents output.new)) }
-    ensures silent { IfErr result (λ fault. fault ≢ CommandFault.Write
-        → MayTellListening (W.contents output.old) (W.contents output.new)) }
-    ensures part { IsErrOf result CommandFault.Write
-        → TellsListeningInPart (W.contents output.old) (W.contents output.new) }
+    ensures serves { ServesOver C.seen C.reason (K.readings clock.old) (K.readings clock.new)
+        (W.contents output.old) (W.contents output.new) connections (λ end. done_after result ≡ end)
+        bank.old bank.new }
     ensures unprinted { IsErrOf result CommandFault.Write
         → HasWriteFailed (W.told output.old) (W.told output.new) }
-    ensures serves { ServesOver C.seen C.reason (K.readings clock.old) (K.readings clock.new) connections
-        (λ end. done_after result ≡ end) bank.old bank.new }
     ensures spares { C.spares bank.old bank.new }
 {
     let (listener, line) = bind(rt, address)?;
@@ -64,16 +56,11 @@ fn serve_at<C: Counter, W: Sink, K: Clock>(
     output: &mut W,
     clock: &mut K,
 ) -> Result<(), CommandFault>
-    ensures line { OnOk result
-        (Appends (W.contents output.old) (W.contents output.new) (listening_line line.now)) }
-    ensures told { IfErr result (λ fault. fault ≢ CommandFault.Write
-        → Appends (W.contents output.old) (W.contents output.new) (listening_line line.now)) }
-    ensures part { IsErrOf result CommandFault.Write
-        → AppendsPart (W.contents output.old) (W.contents output.new) (listening_line line.now) }
+    ensures serves { ServesAt C.seen C.reason line.now (K.readings clock.old) (K.readings clock.new)
+        (W.contents output.old) (W.contents output.new) connections (λ end. done_after result ≡ end)
+        bank.old bank.new }
     ensures unprinted { IsErrOf result CommandFault.Write
         → HasWriteFailed (W.told output.old) (W.told output.new) }
-    ensures serves { ServesOver C.seen C.reason (K.readings clock.old) (K.readings clock.new) connections
-        (λ end. done_after result ≡ end) bank.old bank.new }
     ensures spares { C.spares bank.old bank.new }
 {
     print_listening(line, output)?;

@@ -1,6 +1,7 @@
 -- The bank that was found is the one that the plan was loaded into.
 use Rattle.std.proofs.{Common.inl, Common.inr, Common.refl, KnownBytes.Keeps-refl, lemmas.Result.err_from_is_err_and}
 use Rattle.bank_store.specs.believed.{Down.bank_reason, Seen.bank_seen}
+use Rattle.command_line.specs.Working.{known_source}
 use Rattle.bank_store.proofs.Spared.{call_spares}
 use Rattle.bank_commands.proofs.Spared.{found_spares, refused_spares}
 use Rattle.bank_commands.proofs.Told.{load_not_written, prints_load, refused_not_write}
@@ -33,7 +34,9 @@ returns g c =
         found_spares g.S.Store c.args.conn c.release.result c.in-Ok.bank c.load_into.new.bank c.in-Ok.ensures.found
             (call_spares g.S.Store c.in-Ok.bank c.load_into.new.bank it.spares) c.release.ensures.same,
       );
-      prints = prints_load _ _ c.loaded-told.result (bank_seen g.S.Store) (bank_reason g.S.Store) c.in-Ok.bank
+      prints = prints_load _ _ c.loaded-told.result (bank_seen g.S.Store) (bank_reason g.S.Store)
+          (g.P.Plans.is_named c.args.plans.now c.args.plan.now)
+          (known_source g.P.Plan.Source.remaining g.P.Plan.Source.told) c.in-Ok.bank
           c.load_into.new.bank (rw c.loaded-told.ensures it.loads);
       unprinted = rw c.loaded-told.ensures (load_not_written c.load_into.result it.unprinted);
       idle = c.release.ensures.idle;

@@ -1,5 +1,6 @@
 -- The bank that was found is the one that connections were served by.
 use Rattle.std.proofs.{Common.inl, Common.inr, Common.refl, KnownBytes.Keeps-refl, lemmas.Result.err_from_is_err_and}
+use Rattle.bank_store.specs.believed.{Down.bank_reason, Seen.bank_seen}
 use Rattle.bank_store.proofs.Spared.{call_spares}
 use Rattle.bank_commands.proofs.Spared.{found_spares, refused_spares}
 use Rattle.bank_commands.proofs.Told.{done_not_written, prints_serve, refused_not_write}
@@ -13,7 +14,7 @@ returns-in-Err g c =
         inl (it.missed, (refl, refl)),
         refused_spares g.S.Store c.args.conn c.in-Err.ended.conn c.in-Err.ended.told it.missed,
       );
-      prints = rw (err_from_is_err_and c.in-Err.ended.told it.missed).1 (inl (inl (Keeps-refl _)));
+      prints = rw (err_from_is_err_and c.in-Err.ended.told it.missed).1 (inl (Keeps-refl _));
       unprinted = refused_not_write _ _ c.in-Err.ended.told it.missed;
       idle = it.idle;
     }
@@ -32,7 +33,9 @@ returns g c =
         found_spares g.S.Store c.args.conn c.release.result c.in-Ok.bank c.listen.new.bank c.in-Ok.ensures.found
             (call_spares g.S.Store c.in-Ok.bank c.listen.new.bank it.spares) c.release.ensures.same,
       );
-      prints = rw c.done-told.ensures (prints_serve _ _ c.listen.result it.line it.silent it.part);
+      prints = prints_serve _ _ c.done-told.result (bank_seen g.S.Store) (bank_reason g.S.Store) c.in-Ok.bank
+          c.listen.new.bank (g.K.Clock.readings c.args.clock.now) (g.K.Clock.readings c.listen.new.clock)
+          c.args.connections (rw c.done-told.ensures it.serves);
       unprinted = rw c.done-told.ensures (done_not_written c.listen.result it.unprinted);
       idle = c.release.ensures.idle;
     }

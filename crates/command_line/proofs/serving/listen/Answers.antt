@@ -1,11 +1,15 @@
-use Rattle.command_line.proofs.Printed.{may_tell, told_at}
+use Rattle.std.proofs.Common.{rules, ◌≡◌, ap, inl, inr, refl, Err}
+use Rattle.std.proofs.KnownBytes.{Keeps-refl}
+use Rattle.command_line.specs.{declared.fault.CommandFault.TheVariants.Network, Working.done_after}
 use Rattle.command_line.proofs.serving.listen.Goals as goal
 
-pub returns-clause-line : goal.returns-clause-line
-returns-clause-line g c = told_at c.serve_at.result _ _ _ c.serve_at.ensures.line
+pub returns-in_err-listener-clause-serves : goal.returns-in_err-listener-clause-serves
+returns-in_err-listener-clause-serves g c =
+    let same : c.from_residual.result ≡ Err Network = search rules in
+    inl (ap done_after same, Keeps-refl _, refl, refl)
 
-pub returns-clause-silent : goal.returns-clause-silent
-returns-clause-silent g c = may_tell c.serve_at.result _ _ _ c.serve_at.ensures.told
+pub returns-clause-serves : goal.returns-clause-serves
+returns-clause-serves g c = inr (_, c.serve_at.ensures.serves)
 
 -- what no call of the bank touches
 pub returns-in_err-listener-clause-spares : goal.returns-in_err-listener-clause-spares
