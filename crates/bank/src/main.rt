@@ -2,7 +2,7 @@
 //! posted to it from standard input.
 #![tactic(auto)]
 
-use bank_commands::{run, words_of};
+use bank_commands::{Machine, run, words_of};
 use command_line::{Status, tell_no_words};
 use posting_core::SystemClock;
 use sqlite::{Start, Unknown};
@@ -12,8 +12,7 @@ use std::process::ExitCode;
 // A run on these words between the standard streams, whatever the files hold.
 fn run_on<S: Start>(rt: &HostRuntime, start: S, words: &[String]) -> Status {
     run(
-        rt,
-        start,
+        Machine::new(rt, start),
         words,
         &mut rt.stdin(),
         rt.stdin().is_terminal(),

@@ -5,24 +5,36 @@ ghost use Rattle.command_line.specs.Working.{known_source};
 ghost use Rattle.bank_commands.specs.Running.{DoesOver, LeavesClock, LeavesInput, Tells};
 
 use crate::ended::Ended;
-use crate::progress::Progress;
 use crate::{
     audit_over, digest_over, drive_over, export_over, init_over, load_over, migrate_over,
     plan_over, post_over, replay_over, serve_over, statement_over,
 };
-use command_line::{Command, Plans, translate_replies, translate_sheet};
+use bank_replays::Watch;
+use command_line::{Command, Network, Plans, translate_replies, translate_sheet};
 use posting_core::Clock;
 use sqlite::{Alter, Connection};
 use sqlite_trees::store::Store;
+use std::alloc::Global;
 use std::io::{Read, Write};
 
 /// Does the command with the bank of a connection, whatever the command's file is, and hands the connection back. A
-/// command that needs no bank hands it back as it was given.
-pub fn command_over<S: Alter + Drop, P: Plans, R: Read, W: Write, K: Clock>(
-    rt: &HostRuntime,
+/// command that needs no bank hands it back as it was given. It reaches plans by their names, the network, and who
+/// watches a replay, and no file.
+pub fn command_over<
+    S: Alter + Drop,
+    P: Plans,
+    N: Network,
+    V: Watch + Drop,
+    R: Read,
+    W: Write,
+    K: Clock,
+>(
+    alloc: Global,
     conn: Connection<S>,
     command: &Command<'_>,
     plans: &P,
+    network: &N,
+    watch: V,
     input: &mut R,
     output: &mut W,
     clock: &mut K,
@@ -40,30 +52,30 @@ pub fn command_over<S: Alter + Drop, P: Plans, R: Read, W: Write, K: Clock>(
     ensures idle { result.conn.in_transaction ≡ false }
 {
     match *command {
-        Command::Init { .. } => init_over(rt.alloc(), conn, output),
-        Command::Load { plan, .. } => load_over(rt.alloc(), conn, plans, plan, output),
-        Command::Post { .. } => post_over(rt.alloc(), conn, input, output, clock),
+        Command::Init { .. } => init_over(alloc, conn, output),
+        Command::Load { plan, .. } => load_over(alloc, conn, plans, plan, output),
+        Command::Post { .. } => post_over(alloc, conn, input, output, clock),
         Command::Drive { seed, count, .. } => {
-            drive_over(rt.alloc(), conn, seed, count, output, clock)
+            drive_over(alloc, conn, seed, count, output, clock)
         }
-        Command::Audit { .. } => audit_over(rt.alloc(), conn, output),
-        Command::Statement { account, .. } => statement_over(rt.alloc(), conn, account, output),
-        Command::Replay { .. } => replay_over(rt.alloc(), conn, output, Progress::of(rt)),
-        Command::Digest { requests, .. } => digest_over(rt.alloc(), conn, requests, output),
-        Command::Export { after, .. } => export_over(rt.alloc(), conn, after, output),
-        Command::Plan { .. } => plan_over(rt.alloc(), conn, output),
+        Command::Audit { .. } => audit_over(alloc, conn, output),
+        Command::Statement { account, .. } => statement_over(alloc, conn, account, output),
+        Command::Replay { .. } => replay_over(alloc, conn, output, watch),
+        Command::Digest { requests, .. } => digest_over(alloc, conn, requests, output),
+        Command::Export { after, .. } => export_over(alloc, conn, after, output),
+        Command::Plan { .. } => plan_over(alloc, conn, output),
         Command::Serve {
             address,
             connections,
             ..
-        } => serve_over(rt, conn, address, connections, output, clock),
-        Command::Migrate { .. } => migrate_over(rt.alloc(), conn, output),
+        } => serve_over(alloc, conn, network, address, connections, output, clock),
+        Command::Migrate { .. } => migrate_over(alloc, conn, output),
         Command::Encode => Ended {
-            told: translate_sheet(rt.alloc(), input, output),
+            told: translate_sheet(alloc, input, output),
             conn,
         },
         Command::Decode => Ended {
-            told: translate_replies(rt.alloc(), input, output),
+            told: translate_replies(alloc, input, output),
             conn,
         },
     }

@@ -6,14 +6,36 @@ ghost use Rattle.bank_commands.specs.Running.{LeavesClock, LeavesInput, Tells};
 
 use crate::command::command_over;
 use crate::ended::Ended;
+use crate::progress::Progress;
 use bank_files::open;
 use command_line::{Command, CommandFault, Plans, Status, translate_replies, translate_sheet};
-use posting_core::Clock;
+use posting_core::{Clock, SystemClock};
 use sqlite::Start;
+use std::alloc::Global;
 use std::fs::{self, File};
-use std::io::{Read, Write};
+use std::io::{IsTerminal, Read, Write};
+
+/// The machine that a run is on, with its files, its network and its memory. Only this file reaches them.
+#[derive(Drop)]
+pub struct Machine<'r, S> {
+    rt: &'r HostRuntime,
+    start: S,
+}
+
+impl<'r, S: Start> Machine<'r, S> {
+    /// The machine of a program, of whose files `start` says what is known.
+    pub fn new(rt: &'r HostRuntime, start: S) -> Machine<'r, S> {
+        Machine { rt, start }
+    }
+
+    /// Its memory.
+    pub(crate) fn alloc(&self) -> Global {
+        self.rt.alloc()
+    }
+}
 
 /// The plans in files, by their paths.
+#[derive(Drop)]
 pub struct PlanFiles<'r> {
     rt: &'r HostRuntime,
 }
@@ -37,8 +59,7 @@ impl Plans for PlanFiles<'_> {
 
 /// Does the command with the bank of its file, if it has one: all commands but `init` are to find a bank there.
 pub(crate) fn command_in<S: Start, R: Read, W: Write, K: Clock>(
-    rt: &HostRuntime,
-    start: S,
+    machine: Machine<'_, S>,
     command: &Command<'_>,
     input: &mut R,
     output: &mut W,
@@ -50,6 +71,7 @@ pub(crate) fn command_in<S: Start, R: Read, W: Write, K: Clock>(
     ensures input { LeavesInput command.now (R.remaining input.old) (R.remaining input.new) }
     ensures clock { LeavesClock command.now (K.readings clock.old) (K.readings clock.new) }
 {
+    let Machine { rt, start } = machine;
     let (file, finds_bank) = match *command {
         Command::Encode => return translate_sheet(rt.alloc(), input, output),
         Command::Decode => return translate_replies(rt.alloc(), input, output),
@@ -72,7 +94,18 @@ pub(crate) fn command_in<S: Start, R: Read, W: Write, K: Clock>(
     let Ok(conn) = open(rt, file, start) else {
         return Err(CommandFault::Store);
     };
-    let Ended { told, conn } = command_over(rt, conn, command, &PlanFiles::new(rt), input, output, clock);
+    let watch = Progress::new(rt.stderr(), rt.stderr().is_terminal(), SystemClock::new(rt));
+    let Ended { told, conn } = command_over(
+        rt.alloc(),
+        conn,
+        command,
+        &PlanFiles::new(rt),
+        rt,
+        watch,
+        input,
+        output,
+        clock,
+    );
     // What was committed is kept even if this fails, so that no fault is reported.
     if let Err((_, store)) = conn.close_files() {
         drop(store.close());

@@ -43,11 +43,11 @@
 //!
 //! `bank_files` opens a connection to files, and `conn.close()` closes it. [`run`] is the whole program: it finds a
 //! command in the words of the command line, looks for the command's file, opens it, does the command and closes it.
-//! `src/files`, 80 lines that are to be read, has the looking, the opening and the closing; no clause reaches them.
+//! `src/files`, 137 lines that are to be read, has the looking, the opening and the closing; no clause reaches them. It
+//! alone reaches the [`Machine`]: all else is handed plans, a network and a watch, and can open no file.
 //!
-//! `rt` is what `main` is given. `Unknown` is all that a program knows of what its files hold, and supposes
-//! that a torn write leaves each byte old or new; `Wary` of `sqlite` in its place doesn't suppose it, and
-//! syncs twice a commit.
+//! `Unknown` is all that a program knows of what its files hold, and supposes that a torn write leaves each byte old or
+//! new; `Wary` of `sqlite` in its place doesn't suppose it, and syncs twice a commit.
 //!
 //! Read next: `specs/Over`, what becomes of the connection; `specs/Commands`, what each command does to the bank that
 //! it finds there; the crate `command_line`, what it does with any bank; [`command_over`] and [`run`], which call
@@ -68,7 +68,7 @@ mod serving;
 pub use command::command_over;
 pub use commands::{drive_over, init_over, load_over, post_over};
 pub use ended::Ended;
-pub use files::PlanFiles;
+pub use files::{Machine, PlanFiles};
 pub use migration::migrate_over;
 pub use replaying::{digest_over, export_over, plan_over, replay_over};
 pub use reports::{audit_over, statement_over};

@@ -1,46 +1,51 @@
 //! How far long work is, for who waits at a terminal.
 
 use bank_replays::Watch;
-use posting_core::{Clock, SystemClock};
-use std::io::{IsTerminal, Write};
+use posting_core::Clock;
+use std::io::Write;
 
 /// Says on standard error how far a replay is, where that is a terminal: a line that is written over, once a second at
 /// most, and wiped at the end. One that can't be written is given up.
 #[derive(Drop)]
-pub(crate) struct Progress<'r> {
-    rt: &'r HostRuntime,
+pub(crate) struct Progress<E, K> {
+    faults: E,
+    is_terminal: bool,
+    clock: K,
     // The second of the last line, or the one in which the work began.
     second: u64,
     shown: bool,
 }
 
-impl<'r> Progress<'r> {
-    pub(crate) fn of(rt: &'r HostRuntime) -> Progress<'r> {
+impl<E: Write, K: Clock> Progress<E, K> {
+    pub(crate) fn new(faults: E, is_terminal: bool, mut clock: K) -> Progress<E, K> {
+        let second = clock.now().get();
         Progress {
-            rt,
-            second: SystemClock::new(rt).now().get(),
+            faults,
+            is_terminal,
+            clock,
+            second,
             shown: false,
         }
     }
 }
 
-impl Watch for Progress<'_> {
+impl<E: Write, K: Clock> Watch for Progress<E, K> {
     fn reached(&mut self, ordinal: u64) {
         // A look at the clock costs as much as a row.
-        if ordinal % 1_024 != 0 || !self.rt.stderr().is_terminal() {
+        if ordinal % 1_024 != 0 || !self.is_terminal {
             return;
         }
-        let second = SystemClock::new(self.rt).now().get();
+        let second = self.clock.now().get();
         if second != self.second {
             self.second = second;
             self.shown = true;
-            let _ = write!(self.rt.stderr(), "\rreplayed {ordinal:>12} requests");
+            let _ = write!(self.faults, "\rreplayed {ordinal:>12} requests");
         }
     }
 
     fn ended(&mut self) {
         if self.shown {
-            let _ = write!(self.rt.stderr(), "\r{:>30}\r", "");
+            let _ = write!(self.faults, "\r{:>30}\r", "");
         }
     }
 }

@@ -5,7 +5,7 @@
 //! The program `bank` is one run, between the standard streams and by the system's clock:
 //!
 //! ```rust
-//! use bank_commands::{run, words_of};
+//! use bank_commands::{Machine, run, words_of};
 //! use command_line::{Status, tell_no_words};
 //! use posting_core::SystemClock;
 //! use sqlite::{Start, Unknown};
@@ -15,8 +15,7 @@
 //! // A run on these words between the standard streams, whatever the files hold.
 //! fn run_on<S: Start>(rt: &HostRuntime, start: S, words: &[String]) -> Status {
 //!     run(
-//!         rt,
-//!         start,
+//!         Machine::new(rt, start),
 //!         words,
 //!         &mut rt.stdin(),
 //!         rt.stdin().is_terminal(),
@@ -44,7 +43,7 @@ ghost use Rattle.command_line.specs.CommandLine.{bank_app};
 ghost use Rattle.command_line.specs.Words.{AsksForHelp, IsSpelled};
 ghost use Rattle.bank_commands.specs.Running.{AreRefused, Runs};
 
-use crate::files::command_in;
+use crate::files::{Machine, command_in};
 use command_line::{Status, explain, prompt, read_words, tell};
 use posting_core::Clock;
 use sqlite::Start;
@@ -61,8 +60,7 @@ pub fn words_of<R: Env + AllocGlobal>(rt: &R) -> io::Result<Vec<String>> {
 /// Does what the words say, and gives the status that the program ends with. A fault is reported on `faults`, and so
 /// is what a command waits for that reads the input, where that is typed at a terminal.
 pub fn run<S: Start, T: AsStr, R: Read, W: Write, E: Write, K: Clock>(
-    rt: &HostRuntime,
-    start: S,
+    machine: Machine<'_, S>,
     words: &[T],
     input: &mut R,
     typed: bool,
@@ -86,12 +84,12 @@ pub fn run<S: Start, T: AsStr, R: Read, W: Write, E: Write, K: Clock>(
         (W.contents output.old) (W.contents output.new) (E.contents faults.old) (E.contents faults.new)
         (K.readings clock.old) (K.readings clock.new) result }
 {
-    let command = match read_words(rt.alloc(), words) {
+    let command = match read_words(machine.alloc(), words) {
         Ok(command) => command,
         Err(error) => return explain(&error, output, faults),
     };
     prompt(&command, typed, faults);
-    match command_in(rt, start, &command, input, output, clock) {
+    match command_in(machine, &command, input, output, clock) {
         Ok(status) => status,
         Err(fault) => tell(fault, faults),
     }

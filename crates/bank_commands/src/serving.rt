@@ -5,16 +5,18 @@ ghost use Rattle.bank_commands.specs.Commands.{PrintsServe, Serves};
 
 use crate::commands::done;
 use crate::ended::{Ended, find};
-use command_line::{CommandFault, listen};
+use command_line::{CommandFault, Network, listen};
 use posting_core::{Clock, Sink};
 use sqlite::{Alter, Connection};
 use sqlite_trees::store::Store;
+use std::alloc::Global;
 
 /// Binds the address, prints where it listens, and serves so many connections by the bank that is found, one after
 /// another.
-pub fn serve_over<S: Alter + Drop, W: Sink, K: Clock>(
-    rt: &HostRuntime,
+pub fn serve_over<S: Alter + Drop, N: Network, W: Sink, K: Clock>(
+    alloc: Global,
     conn: Connection<S>,
+    network: &N,
     address: &str,
     connections: u64,
     output: &mut W,
@@ -28,11 +30,11 @@ pub fn serve_over<S: Alter + Drop, W: Sink, K: Clock>(
         → HasWriteFailed (W.told output.old) (W.told output.new) }
     ensures idle { result.conn.in_transaction ≡ false }
 {
-    let mut bank = match find(rt.alloc(), conn) {
+    let mut bank = match find(alloc, conn) {
         Ok(bank) => bank,
         Err(ended) => return ended,
     };
-    let told = done(listen(rt, address, connections, &mut bank, output, clock));
+    let told = done(listen(network, address, connections, &mut bank, output, clock));
     Ended {
         told,
         conn: bank.release(),

@@ -5,7 +5,7 @@ use crate::script_files::{compare, look, put, query, run_sql, write_lines};
 use crate::showing::tell;
 use crate::simulated::simulate;
 use anyhow::{Result, bail};
-use bank_commands::run;
+use bank_commands::{Machine, run};
 use command_line::Status;
 use posting_core::StoredClock;
 use sqlite::{Start, Unknown};
@@ -152,8 +152,7 @@ fn run_between<S: Start, R: Read, W: Write>(
     let mut faults = Vec::new(rt.alloc());
     let mut clock = StoredClock::new(Vec::new(rt.alloc()));
     let status = run(
-        rt,
-        start,
+        Machine::new(rt, start),
         words,
         input,
         typed,

@@ -50,6 +50,6 @@ pub use loading::{Plans, load_from, load_into};
 pub use prompting::prompt;
 pub use reading::{Command, read_words};
 pub use replaying::{print_agreeing, print_differing, print_digest};
-pub use serving::listen;
+pub use serving::{Network, listen};
 pub use status::Status;
 pub use translating::{translate_replies, translate_sheet};

@@ -7,11 +7,29 @@ ghost use Rattle.posting_core.specs.Told.{HasWriteFailed};
 use crate::{CommandFault, ListeningLine, print_listening};
 use counter_http::serve_connections;
 use posting_core::{Clock, Counter, Sink};
+use std::io;
 use std::net::TcpListener;
+use std::time;
+
+/// What gives connections, and the time and the memory that they take. It opens no file.
+pub trait Network: time::Clock + AllocGlobal {
+    /// A listener at the address.
+    ///
+    /// # Errors
+    ///
+    /// Those of the system.
+    fn bind(&self, address: &str) -> io::Result<TcpListener>;
+}
+
+impl Network for HostRuntime {
+    fn bind(&self, address: &str) -> io::Result<TcpListener> {
+        TcpListener::bind(self, address)
+    }
+}
 
 /// Binds the address, prints where it listens, and serves so many connections by a bank.
-pub fn listen<C: Counter, W: Sink, K: Clock>(
-    rt: &HostRuntime,
+pub fn listen<N: Network, C: Counter, W: Sink, K: Clock>(
+    network: &N,
     address: &str,
     connections: u64,
     bank: &mut C,
@@ -25,16 +43,19 @@ pub fn listen<C: Counter, W: Sink, K: Clock>(
         → HasWriteFailed (W.told output.old) (W.told output.new) }
     ensures spares { C.spares bank.old bank.new }
 {
-    let (listener, line) = bind(rt, address)?;
-    serve_at(rt, &listener, &line, connections, bank, output, clock)
+    let (listener, line) = bind(network, address)?;
+    serve_at(network, &listener, &line, connections, bank, output, clock)
 }
 
 // A listener at the address, and the line that says where it is bound: where the address leaves the port open,
 // with the one it got.
-fn bind(rt: &HostRuntime, address: &str) -> Result<(TcpListener, ListeningLine), CommandFault>
+fn bind<N: Network>(
+    network: &N,
+    address: &str,
+) -> Result<(TcpListener, ListeningLine), CommandFault>
     ensures { IfErr result (λ fault. fault ≡ CommandFault.Network) }
 {
-    let Ok(listener) = TcpListener::bind(rt, address) else {
+    let Ok(listener) = network.bind(address) else {
         return Err(CommandFault::Network);
     };
     let Ok(bound) = listener.local_addr() else {
@@ -47,8 +68,8 @@ fn bind(rt: &HostRuntime, address: &str) -> Result<(TcpListener, ListeningLine),
 }
 
 // Prints where a bound listener listens, and serves so many of its connections by a bank.
-fn serve_at<C: Counter, W: Sink, K: Clock>(
-    rt: &HostRuntime,
+fn serve_at<N: Network, C: Counter, W: Sink, K: Clock>(
+    network: &N,
     listener: &TcpListener,
     line: &ListeningLine,
     connections: u64,
@@ -64,6 +85,6 @@ fn serve_at<C: Counter, W: Sink, K: Clock>(
     ensures spares { C.spares bank.old bank.new }
 {
     print_listening(line, output)?;
-    serve_connections(rt, listener, connections, clock, bank)?;
+    serve_connections(network, listener, connections, clock, bank)?;
     Ok(())
 }
