@@ -1,12 +1,13 @@
 -- How a run ends where its words are no command.
-use Rattle.std.proofs.Common.{◌≡◌, ◌≢◌, ◌⊎◌, ◌∙◌, subst, sym, refl, inl, inr, ℕ, List, Option}
+use Rattle.std.proofs.Common.{◌≡◌, ◌≢◌, ◌⊎◌, ◌∙◌, subst, sym, refl, inl, inr, true, ℕ, List, Option}
 use Rattle.std.specs.Io.KnownBytes.{Keeps}
-use Rattle.clap.specs.{Words.IsAmong, Words.Text, Words.fault_of, declared.error.kind.ErrorKind.ErrorKind}
+use Rattle.clap.specs.{Words.IsAmong, Words.Kinds, Words.Text, Words.fault_of, Words.takes}
+use Rattle.clap.specs.declared.error.kind.ErrorKind.{ErrorKind}
 use Rattle.clap.specs.declared.error.kind.ErrorKind.TheVariants.{DisplayHelp, DisplayVersion, OutOfMemory}
 use Rattle.command_line.specs.{declared.status.Status.Status, CommandLine.bank_app}
 use Rattle.command_line.specs.declared.status.Status.TheVariants.{Done, Input, System, Usage}
 use Rattle.command_line.specs.Lines.{IsHelpOrVersion, IsShown}
-use Rattle.bank_commands.specs.Running.{AreRefused}
+use Rattle.bank_commands.specs.Running.{AreRefused, AreTaken}
 
 -- the error of words that are refused is no call for help
 pub not_asked : (words : List Text) (k : ErrorKind) → AreRefused words
@@ -55,3 +56,11 @@ pub memory_is_no_request : (kind : ErrorKind) → kind ≡ OutOfMemory → IsHel
 memory_is_no_request kind memory (inl asked) = let bad : OutOfMemory ≡ DisplayHelp = sym memory ∙ asked in cc
 memory_is_no_request kind memory (inr asked) =
     let bad : OutOfMemory ≡ DisplayVersion = sym memory ∙ asked in cc
+
+-- and where clap takes the words, only memory was
+pub taken_memory : (words : List Text) (kind : ErrorKind) → (takes bank_app words ≡ true → kind ≡ OutOfMemory)
+    → (kind ≡ OutOfMemory) ⊎ IsAmong kind (fault_of bank_app words) → AreTaken words → kind ≡ OutOfMemory
+taken_memory words kind taken (inl memory) are = memory
+taken_memory words kind taken (inr among) (inl takes) = taken takes
+taken_memory words kind taken (inr among) (inr none) =
+    absurd (subst (λ (kinds : Kinds). IsAmong kind kinds) none among)

@@ -1,9 +1,9 @@
 -- What a command does over a connection, by its words; how a run of the program ends, and what it prints. r and r'
 -- are the known bytes of the input before and after, w and w' those of the output, k and k' the clock's known
 -- readings.
-use Rattle.std.specs.Prelude.{⊤, ◌≡◌, ◌≢◌, ◌⊎◌, ℕ, Bool, List, [], Option, None, Result, Ok, Err, IfOk}
+use Rattle.std.specs.Prelude.{⊤, ◌≡◌, ◌≢◌, ◌⊎◌, ℕ, Bool, true, List, [], Option, None, Result, Ok, Err, IfOk}
 use Rattle.std.specs.Io.KnownBytes.{Keeps}
-use Rattle.clap.specs.Words.{IsAmong, Text, fault_of}
+use Rattle.clap.specs.Words.{IsAmong, Text, fault_of, takes}
 use Rattle.clap.specs.declared.error.kind.ErrorKind.{ErrorKind}
 use Rattle.sqlite.specs.Held.{Held}
 use Rattle.sqlite_trees.specs.declared.store.Store.{Ghosts}
@@ -20,7 +20,7 @@ use Rattle.command_line.specs.Faults.{status_of}
 use Rattle.command_line.specs.Lines.{IsHelpOrVersion, created_line, fault_line}
 use Rattle.command_line.specs.Prompting.{prompt_line}
 use Rattle.command_line.specs.Translating.{DecodesReplies, EncodesSheet}
-use Rattle.command_line.specs.Words.{IsSpelledBy}
+use Rattle.command_line.specs.Words.{IsReadFrom}
 use Rattle.command_line.specs.declared.fault.CommandFault.{CommandFault}
 use Rattle.command_line.specs.declared.reading.Command.{Command}
 use Rattle.command_line.specs.declared.reading.Command.TheVariants as commands
@@ -31,7 +31,11 @@ use Rattle.bank_commands.specs.Commands.{PrintsDrive, PrintsLoad, PrintsServe, S
 use Rattle.bank_commands.specs.Replaying.{DigestsOver, ExportsOver, PlansOver, PrintsDigest, PrintsReplay}
 use Rattle.bank_commands.specs.Replaying.{ReplaysOver}
 
--- clap takes the words for no command, and not for a call for help either
+-- clap takes the words for a command, or finds no fault in them
+abbrev pub AreTaken : List Text → Type 0
+AreTaken words = (takes bank_app words ≡ true) ⊎ (fault_of bank_app words ≡ [])
+
+-- it takes them for none, and not for a call for help either
 pub record AreRefused (words : List Text) : Type 0 where
   pub some : fault_of bank_app words ≢ []
   pub no_request : (kind : ErrorKind) → IsAmong kind (fault_of bank_app words) → IsHelpOrVersion kind → ⊥
@@ -54,15 +58,19 @@ DoesOver g conn back IsNamed known r r' w w' k k' (commands.Statement file accou
     StatesOver g conn back account w w' None None told
 DoesOver g conn back IsNamed known r r' w w' k k' (commands.Serve file address connections) told =
     Serves g conn back w w' k k' connections told
-DoesOver g conn back IsNamed known r r' w w' k k' (commands.Replay file) told = ReplaysOver g conn back w w' None None told
+DoesOver g conn back IsNamed known r r' w w' k k' (commands.Replay file) told =
+    ReplaysOver g conn back w w' None None told
 DoesOver g conn back IsNamed known r r' w w' k k' (commands.Digest file requests) told =
     DigestsOver g conn back requests w w' None None told
 DoesOver g conn back IsNamed known r r' w w' k k' (commands.Export file after) told =
     ExportsOver g conn back after w w' None None told
-DoesOver g conn back IsNamed known r r' w w' k k' (commands.Plan file) told = PlansOver g conn back w w' None None told
+DoesOver g conn back IsNamed known r r' w w' k k' (commands.Plan file) told =
+    PlansOver g conn back w w' None None told
 DoesOver g conn back IsNamed known r r' w w' k k' (commands.Migrate file) told = Migrates g conn back w w' told
-DoesOver g conn back IsNamed known r r' w w' k k' commands.Encode told = (back ≡ conn) × EncodesSheet r r' None None w w' None None told
-DoesOver g conn back IsNamed known r r' w w' k k' commands.Decode told = (back ≡ conn) × DecodesReplies r r' None None w w' None None told
+DoesOver g conn back IsNamed known r r' w w' k k' commands.Encode told =
+    (back ≡ conn) × EncodesSheet r r' None None w w' None None told
+DoesOver g conn back IsNamed known r r' w w' k k' commands.Decode told =
+    (back ≡ conn) × DecodesReplies r r' None None w w' None None told
 
 -- ---- how it ends and what it prints, whatever bank is there; the text of `post`, `statement`, `export` and `plan` is
 -- the bank's
@@ -121,12 +129,13 @@ Says e e' waiting (Ok status) = AppendsPart e e' waiting
 Says e e' waiting (Err fault) =
     (m : Option (List ℕ)) × AppendsPart e m waiting × AppendsPart m e' (fault_line fault)
 
--- The words spell a command, which ended so and printed this, and so does the program. e and e' are the known bytes of
--- standard error before and after, and typed says whether the input is a terminal.
-pub record RunsSpelled (words : List Text) (typed : Bool) (r r' w w' e e' k k' : Option (List ℕ))
+-- A command was read from the words, in whatever order they came; it ended so and printed this, and so does the
+-- program. e and e' are the known bytes of standard error before and after, and typed says whether the input is a
+-- terminal.
+pub record RunsRead (words : List Text) (typed : Bool) (r r' w w' e e' k k' : Option (List ℕ))
     (status : Status) : Type 0 where
   pub command : Command
-  pub spelled : IsSpelledBy words command
+  pub read : IsReadFrom words command
   pub told : Result Status CommandFault
   pub tells : Tells command r r' w w' told
   pub input : LeavesInput command r r'
@@ -138,4 +147,4 @@ pub record RunsSpelled (words : List Text) (typed : Bool) (r r' w w' e e' k k' :
 -- or there was no memory to read them, and nothing was read, printed or asked
 abbrev pub Runs : List Text → (typed : Bool) → (r r' w w' e e' k k' : Option (List ℕ)) → Status → Type 0
 Runs words typed r r' w w' e e' k k' status =
-    RunsSpelled words typed r r' w w' e e' k k' status ⊎ ((status ≡ System) × (r' ≡ r) × Keeps w w' × (k' ≡ k))
+    RunsRead words typed r r' w w' e e' k k' status ⊎ ((status ≡ System) × (r' ≡ r) × Keeps w w' × (k' ≡ k))

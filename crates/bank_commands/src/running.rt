@@ -40,8 +40,8 @@ ghost use Rattle.std.specs.Prelude.{◌≡◌, ◌≢◌, ◌⊎◌, [], map};
 ghost use Rattle.std.specs.Io.KnownBytes.{Keeps};
 ghost use Rattle.clap.specs.Words.{fault_of};
 ghost use Rattle.command_line.specs.CommandLine.{bank_app};
-ghost use Rattle.command_line.specs.Words.{AsksForHelp, IsSpelled};
-ghost use Rattle.bank_commands.specs.Running.{AreRefused, Runs};
+ghost use Rattle.command_line.specs.Words.{AsksForHelp};
+ghost use Rattle.bank_commands.specs.Running.{AreRefused, AreTaken, Runs};
 
 use crate::files::{Machine, command_in};
 use command_line::{Status, explain, prompt, read_words, tell};
@@ -76,10 +76,10 @@ pub fn run<S: Start, T: AsStr, R: Read, W: Write, E: Write, K: Clock>(
         → R.remaining input.new ≡ R.remaining input.old }
     ensures help { AsksForHelp (map T.text words.entry.now)
         → (result ≡ Status.Done) ⊎ (result ≡ Status.System) }
-    ensures taken { IsSpelled (map T.text words.entry.now) → result ≢ Status.Usage }
-    // Words that spell a command, of those that the program has, have it done; what it does is said of its connection,
-    // by `command_over`.
-    ensures runs { IsSpelled (map T.text words.entry.now)
+    ensures taken { AreTaken (map T.text words.entry.now) → result ≢ Status.Usage }
+    // Words that clap takes have the command done that is read from them; what it does is said of its connection, by
+    // `command_over`.
+    ensures runs { AreTaken (map T.text words.entry.now)
         → Runs (map T.text words.entry.now) typed (R.remaining input.old) (R.remaining input.new)
         (W.contents output.old) (W.contents output.new) (E.contents faults.old) (E.contents faults.new)
         (K.readings clock.old) (K.readings clock.new) result }

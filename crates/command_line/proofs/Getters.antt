@@ -68,7 +68,7 @@ met_complete m name rows named met complete = rw (met_rows m name rows named met
 -- ---- the command that a name tells
 
 -- texts that differ are two
-pub apart : {s t : Text} → s ≡ t → bytes_eq s t ≡ false → ⊥
+apart : {s t : Text} → s ≡ t → bytes_eq s t ≡ false → ⊥
 apart {s = s} {t = t} same other =
     let equal : bytes_eq s t ≡ true = (bytes_eq-Decides s t).1 same in
     cc

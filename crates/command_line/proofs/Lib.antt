@@ -7,10 +7,7 @@ pub mod Complete
 pub mod OwnWords
 pub mod Help
 pub mod Getters
-pub mod Valued
-pub mod SpelledFiles
-pub mod SpelledNumbers
-pub mod Spelled
 pub mod LoadEnds
 pub mod Printed
 pub mod Filled
+mod Examples

@@ -7,14 +7,15 @@ use Rattle.clap.specs.Words.{FailsBy, Kinds, Text, fault_of, kind_of, takes}
 use Rattle.clap.specs.declared.error.Error.{Error}
 use Rattle.clap.specs.declared.error.kind.ErrorKind.TheVariants.{DisplayHelp, InvalidSubcommand, OutOfMemory}
 use Rattle.clap.proofs.OnLiterals.{clap_on_literals}
-use Rattle.command_line.specs.{CommandLine.bank_app, Words.AsksForHelpOn, Words.words_read}
+use Rattle.command_line.specs.{CommandLine.bank_app, Words.words_read}
 
 -- ---- which words those are
 
+-- the words are `bank help --help`
 abbrev AsksOnHelp : List Text → Type 0
-AsksOnHelp words = AsksForHelpOn (codes "help") words
+AsksOnHelp words = (program : Text) × (words ≡ program ∷ codes "help" ∷ codes "--help" ∷ [])
 
-pub read_as_they_are : (words : List Text) → (words_read words ≡ words) ⊎ AsksOnHelp words
+read_as_they_are : (words : List Text) → (words_read words ≡ words) ⊎ AsksOnHelp words
 read_as_they_are (program ∷ name ∷ flag ∷ []) =
     go (bytes_eq name (codes "help")) refl (bytes_eq flag (codes "--help")) refl
   where
@@ -51,7 +52,7 @@ unfolding clap_on_literals
 given_not_taken program = refl
 
 -- they ask for help as they are read
-pub help_at_read : (words : List Text) → AsksOnHelp words → fault_of bank_app (words_read words) ≡ help_alone
+help_at_read : (words : List Text) → AsksOnHelp words → fault_of bank_app (words_read words) ≡ help_alone
 help_at_read words asks = ap (λ (w : List Text). fault_of bank_app (words_read w)) asks.1 ∙ at_read
 
 -- words that are read with no fault are read as they are

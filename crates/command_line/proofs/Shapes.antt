@@ -1,8 +1,7 @@
 -- The program's commands as clap builds them.
-use Rattle.std.proofs.Common.{◌≡◌, ◌&&◌, ◌∷◌, List, [], Some, false, true, refl, arith, inl, inr}
-use Rattle.clap.specs.{Walk.Text, Walk.nothing_held, Takes.level_passes, Takes.takes}
-use Rattle.clap.specs.Simple.{Shape, built_leaf, inherited, marked_built, new_app, on_top, rows_at, subcommand_of}
-use Rattle.clap.specs.Simple.{with_leaf_noted, with_rule}
+use Rattle.std.proofs.Common.{◌≡◌, false, refl, arith, inl, inr}
+use Rattle.clap.specs.{Walk.Text, Simple.Shape, Simple.built_leaf, Simple.inherited, Simple.marked_built}
+use Rattle.clap.specs.Simple.{new_app, on_top, with_leaf_noted, with_rule}
 use Rattle.command_line.specs.CommandLine.{bank_app, digest_app, drive_app, export_app, file_rule, load_app}
 use Rattle.command_line.specs.CommandLine.{serve_app, statement_app}
 use Rattle.command_line.proofs.{Levels.IsPlainLeaf, Rows.ArePlainRules}
@@ -38,17 +37,6 @@ file_and_requests = leaf_of digest_app.top
 -- `export`, as built
 abbrev pub file_and_after : Shape
 file_and_after = leaf_of export_app.top
-
--- `encode` or `decode`, as built
-abbrev pub alone : Text → Shape
-alone name = leaf_of (new_app name).top
-
--- Clap reads words that begin with the command's name as that command, with the rows of its arguments; and it
--- takes them where they pass there.
-pub record IsReadAs (s : Shape) (name : Text) (words : List Text) : Type 0 where
-  pub rows : (program : Text) → subcommand_of bank_app (program ∷ name ∷ words) ≡ Some (rows_at s words)
-  pub taken : (program : Text)
-      → takes bank_app (program ∷ name ∷ words) ≡ (level_passes s [] nothing_held words false && true)
 
 -- ---- their arguments are plain
 

@@ -21,9 +21,9 @@ abbrev pub ended_by_replies : Result ℕ RepliesFault → Result Status CommandF
 ended_by_replies (Ok count) = Ok Done
 ended_by_replies (Err fault) = Err (fault_of_replies fault)
 
--- Records of a sheet were written, and the command ended as the sheet did. The known bytes of the input before and after
--- are r and r', those of the output w and w'; what the calls of its ends are known to have returned is q and q' of the
--- input, and t and t' of the output.
+-- Records of a sheet were written, and the command ended as the sheet did. The known bytes of the input before and
+-- after are r and r', those of the output w and w'; what the calls of its ends are known to have returned is q and q'
+-- of the input, and t and t' of the output.
 pub record EncodesSheet (r r' : Option (List ℕ)) (q q' : Option (List ReadTold)) (w w' : Option (List ℕ))
     (t t' : Option (List WriteTold)) (told : Result Status CommandFault) : Type 0 where
   pub sheet : Result ℕ SheetFault

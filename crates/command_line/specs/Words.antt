@@ -1,9 +1,9 @@
--- Which command the words of the command line tell, and which words tell one.
-use Rattle.std.specs.Prelude.{◌≡◌, ◌⊎◌, ◌==◌, ◌≤◌, ◌&&◌, ⊤, ℕ, Bool, List, [], ◌∷◌, Option, Some, None, true, false}
-use Rattle.std.specs.Prelude.{IfSome, IsSomeAnd, codes, drop, if◌then◌else◌, is_some}
+-- Which command the words of the command line tell, and which words ask for help.
+use Rattle.std.specs.Prelude.{◌≡◌, ◌⊎◌, ◌≤◌, ◌&&◌, ⊤, ℕ, List, [], ◌∷◌, Option, Some, None, true, IfSome, IsSomeAnd}
+use Rattle.std.specs.Prelude.{codes, if◌then◌else◌, is_some}
 use Rattle.std.specs.Str.{bytes_eq}
 use Rattle.std.specs.Str.Parse.{digits_value, without_leading_plus}
-use Rattle.clap.specs.Words.{IsUnsignedIn, Row, Text, first_of, kind_of, one_of, subcommand_of}
+use Rattle.clap.specs.Words.{IsUnsignedIn, Row, Text, fault_of, first_of, kind_of, one_of, subcommand_of}
 use Rattle.clap.specs.declared.error.Error.{Error}
 use Rattle.clap.specs.declared.error.kind.ErrorKind.TheVariants as kind
 use Rattle.load_driver.specs.declared.drive.TheConstants.{MAX_DRIVEN}
@@ -124,151 +124,11 @@ IsCompleteOnFile p = HasText (codes "file") p.1 × (IsOfOneFile p.0 ⊎ HasMoreV
 abbrev pub IsComplete : Text × List Row → Type 0
 IsComplete p = (p.0 ≡ codes "encode") ⊎ (p.0 ≡ codes "decode") ⊎ IsCompleteOnFile p
 
--- ---- words that spell a command
-
--- a flag begins with a dash
-abbrev pub begins_with_dash : Text → Bool
-begins_with_dash [] = false
-begins_with_dash (byte ∷ rest) = byte == 45
-
--- the words are `NAME FILE`, after the program's name, with a file that doesn't begin with a dash
-abbrev pub AskWithFile : Text → List Text → Type 0
-AskWithFile name words = (program : Text) × (file : Text) × (begins_with_dash file ≡ false)
-    × (words ≡ program ∷ name ∷ file ∷ [])
-
-abbrev pub AskToInit : List Text → Type 0
-AskToInit words = AskWithFile (codes "init") words
-
--- the words are `load FILE CSV`, with files that don't begin with a dash
-abbrev pub AskToLoad : List Text → Type 0
-AskToLoad words = (program : Text) × (file : Text) × (plan : Text) × (begins_with_dash file ≡ false)
-    × (begins_with_dash plan ≡ false) × (words ≡ program ∷ codes "load" ∷ file ∷ plan ∷ [])
-
-abbrev pub AskToPost : List Text → Type 0
-AskToPost words = AskWithFile (codes "post") words
-
--- the words are `drive FILE --seed S --count N`, with a file that doesn't begin with a dash, and two numbers
--- in
--- their ranges
-abbrev pub AskToDrive : List Text → Type 0
-AskToDrive words = (program : Text) × (file : Text) × (seed : Text) × (count : Text)
-    × (begins_with_dash file ≡ false) × IsUnsignedIn 0 MAX_SEED seed × IsUnsignedIn 1 MAX_DRIVEN count
-    × (words ≡ program ∷ codes "drive" ∷ file ∷ codes "--seed" ∷ seed ∷ codes "--count" ∷ count ∷ [])
-
-abbrev pub AskToAudit : List Text → Type 0
-AskToAudit words = AskWithFile (codes "audit") words
-
--- the words are `statement FILE ACCOUNT`, with a file that doesn't begin with a dash, and the number of an
--- account
-abbrev pub AskForStatement : List Text → Type 0
-AskForStatement words = (program : Text) × (file : Text) × (account : Text) × (begins_with_dash file ≡ false)
-    × IsUnsignedIn 1 MAX_ACCOUNT account
-    × (words ≡ program ∷ codes "statement" ∷ file ∷ account ∷ [])
-
--- the words are `serve FILE ADDR --connections N`, with a file and an address that don't begin with a dash,
--- and a
--- number in its range
-abbrev pub AskToServe : List Text → Type 0
-AskToServe words = (program : Text) × (file : Text) × (address : Text) × (connections : Text)
-    × (begins_with_dash file ≡ false) × (begins_with_dash address ≡ false)
-    × IsUnsignedIn 1 MAX_CONNECTIONS connections
-    × (words ≡ program ∷ codes "serve" ∷ file ∷ address ∷ codes "--connections" ∷ connections ∷ [])
-
-abbrev pub AskToMigrate : List Text → Type 0
-AskToMigrate words = AskWithFile (codes "migrate") words
-
-abbrev pub AskToReplay : List Text → Type 0
-AskToReplay words = AskWithFile (codes "replay") words
-
--- the words are `digest FILE N`, with a file that doesn't begin with a dash, and a count of requests
-abbrev pub AskForDigest : List Text → Type 0
-AskForDigest words = (program : Text) × (file : Text) × (requests : Text) × (begins_with_dash file ≡ false)
-    × IsUnsignedIn 0 MAX_REQUESTS requests
-    × (words ≡ program ∷ codes "digest" ∷ file ∷ requests ∷ [])
-
--- the words are `export FILE` or `export FILE --after N`, with a file that doesn't begin with a dash, and a count
--- of requests
-abbrev pub AskToExport : List Text → Type 0
-AskToExport words = AskWithFile (codes "export") words
-    ⊎ ((program : Text) × (file : Text) × (after : Text) × (begins_with_dash file ≡ false)
-    × IsUnsignedIn 0 MAX_REQUESTS after
-    × (words ≡ program ∷ codes "export" ∷ file ∷ codes "--after" ∷ after ∷ []))
-
-abbrev pub AskForPlan : List Text → Type 0
-AskForPlan words = AskWithFile (codes "plan") words
-
--- the words are one, after the program's name
-abbrev pub AskAlone : Text → List Text → Type 0
-AskAlone name words = (program : Text) × (words ≡ program ∷ name ∷ [])
-
-abbrev pub AskToEncode : List Text → Type 0
-AskToEncode words = AskAlone (codes "encode") words
-
-abbrev pub AskToDecode : List Text → Type 0
-AskToDecode words = AskAlone (codes "decode") words
-
--- the words spell a command on a file: its name, its files, of which none begins with a dash, and its numbers
-abbrev pub IsSpelledOnFile : List Text → Type 0
-IsSpelledOnFile words = AskToInit words ⊎ AskToLoad words ⊎ AskToPost words ⊎ AskToDrive words ⊎ AskToAudit words
-    ⊎ AskForStatement words ⊎ AskToServe words ⊎ AskToMigrate words ⊎ AskToReplay words ⊎ AskForDigest words
-    ⊎ AskToExport words ⊎ AskForPlan words
-
--- the words spell a command
-abbrev pub IsSpelled : List Text → Type 0
-IsSpelled words = AskToEncode words ⊎ AskToDecode words ⊎ IsSpelledOnFile words
-
--- the words after the program's name are the command's own
-abbrev pub IsSpelledBy : List Text → Command → Type 0
-IsSpelledBy words (Init file) = drop 1 words ≡ codes "init" ∷ file.now ∷ []
-IsSpelledBy words (Load file plan) = drop 1 words ≡ codes "load" ∷ file.now ∷ plan.now ∷ []
-IsSpelledBy words (Post file) = drop 1 words ≡ codes "post" ∷ file.now ∷ []
-IsSpelledBy words (Drive file seed count) = (s : Text) × (n : Text)
-    × (drop 1 words ≡ codes "drive" ∷ file.now ∷ codes "--seed" ∷ s ∷ codes "--count" ∷ n ∷ [])
-    × (seed ≡ number_of s) × (count ≡ number_of n)
-IsSpelledBy words (Audit file) = drop 1 words ≡ codes "audit" ∷ file.now ∷ []
-IsSpelledBy words (Statement file account) = (n : Text)
-    × (drop 1 words ≡ codes "statement" ∷ file.now ∷ n ∷ []) × (account ≡ number_of n)
-IsSpelledBy words (Serve file address connections) = (n : Text)
-    × (drop 1 words ≡ codes "serve" ∷ file.now ∷ address.now ∷ codes "--connections" ∷ n ∷ [])
-    × (connections ≡ number_of n)
-IsSpelledBy words (Replay file) = drop 1 words ≡ codes "replay" ∷ file.now ∷ []
-IsSpelledBy words (Digest file requests) = (n : Text)
-    × (drop 1 words ≡ codes "digest" ∷ file.now ∷ n ∷ []) × (requests ≡ number_of n)
-IsSpelledBy words (Export file after) = ((drop 1 words ≡ codes "export" ∷ file.now ∷ []) × (after ≡ 0))
-    ⊎ ((n : Text) × (drop 1 words ≡ codes "export" ∷ file.now ∷ codes "--after" ∷ n ∷ []) × (after ≡ number_of n))
-IsSpelledBy words (Plan file) = drop 1 words ≡ codes "plan" ∷ file.now ∷ []
-IsSpelledBy words (Migrate file) = drop 1 words ≡ codes "migrate" ∷ file.now ∷ []
-IsSpelledBy words Encode = drop 1 words ≡ codes "encode" ∷ []
-IsSpelledBy words Decode = drop 1 words ≡ codes "decode" ∷ []
-
--- memory ran out
-abbrev pub IsWantOfMemory : Error → Type 0
-IsWantOfMemory error = kind_of error ≡ kind.OutOfMemory
-
 -- ---- words that ask for help
 
--- the words are `bank COMMAND --help`
-abbrev pub AsksForHelpOn : Text → List Text → Type 0
-AsksForHelpOn name words = (program : Text) × (words ≡ program ∷ name ∷ codes "--help" ∷ [])
-
--- the words ask for help: `bank --help ..`, `bank COMMAND --help`, or `bank help --help`
+-- clap finds nothing in the words, as it is given them, but a request for help
 abbrev pub AsksForHelp : List Text → Type 0
-AsksForHelp words = ((program : Text) × (rest : List Text) × (words ≡ program ∷ codes "--help" ∷ rest))
-    ⊎ AsksForHelpOn (codes "init") words
-    ⊎ AsksForHelpOn (codes "load") words
-    ⊎ AsksForHelpOn (codes "post") words
-    ⊎ AsksForHelpOn (codes "drive") words
-    ⊎ AsksForHelpOn (codes "audit") words
-    ⊎ AsksForHelpOn (codes "statement") words
-    ⊎ AsksForHelpOn (codes "serve") words
-    ⊎ AsksForHelpOn (codes "migrate") words
-    ⊎ AsksForHelpOn (codes "encode") words
-    ⊎ AsksForHelpOn (codes "decode") words
-    ⊎ AsksForHelpOn (codes "replay") words
-    ⊎ AsksForHelpOn (codes "digest") words
-    ⊎ AsksForHelpOn (codes "export") words
-    ⊎ AsksForHelpOn (codes "plan") words
-    ⊎ AsksForHelpOn (codes "help") words
+AsksForHelp words = fault_of bank_app (words_read words) ≡ kind.DisplayHelp ∷ []
 
 -- the error is the help, or memory ran out
 abbrev pub IsHelp : Error → Type 0

@@ -17,7 +17,7 @@ pub trait Plans {
     type Plan: Source + Drop;
 
     /// The source is that of the plan of this name, where it is known.
-    ghost is_named: { Self → List ℕ → Plan → Type 0 } = { λ _ _ _. ⊤ };
+    ghost is_named: { Self → List ℕ → Self.Plan → Type 0 } = { λ _ _ _. ⊤ };
 
     /// The plan of this name, from its first byte on.
     ///

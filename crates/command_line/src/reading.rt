@@ -1,12 +1,11 @@
 //! Which of the program's commands the words of the command line ask for, and on which files.
-ghost use Rattle.std.specs.Prelude.{◌≡◌, ℕ, IfErr, IfOk, IsErrAnd, IsSomeAnd, MatchResult, codes, map, true};
+ghost use Rattle.std.specs.Prelude.{◌≡◌, ℕ, IfErr, IfOk, IsErrAnd, IsSomeAnd, codes, map, true};
 ghost use Rattle.clap.specs.Words.{FailsBy, fault_of, found_of, kind_of, rows_of, subcommand_of};
 ghost use Rattle.clap.specs.Words.{subcommand_rows_of, takes};
 ghost use Rattle.command_line.specs.CommandLine.{bank_app};
 ghost use Rattle.command_line.specs.Words.{AreInRange, AsksForHelp, HasMoreValues, HasNumber, HasNumberIfAny};
 ghost use Rattle.command_line.specs.Words.{HasSomeNumber, HasText, IsCommandOf, IsComplete, IsCompleteOnFile};
-ghost use Rattle.command_line.specs.Words.{IsHelp, IsNumberIfAny, IsNumberIn, IsReadFrom, IsSpelled, IsSpelledBy};
-ghost use Rattle.command_line.specs.Words.{IsText, IsWantOfMemory, words_read};
+ghost use Rattle.command_line.specs.Words.{IsHelp, IsNumberIfAny, IsNumberIn, IsReadFrom, IsText, words_read};
 
 use crate::command_line::bank_command;
 use clap::ArgMatches;
@@ -89,8 +88,6 @@ pub fn read_words<'a, S: AsStr>(alloc: Global, words: &'a [S]) -> Result<Command
     ensures taken { IfErr result (λ error. takes bank_app (map S.text words.entry.now) ≡ true
         → kind_of error ≡ ErrorKind.OutOfMemory) }
     ensures fault { FailsBy (fault_of bank_app (map S.text words.entry.now)) result }
-    ensures spelled { IsSpelled (map S.text words.entry.now)
-        → MatchResult result (IsSpelledBy (map S.text words.entry.now)) IsWantOfMemory }
     ensures help { AsksForHelp (map S.text words.entry.now) → IsErrAnd result IsHelp }
 {
     let matches = matches_of(alloc, own_words(words))?;

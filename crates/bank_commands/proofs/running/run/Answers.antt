@@ -2,7 +2,7 @@ use Rattle.std.proofs.Common.{◌∙◌, inl, inr, map, refl, sym, Ok, Err}
 use Rattle.clap.specs.Words.{kind_of}
 use Rattle.bank_commands.proofs.Told.{status_is_not_usage, told_is_not_usage}
 use Rattle.bank_commands.proofs.Endings.{help_ends, memory_ends, memory_is_no_request, mistake_ends}
-use Rattle.bank_commands.proofs.Endings.{mistake_keeps, not_asked, system_is_not_usage}
+use Rattle.bank_commands.proofs.Endings.{mistake_keeps, not_asked, system_is_not_usage, taken_memory}
 use Rattle.command_line.proofs.Printed.{in_part}
 use Rattle.bank_commands.proofs.running.run.Goals as goal
 
@@ -20,11 +20,11 @@ returns-in-Err g c =
       silent = λ refused. mistake_keeps kind _ _ (not_asked words kind refused says.fault) shown.silent;
       unread = λ some. refl;
       help = λ asks. help_ends kind c.explain.result (says.help asks) shown.status;
-      taken = λ spelled.
+      taken = λ takes.
           system_is_not_usage c.explain.result
-          (memory_ends kind c.explain.result (says.spelled spelled) shown.status);
-      runs = λ spelled.
-          let memory = says.spelled spelled in
+          (memory_ends kind c.explain.result (taken_memory words kind says.taken says.fault takes) shown.status);
+      runs = λ takes.
+          let memory = taken_memory words kind says.taken says.fault takes in
           inr (
             memory_ends kind c.explain.result memory shown.status,
             refl,
@@ -45,10 +45,10 @@ returns-in-Ok-command_in g c =
       silent = λ refused. absurd (refused.some says.fault);
       unread = λ some. absurd (some says.fault);
       help = λ asks. absurd (says.help asks);
-      taken = λ spelled. told_is_not_usage c.in-Ok.command _ _ _ _ c.in-Ok-command_in.status did.tells;
-      runs = λ spelled. inl record {
+      taken = λ takes. told_is_not_usage c.in-Ok.command _ _ _ _ c.in-Ok-command_in.status did.tells;
+      runs = λ takes. inl record {
         command = c.in-Ok.command;
-        spelled = says.spelled spelled;
+        read = says.command;
         told = Ok c.in-Ok-command_in.status;
         tells = did.tells;
         input = did.input;
@@ -66,10 +66,10 @@ returns-in-Err-command_in g c =
       silent = λ refused. absurd (refused.some says.fault);
       unread = λ some. absurd (some says.fault);
       help = λ asks. absurd (says.help asks);
-      taken = λ spelled other. status_is_not_usage c.in-Err-command_in.fault (sym c.tell.ensures.status ∙ other);
-      runs = λ spelled. inl record {
+      taken = λ takes other. status_is_not_usage c.in-Err-command_in.fault (sym c.tell.ensures.status ∙ other);
+      runs = λ takes. inl record {
         command = c.in-Ok.command;
-        spelled = says.spelled spelled;
+        read = says.command;
         told = Err c.in-Err-command_in.fault;
         tells = c.in-Err-command_in.ensures.tells;
         input = c.in-Err-command_in.ensures.input;

@@ -2,10 +2,9 @@
 use Rattle.std.proofs.Common.{◌≡◌, ◌∙◌, [], ap, map, rules, subst, sym, List, Some}
 use Rattle.std.proofs.lemmas.Result.{err_from_is_err_and}
 use Rattle.clap.specs.Words.{FailsBy, Text, fault_of, found_of, rows_of, subcommand_of, takes}
-use Rattle.command_line.specs.{CommandLine.bank_app, Words.IsReadFrom, Words.words_read}
+use Rattle.command_line.specs.{CommandLine.bank_app, Words.words_read}
 use Rattle.command_line.proofs.{Getters.met_complete, Getters.met_rows, Help.help_given, Help.no_help_asked}
 use Rattle.command_line.proofs.OwnWords.{fails_as_read, same_at_none, taken_as_read}
-use Rattle.command_line.proofs.Spelled.{spelled_at_err, spelled_at_ok}
 use Rattle.command_line.proofs.reading.read_words.Goals as goal
 
 pub command_of-requires : goal.command_of-requires
@@ -29,7 +28,6 @@ returns-in_err-matches g c =
       ranges = rw told.1 tt;
       taken = rw (told.1, told.2) taken;
       fault = fails_as_read c.from_residual.result words fails;
-      spelled = spelled_at_err c.from_residual.result error words c.from_residual.ensures.1 taken;
       help = help_given c.from_residual.result words fails;
     }
 
@@ -44,12 +42,10 @@ returns g c =
     let met = met_rows c.in_ok-matches.matches name rows c.in-Some.ensures.name c.in-Some.ensures.rows in
     let told : subcommand_of bank_app words ≡ Some (name, rows) =
     ap (subcommand_of bank_app) (sym same) ∙ (sym c.in_ok-matches.ensures.matches ∙ met) in
-    let command : IsReadFrom words c.command_of.result = rw told c.command_of.ensures.command in
     record {
-      command = command;
+      command = rw told c.command_of.ensures.command;
       ranges = c.command_of.ensures.ranges;
       taken = tt;
       fault = ap (fault_of bank_app) (sym (same_at_none words none)) ∙ none;
-      spelled = spelled_at_ok words c.command_of.result command;
       help = no_help_asked words none;
     }
