@@ -8,14 +8,16 @@ use Rattle.posting_rules.specs.declared.fault.Fault.TheVariants.{Memory, Store, 
 use Rattle.posting_rules.specs.believed.Counter.{Seen, StandsAt, LeavesOnly, ShowsPrefix, ShowsLog, Takes, Refuses}
 use Rattle.posting_rules.specs.believed.Counter.{IsSeenUnchanged}
 use Rattle.posting_rules.specs.believed.Runs.{followed_by, replies_to}
-use Rattle.posting_rules.proofs.{Remaining.leaves_still, Sequence.one_reply_each, Sequence.replies_to-append}
+use Rattle.posting_rules.proofs.{Remaining.leaves_still, Remaining.leaves_weaker, Sequence.one_reply_each}
+use Rattle.posting_rules.proofs.Sequence.{replies_to-append}
 use Rattle.posting_core.specs.believed.Batches.{joined, posts_in, posts_of}
 use Rattle.posting_core.specs.believed.Stream.{IfBank, IsRefusedAfterBatches, Streamed, acknowledged}
+use Rattle.posting_core.specs.believed.Told.{ReadTold}
 use Rattle.posting_core.specs.declared.stream.StreamFault.{StreamFault}
 use Rattle.posting_core.specs.declared.stream.StreamFault.TheVariants as stream
-use Rattle.posting_core.proofs.{Batched.all_posts, Output.few_acknowledged, Stops.stop_part}
+use Rattle.posting_core.proofs.{Batched.all_posts, Output.few_acknowledged, Stops.at_least, Stops.stop_part}
 use Rattle.counter_http.specs.{believed.Outputs.acknowledged_records, declared.fault.ServeFault.ServeFault}
-use Rattle.counter_http.specs.believed.Serving.{Exits, At_message, At_last, At_refusal}
+use Rattle.counter_http.specs.believed.Serving.{Exits, At_message, At_last, At_refusal, ServesConnection}
 use Rattle.counter_http.specs.believed.Turns.{Turn, commands_of, answers_to}
 use Rattle.counter_http.specs.declared.fault.ServeFault.TheVariants as serving
 use Rattle.counter_http.proofs.Outputs.{commands_of_first}
@@ -173,9 +175,17 @@ module _ {C : Type 0} (seen : C → Seen) (E : Type 0) (old new : C) where
       (subst (λ x. IsStream (seen old) (seen old) (commands_of x) (commands_of refused)) (sym none)
       (stood_is_stream (seen old) (seen old) [] (commands_of refused) up (λ h. h) (λ h log at. at)))
 
-pub answered_is_taken : (log : List Command) (turns : List Turn) (bytes : ℕ)
-    → acknowledged_records log turns bytes ≤ length (commands_of turns)
-answered_is_taken log turns bytes = commands_of_first (acknowledged (answers_to log turns) bytes) turns
+-- a crash leaves all records of which a byte of the answer was written
+pub answered_left : {C : Type 0} (seen : C → Seen) {r r' : Option (List ℕ)} {q q' : Option (List ReadTold)}
+    {w w' k k' : Option (List ℕ)} (old new : C) (result : Result ℕ ServeFault)
+    (did : ServesConnection seen r r' q q' w w' k k' old new result) (log : List Command)
+    → (seen new).honest → StandsAt (seen old) log
+    → LeavesOnly (seen new) (ShowsPrefix log (commands_of (did.taken ++ did.refused))
+    (acknowledged_records log did.taken (length did.written)))
+answered_left seen old new result did log h stood = leaves_weaker (seen new) _ _
+    (λ t b. at_least log (commands_of (did.taken ++ did.refused)) (length (commands_of did.taken)) _ t
+    (commands_of_first (acknowledged (answers_to log did.taken) (length did.written)) did.taken) b)
+    (did.survives h log stood)
 
 -- ---- openings, and a drive
 

@@ -2,7 +2,7 @@
 //! of its life (`IsStream`): it took some commands, and may then have been refused others.
 ghost use Rattle.std.specs.Prelude.{◌≡◌, ◌≤◌, ◌++◌, ℕ, List, Option, Result, IfErr, drop, length, take};
 ghost use Rattle.posting_rules.specs.believed.Commands.{Command};
-ghost use Rattle.posting_rules.specs.believed.Counter.{ShowsLog};
+ghost use Rattle.posting_rules.specs.believed.Counter.{LeavesOnly, ShowsLog, ShowsPrefix, StandsAt};
 ghost use Rattle.posting_rules.specs.believed.Runs.{replies_to};
 ghost use Rattle.posting_rules.specs.declared.fault.Fault.{Fault as Told};
 ghost use Rattle.posting_core.specs.believed.Batches.{posts_of};
@@ -11,7 +11,7 @@ ghost use Rattle.posting_core.specs.believed.Told.{ReadTold};
 ghost use Rattle.posting_core.specs.declared.stream.StreamFault.{StreamFault};
 ghost use Rattle.counter_http.specs.believed.Outputs.{acknowledged_records};
 ghost use Rattle.counter_http.specs.believed.Serving.{ServesConnection};
-ghost use Rattle.counter_http.specs.believed.Turns.{Turn, commands_of};
+ghost use Rattle.counter_http.specs.believed.Turns.{commands_of};
 ghost use Rattle.counter_http.specs.declared.fault.ServeFault.{ServeFault};
 ghost use Rattle.branch_loader.specs.believed.Loading.{IsRefusedAfter};
 ghost use Rattle.load_driver.specs.believed.Drives.{Drives};
@@ -41,8 +41,12 @@ pub fn streams_law<C: Counter>(_counter: &C)
         → (did : ServesConnection C.seen r r' q q' w w' k k' old new result)
         → ((C.seen old).is_down → ⊥)
         → IsStream (C.seen old) (C.seen new) (commands_of did.taken) (commands_of did.refused) }
-    ensures answered { (log : List Command) (turns : List Turn) (bytes : ℕ)
-        → acknowledged_records log turns bytes ≤ length (commands_of turns) }
+    ensures answered { (r r' : Option (List ℕ)) (q q' : Option (List ReadTold))
+        → (w w' k k' : Option (List ℕ)) (old new : _) (result : Result ℕ ServeFault)
+        → (did : ServesConnection C.seen r r' q q' w w' k k' old new result)
+        → (C.seen new).honest → (log : List Command) → StandsAt (C.seen old) log
+        → LeavesOnly (C.seen new) (ShowsPrefix log (commands_of (did.taken ++ did.refused))
+        (acknowledged_records log did.taken (length did.written))) }
     ensures loaded { (old new : _) (openings : List Command) (fault : Told) (answered : ℕ)
         → IsRefusedAfter C.seen old new openings fault answered
         → ((C.seen old).is_down → ⊥) → ((C.seen new).honest → (C.seen old).honest)

@@ -1,5 +1,5 @@
 -- Each stream, as a call of the counter's life.
-use Rattle.bank_lives.proofs.Streamed.{acknowledged_is_taken, answered_is_taken, drive_end, loaded_is_stream}
+use Rattle.bank_lives.proofs.Streamed.{acknowledged_is_taken, answered_left, drive_end, loaded_is_stream}
 use Rattle.bank_lives.proofs.Streamed.{posted_is_stream, served_exit}
 use Rattle.counter_http.specs.believed.Ends.{HasEnded}
 use Rattle.bank_lives.proofs.streams.streams_law.Goals as goal
@@ -18,7 +18,8 @@ returns-clause-served g c r r' q q' w w' k k' old new result did up =
     did.last did.takes up did.honest_first did.honest did.exits
 
 pub returns-clause-answered : goal.returns-clause-answered
-returns-clause-answered g c log turns bytes = answered_is_taken log turns bytes
+returns-clause-answered g c r r' q q' w w' k k' old new result did h log stood =
+    answered_left g.C.Counter.seen old new result did log h stood
 
 pub returns-clause-loaded : goal.returns-clause-loaded
 returns-clause-loaded g c old new openings fault answered did up honest =
