@@ -18,7 +18,10 @@ use Rattle.counter_http.specs.declared.routes.Route.TheVariants.{Posting, Accoun
 use Rattle.counter_http.specs.believed.Paths.{route_of, path_of}
 use Rattle.counter_http.proofs.PartsWritten.{bare_of, front_of}
 use Rattle.counter_http.specs.believed.Turns.{commands_if, commands_for, readings_if, readings_for}
-use Rattle.counter_http.specs.Turns.{IsDealtWith, IfRefused, IsRefusedAt, IsSentAs, IsTellingOf, TurnIsDealtWith}
+use Rattle.std.specs.Prelude.{IfOk}
+use Rattle.counter_http.specs.Asking.{said_in, SendsReading}
+use Rattle.counter_http.specs.declared.answers.Reading.{Reading}
+use Rattle.counter_http.specs.Turns.{IsAsked, IsDealtWith, IfRefused, IsRefusedAt, IsSentAs, IsTellingOf, TurnIsDealtWith}
 
 -- the bank refused a call, and that was told
 pub told_refused : {C : Type 0} (seen : C → Seen) {reason : Fault → C → C → Type 0} {w w' : Option (List ℕ)}
@@ -237,3 +240,23 @@ pub account_told : (log : List Command) (a : Asked) (account : ℕ) (o balance :
     → o ≡ balance_after log account → o ≡ balance → x ≡ balance_answer account balance → x ≡ answer_to log a
 account_told log a account o balance x answers b same is =
     is ∙ ap (balance_answer account) (sym same ∙ b) ∙ sym (answers log)
+
+-- the bank was asked, and what it showed was told, or that it refused
+pub reading_told : {C : Type 0} (seen : C → Seen) {reason : Fault → C → C → Type 0} {w w' : Option (List ℕ)}
+    {v v' : Option (List WriteTold)} (old new : C) (a : Asked) (read : Result Reading Fault)
+    (result : Result (Unit {0}) ServeFault) → IsAsked seen reason old new read
+    → IfOk read (λ reading. (seen new).honest → (log : List Command) → ShowsLog (seen old) log
+    → said_in reading ≡ answer_to log a)
+    → SendsReading w w' v v' a read result → IsDealtWith seen reason w w' v v' old new a [] result
+reading_told seen old new a (Ok reading) result asked is sent =
+    told_answer seen old new a [] (said_in reading) result asked.done asked.up is asked.honest asked.idle sent
+reading_told seen old new a (Err why) (Err fault) asked is sent =
+    told_refused seen old new a [] why fault asked.fault asked.why asked.idle sent.written sent.ends
+reading_told seen old new a (Err why) (Ok done) asked is sent = absurd sent
+
+pub reading_as : (P : Type 0) (c : Seen) (read : Result Reading Fault) (answer : List Command → Answer) (a : Asked)
+    → ((log : List Command) → answer_to log a ≡ answer log)
+    → IfOk read (λ reading. P → (log : List Command) → ShowsLog c log → said_in reading ≡ answer log)
+    → IfOk read (λ reading. P → (log : List Command) → ShowsLog c log → said_in reading ≡ answer_to log a)
+reading_as P c (Ok reading) answer a same is = λ h log s. is h log s ∙ sym (same log)
+reading_as P c (Err fault) answer a same is = tt

@@ -55,12 +55,12 @@ holds_as {w} {t} {c} {c'} {input} {input'} {sink} {sink'} one two h =
 
 -- ---- one read more
 
-given_front : (n : ℕ) (xs : List ReadTold) → given (take n xs) ≤ given xs
+pub given_front : (n : ℕ) (xs : List ReadTold) → given (take n xs) ≤ given xs
 given_front n xs =
     let all = ap given (take-append-drop n xs) in
     omega (arith, all, given-append (take n xs) (drop n xs))
 
-before_or_last : (n m : ℕ) → n < m + 1 → (n < m) ⊎ (n ≡ m)
+pub before_or_last : (n m : ℕ) → n < m + 1 → (n < m) ⊎ (n ≡ m)
 before_or_last n m below = grind arith
 
 -- of a read that was made before

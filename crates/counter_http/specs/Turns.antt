@@ -60,6 +60,16 @@ pub record IsRefusedAt {C : Type 0} (seen : C → Seen) (old new : C) (fault : F
   pub takes : Takes (seen old) (seen stood) []
   pub refuses : Refuses fault (seen stood) (seen new) commands
 
+-- the bank was asked, and was given no command
+pub record IsAsked {C X : Type 0} (seen : C → Seen) (reason : Fault → C → C → Type 0) (old new : C)
+    (result : Result X Fault) : Type 0 where
+  pub done : OnOk result (Takes (seen old) (seen new) [])
+  pub up : OnOk result ((seen new).is_down → (seen old).is_down)
+  pub why : IfErr result (IsOfCall seen reason old new)
+  pub fault : IfErr result (λ fault. IsRefusedAt seen old new fault [])
+  pub idle : (seen old).is_down → new ≡ old
+  pub honest : (seen new).honest → (seen old).honest
+
 -- the bank refused it, and a 503 was written
 pub record IsTurnedAway {C : Type 0} (seen : C → Seen) (w w' : Option (List ℕ)) (old new : C) (fault : Fault)
     (asked : Asked) (commands : List Command) : Type 0 where

@@ -1,14 +1,16 @@
 //! The answer to each message.
-ghost use Rattle.std.specs.Prelude.{◌≡◌, ℕ, List, take, true, [], Err};
+ghost use Rattle.std.specs.Prelude.{◌≡◌, ℕ, List, take, true, Err, IfOk};
 ghost use Rattle.std.specs.Io.KnownBytes.{Appends};
 ghost use Rattle.posting_rules.specs.believed.Commands.{Command};
+ghost use Rattle.posting_rules.specs.believed.Counter.{ShowsLog};
 ghost use Rattle.posting_rules.specs.believed.Entries.{balance_after};
 ghost use Rattle.counter_http.specs.believed.Answers.{refusal, answer_text, shows, unavailable, is_posting};
-ghost use Rattle.counter_http.specs.believed.Answers.{answer_to, balance_answer, branch_lines, plain};
+ghost use Rattle.counter_http.specs.believed.Answers.{balance_answer, branch_lines, plain};
 ghost use Rattle.counter_http.specs.Ends.{SendsAs};
 ghost use Rattle.counter_http.specs.Next.{asked};
+ghost use Rattle.counter_http.specs.Asking.{said_in, SendsReading};
 ghost use Rattle.counter_http.specs.Telling.{said};
-ghost use Rattle.counter_http.specs.Turns.{IsDealtWith, IsSentAs, IsTellingOf, TurnIsDealtWith};
+ghost use Rattle.counter_http.specs.Turns.{IsAsked, IsSentAs, IsTellingOf, TurnIsDealtWith};
 
 use crate::fault::ServeFault;
 use crate::fixed::{bad_request, not_found, unavailable};
@@ -47,21 +49,6 @@ fn say<W: Sink>(
         Ok(()) => Ok(()),
         Err(_) => Err(ServeFault::Write),
     }
-}
-
-// Answers with a text.
-fn say_text<W: Sink>(message: &Whole<'_>, text: &[u8], writer: &mut W) -> Result<(), ServeFault>
-    ensures { IsSentAs (W.contents writer.old) (W.contents writer.new) (W.told writer.old)
-        (W.told writer.new)
-        (answer_text (plain text.now) (shows (asked message.now)) message.now.closes) result }
-{
-    let response = Response {
-        status: StatusCode::OK,
-        media: b"text/plain",
-        allow: None,
-        body: text,
-    };
-    say(message, &response, writer)
 }
 
 // Answers a 503, and tells the fault of the bank, or that of the writer.
@@ -107,45 +94,79 @@ fn answer_posting<W: Sink, K: Clock, C: Counter>(
     }
 }
 
-// Answers with the balance of an account.
-fn answer_account<W: Sink, C: Counter>(
+/// What the bank showed for a message that reads.
+#[derive(Drop)]
+pub(crate) enum Reading {
+    /// The account isn't open.
+    NotFound,
+    /// These lines.
+    Lines(String),
+}
+
+impl Reading {
+    /// What is answered.
+    pub fn response(&self) -> Response<'_>
+        ensures { said result ≡ said_in self.now }
+    {
+        match self {
+            Reading::NotFound => not_found(),
+            Reading::Lines(lines) => Response {
+                status: StatusCode::OK,
+                media: b"text/plain",
+                allow: None,
+                body: lines.as_bytes(),
+            },
+        }
+    }
+}
+
+/// Reads the balance of an account.
+pub(crate) fn read_balance<C: Counter>(
     alloc: Global,
-    message: &Whole<'_>,
     account: Account,
-    writer: &mut W,
     bank: &mut C,
-) -> Result<(), ServeFault>
-    requires { (log : List Command) → answer_to log (asked message.now)
-        ≡ balance_answer account (balance_after log account) }
-    ensures answers { IsDealtWith C.seen C.reason (W.contents writer.old) (W.contents writer.new)
-        (W.told writer.old) (W.told writer.new) bank.old bank.new (asked message.now) [] result }
+) -> Result<Reading, Fault>
+    ensures answer { IfOk result (λ reading. (C.seen bank.new).honest
+        → (log : List Command) → ShowsLog (C.seen bank.old) log
+        → said_in reading ≡ balance_answer account (balance_after log account)) }
+    ensures asked { IsAsked C.seen C.reason bank.old bank.new result }
     ensures spares { C.spares bank.old bank.new }
 {
     let balance = match bank.balance(account) {
         Ok(Some(balance)) => balance,
-        Ok(None) => return say(message, &not_found(), writer),
-        Err(fault) => return Err(fail(message, fault, writer)),
+        Ok(None) => return Ok(Reading::NotFound),
+        Err(fault) => return Err(fault),
     };
     match line_of_account(alloc, account, balance) {
-        Ok(line) => say_text(message, line.as_bytes(), writer),
-        Err(_) => Err(fail(message, Fault::Memory, writer)),
+        Ok(line) => Ok(Reading::Lines(line)),
+        Err(_) => Err(Fault::Memory),
     }
 }
 
-// Answers with the open branches.
-fn answer_branches<W: Sink, C: Counter>(
-    alloc: Global,
-    message: &Whole<'_>,
-    writer: &mut W,
-    bank: &mut C,
-) -> Result<(), ServeFault>
-    requires { (log : List Command) → answer_to log (asked message.now) ≡ plain (branch_lines log) }
-    ensures answers { IsDealtWith C.seen C.reason (W.contents writer.old) (W.contents writer.new)
-        (W.told writer.old) (W.told writer.new) bank.old bank.new (asked message.now) [] result }
+/// Reads the open branches.
+pub(crate) fn read_branches<C: Counter>(alloc: Global, bank: &mut C) -> Result<Reading, Fault>
+    ensures answer { IfOk result (λ reading. (C.seen bank.new).honest
+        → (log : List Command) → ShowsLog (C.seen bank.old) log → said_in reading ≡ plain (branch_lines log)) }
+    ensures asked { IsAsked C.seen C.reason bank.old bank.new result }
     ensures spares { C.spares bank.old bank.new }
 {
     match all_lines(alloc, bank) {
-        Ok(lines) => say_text(message, lines.as_bytes(), writer),
+        Ok(lines) => Ok(Reading::Lines(lines)),
+        Err(fault) => Err(fault),
+    }
+}
+
+// Answers with what was read, or tells that the bank refused it.
+fn answer_reading<W: Sink>(
+    message: &Whole<'_>,
+    read: Result<Reading, Fault>,
+    writer: &mut W,
+) -> Result<(), ServeFault>
+    ensures { SendsReading (W.contents writer.old) (W.contents writer.new) (W.told writer.old)
+        (W.told writer.new) (asked message.now) read result }
+{
+    match read {
+        Ok(reading) => say(message, &reading.response(), writer),
         Err(fault) => Err(fail(message, fault, writer)),
     }
 }
@@ -167,7 +188,13 @@ pub(crate) fn answer_message<W: Sink, K: Clock, C: Counter>(
     match task_of(message, routes) {
         Task::Say(response) => say(message, &response, writer),
         Task::Submit(record) => answer_posting(message, record, writer, clock, bank),
-        Task::Balance(account) => answer_account(alloc, message, account, writer, bank),
-        Task::Branches => answer_branches(alloc, message, writer, bank),
+        Task::Balance(account) => {
+            let read = read_balance(alloc, account, bank);
+            answer_reading(message, read, writer)
+        }
+        Task::Branches => {
+            let read = read_branches(alloc, bank);
+            answer_reading(message, read, writer)
+        }
     }
 }

@@ -1,0 +1,243 @@
+-- What the bank was asked, one question after another, and a client whose messages were answered so.
+use Rattle.std.proofs.Common.{◌≡◌, ℕ, List, [], ◌∷◌, ◌++◌, Result, Ok, Err, refl, sym, ap, subst, ◌∙◌, append-nil}
+use Rattle.std.proofs.Common.{append_assoc, inl, inr}
+use Rattle.std.specs.{List.AllByRecursion}
+use Rattle.posting_rules.specs.declared.fault.Fault.{Fault}
+use Rattle.posting_rules.specs.declared.fault.Fault.TheVariants as fault
+use Rattle.posting_rules.specs.believed.Commands.{Command}
+use Rattle.posting_rules.specs.believed.Counter.{IsCounterCall, IsSeenUnchanged, Seen, Takes}
+use Rattle.posting_rules.specs.believed.Tables.{Tables, AreTablesOf}
+use Rattle.posting_rules.proofs.CounterCalls.{idle_after, refused_after, takes_none, Takes-append, unchanged_seen}
+use Rattle.posting_rules.proofs.Remaining.{leaves_still}
+use Rattle.posting_core.specs.Stream.{IsOfCall}
+use Rattle.posting_core.proofs.StreamedBatches.{all_more}
+use Rattle.counter_http.specs.Connections.{Known}
+use Rattle.counter_http.specs.Standing.{IsAnswered, StandsHere}
+use Rattle.counter_http.specs.Turns.{IsAsked, IsRefusedAt}
+use Rattle.counter_http.specs.believed.Answers.{asked_by}
+use Rattle.counter_http.specs.Order.{Step, asks_to_read, submitted_by}
+use Rattle.counter_http.specs.declared.client.Client.{Client}
+use Rattle.counter_http.proofs.AnsweredTurns.{idle_commands, refused_first, why_first}
+use Rattle.counter_http.proofs.Steps.{submitted-append}
+
+-- ---- the bank
+
+-- a refusal for want of memory takes nothing
+pub unchanged_takes : (c c' : Seen) → (c'.honest → c.honest) → IsSeenUnchanged c c' → Takes c c' []
+unchanged_takes c c' honest same = record {
+  shows = λ h log s. record
+      { commands = s.commands; tables = s.tables; are = same.tables s.tables s.are; shows = s.shows };
+  stands = λ h log s. record {
+    shows = record {
+      commands = s.shows.commands;
+      tables = s.shows.tables;
+      are = same.tables s.shows.tables s.shows.are;
+      shows = s.shows.shows;
+    };
+    up = λ down. s.up (same.down down);
+    survives = leaves_still c c' (λ (t : Tables). AreTablesOf t log) same.left s.survives;
+  };
+}
+
+pub refused_takes : {C : Type 0} (seen : C → Seen) (old new : C) → IsRefusedAt seen old new fault.Memory []
+    → Takes (seen old) (seen new) []
+refused_takes seen old new r =
+    Takes-append (seen old) (seen r.stood) (seen new) [] [] r.takes
+    (unchanged_takes (seen r.stood) (seen new) r.honest r.refuses) r.honest
+
+pub refused_up : {C : Type 0} (seen : C → Seen) (old new : C) → IsRefusedAt seen old new fault.Memory []
+    → (seen new).is_down → (seen old).is_down
+refused_up seen old new r down = r.up (r.refuses.down down)
+
+pub asked_none : {C X : Type 0} (seen : C → Seen) {reason : Fault → C → C → Type 0} (c : C) (x : X)
+    → IsAsked seen reason c c (Ok x)
+asked_none seen c x = record {
+  done = takes_none (seen c);
+  up = λ down. down;
+  why = tt;
+  fault = tt;
+  idle = λ down. refl;
+  honest = λ h. h;
+}
+
+-- the result stands for another
+pub asked_as : {C X Y : Type 0} {seen : C → Seen} {reason : Fault → C → C → Type 0} {old new : C} {x : X} (y : Y)
+    → IsAsked seen reason old new (Ok x) → IsAsked seen reason old new (Ok y)
+asked_as y a = record { done = a.done; up = a.up; why = tt; fault = tt; idle = a.idle; honest = a.honest }
+
+pub asked_err : {C X Y : Type 0} {seen : C → Seen} {reason : Fault → C → C → Type 0} {old new : C} {f : Fault}
+    → IsAsked {X = X} seen reason old new (Err f) → IsAsked {X = Y} seen reason old new (Err f)
+asked_err a = record { done = tt; up = tt; why = a.why; fault = a.fault; idle = a.idle; honest = a.honest }
+
+-- memory was refused, and that is told to the client alone
+pub asked_full : {C X Y : Type 0} {seen : C → Seen} {reason : Fault → C → C → Type 0} {old new : C} (y : Y)
+    → IsAsked {X = X} seen reason old new (Err fault.Memory) → IsAsked seen reason old new (Ok y)
+asked_full {seen = seen} {old = old} {new} y a = record {
+  done = refused_takes seen old new a.fault;
+  up = refused_up seen old new a.fault;
+  why = tt;
+  fault = tt;
+  idle = a.idle;
+  honest = a.honest;
+}
+
+-- a call of the counter was taken
+pub asked_call : {C K X Y : Type 0} (seen : C → Seen) (contents : C → K) (reason : Fault → C → C → Type 0) (old new : C)
+    (x : X) (y : Y) → IsCounterCall seen contents reason old new [] (Ok x) → IsAsked seen reason old new (Ok y)
+asked_call seen contents reason old new x y call = record {
+  done = call.done;
+  up = λ down. absurd (call.up down);
+  why = tt;
+  fault = tt;
+  idle = λ down. call.untried (call.down down);
+  honest = call.honest;
+}
+
+-- a call of the counter was refused
+pub asked_refused : {C K X Y : Type 0} (seen : C → Seen) (contents : C → K) (reason : Fault → C → C → Type 0)
+    (old new : C) (why : Fault) → IsCounterCall {X = X} seen contents reason old new [] (Err why)
+    → IsAsked {X = Y} seen reason old new (Err why)
+asked_refused seen contents reason old new why call = record {
+  done = tt;
+  up = tt;
+  why = why_first seen contents reason old new [] why call;
+  fault = refused_first seen old new why [] call.fault call.honest;
+  idle = λ down. call.untried (call.down down);
+  honest = call.honest;
+}
+
+-- it was taken, and then memory was refused
+pub asked_unlined : {C K X Y : Type 0} (seen : C → Seen) (contents : C → K) (reason : Fault → C → C → Type 0)
+    (old new : C) (x : X) → IsCounterCall seen contents reason old new [] (Ok x)
+    → IsAsked {X = Y} seen reason old new (Err fault.Memory)
+asked_unlined seen contents reason old new x call = record {
+  done = tt;
+  up = tt;
+  why = inr (refl, call.up);
+  fault = record {
+    stood = new;
+    honest_first = call.honest;
+    honest = λ h. h;
+    up = λ down. absurd (call.up down);
+    takes = call.done;
+    refuses = unchanged_seen (seen new);
+  };
+  idle = λ down. call.untried (call.down down);
+  honest = call.honest;
+}
+
+pub of_call_then : {C X : Type 0} (seen : C → Seen) (reason : Fault → C → C → Type 0) (old mid new : C) (f : Fault)
+    {x : X} → IsAsked seen reason old mid (Ok x) → IsOfCall seen reason mid new f → IsOfCall seen reason old new f
+of_call_then seen reason old mid new f a (inl call) =
+    inl (refused_after seen reason old mid new [] a.done a.honest a.idle f call)
+of_call_then seen reason old mid new f a (inr own) = inr own
+
+pub asked_then : {C X Y : Type 0} (seen : C → Seen) {reason : Fault → C → C → Type 0} (old mid new : C) {x : X}
+    (result : Result Y Fault) → IsAsked seen reason old mid (Ok x) → IsAsked seen reason mid new result
+    → IsAsked seen reason old new result
+asked_then seen {reason} old mid new (Ok y) a b = record {
+  done = Takes-append (seen old) (seen mid) (seen new) [] [] a.done b.done b.honest;
+  up = λ down. a.up (b.up down);
+  why = tt;
+  fault = tt;
+  idle = idle_after seen old mid a.idle new b.idle;
+  honest = λ h. a.honest (b.honest h);
+}
+asked_then seen {reason} old mid new (Err f) a b = record {
+  done = tt;
+  up = tt;
+  why = of_call_then seen reason old mid new f a b.why;
+  fault = record {
+    stood = b.fault.stood;
+    honest_first = λ h. a.honest (b.fault.honest_first h);
+    honest = b.fault.honest;
+    up = λ down. a.up (b.fault.up down);
+    takes = Takes-append (seen old) (seen mid) (seen b.fault.stood) [] [] a.done b.fault.takes b.fault.honest_first;
+    refuses = b.fault.refuses;
+  };
+  idle = idle_after seen old mid a.idle new b.idle;
+  honest = λ h. a.honest (b.honest h);
+}
+
+-- ---- a client
+
+pub reads_submit_none : (ss : List Step) → AllByRecursion asks_to_read ss → submitted_by ss ≡ []
+reads_submit_none [] all = refl
+reads_submit_none (s ∷ ss) all =
+    ap (λ (x : List Command). x ++ submitted_by ss) (idle_commands (asked_by s.turn.message) s.turn.moment all.0)
+    ∙ reads_submit_none ss all.1
+
+pub takes_reads : (c c' c'' : Seen) (steps more : List Step) → AllByRecursion asks_to_read more
+    → (c''.honest → c'.honest) → Takes c c' (submitted_by steps) → Takes c' c'' []
+    → Takes c c'' (submitted_by (steps ++ more))
+takes_reads c c' c'' steps more reads honest a b =
+    subst (λ (x : List Command). Takes c c'' x)
+    (ap (λ (x : List Command). submitted_by steps ++ x) (sym (reads_submit_none more reads))
+    ∙ sym (submitted-append steps more))
+    (Takes-append c c' c'' (submitted_by steps) [] a b honest)
+
+owned_by : (m n : ℕ) (ss : List Step) → n ≡ m → AllByRecursion (λ (s : Step). s.client ≡ n) ss
+    → AllByRecursion (λ (s : Step). s.client ≡ m) ss
+owned_by m n [] e all = tt
+owned_by m n (s ∷ ss) e all = (all.0 ∙ e, owned_by m n ss e all.1)
+
+-- nothing was answered
+pub answered_nothing : {C R W X : Type 0} (seen : C → Seen) {reason : Fault → C → C → Type 0} {known : R × W → Known}
+    (bank new : C) (old after : Client R W) (result : Result X Fault) → IsAsked seen reason bank new result
+    → after.number ≡ old.number
+    → ((k : Known) (c : Seen) (steps : List Step) → StandsHere known k c (seen bank) steps old
+    → StandsHere known k c (seen new) steps after)
+    → IsAnswered seen reason known bank new old after result
+answered_nothing seen {known = known} bank new old after result asked number stands = record {
+  more = [];
+  reads = tt;
+  own = tt;
+  asked = asked;
+  number = number;
+  stands = λ k first steps takes is. subst (λ (ss : List Step). StandsHere known k (seen first) (seen new) ss after)
+      (sym (append-nil steps)) (stands k (seen first) steps is);
+}
+
+pub answered_then : {C R W X Y : Type 0} (seen : C → Seen) {reason : Fault → C → C → Type 0} {known : R × W → Known}
+    (bank mid new : C) (one two three : Client R W) {x : X} (result : Result Y Fault)
+    → IsAnswered seen reason known bank mid one two (Ok x) → IsAnswered seen reason known mid new two three result
+    → IsAnswered seen reason known bank new one three result
+answered_then seen {reason} {known} bank mid new one two three result a b = record {
+  more = a.more ++ b.more;
+  reads = all_more asks_to_read a.more b.more a.reads b.reads;
+  own = all_more (λ (s : Step). s.client ≡ one.number) a.more b.more a.own
+      (owned_by one.number two.number b.more a.number b.own);
+  asked = asked_then seen bank mid new result a.asked b.asked;
+  number = b.number ∙ a.number;
+  stands = λ k first steps takes is.
+      subst (λ (ss : List Step). StandsHere known k (seen first) (seen new) ss three) (append_assoc steps a.more b.more)
+      (b.stands k first (steps ++ a.more)
+      (takes_reads (seen first) (seen bank) (seen mid) steps a.more a.reads a.asked.honest takes a.asked.done)
+      (a.stands k first steps takes is));
+}
+
+-- the result stands for another
+pub answered_as : {C R W X Y : Type 0} {seen : C → Seen} {reason : Fault → C → C → Type 0} {known : R × W → Known}
+    {bank new : C} {old after : Client R W} {x : X} (y : Y) → IsAnswered seen reason known bank new old after (Ok x)
+    → IsAnswered seen reason known bank new old after (Ok y)
+answered_as y a = record {
+  more = a.more;
+  reads = a.reads;
+  own = a.own;
+  asked = asked_as y a.asked;
+  number = a.number;
+  stands = a.stands;
+}
+
+pub answered_err : {C R W X Y : Type 0} {seen : C → Seen} {reason : Fault → C → C → Type 0} {known : R × W → Known}
+    {bank new : C} {old after : Client R W} {f : Fault}
+    → IsAnswered {X = X} seen reason known bank new old after (Err f)
+    → IsAnswered {X = Y} seen reason known bank new old after (Err f)
+answered_err a = record {
+  more = a.more;
+  reads = a.reads;
+  own = a.own;
+  asked = asked_err a.asked;
+  number = a.number;
+  stands = a.stands;
+}

@@ -1,0 +1,237 @@
+-- What a function does to the fields of a client, and where the client stands then.
+use Rattle.std.proofs.Common.{◌≡◌, ℕ, ◌<◌, List, [], ◌∷◌, ◌++◌, length, drop, Option, Some, None, Bool}
+use Rattle.std.proofs.Common.{true, false, refl, sym, ap, subst, ◌∙◌, append-nil, arith, inl, inr}
+use Rattle.std.proofs.Math.ListN.{length-take}
+use Rattle.std.proofs.lemmas.List.{length-append}
+use Rattle.message_records.specs.believed.Spelling.{reply_spelling}
+use Rattle.posting_rules.specs.declared.fault.Fault.{Fault}
+use Rattle.posting_rules.specs.{believed.Commands.Command, believed.Counter.Seen, believed.Counter.ShowsLog}
+use Rattle.posting_rules.specs.believed.Entries.{reply}
+use Rattle.posting_rules.specs.believed.Runs.{followed_by}
+use Rattle.counter_http.specs.Connections.{Known}
+use Rattle.counter_http.specs.Standing.{AnswersRecord, HasAnswered, HasEndedWith, IsGoing, IsHeadOf, IsLost}
+use Rattle.counter_http.specs.Standing.{IsParted, IsRecordIn, StandsAs, StandsBy, StandsHere, parting_after}
+use Rattle.counter_http.specs.Standing.{pending, unread}
+use Rattle.counter_http.specs.Together.{PartingIsOfItsEnd}
+use Rattle.counter_http.specs.believed.Answers.{Answer, answer_of, answer_text, asked_by, octets, shows}
+use Rattle.counter_http.specs.believed.Answers.{bare}
+use Rattle.counter_http.specs.believed.Messages.{Message, closes, message_text}
+use Rattle.counter_http.specs.Order.{Step, submitted_by}
+use Rattle.counter_http.specs.declared.client.Client.{Client}
+use Rattle.counter_http.specs.declared.client.Head.{Head}
+use Rattle.counter_http.specs.declared.parting.Parting.{Parting}
+use Rattle.counter_http.specs.declared.parting.Parting.TheVariants as parting
+use Rattle.counter_http.proofs.Answering.{answered_last, answered_on, answered_unavailable, step_of}
+use Rattle.counter_http.proofs.AnsweredTurns.{posting_answer}
+use Rattle.counter_http.proofs.Beside.{stands_beside}
+use Rattle.counter_http.proofs.Stood.{IsLeft, IsLoss, left_as, lost_as}
+
+-- ---- the fields of a client
+
+pub parted_here : {R W : Type 0} {known : R × W → Known} {k : Known} {c c' : Seen} {steps : List Step} {i : ℕ} {l : Known}
+    {left : List ℕ} (new : Client R W) (p : Parting) → new.number ≡ i → new.parting ≡ Some p
+    → known (new.reader, new.writer) ≡ l → pending new ≡ left → IsParted i k l c c' steps left p
+    → StandsHere known k c c' steps new
+parted_here {known = known} {k} {c} {c'} {steps} {i} {l} new p number why ends none is =
+    record {
+      is = record {
+        is = subst (λ (q : Option Parting). StandsBy q new.number k (known (new.reader, new.writer)) c
+            c' steps new.has_more new.shows_body (unread new) (pending new)) (sym why)
+            (subst (λ (j : ℕ). IsParted j k (known (new.reader, new.writer)) c c' steps (pending new) p) (sym number)
+            (subst (λ (m : Known). IsParted i k m c c' steps (pending new) p) (sym ends)
+            (subst (λ (x : List ℕ). IsParted i k l c c' steps x p) (sym none) is)));
+      };
+    }
+
+pub going_here : {R W : Type 0} {known : R × W → Known} {k : Known} {c c' : Seen} {steps : List Step} {i : ℕ} {l : Known}
+    {has_more shown : Bool} {rest left : List ℕ} (new : Client R W) → new.number ≡ i → new.parting ≡ None
+    → known (new.reader, new.writer) ≡ l → new.has_more ≡ has_more → new.shows_body ≡ shown → unread new ≡ rest
+    → pending new ≡ left → IsGoing i k l c c' steps has_more shown rest left → StandsHere known k c c' steps new
+going_here {known = known} {k} {c} {c'} {steps} {i} {l} {has_more} {shown} {rest} {left} new number why ends more shows_is
+    same none is =
+    record {
+      is = record {
+        is = subst (λ (q : Option Parting). StandsBy q new.number k (known (new.reader, new.writer)) c
+            c' steps new.has_more new.shows_body (unread new) (pending new)) (sym why)
+            (subst (λ (j : ℕ). IsGoing j k (known (new.reader, new.writer)) c c' steps new.has_more new.shows_body
+            (unread new) (pending new)) (sym number)
+            (subst (λ (m : Known). IsGoing i k m c c' steps new.has_more new.shows_body (unread new) (pending new)) (sym ends)
+            (subst (λ (b : Bool). IsGoing i k l c c' steps b new.shows_body (unread new) (pending new)) (sym more)
+            (subst (λ (b : Bool). IsGoing i k l c c' steps has_more b (unread new) (pending new)) (sym shows_is)
+            (subst (λ (x : List ℕ). IsGoing i k l c c' steps has_more shown x (pending new)) (sym same)
+            (subst (λ (x : List ℕ). IsGoing i k l c c' steps has_more shown rest x) (sym none) is))))));
+      };
+    }
+
+pub going_of : {R W : Type 0} {known : R × W → Known} {k : Known} {c c' : Seen} {steps : List Step} (old : Client R W)
+    → old.parting ≡ None → StandsHere known k c c' steps old
+    → IsGoing old.number k (known (old.reader, old.writer)) c c' steps old.has_more old.shows_body (unread old)
+    (pending old)
+going_of {known = known} {k} {c} {c'} {steps} old why is =
+    subst (λ (q : Option Parting). StandsBy q old.number k (known (old.reader, old.writer)) c c' steps old.has_more
+    old.shows_body (unread old) (pending old)) why is.is.is
+
+pub ends_by : {R W : Type 0} (known : R × W → Known) {r r' : R} {w w' : W} → r' ≡ r → w' ≡ w
+    → known (r', w') ≡ known (r, w)
+ends_by {R} {W} known {r} {r'} {w} {w'} reader writer =
+    ap (λ (x : R). known (x, w')) reader ∙ ap (λ (x : W). known (r, x)) writer
+
+-- the bank went on
+pub stands_after : {R W : Type 0} {known : R × W → Known} {k : Known} {c c' c'' : Seen} {steps : List Step}
+    (old : Client R W) → (c''.honest → c'.honest) → StandsHere known k c c' steps old
+    → StandsHere known k c c'' steps old
+stands_after {known = known} {k} {c} {c'} {c''} {steps} old honest is =
+    subst (λ (ss : List Step). StandsHere known k c c'' ss old) (append-nil steps)
+    (record { is = stands_beside old.parting [] tt honest is.is })
+
+-- ---- it is lost
+
+pub lost_here : {R W : Type 0} {known : R × W → Known} {k : Known} {c c' : Seen} {steps : List Step} (old new : Client R W)
+    (p : Parting) → IsLoss p → IsLost old new p
+    → PartingIsOfItsEnd p k.reads (known (old.reader, old.writer)).reads k.writes (known (old.reader, old.writer)).writes
+    → IsLeft old.number k (known (old.reader, old.writer)) c c' steps → StandsHere known k c c' steps new
+lost_here {known = known} old new p loss lost ends is =
+    parted_here new p lost.number lost.parting (ends_by known lost.reader lost.writer) lost.none (lost_as p loss is ends)
+
+pub gone_here : {R W : Type 0} {known : R × W → Known} {k : Known} {c c' : Seen} {steps : List Step} (old new : Client R W)
+    → IsLost old new parting.Memory → StandsHere known k c c' steps old → StandsHere known k c c' steps new
+gone_here old new lost is = lost_here old new parting.Memory tt lost tt (left_as old.parting is.is)
+
+-- ---- its message is answered
+
+-- after which it goes on, or not
+answered_as : {i : ℕ} {k l : Known} {c c' c'' : Seen} {steps : List Step} {has_more shown : Bool}
+    {buf left : List ℕ} (ends : Bool) (moment : ℕ) (m : Message) (head : Head) (text : List ℕ) → IsHeadOf head buf m
+    → head.closes ≡ ends → (c''.honest → c'.honest)
+    → (c''.honest → (log : List Command) → ShowsLog c log
+    → text ≡ answer_of (followed_by log (submitted_by steps)) (asked_by m))
+    → IsGoing i k l c c' steps has_more shown buf left
+    → StandsAs (parting_after ends None) i k l c c'' (steps ++ step_of i moment m ∷ []) true shown
+    (drop head.length buf) (left ++ text)
+answered_as {buf = buf} true moment m head text is e honest says g =
+    record { is = answered_last moment m (drop head.length buf) text is.whole (sym is.closes_is ∙ e) is.front honest says g }
+answered_as {buf = buf} false moment m head text is e honest says g =
+    record { is = answered_on moment m (drop head.length buf) text is.whole (sym is.closes_is ∙ e) is.front honest says g }
+
+has_more_then : {i : ℕ} {k l : Known} {c c' : Seen} {steps : List Step} {has_more has_more' shown shown' : Bool}
+    {rest rest' left : List ℕ} (ends : Bool) → (ends ≡ false → has_more ≡ has_more') → (ends ≡ false → shown ≡ shown')
+    → (ends ≡ false → rest ≡ rest')
+    → StandsAs (parting_after ends None) i k l c c' steps has_more shown rest left
+    → StandsAs (parting_after ends None) i k l c c' steps has_more' shown' rest' left
+has_more_then true a b d is = record { is = is.is }
+has_more_then {i} {k} {l} {c} {c'} {steps} {has_more} {has_more'} {shown} {shown'} {rest} {rest'} {left} false a b d is =
+    record {
+      is = subst (λ (x : List ℕ). IsGoing i k l c c' steps has_more' shown' x left) (d refl)
+          (subst (λ (x : Bool). IsGoing i k l c c' steps has_more' x rest left) (b refl)
+          (subst (λ (x : Bool). IsGoing i k l c c' steps x shown rest left) (a refl) is.is));
+    }
+
+pub answered_here : {R W : Type 0} {known : R × W → Known} {k : Known} {c c' c'' : Seen} {steps : List Step}
+    (old new : Client R W) (moment : ℕ) (m : Message) (head : Head) (text : List ℕ) → old.parting ≡ None
+    → IsHeadOf head (unread old) m → HasAnswered old new text head → (c''.honest → c'.honest)
+    → (c''.honest → (log : List Command) → ShowsLog c log
+    → text ≡ answer_of (followed_by log (submitted_by steps)) (asked_by m))
+    → StandsHere known k c c' steps old
+    → StandsHere known k c c'' (steps ++ step_of old.number moment m ∷ []) new
+answered_here {R} {W} {known} {k} {c} {c'} {c''} {steps} old new moment m head text going is did honest says stands =
+    let l = known (old.reader, old.writer) in
+    let next = steps ++ step_of old.number moment m ∷ [] in
+    let after : StandsAs (parting_after head.closes None) old.number k l c c'' next true old.shows_body
+    (drop head.length (unread old)) (pending old ++ text) =
+    answered_as head.closes moment m head text is refl honest says (going_of old going stands) in
+    let kept : StandsAs (parting_after head.closes None) old.number k l c c'' next new.has_more new.shows_body
+    (drop head.length (unread old)) (pending old ++ text) =
+    has_more_then head.closes (λ e. sym (did.more e)) (λ e. sym did.shows) (λ e. refl) after in
+    let why : new.parting ≡ parting_after head.closes None =
+    did.parting ∙ ap (parting_after head.closes) going in
+    record {
+      is = subst (λ (q : Option Parting). StandsAs q new.number k (known (new.reader, new.writer)) c c'' next
+          new.has_more new.shows_body (unread new) (pending new)) (sym why)
+          (subst (λ (j : ℕ). StandsAs (parting_after head.closes None) j k (known (new.reader, new.writer)) c c'' next
+          new.has_more new.shows_body (unread new) (pending new)) (sym did.same.number)
+          (subst (λ (n : Known). StandsAs (parting_after head.closes None) old.number k n c c'' next
+          new.has_more new.shows_body (unread new) (pending new)) (sym (ends_by known did.same.reader did.same.writer))
+          (subst (λ (x : List ℕ). StandsAs (parting_after head.closes None) old.number k l c c'' next
+          new.has_more new.shows_body x (pending new)) (sym did.rest)
+          (subst (λ (x : List ℕ). StandsAs (parting_after head.closes None) old.number k l c c'' next
+          new.has_more new.shows_body (drop head.length (unread old)) x) (sym did.told) kept))));
+    }
+
+-- memory was refused for the answer to a record that the bank took
+pub unanswered_here : {R W : Type 0} {known : R × W → Known} {k : Known} {c c' : Seen} {steps : List Step}
+    (old new : Client R W) (moment : ℕ) (m : Message) (head : Head) (text : List ℕ) → old.parting ≡ None
+    → IsHeadOf head (unread old) m → IsLost old new parting.Memory
+    → (c'.honest → (log : List Command) → ShowsLog c log
+    → text ≡ answer_of (followed_by log (submitted_by steps)) (asked_by m))
+    → StandsHere known k c c' steps old
+    → StandsHere known k c c' (steps ++ step_of old.number moment m ∷ []) new
+unanswered_here {R} {W} {known} {k} {c} {c'} {steps} old new moment m head text going is lost says stands =
+    lost_here old new parting.Memory tt lost tt
+    (left_as (parting_after head.closes None)
+    (answered_as head.closes moment m head text is refl (λ h. h) says (going_of old going stands)))
+
+-- ---- a record
+
+record_text : (log : List Command) {buf bytes : List ℕ} (head : Head) (is : IsRecordIn buf bytes head)
+    (text : List ℕ) → text ≡ reply_spelling (reply log bytes)
+    → answer_text (octets text) head.shows_body head.closes ≡ answer_of log (asked_by is.message)
+record_text log head is text e =
+    ap (λ (b : Bool). answer_text (octets text) b head.closes) is.is.shows_is
+    ∙ ap (λ (b : Bool). answer_text (octets text) (shows (asked_by is.message)) b) is.is.closes_is
+    ∙ ap (λ (a : Answer). answer_text a (shows (asked_by is.message)) (closes is.message.head))
+    (ap octets (e ∙ ap (λ (b : List ℕ). reply_spelling (reply log b)) is.body)
+    ∙ sym (posting_answer log (asked_by is.message) is.posting))
+
+too_short : {R W : Type 0} (old : Client R W) (m : Message) (head : Head) → IsHeadOf head (unread old) m
+    → old.filled < head.length → ⊥
+too_short old m head is short =
+    let len = ap length is.front in
+    omega (
+      arith,
+      len,
+      is.long,
+      short,
+      length-append (message_text m) (drop head.length (unread old)),
+      length-take old.filled old.input.items,
+    )
+
+pub number_of_record : {R W : Type 0} (old new : Client R W) (head : Head) (text bytes : List ℕ)
+    → IsRecordIn (unread old) bytes head → AnswersRecord old new head text → new.number ≡ old.number
+number_of_record old new head text bytes is (inl did) = did.same.number
+number_of_record old new head text bytes is (inr (inl lost)) = lost.number
+number_of_record old new head text bytes is (inr (inr short)) = absurd (too_short old is.message head is.is short)
+
+pub record_step : {R W : Type 0} {known : R × W → Known} {k : Known} {c c' : Seen} {steps : List Step}
+    (old new : Client R W) (moment : ℕ) (head : Head) (text bytes : List ℕ) → old.parting ≡ None
+    → (is : IsRecordIn (unread old) bytes head)
+    → (c'.honest → (log : List Command) → ShowsLog c log
+    → text ≡ reply_spelling (reply (followed_by log (submitted_by steps)) bytes))
+    → AnswersRecord old new head text → StandsHere known k c c' steps old
+    → StandsHere known k c c' (steps ++ step_of old.number moment is.message ∷ []) new
+record_step {steps = steps} old new moment head text bytes going is says (inl did) stands =
+    answered_here old new moment is.message head (answer_text (octets text) head.shows_body head.closes) going is.is did
+    (λ h. h) (λ h log shown. record_text (followed_by log (submitted_by steps)) head is text (says h log shown)) stands
+record_step {steps = steps} old new moment head text bytes going is says (inr (inl lost)) stands =
+    unanswered_here old new moment is.message head (answer_text (octets text) head.shows_body head.closes) going is.is
+    lost (λ h log shown. record_text (followed_by log (submitted_by steps)) head is text (says h log shown)) stands
+record_step old new moment head text bytes going is says (inr (inr short)) stands =
+    absurd (too_short old is.message head is.is short)
+
+-- ---- a 503
+
+pub number_ended : {R W : Type 0} {text : List ℕ} {p : Parting} (old new : Client R W) → HasEndedWith old new text p
+    → new.number ≡ old.number
+number_ended old new (inl told) = told.same.number
+number_ended old new (inr lost) = lost.number
+
+pub refused_here : {R W : Type 0} {known : R × W → Known} {k : Known} {c c' c'' : Seen} {steps : List Step}
+    (old new : Client R W) (m : Message) (head : Head) (why : Fault) → old.parting ≡ None
+    → IsHeadOf head (unread old) m
+    → HasEndedWith old new (answer_text (bare 503) head.shows_body true) (parting.Bank why) → (c''.honest → c'.honest)
+    → StandsHere known k c c' steps old → StandsHere known k c c'' steps new
+refused_here {known = known} {k} {c} {c'} {c''} {steps} old new m head why going is (inl told) honest stands =
+    parted_here new (parting.Bank why) told.same.number told.parting (ends_by known told.same.reader told.same.writer)
+    (told.told ∙ ap (λ (b : Bool). pending old ++ answer_text (bare 503) b true) is.shows_is)
+    (answered_unavailable why m (drop head.length (unread old)) is.whole is.front honest (going_of old going stands))
+refused_here {known = known} {k} {c} {c'} {c''} {steps} old new m head why going is (inr lost) honest stands =
+    gone_here old new lost (stands_after old honest stands)

@@ -1,0 +1,153 @@
+-- What is done for the front of what was read from a client, and where it stands then.
+use Rattle.std.proofs.Common.{◌≡◌, ℕ, List, [], ◌∷◌, ◌++◌, drop, None, Bool, Result, Ok, Err}
+use Rattle.std.proofs.Common.{true, false, refl, sym, ap, subst, ◌∙◌, append-nil, inl, inr}
+use Rattle.std.specs.Prelude.{IfOk}
+use Rattle.std.specs.{Borrow.Bor, List.AllByRecursion}
+use Rattle.posting_rules.specs.declared.fault.Fault.{Fault}
+use Rattle.posting_rules.specs.declared.fault.Fault.TheVariants as fault
+use Rattle.posting_rules.specs.believed.Commands.{Command}
+use Rattle.posting_rules.specs.believed.Counter.{Seen, ShowsLog}
+use Rattle.posting_rules.specs.believed.Runs.{followed_by}
+use Rattle.counter_http.specs.Asking.{said_in}
+use Rattle.counter_http.specs.Connections.{Known}
+use Rattle.counter_http.specs.Next.{IsHopeless, IsUnfinished, IsWhole, asked}
+use Rattle.counter_http.specs.Standing.{HasEndedWith, IsAnswered, IsHeadOf, IsRecordIn, IsToldOf, ReadsAnswer}
+use Rattle.counter_http.specs.Standing.{SaysSo, StandsHere, pending, unread}
+use Rattle.counter_http.specs.Tasks.{IsTaskOf}
+use Rattle.counter_http.specs.Turns.{IsAsked}
+use Rattle.counter_http.specs.believed.Answers.{Answer, Asked, answer_text, answer_to, asked_by, bare, is_posting, refusal}
+use Rattle.counter_http.specs.believed.Answers.{shows}
+use Rattle.counter_http.specs.believed.Messages.{EndsWalk, Message, message_text}
+use Rattle.counter_http.specs.believed.Serving.{IsWalked, KeepsConnection}
+use Rattle.counter_http.specs.Order.{Step, of_client, submitted_by}
+use Rattle.counter_http.specs.believed.Turns.{Turn}
+use Rattle.counter_http.specs.declared.answers.Reading.{Reading}
+use Rattle.counter_http.specs.declared.client.Client.{Client}
+use Rattle.counter_http.specs.declared.client.Front.{Front}
+use Rattle.counter_http.specs.declared.client.Front.TheVariants as front
+use Rattle.counter_http.specs.declared.client.Head.{Head}
+use Rattle.counter_http.specs.declared.next.Whole.{Whole}
+use Rattle.counter_http.specs.declared.parting.Parting.TheVariants as parting
+use Rattle.counter_http.specs.declared.tasks.Task.TheVariants.{Submit}
+use Rattle.counter_http.proofs.Answering.{answered_refusal, step_of, waits_so}
+use Rattle.counter_http.proofs.AnsweredTurns.{submits_as}
+use Rattle.counter_http.proofs.Asked.{answered_nothing, asked_as, asked_err, asked_full}
+use Rattle.counter_http.proofs.Fronts.{answered_here, ends_by, going_here, going_of, gone_here, parted_here}
+use Rattle.counter_http.proofs.Fronts.{number_ended, refused_here, stands_after}
+use Rattle.counter_http.proofs.Walking.{walks_always, walks_end}
+
+-- ---- the message at the front
+
+pub head_of : {buf : List ℕ} {w : Whole} (head : Head) (is : IsWhole buf w) → head.length ≡ w.length
+    → head.shows_body ≡ shows (asked w) → head.closes ≡ w.closes → IsHeadOf head buf is.message
+head_of {buf} head is long shown ends = record {
+  whole = is.whole;
+  front = is.front ∙ ap (λ (n : ℕ). message_text is.message ++ drop n buf) (sym long);
+  long = long ∙ is.long;
+  shows_is = shown ∙ ap shows is.asks;
+  closes_is = ends ∙ ap (λ (a : Asked). a.closes) is.asks;
+}
+
+pub record_of : {buf : List ℕ} {w : Whole} (head : Head) (is : IsWhole buf w) (bytes : Bor (List ℕ)) → IsHeadOf head buf is.message
+    → IsTaskOf (asked w) (Submit bytes) → IsRecordIn buf bytes.now head
+record_of head is bytes of task = record {
+  message = is.message;
+  is = of;
+  posting = ap is_posting (sym is.asks) ∙ submits_as _ true task.0;
+  body = task.1 ∙ ap (λ (a : Asked). a.body) is.asks;
+}
+
+-- ---- it is answered
+
+pub says_answered : {C R W X : Type 0} (seen : C → Seen) {reason : Fault → C → C → Type 0} {known : R × W → Known}
+    (bank new : C) (old after : Client R W) (m : Message) (head : Head) (answer : Answer) (done : Front)
+    (result : Result X Fault) → SaysSo old after answer head done → IsHeadOf head (unread old) m
+    → old.parting ≡ None → is_posting (asked_by m) ≡ false → IsAsked seen reason bank new result
+    → ((seen new).honest → (log : List Command) → ShowsLog (seen bank) log → answer ≡ answer_to log (asked_by m))
+    → IsAnswered seen reason known bank new old after result
+says_answered seen {known = known} bank new old after m head answer front.Answered result did is going reads asked says =
+    record {
+      more = step_of old.number 0 m ∷ [];
+      reads = (reads, tt);
+      own = (refl, tt);
+      asked = asked;
+      number = did.same.number;
+      stands = λ k first steps takes stands.
+          answered_here old after 0 m head (answer_text answer head.shows_body head.closes) going is did asked.honest
+          (λ h log s. ap (λ (b : Bool). answer_text answer b head.closes) is.shows_is
+          ∙ ap (λ (b : Bool). answer_text answer (shows (asked_by m)) b) is.closes_is
+          ∙ ap (λ (a : Answer). answer_text a (shows (asked_by m)) (asked_by m).closes)
+          (says h (followed_by log (submitted_by steps)) (takes.shows (asked.honest h) log s))) stands;
+    }
+says_answered seen bank new old after m head answer front.Nothing result lost is going reads asked says =
+    answered_nothing seen bank new old after result asked lost.number
+    (λ k c steps stands. gone_here old after lost (stands_after old asked.honest stands))
+says_answered seen bank new old after m head answer (front.Record r) result did is going reads asked says = absurd did
+
+told_answered : {C R W X : Type 0} (seen : C → Seen) {reason : Fault → C → C → Type 0} {known : R × W → Known}
+    (bank new : C) (old after : Client R W) (m : Message) (head : Head) (why : Fault) (result : Result X Fault)
+    → HasEndedWith old after (answer_text (bare 503) head.shows_body true) (parting.Bank why)
+    → IsHeadOf head (unread old) m → old.parting ≡ None → IsAsked seen reason bank new result
+    → IsAnswered seen reason known bank new old after result
+told_answered seen bank new old after m head why result told is going asked =
+    answered_nothing seen bank new old after result asked (number_ended old after told)
+    (λ k c steps stands. refused_here old after m head why going is told asked.honest stands)
+
+refusal_asked : {C : Type 0} (seen : C → Seen) {reason : Fault → C → C → Type 0} (bank new : C) (why : Fault)
+    (result : Result Front Fault) → IsToldOf why result → IsAsked {X = Reading} seen reason bank new (Err why)
+    → IsAsked seen reason bank new result
+refusal_asked seen {reason} bank new fault.Memory result told asked =
+    subst (λ (r : Result Front Fault). IsAsked seen reason bank new r) (sym told) (asked_full front.Nothing asked)
+refusal_asked seen {reason} bank new fault.Store result told asked =
+    subst (λ (r : Result Front Fault). IsAsked seen reason bank new r) (sym told) (asked_err asked)
+refusal_asked seen {reason} bank new fault.Down result told asked =
+    subst (λ (r : Result Front Fault). IsAsked seen reason bank new r) (sym told) (asked_err asked)
+refusal_asked seen {reason} bank new (fault.Damaged rule) result told asked =
+    subst (λ (r : Result Front Fault). IsAsked seen reason bank new r) (sym told) (asked_err asked)
+
+pub read_answered : {C R W : Type 0} (seen : C → Seen) {reason : Fault → C → C → Type 0} {known : R × W → Known}
+    (bank new : C) (old after : Client R W) (m : Message) (head : Head) (read : Result Reading Fault)
+    (result : Result Front Fault) → ReadsAnswer old after read head result → IsHeadOf head (unread old) m
+    → old.parting ≡ None → is_posting (asked_by m) ≡ false → IsAsked seen reason bank new read
+    → IfOk read (λ reading. (seen new).honest → (log : List Command) → ShowsLog (seen bank) log
+    → said_in reading ≡ answer_to log (asked_by m))
+    → IsAnswered seen reason known bank new old after result
+read_answered seen {reason} {known} bank new old after m head (Ok reading) result did is going reads asked says =
+    says_answered seen bank new old after m head (said_in reading) did.0 result did.2 is going reads
+    (subst (λ (r : Result Front Fault). IsAsked seen reason bank new r) (sym did.1) (asked_as did.0 asked)) says
+read_answered seen bank new old after m head (Err why) result did is going reads asked says =
+    told_answered seen bank new old after m head why result did.0 is going
+    (refusal_asked seen bank new why result did.1 asked)
+
+-- ---- no message is there
+
+pub unfinished_here : {R W : Type 0} {known : R × W → Known} {k : Known} {c c' : Seen} {steps : List Step}
+    (old new : Client R W) (shown : Bool) → new.number ≡ old.number → new.reader ≡ old.reader → new.writer ≡ old.writer
+    → old.parting ≡ None → new.parting ≡ None → new.has_more ≡ false → new.shows_body ≡ shown
+    → unread new ≡ unread old → pending new ≡ pending old → IsUnfinished (unread old) shown
+    → StandsHere known k c c' steps old → StandsHere known k c c' steps new
+unfinished_here {known = known} old new shown number reader writer going going' more shows_is rest left waits stands =
+    going_here new number going' (ends_by known reader writer) more shows_is rest left
+    (waits_so refl (λ e. waits) (going_of old going stands))
+
+hopeless : {has_ended : Type 0} (own : List Turn) (buf : List ℕ) (shown : Bool)
+    → AllByRecursion (λ (t : Turn). KeepsConnection t.message) own → IsHopeless buf shown
+    → IsWalked has_ended own [] buf (refusal shown ∷ [])
+hopeless own buf shown stays is = record {
+  ending = is.ending;
+  walks = walks_end own buf is.ending stays (subst (λ (x : List ℕ). EndsWalk is.ending x) (append-nil buf) (is.ends []));
+  last_is = sym is.told;
+  ended = inr (walks_always own buf is.ending stays is.ends);
+  none_refused = refl;
+}
+
+pub hopeless_here : {R W : Type 0} {known : R × W → Known} {k : Known} {c c' : Seen} {steps : List Step}
+    (old new : Client R W) (shown : Bool) (answer : Answer) → answer ≡ bare 400 → old.parting ≡ None
+    → IsHopeless (unread old) shown → HasEndedWith old new (answer_text answer shown true) parting.Served
+    → StandsHere known k c c' steps old → StandsHere known k c c' steps new
+hopeless_here {known = known} {steps = steps} old new shown answer same going is (inl told) stands =
+    let g = going_of old going stands in
+    parted_here new parting.Served told.same.number told.parting (ends_by known told.same.reader told.same.writer)
+    (told.told ∙ ap (λ (a : Answer). pending old ++ answer_text a shown true) same)
+    (answered_refusal shown g (hopeless (of_client old.number steps) (unread old) shown g.stays is))
+hopeless_here old new shown answer same going is (inr lost) stands = gone_here old new lost stands

@@ -1,0 +1,111 @@
+use Rattle.std.proofs.Common.{◌≡◌, ◌∙◌, refl, sym, ap, Bool, false, Option, Some, None, take, Ok}
+use Rattle.std.proofs.lemmas.{Bool.true≢false}
+use Rattle.std.specs.Prelude.{is_some, not}
+use Rattle.counter_http.specs.{Next.IsHopeless, Next.IsUnfinished, Next.IsWhole, Next.asked, Tasks.IsTaskOf}
+use Rattle.counter_http.specs.believed.Answers.{answer_to, asked_by, balance_answer, branch_lines, is_posting, plain}
+use Rattle.counter_http.specs.Telling.{said}
+use Rattle.counter_http.specs.declared.tasks.Task.TheVariants.{Submit}
+use Rattle.posting_rules.specs.believed.Entries.{balance_after}
+use Rattle.counter_http.proofs.AnsweredTurns.{answers_as, reading_as, submits_as}
+use Rattle.counter_http.proofs.Asked.{answered_nothing, asked_none}
+use Rattle.counter_http.proofs.Fronts.{number_ended}
+use Rattle.counter_http.proofs.Replies.{head_of, hopeless_here, read_answered, record_of, says_answered, unfinished_here}
+use Rattle.counter_http.proofs.client.Client.answer_front.Goals as goal
+
+none_if : {A : Type 0} (o : Option A) (b : Bool) → b ≡ is_some o → b ≡ false → o ≡ None
+none_if None b e f = refl
+none_if (Some x) b e f = absurd (true≢false (sym e ∙ f))
+
+-- nothing is done
+pub returns-then-not-self-clause-answers : goal.returns-then-not-self-clause-answers
+returns-then-not-self-clause-answers g c =
+    answered_nothing g.C.Counter.seen c.args.bank.now c.args.bank.now c.args.self.now c.args.self.now _
+    (asked_none g.C.Counter.seen c.args.bank.now _) refl (λ k first steps is. is)
+
+-- a record
+pub returns-in-Submit-clause-answers : goal.returns-in-Submit-clause-answers
+returns-in-Submit-clause-answers g c =
+    answered_nothing g.C.Counter.seen c.args.bank.now c.args.bank.now c.args.self.now c.args.self.now _
+    (asked_none g.C.Counter.seen c.args.bank.now _) refl (λ k first steps is. is)
+
+pub returns-in-Submit-clause-record : goal.returns-in-Submit-clause-record
+returns-in-Submit-clause-record g c =
+    let whole : IsWhole (take c.args.self.now.filled c.args.self.now.input.items) c.in-Message.message =
+    rw c.deref.ensures.value at c.in-Message.ensures in
+    let task : IsTaskOf (asked c.in-Message.message) (Submit c.in-Submit.bytes) = c.in-Submit.ensures in
+    record {
+      going = none_if c.args.self.now.parting c.is_some.result c.is_some.ensures c.if-is_some.false;
+      is = record_of _ whole c.in-Submit.bytes (head_of _ whole refl (ap not c.is_head.ensures) refl) task;
+    }
+
+-- an answer that needs no bank
+pub returns-in-Say-clause-answers : goal.returns-in-Say-clause-answers
+returns-in-Say-clause-answers g c =
+    let whole : IsWhole (take c.args.self.now.filled c.args.self.now.input.items) c.in-Message.message =
+    rw c.deref.ensures.value at c.in-Message.ensures in
+    let a = asked c.in-Message.message in
+    says_answered g.C.Counter.seen c.args.bank.now c.args.bank.now c.args.self.now c.say.new.self whole.message _
+    (said c.in-Say.response) c.say.result (Ok c.say.result) c.say.ensures
+    (head_of _ whole refl (ap not c.is_head.ensures) refl)
+    (none_if c.args.self.now.parting c.is_some.result c.is_some.ensures c.if-is_some.false)
+    (ap is_posting (sym whole.asks) ∙ submits_as a false c.in-Say.ensures.0)
+    (asked_none g.C.Counter.seen c.args.bank.now c.say.result)
+    (λ h log s. sym (ap (answer_to log) (sym whole.asks)
+    ∙ answers_as a log (said c.in-Say.response) (c.in-Say.ensures.1 log)))
+
+-- the balance of an account
+pub returns-in-Balance-clause-answers : goal.returns-in-Balance-clause-answers
+returns-in-Balance-clause-answers g c =
+    let whole : IsWhole (take c.args.self.now.filled c.args.self.now.input.items) c.in-Message.message =
+    rw c.deref.ensures.value at c.in-Message.ensures in
+    let a = asked c.in-Message.message in
+    read_answered g.C.Counter.seen c.args.bank.now c.read_balance-read.new.bank c.args.self.now
+    c.answer_reading.new.self whole.message _ c.read_balance-read.result c.answer_reading.result
+    c.answer_reading.ensures (head_of _ whole refl (ap not c.is_head.ensures) refl)
+    (none_if c.args.self.now.parting c.is_some.result c.is_some.ensures c.if-is_some.false)
+    (ap is_posting (sym whole.asks) ∙ submits_as a false c.in-Balance.ensures.0) c.read_balance-read.ensures.asked
+    (reading_as (g.C.Counter.seen c.read_balance-read.new.bank).honest (g.C.Counter.seen c.args.bank.now)
+    c.read_balance-read.result (λ log. balance_answer c.in-Balance.account (balance_after log c.in-Balance.account))
+    (asked_by whole.message)
+    (λ log. ap (answer_to log) (sym whole.asks) ∙ answers_as a log _ (c.in-Balance.ensures.1 log))
+    c.read_balance-read.ensures.answer)
+
+-- the open branches
+pub returns-in-Branches-clause-answers : goal.returns-in-Branches-clause-answers
+returns-in-Branches-clause-answers g c =
+    let whole : IsWhole (take c.args.self.now.filled c.args.self.now.input.items) c.in-Message.message =
+    rw c.deref.ensures.value at c.in-Message.ensures in
+    let a = asked c.in-Message.message in
+    read_answered g.C.Counter.seen c.args.bank.now c.read_branches-read.new.bank c.args.self.now
+    c.answer_reading-in-Branches.new.self whole.message _ c.read_branches-read.result
+    c.answer_reading-in-Branches.result c.answer_reading-in-Branches.ensures
+    (head_of _ whole refl (ap not c.is_head.ensures) refl)
+    (none_if c.args.self.now.parting c.is_some.result c.is_some.ensures c.if-is_some.false)
+    (ap is_posting (sym whole.asks) ∙ submits_as a false c.in-Branches.ensures.0) c.read_branches-read.ensures.asked
+    (reading_as (g.C.Counter.seen c.read_branches-read.new.bank).honest (g.C.Counter.seen c.args.bank.now)
+    c.read_branches-read.result (λ log. plain (branch_lines log)) (asked_by whole.message)
+    (λ log. ap (answer_to log) (sym whole.asks) ∙ answers_as a log _ (c.in-Branches.ensures.1 log))
+    c.read_branches-read.ensures.answer)
+
+-- the rest is waited for
+pub returns-in-Unfinished-clause-answers : goal.returns-in-Unfinished-clause-answers
+returns-in-Unfinished-clause-answers g c =
+    let old = c.args.self.now in
+    let waits : IsUnfinished (take old.filled old.input.items) c.in-Unfinished.shows =
+    rw c.deref.ensures.value at c.in-Unfinished.ensures in
+    let going = none_if old.parting c.is_some.result c.is_some.ensures c.if-is_some.false in
+    answered_nothing g.C.Counter.seen c.args.bank.now c.args.bank.now old _ _
+    (asked_none g.C.Counter.seen c.args.bank.now _) refl
+    (λ k first steps is. unfinished_here old _ c.in-Unfinished.shows refl refl refl going going refl refl refl refl
+    waits is)
+
+-- it is no message
+pub returns-in-Refused-clause-answers : goal.returns-in-Refused-clause-answers
+returns-in-Refused-clause-answers g c =
+    let old = c.args.self.now in
+    let is : IsHopeless (take old.filled old.input.items) c.in-Refused.shows =
+    rw c.deref.ensures.value at c.in-Refused.ensures in
+    answered_nothing g.C.Counter.seen c.args.bank.now c.args.bank.now old c.end_with.new.self _
+    (asked_none g.C.Counter.seen c.args.bank.now _) (number_ended old c.end_with.new.self c.end_with.ensures)
+    (λ k first steps stands. hopeless_here old c.end_with.new.self c.in-Refused.shows _ c.bad_request.ensures
+    (none_if old.parting c.is_some.result c.is_some.ensures c.if-is_some.false) is c.end_with.ensures stands)

@@ -1,0 +1,38 @@
+use Rattle.std.proofs.Common.{◌-◌, ◌∙◌, ap, refl, take}
+use Rattle.std.proofs.lemmas.List.{with_items_is}
+use Rattle.counter_http.proofs.Buffers.{moved_front, told_onto}
+use Rattle.counter_http.proofs.client.Client.answer_with.Goals as goal
+
+-- the connection ends
+pub returns-then-head : goal.returns-then-head
+returns-then-head g c =
+    let old = c.args.self.now in
+    record {
+      same = record { number = refl; reader = refl; writer = refl };
+      told = told_onto c.tell.result old.output.items c.tell.new.writer.items _ old.written old.written_within
+          c.if-is_err.ensures.value c.tell.ensures.written;
+      rest = ap (take (old.filled - c.args.head.length)) (with_items_is old.input c.move_to_front.new.buffer
+          (c.move_to_front.auto.buffer ∙ c.deref_mut.ensures.len))
+          ∙ moved_front old.input.items c.move_to_front.new.buffer old.filled c.args.head.length c.requires
+          (rw c.deref_mut.ensures.value at c.move_to_front.ensures);
+      parting = rw c.if-head.true refl;
+      more = λ e. cc (c.if-head.true, e);
+      shows = refl;
+    }
+
+-- it goes on
+pub returns-else-head : goal.returns-else-head
+returns-else-head g c =
+    let old = c.args.self.now in
+    record {
+      same = record { number = refl; reader = refl; writer = refl };
+      told = told_onto c.tell.result old.output.items c.tell.new.writer.items _ old.written old.written_within
+          c.if-is_err.ensures.value c.tell.ensures.written;
+      rest = ap (take (old.filled - c.args.head.length)) (with_items_is old.input c.move_to_front.new.buffer
+          (c.move_to_front.auto.buffer ∙ c.deref_mut.ensures.len))
+          ∙ moved_front old.input.items c.move_to_front.new.buffer old.filled c.args.head.length c.requires
+          (rw c.deref_mut.ensures.value at c.move_to_front.ensures);
+      parting = rw c.if-head.false refl;
+      more = λ e. rw c.if-head.false refl;
+      shows = refl;
+    }

@@ -1,0 +1,46 @@
+use Rattle.std.proofs.Common.{Ok, refl}
+use Rattle.std.proofs.lemmas.Result.{err_from_is_err_and}
+use Rattle.counter_http.proofs.Asked.{answered_as, answered_nothing, answered_then, asked_none, answered_err}
+use Rattle.counter_http.proofs.client.Client.next_record.Goals as goal
+
+pub messages-init : goal.messages-init
+messages-init g c = record {
+  answered = answered_nothing g.C.Counter.seen c.args.bank.now c.args.bank.now c.args.self.now c.args.self.now (Ok tt)
+      (asked_none g.C.Counter.seen c.args.bank.now tt) refl (λ k first steps is. is);
+  spares = g.met.C.Counter.spares_itself c.args.bank.now;
+}
+
+-- many answers are left
+pub returns-then-untaken-gt-UNTAKEN-clause-answers : goal.returns-then-untaken-gt-UNTAKEN-clause-answers
+returns-then-untaken-gt-UNTAKEN-clause-answers g c = answered_as _ c.messages.invariant.answered
+
+-- the bank refused a call
+pub returns-in_err-answer_front-clause-answers : goal.returns-in_err-answer_front-clause-answers
+returns-in_err-answer_front-clause-answers g c =
+    let told = err_from_is_err_and c.from_residual.result c.from_residual.ensures.1 in
+    rw (told.1, told.2) (answered_err (answered_then g.C.Counter.seen c.args.bank.now c.messages.bank
+    c.answer_front.new.bank c.args.self.now c.messages.self c.answer_front.new.self _ c.messages.invariant.answered
+    c.in_err-answer_front.ensures.answers))
+
+-- no more can be done now
+pub returns-in-Nothing-clause-answers : goal.returns-in-Nothing-clause-answers
+returns-in-Nothing-clause-answers g c =
+    answered_as _ (answered_then g.C.Counter.seen c.args.bank.now c.messages.bank
+    c.answer_front.new.bank c.args.self.now c.messages.self c.answer_front.new.self _ c.messages.invariant.answered
+    c.in_ok-answer_front.ensures.answers)
+
+-- a record
+pub returns-in-Record-clause-answers : goal.returns-in-Record-clause-answers
+returns-in-Record-clause-answers g c =
+    answered_as _ (answered_then g.C.Counter.seen c.args.bank.now c.messages.bank
+    c.answer_front.new.bank c.args.self.now c.messages.self c.answer_front.new.self _ c.messages.invariant.answered
+    c.in_ok-answer_front.ensures.answers)
+
+pub messages-preserved : goal.messages-preserved
+messages-preserved g c = record {
+  answered = answered_as tt (answered_then g.C.Counter.seen c.args.bank.now c.messages.bank
+      c.answer_front.new.bank c.args.self.now c.messages.self c.answer_front.new.self _ c.messages.invariant.answered
+      c.in_ok-answer_front.ensures.answers);
+  spares = g.met.C.Counter.spares_then c.args.bank.now c.messages.bank c.answer_front.new.bank
+      c.messages.invariant.spares c.in_ok-answer_front.ensures.spares;
+}

@@ -1,0 +1,18 @@
+-- What the calls of what gives clients returned, where it is known: its openings and its closings.
+use Rattle.std.specs.Prelude.{ℕ, List, [], ◌∷◌, Option, Some, None, Result, Ok, Err}
+use Rattle.std.specs.IoError.{error_kind}
+use Rattle.std.specs.declared.io.Error.{Error}
+use Rattle.std.specs.declared.io.ErrorKind.{ErrorKind}
+
+pub data ClientsTold (E : Type 0) : Type 0 where
+  -- an opening gave the client of this number, by its two ends
+  Gave : ℕ → E → ClientsTold E
+  -- an opening failed, with an error of this kind
+  Refused : ErrorKind → ClientsTold E
+  -- the connection of the client of this number was closed, and its ends were these
+  Closed : ℕ → E → ClientsTold E
+
+abbrev pub opened_told : {E : Type 0} → ℕ → Result (Option E) Error → List (ClientsTold E)
+opened_told number (Ok (Some ends)) = Gave number ends ∷ []
+opened_told number (Ok None) = []
+opened_told number (Err e) = Refused (error_kind e) ∷ []

@@ -1,0 +1,76 @@
+-- Clients that are served at once: there is one order of all their messages, in which the bank takes the
+-- records, and each client has its answers in it. The bank is old before and new after, and seen says what is
+-- seen of it. The ends of a client are known before as k and after as l.
+use Rattle.std.specs.Prelude.{◌≡◌, ◌≤◌, ℕ, ◌==◌, List, [], ◌∷◌, ◌++◌, length, map, Bool, true, false}
+use Rattle.std.specs.List.{AllByRecursion, flat_map}
+use Rattle.posting_rules.specs.declared.limits.TheConstants.{RECORDS_PER_BATCH}
+use Rattle.posting_rules.specs.believed.Commands.{Command}
+use Rattle.posting_rules.specs.believed.Runs.{followed_by}
+use Rattle.counter_http.specs.believed.Answers.{asked_by, answer_of, is_posting}
+use Rattle.counter_http.specs.believed.Turns.{Turn, commands_in, commands_of}
+
+-- ---- one order of all messages
+
+-- a message that a client has its answer to: how many clients came before that one, and the message in its turn
+pub record Step : Type 0 where
+  pub client : ℕ
+  pub turn : Turn
+
+abbrev pub turn_in : Step → Turn
+turn_in s = s.turn
+
+abbrev pub turns_of : List Step → List Turn
+turns_of ss = map turn_in ss
+
+abbrev pub submitted_by : List Step → List Command
+submitted_by ss = commands_of (turns_of ss)
+
+abbrev pub if_own : {A : Type 0} → Bool → A → List A → List A
+if_own true x xs = x ∷ xs
+if_own false x xs = xs
+
+-- the messages of one client, in their order
+abbrev pub of_client : ℕ → List Step → List Turn
+of_client i [] = []
+of_client i (s ∷ ss) = if_own (s.client == i) s.turn (of_client i ss)
+
+-- the answers that it has after a log: each is the answer after all that came before it, of whatever client
+abbrev pub answers_at : ℕ → List Command → List Step → List (List ℕ)
+answers_at i log [] = []
+answers_at i log (s ∷ ss) =
+    if_own (s.client == i) (answer_of log (asked_by s.turn.message))
+    (answers_at i (followed_by log (commands_in s.turn)) ss)
+
+-- ---- rounds
+
+-- first messages that submit nothing, and then the records that were submitted together, if there were any,
+-- under one reading of the clock
+pub record Round : Type 0 where
+  pub reads : List Step
+  pub readings : List ℕ
+  pub posts : List Step
+
+abbrev pub asks_to_read : Step → Type 0
+asks_to_read s = is_posting (asked_by s.turn.message) ≡ false
+
+abbrev pub is_posted_under : List ℕ → Step → Type 0
+is_posted_under readings s =
+    (is_posting (asked_by s.turn.message) ≡ true) × (readings ≡ s.turn.moment ∷ [])
+
+pub record IsRound (r : Round) : Type 0 where
+  pub reads : AllByRecursion asks_to_read r.reads
+  pub once : length r.readings ≤ 1
+  pub together : AllByRecursion (is_posted_under r.readings) r.posts
+  pub few : length r.posts ≤ RECORDS_PER_BATCH
+
+abbrev pub steps_in : Round → List Step
+steps_in r = r.reads ++ r.posts
+
+abbrev pub steps_of : List Round → List Step
+steps_of rs = flat_map steps_in rs
+
+abbrev pub readings_in : Round → List ℕ
+readings_in r = r.readings
+
+abbrev pub readings_of : List Round → List ℕ
+readings_of rs = flat_map readings_in rs

@@ -1,0 +1,197 @@
+-- What each client that is served beside others reads and is written, and what all of it together does to the
+-- bank. The bank is old before and new after, and seen says what is seen of it. Of the ends of a client k is known
+-- before and l after.
+use Rattle.std.specs.Prelude.{◌≡◌, ◌<◌, ◌≤◌, ◌≢◌, ℕ, List, [], ◌∷◌, ◌++◌, length, map, take, get_or, Option}
+use Rattle.std.specs.Prelude.{Result, Err, ⊤, All, AllPairs, Contains, IfErr}
+use Rattle.std.specs.List.{AllByRecursion}
+use Rattle.std.specs.Io.KnownBytes.{Appends, Consumes}
+use Rattle.posting_rules.specs.declared.fault.Fault.{Fault}
+use Rattle.posting_rules.specs.believed.Commands.{Command}
+use Rattle.posting_rules.specs.believed.Counter.{Seen, ShowsLog, StandsAt, LeavesOnly, ShowsPrefix, Takes, Refuses}
+use Rattle.posting_core.specs.Stream.{given, IsOfCall}
+use Rattle.posting_core.specs.believed.Batches.{joined}
+use Rattle.posting_core.specs.believed.Clock.{AreReadings}
+use Rattle.posting_core.specs.believed.Told.{EndsWith, GrowsBy, ReadTold}
+use Rattle.posting_core.specs.Told.{Beside, HasWriteFailed, IsReadFailure, IsThrough, WriteTold, unknown}
+use Rattle.counter_http.specs.Clients.{ClientsTold, Gave, Refused, Closed}
+use Rattle.counter_http.specs.Connections.{Known}
+use Rattle.counter_http.specs.declared.listen_fault.ListenFault.{ListenFault}
+use Rattle.counter_http.specs.declared.listen_fault.ListenFault.TheVariants.{Network, Bank}
+use Rattle.counter_http.specs.declared.parting.Parting.{Parting}
+use Rattle.counter_http.specs.declared.parting.Parting.TheVariants as parting
+use Rattle.counter_http.specs.believed.Ends.{HasEnded}
+use Rattle.counter_http.specs.believed.Turns.{Turn, texts_of}
+use Rattle.counter_http.specs.believed.Serving.{KeepsConnection, BeginsWithNoMessage, IsWalked, IsBrokenOff}
+use Rattle.counter_http.specs.believed.Serving.{ServingIsCutOff}
+use Rattle.counter_http.specs.Order.{Step, Round, IsRound, of_client, answers_at, submitted_by}
+use Rattle.counter_http.specs.Order.{steps_of, readings_of}
+
+-- ---- where a client stands
+
+-- its messages were answered, and more may come
+pub record GoesOn (own lost : List Turn) (last : List (List ℕ)) : Type 0 where
+  pub stays : AllByRecursion (λ t. KeepsConnection t.message) own
+  pub none_lost : lost ≡ []
+  pub nothing : last ≡ []
+
+-- its messages are own, of which lost was refused by the bank, and rest was read after them; the last answer is no
+-- answer of the bank
+pub data Stands (has_ended : Type 0) (own lost : List Turn) (rest : List ℕ) (last : List (List ℕ)) : Type 0 where
+  On : GoesOn own lost last → Stands has_ended own lost rest last
+  -- the walk over its messages ended
+  Through : IsWalked has_ended own lost rest last → Stands has_ended own lost rest last
+  -- the bank refused one
+  Broken : IsBrokenOff own lost last → Stands has_ended own lost rest last
+
+-- why it was parted from
+abbrev pub PartsAs : Parting → (has_ended : Type 0) → (own lost : List Turn) → (rest : List ℕ)
+    → (last : List (List ℕ)) → Type 0
+PartsAs parting.Served has_ended own lost rest last = IsWalked has_ended own lost rest last
+PartsAs parting.Read has_ended own lost rest last = ServingIsCutOff own lost rest last
+PartsAs (parting.Bank fault) has_ended own lost rest last = IsBrokenOff own lost last
+PartsAs _ has_ended own lost rest last = Stands has_ended own lost rest last
+
+-- all of the text was written, or a prefix of it
+abbrev pub IsWrittenAs : Parting → (written text : List ℕ) → Type 0
+IsWrittenAs parting.Served written text = written ≡ text
+IsWrittenAs parting.Read written text = written ≡ text
+IsWrittenAs (parting.Bank fault) written text = written ≡ text
+IsWrittenAs _ written text = written ≡ take (length written) text
+
+-- a fault of an end comes where that end failed, and all that was written was flushed elsewhere
+abbrev pub PartingIsOfItsEnd : Parting → (q q' : Option (List ReadTold)) → (v v' : Option (List WriteTold))
+    → Type 0
+PartingIsOfItsEnd parting.Served q q' v v' = IsThrough v v'
+PartingIsOfItsEnd parting.Read q q' v v' = EndsWith IsReadFailure q q' × IsThrough v v'
+PartingIsOfItsEnd parting.Write q q' v v' = HasWriteFailed v v'
+PartingIsOfItsEnd (parting.Bank fault) q q' v v' = IsThrough v v'
+PartingIsOfItsEnd _ q q' v v' = ⊤
+
+-- ---- no answer waits for the next read
+
+-- as a read was made, the sink held the answers to all whole messages at the front of the input and no more: those
+-- that were answered then, before all others
+pub record HoldsOwnAnswers (i : ℕ) (w : Option (List ℕ)) (t : Option (List WriteTold)) (c c' : Seen)
+    (steps : List Step) (input : List ℕ) (sink : Beside) : Type 0 where
+  pub before : List Step
+  pub after : List Step
+  pub order : steps ≡ before ++ after
+  pub rest : List ℕ
+  pub input_is : input ≡ texts_of (of_client i before) ++ rest
+  pub no_more : BeginsWithNoMessage rest
+  pub wrote : c'.honest → (log : List Command) → ShowsLog c log
+      → Appends w sink.contents (joined (answers_at i log before))
+  pub through : IsThrough t sink.told
+
+-- so it was at each of a client's reads
+pub record AnswersBeforeItsReads (i : ℕ) (q q' : Option (List ReadTold)) (b b' : Option (List Beside))
+    (w : Option (List ℕ)) (t : Option (List WriteTold)) (c c' : Seen) (steps : List Step) (input : List ℕ)
+    : Type 0 where
+  pub reads : List ReadTold
+  pub made : GrowsBy q q' reads
+  pub long : given reads ≡ length input
+  pub sinks : List Beside
+  pub beside : GrowsBy b b' sinks
+  pub each : length sinks ≡ length reads
+  pub answered : (n : ℕ) → n < length reads
+      → HoldsOwnAnswers i w t c c' steps (take (given (take n reads)) input) (get_or sinks n unknown)
+
+-- ---- what became of a client
+
+-- The client before whom i came, where all messages that were answered are steps, in this order.
+pub record ClientIsServed (i : ℕ) (k l : Known) (c c' : Seen) (steps : List Step) (p : Parting) : Type 0 where
+  -- the message that the bank refused, if it did, and what was read after it; and the answer to that, or to what
+  -- is no message
+  pub lost : List Turn
+  pub rest : List ℕ
+  pub last : List (List ℕ)
+  pub read : Consumes k.reader l.reader (texts_of (of_client i steps ++ lost) ++ rest)
+  pub written : List ℕ
+  pub wrote : Appends k.writer l.writer written
+  pub parts : PartsAs p (HasEnded l.reader k.reads l.reads) (of_client i steps) lost rest last
+  pub answers : c'.honest → (log : List Command) → ShowsLog c log
+      → IsWrittenAs p written (joined (answers_at i log steps ++ last))
+  pub ends : PartingIsOfItsEnd p k.reads l.reads k.writes l.writes
+  pub prompt : AnswersBeforeItsReads i k.reads l.reads k.beside l.beside k.writer k.writes c c' steps
+      (texts_of (of_client i steps ++ lost) ++ rest)
+
+-- ---- clients one after another, as their connections were closed
+
+-- the client before whom so many came, the ends that it was given by, how it left them, and why it was parted from
+pub record Visit (E : Type 0) : Type 0 where
+  pub number : ℕ
+  pub given : E
+  pub left : E
+  pub parting : Parting
+
+abbrev pub closed_of : {E : Type 0} → Visit E → ℕ × E
+closed_of v = (v.number, v.left)
+
+abbrev pub OfOthers : {E : Type 0} → Visit E → Visit E → Type 0
+OfOthers v u = v.number ≢ u.number
+
+-- the openings among calls, and the closings
+abbrev pub openings : {E : Type 0} → List (ClientsTold E) → List (ℕ × E)
+openings [] = []
+openings (Gave n e ∷ cs) = (n, e) ∷ openings cs
+openings (Closed n e ∷ cs) = openings cs
+openings (Refused kind ∷ cs) = openings cs
+
+abbrev pub closings : {E : Type 0} → List (ClientsTold E) → List (ℕ × E)
+closings [] = []
+closings (Gave n e ∷ cs) = closings cs
+closings (Closed n e ∷ cs) = (n, e) ∷ closings cs
+closings (Refused kind ∷ cs) = closings cs
+
+-- each was given by an opening, and was served so
+abbrev pub IsVisited : {E : Type 0} → (known : E → Known) → (c c' : Seen) → List Step → List (ClientsTold E)
+    → Visit E → Type 0
+IsVisited known c c' steps calls v =
+    Contains calls (Gave v.number v.given)
+    × ClientIsServed v.number (known v.given) (known v.left) c c' steps v.parting
+
+-- ---- all of it
+
+-- what the fault of the bank says
+abbrev pub IfBank : ListenFault → (Fault → Type 0) → Type 0
+IfBank (Bank fault) P = P fault
+IfBank Network P = ⊤
+
+-- how the serving ended: the bank refused nothing then, or the one message or the batch of the last round
+abbrev pub EndsTogether : {C : Type 0} → (C → Seen) → Result (Unit {0}) ListenFault → (stood new : C)
+    → (refused : List Step) → Type 0
+EndsTogether seen (Err (Bank fault)) stood new refused =
+    Refuses fault (seen stood) (seen new) (submitted_by refused)
+EndsTogether seen _ stood new refused = (refused ≡ []) × (new ≡ stood)
+
+pub record ServesTogether {C E : Type 0} (seen : C → Seen) (reason : Fault → C → C → Type 0) (known : E → Known)
+    (g g' : Option (List (ClientsTold E))) (k k' : Option (List ℕ)) (old new : C) (n : ℕ)
+    (result : Result (Unit {0}) ListenFault) : Type 0 where
+  -- what the bank took, round by round, and what it refused last
+  pub rounds : List Round
+  pub are_rounds : AllByRecursion IsRound rounds
+  pub refused : List Step
+  pub clock : AreReadings k k' (readings_of rounds)
+  -- the bank stood here when it had taken the messages, and it was down then only where it was down before
+  pub stood : C
+  pub honest_first : (seen stood).honest → (seen old).honest
+  pub honest : (seen new).honest → (seen stood).honest
+  pub up : (seen stood).is_down → (seen old).is_down
+  pub takes : Takes (seen old) (seen stood) (submitted_by (steps_of rounds))
+  pub ends : EndsTogether seen result stood new refused
+  -- a crash leaves all that it took
+  pub survives : (seen new).honest → (log : List Command) → StandsAt (seen old) log
+      → LeavesOnly (seen new) (ShowsPrefix log (submitted_by (steps_of rounds ++ refused))
+      (length (submitted_by (steps_of rounds))))
+  pub idle : (seen old).is_down → new ≡ old
+  -- a fault of the bank says why a call was refused
+  pub why : IfErr result (λ fault. IfBank fault (IsOfCall seen reason old new))
+  -- the clients, as their connections were closed: each one that was taken in, once
+  pub calls : List (ClientsTold E)
+  pub told : GrowsBy g g' calls
+  pub visits : List (Visit E)
+  pub closed : map closed_of visits ≡ closings calls
+  pub once : AllPairs OfOthers visits
+  pub each : All (IsVisited known (seen old) (seen new) (steps_of rounds) calls) visits
+  pub all : length visits ≡ length (openings calls)
+  pub many : length visits ≤ n

@@ -1,0 +1,49 @@
+//! Where clients come in, and how they are waited for.
+ghost use Rattle.std.specs.Prelude.{◌∷◌, [], ℕ, List, Option, None};
+ghost use Rattle.posting_core.specs.believed.Told.{GrowsBy};
+ghost use Rattle.counter_http.specs.Clients.{ClientsTold, Closed, opened_told};
+
+use crate::client::Client;
+use posting_core::{Sink, Source};
+use std::io;
+
+/// What is known of a client's stream.
+#[derive(Clone, Copy, Debug, PartialEq, Eq)]
+pub enum Readiness {
+    /// Nothing can be done with it now.
+    Waits,
+    /// It may give bytes, or take some where there are answers for it.
+    Ready,
+    /// The client kept a limit waiting, or its place is needed: it is given up.
+    GivenUp,
+}
+
+/// What gives clients, each by its two ends, and waits for them. An end says by `Interrupted` that it gives or
+/// takes nothing now. A type of its own may know what its calls returned.
+pub trait Clients {
+    type Reader: Source + Drop;
+
+    type Writer: Sink + Drop;
+
+    /// What each opening returned so far, and what each closing was given, where it is known.
+    ghost told: { Self → Option (List (ClientsTold (Self.Reader × Self.Writer))) } = { λ _. None };
+
+    /// Waits until a stream is ready, one more client has come where one is taken, or a limit has passed. It
+    /// doesn't wait where a client has more. It says how it is with each of them, in their order; of those
+    /// that it says nothing of nothing is known.
+    fn wait(
+        &mut self,
+        clients: &[Client<Self::Reader, Self::Writer>],
+        takes_more: bool,
+        readiness: &mut Vec<Readiness>,
+    )
+        ensures { GrowsBy (told self.old) (told self.new) [] };
+
+    /// The next client, the one before whom so many came; none where nobody waits to be taken in.
+    fn open(&mut self, number: u64) -> io::Result<Option<(Self::Reader, Self::Writer)>>
+        ensures { GrowsBy (told self.old) (told self.new) (opened_told number result) };
+
+    /// Closes the connection of a client, once what was written has come to it.
+    fn close(&mut self, number: u64, reader: Self::Reader, writer: Self::Writer)
+        ensures { GrowsBy (told self.old) (told self.new) (Closed number (reader, writer) ∷ []) };
+}
