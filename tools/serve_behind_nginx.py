@@ -1,15 +1,21 @@
-"""The tellers of tools/serve_behind_nginx.sh, which makes the folder with nginx.conf, what is killed beneath them, and
-who is refused."""
+#!/usr/bin/env python3
+"""Starts `bank serve` and nginx in front of it, as in examples/nginx.conf, on loopback, and kills either at random while
+20 tellers post through it and send again what got no answer: nothing is lost, nothing is posted twice, and the audit
+is consistent. Half of the tellers show a certificate, and half a password; who posts as another teller, or not from
+the page of this server, is refused. It needs the built program, nginx and openssl, is bounded in count and time, and
+stands outside the gate.
+    tools/serve_behind_nginx.py [KILLS [RECORDS A TELLER]]"""
 import base64
 import random
 import socket
 import ssl
 import subprocess
 import sys
+import tempfile
 import threading
 import time
 
-from serve_client import BANK, Restarted, make_bank, need_program, post, read_answer, record
+from serve_client import BANK, HERE, Restarted, make_bank, need_program, post, read_answer, record
 
 PLAN = [(1, 3), (2, 2)]
 ACCOUNTS = [1, 2, 3, 100001, 100002]
@@ -124,7 +130,15 @@ def answer_of(tls, port, message):
 
 def main():
     need_program()
-    folder, front, back, kills, count = sys.argv[1], *map(int, sys.argv[2:6])
+    kills, count = map(int, sys.argv[1:] + ["30", "200"][len(sys.argv) - 1:])
+    with tempfile.TemporaryDirectory() as folder:
+        with socket.create_server(("127.0.0.1", 0)) as one, socket.create_server(("127.0.0.1", 0)) as other:
+            front, back = one.getsockname()[1], other.getsockname()[1]
+        subprocess.run([HERE + "/tools/nginx_folder.sh", folder, str(front), str(back)], check=True)
+        serve(folder, front, back, kills, count)
+
+
+def serve(folder, front, back, kills, count):
     file = folder + "/bank.db"
     make_bank(file, PLAN)
     bank = Restarted([BANK, "serve", file, f"127.0.0.1:{back}", "--connections", "1000000"])
