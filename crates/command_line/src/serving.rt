@@ -7,9 +7,8 @@ ghost use Rattle.posting_core.specs.Told.{HasWriteFailed};
 use crate::{CommandFault, ListeningLine, print_listening};
 use counter_http::serve_connections;
 use posting_core::{Clock, Counter, Sink};
-use std::io;
 use std::net::TcpListener;
-use std::time;
+use std::{io, time};
 
 /// What gives connections, and the time and the memory that they take. It opens no file.
 pub trait Network: time::Clock + AllocGlobal {
