@@ -28,13 +28,14 @@ pub trait Clients {
     /// What each opening returned so far, and what each closing was given, where it is known.
     ghost told: { Self → Option (List (ClientsTold (Self.Reader × Self.Writer))) } = { λ _. None };
 
-    /// Waits until a stream is ready, one more client has come where one is taken, or a limit has passed. It
-    /// doesn't wait where a client has more. It says how it is with each of them, in their order; of those
+    /// Waits until a stream is ready, one more client has come where more are to come, or a limit has passed. It
+    /// doesn't wait where a client has more. Where all places are taken, it may give a client up that says
+    /// nothing, for the next one. It says how it is with each of them, in their order; of those
     /// that it says nothing of nothing is known.
     fn wait(
         &mut self,
         clients: &[Client<Self::Reader, Self::Writer>],
-        takes_more: bool,
+        awaits_more: bool,
         readiness: &mut Vec<Readiness>,
     )
         ensures { GrowsBy (told self.old) (told self.new) [] };

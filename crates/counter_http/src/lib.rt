@@ -42,9 +42,6 @@
 
 mod accounts;
 mod answers;
-mod batch;
-mod client;
-mod clients;
 mod close;
 mod connection;
 mod connections;
@@ -57,25 +54,31 @@ mod lines;
 mod listen_fault;
 mod next;
 mod pace;
-mod parting;
 mod queue;
 mod reader;
 mod routes;
 mod tasks;
 mod telling;
-mod together;
 pub mod waiting_limits;
 mod writer;
 
-pub use client::Client;
-pub use clients::{Clients, Readiness};
+// Clients that are served at once: each client's part is proved, the rounds are safe and end, and `serve_connections`
+// doesn't do it yet.
+mod batch;
+mod client;
+mod clients;
+mod closing;
+mod parting;
+mod patience;
+mod stream_ends;
+mod tcp_clients;
+mod together;
+
 pub use connection::{Served, serve_connection};
 pub use connections::{serve_connections, serve_door};
 pub use door::{Door, TcpDoor};
 pub use fault::ServeFault;
 pub use limits::{MAX_BODY, MAX_FIELDS, MAX_HEAD};
 pub use listen_fault::ListenFault;
-pub use parting::Parting;
 pub use reader::TimedReader;
-pub use together::{MOST_CLIENTS, serve_together};
 pub use writer::TimedWriter;

@@ -137,8 +137,7 @@ fn serve_rounds<D: Clients, K: Clock, C: Counter>(
         if came == connections && here.is_empty() {
             return Ok(());
         }
-        let takes_more = came < connections && here.len() < MOST_CLIENTS;
-        door.wait(here, takes_more, &mut readiness);
+        door.wait(here, came < connections, &mut readiness);
         go_on(here, &readiness);
         came = take_in(alloc, door, came, connections, here)?;
         let answered = answer(alloc, routes, here, first, clock, bank);
