@@ -359,10 +359,12 @@ def routed(book, method, target, body):
             return bare(405, b"POST")
         return (200, BYTES, book.answer(0, body), b"") if len(body) == 100 else bare(400)
     account = re.fullmatch(rb"/account/([^/]+)", path, re.DOTALL)
-    if path != b"/branches" and not account or not is_utf8(path):
+    if path not in (b"/branches", b"/health") and not account or not is_utf8(path):
         return bare(404)
     if method not in (b"GET", b"HEAD"):
         return bare(405, b"GET, HEAD")
+    if path == b"/health":
+        return 200, TEXT, b"ok\n", b""
     if path == b"/branches":
         rows = sorted(book.rows["branch"].items())
         return 200, TEXT, b"".join(b"%6d %7d %14d\n" % (bid, *row) for bid, row in rows), b""

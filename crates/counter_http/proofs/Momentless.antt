@@ -9,7 +9,7 @@ use Rattle.posting_rules.specs.believed.Entries.{DecidedRequest, account_balance
 use Rattle.posting_rules.specs.believed.Entries.{decided, reply_given, reply, balance_after}
 use Rattle.posting_core.proofs.Timeless.{zeroed, sum_zeroed, reply_zeroed, record_zeroed}
 use Rattle.counter_http.specs.{declared.routes.Route.Route, Outputs.answers_after}
-use Rattle.counter_http.specs.declared.routes.Route.TheVariants.{Posting, Account, Branches}
+use Rattle.counter_http.specs.declared.routes.Route.TheVariants.{Posting, Account, Branches, Health}
 use Rattle.counter_http.specs.believed.Paths.{account_in, path_of, route_of}
 use Rattle.counter_http.specs.believed.Answers.{Asked, Answer, asked_by, account_answer, account_named, answer_of}
 use Rattle.counter_http.specs.believed.Answers.{answer_on, answer_text, answer_to, balance_answer, bare, branch_line}
@@ -86,6 +86,7 @@ on_alike a b (Some Account) asked h =
 on_alike a b (Some Branches) asked h =
     ap (λ (x : List ℕ). cond (is_reading asked.method) (plain x) (not_allowed (codes "GET, HEAD")))
     (branches_alike a b h)
+on_alike a b (Some Health) asked h = refl
 
 answer_alike : (a b : List Command) (asked : Asked) → IsAlike a b → answer_of a asked ≡ answer_of b asked
 unfolding answer_to

@@ -9,7 +9,7 @@ use Rattle.std.proofs.lemmas.Str.{IsUtf8-from_is_utf8, is_utf8-from_IsUtf8}
 use Rattle.std.proofs.lemmas.Bool.{cases_Bool, cases_eq, cases_lt, le-ltb, ne_eqb, lt-ltb}
 use Rattle.posting_rules.proofs.RowChanges.{eqb-flip}
 use Rattle.matchit.specs.{Rows.RowsOf, Router.RouteOf}
-use Rattle.counter_http.specs.declared.routes.Route.{Route, TheVariants.Posting, TheVariants.Branches}
+use Rattle.counter_http.specs.declared.routes.Route.{Route, TheVariants.Posting, TheVariants.Branches, TheVariants.Health}
 use Rattle.matchit.specs.Seek.{step, or_else, param_step, seek, first, has_slash}
 use Rattle.counter_http.specs.believed.Paths.{is_slash, route_named, route_of}
 use Rattle.counter_http.specs.Rows.{fixed, account_row, all_routes}
@@ -139,7 +139,7 @@ seek_account (x ∷ lit) k (b ∷ path) all bytes =
       | inr f ↦ let u : eqb b x ≡ false = eqb-flip b x ∙ f in rw (f, u) (seek_none 0 path)
     ]
 
--- ---- the three routes
+-- ---- the routes
 
 abbrev value_in : RouteOf Route → Route
 value_in r = r.value
@@ -152,6 +152,7 @@ mapped false k = refl
 abbrev after_slash : Rs
 after_slash = (codes "account/" ++ 256 ∷ [], account_row.1)
     ∷ (codes "branches", (fixed (codes "/branches") Branches).1)
+    ∷ (codes "health", (fixed (codes "/health") Health).1)
     ∷ (codes "post", (fixed (codes "/post") Posting).1) ∷ []
 
 ltb_nine : (n : ℕ) → ltb 9 (suc (suc n)) ≡ ltb 7 n
@@ -173,22 +174,31 @@ second_branches q =
     (lit< tt, (lit< tt, (lit< tt, (lit< tt, (lit< tt, (lit< tt, (lit< tt, tt))))))))
     ∙ mapped (bytes_eq q (codes "ranches")) (fixed (codes "/branches") Branches).1
 
+second_health : (q : List ℕ)
+    → option_map value_in (seek 0 after_slash (104 ∷ q)) ≡ route_named (47 ∷ 104 ∷ q)
+second_health q =
+    ap (option_map value_in) (literal_step after_slash 104 q refl refl
+    ∙ seek_row (codes "ealth") (fixed (codes "/health") Health).1 q
+    (lit< tt, (lit< tt, (lit< tt, (lit< tt, (lit< tt, tt))))))
+    ∙ mapped (bytes_eq q (codes "ealth")) (fixed (codes "/health") Health).1
+
 second_post : (q : List ℕ) → option_map value_in (seek 0 after_slash (112 ∷ q)) ≡ route_named (47 ∷ 112 ∷ q)
 second_post q =
     ap (option_map value_in) (literal_step after_slash 112 q refl refl
     ∙ seek_row (codes "ost") (fixed (codes "/post") Posting).1 q (lit< tt, (lit< tt, (lit< tt, tt))))
     ∙ mapped (bytes_eq q (codes "ost")) (fixed (codes "/post") Posting).1
 
-second_other : (c : ℕ) (q : List ℕ) → eqb c 97 ≡ false → eqb c 98 ≡ false → eqb c 112 ≡ false
+second_other : (c : ℕ) (q : List ℕ) → eqb c 97 ≡ false → eqb c 98 ≡ false → eqb c 104 ≡ false → eqb c 112 ≡ false
     → option_map value_in (seek 0 after_slash (c ∷ q)) ≡ route_named (47 ∷ c ∷ q)
-second_other c q a b p =
+second_other c q a b h p =
     let a' : eqb 97 c ≡ false = eqb-flip 97 c ∙ a in
     let b' : eqb 98 c ≡ false = eqb-flip 98 c ∙ b in
+    let h' : eqb 104 c ≡ false = eqb-flip 104 c ∙ h in
     let p' : eqb 112 c ≡ false = eqb-flip 112 c ∙ p in
-    let none : step c after_slash ≡ no_rows = rw (a', b', p') refl in
+    let none : step c after_slash ≡ no_rows = rw (a', b', h', p') refl in
     ap (option_map value_in) (literal_step after_slash c q refl refl ∙ ap (λ (rs : Rs). seek 0 rs q) none
     ∙ seek_none 0 q)
-    ∙ (rw (a, b, p) refl)
+    ∙ (rw (a, b, h, p) refl)
 
 second : (p : List ℕ) → AreBytes p → option_map value_in (seek 0 after_slash p) ≡ route_named (47 ∷ p)
 unfolding seek
@@ -199,10 +209,14 @@ second (c ∷ q) bytes = elim (cases_eq c 97) [
   | inr a ↦ elim (cases_eq c 98) [
     | inl e ↦ subst (λ (x : ℕ). option_map value_in (seek 0 after_slash (x ∷ q)) ≡ route_named (47 ∷ x ∷ q))
         (sym e) (second_branches q)
-    | inr b ↦ elim (cases_eq c 112) [
+    | inr b ↦ elim (cases_eq c 104) [
       | inl e ↦ subst (λ (x : ℕ). option_map value_in (seek 0 after_slash (x ∷ q))
-          ≡ route_named (47 ∷ x ∷ q)) (sym e) (second_post q)
-      | inr p ↦ second_other c q (ne_eqb c 97 a) (ne_eqb c 98 b) (ne_eqb c 112 p)
+          ≡ route_named (47 ∷ x ∷ q)) (sym e) (second_health q)
+      | inr h ↦ elim (cases_eq c 112) [
+        | inl e ↦ subst (λ (x : ℕ). option_map value_in (seek 0 after_slash (x ∷ q))
+            ≡ route_named (47 ∷ x ∷ q)) (sym e) (second_post q)
+        | inr p ↦ second_other c q (ne_eqb c 97 a) (ne_eqb c 98 b) (ne_eqb c 104 h) (ne_eqb c 112 p)
+      ]
     ]
   ]
 ]

@@ -1,6 +1,6 @@
 //! The answers that need no bank.
 ghost use Rattle.std.specs.Prelude.{◌≡◌, codes};
-ghost use Rattle.counter_http.specs.believed.Answers.{bare as bare_answer, not_allowed};
+ghost use Rattle.counter_http.specs.believed.Answers.{bare as bare_answer, not_allowed, plain};
 ghost use Rattle.counter_http.specs.Telling.{said};
 
 use crate::telling::Response;
@@ -21,6 +21,13 @@ pub(crate) fn bare(body: &'static [u8], status: StatusCode) -> Response<'static>
         allow: None,
         body,
     }
+}
+
+/// The counter answers.
+pub(crate) fn healthy() -> Response<'static>
+    ensures { said result ≡ plain (codes "ok\n") }
+{
+    bare(b"ok\n", StatusCode::OK)
 }
 
 /// There is nothing at the path.

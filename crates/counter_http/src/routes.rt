@@ -16,6 +16,8 @@ pub(crate) enum Route {
     Account,
     /// `/branches`: the open branches are read.
     Branches,
+    /// `/health`: whether the counter answers.
+    Health,
 }
 
 /// The routes.
@@ -50,6 +52,7 @@ fn insert_all(router: &mut Router<Route>) -> Result<(), InsertError>
     router.insert("/post", Route::Posting)?;
     router.insert("/account/{id}", Route::Account)?;
     router.insert("/branches", Route::Branches)?;
+    router.insert("/health", Route::Health)?;
     Ok(())
 }
 

@@ -6,7 +6,7 @@ ghost use Rattle.counter_http.specs.believed.Paths.{path_of};
 ghost use Rattle.counter_http.specs.Tasks.{IsTaskOf, IsTaskOn};
 
 use crate::accounts::account_in;
-use crate::fixed::{bad_request, not_found, not_taken};
+use crate::fixed::{bad_request, healthy, not_found, not_taken};
 use crate::next::{Whole, is_head};
 use crate::routes::{Route, Routes, path_of};
 use crate::telling::Response;
@@ -77,6 +77,17 @@ fn branches_task<'b>(message: &Whole<'b>) -> Task<'b>
     }
 }
 
+// Where it is asked whether the counter answers.
+fn health_task<'b>(message: &Whole<'b>) -> Task<'b>
+    ensures { IsTaskOn (Some Route.Health) (asked message.now) result }
+{
+    if is_reading(message.method) {
+        Task::Say(healthy())
+    } else {
+        Task::Say(not_taken(b"GET, HEAD"))
+    }
+}
+
 /// What is to be done for a message.
 pub(crate) fn task_of<'b>(message: &Whole<'b>, routes: &Routes) -> Task<'b>
     ensures { IsTaskOf (asked message.now) result }
@@ -87,5 +98,6 @@ pub(crate) fn task_of<'b>(message: &Whole<'b>, routes: &Routes) -> Task<'b>
         Some(Route::Posting) => posting_task(message),
         Some(Route::Account) => account_task(message, path),
         Some(Route::Branches) => branches_task(message),
+        Some(Route::Health) => health_task(message),
     }
 }

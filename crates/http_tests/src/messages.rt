@@ -123,6 +123,11 @@ const CASES: &[(&[u8], u128, &[u8])] = &[
         b"HTTP/1.1 200 OK\r\nContent-Type: text/plain\r\nContent-Length: 60\r\n\r\n",
     ),
     (
+        b"GET /health HTTP/1.1\r\n\r\n",
+        1,
+        b"HTTP/1.1 200 OK\r\nContent-Type: text/plain\r\nContent-Length: 3\r\n\r\nok\n",
+    ),
+    (
         b"A-METHOD-OF-MANY-LETTERS /branches HTTP/1.1\r\n\r\n",
         1,
         b"HTTP/1.1 405 Method Not Allowed\r\nContent-Type: text/plain\r\nContent-Length: 23\r\n\

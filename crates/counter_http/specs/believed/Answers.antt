@@ -15,7 +15,7 @@ use Rattle.posting_rules.specs.believed.Entries.{reply, balance_after, branch_ba
 use Rattle.message_records.specs.declared.limits.TheConstants.{REQUEST_BYTES}
 use Rattle.counter_http.specs.declared.limits.TheConstants.{ACCOUNT_DIGITS}
 use Rattle.counter_http.specs.declared.routes.Route.{Route}
-use Rattle.counter_http.specs.declared.routes.Route.TheVariants.{Posting, Account, Branches}
+use Rattle.counter_http.specs.declared.routes.Route.TheVariants.{Posting, Account, Branches, Health}
 use Rattle.counter_http.specs.believed.Paths.{path_of, account_in, route_of}
 use Rattle.counter_http.specs.believed.Messages.{Message, closes, Ending, Finished, Closed, No_head, No_body}
 use Rattle.counter_http.specs.believed.Messages.{is_head_request}
@@ -120,6 +120,8 @@ answer_on log (Some Account) asked =
     else not_allowed (codes "GET, HEAD")
 answer_on log (Some Branches) asked =
     if is_reading asked.method then plain (branch_lines log) else not_allowed (codes "GET, HEAD")
+answer_on log (Some Health) asked =
+    if is_reading asked.method then plain (codes "ok\n") else not_allowed (codes "GET, HEAD")
 
 unfoldable pub answer_to : List Command → Asked → Answer
 answer_to log asked = answer_on log (route_of (path_of asked.target)) asked

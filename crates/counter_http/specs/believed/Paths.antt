@@ -4,7 +4,7 @@ use Rattle.std.specs.Prelude.{codes, bytes_eq, if◌then◌else◌}
 use Rattle.std.specs.List.{list_any, before_first}
 use Rattle.std.specs.Str.{is_utf8}
 use Rattle.counter_http.specs.declared.routes.Route.{Route}
-use Rattle.counter_http.specs.declared.routes.Route.TheVariants.{Posting, Account, Branches}
+use Rattle.counter_http.specs.declared.routes.Route.TheVariants.{Posting, Account, Branches, Health}
 
 abbrev pub path_of : List ℕ → List ℕ
 path_of target = before_first (λ b. b == 63) target
@@ -26,7 +26,8 @@ abbrev pub route_named : List ℕ → Option Route
 route_named path =
     if bytes_eq path (codes "/post") then Some Posting
     else (if bytes_eq path (codes "/branches") then Some Branches
-    else (if is_account_path path then Some Account else None))
+    else (if bytes_eq path (codes "/health") then Some Health
+    else (if is_account_path path then Some Account else None)))
 
 unfoldable pub route_of : List ℕ → Option Route
 route_of path = if is_utf8 path then route_named path else None

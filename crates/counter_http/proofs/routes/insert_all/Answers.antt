@@ -8,4 +8,5 @@ returns c =
     let a = c.in_ok-insert.ensures in
     let b = c.in_ok-insert-2.ensures in
     let d = c.in_ok-insert-3.ensures in
-    rw (b.1, a.1, c.requires) at d.1
+    let e = c.in_ok-insert-4.ensures in
+    rw (d.1, b.1, a.1, c.requires) at e.1

@@ -1,5 +1,6 @@
 use Rattle.std.proofs.Common.{rules, ◌≡◌, Option, Some, ap, subst, sym, ◌∙◌}
 use Rattle.counter_http.specs.{declared.routes.Route.Route, declared.routes.Route.TheVariants.Account, Next.asked}
+use Rattle.counter_http.specs.declared.routes.Route.TheVariants.{Health}
 use Rattle.counter_http.specs.{believed.Paths.route_of, Tasks.IsTaskOn}
 use Rattle.counter_http.proofs.tasks.task_of.Goals as goal
 
@@ -11,3 +12,12 @@ returns-in-Some-Account c =
     ∙ ap route_of c.path_of-path.ensures in
     subst (λ (o : Option Route). IsTaskOn o (asked c.args.message.now) c.account_task.result) route
     c.account_task.ensures
+
+-- the path is that of the counter's health
+pub returns-in-Some-Health : goal.returns-in-Some-Health
+returns-in-Some-Health c =
+    let health : c.in-Some-Health.field-0 ≡ Health = search rules in
+    let route = sym (c.in-Some-Health.is ∙ ap (λ (r : Route). Some r) health) ∙ c.find.ensures
+    ∙ ap route_of c.path_of-path.ensures in
+    subst (λ (o : Option Route). IsTaskOn o (asked c.args.message.now) c.health_task.result) route
+    c.health_task.ensures
