@@ -1,15 +1,15 @@
 -- A table that a file defines as it is made has rows of its columns, whatever their numbers and texts are.
-use Rattle.std.proofs.lemmas.{List.append-nil, List.length-append, Bool.and_parts}
+use Rattle.std.proofs.lemmas.{List.append-nil, List.length-append, List.length-map, Bool.and_parts}
 use Rattle.std.proofs.Math.Path.{ap₂}
 use Rattle.std.proofs.Common.{◌≡◌, ◌+◌, ◌==◌, ◌∷◌, ◌++◌, ◌∙◌, ◌≤◌, ℕ, ℤ, zero, suc, Bool, true, false, not, List, []}
-use Rattle.std.proofs.Common.{Some, map, length, drop, refl, sym, ap, arith, add-one, length-map, IsTrue, Less, int_cmp}
+use Rattle.std.proofs.Common.{Some, map, length, drop, refl, sym, ap, arith, add-one, subst, IsTrue, Less, Option, int_cmp}
 use Rattle.std.specs.List.{AllByRecursion}
 use Rattle.sqlite.specs.{Effect.Database, Effect.IsDatabase, Kind.Kind, Order.column, Order.value_cmp, Table.Table}
 use Rattle.sqlite.specs.Kind.TheVariants.{Integer, Text as OfText}
 use Rattle.sqlite_value.specs.declared.value.Value.TheVariants.{Real, Blob}
 use Rattle.sqlite_trees.specs.{Tree.IsTable, Tree.rowid, View.is_int}
 use Rattle.sqlite_sql.specs.Ops.{is_null}
-use Rattle.sqlite_schema.specs.Rules.{are_present, are_typed, is_of}
+use Rattle.sqlite_schema.specs.Rules.{are_present, are_typed, is_of, passes}
 use Rattle.sqlite_schema.specs.declared.schema.Constraint.TheVariants.{Datatype, NotNull}
 use Rattle.sql_meanings.specs.Names.{Value, Null, Int, Text, Row, Column}
 use Rattle.sql_meanings.specs.Seeks.{is_from}
@@ -99,7 +99,7 @@ module _ {A : Type 0} (kind : Kind) (make : A → Value)
         items = value.0 ∷ more_read.items;
         rest = more_read.rest;
         to = more_read.to;
-        are = rw (value.1, more_read.are) refl;
+        are = ap₂ (λ (first : Value) (others : Row). first ∷ others) value.1 more_read.are;
         count = ap suc more_read.count;
         left = more_read.left;
         typed = more_read.typed;
@@ -121,7 +121,8 @@ read_columns columns texts vs row is typed present =
     let one = read Integer (λ n. Int n) to_number columns (map text_column texts) 0 vs row is typed present in
     let same : map text_column texts ++ [] ≡ map text_column texts = append-nil _ in
     let two = read OfText (λ t. Text t) to_text texts [] one.to one.rest row one.left
-    (rw same one.typed) (rw same one.present) in
+    (subst (λ (cs : List Column). are_typed (Some 0) (suc one.to) cs one.rest ≡ true) (sym same) one.typed)
+    (subst (λ (cs : List Column). are_present (Some 0) (suc one.to) cs row ≡ true) (sym same) one.present) in
     let end = none_more (suc two.to) two.rest two.typed in (
       one.items,
       two.items,
@@ -170,7 +171,8 @@ module _ (key : List ℕ) (columns texts : List (List ℕ)) (some : 1 ≤ length
       let kinds = and_parts _ _ typed in
       let it = read_columns columns texts vs (v ∷ w ∷ vs) refl kinds.1 present in (
         record { key = id.0; values = it.0; texts = it.1 },
-        rw (id.1, null_is w kinds.0, it.4) refl,
+        ap₂ (λ (first : Value) (others : Row). first ∷ others) id.1
+            (ap₂ (λ (first : Value) (others : Row). first ∷ others) (null_is w kinds.0) it.4),
         (it.2, it.3),
       )
 
@@ -182,8 +184,11 @@ module _ (key : List ℕ) (columns texts : List (List ℕ)) (some : 1 ≤ length
   rows_read [] ids typed present = ([], refl, tt)
   rows_read (r ∷ rows) ids typed present =
       let one = row_read r ids.0 typed.0 present.0 in
-      let more = rows_read rows ids.1 typed.1 present.1 in
-      (one.0 ∷ more.0, rw (one.1, more.1) refl, (one.2, more.2))
+      let more = rows_read rows ids.1 typed.1 present.1 in (
+        one.0 ∷ more.0,
+        ap₂ (λ (first : Row) (others : List Row). first ∷ others) one.1 more.1,
+        (one.2, more.2),
+      )
 
 -- ---- their keys
 
@@ -215,9 +220,17 @@ module _ (db : Database) (sound : IsDatabase db) where
       let has = (defined_stands db.schema t free defines).listed in
       let typed = all_has _ db.schema.tables at (sound.obeys.rules Datatype) has in
       let there = all_has _ db.schema.tables at (sound.obeys.rules NotNull) has in
+      let of_types : (r : Row) → passes Datatype db.schema db.trees at r ≡ true
+      → are_typed (Some 0) 0 (all_columns key columns texts) (drop 1 r) ≡ true = λ r h.
+      subst (λ (k : Option ℕ). are_typed k 0 (all_columns key columns texts) (drop 1 r) ≡ true) keyed
+      (subst (λ (cs : List Column). are_typed t.key 0 cs (drop 1 r) ≡ true) are (and_parts _ _ h).0) in
+      let of_values : (r : Row) → passes NotNull db.schema db.trees at r ≡ true
+      → are_present (Some 0) 0 (all_columns key columns texts) r ≡ true = λ r h.
+      subst (λ (k : Option ℕ). are_present k 0 (all_columns key columns texts) r ≡ true) keyed
+      (subst (λ (cs : List Column). are_present t.key 0 cs r ≡ true) are h) in
       let it = rows_read key columns texts some rows tree.shaped.1
-      (all_weaker _ _ (λ r h. rw (are, keyed) at (and_parts _ _ h).0) rows typed)
-      (all_weaker _ _ (λ r h. rw (are, keyed) at h) rows there) in (
+      (all_weaker (λ (r : Row). passes Datatype db.schema db.trees at r ≡ true) _ of_types rows typed)
+      (all_weaker (λ (r : Row). passes NotNull db.schema db.trees at r ≡ true) _ of_values rows there) in (
         it.0,
         record {
           sound = ∣ sound ∣₁;
@@ -226,7 +239,7 @@ module _ (db : Database) (sound : IsDatabase db) where
             rows = record {
               are = it.1;
               rise = rising it.0 (rw it.1 at tree.shaped.0);
-              wide = rw width it.2;
+              wide = subst (λ (w : ℕ × ℕ). AllByRecursion (λ e. HasWidth w e) it.0) (sym width) it.2;
             };
           };
           least = from_least it.0 (rw it.1 at tree.least);
