@@ -227,7 +227,7 @@ tells_idle (commands.Replay file) f r w has = inl ((f, refl), Keeps-refl w)
 tells_idle (commands.Digest file requests) f r w has = inl ((f, refl), Keeps-refl w)
 tells_idle (commands.Export file after) f r w has = tt
 tells_idle (commands.Plan file) f r w has = tt
-tells_idle (commands.Serve file address connections) f r w has = inl (inl (Keeps-refl w))
+tells_idle (commands.Serve file address connections) f r w has = inl (Keeps-refl w)
 tells_idle (commands.Migrate file) f r w has = inl ((f, refl), Keeps-refl w)
 tells_idle commands.Encode f r w has = absurd has
 tells_idle commands.Decode f r w has = absurd has
@@ -318,6 +318,8 @@ replayed_is_not_usage (Ok (replays.Agrees d)) w w' status told =
     ended_is_not_usage Done status told.0 (done_is_not_usage Done refl) told.2
 replayed_is_not_usage (Ok (replays.Differs d)) w w' status told =
     ended_is_not_usage Differs status told.1.0 differs_is_not_usage told.1.2
+replayed_is_not_usage (Ok (replays.Otherwise table)) w w' status told =
+    ended_is_not_usage Differs status told.0 differs_is_not_usage told.2
 replayed_is_not_usage (Err cause) w w' status told = not_a_fault status _ told.0
 
 digested_is_not_usage : (requests : ℕ) (found : Result (Option Digest) Fault) (w w' : Option (List ℕ))
