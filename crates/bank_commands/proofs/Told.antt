@@ -317,7 +317,7 @@ replayed_is_not_usage : (found : Result Replay Fault) (w w' : Option (List ℕ))
 replayed_is_not_usage (Ok (replays.Agrees d)) w w' status told =
     ended_is_not_usage Done status told.0 (done_is_not_usage Done refl) told.2
 replayed_is_not_usage (Ok (replays.Differs d)) w w' status told =
-    ended_is_not_usage Differs status told.1.0 differs_is_not_usage told.1.2
+    ended_is_not_usage Differs status told.0 differs_is_not_usage told.2
 replayed_is_not_usage (Ok (replays.Otherwise table)) w w' status told =
     ended_is_not_usage Differs status told.0 differs_is_not_usage told.2
 replayed_is_not_usage (Err cause) w w' status told = not_a_fault status _ told.0

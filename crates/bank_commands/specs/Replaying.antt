@@ -17,9 +17,10 @@ use Rattle.bank_store.specs.Leaving.{StandsWhileOpen, TakesNone}
 use Rattle.bank_store.specs.believed.Seen.{bank_seen, database_of}
 use Rattle.bank_store.specs.Seen.{fault_of}
 use Rattle.bank_store.specs.declared.bank.Bank.{Bank}
-use Rattle.bank_replays.specs.Digests.{DigestsFirst, DigestsRows, IsDigestIn, IsDigestOf, answered_after}
+use Rattle.bank_replays.specs.{DifferenceText.difference_text, Differences.DiffersFrom, Differences.table_of}
+use Rattle.bank_replays.specs.Digests.{DigestsFirst, DigestsRows, IsDigestIn, answered_after}
 use Rattle.bank_replays.specs.FileTables.{IsKept}
-use Rattle.bank_replays.specs.Replays.{HasAnswered, OnAgrees, TellsTables, other_text}
+use Rattle.bank_replays.specs.Replays.{HasAnswered, OnAgrees, OnDiffers, Replays, TellsTables, other_text}
 use Rattle.bank_replays.specs.Writing.{LeavesWriter, WritesText, plan_text, records_after, records_of}
 use Rattle.bank_replays.specs.declared.chain.Digest.{Digest}
 use Rattle.bank_replays.specs.declared.difference.Replay.{Replay}
@@ -53,13 +54,13 @@ TellsFault fault w w' told = (told ≡ Err fault) × Keeps w w'
 
 -- ---- a replay
 
--- the digest and the verdict were printed; or a text, which `Difference` doesn't say, or a table, and the verdict
+-- the digest and the verdict were printed; or the line of the difference or of the table, and the verdict
 abbrev pub PrintsReplay : Result Replay Fault → (w w' : Option (List ℕ)) → (t t' : Option (List WriteTold))
     → Result Status CommandFault → Type 0
 PrintsReplay (Ok (Agrees d)) w w' t t' told =
     TellsText statuses.Done (agreeing_lines d.requests d.sha256) w w' t t' told
 PrintsReplay (Ok (Differs d)) w w' t t' told =
-    (text : List ℕ) × TellsText statuses.Differs (differing_lines text) w w' t t' told
+    TellsText statuses.Differs (differing_lines (difference_text d)) w w' t t' told
 PrintsReplay (Ok (Otherwise table)) w w' t t' told =
     TellsText statuses.Differs (differing_lines (other_text table)) w w' t t' told
 PrintsReplay (Err fault) w w' t t' told = TellsFault (fault_of_bank fault) w w' told
@@ -72,9 +73,9 @@ pub record ReplaysBank {S : Type 0} (g : Ghosts S) (found : Result Replay Fault)
       → OnAgrees found (λ d. (log : List Command) × ShowsLog (bank_seen g old) log)
   pub digest : (bank_seen g new).honest → (all : List KeptItem) → HasKept (database_of g old) all
       → OnAgrees found (IsDigestIn all)
-  pub log : (bank_seen g new).honest → (log : List Command) → ShowsLog (bank_seen g old) log
-      → OnAgrees found (IsDigestOf (answered_after log))
-  pub bank : TakesNone (bank_seen g old) (bank_seen g new) (HasAnswered found)
+  pub differs : (bank_seen g new).honest → OnDiffers found (λ d. (rows : List Entry)
+      → HasStoredRows (database_of g old) (table_of d) rows → DiffersFrom rows d)
+  pub bank : Replays (bank_seen g old) (bank_seen g new) found
   pub up : fault_of new ≡ fault_of old
   pub stands : StandsWhileOpen g old new
 

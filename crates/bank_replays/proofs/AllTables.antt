@@ -1,10 +1,20 @@
 -- The rows of two files are the same where they are in each table.
-use Rattle.std.proofs.Common.{◌≡◌, List}
+use Rattle.std.proofs.Common.{◌≡◌, List, inl, inr, refl, subst, sym}
+use Rattle.std.specs.Prelude.{option_map}
 use Rattle.sqlite.specs.{Effect.Database, Table.Table}
 use Rattle.sql_meanings.specs.believed.Entries.{Entry}
 use Rattle.store_rows.specs.believed.BankTables.{account, branch, floor, history, meta, reference, request, teller}
-use Rattle.walked_rows.specs.Rows.{HasStoredRows}
-use Rattle.bank_replays.specs.{Comparing.Both, Comparing.SameRows, FileTables.FileTables, FileTables.SameTables}
+use Rattle.walked_rows.specs.{References.listed_entry, Rows.HasStoredRows, Rows.entry_key}
+use Rattle.walked_rows.specs.Stored.{account_entry, branch_entry, posting_entry, request_entry, teller_entry}
+use Rattle.walked_rows.specs.StoredBeside.{floor_entry, meta_entry}
+use Rattle.bank_replays.specs.declared.difference.Sides.{Sides}
+use Rattle.bank_replays.specs.Comparing.{Both, DiffersIn, Either, SameRows}
+use Rattle.bank_replays.specs.Differences.{DiffersBetween, TellsIn, due_in, rows_of, stands_in, table_of}
+use Rattle.bank_replays.specs.{FileTables.FileTables, FileTables.HasTables, FileTables.SameTables}
+use Rattle.bank_replays.specs.NextRows.{DifferFirst}
+use Rattle.bank_replays.specs.declared.difference.Difference.{Difference}
+use Rattle.bank_replays.specs.declared.difference.Difference.TheVariants.{Account, Branch, Floor, Meta, Posting}
+use Rattle.bank_replays.specs.declared.difference.Difference.TheVariants.{Reference, Request, Teller}
 
 -- the same rows of one table
 abbrev pub SameIn : Table → Database → Database → Type 0
@@ -52,3 +62,62 @@ all_same db other same f due has has_due =
     (same.0.1.1 f.requests due.requests has.requests has_due.requests)
     (same.0.1.0 f.floors due.floors has.floors has_due.floors)
     (same.1.0.0 f.references due.references has.references has_due.references)
+
+-- ---- a difference
+
+-- in one table
+abbrev pub OfTable : {R : Type 0} → Table → (R → Entry) → (Sides R → Difference) → Database → Database → Difference → Type 0
+OfTable table entry difference =
+    DiffersIn entry_key entry (λ d s. d ≡ difference s) (λ db rows. HasStoredRows db table rows)
+
+abbrev pub InAny : Database → Database → Difference → Type 0
+InAny = Either
+    (Either (Either (OfTable meta meta_entry Meta) (OfTable branch branch_entry Branch))
+    (Either (OfTable floor floor_entry Floor) (OfTable request request_entry Request)))
+    (Either (Either (OfTable reference listed_entry Reference) (OfTable history posting_entry Posting))
+    (Either (OfTable account account_entry Account) (OfTable teller teller_entry Teller)))
+
+told_of : {R : Type 0} (table : Table) (entry : R → Entry) (difference : Sides R → Difference)
+    → ((s : Sides R) → TellsIn table (difference s) (option_map entry s.stands) (option_map entry s.due))
+    → (db other : Database) (d : Difference) → OfTable table entry difference db other d → DiffersBetween db other d
+told_of table entry difference tells db other d it =
+    subst (DiffersBetween db other) (sym it.says) (own (tells it.sides))
+  where
+    own : TellsIn table (difference it.sides) (option_map entry it.sides.stands) (option_map entry it.sides.due)
+        → DiffersBetween db other (difference it.sides)
+    own told rows others has has_due =
+        subst (λ stands. DifferFirst entry_key rows others stands (due_in (difference it.sides))) (sym told.stands_is)
+        (subst (λ due. DifferFirst entry_key rows others (option_map entry it.sides.stands) due) (sym told.due_is)
+        (it.are rows others
+        (subst (λ (t : Table). HasStoredRows db t rows) told.table_is has)
+        (subst (λ (t : Table). HasStoredRows other t others) told.table_is has_due)))
+
+pub any_differs : (db other : Database) (d : Difference) → InAny db other d → DiffersBetween db other d
+any_differs db other d (inl (inl (inl it))) =
+    told_of meta meta_entry Meta (λ s. record { table_is = refl; stands_is = refl; due_is = refl }) db other d it
+any_differs db other d (inl (inl (inr it))) =
+    told_of branch branch_entry Branch (λ s. record { table_is = refl; stands_is = refl; due_is = refl }) db other d it
+any_differs db other d (inl (inr (inl it))) =
+    told_of floor floor_entry Floor (λ s. record { table_is = refl; stands_is = refl; due_is = refl }) db other d it
+any_differs db other d (inl (inr (inr it))) =
+    told_of request request_entry Request (λ s. record { table_is = refl; stands_is = refl; due_is = refl }) db other d it
+any_differs db other d (inr (inl (inl it))) =
+    told_of reference listed_entry Reference (λ s. record { table_is = refl; stands_is = refl; due_is = refl }) db other d it
+any_differs db other d (inr (inl (inr it))) =
+    told_of history posting_entry Posting (λ s. record { table_is = refl; stands_is = refl; due_is = refl }) db other d it
+any_differs db other d (inr (inr (inl it))) =
+    told_of account account_entry Account (λ s. record { table_is = refl; stands_is = refl; due_is = refl }) db other d it
+any_differs db other d (inr (inr (inr it))) =
+    told_of teller teller_entry Teller (λ s. record { table_is = refl; stands_is = refl; due_is = refl }) db other d it
+
+-- the rows of its table are those of that table
+pub has_rows_of : (db : Database) (f : FileTables) → HasTables db f → (d : Difference)
+    → HasStoredRows db (table_of d) (rows_of d f)
+has_rows_of db f has (Meta s) = has.metas
+has_rows_of db f has (Branch s) = has.branches
+has_rows_of db f has (Teller s) = has.tellers
+has_rows_of db f has (Account s) = has.accounts
+has_rows_of db f has (Posting s) = has.history
+has_rows_of db f has (Request s) = has.requests
+has_rows_of db f has (Floor s) = has.floors
+has_rows_of db f has (Reference s) = has.references

@@ -1,11 +1,13 @@
 -- What is told of the rows that are to come of a bank that was lent is told of all its rows.
 use Rattle.std.proofs.Common.{ℕ, ℤ, Bool, Option, None, List, Result, Ok, Err, take, sym, ap, subst, ◌∙◌}
-use Rattle.std.specs.Borrow.{GName}
+use Rattle.std.specs.{Borrow.GName, Prelude.option_map}
 use Rattle.sqlite.specs.Effect.{Database}
 use Rattle.sqlite_trees.specs.declared.store.Store.{Ghosts}
 use Rattle.bank_store.specs.{believed.Seen.database_of, declared.bank.Bank.Bank, declared.walks.Walk.Walk}
 use Rattle.bank_store.specs.Walking.{BeginsWalk, items_to_come, lent}
-use Rattle.bank_replays.specs.{Handing.HandsSome, declared.fault.ReplayFault.ReplayFault}
+use Rattle.bank_replays.specs.{Comparing.DiffersAmong, Comparing.DiffersIn, Handing.HandsSome}
+use Rattle.bank_replays.specs.{NextRows.DifferFirst, NextRows.HaveRisingKeys, declared.fault.ReplayFault.ReplayFault}
+use Rattle.bank_replays.specs.declared.difference.{Difference.Difference, Sides.Sides}
 
 -- the bank as it was before, and the walk that it was lent to
 module _ {S R X : Type 0} {g : Ghosts S} {key : X → ℤ} {item : R → X} {is_given : Option ℕ → X → Bool}
@@ -32,3 +34,29 @@ module _ {S R X : Type 0} {g : Ghosts S} {key : X → ℤ} {item : R → X} {is_
         let more = it.2 (before late) all (there all has) in
         (more.0, more.1 ∙ begins.all all has),
   )
+
+-- two banks, and the walks that they were lent to
+module _ {S T R X : Type 0} {g : Ghosts S} {h : Ghosts T} {key : X → ℤ} {item : R → X}
+    {is_given : Option ℕ → X → Bool} {HasItems : Database → List X → Type 0} {name name' : GName} {old : Bank S g}
+    {other : Bank T h} {walk : Walk S R g} {due : Walk T R h}
+    (begins : BeginsWalk g key item is_given HasItems None name old (Ok walk))
+    (begins_due : BeginsWalk h key item is_given HasItems None name' other (Ok due)) where
+  pub differs_of_all : (Says : Difference → Sides R → Type 0)
+      → ((db : Database) (all : List X) → HasItems db all → HaveRisingKeys key all) → (d : Difference)
+      → DiffersAmong key item Says (HasItems (database_of g (lent walk))) (HasItems (database_of h (lent due)))
+      (λ all. items_to_come key item is_given all walk) (λ all. items_to_come key item is_given all due) d
+      → DiffersIn key item Says HasItems (database_of g old) (database_of h other) d
+  differs_of_all Says rise d it = record {
+    sides = it.sides;
+    says = it.says;
+    are = λ all others has has_due.
+        let stands : Option X = option_map item it.sides.stands in
+        let ruled : Option X = option_map item it.sides.due in
+        let come = begins.all all has in
+        let come_due = begins_due.all others has_due in
+        subst (λ (l : List X). DifferFirst key l others stands ruled) come
+        (subst (λ (l : List X). DifferFirst key (items_to_come key item is_given all walk) l stands ruled) come_due
+        (it.are all others (there begins all has) (there begins_due others has_due)
+        (subst (HaveRisingKeys key) (sym come) (rise (database_of g old) all has))
+        (subst (HaveRisingKeys key) (sym come_due) (rise (database_of h other) others has_due))));
+  }

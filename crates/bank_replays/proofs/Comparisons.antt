@@ -1,29 +1,33 @@
 -- Comparisons, one after another.
-use Rattle.std.proofs.Common.{◌≡◌, List, [], ◌∷◌, Option, Some, None, Ok, Err, Result, refl, sym, ap, subst, ◌∙◌}
+use Rattle.std.proofs.Common.{◌≡◌, List, [], ◌∷◌, Option, Some, None, Ok, Err, Result, refl, sym, ap, subst, ◌∙◌, inl, inr}
 use Rattle.std.specs.Prelude.{IsSome}
 use Rattle.sqlite.specs.Effect.{Database}
 use Rattle.sqlite_trees.specs.declared.store.Store.{Ghosts}
 use Rattle.posting_rules.specs.declared.fault.{Fault.Fault, Rule.Rule}
 use Rattle.posting_rules.specs.declared.fault.Fault.TheVariants.{Down, Memory}
 use Rattle.bank_store.specs.{Walking.Steps, believed.Seen.database_of, declared.bank.Bank.Bank}
-use Rattle.bank_replays.specs.{Comparing.Both, Comparing.Compares, declared.difference.Difference.Difference}
+use Rattle.bank_replays.specs.{Comparing.Both, Comparing.Compares, Comparing.Either}
+use Rattle.bank_replays.specs.declared.difference.Difference.{Difference}
 use Rattle.bank_replays.proofs.Read.{clean_before, read_then}
 
-module _ {S T : Type 0} {g : Ghosts S} {h : Ghosts T} {One Other : Database → Database → Type 0} where
+module _ {S T : Type 0} {g : Ghosts S} {h : Ghosts T} {One Other : Database → Database → Type 0}
+    {First Second : Database → Database → Difference → Type 0} where
   -- a fault, or a difference, in the first ends it
   pub compared_first : {old new : Bank S g} {due due' : Bank T h} {r : Result (Option Difference) Fault}
-      → Compares g h old new due due' One r → (r ≡ Ok None → ⊥) → Compares g h old new due due' Other r
+      → Compares g h old new due due' One First r → (r ≡ Ok None → ⊥)
+      → Compares g h old new due due' (Both One Other) (Either First Second) r
   compared_first it ended = record {
     bank = it.bank;
     due = it.due;
     same = λ clean clean_due is. absurd (ended is);
+    differs = λ clean clean_due d is. inl (it.differs clean clean_due d is);
     tried = it.tried;
   }
 
   -- no difference in the first
   pub compared_both : {old mid new : Bank S g} {due due' due'' : Bank T h} {r : Result (Option Difference) Fault}
-      → Compares g h old mid due due' One (Ok None) → Compares g h mid new due' due'' Other r
-      → Compares g h old new due due'' (Both One Other) r
+      → Compares g h old mid due due' One First (Ok None) → Compares g h mid new due' due'' Other Second r
+      → Compares g h old new due due'' (Both One Other) (Either First Second) r
   compared_both {old} {mid} {new} {due} {due'} {due''} {r} one two = record {
     bank = read_then one.bank two.bank;
     due = read_then one.due two.due;
@@ -35,17 +39,25 @@ module _ {S T : Type 0} {g : Ghosts S} {h : Ghosts T} {One Other : Database → 
               (subst (λ (d : Database). Other (database_of g mid) d) (one.due.still before_due).0
               (two.same clean clean_due is)),
         );
+    differs = λ clean clean_due d is.
+        let before = clean_before two.bank clean in
+        let before_due = clean_before two.due clean_due in
+        inr (subst (λ (db : Database). Second db (database_of h due) d) (one.bank.still before).0
+        (subst (λ (db : Database). Second (database_of g mid) db d) (one.due.still before_due).0
+        (two.differs clean clean_due d is)));
     tried = λ is. subst (λ fault. IsSome fault) one.bank.up (two.tried is);
   }
 
-  -- what is the same in one way is so in another
+  -- what is told in one way is told in another
   pub compared_as : {old new : Bank S g} {due due' : Bank T h} {r : Result (Option Difference) Fault}
-      → ((db other : Database) → One db other → Other db other) → Compares g h old new due due' One r
-      → Compares g h old new due due' Other r
-  compared_as then it = record {
+      → ((db other : Database) → One db other → Other db other)
+      → ((db other : Database) (d : Difference) → First db other d → Second db other d)
+      → Compares g h old new due due' One First r → Compares g h old new due due' Other Second r
+  compared_as then so it = record {
     bank = it.bank;
     due = it.due;
     same = λ clean clean_due is. then _ _ (it.same clean clean_due is);
+    differs = λ clean clean_due d is. so _ _ d (it.differs clean clean_due d is);
     tried = it.tried;
   }
 
@@ -55,11 +67,12 @@ module _ {R X : Type 0} (item : R → X) (Breaks : Rule → X → Type 0) (old n
     (stands due : Option R) (one : Steps item Breaks old new (Ok stands))
     (two : Steps item Breaks old' new' (Ok due)) where
   -- both gave the same row
-  pub same_step : (a b : R) → stands ≡ Some a → due ≡ Some b → item a ≡ item b → new ≡ new' → old ≡ old'
-  same_step a b is is' same rest =
+  pub same_step : (a b : R) → stands ≡ Some a → due ≡ Some b → item a ≡ item b
+      → (old ≡ item a ∷ new) × (old' ≡ item a ∷ new')
+  same_step a b is is' same =
       let first : old ≡ item a ∷ new = subst (λ o. Steps item Breaks old new (Ok o)) is one in
       let second : old' ≡ item b ∷ new' = subst (λ o. Steps item Breaks old' new' (Ok o)) is' two in
-      first ∙ ap (λ x. x ∷ new) same ∙ ap (λ l. item b ∷ l) rest ∙ sym second
+      (first, second ∙ ap (λ x. x ∷ new') (sym same))
 
   -- both have ended
   pub same_end : stands ≡ None → due ≡ None → old ≡ old'
@@ -84,3 +97,7 @@ memory_not_down r is down = cc
 
 pub error_is : {X : Type 0} {r : Result X Fault} (e f : Fault) → r ≡ Err e → r ≡ Err f → e ≡ f
 error_is e f is other = cc
+
+pub one_difference : {E : Type 0} (d e : Difference)
+    → (let r : Result (Option Difference) E = Ok (Some d) in r) ≡ Ok (Some e) → d ≡ e
+one_difference d e is = cc

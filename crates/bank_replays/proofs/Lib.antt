@@ -5,6 +5,8 @@ pub mod AskedFirst
 mod AnyRows
 pub mod AllKept
 pub mod AllTables
+pub mod FirstDifference
+pub mod Columns
 pub mod Comparisons
 pub mod Begun
 pub mod Hands

@@ -3,6 +3,8 @@ pub mod Reading
 pub mod FileTables
 pub mod Refilling
 pub mod NextRows
+pub mod Differences
+pub mod DifferenceText
 pub mod Handing
 pub mod Comparing
 pub mod Replays

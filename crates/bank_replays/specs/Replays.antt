@@ -1,8 +1,13 @@
 -- What a replay says.
 use Rattle.std.specs.Prelude.{◌++◌, ℕ, List, codes, Some, None, Result, Ok, Err, ⊤}
 use Rattle.sqlite.specs.Schema.{Schema}
+use Rattle.posting_rules.specs.believed.Commands.{Command}
+use Rattle.posting_rules.specs.believed.Counter.{Seen, ShowsLog}
 use Rattle.posting_rules.specs.declared.fault.Fault.{Fault}
+use Rattle.bank_store.specs.Leaving.{TakesNone}
+use Rattle.bank_replays.specs.Digests.{IsDigestOf, answered_after}
 use Rattle.bank_replays.specs.declared.chain.Digest.{Digest}
+use Rattle.bank_replays.specs.declared.difference.Difference.{Difference}
 use Rattle.bank_replays.specs.declared.difference.Replay.{Replay}
 use Rattle.bank_replays.specs.declared.difference.Replay.TheVariants.{Agrees, Differs, Otherwise}
 use Rattle.store_rows.specs.Definitions.{IsOtherTable, made}
@@ -19,6 +24,13 @@ OnAgrees (Ok (Agrees d)) P = P d
 OnAgrees (Ok (Differs d)) P = ⊤
 OnAgrees (Ok (Otherwise table)) P = ⊤
 OnAgrees (Err fault) P = ⊤
+
+-- if it differs, this holds of the difference
+abbrev pub OnDiffers : Result Replay Fault → (Difference → Type 0) → Type 0
+OnDiffers (Ok (Agrees d)) P = ⊤
+OnDiffers (Ok (Differs d)) P = P d
+OnDiffers (Ok (Otherwise table)) P = ⊤
+OnDiffers (Err fault) P = ⊤
 
 -- rows were compared
 abbrev pub HasLookedAtRows : Result Replay Fault → Type 0
@@ -37,3 +49,9 @@ TellsTables schema (Err fault) = ⊤
 -- the line of such a table
 abbrev pub other_text : BankTable → List ℕ
 other_text table = codes "table " ++ ((made table).name ++ codes " is defined otherwise")
+
+-- a bank was replayed
+pub record Replays (old new : Seen) (found : Result Replay Fault) : Type 0 where
+  -- if it agrees, the requests of a log are digested
+  pub log : new.honest → (log : List Command) → ShowsLog old log → OnAgrees found (IsDigestOf (answered_after log))
+  pub takes : TakesNone old new (HasAnswered found)

@@ -1,6 +1,7 @@
 //! Rows that are compared one by one.
-ghost use Rattle.std.specs.Prelude.{◌≡◌, IsTrue};
-ghost use Rattle.bank_replays.specs.NextRows.{Sets};
+ghost use Rattle.std.specs.Prelude.{◌≡◌, ◌≢◌, ◌↔◌, pos, List, IsTrue, Some};
+ghost use Rattle.sqlite.specs.Effect.{Database};
+ghost use Rattle.bank_replays.specs.NextRows.{AreFirst, HaveRisingKeys, Sets};
 
 use crate::difference::{Difference, Sides};
 use crate::handed::Handed;
@@ -11,15 +12,26 @@ use walked_rows::{
 
 /// A row that is compared with the one that the rules give.
 pub(crate) trait Compared: Handed {
+    ghost use Rattle.bank_replays.specs.declared.difference.Difference.{Difference};
+    ghost use Rattle.bank_replays.specs.declared.difference.Sides.{Sides};
+
+    /// The difference is the one of its table that has these sides.
+    ghost Says: { Difference → Sides Self → Type 0 };
+
     /// Whether it is that row.
     fn is_same(&self, due: &Self) -> bool
-        ensures { IsTrue result → Self.WalkedRow.item self.now ≡ Self.WalkedRow.item due.now };
+        ensures { IsTrue result ↔ (Self.WalkedRow.item self.now ≡ Self.WalkedRow.item due.now) };
 
     /// Its key.
-    fn number(&self) -> u64;
+    fn number(&self) -> u64
+        ensures { Self.WalkedRow.key (Self.WalkedRow.item self.now) ≡ pos result };
 
     /// The difference of these two.
-    fn difference(sides: Sides<Self>) -> Difference;
+    fn difference(sides: Sides<Self>) -> Difference
+        ensures { Says result sides };
+
+    /// A file has them by rising keys.
+    ghost rise: { (db : Database) (all : List Self.Item) → Self.HasItems db all → HaveRisingKeys Self.key all };
 }
 
 /// What two rows that come next say of their tables.
@@ -30,14 +42,19 @@ pub(crate) enum Step {
 }
 
 // The rows under the lesser of their two keys.
-fn sides<R: Compared>(stands: R, due: R) -> Sides<R> {
-    if stands.number() < due.number() {
+fn sides<R: Compared>(stands: R, due: R) -> Sides<R>
+    requires { R.WalkedRow.item stands ≢ R.WalkedRow.item due }
+    ensures { AreFirst R.WalkedRow.key R.WalkedRow.item (Some stands) (Some due) result }
+{
+    let stood = stands.number();
+    let ruled = due.number();
+    if stood < ruled {
         return Sides {
             stands: Some(stands),
             due: None,
         };
     }
-    if due.number() < stands.number() {
+    if ruled < stood {
         return Sides {
             stands: None,
             due: Some(due),
@@ -51,7 +68,7 @@ fn sides<R: Compared>(stands: R, due: R) -> Sides<R> {
 
 /// Compares the rows that come next, none where a table has ended.
 pub(crate) fn compare_next<R: Compared>(stands: Option<R>, due: Option<R>) -> Step
-    ensures { Sets R.WalkedRow.item stands due result }
+    ensures { Sets R.WalkedRow.key R.WalkedRow.item R.Compared.Says stands due result }
 {
     match (stands, due) {
         (None, None) => Step::Ended,
@@ -61,11 +78,24 @@ pub(crate) fn compare_next<R: Compared>(stands: Option<R>, due: Option<R>) -> St
             }
             Step::Differs(R::difference(sides(stands, due)))
         }
-        (stands, due) => Step::Differs(R::difference(Sides { stands, due })),
+        (Some(stands), None) => Step::Differs(R::difference(Sides {
+            stands: Some(stands),
+            due: None,
+        })),
+        (None, Some(due)) => Step::Differs(R::difference(Sides {
+            stands: None,
+            due: Some(due),
+        })),
     }
 }
 
 impl Compared for StoredMeta {
+    ghost use Rattle.bank_replays.specs.declared.difference.Difference.TheVariants.{Meta};
+
+    ghost Says = { λ d s. d ≡ Meta s };
+
+    ghost rise = { λ db rows has. has.holds.rows.rise };
+
     fn is_same(&self, due: &Self) -> bool {
         self == due
     }
@@ -74,12 +104,20 @@ impl Compared for StoredMeta {
         self.id.get()
     }
 
-    fn difference(sides: Sides<Self>) -> Difference {
+    fn difference(sides: Sides<Self>) -> Difference
+        ensures { result ≡ Difference.Meta sides }
+    {
         Difference::Meta(sides)
     }
 }
 
 impl Compared for StoredBranch {
+    ghost use Rattle.bank_replays.specs.declared.difference.Difference.TheVariants.{Branch};
+
+    ghost Says = { λ d s. d ≡ Branch s };
+
+    ghost rise = { λ db rows has. has.holds.rows.rise };
+
     fn is_same(&self, due: &Self) -> bool {
         self == due
     }
@@ -88,12 +126,20 @@ impl Compared for StoredBranch {
         self.branch.get()
     }
 
-    fn difference(sides: Sides<Self>) -> Difference {
+    fn difference(sides: Sides<Self>) -> Difference
+        ensures { result ≡ Difference.Branch sides }
+    {
         Difference::Branch(sides)
     }
 }
 
 impl Compared for StoredTeller {
+    ghost use Rattle.bank_replays.specs.declared.difference.Difference.TheVariants.{Teller};
+
+    ghost Says = { λ d s. d ≡ Teller s };
+
+    ghost rise = { λ db rows has. has.holds.rows.rise };
+
     fn is_same(&self, due: &Self) -> bool {
         self == due
     }
@@ -102,12 +148,20 @@ impl Compared for StoredTeller {
         self.teller.get()
     }
 
-    fn difference(sides: Sides<Self>) -> Difference {
+    fn difference(sides: Sides<Self>) -> Difference
+        ensures { result ≡ Difference.Teller sides }
+    {
         Difference::Teller(sides)
     }
 }
 
 impl Compared for StoredAccount {
+    ghost use Rattle.bank_replays.specs.declared.difference.Difference.TheVariants.{Account};
+
+    ghost Says = { λ d s. d ≡ Account s };
+
+    ghost rise = { λ db rows has. has.holds.rows.rise };
+
     fn is_same(&self, due: &Self) -> bool {
         self == due
     }
@@ -116,12 +170,20 @@ impl Compared for StoredAccount {
         self.account.get()
     }
 
-    fn difference(sides: Sides<Self>) -> Difference {
+    fn difference(sides: Sides<Self>) -> Difference
+        ensures { result ≡ Difference.Account sides }
+    {
         Difference::Account(sides)
     }
 }
 
 impl Compared for StoredPosting {
+    ghost use Rattle.bank_replays.specs.declared.difference.Difference.TheVariants.{Posting};
+
+    ghost Says = { λ d s. d ≡ Posting s };
+
+    ghost rise = { λ db rows has. has.holds.rows.rise };
+
     fn is_same(&self, due: &Self) -> bool {
         self == due
     }
@@ -130,12 +192,20 @@ impl Compared for StoredPosting {
         self.ordinal.get()
     }
 
-    fn difference(sides: Sides<Self>) -> Difference {
+    fn difference(sides: Sides<Self>) -> Difference
+        ensures { result ≡ Difference.Posting sides }
+    {
         Difference::Posting(sides)
     }
 }
 
 impl Compared for StoredRequest {
+    ghost use Rattle.bank_replays.specs.declared.difference.Difference.TheVariants.{Request};
+
+    ghost Says = { λ d s. d ≡ Request s };
+
+    ghost rise = { λ db rows has. has.holds.rows.rise };
+
     fn is_same(&self, due: &Self) -> bool {
         self == due
     }
@@ -144,12 +214,20 @@ impl Compared for StoredRequest {
         self.ordinal.get()
     }
 
-    fn difference(sides: Sides<Self>) -> Difference {
+    fn difference(sides: Sides<Self>) -> Difference
+        ensures { result ≡ Difference.Request sides }
+    {
         Difference::Request(sides)
     }
 }
 
 impl Compared for StoredFloor {
+    ghost use Rattle.bank_replays.specs.declared.difference.Difference.TheVariants.{Floor};
+
+    ghost Says = { λ d s. d ≡ Floor s };
+
+    ghost rise = { λ db rows has. has.holds.rows.rise };
+
     fn is_same(&self, due: &Self) -> bool {
         self == due
     }
@@ -158,12 +236,20 @@ impl Compared for StoredFloor {
         self.branch.get()
     }
 
-    fn difference(sides: Sides<Self>) -> Difference {
+    fn difference(sides: Sides<Self>) -> Difference
+        ensures { result ≡ Difference.Floor sides }
+    {
         Difference::Floor(sides)
     }
 }
 
 impl Compared for StoredReference {
+    ghost use Rattle.bank_replays.specs.declared.difference.Difference.TheVariants.{Reference};
+
+    ghost Says = { λ d s. d ≡ Reference s };
+
+    ghost rise = { λ db rows has. has.holds.rows.rise };
+
     fn is_same(&self, due: &Self) -> bool {
         self == due
     }
@@ -172,7 +258,9 @@ impl Compared for StoredReference {
         self.ordinal.get()
     }
 
-    fn difference(sides: Sides<Self>) -> Difference {
+    fn difference(sides: Sides<Self>) -> Difference
+        ensures { result ≡ Difference.Reference sides }
+    {
         Difference::Reference(sides)
     }
 }

@@ -1,9 +1,10 @@
 //! The rows of two banks, side by side.
-ghost use Rattle.std.specs.Prelude.{◌≡◌, ◌≢◌, List, None, Ok, Err};
+ghost use Rattle.std.specs.Prelude.{◌≡◌, ◌≢◌, List, None, Some, Ok, Err};
 ghost use Rattle.sqlite.specs.State.{HasCleanDisk};
 ghost use Rattle.posting_rules.specs.declared.fault.Fault.TheVariants.{Down};
 ghost use Rattle.bank_store.specs.Walking.{HasToldFault, items_to_come, lent, lent_state, loan_of};
-ghost use Rattle.bank_replays.specs.Comparing.{Both, Compares, SameRows};
+ghost use Rattle.bank_replays.specs.Comparing.{Both, Compares, DiffersAmong, DiffersIn, Either, SameRows};
+ghost use Rattle.bank_replays.specs.Differences.{DiffersBetween};
 ghost use Rattle.bank_replays.specs.FileTables.{SameTables};
 ghost use Rattle.bank_replays.specs.Reading.{ReadsBank};
 
@@ -33,6 +34,12 @@ fn compare_rows<S: Alter, T: Alter, R: Compared>(
         → R.WalkedRow.HasItems (lent_state T.Store due.old).now others
         → items_to_come R.WalkedRow.key R.WalkedRow.item R.WalkedRow.is_given all stood.old
         ≡ items_to_come R.WalkedRow.key R.WalkedRow.item R.WalkedRow.is_given others due.old }
+    ensures differs { HasCleanDisk (lent_state S.Store stood.new) → HasCleanDisk (lent_state T.Store due.new)
+        → (d : Difference) → result ≡ Ok (Some d) → DiffersAmong R.WalkedRow.key R.WalkedRow.item R.Compared.Says
+        (R.WalkedRow.HasItems (lent_state S.Store stood.old).now)
+        (R.WalkedRow.HasItems (lent_state T.Store due.old).now)
+        (λ all. items_to_come R.WalkedRow.key R.WalkedRow.item R.WalkedRow.is_given all stood.old)
+        (λ all. items_to_come R.WalkedRow.key R.WalkedRow.item R.WalkedRow.is_given all due.old) d }
     ensures tried { result ≢ Err Down }
 {
     'rows: for _ in 0..u64::MAX {
@@ -56,7 +63,7 @@ fn compare<S: Alter, T: Alter, R: Compared>(
     due: &mut Bank<T>,
 ) -> Result<Option<Difference>, Fault>
     ensures { Compares S.Store T.Store bank.old bank.new due.old due.new (SameRows R.WalkedRow.HasItems)
-        result }
+        (DiffersIn R.WalkedRow.key R.WalkedRow.item R.Compared.Says R.WalkedRow.HasItems) result }
 {
     let mut stood = each_row::<S, R>(bank)?;
     let Ok(mut rules) = each_row::<T, R>(due) else {
@@ -71,7 +78,9 @@ fn compare_two<S: Alter, T: Alter, A: Compared, B: Compared>(
     due: &mut Bank<T>,
 ) -> Result<Option<Difference>, Fault>
     ensures { Compares S.Store T.Store bank.old bank.new due.old due.new
-        (Both (SameRows A.WalkedRow.HasItems) (SameRows B.WalkedRow.HasItems)) result }
+        (Both (SameRows A.WalkedRow.HasItems) (SameRows B.WalkedRow.HasItems))
+        (Either (DiffersIn A.WalkedRow.key A.WalkedRow.item A.Compared.Says A.WalkedRow.HasItems)
+        (DiffersIn B.WalkedRow.key B.WalkedRow.item B.Compared.Says B.WalkedRow.HasItems)) result }
 {
     match compare::<S, T, A>(bank, due) {
         Ok(None) => compare::<S, T, B>(bank, due),
@@ -87,7 +96,11 @@ fn compare_four<S: Alter, T: Alter, A: Compared, B: Compared, C: Compared, D: Co
 ) -> Result<Option<Difference>, Fault>
     ensures { Compares S.Store T.Store bank.old bank.new due.old due.new
         (Both (Both (SameRows A.WalkedRow.HasItems) (SameRows B.WalkedRow.HasItems))
-        (Both (SameRows C.WalkedRow.HasItems) (SameRows D.WalkedRow.HasItems))) result }
+        (Both (SameRows C.WalkedRow.HasItems) (SameRows D.WalkedRow.HasItems)))
+        (Either (Either (DiffersIn A.WalkedRow.key A.WalkedRow.item A.Compared.Says A.WalkedRow.HasItems)
+        (DiffersIn B.WalkedRow.key B.WalkedRow.item B.Compared.Says B.WalkedRow.HasItems))
+        (Either (DiffersIn C.WalkedRow.key C.WalkedRow.item C.Compared.Says C.WalkedRow.HasItems)
+        (DiffersIn D.WalkedRow.key D.WalkedRow.item D.Compared.Says D.WalkedRow.HasItems))) result }
 {
     match compare_two::<S, T, A, B>(bank, due) {
         Ok(None) => compare_two::<S, T, C, D>(bank, due),
@@ -101,7 +114,8 @@ pub(crate) fn compare_all<S: Alter, T: Alter>(
     bank: &mut Bank<S>,
     due: &mut Bank<T>,
 ) -> Result<Option<Difference>, Fault>
-    ensures { Compares S.Store T.Store bank.old bank.new due.old due.new SameTables result }
+    ensures { Compares S.Store T.Store bank.old bank.new due.old due.new SameTables DiffersBetween
+        result }
 {
     match compare_four::<S, T, StoredMeta, StoredBranch, StoredFloor, StoredRequest>(bank, due) {
         Ok(None) => {

@@ -42,6 +42,7 @@ mod digests;
 mod exports;
 mod fault;
 mod handed;
+mod lines;
 mod plan;
 mod ram;
 mod refill;

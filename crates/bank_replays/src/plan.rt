@@ -1,6 +1,5 @@
 //! The open branches as a plan.
 ghost use Rattle.std.specs.Prelude.{◌≡◌, ◌≤◌, ◌+◌, ◌++◌, List, Err, IfOk, length, map, option_map, ⊤};
-ghost use Rattle.std.specs.Fmt.{signed_decimal};
 ghost use Rattle.sqlite.specs.State.{HasCleanDisk};
 ghost use Rattle.posting_rules.specs.believed.Tables.{row_at};
 ghost use Rattle.posting_rules.specs.declared.fault.Fault.TheVariants.{Down};
@@ -21,38 +20,23 @@ ghost use Rattle.bank_replays.specs.declared.fault.ReplayFault.TheVariants.{Bank
 
 use crate::fault::{ReplayFault, told};
 use crate::handed::{Hands, hand_all};
+use crate::lines::{LINE, Line, NUMBER, push_number};
 use arrayvec::ArrayString;
 use bank_store::Bank;
-use itoa::Buffer;
 use posting_core::Sink;
 use posting_rules::{Counter, Fault};
 use report_contents::{put, put_last};
 use sqlite::Alter;
 use walked_rows::{StoredBranch, StoredFloor};
 
-// The most that a line takes: three numbers of 40 characters, and what stands after each.
-const PLAN_LINE: usize = 123;
-
-type PlanLine = ArrayString<PLAN_LINE>;
-
 // The first line.
 const NAMES: &str = "branch,accounts,floor\n";
 
-// Appends a number.
-fn push_number(line: &mut PlanLine, number: i64)
-    requires { length line.old.bytes + 40 ≤ PLAN_LINE }
-    ensures bytes { line.new.bytes ≡ line.old.bytes ++ signed_decimal number }
-    ensures len { length line.new.bytes ≤ length line.old.bytes + 40 }
-{
-    let mut digits = Buffer::new();
-    line.push_str(digits.format(number));
-}
-
 // Appends a floor, if there is one.
-fn push_floor(line: &mut PlanLine, floor: Option<i64>)
-    requires { length line.old.bytes + 40 ≤ PLAN_LINE }
+fn push_floor(line: &mut Line, floor: Option<i64>)
+    requires { length line.old.bytes + NUMBER ≤ LINE }
     ensures bytes { line.new.bytes ≡ line.old.bytes ++ text_of_floor floor }
-    ensures len { length line.new.bytes ≤ length line.old.bytes + 40 }
+    ensures len { length line.new.bytes ≤ length line.old.bytes + NUMBER }
 {
     if let Some(lowest) = floor {
         push_number(line, lowest);
@@ -60,7 +44,7 @@ fn push_floor(line: &mut PlanLine, floor: Option<i64>)
 }
 
 // The line of a branch.
-fn line_of(row: &StoredBranch, floor: Option<i64>) -> PlanLine
+fn line_of(row: &StoredBranch, floor: Option<i64>) -> Line
     ensures { result.bytes ≡ line_with (branch_entry row.now) (text_of_floor floor) }
 {
     let mut line = ArrayString::new();

@@ -5,16 +5,19 @@ ghost use Rattle.sqlite.specs.State.{HasCleanDisk};
 ghost use Rattle.posting_rules.specs.believed.Commands.{Command};
 ghost use Rattle.posting_rules.specs.believed.Counter.{ShowsLog};
 ghost use Rattle.posting_rules.specs.declared.fault.Fault.TheVariants.{Down};
+ghost use Rattle.sql_meanings.specs.believed.Entries.{Entry};
 ghost use Rattle.walked_rows.specs.KeptRows.{HasKept, KeptItem};
+ghost use Rattle.walked_rows.specs.Rows.{HasStoredRows};
 ghost use Rattle.bank_store.specs.believed.Seen.{bank_seen, connection_of, database_of, file_of};
 ghost use Rattle.bank_store.specs.Seen.{fault_of};
 ghost use Rattle.bank_store.specs.Sparing.{SparesWhileOpen};
-ghost use Rattle.bank_store.specs.Leaving.{StandsWhileOpen, TakesNone};
-ghost use Rattle.bank_replays.specs.Digests.{IsDigestIn, IsDigestOf, answered_after};
+ghost use Rattle.bank_store.specs.Leaving.{StandsWhileOpen};
+ghost use Rattle.bank_replays.specs.Differences.{DiffersFrom, table_of};
+ghost use Rattle.bank_replays.specs.Digests.{IsDigestIn};
 ghost use Rattle.bank_replays.specs.FileTables.{FileTables, HasTables, IsKept};
 ghost use Rattle.bank_replays.specs.Reading.{ReadsBank};
 ghost use Rattle.bank_replays.specs.Refilling.{IsNeverInDoubt, ShowsSome};
-ghost use Rattle.bank_replays.specs.Replays.{HasAnswered, HasLookedAtRows, OnAgrees, TellsTables};
+ghost use Rattle.bank_replays.specs.Replays.{HasLookedAtRows, OnAgrees, OnDiffers, Replays, TellsTables};
 
 use crate::comparing::compare_all;
 use crate::difference::Replay;
@@ -78,6 +81,8 @@ fn replay_beside<S: Alter, T: Alter + Drop, W: Watch + Drop>(
         → OnAgrees result (λ d. (log : List Command) × ShowsLog (bank_seen S.Store bank.old) log) }
     ensures digest { HasCleanDisk (file_of bank.new) → (all : List KeptItem)
         → HasKept (database_of S.Store bank.old) all → OnAgrees result (IsDigestIn all) }
+    ensures differs { HasCleanDisk (file_of bank.new) → OnDiffers result (λ d. (rows : List Entry)
+        → HasStoredRows (database_of S.Store bank.old) (table_of d) rows → DiffersFrom rows d) }
 {
     let mut due = refilled(bank, due, watch)?;
     if let Some(difference) = compare_all(bank, &mut due)? {
@@ -117,6 +122,8 @@ fn replay_over<S: Alter, T: Alter + Drop, W: Watch + Drop>(
         → OnAgrees result (λ d. (log : List Command) × ShowsLog (bank_seen S.Store bank.old) log) }
     ensures digest { HasCleanDisk (file_of bank.new) → (all : List KeptItem)
         → HasKept (database_of S.Store bank.old) all → OnAgrees result (IsDigestIn all) }
+    ensures differs { HasCleanDisk (file_of bank.new) → OnDiffers result (λ d. (rows : List Entry)
+        → HasStoredRows (database_of S.Store bank.old) (table_of d) rows → DiffersFrom rows d) }
 {
     let due = new_bank(bank.alloc(), conn)?;
     replay_beside(bank, due, watch)
@@ -164,9 +171,9 @@ pub fn replay<S: Alter, W: Watch + Drop>(bank: &mut Bank<S>, watch: W) -> Result
         → OnAgrees result (λ d. (log : List Command) × ShowsLog (bank_seen S.Store bank.old) log)) }
     ensures digest { (bank_seen S.Store bank.new).honest → (all : List KeptItem)
         → HasKept (database_of S.Store bank.old) all → OnAgrees result (IsDigestIn all) }
-    ensures log { (bank_seen S.Store bank.new).honest → (log : List Command)
-        → ShowsLog (bank_seen S.Store bank.old) log → OnAgrees result (IsDigestOf (answered_after log)) }
-    ensures bank { TakesNone (bank_seen S.Store bank.old) (bank_seen S.Store bank.new) (HasAnswered result) }
+    ensures differs { (bank_seen S.Store bank.new).honest → OnDiffers result (λ d. (rows : List Entry)
+        → HasStoredRows (database_of S.Store bank.old) (table_of d) rows → DiffersFrom rows d) }
+    ensures bank { Replays (bank_seen S.Store bank.old) (bank_seen S.Store bank.new) result }
     ensures down { (bank_seen S.Store bank.old).is_down → (result ≡ Err Down) × (bank.new ≡ bank.old) }
     ensures up { fault_of bank.new ≡ fault_of bank.old }
     ensures stands { StandsWhileOpen S.Store bank.old bank.new }

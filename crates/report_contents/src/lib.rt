@@ -60,6 +60,7 @@ pub use audit::{Audit, BranchLine, BranchLines};
 pub use branches::BranchSums;
 pub use laws::{audit_tells_consistency, rows_tell_of_tables};
 pub use limits::MAX_ROWS;
+pub use lines::push_text;
 pub use ordinals::OrdinalSums;
 pub use statement_text::{
     STATEMENT_LINE, StatementLine, statement_closing, statement_heading, statement_line,

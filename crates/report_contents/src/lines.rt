@@ -30,7 +30,7 @@ pub(crate) fn push_repeated<const SIZE: usize>(
 }
 
 /// Appends a text of printable ASCII.
-pub(crate) fn push_text<const SIZE: usize>(line: &mut ArrayString<SIZE>, text: &[u8])
+pub fn push_text<const SIZE: usize>(line: &mut ArrayString<SIZE>, text: &[u8])
     requires ascii { IsTrue (is_printable text.now) }
     requires room { length line.old.bytes + length text.now ≤ SIZE }
     ensures { line.new.bytes ≡ line.old.bytes ++ text.now }

@@ -1,5 +1,7 @@
 -- The lines of what was found, or its fault.
-use Rattle.std.proofs.{Common.Err, Common.ap, KnownBytes.Keeps-refl}
+use Rattle.std.proofs.Common.{ℕ, List, Err, ap, subst}
+use Rattle.std.proofs.KnownBytes.{Keeps-refl}
+use Rattle.command_line.specs.Replaying.{PrintsText, differing_lines}
 use Rattle.bank_commands.proofs.replaying.print_replay.Goals as goal
 
 pub returns-in-Agrees : goal.returns-in-Agrees
@@ -9,7 +11,14 @@ returns-in-Agrees g c =
 pub returns-in-Differs : goal.returns-in-Differs
 returns-in-Differs g c =
     let it = c.print_differing.ensures in
-    rw (c.in-Ok.is, c.in-Differs.is) (it.0, (c.print_differing.result, it.2, c.ended-in-Differs.ensures))
+    rw (c.in-Ok.is, c.in-Differs.is) (
+      c.print_differing.result,
+      subst (λ (text : List ℕ).
+          PrintsText (differing_lines text) (g.W.Sink.contents c.args.output.now)
+          (g.W.Sink.contents c.print_differing.new.output) (g.W.Sink.told c.args.output.now)
+          (g.W.Sink.told c.print_differing.new.output) c.print_differing.result) it.1 it.2,
+      c.ended-in-Differs.ensures,
+    )
 
 pub returns-in-Otherwise : goal.returns-in-Otherwise
 returns-in-Otherwise g c =

@@ -1,5 +1,7 @@
 -- There is room for the walks, and what was told of their rows to come is told of all rows of the banks.
+use Rattle.std.proofs.Common.{rules}
 use Rattle.bank_store.proofs.RoomForWalks.{walk_fits}
+use Rattle.bank_replays.proofs.Begun.{differs_of_all}
 use Rattle.bank_replays.proofs.comparing.compare.Goals as goal
 
 pub each_row-requires : goal.each_row-requires
@@ -7,3 +9,14 @@ each_row-requires g c = walk_fits g.row.R g.met.R.Handed.few_bytes
 
 pub each_row-requires-2 : goal.each_row-requires-2
 each_row-requires-2 g c = walk_fits g.row.R g.met.R.Handed.few_bytes
+
+pub returns : goal.returns
+returns g c = record {
+  bank = search rules;
+  due = search rules;
+  same = search rules;
+  differs = λ clean clean_due d is.
+      differs_of_all c.in_ok-stood.ensures.begins c.in-Ok.ensures.begins g.R.Compared.Says g.met.R.Compared.rise d
+      (c.compare_rows.ensures.differs (search rules) (search rules) d is);
+  tried = search rules;
+}

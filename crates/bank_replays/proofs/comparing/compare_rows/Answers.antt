@@ -1,9 +1,11 @@
 -- Two rows more, and what ends the two walks.
-use Rattle.std.proofs.Common.{◌≡◌, Err, refl, sym, ap, subst, ◌∙◌}
+use Rattle.std.proofs.Common.{◌≡◌, [], Some, Err, refl, sym, ap, subst, ◌∙◌}
 use Rattle.std.proofs.lemmas.Result.{err_from_is_err_and}
 use Rattle.posting_rules.specs.declared.fault.Fault.TheVariants.{Memory}
 use Rattle.bank_replays.proofs.Comparisons.{error_is, memory_not_down, not_none, ok_not_err, same_end, same_step}
-use Rattle.bank_replays.proofs.Comparisons.{some_not_none}
+use Rattle.bank_replays.proofs.Comparisons.{one_difference, some_not_none}
+use Rattle.bank_replays.proofs.FirstDifference.{so_far_more, so_far_same, told_first}
+use Rattle.bank_replays.specs.declared.difference.Difference.{Difference}
 use Rattle.bank_replays.proofs.Read.{clean_before, none_read, read_any, read_fails, read_then, step_reads}
 use Rattle.bank_replays.proofs.comparing.compare_rows.Goals as goal
 
@@ -14,7 +16,7 @@ rows-init g c = record {
   bank = none_read _ _;
   due = none_read _ _;
   fresh = c.requires.fresh;
-  same = λ clean clean_due all others has has_due is. is;
+  same = λ clean clean_due all others has has_due. record { given = []; are = refl; are_due = refl };
 }
 
 -- the first walk failed
@@ -30,6 +32,7 @@ returns-in_err-stands g c =
       bank = rw same (read_fails fault (read_then it.bank (step_reads c.next.ensures.bank)));
       due = read_any it.due _;
       same = λ clean clean_due none. absurd (not_none _ fault same none);
+      differs = λ clean clean_due d is. absurd (ok_not_err (Some d) _ fault is same);
       tried = λ is.
           it.fresh (c.next.ensures.stage.down.1 (c.in_err-stands.was ∙ ap Err (error_is fault _ same is))).0;
     }
@@ -44,6 +47,7 @@ returns-in_default g c =
       bank = read_any (read_then it.bank (step_reads c.in_ok-stands.ensures.bank)) _;
       due = read_fails Memory (read_then it.due (step_reads c.next-in-rows.ensures.bank));
       same = λ clean clean_due none. absurd (not_none _ Memory refl none);
+      differs = λ clean clean_due d is. absurd (ok_not_err (Some d) _ Memory is refl);
       tried = memory_not_down _ refl;
     }
 
@@ -62,13 +66,14 @@ returns-in-Ended g c =
       same = λ clean clean_due none all others has has_due.
           let before = clean_before one clean in
           let before_due = clean_before two clean_due in
-          it.same before before_due all others has has_due
+          so_far_same _ _ _ _ (it.same before before_due all others has has_due)
           (same_end g.R.WalkedRow.item g.R.WalkedRow.Breaks _ _ _ _ _ _
           (c.in_ok-stands.ensures.told clean all
           (subst (λ db. g.R.WalkedRow.HasItems db all) (sym (it.bank.still before).0) has))
           (c.in-Ok.ensures.told clean_due others
           (subst (λ db. g.R.WalkedRow.HasItems db others) (sym (it.due.still before_due).0) has_due))
           ended.0 ended.1);
+      differs = λ clean clean_due d is. absurd (some_not_none d _ is refl);
       tried = ok_not_err _ _ _ refl;
     }
 
@@ -76,12 +81,29 @@ returns-in-Ended g c =
 pub returns-in-Differs : goal.returns-in-Differs
 returns-in-Differs g c =
     let it = c.rows.invariant in
+    let one = step_reads c.in_ok-stands.ensures.bank in
+    let two = step_reads c.in-Ok.ensures.bank in
+    let set = rw c.in-Differs.is at c.compare_next.ensures in
     record {
       same_reference = c.next.ensures.bank.same_reference ∙ it.reference;
       same_reference_due = c.next-in-rows.ensures.bank.same_reference ∙ it.reference_due;
-      bank = read_any (read_then it.bank (step_reads c.in_ok-stands.ensures.bank)) _;
-      due = read_any (read_then it.due (step_reads c.in-Ok.ensures.bank)) _;
+      bank = read_any (read_then it.bank one) _;
+      due = read_any (read_then it.due two) _;
       same = λ clean clean_due none. absurd (some_not_none _ _ refl none);
+      differs = λ clean clean_due d is. record {
+        sides = set.0;
+        says = subst (λ (e : Difference). g.R.Compared.Says e set.0) (one_difference _ d is) set.2;
+        are = λ all others has has_due.
+            let before = clean_before one clean in
+            let before_due = clean_before two clean_due in
+            told_first g.R.WalkedRow.key g.R.WalkedRow.item g.R.WalkedRow.Breaks _ _ _ _ _ _ _ _ set.0
+            (it.same before before_due all others has has_due)
+            (c.in_ok-stands.ensures.told clean all
+            (subst (λ db. g.R.WalkedRow.HasItems db all) (sym (it.bank.still before).0) has))
+            (c.in-Ok.ensures.told clean_due others
+            (subst (λ db. g.R.WalkedRow.HasItems db others) (sym (it.due.still before_due).0) has_due))
+            set.1;
+      };
       tried = ok_not_err _ _ _ refl;
     }
 
@@ -95,6 +117,7 @@ returns g c =
       bank = read_any it.bank _;
       due = read_any it.due _;
       same = λ clean clean_due none. absurd (not_none _ Memory refl none);
+      differs = λ clean clean_due d is. absurd (ok_not_err (Some d) _ Memory is refl);
       tried = memory_not_down _ refl;
     }
 
@@ -110,14 +133,14 @@ rows-preserved g c =
       bank = read_any (read_then it.bank one) _;
       due = read_any (read_then it.due two) _;
       fresh = c.in_ok-stands.ensures.stage.going;
-      same = λ clean clean_due all others has has_due rest.
+      same = λ clean clean_due all others has has_due.
           let before = clean_before one clean in
           let before_due = clean_before two clean_due in
-          it.same before before_due all others has has_due
+          so_far_more _ _ _ _ _ _ _ (it.same before before_due all others has has_due)
           (same_step g.R.WalkedRow.item g.R.WalkedRow.Breaks _ _ _ _ _ _
           (c.in_ok-stands.ensures.told clean all
           (subst (λ db. g.R.WalkedRow.HasItems db all) (sym (it.bank.still before).0) has))
           (c.in-Ok.ensures.told clean_due others
           (subst (λ db. g.R.WalkedRow.HasItems db others) (sym (it.due.still before_due).0) has_due))
-          set.0 set.1 set.2 set.3 set.4 rest);
+          set.0 set.1 set.2 set.3 set.4);
     }

@@ -4,6 +4,7 @@ use Rattle.sqlite.specs.{State.HasCleanDisk, Held.state}
 use Rattle.posting_rules.specs.declared.fault.Fault.{Fault}
 use Rattle.bank_store.specs.Walking.{HasToldFault, items_to_come}
 use Rattle.bank_replays.specs.Reading.{ReadsBank}
+use Rattle.bank_replays.proofs.FirstDifference.{SameSoFar}
 use Rattle.bank_replays.proofs.comparing.compare_rows.Given as goal
 
 abbrev pub invariant-rows : goal.invariant-rows
@@ -17,8 +18,9 @@ invariant-rows g l = record {
       → (all others : List g.R.WalkedRow.Item)
       → g.R.WalkedRow.HasItems (state g.S.Store l.fn.stood.bank.now.conn).now all
       → g.R.WalkedRow.HasItems (state g.T.Store l.fn.due.bank.now.conn).now others
-      → items_to_come g.R.WalkedRow.key g.R.WalkedRow.item g.R.WalkedRow.is_given all l.stood
-      ≡ items_to_come g.R.WalkedRow.key g.R.WalkedRow.item g.R.WalkedRow.is_given others l.due
-      → items_to_come g.R.WalkedRow.key g.R.WalkedRow.item g.R.WalkedRow.is_given all l.fn.stood
-      ≡ items_to_come g.R.WalkedRow.key g.R.WalkedRow.item g.R.WalkedRow.is_given others l.fn.due;
+      → SameSoFar
+      (items_to_come g.R.WalkedRow.key g.R.WalkedRow.item g.R.WalkedRow.is_given all l.fn.stood)
+      (items_to_come g.R.WalkedRow.key g.R.WalkedRow.item g.R.WalkedRow.is_given others l.fn.due)
+      (items_to_come g.R.WalkedRow.key g.R.WalkedRow.item g.R.WalkedRow.is_given all l.stood)
+      (items_to_come g.R.WalkedRow.key g.R.WalkedRow.item g.R.WalkedRow.is_given others l.due);
 }

@@ -15,8 +15,8 @@ pub returns-then-is_down : goal.returns-then-is_down
 returns-then-is_down g c = record {
   agrees = (tt, λ clean kept. tt);
   digest = λ clean all has. tt;
-  log = λ clean log shows. tt;
-  bank = idle_takes (bank_seen g.S.Store c.args.bank.now) _;
+  differs = λ clean. tt;
+  bank = record { log = λ clean log shows. tt; takes = idle_takes (bank_seen g.S.Store c.args.bank.now) _ };
   down = λ down. (refl, refl);
   up = refl;
   stands = λ clean up is_open log at. at;
@@ -29,8 +29,8 @@ returns-in-Some g c =
     record {
       agrees = (rw some at c.other_table.ensures, λ clean kept. tt);
       digest = λ clean all has. tt;
-      log = λ clean log shows. tt;
-      bank = idle_takes (bank_seen g.S.Store c.args.bank.now) _;
+      differs = λ clean. tt;
+      bank = record { log = λ clean log shows. tt; takes = idle_takes (bank_seen g.S.Store c.args.bank.now) _ };
       down = λ down. absurd (tested_up _ _ c.is_down.ensures c.if-is_down.false down);
       up = refl;
       stands = λ clean up is_open log at. at;
@@ -43,8 +43,11 @@ returns-in_err-pages g c =
     record {
       agrees = (rw same tt, λ clean kept. rw same tt);
       digest = λ clean all has. rw same tt;
-      log = λ clean log shows. rw same tt;
-      bank = idle_takes (bank_seen g.S.Store c.args.bank.now) _;
+      differs = λ clean. rw same tt;
+      bank = record {
+        log = λ clean log shows. rw same tt;
+        takes = idle_takes (bank_seen g.S.Store c.args.bank.now) _;
+      };
       down = λ down. absurd (tested_up _ _ c.is_down.ensures c.if-is_down.false down);
       up = refl;
       stands = λ clean up is_open log at. at;
@@ -69,11 +72,14 @@ returns g c =
         λ clean kept. let it = has_tables db made kept in says.agrees clean it.0 it.1,
       );
       digest = says.digest;
-      log = λ clean log shows.
-          agrees_log (kept_of db shows.tables log shows.are shows.shows) _
-          (kept_answered db shows.tables log shows.are shows.shows) _
-          (says.digest clean _ (has_kept db shows.tables log shows.are shows.shows));
-      bank = read_takes _ says.bank;
+      differs = says.differs;
+      bank = record {
+        log = λ clean log shows.
+            agrees_log (kept_of db shows.tables log shows.are shows.shows) _
+            (kept_answered db shows.tables log shows.are shows.shows) _
+            (says.digest clean _ (has_kept db shows.tables log shows.are shows.shows));
+        takes = read_takes _ says.bank;
+      };
       down = λ down. absurd (tested_up _ _ c.is_down.ensures c.if-is_down.false down);
       up = says.bank.up;
       stands = read_stands _ says.bank;

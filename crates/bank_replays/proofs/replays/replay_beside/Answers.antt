@@ -4,7 +4,9 @@ use Rattle.std.proofs.Common.{rules, ◌≡◌, Err, refl, sym, subst}
 use Rattle.sqlite.specs.Effect.{Database}
 use Rattle.bank_store.specs.believed.Seen.{connection_of, file_of}
 use Rattle.walked_rows.specs.KeptRows.{HasKept}
-use Rattle.bank_replays.specs.FileTables.{SameTables}
+use Rattle.walked_rows.specs.Rows.{HasStoredRows}
+use Rattle.bank_replays.specs.{Differences.rows_of, Differences.table_of, FileTables.SameTables, FileTables.rows_due}
+use Rattle.bank_replays.proofs.{AllTables.has_rows_of, Tables.due_tables}
 use Rattle.bank_replays.proofs.{Read.clean_before, Read.read_any, Read.read_fails, Read.read_then, Tables.same_log}
 use Rattle.bank_replays.proofs.replays.replay_beside.Goals as goal
 
@@ -16,6 +18,7 @@ returns-in_err-due g c =
       compared = rw same tt;
       agrees = λ clean f has. rw same tt;
       digest = λ clean all has. rw same tt;
+      differs = λ clean. rw same tt;
     }
 
 pub returns-in_err-difference : goal.returns-in_err-difference
@@ -27,15 +30,34 @@ returns-in_err-difference g c =
       compared = rw same tt;
       agrees = λ clean f has. rw same tt;
       digest = λ clean all has. rw same tt;
+      differs = λ clean. rw same tt;
     }
 
 pub returns-in-Some : goal.returns-in-Some
-returns-in-Some g c = record {
-  bank = read_any (read_then c.in_ok-due.ensures.bank c.in_ok-difference.ensures.bank) _;
-  compared = tt;
-  agrees = λ clean f has. tt;
-  digest = λ clean all has. tt;
-}
+returns-in-Some g c =
+    let filled = c.in_ok-due.ensures in
+    let compared = c.in_ok-difference.ensures in
+    let sure = c.requires.clean.clean in
+    record {
+      bank = read_any (read_then filled.bank compared.bank) _;
+      compared = tt;
+      agrees = λ clean f has. tt;
+      digest = λ clean all has. tt;
+      differs = λ clean rows has.
+          let earlier = clean_before compared.bank clean in
+          let it = filled.shows c.requires.shows (sure (connection_of c.in_ok-due.due)) in
+          let d = c.in-Some.difference in
+          let due = due_tables (file_of c.in_ok-due.due).now it.1.tables it.1.are in
+          record {
+            log = it.0;
+            tables = it.1.tables;
+            are = it.1.shows;
+            rows_differ = compared.differs clean (sure (connection_of c.compare_all.new.due)) d
+                (rw c.in-Some.is refl) rows (rows_of d (rows_due it.1.tables))
+                (subst (λ (db : Database). HasStoredRows db (table_of d) rows) (sym (filled.bank.still earlier).0) has)
+                (has_rows_of (file_of c.in_ok-due.due).now (rows_due it.1.tables) due d);
+          };
+    }
 
 pub returns-in_err-digest_all : goal.returns-in_err-digest_all
 returns-in_err-digest_all g c =
@@ -48,6 +70,7 @@ returns-in_err-digest_all g c =
       compared = rw same tt;
       agrees = λ clean f has. rw same tt;
       digest = λ clean all has. rw same tt;
+      differs = λ clean. rw same tt;
     }
 
 pub returns : goal.returns
@@ -71,4 +94,5 @@ returns g c =
       digest = λ clean all has.
           digested.rows clean all
           (subst (λ (d : Database). HasKept d all) (sym (both.still (clean_before digested.bank clean)).0) has);
+      differs = λ clean. tt;
     }

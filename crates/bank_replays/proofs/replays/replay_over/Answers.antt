@@ -11,4 +11,5 @@ returns-in_err-due g c =
       compared = rw same tt;
       agrees = λ clean f has. rw same tt;
       digest = λ clean all has. rw same tt;
+      differs = λ clean. rw same tt;
     }

@@ -1,14 +1,15 @@
 -- The two are one row.
-use Rattle.std.proofs.Common.{[], ◌∷◌, sym, ap, ◌∙◌}
-use Rattle.bank_replays.proofs.SameNumbers.{entry_of, number, same_numbers, whole}
+use Rattle.std.proofs.Common.{List, [], ◌∷◌, sym, ap, ◌∙◌}
+use Rattle.bank_replays.proofs.SameNumbers.{Two, entry_of, number, numbers_of, numbers_same, same_numbers, whole}
 use Rattle.bank_replays.proofs.compared.StoredRequestCompared.is_same.Goals as goal
 
 pub returns : goal.returns
-returns c are =
+returns c =
     let s = c.args.self.now in
     let d = c.args.due.now in
-    ap entry_of (same_numbers
-    (whole s.ordinal d.ordinal ∷ number s.teller d.teller ∷ number s.number d.number
+    let ps : List Two = whole s.ordinal d.ordinal ∷ number s.teller d.teller ∷ number s.number d.number
     ∷ number s.account d.account ∷ number s.branch d.branch ∷ number s.delta d.delta
-    ∷ number s.outcome d.outcome ∷ number s.balance d.balance ∷ [])
-    (sym c.eq.ensures ∙ are))
+    ∷ number s.outcome d.outcome ∷ number s.balance d.balance ∷ [] in (
+      λ are. ap entry_of (same_numbers ps (sym c.eq.ensures ∙ are)),
+      λ same. c.eq.ensures ∙ numbers_same ps (ap numbers_of same),
+    )
