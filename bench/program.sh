@@ -1,40 +1,80 @@
 #!/usr/bin/env bash
-# Measures `bank drive` and `bank post` on a new bank of two branches with 1,000 accounts each: seconds, postings a second
-# and peak memory, for 20,000 records, for 200,000 and for a million. Those that are posted are the driver's too,
-# as `tools/driver_vectors.py` draws them. It needs the built program, Python and GNU time, and stands outside the gate.
-# TMPDIR picks the disk.
+# Measures the built program: seconds, peak of memory, and what comes of them.
+#
+#     bench/program.sh records                         `drive` and `post` of 20,000, 200,000 and a million records, the
+#                                                      driver's, on two branches of 1,000 accounts
+#     bench/program.sh branches [COUNT]                on 1, 10, 40 and 100 branches (BRANCHES: other counts) of 100,000
+#                                                      accounts: `load`, opening (`post` of no record), `drive` of COUNT
+#                                                      records (200,000), opening after them, and `audit`
+#     bench/program.sh replay [POSTINGS [ACCOUNTS]]    `replay` of a million postings on 100,000 accounts, without a disk:
+#                                                      at most three times the processor of `drive`, and two openings' memory
+#
+# It needs Python and GNU time, and stands outside the gate. TMPDIR picks the disk, BANK names another program.
 set -eu
 here=$(cd "$(dirname "$0")/.." && pwd)
-bank=$here/crates/bank/out/bank
+bank=${BANK:-$here/crates/bank/out/bank}
 test -x "$bank" || { echo "program.sh: build the program first: (cd crates/bank && rt run -- --help)" >&2; exit 2; }
-work=$(mktemp -d)
+work=$(mktemp -d -p "$(if [ "${1:-}" = replay ]; then echo "${TMPDIR:-/dev/shm}"; else echo "${TMPDIR:-/tmp}"; fi)")
 trap 'rm -rf "$work"' EXIT
 cd "$work"
-printf 'branch,accounts\n1,1000\n2,1000\n' >plan.csv
 
-# A new bank, with its branches open.
+# A new bank of so many branches with so many accounts each; `load` is measured.
 begin() {
     rm -f bank.db*
-    "$bank" init bank.db >created
-    "$bank" load bank.db plan.csv >loaded
+    { echo branch,accounts; seq -f "%.0f,$2" "$1"; } >plan.csv
+    "$bank" init bank.db >said
+    timed load bank.db plan.csv
 }
-
-# What was measured: the command, and how many records.
+# Runs the program; the file of the command's name has the seconds, the processor's, and the peak of memory in KB.
+timed() {
+    command time -f '%e %U %S %M' -o "$1" "$bank" "$@" >said
+}
 tell() {
-    awk -v command="$1" -v count="$2" \
-        '{ printf("%s, %d records: %s s, %d a second, peak memory %d KB\n", command, count, $1, count / $1, $2) }' took
+    awk -v what="$*" '{ printf("%s: %.1f s, %.1f s of the processor, %d MB\n", what, $1, $2 + $3, $4 / 1000) }' "$1"
+}
+is_driven() {
+    test "$(cat said)" = "records $1 posted $1 refused 0"
 }
 
-for count in 20000 200000 1000000; do
-    begin
-    command time -f '%e %M' -o took "$bank" drive bank.db --seed 7 --count $count >driven
-    test "$(cat driven)" = "records $count posted $count refused 0"
-    tell drive $count
-done
-for count in 20000 200000 1000000; do
-    python3 "$here/tools/driver_vectors.py" 7 $count 1:1000 2:1000 | awk '{ printf("%-100s", $1) }' >records
-    begin
-    command time -f '%e %M' -o took "$bank" post bank.db <records >replies
-    test "$(wc -c <replies)" -eq $((count * 200))
-    tell post $count
-done
+records() {
+    for count in 20000 200000 1000000; do
+        begin 2 1000
+        timed drive bank.db --seed 7 --count $count
+        is_driven $count
+        tell drive of $count records
+        python3 "$here/tools/driver_vectors.py" 7 $count 1:1000 2:1000 | awk '{ printf("%-100s", $1) }' >drawn
+        begin 2 1000
+        timed post bank.db <drawn
+        test "$(wc -c <said)" -eq $((count * 200))
+        tell post of $count records
+    done
+}
+
+branches() {
+    for branches in ${BRANCHES:-1 10 40 100}; do
+        begin "$branches" 100000
+        tell load of "$branches" branches
+        for what in post drive post audit; do
+            timed $what bank.db $(if [ $what = drive ]; then echo --seed 7 --count "${1:-200000}"; fi) </dev/null
+            tell $what of a file of "$(stat -c %s bank.db)" bytes
+        done
+    done
+}
+
+replay() {
+    begin 1 "${2:-100000}"
+    timed drive bank.db --seed 7 --count "${1:-1000000}"
+    is_driven "${1:-1000000}"
+    timed post bank.db </dev/null
+    timed replay bank.db
+    test "$(tail -n 1 said)" = AGREES
+    for it in drive post replay; do tell $it; done
+    awk '{ seconds[FILENAME] = $2 + $3; memory[FILENAME] = $4 }
+        END { printf("replay: %.2f times the processor of drive, %.2f times the memory of an opening\n",
+            seconds["replay"] / seconds["drive"], memory["replay"] / memory["post"]) }' drive post replay
+}
+
+case "${1:-}" in
+records | branches | replay) what=$1; shift; "$what" "$@" ;;
+*) echo "program.sh: records, branches or replay" >&2; exit 2 ;;
+esac

@@ -1,11 +1,17 @@
+#!/usr/bin/env python3
 """The rules of the bank once more, for all scripts that reckon by themselves: records and replies, judging, the tables, what
 a replay and a digest print, an audit by SQL, and the answers over HTTP.
 
-It shares no code with the bank, and reads files by the C library of SQLite. The rules are those of docs/USING.md.
+It shares no code with the bank, and reads files by the C library of SQLite. The rules are those of docs/USING.md. Of a
+bank that runs, copy both files and ask the copy.
+
+    tools/oracle.py FILE        prints what `bank replay FILE` prints, and ends with its status
+    tools/oracle.py FILE N      prints what `bank digest FILE N` prints
 """
 import hashlib
 import re
 import sqlite3
+import sys
 
 VERSION = 3
 LIMIT = 999_999_999_999
@@ -319,7 +325,11 @@ BRANCHES = """
 
 
 def audit(file):
-    """The text of an audit and its status, of a path."""
+    """What the bank prints of an audit of a path, and its status."""
+    tables = tables_of(file)
+    for table in ("branch", "teller", "account", "request", "history"):
+        if any(unread(table, (key, *row)) for key, row in tables[table].items()):
+            return ["bank: damaged rule 6"], 3
     conn = sqlite3.connect(file)
     numbers = {name: conn.execute(text).fetchone()[0] for name, text in NUMBERS}
     lines = [f"{name:<12}{numbers[name]:>20}" for name, _ in NUMBERS]
@@ -328,8 +338,7 @@ def audit(file):
     lines += [f"branch {bid} tellers {tellers} balance {balance}" for bid, tellers, balance in differ]
     sums = {numbers[name] for name in ("account sum", "teller sum", "branch sum", "history sum")}
     sound = len(sums) == 1 and not differ and numbers["unmatched"] == 0
-    lines.append("CONSISTENT" if sound else "INCONSISTENT")
-    return "".join(line + "\n" for line in lines), 0 if sound else 5
+    return lines + ["CONSISTENT" if sound else "INCONSISTENT"], 0 if sound else 5
 
 
 # ---- answers over HTTP
@@ -379,3 +388,18 @@ def is_utf8(text):
     except UnicodeDecodeError:
         return False
     return True
+
+
+def main():
+    if len(sys.argv) > 2:
+        requests, first = list(requests_of(tables_of(sys.argv[1]))), int(sys.argv[2])
+        few = first > len(requests)
+        lines, status = ([f"bank: no request {first}"], 4) if few else (digest_lines(requests[:first]), 0)
+    else:
+        lines, status = replay(sys.argv[1])
+    print("\n".join(lines), file=sys.stderr if status in (3, 4) else sys.stdout)
+    sys.exit(status)
+
+
+if __name__ == "__main__":
+    main()

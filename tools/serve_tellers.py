@@ -68,14 +68,11 @@ class Teller(threading.Thread):
 
 
 class Hostile(threading.Thread):
-    """A client that keeps the counter waiting, and comes again when it is closed."""
+    """A client that keeps the counter waiting in some way, and comes again when it is closed."""
 
-    def __init__(self, server, end):
+    def __init__(self, server, end, way):
         super().__init__(daemon=True)
-        self.server, self.end = server, end
-
-    def keep_waiting(self, connection):
-        raise NotImplementedError
+        self.server, self.end, self.way = server, end, way
 
     def over(self):
         return time.monotonic() >= self.end
@@ -85,74 +82,55 @@ class Hostile(threading.Thread):
             try:
                 with self.server.connect() as connection:
                     connection.settimeout(1)
-                    self.keep_waiting(connection)
+                    self.way(self, connection)
             except OSError:
                 pass
             time.sleep(0.01)
 
-    def wait_for_end(self, connection):
-        while not self.over():
-            try:
-                if not connection.recv(65536):
-                    return
-            except socket.timeout:
-                pass
+    def has_ended(self, connection, seconds):
+        """Whether the counter, or the measure, ends the connection within so long."""
+        connection.settimeout(seconds)
+        try:
+            return not connection.recv(65536)
+        except socket.timeout:
+            return self.over()
 
+    def says_nothing(self, connection):
+        while not self.has_ended(connection, 1):
+            pass
 
-class Idle(Hostile):
-    name_of_kind = "10 that say nothing"
-
-    def keep_waiting(self, connection):
-        self.wait_for_end(connection)
-
-
-class Dripping(Hostile):
-    name_of_kind = "10 that send a byte a second"
-
-    def keep_waiting(self, connection):
+    def drips(self, connection):
         for byte in post(record(1, 1, 1, 1, 5)):
             connection.sendall(bytes([byte]))
-            begin = time.monotonic()
-            while time.monotonic() < begin + 1:
-                if self.over():
-                    return
-                try:
-                    if not connection.recv(65536):
-                        return
-                except socket.timeout:
-                    break
+            if self.has_ended(connection, 1):
+                return
 
-
-class NeverReading(Hostile):
-    name_of_kind = "10 that never read"
-
-    def keep_waiting(self, connection):
-        message = b"GET /branches HTTP/1.1\r\n\r\n" * 100
+    def never_reads(self, connection):
         while not self.over():
-            connection.sendall(message)
+            connection.sendall(b"GET /branches HTTP/1.1\r\n\r\n" * 100)
 
-
-class LongHead(Hostile):
-    name_of_kind = "10 with a head of 8,193 bytes"
-
-    def keep_waiting(self, connection):
+    def sends_a_long_head(self, connection):
         connection.sendall(b"GET /branches HTTP/1.1\r\nA: ".ljust(8193, b"a"))
         while not self.over():
             connection.sendall(b"a")
             time.sleep(0.05)
 
 
-def measure(count, every, seconds, kind=None):
+WAYS = {"that say nothing": Hostile.says_nothing, "that send a byte a second": Hostile.drips,
+        "that never read": Hostile.never_reads, "with a head of 8,193 bytes": Hostile.sends_a_long_head}
+
+
+def measure(count, every, seconds, way=None):
     with tempfile.TemporaryDirectory() as folder:
         file = folder + "/bank.db"
         make_bank(file, PLAN)
         server = Server(file, 1_000_000)
         try:
             end = time.monotonic() + seconds
-            hostile = [kind(server, end + 2) for _ in range(HOSTILE)] if kind else []
+            hostile = [Hostile(server, end + 2, WAYS[way]) for _ in range(HOSTILE)] if way else []
             for client in hostile:
                 client.start()
-            time.sleep(0.2 if kind else 0)
+            time.sleep(0.2 if way else 0)
             tellers = [Teller(server, i + 1, every, end) for i in range(count)]
             for teller in tellers:
                 teller.start()
@@ -166,7 +144,7 @@ def measure(count, every, seconds, kind=None):
     unanswered = sum(teller.unanswered for teller in tellers)
     late = [f"{waits[len(waits) * part // 100] * 1e3:.0f} ms" for part in (50, 99)] if waits else ["-", "-"]
     most = f"{waits[-1]:.2f} s" if waits and not unanswered else f"none within {WAIT} s" if unanswered else "-"
-    print(f"| {count} every {every} s{', beside ' + kind.name_of_kind if kind else ''} | {len(waits)} of {due} "
+    print(f"| {count} every {every} s{f', beside {HOSTILE} {way}' if way else ''} | {len(waits)} of {due} "
           f"| {min(answered)} to {max(answered)} | {late[0]} | {late[1]} | {most} "
           f"| {sum(teller.connections for teller in tellers)} |", flush=True)
 
@@ -181,9 +159,8 @@ def main():
         for every in (0.2, 1.0):
             if seconds:
                 measure(count, every, seconds)
-    for kind in (Idle, Dripping, NeverReading, LongHead):
-        if beside:
-            measure(20, 1.0, beside, kind)
+    for way in WAYS if beside else ():
+        measure(20, 1.0, beside, way)
 
 
 main()

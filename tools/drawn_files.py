@@ -1,0 +1,198 @@
+#!/usr/bin/env python3
+"""Compares what the built program says of drawn files with tools/oracle.py and with SQLite's C library.
+
+Each file is a bank of drawn branches, some with floors, some opened between records, with records that are posted and
+refused, some with references and some that come again, and driven ones; beside its tables is one of somebody else. A
+third are then set back to version 1 or 2 by SQL, and migrated, with the rows that they had. Half are changed by SQL, in
+ways that are drawn too. To SQLite's library the file is sound, and the other table as it was. What `replay`, `digest`
+and `audit` say has to be to the byte what the oracle says, as has the status. Where a file agrees, a second bank is made
+from its plan and its records as the program gives them, which agrees too and keeps as many requests. It needs the built
+program, and stands outside the gate.
+
+    tools/drawn_files.py [FILES [SEED]]
+"""
+import os
+import random
+import sqlite3
+import sys
+import tempfile
+
+import oracle
+from serve_client import done, need_program, run
+
+# Changes by hand: a statement for keys and amounts that are drawn.
+CHANGES = [
+    "UPDATE account SET balance = balance + {amount} WHERE aid = {account}",
+    "UPDATE teller SET balance = balance + {amount} WHERE tid = {teller}",
+    "UPDATE teller SET balance = balance + iif(tid = {teller}, {amount}, -{amount}) WHERE tid IN ({teller}, {other})",
+    "UPDATE branch SET balance = balance + {amount} WHERE bid = {branch}",
+    "UPDATE branch SET accounts = accounts + 1 WHERE bid = {branch}",
+    "UPDATE branch_floor SET lowest = min(lowest + {amount}, 0)",
+    "DELETE FROM branch_floor WHERE bid = {branch}",
+    "DELETE FROM account WHERE aid = {account}",
+    "DELETE FROM teller WHERE tid = {teller}",
+    "DELETE FROM branch WHERE bid = {branch}",
+    "INSERT OR IGNORE INTO account VALUES ({account} + 1, 0)",
+    "INSERT OR IGNORE INTO teller VALUES ({teller} + 10, {amount})",
+    "INSERT OR IGNORE INTO branch VALUES ({branch} + 1, 1, 0)",
+    "UPDATE meta SET decided = decided + 1",
+    "UPDATE history SET moment = moment + 1 WHERE ordinal = {ordinal}",
+    "UPDATE history SET aid = {account} WHERE ordinal = {ordinal}",
+    "UPDATE history SET delta = delta + {amount} WHERE ordinal = {ordinal}",
+    "UPDATE OR IGNORE history SET ordinal = {far} WHERE ordinal = {ordinal}",
+    "UPDATE OR IGNORE request SET ordinal = {far} WHERE ordinal = {ordinal}; "
+    "UPDATE OR IGNORE history SET ordinal = {far} WHERE ordinal = {ordinal}",
+    "DELETE FROM history WHERE ordinal = {ordinal}",
+    "DELETE FROM request WHERE ordinal = {ordinal}",
+    "UPDATE request SET aid = {account} WHERE ordinal = {ordinal}",
+    "UPDATE request SET balance = balance + {amount} WHERE ordinal = {ordinal}",
+    "UPDATE request SET delta = delta + {amount} WHERE ordinal = {ordinal}",
+    "UPDATE request SET outcome = {outcome} WHERE ordinal = {ordinal}",
+    "UPDATE request SET number = number + 1000000 WHERE ordinal = {ordinal}",
+    "UPDATE request_reference SET reference = 'CHANGED BY HAND     ' WHERE ordinal = {ordinal}",
+    "DELETE FROM request_reference WHERE ordinal = {ordinal}",
+    "INSERT OR IGNORE INTO request_reference VALUES ({ordinal} + 1, 'PUT IN BY HAND      ')",
+]
+
+
+def fail(file, what):
+    sys.exit(f"drawn_files: {file}: {what}")
+
+
+def draw_plan(draw):
+    return {bid: (draw.randint(1, 5), draw.choice([None, None, 0, -draw.randint(1, 2000)]))
+            for bid in draw.sample([1, 2, 3, 50, 9999], draw.randint(1, 4))}
+
+
+def write_plan(path, plan):
+    with open(path, "w", encoding="ascii") as out:
+        out.write("branch,accounts,floor\n")
+        out.writelines(f"{bid},{count},{'' if floor is None else floor}\n" for bid, (count, floor) in plan.items())
+
+
+def draw_record(draw, plan, sent):
+    """A record of an open teller mostly, or one that was sent."""
+    if sent and draw.random() < 0.1:
+        return draw.choice(sent)
+    bid = draw.choice(list(plan))
+    home = draw.choice(list(plan)) if draw.random() < 0.2 else bid
+    aid = 100_000 * (home - 1) + draw.randint(1, plan[home][0] + (draw.random() < 0.1))
+    tid = 10 * (bid - 1) + draw.randint(1, 10)
+    named = bid + (draw.random() < 0.05)
+    delta = draw.choice([draw.randint(-3000, 3000), 0, 9_999_999_999, -9_999_999_999])
+    reference = draw.choice([None, None, "RENT", ""])
+    return oracle.record(aid, tid, named, draw.randint(1, 400), delta, reference)
+
+
+def make(work, file, draw, seed):
+    """A bank whose branches are opened in two parts, with records before and between."""
+    plan = draw_plan(draw)
+    first = dict(list(plan.items())[: draw.randint(0, len(plan))])
+    done("init", file)
+    by_sql(file, "CREATE TABLE note (id INTEGER PRIMARY KEY, title TEXT); INSERT INTO note VALUES (1, 'a user''s')")
+    sent = []
+    for part in (first, plan):
+        write_plan(os.path.join(work, "plan.csv"), part)
+        done("load", file, os.path.join(work, "plan.csv"))
+        records = [draw_record(draw, plan, sent) for _ in range(draw.choice([0, 1, 20, 64, 65, 200]))]
+        sent += records
+        done("post", file, data=b"".join(records))
+    if draw.random() < 0.3:
+        done("drive", file, "--seed", str(seed), "--count", str(draw.choice([1, 30, 64, 65, 500])))
+
+
+def by_sql(file, text):
+    conn = sqlite3.connect(file)
+    conn.executescript(text)
+    conn.commit()
+    conn.close()
+
+
+def is_sound(file):
+    """SQLite's library finds nothing wrong with the file, and the table of somebody else as it was."""
+    conn = sqlite3.connect(file)
+    found = conn.execute("PRAGMA integrity_check").fetchall(), conn.execute("SELECT * FROM note").fetchall()
+    conn.close()
+    if found != ([("ok",)], [(1, "a user's")]):
+        fail(file, found)
+
+
+def migrated(file):
+    """Sets a bank back to version 2, or to version 1 if it has no floors, and carries it over."""
+    version = 2 if oracle.tables_of(file)["branch_floor"] else 1
+    floors = "DROP TABLE branch_floor; " if version == 1 else ""
+    wanted = oracle.tables_of(file) | {"request_reference": {}}
+    by_sql(file, f"{floors}DROP TABLE request_reference; UPDATE meta SET version = {version}")
+    if done("migrate", file) != f"migrated {version} to {oracle.VERSION}\n".encode():
+        fail(file, "isn't migrated")
+    if oracle.tables_of(file) != wanted:
+        fail(file, "other rows behind a migration")
+
+
+def change(file, draw):
+    """Changes a bank by hand, in up to four ways."""
+    tables = oracle.tables_of(file)
+    keys = {"account": "account", "teller": "teller", "other": "teller", "branch": "branch", "ordinal": "request"}
+    for _ in range(draw.randint(1, 4)):
+        drawn = {name: draw.choice(list(tables[table]) or [1]) for name, table in keys.items()}
+        drawn |= {"amount": draw.choice([1, -1, 100, -5000, 10**12, -(10**15)]), "outcome": draw.choice(oracle.KEPT),
+                  "far": draw.randint(1, 10**12)}
+        by_sql(file, draw.choice(CHANGES).format(**drawn))
+
+
+def compare(file, words, lines, status):
+    """The program prints these lines, a fault's on standard error."""
+    text = "".join(line + "\n" for line in lines).encode()
+    wanted = (b"", text, status) if status in (3, 4) else (text, b"", status)
+    told = run(*words)
+    if told != wanted:
+        fail(file, f"{' '.join(words)}: {told}, not {wanted}")
+
+
+def again(work, file, requests):
+    """A second bank from the plan and the records of one, in which each branch is open before the first record."""
+    records = done("export", file)
+    if len(records) != 100 * requests:
+        fail(file, f"{len(records)} bytes of records, not {requests} records")
+    second = file + ".second"
+    with open(os.path.join(work, "second.csv"), "wb") as out:
+        out.write(done("plan", file))
+    done("init", second)
+    done("load", second, os.path.join(work, "second.csv"))
+    done("post", second, data=records)
+    if len(done("export", second)) != len(records) or run("replay", second)[2]:
+        fail(file, "its second bank")
+
+
+def main():
+    need_program()
+    files = int(sys.argv[1]) if len(sys.argv) > 1 else 20
+    first = int(sys.argv[2]) if len(sys.argv) > 2 else 0
+    agree = consistent = 0
+    with tempfile.TemporaryDirectory() as work:
+        for seed in range(first, first + files):
+            draw = random.Random(seed)
+            file = os.path.join(work, f"{seed}.db")
+            make(work, file, draw, seed)
+            if seed % 3 == 2:
+                migrated(file)
+            is_sound(file)
+            if seed % 2 == 1:
+                change(file, draw)
+            lines, status = oracle.audit(file)
+            compare(file, ("audit", file), lines, status)
+            consistent += status == 0
+            lines, status = oracle.replay(file)
+            compare(file, ("replay", file), lines, status)
+            if status == 0:
+                agree += 1
+                requests = list(oracle.requests_of(oracle.tables_of(file)))
+                some = draw.randint(0, len(requests))
+                compare(file, ("digest", file, str(some)), oracle.digest_lines(requests[:some]), 0)
+                compare(file, ("digest", file, str(len(requests) + 1)), [f"bank: no request {len(requests) + 1}"], 4)
+                again(work, file, len(requests))
+    print(f"drawn_files: {files} files, of which {agree} agree and {consistent} are consistent: each replay and each "
+          "audit is that of tools/oracle.py")
+
+
+main()
