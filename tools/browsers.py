@@ -2,6 +2,7 @@
 protocol over a pipe, and Marionette over a socket of loopback. A browser has a profile in a folder, is used by its
 keyboard alone, and can be killed and started again with the same profile."""
 import base64
+import contextlib
 import itertools
 import json
 import os
@@ -18,6 +19,13 @@ TAB, ENTER, ESCAPE = "Tab", "Enter", "Escape"
 
 class BrowserFault(Exception):
     """A browser didn't do what it was told, or has gone."""
+
+
+def unlock(profile, *locks):
+    """Takes away what a browser that was killed left of its locks."""
+    for lock in locks:
+        with contextlib.suppress(FileNotFoundError):
+            os.unlink(os.path.join(profile, lock))
 
 
 class Browser:
@@ -48,9 +56,7 @@ class Chromium(Browser):
 
     def __init__(self, profile):
         self.ids, self.buffered, self.session = itertools.count(1), b"", None
-        for lock in ("SingletonLock", "SingletonCookie", "SingletonSocket"):
-            if os.path.lexists(os.path.join(profile, lock)):
-                os.unlink(os.path.join(profile, lock))
+        unlock(profile, "SingletonLock", "SingletonCookie", "SingletonSocket")
         theirs_in, self.out = os.pipe()
         self.into, theirs_out = os.pipe()
 
@@ -142,10 +148,6 @@ class Chromium(Browser):
     def picture(self):
         return base64.b64decode(self.tell("Page.captureScreenshot", format="png")["data"])
 
-    def printed(self):
-        """A PDF of what the page would print."""
-        return base64.b64decode(self.tell("Page.printToPDF", printBackground=True)["data"])
-
     def other_tab(self, address):
         """Opens another tab and goes on there; gives what leads back."""
         back = self.session
@@ -188,9 +190,7 @@ class Firefox(Browser):
         with open(os.path.join(profile, "user.js"), "w", encoding="utf-8") as file:
             for name, value in settings.items():
                 file.write(f"user_pref({json.dumps(name)}, {json.dumps(value)});\n")
-        for lock in ("lock", ".parentlock"):
-            if os.path.lexists(os.path.join(profile, lock)):
-                os.unlink(os.path.join(profile, lock))
+        unlock(profile, "lock", ".parentlock")
         self.ids, self.buffered = itertools.count(1), b""
         self.spawn([self.program, "--headless", "--no-remote", "--marionette", "--profile", profile],
                    env=dict(os.environ, MOZ_CRASHREPORTER_DISABLE="1", HOME=profile))
@@ -260,9 +260,6 @@ class Firefox(Browser):
 
     def picture(self):
         return base64.b64decode(self.tell("WebDriver:TakeScreenshot", full=False)["value"])
-
-    def printed(self):
-        return base64.b64decode(self.tell("WebDriver:Print", background=True)["value"])
 
     def other_tab(self, address):
         back = self.tell("WebDriver:GetWindowHandle")["value"]

@@ -20,8 +20,10 @@ import sqlite3
 import subprocess
 import sys
 import tempfile
+from collections import Counter, namedtuple
 from concurrent.futures import ProcessPoolExecutor
 
+import oracle
 from serve_client import BANK, HERE, make_bank, need_program, post, record
 
 FAULTS = {b"bank: no memory\n": "memory", b"bank: store fault\n": "store"}
@@ -31,11 +33,10 @@ ROWS = [(1, 3), (2, 2)]
 FIRST = record(1, 1, 1, 1, 500)
 REMOTE = record(100001, 1, 1, 2, -700)
 RECORDS = [FIRST, FIRST, record(1, 1, 1, 1, 501), REMOTE]
-FIRST_REPLY = b"DR0100000000000001000000010000010000000001+0000000500+000000000500POSTED" + b" " * 128
-REMOTE_REPLY = b"DR0100000000100001000000010000010000000002-0000000700-000000000700POSTED" + b" " * 128
-ANSWER = b"HTTP/1.1 200 OK\r\nContent-Type: application/octet-stream\r\nContent-Length: 200\r\n\r\n" + FIRST_REPLY
-UNAVAILABLE = (b"HTTP/1.1 503 Service Unavailable\r\nContent-Type: text/plain\r\nContent-Length: 24\r\n"
-               b"Connection: close\r\n\r\n503 Service Unavailable\n")
+FIRST_REPLY = oracle.reply_of(0, oracle.fields_of(1, 1, 1, 1, 500), 500)
+REMOTE_REPLY = oracle.reply_of(0, oracle.fields_of(100001, 1, 1, 2, -700), -700)
+ANSWER = oracle.answer(200, oracle.BYTES, FIRST_REPLY)
+UNAVAILABLE = oracle.answer(*oracle.bare(503), closes=True)
 AUDIT = b"".join(b"%-12s%20d\n" % line for line in [
     (b"branches", 2), (b"tellers", 20), (b"accounts", 5), (b"requests", 2), (b"history", 2), (b"account sum", -200),
     (b"teller sum", -200), (b"branch sum", -200), (b"history sum", -200), (b"unmatched", 0)])
@@ -56,12 +57,9 @@ def without_moments(text):
                       for line in text.split(b"\n"))
 
 
-class Case:
-    """A name, the bank that it begins with, and the runs that it makes: words behind the file's, an input, and what each
-    has to end with."""
-
-    def __init__(self, name, prepare, runs):
-        self.name, self.prepare, self.runs = name, prepare, runs
+# A name, the bank that it begins with, and the runs that it makes: words behind the file's, an input, and what each has
+# to end with.
+Case = namedtuple("Case", "name prepare runs")
 
 
 class Wrong(Exception):
@@ -75,7 +73,7 @@ def ensure(holds, what):
 
 class Folder:
     def __init__(self, path):
-        self.path, self.runs, self.refused, self.faults = path, 0, {}, {}
+        self.path, self.runs, self.refused, self.faults = path, 0, Counter(), Counter()
         self.library, self.count = path + "/refuse.so", path + "/count"
         subprocess.run([os.environ.get("CC", "cc"), "-O1", "-shared", "-fPIC", "-o", self.library,
                         HERE + "/tools/refuse_memory.c"], check=True)
@@ -95,11 +93,11 @@ class Folder:
         self.runs += 1
         return ended.returncode, ended.stdout, ended.stderr, 0 < at <= self.counted()
 
-    def count_refused(self, kind, count):
-        self.refused[kind] = self.refused.get(kind, 0) + count
-
     def note(self, fault):
-        self.faults[fault] = self.faults.get(fault, 0) + 1
+        self.faults[fault] += 1
+
+    def said(self):
+        return ", ".join(f"{fault} {count}" for fault, count in sorted(self.faults.items()))
 
     def files(self, name):
         """What a bank's two files hold, none of one that isn't there."""
@@ -303,7 +301,6 @@ def wanted_of(folder, case):
 
 def play(folder, case):
     case.prepare(f"{folder.path}/{case.name}.db")
-    folder.faults = {}
     wanted = wanted_of(folder, case)
     allocations = 0
     for place in range(max(1, len(case.runs))):
@@ -319,26 +316,23 @@ def play(folder, case):
                 break
             at += 1
         allocations += at - 1
-    folder.count_refused("memory", allocations)
-    said = ", ".join(f"{fault} {count}" for fault, count in sorted(folder.faults.items()))
-    print(f"{case.name}: {allocations} allocations: {said}", flush=True)
+    folder.refused["memory"] += allocations
+    print(f"{case.name}: {allocations} allocations: {folder.said()}", flush=True)
 
 
 def sheet_line(i):
     """A posting of a sheet as an editor writes it, its record, the reply to that, and the line of the reply."""
     account, teller, number, delta = i % 3 + 1, i % 10 + 1, i + 1, i * 37 % 2000 - 1000
-    reference = f"rent, {i}" if i % 3 == 0 else ""
-    row = f'{account},{teller},{number},{delta:+d},{"" if i % 2 else 1},"{reference}"\r\n'
-    text = f"{account:012}{teller:08}{1:06}{number:010}{delta:+011}"
-    posted = i % 5 > 0
-    reply = f"DR01{'00' if posted else '17'}{text}{delta if posted else 0:+013}{'POSTED' if posted else 'BELOW FLOOR'}"
-    line = f"{'0,POSTED' if posted else '17,BELOW FLOOR'},{account},{teller},1,{number},{delta},{delta if posted else ''}\n"
-    return row, f"{'DC02' if reference else 'DC01'}{text}{reference}".ljust(100), reply.ljust(200), line
+    reference = f"rent, {i}" if i % 3 == 0 else None
+    row = f'{account},{teller},{number},{delta:+d},{"" if i % 2 else 1},"{reference or ""}"\r\n'
+    fields = oracle.fields_of(account, teller, 1, number, delta)
+    outcome, balance = (oracle.POSTED, delta) if i % 5 else (oracle.BELOW_FLOOR, 0)
+    line = f"{outcome},{oracle.NAMES[outcome]},{account},{teller},1,{number},{delta},{balance if i % 5 else ''}\n"
+    return row.encode(), oracle.record_of(fields, reference), oracle.reply_of(outcome, fields, balance), line.encode()
 
 
 ROW_COUNT = 150
-SHEET, SHEET_RECORDS, SHEET_REPLIES, SHEET_LINES = (
-    [part.encode() for part in parts] for parts in zip(*map(sheet_line, range(ROW_COUNT))))
+SHEET, SHEET_RECORDS, SHEET_REPLIES, SHEET_LINES = zip(*map(sheet_line, range(ROW_COUNT)))
 HEADING = b"\xef\xbb\xbfaccount,teller,number,delta,branch,reference\r\n"
 REPLY_HEADING = b"outcome,name,account,teller,branch,number,delta,balance\n"
 
@@ -385,38 +379,32 @@ def refused_in_pipe(folder, pipe, kind):
 
 def play_pipe(folder, pipe):
     for kind in PIPE_FAULTS:
-        folder.faults = {}
+        folder.faults.clear()
         try:
             count = refused_in_pipe(folder, pipe, kind)
         except Wrong as wrong:
             sys.exit(f"refuse_memory: {pipe.name}: {wrong}")
-        folder.count_refused(kind, count)
-        said = ", ".join(f"{fault} {count}" for fault, count in sorted(folder.faults.items()))
-        print(f"{pipe.command} of {pipe.name}, {kind} refused {count} times: {said}", flush=True)
+        folder.refused[kind] += count
+        print(f"{pipe.command} of {pipe.name}, {kind} refused {count} times: {folder.said()}", flush=True)
 
 
 def alone(name):
     """Plays the case of this name in a folder of its own, and gives how often each kind was refused, and the runs."""
     with tempfile.TemporaryDirectory() as path:
         folder = Folder(path)
-        for it in CASES:
+        for it in CASES + PIPES:
             if it.name == name:
-                play(folder, it)
-        for it in PIPES:
-            if it.name == name:
-                play_pipe(folder, it)
+                (play if it in CASES else play_pipe)(folder, it)
         return folder.refused, folder.runs
 
 
 def main():
     need_program()
     names = [it.name for it in CASES + PIPES if not sys.argv[1:] or it.name in sys.argv[1:]]
-    refused, runs = {}, 0
+    refused, runs = Counter(), 0
     with ProcessPoolExecutor(len(os.sched_getaffinity(0))) as pool:
         for refused_here, runs_here in pool.map(alone, names):
-            runs += runs_here
-            for kind, count in refused_here.items():
-                refused[kind] = refused.get(kind, 0) + count
+            runs, refused = runs + runs_here, refused + refused_here
     said = ", ".join(f"{kind} refused {count} times" for kind, count in refused.items())
     print(f"refuse_memory: {len(names)} cases, {runs} runs, {said}: each ends with its fault or its own answer, "
           "and passes again")
