@@ -16,9 +16,7 @@ import tempfile
 from concurrent.futures import ThreadPoolExecutor
 
 import oracle
-
-HERE = os.path.dirname(os.path.dirname(os.path.abspath(__file__)))
-BELOW = ["message_records", "posting_rules", "posting_core", "counter_http"]
+from build import TOP, USES, below
 
 MAX_HEAD, MAX_FIELDS, MAX_BODY = 8192, 32, 4096
 TOKEN = frozenset(b"!#$%&'*+-.^_`|~0123456789ABCDEFGHIJKLMNOPQRSTUVWXYZabcdefghijklmnopqrstuvwxyz")
@@ -181,15 +179,15 @@ def an_input(draw):
 
 def built(folder):
     """Proves and builds the program in a new folder, and gives its path."""
-    with open(os.path.join(HERE, "crates.txt"), encoding="utf-8") as file:
-        lines = [line for line in file if line.split(":")[0] in BELOW]
+    uses = {it: USES[it] for it in below("counter_http")}
+    uses["http_stdio"] = ["message_records", "posting_core", "counter_http"]
     with open(os.path.join(folder, "crates.txt"), "w", encoding="utf-8") as file:
-        file.writelines([*lines, "http_stdio: message_records posting_core counter_http\n"])
-    for crate in BELOW:
-        shutil.copytree(os.path.join(HERE, "crates", crate), os.path.join(folder, "crates", crate), symlinks=True)
+        file.writelines(f"{crate}: {' '.join(libraries)}\n" for crate, libraries in uses.items())
+    for crate in below("counter_http"):
+        shutil.copytree(TOP / "crates" / crate, os.path.join(folder, "crates", crate), symlinks=True)
     own = os.path.join(folder, "crates", "http_stdio")
     os.makedirs(os.path.join(own, "src"))
-    shutil.copy(os.path.join(HERE, "tools", "http_stdio.rt.in"), os.path.join(own, "src", "main.rt"))
+    shutil.copy(TOP / "tools/http_stdio.rt.in", os.path.join(own, "src", "main.rt"))
     subprocess.run(["git", "init", "-q"], cwd=folder, check=True)
     subprocess.run(["rt", "run"], cwd=own, input=b"", check=True)
     return os.path.join(own, "out", "http_stdio")
