@@ -1,11 +1,6 @@
-//! What no scenario shows of judging: the verdict at the last free ordinal and after it, and the laws.
+//! What no scenario shows of judging: the verdict at the last free ordinal and after it.
 use message_records::{Account, Branch, Cents, Number, Outcome, Request, Teller};
-use posting_core::{
-    Found, Verdict, balances_stay_within, cases_are_as_stated, each_request_once,
-    equal_tables_answer_alike, judge, resends_get_their_replies, tables_are_consistent,
-    tables_are_undamaged,
-};
-use posting_rules::{accounts_stay_above, earlier_versions_carry_over};
+use posting_core::{Found, Verdict, judge};
 
 // One cent to account 1, by teller 1 of branch 1, under the number 1.
 fn one_cent() -> Request {
@@ -37,17 +32,4 @@ fn the_full_bank(rt: HostRuntime) {
         branch: one,
     };
     assert_eq!(rt; judge(&found, &record), posted);
-}
-
-#[test]
-fn laws() {
-    cases_are_as_stated();
-    each_request_once();
-    balances_stay_within();
-    tables_are_consistent();
-    tables_are_undamaged();
-    equal_tables_answer_alike();
-    resends_get_their_replies();
-    accounts_stay_above();
-    earlier_versions_carry_over();
 }
