@@ -9,3 +9,4 @@ pub mod Resent
 pub mod Sent
 pub mod Streamed
 pub mod KeepsRules
+pub mod Follower

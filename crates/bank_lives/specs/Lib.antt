@@ -2,3 +2,4 @@
 pub mod believed
 pub mod Replayed
 pub mod Sending
+pub mod Machines

@@ -37,9 +37,11 @@
 //! on after a crash. The other laws say which steps there are: the calls of a counter ([`calls_law`]), walks and
 //! reports ([`walks_law`], [`reports_law`]), streams ([`streams_law`]), what joins two lives
 //! ([`reopenings_law`]), and how they begin with a file of anyone's that was replayed ([`replayed_law`]).
+//! [`machines_law`] is of a bank that followed another one, and goes on in its place.
 #![tactic(auto)]
 
 mod laws;
+mod machines;
 mod many_lives;
 mod readings;
 mod reopening;
@@ -47,6 +49,7 @@ mod resends;
 mod streams;
 
 pub use laws::{calls_law, life_law, rules_law};
+pub use machines::machines_law;
 pub use many_lives::{lives_law, reopenings_law, replayed_law, sender_law};
 pub use readings::{reports_law, walks_law};
 pub use reopening::reopen;
