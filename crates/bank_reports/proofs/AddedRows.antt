@@ -9,7 +9,9 @@ use Rattle.posting_rules.specs.declared.fault.Fault.TheVariants as told
 use Rattle.bank_store.specs.{Walking.Steps, Walks.IsStill, Walks.IsUntouchedIfOpen}
 use Rattle.report_contents.specs.{Beside.AuditRows, declared.limits.TheConstants.MAX_ROWS}
 use Rattle.bank_reports.specs.Adding.{AddsToSums, HasSums, IsPassed}
-use Rattle.bank_reports.specs.{Failures.SaysOf, Files.HasBroken, declared.sums.Sums.Sums}
+use Rattle.bank_reports.specs.{declared.sums.Sums.Sums}
+use Rattle.walked_rows.specs.Broken.{HasBroken}
+use Rattle.bank_store.specs.Failures.{SaysOf}
 use Rattle.bank_store.proofs.StepsKeep.{quiet_then, still_then, still_undone, undone_then}
 
 -- ---- the rows

@@ -3,8 +3,9 @@ use Rattle.std.proofs.Common.{inl, inr}
 use Rattle.posting_rules.specs.declared.fault.Rule.{Rule}
 use Rattle.walked_rows.specs.{Pairs.paired, StepOutcomes.BreaksBy}
 use Rattle.walked_rows.specs.Stored.{BreaksAsked, BreaksPosted, posting_of, request_of}
-use Rattle.bank_reports.specs.Files.{FileRows, HasBroken, HasBrokenRow}
-use Rattle.bank_reports.proofs.Passed.{pair_broken}
+use Rattle.bank_reports.specs.Files.{FileRows, HasBrokenRow}
+use Rattle.walked_rows.specs.Broken.{HasBroken}
+use Rattle.walked_rows.proofs.Unbroken.{pair_broken}
 
 module _ (f : FileRows) (rule : Rule) where
   pub broken_asked : HasBroken (BreaksAsked rule) (paired f.history f.requests) → HasBrokenRow rule f

@@ -1,34 +1,29 @@
 -- The file of a bank that shows a log.
-use Rattle.std.proofs.Common.{◌≡◌, ◌<◌, ◌∙◌, ℕ, pos, true, false, List, [], ◌∷◌, map, Less, Ok, int_cmp, refl, sym, ap}
+use Rattle.std.proofs.Common.{◌≡◌, ◌<◌, ◌∙◌, ℕ, pos, true, false, List, [], ◌∷◌, map, Less, int_cmp, refl, sym, ap}
 use Rattle.std.proofs.Common.{subst, inl, inr, arith}
-use Rattle.std.specs.{Prelude.nat_eq, Prelude.IsTrue, List.AllByRecursion, List.Contains, List.IsDistinct}
+use Rattle.std.specs.{Prelude.nat_eq, Prelude.IsTrue, List.AllByRecursion, List.IsDistinct}
 use Rattle.std.proofs.lemmas.{Bool.cases_Bool, Bool.eqb-true, Int.ints}
-use Rattle.std.proofs.lemmas.List.Elements.{All-contains_itself, recursion_from_All}
 use Rattle.sqlite.specs.Effect.{Database}
-use Rattle.posting_rules.specs.{believed.Commands.Command, believed.Commands.AreCommands, believed.Damage.IsUndamaged}
+use Rattle.posting_rules.specs.{believed.Commands.Command, believed.Commands.AreCommands}
 use Rattle.posting_rules.specs.{believed.Laws.IsConsistent}
 use Rattle.posting_rules.specs.believed.Tables.{Tables, AreTablesOf, history_key, request_key}
-use Rattle.posting_rules.specs.declared.{fault.Rule.Rule, limits.TheConstants.LAST_BRANCH}
-use Rattle.posting_rules.specs.declared.limits.TheConstants.{MAX_DECIDED}
-use Rattle.posting_rules.proofs.{Consistent.consistent, Undamaged.undamaged}
+use Rattle.posting_rules.specs.declared.fault.Rule.{Rule}
+use Rattle.posting_rules.proofs.Consistent.{consistent}
 use Rattle.sql_meanings.specs.believed.Entries.{Entry, Rise}
 use Rattle.store_rows.specs.believed.BankTables as bank
-use Rattle.store_rows.specs.believed.SeveralRows.{given}
 use Rattle.store_rows.specs.believed.View as view
 use Rattle.store_rows.specs.believed.View.{Shows}
-use Rattle.walked_rows.specs.{Kinds.Kind, Rows.HasStoredRows, StepOutcomes.BreaksBy}
+use Rattle.walked_rows.specs.{Broken.HasBroken, Rows.HasStoredRows, StepOutcomes.BreaksBy}
 use Rattle.walked_rows.specs.Stored.{account_entry, branch_entry, posting_entry, request_entry, teller_entry}
-use Rattle.walked_rows.specs.Stored.{account_kind, branch_kind, posting_kind, request_kind, teller_kind}
-use Rattle.walked_rows.specs.declared.limits.TheConstants.{LAST_ACCOUNT, LAST_TELLER, MAX_COUNTED}
+use Rattle.walked_rows.specs.Stored.{account_of, branch_of, posting_of, request_of, teller_of}
+use Rattle.walked_rows.proofs.Unbroken.{no_account, no_branch, no_posting, no_request, no_teller}
 use Rattle.walked_rows.proofs.Shown.{has_accounts, has_branches, has_history, has_requests, has_tellers}
 use Rattle.report_contents.specs.Audit.{audit_of, is_sound, posting_ordinal, request_ordinal}
 use Rattle.report_contents.specs.Consistency.{HasOrdinals}
 use Rattle.report_contents.specs.Stored.{StoredTables, account_stored, branch_stored, posting_stored, request_stored}
 use Rattle.report_contents.specs.Stored.{stored, teller_stored}
 use Rattle.report_contents.proofs.OfTables.{tells_of_tables}
-use Rattle.bank_reports.specs.Files.{HasBroken, HasBrokenRow, HasFile, rows_in}
-use Rattle.bank_reports.proofs.{Passed.split_map, StatementReports.all_after, StatementReports.in_range}
-use Rattle.bank_reports.proofs.StatementReports.{reads_posting}
+use Rattle.bank_reports.specs.Files.{HasBrokenRow, HasFile, rows_in}
 
 -- ---- keys that rise are distinct
 
@@ -102,30 +97,15 @@ balanced t log shows =
 
 -- ---- none of them is broken
 
-none_broken : {X R : Type 0} (f : X → R) (kind : Kind R) (broken : Rule) (P : X → Type 0)
-    → ((x : X) → P x → kind.reading (given (kind.entry (f x))) ≡ Ok (f x))
-    → (xs : List X) → ((x : X) → Contains xs x → P x) → HasBroken (BreaksBy kind.reading broken) (map kind.entry (map f xs))
-    → ⊥
-none_broken f kind broken P reads xs each breaks =
-    let all = recursion_from_All P xs (λ k d low. each _ (All-contains_itself xs k d low)) in
-    let row = split_map kind.entry (map f xs) breaks.0 breaks.1 breaks.2 breaks.3 in
-    let it = split_map f xs row.0 row.1 row.2 row.3 in
-    let here = all_after P it.0 (it.1 ∷ it.2) (subst (AllByRecursion P) it.3 all) in
-    let none = sym (reads it.1 here.0) ∙ subst (BreaksBy kind.reading broken) (row.4 ∙ ap kind.entry it.4) breaks.4 in cc
-
 module _ (t : Tables) (log : List Command) (are : AreCommands log) (shows : AreTablesOf t log) (broken : Rule) where
-  sound : IsUndamaged t
-  sound = undamaged t log are shows
-
   pub not_damaged : HasBrokenRow broken (rows_in (stored t)) → ⊥
-  not_damaged (inl h) = none_broken branch_stored branch_kind broken _
-      (λ r s. rw (in_range 1 LAST_BRANCH r.branch s.some s.most, in_range 1 MAX_COUNTED r.accounts s.few s.many) refl)
-      t.branches sound.each_branch h
-  not_damaged (inr (inl h)) = none_broken teller_stored teller_kind broken _
-      (λ r s. rw (in_range 1 LAST_TELLER r.teller s.some s.most) refl) t.tellers sound.each_teller h
-  not_damaged (inr (inr (inl h))) = none_broken account_stored account_kind broken _
-      (λ r s. rw (in_range 1 LAST_ACCOUNT r.account s.some s.most) refl) t.accounts sound.each_account h
-  not_damaged (inr (inr (inr (inl h)))) = none_broken posting_stored posting_kind broken _
-      (λ r s. reads_posting (posting_stored r) s.ordinal_above s.ordinal s.moment) t.history sound.each_posting h
-  not_damaged (inr (inr (inr (inr h)))) = none_broken request_stored request_kind broken _
-      (λ r s. rw (in_range 1 MAX_DECIDED r.ordinal s.ordinal_above s.ordinal) refl) t.requests sound.each_request h
+  not_damaged (inl h) = no_branch t log are shows broken (subst (HasBroken (BreaksBy branch_of broken))
+      (sym (twice branch_stored branch_entry view.branch_entry (λ r. refl) t.branches)) h)
+  not_damaged (inr (inl h)) = no_teller t log are shows broken (subst (HasBroken (BreaksBy teller_of broken))
+      (sym (twice teller_stored teller_entry view.teller_entry (λ r. refl) t.tellers)) h)
+  not_damaged (inr (inr (inl h))) = no_account t log are shows broken (subst (HasBroken (BreaksBy account_of broken))
+      (sym (twice account_stored account_entry view.account_entry (λ r. refl) t.accounts)) h)
+  not_damaged (inr (inr (inr (inl h)))) = no_posting t log are shows broken (subst (HasBroken (BreaksBy posting_of broken))
+      (sym (twice posting_stored posting_entry view.history_entry (λ r. refl) t.history)) h)
+  not_damaged (inr (inr (inr (inr h)))) = no_request t log are shows broken (subst (HasBroken (BreaksBy request_of broken))
+      (sym (twice request_stored request_entry view.request_entry (λ r. refl) t.requests)) h)

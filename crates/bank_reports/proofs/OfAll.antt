@@ -9,8 +9,9 @@ use Rattle.posting_rules.specs.declared.fault.{Fault.Fault, Rule.Rule}
 use Rattle.report_contents.specs.Beside.{AuditRows}
 use Rattle.bank_store.specs.{believed.Seen.connection_of, believed.Seen.database_of, declared.bank.Bank.Bank}
 use Rattle.bank_store.specs.{declared.walks.Walk.Walk, Walking.BeginsWalk, Walking.items_to_come, Walking.lent}
-use Rattle.bank_reports.specs.{Adding.AddsToSums, Files.HasBroken, declared.sums.Sums.Sums}
-use Rattle.bank_reports.specs.Failures.{HasFailedToRead, SaysOf}
+use Rattle.bank_reports.specs.{Adding.AddsToSums, declared.sums.Sums.Sums}
+use Rattle.walked_rows.specs.Broken.{HasBroken}
+use Rattle.bank_store.specs.Failures.{HasFailedToRead, SaysOf}
 
 -- the bank as it was before, and the walk that it was lent to
 module _ {S R X : Type 0} {g : Ghosts S} {key : X → ℤ} {item : R → X} {is_given : Option ℕ → X → Bool}

@@ -13,10 +13,10 @@ use Rattle.bank_transactions.proofs.Blamed.{comes, then_moment}
 use Rattle.store_rows.specs.believed.BankTables.{history as history_table, request as request_table}
 use Rattle.bank_store.specs.Walks.{IsStill}
 use Rattle.walked_rows.specs.Pairs.{BreaksPair, HasPairs, pair_with, paired}
-use Rattle.bank_reports.specs.{Adding.IsPassed, Failures.HasFailedToRead, Failures.SaysOf}
-use Rattle.bank_reports.specs.Files.{FileRows, HasBroken, HasFile}
+use Rattle.bank_reports.specs.Adding.{IsPassed}
+use Rattle.bank_store.specs.Failures.{HasFailedToRead, SaysOf}
+use Rattle.bank_reports.specs.Files.{FileRows, HasFile}
 use Rattle.bank_store.proofs.StepsKeep.{quiet_then, still_then, undone_then}
-use Rattle.bank_reports.proofs.Read.{first_of, rest_of}
 
 -- ---- one pass after another
 
@@ -115,37 +115,3 @@ module _ (db : Database) (f : FileRows) (has : HasFile db f) where
     has_others = has.requests;
     are = refl;
   }
-
--- what stands among images is the image of what stands there
-pub split_map : {X Y : Type 0} (f : X → Y) (xs : List X) (before : List Y) (y : Y) (more : List Y)
-    → map f xs ≡ before ++ y ∷ more
-    → (front : List X) × (x : X) × (rest : List X) × (xs ≡ front ++ x ∷ rest) × (y ≡ f x)
-split_map f [] [] y more same = absurd cc
-split_map f [] (z ∷ before) y more same = absurd cc
-split_map f (x ∷ xs) [] y more same = ([], x, xs, refl, sym (ap (first_of y) same))
-split_map f (x ∷ xs) (z ∷ before) y more same =
-    let it = split_map f xs before y more (ap rest_of same) in
-    (x ∷ it.0, it.1, it.2, ap (λ l. x ∷ l) it.3, it.4)
-
-found_broken : (Breaks : Entry → Type 0) (p : Entry → Bool) (es : List Entry)
-    → IsSomeAnd (find p es) Breaks → HasBroken Breaks es
-found_broken Breaks p [] h = absurd h
-found_broken Breaks p (e ∷ es) h = elim (cases_Bool (p e)) [
-  | inl t ↦ ([], e, es, refl, rw t at h)
-  | inr f ↦ let it = found_broken Breaks p es (rw f at h) in
-      (e ∷ it.0, it.1, it.2, ap (λ l. e ∷ l) it.3, it.4)
-]
-
--- of broken pairs the row or the one beside it is broken
-pub pair_broken : (Breaks BreaksOther : Rule → Entry → Type 0) (rule : Rule) (os rs : List Entry)
-    → HasBroken (BreaksPair Breaks BreaksOther rule) (paired os rs)
-    → HasBroken (Breaks rule) rs ⊎ HasBroken (BreaksOther rule) os
-pair_broken Breaks BreaksOther rule os rs h =
-    let it = split_map (pair_with os) rs h.0 h.1 h.2 h.3 in
-    broken it.1 it.0 it.2 it.3 (subst (λ p. BreaksPair Breaks BreaksOther rule p) it.4 h.4)
-  where
-    broken : (e : Entry) (front rest : List Entry) → rs ≡ front ++ e ∷ rest
-        → BreaksPair Breaks BreaksOther rule (pair_with os e)
-        → HasBroken (Breaks rule) rs ⊎ HasBroken (BreaksOther rule) os
-    broken e front rest is (inl own) = inl (front, e, rest, is, own)
-    broken e front rest is (inr other) = inr (found_broken (BreaksOther rule) _ os other)

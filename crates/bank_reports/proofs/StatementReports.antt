@@ -5,7 +5,6 @@ use Rattle.std.specs.Prelude.{ℤ, ◌&&◌, nat_le, pos, ◌+ℤ◌, ◌-◌, �
 use Rattle.std.specs.{List.AllByRecursion, Io.KnownBytes.Appends}
 use Rattle.std.proofs.lemmas.{Bool.Decides.nat_tests, Int.ints, List.length-append}
 use Rattle.message_records.proofs.References.{reference_again}
-use Rattle.message_records.specs.believed.Ranges.{whole_within}
 use Rattle.message_records.specs.Records.{IsReference}
 use Rattle.message_records.specs.declared.limits.TheConstants.{MAX_BALANCE, MAX_MOMENT}
 use Rattle.posting_rules.specs.declared.limits.TheConstants.{MAX_DECIDED}
@@ -17,7 +16,7 @@ use Rattle.store_rows.specs.believed.SeveralRows.{given}
 use Rattle.walked_rows.specs.{Pairs.Pair, References.BreaksReference, References.text_entry}
 use Rattle.walked_rows.specs.Stored.{BreaksStated, posting_entry, posting_of, stated_pair}
 use Rattle.walked_rows.specs.declared.{postings.StoredPosting.StoredPosting, stated.StatedPosting.StatedPosting}
-use Rattle.walked_rows.proofs.RisingRows.{all-append}
+use Rattle.walked_rows.proofs.{RisingRows.all-append, Unbroken.all_after, Unbroken.reads_posting}
 use Rattle.report_contents.specs.Written.{AppendsPart}
 use Rattle.report_contents.proofs.Written.{first_part, same_all, same_part}
 use Rattle.bank_reports.specs.declared.fault.ReportFault.{ReportFault, TheVariants.Bank}
@@ -46,15 +45,6 @@ readable a (e ∷ es) sound = last (is_posted_to a e) (few_enough (e ∷ es) sou
         ((omega arith, omega (arith, few), sound.0.moment, sound.0.request.reference), tt)
     last false few earlier = earlier
 
-pub in_range : (least most n : ℕ) → least ≤ n → n ≤ most → whole_within least most n ≡ Some n
-in_range least most n low high = let test : (nat_le least n && nat_le n most) ≡ true =
-    grind (arith, nat_tests) in rw test refl
-
-pub reads_posting : (r : StoredPosting) → 1 ≤ r.ordinal → r.ordinal ≤ MAX_DECIDED → r.moment ≤ MAX_MOMENT
-    → posting_of (given (posting_entry r)) ≡ Ok r
-reads_posting r some most moment =
-    rw (in_range 1 MAX_DECIDED r.ordinal some most, in_range 0 MAX_MOMENT r.moment (omega arith) moment) refl
-
 is_read : (o : ℕ) (broken : Rule) (reference : Option (List ℕ)) → IfSome reference IsReference
     → IsSomeAnd (option_map (text_entry o) reference) (BreaksReference broken) → ⊥
 is_read o broken None can broke = broke
@@ -64,11 +54,6 @@ not_broken : (s : StatedPosting) (broken : Rule) → IsReadable s → BreaksStat
 not_broken s broken can (inl own) =
     let it = sym (reads_posting s.posting can.0 can.1 can.2) ∙ own in cc
 not_broken s broken can (inr beside) = is_read s.posting.ordinal broken s.reference can.3 beside
-
-pub all_after : {X : Type 0} (P : X → Type 0) (xs ys : List X) → AllByRecursion P (xs ++ ys)
-    → AllByRecursion P ys
-all_after P [] ys all = all
-all_after P (x ∷ xs) ys all = all_after P xs ys all.1
 
 first_head : {X : Type 0} (x y : X) (xs ys : List X) → x ∷ xs ≡ y ∷ ys → x ≡ y
 first_head {X} x y xs ys same = ap head same

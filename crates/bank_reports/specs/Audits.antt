@@ -19,7 +19,7 @@ use Rattle.report_contents.specs.declared.audit.Audit.{Audit}
 use Rattle.bank_store.specs.believed.Seen.{connection_of, database_of}
 use Rattle.bank_store.specs.declared.bank.Bank.{Bank}
 use Rattle.bank_reports.specs.Differing.{EachPostedOnce}
-use Rattle.bank_reports.specs.Failures.{HasFailedToRead}
+use Rattle.bank_store.specs.Failures.{HasFailedToRead}
 use Rattle.bank_reports.specs.Files.{FileRows, HasBrokenRow, HasFile, rows_in}
 use Rattle.bank_store.specs.Leaving.{TakesNone}
 

@@ -1,11 +1,12 @@
 -- The rows that an audit reads of a file.
-use Rattle.std.specs.Prelude.{◌≡◌, ◌⊎◌, ◌++◌, ◌∷◌, List, map}
+use Rattle.std.specs.Prelude.{◌⊎◌, List, map}
 use Rattle.sqlite.specs.Effect.{Database}
 use Rattle.posting_rules.specs.declared.fault.Rule.{Rule}
 use Rattle.sql_meanings.specs.believed.Entries.{Entry}
 use Rattle.store_rows.specs.believed.BankTables.{account as account_table, branch as branch_table}
 use Rattle.store_rows.specs.believed.BankTables.{history as history_table}
 use Rattle.store_rows.specs.believed.BankTables.{request as request_table, teller as teller_table}
+use Rattle.walked_rows.specs.Broken.{HasBroken}
 use Rattle.walked_rows.specs.Rows.{HasStoredRows}
 use Rattle.walked_rows.specs.StepOutcomes.{BreaksBy}
 use Rattle.walked_rows.specs.Stored.{account_entry, branch_entry, posting_entry, request_entry, teller_entry}
@@ -37,11 +38,6 @@ rows_in t = record {
   history = map posting_entry t.history;
   requests = map request_entry t.requests;
 }
-
--- one of these is broken
-abbrev pub HasBroken : {X : Type 0} → (X → Type 0) → List X → Type 0
-HasBroken {X} Breaks xs = (before : List X) × (x : X) × (more : List X) × (xs ≡ before ++ x ∷ more)
-    × Breaks x
 
 -- a key, a count of accounts or a moment is out of its range, so that a row is read as damage of this rule
 abbrev pub HasBrokenRow : Rule → FileRows → Type 0

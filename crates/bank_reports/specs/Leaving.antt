@@ -10,7 +10,7 @@ use Rattle.bank_store.specs.Walks.{IsStill, IsUntouchedIfOpen}
 use Rattle.bank_store.specs.declared.bank.Bank.{Bank}
 use Rattle.bank_reports.specs.declared.fault.ReportFault.{ReportFault}
 use Rattle.bank_reports.specs.declared.fault.ReportFault.TheVariants.{Bank as OfBank, NoAccount}
-use Rattle.bank_reports.specs.Failures.{HasFailedToRead}
+use Rattle.bank_store.specs.Failures.{HasFailedToRead}
 use Rattle.bank_reports.specs.Postings.{HasWritten}
 
 -- a bank that was down, and no other, is told to be, and nothing is done

@@ -4,7 +4,6 @@ pub mod Postings
 pub mod StatedLines
 pub mod Files
 pub mod Adding
-pub mod Failures
 pub mod Differing
 pub mod Leaving
 pub mod Audits

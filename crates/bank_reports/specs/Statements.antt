@@ -23,7 +23,7 @@ use Rattle.bank_store.specs.declared.bank.Bank.{Bank}
 use Rattle.bank_reports.specs.declared.fault.ReportFault.{ReportFault}
 use Rattle.bank_reports.specs.declared.fault.ReportFault.TheVariants.{Bank as OfBank, NoAccount, Write}
 use Rattle.bank_reports.specs.StatedLines.{statement_after}
-use Rattle.bank_reports.specs.Failures.{HasFailedToRead}
+use Rattle.bank_store.specs.Failures.{HasFailedToRead}
 use Rattle.bank_store.specs.Leaving.{TakesNone}
 use Rattle.bank_reports.specs.Postings.{HasAnswered, StatesRows}
 

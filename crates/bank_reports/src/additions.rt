@@ -7,7 +7,7 @@ ghost use Rattle.report_contents.specs.Stored.{StoredTables};
 ghost use Rattle.bank_store.specs.believed.Seen.{bank_seen, connection_of, database_of, file_of};
 ghost use Rattle.bank_store.specs.Seen.{fault_of};
 ghost use Rattle.bank_reports.specs.Adding.{HasSums, IsPassed};
-ghost use Rattle.bank_reports.specs.Failures.{HasFailedToRead, SaysOf};
+ghost use Rattle.bank_store.specs.Failures.{HasFailedToRead, SaysOf};
 ghost use Rattle.bank_reports.specs.Files.{FileRows, HasBrokenRow, HasFile, rows_in};
 
 use crate::passes::add_each;

@@ -8,8 +8,8 @@ ghost use Rattle.bank_store.specs.believed.Seen.{connection_of};
 ghost use Rattle.bank_store.specs.Seen.{fault_of};
 ghost use Rattle.bank_store.specs.Walking.{ComesFrom, HasToldFault, items_to_come, lent, lent_state, loan_of};
 ghost use Rattle.bank_reports.specs.Adding.{AddsToSums, HasSums, IsPassed};
-ghost use Rattle.bank_reports.specs.Failures.{HasFailedToRead, SaysOf};
-ghost use Rattle.bank_reports.specs.Files.{HasBroken};
+ghost use Rattle.bank_store.specs.Failures.{HasFailedToRead, SaysOf};
+ghost use Rattle.walked_rows.specs.Broken.{HasBroken};
 
 use crate::sums::{Summed, Sums};
 use bank_store::Walk;

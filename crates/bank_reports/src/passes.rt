@@ -6,8 +6,8 @@ ghost use Rattle.report_contents.specs.Beside.{AuditRows};
 ghost use Rattle.bank_store.specs.believed.Seen.{bank_seen, connection_of, database_of, file_of};
 ghost use Rattle.bank_store.specs.Seen.{fault_of};
 ghost use Rattle.bank_reports.specs.Adding.{AddsToSums, HasSums, IsPassed};
-ghost use Rattle.bank_reports.specs.Failures.{HasFailedToRead, SaysOf};
-ghost use Rattle.bank_reports.specs.Files.{HasBroken};
+ghost use Rattle.bank_store.specs.Failures.{HasFailedToRead, SaysOf};
+ghost use Rattle.walked_rows.specs.Broken.{HasBroken};
 
 use crate::gathered::add_rows;
 use crate::sums::{Summed, Sums};

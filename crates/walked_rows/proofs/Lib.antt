@@ -13,4 +13,5 @@ pub mod RisingRows
 pub mod Shown
 pub mod Sought
 pub mod Under
+pub mod Unbroken
 pub mod WalkTexts

@@ -1,4 +1,5 @@
 -- What the walks over the tables of a bank give.
+pub mod Broken
 pub mod Kinds
 pub mod KeptRows
 pub mod KeptKeys

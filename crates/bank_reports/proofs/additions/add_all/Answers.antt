@@ -4,7 +4,7 @@ use Rattle.sqlite.specs.{State.HasCleanDisk, Held.state}
 use Rattle.walked_rows.specs.Pairs.{paired}
 use Rattle.report_contents.specs.Beside.{no_rows}
 use Rattle.bank_reports.specs.Adding.{with_accounts, with_branches, with_requests, with_tellers}
-use Rattle.bank_reports.specs.Failures.{HasFailedToRead}
+use Rattle.bank_store.specs.Failures.{HasFailedToRead}
 use Rattle.bank_reports.proofs.Broken.{broken_asked, broken_posted}
 use Rattle.bank_reports.proofs.Passed.{asked_in, clean_mid, has_mid, passed_five, passed_four, passed_then}
 use Rattle.bank_reports.proofs.Passed.{passed_three, posted_in, says_any, says_after}

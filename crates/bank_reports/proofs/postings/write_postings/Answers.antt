@@ -5,7 +5,8 @@ use Rattle.store_rows.specs.believed.BankTables.{history as history_table, refer
 use Rattle.walked_rows.specs.{Pairs.HasPairs, Pairs.Pair, Stored.is_stated_of}
 use Rattle.bank_store.specs.believed.Seen.{bank_seen, connection_of, database_of}
 use Rattle.bank_reports.specs.declared.fault.ReportFault.TheVariants.{Bank}
-use Rattle.bank_reports.specs.{Failures.HasFailedToRead, Postings.WritesPostings}
+use Rattle.bank_store.specs.Failures.{HasFailedToRead}
+use Rattle.bank_reports.specs.Postings.{WritesPostings}
 use Rattle.bank_reports.proofs.{Further.at_first, Further.down_err, Passed.failed_at_end}
 use Rattle.bank_reports.proofs.ReportEnds.{down_not_memory, down_not_store, not_missing, not_write}
 use Rattle.bank_reports.proofs.postings.write_postings.Goals as goal
