@@ -24,7 +24,7 @@ use Rattle.bank_store.specs.declared.bank.Bank.{Bank}
 use Rattle.bank_store.specs.declared.migration.Migrated.{Migrated}
 use Rattle.bank_store.specs.declared.migration.Migrated.TheVariants.{Already, Moved}
 use Rattle.bank_reports.specs.Audits.{Audits, AuditsFile}
-use Rattle.bank_store.specs.Leaving.{StandsWhileOpen}
+use Rattle.bank_store.specs.Leaving.{LeavesAsFound, StandsWhileOpen}
 use Rattle.bank_reports.specs.Statements.{RefusesBalance, States, StatesFile}
 use Rattle.bank_reports.specs.declared.fault.ReportFault.{ReportFault}
 use Rattle.bank_reports.specs.declared.fault.ReportFault.TheVariants as report
@@ -112,7 +112,7 @@ pub record AuditsBank {S : Type 0} (g : Ghosts S) (found : Result Audit Fault) (
   pub file : (bank_seen g new).honest → AuditsFile g old new found
   pub memory : found ≡ Err Memory → new ≡ old
   pub up : fault_of new ≡ fault_of old
-  pub stands : StandsWhileOpen g old new
+  pub leaves : LeavesAsFound g old new
 
 abbrev pub AuditsOver : {S : Type 0} (g : Ghosts S) → (conn back : Held S) → (w w' : Option (List ℕ))
     → Result Status CommandFault → Type 0

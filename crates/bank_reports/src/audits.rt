@@ -1,12 +1,11 @@
 //! The audit of a bank.
 ghost use Rattle.std.specs.Prelude.{◌≡◌, Err};
 ghost use Rattle.posting_rules.specs.declared.fault.Fault.TheVariants.{Down, Memory};
-ghost use Rattle.bank_store.specs.believed.Seen.{bank_seen, connection_of};
+ghost use Rattle.bank_store.specs.believed.Seen.{bank_seen};
 ghost use Rattle.bank_store.specs.Seen.{fault_of};
-ghost use Rattle.bank_store.specs.Sparing.{SparesWhileOpen};
 ghost use Rattle.bank_reports.specs.Audits.{Audits, AuditsFile};
 ghost use Rattle.bank_reports.specs.Leaving.{TellsDown};
-ghost use Rattle.bank_store.specs.Leaving.{StandsWhileOpen};
+ghost use Rattle.bank_store.specs.Leaving.{LeavesAsFound};
 
 use crate::additions::add_all;
 use crate::sums::Sums;
@@ -35,8 +34,7 @@ pub fn audit<S: Alter>(bank: &mut Bank<S>) -> Result<Audit, Fault>
     ensures down { TellsDown (bank_seen S.Store bank.old).is_down (result ≡ Err Down)
         (bank.new ≡ bank.old) }
     ensures up { fault_of bank.new ≡ fault_of bank.old }
-    ensures stands { StandsWhileOpen S.Store bank.old bank.new }
-    ensures spares { SparesWhileOpen S.Store (connection_of bank.old) (connection_of bank.new) }
+    ensures leaves { LeavesAsFound S.Store bank.old bank.new }
 {
     if bank.is_down() {
         return Err(Fault::Down);

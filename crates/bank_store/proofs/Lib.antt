@@ -1,4 +1,5 @@
 -- What the proofs of the calls share.
+pub mod AsFound
 pub mod Broke
 pub mod CarriedOver
 pub mod Causes

@@ -1,10 +1,11 @@
 -- What reads leave of a bank, whatever they answered.
-use Rattle.std.specs.Prelude.{List, [], IsTrue}
+use Rattle.std.specs.Prelude.{◌≡◌, List, [], IsTrue}
+use Rattle.sqlite.specs.State.{HasCleanDisk, Survives}
 use Rattle.sqlite_trees.specs.declared.store.Store.{Ghosts}
 use Rattle.posting_rules.specs.believed.Commands.{Command}
 use Rattle.posting_rules.specs.believed.Counter.{Seen, LeavesOnly, StandsAt, Takes}
 use Rattle.posting_rules.specs.believed.Tables.{AreTablesOf}
-use Rattle.bank_store.specs.believed.Seen.{bank_seen, file_of}
+use Rattle.bank_store.specs.believed.Seen.{bank_seen, database_of, file_of}
 use Rattle.bank_store.specs.declared.bank.Bank.{Bank}
 
 -- the bank was given no command
@@ -22,3 +23,9 @@ abbrev pub StandsWhileOpen : {S : Type 0} (g : Ghosts S) → Bank S g → Bank S
 StandsWhileOpen g old new =
     (bank_seen g new).honest → ((bank_seen g new).is_down → ⊥) → IsTrue (file_of new).is_open
     → (log : List Command) → StandsAt (bank_seen g old) log → StandsAt (bank_seen g new) log
+
+-- Whatever rows it has: as long as the store is open, the database is the one that was found, and a crash leaves what
+-- it could leave before.
+pub record LeavesAsFound {S : Type 0} (g : Ghosts S) (old new : Bank S g) : Type 0 where
+  pub now : HasCleanDisk (file_of new) → IsTrue (file_of new).is_open → database_of g new ≡ database_of g old
+  pub left : Survives (file_of old) (file_of new) (λ _. ⊥)

@@ -1,5 +1,6 @@
 -- The bank that was found is the one that was audited.
 use Rattle.std.proofs.Common.{refl}
+use Rattle.bank_store.proofs.AsFound.{as_found_spares}
 use Rattle.bank_commands.proofs.{Spared.done_over, Spared.none_over, Told.refused_not_write}
 use Rattle.bank_commands.proofs.reports.audit_over.Goals as goal
 
@@ -19,8 +20,8 @@ returns g c =
       audits = done_over g.S.Store c.args.conn c.release.result _ c.in-Ok.bank c.audit.new.bank c.in-Ok.ensures.found (
         c.audit.result,
         c.print_audit-told.ensures.prints,
-        record { bank = it.bank; file = it.file; memory = it.memory; up = it.up; stands = it.stands },
-      ) it.spares c.release.ensures.same;
+        record { bank = it.bank; file = it.file; memory = it.memory; up = it.up; leaves = it.leaves },
+      ) (as_found_spares g.S.Store c.in-Ok.bank c.audit.new.bank it.leaves) c.release.ensures.same;
       unprinted = c.print_audit-told.ensures.unprinted;
       idle = c.release.ensures.idle;
     }

@@ -15,8 +15,8 @@ use Rattle.bank_reports.proofs.FaultsTold.{down_is_sound, memory_is_sound, unaud
 use Rattle.bank_reports.proofs.{Further.error_is, OncePosted.posted_once, Read.one_file, ReportEnds.not_ok}
 use Rattle.bank_reports.proofs.{audits.audit.Given.Over}
 use Rattle.bank_reports.proofs.LogFiles.{balanced, has_file, has_ordinals, not_damaged, tells_in_file}
-use Rattle.bank_store.proofs.ReadsLeave.{idle_takes, reads_take_none, untouched_stands}
-use Rattle.bank_store.proofs.Spared.{idle_spares, read_spares}
+use Rattle.bank_store.proofs.AsFound.{idle_as_found, untouched_as_found}
+use Rattle.bank_store.proofs.ReadsLeave.{idle_takes, reads_take_none}
 use Rattle.bank_reports.proofs.audits.audit.Goals as goal
 
 -- ---- a bank that was down, and one that wasn't
@@ -52,8 +52,7 @@ returns-then-is_down g c =
         idle = λ is. refl;
       };
       up = refl;
-      stands = λ clean up is_open log at. at;
-      spares = idle_spares g.S.Store c.args.bank.now.conn;
+      leaves = idle_as_found g.S.Store c.args.bank.now;
     }
 
 -- ---- where there was no memory for the sums
@@ -78,8 +77,7 @@ returns-in_err-sums g c =
         idle = λ is. absurd (only.0 is);
       };
       up = refl;
-      stands = λ clean up is_open log at. at;
-      spares = idle_spares g.S.Store c.args.bank.now.conn;
+      leaves = idle_as_found g.S.Store c.args.bank.now;
     }
 
 -- ---- where a pass ended it
@@ -120,10 +118,7 @@ returns-in_err-add_all g c =
             (says.tried (ap Err (error_is _ _ (sym same ∙ is)))));
       };
       up = says.up;
-      stands = λ clean standing is_open log at.
-          untouched_stands old new _ _ (says.passed.undone clean) says.passed.survives up clean is_open log at;
-      spares = read_spares g.S.Store c.args.bank.now.conn c.args.bank.now.conn c.add_all.new.bank.conn
-          (idle_spares g.S.Store c.args.bank.now.conn) says.passed.undone says.passed.survives;
+      leaves = untouched_as_found g.S.Store c.args.bank.now c.add_all.new.bank says.passed.undone says.passed.survives;
     }
 
 -- ---- where all was added up
@@ -176,8 +171,5 @@ returns g c =
         idle = λ is. absurd (not_ok _ _ _ refl is);
       };
       up = says.up;
-      stands = λ clean standing is_open log at.
-          untouched_stands old new _ _ (says.passed.undone clean) says.passed.survives up clean is_open log at;
-      spares = read_spares g.S.Store c.args.bank.now.conn c.args.bank.now.conn c.add_all.new.bank.conn
-          (idle_spares g.S.Store c.args.bank.now.conn) says.passed.undone says.passed.survives;
+      leaves = untouched_as_found g.S.Store c.args.bank.now c.add_all.new.bank says.passed.undone says.passed.survives;
     }
