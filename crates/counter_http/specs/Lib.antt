@@ -19,3 +19,7 @@ pub mod Together
 pub mod Standing
 pub mod Tasks
 pub mod Asking
+pub mod Rounds
+pub mod Submitting
+pub mod Reading
+pub mod Crowd

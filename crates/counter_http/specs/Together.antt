@@ -1,11 +1,12 @@
 -- What each client that is served beside others reads and is written, and what all of it together does to the
 -- bank. The bank is old before and new after, and seen says what is seen of it. Of the ends of a client k is known
 -- before and l after.
-use Rattle.std.specs.Prelude.{◌≡◌, ◌<◌, ◌≤◌, ◌≢◌, ℕ, List, [], ◌∷◌, ◌++◌, length, map, take, get_or, Option}
+use Rattle.std.specs.Prelude.{◌≡◌, ◌<◌, ◌≤◌, ◌≢◌, ◌⊎◌, ℕ, List, [], ◌∷◌, ◌++◌, length, map, take, get_or, Option}
 use Rattle.std.specs.Prelude.{Result, Err, ⊤, All, AllPairs, Contains, IfErr}
 use Rattle.std.specs.List.{AllByRecursion}
 use Rattle.std.specs.Io.KnownBytes.{Appends, Consumes}
 use Rattle.posting_rules.specs.declared.fault.Fault.{Fault}
+use Rattle.posting_rules.specs.declared.fault.Fault.TheVariants.{Memory}
 use Rattle.posting_rules.specs.believed.Commands.{Command}
 use Rattle.posting_rules.specs.believed.Counter.{Seen, ShowsLog, StandsAt, LeavesOnly, ShowsPrefix, Takes, Refuses}
 use Rattle.posting_core.specs.Stream.{given, IsOfCall}
@@ -127,6 +128,13 @@ pub record Visit (E : Type 0) : Type 0 where
 abbrev pub closed_of : {E : Type 0} → Visit E → ℕ × E
 closed_of v = (v.number, v.left)
 
+abbrev pub number_of : {E : Type 0} → Visit E → ℕ
+number_of v = v.number
+
+-- a message is of one of them
+abbrev pub IsOfVisit : {E : Type 0} → List (Visit E) → Step → Type 0
+IsOfVisit visits s = Contains (map number_of visits) s.client
+
 abbrev pub OfOthers : {E : Type 0} → Visit E → Visit E → Type 0
 OfOthers v u = v.number ≢ u.number
 
@@ -164,6 +172,10 @@ EndsTogether seen (Err (Bank fault)) stood new refused =
     Refuses fault (seen stood) (seen new) (submitted_by refused)
 EndsTogether seen _ stood new refused = (refused ≡ []) × (new ≡ stood)
 
+-- why the bank refused a call, or it was asked nothing, since memory was refused before
+abbrev pub IsWhyRefused : {C : Type 0} → (C → Seen) → (Fault → C → C → Type 0) → (old new : C) → Fault → Type 0
+IsWhyRefused seen reason old new fault = IsOfCall seen reason old new fault ⊎ ((fault ≡ Memory) × (new ≡ old))
+
 pub record ServesTogether {C E : Type 0} (seen : C → Seen) (reason : Fault → C → C → Type 0) (known : E → Known)
     (g g' : Option (List (ClientsTold E))) (k k' : Option (List ℕ)) (old new : C) (n : ℕ)
     (result : Result (Unit {0}) ListenFault) : Type 0 where
@@ -185,7 +197,7 @@ pub record ServesTogether {C E : Type 0} (seen : C → Seen) (reason : Fault →
       (length (submitted_by (steps_of rounds))))
   pub idle : (seen old).is_down → new ≡ old
   -- a fault of the bank says why a call was refused
-  pub why : IfErr result (λ fault. IfBank fault (IsOfCall seen reason old new))
+  pub why : IfErr result (λ fault. IfBank fault (IsWhyRefused seen reason old new))
   -- the clients, as their connections were closed: each one that was taken in, once
   pub calls : List (ClientsTold E)
   pub told : GrowsBy g g' calls
@@ -194,4 +206,6 @@ pub record ServesTogether {C E : Type 0} (seen : C → Seen) (reason : Fault →
   pub once : AllPairs OfOthers visits
   pub each : All (IsVisited known (seen old) (seen new) (steps_of rounds) calls) visits
   pub all : length visits ≡ length (openings calls)
+  -- no message is of anybody else
+  pub whose : AllByRecursion (IsOfVisit visits) (steps_of rounds ++ refused)
   pub many : length visits ≤ n

@@ -1,4 +1,11 @@
 //! The records that are submitted together: at most one of each client.
+ghost use Rattle.std.specs.Prelude.{◌≡◌, ◌<◌, ◌≤◌, ◌∷◌, [], length};
+ghost use Rattle.posting_core.specs.believed.Clock.{AreReadings};
+ghost use Rattle.counter_http.specs.Connections.{known_ends};
+ghost use Rattle.counter_http.specs.Rounds.{AllDiffer, numbers};
+ghost use Rattle.counter_http.specs.Submitting.{AddsIfRoom, AnswersAt, AnswersEach, AreSubmitted};
+ghost use Rattle.counter_http.specs.Submitting.{ChangesAt, GivesAt, IsBatchOf, RefusesAt, RefusesEach, SubmitsBatch};
+
 use crate::client::{Client, Head, Record};
 use arrayvec::ArrayVec;
 use message_records::{Moment, REPLY_BYTES, REQUEST_BYTES};
@@ -18,8 +25,66 @@ pub(crate) struct Batch {
     senders: ArrayVec<Sender, RECORDS_PER_BATCH>,
 }
 
+// Answers the record of a sender, which the bank took.
+fn answer_at<R: Source + Drop, W: Sink + Drop>(
+    here: &mut Vec<Client<R, W>>,
+    sender: Sender,
+    reply: &[u8; REPLY_BYTES],
+)
+    requires { sender.place < length here.old.items }
+    ensures { AnswersAt here.old.items here.new.items sender reply.now }
+{
+    here[sender.place].answer_record(sender.head, reply);
+}
+
+// Answers a sender a 503.
+fn refuse_at<R: Source + Drop, W: Sink + Drop>(
+    here: &mut Vec<Client<R, W>>,
+    sender: Sender,
+    fault: Fault,
+)
+    requires { sender.place < length here.old.items }
+    ensures { RefusesAt here.old.items here.new.items sender fault }
+{
+    here[sender.place].refuse_record(sender.head, fault);
+}
+
+// Submits the record of one sender, and answers that one. Where the bank has no memory for it the sender is
+// told so, and that is no fault.
+fn submit_one<R: Source + Drop, W: Sink + Drop, C: Counter>(
+    here: &mut Vec<Client<R, W>>,
+    sender: Sender,
+    moment: Moment,
+    bytes: &[u8; REQUEST_BYTES],
+    bank: &mut C,
+) -> Result<(), Fault>
+    requires others { AllDiffer (numbers here.old.items) }
+    requires gives { GivesAt here.old.items sender bytes.now }
+    ensures submits { AreSubmitted C.seen C.reason (known_ends R.remaining R.told R.beside W.contents W.told)
+        (moment ∷ []) bank.old bank.new here.old.items here.new.items 1 result }
+    ensures only { ChangesAt here.old.items here.new.items sender.place }
+    ensures spares { C.spares bank.old bank.new }
+{
+    match bank.submit(moment, bytes) {
+        Ok(reply) => {
+            answer_at(here, sender, &reply);
+            Ok(())
+        }
+        Err(fault) => {
+            refuse_at(here, sender, fault);
+            match fault {
+                Fault::Memory => Ok(()),
+                _ => Err(fault),
+            }
+        }
+    }
+}
+
 impl Batch {
-    pub fn new() -> Batch {
+    pub fn new() -> Batch
+        ensures records { result.records.items ≡ [] }
+        ensures senders { result.senders.items ≡ [] }
+    {
         Batch {
             records: ArrayVec::new(),
             senders: ArrayVec::new(),
@@ -35,14 +100,16 @@ impl Batch {
     }
 
     /// Takes the record of the client at a place, where there is room for it.
-    pub fn add(&mut self, place: usize, record: &Record) {
+    pub fn add(&mut self, place: usize, given: &Record)
+        ensures { AddsIfRoom self.old self.new place given.now }
+    {
         if self.records.is_full() || self.senders.is_full() {
             return;
         }
-        self.records.push(record.bytes);
+        self.records.push(given.bytes);
         self.senders.push(Sender {
             place,
-            head: record.head,
+            head: given.head,
         });
     }
 
@@ -54,7 +121,13 @@ impl Batch {
         here: &mut Vec<Client<R, W>>,
         clock: &mut K,
         bank: &mut C,
-    ) -> Result<(), Fault> {
+    ) -> Result<(), Fault>
+        requires others { AllDiffer (numbers here.old.items) }
+        requires gives { IsBatchOf here.old.items self.now }
+        ensures submits { SubmitsBatch C.seen C.reason (known_ends R.remaining R.told R.beside W.contents W.told)
+            (K.readings clock.old) (K.readings clock.new) bank.old bank.new here.old.items here.new.items result }
+        ensures spares { C.spares bank.old bank.new }
+    {
         let records = self.records.as_slice();
         if records.is_empty() {
             return Ok(());
@@ -78,21 +151,24 @@ impl Batch {
         &self,
         here: &mut Vec<Client<R, W>>,
         replies: &[[u8; REPLY_BYTES]],
-    ) {
+    )
+        requires gives { IsBatchOf here.old.items self.now }
+        requires each { length replies.now ≡ length self.now.records.items }
+        ensures { AnswersEach here.old.items here.new.items self.now.senders.items replies.now }
+    {
         let senders = self.senders.as_slice();
         for (i, reply) in replies.iter().enumerate() {
-            if i < senders.len() && senders[i].place < here.len() {
-                here[senders[i].place].answer_record(senders[i].head, reply);
-            }
+            answer_at(here, senders[i], reply);
         }
     }
 
     // Answers each sender a 503.
-    fn refuse<R: Source + Drop, W: Sink + Drop>(&self, here: &mut Vec<Client<R, W>>, fault: Fault) {
+    fn refuse<R: Source + Drop, W: Sink + Drop>(&self, here: &mut Vec<Client<R, W>>, fault: Fault)
+        requires { IsBatchOf here.old.items self.now }
+        ensures { RefusesEach here.old.items here.new.items self.now.senders.items fault }
+    {
         for sender in self.senders.as_slice() {
-            if sender.place < here.len() {
-                here[sender.place].refuse_record(sender.head, fault);
-            }
+            refuse_at(here, *sender, fault);
         }
     }
 
@@ -102,20 +178,16 @@ impl Batch {
         here: &mut Vec<Client<R, W>>,
         moment: Moment,
         bank: &mut C,
-    ) -> Result<(), Fault> {
+    ) -> Result<(), Fault>
+        requires others { AllDiffer (numbers here.old.items) }
+        requires gives { IsBatchOf here.old.items self.now }
+        ensures submits { AreSubmitted C.seen C.reason (known_ends R.remaining R.told R.beside W.contents W.told)
+            (moment ∷ []) bank.old bank.new here.old.items here.new.items RECORDS_PER_BATCH result }
+        ensures spares { C.spares bank.old bank.new }
+    {
         let senders = self.senders.as_slice();
-        for (i, record) in self.records.as_slice().iter().enumerate() {
-            let submitted = bank.submit(moment, record);
-            if i < senders.len() && senders[i].place < here.len() {
-                match submitted {
-                    Ok(reply) => here[senders[i].place].answer_record(senders[i].head, &reply),
-                    Err(fault) => here[senders[i].place].refuse_record(senders[i].head, fault),
-                }
-            }
-            match submitted {
-                Ok(_) | Err(Fault::Memory) => {}
-                Err(fault) => return Err(fault),
-            }
+        for (i, bytes) in self.records.as_slice().iter().enumerate() {
+            submit_one(here, senders[i], moment, bytes, bank)?;
         }
         Ok(())
     }

@@ -76,6 +76,7 @@ impl<R: Source + Drop, W: Sink + Drop> Client<R, W> {
     ghost use Rattle.counter_http.specs.Connections.{known_ends};
     ghost use Rattle.counter_http.specs.Standing.{AnswersRecord, IsAnswered, IsLost, IsNew, IsOver, IsParting, Writes};
     ghost use Rattle.counter_http.specs.Standing.{GivesRecord, GivesFront, HasAnswered, HasEndedWith, ReadsAnswer, SaysSo};
+    ghost use Rattle.counter_http.specs.Reading.{Reads};
     ghost use Rattle.counter_http.specs.Telling.{said};
     ghost use Rattle.counter_http.specs.believed.Answers.{answer_text, bare};
 
@@ -184,8 +185,13 @@ impl<R: Source + Drop, W: Sink + Drop> Client<R, W> {
     }
 
     /// One read, where no whole message is left, and all answers are written.
-    pub(crate) fn read(&mut self) {
-        if self.has_more || self.parting.is_some() || !self.is_written() {
+    pub(crate) fn read(&mut self)
+        ensures { Reads (known_ends R.remaining R.told R.beside W.contents W.told) self.old self.new }
+    {
+        if self.has_more || self.parting.is_some() {
+            return;
+        }
+        if !self.is_written() {
             return;
         }
         if self.filled == self.input.len() {

@@ -62,8 +62,7 @@ mod telling;
 pub mod waiting_limits;
 mod writer;
 
-// Clients that are served at once: each client's part is proved, the rounds are safe and end, and `serve_connections`
-// doesn't do it yet.
+// Clients that are served at once.
 mod batch;
 mod client;
 mod clients;
@@ -74,6 +73,8 @@ mod stream_ends;
 mod tcp_clients;
 mod together;
 
+pub use client::Client;
+pub use clients::{Clients, Readiness};
 pub use connection::{Served, serve_connection};
 pub use connections::{serve_connections, serve_door};
 pub use door::{Door, TcpDoor};
@@ -81,4 +82,6 @@ pub use fault::ServeFault;
 pub use limits::{MAX_BODY, MAX_FIELDS, MAX_HEAD};
 pub use listen_fault::ListenFault;
 pub use reader::TimedReader;
+pub use tcp_clients::TcpClients;
+pub use together::{MOST_CLIENTS, serve_together};
 pub use writer::TimedWriter;

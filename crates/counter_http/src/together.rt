@@ -1,6 +1,15 @@
 //! Clients that are served at once, in one thread: the records that they sent while the bank was busy are
 //! submitted together, by one call. So the more clients wait for a commit, the more records the next one has.
 //! Nobody waits for more records.
+ghost use Rattle.std.specs.Prelude.{◌≡◌, ◌<◌, ◌≤◌, ℕ, [], Err, OnErr, OnOk, length};
+ghost use Rattle.std.specs.List.{AllByRecursion, AllZip};
+ghost use Rattle.counter_http.specs.Connections.{known_ends};
+ghost use Rattle.counter_http.specs.Crowd.{Closes, GoesOn, HaveMoved, ServesRounds};
+ghost use Rattle.counter_http.specs.Rounds.{AllDiffer, AnswersRound, numbers};
+ghost use Rattle.counter_http.specs.Standing.{Writes};
+ghost use Rattle.counter_http.specs.Submitting.{Gathers, IsBatchOf, IsElsewhere, IsFrom, MayAdd};
+ghost use Rattle.counter_http.specs.Together.{ServesTogether};
+
 use crate::batch::Batch;
 use crate::client::Client;
 use crate::clients::{Clients, Readiness};
@@ -13,55 +22,101 @@ use std::alloc::Global;
 /// How many clients are served at once.
 pub const MOST_CLIENTS: usize = 256;
 
-// Takes the clients in that wait for it, where there is room for them, and answers how many came until now.
+// Takes the clients in that wait for it, where there is room for them.
 fn take_in<D: Clients>(
     alloc: Global,
     door: &mut D,
-    came: u64,
+    came: &mut u64,
     connections: u64,
     here: &mut Vec<Client<D::Reader, D::Writer>>,
-) -> Result<u64, ListenFault> {
-    let mut came = came;
-    'openings: while came < connections && here.len() < MOST_CLIENTS {
-        match door.open(came) {
+) -> Result<(), ListenFault>
+    requires { came.old ≤ connections }
+    ensures come { HaveMoved (record { told = D.told door.old; came = came.old; here = here.old.items })
+        (record { told = D.told door.new; came = came.new; here = here.new.items }) }
+    ensures few { came.new ≤ connections }
+    ensures fault { OnErr result (result ≡ Err ListenFault.Network) }
+{
+    'openings: while *came < connections && here.len() < MOST_CLIENTS {
+        match door.open(*came) {
             Ok(Some((reader, writer))) => {
-                let client = Client::new(alloc, came, reader, writer);
-                came += 1;
+                let client = Client::new(alloc, *came, reader, writer);
+                *came += 1;
                 if let Err(refused) = here.push(client) {
                     close(door, refused.value);
-                    return Ok(came);
+                    return Ok(());
                 }
             }
-            Ok(None) => return Ok(came),
+            Ok(None) => return Ok(()),
             Err(_) => return Err(ListenFault::Network),
         }
     }
-    Ok(came)
+    Ok(())
 }
 
 // Closes the connection of a client.
-fn close<D: Clients>(door: &mut D, client: Client<D::Reader, D::Writer>) {
+fn close<D: Clients>(door: &mut D, client: Client<D::Reader, D::Writer>)
+    ensures { Closes (D.told door.old) (D.told door.new) client }
+{
     let number = client.number();
     let (reader, writer, _) = client.part();
     door.close(number, reader, writer);
 }
 
-// Writes what is left of answers, and then reads, wherever a stream may be ready.
-fn go_on<R: Source + Drop, W: Sink + Drop>(here: &mut Vec<Client<R, W>>, readiness: &[Readiness]) {
-    for (place, client) in here.iter_mut().enumerate() {
-        match readiness.get(place) {
-            Some(Readiness::Waits) => {}
-            Some(Readiness::GivenUp) => client.lose(Parting::GivenUp),
-            _ => {
-                client.write();
-                client.read();
-            }
+// Writes what is left of its answers, and then reads, where its stream may be ready.
+fn go_on_with<R: Source + Drop, W: Sink + Drop>(
+    client: &mut Client<R, W>,
+    readiness: Option<&Readiness>,
+)
+    ensures { GoesOn (known_ends R.remaining R.told R.beside W.contents W.told) client.old client.new }
+{
+    match readiness {
+        Some(Readiness::Waits) => {}
+        Some(Readiness::GivenUp) => client.lose(Parting::GivenUp),
+        _ => {
+            client.write();
+            client.read();
         }
     }
 }
 
-// Answers what stands at the front of what was read from the clients at some places, and puts their records
-// into the batch, while there is room.
+// Goes on with each client.
+fn go_on<R: Source + Drop, W: Sink + Drop>(here: &mut [Client<R, W>], readiness: &[Readiness])
+    ensures { AllZip (GoesOn (known_ends R.remaining R.told R.beside W.contents W.told)) here.old here.new }
+{
+    for (place, client) in here.iter_mut().enumerate() {
+        go_on_with(client, readiness.get(place));
+    }
+}
+
+// Answers what stands at the front of what was read from the client at a place, and puts its record into the
+// batch, where there is room.
+fn gather_at<R: Source + Drop, W: Sink + Drop, C: Counter>(
+    alloc: Global,
+    routes: &Routes,
+    here: &mut Vec<Client<R, W>>,
+    place: usize,
+    batch: &mut Batch,
+    bank: &mut C,
+) -> Result<(), Fault>
+    requires within { place < length here.old.items }
+    requires others { AllDiffer (numbers here.old.items) }
+    requires gives { IsBatchOf here.old.items batch.old }
+    requires elsewhere { AllByRecursion (IsElsewhere place) batch.old.senders.items }
+    ensures gathers { Gathers C.seen C.reason (known_ends R.remaining R.told R.beside W.contents W.told)
+        bank.old bank.new here.old.items here.new.items batch.new result }
+    ensures adds { MayAdd batch.old batch.new place }
+    ensures spares { C.spares bank.old bank.new }
+{
+    match here[place].next_record(alloc, routes, bank)? {
+        Some(found) => {
+            batch.add(place, &found);
+            Ok(())
+        }
+        None => Ok(()),
+    }
+}
+
+// So it does at some places, one after another.
 fn gather<R: Source + Drop, W: Sink + Drop, C: Counter>(
     alloc: Global,
     routes: &Routes,
@@ -70,13 +125,19 @@ fn gather<R: Source + Drop, W: Sink + Drop, C: Counter>(
     to: usize,
     batch: &mut Batch,
     bank: &mut C,
-) -> Result<(), Fault> {
+) -> Result<(), Fault>
+    requires order { from ≤ to }
+    requires within { to ≤ length here.old.items }
+    requires others { AllDiffer (numbers here.old.items) }
+    requires gives { IsBatchOf here.old.items batch.old }
+    requires beyond { AllByRecursion (IsFrom to) batch.old.senders.items }
+    ensures gathers { Gathers C.seen C.reason (known_ends R.remaining R.told R.beside W.contents W.told)
+        bank.old bank.new here.old.items here.new.items batch.new result }
+    ensures places { OnOk result (AllByRecursion (IsFrom from) batch.new.senders.items) }
+    ensures spares { C.spares bank.old bank.new }
+{
     for place in from..to {
-        if place < here.len() {
-            if let Some(record) = here[place].next_record(alloc, routes, bank)? {
-                batch.add(place, &record);
-            }
-        }
+        gather_at(alloc, routes, here, place, batch, bank)?;
     }
     Ok(())
 }
@@ -90,7 +151,12 @@ fn answer<R: Source + Drop, W: Sink + Drop, K: Clock, C: Counter>(
     first: usize,
     clock: &mut K,
     bank: &mut C,
-) -> Result<usize, Fault> {
+) -> Result<usize, Fault>
+    requires others { AllDiffer (numbers here.old.items) }
+    ensures answers { AnswersRound C.seen C.reason (known_ends R.remaining R.told R.beside W.contents W.told)
+        (K.readings clock.old) (K.readings clock.new) bank.old bank.new here.old.items here.new.items result }
+    ensures spares { C.spares bank.old bank.new }
+{
     let mut batch = Batch::new();
     let count = here.len();
     let first = first.min(count);
@@ -101,7 +167,10 @@ fn answer<R: Source + Drop, W: Sink + Drop, K: Clock, C: Counter>(
 }
 
 // Closes the connections of those for whom nothing more is done.
-fn part<D: Clients>(door: &mut D, here: &mut Vec<Client<D::Reader, D::Writer>>) {
+fn part<D: Clients>(door: &mut D, here: &mut Vec<Client<D::Reader, D::Writer>>)
+    ensures { (came : ℕ) → HaveMoved (record { told = D.told door.old; came = came; here = here.old.items })
+        (record { told = D.told door.new; came = came; here = here.new.items }) }
+{
     let mut place = 0;
     'clients: while place < here.len() {
         if here[place].is_over() {
@@ -113,8 +182,21 @@ fn part<D: Clients>(door: &mut D, here: &mut Vec<Client<D::Reader, D::Writer>>) 
     }
 }
 
+// Closes the connections of all.
+fn part_from_all<D: Clients>(door: &mut D, here: &mut Vec<Client<D::Reader, D::Writer>>)
+    ensures leave { (came : ℕ) → HaveMoved (record { told = D.told door.old; came = came; here = here.old.items })
+        (record { told = D.told door.new; came = came; here = here.new.items }) }
+    ensures none { here.new.items ≡ [] }
+{
+    'clients: while let Some(client) = here.pop() {
+        close(door, client);
+    }
+}
+
 // Writes answers as far as the clients take them.
-fn write<R: Source + Drop, W: Sink + Drop>(here: &mut Vec<Client<R, W>>) {
+fn write<R: Source + Drop, W: Sink + Drop>(here: &mut [Client<R, W>])
+    ensures { AllZip (Writes (known_ends R.remaining R.told R.beside W.contents W.told)) here.old here.new }
+{
     for client in here.iter_mut() {
         client.write();
     }
@@ -129,7 +211,14 @@ fn serve_rounds<D: Clients, K: Clock, C: Counter>(
     here: &mut Vec<Client<D::Reader, D::Writer>>,
     clock: &mut K,
     bank: &mut C,
-) -> Result<(), ListenFault> {
+) -> Result<(), ListenFault>
+    requires { here.old.items ≡ [] }
+    ensures serves { ServesRounds C.seen C.reason
+        (known_ends D.Reader.remaining D.Reader.told D.Reader.beside D.Writer.contents D.Writer.told)
+        (D.told door.old) (D.told door.new) (K.readings clock.old) (K.readings clock.new) bank.old bank.new
+        connections here.new.items result }
+    ensures spares { C.spares bank.old bank.new }
+{
     let mut readiness = Vec::new(alloc);
     let mut came = 0;
     let mut first = 0;
@@ -139,7 +228,7 @@ fn serve_rounds<D: Clients, K: Clock, C: Counter>(
         }
         door.wait(here, came < connections, &mut readiness);
         go_on(here, &readiness);
-        came = take_in(alloc, door, came, connections, here)?;
+        take_in(alloc, door, &mut came, connections, here)?;
         let answered = answer(alloc, routes, here, first, clock, bank);
         write(here);
         part(door, here);
@@ -168,14 +257,18 @@ pub fn serve_together<D: Clients, K: Clock, C: Counter>(
     connections: u64,
     clock: &mut K,
     bank: &mut C,
-) -> Result<(), ListenFault> {
+) -> Result<(), ListenFault>
+    ensures serves { ServesTogether C.seen C.reason
+        (known_ends D.Reader.remaining D.Reader.told D.Reader.beside D.Writer.contents D.Writer.told)
+        (D.told door.old) (D.told door.new) (K.readings clock.old) (K.readings clock.new) bank.old bank.new
+        connections result }
+    ensures spares { C.spares bank.old bank.new }
+{
     let Ok(routes) = Routes::new(alloc) else {
         return Err(ListenFault::Bank(Fault::Memory));
     };
     let mut here = Vec::new(alloc);
     let served = serve_rounds(alloc, door, connections, &routes, &mut here, clock, bank);
-    'clients: while let Some(client) = here.pop() {
-        close(door, client);
-    }
+    part_from_all(door, &mut here);
     served
 }

@@ -1,0 +1,158 @@
+-- A round: messages that were answered while records were gathered, and those records.
+use Rattle.std.proofs.Common.{ℕ, List, [], ◌++◌, length, Option, Result, Ok, Err, refl, sym, ap, subst}
+use Rattle.std.proofs.Common.{◌∙◌, append-nil, arith}
+use Rattle.std.specs.{List.AllByRecursion}
+use Rattle.posting_rules.specs.declared.fault.Fault.{Fault}
+use Rattle.posting_rules.specs.believed.Commands.{Command}
+use Rattle.posting_rules.specs.believed.Counter.{LeavesOnly, Seen, ShowsPrefix, StandsAt, Takes}
+use Rattle.posting_rules.specs.believed.Runs.{followed_by}
+use Rattle.posting_rules.proofs.CounterCalls.{idle_after, Takes-append}
+use Rattle.posting_core.proofs.Stops.{refused_stop, stop_all, stop_part}
+use Rattle.posting_core.proofs.StreamedBatches.{all_more}
+use Rattle.counter_http.specs.Connections.{Known}
+use Rattle.counter_http.specs.Order.{Step, submitted_by}
+use Rattle.counter_http.specs.Rounds.{AnswersRound, EndsRound, IsOfOneOf, numbers}
+use Rattle.counter_http.specs.Standing.{StandsHere}
+use Rattle.counter_http.specs.Submitting.{Gathers, SubmitsBatch}
+use Rattle.counter_http.specs.declared.batch.Batch.{Batch}
+use Rattle.counter_http.specs.declared.client.Client.{Client}
+use Rattle.counter_http.proofs.Gathering.{takes_reads}
+use Rattle.counter_http.proofs.Placed.{beside_then}
+use Rattle.counter_http.proofs.Steps.{submitted-append}
+use Rattle.counter_http.proofs.Submitted.{why_then}
+
+-- a crash leaves all that was taken
+survives_round : {C X : Type 0} (seen : C → Seen) (old stood new : C) (steps refused : List Step)
+    (result : Result X Fault) → Takes (seen old) (seen stood) (submitted_by steps)
+    → ((seen new).honest → (seen stood).honest) → EndsRound seen result stood new refused → (seen new).honest
+    → (log : List Command) → StandsAt (seen old) log
+    → LeavesOnly (seen new) (ShowsPrefix log (submitted_by (steps ++ refused)) (length (submitted_by steps)))
+survives_round {C} seen old stood new steps refused (Ok x) takes honest ends h log stands =
+    stop_all (seen new) log (submitted_by (steps ++ refused)) (submitted_by steps)
+    (ap (λ (ss : List Step). submitted_by (steps ++ ss)) ends.0 ∙ ap submitted_by (append-nil steps))
+    (subst (λ (c : C). StandsAt (seen c) (followed_by log (submitted_by steps))) (sym ends.1)
+    (takes.stands (honest h) log stands))
+survives_round seen old stood new steps refused (Err f) takes honest ends h log stands =
+    stop_part (seen new) log (submitted_by steps) (submitted_by refused) (submitted_by (steps ++ refused))
+    (submitted-append steps refused)
+    (refused_stop f (seen stood) (seen new) (followed_by log (submitted_by steps)) (submitted_by refused) ends h
+    (takes.stands (honest h) log stands))
+
+-- the records were submitted
+pub round_submitted : {C R W X Y : Type 0} (seen : C → Seen) {reason : Fault → C → C → Type 0} {known : R × W → Known}
+    {k k' : Option (List ℕ)} (old mid new : C) (here one two : List (Client R W)) (batch : Batch) {x : X}
+    (result : Result Y Fault) → Gathers seen reason known old mid here one batch (Ok x)
+    → SubmitsBatch seen reason known k k' mid new one two result
+    → AnswersRound seen reason known k k' old new here two result
+round_submitted seen {reason} old mid new here one two batch result g s =
+    let d = s.did in
+    let took = takes_reads seen old mid g.reads g.are_reads g.asked.done in
+    let both = beside_then seen old mid new here one two g.reads d.posts took g.asked.honest g.beside d.beside in
+    let takes : Takes (seen old) (seen d.stood) (submitted_by (g.reads ++ d.posts)) =
+    subst (λ (cs : List Command). Takes (seen old) (seen d.stood) cs) (sym (submitted-append g.reads d.posts))
+    (Takes-append (seen old) (seen mid) (seen d.stood) (submitted_by g.reads) (submitted_by d.posts) took d.takes
+    d.honest_first) in
+    record {
+      round = record { reads = g.reads; readings = s.readings; posts = d.posts };
+      is_round = record { reads = g.are_reads; once = s.once; together = d.together; few = d.few };
+      refused = d.refused;
+      whose = both.whose;
+      whose_refused = subst (λ (ns : List ℕ). AllByRecursion (IsOfOneOf ns) d.refused) g.beside.same d.whose_refused;
+      told = d.told;
+      clock = s.clock;
+      stood = d.stood;
+      honest_first = λ h. g.asked.honest (d.honest_first h);
+      honest = d.honest;
+      up = λ down. g.asked.up (d.up down);
+      takes = takes;
+      ends = d.ends;
+      survives = survives_round seen old d.stood new (g.reads ++ d.posts) d.refused result takes d.honest d.ends;
+      idle = idle_after seen old mid g.asked.idle new d.idle;
+      why = why_then seen reason old mid new (submitted_by g.reads) result took g.asked.honest g.asked.idle d.why;
+      same = both.same;
+      stand = both.stand;
+    }
+
+-- the bank refused one of the messages before
+pub round_refused : {C R W X Y : Type 0} (seen : C → Seen) {reason : Fault → C → C → Type 0} {known : R × W → Known}
+    {k : Option (List ℕ)} (old new : C) (here one : List (Client R W)) (batch : Batch) (why : Fault)
+    → Gathers {X = X} seen reason known old new here one batch (Err why)
+    → AnswersRound {X = Y} seen reason known k k old new here one (Err why)
+round_refused {Y = Y} seen {reason} {known} old new here one batch why g =
+    let f = g.asked.fault in
+    let takes : Takes (seen old) (seen f.stood) (submitted_by (g.reads ++ [])) =
+    subst (λ (ss : List Step). Takes (seen old) (seen f.stood) (submitted_by ss)) (sym (append-nil g.reads))
+    (takes_reads seen old f.stood g.reads g.are_reads f.takes) in
+    record {
+      round = record { reads = g.reads; readings = []; posts = [] };
+      is_round = record { reads = g.are_reads; once = omega arith; together = tt; few = omega arith };
+      refused = [];
+      whose = all_more (IsOfOneOf (numbers here)) g.reads [] g.beside.whose tt;
+      whose_refused = tt;
+      told = tt;
+      clock = refl;
+      stood = f.stood;
+      honest_first = f.honest_first;
+      honest = f.honest;
+      up = f.up;
+      takes = takes;
+      ends = f.refuses;
+      survives = survives_round {X = Y} seen old f.stood new (g.reads ++ []) [] (Err why) takes f.honest f.refuses;
+      idle = g.asked.idle;
+      why = g.asked.why;
+      same = g.beside.same;
+      stand = λ p x x' at at' k_first first before took is.
+          subst (λ (ss : List Step). StandsHere known k_first (seen first) (seen new) (before ++ ss) x')
+          (sym (append-nil g.reads)) (g.beside.stand p x x' at at' k_first first before took is);
+    }
+
+-- the result stands for another
+pub round_as : {C R W X Y : Type 0} {seen : C → Seen} {reason : Fault → C → C → Type 0} {known : R × W → Known}
+    {k k' : Option (List ℕ)} {old new : C} {here two : List (Client R W)} {x : X} (y : Y)
+    → AnswersRound seen reason known k k' old new here two (Ok x)
+    → AnswersRound seen reason known k k' old new here two (Ok y)
+round_as y a = record {
+  round = a.round;
+  is_round = a.is_round;
+  refused = a.refused;
+  whose = a.whose;
+  whose_refused = a.whose_refused;
+  told = tt;
+  clock = a.clock;
+  stood = a.stood;
+  honest_first = a.honest_first;
+  honest = a.honest;
+  up = a.up;
+  takes = a.takes;
+  ends = a.ends;
+  survives = a.survives;
+  idle = a.idle;
+  why = tt;
+  same = a.same;
+  stand = a.stand;
+}
+
+pub round_err : {C R W X Y : Type 0} {seen : C → Seen} {reason : Fault → C → C → Type 0} {known : R × W → Known}
+    {k k' : Option (List ℕ)} {old new : C} {here two : List (Client R W)} {f : Fault}
+    → AnswersRound {X = X} seen reason known k k' old new here two (Err f)
+    → AnswersRound {X = Y} seen reason known k k' old new here two (Err f)
+round_err a = record {
+  round = a.round;
+  is_round = a.is_round;
+  refused = a.refused;
+  whose = a.whose;
+  whose_refused = a.whose_refused;
+  told = a.told;
+  clock = a.clock;
+  stood = a.stood;
+  honest_first = a.honest_first;
+  honest = a.honest;
+  up = a.up;
+  takes = a.takes;
+  ends = a.ends;
+  survives = a.survives;
+  idle = a.idle;
+  why = a.why;
+  same = a.same;
+  stand = a.stand;
+}

@@ -1,0 +1,246 @@
+-- Calls of a counter that was given records of clients, one call after another.
+use Rattle.std.proofs.Common.{◌≡◌, ℕ, ◌+◌, ◌≤◌, List, [], ◌∷◌, ◌++◌, length, Some, Result, Ok, Err}
+use Rattle.std.proofs.Common.{refl, sym, subst, append-nil, arith, inl, inr}
+use Rattle.std.proofs.lemmas.List.{length-append}
+use Rattle.std.specs.{List.AllByRecursion, List.slice_get, Prelude.IfErr}
+use Rattle.posting_rules.specs.declared.fault.Fault.{Fault}
+use Rattle.posting_rules.specs.declared.fault.Fault.TheVariants as fault
+use Rattle.posting_rules.specs.believed.{Commands.Command}
+use Rattle.posting_rules.specs.believed.Counter.{IsCounterCall, Refuses, Seen, ShowsLog, Takes}
+use Rattle.posting_rules.specs.believed.Runs.{followed_by, posts, replies_to}
+use Rattle.posting_rules.proofs.CounterCalls.{idle_after, refused_after, takes_none, Takes-append}
+use Rattle.posting_core.specs.Stream.{IsOfCall}
+use Rattle.posting_core.proofs.StreamedBatches.{all_more}
+use Rattle.counter_http.specs.Connections.{Known}
+use Rattle.counter_http.specs.Order.{Step, is_posted_under, submitted_by}
+use Rattle.counter_http.specs.Rounds.{AllDiffer, IsOfOneOf, numbers}
+use Rattle.counter_http.specs.Standing.{StandsHere}
+use Rattle.counter_http.specs.Submitting.{AnswersEach, AreApart, AreGiven, AreSubmitted}
+use Rattle.counter_http.specs.Submitting.{RefusesEach}
+use Rattle.counter_http.specs.declared.batch.Sender.{Sender}
+use Rattle.counter_http.specs.declared.client.Client.{Client}
+use Rattle.counter_http.proofs.AnsweredTurns.{why_first}
+use Rattle.counter_http.proofs.Asked.{unchanged_takes}
+use Rattle.counter_http.proofs.Fronts.{stands_after}
+use Rattle.counter_http.proofs.Placed.{beside_none, beside_then}
+use Rattle.counter_http.proofs.Posted.{answered_each, numbers_all_answered, numbers_all_refused, refused_each}
+use Rattle.counter_http.proofs.Posted.{steps_at, steps_long, steps_posted, steps_submit, steps_whose, told_each}
+use Rattle.counter_http.proofs.Steps.{submitted-append}
+
+-- ---- no record
+
+pub submitted_nothing : {C R W : Type 0} (seen : C → Seen) {reason : Fault → C → C → Type 0} {known : R × W → Known}
+    (readings : List ℕ) (bank : C) (here : List (Client R W)) (n : ℕ)
+    → AreSubmitted {X = Unit {0}} seen reason known readings bank bank here here n (Ok tt)
+submitted_nothing seen readings bank here n = record {
+  posts = [];
+  refused = [];
+  together = tt;
+  few = omega arith;
+  beside = beside_none seen bank bank here (λ h. h);
+  whose_refused = tt;
+  told = tt;
+  stood = bank;
+  honest_first = λ h. h;
+  honest = λ h. h;
+  up = λ down. down;
+  takes = takes_none (seen bank);
+  ends = (refl, refl);
+  idle = λ down. refl;
+  why = tt;
+}
+
+-- memory was refused for a call, and no client was told
+pub spared_all : {C K R W X : Type 0} (seen : C → Seen) (contents : C → K) (reason : Fault → C → C → Type 0)
+    {known : R × W → Known} (readings : List ℕ) (old new : C) (here : List (Client R W)) (cs : List Command)
+    (why : Fault) → why ≡ fault.Memory → IsCounterCall {X = X} seen contents reason old new cs (Err why)
+    → AreSubmitted {X = Unit {0}} seen reason known readings old new here here 0 (Ok tt)
+spared_all {X = X} seen contents reason readings old new here cs why e it =
+    let call : IsCounterCall {X = X} seen contents reason old new cs (Err fault.Memory) =
+    subst (λ (f : Fault). IsCounterCall {X = X} seen contents reason old new cs (Err f)) e it in
+    record {
+      posts = [];
+      refused = [];
+      together = tt;
+      few = omega arith;
+      beside = beside_none seen old new here call.honest;
+      whose_refused = tt;
+      told = tt;
+      stood = new;
+      honest_first = call.honest;
+      honest = λ h. h;
+      up = call.fault.down;
+      takes = unchanged_takes (seen old) (seen new) call.honest call.fault;
+      ends = (refl, refl);
+      idle = λ down. call.untried (call.down down);
+      why = tt;
+    }
+
+-- ---- one call
+
+refused_beside : {C R W : Type 0} (seen : C → Seen) {known : R × W → Known} (old new : C)
+    (here here' : List (Client R W)) (ss : List Sender) (rs : List (List ℕ)) (g : AreGiven here ss rs) → AreApart ss
+    → (why : Fault) → ((seen new).honest → (seen old).honest) → RefusesEach here here' ss why
+    → (p : ℕ) (y y' : Client R W) → slice_get here p ≡ Some y → slice_get here' p ≡ Some y' → (k : Known) (first : C)
+    (before : List Step) → StandsHere known k (seen first) (seen old) before y
+    → StandsHere known k (seen first) (seen new) (before ++ []) y'
+refused_beside seen {known} old new here here' ss rs g apart why honest chain p y y' at at' k first before is =
+    subst (λ (l : List Step). StandsHere known k (seen first) (seen new) l y') (sym (append-nil before))
+    (refused_each here here' ss rs why g apart chain p y y' at at' before (stands_after y honest is))
+
+module _ {C K R W X : Type 0} (seen : C → Seen) (contents : C → K) (reason : Fault → C → C → Type 0)
+    {known : R × W → Known} (moment : ℕ) (old new : C) (here here' : List (Client R W)) (ss : List Sender)
+    (rs : List (List ℕ)) (g : AreGiven here ss rs) (apart : AreApart ss) where
+  -- the bank took it, and each sender was answered
+  pub taken_all : (qs : List (List ℕ)) (x : X) → AllDiffer (numbers here)
+      → IsCounterCall seen contents reason old new (posts moment rs) (Ok x)
+      → ((seen new).honest → (log : List Command) → ShowsLog (seen old) log → qs ≡ replies_to log (posts moment rs))
+      → AnswersEach here here' ss qs
+      → AreSubmitted {X = Unit {0}} seen reason known (moment ∷ []) old new here here' (length rs) (Ok tt)
+  taken_all qs x all call says chain = record {
+    posts = steps_at moment here ss rs g;
+    refused = [];
+    together = steps_posted moment here ss rs g;
+    few = omega (arith, steps_long moment here ss rs g);
+    beside = record {
+      whose = steps_whose moment here ss rs g;
+      same = numbers_all_answered here here' ss rs qs g apart chain;
+      stand = λ p y y' at at' k first before takes is.
+          answered_each moment here here' ss rs qs g apart all chain p y y' at at' before
+          (λ h log shown. says h (followed_by log (submitted_by before)) (takes.shows (call.honest h) log shown))
+          (stands_after y call.honest is);
+    };
+    whose_refused = tt;
+    told = tt;
+    stood = new;
+    honest_first = call.honest;
+    honest = λ h. h;
+    up = λ down. absurd (call.up down);
+    takes = subst (λ (cs : List Command). Takes (seen old) (seen new) cs) (sym (steps_submit moment here ss rs g)) call.done;
+    ends = (refl, refl);
+    idle = λ down. call.untried (call.down down);
+    why = tt;
+  }
+
+  -- the bank refused it, and each sender was told so
+  pub refused_all : (why : Fault) → IsCounterCall {X = X} seen contents reason old new (posts moment rs) (Err why)
+      → RefusesEach here here' ss why
+      → AreSubmitted {X = Unit {0}} seen reason known (moment ∷ []) old new here here' (length rs) (Err why)
+  refused_all why call chain = record {
+    posts = [];
+    refused = steps_at moment here ss rs g;
+    together = tt;
+    few = omega arith;
+    beside = record {
+      whose = tt;
+      same = numbers_all_refused here here' ss rs why g apart chain;
+      stand = λ p y y' at at' k first before takes is. refused_beside seen old new here here' ss rs g apart why call.honest chain p y y' at at' k first before is;
+    };
+    whose_refused = steps_whose moment here ss rs g;
+    told = told_each moment here here' ss rs why g apart chain;
+    stood = old;
+    honest_first = λ h. h;
+    honest = call.honest;
+    up = λ down. down;
+    takes = takes_none (seen old);
+    ends = subst (λ (cs : List Command). Refuses why (seen old) (seen new) cs) (sym (steps_submit moment here ss rs g))
+        call.fault;
+    idle = λ down. call.untried (call.down down);
+    why = why_first seen contents reason old new (posts moment rs) why call;
+  }
+
+  -- memory was refused for it, and each sender was told so, which is no fault
+  pub spared_each : (why : Fault) → why ≡ fault.Memory
+      → IsCounterCall {X = X} seen contents reason old new (posts moment rs) (Err why)
+      → RefusesEach here here' ss why
+      → AreSubmitted {X = Unit {0}} seen reason known (moment ∷ []) old new here here' (length rs) (Ok tt)
+  spared_each why e it chain =
+      let call : IsCounterCall {X = X} seen contents reason old new (posts moment rs) (Err fault.Memory) =
+      subst (λ (f : Fault). IsCounterCall {X = X} seen contents reason old new (posts moment rs) (Err f)) e it in
+      record {
+        posts = [];
+        refused = [];
+        together = tt;
+        few = omega arith;
+        beside = record {
+          whose = tt;
+          same = numbers_all_refused here here' ss rs why g apart chain;
+          stand = λ p y y' at at' k first before takes is.
+              refused_beside seen old new here here' ss rs g apart why call.honest chain p y y' at at' k first before is;
+        };
+        whose_refused = tt;
+        told = tt;
+        stood = new;
+        honest_first = call.honest;
+        honest = λ h. h;
+        up = call.fault.down;
+        takes = unchanged_takes (seen old) (seen new) call.honest call.fault;
+        ends = (refl, refl);
+        idle = λ down. call.untried (call.down down);
+        why = tt;
+      }
+
+-- ---- calls one after another
+
+pub why_then : {C Y : Type 0} (seen : C → Seen) (reason : Fault → C → C → Type 0) (old mid new : C) (cs : List Command)
+    (result : Result Y Fault) → Takes (seen old) (seen mid) cs → ((seen mid).honest → (seen old).honest)
+    → ((seen old).is_down → mid ≡ old) → IfErr result (IsOfCall seen reason mid new)
+    → IfErr result (IsOfCall seen reason old new)
+why_then seen reason old mid new cs (Ok y) takes honest idle why = tt
+why_then seen reason old mid new cs (Err f) takes honest idle (inl call) =
+    inl (refused_after seen reason old mid new cs takes honest idle f call)
+why_then seen reason old mid new cs (Err f) takes honest idle (inr own) = inr own
+
+pub submitted_then : {C R W X Y : Type 0} (seen : C → Seen) {reason : Fault → C → C → Type 0} {known : R × W → Known}
+    (readings : List ℕ) (old mid new : C) (here one two : List (Client R W)) (n m : ℕ) {x : X} (result : Result Y Fault)
+    → AreSubmitted seen reason known readings old mid here one n (Ok x)
+    → AreSubmitted seen reason known readings mid new one two m result
+    → AreSubmitted seen reason known readings old new here two (n + m) result
+submitted_then {C = C} seen {reason} readings old mid new here one two n m result a b =
+    let took : Takes (seen old) (seen mid) (submitted_by a.posts) =
+    subst (λ (c : C). Takes (seen old) (seen c) (submitted_by a.posts)) (sym a.ends.1) a.takes in
+    let honest : (seen mid).honest → (seen old).honest = λ h. a.honest_first (a.honest h) in
+    let up : (seen mid).is_down → (seen old).is_down =
+    subst (λ (c : C). (seen c).is_down → (seen old).is_down) (sym a.ends.1) a.up in
+    record {
+      posts = a.posts ++ b.posts;
+      refused = b.refused;
+      together = all_more (is_posted_under readings) a.posts b.posts a.together b.together;
+      few = omega (arith, length-append a.posts b.posts, a.few, b.few);
+      beside = beside_then seen old mid new here one two a.posts b.posts took honest a.beside b.beside;
+      whose_refused = subst (λ (ns : List ℕ). AllByRecursion (IsOfOneOf ns) b.refused) a.beside.same b.whose_refused;
+      told = b.told;
+      stood = b.stood;
+      honest_first = λ h. honest (b.honest_first h);
+      honest = b.honest;
+      up = λ down. up (b.up down);
+      takes = subst (λ (cs : List Command). Takes (seen old) (seen b.stood) cs) (sym (submitted-append a.posts b.posts))
+          (Takes-append (seen old) (seen mid) (seen b.stood) (submitted_by a.posts) (submitted_by b.posts) took b.takes
+          b.honest_first);
+      ends = b.ends;
+      idle = idle_after seen old mid a.idle new b.idle;
+      why = why_then seen reason old mid new (submitted_by a.posts) result took honest a.idle b.why;
+    }
+
+-- fewer are no more
+pub submitted_few : {C R W X : Type 0} {seen : C → Seen} {reason : Fault → C → C → Type 0} {known : R × W → Known}
+    {readings : List ℕ} {old new : C} {here here' : List (Client R W)} {result : Result X Fault} (n m : ℕ) → n ≤ m
+    → AreSubmitted seen reason known readings old new here here' n result
+    → AreSubmitted seen reason known readings old new here here' m result
+submitted_few n m le a = record {
+  posts = a.posts;
+  refused = a.refused;
+  together = a.together;
+  few = omega (arith, a.few, le);
+  beside = a.beside;
+  whose_refused = a.whose_refused;
+  told = a.told;
+  stood = a.stood;
+  honest_first = a.honest_first;
+  honest = a.honest;
+  up = a.up;
+  takes = a.takes;
+  ends = a.ends;
+  idle = a.idle;
+  why = a.why;
+}

@@ -1,0 +1,42 @@
+use Rattle.std.proofs.Common.{◌≤◌, Ok, arith}
+use Rattle.std.proofs.lemmas.Result.{err_from_is_err_and}
+use Rattle.counter_http.proofs.Gathering.{all_from, elsewhere, gathers_err, gathers_nothing, gathers_then}
+use Rattle.counter_http.proofs.Gathering.{passed_at_first, passed_then}
+use Rattle.counter_http.proofs.together.gather.Goals as goal
+
+pub loop-place-init : goal.loop-place-init
+loop-place-init g c = record {
+  gathers = gathers_nothing g.C.Counter.seen c.args.bank.now c.args.here.now.items c.args.batch.now c.requires.gives;
+  passed = passed_at_first c.args.from c.args.to c.args.batch.now.senders.items c.requires.order c.requires.beyond;
+  spares = g.met.C.Counter.spares_itself c.args.bank.now;
+}
+
+pub gather_at-requires-clause-elsewhere : goal.gather_at-requires-clause-elsewhere
+gather_at-requires-clause-elsewhere g c =
+    elsewhere c.args.from c.loop-place.place c.args.to c.loop-place.batch.senders.items c.loop-place-test.true
+    c.loop-place.invariant.passed
+
+-- the bank refused a call
+pub returns-in_err-gather_at-clause-gathers : goal.returns-in_err-gather_at-clause-gathers
+returns-in_err-gather_at-clause-gathers g c =
+    let told = err_from_is_err_and c.from_residual.result c.from_residual.ensures.1 in
+    rw (told.1, told.2) (gathers_err (gathers_then g.C.Counter.seen c.args.bank.now c.loop-place.bank
+    c.gather_at.new.bank c.args.here.now.items c.loop-place.here.items c.gather_at.new.here.items c.loop-place.batch
+    c.gather_at.new.batch _ c.loop-place.invariant.gathers c.in_err-gather_at.ensures.gathers))
+
+pub loop-place-preserved : goal.loop-place-preserved
+loop-place-preserved g c =
+    let order : c.args.from ≤ c.loop-place.place = omega arith in
+    record {
+      gathers = gathers_then g.C.Counter.seen c.args.bank.now c.loop-place.bank c.gather_at.new.bank
+          c.args.here.now.items c.loop-place.here.items c.gather_at.new.here.items c.loop-place.batch
+          c.gather_at.new.batch (Ok tt) c.loop-place.invariant.gathers c.in_ok-gather_at.ensures.gathers;
+      passed = passed_then c.args.from c.loop-place.place c.args.to c.loop-place.batch c.gather_at.new.batch order
+          c.in_ok-gather_at.ensures.adds c.loop-place.invariant.passed;
+      spares = g.met.C.Counter.spares_then c.args.bank.now c.loop-place.bank c.gather_at.new.bank
+          c.loop-place.invariant.spares c.in_ok-gather_at.ensures.spares;
+    }
+
+pub returns-clause-places : goal.returns-clause-places
+returns-clause-places g c =
+    all_from c.args.from c.loop-place.place c.args.to c.loop-place.batch.senders.items c.loop-place.invariant.passed

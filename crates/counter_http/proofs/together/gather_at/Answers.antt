@@ -1,0 +1,43 @@
+use Rattle.std.proofs.Common.{length, refl, slice_set}
+use Rattle.std.proofs.lemmas.Option.{slice_get_read}
+use Rattle.std.proofs.lemmas.Result.{err_from_is_err_and}
+use Rattle.counter_http.proofs.Gathering.{batch_still, batch_then, gathers_as, gathers_at, gathers_err}
+use Rattle.counter_http.proofs.together.gather_at.Goals as goal
+
+-- the bank refused a call
+pub returns-in_err-found-clause-gathers : goal.returns-in_err-found-clause-gathers
+returns-in_err-found-clause-gathers g c =
+    let here = c.args.here.now.items in
+    let at = slice_get_read here (length here) c.args.place c.index_mut.result.now refl c.requires.within
+    c.index_mut.ensures.value in
+    let told = err_from_is_err_and c.from_residual.result c.from_residual.ensures.1 in
+    rw (told.1, told.2) (gathers_err (gathers_at g.C.Counter.seen c.args.bank.now c.next_record.new.bank here c.args.place
+    c.index_mut.result.now c.next_record.new.self c.args.batch.now _ c.requires.others at
+    c.in_err-found.ensures.answers
+    (batch_still here (slice_set here c.args.place c.next_record.new.self) c.args.place c.next_record.new.self
+    c.args.batch.now refl c.requires.gives c.requires.elsewhere)))
+
+-- a record was found
+pub returns-in-Some-clause-gathers : goal.returns-in-Some-clause-gathers
+returns-in-Some-clause-gathers g c =
+    let here = c.args.here.now.items in
+    let at = slice_get_read here (length here) c.args.place c.index_mut.result.now refl c.requires.within
+    c.index_mut.ensures.value in
+    gathers_as tt (gathers_at g.C.Counter.seen c.args.bank.now c.next_record.new.bank here c.args.place
+    c.index_mut.result.now c.next_record.new.self c.add.new.self _ c.requires.others at
+    c.in_ok-found.ensures.answers
+    (batch_then here c.args.place c.index_mut.result.now c.next_record.new.self c.args.batch.now c.add.new.self
+    c.in-Some.found at (rw c.in-Some.is at c.in_ok-found.ensures.record) c.requires.gives c.requires.elsewhere
+    c.add.ensures))
+
+-- none was
+pub returns-in-None-clause-gathers : goal.returns-in-None-clause-gathers
+returns-in-None-clause-gathers g c =
+    let here = c.args.here.now.items in
+    let at = slice_get_read here (length here) c.args.place c.index_mut.result.now refl c.requires.within
+    c.index_mut.ensures.value in
+    gathers_as tt (gathers_at g.C.Counter.seen c.args.bank.now c.next_record.new.bank here c.args.place
+    c.index_mut.result.now c.next_record.new.self c.args.batch.now _ c.requires.others at
+    c.in_ok-found.ensures.answers
+    (batch_still here (slice_set here c.args.place c.next_record.new.self) c.args.place c.next_record.new.self
+    c.args.batch.now refl c.requires.gives c.requires.elsewhere))

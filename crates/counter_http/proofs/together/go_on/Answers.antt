@@ -1,0 +1,11 @@
+use Rattle.counter_http.specs.Connections.{known_ends}
+use Rattle.counter_http.specs.Crowd.{GoesOn}
+use Rattle.counter_http.proofs.Paired.{paired_more}
+use Rattle.counter_http.proofs.together.go_on.Goals as goal
+
+pub loop-place-preserved : goal.loop-place-preserved
+loop-place-preserved g c =
+    paired_more (GoesOn (known_ends g.R.Source.remaining g.R.Source.told g.R.Source.beside g.W.Sink.contents
+    g.W.Sink.told))
+    c.args.here.now c.loop-place.here c.loop-place.place c.index-here-place.result c.go_on_with.new.client
+    c.loop-place-test.true c.index-here-place.is c.go_on_with.ensures c.loop-place.invariant

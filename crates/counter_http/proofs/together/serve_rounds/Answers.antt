@@ -1,0 +1,88 @@
+use Rattle.std.proofs.Common.{◌≡◌, ◌∙◌, refl, Ok, Err}
+use Rattle.std.specs.Vec.{with_items}
+use Rattle.std.proofs.lemmas.List.{with_items_is}
+use Rattle.std.proofs.lemmas.Result.{err_from_is_err_and}
+use Rattle.counter_http.specs.declared.listen_fault.ListenFault.TheVariants.{Network}
+use Rattle.counter_http.proofs.CrowdRounds.{after_round, before_round, crowd_differs, rounding_next, rounding_none}
+use Rattle.counter_http.proofs.CrowdRounds.{rounds_broken, rounds_end}
+use Rattle.counter_http.proofs.together.serve_rounds.Goals as goal
+
+pub rounds-init : goal.rounds-init
+rounds-init g c = record {
+  rounding = rounding_none g.C.Counter.seen _ _ c.args.bank.now c.args.connections c.args.here.now.items c.requires;
+  spares = g.met.C.Counter.spares_itself c.args.bank.now;
+}
+
+-- all were served
+pub returns-then-is_empty-clause-serves : goal.returns-then-is_empty-clause-serves
+returns-then-is_empty-clause-serves g c =
+    rounds_end g.C.Counter.seen c.args.bank.now c.rounds.bank (Ok tt) (refl, refl) tt c.rounds.invariant.rounding
+
+-- an opening failed
+pub returns-in_err-take_in-clause-serves : goal.returns-in_err-take_in-clause-serves
+returns-in_err-take_in-clause-serves g c =
+    let s = before_round c.rounds.here.items c.deref_mut.result.now c.go_on.new.here
+    (with_items c.rounds.here c.go_on.new.here).items c.take_in.new.here.items c.deref_mut.ensures.value
+    (with_items_is c.rounds.here c.go_on.new.here (c.go_on.auto.here ∙ c.deref_mut.ensures.len))
+    c.rounds.invariant.rounding c.wait.ensures c.go_on.ensures c.take_in.ensures.come c.take_in.ensures.few in
+    let told = err_from_is_err_and c.from_residual.result c.from_residual.ensures.1 in
+    let network : c.in_err-take_in.field-0.0 ≡ Network = cc (c.in_err-take_in.ensures.fault) in
+    rw (told.1, told.2, network)
+    (rounds_end g.C.Counter.seen c.args.bank.now c.rounds.bank (Err Network) (refl, refl) tt s)
+
+-- no two clients have the same number
+pub answer-answered-requires : goal.answer-answered-requires
+answer-answered-requires g c =
+    let s = before_round c.rounds.here.items c.deref_mut.result.now c.go_on.new.here
+    (with_items c.rounds.here c.go_on.new.here).items c.take_in.new.here.items c.deref_mut.ensures.value
+    (with_items_is c.rounds.here c.go_on.new.here (c.go_on.auto.here ∙ c.deref_mut.ensures.len))
+    c.rounds.invariant.rounding c.wait.ensures c.go_on.ensures c.take_in.ensures.come c.take_in.ensures.few in
+    record { others = crowd_differs s.crowd }
+
+-- the bank refused a call
+pub returns-in-Err-clause-serves : goal.returns-in-Err-clause-serves
+returns-in-Err-clause-serves g c =
+    let s = before_round c.rounds.here.items c.deref_mut.result.now c.go_on.new.here
+    (with_items c.rounds.here c.go_on.new.here).items c.take_in.new.here.items c.deref_mut.ensures.value
+    (with_items_is c.rounds.here c.go_on.new.here (c.go_on.auto.here ∙ c.deref_mut.ensures.len))
+    c.rounds.invariant.rounding c.wait.ensures c.go_on.ensures c.take_in.ensures.come c.take_in.ensures.few in
+    let answered = c.answer-answered in
+    let crowd = after_round g.C.Counter.seen c.args.bank.now c.rounds.bank answered.new.bank c.take_in.new.here.items
+    answered.new.here.items c.deref_mut-in-rounds.result.now c.write.new.here
+    (with_items answered.new.here c.write.new.here).items c.part.new.here.items (Err c.in-Err.fault)
+    c.deref_mut-in-rounds.ensures.value
+    (with_items_is answered.new.here c.write.new.here (c.write.auto.here ∙ c.deref_mut-in-rounds.ensures.len))
+    s c.in-Err.ensures.answers c.write.ensures c.part.ensures in
+    rounds_broken g.C.Counter.seen c.args.bank.now c.rounds.bank answered.new.bank c.in-Err.fault s c.in-Err.ensures.answers
+    crowd c.take_in.ensures.few
+
+pub returns-in-Err-clause-spares : goal.returns-in-Err-clause-spares
+returns-in-Err-clause-spares g c =
+    g.met.C.Counter.spares_then c.args.bank.now c.rounds.bank c.answer-answered.new.bank c.rounds.invariant.spares
+    c.answer-answered.ensures.spares
+
+-- one round more
+pub rounds-preserved : goal.rounds-preserved
+rounds-preserved g c =
+    let s = before_round c.rounds.here.items c.deref_mut.result.now c.go_on.new.here
+    (with_items c.rounds.here c.go_on.new.here).items c.take_in.new.here.items c.deref_mut.ensures.value
+    (with_items_is c.rounds.here c.go_on.new.here (c.go_on.auto.here ∙ c.deref_mut.ensures.len))
+    c.rounds.invariant.rounding c.wait.ensures c.go_on.ensures c.take_in.ensures.come c.take_in.ensures.few in
+    let answered = c.answer-answered in
+    let crowd = after_round g.C.Counter.seen c.args.bank.now c.rounds.bank answered.new.bank c.take_in.new.here.items
+    answered.new.here.items c.deref_mut-in-rounds.result.now c.write.new.here
+    (with_items answered.new.here c.write.new.here).items c.part.new.here.items (Ok c.in-Ok.next)
+    c.deref_mut-in-rounds.ensures.value
+    (with_items_is answered.new.here c.write.new.here (c.write.auto.here ∙ c.deref_mut-in-rounds.ensures.len))
+    s c.in-Ok.ensures.answers c.write.ensures c.part.ensures in
+    record {
+      rounding = rounding_next g.C.Counter.seen c.args.bank.now c.rounds.bank answered.new.bank s c.in-Ok.ensures.answers
+          crowd c.take_in.ensures.few;
+      spares = g.met.C.Counter.spares_then c.args.bank.now c.rounds.bank answered.new.bank c.rounds.invariant.spares
+          answered.ensures.spares;
+    }
+
+-- there are no more rounds
+pub returns-clause-serves : goal.returns-clause-serves
+returns-clause-serves g c =
+    rounds_end g.C.Counter.seen c.args.bank.now c.rounds.bank (Err Network) (refl, refl) tt c.rounds.invariant.rounding

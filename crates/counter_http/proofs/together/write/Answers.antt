@@ -1,0 +1,11 @@
+use Rattle.counter_http.specs.Connections.{known_ends}
+use Rattle.counter_http.specs.Standing.{Writes}
+use Rattle.counter_http.proofs.Paired.{paired_more}
+use Rattle.counter_http.proofs.together.write.Goals as goal
+
+pub loop-client-preserved : goal.loop-client-preserved
+loop-client-preserved g c =
+    paired_more (Writes (known_ends g.R.Source.remaining g.R.Source.told g.R.Source.beside g.W.Sink.contents
+    g.W.Sink.told))
+    c.args.here.now c.loop-client.here c.loop-client.client-index c.client-item.result c.write.new.self
+    c.loop-client-test.true c.client-item.is c.write.ensures c.loop-client.invariant

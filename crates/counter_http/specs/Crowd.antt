@@ -1,0 +1,143 @@
+-- Clients that are served at once, as they come in, are served and leave. The bank is seen as c when the serving
+-- began and as c' now, steps are the messages that were answered, and of the ends of a client known says what is
+-- known.
+use Rattle.std.specs.Prelude.{◌≡◌, ◌≢◌, ◌⊎◌, ◌<◌, ◌≤◌, ◌+◌, ℕ, List, [], ◌∷◌, ◌++◌, length, map, Option, Result, ⊤, Contains}
+use Rattle.std.specs.Prelude.{IfErr}
+use Rattle.std.specs.List.{AllByRecursion}
+use Rattle.posting_rules.specs.declared.fault.Fault.{Fault}
+use Rattle.posting_rules.specs.believed.Commands.{Command}
+use Rattle.posting_rules.specs.believed.Counter.{Seen, StandsAt, LeavesOnly, ShowsPrefix, Takes}
+use Rattle.posting_core.specs.Stream.{IsOfCall}
+use Rattle.posting_core.specs.believed.Clock.{AreReadings}
+use Rattle.posting_core.specs.believed.Told.{GrowsBy}
+use Rattle.counter_http.specs.Clients.{ClientsTold, Gave, Closed}
+use Rattle.counter_http.specs.Connections.{Known}
+use Rattle.counter_http.specs.Order.{Step, Round, IsRound, steps_of, readings_of, submitted_by}
+use Rattle.counter_http.specs.Reading.{Reads}
+use Rattle.counter_http.specs.Rounds.{IsOfOneOf, numbers}
+use Rattle.counter_http.specs.Standing.{IsLost, IsNew, IsParting, StandsHere, Writes}
+use Rattle.counter_http.specs.Together.{EndsTogether, IfBank, IsVisited, Visit, closed_of, closings, number_of, openings}
+use Rattle.counter_http.specs.declared.client.Client.{Client}
+use Rattle.counter_http.specs.declared.listen_fault.ListenFault.{ListenFault}
+use Rattle.counter_http.specs.declared.parting.Parting.{Parting}
+use Rattle.counter_http.specs.declared.parting.Parting.TheVariants as parting
+
+-- ---- one client
+
+-- what was left of its answers was written, and then a read was made
+pub record WritesAndReads {R W : Type 0} (known : R × W → Known) (old new : Client R W) : Type 0 where
+  pub between : Client R W
+  pub writes : Writes known old between
+  pub reads : Reads known between new
+
+-- or it was given up, or left as it was
+abbrev pub GoesOn : {R W : Type 0} → (R × W → Known) → Client R W → Client R W → Type 0
+GoesOn known old new = (new ≡ old) ⊎ (IsLost old new parting.GivenUp ⊎ WritesAndReads known old new)
+
+-- its connection was closed, where the calls of what gives clients had returned g before and g' after
+pub record Closes {R W : Type 0} (g g' : Option (List (ClientsTold (R × W)))) (client : Client R W) : Type 0 where
+  pub left : R × W
+  pub parting : Parting
+  pub is : IsParting client (left.0, left.1, parting)
+  pub told : GrowsBy g g' (Closed client.number left ∷ [])
+
+-- ---- clients come and leave
+
+-- what the calls of what gives clients returned so far, how many clients came, and who is here
+pub record Scene (R W : Type 0) : Type 0 where
+  pub told : Option (List (ClientsTold (R × W)))
+  pub came : ℕ
+  pub here : List (Client R W)
+
+pub record Comes {R W : Type 0} (a b : Scene R W) : Type 0 where
+  pub given : R × W
+  pub client : Client R W
+  pub is : IsNew a.came given.0 given.1 client
+  pub here : b.here ≡ a.here ++ client ∷ []
+  pub told : GrowsBy a.told b.told (Gave a.came given ∷ [])
+  pub came : b.came ≡ a.came + 1
+
+pub record Leaves {R W : Type 0} (a b : Scene R W) : Type 0 where
+  pub before : List (Client R W)
+  pub client : Client R W
+  pub after : List (Client R W)
+  pub was : a.here ≡ before ++ client ∷ after
+  pub here : b.here ≡ before ++ after
+  pub closes : Closes a.told b.told client
+  pub came : b.came ≡ a.came
+
+-- a call gave no client and closed no connection
+pub record Stays {R W : Type 0} (a b : Scene R W) : Type 0 where
+  pub calls : List (ClientsTold (R × W))
+  pub told : GrowsBy a.told b.told calls
+  pub none_came : openings calls ≡ []
+  pub none_left : closings calls ≡ []
+  pub here : b.here ≡ a.here
+  pub came : b.came ≡ a.came
+
+-- one after another
+abbrev pub Moves : {R W : Type 0} → List (Scene R W) → (a b : Scene R W) → Type 0
+Moves [] a b = b ≡ a
+Moves (m ∷ ms) a b = (Comes a m ⊎ (Leaves a m ⊎ Stays a m)) × Moves ms m b
+
+pub record HaveMoved {R W : Type 0} (a b : Scene R W) : Type 0 where
+  pub scenes : List (Scene R W)
+  pub moves : Moves scenes a b
+
+-- ---- all who came
+
+-- one that is here was given by an opening, and stands by the messages that were answered
+pub record IsHere {R W : Type 0} (known : R × W → Known) (c c' : Seen) (steps : List Step)
+    (calls : List (ClientsTold (R × W))) (client : Client R W) : Type 0 where
+  pub given : R × W
+  pub came : Contains calls (Gave client.number given)
+  pub stands : StandsHere known (known given) c c' steps client
+
+abbrev pub all_numbers : {R W : Type 0} → List (Visit (R × W)) → List (Client R W) → List ℕ
+all_numbers visits here = map number_of visits ++ numbers here
+
+-- each is another than those after it
+abbrev pub Differ : List ℕ → Type 0
+Differ [] = ⊤
+Differ (n ∷ ns) = AllByRecursion (λ m. n ≢ m) ns × Differ ns
+
+-- those who left were served, each once, and the others are here; the bank refused some messages at last, or none
+pub record IsCrowd {R W : Type 0} (known : R × W → Known) (g : Option (List (ClientsTold (R × W)))) (c c' : Seen)
+    (steps refused : List Step) (a : Scene R W) : Type 0 where
+  pub calls : List (ClientsTold (R × W))
+  pub told : GrowsBy g a.told calls
+  pub visits : List (Visit (R × W))
+  pub closed : map closed_of visits ≡ closings calls
+  pub visited : AllByRecursion (IsVisited known c c' steps calls) visits
+  pub are_here : AllByRecursion (IsHere known c c' steps calls) a.here
+  pub differ : Differ (all_numbers visits a.here)
+  pub below : AllByRecursion (λ n. n < a.came) (all_numbers visits a.here)
+  pub whose : AllByRecursion (IsOfOneOf (all_numbers visits a.here)) (steps ++ refused)
+  pub all : length (all_numbers visits a.here) ≡ length (openings calls)
+  pub many : length (all_numbers visits a.here) ≤ a.came
+
+-- ---- round by round
+
+-- rounds were served, until the connections were, or a fault came; some clients may be here still
+pub record ServesRounds {C R W : Type 0} (seen : C → Seen) (reason : Fault → C → C → Type 0) (known : R × W → Known)
+    (g g' : Option (List (ClientsTold (R × W)))) (k k' : Option (List ℕ)) (old new : C) (n : ℕ)
+    (here : List (Client R W)) (result : Result (Unit {0}) ListenFault) : Type 0 where
+  pub rounds : List Round
+  pub are_rounds : AllByRecursion IsRound rounds
+  pub refused : List Step
+  pub clock : AreReadings k k' (readings_of rounds)
+  pub stood : C
+  pub honest_first : (seen stood).honest → (seen old).honest
+  pub honest : (seen new).honest → (seen stood).honest
+  pub up : (seen stood).is_down → (seen old).is_down
+  pub takes : Takes (seen old) (seen stood) (submitted_by (steps_of rounds))
+  pub ends : EndsTogether seen result stood new refused
+  pub survives : (seen new).honest → (log : List Command) → StandsAt (seen old) log
+      → LeavesOnly (seen new) (ShowsPrefix log (submitted_by (steps_of rounds ++ refused))
+      (length (submitted_by (steps_of rounds))))
+  pub idle : (seen old).is_down → new ≡ old
+  pub why : IfErr result (λ fault. IfBank fault (IsOfCall seen reason old new))
+  pub came : ℕ
+  pub few : came ≤ n
+  pub crowd : IsCrowd known g (seen old) (seen new) (steps_of rounds) refused
+      (record { told = g'; came = came; here = here })

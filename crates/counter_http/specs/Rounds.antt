@@ -1,0 +1,86 @@
+-- One round of clients that are served at once: what was read from them is answered. The bank is old before and
+-- new after, the clients are here before and here' after, and the clock's known readings are k and k'.
+use Rattle.std.specs.Prelude.{◌≡◌, ◌≢◌, ◌⊎◌, ℕ, List, [], ◌++◌, length, map, Option, Some, Result, Ok, Err, IfErr}
+use Rattle.std.specs.Prelude.{AllPairs, Contains}
+use Rattle.std.specs.List.{AllByRecursion, slice_get}
+use Rattle.posting_rules.specs.declared.fault.Fault.{Fault}
+use Rattle.posting_rules.specs.believed.Commands.{Command}
+use Rattle.posting_rules.specs.believed.Counter.{Seen, StandsAt, LeavesOnly, ShowsPrefix, Takes, Refuses}
+use Rattle.posting_core.specs.Stream.{IsOfCall}
+use Rattle.posting_core.specs.believed.Clock.{AreReadings}
+use Rattle.counter_http.specs.Connections.{Known}
+use Rattle.counter_http.specs.Order.{IsRound, Round, Step, steps_in, submitted_by}
+use Rattle.counter_http.specs.Standing.{StandsHere}
+use Rattle.counter_http.specs.declared.client.Client.{Client}
+use Rattle.counter_http.specs.declared.parting.Parting.{Parting}
+use Rattle.counter_http.specs.declared.parting.Parting.TheVariants as parting
+
+-- ---- who is here
+
+abbrev pub number_in : {R W : Type 0} → Client R W → ℕ
+number_in client = client.number
+
+abbrev pub numbers : {R W : Type 0} → List (Client R W) → List ℕ
+numbers here = map number_in here
+
+abbrev pub AllDiffer : List ℕ → Type 0
+AllDiffer ns = AllPairs (λ m n. m ≢ n) ns
+
+-- a message is of one of these
+abbrev pub IsOfOneOf : List ℕ → Step → Type 0
+IsOfOneOf ns s = Contains ns s.client
+
+-- ---- who was told
+
+abbrev pub TellsRefusal : Option Parting → Fault → Type 0
+TellsRefusal p fault = (p ≡ Some (parting.Bank fault)) ⊎ (p ≡ Some parting.Memory)
+
+-- its client is here, and was told that the bank refused it, or memory was refused for that
+pub record IsTurnedAway {R W : Type 0} (here : List (Client R W)) (fault : Fault) (s : Step) : Type 0 where
+  pub place : ℕ
+  pub client : Client R W
+  pub at : slice_get here place ≡ Some client
+  pub number : client.number ≡ s.client
+  pub told : TellsRefusal client.parting fault
+
+-- ---- a round
+
+-- the bank refused nothing, or the last message that it was asked, or the records that were submitted together
+abbrev pub EndsRound : {C X : Type 0} → (C → Seen) → Result X Fault → (stood new : C) → (refused : List Step)
+    → Type 0
+EndsRound seen (Ok next) stood new refused = (refused ≡ []) × (new ≡ stood)
+EndsRound seen (Err fault) stood new refused = Refuses fault (seen stood) (seen new) (submitted_by refused)
+
+-- the messages of a round were answered, and each client stands as its own have it
+pub record AnswersRound {C R W X : Type 0} (seen : C → Seen) (reason : Fault → C → C → Type 0)
+    (known : R × W → Known) (k k' : Option (List ℕ)) (old new : C) (here here' : List (Client R W))
+    (result : Result X Fault) : Type 0 where
+  pub round : Round
+  pub is_round : IsRound round
+  pub refused : List Step
+  pub whose : AllByRecursion (IsOfOneOf (numbers here)) (steps_in round)
+  pub whose_refused : AllByRecursion (IsOfOneOf (numbers here)) refused
+  pub clock : AreReadings k k' round.readings
+  -- each client whose record was refused was told so
+  pub told : IfErr result (λ fault. AllByRecursion (IsTurnedAway here' fault) refused)
+  -- the bank stood here when it had taken the messages, and it was down then only where it was down before
+  pub stood : C
+  pub honest_first : (seen stood).honest → (seen old).honest
+  pub honest : (seen new).honest → (seen stood).honest
+  pub up : (seen stood).is_down → (seen old).is_down
+  pub takes : Takes (seen old) (seen stood) (submitted_by (steps_in round))
+  pub ends : EndsRound seen result stood new refused
+  -- a crash leaves all that it took
+  pub survives : (seen new).honest → (log : List Command) → StandsAt (seen old) log
+      → LeavesOnly (seen new) (ShowsPrefix log (submitted_by (steps_in round ++ refused))
+      (length (submitted_by (steps_in round))))
+  pub idle : (seen old).is_down → new ≡ old
+  -- a fault says why a call was refused
+  pub why : IfErr result (IsOfCall seen reason old new)
+  -- the same clients are here, in their order
+  pub same : numbers here' ≡ numbers here
+  -- a client that stood by the messages so far stands by them and those of the round
+  pub stand : (p : ℕ) (client client' : Client R W) → slice_get here p ≡ Some client → slice_get here' p ≡ Some client'
+      → (known_first : Known) (first : C) (steps : List Step) → Takes (seen first) (seen old) (submitted_by steps)
+      → StandsHere known known_first (seen first) (seen old) steps client
+      → StandsHere known known_first (seen first) (seen new) (steps ++ steps_in round) client'

@@ -1,0 +1,159 @@
+-- Records that clients sent, which are submitted together or one by one, and what becomes of those clients. The
+-- bank is old before and new after, and the clients are here before and here' after.
+use Rattle.std.specs.Prelude.{◌≡◌, ◌≢◌, ◌⊎◌, ◌≤◌, ℕ, List, [], ◌∷◌, ◌++◌, length, slice_set, Option, Some}
+use Rattle.std.specs.Prelude.{Result, IfErr, ⊤, true}
+use Rattle.std.specs.List.{AllByRecursion, slice_get}
+use Rattle.posting_rules.specs.declared.fault.Fault.{Fault}
+use Rattle.posting_rules.specs.declared.limits.TheConstants.{RECORDS_PER_BATCH}
+use Rattle.posting_rules.specs.believed.Counter.{Seen, Takes}
+use Rattle.posting_core.specs.Stream.{IsOfCall}
+use Rattle.posting_core.specs.believed.Clock.{AreReadings}
+use Rattle.counter_http.specs.Connections.{Known}
+use Rattle.counter_http.specs.Order.{Step, asks_to_read, is_posted_under, submitted_by}
+use Rattle.counter_http.specs.Rounds.{EndsRound, IsOfOneOf, IsTurnedAway, numbers}
+use Rattle.counter_http.specs.Standing.{AnswersRecord, GivesRecord, HasEndedWith, StandsHere}
+use Rattle.counter_http.specs.Turns.{IsAsked}
+use Rattle.counter_http.specs.believed.Answers.{answer_text, bare}
+use Rattle.counter_http.specs.declared.batch.Batch.{Batch}
+use Rattle.counter_http.specs.declared.batch.Sender.{Sender}
+use Rattle.counter_http.specs.declared.client.Client.{Client}
+use Rattle.counter_http.specs.declared.client.Record.{Record}
+use Rattle.counter_http.specs.declared.parting.Parting.TheVariants as parting
+
+-- ---- the records of a batch
+
+-- the client at the sender's place gives this record
+pub record GivesAt {R W : Type 0} (here : List (Client R W)) (sender : Sender) (bytes : List ℕ) : Type 0 where
+  pub client : Client R W
+  pub at : slice_get here sender.place ≡ Some client
+  pub gives : GivesRecord client (record { bytes = bytes; head = sender.head })
+
+-- each sender gives its record
+abbrev pub AreGiven : {R W : Type 0} → List (Client R W) → List Sender → List (List ℕ) → Type 0
+AreGiven here [] [] = ⊤
+AreGiven here [] (bytes ∷ records) = ⊥
+AreGiven here (sender ∷ senders) [] = ⊥
+AreGiven here (sender ∷ senders) (bytes ∷ records) = GivesAt here sender bytes × AreGiven here senders records
+
+abbrev pub IsElsewhere : ℕ → Sender → Type 0
+IsElsewhere place sender = sender.place ≢ place
+
+-- no two are at one place
+abbrev pub AreApart : List Sender → Type 0
+AreApart [] = ⊤
+AreApart (sender ∷ senders) = AllByRecursion (IsElsewhere sender.place) senders × AreApart senders
+
+-- its records are given by clients that are here, one by each
+pub record IsBatchOf {R W : Type 0} (here : List (Client R W)) (batch : Batch) : Type 0 where
+  pub given : AreGiven here batch.senders.items batch.records.items
+  pub apart : AreApart batch.senders.items
+
+abbrev pub IsFrom : ℕ → Sender → Type 0
+IsFrom place sender = place ≤ sender.place
+
+-- the record and its sender come last
+pub record IsAdded (old new : Batch) (place : ℕ) (r : Record) : Type 0 where
+  pub records : new.records.items ≡ old.records.items ++ r.bytes ∷ []
+  pub senders : new.senders.items ≡ old.senders.items ++ record { place = place; head = r.head } ∷ []
+
+abbrev pub IsFull : Batch → Type 0
+IsFull batch =
+    (length batch.records.items ≡ RECORDS_PER_BATCH) ⊎ (length batch.senders.items ≡ RECORDS_PER_BATCH)
+
+-- it is added, unless the batch is full
+abbrev pub AddsIfRoom : (old new : Batch) → (place : ℕ) → Record → Type 0
+AddsIfRoom old new place r = IsAdded old new place r ⊎ (IsFull old × (new ≡ old))
+
+abbrev pub MayAdd : (old new : Batch) → ℕ → Type 0
+MayAdd old new place = ((r : Record) × IsAdded old new place r) ⊎ (new ≡ old)
+
+-- ---- clients, one after another
+
+-- no client but the one at a place is another
+pub record ChangesAt {R W : Type 0} (here here' : List (Client R W)) (place : ℕ) : Type 0 where
+  pub client : Client R W
+  pub is : here' ≡ slice_set here place client
+
+-- the record of a sender was answered
+pub record AnswersAt {R W : Type 0} (here here' : List (Client R W)) (sender : Sender) (reply : List ℕ)
+    : Type 0 where
+  pub before : Client R W
+  pub after : Client R W
+  pub at : slice_get here sender.place ≡ Some before
+  pub is : here' ≡ slice_set here sender.place after
+  pub answers : AnswersRecord before after sender.head reply
+
+-- a sender was told that the bank refused its record
+pub record RefusesAt {R W : Type 0} (here here' : List (Client R W)) (sender : Sender) (fault : Fault)
+    : Type 0 where
+  pub before : Client R W
+  pub after : Client R W
+  pub at : slice_get here sender.place ≡ Some before
+  pub is : here' ≡ slice_set here sender.place after
+  pub tells : HasEndedWith before after (answer_text (bare 503) sender.head.shows_body true) (parting.Bank fault)
+
+-- senders were answered in turn
+abbrev pub AnswersEach : {R W : Type 0} → (here here' : List (Client R W)) → List Sender → List (List ℕ)
+    → Type 0
+AnswersEach here here' [] replies = here' ≡ here
+AnswersEach here here' (sender ∷ senders) [] = ⊥
+AnswersEach {R} {W} here here' (sender ∷ senders) (reply ∷ replies) =
+    (mid : List (Client R W)) × AnswersAt here mid sender reply × AnswersEach mid here' senders replies
+
+abbrev pub RefusesEach : {R W : Type 0} → (here here' : List (Client R W)) → List Sender → Fault → Type 0
+RefusesEach here here' [] fault = here' ≡ here
+RefusesEach {R} {W} here here' (sender ∷ senders) fault =
+    (mid : List (Client R W)) × RefusesAt here mid sender fault × RefusesEach mid here' senders fault
+
+-- ---- what becomes of the clients and the bank
+
+-- these messages were answered, all of clients that are here: each client stands as its own have it
+pub record AreBeside {C R W : Type 0} (seen : C → Seen) (known : R × W → Known) (old new : C)
+    (here here' : List (Client R W)) (steps : List Step) : Type 0 where
+  pub whose : AllByRecursion (IsOfOneOf (numbers here)) steps
+  pub same : numbers here' ≡ numbers here
+  pub stand : (p : ℕ) (client client' : Client R W) → slice_get here p ≡ Some client
+      → slice_get here' p ≡ Some client'
+      → (known_first : Known) (first : C) (before : List Step)
+      → Takes (seen first) (seen old) (submitted_by before)
+      → StandsHere known known_first (seen first) (seen old) before client
+      → StandsHere known known_first (seen first) (seen new) (before ++ steps) client'
+
+-- messages that submit nothing were answered, and the batch has records of clients that are here
+pub record Gathers {C R W X : Type 0} (seen : C → Seen) (reason : Fault → C → C → Type 0) (known : R × W → Known)
+    (old new : C) (here here' : List (Client R W)) (batch : Batch) (result : Result X Fault) : Type 0 where
+  pub reads : List Step
+  pub are_reads : AllByRecursion asks_to_read reads
+  pub asked : IsAsked seen reason old new result
+  pub beside : AreBeside seen known old new here here' reads
+  pub gives : IsBatchOf here' batch
+
+-- some records were submitted, n at most, and each sender was answered: the bank took posts, stood there, and
+-- refused one call then or none
+pub record AreSubmitted {C R W X : Type 0} (seen : C → Seen) (reason : Fault → C → C → Type 0)
+    (known : R × W → Known) (readings : List ℕ) (old new : C) (here here' : List (Client R W)) (n : ℕ)
+    (result : Result X Fault) : Type 0 where
+  pub posts : List Step
+  pub refused : List Step
+  pub together : AllByRecursion (is_posted_under readings) posts
+  pub few : length posts ≤ n
+  pub beside : AreBeside seen known old new here here' posts
+  pub whose_refused : AllByRecursion (IsOfOneOf (numbers here)) refused
+  pub told : IfErr result (λ fault. AllByRecursion (IsTurnedAway here' fault) refused)
+  pub stood : C
+  pub honest_first : (seen stood).honest → (seen old).honest
+  pub honest : (seen new).honest → (seen stood).honest
+  pub up : (seen stood).is_down → (seen old).is_down
+  pub takes : Takes (seen old) (seen stood) (submitted_by posts)
+  pub ends : EndsRound seen result stood new refused
+  pub idle : (seen old).is_down → new ≡ old
+  pub why : IfErr result (IsOfCall seen reason old new)
+
+-- so they were, under one reading of the clock
+pub record SubmitsBatch {C R W X : Type 0} (seen : C → Seen) (reason : Fault → C → C → Type 0)
+    (known : R × W → Known) (k k' : Option (List ℕ)) (old new : C) (here here' : List (Client R W))
+    (result : Result X Fault) : Type 0 where
+  pub readings : List ℕ
+  pub once : length readings ≤ 1
+  pub clock : AreReadings k k' readings
+  pub did : AreSubmitted seen reason known readings old new here here' RECORDS_PER_BATCH result
