@@ -1,7 +1,7 @@
 -- Clients that are served at once, round by round.
 use Rattle.std.proofs.Common.{◌≡◌, ℕ, ◌+◌, ◌<◌, ◌≤◌, suc, List, [], ◌∷◌, ◌++◌, length, map, take, Option, Some}
 use Rattle.std.proofs.Common.{Result, Ok, Err, refl, sym, ap, subst, ◌∙◌, append_assoc, append-nil, arith, inl, inr}
-use Rattle.std.specs.Prelude.{◌≢◌, Contains, AllPairs, IfErr}
+use Rattle.std.specs.Prelude.{◌≢◌, Contains, AllPairs, IfErr, OnOk}
 use Rattle.std.specs.List.{AllByRecursion, AllZip, slice_get}
 use Rattle.std.proofs.Math.Seq.{take-append-add}
 use Rattle.std.proofs.lemmas.List.{length-append, length-map, Concat.flat_map-append}
@@ -21,7 +21,7 @@ use Rattle.posting_core.specs.believed.Told.{GrowsBy}
 use Rattle.posting_core.proofs.{Stops.stop_all, StreamedBatches.all_more, StreamedBatches.takes_more, Telling.adds-none}
 use Rattle.counter_http.specs.Clients.{ClientsTold, Gave}
 use Rattle.counter_http.specs.Connections.{Known}
-use Rattle.counter_http.specs.Crowd.{Differ, GoesOn, HaveMoved, IsCrowd, IsHere, Scene, ServesRounds, all_numbers}
+use Rattle.counter_http.specs.Crowd.{Differ, GoesOn, HaveCome, HaveMoved, IsCrowd, IsHere, Scene, ServesRounds, all_numbers}
 use Rattle.counter_http.specs.Order.{IsRound, Round, Step, readings_in, readings_of, steps_in, steps_of, submitted_by}
 use Rattle.counter_http.specs.Rounds.{AnswersRound, IsOfOneOf, numbers}
 use Rattle.counter_http.specs.Standing.{StandsHere, Writes}
@@ -105,7 +105,7 @@ crowd_as {steps = steps} {refused} {came} {here} here' crowd same stand =
       below = subst (λ (ns : List ℕ). AllByRecursion (λ (n : ℕ). n < came) ns) all crowd.below;
       whose = subst (λ (ns : List ℕ). AllByRecursion (IsOfOneOf ns) (steps ++ refused)) all crowd.whose;
       all = ap length (sym all) ∙ crowd.all;
-      many = subst (λ (ns : List ℕ). length ns ≤ came) all crowd.many;
+      many = subst (λ (ns : List ℕ). length ns ≡ came) all crowd.many;
     }
 
 pub crowd_goes : {R W : Type 0} {known : R × W → Known} {g t : Option (List (ClientsTold (R × W)))} {c c' : Seen}
@@ -226,7 +226,7 @@ crowd_round {C} {R} {W} seen {known = known} first old new steps {came = came} h
           (subst (λ (ss : List Step). AllByRecursion (IsOfOneOf (vs ++ numbers here)) ss) (append-nil steps) crowd.whose)
           (whose_more vs (numbers here) more r.whose)) (whose_more vs (numbers here) r.refused r.whose_refused));
       all = ap length (sym all) ∙ crowd.all;
-      many = subst (λ (ns : List ℕ). length ns ≤ came) all crowd.many;
+      many = subst (λ (ns : List ℕ). length ns ≡ came) all crowd.many;
     }
 
 -- ---- rounds
@@ -267,7 +267,7 @@ rounding_none {C} {R} {W} seen {known} g k old n here none = record {
     below = tt;
     whose = tt;
     all = refl;
-    many = omega arith;
+    many = refl;
   });
 }
 
@@ -399,9 +399,10 @@ pub rounds_end : {C R W : Type 0} (seen : C → Seen) {reason : Fault → C → 
     {g t : Option (List (ClientsTold (R × W)))} {k k' : Option (List ℕ)} (old new : C) {n came : ℕ}
     {here : List (Client R W)} (result : Result (Unit {0}) ListenFault)
     → EndsTogether seen result new new [] → IfErr result (λ fault. IfBank fault (IsOfCall seen reason old new))
+    → OnOk result (came ≡ n)
     → Rounding seen known g t k k' old new n came here
     → ServesRounds seen reason known g t k k' old new n here result
-rounds_end seen old new {came = came} result ends why s = record {
+rounds_end seen old new {came = came} result ends why done s = record {
   rounds = s.rounds;
   are_rounds = s.are_rounds;
   refused = [];
@@ -418,6 +419,7 @@ rounds_end seen old new {came = came} result ends why s = record {
   why = why;
   came = came;
   few = s.few;
+  done = done;
   crowd = s.crowd;
 }
 
@@ -467,6 +469,7 @@ rounds_broken seen {reason} {known} {g = g} {t' = t'} {k} {k'} {k''} old now new
       why = why_now seen reason old now new cs s.takes s.honest s.idle fault r.why;
       came = came';
       few = few;
+      done = tt;
       crowd = subst (λ (x : List Step). IsCrowd known g (seen old) (seen new) x r.refused
           (record { told = t'; came = came'; here = here'' })) order crowd;
     }
@@ -534,6 +537,24 @@ serves_together {C} {R} {W} seen {reason} {known} {g} {t} {t'} old new here here
           (append-nil (map number_of crowd.visits)) crowd.whose;
       many = omega (arith, long, crowd.many, s.few);
     }
+
+come_where : {E : Type 0} (g g' : Option (List (ClientsTold E))) (came n : ℕ) (result : Result (Unit {0}) ListenFault)
+    → OnOk result (came ≡ n) → HaveCome g g' came → OnOk result (HaveCome g g' n)
+come_where g g' came n (Ok done) same come = subst (λ (m : ℕ). HaveCome g g' m) same come
+come_where g g' came n (Err fault) same come = tt
+
+-- all came that were to come
+pub all_came : {C R W : Type 0} (seen : C → Seen) {reason : Fault → C → C → Type 0} {known : R × W → Known}
+    {g t t' : Option (List (ClientsTold (R × W)))} {k k' : Option (List ℕ)} (old new : C) {n : ℕ}
+    (here here' : List (Client R W)) (result : Result (Unit {0}) ListenFault)
+    → ServesRounds seen reason known g t k k' old new n here result
+    → ((came : ℕ) → HaveMoved (record { told = t; came = came; here = here }) (record { told = t'; came = came; here = here' }))
+    → OnOk result (HaveCome g t' n)
+all_came seen {known = known} {g} {t} {t'} old new {n} here here' result s moved =
+    let after : IsCrowd known g (seen old) (seen new) (steps_of s.rounds) s.refused
+    (record { told = t'; came = s.came; here = here' }) = crowd_moved (moved s.came) s.crowd in
+    come_where g t' s.came n result s.done
+    (record { calls = after.calls; told = after.told; many = sym after.all ∙ after.many })
 
 -- memory was refused before anybody came
 pub nobody_came : {C R W : Type 0} (seen : C → Seen) {reason : Fault → C → C → Type 0} {known : R × W → Known}

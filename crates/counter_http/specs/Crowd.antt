@@ -2,7 +2,7 @@
 -- began and as c' now, steps are the messages that were answered, and of the ends of a client known says what is
 -- known.
 use Rattle.std.specs.Prelude.{◌≡◌, ◌≢◌, ◌⊎◌, ◌<◌, ◌≤◌, ◌+◌, ℕ, List, [], ◌∷◌, ◌++◌, length, map, Option, Result, ⊤, Contains}
-use Rattle.std.specs.Prelude.{IfErr}
+use Rattle.std.specs.Prelude.{IfErr, OnOk}
 use Rattle.std.specs.List.{AllByRecursion}
 use Rattle.posting_rules.specs.declared.fault.Fault.{Fault}
 use Rattle.posting_rules.specs.believed.Commands.{Command}
@@ -114,7 +114,7 @@ pub record IsCrowd {R W : Type 0} (known : R × W → Known) (g : Option (List (
   pub below : AllByRecursion (λ n. n < a.came) (all_numbers visits a.here)
   pub whose : AllByRecursion (IsOfOneOf (all_numbers visits a.here)) (steps ++ refused)
   pub all : length (all_numbers visits a.here) ≡ length (openings calls)
-  pub many : length (all_numbers visits a.here) ≤ a.came
+  pub many : length (all_numbers visits a.here) ≡ a.came
 
 -- ---- round by round
 
@@ -139,5 +139,12 @@ pub record ServesRounds {C R W : Type 0} (seen : C → Seen) (reason : Fault →
   pub why : IfErr result (λ fault. IfBank fault (IsOfCall seen reason old new))
   pub came : ℕ
   pub few : came ≤ n
+  pub done : OnOk result (came ≡ n)
   pub crowd : IsCrowd known g (seen old) (seen new) (steps_of rounds) refused
       (record { told = g'; came = came; here = here })
+
+-- so many clients were given by openings
+pub record HaveCome {E : Type 0} (g g' : Option (List (ClientsTold E))) (n : ℕ) : Type 0 where
+  pub calls : List (ClientsTold E)
+  pub told : GrowsBy g g' calls
+  pub many : length (openings calls) ≡ n

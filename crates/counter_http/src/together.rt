@@ -4,7 +4,7 @@
 ghost use Rattle.std.specs.Prelude.{◌≡◌, ◌<◌, ◌≤◌, ℕ, [], Err, OnErr, OnOk, length};
 ghost use Rattle.std.specs.List.{AllByRecursion, AllZip};
 ghost use Rattle.counter_http.specs.Connections.{known_ends};
-ghost use Rattle.counter_http.specs.Crowd.{Closes, GoesOn, HaveMoved, ServesRounds};
+ghost use Rattle.counter_http.specs.Crowd.{Closes, GoesOn, HaveCome, HaveMoved, ServesRounds};
 ghost use Rattle.counter_http.specs.Rounds.{AllDiffer, AnswersRound, numbers};
 ghost use Rattle.counter_http.specs.Standing.{Writes};
 ghost use Rattle.counter_http.specs.Submitting.{Gathers, IsBatchOf, IsElsewhere, IsFrom, MayAdd};
@@ -262,6 +262,7 @@ pub fn serve_together<D: Clients, K: Clock, C: Counter>(
         (known_ends D.Reader.remaining D.Reader.told D.Reader.beside D.Writer.contents D.Writer.told)
         (D.told door.old) (D.told door.new) (K.readings clock.old) (K.readings clock.new) bank.old bank.new
         connections result }
+    ensures come { OnOk result (HaveCome (D.told door.old) (D.told door.new) connections) }
     ensures spares { C.spares bank.old bank.new }
 {
     let Ok(routes) = Routes::new(alloc) else {

@@ -16,7 +16,8 @@ rounds-init g c = record {
 -- all were served
 pub returns-then-is_empty-clause-serves : goal.returns-then-is_empty-clause-serves
 returns-then-is_empty-clause-serves g c =
-    rounds_end g.C.Counter.seen c.args.bank.now c.rounds.bank (Ok tt) (refl, refl) tt c.rounds.invariant.rounding
+    rounds_end g.C.Counter.seen c.args.bank.now c.rounds.bank (Ok tt) (refl, refl) tt c.if-came-connections.true
+    c.rounds.invariant.rounding
 
 -- an opening failed
 pub returns-in_err-take_in-clause-serves : goal.returns-in_err-take_in-clause-serves
@@ -28,7 +29,7 @@ returns-in_err-take_in-clause-serves g c =
     let told = err_from_is_err_and c.from_residual.result c.from_residual.ensures.1 in
     let network : c.in_err-take_in.field-0.0 ≡ Network = cc (c.in_err-take_in.ensures.fault) in
     rw (told.1, told.2, network)
-    (rounds_end g.C.Counter.seen c.args.bank.now c.rounds.bank (Err Network) (refl, refl) tt s)
+    (rounds_end g.C.Counter.seen c.args.bank.now c.rounds.bank (Err Network) (refl, refl) tt tt s)
 
 -- no two clients have the same number
 pub answer-answered-requires : goal.answer-answered-requires
@@ -85,4 +86,4 @@ rounds-preserved g c =
 -- there are no more rounds
 pub returns-clause-serves : goal.returns-clause-serves
 returns-clause-serves g c =
-    rounds_end g.C.Counter.seen c.args.bank.now c.rounds.bank (Err Network) (refl, refl) tt c.rounds.invariant.rounding
+    rounds_end g.C.Counter.seen c.args.bank.now c.rounds.bank (Err Network) (refl, refl) tt tt c.rounds.invariant.rounding
