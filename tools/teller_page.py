@@ -11,6 +11,7 @@ refused, undoing, a second tab, and another server's page that tries to post.
 It needs the built program, nginx, openssl, and Debian's `chromium` or `firefox-esr`. It is bounded in count and time,
 uses loopback alone, and stands outside the gate."""
 import base64
+import contextlib
 import hashlib
 import http.server
 import json
@@ -479,21 +480,28 @@ def check(place, page, entered):
         subprocess.run([BANK, "replay", place.file], stdout=subprocess.DEVNULL, check=True)
 
 
-def run(kind, count, kills):
-    start = time.monotonic()
+@contextlib.contextmanager
+def opened(kind):
+    """A place that is started, and a page for it, until both have been used."""
     with tempfile.TemporaryDirectory(ignore_cleanup_errors=True) as folder:
         os.mkdir(folder + "/profile")
         place = Place(folder)
         page = Page(kind, folder + "/profile", place)
         try:
             place.start()
-            words(place, page)
-            entered, stops = killed(place, page, count, kills)
-            check(place, page, entered)
+            yield place, page
         finally:
             if page.browser:
                 page.kill()
             place.stop()
+
+
+def run(kind, count, kills):
+    start = time.monotonic()
+    with opened(kind) as (place, page):
+        words(place, page)
+        entered, stops = killed(place, page, count, kills)
+        check(place, page, entered)
     print(f"teller_page: {kind.name}: {count} postings, {stops['counter']} kills of the counter, {stops['nginx']} of "
           f"nginx and {7 * kills // 100} of the browser: each is posted once, and the books agree "
           f"({time.monotonic() - start:.0f} s)", flush=True)
@@ -501,34 +509,25 @@ def run(kind, count, kills):
 
 def pictures():
     """Takes the pictures of docs/, wide and narrow."""
-    with tempfile.TemporaryDirectory(ignore_cleanup_errors=True) as folder:
-        os.mkdir(folder + "/profile")
-        place = Place(folder)
-        page = Page(Chromium, folder + "/profile", place)
-        try:
-            place.start()
-            page.sign_in("teller1", "counter1")
-            for account, amount, reference in ((1, "1250", "OPENING"), (2, "310.50", "CHEQUE 4711"), (1, "-80", "CASH"),
-                                               (4, "25", "NO NAME"), (3, "19.95", "BOOK 12")):
-                page.answered(account, amount, reference)
-            page.press("Undo: number")
-            page.browser.keys(TAB, ENTER)
-            page.until("the opposite", f"({LINES})[0][3].startsWith('UNDO')")
-            page.settled()
-            place.counter.stop()
-            page.enter(1, "-120.00", "CASH")
-            page.until("the notice", "document.getElementById('waiting').textContent.length > 0")
-            page.browser.keys("2", TAB, "45.50")
-            for name, width, height in (("teller", 1000, 740), ("teller_narrow", 380, 820)):
-                page.browser.size(width, height)
-                page.browser.run("(scrollTo(0, 0), 0)")
-                time.sleep(0.3)
-                with open(f"{HERE}/docs/{name}.png", "wb") as file:
-                    file.write(page.browser.picture())
-        finally:
-            if page.browser:
-                page.kill()
-            place.stop()
+    with opened(Chromium) as (place, page):
+        page.sign_in("teller1", "counter1")
+        for account, amount, reference in ((1, "1250", "OPENING"), (2, "310.50", "CHEQUE 4711"), (1, "-80", "CASH"),
+                                           (4, "25", "NO NAME"), (3, "19.95", "BOOK 12")):
+            page.answered(account, amount, reference)
+        page.press("Undo: number")
+        page.browser.keys(TAB, ENTER)
+        page.until("the opposite", f"({LINES})[0][3].startsWith('UNDO')")
+        page.settled()
+        place.counter.stop()
+        page.enter(1, "-120.00", "CASH")
+        page.until("the notice", "document.getElementById('waiting').textContent.length > 0")
+        page.browser.keys("2", TAB, "45.50")
+        for name, width, height in (("teller", 1000, 740), ("teller_narrow", 380, 820)):
+            page.browser.size(width, height)
+            page.browser.run("(scrollTo(0, 0), 0)")
+            time.sleep(0.3)
+            with open(f"{HERE}/docs/{name}.png", "wb") as file:
+                file.write(page.browser.picture())
 
 
 def main():
