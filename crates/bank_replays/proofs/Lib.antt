@@ -9,6 +9,7 @@ pub mod FirstDifference
 pub mod Columns
 pub mod Comparisons
 pub mod Begun
+pub mod GivenBack
 pub mod Hands
 pub mod Refilled
 pub mod SameNumbers

@@ -5,6 +5,7 @@ pub mod Refilling
 pub mod NextRows
 pub mod Differences
 pub mod DifferenceText
+pub mod GivenBack
 pub mod Handing
 pub mod Comparing
 pub mod Replays
