@@ -10,12 +10,11 @@ pub mod Turns
 pub mod Outputs
 pub mod Prompt
 pub mod ListenFaults
-pub mod WaitingLimits
-pub mod Doors
 pub mod Clients
 pub mod Connections
 pub mod Order
 pub mod Together
+pub mod Listening
 pub mod Standing
 pub mod Tasks
 pub mod Asking

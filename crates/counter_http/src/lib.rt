@@ -37,15 +37,17 @@
 //! refused, or the bank refused a call, which is answered by a 503.
 //!
 //! Read next: [`serve_connection`]; `specs/believed/Messages`, what a message is, and `specs/believed/Paths`, where each leads;
-//! [`serve_connections`], which serves the connections of a listener.
+//! [`serve_connections`], which serves the clients of a listener at once.
 #![tactic(auto)]
 
 mod accounts;
 mod answers;
-mod close;
+mod batch;
+mod client;
+mod clients;
+mod closing;
 mod connection;
 mod connections;
-mod door;
 mod fault;
 mod fields;
 mod fixed;
@@ -53,35 +55,20 @@ mod limits;
 mod lines;
 mod listen_fault;
 mod next;
-mod pace;
-mod queue;
-mod reader;
-mod routes;
-mod tasks;
-mod telling;
-pub mod waiting_limits;
-mod writer;
-
-// Clients that are served at once.
-mod batch;
-mod client;
-mod clients;
-mod closing;
 mod parting;
-mod patience;
+pub mod patience;
+mod routes;
 mod stream_ends;
+mod tasks;
 mod tcp_clients;
+mod telling;
 mod together;
 
 pub use client::Client;
 pub use clients::{Clients, Readiness};
 pub use connection::{Served, serve_connection};
-pub use connections::{serve_connections, serve_door};
-pub use door::{Door, TcpDoor};
+pub use connections::serve_connections;
 pub use fault::ServeFault;
 pub use limits::{MAX_BODY, MAX_FIELDS, MAX_HEAD};
 pub use listen_fault::ListenFault;
-pub use reader::TimedReader;
-pub use tcp_clients::TcpClients;
 pub use together::{MOST_CLIENTS, serve_together};
-pub use writer::TimedWriter;

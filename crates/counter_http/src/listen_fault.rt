@@ -1,11 +1,11 @@
-//! Why no more connections are served.
+//! Why no more clients are served.
 use posting_core::Fault;
 use std::fmt;
 
-/// Why no more connections were served. What was answered before is kept.
+/// Why no more clients were served. What was answered before is kept.
 #[derive(Clone, Copy, Debug, PartialEq, Eq)]
 pub enum ListenFault {
-    /// The listener gave no connection. The bank can be used.
+    /// No client could be taken in. The bank can be used.
     Network,
     /// The bank refused a call for another cause than memory, and is down.
     Bank(Fault),

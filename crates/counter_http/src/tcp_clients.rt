@@ -15,12 +15,17 @@ use std::net::{TcpListener, TcpStream};
 use std::os::fd::{AsRawFd, RawFd};
 use std::time::{Clock, Duration, Instant};
 
+// How many connections are being closed at once: each is a descriptor, of which a process has some 1,000.
+const MOST_CLOSING: usize = 256;
+
 /// The clients of a bound listener that doesn't block. The system is asked to send each answer at once, and not to
 /// wait until the one before it has arrived.
 #[derive(Drop)]
 pub struct TcpClients<'l, T> {
     listener: &'l TcpListener,
     time: &'l T,
+    // Somebody may wait at the listener.
+    is_waited_for: bool,
     // Of each client that is served, in their order.
     patience: Vec<Patience>,
     closing: Vec<Closing>,
@@ -61,6 +66,7 @@ impl<'l, T: Clock> TcpClients<'l, T> {
         Ok(TcpClients {
             listener,
             time,
+            is_waited_for: true,
             patience: Vec::new(alloc),
             closing: Vec::new(alloc),
             asked: Vec::new(alloc),
@@ -235,6 +241,7 @@ impl<'l, T: Clock> Clients for TcpClients<'l, T> {
         readiness: &mut Vec<Readiness>,
     ) {
         readiness.clear();
+        self.is_waited_for = true;
         let Ok(now) = Instant::now(self.time) else {
             return;
         };
@@ -255,12 +262,12 @@ impl<'l, T: Clock> Clients for TcpClients<'l, T> {
         let Ok(then) = Instant::now(self.time) else {
             return;
         };
-        let is_wanted = match self.asked.get(clients.len()) {
-            Some(it) => is_full && it.revents != 0,
+        self.is_waited_for = match self.asked.get(clients.len()) {
+            Some(it) => it.revents != 0,
             None => false,
         };
         for (place, client) in clients.iter().enumerate() {
-            let gives_way = is_wanted && idle == Some(place);
+            let gives_way = is_full && self.is_waited_for && idle == Some(place);
             let it = self.readiness_of(place, client.has_more(), gives_way, then);
             if readiness.push(it).is_err() {
                 return;
@@ -270,6 +277,9 @@ impl<'l, T: Clock> Clients for TcpClients<'l, T> {
     }
 
     fn open(&mut self, _number: u64) -> io::Result<Option<(Self::Reader, Self::Writer)>> {
+        if !self.is_waited_for {
+            return Ok(None);
+        }
         let stream = match self.listener.accept() {
             Ok((stream, _)) => stream,
             Err(e) if is_passing(e.kind()) => return Ok(None),
@@ -283,6 +293,9 @@ impl<'l, T: Clock> Clients for TcpClients<'l, T> {
         let Ok(now) = Instant::now(self.time) else {
             return;
         };
+        if self.closing.len() >= MOST_CLOSING {
+            let _oldest = self.closing.remove(0);
+        }
         if let Some(closing) = Closing::of(reader.stream, now) {
             let _ = self.closing.push(closing);
         }

@@ -1,6 +1,8 @@
-use Rattle.counter_http.proofs.Chained.{of_listener}
+-- No client was taken in, or those of the listener were served.
+use Rattle.counter_http.proofs.Listened.{none_served}
 use Rattle.counter_http.proofs.connections.serve_connections.Goals as goal
 
-pub returns-clause-serves : goal.returns-clause-serves
-returns-clause-serves g c =
-    of_listener g.C.Counter.seen g.C.Counter.reason _ _ _ _ _ _ _ _ c.serve_door.ensures.serves
+pub returns-in_default-clause-serves : goal.returns-in_default-clause-serves
+returns-in_default-clause-serves g c =
+    none_served g.C.Counter.seen g.C.Counter.reason (g.K.Clock.readings c.args.clock.now) c.args.bank.now
+    c.args.connections

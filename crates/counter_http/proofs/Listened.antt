@@ -1,0 +1,34 @@
+-- A listener of which no client was taken in.
+use Rattle.std.proofs.Common.{◌≡◌, ℕ, List, [], Option, None, Result, Err, refl, arith}
+use Rattle.posting_rules.specs.{declared.fault.Fault.Fault, believed.Counter.Seen}
+use Rattle.posting_rules.proofs.CounterCalls.{takes_none}
+use Rattle.posting_core.proofs.Stops.{stop_all}
+use Rattle.counter_http.specs.Listening.{ServesListener}
+use Rattle.counter_http.specs.declared.listen_fault.ListenFault.TheVariants.{Network}
+
+pub none_served : {C : Type 0} (seen : C → Seen) (reason : Fault → C → C → Type 0) (k : Option (List ℕ)) (c : C)
+    (n : ℕ) → ServesListener seen reason k k c c n (Err Network)
+none_served seen reason k c n = record {
+  rounds = [];
+  are_rounds = tt;
+  refused = [];
+  clock = refl;
+  stood = c;
+  honest_first = λ h. h;
+  honest = λ h. h;
+  up = λ d. d;
+  takes = takes_none (seen c);
+  ends = (refl, refl);
+  survives = λ h log at. stop_all (seen c) log [] [] refl at;
+  idle = λ d. refl;
+  why = tt;
+  calls = [];
+  told = tt;
+  visits = [];
+  closed = refl;
+  once = λ i j d before short. absurd (omega (arith, before, short));
+  each = λ i d short. absurd (omega (arith, short));
+  all = refl;
+  whose = tt;
+  many = omega arith;
+}
