@@ -114,7 +114,7 @@ abbrev pub fault_of_drive : DriveFault → CommandFault
 fault_of_drive drive.NoBranches = fault.NoBranches
 fault_of_drive (drive.Bank cause) = fault_of_bank cause
 
--- why no more connections were taken
+-- why no more clients were served
 abbrev pub fault_of_serving : ListenFault → CommandFault
 fault_of_serving listen.Network = fault.Network
 fault_of_serving (listen.Bank cause) = fault_of_bank cause

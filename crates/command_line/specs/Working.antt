@@ -16,7 +16,7 @@ use Rattle.load_driver.specs.believed.Drives.{Drives}
 use Rattle.load_driver.specs.Drives.{IfRefused}
 use Rattle.load_driver.specs.declared.drive.Driven.{Driven}
 use Rattle.load_driver.specs.declared.drive_fault.DriveFault.{DriveFault}
-use Rattle.counter_http.specs.Connections.{ServesConnections}
+use Rattle.counter_http.specs.Listening.{ServesListener}
 use Rattle.counter_http.specs.declared.listen_fault.ListenFault.{ListenFault}
 use Rattle.posting_core.specs.Stream.{IsOfCall}
 use Rattle.posting_core.specs.believed.Told.{ReadTold}
@@ -148,7 +148,7 @@ DrivesOver seen reason k k' w w' seed count Ends old new =
     × Drives seen old new k k' seed count told
     × IfErr told (λ fault. IfRefused fault (IsOfCall seen reason old new))
 
--- The counter listened at an address, said so, and served so many connections by a bank, or as many as it and the
+-- The counter listened at an address, said so, and served so many clients by a bank, or as many as it and the
 -- network let; or the line couldn't be written, and nothing was served.
 abbrev pub ServesAt : {C : Type 0} → (C → Seen) → (reason : Fault → C → C → Type 0) → SocketAddr
     → (k k' w w' : Option (List ℕ)) → (count : ℕ) → (Ends : Result Status CommandFault → Type 0) → (old new : C)
@@ -156,7 +156,7 @@ abbrev pub ServesAt : {C : Type 0} → (C → Seen) → (reason : Fault → C �
 ServesAt seen reason address k k' w w' count Ends old new =
     (Ends (Err Write) × AppendsPart w w' (listening_line address) × (k' ≡ k) × (new ≡ old))
     ⊎ (Appends w w' (listening_line address) × (told : Result (Unit {0}) ListenFault) × TellsServing Ends told
-    × ServesConnections seen reason k k' old new count told)
+    × ServesListener seen reason k k' old new count told)
 
 -- So it did at the address that it was told; or it doesn't listen there, and nothing was done. No clause says of a
 -- listener where it is bound, so that any address may stand here: `bind` of `src/serving` is to be read.

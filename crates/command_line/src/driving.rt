@@ -1,5 +1,5 @@
 //! What the commands of the program do with a bank, whatever keeps it, and what they print of it: a plan is
-//! loaded, records are driven, connections are served, and an audit is printed. The bank is any counter, and
+//! loaded, records are driven, clients are served, and an audit is printed. The bank is any counter, and
 //! the output any writer, so that nothing here knows SQLite.
 //!
 //! The function `first_drive` of `bank_trials`, which its script runs, drives 100 records of the seed 7 over
@@ -20,7 +20,7 @@
 //! }
 //! ```
 //!
-//! [`load_into`] opens the branches of a plan, [`listen`] serves connections, and [`print_audit`] says
+//! [`load_into`] opens the branches of a plan, [`listen`] serves clients, and [`print_audit`] says
 //! whether the books agree (TPC-B clause 2). A fault is a `CommandFault`. Read next:
 //! `specs/Working`, what the work does to its bank and what it prints. The crate `bank_commands` is a
 //! caller.

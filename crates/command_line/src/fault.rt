@@ -240,7 +240,7 @@ impl From<DriveFault> for CommandFault {
     }
 }
 
-/// Why `serve` took no more connections.
+/// Why `serve` took no more clients.
 impl From<ListenFault> for CommandFault {
     ghost from_gives = { λ serving fault. fault ≡ fault_of_serving serving };
 

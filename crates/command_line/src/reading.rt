@@ -63,7 +63,7 @@ pub enum Command<'a> {
     Plan {
         file: &'a str,
     },
-    /// Serve the file's bank over HTTP at this address, to so many connections, one after another.
+    /// Serve the file's bank over HTTP at this address, to so many connections, many at once.
     Serve {
         file: &'a str,
         address: &'a str,

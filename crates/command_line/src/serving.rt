@@ -10,7 +10,7 @@ use posting_core::{Clock, Counter, Sink};
 use std::net::TcpListener;
 use std::{io, time};
 
-/// What gives connections, and the time and the memory that they take. It opens no file.
+/// What gives clients, and the time and the memory that they take. It opens no file.
 pub trait Network: time::Clock + AllocGlobal {
     /// A listener at the address.
     ///
@@ -26,7 +26,7 @@ impl Network for HostRuntime {
     }
 }
 
-/// Binds the address, prints where it listens, and serves so many connections by a bank.
+/// Binds the address, prints where it listens, and serves so many clients by a bank.
 pub fn listen<N: Network, C: Counter, W: Sink, K: Clock>(
     network: &N,
     address: &str,
@@ -66,7 +66,7 @@ fn bind<N: Network>(
     }
 }
 
-// Prints where a bound listener listens, and serves so many of its connections by a bank.
+// Prints where a bound listener listens, and serves so many of its clients by a bank.
 fn serve_at<N: Network, C: Counter, W: Sink, K: Clock>(
     network: &N,
     listener: &TcpListener,
