@@ -7,8 +7,6 @@ mod bank;
 #[cfg(test)]
 mod connection;
 #[cfg(test)]
-mod doors;
-#[cfg(test)]
 mod failing;
 #[cfg(test)]
 mod failing_twice;

@@ -15,12 +15,13 @@ pub fn first_connections<R: Read, W: Write>(
     bank.open_branch(Branch::new(2).unwrap(), 2, None)?;
     let mut clock = StoredClock::new(Vec::new(rt.alloc()));
     let listener = TcpListener::bind(rt, "127.0.0.1:0")?; // any port that is free
-    let idle = TcpStream::connect(rt, listener.local_addr()?)?;
+    let silent = TcpStream::connect(rt, listener.local_addr()?)?;
+    silent.shutdown(Shutdown::Write)?;
     let client = TcpStream::connect(rt, listener.local_addr()?)?;
     io::copy(input, &mut &client)?;
     client.shutdown(Shutdown::Write)?;
     serve_connections(rt, &listener, 2, &mut clock, &mut bank)?;
-    io::copy(&mut &idle, output)?; // nothing
+    io::copy(&mut &silent, output)?; // nothing
     io::copy(&mut &client, output)?;
     Ok(())
 }
