@@ -14,7 +14,7 @@ use Rattle.store_rows.specs.declared.fault.TableFault.{TableFault, TheVariants.S
 use Rattle.bank_transactions.specs.{believed.Additions.AnyRow, Doing.Transacts, Doing.TransactsBy}
 use Rattle.bank_transactions.specs.{believed.Causes.Damage, believed.Causes.IsBrokenOrMet, Causes.IsFirstBroken}
 use Rattle.bank_transactions.proofs.Blamed.{between_also}
-use Rattle.bank_store.specs.believed.Down.{IsBankCall, KeepsCause, OfDamage, WasBrokenOrMet, bank_reason}
+use Rattle.bank_store.specs.believed.Down.{BreaksRule, IsBankCall, KeepsCause, OfDamage, WasBrokenOrMet, bank_reason}
 use Rattle.bank_store.specs.{Down.GoesDown, Seen.fault_of, declared.bank.Bank.Bank}
 use Rattle.bank_store.specs.believed.Seen.{bank_seen, cause_of, connection_of, database_of}
 use Rattle.bank_store.proofs.Broke.{consulted, transacted}
@@ -99,6 +99,17 @@ of_wider Memory P Q wide is = tt
 of_wider Store P Q wide is = tt
 of_wider Down P Q wide is = tt
 of_wider (Broken rule) P Q wide is = wide rule is
+
+-- both are so of it
+pub breaks : {S : Type 0} (g : Ghosts S) (Adds : Additions) (So : Tables → Type 0) (old new : Bank S g) (told : Fault)
+    → OfDamage told (WasBrokenOrMet g Adds old new)
+    → OfDamage told (λ rule. HasCleanDisk (state g (connection_of new)) → (t : Tables) → (bank_seen g old).tables t
+    → So t → ⊥)
+    → OfDamage told (BreaksRule g Adds So old new)
+breaks g Adds So old new Memory met unfit = tt
+breaks g Adds So old new Store met unfit = tt
+breaks g Adds So old new Down met unfit = tt
+breaks g Adds So old new (Broken rule) met unfit = record { met = met; unfit = unfit }
 
 module _ {S X : Type 0} {So : Tables → Type 0} {after : Tables → Tables} {wanted : Tables → X} (g : Ghosts S)
     (old new : Bank S g) (mid : Held S)

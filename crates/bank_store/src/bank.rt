@@ -232,7 +232,7 @@ impl<S: Alter + Drop> Counter for Bank<S> {
     ghost use Rattle.bank_transactions.specs.believed.Stored.{IsStoredBalance, OpensByStored};
     ghost use Rattle.bank_transactions.specs.Stored.{IsStoredNext};
     ghost use Rattle.bank_transactions.specs.believed.Stored.{RepliesToAllStored, RepliesToStored};
-    ghost use Rattle.bank_store.specs.believed.Down.{AnswersBy, IsBankCall, OfDamage, WasBrokenOrMet};
+    ghost use Rattle.bank_store.specs.believed.Down.{AnswersBy, BreaksRule, IsBankCall, OfDamage, WasBrokenOrMet};
     ghost use Rattle.bank_store.specs.Down.{WasBroken};
     ghost use Rattle.bank_store.specs.believed.Down.{bank_reason};
     ghost use Rattle.bank_store.specs.believed.NoneOrAll.{LeavesBatch, LeavesNoneOrAll, LeavesRecords};
@@ -268,9 +268,10 @@ impl<S: Alter + Drop> Counter for Bank<S> {
             (λ log out. out ≡ reply_spelling (reply log bytes.now)) }
         ensures call { IsBankCall S.Store self.old self.new (Post moment bytes.now ∷ []) result }
         ensures frugal { result ≢ Err fault.Memory }
-        // Whatever rows the file holds.
+        // Whatever rows the file holds. A request that is kept changes nothing, whatever tables it has.
         ensures stored { IfOk result (λ out. (bank_seen S.Store self.new).honest → (r : RequestFields)
-            → request_of bytes.now ≡ Ok r → RepliesToStored (database_of S.Store self.old) r out) }
+            → request_of bytes.now ≡ Ok r
+            → RepliesToStored (database_of S.Store self.old) (database_of S.Store self.new) r out) }
         // Be the tables of a log or not.
         ensures leaves { IfOk result (λ out. (bank_seen S.Store self.new).honest → (r : RequestFields)
             → request_of bytes.now ≡ Ok r → (t : Tables) → (bank_seen S.Store self.old).tables t → AreReadyFor 1 t
@@ -279,9 +280,11 @@ impl<S: Alter + Drop> Counter for Bank<S> {
         ensures malformed { ((bank_seen S.Store self.old).is_down → ⊥) → (bad : Bad)
             → request_of bytes.now ≡ Err bad
             → (result ≡ Ok (reply_spelling malformed_reply)) × (self.new ≡ self.old) }
-        // A key that is taken is the next ordinal's, unless the file has no bank's tables.
+        // A key that is taken is the next ordinal's, unless the file has no bank's tables. On tables that are ready no
+        // damage is told.
         ensures own { IfErr result (λ fault. OfDamage fault
-            (WasBrokenOrMet S.Store (AddsForRecords (database_of S.Store self.old) 1) self.old self.new)) }
+            (BreaksRule S.Store (AddsForRecords (database_of S.Store self.old) 1) (AreReadyFor 1)
+            self.old self.new)) }
         ensures spares { SparesOtherTables S.Store self.old self.new }
     {
         range_law(moment);
@@ -317,14 +320,15 @@ impl<S: Alter + Drop> Counter for Bank<S> {
         ensures leaves { IfOk result (λ replies. (bank_seen S.Store self.new).honest → (t : Tables)
             → (bank_seen S.Store self.old).tables t → AreReadyFor (length records.now) t
             → LeavesBatch S.Store self.old self.new t moment records.now replies.items) }
-        // Whatever rows the file holds.
+        // Whatever rows the file holds. Records that are all kept change nothing, whatever tables it has.
         ensures stored { IfOk result (λ replies. (bank_seen S.Store self.new).honest
-            → RepliesToAllStored (database_of S.Store self.old) moment records.now replies.items) }
+            → RepliesToAllStored (database_of S.Store self.old) (database_of S.Store self.new) moment records.now
+            replies.items) }
         // A key that is taken is one of the next ordinals', at most one a record, unless the file has no bank's
-        // tables.
+        // tables. On tables that are ready no damage is told.
         ensures own { IfErr result (λ fault. OfDamage fault
-            (WasBrokenOrMet S.Store (AddsForRecords (database_of S.Store self.old) (length records.now))
-            self.old self.new)) }
+            (BreaksRule S.Store (AddsForRecords (database_of S.Store self.old) (length records.now))
+            (AreReadyFor (length records.now)) self.old self.new)) }
         ensures spares { SparesOtherTables S.Store self.old self.new }
     {
         range_law(moment);
@@ -355,7 +359,7 @@ impl<S: Alter + Drop> Counter for Bank<S> {
             → OpensByStored (database_of S.Store self.old) (database_of S.Store self.new) branch
             (opened_with count floor) opening) }
         // A key that is taken is the branch's own, one of its tellers', of its accounts' or its floor's, unless the
-        // file has no bank's tables.
+        // file has no bank's tables. It changes no row that is there, so that none can be missing.
         ensures own { IfErr result (λ fault. OfDamage fault
             (WasBrokenOrMet S.Store (AddsBranch branch (opened_with count floor)) self.old self.new)) }
         ensures spares { SparesOtherTables S.Store self.old self.new }

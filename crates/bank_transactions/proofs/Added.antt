@@ -32,9 +32,10 @@ module _ (db : Database) (o judged : Overlay) (count : ℕ) (held : OfRows (λ r
       (own (λ r. r.ordinal) judged.history next.history) text values it)
   adds_own text values (inr (inl it)) = inr (inl (adds_so _ _ (Has judged.requests)
       (λ r. FollowsCount db count r.ordinal) (own (λ r. r.ordinal) judged.requests next.requests) text values it))
-  adds_own text values (inr (inr it)) = inr (inr (adds_so _ _ (Has judged.references)
+  adds_own text values (inr (inr (inl it))) = inr (inr (inl (adds_so _ _ (Has judged.references)
       (λ r. FollowsCount db count r.ordinal) (own (λ r. r.ordinal) judged.references next.references) text
-      values it))
+      values it)))
+  adds_own text values (inr (inr (inr it))) = inr (inr (inr it))
 
 none_filled : (o p : Overlay) → emptied o ≡ emptied p → HasNoRow p → HasNoRow o
 none_filled o p same none = record {

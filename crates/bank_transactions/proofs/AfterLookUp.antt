@@ -1,5 +1,5 @@
 -- A look-up whose answer is let go, and then a part that acts: it is as if there had been that part alone.
-use Rattle.std.proofs.Common.{◌∙◌, ℕ, List, length, Result, Ok, sym, subst}
+use Rattle.std.proofs.Common.{◌∙◌, ℕ, List, length, None, Result, Ok, sym, subst}
 use Rattle.std.specs.Prelude.{IfSome, IsTrue}
 use Rattle.std.proofs.lemmas.Option.{IfSome_then}
 use Rattle.sqlite.specs.{Effect.Database, Held.state, declared.transaction.Transaction.Transaction}
@@ -10,7 +10,7 @@ use Rattle.posting_rules.specs.believed.Tables.{Tables}
 use Rattle.posting_batch.specs.believed.Batch.{AreReadyFor}
 use Rattle.sql_meanings.specs.Calls.{Inside, Says}
 use Rattle.sql_meanings.proofs.Saying.{clean_between, says_then}
-use Rattle.store_rows.specs.{believed.View.Shows, declared.fault.TableFault.TableFault}
+use Rattle.store_rows.specs.{Definitions.IsOtherTable, believed.View.Shows, declared.fault.TableFault.TableFault}
 use Rattle.bank_transactions.specs.{believed.Additions.AddsForRecords, believed.Batches.DecidesNone}
 use Rattle.bank_transactions.specs.{Doing.Acts, Doing.ReadsWhere, Tries.answer_of, Tries.replies_of}
 use Rattle.bank_transactions.specs.{believed.Stored.RepliesToAllStored, declared.first_try.Tried.Tried}
@@ -68,12 +68,14 @@ module _ {S X : Type 0} {g : Ghosts S} {old mid new : Transaction S} {So : Table
 
     abbrev AreStored : Transaction S → List (List ℕ) → Type 0
     AreStored begun replies = HasCleanDisk (state g new.conn.now) → IsTrue (state g begun.conn.now).in_transaction
+        → IsOtherTable (state g begun.conn.now).now.schema None
         → (records : List (List ℕ)) → Made records
-        → RepliesToAllStored (state g begun.conn.now).now moment records replies
+        → RepliesToAllStored (state g begun.conn.now).now (state g new.conn.now).now moment records replies
 
     pub stored_since : IfSome (replies_of tried) (AreStored mid) → IfSome (replies_of tried) (AreStored old)
     stored_since are = IfSome_then (replies_of tried) {P = AreStored mid} {Q = AreStored old} are
-        (λ replies stored clean live records made.
+        (λ replies stored clean live as_made records made.
         let stays = (look.says.leaves (clean_between g old mid new look.says quiet clean)).0 in
-        subst (λ (db : Database). RepliesToAllStored db moment records replies) stays.now
-        (stored clean (still_in (state g old.conn.now) (state g mid.conn.now) stays.goes_on live) records made))
+        subst (λ (db : Database). RepliesToAllStored db (state g new.conn.now).now moment records replies) stays.now
+        (stored clean (still_in (state g old.conn.now) (state g mid.conn.now) stays.goes_on live)
+        (subst (λ (db : Database). IsOtherTable db.schema None) (sym stays.now) as_made) records made))

@@ -118,15 +118,15 @@ blames_put Adds g old new text values (Err (Damaged rule)) own leaves =
 met_also : {Adds Adds' : Additions} (old new : State) (rule : Rule)
     → ((text : List ℕ) (values : Row) → Adds text values → Adds' text values)
     → HasMet Adds old new rule → HasMet Adds' old new rule
-met_also old new Meta also met = met
-met_also old new Teller also met = met
-met_also old new Account also met = met
-met_also old new Balance also met = met
-met_also old new Request also met = met
-met_also old new Value also met = met
+met_also old new Meta also met = (met.0, met.1, also met.0 met.1 met.2, met.3, met.4)
+met_also old new Teller also met = (met.0, met.1, also met.0 met.1 met.2, met.3, met.4)
+met_also old new Account also met = (met.0, met.1, also met.0 met.1 met.2, met.3, met.4)
+met_also old new Balance also met = absurd met.3
+met_also old new Request also met = absurd met.3
+met_also old new Value also met = absurd met.3
 met_also old new Key also met = (met.0, met.1, also met.0 met.1 met.2, met.3)
-met_also old new Floor also met = met
-met_also old new Reference also met = met
+met_also old new Floor also met = absurd met.3
+met_also old new Reference also met = absurd met.3
 
 pub between_also : {S : Type 0} {Adds Adds' : Additions} (g : Ghosts S) (old new : Held S) (rule : Rule)
     → ((text : List ℕ) (values : Row) → Adds text values → Adds' text values)

@@ -1,13 +1,18 @@
 -- Records whose slots have what the rows hold are answered in tables that have what the rows hold, whatever rows
 -- a file holds: those of a batch, and a single one.
 use Rattle.std.proofs.Common.{◌≡◌, ℕ, ℤ, Bool, eqb, List, [], ◌∷◌, map, Option, Some, None, Result, Ok, Err, refl}
-use Rattle.std.proofs.Common.{pos, true, sym, ap, subst, ◌∙◌, inl, inr, arith}
+use Rattle.std.proofs.Common.{cond, false, true, sym, ap, subst, ◌∙◌, inl, inr, arith}
 use Rattle.std.specs.Prelude.{length, IfOk, IfSome, IsSome, IsTrue, option_and_then, option_map}
 use Rattle.std.specs.List.{AllByRecursion, find}
 use Rattle.std.proofs.lemmas.{Bool.and_parts, Bool.eqb-true, Result.IfOk-weaker}
 use Rattle.message_records.specs.{believed.Reading.request_of, believed.Records.RequestFields, declared.fault.Bad.Bad}
 use Rattle.posting_rules.specs.believed.LookUps.{account_balance_in, balance_of_teller}
 use Rattle.posting_rules.specs.believed.LookUps.{floor_in, found_in, kept_in}
+use Rattle.message_records.specs.declared.records.Outcome.TheVariants.{ReusedNumber}
+use Rattle.posting_rules.specs.believed.Cases.{case_of, is_same, kept_reply, known_case, teller_case}
+use Rattle.posting_rules.specs.believed.Kept.{KeptFields}
+use Rattle.posting_rules.specs.declared.judgments.Verdict.TheVariants.{Again, Unkept}
+use Rattle.posting_batch.specs.Judging.{overlay_after, overlay_with}
 use Rattle.posting_rules.specs.believed.Numbering.{branch_of_account, branch_of_teller}
 use Rattle.posting_rules.specs.believed.Tables.{Tables, branch_key, row_at, teller_key}
 use Rattle.posting_rules.specs.declared.{judgments.Found.Found, rows.BranchRow.BranchRow}
@@ -31,13 +36,14 @@ use Rattle.sqlite_trees.proofs.ListLemmas.{all_weaker, map-map}
 use Rattle.store_rows.specs.believed.Rules.{HoldsBank, OfRows, StoredRows, branch_under, row_under}
 use Rattle.store_rows.specs.believed.{Readings.read_balance, Stored.FindsStored}
 use Rattle.store_rows.specs.declared.fault.TableFault.{TableFault}
-use Rattle.store_rows.proofs.Readings.{branch_is}
-use Rattle.bank_transactions.specs.{Doing.Ends, Stored.HoldsTellerRow}
-use Rattle.bank_transactions.specs.Filling.{AreHeld, BranchHeld, HoldsBranch, RequestHeld, emptied, emptied_account}
-use Rattle.bank_transactions.specs.Filling.{emptied_branch, emptied_floor, emptied_request, emptied_teller}
-use Rattle.bank_transactions.specs.believed.Stored.{HasRead, HasStored, HoldsAccount, HoldsFloor, HoldsKept}
-use Rattle.bank_transactions.specs.believed.Stored.{HoldsTeller, IsStoredFound, RepliesInTurn}
-use Rattle.bank_transactions.proofs.{HeldRows.both_held, HeldSlots.at_key, SoundRows.within_or_none, Transacted.of_given}
+use Rattle.bank_transactions.specs.{Doing.Ends, Stored.HoldsTellerRow, believed.Batches.DecidesNone}
+use Rattle.bank_transactions.specs.Filling.{AreHeld, AreShown, HasOwnRow, HoldsBranch, RequestHeld, RequestShown}
+use Rattle.bank_transactions.specs.Filling.{emptied, emptied_account, emptied_branch, emptied_floor, emptied_request}
+use Rattle.bank_transactions.specs.Filling.{emptied_teller}
+use Rattle.bank_transactions.specs.believed.Stored.{HasOther, HasRead, HasShown, HasStored, HoldsAccount, HoldsFloor}
+use Rattle.bank_transactions.specs.believed.Stored.{HoldsKept, HoldsTeller, IsStoredFound, RepliesToAllStored}
+use Rattle.bank_transactions.specs.believed.Stored.{ShowsKept}
+use Rattle.bank_transactions.proofs.{HeldRows.both_held, HeldSlots.at_key}
 
 -- ---- an overlay that is filled again
 
@@ -94,19 +100,33 @@ told : {S X : Type 0} (content : S → X) (P : X → Type 0) (x : X) (o : Option
 told content P x None there held is = absurd cc
 told content P x (Some s) there held is = subst P is held
 
-module _ (rows : StoredRows) where
-  kept_at : (slots : List RequestSlot) → AllByRecursion (RequestHeld rows) slots → (n m : ℕ)
-      → IfSome (find (is_for n m) slots) (λ s. HoldsKept rows n m s.kept)
-  kept_at [] all n m = tt
-  kept_at (s ∷ slots) all n m =
-      elim (by_test (is_for n m s)) [
-        | inl t ↦
-            let both = and_parts (eqb s.teller n) (eqb s.number m) t in
-            rw t (subst (λ (j : ℕ). HoldsKept rows j m s.kept) (eqb-true s.teller n both.0)
-            (subst (λ (j : ℕ). HoldsKept rows s.teller j s.kept) (eqb-true s.number m both.1) all.0))
-        | inr f ↦ rw f (kept_at slots all.1 n m)
-      ]
+-- what is so of what is kept in the slot of a request
+kept_at : (P : ℕ → ℕ → Option KeptFields → Type 0) (slots : List RequestSlot)
+    → AllByRecursion (λ s. P s.teller s.number s.kept) slots → (n m : ℕ)
+    → IfSome (find (is_for n m) slots) (λ s. P n m s.kept)
+kept_at P [] all n m = tt
+kept_at P (s ∷ slots) all n m =
+    elim (by_test (is_for n m s)) [
+      | inl t ↦
+          let both = and_parts (eqb s.teller n) (eqb s.number m) t in
+          rw t (subst (λ (j : ℕ). P j m s.kept) (eqb-true s.teller n both.0)
+          (subst (λ (j : ℕ). P s.teller j s.kept) (eqb-true s.number m both.1) all.0))
+      | inr f ↦ rw f (kept_at P slots all.1 n m)
+    ]
 
+-- what the tables tell to be kept of a request is so
+told_kept : (P : ℕ → ℕ → Option KeptFields → Type 0) (o : Overlay) (t : Tables)
+    (reads : List (Result RequestFields Bad)) → Stands o t reads
+    → AllByRecursion (λ s. P s.teller s.number s.kept) o.kept → (r : RequestFields) → CoversRead o (Ok r)
+    → P r.teller r.number (kept_in t.requests t.references r.teller r.number)
+told_kept P o t reads stand all r covers =
+    told (λ s. s.kept) (λ k. P r.teller r.number k) (kept_in t.requests t.references r.teller r.number)
+    _ covers.kept (kept_at P o.kept all r.teller r.number)
+    (subst (λ (u : Tables). IfSome (find (is_for r.teller r.number) o.kept)
+    (λ s. s.kept ≡ kept_in u.requests u.references r.teller r.number)) stand.same
+    (stand.fits.kept r.teller r.number))
+
+module _ (rows : StoredRows) where
   module _ (o : Overlay) (t : Tables) (reads : List (Result RequestFields Bad)) (stand : Stands o t reads)
       (held : AreHeld rows o) where
     has_request : (r : RequestFields) → CoversRead o (Ok r) → HasStored rows t r
@@ -134,13 +154,7 @@ module _ (rows : StoredRows) where
               told (λ s. s.floor) (λ z. HoldsFloor rows a z) (floor_in t a) _ covers.its_floor
               (at_key floor_slot_key (λ k s. HoldsFloor rows k s.floor) o.floors held.floors a)
               (stand.fits.floors a);
-          kept =
-              told (λ s. s.kept) (λ k. HoldsKept rows r.teller r.number k)
-              (kept_in t.requests t.references r.teller r.number)
-              _ covers.kept (kept_at o.kept held.kept r.teller r.number)
-              (subst (λ (u : Tables). IfSome (find (is_for r.teller r.number) o.kept)
-              (λ s. s.kept ≡ kept_in u.requests u.references r.teller r.number)) stand.same
-              (stand.fits.kept r.teller r.number));
+          kept = told_kept (HoldsKept rows) o t reads stand held.kept r covers;
         }
 
     has_read : (read : Result RequestFields Bad) → CoversRead o read → HasRead rows t read
@@ -153,27 +167,24 @@ module _ (rows : StoredRows) where
     has_records (bytes ∷ records) covers =
         (has_read (request_of bytes) covers.0, has_records records covers.1)
 
-  -- ---- the branch of each slot
+-- ---- whatever tables a file has
 
-  own_number : (n m : ℕ) → ◌≡◌ {A = ℤ} (pos n) (pos m) → n ≡ m
-  own_number n m same = cc
+module _ (db : Database) (o : Overlay) (t : Tables) (reads : List (Result RequestFields Bad))
+    (stand : Stands o t reads) (shown : AllByRecursion (RequestShown db) o.kept) where
+  shown_read : (read : Result RequestFields Bad) → CoversRead o read → HasShown db t read
+  shown_read (Err fault) covers = tt
+  shown_read (Ok r) covers = told_kept (ShowsKept db) o t reads stand shown r covers
 
-  own_key : (n : ℕ) (b : BranchRow) (r : Entry) → branch_under rows n ≡ Some r → r.key ≡ pos b.branch
-      → b.branch ≡ n
-  own_key n b r found key = elim (within_or_none n) [
-    | inl is ↦ own_number b.branch n (sym key ∙ found_key (pos n) rows.branches r
-        (sym (ap (option_and_then (row_under rows.branches)) is) ∙ found))
-    | inr none ↦ absurd (let no = sym (ap (option_and_then (row_under rows.branches)) none) ∙ found in cc)
-  ]
-
-  own_row : (n : ℕ) (o : Option BranchRow) → HoldsBranch rows n o → IfSome o (λ b. b.branch ≡ n)
-  own_row n None holds = tt
-  own_row n (Some b) holds = own_key n b holds.0 holds.1 (branch_is holds.0 b holds.2).0
+  shown_records : (records : List (List ℕ)) → CoversAll o (map request_of records)
+      → AllByRecursion (λ bytes. HasShown db t (request_of bytes)) records
+  shown_records [] covers = tt
+  shown_records (bytes ∷ records) covers =
+      (shown_read (request_of bytes) covers.0, shown_records records covers.1)
 
 -- ---- slots that are made for records, and filled
 
-module _ (free : ℕ) (rows : StoredRows) (reads : List (Result RequestFields Bad)) (slots : Overlay)
-    (same : emptied slots ≡ emptied (covering_all no_slots reads)) (held : AreHeld rows slots) where
+module _ (free : ℕ) (reads : List (Result RequestFields Bad)) (slots : Overlay)
+    (same : emptied slots ≡ emptied (covering_all no_slots reads)) (own : AllByRecursion HasOwnRow slots.branches) where
   -- tables that have what the slots tell, with so many ordinals free
   abbrev its_tables : Tables
   its_tables = tables_told free slots
@@ -183,71 +194,104 @@ module _ (free : ℕ) (rows : StoredRows) (reads : List (Result RequestFields Ba
       (rising_emptied (covering_all no_slots reads) (made_all reads).rising))
 
   filled_so : slots ≡ filled its_tables (covering_all no_slots reads)
-  filled_so = sym (told_filled free slots rises
-      (all_weaker (BranchHeld rows) IsOwn (λ s it. own_row rows s.branch s.stored it) slots.branches held.branches))
-      ∙ filled_over its_tables slots (covering_all no_slots reads) same
+  filled_so = sym (told_filled free slots rises own) ∙ filled_over its_tables slots (covering_all no_slots reads) same
 
   they_stand : Stands slots its_tables reads
   they_stand = subst (λ (o : Overlay). Stands o its_tables reads) (sym filled_so) (stands its_tables reads)
 
--- a batch that is judged answers in turn
-pub in_turn : (rows : StoredRows) (b b' : Batch) (records : List (List ℕ)) (m : ℕ) (o : Overlay)
+-- a batch that is judged answers in turn, and where nothing is decided it leaves all as it was
+pub in_turn : (old new : Database) (b b' : Batch) (records : List (List ℕ)) (m : ℕ) (o : Overlay)
     (items : List (List ℕ)) → IsMadeOf b records → reads_of b' ≡ reads_of b
-    → emptied (view b'.overlay) ≡ emptied (view b.overlay) → AreHeld rows (view b'.overlay)
+    → emptied (view b'.overlay) ≡ emptied (view b.overlay)
+    → AllByRecursion HasOwnRow (view b'.overlay).branches
+    → OfRows (λ rows. AreHeld rows (view b'.overlay)) old
+    → (HasOther old → AllByRecursion (RequestShown old) (view b'.overlay).kept)
     → ((t : Tables) (rs : List (List ℕ)) → IsFilledFrom b' t rs → HasFreeOrdinals t (length rs)
     → IsJudged o items t m rs)
-    → RepliesInTurn rows m records items
-in_turn rows b b' records m o items made reads same held judged =
+    → (o.decided ≡ (view b'.overlay).decided → new ≡ old)
+    → RepliesToAllStored old new m records items
+in_turn old new b b' records m o items made reads same own held shown judged idle =
     let its : List (Result RequestFields Bad) = map request_of records in
     let slots = view b'.overlay in
     let so = same ∙ ap emptied made.overlay in
     let free = length records in
-    let t : Tables = its_tables free rows its slots so held in
-    let stand = they_stand free rows its slots so held in
+    let t : Tables = its_tables free its slots so own in
+    let stand = they_stand free its slots so own in
+    let is = judged t records (record {
+      reads = reads ∙ made.reads;
+      overlay = filled_so free its slots so own;
+    }) (told_free free slots) in
     record {
       tables = t;
-      stored = has_records rows slots t its stand held records stand.covers;
-      decided = held.decided;
-      are = (judged t records (record {
-        reads = reads ∙ made.reads;
-        overlay = filled_so free rows its slots so held;
-      }) (told_free free slots)).answers;
+      stored = λ rows has.
+          (has_records rows slots t its stand (held rows has) records stand.covers, (held rows has).decided);
+      shown = λ other. shown_records old slots t its stand (shown other) records stand.covers;
+      are = is.answers;
+      stays = λ none. idle (ap (λ (u : Tables). u.decided) is.tables ∙ none);
     }
 
--- what is found for a single request is what the rows hold
+-- what is found for a single request is what the rows hold, and what is kept of it is what is shown
 module _ (db : Database) (r : RequestFields) (slots : Overlay)
     (same : emptied slots ≡ emptied (covering no_slots (Ok r)))
-    (held : OfRows (λ rows. AreHeld rows slots) db) where
-  found_so : (rows : StoredRows) → HoldsBank db rows → found_over slots r ≡ found_in (tables_told 0 slots) r
-  found_so rows has =
-      let stand = they_stand 0 rows (Ok r ∷ []) slots same (held rows has) in
-      found_is slots (tables_told 0 slots) r stand.fits stand.covers.0
-      ∙ ap (λ (t : Tables). found_in t r) stand.same
+    (held : OfRows (λ rows. AreHeld rows slots) db) (shown : AreShown db slots) where
+  stand_so : Stands slots (tables_told 0 slots) (Ok r ∷ [])
+  stand_so = they_stand 0 (Ok r ∷ []) slots same shown.branches
+
+  found_so : found_over slots r ≡ found_in (tables_told 0 slots) r
+  found_so =
+      found_is slots (tables_told 0 slots) r stand_so.fits stand_so.covers.0
+      ∙ ap (λ (t : Tables). found_in t r) stand_so.same
 
   has_so : (rows : StoredRows) → HoldsBank db rows → HasStored rows (tables_told 0 slots) r
   has_so rows has =
-      let stand = they_stand 0 rows (Ok r ∷ []) slots same (held rows has) in
-      has_request rows slots (tables_told 0 slots) (Ok r ∷ []) stand (held rows has) r stand.covers.0
+      has_request rows slots (tables_told 0 slots) (Ok r ∷ []) stand_so (held rows has) r stand_so.covers.0
 
   pub found_stored : IsStoredFound db r (found_over slots r)
   found_stored = record {
     teller = record {
       found = λ rows has. subst (λ (f : Found). HoldsTeller rows r.teller f.teller)
-          (sym (found_so rows has)) (has_so rows has).teller;
+          (sym found_so) (has_so rows has).teller;
       fits = λ rows has. (has_so rows has).teller_fits;
     };
     account = record {
       found = λ rows has. subst (λ (f : Found). FindsStored (row_under rows.accounts r.account) read_balance
-          (Ok f.account)) (sym (found_so rows has)) (has_so rows has).account.found;
+          (Ok f.account)) (sym found_so) (has_so rows has).account.found;
       fits = λ rows has. (has_so rows has).account.fits;
     };
     above = λ rows has. (has_so rows has).account.above;
     floor = λ rows has. subst (λ (f : Found). HoldsFloor rows (branch_of_account r.account) f.floor)
-        (sym (found_so rows has)) (has_so rows has).floor;
+        (sym found_so) (has_so rows has).floor;
     kept = λ rows has. subst (λ (f : Found). HoldsKept rows r.teller r.number f.kept)
-        (sym (found_so rows has)) (has_so rows has).kept;
+        (sym found_so) (has_so rows has).kept;
     decided = λ rows has. (held rows has).decided;
+    shown = subst (λ (f : Found). ShowsKept db r.teller r.number f.kept) (sym found_so)
+        (told_kept (ShowsKept db) slots (tables_told 0 slots) (Ok r ∷ []) stand_so shown.kept r stand_so.covers.0);
   }
+
+-- a request that is kept changes nothing
+module _ (p : Overlay) (m : ℕ) (r : RequestFields) where
+  again_same : (k : KeptFields) (is : Bool)
+      → overlay_after p m r (cond is (Again (kept_reply k r)) (Unkept ReusedNumber)) ≡ p
+  again_same k true = refl
+  again_same k false = refl
+
+  known_same : (kept : Option KeptFields) (f : Found) (teller branch : ℤ) → IsSome kept
+      → overlay_after p m r (known_case kept f r teller branch) ≡ p
+  known_same None f teller branch there = absurd cc
+  known_same (Some k) f teller branch there = again_same k (is_same k r)
+
+  teller_same : (teller : Option (ℤ × ℤ)) (f : Found) → IsSome f.kept
+      → overlay_after p m r (teller_case teller f r) ≡ p
+  teller_same None f there = refl
+  teller_same (Some balances) f there = known_same f.kept f balances.0 balances.1 there
+
+  case_same : (f : Found) → IsSome f.kept → overlay_after p m r (case_of f r) ≡ p
+  unfolding case_of
+  case_same f there = teller_same f.teller f there
+
+pub kept_same : (p o : Overlay) (m : ℕ) (r : RequestFields) → o ≡ overlay_with p m (Ok r)
+    → IsSome (found_over p r).kept → o ≡ p
+kept_same p o m r is there = is ∙ case_same p m r (found_over p r) there
 
 -- every branch that a batch asks for has its slot
 pub homes_made : (b : Batch) (records : List (List ℕ)) → IsMadeOf b records → HasHomes (view b.overlay)
@@ -255,19 +299,26 @@ homes_made b records made = subst HasHomes (sym made.overlay) (homes_all (map re
 
 -- ---- the whole transaction
 
--- what an answer says of the rows that were there as its transaction began is so of those before it
+-- what an answer says of the rows that were there as its transaction began, and of those at its end, is so of those
+-- before it and after it
 pub stored_after : {S X : Type 0} (g : Ghosts S) (Made : List (List ℕ) → Type 0)
-    (Q : Database → List (List ℕ) → X → Type 0) (old begun last end new : Held S)
+    (Q : Database → Database → List (List ℕ) → X → Type 0) (old begun last end new : Held S)
     (answer result : Result X TableFault) → begun ≡ record old { in_transaction = true }
     → Ends g last end answer result → ((records : List (List ℕ)) → Made records → end ≡ new)
     → IfOk answer (λ x. HasCleanDisk (state g last) → (records : List (List ℕ)) → Made records
-    → Q (state g begun).now records x)
+    → Q (state g begun).now (state g last).now records x)
     → IfOk result (λ x. HasCleanDisk (state g new) → (records : List (List ℕ)) → Made records
-    → Q (state g old).now records x)
-stored_after {S} g Made Q old begun last end new answer result is ends same stored =
-    IfOk-weaker result _ _ (λ y it clean records made.
+    → Q (state g old).now (state g new).now records x)
+stored_after g Made Q old begun last end new answer (Err fault) is ends same stored = tt
+stored_after g Made Q old begun last end new (Err fault) (Ok y) is ends same stored =
+    absurd (let no = ends.given in cc)
+stored_after {S} {X} g Made Q old begun last end new (Ok x) (Ok y) is ends same stored = λ clean records made.
     let ended : HasCleanDisk (state g end) = subst (λ (h : Held S). HasCleanDisk (state g h))
     (sym (same records made)) clean in
     let before : HasCleanDisk (state g last) = omega (arith, ends.survives.clean) in
-    subst (λ (db : Database). Q db records y) (ap (λ (h : Held S). (state g h).now) is) (it before records made))
-    (of_given _ answer result ends.given stored)
+    let given : x ≡ y = (let it = ends.given in cc) in
+    subst (λ (h : Held S). Q (state g old).now (state g h).now records y) (same records made)
+    (subst (λ (z : X). Q (state g old).now (state g end).now records z) given
+    (subst (λ (db : Database). Q (state g old).now db records x) (sym (ends.told ended).0)
+    (subst (λ (db : Database). Q db (state g last).now records x) (ap (λ (h : Held S). (state g h).now) is)
+    (stored before records made))))

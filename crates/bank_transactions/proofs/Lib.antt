@@ -15,6 +15,7 @@ pub mod Statements
 pub mod Transacted
 pub mod LookUps
 pub mod Loops
+pub mod OwnRows
 pub mod Partly
 pub mod Rows
 pub mod FilledBatch

@@ -12,6 +12,7 @@ use Rattle.store_rows.specs.believed.Failures.{Additions, HasMet, IsUpdateOf, Me
 use Rattle.store_rows.specs.TableAnswers.{PutsOneRow, SetsRow}
 use Rattle.store_rows.specs.declared.fault.TableFault.{TableFault, TheVariants.Sqlite, TheVariants.Damaged}
 use Rattle.bank_transactions.specs.{believed.Causes.HasMetBetween, Causes.Blames}
+use Rattle.bank_transactions.specs.believed.Additions.{ChangesRow as Writes}
 use Rattle.bank_transactions.specs.Doing.{CommitsNothing, Does, LeavesAndAnswers, expected}
 use Rattle.bank_transactions.proofs.Blamed.{blames_put, failed_here, met_here}
 
@@ -78,35 +79,36 @@ written_keeps old new text (Ok false) rule live leaves spared =
 written_keeps old new text (Err e) rule live leaves spared =
     write_keeps old new text [] (Err (Sqlite e)) live leaves tt
 
-has_met : (Adds : Additions) (old new : State) (rule : Rule) (text : List ℕ) → IsUpdateOf rule text → MeetsNone text old new
-    → HasMet Adds old new rule
-has_met Adds old new Meta text of none = (text, of, none)
-has_met Adds old new Teller text of none = (text, of, none)
-has_met Adds old new Account text of none = (text, of, none)
-has_met Adds old new Balance text of none = absurd of
-has_met Adds old new Request text of none = absurd of
-has_met Adds old new Value text of none = absurd of
-has_met Adds old new Key text of none = absurd of
-has_met Adds old new Floor text of none = absurd of
-has_met Adds old new Reference text of none = absurd of
+has_met : (old new : State) (rule : Rule) (text : List ℕ) (values : Row) → IsUpdateOf rule text
+    → MeetsNone text values old new → HasMet Writes old new rule
+has_met old new Meta text values of none = (text, values, (Meta, of), of, none)
+has_met old new Teller text values of none = (text, values, (Teller, of), of, none)
+has_met old new Account text values of none = (text, values, (Account, of), of, none)
+has_met old new Balance text values of none = absurd of
+has_met old new Request text values of none = absurd of
+has_met old new Value text values of none = absurd of
+has_met old new Key text values of none = absurd of
+has_met old new Floor text values of none = absurd of
+has_met old new Reference text values of none = absurd of
 
-blames_changed : {S : Type 0} (Adds : Additions) (g : Ghosts S) (old new : Held S) (text : List ℕ) (r : Result Bool Error)
+blames_changed : {S : Type 0} (g : Ghosts S) (old new : Held S) (text : List ℕ) (r : Result Bool Error)
     (rule : Rule) → IsUpdateOf rule text
-    → Changes text (state g old) (state g new) r → Blames (HasMetBetween g Adds) g old new (expected r rule)
-blames_changed Adds g old new text (Ok true) rule of leaves = tt
-blames_changed Adds g old new text (Ok false) rule of leaves =
-    met_here g old new rule (has_met Adds (state g old) (state g new) rule text of (leaves.1 refl))
-blames_changed Adds g old new text (Err e) rule of leaves = failed_here g old new e leaves.1
+    → Changes text (state g old) (state g new) r → Blames (HasMetBetween g Writes) g old new (expected r rule)
+blames_changed g old new text (Ok true) rule of leaves = tt
+blames_changed g old new text (Ok false) rule of leaves =
+    let none = leaves.1 refl in
+    met_here g old new rule (has_met (state g old) (state g new) rule text none.0 of none.1)
+blames_changed g old new text (Err e) rule of leaves = failed_here g old new e leaves.1
 
 -- a row that is there is written
-pub does_write : {S : Type 0} {So : Tables → Type 0} {Adds : Additions} (g : Ghosts S) (old new : Transaction S) (table : Table)
+pub does_write : {S : Type 0} {So : Tables → Type 0} (g : Ghosts S) (old new : Transaction S) (table : Table)
     (there : Tables → Bool) (after : Tables → Tables)
     (answer : Result Bool Error) (rule : Rule) (r : Result (Unit {0}) TableFault) (text : List ℕ)
     → IsUpdateOf rule text → r ≡ expected answer rule
     → SetsNumber g old new table text there after answer
-    → ((t : Tables) → So t → IsTrue (there t)) → Does g Adds old new So after (λ _. tt) r
-does_write {S} {So} {Adds} g old new table there after answer rule r text of is says so =
-    subst (λ (x : Result (Unit {0}) TableFault). Does g Adds old new So after (λ _. tt) x) (sym is) (record {
+    → ((t : Tables) → So t → IsTrue (there t)) → Does g Writes old new So after (λ _. tt) r
+does_write {S} {So} g old new table there after answer rule r text of is says so =
+    subst (λ (x : Result (Unit {0}) TableFault). Does g Writes old new So after (λ _. tt) x) (sym is) (record {
       says = record {
         same_reference = says.same_reference;
         told = λ clean live t shows it.
@@ -115,7 +117,7 @@ does_write {S} {So} {Adds} g old new table there after answer rule r text of is 
         leaves = λ clean live.
             let it = says.leaves clean live in (
               written_keeps (state g old.conn.now) (state g new.conn.now) text answer rule live it.0 it.1,
-              blames_changed Adds g old.conn.now new.conn.now text answer rule of it.0,
+              blames_changed g old.conn.now new.conn.now text answer rule of it.0,
             );
         survives = says.survives;
       };

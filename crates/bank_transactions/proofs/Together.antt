@@ -16,8 +16,8 @@ use Rattle.posting_batch.specs.Overlay.{requests_put, references_put, tables_ove
 use Rattle.posting_batch.specs.Slots.{account_slot_key, teller_slot_key, branch_slot_key}
 use Rattle.posting_batch.proofs.Orders.{rising_keys}
 use Rattle.store_rows.specs.{believed.Failures.Additions, declared.fault.TableFault.TableFault}
-use Rattle.bank_transactions.specs.believed.Additions.{AddsPostings, AddsReferences, AddsRequests}
-use Rattle.bank_transactions.specs.{Additions.AddsNew, Additions.NoRow, Doing.Does}
+use Rattle.bank_transactions.specs.believed.Additions.{AddsPostings, AddsReferences, AddsRequests, ChangesRow}
+use Rattle.bank_transactions.specs.{Additions.AddsNew, Doing.Does}
 use Rattle.bank_transactions.proofs.Chained.{does_adds, does_for, does_then}
 use Rattle.bank_transactions.proofs.SoundRows.{no_branch_beyond, within_or_none}
 use Rattle.bank_transactions.specs.Writing.{AreBranchNumbers, MayChangeAccounts, MayChangeTellers, MayAddPostings}
@@ -74,22 +74,22 @@ to_branches o t = branches_over o.branches (to_tellers o t)
 abbrev pub to_postings : Overlay → Tables → Tables
 to_postings o t = history_put o.history (to_branches o t)
 
-pub accounts : (o : Overlay) → GoesAfter o (λ t. t) accounts_over MayChangeAccounts (λ slots. NoRow) o.accounts
+pub accounts : (o : Overlay) → GoesAfter o (λ t. t) accounts_over MayChangeAccounts (λ slots. ChangesRow) o.accounts
 accounts o = record {
   may = λ t so. (rising_keys account_slot_key o.accounts so.0.accounts, so.1.accounts);
-  adds = λ text values none. absurd none;
+  adds = λ text values it. inr (inr (inr it));
 }
 
-pub tellers : (o : Overlay) → GoesAfter o (to_accounts o) tellers_over MayChangeTellers (λ slots. NoRow) o.tellers
+pub tellers : (o : Overlay) → GoesAfter o (to_accounts o) tellers_over MayChangeTellers (λ slots. ChangesRow) o.tellers
 tellers o = record {
   may = λ t so. (rising_keys teller_slot_key o.tellers so.0.tellers, so.1.tellers);
-  adds = λ text values none. absurd none;
+  adds = λ text values it. inr (inr (inr it));
 }
 
-pub branches : (o : Overlay) → GoesAfter o (to_tellers o) branches_over MayChangeBranches (λ slots. NoRow) o.branches
+pub branches : (o : Overlay) → GoesAfter o (to_tellers o) branches_over MayChangeBranches (λ slots. ChangesRow) o.branches
 branches o = record {
   may = λ t so. ((rising_keys branch_slot_key o.branches so.0.branches, so.1.branches), so.2);
-  adds = λ text values none. absurd none;
+  adds = λ text values it. inr (inr (inr it));
 }
 
 pub postings : (o : Overlay) → GoesAfter o (to_branches o) history_put MayAddPostings (λ rows. AddsPostings (Has rows))
@@ -98,7 +98,7 @@ postings o = record { may = λ t so. so.3; adds = λ text values it. inl it }
 
 pub references : (o : Overlay) → GoesAfter o (to_postings o) references_put MayAddReferences
     (λ rows. AddsReferences (Has rows)) o.references
-references o = record { may = λ t so. so.4; adds = λ text values it. inr (inr it) }
+references o = record { may = λ t so. so.4; adds = λ text values it. inr (inr (inl it)) }
 
 -- the changes of one table more are made
 pub step : {S A : Type 0} {g : Ghosts S} {a b c : Transaction S} {r : Result (Unit {0}) TableFault}

@@ -17,6 +17,7 @@ use Rattle.store_rows.specs.{believed.Sparing.SparesOthers, believed.View.Shows,
 use Rattle.store_rows.specs.declared.fault.TableFault.TheVariants.{Sqlite, Damaged}
 use Rattle.bank_transactions.specs.{believed.Additions.AddsForRecords, believed.Batches.DecidesNone}
 use Rattle.bank_transactions.specs.{Batches.KeepsOnly, believed.Doing.LeavesOthers}
+use Rattle.store_rows.specs.Definitions.{IsOtherTable}
 use Rattle.bank_transactions.specs.{believed.Stored.RepliesToAllStored, declared.first_try.Tried.Tried}
 use Rattle.bank_transactions.specs.believed.Causes.{IsBefore}
 use Rattle.bank_transactions.specs.Doing.{Acts, Ends, MayLeaveAfter, Transacts, Undoes}
@@ -24,7 +25,7 @@ use Rattle.bank_transactions.specs.Tries.{IsAsBefore, answer_of, batch_of, repli
 use Rattle.bank_transactions.specs.Undone.{UndoesFaults}
 use Rattle.bank_transactions.specs.declared.first_try.Tried.TheVariants.{Answered, Again}
 use Rattle.bank_transactions.proofs.Blamed.{blames_since, comes, same_moment, then_moment}
-use Rattle.bank_transactions.proofs.Transacted.{rolled, transacts_records}
+use Rattle.bank_transactions.proofs.Transacted.{rolled, transacts_records, undoes}
 
 undoes_again : {X : Type 0} (old mid new : State) (r : Result X TableFault) → IsTrue old.is_open
     → mid.now ≡ old.now → Undoes mid new r → Undoes old new r
@@ -180,6 +181,20 @@ of_tried {P} tried (Ok (Answered replies)) given so it =
 of_tried tried (Ok (Again batch)) given so it = tt
 of_tried tried (Err fault) given so it = tt
 
+-- and what the connection shows then is what it showed
+of_answered : {S : Type 0} {g : Ghosts S} {last new : Held S} {P Q : List (List ℕ) → Type 0}
+    (tried result : Result Tried TableFault) → Ends g last new tried result
+    → ((replies : List (List ℕ)) → P replies
+    → (HasCleanDisk (state g new) → (state g new).now ≡ (state g last).now) → Q replies)
+    → IfSome (replies_of tried) P → IfSome (replies_of result) Q
+of_answered {P = P} (Ok x) (Ok (Answered replies)) ends so it =
+    so replies.items
+    (subst (λ (r : Result Tried TableFault). IfSome (replies_of r) P) (let given = ends.given in given) it)
+    (λ clean. (ends.told clean).0)
+of_answered tried (Ok (Again batch)) ends so it = tt
+of_answered (Err fault) (Ok (Answered replies)) ends so it = absurd (let given = ends.given in cc)
+of_answered tried (Err fault) ends so it = tt
+
 -- it ends as the parts do
 ends_tried : {S : Type 0} (g : Ghosts S) (last new : Held S) {P Q : Result (List (List ℕ)) TableFault → Type 0}
     (tried result : Result Tried TableFault) → batch_of tried ≡ None → Ends g last new tried result
@@ -236,6 +251,12 @@ module _ {S : Type 0} (g : Ghosts S) (Made : List (List ℕ) → Type 0) (moment
       transacts_records (length records) g old begun last end new is settled (acts records made) its
       (same records made)) it
 
+  pub tried_undone : batch_of tried ≡ None → IfSome (answer_of tried) ActsFor
+      → IfSome (answer_of result) (λ answer. (records : List (List ℕ)) → Made records → UndoesFaults g old new answer)
+  tried_undone none it = ends_tried g last.conn.now end {P = ActsFor} tried result none ends
+      (λ answer answered acts its records made.
+      undoes g old begun last end new is settled (acts records made) its (same records made)) it
+
   pub tried_busy : IfSome (replies_of tried) (λ replies. HasCleanDisk (state g last.conn.now)
       → IsTrue (state g begun.conn.now).in_transaction → (records : List (List ℕ)) → Made records → (t : Tables)
       → Shows (state g begun.conn.now).now t → AreReadyFor (length records) t → DecidesNone t moment records → ⊥)
@@ -244,12 +265,20 @@ module _ {S : Type 0} (g : Ghosts S) (Made : List (List ℕ) → Type 0) (moment
   tried_busy = of_tried tried result ends.given (λ replies busy clean records made t shows so none.
       busy (was_clean_at records made clean) (rw is refl) records made t (rw is shows) so none)
 
-  pub tried_stored : IfSome (replies_of tried) (λ replies. HasCleanDisk (state g last.conn.now)
-      → IsTrue (state g begun.conn.now).in_transaction → (records : List (List ℕ)) → Made records
-      → RepliesToAllStored (state g begun.conn.now).now moment records replies)
+  pub tried_stored : IsOtherTable (state g old).now.schema None
+      → IfSome (replies_of tried) (λ replies. HasCleanDisk (state g last.conn.now)
+      → IsTrue (state g begun.conn.now).in_transaction → IsOtherTable (state g begun.conn.now).now.schema None
+      → (records : List (List ℕ)) → Made records
+      → RepliesToAllStored (state g begun.conn.now).now (state g last.conn.now).now moment records replies)
       → IfSome (replies_of result) (λ replies. HasCleanDisk (state g new) → (records : List (List ℕ)) → Made records
-      → RepliesToAllStored (state g old).now moment records replies)
-  tried_stored = of_tried tried result ends.given (λ replies stored clean records made.
-      subst (λ (db : Database). RepliesToAllStored db moment records replies)
+      → RepliesToAllStored (state g old).now (state g new).now moment records replies)
+  tried_stored as_made = of_answered tried result ends (λ replies stored shown clean records made.
+      let ended : HasCleanDisk (state g end) =
+      subst (λ (h : Held S). HasCleanDisk (state g h)) (sym (same records made)) clean in
+      subst (λ (h : Held S). RepliesToAllStored (state g old).now (state g h).now moment records replies)
+      (same records made)
+      (subst (λ (db : Database). RepliesToAllStored (state g old).now db moment records replies) (sym (shown ended))
+      (subst (λ (db : Database). RepliesToAllStored db (state g last.conn.now).now moment records replies)
       (ap (λ (h : Held S). (state g h).now) is)
-      (stored (was_clean_at records made clean) (rw is refl) records made))
+      (stored (was_clean_at records made clean) (rw is refl)
+      (subst (λ (h : Held S). IsOtherTable (state g h).now.schema None) (sym is) as_made) records made))))

@@ -1,6 +1,7 @@
 -- What the parts of filling a batch say.
-use Rattle.std.specs.Prelude.{◌≡◌, ℕ, List, map, Option, None, Result, Ok, Err}
+use Rattle.std.specs.Prelude.{◌≡◌, ℕ, List, map, Option, None, IfSome, Result, Ok, Err}
 use Rattle.std.specs.List.{AllByRecursion}
+use Rattle.sqlite.specs.Effect.{Database}
 use Rattle.posting_rules.specs.believed.Damage.{IsUndamaged}
 use Rattle.posting_rules.specs.believed.Tables.{Tables, row_at, branch_key}
 use Rattle.posting_rules.specs.declared.rows.BranchRow.{BranchRow}
@@ -16,7 +17,7 @@ use Rattle.store_rows.specs.believed.Readings.{read_branch}
 use Rattle.store_rows.specs.believed.Rules.{StoredRows, branch_under}
 use Rattle.store_rows.specs.believed.Stored.{FindsStored}
 use Rattle.store_rows.specs.declared.fault.TableFault.{TableFault}
-use Rattle.bank_transactions.specs.believed.Stored.{HoldsAccount, HoldsDecided, HoldsFloor, HoldsKept}
+use Rattle.bank_transactions.specs.believed.Stored.{HoldsAccount, HoldsDecided, HoldsFloor, HoldsKept, ShowsKept}
 use Rattle.bank_transactions.specs.Stored.{HoldsTellerRow}
 
 -- this is the answer, where the call was answered
@@ -101,6 +102,21 @@ pub record AreHeld (rows : StoredRows) (o : Overlay) : Type 0 where
   pub accounts : AllByRecursion (AccountHeld rows) o.accounts
   pub kept : AllByRecursion (RequestHeld rows) o.kept
   pub decided : HoldsDecided rows o.decided
+
+-- ---- whatever tables a file has
+
+-- the row that the slot has is that of its branch
+abbrev pub HasOwnRow : BranchSlot → Type 0
+HasOwnRow s = IfSome s.stored (λ row. row.branch ≡ s.branch)
+
+-- the slot has what is shown to be kept of its request
+abbrev pub RequestShown : Database → RequestSlot → Type 0
+RequestShown db s = ShowsKept db s.teller s.number s.kept
+
+-- each slot has
+pub record AreShown (db : Database) (o : Overlay) : Type 0 where
+  pub branches : AllByRecursion HasOwnRow o.branches
+  pub kept : AllByRecursion (RequestShown db) o.kept
 
 -- the slot under a number tells the row of that branch as it is stored
 abbrev pub TellsStored : List BranchSlot → StoredRows → ℕ → Type 0

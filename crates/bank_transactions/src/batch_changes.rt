@@ -15,8 +15,9 @@ ghost use Rattle.store_rows.specs.Holders.{HasRow, with_balance};
 ghost use Rattle.store_rows.specs.SeveralRows.{PutsNew};
 ghost use Rattle.bank_transactions.specs.believed.Additions.{AddsPostings, AddsReferences};
 ghost use Rattle.bank_transactions.specs.Additions.{AddsAlike, AddsNew};
+ghost use Rattle.bank_transactions.specs.believed.Additions.{ChangesRow};
 ghost use Rattle.bank_transactions.specs.believed.Additions.{AddsRequests};
-ghost use Rattle.bank_transactions.specs.Additions.{NoRow, adds_each, adds_none};
+ghost use Rattle.bank_transactions.specs.Additions.{adds_each, adds_same};
 ghost use Rattle.bank_transactions.specs.Doing.{Does};
 ghost use Rattle.bank_transactions.specs.InTurn.{InParts, InTurn, accounts_in_turn, branches_in_turn};
 ghost use Rattle.bank_transactions.specs.InTurn.{postings_in_parts, postings_in_turn, references_in_turn};
@@ -75,7 +76,7 @@ fn write_change<S: Alter>(
     holder: Holder,
     changed: Option<Cents>,
 ) -> Result<(), TableFault>
-    ensures { Does S.Store NoRow tx.old tx.new (λ tables. IfSome changed (λ _. HasRow holder tables))
+    ensures { Does S.Store ChangesRow tx.old tx.new (λ tables. IfSome changed (λ _. HasRow holder tables))
         (λ tables. by_change changed (λ balance. with_balance holder balance tables) tables)
         (λ _. tt) result }
 {
@@ -90,7 +91,7 @@ impl Change for AccountSlot {
 
     ghost May = { MayChangeAccounts };
 
-    ghost Adds = { λ _. NoRow };
+    ghost Adds = { λ _. ChangesRow };
 
     fn make<S: Alter>(&self, tx: &mut Transaction<'_, S>) -> Result<(), TableFault> {
         write_change(tx, Holder::Account(self.account), self.changed)
@@ -98,7 +99,7 @@ impl Change for AccountSlot {
 
     ghost in_turn = { accounts_in_turn };
 
-    ghost alike = { adds_none };
+    ghost alike = { adds_same };
 }
 
 impl Change for TellerSlot {
@@ -106,7 +107,7 @@ impl Change for TellerSlot {
 
     ghost May = { MayChangeTellers };
 
-    ghost Adds = { λ _. NoRow };
+    ghost Adds = { λ _. ChangesRow };
 
     fn make<S: Alter>(&self, tx: &mut Transaction<'_, S>) -> Result<(), TableFault> {
         write_change(tx, Holder::Teller(self.teller), self.changed)
@@ -114,7 +115,7 @@ impl Change for TellerSlot {
 
     ghost in_turn = { tellers_in_turn };
 
-    ghost alike = { adds_none };
+    ghost alike = { adds_same };
 }
 
 impl Change for BranchSlot {
@@ -122,7 +123,7 @@ impl Change for BranchSlot {
 
     ghost May = { MayChangeBranches };
 
-    ghost Adds = { λ _. NoRow };
+    ghost Adds = { λ _. ChangesRow };
 
     fn make<S: Alter>(&self, tx: &mut Transaction<'_, S>) -> Result<(), TableFault> {
         // A number that is none of branches has no row to change: `May` refuses such a slot by its
@@ -135,7 +136,7 @@ impl Change for BranchSlot {
 
     ghost in_turn = { branches_in_turn };
 
-    ghost alike = { adds_none };
+    ghost alike = { adds_same };
 }
 
 impl Change for HistoryRow {

@@ -77,7 +77,8 @@ pub fn answer_batch<S: Alter>(
         (state S.Store tx.new.conn.now) tables moment records) }
     ensures stored { IfOk result (λ replies. HasCleanDisk (state S.Store tx.new.conn.now)
         → (records : List (List ℕ)) → IsMadeOf batch records
-        → RepliesToAllStored (state S.Store tx.old.conn.now).now moment records replies.items) }
+        → RepliesToAllStored (state S.Store tx.old.conn.now).now (state S.Store tx.new.conn.now).now moment records
+        replies.items) }
 {
     fill(tx, &mut batch.overlay)?;
     let before = batch.overlay.decided;
@@ -108,7 +109,8 @@ fn post_looked_up<S: Alter>(
     // Whatever rows the file holds.
     ensures stored { IfOk result (λ replies. HasCleanDisk (state S.Store conn.new)
         → (records : List (List ℕ)) → IsMadeOf batch records
-        → RepliesToAllStored (state S.Store conn.old).now moment records replies.items) }
+        → RepliesToAllStored (state S.Store conn.old).now (state S.Store conn.new).now moment records
+        replies.items) }
     ensures undone { (records : List (List ℕ)) → IsMadeOf batch records
         → UndoesFaults S.Store conn.old conn.new (items_of result) }
 {
@@ -150,7 +152,8 @@ pub fn post_all<S: Alter>(
     // Whatever rows the file holds.
     ensures stored { IfOk result (λ replies. HasCleanDisk (state S.Store conn.new)
         → (records : List (List ℕ)) → IsMadeOf batch records
-        → RepliesToAllStored (state S.Store conn.old).now moment records replies.items) }
+        → RepliesToAllStored (state S.Store conn.old).now (state S.Store conn.new).now moment records
+        replies.items) }
     ensures undone { (records : List (List ℕ)) → IsMadeOf batch records
         → UndoesFaults S.Store conn.old conn.new (items_of result) }
 {

@@ -93,8 +93,11 @@ fn answer_unkept<S: Alter>(
         → (tables : Tables) → Shows (state S.Store tx.old.conn.now).now tables → AreReadyFor (length records) tables
         → DecidesNone tables moment records → ⊥) }
     ensures stored { IfSome (replies_of result) (λ replies. HasCleanDisk (state S.Store tx.new.conn.now)
-        → IsTrue (state S.Store tx.old.conn.now).in_transaction → (records : List (List ℕ)) → IsMadeOf batch records
-        → RepliesToAllStored (state S.Store tx.old.conn.now).now moment records replies) }
+        → IsTrue (state S.Store tx.old.conn.now).in_transaction
+        → IsOtherTable (state S.Store tx.old.conn.now).now.schema None
+        → (records : List (List ℕ)) → IsMadeOf batch records
+        → RepliesToAllStored (state S.Store tx.old.conn.now).now (state S.Store tx.new.conn.now).now moment records
+        replies) }
     ensures again { IfSome (batch_of result) (IsMadeAgain batch) }
     ensures quiet { Says S.Store tx.old tx.new (λ _ _. ⊤) (Inside KeepsCommit) }
 {
@@ -130,8 +133,11 @@ fn answer_new<S: Alter>(
         → (tables : Tables) → Shows (state S.Store tx.old.conn.now).now tables → AreReadyFor (length records) tables
         → DecidesNone tables moment records → ⊥) }
     ensures stored { IfSome (replies_of result) (λ replies. HasCleanDisk (state S.Store tx.new.conn.now)
-        → IsTrue (state S.Store tx.old.conn.now).in_transaction → (records : List (List ℕ)) → IsMadeOf batch records
-        → RepliesToAllStored (state S.Store tx.old.conn.now).now moment records replies) }
+        → IsTrue (state S.Store tx.old.conn.now).in_transaction
+        → IsOtherTable (state S.Store tx.old.conn.now).now.schema None
+        → (records : List (List ℕ)) → IsMadeOf batch records
+        → RepliesToAllStored (state S.Store tx.old.conn.now).now (state S.Store tx.new.conn.now).now moment records
+        replies) }
     ensures again { IfSome (batch_of result) (IsMadeAgain batch) }
     ensures quiet { Says S.Store tx.old tx.new (λ _ _. ⊤) (Inside KeepsCommit) }
 {
@@ -161,7 +167,7 @@ pub(crate) fn try_new<S: Alter>(
         → DecidesNone tables moment records → ⊥) }
     ensures stored { IfSome (replies_of result) (λ replies. HasCleanDisk (state S.Store conn.new)
         → (records : List (List ℕ)) → IsMadeOf batch records
-        → RepliesToAllStored (state S.Store conn.old).now moment records replies) }
+        → RepliesToAllStored (state S.Store conn.old).now (state S.Store conn.new).now moment records replies) }
     ensures undone { IfSome (answer_of result) (λ answer. (records : List (List ℕ)) → IsMadeOf batch records
         → UndoesFaults S.Store conn.old conn.new answer) }
     ensures again { IfSome (batch_of result) (λ again. IsMadeAgain batch again

@@ -1,17 +1,18 @@
 //! What is looked up in the tables. Rows that belong together are read together, and reported as damage where
 //! they differ.
-ghost use Rattle.std.specs.Prelude.{◌≡◌, ◌≤◌, IfOk};
+ghost use Rattle.std.specs.Bool.{Decides};
+ghost use Rattle.std.specs.Prelude.{◌≡◌, ◌≤◌, IfOk, IfSome};
 ghost use Rattle.posting_rules.specs.believed.Numbering.{branch_of_account, place_of_account};
 ghost use Rattle.posting_rules.specs.believed.LookUps.{teller_balances_in, account_balance_in, kept_in, reference_in};
 ghost use Rattle.posting_rules.specs.believed.Tables.{row_at, branch_key};
 ghost use Rattle.sqlite.specs.Held.{state};
 ghost use Rattle.sqlite.specs.State.{HasCleanDisk};
 ghost use Rattle.store_rows.specs.believed.Readings.{read_branch};
-ghost use Rattle.store_rows.specs.believed.Rules.{branch_under, OfRows};
+ghost use Rattle.store_rows.specs.believed.Rules.{branch_under, row_under, OfRows};
 ghost use Rattle.store_rows.specs.believed.Stored.{FindsStored};
 ghost use Rattle.bank_transactions.specs.Doing.{Reads};
 ghost use Rattle.bank_transactions.specs.believed.Stored.{HoldsDecided, HoldsKept, HoldsReference, IsStoredBalance};
-ghost use Rattle.bank_transactions.specs.believed.Stored.{IsStoredTeller};
+ghost use Rattle.bank_transactions.specs.believed.Stored.{IsStoredTeller, ShowsKept, ShowsText};
 
 use message_records::{Account, Branch, Cents, Number, Reference, Teller};
 use posting_rules::{
@@ -23,6 +24,34 @@ use store_rows::{
     Member, TableFault, balance_of, find_branch, find_reference, find_request, read_meta,
 };
 
+// Whether the row is that of the branch, if there is one.
+fn is_its(row: &Option<BranchRow>, branch: Branch) -> bool
+    ensures { Decides result (IfSome row.now (λ r. r.branch ≡ branch)) }
+{
+    match row {
+        Some(row) => row.branch.get() == branch.get(),
+        None => true,
+    }
+}
+
+// The row of a branch, if it has one. A table that no bank made may show another branch's.
+fn branch_row<S: Alter>(
+    tx: &mut Transaction<'_, S>,
+    branch: Branch,
+) -> Result<Option<BranchRow>, TableFault>
+    ensures says { Reads S.Store tx.old tx.new (λ tables. row_at branch_key tables.branches branch) result }
+    ensures stored { HasCleanDisk (state S.Store tx.new.conn.now)
+        → OfRows (λ rows. FindsStored (row_under rows.branches branch) read_branch result)
+        (state S.Store tx.old.conn.now).now }
+    ensures own { IfOk result (λ row. IfSome row (λ r. r.branch ≡ branch)) }
+{
+    let row = find_branch(tx, branch)?;
+    if !is_its(&row, branch) {
+        return Err(TableFault::Damaged(Rule::Value));
+    }
+    Ok(row)
+}
+
 /// The branch under a number, none where it isn't open.
 pub fn branch_at<S: Alter>(
     tx: &mut Transaction<'_, S>,
@@ -32,9 +61,10 @@ pub fn branch_at<S: Alter>(
     ensures stored { HasCleanDisk (state S.Store tx.new.conn.now)
         → OfRows (λ rows. FindsStored (branch_under rows number) read_branch result)
         (state S.Store tx.old.conn.now).now }
+    ensures own { IfOk result (λ row. IfSome row (λ r. r.branch ≡ number)) }
 {
     match Branch::new(number) {
-        Some(branch) => find_branch(tx, branch),
+        Some(branch) => branch_row(tx, branch),
         None => Ok(None),
     }
 }
@@ -86,6 +116,8 @@ fn reference_at<S: Alter>(
     ensures says { Reads S.Store tx.old tx.new (λ tables. reference_in tables.references ordinal) result }
     ensures stored { IfOk result (λ reference. HasCleanDisk (state S.Store tx.new.conn.now)
         → OfRows (λ rows. HoldsReference rows ordinal reference) (state S.Store tx.old.conn.now).now) }
+    ensures shown { IfOk result (λ reference. HasCleanDisk (state S.Store tx.new.conn.now)
+        → ShowsText (state S.Store tx.old.conn.now).now ordinal reference) }
 {
     let Some(row) = find_reference(tx, ordinal)? else {
         return Ok(None);
@@ -103,6 +135,9 @@ pub fn kept_request<S: Alter>(
         (λ tables. kept_in tables.requests tables.references teller number) result }
     ensures stored { IfOk result (λ kept. HasCleanDisk (state S.Store tx.new.conn.now)
         → OfRows (λ rows. HoldsKept rows teller number kept) (state S.Store tx.old.conn.now).now) }
+    // Be the tables a bank's or not.
+    ensures shown { IfOk result (λ kept. HasCleanDisk (state S.Store tx.new.conn.now)
+        → ShowsKept (state S.Store tx.old.conn.now).now teller number kept) }
 {
     let Some(row) = find_request(tx, teller, number)? else {
         return Ok(None);

@@ -1,7 +1,7 @@
 //! A single request is judged in slots of its own, as a batch is, and what changes is written. They lie in the
 //! value itself, so that it takes no memory.
 ghost use Rattle.posting_rules.specs.believed.Changes.{tables_with, reply_bytes};
-ghost use Rattle.std.specs.Prelude.{IfOk};
+ghost use Rattle.std.specs.Prelude.{IfOk, IsTrue};
 ghost use Rattle.sqlite.specs.Held.{state};
 ghost use Rattle.sqlite.specs.State.{HasCleanDisk};
 ghost use Rattle.posting_batch.specs.believed.Batch.{AreReadyFor};
@@ -28,7 +28,8 @@ pub(crate) fn post_inside<S: Alter>(
         (AreReadyFor 1) (λ tables. tables_with tables moment request.now)
         (λ tables. reply_bytes tables request.now) result }
     ensures stored { IfOk result (λ reply. HasCleanDisk (state S.Store tx.new.conn.now)
-        → RepliesToStored (state S.Store tx.old.conn.now).now request.now reply) }
+        → IsTrue (state S.Store tx.old.conn.now).in_transaction
+        → RepliesToStored (state S.Store tx.old.conn.now).now (state S.Store tx.new.conn.now).now request.now reply) }
 {
     let mut overlay = Overlay::for_request(alloc, request);
     fill(tx, &mut overlay)?;

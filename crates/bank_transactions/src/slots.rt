@@ -2,6 +2,7 @@
 ghost use Rattle.std.specs.Prelude.{◌≡◌, ⊤, IfOk, List, OnOk, map};
 ghost use Rattle.std.specs.List.{AllByRecursion};
 ghost use Rattle.std.specs.Option.{option_map};
+ghost use Rattle.sqlite.specs.Effect.{Database};
 ghost use Rattle.sqlite.specs.Held.{state};
 ghost use Rattle.sqlite.specs.State.{HasCleanDisk};
 ghost use Rattle.posting_rules.specs.believed.Numbering.{branch_of_teller, branch_of_account};
@@ -16,7 +17,8 @@ ghost use Rattle.posting_batch.specs.View.{view};
 ghost use Rattle.bank_transactions.specs.Doing.{Reads, ReadsWhere};
 ghost use Rattle.store_rows.specs.believed.Rules.{OfRows, StoredRows};
 ghost use Rattle.bank_transactions.specs.Filling.{handing, HasBranch, HoldsBranch, TellsBranch};
-ghost use Rattle.bank_transactions.specs.Filling.{AreHeld, AreKnown, TellsFloor, TellsStored, emptied};
+ghost use Rattle.bank_transactions.specs.Filling.{AreHeld, AreKnown, AreShown, HasOwnRow, TellsFloor, TellsStored};
+ghost use Rattle.bank_transactions.specs.Filling.{emptied};
 ghost use Rattle.bank_transactions.specs.believed.Stored.{HoldsAccount, HoldsFloor};
 ghost use Rattle.bank_transactions.specs.Stored.{HoldsTellerRow};
 
@@ -51,6 +53,9 @@ trait Slot: Copy {
     /// The slot has what the rows hold under its key.
     ghost Held: { StoredRows → Self → Type 0 };
 
+    /// The slot has what the look-ups show, be the tables a bank's or not.
+    ghost Shown: { Database → Self → Type 0 };
+
     /// Fills it, by the slots of branches and of floors.
     fn fill<S: Alter>(
         self,
@@ -64,12 +69,14 @@ trait Slot: Copy {
         ensures same { IfOk result (λ slot. bare slot ≡ bare self) }
         ensures stored { IfOk result (λ slot. HasCleanDisk (state S.Store tx.new.conn.now)
             → OfRows (λ rows. KnowsRow branches.now floors.now rows self → Held rows slot)
-            (state S.Store tx.old.conn.now).now) };
+            (state S.Store tx.old.conn.now).now) }
+        ensures shown { IfOk result (λ slot. HasCleanDisk (state S.Store tx.new.conn.now)
+            → Shown (state S.Store tx.old.conn.now).now slot) };
 }
 
 impl Slot for BranchSlot {
     ghost use Rattle.posting_batch.specs.Batch.{branch_filled};
-    ghost use Rattle.bank_transactions.specs.Filling.{BranchHeld, emptied_branch};
+    ghost use Rattle.bank_transactions.specs.Filling.{BranchHeld, HasOwnRow, emptied_branch};
 
     ghost filled_from = { branch_filled };
 
@@ -80,6 +87,8 @@ impl Slot for BranchSlot {
     ghost KnowsRow = { λ _ _ _ _. ⊤ };
 
     ghost Held = { BranchHeld };
+
+    ghost Shown = { λ _. HasOwnRow };
 
     fn fill<S: Alter>(
         self,
@@ -105,6 +114,8 @@ impl Slot for FloorSlot {
     ghost KnowsRow = { λ _ _ _ _. ⊤ };
 
     ghost Held = { FloorHeld };
+
+    ghost Shown = { λ _ _. ⊤ };
 
     fn fill<S: Alter>(
         self,
@@ -200,6 +211,8 @@ impl Slot for TellerSlot {
 
     ghost Held = { TellerHeld };
 
+    ghost Shown = { λ _ _. ⊤ };
+
     fn fill<S: Alter>(
         self,
         tx: &mut Transaction<'_, S>,
@@ -227,6 +240,8 @@ impl Slot for AccountSlot {
 
     ghost Held = { AccountHeld };
 
+    ghost Shown = { λ _ _. ⊤ };
+
     fn fill<S: Alter>(
         self,
         tx: &mut Transaction<'_, S>,
@@ -243,7 +258,7 @@ impl Slot for AccountSlot {
 
 impl Slot for RequestSlot {
     ghost use Rattle.posting_batch.specs.Batch.{request_filled};
-    ghost use Rattle.bank_transactions.specs.Filling.{RequestHeld, emptied_request};
+    ghost use Rattle.bank_transactions.specs.Filling.{RequestHeld, RequestShown, emptied_request};
 
     ghost filled_from = { request_filled };
 
@@ -254,6 +269,8 @@ impl Slot for RequestSlot {
     ghost KnowsRow = { λ _ _ _ _. ⊤ };
 
     ghost Held = { RequestHeld };
+
+    ghost Shown = { RequestShown };
 
     fn fill<S: Alter>(
         self,
@@ -280,6 +297,8 @@ fn fill_all<S: Alter, T: Slot>(
     ensures stored { OnOk result (HasCleanDisk (state S.Store tx.new.conn.now)
         → OfRows (λ rows. AllByRecursion (T.KnowsRow branches.now floors.now rows) slots.old
         → AllByRecursion (T.Held rows) slots.new) (state S.Store tx.old.conn.now).now) }
+    ensures shown { OnOk result (HasCleanDisk (state S.Store tx.new.conn.now)
+        → AllByRecursion (T.Shown (state S.Store tx.old.conn.now).now) slots.new) }
 {
     for slot in slots.iter_mut() {
         *slot = (*slot).fill(tx, branches, floors)?;
@@ -304,6 +323,8 @@ pub(crate) fn fill_known<S: Alter>(
     ensures stored { OnOk result (HasCleanDisk (state S.Store tx.new.conn.now)
         → HasHomes (view overlay.old)
         → OfRows (λ rows. AreKnown rows (view overlay.new)) (state S.Store tx.old.conn.now).now) }
+    ensures own { OnOk result (HasCleanDisk (state S.Store tx.new.conn.now)
+        → AllByRecursion HasOwnRow (view overlay.new).branches) }
 {
     overlay.decided = decided(tx)?;
     fill_all(tx, &mut overlay.branches, &[], &[])?;
@@ -331,6 +352,9 @@ pub fn fill<S: Alter>(tx: &mut Transaction<'_, S>, overlay: &mut Overlay) -> Res
     ensures stored { OnOk result (HasCleanDisk (state S.Store tx.new.conn.now)
         → HasHomes (view overlay.old)
         → OfRows (λ rows. AreHeld rows (view overlay.new)) (state S.Store tx.old.conn.now).now) }
+    // Whatever tables it has.
+    ensures shown { OnOk result (HasCleanDisk (state S.Store tx.new.conn.now)
+        → AreShown (state S.Store tx.old.conn.now).now (view overlay.new)) }
 {
     fill_known(tx, overlay)?;
     fill_all(tx, &mut overlay.kept, &[], &[])?;

@@ -91,7 +91,7 @@ pub fn post<S: Alter>(
         (AreReadyFor 1) (λ tables. tables_with tables moment request.now) (λ tables. reply_bytes tables request.now) result }
     // Whatever rows the file holds.
     ensures stored { IfOk result (λ reply. HasCleanDisk (state S.Store conn.new)
-        → RepliesToStored (state S.Store conn.old).now request.now reply) }
+        → RepliesToStored (state S.Store conn.old).now (state S.Store conn.new).now request.now reply) }
     ensures undone { UndoesFaults S.Store conn.old conn.new result }
 {
     let mut tx = begin(conn);

@@ -1,6 +1,6 @@
 -- Whether a schema has a table as its text makes it.
-use Rattle.std.proofs.Common.{◌≡◌, ◌≢◌, ◌+◌, ◌<◌, ◌≤◌, ℕ, zero, suc, List, [], ◌∷◌, length, take, slice_get, slice_index_or}
-use Rattle.std.proofs.Common.{Some, None, Option, refl, sym, ap, subst, inl, inr, arith, pos, Bool, true}
+use Rattle.std.proofs.Common.{◌≡◌, ◌≢◌, ◌≤◌, ℕ, zero, suc, List, [], ◌∷◌, length, take, slice_get, slice_index_or}
+use Rattle.std.proofs.Common.{Some, None, refl, sym, ap, subst, inl, inr, arith, pos, Bool}
 use Rattle.std.specs.Bool.{Decides}
 use Rattle.std.specs.List.{AllByRecursion}
 use Rattle.std.proofs.lemmas.Option.{get_or_from_slice_get}

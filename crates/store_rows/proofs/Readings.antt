@@ -23,9 +23,9 @@ use Rattle.posting_rules.specs.declared.rows.{HistoryRow.HistoryRow, ReferenceRo
 use Rattle.posting_rules.specs.declared.rows.TellerRow.{TellerRow}
 use Rattle.sql_meanings.specs.believed.Entries.{Entry, numbers, texts_held}
 use Rattle.store_rows.specs.believed.{Columns.number_at, SeveralRows.given}
-use Rattle.store_rows.specs.believed.Readings.{branch_of, cents, floor_of, lowest, number}
+use Rattle.store_rows.specs.believed.Readings.{branch_of, cents, floor_of, lowest}
 use Rattle.store_rows.specs.believed.Readings.{read_account, read_balance, read_branch, read_floor}
-use Rattle.store_rows.specs.believed.Readings.{read_posting, read_reference, read_request, read_teller, reference}
+use Rattle.store_rows.specs.believed.Readings.{read_posting, read_reference, read_request, read_teller}
 use Rattle.store_rows.specs.believed.Readings.{whole}
 use Rattle.store_rows.specs.believed.View.{account_entry, branch_entry, floor_entry, history_entry, reference_entry}
 use Rattle.store_rows.specs.believed.View.{request_entry, teller_entry}

@@ -59,7 +59,7 @@ Looks old new (Err fault) = WriteFails old new × HasReason old new fault
 -- a change of a row: the transaction goes on, or an error leaves it as it was or rolls it back
 abbrev pub Changes : List ℕ → State → State → Result Bool Error → Type 0
 Changes text old new (Ok there) = StateShows old new new.now old.committed true
-    × (there ≡ false → MeetsNone text old new)
+    × (there ≡ false → (values : Row) × MeetsNone text values old new)
 Changes text old new (Err e) = WriteFails old new × HasFailed old new e
 
 -- the same of rows that are put in by one of the texts, with these values

@@ -1,19 +1,18 @@
 -- What a statement of one table was run as.
-use Rattle.std.specs.Prelude.{◌≡◌, ◌⊎◌, ℕ, ℤ, pos, List, [], ◌∷◌, nat_eq, slice_get, Bool, Some, Result, Ok}
+use Rattle.std.specs.Prelude.{◌≡◌, ℕ, ℤ, pos, List, [], ◌∷◌, nat_eq, Bool, Some, Result, Ok}
 use Rattle.std.specs.Prelude.{Err, ⊤}
-use Rattle.sqlite.specs.Effect.{Database, Reads, ReadsFirst}
-use Rattle.sqlite.specs.Listing.{IsSourceOf, reads_listing, understood}
+use Rattle.sqlite.specs.Effect.{Database}
 use Rattle.sqlite.specs.Order.{Row}
 use Rattle.sqlite.specs.State.{State, ExecutesInside}
 use Rattle.sqlite.specs.declared.error.Error.{Error}
 use Rattle.sqlite.specs.declared.transaction.Transaction.{Transaction}
 use Rattle.sqlite.specs.declared.types.Value.TheVariants.{Int}
 use Rattle.sqlite_trees.specs.declared.store.Store.{Ghosts}
-use Rattle.sqlite_resolve.specs.declared.compiled.Compiled.{Compiled}
 use Rattle.sqlite_rules.specs.Lists.{Has}
 use Rattle.sql_meanings.specs.Calls.{Inside, Says}
 use Rattle.store_rows.specs.Columns.{meta_shown}
 use Rattle.store_rows.specs.believed.Failures.{inserts}
+use Rattle.store_rows.specs.believed.Shown.{ShowsFirst}
 use Rattle.store_rows.specs.Failures.{Changes, Puts}
 use Rattle.store_rows.specs.Faults.{added}
 use Rattle.store_rows.specs.declared.fault.TableFault.{TableFault}
@@ -50,16 +49,9 @@ PutsRow g old new text values result =
     (Inside (λ old new. (key : ℤ) (rest : Row) → values ≡ Int key ∷ rest → Has inserts text
     → Puts text values old new result))
 
--- run on this database with these values, the text shows this row first
-abbrev pub ShowsFirst : List ℕ → Row → Database → Row → Type 0
-ShowsFirst text params db row = (c : Compiled) × (understood db.schema text ≡ Ok c) × (source : Database)
-    × IsSourceOf (reads_listing db.schema text) db source
-    × (ReadsFirst c.command source params (row ∷ [])
-    ⊎ ((rows : List Row) × Reads c.command source params rows × (slice_get rows 0 ≡ Some row)))
-
 -- the row of the bank has a value that is no whole number, whatever table `meta` is
 abbrev pub HasOtherValue : Database → Type 0
-HasOtherValue db = (row : Row) × ShowsFirst GET_META.now (Int (pos META_ID) ∷ []) db row
+HasOtherValue db = (row : Row) × ShowsFirst GET_META.now (Int (pos META_ID) ∷ []) db (Some row)
     × ((m : StoredMeta) → row ≡ meta_shown m → ⊥)
 
 -- what damage at the row of the bank says

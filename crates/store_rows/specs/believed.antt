@@ -5,6 +5,7 @@ pub mod Inserts
 pub mod Readings
 pub mod Rules
 pub mod SeveralRows
+pub mod Shown
 pub mod Sparing
 pub mod Stored
 pub mod View

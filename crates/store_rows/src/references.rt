@@ -1,5 +1,7 @@
 //! The table of references: what a decided request is referred to by.
-ghost use Rattle.std.specs.Prelude.{Some, is_some};
+ghost use Rattle.std.specs.Prelude.{Some, is_some, IfOk};
+ghost use Rattle.sqlite.specs.Held.{state};
+ghost use Rattle.sqlite.specs.State.{HasCleanDisk};
 ghost use Rattle.posting_rules.specs.believed.Tables.{row_at, reference_key};
 ghost use Rattle.posting_rules.specs.believed.Changes.{with_reference};
 ghost use Rattle.store_rows.specs.Calls.{AddsRow, LooksUp};
@@ -7,6 +9,7 @@ ghost use Rattle.store_rows.specs.believed.Readings.{read_reference};
 ghost use Rattle.store_rows.specs.believed.Rules.{row_under};
 ghost use Rattle.store_rows.specs.believed.BankTables.{reference as table};
 ghost use Rattle.store_rows.specs.believed.SeveralRows.{given};
+ghost use Rattle.store_rows.specs.believed.Shown.{ShowsReference};
 ghost use Rattle.store_rows.specs.believed.View.{reference_entry};
 ghost use Rattle.store_rows.specs.declared.texts.TheConstants.{ADD_REFERENCE as statement};
 
@@ -37,7 +40,10 @@ pub fn find_reference<S: Alter>(
     tx: &mut Transaction<'_, S>,
     ordinal: Ordinal,
 ) -> Result<Option<ReferenceRow>, TableFault>
-    ensures { LooksUp S.Store tx.old tx.new (λ rows. row_under rows.references ordinal) read_reference result }
+    ensures says { LooksUp S.Store tx.old tx.new (λ rows. row_under rows.references ordinal) read_reference result }
+    // Be the table a bank's or not.
+    ensures shown { IfOk result (λ found. HasCleanDisk (state S.Store tx.new.conn.now)
+        → ShowsReference (state S.Store tx.old.conn.now).now ordinal found) }
 {
     found(row_under(tx, GET_REFERENCE, ordinal.get()))
 }

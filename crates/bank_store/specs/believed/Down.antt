@@ -7,6 +7,7 @@ use Rattle.posting_rules.specs.believed.Commands.{Command}
 use Rattle.posting_rules.specs.believed.Counter.{Answers, IsCounterCall}
 use Rattle.posting_rules.specs.declared.fault.Fault.{Fault}
 use Rattle.posting_rules.specs.declared.fault.Fault.TheVariants as told
+use Rattle.posting_rules.specs.believed.Tables.{Tables}
 use Rattle.posting_rules.specs.declared.fault.Rule.{Rule}
 use Rattle.store_rows.specs.believed.Failures.{Additions}
 use Rattle.bank_transactions.specs.believed.Additions.{AnyRow}
@@ -33,6 +34,12 @@ OfDamage _ P = ⊤
 abbrev pub WasBrokenOrMet : {S : Type 0} (g : Ghosts S) → Additions → Bank S g → Bank S g → Rule → Type 0
 WasBrokenOrMet g Adds old new rule =
     HasCleanDisk (file_of new) → IsBrokenOrMet g Adds (connection_of old) (connection_of new) rule
+
+-- and the tables that there were aren't so
+pub record BreaksRule {S : Type 0} (g : Ghosts S) (Adds : Additions) (So : Tables → Type 0) (old new : Bank S g)
+    (rule : Rule) : Type 0 where
+  pub met : WasBrokenOrMet g Adds old new rule
+  pub unfit : HasCleanDisk (file_of new) → (t : Tables) → (bank_seen g old).tables t → So t → ⊥
 
 -- ---- a call
 

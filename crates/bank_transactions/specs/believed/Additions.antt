@@ -1,4 +1,4 @@
--- Which rows a call puts in, under which keys: its own.
+-- Which rows a call puts in, under which keys: its own; and which it changes.
 use Rattle.std.specs.Prelude.{◌≡◌, ◌<◌, ◌⊎◌, ◌+◌, ℕ, ℤ, pos, List, [], ◌∷◌, Option, Some}
 use Rattle.std.specs.List.{AllByRecursion}
 use Rattle.sqlite.specs.Effect.{Database}
@@ -14,7 +14,8 @@ use Rattle.posting_rules.specs.declared.rows.ReferenceRow.{ReferenceRow}
 use Rattle.posting_rules.specs.declared.rows.RequestRow.{RequestRow}
 use Rattle.posting_batch.specs.believed.Batch.{IsNextOrdinal}
 use Rattle.sql_meanings.specs.believed.Entries.{Entry}
-use Rattle.store_rows.specs.believed.Failures.{Additions}
+use Rattle.posting_rules.specs.declared.fault.Rule.{Rule}
+use Rattle.store_rows.specs.believed.Failures.{Additions, IsUpdateOf}
 use Rattle.store_rows.specs.believed.Rules.{OfRows}
 use Rattle.store_rows.specs.believed.SeveralRows.{given, given_each}
 use Rattle.store_rows.specs.believed.View.{account_entry, branch_entry, floor_entry, history_entry, reference_entry}
@@ -54,11 +55,15 @@ abbrev pub FollowsCount : Database → ℕ → ℕ → Type 0
 FollowsCount db count ordinal = OfRows (λ rows.
     (decided : ℕ) × HoldsDecided rows decided × IsNextOrdinal decided count ordinal) db
 
--- so many records: postings, requests and references, each under such an ordinal
+-- a balance, or how many requests are decided, is written
+abbrev pub ChangesRow : Additions
+ChangesRow text values = (rule : Rule) × IsUpdateOf rule text
+
+-- so many records: postings, requests and references, each under such an ordinal, and what a posting changes
 abbrev pub AddsForRecords : Database → ℕ → Additions
 AddsForRecords db count text values = AddsPostings (λ r. FollowsCount db count r.ordinal) text values
     ⊎ (AddsRequests (λ r. FollowsCount db count r.ordinal) text values
-    ⊎ AddsReferences (λ r. FollowsCount db count r.ordinal) text values)
+    ⊎ (AddsReferences (λ r. FollowsCount db count r.ordinal) text values ⊎ ChangesRow text values))
 
 -- ---- the rows of a branch
 

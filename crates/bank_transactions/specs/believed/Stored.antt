@@ -1,6 +1,6 @@
 -- What a look-up, a posting, a batch and an opening answer of whatever rows a file holds, be they a bank's or
 -- not.
-use Rattle.std.specs.Prelude.{◌≡◌, ◌≢◌, ℕ, ℤ, pos, find, List, Option, Some, None, Result, Ok, Err, ⊤}
+use Rattle.std.specs.Prelude.{◌≡◌, ◌≢◌, ℕ, ℤ, pos, find, List, Option, Some, None, IsSome, Result, Ok, Err, ⊤}
 use Rattle.std.specs.List.{AllByRecursion}
 use Rattle.sqlite.specs.Effect.{Database}
 use Rattle.message_records.specs.believed.Reading.{request_of}
@@ -21,13 +21,18 @@ use Rattle.posting_rules.specs.declared.judgments.Found.{Found}
 use Rattle.posting_rules.specs.declared.counter.Opening.{Opening}
 use Rattle.posting_rules.specs.declared.counter.Opening.TheVariants.{Opened}
 use Rattle.posting_rules.specs.declared.rows.RequestRow.{RequestRow}
+use Rattle.posting_rules.specs.declared.rows.ReferenceRow.{ReferenceRow}
 use Rattle.sql_meanings.specs.believed.Entries.{Entry, has_two}
+use Rattle.sql_meanings.specs.believed.Tables.{Defines}
+use Rattle.store_rows.specs.believed.BankTables.{bank_tables}
 use Rattle.store_rows.specs.believed.Columns.{meta_in}
 use Rattle.store_rows.specs.believed.Readings.{read_balance, read_branch, read_floor, read_reference, read_request}
 use Rattle.store_rows.specs.believed.Rules.{AccountFits, IsAbove, OfRows, StoredRows, TellerFits, branch_under}
 use Rattle.store_rows.specs.believed.Rules.{floor_under, row_under}
+use Rattle.store_rows.specs.believed.Shown.{ShowsReference, ShowsRequest}
 use Rattle.store_rows.specs.believed.Stored.{FindsStored}
 use Rattle.store_rows.specs.believed.View.{Shows}
+use Rattle.bank_transactions.specs.believed.Batches.{DecidesNone}
 
 -- the balance that the account's row has, none where it has no row; and it has one just where its branch's
 -- count says so
@@ -75,13 +80,26 @@ HoldsKept rows teller number (Some kept) =
     (r : Entry) × (row : RequestRow) × (find (has_two (pos teller) (pos number)) rows.requests ≡ Some r)
     × (read_request r ≡ Ok row) × (kept.decision ≡ row.decision) × HoldsReference rows row.ordinal kept.reference
 
+-- the reference that is shown under an ordinal, be its table a bank's or not
+abbrev pub ShowsText : Database → ℕ → Option (List ℕ) → Type 0
+ShowsText db ordinal None = ShowsReference db ordinal None
+ShowsText db ordinal (Some text) =
+    (row : ReferenceRow) × ShowsReference db ordinal (Some row) × (text ≡ row.reference)
+
+-- what is kept of a request by the rows that its look-ups show, be their tables a bank's or not
+abbrev pub ShowsKept : Database → ℕ → ℕ → Option KeptFields → Type 0
+ShowsKept db teller number None = ShowsRequest db teller number None
+ShowsKept db teller number (Some kept) = (row : RequestRow) × ShowsRequest db teller number (Some row)
+    × (kept.decision ≡ row.decision) × ShowsText db row.ordinal kept.reference
+
 -- the bank's row of `meta` counts so many decided requests
 abbrev pub HoldsDecided : StoredRows → ℕ → Type 0
 HoldsDecided rows decided =
     (version : ℤ) × (meta_in rows.meta ≡ Some (record { version = version; decided = pos decided }))
 
 -- what is found for a request is what the rows of its teller, its account, the account's branch, its teller
--- and number with the ordinal there, and the bank hold; and its account isn't below the floor there
+-- and number with the ordinal there, and the bank hold; and its account isn't below the floor there. What is
+-- found to be kept is what is shown, whatever tables the database has.
 pub record IsStoredFound (db : Database) (r : RequestFields) (found : Found) : Type 0 where
   pub teller : IsStoredTeller db r.teller found.teller
   pub account : IsStoredBalance db r.account found.account
@@ -89,12 +107,14 @@ pub record IsStoredFound (db : Database) (r : RequestFields) (found : Found) : T
   pub floor : IsStoredFloor db (branch_of_account r.account) found.floor
   pub kept : OfRows (λ rows. HoldsKept rows r.teller r.number found.kept) db
   pub decided : OfRows (λ rows. HoldsDecided rows found.decided) db
+  pub shown : ShowsKept db r.teller r.number found.kept
 
--- the reply is that of the case which applies to what the rows hold
-pub record RepliesToStored (db : Database) (r : RequestFields) (reply : List ℕ) : Type 0 where
+-- the reply is that of the case which applies to what the rows hold; where the request is kept, all is as it was
+pub record RepliesToStored (old new : Database) (r : RequestFields) (reply : List ℕ) : Type 0 where
   pub found : Found
-  pub stored : IsStoredFound db r found
+  pub stored : IsStoredFound old r found
   pub is : reply ≡ reply_spelling (reply_in (case_of found r) r)
+  pub stays : IsSome found.kept → new ≡ old
 
 -- ---- an opening
 
@@ -143,14 +163,22 @@ abbrev pub HasRead : StoredRows → Tables → Result RequestFields Bad → Type
 HasRead rows t (Err fault) = ⊤
 HasRead rows t (Ok r) = HasStored rows t r
 
--- The replies are those to the records one after another, each on what the ones before it left, in tables that
--- had what the rows hold: under the keys of each request, and of how many are decided.
-pub record RepliesInTurn (rows : StoredRows) (moment : ℕ) (records replies : List (List ℕ)) : Type 0 where
-  pub tables : Tables
-  pub stored : AllByRecursion (λ bytes. HasRead rows tables (request_of bytes)) records
-  pub decided : HoldsDecided rows tables.decided
-  pub are : replies ≡ replies_past_all tables moment records
+-- what was read is no request, or the tables have what is shown to be kept of it
+abbrev pub HasShown : Database → Tables → Result RequestFields Bad → Type 0
+HasShown db t (Err fault) = ⊤
+HasShown db t (Ok r) = ShowsKept db r.teller r.number (kept_in t.requests t.references r.teller r.number)
 
--- whatever rows the database holds
-abbrev pub RepliesToAllStored : Database → ℕ → List (List ℕ) → List (List ℕ) → Type 0
-RepliesToAllStored db moment records replies = OfRows (λ rows. RepliesInTurn rows moment records replies) db
+-- one of a bank's tables isn't there as its CREATE text makes it
+abbrev pub HasOther : Database → Type 0
+HasOther db = AllByRecursion (Defines db.schema) bank_tables → ⊥
+
+-- The replies are those to the records one after another, each on what the ones before it left, in tables that
+-- had what the rows hold: under the keys of each request, and of how many are decided. Where those are no bank's
+-- tables, they had what is shown to be kept. Where none of the records is decided there, all is as it was.
+pub record RepliesToAllStored (old new : Database) (moment : ℕ) (records replies : List (List ℕ)) : Type 0 where
+  pub tables : Tables
+  pub stored : OfRows (λ rows. AllByRecursion (λ bytes. HasRead rows tables (request_of bytes)) records
+      × HoldsDecided rows tables.decided) old
+  pub shown : HasOther old → AllByRecursion (λ bytes. HasShown old tables (request_of bytes)) records
+  pub are : replies ≡ replies_past_all tables moment records
+  pub stays : DecidesNone tables moment records → new ≡ old

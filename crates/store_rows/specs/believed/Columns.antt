@@ -1,5 +1,5 @@
 -- What the reading statements show of a row, and what they look for.
-use Rattle.std.specs.Prelude.{ℕ, ℤ, pos, List, [], Option, find, option_map}
+use Rattle.std.specs.Prelude.{ℕ, ℤ, pos, List, Option, find, option_map}
 use Rattle.std.specs.Prelude.{slice_index_or}
 use Rattle.store_rows.specs.declared.metas.StoredMeta.{StoredMeta}
 use Rattle.store_rows.specs.declared.metas.TheConstants.{META_ID}

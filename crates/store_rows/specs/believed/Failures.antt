@@ -38,7 +38,7 @@ inserts =
     ADD_BRANCH.now ∷ ADD_TELLER.now ∷ ADD_ACCOUNT.now ∷ ADD_FLOOR.now ∷ ADD_HISTORY.now ∷ ADD_REQUEST.now
     ∷ ADD_REFERENCE.now ∷ ADD_EIGHT_POSTINGS.now ∷ ADD_EIGHT_REQUESTS.now ∷ []
 
--- rows that are put in: by which text, with which values
+-- rows that a call puts in, or changes: by which text, with which values
 abbrev pub Additions : Type 1
 Additions = List ℕ → Row → Type 0
 
@@ -49,9 +49,9 @@ TakesKey text values old new = (key : ℤ) × (rest : Row) × (e : Error) × Has
     × (values ≡ Int key ∷ rest)
     × ExecutesInside 0 text values old new (Err e) × (is_taken_key e ≡ true)
 
--- the text was to change one row, and did not
-abbrev pub MeetsNone : List ℕ → State → State → Type 0
-MeetsNone text old new = (params : Row) × (count : ℕ) × ExecutesInside 0 text params old new (Ok count)
+-- with these values the text was to change one row, and did not
+abbrev pub MeetsNone : List ℕ → Row → State → State → Type 0
+MeetsNone text values old new = (count : ℕ) × ExecutesInside 0 text values old new (Ok count)
     × (nat_eq count 1 ≡ false)
 
 -- the text changes a row that the rule wants
@@ -62,7 +62,8 @@ IsUpdateOf Account text = text ≡ SET_ACCOUNT.now
 IsUpdateOf _ text = ⊥
 
 -- the statement that led from one state to the other met that the rule is broken: a key of such rows is taken, or
--- a row isn't there
+-- such a row isn't there
 abbrev pub HasMet : Additions → State → State → Rule → Type 0
 HasMet Adds old new Key = (text : List ℕ) × (values : Row) × Adds text values × TakesKey text values old new
-HasMet Adds old new rule = (text : List ℕ) × IsUpdateOf rule text × MeetsNone text old new
+HasMet Adds old new rule = (text : List ℕ) × (values : Row) × Adds text values × IsUpdateOf rule text
+    × MeetsNone text values old new

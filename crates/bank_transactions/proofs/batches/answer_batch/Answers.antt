@@ -75,7 +75,7 @@ returns-clause-idle g c clean records made t shows so none =
     ]
 
 pub returns-clause-stored : goal.returns-clause-stored
-returns-clause-stored g c clean records made rows has =
+returns-clause-stored g c clean records made =
     let fill = c.in_ok-fill.ensures in
     let before : HasCleanDisk (state g.S.Store c.fill.new.tx.conn.now) =
     elim c.if-judged-before.branch [
@@ -83,6 +83,11 @@ returns-clause-stored g c clean records made rows has =
           omega (arith, w.in_ok-write.ensures.says.survives.clean, rw w.tx-is at clean)
       | else-judged-before w ↦ rw w.tx-is at clean
     ] in
-    rw c.into_replies.ensures (in_turn rows c.args.batch _ records c.args.moment
+    rw c.into_replies.ensures (in_turn _ _ c.args.batch _ records c.args.moment
     (view c.judge-judged.result.overlay) c.judge-judged.result.replies.items made refl fill.same
-    (fill.stored before (homes_made c.args.batch records made) rows has) c.judge-judged.ensures.judged)
+    (fill.shown before).branches (fill.stored before (homes_made c.args.batch records made))
+    (λ other. (fill.shown before).kept) c.judge-judged.ensures.judged
+    (λ none. elim c.if-judged-before.branch [
+      | then-judged-before+in_ok-write w ↦ absurd (w.if-judged-before.true none)
+      | else-judged-before w ↦ rw w.tx-is ((fill.says.says.leaves before).0.now)
+    ]))

@@ -1,6 +1,7 @@
 -- A try that was given up, and then the batch with its look-ups.
 use Rattle.std.proofs.Common.{◌≡◌, List, arith, length, subst}
 use Rattle.std.specs.Prelude.{IfOk}
+use Rattle.sqlite.specs.Held.{state}
 use Rattle.posting_batch.specs.View.{IsMadeOf}
 use Rattle.bank_transactions.specs.believed.Stored.{RepliesToAllStored}
 use Rattle.bank_transactions.proofs.Tries.{faults_undone, idle_again, stored_again, transacts_again}
@@ -35,7 +36,8 @@ returns-in-Again-clause-stored g c =
     (IsMadeOf c.args.batch) (IsMadeOf c.in-Again.batch) again.0.made
     (λ records made clean. let does = c.post_looked_up-in-Again.ensures.says records made in
     omega (arith, does.survives.clean, clean))
-    (λ db records replies. RepliesToAllStored db c.args.moment records replies.items) c.post_looked_up-in-Again.result
+    (λ db records replies. RepliesToAllStored db (state g.S.Store c.post_looked_up-in-Again.new.conn).now c.args.moment
+    records replies.items) c.post_looked_up-in-Again.result
     c.post_looked_up-in-Again.ensures.stored
 
 pub returns-in-Again-clause-undone : goal.returns-in-Again-clause-undone

@@ -30,7 +30,7 @@ returns-clause-idle g c =
 pub returns-clause-stored : goal.returns-clause-stored
 returns-clause-stored g c =
     stored_after g.S.Store (IsMadeOf c.args.batch)
-    (λ db records replies. RepliesToAllStored db c.args.moment records replies.items) c.args.conn.now
+    (λ old new records replies. RepliesToAllStored old new c.args.moment records replies.items) c.args.conn.now
     c.begin-tx.result.conn.now c.answer_batch-replies.new.tx.conn.now c.finish.new.tx.0 c.conn-1.given.0
     c.answer_batch-replies.result c.finish.result c.begin-tx.ensures.begun c.finish.ensures
     (λ records made. let does = c.answer_batch-replies.ensures.says records made in search rules)

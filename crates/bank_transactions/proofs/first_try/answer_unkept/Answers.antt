@@ -6,6 +6,7 @@ use Rattle.posting_rules.specs.believed.Tables.{Tables}
 use Rattle.posting_batch.specs.{Overlay.Overlay, View.view, declared.slots.RequestSlot.RequestSlot}
 use Rattle.bank_transactions.proofs.{Added.adds_of_batch, JudgedSlots.judging_all, JudgedSlots.ready}
 use Rattle.bank_transactions.proofs.{Chained.acts_read, Chained.does_adds, Chained.does_err, HeldBatch.homes_made}
+use Rattle.bank_transactions.proofs.{OwnRows.none_other}
 use Rattle.bank_transactions.proofs.{HeldBatch.in_turn, LookUps.does_look, NewBatch.all_filled, NewBatch.all_held}
 use Rattle.bank_transactions.proofs.{NewBatch.answered_new, NewBatch.decided_all, NewBatch.is_again, NewBatch.refused_new}
 use Rattle.bank_transactions.proofs.{NewBatch.unanswered_new, Together.all_written, Together.requests_first}
@@ -116,7 +117,7 @@ returns-in_ok-write_after-in-Ok-clause-busy g c clean live records made t shows 
     ∙ sym (ap (λ (q : Overlay). q.decided) e)))
 
 pub returns-in_ok-write_after-in-Ok-clause-stored : goal.returns-in_ok-write_after-in-Ok-clause-stored
-returns-in_ok-write_after-in-Ok-clause-stored g c clean live records made rows has =
+returns-in_ok-write_after-in-Ok-clause-stored g c clean live as_made records made =
     let p' = view c.fill_known.new.overlay in
     let o = view c.judge-judged.result.overlay in
     let fk = c.in_ok-fill_known.ensures in
@@ -125,9 +126,11 @@ returns-in_ok-write_after-in-Ok-clause-stored g c clean live records made rows h
     omega (arith, c.in_ok-write_after-in-Ok.ensures.says.survives.clean, clean) in
     let first : HasCleanDisk (state g.S.Store c.fill_known.new.tx.conn.now) =
     omega (arith, c.in-Ok.ensures.puts.says.survives.clean, before) in
+    let all = decided_all _ _ _ _ c.all_decided.ensures (search rules) in
     let held = all_held c.args.batch p' o c.deref.result.now records made fk.says
     (ap (λ (v : SmallVec RequestSlot). v.items) fk.new_rows.3) j.again.keys j.again.own
-    (decided_all _ _ _ _ c.all_decided.ensures (search rules)).1 c.deref.ensures c.in-Ok.ensures.puts c.in-Ok.ensures.unknown before live
+    all.1 c.deref.ensures c.in-Ok.ensures.puts c.in-Ok.ensures.unknown before live
     (fk.stored first (homes_made c.args.batch records made)) in
-    rw c.into_replies.ensures (in_turn rows c.args.batch _ records c.args.moment o c.judge-judged.result.replies.items
-    made refl fk.same (held rows has) j.judged)
+    rw c.into_replies.ensures (in_turn _ _ c.args.batch _ records c.args.moment o c.judge-judged.result.replies.items
+    made refl fk.same (fk.own first) held (λ other. absurd (none_other (state g.S.Store c.args.tx.now.conn.now).now as_made other)) j.judged
+    (λ none. absurd (all.0 none)))

@@ -3,7 +3,7 @@ use Rattle.std.proofs.Common.{◌≡◌, Err, None, rules}
 use Rattle.posting_batch.specs.View.{IsMadeOf}
 use Rattle.store_rows.specs.declared.fault.TableFault.TheVariants.{Sqlite}
 use Rattle.bank_transactions.specs.Tries.{batch_of}
-use Rattle.bank_transactions.proofs.Tries.{not_asked, tried_busy, tried_says, tried_stored}
+use Rattle.bank_transactions.proofs.Tries.{not_asked, tried_busy, tried_says, tried_stored, tried_undone}
 use Rattle.bank_transactions.proofs.first_try.try_new.Goals.{in-Ok+in-Answered-1, in-Err-1}
 use Rattle.bank_transactions.proofs.first_try.try_new.Goals as goal
 
@@ -32,6 +32,21 @@ returns-clause-says g c =
     c.begin-tx.ensures.begun c.begin-tx.ensures.settled (rw same at c.finish.ensures)
     (λ records made. search rules) none c.answer_new-tried.ensures.says
 
+pub returns-clause-undone : goal.returns-clause-undone
+returns-clause-undone g c =
+    let same : c.match-tried.tried ≡ c.answer_new-tried.result = elim c.match-tried.branch [
+      | in-Ok+in-Answered-1 w ↦ search rules
+      | in-Err-1 w ↦ w.tried-is
+    ] in
+    let none : batch_of c.answer_new-tried.result ≡ None = elim c.match-tried.branch [
+      | in-Ok+in-Answered-1 w ↦ search rules
+      | in-Err-1 w ↦ search rules
+    ] in
+    tried_undone g.S.Store (IsMadeOf c.args.batch) c.args.moment c.args.conn.now c.begin-tx.result
+    c.answer_new-tried.new.tx c.finish.new.tx.0 c.conn-2-1.given.0 c.answer_new-tried.result c.finish.result
+    c.begin-tx.ensures.begun c.begin-tx.ensures.settled (rw same at c.finish.ensures)
+    (λ records made. search rules) none c.answer_new-tried.ensures.says
+
 pub returns-clause-busy : goal.returns-clause-busy
 returns-clause-busy g c =
     let same : c.match-tried.tried ≡ c.answer_new-tried.result = elim c.match-tried.branch [
@@ -52,4 +67,4 @@ returns-clause-stored g c =
     tried_stored g.S.Store (IsMadeOf c.args.batch) c.args.moment c.args.conn.now c.begin-tx.result
     c.answer_new-tried.new.tx c.finish.new.tx.0 c.conn-2-1.given.0 c.answer_new-tried.result c.finish.result
     c.begin-tx.ensures.begun c.begin-tx.ensures.settled (rw same at c.finish.ensures)
-    (λ records made. search rules) c.answer_new-tried.ensures.stored
+    (λ records made. search rules) c.requires.made c.answer_new-tried.ensures.stored

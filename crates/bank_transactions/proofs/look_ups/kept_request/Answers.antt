@@ -7,7 +7,8 @@ use Rattle.posting_rules.specs.declared.rows.RequestRow.{RequestRow}
 use Rattle.sql_meanings.specs.believed.Entries.{has_two}
 use Rattle.store_rows.specs.{Columns.request_in, believed.Readings.read_request, believed.Rules.HoldsBank}
 use Rattle.store_rows.specs.believed.{Rules.StoredRows, Stored.FindsStored}
-use Rattle.bank_transactions.specs.believed.Stored.{HoldsKept, HoldsReference}
+use Rattle.store_rows.specs.believed.Shown.{ShowsRequest}
+use Rattle.bank_transactions.specs.believed.Stored.{HoldsKept, HoldsReference, ShowsKept, ShowsText}
 use Rattle.bank_transactions.proofs.{Broken.request_broken, SoundRows.request_found}
 use Rattle.bank_transactions.proofs.LookUps.{looked_at, reads_both, reads_but}
 use Rattle.bank_transactions.proofs.ReadsInTurn.{find_failed, find_tells}
@@ -17,25 +18,25 @@ pub returns-in_err-row-clause-says : goal.returns-in_err-row-clause-says
 returns-in_err-row-clause-says g c =
     let same : c.from_residual.result ≡ Err c.in_err-row.field-0.0 = search rules in
     rw same (find_failed (λ rows. find (has_two (pos c.args.teller) (pos c.args.number)) rows.requests) read_request
-    (request_broken _ c.args.teller c.args.number _) c.in_err-row.ensures)
+    (request_broken _ c.args.teller c.args.number _) c.in_err-row.ensures.says)
 
 pub returns-in_default-clause-says : goal.returns-in_default-clause-says
 returns-in_default-clause-says g c =
     find_tells (λ rows. find (has_two (pos c.args.teller) (pos c.args.number)) rows.requests) read_request _
-    c.in_ok-row.ensures
+    c.in_ok-row.ensures.says
     (λ t sound finds. ap (option_map (kept_of_row t.references))
     (sym c.in_default.is ∙ request_found t c.args.teller c.args.number sound _ finds))
 
 pub returns-in_err-reference-clause-says : goal.returns-in_err-reference-clause-says
 returns-in_err-reference-clause-says g c =
     let same : c.from_residual-in_err-reference.result ≡ Err c.in_err-reference.field-0.0 = search rules in
-    rw same (reads_but (looked_at c.in_ok-row.ensures) c.in_err-reference.ensures.says)
+    rw same (reads_but (looked_at c.in_ok-row.ensures.says) c.in_err-reference.ensures.says)
 
 pub returns-clause-says : goal.returns-clause-says
 returns-clause-says g c =
     let row = c.in-Some.row in
     let first = find_tells (λ rows. find (has_two (pos c.args.teller) (pos c.args.number)) rows.requests) read_request
-    {w = λ t. request_in t c.args.teller c.args.number} _ c.in_ok-row.ensures
+    {w = λ t. request_in t c.args.teller c.args.number} _ c.in_ok-row.ensures.says
     (λ t sound finds. sym c.in-Some.is ∙ request_found t c.args.teller c.args.number sound _ finds) in
     reads_both first c.in_ok-reference.ensures.says (λ t sound at. sound) (λ t sound at its.
     ap Some c.kept_with.ensures ∙ ap (λ reference. Some (kept_with reference row.decision)) its
@@ -52,9 +53,32 @@ pub returns-clause-stored : goal.returns-clause-stored
 returns-clause-stored g c clean rows has =
     let mid : HasCleanDisk (state g.S.Store c.find_request.new.tx.conn.now) =
     omega (arith, c.in_ok-reference.ensures.says.says.survives.clean, clean) in
-    let found = rw c.in-Some.is at ((c.in_ok-row.ensures.told mid rows has).0) in
-    let there = subst (λ (db : Database). HoldsBank db rows) (sym (c.in_ok-row.ensures.leaves mid).0.now_is) has in
+    let found = rw c.in-Some.is at ((c.in_ok-row.ensures.says.told mid rows has).0) in
+    let there = subst (λ (db : Database). HoldsBank db rows) (sym (c.in_ok-row.ensures.says.leaves mid).0.now_is) has in
     subst (λ (kept : KeptFields). HoldsKept rows c.args.teller c.args.number (Some kept))
     (sym c.kept_with.ensures)
     (kept_held rows c.args.teller c.args.number c.in-Some.row c.in_ok-reference.reference found
     (c.in_ok-reference.ensures.stored clean rows there))
+
+-- ---- whatever tables there are
+
+pub returns-in_default-clause-shown : goal.returns-in_default-clause-shown
+returns-in_default-clause-shown g c clean = rw c.in_default.is at (c.in_ok-row.ensures.shown clean)
+
+-- a row that was shown, and then the reference under its ordinal
+kept_shown : (old mid : Database) (teller number : ℕ) (row : RequestRow) (reference : Option (List ℕ)) → mid ≡ old
+    → ShowsRequest old teller number (Some row) → ShowsText mid row.ordinal reference
+    → ShowsKept old teller number (Some (kept_with reference row.decision))
+kept_shown old mid teller number row reference same first second =
+    (row, first, refl, subst (λ (db : Database). ShowsText db row.ordinal reference) same second)
+
+pub returns-clause-shown : goal.returns-clause-shown
+returns-clause-shown g c clean =
+    let mid : HasCleanDisk (state g.S.Store c.find_request.new.tx.conn.now) =
+    omega (arith, c.in_ok-reference.ensures.says.says.survives.clean, clean) in
+    let old = (state g.S.Store c.args.tx.now.conn.now).now in
+    subst (λ (kept : KeptFields). ShowsKept old c.args.teller c.args.number (Some kept))
+    (sym c.kept_with.ensures)
+    (kept_shown old (state g.S.Store c.find_request.new.tx.conn.now).now c.args.teller c.args.number c.in-Some.row
+    c.in_ok-reference.reference (c.in_ok-row.ensures.says.leaves mid).0.now_is
+    (rw c.in-Some.is at (c.in_ok-row.ensures.shown mid)) (c.in_ok-reference.ensures.shown clean))

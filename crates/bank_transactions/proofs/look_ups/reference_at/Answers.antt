@@ -1,5 +1,5 @@
 -- What the row of a reference tells.
-use Rattle.std.proofs.Common.{◌≡◌, Err, rules, sym, ap, ◌∙◌}
+use Rattle.std.proofs.Common.{◌≡◌, Err, rules, refl, sym, ap, ◌∙◌}
 use Rattle.std.specs.Prelude.{option_map}
 use Rattle.posting_rules.specs.believed.LookUps.{text_of_reference}
 use Rattle.store_rows.specs.believed.{Readings.read_reference, Rules.row_under}
@@ -11,16 +11,22 @@ pub returns-in_err-row-clause-says : goal.returns-in_err-row-clause-says
 returns-in_err-row-clause-says g c =
     let same : c.from_residual.result ≡ Err c.in_err-row.field-0.0 = search rules in
     rw same (find_failed (λ rows. row_under rows.references c.args.ordinal) read_reference
-    (reference_broken _ c.args.ordinal _) c.in_err-row.ensures)
+    (reference_broken _ c.args.ordinal _) c.in_err-row.ensures.says)
 
 pub returns-in_default-clause-says : goal.returns-in_default-clause-says
 returns-in_default-clause-says g c =
-    find_tells (λ rows. row_under rows.references c.args.ordinal) read_reference _ c.in_ok-row.ensures
+    find_tells (λ rows. row_under rows.references c.args.ordinal) read_reference _ c.in_ok-row.ensures.says
     (λ t sound finds. ap (option_map text_of_reference)
     (sym c.in_default.is ∙ reference_found t c.args.ordinal sound _ finds))
 
 pub returns-clause-says : goal.returns-clause-says
 returns-clause-says g c =
-    find_tells (λ rows. row_under rows.references c.args.ordinal) read_reference _ c.in_ok-row.ensures
+    find_tells (λ rows. row_under rows.references c.args.ordinal) read_reference _ c.in_ok-row.ensures.says
     (λ t sound finds. ap (option_map text_of_reference)
     (sym c.in-Some.is ∙ reference_found t c.args.ordinal sound _ finds))
+
+pub returns-in_default-clause-shown : goal.returns-in_default-clause-shown
+returns-in_default-clause-shown g c clean = rw c.in_default.is at (c.in_ok-row.ensures.shown clean)
+
+pub returns-clause-shown : goal.returns-clause-shown
+returns-clause-shown g c clean = (c.in-Some.row, rw c.in-Some.is at (c.in_ok-row.ensures.shown clean), refl)

@@ -1,12 +1,12 @@
 -- A request whose slots are filled, judged and written.
 use Rattle.std.proofs.Common.{◌≡◌, Err, rules, arith, ap, ◌∙◌}
 use Rattle.sqlite.specs.{Held.state, State.HasCleanDisk}
-use Rattle.posting_batch.specs.{Judging.found_over, View.view}
+use Rattle.posting_batch.specs.{Judging.found_over, Overlay.Overlay, View.view}
 use Rattle.bank_transactions.specs.Filling.{emptied}
 use Rattle.bank_transactions.proofs.JudgedSlots.{answered_idle, answered_not, answered_written, homes_one}
 use Rattle.bank_transactions.proofs.JudgedSlots.{judging_one, ready_one}
 use Rattle.bank_transactions.proofs.Chained.{acts_read, does_adds, does_err}
-use Rattle.bank_transactions.proofs.{Added.adds_of_one, HeldBatch.found_stored, LookUps.does_look}
+use Rattle.bank_transactions.proofs.{Added.adds_of_one, HeldBatch.found_stored, HeldBatch.kept_same, LookUps.does_look}
 use Rattle.bank_transactions.proofs.posting.post_inside.Goals.{then-overlay-before+in_ok-write, else-overlay-before}
 use Rattle.bank_transactions.proofs.posting.post_inside.Goals as goal
 
@@ -55,7 +55,7 @@ returns-clause-acts g c =
     ]
 
 pub returns-clause-stored : goal.returns-clause-stored
-returns-clause-stored g c clean =
+returns-clause-stored g c clean live =
     let r = c.args.request.now in
     let fill = c.in_ok-fill.ensures in
     let made = c.for_request-overlay.ensures.covers in
@@ -69,6 +69,14 @@ returns-clause-stored g c clean =
       found = found_over (view c.fill.new.overlay) r;
       stored = found_stored (state g.S.Store c.args.tx.now.conn.now).now r (view c.fill.new.overlay)
           (fill.same ∙ ap emptied made)
-          (fill.stored before (homes_one r (view c.for_request-overlay.result) made));
+          (fill.stored before (homes_one r (view c.for_request-overlay.result) made)) (fill.shown before);
       is = c.judge-reply.ensures.reply;
+      stays = λ there.
+          let none = kept_same (view c.fill.new.overlay) (view c.judge-reply.new.self) c.args.moment r
+          c.judge-reply.ensures.overlay there in
+          elim c.if-overlay-before.branch [
+            | then-overlay-before+in_ok-write w ↦
+                absurd (w.if-overlay-before.true (ap (λ (o : Overlay). o.decided) none))
+            | else-overlay-before w ↦ rw w.tx-is ((fill.says.says.leaves before).0.now)
+          ];
     }

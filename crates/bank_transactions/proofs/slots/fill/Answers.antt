@@ -5,7 +5,7 @@ use Rattle.sqlite.specs.{Effect.Database, Held.state, State.HasCleanDisk}
 use Rattle.smallvec.specs.SmallVec.{SmallVec, with_items}
 use Rattle.posting_batch.specs.{declared.slots.RequestSlot.RequestSlot, View.view}
 use Rattle.store_rows.specs.believed.Rules.{HoldsBank}
-use Rattle.bank_transactions.specs.Filling.{RequestHeld, emptied_request}
+use Rattle.bank_transactions.specs.Filling.{RequestHeld, RequestShown, emptied_request}
 use Rattle.bank_transactions.proofs.HeldSlots.{put_back}
 use Rattle.bank_transactions.proofs.LookUps.{reads_but, reads_so}
 use Rattle.bank_transactions.proofs.FilledBatch.{emptied_kept, kept_after, nothing_asked, with_kept}
@@ -61,4 +61,20 @@ returns-clause-stored g c clean homes rows has =
           (sym (put_back kv _ c.fill_all.new.slots c.deref_mut.ensures.value c.fill_all.auto.slots))
           (two.stored clean rows has1 (nothing_asked _));
       decided = first.decided;
+    }
+
+pub returns-clause-shown : goal.returns-clause-shown
+returns-clause-shown g c clean =
+    let kv = c.fill_known.new.overlay.kept in
+    let one = c.in_ok-fill_known.ensures in
+    let two = c.in_ok-fill_all.ensures in
+    let before : HasCleanDisk (state g.S.Store c.fill_known.new.tx.conn.now) =
+    omega (arith, two.says.says.survives.clean, clean) in
+    let shown = subst (λ (db : Database). AllByRecursion (RequestShown db) c.fill_all.new.slots)
+    (one.says.says.leaves before).0.now (two.shown clean) in
+    record {
+      branches = one.own before;
+      kept = subst (λ (slots : List RequestSlot). AllByRecursion
+          (RequestShown (state g.S.Store c.args.tx.now.conn.now).now) slots)
+          (sym (put_back kv _ c.fill_all.new.slots c.deref_mut.ensures.value c.fill_all.auto.slots)) shown;
     }

@@ -1,7 +1,9 @@
 -- One slot more is filled.
 use Rattle.std.proofs.Common.{◌<◌, Err, ◌≡◌, ◌+◌, add-one, length, rules, arith, refl, sym, subst, ◌∙◌}
 use Rattle.sqlite.specs.{Effect.Database, Held.state, State.HasCleanDisk}
+use Rattle.std.specs.Prelude.{⊤}
 use Rattle.store_rows.specs.believed.Rules.{HoldsBank}
+use Rattle.bank_transactions.proofs.FilledBatch.{nothing_asked}
 use Rattle.bank_transactions.proofs.LookUps.{reads_none, reads_but, reads_so}
 use Rattle.bank_transactions.proofs.Loops.{fill_more, all_filled, next_is}
 use Rattle.bank_transactions.proofs.Partly.{all_bare, all_held, partly_next, partly_none}
@@ -12,6 +14,7 @@ loop-slot-init g c = record {
   says = reads_none (search rules) (λ t so. refl);
   same = partly_none _ c.args.slots.now;
   stored = λ clean rows has. partly_none _ c.args.slots.now;
+  shown = λ clean. partly_none _ c.args.slots.now;
 }
 
 pub loop-slot-preserved : goal.loop-slot-preserved
@@ -36,6 +39,13 @@ loop-slot-preserved g c =
           let there = subst (λ (db : Database). HoldsBank db rows) (sym (so_far.says.says.leaves mid).0.now) has in
           partly_next _ xs ys i (i + 1) x y (add-one i) lt (one.stored clean rows there)
           (so_far.stored mid rows has);
+      shown =
+          λ clean.
+          let mid : HasCleanDisk (state g.S.Store c.loop-slot.tx.conn.now) =
+          omega (arith, one.says.says.survives.clean, clean) in
+          let here : g.T.Slot.Shown (state g.S.Store c.args.tx.now.conn.now).now y =
+          subst (λ (db : Database). g.T.Slot.Shown db y) (so_far.says.says.leaves mid).0.now (one.shown clean) in
+          partly_next _ xs ys i (i + 1) x y (add-one i) lt (λ _. here) (so_far.shown mid);
     }
 
 pub returns-in_err-slot-clause-says : goal.returns-in_err-slot-clause-says
@@ -61,3 +71,9 @@ returns-clause-stored g c clean rows has =
     let at_end : c.loop-slot.slot-index ≡ length c.args.slots.now = omega arith in
     all_held (g.T.Slot.KnowsRow c.args.branches.now c.args.floors.now rows) (g.T.Slot.Held rows) c.args.slots.now
     c.loop-slot.slots c.loop-slot.slot-index at_end (c.loop-slot.invariant.stored clean rows has)
+
+pub returns-clause-shown : goal.returns-clause-shown
+returns-clause-shown g c clean =
+    let at_end : c.loop-slot.slot-index ≡ length c.args.slots.now = omega arith in
+    all_held (λ _. ⊤) (g.T.Slot.Shown (state g.S.Store c.args.tx.now.conn.now).now) c.args.slots.now
+    c.loop-slot.slots c.loop-slot.slot-index at_end (c.loop-slot.invariant.shown clean) (nothing_asked c.args.slots.now)

@@ -1,6 +1,6 @@
 -- The slots so far are filled.
 use Rattle.std.proofs.Common.{◌≡◌, Ok}
-use Rattle.std.specs.List.{AllByRecursion}
+use Rattle.std.specs.{List.AllByRecursion, Prelude.⊤}
 use Rattle.sqlite.specs.{Held.state, State.HasCleanDisk}
 use Rattle.posting_rules.specs.believed.Damage.{IsUndamaged}
 use Rattle.store_rows.specs.believed.Rules.{OfRows}
@@ -17,4 +17,6 @@ invariant-loop-slot g l = record {
   stored : HasCleanDisk (state g.S.Store l.tx.conn.now)
       → OfRows (λ rows. Partly (λ x y. g.T.Slot.KnowsRow l.branches l.floors rows x → g.T.Slot.Held rows y) l.fn.slots
       l.slots l.slot-index) (state g.S.Store l.fn.tx.conn.now).now;
+  shown : HasCleanDisk (state g.S.Store l.tx.conn.now)
+      → Partly (λ x y. ⊤ → g.T.Slot.Shown (state g.S.Store l.fn.tx.conn.now).now y) l.fn.slots l.slots l.slot-index;
 }

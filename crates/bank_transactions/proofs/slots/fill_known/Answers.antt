@@ -7,7 +7,7 @@ use Rattle.posting_batch.specs.{declared.slots.AccountSlot.AccountSlot, declared
 use Rattle.posting_batch.specs.{declared.slots.FloorSlot.FloorSlot, declared.slots.TellerSlot.TellerSlot, View.view}
 use Rattle.store_rows.specs.believed.Rules.{HoldsBank}
 use Rattle.bank_transactions.specs.Filling.{AccountHeld, BranchHeld, FloorHeld, TellerHeld, emptied_account}
-use Rattle.bank_transactions.specs.Filling.{emptied_branch, emptied_floor, emptied_teller}
+use Rattle.bank_transactions.specs.Filling.{HasOwnRow, emptied_branch, emptied_floor, emptied_teller}
 use Rattle.bank_transactions.proofs.HeldSlots.{know_branches, know_floors, put_back}
 use Rattle.smallvec.specs.SmallVec.{with_items}
 use Rattle.sqlite_trees.proofs.ListLemmas.{all_both}
@@ -146,3 +146,19 @@ returns-clause-stored g c clean homes rows has =
           (two.same ∙ ap (map emptied_floor) c.deref_mut-2.ensures.value) floors homes.floors)));
       decided = zero.stored clean0 rows has;
     }
+
+-- ---- whatever tables it has
+
+pub returns-clause-own : goal.returns-clause-own
+returns-clause-own g c clean =
+    let bv = c.args.overlay.now.branches in
+    let one = c.in_ok-fill_all.ensures in
+    let clean1 : HasCleanDisk (state g.S.Store c.fill_all.new.tx.conn.now) = omega (
+      arith,
+      c.in_ok-fill_all-2.ensures.says.says.survives.clean,
+      c.in_ok-fill_all-3.ensures.says.says.survives.clean,
+      c.in_ok-fill_all-4.ensures.says.says.survives.clean,
+      clean,
+    ) in
+    subst (λ (slots : List BranchSlot). AllByRecursion HasOwnRow slots)
+    (sym (put_back bv _ c.fill_all.new.slots c.deref_mut.ensures.value c.fill_all.auto.slots)) (one.shown clean1)

@@ -1,11 +1,9 @@
 -- The first that isn't as made, or none.
-use Rattle.std.proofs.Common.{◌≡◌, ℕ, length, arith, subst, sym, Some, slice_get}
+use Rattle.std.proofs.Common.{◌≡◌, length, arith}
 use Rattle.std.proofs.Math.Seq.{take-length}
-use Rattle.std.specs.List.{AllByRecursion}
 use Rattle.std.proofs.lemmas.Option.{get_or_from_slice_get}
 use Rattle.std.proofs.lemmas.Bool.Decides.{not_from_Decides}
 use Rattle.sql_meanings.proofs.Places.{some_at}
-use Rattle.store_rows.specs.Definitions.{IsAsMade, made}
 use Rattle.store_rows.specs.declared.probes.BankTable.TheVariants.{Meta}
 use Rattle.store_rows.proofs.AsMade.{found_other, no_other}
 use Rattle.store_rows.proofs.definitions.first_other.Goals as goal

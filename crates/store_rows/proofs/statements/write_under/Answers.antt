@@ -20,7 +20,7 @@ returns g c = record {
   );
   leaves = λ clean live.
       let ran = c.in_ok-count.ensures.runs clean live in
-      (kept_inside _ _ _ _ (Ok c.in_ok-count.count) ran, λ none. (_, c.in_ok-count.count, ran, none));
+      (kept_inside _ _ _ _ (Ok c.in_ok-count.count) ran, λ none. (_, (c.in_ok-count.count, ran, none)));
   same_reference = search rules;
   survives = search rules;
 }

@@ -4,7 +4,7 @@ use Rattle.std.specs.Prelude.{ℤ, IfSome}
 use Rattle.message_records.specs.{believed.Ranges.whole_within, declared.limits.TheConstants.MAX_BRANCH}
 use Rattle.posting_rules.specs.believed.Tables.{Tables}
 use Rattle.store_rows.specs.{Holders.HasRow, Holders.with_balance, declared.holders.Holder.TheVariants.Branch}
-use Rattle.bank_transactions.specs.{Additions.NoRow, Doing.Does, Writing.by_change}
+use Rattle.bank_transactions.specs.{Doing.Does, Writing.by_change, believed.Additions.ChangesRow}
 use Rattle.bank_transactions.proofs.{Chained.does_for, Chained.does_none, Rows.branch_made, SoundRows.same_number}
 use Rattle.bank_transactions.proofs.batch_changes.BranchSlotChange.make.Goals as goal
 
@@ -20,7 +20,7 @@ returns-in-Some g c =
     let s = c.args.self.now in
     let same : c.in-Some.branch ≡ s.branch = same_number s.branch c.in-Some.branch
     (sym c.new.ensures ∙ c.in-Some.is) in
-    let does = subst (λ (n : ℕ). Does g.S.Store NoRow c.args.tx.now c.write_change.new.tx
+    let does = subst (λ (n : ℕ). Does g.S.Store ChangesRow c.args.tx.now c.write_change.new.tx
     (λ t. IfSome s.changed (λ _. HasRow (Branch n) t))
     (λ t. by_change s.changed (λ z. with_balance (Branch n) z t) t) (λ _. tt {0}) c.write_change.result)
     same c.write_change.ensures in
