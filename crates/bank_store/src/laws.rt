@@ -22,7 +22,7 @@ pub(crate) fn range_law<const LEAST: u64, const MOST: u64>(number: Whole<LEAST, 
     let _number = number.get();
 }
 
-/// The same of a floor, which is within the limit of a balance.
+/// A floor is within the limit of a balance.
 pub(crate) fn floor_law(floor: &Option<Cents>)
     requires { IfSome floor.now (λ z. z ≤ℤ pos 0) }
     ensures { IfSome floor.now IsFloor }
@@ -41,8 +41,8 @@ pub fn opened_law<S: Alter>(conn: &Connection<S>)
     trees_show_law(conn);
 }
 
-/// The same of a bank of an earlier version: where the machine stops while it is carried over, it can be carried
-/// over again.
+/// A connection that was just opened stands so at a bank of an earlier version, too: where the machine stops while it
+/// is carried over, it can be carried over again.
 pub fn opened_earlier_law<S: Alter>(conn: &Connection<S>)
     ensures { Opens (state S.Store conn.now) → (from : ℕ) (log : List Command)
         → ShowsEarlierTrees from (state S.Store conn.now).now.trees log

@@ -65,7 +65,7 @@ fn change_tables<S: Alter>(tx: &mut Transaction<'_, S>, from: u64) -> Result<(),
     }
 }
 
-// The same, in one transaction.
+// Changes the tables in one transaction.
 fn move_bank<S: Alter>(conn: &mut Connection<S>, from: u64) -> Result<(), OpenFault>
     requires mode { conn.old.in_transaction ≡ false }
     requires earlier { IsEarlier from }
@@ -79,7 +79,7 @@ fn move_bank<S: Alter>(conn: &mut Connection<S>, from: u64) -> Result<(), OpenFa
     }
 }
 
-// The same. Where the tables can't be changed the store is asked for a table once more, so that it is known to
+// Changes the tables. Where they can't be changed the store is asked for a table once more, so that it is known to
 // be open and to have undone the transaction.
 fn move_settled<S: Alter>(conn: &mut Connection<S>, from: u64) -> Result<(), OpenFault>
     requires mode { conn.old.in_transaction ≡ false }

@@ -37,8 +37,8 @@ fn make_tables<S: Alter>(conn: &mut Connection<S>) -> Result<(), OpenFault>
     }
 }
 
-// The same. Where they can't be made the store is asked for a table once more, so that it is known to be open
-// and to have undone the transaction.
+// Makes the tables. Where they can't be made the store is asked for a table once more, so that it is known to be
+// open and to have undone the transaction.
 fn make_settled<S: Alter>(conn: &mut Connection<S>) -> Result<(), OpenFault>
     requires { conn.old.in_transaction ≡ false }
     ensures makes { MakesBank S.Store conn.old conn.new IsRefusedOnTheWay result }
@@ -55,7 +55,7 @@ fn make_settled<S: Alter>(conn: &mut Connection<S>) -> Result<(), OpenFault>
     Err(fault)
 }
 
-// The same, where none of the tables is there.
+// Makes the tables where none of them is there.
 fn make_bank<S: Alter>(conn: &mut Connection<S>) -> Result<(), OpenFault>
     requires { conn.old.in_transaction ≡ false }
     ensures blank { HasCleanDisk (state S.Store conn.new)

@@ -89,7 +89,7 @@ pub fn answer_batch<S: Alter>(
     Ok(judged.into_replies())
 }
 
-// The same in a transaction of its own, each request looked up.
+// Answers a batch in a transaction of its own, each request looked up.
 fn post_looked_up<S: Alter>(
     conn: &mut Connection<S>,
     moment: Moment,

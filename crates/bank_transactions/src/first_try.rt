@@ -117,7 +117,7 @@ fn answer_unkept<S: Alter>(
     }
 }
 
-// The same, unless the first request is kept: a batch that was sent again is mostly kept whole.
+// Answers the records so, unless the first request is kept: a batch that was sent again is mostly kept whole.
 fn answer_new<S: Alter>(
     tx: &mut Transaction<'_, S>,
     moment: Moment,

@@ -171,8 +171,8 @@ fn account_beside<S: Alter>(tx: &mut Transaction<'_, S>, account: Account) -> Re
     Ok(balance)
 }
 
-// The same of an account, whose place is within the count of its branch where it is open, and which isn't below
-// the floor of its branch.
+// The balance of an account, none where it isn't open. An open one has its place within the count of its branch, and
+// isn't below the branch's floor.
 fn account_within<S: Alter>(
     tx: &mut Transaction<'_, S>,
     account: Account,

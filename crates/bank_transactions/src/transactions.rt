@@ -24,9 +24,9 @@ use sqlite::{Alter, Connection, Transaction};
 use std::alloc::Global;
 use store_rows::{TableFault, commit};
 
-/// Makes it known that a connection outside a transaction shows, as long as it is open, what was committed
-/// last, to which a failed statement goes back. A connection says so of itself only where it is asked whether
-/// a transaction goes on, so it is asked, for that clause alone: the answer is known, and nothing is done.
+/// A hook for proofs, with no effect at run time: a connection outside a transaction shows what was committed last,
+/// as long as it is open, and a failed statement goes back to that. A connection's clauses say so only where it is
+/// asked whether a transaction goes on.
 pub fn note_settled<S: Alter>(conn: &Connection<S>)
     requires { conn.now.in_transaction ≡ false }
     ensures { IsTrue (state S.Store conn.now).is_open → (state S.Store conn.now).now

@@ -10,7 +10,7 @@ use itoa::Buffer;
 // The length of a signed number of 128 bits.
 pub(crate) const NUMBER: usize = 40;
 
-// The same with its sign.
+// Its length with the sign.
 const SIGNED: usize = NUMBER + 1;
 
 /// Appends a character so many times.

@@ -39,7 +39,7 @@ fn bank_row(row: &Row) -> Option<StoredMeta>
     Some(StoredMeta { version, decided })
 }
 
-// The same of the only row that was found.
+// What the row of the bank holds, if it is the only one that was found.
 fn only_row(found: &[Row]) -> Option<StoredMeta>
     ensures { TakesOnly found.now result }
 {

@@ -91,7 +91,7 @@ fn join<R: StoredRow, O: StoredRow>(
     rest
 }
 
-// The same, with the others read from where these begin.
+// Joins rows that were read with those of the other table, read from where these begin.
 fn join_ahead<S: Alter, R: StoredRow, O: StoredRow>(
     conn: &mut Connection<S>,
     own: &[R],
@@ -123,7 +123,7 @@ fn join_ahead<S: Alter, R: StoredRow, O: StoredRow>(
     }
 }
 
-// The same, from where the first of these begins.
+// Joins rows that were read with those of the other table, from the first one's key on.
 fn join_first<S: Alter, R: StoredRow, O: StoredRow>(
     conn: &mut Connection<S>,
     own: &[R],

@@ -54,7 +54,7 @@ pub trait WalkedRow: Copy + Default {
 
     ghost have_keys: { (db : Database) (all : List Item) → HasItems db all → HaveKeys key all };
 
-    /// If no account is named, any is one.
+    /// With no account to look for, every row matches.
     ghost all_given: { (x : Item) → is_given None x ≡ true };
 }
 
