@@ -1,6 +1,5 @@
-//! A command over the files of a bank. **This file is to be read**: no clause ties a connection to the path that it was
-//! opened at, and a closed file is nothing that a clause can name, so that the contract says only how a command ends
-//! and what it prints. All that is done with the bank is done by [`command_over`].
+//! A command over the files of a bank. **Not verified, review by hand**: no clause ties a connection to the path that it
+//! was opened at, and none can name a closed file, so that the contract says only how a command ends and what it prints. All that is done with the bank is done by [`command_over`].
 ghost use Rattle.command_line.specs.Words.{AreInRange};
 ghost use Rattle.bank_commands.specs.Running.{LeavesClock, LeavesInput, Tells};
 

@@ -72,7 +72,7 @@ fn compare<S: Alter, T: Alter, R: Compared>(
     compare_rows(&mut stood, &mut rules)
 }
 
-// The same of two kinds, one after the other.
+// Compares the rows of two kinds, one kind after the other.
 fn compare_two<S: Alter, T: Alter, A: Compared, B: Compared>(
     bank: &mut Bank<S>,
     due: &mut Bank<T>,
@@ -89,7 +89,7 @@ fn compare_two<S: Alter, T: Alter, A: Compared, B: Compared>(
     }
 }
 
-// The same of four.
+// Compares the rows of four kinds.
 fn compare_four<S: Alter, T: Alter, A: Compared, B: Compared, C: Compared, D: Compared>(
     bank: &mut Bank<S>,
     due: &mut Bank<T>,

@@ -27,11 +27,11 @@ pub(crate) trait Hands<R: WalkedRow, V> {
     ghost use Rattle.bank_replays.specs.declared.fault.ReplayFault.{ReplayFault};
     ghost use Rattle.posting_rules.specs.declared.fault.Fault.{Fault};
 
-    /// From the one to the other it took these rows, in this order.
+    /// The taker went from the first state to the second by taking these rows, in this order.
     ghost Took: { Self → V → V → List R → Type 0 };
 
-    /// From the one to the other it took these but for the last, at which this fault came; or all of them, and
-    /// the fault came after them.
+    /// It went there by taking all of these rows but the last, at which this fault came; or all of them, with the
+    /// fault after them.
     ghost Part: { Self → V → V → List R → ReplayFault → Type 0 };
 
     /// Hands on one row more.

@@ -159,7 +159,7 @@ ServesAt seen reason address k k' w w' count Ends old new =
     × ServesListener seen reason k k' old new count told)
 
 -- So it did at the address that it was told; or it doesn't listen there, and nothing was done. No clause says of a
--- listener where it is bound, so that any address may stand here: `bind` of `src/serving` is to be read.
+-- listener where it is bound, so that any address may stand here: review `bind` of `src/serving` by hand.
 abbrev pub ServesOver : {C : Type 0} → (C → Seen) → (reason : Fault → C → C → Type 0)
     → (k k' w w' : Option (List ℕ)) → (count : ℕ) → (Ends : Result Status CommandFault → Type 0) → (old new : C)
     → Type 0

@@ -199,7 +199,7 @@ fn number_option<'a>(
         .value_parser(ValueParser::unsigned(least, most))
 }
 
-// The same option where it may be left out.
+// An option for a number that may be left out.
 fn optional_number<'a>(
     alloc: Global,
     name: &'a str,
