@@ -11,7 +11,7 @@ set -eu
 cd "$(dirname "$0")/.."
 bank=crates/bank/out/bank
 folder="$(realpath "${1:?a folder}")"
-version="${2:-$("$bank" --version | cut -d ' ' -f 2)+$(git log -1 --format=%cd.%h --date=format:%Y%m%d)}"
+version="${2:-$("$bank" --version | cut -d ' ' -f 2 | tr -d ,)+$(git log -1 --format=%cd.%h --date=format:%Y%m%d)}"
 work="$(mktemp -d)"
 trap 'rm -rf "$work"' EXIT
 root="$work/bank-$version"
