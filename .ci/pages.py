@@ -1,7 +1,7 @@
 #!/usr/bin/env python3
 """Checks that the program on each library's page, and that of docs/USING.md, is one that the gate runs, line for line.
 
-    tools/pages.py
+    .ci/pages.py
 
 The page of a library is the `//!` lines at the head of its src/lib.rt, and of a file of src/ that has such a program.
 A page has one ```rust block, and the paragraph before it names "the test `NAME` of `CRATE`", "the function `NAME` of

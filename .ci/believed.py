@@ -1,10 +1,11 @@
 #!/usr/bin/env python3
 """Lists the definitions that a reader has to believe, for each of README's claims.
 
-    tools/believed.py              prints docs/BELIEVE.md
-    tools/believed.py --check      ends with status 1 unless docs/BELIEVE.md is what it prints, README has its numbers, and
-                                   the folders specs/believed hold just what the promise and the calls need
-    tools/believed.py CRATE NAME [CLAUSE..]      the list of one function's contract
+    .ci/believed.py              prints docs/BELIEVE.md
+    .ci/believed.py --check      ends with status 1 unless docs/BELIEVE.md is what it prints, README has its numbers
+                                   and the logic of `bank --version`, and the folders specs/believed hold just what the
+                                   promise and the calls need
+    .ci/believed.py CRATE NAME [CLAUSE..]      the list of one function's contract
 
 From the names of a function's clauses it walks through `specs/` until only names of the kit are left. A definition counts
 with its comment; a file is named with the first line of its head.
@@ -255,7 +256,7 @@ def page():
         "# What must be believed",
         "",
         "A proof shows that the code keeps its contracts. That a contract says what it should is for a reader to see. This page is",
-        "what `tools/believed.py` prints, and `.ci/run` fails where it isn't: for each contract below, all definitions of `specs/`",
+        "what `.ci/believed.py` prints, and `.ci/run` fails where it isn't: for each contract below, all definitions of `specs/`",
         "that its clauses need, down to the kit's own names. What the promise and the calls of a counter need lies in the folders",
         "`specs/believed`, with nothing else in them.",
         "",
@@ -312,13 +313,16 @@ def table(found):
 def main():
     if sys.argv[1:] == ["--check"]:
         if not PAGE.exists() or PAGE.read_text() != page():
-            sys.exit("docs/BELIEVE.md isn't what tools/believed.py prints")
+            sys.exit("docs/BELIEVE.md isn't what .ci/believed.py prints")
         said = counts(PROMISE)[3].split(" in ")[0]
         if said not in README.read_text():
             sys.exit(f"README.md doesn't say how much its promise needs: {said}")
+        logic = re.search(r'VERSION: &str = ".*logic (\w+)"', (CRATES / "command_line/src/texts.rt").read_text())[1]
+        if f"logic `{logic}`" not in README.read_text():
+            sys.exit(f"README.md names another logic than `bank --version`: {logic}")
         if misplaced():
             sys.exit("not where it belongs, by specs/believed: " + ", ".join(misplaced()))
-        print("docs/BELIEVE.md: as tools/believed.py prints it")
+        print("docs/BELIEVE.md: as .ci/believed.py prints it")
     elif len(sys.argv) > 2:
         found, rust, kit, said = counts([(sys.argv[1], sys.argv[2], sys.argv[3:])])
         print("\n".join(table(found)), said, sep="\n")
