@@ -13,6 +13,13 @@ pub const NEXT_BYTE: u64 = 10;
 /// whoever says nothing longest is closed sooner.
 pub const NEXT_MESSAGE: u64 = 60;
 
+/// A client that waits for nothing and said nothing for so long, in milliseconds, is looked at less often.
+pub const AWAKE: u64 = 100;
+
+/// How often all clients are looked at, in milliseconds, while some are busy: hundreds that say nothing would cost as
+/// much as a posting.
+pub const LOOK_AT_ALL: u64 = 1;
+
 /// What a client sends after its last answer, until it ends its side, in milliseconds.
 pub const CLOSING: u64 = 500;
 
@@ -40,6 +47,8 @@ pub(crate) struct Patience {
     pub number: u64,
     pub awaited: Awaited,
     pub since: Instant,
+    /// It may say something at once: it is within a message or an answer, or was a short time ago.
+    pub is_awake: bool,
     // Changes where the client has kept pace: how many bytes of answers it hasn't taken, or of messages were
     // answered.
     mark: u64,
@@ -67,10 +76,12 @@ impl Patience {
             Some(it) if it.awaited == awaited && it.mark == mark && !client.has_more() => it.since,
             _ => now,
         };
+        let idle = now.duration_since(since);
         Patience {
             number: client.number(),
             awaited,
             since,
+            is_awake: awaited != Awaited::NextMessage || idle < Duration::from_millis(AWAKE),
             mark,
         }
     }

@@ -3,7 +3,7 @@
 use crate::client::Client;
 use crate::clients::{Clients, Readiness};
 use crate::closing::Closing;
-use crate::patience::{Awaited, Patience};
+use crate::patience::{Awaited, LOOK_AT_ALL, Patience};
 use crate::stream_ends::{StreamReader, StreamWriter};
 use crate::together::MOST_CLIENTS;
 use libc::net::{POLLIN, POLLOUT, poll};
@@ -30,7 +30,12 @@ pub struct TcpClients<'l, T> {
     patience: Vec<Patience>,
     closing: Vec<Closing>,
     asked: Vec<pollfd>,
+    // When all clients were looked at last.
+    looked: Option<Instant>,
 }
+
+// In the place of whoever isn't asked for.
+const NOBODY: RawFd = -1;
 
 // Of whom the system is asked what.
 fn asked(fd: RawFd, events: i16) -> pollfd {
@@ -70,6 +75,7 @@ impl<'l, T: Clock> TcpClients<'l, T> {
             patience: Vec::new(alloc),
             closing: Vec::new(alloc),
             asked: Vec::new(alloc),
+            looked: None,
         })
     }
 
@@ -132,15 +138,33 @@ impl<'l, T: Clock> TcpClients<'l, T> {
         longest.map(|(place, _)| place)
     }
 
-    // Asks for each client, for the listener and for what is being closed. Answers whether there was room to ask.
+    // How long only those are looked at who are awake, and nothing where all are looked at now.
+    fn until_all(&self, now: Instant) -> Option<Duration> {
+        let passed = now.duration_since(self.looked?);
+        Duration::from_millis(LOOK_AT_ALL).checked_sub(passed)
+    }
+
+    // Whether the client at a place is one that is looked at less often.
+    fn is_asleep(&self, place: usize, number: u64) -> bool {
+        match self.patience.get(place) {
+            Some(it) => it.number == number && !it.is_awake,
+            None => false,
+        }
+    }
+
+    // Asks for each client, or for those that are awake, for the listener and, with all, for what is being closed.
+    // Answers whether there was room to ask.
     fn ask(
         &mut self,
         clients: &[Client<StreamReader<TcpStream>, StreamWriter<TcpStream>>],
+        looks_at_all: bool,
         looks_for_more: bool,
     ) -> bool {
         self.asked.clear();
-        for client in clients {
-            let of_client = if client.is_written() {
+        for (place, client) in clients.iter().enumerate() {
+            let of_client = if !looks_at_all && self.is_asleep(place, client.number()) {
+                asked(NOBODY, 0)
+            } else if client.is_written() {
                 asked(client.reader().stream.as_raw_fd(), POLLIN)
             } else {
                 asked(client.writer().stream.as_raw_fd(), POLLOUT)
@@ -158,15 +182,85 @@ impl<'l, T: Clock> TcpClients<'l, T> {
             return false;
         }
         for it in self.closing.iter() {
-            if self
-                .asked
-                .push(asked(it.stream.as_raw_fd(), POLLIN))
-                .is_err()
-            {
+            let of_closing = asked(it.stream.as_raw_fd(), POLLIN);
+            if looks_at_all && self.asked.push(of_closing).is_err() {
                 return false;
             }
         }
         true
+    }
+
+    // Whether something is ready at a place of what was asked for.
+    fn is_ready(&self, place: usize) -> bool {
+        match self.asked.get(place) {
+            Some(it) => it.revents != 0,
+            None => false,
+        }
+    }
+
+    // Looks at the clients that are awake, until one is ready or it is time to look at all.
+    fn look_at_some(
+        &mut self,
+        clients: &[Client<StreamReader<TcpStream>, StreamWriter<TcpStream>>],
+        awaits_more: bool,
+        left: Duration,
+        readiness: &mut Vec<Readiness>,
+    ) {
+        let looks_for_more = awaits_more && clients.len() < MOST_CLIENTS;
+        if !self.ask(clients, false, looks_for_more) {
+            return;
+        }
+        let has_more = clients.iter().any(|client| client.has_more());
+        let timeout = if has_more { 0 } else { millis(left) };
+        poll(self.asked.as_mut_slice(), timeout);
+        self.is_waited_for = self.is_ready(clients.len());
+        for (place, client) in clients.iter().enumerate() {
+            let it = if client.has_more() || self.is_ready(place) {
+                Readiness::Ready
+            } else {
+                Readiness::Waits
+            };
+            if readiness.push(it).is_err() {
+                return;
+            }
+        }
+    }
+
+    // Looks at all clients, until one is ready or a limit has passed.
+    fn look_at_all(
+        &mut self,
+        clients: &[Client<StreamReader<TcpStream>, StreamWriter<TcpStream>>],
+        awaits_more: bool,
+        now: Instant,
+        readiness: &mut Vec<Readiness>,
+    ) {
+        self.note(clients, now);
+        let is_full = clients.len() >= MOST_CLIENTS;
+        let idle = self.longest_idle();
+        let looks_for_more = awaits_more && (!is_full || idle.is_some());
+        if !self.ask(clients, true, looks_for_more) {
+            return;
+        }
+        let has_more = clients.iter().any(|client| client.has_more());
+        let timeout = match self.time_left(now) {
+            _ if has_more => 0,
+            Some(left) => millis(left),
+            None => -1,
+        };
+        poll(self.asked.as_mut_slice(), timeout);
+        let Ok(then) = Instant::now(self.time) else {
+            return;
+        };
+        self.looked = Some(then);
+        self.is_waited_for = self.is_ready(clients.len());
+        for (place, client) in clients.iter().enumerate() {
+            let gives_way = is_full && self.is_waited_for && idle == Some(place);
+            let it = self.readiness_of(place, client.has_more(), gives_way, then);
+            if readiness.push(it).is_err() {
+                return;
+            }
+        }
+        self.drain(clients.len().saturating_add(1), then);
     }
 
     // What is known of the client at a place.
@@ -216,7 +310,7 @@ impl<'l, T: Clock> TcpClients<'l, T> {
             if self.closing.is_empty() {
                 break 'closing;
             }
-            if !self.ask(&[], false) {
+            if !self.ask(&[], true, false) {
                 return;
             }
             let left = self.time_left(now).unwrap_or(Duration::ZERO);
@@ -245,35 +339,10 @@ impl<'l, T: Clock> Clients for TcpClients<'l, T> {
         let Ok(now) = Instant::now(self.time) else {
             return;
         };
-        self.note(clients, now);
-        let is_full = clients.len() >= MOST_CLIENTS;
-        let idle = self.longest_idle();
-        let looks_for_more = awaits_more && (!is_full || idle.is_some());
-        if !self.ask(clients, looks_for_more) {
-            return;
+        match self.until_all(now) {
+            Some(left) => self.look_at_some(clients, awaits_more, left, readiness),
+            None => self.look_at_all(clients, awaits_more, now, readiness),
         }
-        let has_more = clients.iter().any(|client| client.has_more());
-        let timeout = match self.time_left(now) {
-            _ if has_more => 0,
-            Some(left) => millis(left),
-            None => -1,
-        };
-        poll(self.asked.as_mut_slice(), timeout);
-        let Ok(then) = Instant::now(self.time) else {
-            return;
-        };
-        self.is_waited_for = match self.asked.get(clients.len()) {
-            Some(it) => it.revents != 0,
-            None => false,
-        };
-        for (place, client) in clients.iter().enumerate() {
-            let gives_way = is_full && self.is_waited_for && idle == Some(place);
-            let it = self.readiness_of(place, client.has_more(), gives_way, then);
-            if readiness.push(it).is_err() {
-                return;
-            }
-        }
-        self.drain(clients.len().saturating_add(1), then);
     }
 
     fn open(&mut self, _number: u64) -> io::Result<Option<(Self::Reader, Self::Writer)>> {
