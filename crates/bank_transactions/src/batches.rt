@@ -125,9 +125,12 @@ fn post_looked_up<S: Alter>(
 fn is_tried<S: Alter>(conn: &Connection<S>, batch: &Batch) -> bool
     ensures { IsTrue result → IsOtherTable (state S.Store conn.now).now.schema None }
 {
+    if batch.overlay.kept.len() <= 1 {
+        return false;
+    }
     match other_table(conn) {
         Some(_) => false,
-        None => batch.overlay.kept.len() > 1,
+        None => true,
     }
 }
 
