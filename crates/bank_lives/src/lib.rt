@@ -35,7 +35,7 @@
 //! Read next: `specs/believed/Lives`, with a call of a life, a life, its end, and what is found after it;
 //! `specs/believed/ManyLives`, with lives one after another; then [`lives_law`], and [`sender_law`] for a sender who goes
 //! on after a crash. The other laws say which steps there are: the calls of a counter ([`calls_law`]), walks and
-//! reports ([`walks_law`], [`reports_law`]), streams ([`streams_law`]), what joins two lives
+//! reports ([`walks_law`], [`reports_law`]), streams ([`streams_law`], [`clients_law`]), what joins two lives
 //! ([`reopenings_law`]), and how they begin with a file of anyone's that was replayed ([`replayed_law`]).
 //! [`machines_law`] is of a bank that followed another one, and goes on in its place.
 #![tactic(auto)]
@@ -54,4 +54,4 @@ pub use many_lives::{lives_law, reopenings_law, replayed_law, sender_law};
 pub use readings::{reports_law, walks_law};
 pub use reopening::reopen;
 pub use resends::resends_law;
-pub use streams::streams_law;
+pub use streams::{clients_law, streams_law};

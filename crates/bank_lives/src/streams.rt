@@ -12,7 +12,10 @@ ghost use Rattle.posting_core.specs.declared.stream.StreamFault.{StreamFault};
 ghost use Rattle.counter_http.specs.believed.Outputs.{acknowledged_records};
 ghost use Rattle.counter_http.specs.believed.Serving.{ServesConnection};
 ghost use Rattle.counter_http.specs.believed.Turns.{commands_of};
+ghost use Rattle.counter_http.specs.Listening.{ServesListener};
+ghost use Rattle.counter_http.specs.Order.{steps_of, submitted_by};
 ghost use Rattle.counter_http.specs.declared.fault.ServeFault.{ServeFault};
+ghost use Rattle.counter_http.specs.declared.listen_fault.ListenFault.{ListenFault};
 ghost use Rattle.branch_loader.specs.believed.Loading.{IsRefusedAfter};
 ghost use Rattle.load_driver.specs.believed.Drives.{Drives};
 ghost use Rattle.load_driver.specs.declared.drive.Driven.{Driven};
@@ -55,4 +58,13 @@ pub fn streams_law<C: Counter>(_counter: &C)
         → (did : Drives C.seen old new k k' seed count result)
         → ((C.seen old).is_down → ⊥)
         → IsStream (C.seen old) (C.seen new) (posts_of did.submits.taken) (posts_of did.submits.refused) }
+{}
+
+/// So are clients that are served at once, by the contract of `serve_connections`: all that they sent is taken in
+/// one order, and what was taken counts as acknowledged.
+pub fn clients_law<C: Counter>(_counter: &C)
+    ensures { (k k' : Option (List ℕ)) (old new : _) (count : ℕ) (result : Result (Unit {0}) ListenFault)
+        → (did : ServesListener C.seen C.reason k k' old new count result)
+        → ((C.seen old).is_down → ⊥)
+        → IsStream (C.seen old) (C.seen new) (submitted_by (steps_of did.rounds)) (submitted_by did.refused) }
 {}
