@@ -1,5 +1,5 @@
 -- Clients that are served at once, round by round.
-use Rattle.std.proofs.Common.{◌≡◌, ℕ, ◌+◌, ◌<◌, ◌≤◌, suc, List, [], ◌∷◌, ◌++◌, length, map, take, Option, Some}
+use Rattle.std.proofs.Common.{◌≡◌, ℕ, ◌+◌, ◌-◌, ◌^◌, ◌<◌, ◌≤◌, ◌⊎◌, suc, List, [], ◌∷◌, ◌++◌, length, map, take, Option, Some}
 use Rattle.std.proofs.Common.{Result, Ok, Err, refl, sym, ap, subst, ◌∙◌, append_assoc, append-nil, arith, inl, inr}
 use Rattle.std.specs.Prelude.{◌≢◌, Contains, AllPairs, IfErr, OnOk}
 use Rattle.std.specs.List.{AllByRecursion, AllZip, slice_get}
@@ -25,12 +25,14 @@ use Rattle.counter_http.specs.Crowd.{Differ, GoesOn, HaveCome, HaveMoved, IsCrow
 use Rattle.counter_http.specs.Order.{IsRound, Round, Step, readings_in, readings_of, steps_in, steps_of, submitted_by}
 use Rattle.counter_http.specs.Rounds.{AnswersRound, IsOfOneOf, numbers}
 use Rattle.counter_http.specs.Standing.{StandsHere, Writes}
-use Rattle.counter_http.specs.Together.{EndsTogether, IfBank, IsVisited, IsWhyRefused, OfOthers, ServesTogether, Visit, number_of}
+use Rattle.counter_http.specs.Together.{EndsTogether, HasRefused, IfBank, IsCutOff, IsVisited, IsWhyRefused, OfOthers}
+use Rattle.counter_http.specs.Together.{ServesTogether, Visit, number_of}
 use Rattle.counter_http.specs.declared.client.Client.{Client}
 use Rattle.counter_http.specs.declared.listen_fault.ListenFault.{ListenFault}
 use Rattle.counter_http.specs.declared.listen_fault.ListenFault.TheVariants.{Network, Bank}
 use Rattle.counter_http.proofs.Beside.{served_beside}
-use Rattle.counter_http.proofs.Crowds.{all_first, all_last, all_stay, crowd_moved, pairs_differ}
+use Rattle.counter_http.proofs.Crowds.{HasGrown, all_first, all_last, all_stay, crowd_moved, grown_then, moved_grows}
+use Rattle.counter_http.proofs.Crowds.{pairs_differ, refused_first, refused_last}
 use Rattle.counter_http.proofs.Readings.{number_read, read_here}
 use Rattle.counter_http.proofs.Steps.{OfOther, submitted-append}
 use Rattle.counter_http.proofs.Turning.{readings_append}
@@ -233,8 +235,9 @@ crowd_round {C} {R} {W} seen {known = known} first old new steps {came = came} h
 
 -- where the loop over rounds stands
 pub record Rounding {C R W : Type 0} (seen : C → Seen) (known : R × W → Known) (g t : Option (List (ClientsTold (R × W))))
-    (k k' : Option (List ℕ)) (old now : C) (n came : ℕ) (here : List (Client R W)) : Type 0 where
+    (k k' : Option (List ℕ)) (old now : C) (n came : ℕ) (here : List (Client R W)) (turns : ℕ) : Type 0 where
   pub rounds : List Round
+  pub many : length rounds ≡ turns
   pub are_rounds : AllByRecursion IsRound rounds
   pub clock : AreReadings k k' (readings_of rounds)
   pub honest : (seen now).honest → (seen old).honest
@@ -246,9 +249,10 @@ pub record Rounding {C R W : Type 0} (seen : C → Seen) (known : R × W → Kno
 
 pub rounding_none : {C R W : Type 0} (seen : C → Seen) {known : R × W → Known} (g : Option (List (ClientsTold (R × W))))
     (k : Option (List ℕ)) (old : C) (n : ℕ) (here : List (Client R W)) → here ≡ []
-    → Rounding seen known g g k k old old n 0 here
+    → Rounding seen known g g k k old old n 0 here 0
 rounding_none {C} {R} {W} seen {known} g k old n here none = record {
   rounds = [];
+  many = refl;
   are_rounds = tt;
   clock = refl;
   honest = λ h. h;
@@ -273,12 +277,13 @@ rounding_none {C} {R} {W} seen {known} g k old n here none = record {
 
 -- clients come, go on and leave
 pub rounding_on : {C R W : Type 0} {seen : C → Seen} {known : R × W → Known} {g t t' : Option (List (ClientsTold (R × W)))}
-    {k k' : Option (List ℕ)} {old now : C} {n came came' : ℕ} {here here' : List (Client R W)}
-    (s : Rounding seen known g t k k' old now n came here)
+    {k k' : Option (List ℕ)} {old now : C} {n came came' turns : ℕ} {here here' : List (Client R W)}
+    (s : Rounding seen known g t k k' old now n came here turns)
     → IsCrowd known g (seen old) (seen now) (steps_of s.rounds) [] (record { told = t'; came = came'; here = here' })
-    → came' ≤ n → Rounding seen known g t' k k' old now n came' here'
+    → came' ≤ n → Rounding seen known g t' k k' old now n came' here' turns
 rounding_on s crowd few = record {
   rounds = s.rounds;
+  many = s.many;
   are_rounds = s.are_rounds;
   clock = s.clock;
   honest = s.honest;
@@ -310,17 +315,18 @@ takes_one_more c c' c'' rs r honest a b =
 
 -- a round was answered
 pub rounding_next : {C R W X : Type 0} (seen : C → Seen) {reason : Fault → C → C → Type 0} {known : R × W → Known}
-    {g t t' : Option (List (ClientsTold (R × W)))} {k k' k'' : Option (List ℕ)} (old now new : C) {n came came' : ℕ}
-    {here here' here'' : List (Client R W)} {x : X} (s : Rounding seen known g t k k' old now n came here)
+    {g t t' : Option (List (ClientsTold (R × W)))} {k k' k'' : Option (List ℕ)} (old now new : C) {n came came' turns : ℕ}
+    {here here' here'' : List (Client R W)} {x : X} (s : Rounding seen known g t k k' old now n came here turns)
     (r : AnswersRound seen reason known k' k'' now new here here' (Ok x))
     → IsCrowd known g (seen old) (seen new) (steps_of s.rounds ++ steps_in r.round) r.refused
     (record { told = t'; came = came'; here = here'' })
-    → came' ≤ n → Rounding seen known g t' k k'' old new n came' here''
+    → came' ≤ n → Rounding seen known g t' k k'' old new n came' here'' (turns + 1)
 rounding_next seen {known = known} {g = g} {t' = t'} {k} {k'} {k''} old now new {came' = came'} {here'' = here''} s r crowd
     few =
     let same : new ≡ r.stood = r.ends.1 in
     record {
       rounds = s.rounds ++ r.round ∷ [];
+      many = length-append s.rounds (r.round ∷ []) ∙ ap (λ (m : ℕ). m + 1) s.many;
       are_rounds = all_more IsRound s.rounds (r.round ∷ []) s.are_rounds (r.is_round, tt);
       clock = clock_one_more k k' k'' s.rounds r.round s.clock r.clock;
       honest = λ h. s.honest (r.honest_first (r.honest h));
@@ -338,11 +344,11 @@ rounding_next seen {known = known} {g = g} {t' = t'} {k} {k'} {k''} old now new 
 -- ---- what is done before a round, and after it
 
 pub before_round : {C R W : Type 0} {seen : C → Seen} {known : R × W → Known}
-    {g t t' t'' : Option (List (ClientsTold (R × W)))} {k k' : Option (List ℕ)} {old now : C} {n came came' : ℕ}
+    {g t t' t'' : Option (List (ClientsTold (R × W)))} {k k' : Option (List ℕ)} {old now : C} {n came came' turns : ℕ}
     (here viewed gone here' here'' : List (Client R W)) → viewed ≡ here → here' ≡ gone
-    → Rounding seen known g t k k' old now n came here → GrowsBy t t' [] → AllZip (GoesOn known) viewed gone
+    → Rounding seen known g t k k' old now n came here turns → GrowsBy t t' [] → AllZip (GoesOn known) viewed gone
     → HaveMoved (record { told = t'; came = came; here = here' }) (record { told = t''; came = came'; here = here'' })
-    → came' ≤ n → Rounding seen known g t'' k k' old now n came' here''
+    → came' ≤ n → Rounding seen known g t'' k k' old now n came' here'' turns
 before_round {known = known} here viewed gone here' here'' old new s waited goes moved few =
     let all : AllZip (GoesOn known) here here' =
     subst (λ (xs : List (Client _ _)). AllZip (GoesOn known) xs here') old
@@ -358,9 +364,9 @@ before_round {known = known} here viewed gone here' here'' old new s waited goes
     })) s.crowd))) few
 
 pub after_round : {C R W X : Type 0} (seen : C → Seen) {reason : Fault → C → C → Type 0} {known : R × W → Known}
-    {g t t' : Option (List (ClientsTold (R × W)))} {k k' k'' : Option (List ℕ)} (old now new : C) {n came : ℕ}
+    {g t t' : Option (List (ClientsTold (R × W)))} {k k' k'' : Option (List ℕ)} (old now new : C) {n came turns : ℕ}
     (here here' viewed gone here'' left : List (Client R W)) (result : Result X Fault) → viewed ≡ here' → here'' ≡ gone
-    → (s : Rounding seen known g t k k' old now n came here)
+    → (s : Rounding seen known g t k k' old now n came here turns)
     (r : AnswersRound seen reason known k' k'' now new here here' result) → AllZip (Writes known) viewed gone
     → ((came : ℕ) → HaveMoved (record { told = t; came = came; here = here'' })
     (record { told = t'; came = came; here = left }))
@@ -396,13 +402,13 @@ stop_more c log cs ds es n m e long stop = leaves_weaker c (ShowsPrefix (followe
 
 -- the bank took all that it was given
 pub rounds_end : {C R W : Type 0} (seen : C → Seen) {reason : Fault → C → C → Type 0} {known : R × W → Known}
-    {g t : Option (List (ClientsTold (R × W)))} {k k' : Option (List ℕ)} (old new : C) {n came : ℕ}
+    {g t : Option (List (ClientsTold (R × W)))} {k k' : Option (List ℕ)} (old new : C) {n came turns : ℕ}
     {here : List (Client R W)} (result : Result (Unit {0}) ListenFault)
     → EndsTogether seen result new new [] → IfErr result (λ fault. IfBank fault (IsOfCall seen reason old new))
     → OnOk result (came ≡ n)
-    → Rounding seen known g t k k' old new n came here
+    → (s : Rounding seen known g t k k' old new n came here turns) → IsCutOff g t result s.rounds
     → ServesRounds seen reason known g t k k' old new n here result
-rounds_end seen old new {came = came} result ends why done s = record {
+rounds_end seen old new {came = came} result ends why done s network = record {
   rounds = s.rounds;
   are_rounds = s.are_rounds;
   refused = [];
@@ -417,6 +423,7 @@ rounds_end seen old new {came = came} result ends why done s = record {
       (submitted_by (steps_of s.rounds)) (ap submitted_by (append-nil (steps_of s.rounds))) (s.takes.stands h log st);
   idle = s.idle;
   why = why;
+  network = network;
   came = came;
   few = s.few;
   done = done;
@@ -432,8 +439,8 @@ why_now seen reason old now new cs takes honest idle fault (inr own) = inr own
 
 -- the bank refused a message, or a batch
 pub rounds_broken : {C R W X : Type 0} (seen : C → Seen) {reason : Fault → C → C → Type 0} {known : R × W → Known}
-    {g t t' : Option (List (ClientsTold (R × W)))} {k k' k'' : Option (List ℕ)} (old now new : C) {n came came' : ℕ}
-    {here here' here'' : List (Client R W)} (fault : Fault) (s : Rounding seen known g t k k' old now n came here)
+    {g t t' : Option (List (ClientsTold (R × W)))} {k k' k'' : Option (List ℕ)} (old now new : C) {n came came' turns : ℕ}
+    {here here' here'' : List (Client R W)} (fault : Fault) (s : Rounding seen known g t k k' old now n came here turns)
     (r : AnswersRound {X = X} seen reason known k' k'' now new here here' (Err fault))
     → IsCrowd known g (seen old) (seen new) (steps_of s.rounds ++ steps_in r.round) r.refused
     (record { told = t'; came = came'; here = here'' })
@@ -467,6 +474,7 @@ rounds_broken seen {reason} {known} {g = g} {t' = t'} {k} {k'} {k''} old now new
           (r.survives h (followed_by log cs) (s.takes.stands (r.honest_first (r.honest h)) log st));
       idle = idle_after seen old now s.idle new r.idle;
       why = why_now seen reason old now new cs s.takes s.honest s.idle fault r.why;
+      network = λ same. absurd (cc same);
       came = came';
       few = few;
       done = tt;
@@ -495,6 +503,15 @@ told_why : {C : Type 0} (seen : C → Seen) (reason : Fault → C → C → Type
 told_why seen reason old new (Ok done) why = tt
 told_why seen reason old new (Err Network) why = tt
 told_why seen reason old new (Err (Bank fault)) why = inl why
+
+-- connections were closed after that
+cut_off_then : {E : Type 0} {g t t' : Option (List (ClientsTold E))} (result : Result (Unit {0}) ListenFault)
+    (rounds : List Round) → HasGrown t t' → IsCutOff g t result rounds → IsCutOff g t' result rounds
+cut_off_then {g = g} {t} {t'} result rounds grown cut same = further (cut same)
+  where
+    further : HasRefused g t ⊎ (2 ^ 64 - 1 ≤ length rounds) → HasRefused g t' ⊎ (2 ^ 64 - 1 ≤ length rounds)
+    further (inl refused) = inl (refused_first g t t' refused grown)
+    further (inr many) = inr many
 
 -- everybody left
 pub serves_together : {C R W : Type 0} (seen : C → Seen) {reason : Fault → C → C → Type 0} {known : R × W → Known}
@@ -525,6 +542,8 @@ serves_together {C} {R} {W} seen {reason} {known} {g} {t} {t'} old new here here
       survives = s.survives;
       idle = s.idle;
       why = told_why seen reason old new result s.why;
+      network = cut_off_then result s.rounds (moved_grows (record { told = t; came = s.came; here = here })
+          (record { told = t'; came = s.came; here = here' }) (moved s.came)) s.network;
       calls = crowd.calls;
       told = crowd.told;
       visits = crowd.visits;
@@ -574,6 +593,7 @@ nobody_came seen g k old n = record {
   survives = λ h log st. stop_all (seen old) log [] [] refl st;
   idle = λ down. refl;
   why = inr (refl, refl);
+  network = λ same. absurd (cc same);
   calls = [];
   told = adds-none g;
   visits = [];
@@ -584,3 +604,12 @@ nobody_came seen g k old n = record {
   whose = tt;
   many = omega arith;
 }
+
+-- an opening was refused in a round
+pub cut_off_by : {C R W : Type 0} {seen : C → Seen} {known : R × W → Known}
+    {g t t' t'' : Option (List (ClientsTold (R × W)))} {k k' : Option (List ℕ)} {old now : C} {n came turns : ℕ}
+    {here : List (Client R W)} → Rounding seen known g t k k' old now n came here turns → GrowsBy t t' [] → HasRefused t' t''
+    → HasRefused g t''
+cut_off_by {g = g} {t} {t'} {t''} s waited refused =
+    refused_last g t' t'' (grown_then g t t' (record { calls = s.crowd.calls; told = s.crowd.told })
+    (record { calls = []; told = waited })) refused

@@ -1,7 +1,8 @@
 -- Clients that come in, are served and leave.
 use Rattle.std.proofs.Common.{◌≡◌, ℕ, ◌+◌, ◌<◌, List, [], ◌∷◌, ◌++◌, length, map, take, drop, get_or, Option, None, Bool}
 use Rattle.std.proofs.Common.{true, refl, sym, ap, subst, ◌∙◌, append_assoc, append-nil, arith, inl, inr}
-use Rattle.std.specs.Prelude.{◌≢◌, Contains}
+use Rattle.std.specs.Prelude.{◌≢◌, ◌⊎◌, Contains}
+use Rattle.std.specs.declared.io.ErrorKind.{ErrorKind}
 use Rattle.std.specs.List.{AllByRecursion}
 use Rattle.std.proofs.KnownBytes.{Appends-nil, Consumes-nil}
 use Rattle.std.proofs.lemmas.List.{drop_more, length-append, map-append, take-append-drop}
@@ -20,7 +21,7 @@ use Rattle.counter_http.specs.Crowd.{all_numbers}
 use Rattle.counter_http.specs.Order.{Step, of_client}
 use Rattle.counter_http.specs.Rounds.{AllDiffer, IsOfOneOf, number_in, numbers}
 use Rattle.counter_http.specs.Standing.{IsGoing, IsNew, StandsHere}
-use Rattle.counter_http.specs.Together.{IsVisited, Visit, closed_of, closings, number_of, openings}
+use Rattle.counter_http.specs.Together.{HasRefused, IsVisited, Visit, closed_of, closings, number_of, openings}
 use Rattle.counter_http.specs.believed.Messages.{No_head}
 use Rattle.counter_http.specs.declared.client.Client.{Client}
 use Rattle.counter_http.specs.declared.parting.Parting.TheVariants as parting
@@ -471,3 +472,57 @@ nobody_came_in came here calls none_came none_left told = all_stay (record {
   here = refl;
   came = refl;
 })
+
+-- ---- the calls that were made on the way
+
+pub record HasGrown {E : Type 0} (g g' : Option (List (ClientsTold E))) : Type 0 where
+  pub calls : List (ClientsTold E)
+  pub told : GrowsBy g g' calls
+
+pub grown_then : {E : Type 0} (a b d : Option (List (ClientsTold E))) → HasGrown a b → HasGrown b d → HasGrown a d
+grown_then a b d one two = record {
+  calls = one.calls ++ two.calls;
+  told = adds-more a b d one.calls two.calls one.told two.told;
+}
+
+one_grows : {R W : Type 0} (a m : Scene R W) → Comes a m ⊎ (Leaves a m ⊎ Stays a m) → HasGrown a.told m.told
+one_grows a m (inl comes) = record { calls = Gave a.came comes.given ∷ []; told = comes.told }
+one_grows a m (inr (inl leaves)) =
+    record { calls = Closed leaves.client.number leaves.closes.left ∷ []; told = leaves.closes.told }
+one_grows a m (inr (inr stays)) = record { calls = stays.calls; told = stays.told }
+
+all_grow : {R W : Type 0} (ms : List (Scene R W)) (a b : Scene R W) → Moves ms a b → HasGrown a.told b.told
+all_grow [] a b same = record {
+  calls = [];
+  told = subst (λ (x : Scene _ _). GrowsBy a.told x.told []) (sym same) (adds-none a.told);
+}
+all_grow (m ∷ ms) a b moves =
+    grown_then a.told m.told b.told (one_grows a m moves.0) (all_grow ms m b moves.1)
+
+pub moved_grows : {R W : Type 0} (a b : Scene R W) → HaveMoved a b → HasGrown a.told b.told
+moved_grows a b moved = all_grow moved.scenes a b moved.moves
+
+pub one_refused : {E : Type 0} (a b : Option (List (ClientsTold E))) (kind : ErrorKind)
+    → GrowsBy a b (Refused kind ∷ []) → HasRefused a b
+one_refused a b kind told = record {
+  calls = Refused kind ∷ [];
+  told = told;
+  kind = kind;
+  one = (0, omega arith, refl);
+}
+
+pub refused_last : {E : Type 0} (a b d : Option (List (ClientsTold E))) → HasGrown a b → HasRefused b d → HasRefused a d
+refused_last a b d grown refused = record {
+  calls = grown.calls ++ refused.calls;
+  told = adds-more a b d grown.calls refused.calls grown.told refused.told;
+  kind = refused.kind;
+  one = Contains-append_right grown.calls refused.calls (Refused refused.kind) refused.one;
+}
+
+pub refused_first : {E : Type 0} (a b d : Option (List (ClientsTold E))) → HasRefused a b → HasGrown b d → HasRefused a d
+refused_first a b d refused grown = record {
+  calls = refused.calls ++ grown.calls;
+  told = adds-more a b d refused.calls grown.calls refused.told grown.told;
+  kind = refused.kind;
+  one = Contains-append_left refused.calls grown.calls (Refused refused.kind) refused.one;
+}

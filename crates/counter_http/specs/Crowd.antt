@@ -16,7 +16,7 @@ use Rattle.counter_http.specs.Order.{Step, Round, IsRound, steps_of, readings_of
 use Rattle.counter_http.specs.Reading.{Reads}
 use Rattle.counter_http.specs.Rounds.{IsOfOneOf, numbers}
 use Rattle.counter_http.specs.Standing.{IsLost, IsNew, IsParting, StandsHere, Writes}
-use Rattle.counter_http.specs.Together.{EndsTogether, IfBank, IsVisited, Visit, closed_of, closings, number_of, openings}
+use Rattle.counter_http.specs.Together.{EndsTogether, IfBank, IsCutOff, IsVisited, Visit, closed_of, closings, number_of, openings}
 use Rattle.counter_http.specs.declared.client.Client.{Client}
 use Rattle.counter_http.specs.declared.listen_fault.ListenFault.{ListenFault}
 use Rattle.counter_http.specs.declared.parting.Parting.{Parting}
@@ -137,6 +137,7 @@ pub record ServesRounds {C R W : Type 0} (seen : C → Seen) (reason : Fault →
       (length (submitted_by (steps_of rounds))))
   pub idle : (seen old).is_down → new ≡ old
   pub why : IfErr result (λ fault. IfBank fault (IsOfCall seen reason old new))
+  pub network : IsCutOff g g' result rounds
   pub came : ℕ
   pub few : came ≤ n
   pub done : OnOk result (came ≡ n)

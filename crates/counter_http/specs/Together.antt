@@ -1,10 +1,11 @@
 -- What each client that is served beside others reads and is written, and what all of it together does to the
 -- bank. The bank is old before and new after, and seen says what is seen of it. Of the ends of a client k is known
 -- before and l after.
-use Rattle.std.specs.Prelude.{◌≡◌, ◌<◌, ◌≤◌, ◌≢◌, ◌⊎◌, ℕ, List, [], ◌∷◌, ◌++◌, length, map, take, get_or, Option}
+use Rattle.std.specs.Prelude.{◌≡◌, ◌<◌, ◌≤◌, ◌≢◌, ◌-◌, ◌^◌, ◌⊎◌, ℕ, List, [], ◌∷◌, ◌++◌, length, map, take, get_or, Option}
 use Rattle.std.specs.Prelude.{Result, Err, ⊤, All, AllPairs, Contains, IfErr}
 use Rattle.std.specs.List.{AllByRecursion}
 use Rattle.std.specs.Io.KnownBytes.{Appends, Consumes}
+use Rattle.std.specs.declared.io.ErrorKind.{ErrorKind}
 use Rattle.posting_rules.specs.declared.fault.Fault.{Fault}
 use Rattle.posting_rules.specs.declared.fault.Fault.TheVariants.{Memory}
 use Rattle.posting_rules.specs.believed.Commands.{Command}
@@ -176,6 +177,18 @@ EndsTogether seen _ stood new refused = (refused ≡ []) × (new ≡ stood)
 abbrev pub IsWhyRefused : {C : Type 0} → (C → Seen) → (Fault → C → C → Type 0) → (old new : C) → Fault → Type 0
 IsWhyRefused seen reason old new fault = IsOfCall seen reason old new fault ⊎ ((fault ≡ Memory) × (new ≡ old))
 
+-- an opening was refused, among the calls that were made since
+pub record HasRefused {E : Type 0} (g g' : Option (List (ClientsTold E))) : Type 0 where
+  pub calls : List (ClientsTold E)
+  pub told : GrowsBy g g' calls
+  pub kind : ErrorKind
+  pub one : Contains calls (Refused kind)
+
+-- the network failed only where an opening was refused, or after 2 ^ 64 - 1 rounds
+abbrev pub IsCutOff : {E : Type 0} → (g g' : Option (List (ClientsTold E))) → Result (Unit {0}) ListenFault
+    → List Round → Type 0
+IsCutOff g g' result rounds = result ≡ Err Network → HasRefused g g' ⊎ (2 ^ 64 - 1 ≤ length rounds)
+
 pub record ServesTogether {C E : Type 0} (seen : C → Seen) (reason : Fault → C → C → Type 0) (known : E → Known)
     (g g' : Option (List (ClientsTold E))) (k k' : Option (List ℕ)) (old new : C) (n : ℕ)
     (result : Result (Unit {0}) ListenFault) : Type 0 where
@@ -198,6 +211,7 @@ pub record ServesTogether {C E : Type 0} (seen : C → Seen) (reason : Fault →
   pub idle : (seen old).is_down → new ≡ old
   -- a fault of the bank says why a call was refused
   pub why : IfErr result (λ fault. IfBank fault (IsWhyRefused seen reason old new))
+  pub network : IsCutOff g g' result rounds
   -- the clients, as their connections were closed: each one that was taken in, once
   pub calls : List (ClientsTold E)
   pub told : GrowsBy g g' calls

@@ -8,7 +8,7 @@ ghost use Rattle.counter_http.specs.Crowd.{Closes, GoesOn, HaveCome, HaveMoved, 
 ghost use Rattle.counter_http.specs.Rounds.{AllDiffer, AnswersRound, numbers};
 ghost use Rattle.counter_http.specs.Standing.{Writes};
 ghost use Rattle.counter_http.specs.Submitting.{Gathers, IsBatchOf, IsElsewhere, IsFrom, MayAdd};
-ghost use Rattle.counter_http.specs.Together.{ServesTogether};
+ghost use Rattle.counter_http.specs.Together.{HasRefused, ServesTogether};
 
 use crate::batch::Batch;
 use crate::client::Client;
@@ -35,6 +35,7 @@ fn take_in<D: Clients>(
         (record { told = D.told door.new; came = came.new; here = here.new.items }) }
     ensures few { came.new ≤ connections }
     ensures fault { OnErr result (result ≡ Err ListenFault.Network) }
+    ensures refused { OnErr result (HasRefused (D.told door.old) (D.told door.new)) }
 {
     'openings: while *came < connections && here.len() < MOST_CLIENTS {
         match door.open(*came) {

@@ -1,9 +1,9 @@
-use Rattle.std.proofs.Common.{◌≡◌, ◌∙◌, refl, Ok, Err}
+use Rattle.std.proofs.Common.{◌≡◌, ◌∙◌, arith, inl, inr, refl, Ok, Err}
 use Rattle.std.specs.Vec.{with_items}
 use Rattle.std.proofs.lemmas.List.{with_items_is}
 use Rattle.std.proofs.lemmas.Result.{err_from_is_err_and}
 use Rattle.counter_http.specs.declared.listen_fault.ListenFault.TheVariants.{Network}
-use Rattle.counter_http.proofs.CrowdRounds.{after_round, before_round, crowd_differs, rounding_next, rounding_none}
+use Rattle.counter_http.proofs.CrowdRounds.{after_round, before_round, crowd_differs, cut_off_by, rounding_next, rounding_none}
 use Rattle.counter_http.proofs.CrowdRounds.{rounds_broken, rounds_end}
 use Rattle.counter_http.proofs.together.serve_rounds.Goals as goal
 
@@ -17,7 +17,7 @@ rounds-init g c = record {
 pub returns-then-is_empty-clause-serves : goal.returns-then-is_empty-clause-serves
 returns-then-is_empty-clause-serves g c =
     rounds_end g.C.Counter.seen c.args.bank.now c.rounds.bank (Ok tt) (refl, refl) tt c.if-came-connections.true
-    c.rounds.invariant.rounding
+    c.rounds.invariant.rounding (λ same. absurd (cc same))
 
 -- an opening failed
 pub returns-in_err-take_in-clause-serves : goal.returns-in_err-take_in-clause-serves
@@ -29,7 +29,8 @@ returns-in_err-take_in-clause-serves g c =
     let told = err_from_is_err_and c.from_residual.result c.from_residual.ensures.1 in
     let network : c.in_err-take_in.field-0.0 ≡ Network = cc (c.in_err-take_in.ensures.fault) in
     rw (told.1, told.2, network)
-    (rounds_end g.C.Counter.seen c.args.bank.now c.rounds.bank (Err Network) (refl, refl) tt tt s)
+    (rounds_end g.C.Counter.seen c.args.bank.now c.rounds.bank (Err Network) (refl, refl) tt tt s
+    (λ same. inl (cut_off_by c.rounds.invariant.rounding c.wait.ensures c.in_err-take_in.ensures.refused)))
 
 -- no two clients have the same number
 pub answer-answered-requires : goal.answer-answered-requires
@@ -87,3 +88,4 @@ rounds-preserved g c =
 pub returns-clause-serves : goal.returns-clause-serves
 returns-clause-serves g c =
     rounds_end g.C.Counter.seen c.args.bank.now c.rounds.bank (Err Network) (refl, refl) tt tt c.rounds.invariant.rounding
+    (λ same. inr (omega (arith, c.rounds.invariant.rounding.many)))

@@ -1,7 +1,8 @@
 use Rattle.std.proofs.Common.{◌<◌, [], ◌∷◌, refl, arith}
 use Rattle.std.specs.IoError.{error_kind}
 use Rattle.counter_http.specs.Clients.{Refused}
-use Rattle.counter_http.proofs.Crowds.{came_in, moved_then, nobody_came_in, turned_away}
+use Rattle.counter_http.proofs.Crowds.{came_in, moved_grows, moved_then, nobody_came_in, one_refused, refused_last}
+use Rattle.counter_http.proofs.Crowds.{turned_away}
 use Rattle.counter_http.proofs.together.take_in.Goals as goal
 
 -- there was no memory for it
@@ -34,3 +35,8 @@ returns-in-Err-clause-come g c =
     moved_then c.openings.invariant.came
     (nobody_came_in c.openings.came c.openings.here.items (Refused (error_kind c.in-Err.field-0) ∷ []) refl refl
     c.in-Err.ensures)
+
+pub returns-in-Err-clause-refused : goal.returns-in-Err-clause-refused
+returns-in-Err-clause-refused g c =
+    refused_last _ _ _ (moved_grows _ _ c.openings.invariant.came)
+    (one_refused _ _ (error_kind c.in-Err.field-0) c.in-Err.ensures)
