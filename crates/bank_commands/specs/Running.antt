@@ -1,7 +1,7 @@
 -- What a command does over a connection, by its words; how a run of the program ends, and what it prints. r and r'
 -- are the known bytes of the input before and after, w and w' those of the output, k and k' the clock's known
 -- readings.
-use Rattle.std.specs.Prelude.{⊤, ◌≡◌, ◌≢◌, ◌⊎◌, ℕ, Bool, true, List, [], Option, None, Result, Ok, Err, IfOk}
+use Rattle.std.specs.Prelude.{⊤, ◌≡◌, ◌≢◌, ◌⊎◌, ℕ, Bool, true, List, [], Option, None, Result, Ok, Err, IfOk, unwrap_or}
 use Rattle.std.specs.Io.KnownBytes.{Keeps}
 use Rattle.clap.specs.Words.{IsAmong, Text, fault_of, takes}
 use Rattle.clap.specs.declared.error.kind.ErrorKind.{ErrorKind}
@@ -40,6 +40,10 @@ pub record AreRefused (words : List Text) : Type 0 where
   pub some : fault_of bank_app words ≢ []
   pub no_request : (kind : ErrorKind) → IsAmong kind (fault_of bank_app words) → IsHelpOrVersion kind → ⊥
 
+-- where no number of connections is given, as many are served as come: a count that no run reaches
+abbrev pub ALL_THAT_COME : ℕ
+ALL_THAT_COME = 18_446_744_073_709_551_615
+
 -- ---- what a command does with the connection conn, which it hands back as back
 
 -- IsNamed says of a source that it is that of the plan of a name, and known what is known of one
@@ -57,7 +61,7 @@ DoesOver g conn back IsNamed known r r' w w' k k' (commands.Audit file) told = A
 DoesOver g conn back IsNamed known r r' w w' k k' (commands.Statement file account) told =
     StatesOver g conn back account w w' None None told
 DoesOver g conn back IsNamed known r r' w w' k k' (commands.Serve file address connections) told =
-    Serves g conn back w w' k k' connections told
+    Serves g conn back w w' k k' (unwrap_or connections ALL_THAT_COME) told
 DoesOver g conn back IsNamed known r r' w w' k k' (commands.Replay file) told =
     ReplaysOver g conn back w w' None None told
 DoesOver g conn back IsNamed known r r' w w' k k' (commands.Digest file requests) told =

@@ -68,7 +68,10 @@ pub fn command_over<
             address,
             connections,
             ..
-        } => serve_over(alloc, conn, network, address, connections, output, clock),
+        } => {
+            let most = connections.unwrap_or(u64::MAX);
+            serve_over(alloc, conn, network, address, most, output, clock)
+        }
         Command::Migrate { .. } => migrate_over(alloc, conn, output),
         Command::Encode => Ended {
             told: translate_sheet(alloc, input, output),

@@ -11,8 +11,7 @@ use sqlite::{Alter, Connection};
 use sqlite_trees::store::Store;
 use std::alloc::Global;
 
-/// Binds the address, prints where it listens, and serves so many connections by the bank that is found, one after
-/// another.
+/// Binds the address, prints where it listens, and serves so many clients by the bank that is found, many at once.
 pub fn serve_over<S: Alter + Drop, N: Network, W: Sink, K: Clock>(
     alloc: Global,
     conn: Connection<S>,

@@ -124,7 +124,7 @@ serve_completes words none =
       inr (inr (inr (inr (inl (
         refl,
         has_text s words (codes "address") serve_is_plain none (refl, refl),
-        has_number s words (codes "connections") 1 MAX_CONNECTIONS serve_is_plain none (refl, refl) refl,
+        has_number_if_any s words (codes "connections") 1 MAX_CONNECTIONS serve_is_plain none refl refl,
       ))))),
     )
 

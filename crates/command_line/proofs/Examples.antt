@@ -23,6 +23,10 @@ connections_first : IsTaken
 unfolding clap_on_literals
 connections_first = (refl, refl)
 
+without_connections : IsTaken (codes "serve" ∷ codes "my.db" ∷ codes "127.0.0.1:0" ∷ [])
+unfolding clap_on_literals
+without_connections = (refl, refl)
+
 after_dashes : IsTaken (codes "post" ∷ codes "--" ∷ codes "-my.db" ∷ [])
 unfolding clap_on_literals
 after_dashes = (refl, refl)

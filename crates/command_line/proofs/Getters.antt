@@ -15,7 +15,8 @@ use Rattle.message_records.specs.{believed.Ranges.whole_within, declared.limits.
 use Rattle.load_driver.proofs.Listed.{within}
 use Rattle.command_line.specs.declared.limits.TheConstants.{MAX_CONNECTIONS}
 use Rattle.command_line.specs.Words.{AreInRange, HasMoreValues, HasNumber, HasNumberIfAny, HasText, IsCommandOf}
-use Rattle.command_line.specs.Words.{IsComplete, IsNumber, IsNumberIfAny, IsNumberIn, IsText, number_of}
+use Rattle.command_line.specs.Words.{IsComplete, IsNumber, IsNumberIfAny, IsNumberIn, IsSpelledIn, IsText, number_of}
+use Rattle.command_line.specs.Words.{spelled}
 use Rattle.command_line.specs.declared.reading.Command.TheVariants.{Drive, Serve}
 
 -- an argument with a value gives one
@@ -81,7 +82,7 @@ pub values_by_name : (p : Text × List Row) → HasMoreValues p → (p.0 ≡ cod
     × (p.0 ≡ codes "drive" → HasNumber (codes "seed") 0 MAX_SEED p.1 × HasNumber (codes "count") 1 MAX_DRIVEN p.1)
     × (p.0 ≡ codes "statement" → HasNumber (codes "account") 1 MAX_ACCOUNT p.1)
     × (p.0 ≡ codes "serve" → HasText (codes "address") p.1
-    × HasNumber (codes "connections") 1 MAX_CONNECTIONS p.1)
+    × HasNumberIfAny (codes "connections") 1 MAX_CONNECTIONS p.1)
     × (p.0 ≡ codes "digest" → HasNumber (codes "requests") 0 MAX_REQUESTS p.1)
     × (p.0 ≡ codes "export" → HasNumberIfAny (codes "after") 0 MAX_REQUESTS p.1)
 values_by_name p (inl h) =
@@ -162,6 +163,27 @@ number_if_any_read f id least most r none reads has = go (one_of id (rows_of f))
         let spells : read.0 ≡ number_of t = rw is at read.2.0 in
         rw (read.1, is) spells
 
+pub number_or_none_read : (f : Found) (id : Text) (least most : ℕ) (r : Option ℕ)
+    → (one_text f id ≡ None → r ≡ None)
+    → ((t : Text) → one_text f id ≡ Some t → ReadsOne Gives t r)
+    → HasNumberIfAny id least most (rows_of f)
+    → IsSpelledIn id least most (rows_of f) r
+number_or_none_read f id least most r none reads has = go (one_of id (rows_of f)) refl has
+  where
+    go : (o : Option Text) → one_of id (rows_of f) ≡ o → IfSome o (IsUnsignedIn least most)
+        → IsSpelledIn id least most (rows_of f) r
+    go None is has =
+        let left = none (one_text-rows f id ∙ is) in
+        record { is = left ∙ sym (ap spelled is); within = rw left tt }
+    go (Some t) is has =
+        let given : HasNumber id least most (rows_of f) = rw is has in
+        let read = number_read f id least most r reads given in
+        let spells : read.0 ≡ number_of t = rw is at read.2.0 in
+        record {
+          is = read.1 ∙ (ap Some spells ∙ sym (ap spelled is));
+          within = rw read.1 (read.2.1, read.2.2);
+        }
+
 -- the number that was read is the one that the value spells, in each range that the value keeps
 abbrev pub IsReadFor : Text → List Row → ℕ → Type 0
 IsReadFor id rows n = (least most : ℕ) → HasNumber id least most rows → IsNumberIn id least most rows n
@@ -179,15 +201,16 @@ drive_read p file seed count name more is_file seed_read count_read =
     ((name, is_file, seed_in.0, count_in.0), (seed_in.2, count_in.1, count_in.2))
 
 -- and so is a `serve`
-pub serve_read : (p : Text × List Row) (file address : Bor Text) (connections : ℕ) → p.0 ≡ codes "serve"
+pub serve_read : (p : Text × List Row) (file address : Bor Text) (connections : Option ℕ) → p.0 ≡ codes "serve"
     → HasMoreValues p
     → IsText (codes "file") p.1 file.now → IsText (codes "address") p.1 address.now
-    → IsReadFor (codes "connections") p.1 connections
+    → ((least most : ℕ) → HasNumberIfAny (codes "connections") least most p.1
+    → IsSpelledIn (codes "connections") least most p.1 connections)
     → IsCommandOf p (Serve file address connections) × AreInRange (Serve file address connections)
 serve_read p file address connections name more is_file is_address connections_read =
     let has = (values_by_name p more).3 name in
-    let number_in = connections_read 1 MAX_CONNECTIONS has.1 in
-    ((name, is_file, is_address, number_in.0), (number_in.1, number_in.2))
+    let number = connections_read 1 MAX_CONNECTIONS has.1 in
+    ((name, is_file, is_address, number.is), number.within)
 
 -- a number in its range, which is one of the type with that range
 pub within_same : (most n value : ℕ) (o : Option ℕ) → 1 ≤ n → n ≤ most → o ≡ whole_within 1 most n

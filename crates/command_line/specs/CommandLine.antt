@@ -61,9 +61,9 @@ seed_rule = number_rule (codes "seed") 0 MAX_SEED
 abbrev pub count_rule : Rule
 count_rule = number_rule (codes "count") 1 MAX_DRIVEN
 
--- `--connections N`, how many connections are served
+-- `--connections N`, how many connections are served at most
 abbrev pub connections_rule : Rule
-connections_rule = number_rule (codes "connections") 1 MAX_CONNECTIONS
+connections_rule = optional_rule (codes "connections") 1 MAX_CONNECTIONS
 
 -- the command is this app, and has no argument that holds below it too
 pub record IsApp (wanted : App) (command : Command) : Type 0 where
@@ -110,7 +110,7 @@ export_app = with_rule (with_rule (new_app (codes "export")) file_rule) after_ru
 abbrev pub plan_app : App
 plan_app = with_rule (new_app (codes "plan")) file_rule
 
--- `serve FILE ADDR --connections N`
+-- `serve FILE ADDR [--connections N]`
 abbrev pub serve_app : App
 serve_app =
     with_rule (with_rule (with_rule (new_app (codes "serve")) file_rule) address_rule) connections_rule

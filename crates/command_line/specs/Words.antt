@@ -30,6 +30,11 @@ words_read (program ∷ name ∷ flag ∷ []) = if bytes_eq name (codes "help") 
     then name ∷ flag ∷ [] else program ∷ name ∷ flag ∷ []
 words_read words = words
 
+-- the number that a text spells, if there is one
+abbrev pub spelled : Option Text → Option ℕ
+spelled None = None
+spelled (Some text) = Some (number_of text)
+
 -- ---- what clap matched
 
 -- the argument has a value
@@ -60,6 +65,11 @@ IsNumber id rows n = IsSomeAnd (one_of id rows) (λ text. n ≡ number_of text)
 abbrev pub IsNumberIfAny : Text → List Row → ℕ → Type 0
 IsNumberIfAny id rows n = n ≡ number_if_any (one_of id rows)
 
+-- the argument has no value and no number, or one that spells this number, which is in the range
+pub record IsSpelledIn (id : Text) (least most : ℕ) (rows : List Row) (number : Option ℕ) : Type 0 where
+  pub is : number ≡ spelled (one_of id rows)
+  pub within : IfSome number (λ n. (least ≤ n) × (n ≤ most))
+
 -- the argument's value spells this number, which is in the range
 abbrev pub IsNumberIn : Text → ℕ → ℕ → List Row → ℕ → Type 0
 IsNumberIn id least most rows n = IsNumber id rows n × (least ≤ n) × (n ≤ most)
@@ -84,7 +94,7 @@ IsCommandOf p (Export file after) = (p.0 ≡ codes "export") × IsText (codes "f
 IsCommandOf p (Plan file) = (p.0 ≡ codes "plan") × IsText (codes "file") p.1 file.now
 IsCommandOf p (Serve file address connections) = (p.0 ≡ codes "serve") × IsText (codes "file") p.1 file.now
     × IsText (codes "address") p.1 address.now
-    × IsNumber (codes "connections") p.1 connections
+    × (connections ≡ spelled (one_of (codes "connections") p.1))
 IsCommandOf p (Migrate file) = (p.0 ≡ codes "migrate") × IsText (codes "file") p.1 file.now
 IsCommandOf p Encode = p.0 ≡ codes "encode"
 IsCommandOf p Decode = p.0 ≡ codes "decode"
@@ -93,7 +103,7 @@ IsCommandOf p Decode = p.0 ≡ codes "decode"
 abbrev pub AreInRange : Command → Type 0
 AreInRange (Drive file seed count) = (seed ≤ MAX_SEED) × (1 ≤ count) × (count ≤ MAX_DRIVEN)
 AreInRange (Statement file account) = (1 ≤ account) × (account ≤ MAX_ACCOUNT)
-AreInRange (Serve file address connections) = (1 ≤ connections) × (connections ≤ MAX_CONNECTIONS)
+AreInRange (Serve file address connections) = IfSome connections (λ n. (1 ≤ n) × (n ≤ MAX_CONNECTIONS))
 AreInRange _ = ⊤
 
 -- clap matches the words to a subcommand of `bank` and to its values, and the command is that one
@@ -112,7 +122,7 @@ HasMoreValues p = ((p.0 ≡ codes "load") × HasText (codes "plan") p.1)
     × HasNumber (codes "count") 1 MAX_DRIVEN p.1)
     ⊎ ((p.0 ≡ codes "statement") × HasNumber (codes "account") 1 MAX_ACCOUNT p.1)
     ⊎ ((p.0 ≡ codes "serve") × HasText (codes "address") p.1
-    × HasNumber (codes "connections") 1 MAX_CONNECTIONS p.1)
+    × HasNumberIfAny (codes "connections") 1 MAX_CONNECTIONS p.1)
     ⊎ ((p.0 ≡ codes "digest") × HasNumber (codes "requests") 0 MAX_REQUESTS p.1)
     ⊎ ((p.0 ≡ codes "export") × HasNumberIfAny (codes "after") 0 MAX_REQUESTS p.1)
 

@@ -144,7 +144,7 @@ fn serve_command<'a>(alloc: Global) -> Result<Command<'a>, AllocError>
 {
     let serve = command_on_file(alloc, "serve", texts::SERVE);
     let address = required_argument(alloc, "address", "ADDR", texts::ADDRESS);
-    let connections = number_option(
+    let connections = optional_number(
         alloc,
         "connections",
         "N",

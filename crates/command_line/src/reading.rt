@@ -5,7 +5,8 @@ ghost use Rattle.clap.specs.Words.{subcommand_rows_of, takes};
 ghost use Rattle.command_line.specs.CommandLine.{bank_app};
 ghost use Rattle.command_line.specs.Words.{AreInRange, AsksForHelp, HasMoreValues, HasNumber, HasNumberIfAny};
 ghost use Rattle.command_line.specs.Words.{HasSomeNumber, HasText, IsCommandOf, IsComplete, IsCompleteOnFile};
-ghost use Rattle.command_line.specs.Words.{IsHelp, IsNumberIfAny, IsNumberIn, IsReadFrom, IsText, words_read};
+ghost use Rattle.command_line.specs.Words.{IsHelp, IsNumberIfAny, IsNumberIn, IsReadFrom, IsSpelledIn, IsText};
+ghost use Rattle.command_line.specs.Words.{words_read};
 
 use crate::command_line::bank_command;
 use clap::ArgMatches;
@@ -63,11 +64,11 @@ pub enum Command<'a> {
     Plan {
         file: &'a str,
     },
-    /// Serve the file's bank over HTTP at this address, to so many connections, many at once.
+    /// Serve the file's bank over HTTP at this address, to so many connections, or to all that come.
     Serve {
         file: &'a str,
         address: &'a str,
-        connections: u64,
+        connections: Option<u64>,
     },
     /// Carry the file's bank, which an older version made, over to this version.
     Migrate {
@@ -183,7 +184,7 @@ fn command_with_values<'a>(name: &str, file: &'a str, values: &ArgMatches<'a>) -
         }
         "serve" => {
             let address = text_in(values, "address");
-            let connections = number_in(values, "connections");
+            let connections = number_or_none(values, "connections");
             Command::Serve {
                 file,
                 address,
@@ -209,6 +210,14 @@ fn number_in(values: &ArgMatches<'_>, id: &str) -> u64
         → IsNumberIn id.now least most (rows_of (found_of values.now)) result }
 {
     values.get_one::<u64>(id).unwrap()
+}
+
+// The number of an argument that may have been left out.
+fn number_or_none(values: &ArgMatches<'_>, id: &str) -> Option<u64>
+    ensures { (least most : ℕ) → HasNumberIfAny id.now least most (rows_of (found_of values.now))
+        → IsSpelledIn id.now least most (rows_of (found_of values.now)) result }
+{
+    values.get_one::<u64>(id)
 }
 
 // The number of an argument that may have been left out, which is 0 then.

@@ -1,5 +1,5 @@
 -- What each command did is what was asked for.
-use Rattle.std.proofs.Common.{refl}
+use Rattle.std.proofs.Common.{refl, sym}
 use Rattle.bank_commands.proofs.Told.{prints_none, states_done, written_done}
 use Rattle.bank_commands.proofs.command.command_over.Goals as goal
 
@@ -98,7 +98,7 @@ returns-in-Plan g c =
 pub returns-in-Serve : goal.returns-in-Serve
 returns-in-Serve g c =
     let it = c.serve_over.ensures in
-    rw c.in-Serve.is record { does = it.serves; tells = it.prints; input = refl; clock = tt; idle = it.idle }
+    rw (c.in-Serve.is, sym c.unwrap_or-most.ensures) record { does = it.serves; tells = it.prints; input = refl; clock = tt; idle = it.idle }
 
 pub returns-in-Migrate : goal.returns-in-Migrate
 returns-in-Migrate g c =

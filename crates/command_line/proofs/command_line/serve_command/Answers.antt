@@ -6,4 +6,4 @@ pub returns : goal.returns
 returns c =
     let address = c.with_argument.ensures _ address_rule c.command_on_file-serve.ensures
     c.required_argument-address.ensures.rule in
-    c.with_argument-2.ensures _ connections_rule address c.number_option-connections.ensures.rule
+    c.with_argument-2.ensures _ connections_rule address c.optional_number-connections.ensures.rule

@@ -4,7 +4,7 @@ use Rattle.clap.specs.Words.{found_of, rows_of}
 use Rattle.load_driver.specs.declared.drive.TheConstants.{MAX_DRIVEN}
 use Rattle.message_records.specs.declared.limits.TheConstants.{MAX_ACCOUNT}
 use Rattle.command_line.specs.CommandLine.{MAX_REQUESTS, MAX_SEED}
-use Rattle.command_line.specs.{Words.IsNumber, declared.limits.TheConstants.MAX_CONNECTIONS}
+use Rattle.command_line.specs.{Words.IsNumber}
 use Rattle.command_line.proofs.Getters.{drive_read, serve_read, values_by_name, within_same}
 use Rattle.load_driver.proofs.Listed.{within}
 use Rattle.command_line.proofs.reading.command_with_values.Goals as goal
@@ -86,11 +86,6 @@ returns-in-export-clause-command c =
 
 -- ---- an address and a count of connections
 
-pub number_in-connections-requires : goal.number_in-connections-requires
-number_in-connections-requires c =
-    let has = (values_by_name (c.args.name.now, rows_of (found_of c.args.values.now)) c.requires.more).3 c.in-serve.is in
-    (1, MAX_CONNECTIONS, has.1)
-
 pub text_in-address-requires : goal.text_in-address-requires
 text_in-address-requires c =
     ((values_by_name (c.args.name.now, rows_of (found_of c.args.values.now)) c.requires.more).3 c.in-serve.is).0
@@ -98,6 +93,6 @@ text_in-address-requires c =
 pub returns-in-serve : goal.returns-in-serve
 returns-in-serve c =
     let read = serve_read (c.args.name.now, rows_of (found_of c.args.values.now)) c.args.file
-    c.text_in-address.result c.number_in-connections.result c.in-serve.is c.requires.more c.requires.file
-    c.text_in-address.ensures c.number_in-connections.ensures in
+    c.text_in-address.result c.number_or_none-connections.result c.in-serve.is c.requires.more c.requires.file
+    c.text_in-address.ensures c.number_or_none-connections.ensures in
     record { command = read.0; ranges = read.1 }
