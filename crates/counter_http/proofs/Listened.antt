@@ -1,8 +1,10 @@
 -- A listener of which no client was taken in.
-use Rattle.std.proofs.Common.{◌≡◌, ℕ, List, [], Option, None, Result, Err, refl, arith}
+use Rattle.std.proofs.Common.{◌≡◌, ℕ, List, [], ◌∷◌, Option, None, Result, Err, refl, inl, arith}
+use Rattle.std.specs.declared.io.ErrorKind.TheVariants.{Interrupted}
 use Rattle.posting_rules.specs.{declared.fault.Fault.Fault, believed.Counter.Seen}
 use Rattle.posting_rules.proofs.CounterCalls.{takes_none}
 use Rattle.posting_core.proofs.Stops.{stop_all}
+use Rattle.counter_http.specs.Clients.{Refused}
 use Rattle.counter_http.specs.Listening.{ServesListener}
 use Rattle.counter_http.specs.declared.listen_fault.ListenFault.TheVariants.{Network}
 
@@ -22,6 +24,12 @@ none_served seen reason k c n = record {
   survives = λ h log at. stop_all (seen c) log [] [] refl at;
   idle = λ d. refl;
   why = tt;
+  network = λ same. inl (record {
+    calls = Refused Interrupted ∷ [];
+    told = tt;
+    kind = Interrupted;
+    one = (0, omega arith, refl);
+  });
   calls = [];
   told = tt;
   visits = [];
