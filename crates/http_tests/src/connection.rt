@@ -1,8 +1,8 @@
 //! Connections that are served, and what comes of them.
-use crate::bank::{FullBank, balances, open_branches};
+use crate::bank::balances;
 use counter_http::{ServeFault, Served, serve_connection};
-use failing_ends::{CutReader, CutWriter};
-use posting_core::{Counter, PlainBank, StoredClock};
+use failing_ends::{CutReader, CutWriter, Failing, FailingBank, open_both};
+use posting_core::{Counter, PlainBank, RECORDS_PER_BATCH, StoredClock};
 use std::alloc::{Alloc, Global};
 use std::io::ErrorKind;
 use std::process::Abort;
@@ -51,15 +51,22 @@ impl<'a> Connection<'a> {
 
 /// Serves connections, one after another, on a new bank.
 pub fn play(rt: &(impl Abort + Alloc<A = Global>), connections: &[Connection]) {
-    let mut bank = FullBank {
+    let mut bank = FailingBank {
         bank: PlainBank::new(rt.alloc()),
         left: 0,
+        most: RECORDS_PER_BATCH,
+        failing: Failing::Memory,
+        down: false,
     };
     play_on(rt, connections, &mut bank);
 }
 
-fn play_on(rt: &(impl Abort + Alloc<A = Global>), connections: &[Connection], bank: &mut FullBank) {
-    assert!(rt; open_branches(&mut bank.bank).is_some());
+fn play_on(
+    rt: &(impl Abort + Alloc<A = Global>),
+    connections: &[Connection],
+    bank: &mut FailingBank,
+) {
+    assert!(rt; open_both(&mut bank.bank).is_ok());
     for connection in connections {
         bank.left = connection.calls;
         serve(rt, connection, bank);

@@ -1,6 +1,8 @@
 //! Ends and a bank that fail.
 use crate::connection::{Connection, play};
-use crate::texts::{FIRST_AND_REMOTE, FIRST_ANSWER, FIRST_TWICE, REMOTE_ANSWER, joined};
+use crate::texts::{
+    FIRST_AND_REMOTE, FIRST_ANSWER, FIRST_TWICE, REMOTE_ANSWER, UNAVAILABLE, joined,
+};
 use counter_http::ServeFault;
 use posting_core::Fault;
 use std::alloc::{Alloc, Global};
@@ -87,13 +89,10 @@ fn a_writer_that_fails_at_each_byte(rt: HostRuntime) {
 
 // A bank that has memory for one call answers so to the second, and is posted to no more.
 fn is_full(rt: &(impl Abort + Alloc<A = Global>), input: &[u8]) {
-    let broken: &[u8] =
-        b"HTTP/1.1 503 Service Unavailable\r\nContent-Type: text/plain\r\nContent-Length: 24\r\n\
-        Connection: close\r\n\r\n503 Service Unavailable\n";
     let connection = Connection {
         calls: 1,
         ended: Err(ServeFault::Bank(Fault::Memory)),
-        ..Connection::new(input, 0, [FIRST_ANSWER, broken], (500, 0))
+        ..Connection::new(input, 0, [FIRST_ANSWER, UNAVAILABLE], (500, 0))
     };
     play(rt, &[connection]);
 }

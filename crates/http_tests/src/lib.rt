@@ -7,6 +7,8 @@ mod bank;
 #[cfg(test)]
 mod connection;
 #[cfg(test)]
+mod crowd;
+#[cfg(test)]
 mod failing;
 #[cfg(test)]
 mod failing_twice;
@@ -20,5 +22,7 @@ mod messages;
 mod refusals;
 #[cfg(test)]
 mod texts;
+#[cfg(test)]
+mod together;
 #[cfg(test)]
 mod waiting;

@@ -1,8 +1,9 @@
 //! Messages and their answers.
-use crate::bank::{balances, open_branches};
+use crate::bank::balances;
 use crate::connection::{Connection, play};
 use crate::first_message::first_message;
 use crate::texts::{BAD, FIRST_AND_REMOTE, FIRST_ANSWER, FIRST_TWICE, REMOTE_ANSWER, joined};
+use failing_ends::open_both;
 use posting_core::{PlainBank, StoredClock};
 use std::alloc::{Alloc, Global};
 use std::process::Abort;
@@ -12,7 +13,7 @@ use std::test::Fail;
 #[test]
 fn a_record_in_a_message(rt: HostRuntime) {
     let mut bank = PlainBank::new(rt.alloc());
-    assert!(rt; open_branches(&mut bank).is_some());
+    assert!(rt; open_both(&mut bank).is_ok());
     let mut clock = StoredClock::new(Vec::new(rt.alloc()));
     let mut record = [b' '; 100];
     record.copy_from_slice(&FIRST_TWICE[44..144]);

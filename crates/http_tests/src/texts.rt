@@ -36,6 +36,62 @@ pub const BAD_HEAD: &[u8] =
     b"HTTP/1.1 400 Bad Request\r\nContent-Type: text/plain\r\nContent-Length: 16\r\n\
     Connection: close\r\n\r\n";
 
+/// What a bank that failed answers.
+pub const UNAVAILABLE: &[u8] =
+    b"HTTP/1.1 503 Service Unavailable\r\nContent-Type: text/plain\r\nContent-Length: 24\r\n\
+    Connection: close\r\n\r\n503 Service Unavailable\n";
+
+/// Two messages of another teller: three hundred cents to account 2, and four hundred from account 100002.
+pub const OTHER_TWO: &[u8] = b"POST /post HTTP/1.1\r\nContent-Length: 100\r\n\r\n\
+    DC01000000000002000000110000020000000001+0000000300                                                 \
+    POST /post HTTP/1.1\r\nContent-Length: 100\r\n\r\n\
+    DC01000000100002000000110000020000000002-0000000400                                                 ";
+
+/// The answers to them.
+pub const OTHER_ANSWER: &[u8] =
+    b"HTTP/1.1 200 OK\r\nContent-Type: application/octet-stream\r\nContent-Length: 200\r\n\r\n\
+    DR0100000000000002000000110000020000000001+0000000300+000000000300POSTED                                                                                                                                ";
+
+pub const OTHER_LAST_ANSWER: &[u8] =
+    b"HTTP/1.1 200 OK\r\nContent-Type: application/octet-stream\r\nContent-Length: 200\r\n\r\n\
+    DR0100000000100002000000110000020000000002-0000000400-000000000400POSTED                                                                                                                                ";
+
+/// The first record and the remote one, and between them a message that asks for account 1.
+pub const READS_BETWEEN: &[u8] = b"POST /post HTTP/1.1\r\nContent-Length: 100\r\n\r\n\
+    DC01000000000001000000010000010000000001+0000000500                                                 \
+    GET /account/1 HTTP/1.1\r\n\r\n\
+    POST /post HTTP/1.1\r\nContent-Length: 100\r\n\r\n\
+    DC01000000100001000000010000010000000002-0000000700                                                 ";
+
+/// The balance of account 1 after the first record.
+pub const BALANCE_ANSWER: &[u8] =
+    b"HTTP/1.1 200 OK\r\nContent-Type: text/plain\r\nContent-Length: 22\r\n\r\naccount 1 balance 500\n";
+
+/// A record of an account that isn't open, a message that asks for no bank, and the other teller's first record.
+pub const IS_REFUSED: &[u8] = b"POST /post HTTP/1.1\r\nContent-Length: 100\r\n\r\n\
+    DC01000000000004000000020000010000000001+0000000100                                                 \
+    GET /health HTTP/1.1\r\n\r\n\
+    POST /post HTTP/1.1\r\nContent-Length: 100\r\n\r\n\
+    DC01000000000002000000110000020000000001+0000000300                                                 ";
+
+pub const NO_ACCOUNT_ANSWER: &[u8] =
+    b"HTTP/1.1 200 OK\r\nContent-Type: application/octet-stream\r\nContent-Length: 200\r\n\r\n\
+    DR0113000000000004000000020000010000000001+0000000100+000000000000NO ACCOUNT                                                                                                                            ";
+
+pub const HEALTH_ANSWER: &[u8] =
+    b"HTTP/1.1 200 OK\r\nContent-Type: text/plain\r\nContent-Length: 3\r\n\r\nok\n";
+
+/// The first record, a message after which the connection ends, and a record that isn't read.
+pub const CLOSES: &[u8] = b"POST /post HTTP/1.1\r\nContent-Length: 100\r\n\r\n\
+    DC01000000000001000000010000010000000001+0000000500                                                 \
+    GET /health HTTP/1.0\r\n\r\n\
+    POST /post HTTP/1.1\r\nContent-Length: 100\r\n\r\n\
+    DC01000000000001000000020000010000000009+0000000100                                                 ";
+
+pub const LAST_HEALTH_ANSWER: &[u8] =
+    b"HTTP/1.1 200 OK\r\nContent-Type: text/plain\r\nContent-Length: 3\r\n\
+    Connection: close\r\n\r\nok\n";
+
 /// The texts, one after another.
 pub fn joined(rt: &impl Alloc<A = Global>, texts: &[&[u8]]) -> Result<Vec<u8>, Fail> {
     let mut all = Vec::new(rt.alloc());
