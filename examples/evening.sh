@@ -8,8 +8,9 @@
 # FILE is the bank. FOLDER, a new one each evening, gets the copy, its audit and its replay. The file DIGESTS gets a line
 # `requests N digest D` each evening, and DIGESTS.plan the branches with their accounts and floors, which no digest has: let
 # both be where nobody who can write FILE can write. If it isn't named, it is beside FOLDER. A branch that was opened since
-# the evening before is shown; one whose accounts or floor changed, or that went, is an alarm. After a recovery, whose postings have other moments, `--after-recovery` accepts requests that differ from those
-# of the evening before, says so, and adds the new line.
+# the evening before is shown; one whose accounts or floor changed, or that went, is an alarm. After a recovery, whose
+# postings have other moments, `--after-recovery` accepts what differs from the evening before, says so, and adds the new
+# line.
 #
 # STOP and START are the commands that stop and start the counter, OPEN is one that succeeds once it answers, within
 # SECONDS_TO_OPEN, and BANK is the program; without them it is the service of examples/bank.service, and 300 seconds.

@@ -26,7 +26,7 @@ import threading
 import time
 
 from refuse_memory import Folder, Wrong, ensure
-from serve_client import BANK, Server, make_bank, need_program, post, read_answer, record, run
+from serve_client import BANK, Sender, Server, clear, make_bank, need_program, post, record, run
 
 LIVES, RECORDS, TELLERS = (int(os.environ.get(name, usual)) for name, usual in
                            (("LIVES", 100), ("RECORDS", 20_000), ("TELLERS", 16)))
@@ -78,9 +78,6 @@ class Bench(Folder):
 
     def new_bank(self, name):
         file = f"{self.path}/{name}.db"
-        for end in ("", "-wal"):
-            if os.path.exists(file + end):
-                os.remove(file + end)
         make_bank(file, PLAN)
         return file
 
@@ -122,9 +119,7 @@ def limited_at_the_making(bench):
     for limit in range(0, 60_000, 512):
         for is_told in (True, False):
             file = bench.path + "/making.db"
-            for end in ("", "-wal"):
-                if os.path.exists(file + end):
-                    os.remove(file + end)
+            clear(file)
             for words in (["init", file], ["load", file, bench.path + "/whole.db.csv"]):
                 status, output, fault = bench.plain(words, limit=limit, is_told=is_told)
                 ensure((status, fault) in FAILS, f"{words[0]}: status {status}, {fault!r}")
@@ -141,15 +136,12 @@ def full(bench):
     os.mkdir(disk)
     mounted = subprocess.run(["mount", "-t", "tmpfs", "-o", "size=4m", "tmpfs", disk], stderr=subprocess.PIPE)
     if mounted.returncode:
-        print("fail_files: no disk of its own: " + mounted.stderr.decode().strip())
+        print("failures: no disk of its own: " + mounted.stderr.decode().strip())
         return
     bench.cause = "a full disk"
     try:
         for room in list(range(0, 80, 4)) + list(range(80, 1_600, 50)):
             file = disk + "/full.db"
-            for end in ("", "-wal", ".csv"):
-                if os.path.exists(file + end):
-                    os.remove(file + end)
             make_bank(file, PLAN)
             fill(disk, room * 1024)
             bench.is_told(bench.plain(["post", file], bench.given), {DONE, (3, STORE)})
@@ -215,9 +207,7 @@ def taken_away_beneath(bench):
         output, fault = process.communicate(bench.given[part:])
         bench.runs += 1
         bench.is_told((process.returncode, output, fault), {DONE, (3, STORE)})
-        for end in ("", "-wal"):
-            if os.path.exists(file + end):
-                os.remove(file + end)
+        clear(file)
         for end in kept:
             os.rename(file + ".kept" + end, file + end)
         bench.is_mended(file)
@@ -226,7 +216,7 @@ def taken_away_beneath(bench):
 def unreadable(bench):
     """Another user runs the program, who may read and write both files, and then not one of them, or not the folder."""
     if os.getuid() != 0:
-        print("fail_files: not root: no other user")
+        print("failures: not root: no other user")
         return
     bench.cause = "a file or a folder that can't be read or written"
     folder = bench.path + "/theirs"
@@ -277,48 +267,19 @@ def many(bench):
     return given
 
 
-class Sender(threading.Thread):
-    """One client's own records, from the first that has no answer; it comes again where its connection is closed, until the
-    counter is gone."""
-
-    def __init__(self, server, pending):
-        super().__init__()
-        self.server, self.pending, self.replies = server, pending, []
-        self.start()
-
-    def run(self):
-        while len(self.replies) < len(self.pending) and self.server.process.poll() is None:
-            try:
-                with self.server.connect() as connection:
-                    self.converse(connection)
-            except OSError:
-                time.sleep(0.001)
-
-    def converse(self, connection):
-        sent, buffered = len(self.replies), b""
-        while len(self.replies) < len(self.pending):
-            while sent < min(len(self.pending), len(self.replies) + AHEAD):
-                connection.sendall(post(self.pending[sent]))
-                sent += 1
-            answer = read_answer(connection, buffered)
-            if answer is None or answer[0] != 200:
-                return
-            self.replies.append(answer[1])
-            buffered = answer[2]
-
-
 def serves(bench):
     """Kills `serve` beneath clients that post at once, each its own tellers' records, so that every reply but for its
     balance is known; the tables but for moments and ordinals are those of one run."""
     file, given = bench.new_bank("served"), many(bench)
-    sorts = [[record for i, record in enumerate(records(RECORDS)) if i % 20 % TELLERS == it] for it in range(TELLERS)]
+    sorts = [[post(body) for i, body in enumerate(records(RECORDS)) if i % 20 % TELLERS == it] for it in range(TELLERS)]
     replies, kills = [[] for _ in sorts], 0
     for life in range(LIVES + 1):
         server = Server(file, 1000)
         timer = threading.Timer(random.uniform(0.0, 0.08), server.process.kill)
         if life < LIVES:
             timer.start()
-        senders = [Sender(server, sort[len(had):]) for sort, had in zip(sorts, replies)]
+        senders = [Sender(server.connect, sort[len(had):], AHEAD, lambda: server.process.poll() is not None)
+                   for sort, had in zip(sorts, replies)]
         for sender, had in zip(senders, replies):
             sender.join()
             had += sender.replies
@@ -329,7 +290,7 @@ def serves(bench):
     ensure(all(reply[4:6] == b"00" for had in replies for reply in had), "not all are posted")
     ensure([len(had) for had in replies] == [len(sort) for sort in sorts], "not all are answered")
     again = run("post", file, data=given)[0]
-    told = dict(zip((it for sort in sorts for it in sort), (it for had in replies for it in had)))
+    told = dict(zip((it[-100:] for sort in sorts for it in sort), (it for had in replies for it in had)))
     ensure(all(told[given[at:at + 100]] == again[2 * at:2 * at + 200] for at in range(0, len(given), 100)),
            "a resend gets another reply")
     ensure(run("audit", file)[0].endswith(b"\nCONSISTENT\n") and run("replay", file)[2] == 0, "the books differ")
@@ -346,9 +307,7 @@ def inits(bench):
     file, found, stops = bench.path + "/made.db", 0, 0
     for call in ("pwrite64", "ftruncate", "fdatasync", "fsync"):
         for at in range(1, 1000):
-            for end in ("", "-wal"):
-                if os.path.exists(file + end):
-                    os.remove(file + end)
+            clear(file)
             stopped = subprocess.run(["strace", "-f", "-o", bench.path + "/trace", "-e",
                                       f"inject={call}:error=EIO:signal=KILL:when={at}", BANK, "init", file],
                                      capture_output=True, check=False)

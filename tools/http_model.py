@@ -1,23 +1,19 @@
 #!/usr/bin/env python3
-"""Serves random inputs by the built program and by a model of its own, and compares their bytes.
+"""Sends drawn inputs to a running `bank serve`, each on a connection of its own, and compares the bytes that come back
+with those of a model, which walks over an input by a grammar of request heads of its own, and answers by tools/oracle.py.
+It needs the built program, and stands outside the gate.
 
     tools/http_model.py [COUNT] [SEED]
-
-The model walks over an input by a grammar of request heads of its own, and answers by tools/oracle.py, of a bank of two
-branches. The program, `http_stdio.rt.in`, is proved and built first, as a crate of its own above copies of those that
-it uses. All of it stands outside the gate.
 """
-import os
 import random
-import shutil
-import subprocess
+import socket
 import sys
 import tempfile
-from concurrent.futures import ThreadPoolExecutor
 
 import oracle
-from build import TOP, USES, below
+from serve_client import Server, make_bank, need_program
 
+PLAN = [(1, 3), (2, 2)]
 MAX_HEAD, MAX_FIELDS, MAX_BODY = 8192, 32, 4096
 TOKEN = frozenset(b"!#$%&'*+-.^_`|~0123456789ABCDEFGHIJKLMNOPQRSTUVWXYZabcdefghijklmnopqrstuvwxyz")
 
@@ -98,11 +94,9 @@ def asks_to_close(fields):
 
 # ---- the walk
 
-def walk(data):
+def walk(book, data):
     """The answers to an input."""
-    book, out = oracle.Book(), b""
-    book.open(1, 3)
-    book.open(2, 2)
+    out = b""
     while data:
         head = head_at(data)
         if head is None:
@@ -127,7 +121,7 @@ def walk(data):
 
 def record(draw):
     account = draw.choice([1] * 5 + [2, 3, 4, 100_001, 100_002, 100_003, 0])
-    teller, number = draw.choice([1] * 5 + [2, 11, 20, 21]), draw.choice([1, 1, 2, 3])
+    teller, number = draw.choice([1] * 5 + [2, 11, 20, 21]), draw.first + draw.choice([1, 1, 2, 3])
     branch = (teller - 1) // 10 + 1 if draw.random() < 0.9 else draw.choice([1, 2, 3])
     delta = draw.choice([500, 500, -700, 0, 9_999_999_999, -9_999_999_999])
     reference = draw.choice(["RENT MAY", "RENT JUN", ""]) if draw.random() < 0.3 else None
@@ -177,38 +171,36 @@ def an_input(draw):
     return text[:draw.randrange(len(text) + 1)] if draw.random() < 0.15 else text
 
 
-def built(folder):
-    """Proves and builds the program in a new folder, and gives its path."""
-    uses = {it: USES[it] for it in below("counter_http")}
-    uses["http_stdio"] = ["message_records", "posting_core", "counter_http"]
-    with open(os.path.join(folder, "crates.txt"), "w", encoding="utf-8") as file:
-        file.writelines(f"{crate}: {' '.join(libraries)}\n" for crate, libraries in uses.items())
-    for crate in below("counter_http"):
-        shutil.copytree(TOP / "crates" / crate, os.path.join(folder, "crates", crate), symlinks=True)
-    own = os.path.join(folder, "crates", "http_stdio")
-    os.makedirs(os.path.join(own, "src"))
-    shutil.copy(TOP / "tools/http_stdio.rt.in", os.path.join(own, "src", "main.rt"))
-    subprocess.run(["git", "init", "-q"], cwd=folder, check=True)
-    subprocess.run(["rt", "run"], cwd=own, input=b"", check=True)
-    return os.path.join(own, "out", "http_stdio")
-
-
-def compare(program, text):
-    run = subprocess.run([program], input=text, stdout=subprocess.PIPE, check=False)
-    return (run.stdout, run.returncode) == (walk(text), 0)
+def answered(port, text):
+    """What comes back on a connection until it ends."""
+    out = b""
+    with socket.create_connection(("127.0.0.1", port), timeout=60) as connection:
+        connection.sendall(text)
+        connection.shutdown(socket.SHUT_WR)
+        while piece := connection.recv(65536):
+            out += piece
+    return out
 
 
 def main():
+    need_program()
     count = int(sys.argv[1]) if len(sys.argv) > 1 else 100_000
     draw = random.Random(int(sys.argv[2]) if len(sys.argv) > 2 else 1)
-    with tempfile.TemporaryDirectory() as folder, ThreadPoolExecutor(2) as pool:
-        program = built(folder)
-        for first in range(0, count, 1000):
-            texts = [an_input(draw) for _ in range(min(1000, count - first))]
-            for text, same in zip(texts, pool.map(lambda it: compare(program, it), texts)):
-                if not same:
-                    sys.exit("http_model: differs at the input %r" % text)
-    print("http_model: %d inputs, all alike" % count)
+    book = oracle.Book()
+    for branch in PLAN:
+        book.open(*branch)
+    with tempfile.TemporaryDirectory() as folder:
+        make_bank(folder + "/bank.db", PLAN)
+        server = Server(folder + "/bank.db", count)
+        for place in range(count):
+            # Of eight inputs in a row some post the same again, or other requests under a number that is used.
+            draw.first = place // 8
+            text = an_input(draw)
+            got, wanted = answered(server.port, text), walk(book, text)
+            if got != wanted:
+                sys.exit(f"http_model: input {place}, {text!r}: {got!r}, not {wanted!r}")
+        status = server.end()
+    print(f"http_model: {count} inputs, all alike, status {status}")
 
 
 if __name__ == "__main__":

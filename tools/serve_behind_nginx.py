@@ -12,10 +12,9 @@ import ssl
 import subprocess
 import sys
 import tempfile
-import threading
 import time
 
-from serve_client import BANK, HERE, Restarted, make_bank, need_program, post, read_answer, record
+from serve_client import BANK, Place, Sender, need_program, post, read_answer, record
 
 PLAN = [(1, 3), (2, 2)]
 ACCOUNTS = [1, 2, 3, 100001, 100002]
@@ -46,45 +45,14 @@ def connect(tls, port):
     return tls.wrap_socket(socket.create_connection(("127.0.0.1", port), timeout=15), server_hostname="localhost")
 
 
-class Teller(threading.Thread):
-    """Posts its records in order, each until it has an answer, on a connection that it keeps."""
-
-    def __init__(self, folder, port, teller, count):
-        super().__init__(daemon=True)
-        self.port, self.replies, self.resent, self.fault = port, [], 0, None
-        draw = random.Random(teller)
-        branch = 1 if teller <= 10 else 2
-        self.records = [record(ACCOUNTS[(teller + i) % 5], teller, branch, i + 1, draw.randint(-9999, 9999))
-                        for i in range(count)]
-        self.tls = tls_of(folder, teller if teller % 2 else None)
-        self.fields = FROM_PAGE if teller % 2 else (signed_in(teller), *FROM_PAGE)
-
-    def run(self):
-        connection = None
-        end = time.monotonic() + LONGEST
-        for body in self.records:
-            message = with_fields(post(body), self.fields)
-            while True:
-                if time.monotonic() > end:
-                    self.fault = "no answer in time"
-                    return
-                try:
-                    connection = connection or connect(self.tls, self.port)
-                    connection.sendall(message)
-                    answer = read_answer(connection, b"")
-                    if answer is not None and answer[0] == 200:
-                        self.replies.append(answer[1])
-                        break
-                    if answer is not None and answer[0] not in (502, 503, 504):
-                        self.fault = f"an answer with status {answer[0]}"
-                        return
-                except OSError:
-                    pass
-                self.resent += 1
-                if connection:
-                    connection.close()
-                connection = None
-                time.sleep(random.uniform(0.01, 0.05))
+def teller_of(folder, port, teller, count, end):
+    """A teller's records, and who sends them."""
+    draw, branch = random.Random(teller), 1 if teller <= 10 else 2
+    records = [record(ACCOUNTS[(teller + i) % 5], teller, branch, i + 1, draw.randint(-9999, 9999)) for i in range(count)]
+    tls = tls_of(folder, teller if teller % 2 else None)
+    fields = FROM_PAGE if teller % 2 else (signed_in(teller), *FROM_PAGE)
+    messages = [with_fields(post(body), fields) for body in records]
+    return records, Sender(lambda: connect(tls, port), messages, gives_up=lambda: time.monotonic() > end)
 
 
 def strangers(folder, port):
@@ -132,44 +100,33 @@ def main():
     need_program()
     kills, count = map(int, sys.argv[1:] + ["30", "200"][len(sys.argv) - 1:])
     with tempfile.TemporaryDirectory() as folder:
-        with socket.create_server(("127.0.0.1", 0)) as one, socket.create_server(("127.0.0.1", 0)) as other:
-            front, back = one.getsockname()[1], other.getsockname()[1]
-        subprocess.run([HERE + "/tools/nginx_folder.sh", folder, str(front), str(back)], check=True)
-        serve(folder, front, back, kills, count)
+        serve(folder, kills, count)
 
 
-def serve(folder, front, back, kills, count):
-    file = folder + "/bank.db"
-    make_bank(file, PLAN)
-    bank = Restarted([BANK, "serve", file, f"127.0.0.1:{back}", "--connections", "1000000"])
-    nginx = Restarted(["nginx", "-p", folder, "-c", "nginx.conf", "-g", "daemon off;"])
-    killed = [0, 0]
+def serve(folder, kills, count):
+    place, killed = Place(folder, PLAN), [0, 0]
     try:
-        let_in = [name for name, tls, message, statuses in strangers(folder, front)
-                  if answer_of(tls, front, message) not in statuses]
-        tellers = [Teller(folder, front, teller, count) for teller in range(1, 21)]
-        for teller in tellers:
-            teller.start()
-        draw = random.Random()
+        place.start()
+        let_in = [name for name, tls, message, statuses in strangers(folder, place.front)
+                  if answer_of(tls, place.front, message) not in statuses]
+        end = time.monotonic() + LONGEST
+        books, tellers = zip(*(teller_of(folder, place.front, teller, count, end) for teller in range(1, 21)))
         while any(teller.is_alive() for teller in tellers):
-            time.sleep(draw.uniform(0.1, 0.8))
+            time.sleep(random.uniform(0.1, 0.8))
             if sum(killed) < kills:
-                which = draw.randrange(2)
-                (bank, nginx)[which].kill()
+                which = random.randrange(2)
+                (place.counter, place.nginx)[which].kill()
                 killed[which] += 1
-        for teller in tellers:
-            teller.join()
     finally:
-        nginx.stop()
-        bank.stop()
-    faults = [teller.fault for teller in tellers if teller.fault]
+        place.stop()
+    faults = [teller.fault or "no answer in time" for teller in tellers if len(teller.replies) < count]
+    records = [body for book in books for body in book]
     # What is posted again gets its first reply, and what was lost would be posted now, behind what came after it.
-    again = subprocess.run([BANK, "post", file], input=b"".join(body for teller in tellers for body in teller.records),
-                           stdout=subprocess.PIPE, check=True).stdout
+    again = place.posts(records)
     same = again == b"".join(reply for teller in tellers for reply in teller.replies)
-    told = subprocess.run([BANK, "audit", file], stdout=subprocess.PIPE, check=False).stdout.decode().splitlines()
+    told = subprocess.run([BANK, "audit", place.file], stdout=subprocess.PIPE, check=False).stdout.decode().splitlines()
     audit = {line[:-20].strip(): line[-20:].strip() for line in told[:-1]}
-    amounts = sum(int(body[40:51]) for teller in tellers for body in teller.records)
+    amounts = sum(int(body[40:51]) for body in records)
     whole = (told[-1] == "CONSISTENT" and int(audit["history"]) == 20 * count and int(audit["account sum"]) == amounts)
     print(f"serve_behind_nginx: {killed[0]} kills of the counter and {killed[1]} of nginx, {20 * count} postings, "
           f"{sum(teller.resent for teller in tellers)} sent again: "

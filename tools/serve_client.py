@@ -1,6 +1,10 @@
 """What the scripts around the program share: a run of it, a bank with a plan, a running server and a connection to it."""
+import contextlib
 import os
+import random
+import shutil
 import socket
+import sqlite3
 import subprocess
 import sys
 import threading
@@ -18,8 +22,16 @@ def need_program():
         sys.exit("build the program first: (cd crates/bank && rt run -- --help)")
 
 
+def clear(file):
+    """Takes both files of a bank away, where they are there."""
+    for end in ("", "-wal"):
+        with contextlib.suppress(FileNotFoundError):
+            os.remove(file + end)
+
+
 def make_bank(file, plan):
     """A new bank in the file, with the branches of a plan: (branch, accounts) one after another."""
+    clear(file)
     with open(file + ".csv", "w") as csv:
         csv.write("branch,accounts\n" + "".join(f"{branch},{accounts}\n" for branch, accounts in plan))
     done("init", file)
@@ -43,15 +55,15 @@ def done(*words, data=b""):
 class Server:
     """A running `bank serve` on a port of loopback that the system picks."""
 
-    def __init__(self, file, connections):
+    def __init__(self, file, connections, environment=None, may_fail=False, program=BANK):
         self.process = subprocess.Popen(
-            [BANK, "serve", file, "127.0.0.1:0", "--connections", str(connections)],
-            stdout=subprocess.PIPE, stderr=subprocess.PIPE)
+            [program, "serve", file, "127.0.0.1:0", "--connections", str(connections)],
+            stdout=subprocess.PIPE, stderr=subprocess.PIPE, env=environment)
         line = self.process.stdout.readline().decode()
         word, _, address = line.strip().partition(" ")
-        if word != "listening":
+        if word != "listening" and not may_fail:
             sys.exit(f"serve said {line!r}, {self.process.stderr.read().decode()!r}")
-        self.port = int(address.rpartition(":")[2])
+        self.port = int(address.rpartition(":")[2]) if word == "listening" else None
 
     def connect(self):
         connection = socket.create_connection(("127.0.0.1", self.port), timeout=20)
@@ -100,6 +112,46 @@ class Restarted(threading.Thread):
         self.join(timeout=10)
 
 
+class Place:
+    """A bank, the counter that serves it, and nginx before it as in examples/nginx.conf, each started again when it ends."""
+
+    def __init__(self, folder, plan):
+        self.folder, self.file = folder, folder + "/bank.db"
+        make_bank(self.file, plan)
+        with socket.create_server(("127.0.0.1", 0)) as one, socket.create_server(("127.0.0.1", 0)) as other:
+            self.front, self.back = one.getsockname()[1], other.getsockname()[1]
+        subprocess.run([HERE + "/tools/nginx_folder.sh", folder, str(self.front), str(self.back)], check=True)
+        self.counter = self.nginx = None
+
+    def start_counter(self):
+        self.counter = Restarted([BANK, "serve", self.file, f"127.0.0.1:{self.back}", "--connections", "1000000"])
+
+    def start(self):
+        self.start_counter()
+        self.nginx = Restarted(["nginx", "-p", self.folder, "-c", "nginx.conf", "-g", "daemon off;"])
+
+    def stop(self):
+        for program in (self.nginx, self.counter):
+            if program:
+                program.stop()
+        self.counter = self.nginx = None
+
+    def address(self, who="", path="/"):
+        return f"https://{who}localhost:{self.front}{path}"
+
+    def posts(self, records):
+        """Posts records while the counter is stopped, and gives the replies."""
+        return subprocess.run([BANK, "post", self.file], input=b"".join(records), check=True,
+                              stdout=subprocess.PIPE).stdout
+
+    def copied(self):
+        """A connection to a copy of both files. No command may run on them."""
+        for end in ("", "-wal"):
+            if os.path.exists(self.file + end):
+                shutil.copy(self.file + end, self.folder + "/copy.db" + end)
+        return sqlite3.connect(self.folder + "/copy.db")
+
+
 def post(body, close=False):
     """The message that posts a record."""
     last = b"Connection: close\r\n" if close else b""
@@ -125,3 +177,43 @@ def read_answer(connection, buffered):
             return None
         rest += piece
     return int(head[9:12]), rest[:length], rest[length:]
+
+
+class Sender(threading.Thread):
+    """Sends messages in order, each until it has its reply, on a connection that it keeps, or makes anew where that was
+    closed; up to so many are on their way. It gives up when that is so, or when it is told another answer."""
+
+    def __init__(self, connect, messages, ahead=1, gives_up=lambda: False):
+        super().__init__(daemon=True)
+        self.connect, self.messages, self.ahead, self.gives_up = connect, messages, ahead, gives_up
+        self.replies, self.resent, self.fault = [], 0, None
+        self.start()
+
+    def is_done(self):
+        return len(self.replies) == len(self.messages) or self.fault or self.gives_up()
+
+    def run(self):
+        while not self.is_done():
+            try:
+                with self.connect() as connection:
+                    self.converse(connection)
+            except OSError:
+                pass
+            if not self.is_done():
+                self.resent += 1
+                time.sleep(random.uniform(0.001, 0.02))
+
+    def converse(self, connection):
+        sent, buffered = len(self.replies), b""
+        while len(self.replies) < len(self.messages):
+            for message in self.messages[sent:len(self.replies) + self.ahead]:
+                connection.sendall(message)
+                sent += 1
+            answer = read_answer(connection, buffered)
+            if answer is None or answer[0] in (502, 503, 504):
+                return
+            if answer[0] != 200:
+                self.fault = f"an answer with status {answer[0]}"
+                return
+            self.replies.append(answer[1])
+            buffered = answer[2]

@@ -19,9 +19,6 @@ import os
 import queue
 import random
 import re
-import shutil
-import socket
-import sqlite3
 import subprocess
 import sys
 import tempfile
@@ -29,7 +26,7 @@ import threading
 import time
 
 from browsers import ENTER, ESCAPE, TAB, BrowserFault, Chromium, installed
-from serve_client import BANK, HERE, Restarted, make_bank, need_program, record
+from serve_client import BANK, HERE, Place, need_program, record
 
 ACCOUNTS = [1, 2, 3, 100001]
 # The least that account 3,000,001 may have is its floor; branch 31 has the tellers 301 to 310.
@@ -89,46 +86,6 @@ def hashes():
         configuration = re.sub(f"{part}-src 'sha256-[^']*'", f"{part}-src 'sha256-{digest}'", configuration)
     with open(path, "w", encoding="utf-8") as file:
         file.write(configuration)
-
-
-class Place:
-    """A bank, the counter that serves it, and nginx before it, each started again when it ends."""
-
-    def __init__(self, folder):
-        self.folder, self.file = folder, folder + "/bank.db"
-        make_bank(self.file, [(1, 3)])
-        with socket.create_server(("127.0.0.1", 0)) as one, socket.create_server(("127.0.0.1", 0)) as other:
-            self.front, self.back = one.getsockname()[1], other.getsockname()[1]
-        subprocess.run([HERE + "/tools/nginx_folder.sh", folder, str(self.front), str(self.back)], check=True)
-        self.counter = self.nginx = None
-
-    def start_counter(self):
-        self.counter = Restarted([BANK, "serve", self.file, f"127.0.0.1:{self.back}", "--connections", "1000000"])
-
-    def start(self):
-        self.start_counter()
-        self.nginx = Restarted(["nginx", "-p", self.folder, "-c", "nginx.conf", "-g", "daemon off;"])
-
-    def stop(self):
-        for program in (self.nginx, self.counter):
-            if program:
-                program.stop()
-        self.counter = self.nginx = None
-
-    def address(self, who="", path="/"):
-        return f"https://{who}localhost:{self.front}{path}"
-
-    def posts(self, records):
-        """Posts records while the counter is stopped, and gives the replies."""
-        return subprocess.run([BANK, "post", self.file], input=b"".join(records), check=True,
-                              stdout=subprocess.PIPE).stdout
-
-    def copied(self):
-        """A connection to a copy of both files. No command may run on them."""
-        for end in ("", "-wal"):
-            if os.path.exists(self.file + end):
-                shutil.copy(self.file + end, self.folder + "/copy.db" + end)
-        return sqlite3.connect(self.folder + "/copy.db")
 
 
 class Page:
@@ -485,7 +442,7 @@ def opened(kind):
     """A place that is started, and a page for it, until both have been used."""
     with tempfile.TemporaryDirectory(ignore_cleanup_errors=True) as folder:
         os.mkdir(folder + "/profile")
-        place = Place(folder)
+        place = Place(folder, [(1, 3)])
         page = Page(kind, folder + "/profile", place)
         try:
             place.start()

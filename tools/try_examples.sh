@@ -1,6 +1,7 @@
 #!/usr/bin/env bash
 # Tries what README, docs/USING.md and examples/ show, with the built program: README's minute as a script and pasted
-# into a terminal, the reports in SQL, the evening's copy, a recovery and the migration, each with what they refuse.
+# into a terminal, the reports in SQL, the evening's copy, a recovery and the migration, each with what they refuse; and
+# what `bank serve` answers to curl.
 #
 #     tools/try_examples.sh [TIMES]
 #
@@ -93,7 +94,7 @@ count="$(sqlite3 my.db 'SELECT decided FROM meta')"
 same "$(cut -d ' ' -f 2 safe/my.db.digests | paste -sd ' ')" "6 $count" "requests of two evenings"
 stop=false alarms "not copied" my.db safe/3
 is_started
-# What stands in the file is changed by hand: a sum, two balances, a moment, and a file of another day.
+# What stands in the file is changed by hand: a sum, two balances, a floor, a moment; and a file of another day.
 changed() {
     cp my.db changed.db
     if [ -e my.db-wal ]; then cp my.db-wal changed.db-wal; fi
@@ -103,8 +104,8 @@ changed() {
 }
 changed 'UPDATE teller SET balance = balance + 1 WHERE tid = 1' 'bank audit ended with status 5' 4
 changed 'UPDATE account SET balance = balance + 300 - 200 * aid WHERE aid < 3' 'bank replay ended with status 5' 5
-changed 'UPDATE history SET moment = moment - 1 WHERE ordinal = 1' 'are not those of the evening before' 6
 changed 'INSERT INTO branch_floor VALUES (1, -999999999999)' 'not as the evening before: the branches' 12
+changed 'UPDATE history SET moment = moment - 1 WHERE ordinal = 1' 'are not those of the evening before' 6
 evening --after-recovery changed.db safe/8 safe/recovered.digests || fail "an evening after a recovery: $(cat said)"
 cp safe/my.db.digests safe/recovered.digests
 evening --after-recovery changed.db safe/9 safe/recovered.digests || fail "an evening after a recovery: $(cat said)"
@@ -140,3 +141,32 @@ done
 echo "migrate.sh"
 "$top/examples/day.sh" "$bank" >/dev/null
 echo "day.sh"
+
+# A posting, the same one again, GET and HEAD, a kept connection, HTTP/1.0, and what isn't there, on ten connections.
+"$bank" init curl.db >/dev/null
+"$bank" load curl.db "$top/examples/plan.csv" >/dev/null
+"$bank" serve curl.db 127.0.0.1:0 --connections 10 >heard &
+server=$!
+until grep -qs listening heard; do sleep 0.1; done
+base=http://$(cut -d ' ' -f 2 heard)
+ask() { curl -sS --max-time 20 "$@"; }
+printf '%-100s' DC01000000000001000000010000010000000001+0000000500 >record
+ask --data-binary @record -o reply "$base/post"
+same "$(cat reply)" "$(printf '%-200s' DR0100000000000001000000010000010000000001+0000000500+000000000500POSTED)" "a posting"
+ask --data-binary @record -o repeat "$base/post"
+cmp reply repeat || fail "the same posting has another reply"
+same "$(ask "$base/account/1")" 'account 1 balance 500' "an account"
+same "$(ask -w '%{http_code}' -o /dev/null "$base/account/4")" 404 "an account that is not open"
+same "$(ask --data-binary short -w '%{http_code}' -o /dev/null "$base/post")" 400 "a record that is too short"
+same "$(ask -D - -o /dev/null "$base/post" | tr -d '\r' | head -4 | paste -sd ,)" \
+    "HTTP/1.1 405 Method Not Allowed,Content-Type: text/plain,Content-Length: 23,Allow: POST" "GET of what is posted"
+same "$(ask "$base/branches")" "$(printf '%6s %7s %14s\n%6s %7s %14s' 1 3 500 2 2 0)" "the branches"
+same "$(ask --head "$base/branches" | tr -d '\r' | paste -sd ,)" \
+    "HTTP/1.1 200 OK,Content-Type: text/plain,Content-Length: 60," "HEAD"
+same "$(ask --http1.0 -D - "$base/account/1" | tr -d '\r' | paste -sd ,)" \
+    "HTTP/1.1 200 OK,Content-Type: text/plain,Content-Length: 22,Connection: close,,account 1 balance 500" "HTTP/1.0"
+# Three requests of one call of curl take one connection.
+same "$(ask -w '%{num_connects} ' "$base/account/1" "$base/account/2" "$base/account/3" | tr '\n' ' ')" \
+    'account 1 balance 500 1 account 2 balance 0 0 account 3 balance 0 0 ' "a kept connection"
+wait "$server" || fail "serve ended with status $?"
+echo "curl"

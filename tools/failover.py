@@ -15,7 +15,7 @@ second, as the units do. Each round something fails at a random moment:
 After each round the replicas are equal, the bank audits and replays, each answered posting stands once with its reply,
 none stands that wasn't sent, and a host that was cut off has answered nothing more since another one served.
 
-    tools/failover.sh volume [ROUNDS]
+    tools/failover.py [ROUNDS]
 
 It needs root, the built program, and Debian's glusterfs-server and glusterfs-client. KINDS names the failures that are
 drawn from, SET options of the volume (`client.strict-locks off`), and MOUNT those of the mount, to see what comes of
