@@ -13,7 +13,7 @@ use Rattle.sql_meanings.specs.believed.Entries.{Entry}
 use Rattle.store_rows.specs.believed.BankTables.{branch as branch_table, floor as floor_table}
 use Rattle.walked_rows.specs.KeptRows.{HasKept, KeptItem}
 use Rattle.walked_rows.specs.Rows.{HasStoredRows}
-use Rattle.bank_store.specs.Leaving.{StandsWhileOpen, TakesNone}
+use Rattle.bank_store.specs.Leaving.{LeavesAsFound, TakesNone}
 use Rattle.bank_store.specs.believed.Seen.{bank_seen, database_of}
 use Rattle.bank_store.specs.Seen.{fault_of}
 use Rattle.bank_store.specs.declared.bank.Bank.{Bank}
@@ -77,7 +77,7 @@ pub record ReplaysBank {S : Type 0} (g : Ghosts S) (found : Result Replay Fault)
       → HasStoredRows (database_of g old) (table_of d) rows → DiffersFrom rows d)
   pub bank : Replays (bank_seen g old) (bank_seen g new) found
   pub up : fault_of new ≡ fault_of old
-  pub stands : StandsWhileOpen g old new
+  pub leaves : LeavesAsFound g old new
 
 abbrev pub ReplaysOver : {S : Type 0} (g : Ghosts S) → (conn back : Held S) → (w w' : Option (List ℕ))
     → (t t' : Option (List WriteTold)) → Result Status CommandFault → Type 0
@@ -102,7 +102,7 @@ pub record DigestsBank {S : Type 0} (g : Ghosts S) (requests : ℕ) (found : Res
       → DigestsFirst requests (answered_after log) found
   pub bank : TakesNone (bank_seen g old) (bank_seen g new) (HasAnswered found)
   pub up : fault_of new ≡ fault_of old
-  pub stands : StandsWhileOpen g old new
+  pub leaves : LeavesAsFound g old new
 
 abbrev pub DigestsOver : {S : Type 0} (g : Ghosts S) → (conn back : Held S) → ℕ → (w w' : Option (List ℕ))
     → (t t' : Option (List WriteTold)) → Result Status CommandFault → Type 0
@@ -129,7 +129,7 @@ pub record ExportsBank {S : Type 0} (g : Ghosts S) (after : ℕ) (w w' : Option 
   pub writer : LeavesWriter t t' ends
   pub bank : TakesNone (bank_seen g old) (bank_seen g new) (HasAnswered ends)
   pub up : fault_of new ≡ fault_of old
-  pub stands : StandsWhileOpen g old new
+  pub leaves : LeavesAsFound g old new
 
 abbrev pub ExportsOver : {S : Type 0} (g : Ghosts S) → (conn back : Held S) → ℕ → (w w' : Option (List ℕ))
     → (t t' : Option (List WriteTold)) → Result Status CommandFault → Type 0
@@ -147,7 +147,7 @@ pub record PlansBank {S : Type 0} (g : Ghosts S) (w w' : Option (List ℕ)) (t t
   pub writer : LeavesWriter t t' ends
   pub bank : TakesNone (bank_seen g old) (bank_seen g new) (HasAnswered ends)
   pub up : fault_of new ≡ fault_of old
-  pub stands : StandsWhileOpen g old new
+  pub leaves : LeavesAsFound g old new
 
 abbrev pub PlansOver : {S : Type 0} (g : Ghosts S) → (conn back : Held S) → (w w' : Option (List ℕ))
     → (t t' : Option (List WriteTold)) → Result Status CommandFault → Type 0

@@ -5,10 +5,9 @@ ghost use Rattle.posting_rules.specs.believed.Commands.{Command};
 ghost use Rattle.posting_rules.specs.believed.Counter.{ShowsLog};
 ghost use Rattle.posting_rules.specs.declared.fault.Fault.TheVariants.{Down};
 ghost use Rattle.walked_rows.specs.KeptRows.{HasKept, KeptItem};
-ghost use Rattle.bank_store.specs.Leaving.{StandsWhileOpen, TakesNone};
-ghost use Rattle.bank_store.specs.believed.Seen.{bank_seen, connection_of, database_of, file_of};
+ghost use Rattle.bank_store.specs.Leaving.{LeavesAsFound, TakesNone};
+ghost use Rattle.bank_store.specs.believed.Seen.{bank_seen, database_of, file_of};
 ghost use Rattle.bank_store.specs.Seen.{fault_of};
-ghost use Rattle.bank_store.specs.Sparing.{SparesWhileOpen};
 ghost use Rattle.bank_replays.specs.Digests.{DigestsFirst, DigestsRows, IsDigestIn, answered_after};
 ghost use Rattle.bank_replays.specs.Reading.{ReadsBank};
 ghost use Rattle.bank_replays.specs.Replays.{HasAnswered};
@@ -67,8 +66,7 @@ pub fn digest<S: Alter>(bank: &mut Bank<S>, count: u64) -> Result<Option<Digest>
     ensures bank { TakesNone (bank_seen S.Store bank.old) (bank_seen S.Store bank.new) (HasAnswered result) }
     ensures down { (bank_seen S.Store bank.old).is_down → (result ≡ Err Down) × (bank.new ≡ bank.old) }
     ensures up { fault_of bank.new ≡ fault_of bank.old }
-    ensures stands { StandsWhileOpen S.Store bank.old bank.new }
-    ensures spares { SparesWhileOpen S.Store (connection_of bank.old) (connection_of bank.new) }
+    ensures leaves { LeavesAsFound S.Store bank.old bank.new }
 {
     if bank.is_down() {
         return Err(Fault::Down);

@@ -8,10 +8,9 @@ ghost use Rattle.store_rows.specs.believed.BankTables.{branch as branch_table, f
 ghost use Rattle.walked_rows.specs.Rows.{HasStoredRows};
 ghost use Rattle.walked_rows.specs.Stored.{branch_entry};
 ghost use Rattle.walked_rows.specs.StoredBeside.{floor_entry};
-ghost use Rattle.bank_store.specs.Leaving.{StandsWhileOpen, TakesNone};
-ghost use Rattle.bank_store.specs.believed.Seen.{bank_seen, connection_of, database_of, file_of};
+ghost use Rattle.bank_store.specs.Leaving.{LeavesAsFound, TakesNone};
+ghost use Rattle.bank_store.specs.believed.Seen.{bank_seen, database_of, file_of};
 ghost use Rattle.bank_store.specs.Seen.{fault_of};
-ghost use Rattle.bank_store.specs.Sparing.{SparesWhileOpen};
 ghost use Rattle.bank_replays.specs.Reading.{ReadsBank};
 ghost use Rattle.bank_replays.specs.Replays.{HasAnswered};
 ghost use Rattle.bank_replays.specs.Writing.{LeavesWriter, Wrote, WrotePart, WritesText, branch_of};
@@ -172,8 +171,7 @@ pub fn write_plan<S: Alter, W: Sink>(bank: &mut Bank<S>, writer: &mut W) -> Resu
     ensures down { (bank_seen S.Store bank.old).is_down
         → (result ≡ Err (OfBank Down)) × (bank.new ≡ bank.old) × (writer.new ≡ writer.old) }
     ensures up { fault_of bank.new ≡ fault_of bank.old }
-    ensures stands { StandsWhileOpen S.Store bank.old bank.new }
-    ensures spares { SparesWhileOpen S.Store (connection_of bank.old) (connection_of bank.new) }
+    ensures leaves { LeavesAsFound S.Store bank.old bank.new }
 {
     if bank.is_down() {
         return Err(ReplayFault::Bank(Fault::Down));

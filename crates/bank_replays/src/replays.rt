@@ -8,10 +8,9 @@ ghost use Rattle.posting_rules.specs.declared.fault.Fault.TheVariants.{Down};
 ghost use Rattle.sql_meanings.specs.believed.Entries.{Entry};
 ghost use Rattle.walked_rows.specs.KeptRows.{HasKept, KeptItem};
 ghost use Rattle.walked_rows.specs.Rows.{HasStoredRows};
-ghost use Rattle.bank_store.specs.believed.Seen.{bank_seen, connection_of, database_of, file_of};
+ghost use Rattle.bank_store.specs.believed.Seen.{bank_seen, database_of, file_of};
 ghost use Rattle.bank_store.specs.Seen.{fault_of};
-ghost use Rattle.bank_store.specs.Sparing.{SparesWhileOpen};
-ghost use Rattle.bank_store.specs.Leaving.{StandsWhileOpen};
+ghost use Rattle.bank_store.specs.Leaving.{LeavesAsFound};
 ghost use Rattle.bank_replays.specs.Differences.{DiffersFrom, table_of};
 ghost use Rattle.bank_replays.specs.Digests.{IsDigestIn};
 ghost use Rattle.bank_replays.specs.FileTables.{FileTables, HasTables, IsKept};
@@ -176,8 +175,7 @@ pub fn replay<S: Alter, W: Watch + Drop>(bank: &mut Bank<S>, watch: W) -> Result
     ensures bank { Replays (bank_seen S.Store bank.old) (bank_seen S.Store bank.new) result }
     ensures down { (bank_seen S.Store bank.old).is_down → (result ≡ Err Down) × (bank.new ≡ bank.old) }
     ensures up { fault_of bank.new ≡ fault_of bank.old }
-    ensures stands { StandsWhileOpen S.Store bank.old bank.new }
-    ensures spares { SparesWhileOpen S.Store (connection_of bank.old) (connection_of bank.new) }
+    ensures leaves { LeavesAsFound S.Store bank.old bank.new }
 {
     if bank.is_down() {
         return Err(Fault::Down);

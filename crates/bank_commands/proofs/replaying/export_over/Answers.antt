@@ -1,5 +1,6 @@
 -- The bank that was found is the one whose requests were written.
 use Rattle.std.proofs.Common.{refl}
+use Rattle.bank_store.proofs.AsFound.{as_found_spares}
 use Rattle.bank_commands.proofs.Spared.{done_over, none_over}
 use Rattle.bank_commands.proofs.replaying.export_over.Goals as goal
 
@@ -24,8 +25,8 @@ returns g c =
           writer = it.writer;
           bank = it.bank;
           up = it.up;
-          stands = it.stands;
+          leaves = it.leaves;
         },
-      ) it.spares c.release.ensures.same;
+      ) (as_found_spares g.S.Store c.in-Ok.bank c.export.new.bank it.leaves) c.release.ensures.same;
       idle = c.release.ensures.idle;
     }

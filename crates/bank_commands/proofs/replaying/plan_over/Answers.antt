@@ -1,5 +1,6 @@
 -- The bank that was found is the one whose branches were written.
 use Rattle.std.proofs.Common.{refl}
+use Rattle.bank_store.proofs.AsFound.{as_found_spares}
 use Rattle.bank_commands.proofs.Spared.{done_over, none_over}
 use Rattle.bank_commands.proofs.replaying.plan_over.Goals as goal
 
@@ -18,7 +19,7 @@ returns g c =
       plans = done_over g.S.Store c.args.conn c.release.result _ c.in-Ok.bank c.write_plan.new.bank c.in-Ok.ensures.found (
         c.write_plan.result,
         c.written-told.ensures,
-        record { rows = it.rows; writer = it.writer; bank = it.bank; up = it.up; stands = it.stands },
-      ) it.spares c.release.ensures.same;
+        record { rows = it.rows; writer = it.writer; bank = it.bank; up = it.up; leaves = it.leaves },
+      ) (as_found_spares g.S.Store c.in-Ok.bank c.write_plan.new.bank it.leaves) c.release.ensures.same;
       idle = c.release.ensures.idle;
     }

@@ -1,5 +1,6 @@
 -- The bank that was found is the one that was replayed.
 use Rattle.std.proofs.Common.{refl}
+use Rattle.bank_store.proofs.AsFound.{as_found_spares}
 use Rattle.bank_commands.proofs.Spared.{done_over, none_over}
 use Rattle.bank_commands.proofs.replaying.replay_over.Goals as goal
 
@@ -25,8 +26,8 @@ returns g c =
           differs = it.differs;
           bank = it.bank;
           up = it.up;
-          stands = it.stands;
+          leaves = it.leaves;
         },
-      ) it.spares c.release.ensures.same;
+      ) (as_found_spares g.S.Store c.in-Ok.bank c.replay.new.bank it.leaves) c.release.ensures.same;
       idle = c.release.ensures.idle;
     }

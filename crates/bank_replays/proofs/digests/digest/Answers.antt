@@ -2,9 +2,9 @@
 use Rattle.std.proofs.Common.{rules, ◌≡◌, Bool, Ok, Err, Option, Some, None, false, true, refl}
 use Rattle.posting_rules.specs.declared.fault.Fault.{Fault}
 use Rattle.bank_store.specs.believed.Seen.{bank_seen, database_of}
-use Rattle.bank_store.proofs.{ReadsLeave.idle_takes, Spared.idle_spares}
+use Rattle.bank_store.proofs.{AsFound.idle_as_found, ReadsLeave.idle_takes}
 use Rattle.bank_replays.proofs.Digested.{digests_log, rows_enough, rows_fewer}
-use Rattle.bank_replays.proofs.{Leaves.read_spares, Leaves.read_stands, Leaves.read_takes, LogRows.has_kept}
+use Rattle.bank_replays.proofs.{Leaves.read_leaves, Leaves.read_takes, LogRows.has_kept}
 use Rattle.bank_replays.proofs.{LogRows.kept_answered, LogRows.kept_of, Read.read_any, Read.read_fails}
 use Rattle.bank_replays.specs.declared.chain.Digest.{Digest}
 use Rattle.bank_replays.proofs.digests.digest.Goals as goal
@@ -19,8 +19,7 @@ returns-then-is_down g c = record {
   bank = idle_takes (bank_seen g.S.Store c.args.bank.now) _;
   down = λ down. (refl, refl);
   up = refl;
-  stands = λ clean up is_open log at. at;
-  spares = idle_spares g.S.Store c.args.bank.now.conn;
+  leaves = idle_as_found g.S.Store c.args.bank.now;
 }
 
 pub returns-in_err-digest : goal.returns-in_err-digest
@@ -34,8 +33,7 @@ returns-in_err-digest g c =
       bank = rw same (read_takes {X = Option Digest} (Err fault) (read_fails fault reads));
       down = λ down. absurd (tested_up _ _ c.is_down.ensures c.if-is_down.false down);
       up = reads.up;
-      stands = read_stands _ reads;
-      spares = read_spares _ reads;
+      leaves = read_leaves _ reads;
     }
 
 pub returns-then-digest-count : goal.returns-then-digest-count
@@ -55,8 +53,7 @@ returns-then-digest-count g c =
       bank = read_takes {X = Option Digest} {E = Fault} (Ok None) (read_any reads (Ok None));
       down = λ down. absurd (tested_up _ _ c.is_down.ensures c.if-is_down.false down);
       up = reads.up;
-      stands = read_stands _ reads;
-      spares = read_spares _ reads;
+      leaves = read_leaves _ reads;
     }
 
 pub returns : goal.returns
@@ -76,6 +73,5 @@ returns g c =
       bank = read_takes {X = Option Digest} {E = Fault} (Ok (Some digest)) (read_any reads (Ok (Some digest)));
       down = λ down. absurd (tested_up _ _ c.is_down.ensures c.if-is_down.false down);
       up = reads.up;
-      stands = read_stands _ reads;
-      spares = read_spares _ reads;
+      leaves = read_leaves _ reads;
     }

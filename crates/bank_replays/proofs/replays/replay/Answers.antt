@@ -1,10 +1,10 @@
 -- What a replay says and leaves.
 use Rattle.std.proofs.Common.{rules, ◌≡◌, Bool, Err, None, Some, false, true, refl}
 use Rattle.bank_store.specs.believed.Seen.{bank_seen, database_of}
-use Rattle.bank_store.proofs.{ReadsLeave.idle_takes, Spared.idle_spares}
+use Rattle.bank_store.proofs.{AsFound.idle_as_found, ReadsLeave.idle_takes}
 use Rattle.store_rows.specs.Definitions.{IsOtherTable}
 use Rattle.bank_replays.proofs.{AllKept.has_tables, AskedFirst.told_tables}
-use Rattle.bank_replays.proofs.{InMemory.never_in_doubt, Digested.agrees_log, Leaves.read_spares, Leaves.read_stands}
+use Rattle.bank_replays.proofs.{InMemory.never_in_doubt, Digested.agrees_log, Leaves.read_leaves}
 use Rattle.bank_replays.proofs.{Leaves.read_takes, LogRows.has_kept, LogRows.kept_answered, LogRows.kept_of}
 use Rattle.bank_replays.proofs.replays.replay.Goals as goal
 
@@ -19,8 +19,7 @@ returns-then-is_down g c = record {
   bank = record { log = λ clean log shows. tt; takes = idle_takes (bank_seen g.S.Store c.args.bank.now) _ };
   down = λ down. (refl, refl);
   up = refl;
-  stands = λ clean up is_open log at. at;
-  spares = idle_spares g.S.Store c.args.bank.now.conn;
+  leaves = idle_as_found g.S.Store c.args.bank.now;
 }
 
 pub returns-in-Some : goal.returns-in-Some
@@ -33,8 +32,7 @@ returns-in-Some g c =
       bank = record { log = λ clean log shows. tt; takes = idle_takes (bank_seen g.S.Store c.args.bank.now) _ };
       down = λ down. absurd (tested_up _ _ c.is_down.ensures c.if-is_down.false down);
       up = refl;
-      stands = λ clean up is_open log at. at;
-      spares = idle_spares g.S.Store c.args.bank.now.conn;
+      leaves = idle_as_found g.S.Store c.args.bank.now;
     }
 
 pub returns-in_err-pages : goal.returns-in_err-pages
@@ -50,8 +48,7 @@ returns-in_err-pages g c =
       };
       down = λ down. absurd (tested_up _ _ c.is_down.ensures c.if-is_down.false down);
       up = refl;
-      stands = λ clean up is_open log at. at;
-      spares = idle_spares g.S.Store c.args.bank.now.conn;
+      leaves = idle_as_found g.S.Store c.args.bank.now;
     }
 
 pub replay_over-requires : goal.replay_over-requires
@@ -82,6 +79,5 @@ returns g c =
       };
       down = λ down. absurd (tested_up _ _ c.is_down.ensures c.if-is_down.false down);
       up = says.bank.up;
-      stands = read_stands _ says.bank;
-      spares = read_spares _ says.bank;
+      leaves = read_leaves _ says.bank;
     }
