@@ -15,7 +15,7 @@ use Rattle.walked_rows.specs.References.{text_after, text_entry}
 use Rattle.walked_rows.proofs.RisingRows.{all-append}
 use Rattle.bank_replays.specs.{Came.CameAs, Came.GotReply, Came.moment_of, declared.chain.Digest.Digest}
 use Rattle.bank_replays.specs.Digests.{GoesOnBy, IsDigestIn, chained, digest_from}
-use Rattle.bank_replays.specs.Requests.{AnsweredRequest, IsRequestRow, answered_in, moment_under, outcome_in}
+use Rattle.bank_replays.specs.Requests.{AnsweredRequest, IsAnsweredRow, answered_in, moment_under, outcome_in}
 use Rattle.bank_replays.specs.Requests.{reply_in, request_in}
 
 -- ---- what is read of a row
@@ -64,14 +64,6 @@ module _ (row : KeptRequest) (r : RequestFields) (came : CameAs row r) where
       (sym came.delta)
       (sym came.reference ∙ sym (text_back row.request.ordinal row.reference))
 
-  pub row_is : IsRequestRow (kept_item row)
-  row_is = record {
-    account = came.account ∙ ap pos (number_back row.request.account r.account came.account);
-    teller = came.teller ∙ ap pos (number_back row.request.teller r.teller came.teller);
-    branch = came.branch ∙ ap pos (number_back row.request.branch r.branch came.branch);
-    number = came.number ∙ ap pos (number_back row.request.number r.number came.number);
-  }
-
   module _ (y : ReplyFields) (got : GotReply row r y) where
     outcome_is : y.outcome ≡ outcome_in (kept_item row)
     outcome_is =
@@ -110,7 +102,7 @@ digest_more before (x ∷ xs) a = digest_more (chained before x) xs a
 -- one row more
 pub one_more : (first mid last : Digest) (rows : List KeptRequest) (row : KeptRequest)
     → GoesOnBy first mid (map kept_item rows) → last.requests ≡ mid.requests + 1
-    → last.sha256 ≡ chained mid.sha256 (answered_in (kept_item row)) → IsRequestRow (kept_item row)
+    → last.sha256 ≡ chained mid.sha256 (answered_in (kept_item row)) → IsAnsweredRow (kept_item row)
     → GoesOnBy first last (map kept_item (rows ++ row ∷ []))
 one_more first mid last rows row it count sha is =
     subst (GoesOnBy first last) (sym (map-append kept_item rows (row ∷ []))) (record {
@@ -118,7 +110,7 @@ one_more first mid last rows row it count sha is =
       sha256 = sha ∙ ap (λ (s : List ℕ). chained s (answered_in (kept_item row))) it.sha256
           ∙ sym (digest_more first.sha256 (map answered_in items) (answered_in (kept_item row)))
           ∙ ap (digest_from first.sha256) (sym (map-append answered_in items (kept_item row ∷ [])));
-      each = all-append IsRequestRow items (kept_item row ∷ []) it.each (is, tt);
+      each = all-append IsAnsweredRow items (kept_item row ∷ []) it.each (is, tt);
     })
   where
     items : List KeptItem

@@ -10,7 +10,7 @@ use Rattle.posting_rules.specs.believed.Commands.{Command}
 use Rattle.posting_rules.specs.believed.Entries.{DecidedRequest, decided, is_posted, kept_fields}
 use Rattle.posting_rules.specs.declared.fault.Fault.{Fault}
 use Rattle.walked_rows.specs.KeptRows.{KeptItem}
-use Rattle.bank_replays.specs.Requests.{AnsweredRequest, IsRequestRow, answered_in}
+use Rattle.bank_replays.specs.Requests.{AnsweredRequest, IsAnsweredRow, answered_in}
 use Rattle.bank_replays.specs.declared.chain.Digest.{Digest}
 
 -- the digest after one request more: SHA-256 of the one before it, the record, the reply and the moment
@@ -52,15 +52,15 @@ IsDigestOf requests d = (d.requests ≡ length requests) × (d.sha256 ≡ digest
 
 -- ---- of a file
 
--- the digest of kept rows, each of which is a request's
+-- the digest of kept rows, each of which is a request's, with its reply
 abbrev pub IsDigestIn : List KeptItem → Digest → Type 0
-IsDigestIn items d = IsDigestOf (map answered_in items) d × AllByRecursion IsRequestRow items
+IsDigestIn items d = IsDigestOf (map answered_in items) d × AllByRecursion IsAnsweredRow items
 
 -- the digest went on, from the one to the other, by these rows
 pub record GoesOnBy (first last : Digest) (items : List KeptItem) : Type 0 where
   pub requests : last.requests ≡ length items + first.requests
   pub sha256 : last.sha256 ≡ digest_from first.sha256 (map answered_in items)
-  pub each : AllByRecursion IsRequestRow items
+  pub each : AllByRecursion IsAnsweredRow items
 
 -- ---- what is answered
 

@@ -1,14 +1,18 @@
 //! The request that a kept row came as, and the reply that it got.
-ghost use Rattle.std.specs.Prelude.{◌≡◌, pos, IfSome};
+ghost use Rattle.std.specs.Prelude.{◌≡◌, ◌≤◌, pos, true, IfNone, IfSome};
 ghost use Rattle.message_records.specs.believed.Outcomes.{code_of};
+ghost use Rattle.posting_rules.specs.believed.Kept.{is_kept};
+ghost use Rattle.walked_rows.specs.KeptRows.{kept_item};
 ghost use Rattle.bank_replays.specs.Came.{CameAs, GotReply};
+ghost use Rattle.bank_replays.specs.Requests.{IsFrom, IsKeptCode, IsReplyRow, IsRequestRow};
 
 use message_records::{Cents, Outcome, Reply, Request, Whole};
 use walked_rows::KeptRequest;
 
 // The number, unless it is out of the range.
 fn whole<const LEAST: u64, const MOST: u64>(number: i64) -> Option<Whole<LEAST, MOST>>
-    ensures { IfSome result (λ n. number ≡ pos n) }
+    ensures some { IfSome result (λ n. (number ≡ pos n) × (LEAST ≤ n) × (n ≤ MOST)) }
+    ensures none { IfNone result (IsFrom LEAST MOST number → ⊥) }
 {
     if number < 0 {
         return None;
@@ -16,9 +20,10 @@ fn whole<const LEAST: u64, const MOST: u64>(number: i64) -> Option<Whole<LEAST, 
     Whole::new(number as u64)
 }
 
-/// The request that a kept row came as; none where its numbers are those of no request.
+/// The request that a kept row came as; none where a number of it is out of its field's range.
 pub(crate) fn request_of(row: &KeptRequest) -> Option<Request>
-    ensures { IfSome result (CameAs row.now) }
+    ensures some { IfSome result (λ r. CameAs row.now r × IsRequestRow (kept_item row.now)) }
+    ensures none { IfNone result (IsRequestRow (kept_item row.now) → ⊥) }
 {
     let stored = &row.request;
     Request::new(
@@ -33,7 +38,8 @@ pub(crate) fn request_of(row: &KeptRequest) -> Option<Request>
 
 // The outcome with this code, of those that are kept.
 fn outcome_with(code: i64) -> Option<Outcome>
-    ensures { IfSome result (λ outcome. code ≡ pos (code_of outcome)) }
+    ensures some { IfSome result (λ outcome. (code ≡ pos (code_of outcome)) × (is_kept outcome ≡ true)) }
+    ensures none { IfNone result (IsKeptCode code → ⊥) }
 {
     match code {
         0 => Some(Outcome::Posted),
@@ -45,9 +51,11 @@ fn outcome_with(code: i64) -> Option<Outcome>
     }
 }
 
-/// The reply that a kept row's request got; none where its numbers are those of no reply.
+/// The reply that a kept row's request got; none where its outcome is none that is kept, or its balance is out of the
+/// range.
 pub(crate) fn reply_of(row: &KeptRequest, request: Request) -> Option<Reply>
-    ensures { IfSome result (GotReply row.now request) }
+    ensures some { IfSome result (λ y. GotReply row.now request y × IsReplyRow (kept_item row.now)) }
+    ensures none { IfNone result (IsReplyRow (kept_item row.now) → ⊥) }
 {
     let outcome = outcome_with(row.request.outcome)?;
     let balance = if outcome == Outcome::Posted {

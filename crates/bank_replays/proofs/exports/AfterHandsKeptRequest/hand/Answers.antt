@@ -32,7 +32,7 @@ text_is g c rows =
     sym c.is_after.ensures ∙ search (rules, not_not) in
     let bytes : c.as_slice.result.now ≡ request_spelling c.in-Some.request = search rules in
     let all : c.as_slice.result.now ≡ request_spelling (request_in (kept_item row)) =
-    bytes ∙ ap request_spelling (request_is row c.in-Some.request c.in-Some.ensures) in
+    bytes ∙ ap request_spelling (request_is row c.in-Some.request c.in-Some.ensures.some.0) in
     ap (λ (t : List ℕ). records_after after (map kept_item rows) ++ t) all ∙ record_more after rows row is
 
 pub returns-clause-took : goal.returns-clause-took
