@@ -20,7 +20,7 @@ use Rattle.counter_http.specs.{believed.Outputs.acknowledged_records, declared.f
 use Rattle.counter_http.specs.believed.Serving.{Exits, At_message, At_last, At_refusal, ServesConnection}
 use Rattle.counter_http.specs.believed.Turns.{Turn, commands_of, answers_to}
 use Rattle.counter_http.specs.declared.fault.ServeFault.TheVariants as serving
-use Rattle.counter_http.specs.{Listening.ServesListener, Order.steps_of, Order.submitted_by}
+use Rattle.counter_http.specs.together.{Listening.ServesListener, Order.steps_of, Order.submitted_by}
 use Rattle.counter_http.specs.declared.listen_fault.ListenFault.{ListenFault}
 use Rattle.counter_http.specs.declared.listen_fault.ListenFault.TheVariants as listening
 use Rattle.counter_http.proofs.Outputs.{commands_of_first}

@@ -16,7 +16,7 @@ use Rattle.load_driver.specs.believed.Drives.{Drives}
 use Rattle.load_driver.specs.Drives.{IfRefused}
 use Rattle.load_driver.specs.declared.drive.Driven.{Driven}
 use Rattle.load_driver.specs.declared.drive_fault.DriveFault.{DriveFault}
-use Rattle.counter_http.specs.Listening.{ServesListener}
+use Rattle.counter_http.specs.together.Listening.{ServesListener}
 use Rattle.counter_http.specs.declared.listen_fault.ListenFault.{ListenFault}
 use Rattle.posting_core.specs.Stream.{IsOfCall}
 use Rattle.posting_core.specs.believed.Told.{ReadTold}

@@ -1,9 +1,10 @@
 -- A client of whom something is read, or whose message is answered.
 use Rattle.std.proofs.Common.{◌≡◌, ℕ, List, [], ◌∷◌, ◌++◌, Option, Bool, Result}
-use Rattle.std.proofs.Common.{true, false, refl, sym, ap, subst, ◌∙◌, append_assoc, append-nil, inl, inr}
+use Rattle.std.proofs.Common.{arith, codes, true, false, refl, sym, ap, subst, ◌∙◌, append_assoc, append-nil, inl, inr}
 use Rattle.std.specs.{List.AllByRecursion, Io.KnownBytes.Appends, Io.KnownBytes.Consumes}
 use Rattle.std.specs.declared.io.Error.{Error}
 use Rattle.std.proofs.{KnownBytes.Consumes-trans}
+use Rattle.httparse.specs.Grammar.{lf}
 use Rattle.posting_rules.specs.declared.fault.Fault.{Fault}
 use Rattle.posting_rules.specs.{believed.Commands.Command, believed.Counter.Seen, believed.Counter.ShowsLog}
 use Rattle.posting_rules.specs.believed.Runs.{followed_by}
@@ -12,13 +13,13 @@ use Rattle.posting_core.specs.Told.{Beside, IsReadFailure, read_told}
 use Rattle.posting_core.proofs.Batched.{joined-append}
 use Rattle.counter_http.specs.Connections.{Known}
 use Rattle.counter_http.specs.Next.{IsUnfinished}
-use Rattle.counter_http.specs.Standing.{IsGoing, IsParted}
-use Rattle.counter_http.specs.Together.{AnswersBeforeItsReads}
+use Rattle.counter_http.specs.together.Standing.{IsGoing, IsParted}
+use Rattle.counter_http.specs.together.Serving.{AnswersBeforeItsReads}
 use Rattle.counter_http.specs.believed.Answers.{answer_of, asked_by, refusal, unavailable}
 use Rattle.counter_http.specs.believed.Ends.{HasEnded}
-use Rattle.counter_http.specs.believed.Messages.{Closed, Finished, Message, Walks, closes, message_text, IsMessage}
+use Rattle.counter_http.specs.believed.Messages.{Closed, Finished, Message, No_body, No_head, Walks, closes, message_text, IsMessage}
 use Rattle.counter_http.specs.believed.Serving.{BeginsWithNoMessage, IsWalked, KeepsConnection}
-use Rattle.counter_http.specs.Order.{Step, answers_at, of_client, submitted_by}
+use Rattle.counter_http.specs.together.Order.{Step, answers_at, of_client, submitted_by}
 use Rattle.counter_http.specs.believed.Turns.{Turn, messages_of, text_in, texts_of}
 use Rattle.counter_http.specs.declared.parting.Parting.TheVariants as parting
 use Rattle.counter_http.proofs.Beside.{one_read_more, reads_further}
@@ -65,16 +66,36 @@ input_more ts t buf rest front = ap (λ (x : List ℕ). texts_of ts ++ x) front 
 
 -- ---- it is answered
 
+-- where nothing is left, no message is
+unfinished_nothing : (shown : Bool) → IsUnfinished [] shown
+unfinished_nothing true =
+    record { ending = No_head; ends = λ some. absurd (some refl); told = refl; room = omega arith }
+unfinished_nothing false = record {
+  ending = No_body (record {
+    blank = [];
+    method = codes "HEAD";
+    target = [];
+    minor = 0;
+    line_end = lf;
+    fields = [];
+    last = lf;
+  });
+  ends = λ some. absurd (some refl);
+  told = refl;
+  room = omega arith;
+}
+
 -- and the connection goes on
 pub answered_on : {i : ℕ} {k l : Known} {c c' c'' : Seen} {steps : List Step} {has_more shown : Bool}
     {buf pending : List ℕ} (moment : ℕ) (m : Message) (rest text : List ℕ)
     → IsMessage m → closes m.head ≡ false → buf ≡ message_text m ++ rest → (c''.honest → c'.honest)
     → (c''.honest → (log : List Command) → ShowsLog c log
     → text ≡ answer_of (followed_by log (submitted_by steps)) (asked_by m))
+    → (more : Bool) → (more ≡ false → rest ≡ [])
     → IsGoing i k l c c' steps has_more shown buf pending
-    → IsGoing i k l c c'' (steps ++ step_of i moment m ∷ []) true shown rest (pending ++ text)
-answered_on {i} {k} {l} {c} {c'} {c''} {steps} {buf = buf} {pending = pending} moment m rest text whole stays front
-    honest is g =
+    → IsGoing i k l c c'' (steps ++ step_of i moment m ∷ []) more shown rest (pending ++ text)
+answered_on {i} {k} {l} {c} {c'} {c''} {steps} {shown = shown} {buf = buf} {pending = pending} moment m rest text whole
+    stays front honest is more none g =
     let t : Turn = record { message = m; moment = moment } in
     let own = own_more i steps moment m in
     record {
@@ -82,7 +103,7 @@ answered_on {i} {k} {l} {c} {c'} {c''} {steps} {buf = buf} {pending = pending} m
           (read_one_more k.reader l.reader (of_client i steps) t buf rest g.read front);
       stays = subst (λ (ts : List Turn). AllByRecursion (λ (u : Turn). KeepsConnection u.message) ts) own
           (stays_one_more (of_client i steps) t g.stays (record { whole = whole; stays = stays }));
-      waits = λ e. cc e;
+      waits = λ e. subst (λ (x : List ℕ). IsUnfinished x shown) (sym (none e)) (unfinished_nothing shown);
       written = g.written;
       wrote = g.wrote;
       answers = λ h log s. text_more g.written pending text (answers_at i log steps) _

@@ -12,10 +12,10 @@ use Rattle.posting_rules.proofs.Remaining.{leaves_still}
 use Rattle.posting_core.specs.Stream.{IsOfCall}
 use Rattle.posting_core.proofs.StreamedBatches.{all_more}
 use Rattle.counter_http.specs.Connections.{Known}
-use Rattle.counter_http.specs.Standing.{IsAnswered, StandsHere}
+use Rattle.counter_http.specs.together.Standing.{IsAnswered, StandsHere}
 use Rattle.counter_http.specs.Turns.{IsAsked, IsRefusedAt}
 use Rattle.counter_http.specs.believed.Answers.{asked_by}
-use Rattle.counter_http.specs.Order.{Step, asks_to_read, submitted_by}
+use Rattle.counter_http.specs.together.Order.{Step, asks_to_read, submitted_by}
 use Rattle.counter_http.specs.declared.client.Client.{Client}
 use Rattle.counter_http.proofs.AnsweredTurns.{idle_commands, refused_first, why_first}
 use Rattle.counter_http.proofs.Steps.{submitted-append}

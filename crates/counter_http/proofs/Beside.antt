@@ -12,11 +12,11 @@ use Rattle.posting_core.specs.Told.{Beside, WriteTold, unknown}
 use Rattle.posting_core.proofs.Followed.{given-append}
 use Rattle.posting_core.proofs.Telling.{adds-more, adds-none}
 use Rattle.counter_http.specs.Connections.{Known}
-use Rattle.counter_http.specs.Standing.{IsGoing, IsParted, StandsAs}
-use Rattle.counter_http.specs.Together.{AnswersBeforeItsReads, ClientIsServed, HoldsOwnAnswers, IsWrittenAs, PartsAs}
+use Rattle.counter_http.specs.together.Standing.{IsGoing, IsParted, StandsAs}
+use Rattle.counter_http.specs.together.Serving.{AnswersBeforeItsReads, ClientIsServed, HoldsOwnAnswers, IsWrittenAs, PartsAs}
 use Rattle.counter_http.specs.believed.Ends.{HasEnded}
 use Rattle.counter_http.specs.believed.Serving.{KeepsConnection}
-use Rattle.counter_http.specs.Order.{Step, answers_at, of_client, submitted_by}
+use Rattle.counter_http.specs.together.Order.{Step, answers_at, of_client, submitted_by}
 use Rattle.counter_http.specs.believed.Turns.{Turn, texts_of}
 use Rattle.counter_http.specs.declared.parting.Parting.{Parting}
 use Rattle.counter_http.proofs.Prompts.{before_or_last, given_front}

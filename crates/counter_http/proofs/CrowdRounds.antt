@@ -17,21 +17,22 @@ use Rattle.posting_rules.proofs.CounterCalls.{idle_after, refused_after, takes_n
 use Rattle.posting_rules.proofs.{Remaining.leaves_weaker, Sequence.after-append}
 use Rattle.posting_core.specs.Stream.{IsOfCall}
 use Rattle.posting_core.specs.believed.Clock.{AreReadings}
+use Rattle.posting_core.specs.Told.{HasMore}
 use Rattle.posting_core.specs.believed.Told.{GrowsBy}
-use Rattle.posting_core.proofs.{Stops.stop_all, StreamedBatches.all_more, StreamedBatches.takes_more, Telling.adds-none}
+use Rattle.posting_core.proofs.{Stops.stop_all, StreamedBatches.all_more, StreamedBatches.takes_more, Telling.adds-none, Telling.more_more}
 use Rattle.counter_http.specs.Clients.{ClientsTold, Gave}
 use Rattle.counter_http.specs.Connections.{Known}
-use Rattle.counter_http.specs.Crowd.{Differ, GoesOn, HaveCome, HaveMoved, IsCrowd, IsHere, Scene, ServesRounds, all_numbers}
-use Rattle.counter_http.specs.Order.{IsRound, Round, Step, readings_in, readings_of, steps_in, steps_of, submitted_by}
-use Rattle.counter_http.specs.Rounds.{AnswersRound, IsOfOneOf, numbers}
-use Rattle.counter_http.specs.Standing.{StandsHere, Writes}
-use Rattle.counter_http.specs.Together.{EndsTogether, HasRefused, IfBank, IsCutOff, IsVisited, IsWhyRefused, OfOthers}
-use Rattle.counter_http.specs.Together.{ServesTogether, Visit, number_of}
+use Rattle.counter_http.specs.together.Crowd.{Differ, GoesOn, HaveCome, HaveMoved, IsCrowd, IsHere, Scene, ServesRounds, all_numbers}
+use Rattle.counter_http.specs.together.Order.{IsRound, Round, Step, readings_in, readings_of, steps_in, steps_of, submitted_by}
+use Rattle.counter_http.specs.together.Rounds.{AnswersRound, IsOfOneOf, numbers}
+use Rattle.counter_http.specs.together.Standing.{StandsHere, Writes}
+use Rattle.counter_http.specs.together.Serving.{EndsTogether, HasRefused, IfBank, IsCutOff, IsVisited, IsWhyRefused, OfOthers}
+use Rattle.counter_http.specs.together.Serving.{ServesTogether, Visit, number_of}
 use Rattle.counter_http.specs.declared.client.Client.{Client}
 use Rattle.counter_http.specs.declared.listen_fault.ListenFault.{ListenFault}
 use Rattle.counter_http.specs.declared.listen_fault.ListenFault.TheVariants.{Network, Bank}
 use Rattle.counter_http.proofs.Beside.{served_beside}
-use Rattle.counter_http.proofs.Crowds.{HasGrown, all_first, all_last, all_stay, crowd_moved, grown_then, moved_grows}
+use Rattle.counter_http.proofs.Crowds.{all_first, all_last, all_stay, crowd_moved, moved_grows}
 use Rattle.counter_http.proofs.Crowds.{pairs_differ, refused_first, refused_last}
 use Rattle.counter_http.proofs.Readings.{number_read, read_here}
 use Rattle.counter_http.proofs.Steps.{OfOther, submitted-append}
@@ -343,6 +344,20 @@ rounding_next seen {known = known} {g = g} {t' = t'} {k} {k'} {k''} old now new 
 
 -- ---- what is done before a round, and after it
 
+-- nobody came or left
+pub waited_still : {R W : Type 0} {known : R × W → Known} {g t t' : Option (List (ClientsTold (R × W)))} {c c' : Seen}
+    {steps refused : List Step} {came : ℕ} {here : List (Client R W)} → GrowsBy t t' []
+    → IsCrowd known g c c' steps refused (record { told = t; came = came; here = here })
+    → IsCrowd known g c c' steps refused (record { told = t'; came = came; here = here })
+waited_still waited crowd = crowd_moved (all_stay (record {
+  calls = [];
+  told = waited;
+  none_came = refl;
+  none_left = refl;
+  here = refl;
+  came = refl;
+})) crowd
+
 pub before_round : {C R W : Type 0} {seen : C → Seen} {known : R × W → Known}
     {g t t' t'' : Option (List (ClientsTold (R × W)))} {k k' : Option (List ℕ)} {old now : C} {n came came' turns : ℕ}
     (here viewed gone here' here'' : List (Client R W)) → viewed ≡ here → here' ≡ gone
@@ -353,15 +368,7 @@ before_round {known = known} here viewed gone here' here'' old new s waited goes
     let all : AllZip (GoesOn known) here here' =
     subst (λ (xs : List (Client _ _)). AllZip (GoesOn known) xs here') old
     (subst (λ (ys : List (Client _ _)). AllZip (GoesOn known) viewed ys) (sym new) goes) in
-    rounding_on s
-    (crowd_moved moved (crowd_goes here here' all (crowd_moved (all_stay (record {
-      calls = [];
-      told = waited;
-      none_came = refl;
-      none_left = refl;
-      here = refl;
-      came = refl;
-    })) s.crowd))) few
+    rounding_on s (crowd_moved moved (crowd_goes here here' all (waited_still waited s.crowd))) few
 
 pub after_round : {C R W X : Type 0} (seen : C → Seen) {reason : Fault → C → C → Type 0} {known : R × W → Known}
     {g t t' : Option (List (ClientsTold (R × W)))} {k k' k'' : Option (List ℕ)} (old now new : C) {n came turns : ℕ}
@@ -506,7 +513,7 @@ told_why seen reason old new (Err (Bank fault)) why = inl why
 
 -- connections were closed after that
 cut_off_then : {E : Type 0} {g t t' : Option (List (ClientsTold E))} (result : Result (Unit {0}) ListenFault)
-    (rounds : List Round) → HasGrown t t' → IsCutOff g t result rounds → IsCutOff g t' result rounds
+    (rounds : List Round) → HasMore t t' → IsCutOff g t result rounds → IsCutOff g t' result rounds
 cut_off_then {g = g} {t} {t'} result rounds grown cut same = further (cut same)
   where
     further : HasRefused g t ⊎ (2 ^ 64 - 1 ≤ length rounds) → HasRefused g t' ⊎ (2 ^ 64 - 1 ≤ length rounds)
@@ -611,5 +618,5 @@ pub cut_off_by : {C R W : Type 0} {seen : C → Seen} {known : R × W → Known}
     {here : List (Client R W)} → Rounding seen known g t k k' old now n came here turns → GrowsBy t t' [] → HasRefused t' t''
     → HasRefused g t''
 cut_off_by {g = g} {t} {t'} {t''} s waited refused =
-    refused_last g t' t'' (grown_then g t t' (record { calls = s.crowd.calls; told = s.crowd.told })
-    (record { calls = []; told = waited })) refused
+    refused_last g t' t'' (more_more (record { calls = s.crowd.calls; made = s.crowd.told })
+    (record { calls = []; made = waited })) refused

@@ -11,17 +11,18 @@ use Rattle.std.proofs.lemmas.List.Elements.{Contains-append_right, recursion_fro
 use Rattle.std.proofs.lemmas.List.Kept.{AllPairs-cons}
 use Rattle.posting_rules.specs.believed.Counter.{Seen}
 use Rattle.posting_core.specs.believed.Batches.{joined}
+use Rattle.posting_core.specs.Told.{HasMore}
 use Rattle.posting_core.specs.believed.Told.{GrowsBy}
 use Rattle.posting_core.proofs.StreamedBatches.{all_more}
-use Rattle.posting_core.proofs.Telling.{adds-more, adds-none, more_none}
+use Rattle.posting_core.proofs.Telling.{adds-more, adds-none, more_more, more_none}
 use Rattle.counter_http.specs.Clients.{ClientsTold, Closed, Gave, Refused}
 use Rattle.counter_http.specs.Connections.{Known}
-use Rattle.counter_http.specs.Crowd.{Closes, Comes, Differ, HaveMoved, IsCrowd, IsHere, Leaves, Moves, Scene, Stays}
-use Rattle.counter_http.specs.Crowd.{all_numbers}
-use Rattle.counter_http.specs.Order.{Step, of_client}
-use Rattle.counter_http.specs.Rounds.{AllDiffer, IsOfOneOf, number_in, numbers}
-use Rattle.counter_http.specs.Standing.{IsGoing, IsNew, StandsHere}
-use Rattle.counter_http.specs.Together.{HasRefused, IsVisited, Visit, closed_of, closings, number_of, openings}
+use Rattle.counter_http.specs.together.Crowd.{Closes, Comes, Differ, HaveMoved, IsCrowd, IsHere, Leaves, Moves, Scene, Stays}
+use Rattle.counter_http.specs.together.Crowd.{all_numbers}
+use Rattle.counter_http.specs.together.Order.{Step, of_client}
+use Rattle.counter_http.specs.together.Rounds.{AllDiffer, IsOfOneOf, number_in, numbers}
+use Rattle.counter_http.specs.together.Standing.{IsGoing, IsNew, StandsHere}
+use Rattle.counter_http.specs.together.Serving.{HasRefused, IsVisited, Visit, closed_of, closings, number_of, openings}
 use Rattle.counter_http.specs.believed.Messages.{No_head}
 use Rattle.counter_http.specs.declared.client.Client.{Client}
 use Rattle.counter_http.specs.declared.parting.Parting.TheVariants as parting
@@ -475,31 +476,17 @@ nobody_came_in came here calls none_came none_left told = all_stay (record {
 
 -- ---- the calls that were made on the way
 
-pub record HasGrown {E : Type 0} (g g' : Option (List (ClientsTold E))) : Type 0 where
-  pub calls : List (ClientsTold E)
-  pub told : GrowsBy g g' calls
-
-pub grown_then : {E : Type 0} (a b d : Option (List (ClientsTold E))) → HasGrown a b → HasGrown b d → HasGrown a d
-grown_then a b d one two = record {
-  calls = one.calls ++ two.calls;
-  told = adds-more a b d one.calls two.calls one.told two.told;
-}
-
-one_grows : {R W : Type 0} (a m : Scene R W) → Comes a m ⊎ (Leaves a m ⊎ Stays a m) → HasGrown a.told m.told
-one_grows a m (inl comes) = record { calls = Gave a.came comes.given ∷ []; told = comes.told }
+one_grows : {R W : Type 0} (a m : Scene R W) → Comes a m ⊎ (Leaves a m ⊎ Stays a m) → HasMore a.told m.told
+one_grows a m (inl comes) = record { calls = Gave a.came comes.given ∷ []; made = comes.told }
 one_grows a m (inr (inl leaves)) =
-    record { calls = Closed leaves.client.number leaves.closes.left ∷ []; told = leaves.closes.told }
-one_grows a m (inr (inr stays)) = record { calls = stays.calls; told = stays.told }
+    record { calls = Closed leaves.client.number leaves.closes.left ∷ []; made = leaves.closes.told }
+one_grows a m (inr (inr stays)) = record { calls = stays.calls; made = stays.told }
 
-all_grow : {R W : Type 0} (ms : List (Scene R W)) (a b : Scene R W) → Moves ms a b → HasGrown a.told b.told
-all_grow [] a b same = record {
-  calls = [];
-  told = subst (λ (x : Scene _ _). GrowsBy a.told x.told []) (sym same) (adds-none a.told);
-}
-all_grow (m ∷ ms) a b moves =
-    grown_then a.told m.told b.told (one_grows a m moves.0) (all_grow ms m b moves.1)
+all_grow : {R W : Type 0} (ms : List (Scene R W)) (a b : Scene R W) → Moves ms a b → HasMore a.told b.told
+all_grow [] a b same = subst (λ (x : Scene _ _). HasMore a.told x.told) (sym same) (more_none a.told)
+all_grow (m ∷ ms) a b moves = more_more (one_grows a m moves.0) (all_grow ms m b moves.1)
 
-pub moved_grows : {R W : Type 0} (a b : Scene R W) → HaveMoved a b → HasGrown a.told b.told
+pub moved_grows : {R W : Type 0} (a b : Scene R W) → HaveMoved a b → HasMore a.told b.told
 moved_grows a b moved = all_grow moved.scenes a b moved.moves
 
 pub one_refused : {E : Type 0} (a b : Option (List (ClientsTold E))) (kind : ErrorKind)
@@ -511,18 +498,18 @@ one_refused a b kind told = record {
   one = (0, omega arith, refl);
 }
 
-pub refused_last : {E : Type 0} (a b d : Option (List (ClientsTold E))) → HasGrown a b → HasRefused b d → HasRefused a d
+pub refused_last : {E : Type 0} (a b d : Option (List (ClientsTold E))) → HasMore a b → HasRefused b d → HasRefused a d
 refused_last a b d grown refused = record {
   calls = grown.calls ++ refused.calls;
-  told = adds-more a b d grown.calls refused.calls grown.told refused.told;
+  told = adds-more a b d grown.calls refused.calls grown.made refused.told;
   kind = refused.kind;
   one = Contains-append_right grown.calls refused.calls (Refused refused.kind) refused.one;
 }
 
-pub refused_first : {E : Type 0} (a b d : Option (List (ClientsTold E))) → HasRefused a b → HasGrown b d → HasRefused a d
+pub refused_first : {E : Type 0} (a b d : Option (List (ClientsTold E))) → HasRefused a b → HasMore b d → HasRefused a d
 refused_first a b d refused grown = record {
   calls = refused.calls ++ grown.calls;
-  told = adds-more a b d refused.calls grown.calls refused.told grown.told;
+  told = adds-more a b d refused.calls grown.calls refused.told grown.made;
   kind = refused.kind;
   one = Contains-append_left refused.calls grown.calls (Refused refused.kind) refused.one;
 }

@@ -9,14 +9,14 @@ use Rattle.posting_rules.specs.{believed.Commands.Command, believed.Counter.Seen
 use Rattle.posting_rules.specs.believed.Entries.{reply}
 use Rattle.posting_rules.specs.believed.Runs.{followed_by}
 use Rattle.counter_http.specs.Connections.{Known}
-use Rattle.counter_http.specs.Standing.{AnswersRecord, HasAnswered, HasEndedWith, IsGoing, IsHeadOf, IsLost}
-use Rattle.counter_http.specs.Standing.{IsParted, IsRecordIn, StandsAs, StandsBy, StandsHere, parting_after}
-use Rattle.counter_http.specs.Standing.{pending, unread}
-use Rattle.counter_http.specs.Together.{PartingIsOfItsEnd}
+use Rattle.counter_http.specs.together.Standing.{AnswersRecord, HasAnswered, HasEndedWith, IsGoing, IsHeadOf, IsLost}
+use Rattle.counter_http.specs.together.Standing.{IsParted, IsRecordIn, StandsAs, StandsBy, StandsHere, parting_after}
+use Rattle.counter_http.specs.together.Standing.{pending, unread}
+use Rattle.counter_http.specs.together.Serving.{PartingIsOfItsEnd}
 use Rattle.counter_http.specs.believed.Answers.{Answer, answer_of, answer_text, asked_by, octets, shows}
 use Rattle.counter_http.specs.believed.Answers.{bare}
 use Rattle.counter_http.specs.believed.Messages.{Message, closes, message_text}
-use Rattle.counter_http.specs.Order.{Step, submitted_by}
+use Rattle.counter_http.specs.together.Order.{Step, submitted_by}
 use Rattle.counter_http.specs.declared.client.Client.{Client}
 use Rattle.counter_http.specs.declared.client.Head.{Head}
 use Rattle.counter_http.specs.declared.parting.Parting.{Parting}
@@ -105,26 +105,21 @@ answered_as : {i : ℕ} {k l : Known} {c c' c'' : Seen} {steps : List Step} {has
     → head.closes ≡ ends → (c''.honest → c'.honest)
     → (c''.honest → (log : List Command) → ShowsLog c log
     → text ≡ answer_of (followed_by log (submitted_by steps)) (asked_by m))
+    → (more : Bool) → (more ≡ false → drop head.length buf ≡ [])
     → IsGoing i k l c c' steps has_more shown buf left
-    → StandsAs (parting_after ends None) i k l c c'' (steps ++ step_of i moment m ∷ []) true shown
+    → StandsAs (parting_after ends None) i k l c c'' (steps ++ step_of i moment m ∷ []) more shown
     (drop head.length buf) (left ++ text)
-answered_as {buf = buf} true moment m head text is e honest says g =
+answered_as {buf = buf} true moment m head text is e honest says more none g =
     record { is = answered_last moment m (drop head.length buf) text is.whole (sym is.closes_is ∙ e) is.front honest says g }
-answered_as {buf = buf} false moment m head text is e honest says g =
-    record { is = answered_on moment m (drop head.length buf) text is.whole (sym is.closes_is ∙ e) is.front honest says g }
+answered_as {buf = buf} false moment m head text is e honest says more none g = record {
+  is = answered_on moment m (drop head.length buf) text is.whole (sym is.closes_is ∙ e) is.front honest says more none g;
+}
 
-has_more_then : {i : ℕ} {k l : Known} {c c' : Seen} {steps : List Step} {has_more has_more' shown shown' : Bool}
-    {rest rest' left : List ℕ} (ends : Bool) → (ends ≡ false → has_more ≡ has_more') → (ends ≡ false → shown ≡ shown')
-    → (ends ≡ false → rest ≡ rest')
-    → StandsAs (parting_after ends None) i k l c c' steps has_more shown rest left
-    → StandsAs (parting_after ends None) i k l c c' steps has_more' shown' rest' left
-has_more_then true a b d is = record { is = is.is }
-has_more_then {i} {k} {l} {c} {c'} {steps} {has_more} {has_more'} {shown} {shown'} {rest} {rest'} {left} false a b d is =
-    record {
-      is = subst (λ (x : List ℕ). IsGoing i k l c c' steps has_more' shown' x left) (d refl)
-          (subst (λ (x : Bool). IsGoing i k l c c' steps has_more' x rest left) (b refl)
-          (subst (λ (x : Bool). IsGoing i k l c c' steps x shown rest left) (a refl) is.is));
-    }
+shows_then : {i : ℕ} {k l : Known} {c c' : Seen} {steps : List Step} {has_more : Bool} {rest left : List ℕ}
+    (p : Option Parting) (shown shown' : Bool) → shown' ≡ shown
+    → StandsAs p i k l c c' steps has_more shown rest left → StandsAs p i k l c c' steps has_more shown' rest left
+shows_then {i} {k} {l} {c} {c'} {steps} {has_more} {rest} {left} p shown shown' e is =
+    subst (λ (b : Bool). StandsAs p i k l c c' steps has_more b rest left) (sym e) is
 
 pub answered_here : {R W : Type 0} {known : R × W → Known} {k : Known} {c c' c'' : Seen} {steps : List Step}
     (old new : Client R W) (moment : ℕ) (m : Message) (head : Head) (text : List ℕ) → old.parting ≡ None
@@ -136,12 +131,11 @@ pub answered_here : {R W : Type 0} {known : R × W → Known} {k : Known} {c c' 
 answered_here {R} {W} {known} {k} {c} {c'} {c''} {steps} old new moment m head text going is did honest says stands =
     let l = known (old.reader, old.writer) in
     let next = steps ++ step_of old.number moment m ∷ [] in
-    let after : StandsAs (parting_after head.closes None) old.number k l c c'' next true old.shows_body
+    let after : StandsAs (parting_after head.closes None) old.number k l c c'' next new.has_more old.shows_body
     (drop head.length (unread old)) (pending old ++ text) =
-    answered_as head.closes moment m head text is refl honest says (going_of old going stands) in
-    let kept : StandsAs (parting_after head.closes None) old.number k l c c'' next new.has_more new.shows_body
-    (drop head.length (unread old)) (pending old ++ text) =
-    has_more_then head.closes (λ e. sym (did.more e)) (λ e. sym did.shows) (λ e. refl) after in
+    answered_as head.closes moment m head text is refl honest says new.has_more (λ e. sym did.rest ∙ did.more e)
+    (going_of old going stands) in
+    let kept = shows_then (parting_after head.closes None) old.shows_body new.shows_body did.shows after in
     let why : new.parting ≡ parting_after head.closes None =
     did.parting ∙ ap (parting_after head.closes) going in
     record {
@@ -168,7 +162,7 @@ pub unanswered_here : {R W : Type 0} {known : R × W → Known} {k : Known} {c c
 unanswered_here {R} {W} {known} {k} {c} {c'} {steps} old new moment m head text going is lost says stands =
     lost_here old new parting.Memory tt lost tt
     (left_as (parting_after head.closes None)
-    (answered_as head.closes moment m head text is refl (λ h. h) says (going_of old going stands)))
+    (answered_as head.closes moment m head text is refl (λ h. h) says true (λ e. cc e) (going_of old going stands)))
 
 -- ---- a record
 

@@ -8,11 +8,11 @@ use Rattle.posting_rules.specs.believed.{Commands.Command, Counter.Seen, Counter
 use Rattle.posting_rules.proofs.Totals.{all_follow}
 use Rattle.posting_core.proofs.StreamedBatches.{all_more}
 use Rattle.counter_http.specs.Connections.{Known}
-use Rattle.counter_http.specs.Order.{Step, asks_to_read, submitted_by}
-use Rattle.counter_http.specs.Rounds.{AllDiffer, numbers}
-use Rattle.counter_http.specs.Standing.{GivesRecord, IsAnswered}
-use Rattle.counter_http.specs.Submitting.{AddsIfRoom, AreApart, AreGiven, Gathers, GivesAt, IsAdded, IsBatchOf, IsElsewhere, IsFrom}
-use Rattle.counter_http.specs.Submitting.{MayAdd}
+use Rattle.counter_http.specs.together.Order.{Step, asks_to_read, submitted_by}
+use Rattle.counter_http.specs.together.Rounds.{AllDiffer, numbers}
+use Rattle.counter_http.specs.together.Standing.{GivesRecord, IsAnswered}
+use Rattle.counter_http.specs.together.Submitting.{AddsIfRoom, AreApart, AreGiven, Gathers, GivesAt, IsAdded, IsBatchOf, IsElsewhere, IsFrom}
+use Rattle.counter_http.specs.together.Submitting.{MayAdd}
 use Rattle.counter_http.specs.declared.batch.Batch.{Batch}
 use Rattle.counter_http.specs.declared.batch.Sender.{Sender}
 use Rattle.counter_http.specs.declared.client.Client.{Client}

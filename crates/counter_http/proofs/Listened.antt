@@ -5,7 +5,7 @@ use Rattle.posting_rules.specs.{declared.fault.Fault.Fault, believed.Counter.See
 use Rattle.posting_rules.proofs.CounterCalls.{takes_none}
 use Rattle.posting_core.proofs.Stops.{stop_all}
 use Rattle.counter_http.specs.Clients.{Refused}
-use Rattle.counter_http.specs.Listening.{ServesListener}
+use Rattle.counter_http.specs.together.Listening.{ServesListener}
 use Rattle.counter_http.specs.declared.listen_fault.ListenFault.TheVariants.{Network}
 
 pub none_served : {C : Type 0} (seen : C → Seen) (reason : Fault → C → C → Type 0) (k : Option (List ℕ)) (c : C)

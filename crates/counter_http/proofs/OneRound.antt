@@ -10,10 +10,10 @@ use Rattle.posting_rules.proofs.CounterCalls.{idle_after, Takes-append}
 use Rattle.posting_core.proofs.Stops.{refused_stop, stop_all, stop_part}
 use Rattle.posting_core.proofs.StreamedBatches.{all_more}
 use Rattle.counter_http.specs.Connections.{Known}
-use Rattle.counter_http.specs.Order.{Step, submitted_by}
-use Rattle.counter_http.specs.Rounds.{AnswersRound, EndsRound, IsOfOneOf, numbers}
-use Rattle.counter_http.specs.Standing.{StandsHere}
-use Rattle.counter_http.specs.Submitting.{Gathers, SubmitsBatch}
+use Rattle.counter_http.specs.together.Order.{Step, submitted_by}
+use Rattle.counter_http.specs.together.Rounds.{AnswersRound, EndsRound, IsOfOneOf, numbers}
+use Rattle.counter_http.specs.together.Standing.{StandsHere}
+use Rattle.counter_http.specs.together.Submitting.{Gathers, SubmitsBatch}
 use Rattle.counter_http.specs.declared.batch.Batch.{Batch}
 use Rattle.counter_http.specs.declared.client.Client.{Client}
 use Rattle.counter_http.proofs.Gathering.{takes_reads}

@@ -7,10 +7,10 @@ use Rattle.posting_rules.specs.believed.{Commands.Command, Counter.Seen, Counter
 use Rattle.posting_rules.proofs.CounterCalls.{Takes-append}
 use Rattle.posting_core.proofs.StreamedBatches.{all_more}
 use Rattle.counter_http.specs.Connections.{Known}
-use Rattle.counter_http.specs.Order.{Step, submitted_by}
-use Rattle.counter_http.specs.Rounds.{AllDiffer, IsOfOneOf, number_in, numbers}
-use Rattle.counter_http.specs.Standing.{StandsHere}
-use Rattle.counter_http.specs.Submitting.{AreBeside}
+use Rattle.counter_http.specs.together.Order.{Step, submitted_by}
+use Rattle.counter_http.specs.together.Rounds.{AllDiffer, IsOfOneOf, number_in, numbers}
+use Rattle.counter_http.specs.together.Standing.{StandsHere}
+use Rattle.counter_http.specs.together.Submitting.{AreBeside}
 use Rattle.counter_http.specs.declared.client.Client.{Client}
 use Rattle.counter_http.proofs.Beside.{stands_beside}
 use Rattle.counter_http.proofs.Fronts.{stands_after}
@@ -178,14 +178,4 @@ beside_then seen {known} old mid new here one two ss ts takes honest a b = recor
       (b.stand p mids.0 z mids.1 at' k first (before ++ ss)
       (takes_then seen first old mid before ss honest took takes)
       (a.stand p x mids.0 at mids.1 k first before took is));
-}
-
--- the bank went on, and the clients are the same
-pub beside_after : {C R W : Type 0} (seen : C → Seen) {known : R × W → Known} (old mid new : C)
-    (here here' : List (Client R W)) (ss : List Step) → ((seen new).honest → (seen mid).honest)
-    → AreBeside seen known old mid here here' ss → AreBeside seen known old new here here' ss
-beside_after seen {known} old mid new here here' ss honest a = record {
-  whose = a.whose;
-  same = a.same;
-  stand = λ p x x' at at' k first before took is. stands_after x' honest (a.stand p x x' at at' k first before took is);
 }

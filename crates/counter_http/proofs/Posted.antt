@@ -9,11 +9,11 @@ use Rattle.posting_rules.specs.believed.{Commands.Command, Commands.Post, Counte
 use Rattle.posting_rules.specs.believed.Runs.{followed_by, posts, replies_to}
 use Rattle.posting_rules.proofs.Sequence.{after-append}
 use Rattle.counter_http.specs.Connections.{Known}
-use Rattle.counter_http.specs.Order.{Step, is_posted_under, submitted_by}
-use Rattle.counter_http.specs.Rounds.{AllDiffer, IsOfOneOf, IsTurnedAway, TellsRefusal, numbers}
-use Rattle.counter_http.specs.Standing.{AnswersRecord, HasEndedWith, StandsHere}
-use Rattle.counter_http.specs.Submitting.{AnswersAt, AnswersEach, AreApart, AreGiven, GivesAt, IsElsewhere, RefusesAt}
-use Rattle.counter_http.specs.Submitting.{RefusesEach}
+use Rattle.counter_http.specs.together.Order.{Step, is_posted_under, submitted_by}
+use Rattle.counter_http.specs.together.Rounds.{AllDiffer, IsOfOneOf, IsTurnedAway, TellsRefusal, numbers}
+use Rattle.counter_http.specs.together.Standing.{AnswersRecord, HasEndedWith, StandsHere}
+use Rattle.counter_http.specs.together.Submitting.{AnswersAt, AnswersEach, AreApart, AreGiven, GivesAt, IsElsewhere, RefusesAt}
+use Rattle.counter_http.specs.together.Submitting.{RefusesEach}
 use Rattle.counter_http.specs.believed.Answers.{answer_text, asked_by, bare}
 use Rattle.counter_http.specs.believed.Turns.{commands_for}
 use Rattle.counter_http.specs.declared.batch.Sender.{Sender}

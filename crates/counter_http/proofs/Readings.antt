@@ -11,9 +11,9 @@ use Rattle.posting_core.proofs.Followed.{gave_none, gave_some}
 use Rattle.posting_core.proofs.Telling.{adds-more}
 use Rattle.counter_http.specs.Connections.{Known, known_ends}
 use Rattle.counter_http.specs.Next.{IsUnfinished}
-use Rattle.counter_http.specs.Order.{Step, of_client}
-use Rattle.counter_http.specs.Reading.{Lost, MakesRead, Reads, ReadsEnd, ReadsLast, ReadsSome, Refused, SaysAtEnd, Silent}
-use Rattle.counter_http.specs.Standing.{HasEndedWith, IsGoing, IsSame, StandsHere, pending, unread}
+use Rattle.counter_http.specs.together.Order.{Step, of_client}
+use Rattle.counter_http.specs.together.Reading.{Lost, MakesRead, Reads, ReadsEnd, ReadsLast, ReadsSome, Refused, SaysAtEnd, Silent}
+use Rattle.counter_http.specs.together.Standing.{HasEndedWith, IsGoing, IsSame, StandsHere, pending, unread}
 use Rattle.counter_http.specs.believed.Answers.{Answer, answer_text, bare, refusal}
 use Rattle.counter_http.specs.believed.Ends.{HasEnded}
 use Rattle.counter_http.specs.believed.Serving.{IsWalked}

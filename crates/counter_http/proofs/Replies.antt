@@ -11,15 +11,15 @@ use Rattle.posting_rules.specs.believed.Runs.{followed_by}
 use Rattle.counter_http.specs.Asking.{said_in}
 use Rattle.counter_http.specs.Connections.{Known}
 use Rattle.counter_http.specs.Next.{IsHopeless, IsUnfinished, IsWhole, asked}
-use Rattle.counter_http.specs.Standing.{HasEndedWith, IsAnswered, IsHeadOf, IsRecordIn, IsToldOf, ReadsAnswer}
-use Rattle.counter_http.specs.Standing.{SaysSo, StandsHere, pending, unread}
+use Rattle.counter_http.specs.together.Standing.{HasEndedWith, IsAnswered, IsHeadOf, IsRecordIn, IsToldOf, ReadsAnswer}
+use Rattle.counter_http.specs.together.Standing.{SaysSo, StandsHere, pending, unread}
 use Rattle.counter_http.specs.Tasks.{IsTaskOf}
 use Rattle.counter_http.specs.Turns.{IsAsked}
 use Rattle.counter_http.specs.believed.Answers.{Answer, Asked, answer_text, answer_to, asked_by, bare, is_posting, refusal}
 use Rattle.counter_http.specs.believed.Answers.{shows}
 use Rattle.counter_http.specs.believed.Messages.{EndsWalk, Message, message_text}
 use Rattle.counter_http.specs.believed.Serving.{IsWalked, KeepsConnection}
-use Rattle.counter_http.specs.Order.{Step, of_client, submitted_by}
+use Rattle.counter_http.specs.together.Order.{Step, of_client, submitted_by}
 use Rattle.counter_http.specs.believed.Turns.{Turn}
 use Rattle.counter_http.specs.declared.answers.Reading.{Reading}
 use Rattle.counter_http.specs.declared.client.Client.{Client}

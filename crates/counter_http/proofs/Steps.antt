@@ -6,7 +6,7 @@ use Rattle.std.proofs.lemmas.{Bool.ne_eqb, List.map-append, List.Concat.flat_map
 use Rattle.posting_rules.specs.{believed.Commands.Command, believed.Runs.followed_by}
 use Rattle.posting_rules.proofs.Sequence.{after-append}
 use Rattle.counter_http.specs.believed.Answers.{asked_by, answer_of}
-use Rattle.counter_http.specs.Order.{Step, answers_at, if_own, of_client, submitted_by, turn_in, turns_of}
+use Rattle.counter_http.specs.together.Order.{Step, answers_at, if_own, of_client, submitted_by, turn_in, turns_of}
 use Rattle.counter_http.specs.believed.Turns.{Turn, answers_to, commands_in, commands_of}
 
 pub submitted-append : (ss ts : List Step) → submitted_by (ss ++ ts) ≡ submitted_by ss ++ submitted_by ts

@@ -11,11 +11,11 @@ use Rattle.posting_core.specs.Told.{HasMore, IsFlush, IsThrough, WriteTold}
 use Rattle.posting_core.specs.believed.Told.{EndsWith}
 use Rattle.posting_core.proofs.Telling.{more_last, more_more}
 use Rattle.counter_http.specs.Connections.{Known}
-use Rattle.counter_http.specs.Standing.{IsGoing, IsParted, MayBeLeft, StandsAs}
-use Rattle.counter_http.specs.Together.{AnswersBeforeItsReads, Broken, ClientIsServed, IsWrittenAs, On, PartingIsOfItsEnd}
-use Rattle.counter_http.specs.Together.{PartsAs, Stands, Through}
+use Rattle.counter_http.specs.together.Standing.{IsGoing, IsParted, MayBeLeft, StandsAs}
+use Rattle.counter_http.specs.together.Serving.{AnswersBeforeItsReads, Broken_off, ClientIsServed, Goes_on, IsWrittenAs, PartingIsOfItsEnd}
+use Rattle.counter_http.specs.together.Serving.{PartsAs, Stands, Walk_ended}
 use Rattle.counter_http.specs.believed.Ends.{HasEnded}
-use Rattle.counter_http.specs.Order.{Step, answers_at, of_client}
+use Rattle.counter_http.specs.together.Order.{Step, answers_at, of_client}
 use Rattle.counter_http.specs.believed.Turns.{Turn, texts_of}
 use Rattle.counter_http.specs.declared.parting.Parting.{Parting}
 use Rattle.counter_http.specs.declared.parting.Parting.TheVariants as parting
@@ -40,10 +40,10 @@ begins_less xs ys text e =
 
 pub stands_of : {has_ended : Type 0} {own lost : List Turn} {rest : List ℕ} {last : List (List ℕ)} (p : Parting)
     → PartsAs p has_ended own lost rest last → Stands has_ended own lost rest last
-stands_of parting.Served is = Through is
-stands_of parting.Read is = On (record { stays = is.stays; none_lost = is.none_refused; nothing = is.nothing })
+stands_of parting.Served is = Walk_ended is
+stands_of parting.Read is = Goes_on (record { stays = is.stays; none_lost = is.none_refused; nothing = is.nothing })
 stands_of parting.Write is = is
-stands_of (parting.Bank fault) is = Broken is
+stands_of (parting.Bank fault) is = Broken_off is
 stands_of parting.Memory is = is
 stands_of parting.GivenUp is = is
 stands_of parting.Stopped is = is
@@ -88,7 +88,7 @@ left_as {i} {k} {l} {c} {c'} {steps} None {has_more} {shown} {rest} {pending} so
       read = subst (λ (x : List ℕ). Consumes k.reader l.reader x) none g.read;
       written = g.written;
       wrote = g.wrote;
-      stands = On (record { stays = g.stays; none_lost = refl; nothing = refl });
+      stands = Goes_on (record { stays = g.stays; none_lost = refl; nothing = refl });
       answers = λ h log s. begins_with g.written pending (joined (answers_at i log steps ++ []))
           (g.answers h log s ∙ ap joined (sym (append-nil (answers_at i log steps))));
       more = g.more;

@@ -12,11 +12,11 @@ use Rattle.posting_rules.proofs.CounterCalls.{idle_after, refused_after, takes_n
 use Rattle.posting_core.specs.Stream.{IsOfCall}
 use Rattle.posting_core.proofs.StreamedBatches.{all_more}
 use Rattle.counter_http.specs.Connections.{Known}
-use Rattle.counter_http.specs.Order.{Step, is_posted_under, submitted_by}
-use Rattle.counter_http.specs.Rounds.{AllDiffer, IsOfOneOf, numbers}
-use Rattle.counter_http.specs.Standing.{StandsHere}
-use Rattle.counter_http.specs.Submitting.{AnswersEach, AreApart, AreGiven, AreSubmitted}
-use Rattle.counter_http.specs.Submitting.{RefusesEach}
+use Rattle.counter_http.specs.together.Order.{Step, is_posted_under, submitted_by}
+use Rattle.counter_http.specs.together.Rounds.{AllDiffer, IsOfOneOf, numbers}
+use Rattle.counter_http.specs.together.Standing.{StandsHere}
+use Rattle.counter_http.specs.together.Submitting.{AnswersEach, AreApart, AreGiven, AreSubmitted}
+use Rattle.counter_http.specs.together.Submitting.{RefusesEach}
 use Rattle.counter_http.specs.declared.batch.Sender.{Sender}
 use Rattle.counter_http.specs.declared.client.Client.{Client}
 use Rattle.counter_http.proofs.AnsweredTurns.{why_first}

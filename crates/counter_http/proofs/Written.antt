@@ -4,10 +4,10 @@ use Rattle.posting_rules.specs.{believed.Counter.Seen}
 use Rattle.posting_core.specs.Told.{HasMore, HasWriteFailed, IsWriteFailure, WriteTold}
 use Rattle.posting_core.proofs.Telling.{last_some, more_failed}
 use Rattle.counter_http.specs.Connections.{Known}
-use Rattle.counter_http.specs.Order.{Step}
-use Rattle.counter_http.specs.Standing.{IsLost, IsParting, StandsAs, StandsBy, StandsHere, Writes, WritesLast, WritesSome}
-use Rattle.counter_http.specs.Standing.{pending, unread}
-use Rattle.counter_http.specs.Together.{ClientIsServed}
+use Rattle.counter_http.specs.together.Order.{Step}
+use Rattle.counter_http.specs.together.Standing.{IsLost, IsParting, StandsAs, StandsBy, StandsHere, Writes, WritesLast, WritesSome}
+use Rattle.counter_http.specs.together.Standing.{pending, unread}
+use Rattle.counter_http.specs.together.Serving.{ClientIsServed}
 use Rattle.counter_http.specs.declared.client.Client.{Client}
 use Rattle.counter_http.specs.declared.parting.Parting.{Parting}
 use Rattle.counter_http.specs.declared.parting.Parting.TheVariants as parting

@@ -1,4 +1,5 @@
 pub mod believed
+pub mod together
 pub mod Faults
 pub mod Ends
 pub mod Messages
@@ -12,13 +13,5 @@ pub mod Prompt
 pub mod ListenFaults
 pub mod Clients
 pub mod Connections
-pub mod Order
-pub mod Together
-pub mod Listening
-pub mod Standing
 pub mod Tasks
 pub mod Asking
-pub mod Rounds
-pub mod Submitting
-pub mod Reading
-pub mod Crowd

@@ -2,9 +2,9 @@
 ghost use Rattle.std.specs.Prelude.{◌≡◌, ◌<◌, ◌≤◌, ◌∷◌, [], length};
 ghost use Rattle.posting_core.specs.believed.Clock.{AreReadings};
 ghost use Rattle.counter_http.specs.Connections.{known_ends};
-ghost use Rattle.counter_http.specs.Rounds.{AllDiffer, numbers};
-ghost use Rattle.counter_http.specs.Submitting.{AddsIfRoom, AnswersAt, AnswersEach, AreSubmitted};
-ghost use Rattle.counter_http.specs.Submitting.{ChangesAt, GivesAt, IsBatchOf, RefusesAt, RefusesEach, SubmitsBatch};
+ghost use Rattle.counter_http.specs.together.Rounds.{AllDiffer, numbers};
+ghost use Rattle.counter_http.specs.together.Submitting.{AddsIfRoom, AnswersAt, AnswersEach, AreSubmitted};
+ghost use Rattle.counter_http.specs.together.Submitting.{ChangesAt, GivesAt, IsBatchOf, IsNextPlace, RefusesAt, RefusesEach, SubmitsBatch};
 
 use crate::client::{Client, Head, Record};
 use arrayvec::ArrayVec;
@@ -92,11 +92,18 @@ impl Batch {
     }
 
     /// Whose records are the first of the next batch: those of the clients from a place on.
-    pub fn next(&self) -> usize {
+    pub fn next(&self) -> usize
+        ensures { IsNextPlace self.now result }
+    {
         match self.senders.last() {
             Some(last) if self.senders.is_full() => last.place.saturating_add(1),
             _ => 0,
         }
+    }
+
+    /// How many records there are.
+    pub fn count(&self) -> usize {
+        self.records.len()
     }
 
     /// Takes the record of the client at a place, where there is room for it.

@@ -17,6 +17,10 @@ use posting_core::{Counter, Fault, Sink, Source};
 use std::alloc::Global;
 use std::io::ErrorKind;
 
+// How many messages of a client are looked at in a round: a record and what is read before it. Whoever asks much
+// holds up nobody.
+const MESSAGES_PER_ROUND: usize = 2;
+
 // How many bytes of answers a client may leave untaken before its next message is answered.
 const UNTAKEN: usize = 16_384;
 
@@ -74,9 +78,9 @@ pub(crate) enum Front {
 impl<R: Source + Drop, W: Sink + Drop> Client<R, W> {
     ghost use Rattle.std.specs.Prelude.{[], ◌++◌, ◌∷◌, List, ℕ, None, Some, Option, OnOk, IfOk, IfSome, true, MatchBool, IfErr, ◌≢◌};
     ghost use Rattle.counter_http.specs.Connections.{known_ends};
-    ghost use Rattle.counter_http.specs.Standing.{AnswersRecord, IsAnswered, IsLost, IsNew, IsOver, IsParting, Writes};
-    ghost use Rattle.counter_http.specs.Standing.{GivesRecord, GivesFront, HasAnswered, HasEndedWith, ReadsAnswer, SaysSo};
-    ghost use Rattle.counter_http.specs.Reading.{Reads};
+    ghost use Rattle.counter_http.specs.together.Standing.{AnswersRecord, IsAnswered, IsLost, IsNew, IsOver, IsParting, Writes};
+    ghost use Rattle.counter_http.specs.together.Standing.{GivesRecord, GivesFront, HasAnswered, HasEndedWith, ReadsAnswer, SaysSo};
+    ghost use Rattle.counter_http.specs.together.Reading.{Reads};
     ghost use Rattle.counter_http.specs.Telling.{said};
     ghost use Rattle.counter_http.specs.believed.Answers.{answer_text, bare};
 
@@ -242,7 +246,7 @@ impl<R: Source + Drop, W: Sink + Drop> Client<R, W> {
         }
         move_to_front(&mut self.input, head.length, self.filled);
         self.filled -= head.length;
-        self.has_more = !head.closes;
+        self.has_more = self.filled > 0;
         if head.closes {
             self.parting = Some(Parting::Served);
         }
@@ -329,8 +333,8 @@ impl<R: Source + Drop, W: Sink + Drop> Client<R, W> {
         }
     }
 
-    /// Answers the messages at the front of what was read, up to a record, and gives that. A client that left
-    /// many answers untaken takes them first.
+    /// Answers the messages at the front of what was read, up to a record, which it gives, or up to
+    /// `MESSAGES_PER_ROUND`. A client that left many answers untaken takes them first.
     ///
     /// # Errors
     ///
@@ -346,7 +350,7 @@ impl<R: Source + Drop, W: Sink + Drop> Client<R, W> {
         ensures record { IfOk result (λ found. IfSome found (GivesRecord self.new)) }
         ensures spares { C.spares bank.old bank.new }
     {
-        'messages: for _ in 0..BUFFER {
+        'messages: for _ in 0..MESSAGES_PER_ROUND {
             if self.untaken() > UNTAKEN {
                 return Ok(None);
             }

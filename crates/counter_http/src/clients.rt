@@ -44,6 +44,11 @@ pub trait Clients {
     fn open(&mut self, number: u64) -> io::Result<Option<(Self::Reader, Self::Writer)>>
         ensures { GrowsBy (told self.old) (told self.new) (opened_told number result) };
 
+    /// So many postings were done in a round.
+    fn posted(&mut self, _count: usize)
+        ensures { GrowsBy (told self.old) (told self.new) [] }
+    {}
+
     /// Closes the connection of a client, once what was written has come to it.
     fn close(&mut self, number: u64, reader: Self::Reader, writer: Self::Writer)
         ensures { GrowsBy (told self.old) (told self.new) (Closed number (reader, writer) ∷ []) };

@@ -34,10 +34,11 @@
 //! ```
 //!
 //! Read next: [`serve_connections`]; [`serve_together`], the same of whatever gives clients; [`crate::Clients`],
-//! what that is; `specs/Together`, what each client is written, and what all together leave.
-ghost use Rattle.counter_http.specs.Listening.{ServesListener};
+//! what that is; `specs/together/Serving`, what each client is written, and what all together leave.
+ghost use Rattle.counter_http.specs.together.Listening.{ServesListener};
 
 use crate::listen_fault::ListenFault;
+use crate::serve_watch::{ServeWatch, Unwatched};
 use crate::tcp_clients::TcpClients;
 use crate::together::serve_together;
 use posting_core::{Clock, Counter};
@@ -67,7 +68,32 @@ pub fn serve_connections<R: Alloc<A = Global> + time::Clock, K: Clock, C: Counte
         connections result }
     ensures spares { C.spares bank.old bank.new }
 {
-    let Ok(mut clients) = TcpClients::new(rt.alloc(), listener, rt) else {
+    serve_watched(rt, listener, connections, Unwatched, clock, bank)
+}
+
+/// So does this, and tells who watches how it goes.
+///
+/// # Errors
+///
+/// As of [`serve_connections`].
+pub fn serve_watched<
+    R: Alloc<A = Global> + time::Clock,
+    V: ServeWatch + Drop,
+    K: Clock,
+    C: Counter,
+>(
+    rt: &R,
+    listener: &TcpListener,
+    connections: u64,
+    watch: V,
+    clock: &mut K,
+    bank: &mut C,
+) -> Result<(), ListenFault>
+    ensures serves { ServesListener C.seen C.reason (K.readings clock.old) (K.readings clock.new) bank.old bank.new
+        connections result }
+    ensures spares { C.spares bank.old bank.new }
+{
+    let Ok(mut clients) = TcpClients::new(rt.alloc(), listener, rt, watch) else {
         return Err(ListenFault::Network);
     };
     let served = serve_together(rt.alloc(), &mut clients, connections, clock, bank);

@@ -4,6 +4,7 @@ use crate::client::Client;
 use crate::clients::{Clients, Readiness};
 use crate::closing::Closing;
 use crate::patience::{Awaited, LOOK_AT_ALL, Patience};
+use crate::serve_watch::{ServeWatch, Watched};
 use crate::stream_ends::{StreamReader, StreamWriter};
 use crate::together::MOST_CLIENTS;
 use libc::net::{POLLIN, POLLOUT, poll};
@@ -15,27 +16,34 @@ use std::net::{TcpListener, TcpStream};
 use std::os::fd::{AsRawFd, RawFd};
 use std::time::{Clock, Duration, Instant};
 
+// In the place of a client that isn't there.
+const NOBODY: RawFd = -1;
+
 // How many connections are being closed at once: each is a descriptor, of which a process has some 1,000.
 const MOST_CLOSING: usize = 256;
 
 /// The clients of a bound listener that doesn't block. The system is asked to send each answer at once, and not to
 /// wait until the one before it has arrived.
 #[derive(Drop)]
-pub struct TcpClients<'l, T> {
+pub struct TcpClients<'l, T, V: Drop> {
     listener: &'l TcpListener,
     time: &'l T,
+    watch: Watched<V>,
     // Somebody may wait at the listener.
     is_waited_for: bool,
-    // Of each client that is served, in their order.
+    // Of each client that was here when all were looked at last and is here still, in their order: whoever came
+    // since then stands behind them.
     patience: Vec<Patience>,
     closing: Vec<Closing>,
+    // The places of the clients that the system is asked for.
+    places: Vec<usize>,
+    // What it is asked: of the listener, of those clients, and of what is being closed.
     asked: Vec<pollfd>,
     // When all clients were looked at last.
     looked: Option<Instant>,
 }
 
-// In the place of whoever isn't asked for.
-const NOBODY: RawFd = -1;
+type TcpClient = Client<StreamReader<TcpStream>, StreamWriter<TcpStream>>;
 
 // Of whom the system is asked what.
 fn asked(fd: RawFd, events: i16) -> pollfd {
@@ -46,9 +54,12 @@ fn asked(fd: RawFd, events: i16) -> pollfd {
     }
 }
 
-// At least this long, in milliseconds.
-fn millis(limit: Duration) -> i32 {
-    i32::try_from(limit.as_millis().saturating_add(1)).unwrap_or(i32::MAX)
+// At least this long, in milliseconds, and without an end where there is none.
+fn millis(limit: Option<Duration>) -> i32 {
+    match limit {
+        Some(limit) => i32::try_from(limit.as_millis().saturating_add(1)).unwrap_or(i32::MAX),
+        None => -1,
+    }
 }
 
 // The shorter of two times, of which none has no end.
@@ -60,55 +71,45 @@ fn sooner(one: Option<Duration>, other: Option<Duration>) -> Option<Duration> {
     }
 }
 
-impl<'l, T: Clock> TcpClients<'l, T> {
+impl<'l, T: Clock, V: ServeWatch + Drop> TcpClients<'l, T, V> {
     /// Of a listener, which is told not to block.
     ///
     /// # Errors
     ///
     /// The system's, where it refuses that.
-    pub fn new(alloc: Global, listener: &'l TcpListener, time: &'l T) -> io::Result<Self> {
+    pub fn new(
+        alloc: Global,
+        listener: &'l TcpListener,
+        time: &'l T,
+        watch: V,
+    ) -> io::Result<Self> {
         listener.set_nonblocking(true)?;
         Ok(TcpClients {
             listener,
             time,
+            watch: Watched::new(watch),
             is_waited_for: true,
             patience: Vec::new(alloc),
             closing: Vec::new(alloc),
+            places: Vec::new(alloc),
             asked: Vec::new(alloc),
             looked: None,
         })
     }
 
-    // Notes of each client what it is waited for. The clients that were there before stand in the same order.
-    fn note(
-        &mut self,
-        clients: &[Client<StreamReader<TcpStream>, StreamWriter<TcpStream>>],
-        now: Instant,
-    ) {
+    // Notes of each client what it is waited for.
+    fn note(&mut self, clients: &[TcpClient], now: Instant) {
         for (place, client) in clients.iter().enumerate() {
-            'gone: for _ in 0..=MOST_CLIENTS {
-                match self.patience.get(place) {
-                    Some(it) if it.number < client.number() => {
-                        let _gone = self.patience.remove(place);
-                    }
-                    _ => break 'gone,
-                }
-            }
-            let before = match self.patience.get(place) {
-                Some(it) if it.number == client.number() => Some(*it),
-                _ => None,
-            };
-            let it = Patience::with(client, client.reader().given, before, now);
             match self.patience.get_mut(place) {
-                Some(old) if before.is_some() => *old = it,
-                _ => {
+                Some(it) => *it = Patience::with(client, client.reader().given, Some(*it), now),
+                None => {
+                    let it = Patience::with(client, client.reader().given, None, now);
                     if self.patience.push(it).is_err() {
                         return;
                     }
                 }
             }
         }
-        self.patience.truncate(clients.len());
     }
 
     // How long nothing is to be done, if no stream is ready before.
@@ -144,35 +145,29 @@ impl<'l, T: Clock> TcpClients<'l, T> {
         Duration::from_millis(LOOK_AT_ALL).checked_sub(passed)
     }
 
-    // Whether the client at a place is one that is looked at less often.
-    fn is_asleep(&self, place: usize, number: u64) -> bool {
+    // Whether the client at a place may say something at once.
+    fn is_awake(&self, place: usize) -> bool {
         match self.patience.get(place) {
-            Some(it) => it.number == number && !it.is_awake,
-            None => false,
+            Some(it) => it.is_awake,
+            None => true,
         }
     }
 
-    // Asks for each client, or for those that are awake, for the listener and, with all, for what is being closed.
-    // Answers whether there was room to ask.
-    fn ask(
-        &mut self,
-        clients: &[Client<StreamReader<TcpStream>, StreamWriter<TcpStream>>],
-        looks_at_all: bool,
-        looks_for_more: bool,
-    ) -> bool {
-        self.asked.clear();
-        for (place, client) in clients.iter().enumerate() {
-            let of_client = if !looks_at_all && self.is_asleep(place, client.number()) {
-                asked(NOBODY, 0)
-            } else if client.is_written() {
-                asked(client.reader().stream.as_raw_fd(), POLLIN)
-            } else {
-                asked(client.writer().stream.as_raw_fd(), POLLOUT)
-            };
-            if self.asked.push(of_client).is_err() {
+    // Picks all clients, or those that are awake. Answers whether there was room for them.
+    fn pick(&mut self, count: usize, all: bool) -> bool {
+        self.places.clear();
+        for place in 0..count {
+            if (all || self.is_awake(place)) && self.places.push(place).is_err() {
                 return false;
             }
         }
+        true
+    }
+
+    // Puts together what is asked of the listener, of the clients that were picked and, with all, of what is being
+    // closed. Answers whether there was room for it.
+    fn ask(&mut self, clients: &[TcpClient], all: bool, looks_for_more: bool) -> bool {
+        self.asked.clear();
         let events = if looks_for_more { POLLIN } else { 0 };
         if self
             .asked
@@ -181,16 +176,26 @@ impl<'l, T: Clock> TcpClients<'l, T> {
         {
             return false;
         }
+        for place in self.places.iter() {
+            let of_client = match clients.get(*place) {
+                Some(it) if it.is_written() => asked(it.reader().stream.as_raw_fd(), POLLIN),
+                Some(it) => asked(it.writer().stream.as_raw_fd(), POLLOUT),
+                None => asked(NOBODY, 0),
+            };
+            if self.asked.push(of_client).is_err() {
+                return false;
+            }
+        }
         for it in self.closing.iter() {
             let of_closing = asked(it.stream.as_raw_fd(), POLLIN);
-            if looks_at_all && self.asked.push(of_closing).is_err() {
+            if all && self.asked.push(of_closing).is_err() {
                 return false;
             }
         }
         true
     }
 
-    // Whether something is ready at a place of what was asked for.
+    // Whether something is ready at a place of what was asked.
     fn is_ready(&self, place: usize) -> bool {
         match self.asked.get(place) {
             Some(it) => it.revents != 0,
@@ -198,38 +203,63 @@ impl<'l, T: Clock> TcpClients<'l, T> {
         }
     }
 
+    // Asks the system, for so long at most unless a client has more, and tells of each client how it is: of those that
+    // weren't picked, that they wait. Answers whether there was room to ask and to tell.
+    fn look(
+        &mut self,
+        clients: &[TcpClient],
+        all: bool,
+        looks_for_more: bool,
+        left: Option<Duration>,
+        readiness: &mut Vec<Readiness>,
+    ) -> bool {
+        if !self.pick(clients.len(), all) || !self.ask(clients, all, looks_for_more) {
+            return false;
+        }
+        let has_more = self.places.iter().any(|place| match clients.get(*place) {
+            Some(it) => it.has_more(),
+            None => false,
+        });
+        let timeout = if has_more { 0 } else { millis(left) };
+        poll(self.asked.as_mut_slice(), timeout);
+        self.is_waited_for = self.is_ready(0);
+        for _client in clients {
+            if readiness.push(Readiness::Waits).is_err() {
+                readiness.clear();
+                return false;
+            }
+        }
+        for (nth, place) in self.places.iter().enumerate() {
+            let has_more = match clients.get(*place) {
+                Some(it) => it.has_more(),
+                None => false,
+            };
+            if has_more || self.is_ready(nth.saturating_add(1)) {
+                if let Some(it) = readiness.get_mut(*place) {
+                    *it = Readiness::Ready;
+                }
+            }
+        }
+        true
+    }
+
     // Looks at the clients that are awake, until one is ready or it is time to look at all.
     fn look_at_some(
         &mut self,
-        clients: &[Client<StreamReader<TcpStream>, StreamWriter<TcpStream>>],
+        clients: &[TcpClient],
         awaits_more: bool,
         left: Duration,
         readiness: &mut Vec<Readiness>,
     ) {
         let looks_for_more = awaits_more && clients.len() < MOST_CLIENTS;
-        if !self.ask(clients, false, looks_for_more) {
-            return;
-        }
-        let has_more = clients.iter().any(|client| client.has_more());
-        let timeout = if has_more { 0 } else { millis(left) };
-        poll(self.asked.as_mut_slice(), timeout);
-        self.is_waited_for = self.is_ready(clients.len());
-        for (place, client) in clients.iter().enumerate() {
-            let it = if client.has_more() || self.is_ready(place) {
-                Readiness::Ready
-            } else {
-                Readiness::Waits
-            };
-            if readiness.push(it).is_err() {
-                return;
-            }
-        }
+        let _known = self.look(clients, false, looks_for_more, Some(left), readiness);
     }
 
-    // Looks at all clients, until one is ready or a limit has passed.
+    // Looks at all clients, until one is ready or a limit has passed. Whoever kept a limit waiting is given up, and
+    // where somebody waits for a place whoever is idle longest.
     fn look_at_all(
         &mut self,
-        clients: &[Client<StreamReader<TcpStream>, StreamWriter<TcpStream>>],
+        clients: &[TcpClient],
         awaits_more: bool,
         now: Instant,
         readiness: &mut Vec<Readiness>,
@@ -238,54 +268,25 @@ impl<'l, T: Clock> TcpClients<'l, T> {
         let is_full = clients.len() >= MOST_CLIENTS;
         let idle = self.longest_idle();
         let looks_for_more = awaits_more && (!is_full || idle.is_some());
-        if !self.ask(clients, true, looks_for_more) {
+        let left = sooner(self.time_left(now), self.watch.left(clients.len(), now));
+        if !self.look(clients, true, looks_for_more, left, readiness) {
             return;
         }
-        let has_more = clients.iter().any(|client| client.has_more());
-        let timeout = match self.time_left(now) {
-            _ if has_more => 0,
-            Some(left) => millis(left),
-            None => -1,
-        };
-        poll(self.asked.as_mut_slice(), timeout);
         let Ok(then) = Instant::now(self.time) else {
             return;
         };
         self.looked = Some(then);
-        self.is_waited_for = self.is_ready(clients.len());
-        for (place, client) in clients.iter().enumerate() {
+        for (place, it) in readiness.iter_mut().enumerate() {
             let gives_way = is_full && self.is_waited_for && idle == Some(place);
-            let it = self.readiness_of(place, client.has_more(), gives_way, then);
-            if readiness.push(it).is_err() {
-                return;
+            if let Some(patience) = self.patience.get_mut(place) {
+                if *it == Readiness::Ready {
+                    patience.is_awake = true;
+                } else if gives_way || patience.left(then).is_none() {
+                    *it = Readiness::GivenUp;
+                }
             }
         }
         self.drain(clients.len().saturating_add(1), then);
-    }
-
-    // What is known of the client at a place.
-    fn readiness_of(
-        &self,
-        place: usize,
-        has_more: bool,
-        gives_way: bool,
-        now: Instant,
-    ) -> Readiness {
-        let is_late = match self.patience.get(place) {
-            Some(it) => it.left(now).is_none(),
-            None => false,
-        };
-        let is_ready = match self.asked.get(place) {
-            Some(it) => it.revents != 0,
-            None => true,
-        };
-        if is_ready || has_more {
-            Readiness::Ready
-        } else if is_late || gives_way {
-            Readiness::GivenUp
-        } else {
-            Readiness::Waits
-        }
     }
 
     // Reads and drops what comes on connections that are being closed, the first of which were asked for after so
@@ -303,6 +304,8 @@ impl<'l, T: Clock> TcpClients<'l, T> {
 
     /// Waits until all connections are closed, each within its limit.
     pub fn finish(&mut self) {
+        self.watch.ended();
+        self.places.clear();
         'closing: for _ in 0..u64::MAX {
             let Ok(now) = Instant::now(self.time) else {
                 return;
@@ -313,8 +316,8 @@ impl<'l, T: Clock> TcpClients<'l, T> {
             if !self.ask(&[], true, false) {
                 return;
             }
-            let left = self.time_left(now).unwrap_or(Duration::ZERO);
-            poll(self.asked.as_mut_slice(), millis(left));
+            let timeout = millis(self.time_left(now));
+            poll(self.asked.as_mut_slice(), timeout);
             let Ok(then) = Instant::now(self.time) else {
                 return;
             };
@@ -323,7 +326,7 @@ impl<'l, T: Clock> TcpClients<'l, T> {
     }
 }
 
-impl<'l, T: Clock> Clients for TcpClients<'l, T> {
+impl<'l, T: Clock, V: ServeWatch + Drop> Clients for TcpClients<'l, T, V> {
     type Reader = StreamReader<TcpStream>;
 
     type Writer = StreamWriter<TcpStream>;
@@ -339,6 +342,7 @@ impl<'l, T: Clock> Clients for TcpClients<'l, T> {
         let Ok(now) = Instant::now(self.time) else {
             return;
         };
+        self.watch.look(clients.len(), now);
         match self.until_all(now) {
             Some(left) => self.look_at_some(clients, awaits_more, left, readiness),
             None => self.look_at_all(clients, awaits_more, now, readiness),
@@ -358,7 +362,12 @@ impl<'l, T: Clock> Clients for TcpClients<'l, T> {
         ends_of(stream)
     }
 
-    fn close(&mut self, _number: u64, reader: Self::Reader, _writer: Self::Writer) {
+    fn posted(&mut self, count: usize) {
+        self.watch.posted(count);
+    }
+
+    fn close(&mut self, number: u64, reader: Self::Reader, _writer: Self::Writer) {
+        self.patience.retain(|it| it.number != number);
         let Ok(now) = Instant::now(self.time) else {
             return;
         };

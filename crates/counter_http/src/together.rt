@@ -4,11 +4,11 @@
 ghost use Rattle.std.specs.Prelude.{◌≡◌, ◌<◌, ◌≤◌, ℕ, [], Err, OnErr, OnOk, length};
 ghost use Rattle.std.specs.List.{AllByRecursion, AllZip};
 ghost use Rattle.counter_http.specs.Connections.{known_ends};
-ghost use Rattle.counter_http.specs.Crowd.{Closes, GoesOn, HaveCome, HaveMoved, ServesRounds};
-ghost use Rattle.counter_http.specs.Rounds.{AllDiffer, AnswersRound, numbers};
-ghost use Rattle.counter_http.specs.Standing.{Writes};
-ghost use Rattle.counter_http.specs.Submitting.{Gathers, IsBatchOf, IsElsewhere, IsFrom, MayAdd};
-ghost use Rattle.counter_http.specs.Together.{HasRefused, ServesTogether};
+ghost use Rattle.counter_http.specs.together.Crowd.{Closes, GoesOn, HaveCome, HaveMoved, ServesRounds};
+ghost use Rattle.counter_http.specs.together.Rounds.{AllDiffer, AnswersRound, numbers};
+ghost use Rattle.counter_http.specs.together.Standing.{Writes};
+ghost use Rattle.counter_http.specs.together.Submitting.{Gathers, IsBatchOf, IsElsewhere, IsFrom, MayAdd};
+ghost use Rattle.counter_http.specs.together.Serving.{HasRefused, ServesTogether};
 
 use crate::batch::Batch;
 use crate::client::Client;
@@ -21,6 +21,13 @@ use std::alloc::Global;
 
 /// How many clients are served at once.
 pub const MOST_CLIENTS: usize = 256;
+
+// What a round leaves: the place whose clients are the first in the next one, and how many postings were done.
+#[derive(Clone, Copy)]
+struct Answered {
+    next: usize,
+    postings: usize,
+}
 
 // Takes the clients in that wait for it, where there is room for them.
 fn take_in<D: Clients>(
@@ -143,8 +150,7 @@ fn gather<R: Source + Drop, W: Sink + Drop, C: Counter>(
     Ok(())
 }
 
-// Answers what was read from the clients: their records together, those of the clients from a place on first.
-// It gives the place whose clients are the first in the next round.
+// Answers messages of each client: their records together, those of the clients from a place on first.
 fn answer<R: Source + Drop, W: Sink + Drop, K: Clock, C: Counter>(
     alloc: Global,
     routes: &Routes,
@@ -152,7 +158,7 @@ fn answer<R: Source + Drop, W: Sink + Drop, K: Clock, C: Counter>(
     first: usize,
     clock: &mut K,
     bank: &mut C,
-) -> Result<usize, Fault>
+) -> Result<Answered, Fault>
     requires others { AllDiffer (numbers here.old.items) }
     ensures answers { AnswersRound C.seen C.reason (known_ends R.remaining R.told R.beside W.contents W.told)
         (K.readings clock.old) (K.readings clock.new) bank.old bank.new here.old.items here.new.items result }
@@ -164,7 +170,10 @@ fn answer<R: Source + Drop, W: Sink + Drop, K: Clock, C: Counter>(
     gather(alloc, routes, here, first, count, &mut batch, bank)?;
     gather(alloc, routes, here, 0, first, &mut batch, bank)?;
     batch.submit(here, clock, bank)?;
-    Ok(batch.next())
+    Ok(Answered {
+        next: batch.next(),
+        postings: batch.count(),
+    })
 }
 
 // Closes the connections of those for whom nothing more is done.
@@ -234,7 +243,10 @@ fn serve_rounds<D: Clients, K: Clock, C: Counter>(
         write(here);
         part(door, here);
         match answered {
-            Ok(next) => first = next,
+            Ok(it) => {
+                first = it.next;
+                door.posted(it.postings);
+            }
             Err(fault) => return Err(ListenFault::Bank(fault)),
         }
     }
@@ -242,8 +254,8 @@ fn serve_rounds<D: Clients, K: Clock, C: Counter>(
 }
 
 /// Serves so many clients, up to `MOST_CLIENTS` of them at once. In each round the streams that are ready are
-/// read and written once, without waiting; the messages that are whole then are answered, and their records
-/// are submitted together, at most one of each client, and up to `RECORDS_PER_BATCH`.
+/// read and written once, without waiting; of each client a record that is whole then and one message before it
+/// are answered, or two others, and the records, up to `RECORDS_PER_BATCH`, are submitted together.
 ///
 /// A client that fails, is given up or lacks memory is no fault: the others are served on.
 ///

@@ -1,7 +1,7 @@
 use Rattle.std.proofs.Common.{Ok}
 use Rattle.std.specs.List.{AllByRecursion}
 use Rattle.counter_http.specs.Connections.{known_ends}
-use Rattle.counter_http.specs.Submitting.{Gathers}
+use Rattle.counter_http.specs.together.Submitting.{Gathers}
 use Rattle.counter_http.proofs.Gathering.{IsPassed}
 use Rattle.counter_http.proofs.together.gather.Given as goal
 

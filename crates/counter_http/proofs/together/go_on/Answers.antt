@@ -1,5 +1,5 @@
 use Rattle.counter_http.specs.Connections.{known_ends}
-use Rattle.counter_http.specs.Crowd.{GoesOn}
+use Rattle.counter_http.specs.together.Crowd.{GoesOn}
 use Rattle.counter_http.proofs.Paired.{paired_more}
 use Rattle.counter_http.proofs.together.go_on.Goals as goal
 

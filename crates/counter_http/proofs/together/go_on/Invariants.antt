@@ -1,5 +1,5 @@
 use Rattle.counter_http.specs.Connections.{known_ends}
-use Rattle.counter_http.specs.Crowd.{GoesOn}
+use Rattle.counter_http.specs.together.Crowd.{GoesOn}
 use Rattle.counter_http.proofs.Paired.{PairedUpTo}
 use Rattle.counter_http.proofs.together.go_on.Given as goal
 

@@ -1,5 +1,5 @@
 use Rattle.std.proofs.Common.{ℕ, vec_len}
-use Rattle.counter_http.specs.Crowd.{HaveMoved}
+use Rattle.counter_http.specs.together.Crowd.{HaveMoved}
 use Rattle.counter_http.proofs.together.part_from_all.Given as goal
 
 abbrev pub decreases-clients : goal.decreases-clients

@@ -4,7 +4,7 @@ use Rattle.std.proofs.lemmas.List.{with_items_is}
 use Rattle.std.proofs.lemmas.Result.{err_from_is_err_and}
 use Rattle.counter_http.specs.declared.listen_fault.ListenFault.TheVariants.{Network}
 use Rattle.counter_http.proofs.CrowdRounds.{after_round, before_round, crowd_differs, cut_off_by, rounding_next, rounding_none}
-use Rattle.counter_http.proofs.CrowdRounds.{rounds_broken, rounds_end}
+use Rattle.counter_http.proofs.CrowdRounds.{rounds_broken, rounds_end, waited_still}
 use Rattle.counter_http.proofs.together.serve_rounds.Goals as goal
 
 pub rounds-init : goal.rounds-init
@@ -73,13 +73,13 @@ rounds-preserved g c =
     let answered = c.answer-answered in
     let crowd = after_round g.C.Counter.seen c.args.bank.now c.rounds.bank answered.new.bank c.take_in.new.here.items
     answered.new.here.items c.deref_mut-in-rounds.result.now c.write.new.here
-    (with_items answered.new.here c.write.new.here).items c.part.new.here.items (Ok c.in-Ok.next)
+    (with_items answered.new.here c.write.new.here).items c.part.new.here.items (Ok c.in-Ok.it)
     c.deref_mut-in-rounds.ensures.value
     (with_items_is answered.new.here c.write.new.here (c.write.auto.here ∙ c.deref_mut-in-rounds.ensures.len))
     s c.in-Ok.ensures.answers c.write.ensures c.part.ensures in
     record {
       rounding = rounding_next g.C.Counter.seen c.args.bank.now c.rounds.bank answered.new.bank s c.in-Ok.ensures.answers
-          crowd c.take_in.ensures.few;
+          (waited_still c.posted.ensures crowd) c.take_in.ensures.few;
       spares = g.met.C.Counter.spares_then c.args.bank.now c.rounds.bank answered.new.bank c.rounds.invariant.spares
           answered.ensures.spares;
     }

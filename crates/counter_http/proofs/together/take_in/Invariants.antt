@@ -1,5 +1,5 @@
 use Rattle.std.proofs.Common.{◌≤◌, ◌-◌}
-use Rattle.counter_http.specs.Crowd.{HaveMoved}
+use Rattle.counter_http.specs.together.Crowd.{HaveMoved}
 use Rattle.counter_http.proofs.together.take_in.Given as goal
 
 abbrev pub decreases-openings : goal.decreases-openings

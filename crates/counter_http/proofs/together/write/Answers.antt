@@ -1,5 +1,5 @@
 use Rattle.counter_http.specs.Connections.{known_ends}
-use Rattle.counter_http.specs.Standing.{Writes}
+use Rattle.counter_http.specs.together.Standing.{Writes}
 use Rattle.counter_http.proofs.Paired.{paired_more}
 use Rattle.counter_http.proofs.together.write.Goals as goal
 

@@ -1,6 +1,6 @@
 use Rattle.std.proofs.Common.{◌≡◌, ◌<◌, ◌∙◌, ℕ, List, [], ap, arith, false, get_or, length, subst, take}
 use Rattle.std.proofs.lemmas.List.{length-take, take_all, take_more}
-use Rattle.counter_http.specs.Submitting.{AnswersAt, AnswersEach}
+use Rattle.counter_http.specs.together.Submitting.{AnswersAt, AnswersEach}
 use Rattle.counter_http.specs.declared.batch.Sender.{Sender}
 use Rattle.counter_http.proofs.Gathering.{given_long, given_within}
 use Rattle.counter_http.proofs.Posted.{answers_long, answers_one_more}

@@ -1,5 +1,5 @@
 use Rattle.std.proofs.Common.{◌≡◌, length, take}
-use Rattle.counter_http.specs.Submitting.{AnswersEach}
+use Rattle.counter_http.specs.together.Submitting.{AnswersEach}
 use Rattle.counter_http.proofs.batch.Batch.answer.Given as goal
 
 -- the senders so far are answered

@@ -1,6 +1,6 @@
 use Rattle.std.proofs.Common.{◌<◌, ◌∙◌, List, ap, arith, false, get_or, length, subst, take}
 use Rattle.std.proofs.lemmas.List.{take_more}
-use Rattle.counter_http.specs.Submitting.{RefusesAt}
+use Rattle.counter_http.specs.together.Submitting.{RefusesAt}
 use Rattle.counter_http.specs.declared.batch.Sender.{Sender}
 use Rattle.counter_http.proofs.Gathering.{given_within}
 use Rattle.counter_http.proofs.Posted.{refuses_long, refuses_one_more}

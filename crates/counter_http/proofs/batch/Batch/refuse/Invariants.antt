@@ -1,5 +1,5 @@
 use Rattle.std.proofs.Common.{◌≡◌, length, take}
-use Rattle.counter_http.specs.Submitting.{RefusesEach}
+use Rattle.counter_http.specs.together.Submitting.{RefusesEach}
 use Rattle.counter_http.proofs.batch.Batch.refuse.Given as goal
 
 -- the senders so far are told

@@ -1,6 +1,6 @@
 use Rattle.std.proofs.Common.{◌∙◌, ℕ, List, [], ◌∷◌, arith, length, refl, subst, sym}
 use Rattle.posting_rules.specs.declared.limits.TheConstants.{RECORDS_PER_BATCH}
-use Rattle.counter_http.specs.Submitting.{AreGiven}
+use Rattle.counter_http.specs.together.Submitting.{AreGiven}
 use Rattle.counter_http.proofs.Submitted.{refused_all, spared_all, submitted_few, submitted_nothing, submitted_then}
 use Rattle.counter_http.proofs.Submitted.{taken_all}
 use Rattle.counter_http.proofs.batch.Batch.submit.Goals as goal

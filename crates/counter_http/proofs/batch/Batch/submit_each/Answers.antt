@@ -1,7 +1,7 @@
 use Rattle.std.proofs.Common.{◌<◌, ◌≤◌, ◌+◌, List, [], ◌∷◌, Ok, ap, arith, drop, false, get_or, length, subst}
 use Rattle.std.proofs.lemmas.Result.{err_from_is_err_and}
 use Rattle.posting_rules.specs.declared.limits.TheConstants.{RECORDS_PER_BATCH}
-use Rattle.counter_http.specs.Submitting.{ChangesAt}
+use Rattle.counter_http.specs.together.Submitting.{ChangesAt}
 use Rattle.counter_http.specs.declared.batch.Sender.{Sender}
 use Rattle.counter_http.proofs.Gathering.{apart_front, given_front, given_long, given_still}
 use Rattle.counter_http.proofs.Submitted.{submitted_few, submitted_nothing, submitted_then}

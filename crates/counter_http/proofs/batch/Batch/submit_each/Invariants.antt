@@ -1,6 +1,6 @@
 use Rattle.std.proofs.Common.{Ok, [], ◌∷◌, drop}
 use Rattle.counter_http.specs.Connections.{known_ends}
-use Rattle.counter_http.specs.Submitting.{AreApart, AreGiven, AreSubmitted}
+use Rattle.counter_http.specs.together.Submitting.{AreApart, AreGiven, AreSubmitted}
 use Rattle.counter_http.proofs.batch.Batch.submit_each.Given as goal
 
 -- the records so far are submitted

@@ -1,7 +1,12 @@
-use Rattle.std.proofs.Common.{◌-◌, ◌∙◌, ap, refl, take}
+use Rattle.std.proofs.Common.{◌≡◌, ℕ, List, [], false, ◌-◌, ◌∙◌, ap, refl, take, arith}
+use Rattle.std.proofs.Math.Dec.{ltb}
+use Rattle.std.proofs.lemmas.Bool.{ltb-false}
 use Rattle.std.proofs.lemmas.List.{with_items_is}
 use Rattle.counter_http.proofs.Buffers.{moved_front, told_onto}
 use Rattle.counter_http.proofs.client.Client.answer_with.Goals as goal
+
+nothing_left : (filled : ℕ) (items : List ℕ) → ltb 0 filled ≡ false → take filled items ≡ []
+nothing_left filled items e = let none : filled ≡ 0 = omega (arith, ltb-false 0 filled e) in rw none refl
 
 -- the connection ends
 pub returns-then-head : goal.returns-then-head
@@ -16,7 +21,7 @@ returns-then-head g c =
           ∙ moved_front old.input.items c.move_to_front.new.buffer old.filled c.args.head.length c.requires
           (rw c.deref_mut.ensures.value at c.move_to_front.ensures);
       parting = rw c.if-head.true refl;
-      more = λ e. cc (c.if-head.true, e);
+      more = λ e. nothing_left _ _ e;
       shows = refl;
     }
 
@@ -33,6 +38,6 @@ returns-else-head g c =
           ∙ moved_front old.input.items c.move_to_front.new.buffer old.filled c.args.head.length c.requires
           (rw c.deref_mut.ensures.value at c.move_to_front.ensures);
       parting = rw c.if-head.false refl;
-      more = λ e. rw c.if-head.false refl;
+      more = λ e. nothing_left _ _ e;
       shows = refl;
     }

@@ -1,6 +1,6 @@
 use Rattle.std.proofs.Common.{Ok}
 use Rattle.counter_http.specs.Connections.{known_ends}
-use Rattle.counter_http.specs.Standing.{IsAnswered}
+use Rattle.counter_http.specs.together.Standing.{IsAnswered}
 use Rattle.counter_http.proofs.client.Client.next_record.Given as goal
 
 -- the messages so far are answered

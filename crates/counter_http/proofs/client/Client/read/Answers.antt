@@ -10,7 +10,7 @@ use Rattle.posting_core.proofs.Telling.{other_kind}
 use Rattle.counter_http.proofs.Buffers.{none_at_end}
 use Rattle.counter_http.proofs.Prompts.{HasRead, has_failed, has_read}
 use Rattle.counter_http.proofs.Readings.{made_read, none_came, none_failed, same_ended, says_at_end}
-use Rattle.counter_http.specs.Reading.{Silent}
+use Rattle.counter_http.specs.together.Reading.{Silent}
 use Rattle.counter_http.proofs.client.Client.read.Goals as goal
 
 none_if : {A : Type 0} (o : Option A) (b : Bool) → b ≡ is_some o → b ≡ false → o ≡ None

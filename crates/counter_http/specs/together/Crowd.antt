@@ -12,11 +12,11 @@ use Rattle.posting_core.specs.believed.Clock.{AreReadings}
 use Rattle.posting_core.specs.believed.Told.{GrowsBy}
 use Rattle.counter_http.specs.Clients.{ClientsTold, Gave, Closed}
 use Rattle.counter_http.specs.Connections.{Known}
-use Rattle.counter_http.specs.Order.{Step, Round, IsRound, steps_of, readings_of, submitted_by}
-use Rattle.counter_http.specs.Reading.{Reads}
-use Rattle.counter_http.specs.Rounds.{IsOfOneOf, numbers}
-use Rattle.counter_http.specs.Standing.{IsLost, IsNew, IsParting, StandsHere, Writes}
-use Rattle.counter_http.specs.Together.{EndsTogether, IfBank, IsCutOff, IsVisited, Visit, closed_of, closings, number_of, openings}
+use Rattle.counter_http.specs.together.Order.{Step, Round, IsRound, steps_of, readings_of, submitted_by}
+use Rattle.counter_http.specs.together.Reading.{Reads}
+use Rattle.counter_http.specs.together.Rounds.{IsOfOneOf, numbers}
+use Rattle.counter_http.specs.together.Standing.{IsLost, IsNew, IsParting, StandsHere, Writes}
+use Rattle.counter_http.specs.together.Serving.{EndsTogether, IfBank, IsCutOff, IsVisited, Visit, closed_of, closings, number_of, openings}
 use Rattle.counter_http.specs.declared.client.Client.{Client}
 use Rattle.counter_http.specs.declared.listen_fault.ListenFault.{ListenFault}
 use Rattle.counter_http.specs.declared.parting.Parting.{Parting}

@@ -7,7 +7,7 @@ use Rattle.posting_core.specs.Told.{Beside, IsReadFailure, read_told}
 use Rattle.posting_core.specs.believed.Told.{GrowsBy, IsEndOfInput, ReadTold}
 use Rattle.std.specs.Io.KnownBytes.{IsAtEnd}
 use Rattle.counter_http.specs.Connections.{Known}
-use Rattle.counter_http.specs.Standing.{pending, unread}
+use Rattle.counter_http.specs.together.Standing.{pending, unread}
 use Rattle.counter_http.specs.believed.Answers.{answer_text, bare}
 use Rattle.counter_http.specs.declared.client.Client.{Client}
 use Rattle.counter_http.specs.declared.parting.Parting.TheVariants as parting

@@ -14,14 +14,14 @@ use Rattle.posting_core.specs.believed.Told.{EndsWith}
 use Rattle.posting_core.specs.believed.Batches.{joined}
 use Rattle.counter_http.specs.Connections.{Known}
 use Rattle.counter_http.specs.Next.{IsUnfinished}
-use Rattle.counter_http.specs.Together.{AnswersBeforeItsReads, IsWrittenAs, PartingIsOfItsEnd, PartsAs}
+use Rattle.counter_http.specs.together.Serving.{AnswersBeforeItsReads, IsWrittenAs, PartingIsOfItsEnd, PartsAs}
 use Rattle.counter_http.specs.Turns.{IsAsked}
 use Rattle.counter_http.specs.Asking.{said_in}
 use Rattle.counter_http.specs.believed.Answers.{Answer, answer_text, asked_by, bare, is_posting, octets, shows}
 use Rattle.counter_http.specs.believed.Ends.{HasEnded}
 use Rattle.counter_http.specs.believed.Messages.{Message, message_text, IsMessage, closes}
 use Rattle.counter_http.specs.believed.Serving.{KeepsConnection}
-use Rattle.counter_http.specs.Order.{Step, answers_at, asks_to_read, of_client, submitted_by}
+use Rattle.counter_http.specs.together.Order.{Step, answers_at, asks_to_read, of_client, submitted_by}
 use Rattle.counter_http.specs.believed.Turns.{Turn, texts_of}
 use Rattle.counter_http.specs.declared.answers.Reading.{Reading}
 use Rattle.counter_http.specs.declared.client.Client.{Client}
@@ -183,7 +183,8 @@ pub record HasAnswered {R W : Type 0} (old new : Client R W) (text : List ℕ) (
   pub told : pending new ≡ pending old ++ text
   pub rest : unread new ≡ drop head.length (unread old)
   pub parting : new.parting ≡ parting_after head.closes old.parting
-  pub more : head.closes ≡ false → new.has_more ≡ true
+  -- it has more, unless nothing is left
+  pub more : new.has_more ≡ false → unread new ≡ []
   pub shows : new.shows_body ≡ old.shows_body
 
 -- a fault but for want of memory is told

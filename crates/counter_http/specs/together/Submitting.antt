@@ -1,6 +1,6 @@
 -- Records that clients sent, which are submitted together or one by one, and what becomes of those clients. The
 -- bank is old before and new after, and the clients are here before and here' after.
-use Rattle.std.specs.Prelude.{◌≡◌, ◌≢◌, ◌⊎◌, ◌≤◌, ℕ, List, [], ◌∷◌, ◌++◌, length, slice_set, Option, Some}
+use Rattle.std.specs.Prelude.{◌≡◌, ◌≢◌, ◌⊎◌, ◌≤◌, ◌+◌, ◌-◌, ◌^◌, ℕ, List, [], ◌∷◌, ◌++◌, length, slice_set, Option, Some}
 use Rattle.std.specs.Prelude.{Result, IfErr, ⊤, true}
 use Rattle.std.specs.List.{AllByRecursion, slice_get}
 use Rattle.posting_rules.specs.declared.fault.Fault.{Fault}
@@ -9,9 +9,9 @@ use Rattle.posting_rules.specs.believed.Counter.{Seen, Takes}
 use Rattle.posting_core.specs.Stream.{IsOfCall}
 use Rattle.posting_core.specs.believed.Clock.{AreReadings}
 use Rattle.counter_http.specs.Connections.{Known}
-use Rattle.counter_http.specs.Order.{Step, asks_to_read, is_posted_under, submitted_by}
-use Rattle.counter_http.specs.Rounds.{EndsRound, IsOfOneOf, IsTurnedAway, numbers}
-use Rattle.counter_http.specs.Standing.{AnswersRecord, GivesRecord, HasEndedWith, StandsHere}
+use Rattle.counter_http.specs.together.Order.{Step, asks_to_read, is_posted_under, submitted_by}
+use Rattle.counter_http.specs.together.Rounds.{EndsRound, IsOfOneOf, IsTurnedAway, numbers}
+use Rattle.counter_http.specs.together.Standing.{AnswersRecord, GivesRecord, HasEndedWith, StandsHere}
 use Rattle.counter_http.specs.Turns.{IsAsked}
 use Rattle.counter_http.specs.believed.Answers.{answer_text, bare}
 use Rattle.counter_http.specs.declared.batch.Batch.{Batch}
@@ -59,6 +59,13 @@ pub record IsAdded (old new : Batch) (place : ℕ) (r : Record) : Type 0 where
 abbrev pub IsFull : Batch → Type 0
 IsFull batch =
     (length batch.records.items ≡ RECORDS_PER_BATCH) ⊎ (length batch.senders.items ≡ RECORDS_PER_BATCH)
+
+-- by turns: the next batch begins with the client behind the last sender of a full one, or with the first
+pub record IsNextPlace (batch : Batch) (place : ℕ) : Type 0 where
+  pub behind : length batch.senders.items ≡ RECORDS_PER_BATCH → (last : Sender)
+      → slice_get batch.senders.items (length batch.senders.items - 1) ≡ Some last
+      → (place ≡ last.place + 1) ⊎ (last.place + 1 ≡ 2 ^ 64)
+  pub first : length batch.senders.items ≢ RECORDS_PER_BATCH → place ≡ 0
 
 -- it is added, unless the batch is full
 abbrev pub AddsIfRoom : (old new : Batch) → (place : ℕ) → Record → Type 0

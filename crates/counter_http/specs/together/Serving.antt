@@ -25,8 +25,8 @@ use Rattle.counter_http.specs.believed.Ends.{HasEnded}
 use Rattle.counter_http.specs.believed.Turns.{Turn, texts_of}
 use Rattle.counter_http.specs.believed.Serving.{KeepsConnection, BeginsWithNoMessage, IsWalked, IsBrokenOff}
 use Rattle.counter_http.specs.believed.Serving.{ServingIsCutOff}
-use Rattle.counter_http.specs.Order.{Step, Round, IsRound, of_client, answers_at, submitted_by}
-use Rattle.counter_http.specs.Order.{steps_of, readings_of}
+use Rattle.counter_http.specs.together.Order.{Step, Round, IsRound, of_client, answers_at, submitted_by}
+use Rattle.counter_http.specs.together.Order.{steps_of, readings_of}
 
 -- ---- where a client stands
 
@@ -39,11 +39,11 @@ pub record GoesOn (own lost : List Turn) (last : List (List ℕ)) : Type 0 where
 -- its messages are own, of which lost was refused by the bank, and rest was read after them; the last answer is no
 -- answer of the bank
 pub data Stands (has_ended : Type 0) (own lost : List Turn) (rest : List ℕ) (last : List (List ℕ)) : Type 0 where
-  On : GoesOn own lost last → Stands has_ended own lost rest last
+  Goes_on : GoesOn own lost last → Stands has_ended own lost rest last
   -- the walk over its messages ended
-  Through : IsWalked has_ended own lost rest last → Stands has_ended own lost rest last
+  Walk_ended : IsWalked has_ended own lost rest last → Stands has_ended own lost rest last
   -- the bank refused one
-  Broken : IsBrokenOff own lost last → Stands has_ended own lost rest last
+  Broken_off : IsBrokenOff own lost last → Stands has_ended own lost rest last
 
 -- why it was parted from
 abbrev pub PartsAs : Parting → (has_ended : Type 0) → (own lost : List Turn) → (rest : List ℕ)

@@ -9,8 +9,8 @@ use Rattle.posting_rules.specs.believed.Counter.{Seen, StandsAt, LeavesOnly, Sho
 use Rattle.posting_core.specs.Stream.{IsOfCall}
 use Rattle.posting_core.specs.believed.Clock.{AreReadings}
 use Rattle.counter_http.specs.Connections.{Known}
-use Rattle.counter_http.specs.Order.{IsRound, Round, Step, steps_in, submitted_by}
-use Rattle.counter_http.specs.Standing.{StandsHere}
+use Rattle.counter_http.specs.together.Order.{IsRound, Round, Step, steps_in, submitted_by}
+use Rattle.counter_http.specs.together.Standing.{StandsHere}
 use Rattle.counter_http.specs.declared.client.Client.{Client}
 use Rattle.counter_http.specs.declared.parting.Parting.{Parting}
 use Rattle.counter_http.specs.declared.parting.Parting.TheVariants as parting
