@@ -11,6 +11,7 @@ use crate::{
 };
 use bank_replays::Watch;
 use command_line::{Command, Network, Plans, translate_replies, translate_sheet};
+use counter_http::ServeWatch;
 use posting_core::Clock;
 use sqlite::{Alter, Connection};
 use sqlite_trees::store::Store;
@@ -19,12 +20,12 @@ use std::io::{Read, Write};
 
 /// Does the command with the bank of a connection, whatever the command's file is, and hands the connection back. A
 /// command that needs no bank hands it back as it was given. It reaches plans by their names, the network, and who
-/// watches a replay, and no file.
+/// watches a replay or the serving, and no file.
 pub fn command_over<
     S: Alter + Drop,
     P: Plans,
     N: Network,
-    V: Watch + Drop,
+    V: Watch + ServeWatch + Drop,
     R: Read,
     W: Write,
     K: Clock,
@@ -70,7 +71,7 @@ pub fn command_over<
             ..
         } => {
             let most = connections.unwrap_or(u64::MAX);
-            serve_over(alloc, conn, network, address, most, output, clock)
+            serve_over(alloc, conn, network, address, most, watch, output, clock)
         }
         Command::Migrate { .. } => migrate_over(alloc, conn, output),
         Command::Encode => Ended {

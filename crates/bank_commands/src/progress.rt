@@ -1,11 +1,12 @@
 //! How far long work is, for who waits at a terminal.
 
 use bank_replays::Watch;
+use counter_http::ServeWatch;
 use posting_core::Clock;
 use std::io::Write;
 
-/// Says on standard error how far a replay is, where that is a terminal: a line that is written over, once a second at
-/// most, and wiped at the end. One that can't be written is given up.
+/// Says on standard error how far a replay or the serving is, where that is a terminal: a line that is written over,
+/// once a second at most, and wiped at the end. One that can't be written is given up.
 #[derive(Drop)]
 pub(crate) struct Progress<E, K> {
     faults: E,
@@ -27,6 +28,13 @@ impl<E: Write, K: Clock> Progress<E, K> {
             shown: false,
         }
     }
+
+    // The line goes, if there is one.
+    fn wipe(&mut self) {
+        if self.shown {
+            let _ = write!(self.faults, "\r{:>37}\r", "");
+        }
+    }
 }
 
 impl<E: Write, K: Clock> Watch for Progress<E, K> {
@@ -44,8 +52,22 @@ impl<E: Write, K: Clock> Watch for Progress<E, K> {
     }
 
     fn ended(&mut self) {
-        if self.shown {
-            let _ = write!(self.faults, "\r{:>30}\r", "");
+        self.wipe();
+    }
+}
+
+impl<E: Write, K: Clock> ServeWatch for Progress<E, K> {
+    fn served(&mut self, connected: usize, postings: u64) {
+        if self.is_terminal {
+            self.shown = true;
+            let _ = write!(
+                self.faults,
+                "\r{connected:>3} connected, {postings:>12} postings"
+            );
         }
+    }
+
+    fn ended(&mut self) {
+        self.wipe();
     }
 }

@@ -6,18 +6,20 @@ ghost use Rattle.bank_commands.specs.Commands.{PrintsServe, Serves};
 use crate::commands::done;
 use crate::ended::{Ended, find};
 use command_line::{CommandFault, Network, listen};
+use counter_http::ServeWatch;
 use posting_core::{Clock, Sink};
 use sqlite::{Alter, Connection};
 use sqlite_trees::store::Store;
 use std::alloc::Global;
 
 /// Binds the address, prints where it listens, and serves so many clients by the bank that is found, many at once.
-pub fn serve_over<S: Alter + Drop, N: Network, W: Sink, K: Clock>(
+pub fn serve_over<S: Alter + Drop, N: Network, V: ServeWatch + Drop, W: Sink, K: Clock>(
     alloc: Global,
     conn: Connection<S>,
     network: &N,
     address: &str,
     connections: u64,
+    watch: V,
     output: &mut W,
     clock: &mut K,
 ) -> Ended<S>
@@ -33,7 +35,15 @@ pub fn serve_over<S: Alter + Drop, N: Network, W: Sink, K: Clock>(
         Ok(bank) => bank,
         Err(ended) => return ended,
     };
-    let told = done(listen(network, address, connections, &mut bank, output, clock));
+    let told = done(listen(
+        network,
+        address,
+        connections,
+        watch,
+        &mut bank,
+        output,
+        clock,
+    ));
     Ended {
         told,
         conn: bank.release(),

@@ -5,7 +5,7 @@ ghost use Rattle.command_line.specs.Working.{ServesAt, ServesOver, done_after};
 ghost use Rattle.posting_core.specs.Told.{HasWriteFailed};
 
 use crate::{CommandFault, ListeningLine, print_listening};
-use counter_http::serve_connections;
+use counter_http::{ServeWatch, serve_watched};
 use posting_core::{Clock, Counter, Sink};
 use std::net::TcpListener;
 use std::{io, time};
@@ -27,10 +27,11 @@ impl Network for HostRuntime {
 }
 
 /// Binds the address, prints where it listens, and serves so many clients by a bank.
-pub fn listen<N: Network, C: Counter, W: Sink, K: Clock>(
+pub fn listen<N: Network, V: ServeWatch + Drop, C: Counter, W: Sink, K: Clock>(
     network: &N,
     address: &str,
     connections: u64,
+    watch: V,
     bank: &mut C,
     output: &mut W,
     clock: &mut K,
@@ -43,7 +44,16 @@ pub fn listen<N: Network, C: Counter, W: Sink, K: Clock>(
     ensures spares { C.spares bank.old bank.new }
 {
     let (listener, line) = bind(network, address)?;
-    serve_at(network, &listener, &line, connections, bank, output, clock)
+    serve_at(
+        network,
+        &listener,
+        &line,
+        connections,
+        watch,
+        bank,
+        output,
+        clock,
+    )
 }
 
 // A listener at the address, and the line that says where it is bound: where the address leaves the port open,
@@ -67,11 +77,12 @@ fn bind<N: Network>(
 }
 
 // Prints where a bound listener listens, and serves so many of its clients by a bank.
-fn serve_at<N: Network, C: Counter, W: Sink, K: Clock>(
+fn serve_at<N: Network, V: ServeWatch + Drop, C: Counter, W: Sink, K: Clock>(
     network: &N,
     listener: &TcpListener,
     line: &ListeningLine,
     connections: u64,
+    watch: V,
     bank: &mut C,
     output: &mut W,
     clock: &mut K,
@@ -84,6 +95,6 @@ fn serve_at<N: Network, C: Counter, W: Sink, K: Clock>(
     ensures spares { C.spares bank.old bank.new }
 {
     print_listening(line, output)?;
-    serve_connections(network, listener, connections, clock, bank)?;
+    serve_watched(network, listener, connections, watch, clock, bank)?;
     Ok(())
 }
