@@ -1,10 +1,10 @@
 #!/usr/bin/env python3
 """Makes records of drawn sheets by `bank encode`, posts them, and makes sheets of the replies by `bank decode`.
 
-100,000 postings are drawn from a seed and written as CSV by Python's own writer: with each header, with line feeds
-or carriage returns, behind a byte order mark or with none, with quotes about every field or about those that need
-them. The records have to be those that this script spells; the sheet of the replies has to have the fields that this
-script cuts out of the replies' bytes. Then one field of a sheet in turn is made wrong at a drawn row, or the row gets a
+100,000 postings are drawn from a seed and written as CSV by Python's own writer: with each header, with cents or
+decimals, with line feeds or carriage returns, behind a byte order mark or with none, with quotes about every field or
+about those that need them. The records have to be those that this script spells; the sheets of the replies, in cents and
+in decimals, have to have the fields that this script cuts out of the replies' bytes. Then one field of a sheet in turn is made wrong at a drawn row, or the row gets a
 field more or fewer: the records of the rows before it are written, the fault names row and column, and the status is 4.
 Headers that an editor may write are refused. Last, the replies are cut at a drawn byte. It needs the built program, and
 stands outside the gate.
@@ -12,6 +12,7 @@ stands outside the gate.
     tools/sheet_rounds.py [POSTINGS]
 """
 import csv
+import decimal
 import io
 import os
 import random
@@ -21,9 +22,9 @@ import tempfile
 import oracle
 import serve_client
 
-COLUMNS = ["account", "teller", "number", "delta"]
-HEADERS = [COLUMNS, COLUMNS + ["branch"], COLUMNS + ["reference"], COLUMNS + ["branch", "reference"]]
-REPLY_COLUMNS = ["outcome", "name", "account", "teller", "branch", "number", "delta", "balance"]
+MORE = [[], ["branch"], ["reference"], ["branch", "reference"]]
+HEADERS = [["account", "teller", "number", money] + more for money in ("delta", "amount") for more in MORE]
+REPLY_COLUMNS = ["outcome", "name", "account", "teller", "branch", "number"]
 BRANCHES, ACCOUNTS = 20, 1000
 
 # Fields that no column takes, and some that one column doesn't.
@@ -32,6 +33,7 @@ WRONG = {
     "teller": ["", "0", "100000000", "1e3"],
     "number": ["", "0", "10000000000", "0x1"],
     "delta": ["", "+", "-", "--1", "1.50", "10000000000", "-10000000000", "1 "],
+    "amount": ["", "-", ".50", "1.5", "1.500", "1,000.00", "-1-.50", "100000000", "100000000.00", "5.00 ", "1.+5"],
     "branch": ["0", "1000000", "-", "b"],
     "reference": ["123456789012345678901", "caf\u00e9", "a\tb", "two\nlines"],
 }
@@ -44,22 +46,32 @@ def run(words, data, status):
     return output, faults
 
 
+def in_decimals(cents):
+    return f"{'-' if cents < 0 else ''}{abs(cents) // 100}.{abs(cents) % 100:02}"
+
+
+def cents_of(row):
+    return int(row["delta"]) if "delta" in row else round(decimal.Decimal(row["amount"]) * 100)
+
+
 def spelled(row):
     teller = int(row["teller"])
     branch = int(row.get("branch") or oracle.branch_of_teller(teller))
     reference = row.get("reference") or None
-    return oracle.record(int(row["account"]), teller, branch, int(row["number"]), int(row["delta"]), reference)
+    return oracle.record(int(row["account"]), teller, branch, int(row["number"]), cents_of(row), reference)
 
 
 def drawn(draw, count, header):
     rows = []
     for i in range(count):
         teller = draw.randint(1, 10 * BRANCHES + 1)
+        cents = draw.randint(-999_999, 999_999)
         row = {
             "account": draw.randint(1, ACCOUNTS + 1) + 100_000 * draw.randint(0, BRANCHES - 1),
             "teller": teller,
             "number": draw.choice([i + 1, draw.randint(1, 9_999_999_999)]),
-            "delta": draw.choice(["%d", "%+d", "%05d"]) % draw.randint(-999_999, 999_999),
+            "delta": draw.choice(["%d", "%+d", "%05d"]) % cents,
+            "amount": draw.choice([in_decimals(cents), "%+d" % (cents // 100)]),
         }
         if "branch" in header:
             row["branch"] = draw.choice(["", (teller - 1) // 10 + 1, draw.randint(1, 999_999)])
@@ -89,10 +101,12 @@ def cut(reply):
 
 
 def decoded(replies):
-    text, _ = run(["decode"], b"".join(replies), 0)
-    lines = list(csv.reader(io.StringIO(text.decode(), newline="")))
-    if lines != [REPLY_COLUMNS] + [cut(reply) for reply in replies]:
-        sys.exit("a sheet of replies differs")
+    lines = [cut(reply) for reply in replies]
+    money = [line[:6] + [in_decimals(int(cents)) if cents else "" for cents in line[6:]] for line in lines]
+    for flags, column, wanted in (([], "delta", lines), (["--words"], "amount", money)):
+        text, _ = run(["decode", *flags], b"".join(replies), 0)
+        if list(csv.reader(io.StringIO(text.decode(), newline=""))) != [REPLY_COLUMNS + [column, "balance"], *wanted]:
+            sys.exit("a sheet of replies differs")
 
 
 def rounds(draw, count, folder):
@@ -100,7 +114,7 @@ def rounds(draw, count, folder):
     serve_client.make_bank(bank, [(branch, ACCOUNTS) for branch in range(1, BRANCHES + 1)])
     faults = 0
     for i in range(16):
-        header = HEADERS[i % 4]
+        header = HEADERS[i % 8]
         rows = drawn(draw, count // 16, header)
         quoting = csv.QUOTE_ALL if i % 8 >= 4 else csv.QUOTE_MINIMAL
         text = sheet(header, rows, i % 3 == 0, "\r\n" if i % 2 else "\n", quoting)
@@ -131,7 +145,8 @@ def names_each_fault(draw, header, rows):
                 at = draw.randrange(len(rows))
                 broken = [dict(row) for row in rows]
                 broken[at][name] = wrong
-                is_told(sheet(header, broken, mark, line_end, csv.QUOTE_MINIMAL), f"row {at + 1} {name}", rows[:at])
+                column = "delta" if name == "amount" else name
+                is_told(sheet(header, broken, mark, line_end, csv.QUOTE_MINIMAL), f"row {at + 1} {column}", rows[:at])
                 count += 1
         lines = sheet(header, rows, mark, line_end, csv.QUOTE_MINIMAL).split(line_end.encode())
         for change in (lambda line: line + b",", lambda line: line.partition(b",")[2], lambda line: b"1,1"):

@@ -213,7 +213,7 @@ written_done Why Did told (inr works) ends =
 -- the command has a file
 abbrev pub HasFile : Command → Type 0
 HasFile commands.Encode = ⊥
-HasFile commands.Decode = ⊥
+HasFile (commands.Decode money) = ⊥
 HasFile _ = ⊤
 
 pub tells_idle : (c : Command) (f : CommandFault) (r w : Option (List ℕ)) → HasFile c → Tells c r r w w (Err f)
@@ -230,12 +230,12 @@ tells_idle (commands.Plan file) f r w has = tt
 tells_idle (commands.Serve file address connections) f r w has = inl (Keeps-refl w)
 tells_idle (commands.Migrate file) f r w has = inl ((f, refl), Keeps-refl w)
 tells_idle commands.Encode f r w has = absurd has
-tells_idle commands.Decode f r w has = absurd has
+tells_idle (commands.Decode money) f r w has = absurd has
 
 pub input_left : (c : Command) (r : Option (List ℕ)) → LeavesInput c r r
 input_left (commands.Post file) r = tt
 input_left commands.Encode r = tt
-input_left commands.Decode r = tt
+input_left (commands.Decode money) r = tt
 input_left other r = refl
 
 pub clock_left : (c : Command) (k : Option (List ℕ)) → LeavesClock c k k
@@ -353,4 +353,4 @@ told_is_not_usage (commands.Serve file address connections) r r' w w' status tol
 told_is_not_usage (commands.Migrate file) r r' w w' status (inl none) = not_a_fault status _ none.0.1
 told_is_not_usage (commands.Migrate file) r r' w w' status (inr told) = done_is_not_usage status told.1.0
 told_is_not_usage commands.Encode r r' w w' status told = encoded_is_not_usage told.sheet status told.ended
-told_is_not_usage commands.Decode r r' w w' status told = decoded_is_not_usage told.replies status told.ended
+told_is_not_usage (commands.Decode money) r r' w w' status told = decoded_is_not_usage told.replies status told.ended

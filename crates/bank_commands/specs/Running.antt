@@ -73,8 +73,8 @@ DoesOver g conn back IsNamed known r r' w w' k k' (commands.Plan file) told =
 DoesOver g conn back IsNamed known r r' w w' k k' (commands.Migrate file) told = Migrates g conn back w w' told
 DoesOver g conn back IsNamed known r r' w w' k k' commands.Encode told =
     (back ≡ conn) × EncodesSheet r r' None None w w' None None told
-DoesOver g conn back IsNamed known r r' w w' k k' commands.Decode told =
-    (back ≡ conn) × DecodesReplies r r' None None w w' None None told
+DoesOver g conn back IsNamed known r r' w w' k k' (commands.Decode money) told =
+    (back ≡ conn) × DecodesReplies money r r' None None w w' None None told
 
 -- ---- how it ends and what it prints, whatever bank is there; the text of `post`, `statement`, `export` and `plan` is
 -- the bank's
@@ -101,7 +101,7 @@ Tells (commands.Serve file address connections) r r' w w' told = PrintsServe w w
 Tells (commands.Migrate file) r r' w w' told =
     PrintsNone w w' told ((migrated : Migrated) × TellsLine w w' (migration_line migrated) told)
 Tells commands.Encode r r' w w' told = EncodesSheet r r' None None w w' None None told
-Tells commands.Decode r r' w w' told = DecodesReplies r r' None None w w' None None told
+Tells (commands.Decode money) r r' w w' told = DecodesReplies money r r' None None w w' None None told
 
 -- ---- what it leaves alone
 
@@ -109,7 +109,7 @@ Tells commands.Decode r r' w w' told = DecodesReplies r r' None None w w' None N
 abbrev pub LeavesInput : Command → (r r' : Option (List ℕ)) → Type 0
 LeavesInput (commands.Post file) r r' = ⊤
 LeavesInput commands.Encode r r' = ⊤
-LeavesInput commands.Decode r r' = ⊤
+LeavesInput (commands.Decode money) r r' = ⊤
 LeavesInput _ r r' = r' ≡ r
 
 -- and so is the clock, but for the commands that post

@@ -78,8 +78,8 @@ pub fn command_over<
             told: translate_sheet(alloc, input, output),
             conn,
         },
-        Command::Decode => Ended {
-            told: translate_replies(alloc, input, output),
+        Command::Decode { money } => Ended {
+            told: translate_replies(alloc, money, input, output),
             conn,
         },
     }

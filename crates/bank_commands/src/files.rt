@@ -73,7 +73,7 @@ pub(crate) fn command_in<S: Start, R: Read, W: Write, K: Clock>(
     let Machine { rt, start } = machine;
     let (file, finds_bank) = match *command {
         Command::Encode => return translate_sheet(rt.alloc(), input, output),
-        Command::Decode => return translate_replies(rt.alloc(), input, output),
+        Command::Decode { money } => return translate_replies(rt.alloc(), money, input, output),
         Command::Init { file } => (file, false),
         Command::Load { file, .. }
         | Command::Post { file }

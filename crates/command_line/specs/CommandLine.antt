@@ -1,6 +1,7 @@
 -- The program's command line as clap's specification sees it: which commands there are, and what each takes.
 use Rattle.std.specs.Prelude.{◌≡◌, ℕ, List, [], ◌∷◌, Some, true, false, codes, fold}
 use Rattle.clap.specs.Words.{App, Rule, Text, app_of, new_app, new_rule, with_rule, with_subcommand}
+use Rattle.clap.specs.declared.builder.action.ArgAction.TheVariants.{SetTrue}
 use Rattle.clap.specs.declared.builder.command.Command.{Command}
 use Rattle.clap.specs.declared.builder.command.Command.TheViews.{out-Command as fields_of}
 use Rattle.clap.specs.declared.builder.value_parser.ValueParser.TheVariants.{Unsigned}
@@ -36,6 +37,10 @@ number_rule name least most =
 -- the same option, which may be left out
 abbrev pub optional_rule : Text → ℕ → ℕ → Rule
 optional_rule name least most = record (number_rule name least most) { required = false }
+
+-- an option `--NAME` that has no value
+abbrev pub flag_rule : Text → Rule
+flag_rule name = record (new_rule name) { long = Some name; action = Some SetTrue }
 
 -- the greatest seed
 abbrev pub MAX_SEED : ℕ
@@ -119,12 +124,13 @@ serve_app =
 abbrev pub migrate_app : App
 migrate_app = with_rule (new_app (codes "migrate")) file_rule
 
--- `encode` and `decode`, which take no argument
+-- `encode`, which takes no argument
 abbrev pub encode_app : App
 encode_app = new_app (codes "encode")
 
+-- `decode [--words]`
 abbrev pub decode_app : App
-decode_app = new_app (codes "decode")
+decode_app = with_rule (new_app (codes "decode")) (flag_rule (codes "words"))
 
 -- `bank` before it has its commands: it wants one, and shows its help where no word follows its name
 abbrev pub bank_alone : App

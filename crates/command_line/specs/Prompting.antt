@@ -8,5 +8,5 @@ abbrev pub prompt_line : Bool → Command → List ℕ
 prompt_line false command = []
 prompt_line true (Post file) = codes "bank: waiting for records of 100 bytes; end with Ctrl-D\n"
 prompt_line true Encode = codes "bank: waiting for a sheet of postings; end with Ctrl-D\n"
-prompt_line true Decode = codes "bank: waiting for replies of 200 bytes; end with Ctrl-D\n"
+prompt_line true (Decode money) = codes "bank: waiting for replies of 200 bytes; end with Ctrl-D\n"
 prompt_line true other = []

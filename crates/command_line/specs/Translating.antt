@@ -6,6 +6,7 @@ use Rattle.posting_sheets.specs.Encoding.{Encodes, SheetFaultIsOfItsEnd}
 use Rattle.posting_sheets.specs.Replies.{Decodes, RepliesFaultIsOfItsEnd}
 use Rattle.posting_sheets.specs.declared.fault.RepliesFault.{RepliesFault}
 use Rattle.posting_sheets.specs.declared.fault.SheetFault.{SheetFault}
+use Rattle.posting_sheets.specs.declared.money.Money.{Money}
 use Rattle.command_line.specs.Faults.{fault_of_replies, fault_of_sheet}
 use Rattle.command_line.specs.declared.fault.CommandFault.{CommandFault}
 use Rattle.command_line.specs.declared.status.Status.{Status}
@@ -32,11 +33,11 @@ pub record EncodesSheet (r r' : Option (List ℕ)) (q q' : Option (List ReadTold
   pub ends : SheetFaultIsOfItsEnd sheet r' q q' t t'
   pub ended : told ≡ ended_by_sheet sheet
 
--- A sheet of replies was written, and the command ended as they did.
-pub record DecodesReplies (r r' : Option (List ℕ)) (q q' : Option (List ReadTold)) (w w' : Option (List ℕ))
+-- A sheet of replies was written, with money written so, and the command ended as they did.
+pub record DecodesReplies (money : Money) (r r' : Option (List ℕ)) (q q' : Option (List ReadTold)) (w w' : Option (List ℕ))
     (t t' : Option (List WriteTold)) (told : Result Status CommandFault) : Type 0 where
   pub replies : Result ℕ RepliesFault
-  pub decodes : Decodes r r' w w' replies
+  pub decodes : Decodes money r r' w w' replies
   -- the input was read to its end, or why not
   pub ends : RepliesFaultIsOfItsEnd replies r' q q' t t'
   pub ended : told ≡ ended_by_replies replies

@@ -8,6 +8,8 @@ use Rattle.clap.specs.declared.error.Error.{Error}
 use Rattle.clap.specs.declared.error.kind.ErrorKind.TheVariants as kind
 use Rattle.load_driver.specs.declared.drive.TheConstants.{MAX_DRIVEN}
 use Rattle.message_records.specs.declared.limits.TheConstants.{MAX_ACCOUNT}
+use Rattle.posting_sheets.specs.declared.money.Money.{Money}
+use Rattle.posting_sheets.specs.declared.money.Money.TheVariants.{Cents, Decimals}
 use Rattle.command_line.specs.CommandLine.{MAX_REQUESTS, MAX_SEED, bank_app}
 use Rattle.command_line.specs.declared.limits.TheConstants.{MAX_CONNECTIONS}
 use Rattle.command_line.specs.declared.reading.Command.{Command}
@@ -74,6 +76,14 @@ pub record IsSpelledIn (id : Text) (least most : ℕ) (rows : List Row) (number 
 abbrev pub IsNumberIn : Text → ℕ → ℕ → List Row → ℕ → Type 0
 IsNumberIn id least most rows n = IsNumber id rows n × (least ≤ n) × (n ≤ most)
 
+-- how a sheet of replies writes money: in decimals where the words have the flag, of which clap makes the value `true`
+abbrev pub money_of_flag : Option Text → Money
+money_of_flag None = Cents
+money_of_flag (Some text) = if bytes_eq text (codes "true") then Decimals else Cents
+
+abbrev pub money_in : List Row → Money
+money_in rows = money_of_flag (first_of (codes "words") rows)
+
 -- the command has this name, and its files and numbers are the values of its arguments
 abbrev pub IsCommandOf : Text × List Row → Command → Type 0
 IsCommandOf p (Init file) = (p.0 ≡ codes "init") × IsText (codes "file") p.1 file.now
@@ -97,7 +107,7 @@ IsCommandOf p (Serve file address connections) = (p.0 ≡ codes "serve") × IsTe
     × (connections ≡ spelled (one_of (codes "connections") p.1))
 IsCommandOf p (Migrate file) = (p.0 ≡ codes "migrate") × IsText (codes "file") p.1 file.now
 IsCommandOf p Encode = p.0 ≡ codes "encode"
-IsCommandOf p Decode = p.0 ≡ codes "decode"
+IsCommandOf p (Decode money) = (p.0 ≡ codes "decode") × (money ≡ money_in p.1)
 
 -- the command's numbers are in their ranges
 abbrev pub AreInRange : Command → Type 0

@@ -1,14 +1,14 @@
 //! The program's command line as `clap` gets it: its commands, their arguments, and the texts of help.
 ghost use Rattle.std.specs.Prelude.{◌≡◌, IfOk, false};
 ghost use Rattle.clap.specs.Words.{App, Rule, app_of, new_app, rule_of, with_rule, with_subcommand};
-ghost use Rattle.command_line.specs.CommandLine.{IsApp, bank_alone, bank_app, digest_app, drive_app, export_app};
-ghost use Rattle.command_line.specs.CommandLine.{file_rule, init_app, load_app, number_rule, optional_rule};
+ghost use Rattle.command_line.specs.CommandLine.{IsApp, bank_alone, bank_app, decode_app, digest_app, drive_app};
+ghost use Rattle.command_line.specs.CommandLine.{export_app, file_rule, flag_rule, init_app, load_app, number_rule, optional_rule};
 ghost use Rattle.command_line.specs.CommandLine.{required_rule, serve_app, statement_app};
 
 use crate::limits::MAX_CONNECTIONS;
 use crate::texts::{self, CommandTexts};
 use clap::builder::ValueParser;
-use clap::{Arg, Command};
+use clap::{Arg, ArgAction, Command};
 use load_driver::MAX_DRIVEN;
 use message_records::MAX_ACCOUNT;
 use std::alloc::{AllocError, Global};
@@ -30,7 +30,7 @@ pub fn bank_command<'a>(alloc: Global) -> Result<Command<'a>, AllocError>
     let bank = with_command(bank, serve_command(alloc));
     let bank = with_command(bank, command_on_file(alloc, "migrate", texts::MIGRATE));
     let bank = with_command(bank, command_alone(alloc, "encode", texts::ENCODE));
-    with_command(bank, command_alone(alloc, "decode", texts::DECODE))
+    with_command(bank, decode_command(alloc))
 }
 
 // The command line with one more command, where both could be made. No caller has to let go of one where
@@ -155,6 +155,13 @@ fn serve_command<'a>(alloc: Global) -> Result<Command<'a>, AllocError>
     with_argument(with_argument(serve, address), connections)
 }
 
+fn decode_command<'a>(alloc: Global) -> Result<Command<'a>, AllocError>
+    ensures { IfOk result (IsApp decode_app) }
+{
+    let decode = command_alone(alloc, "decode", texts::DECODE);
+    with_argument(decode, flag(alloc, "words", texts::WORDS))
+}
+
 // A command of this name with its texts, which takes no argument.
 fn command_alone<'a>(
     alloc: Global,
@@ -212,4 +219,15 @@ fn optional_number<'a>(
     ensures local { result.global ≡ false }
 {
     number_option(alloc, name, value_name, least, most, help).required(false)
+}
+
+// An option `--NAME` that has no value.
+fn flag<'a>(alloc: Global, name: &'a str, help: &'a str) -> Arg<'a>
+    ensures rule { rule_of result ≡ flag_rule name.now }
+    ensures local { result.global ≡ false }
+{
+    Arg::new(alloc, name)
+        .long(name)
+        .action(ArgAction::SetTrue)
+        .help(help)
 }

@@ -1,17 +1,18 @@
 //! Which of the program's commands the words of the command line ask for, and on which files.
-ghost use Rattle.std.specs.Prelude.{◌≡◌, ℕ, IfErr, IfOk, IsErrAnd, IsSomeAnd, codes, map, true};
+ghost use Rattle.std.specs.Prelude.{◌≡◌, ℕ, IfErr, IfOk, IsErrAnd, IsSomeAnd, codes, map, option_map, true};
 ghost use Rattle.clap.specs.Words.{FailsBy, fault_of, found_of, kind_of, rows_of, subcommand_of};
 ghost use Rattle.clap.specs.Words.{subcommand_rows_of, takes};
 ghost use Rattle.command_line.specs.CommandLine.{bank_app};
 ghost use Rattle.command_line.specs.Words.{AreInRange, AsksForHelp, HasMoreValues, HasNumber, HasNumberIfAny};
 ghost use Rattle.command_line.specs.Words.{HasSomeNumber, HasText, IsCommandOf, IsComplete, IsCompleteOnFile};
 ghost use Rattle.command_line.specs.Words.{IsHelp, IsNumberIfAny, IsNumberIn, IsReadFrom, IsSpelledIn, IsText};
-ghost use Rattle.command_line.specs.Words.{words_read};
+ghost use Rattle.command_line.specs.Words.{money_in, money_of_flag, words_read};
 
 use crate::command_line::bank_command;
 use clap::ArgMatches;
 use clap::error::ErrorKind;
 use message_records::Account;
+use posting_sheets::Money;
 use std::alloc::Global;
 use std::convert::AsStr;
 
@@ -76,8 +77,10 @@ pub enum Command<'a> {
     },
     /// Make records of the sheet of postings of standard input.
     Encode,
-    /// Make a sheet of the replies of standard input.
-    Decode,
+    /// Make a sheet of the replies of standard input, which writes money so.
+    Decode {
+        money: Money,
+    },
 }
 
 /// Reads the words of the command line, of which the first is the program's own name. The command is
@@ -129,7 +132,10 @@ fn command_of<'a>(name: &str, values: &ArgMatches<'a>) -> Command<'a>
 {
     match name {
         "encode" => Command::Encode,
-        "decode" => Command::Decode,
+        "decode" => {
+            let money = money_in(values);
+            Command::Decode { money }
+        }
         _ => command_on_file(name, values),
     }
 }
@@ -192,6 +198,23 @@ fn command_with_values<'a>(name: &str, file: &'a str, values: &ArgMatches<'a>) -
             }
         }
         _ => unreachable!(),
+    }
+}
+
+// How a sheet of replies writes money: in decimals where the words have the flag.
+fn money_in(values: &ArgMatches<'_>) -> Money
+    ensures { result ≡ money_in (rows_of (found_of values.now)) }
+{
+    money_of_flag(values.get_str("words"))
+}
+
+// The same by the value that clap makes of the flag.
+fn money_of_flag(value: Option<&str>) -> Money
+    ensures { result ≡ money_of_flag (option_map (λ s. s.now) value.entry) }
+{
+    match value {
+        Some("true") => Money::Decimals,
+        _ => Money::Cents,
     }
 }
 

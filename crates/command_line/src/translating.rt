@@ -4,7 +4,7 @@ ghost use Rattle.command_line.specs.Translating.{DecodesReplies, EncodesSheet};
 use crate::fault::CommandFault;
 use crate::status::Status;
 use posting_core::{Sink, Source};
-use posting_sheets::{decode_replies, encode_sheet};
+use posting_sheets::{Money, decode_replies, encode_sheet};
 use std::alloc::Global;
 
 /// Reads a sheet of postings, and writes their records.
@@ -22,16 +22,17 @@ pub fn translate_sheet<R: Source, W: Sink>(
     }
 }
 
-/// Reads replies, and writes a sheet of them.
+/// Reads replies, and writes a sheet of them with money written so.
 pub fn translate_replies<R: Source, W: Sink>(
     alloc: Global,
+    money: Money,
     input: &mut R,
     output: &mut W,
 ) -> Result<Status, CommandFault>
-    ensures { DecodesReplies (R.remaining input.old) (R.remaining input.new) (R.told input.old) (R.told input.new)
+    ensures { DecodesReplies money (R.remaining input.old) (R.remaining input.new) (R.told input.old) (R.told input.new)
         (W.contents output.old) (W.contents output.new) (W.told output.old) (W.told output.new) result }
 {
-    match decode_replies(alloc, input, output) {
+    match decode_replies(alloc, money, input, output) {
         Ok(_) => Ok(Status::Done),
         Err(fault) => Err(CommandFault::from(fault)),
     }

@@ -2,7 +2,7 @@
 use crate::plans::{LINE_ENDS, write};
 use failing_ends::{CutReader, CutWriter};
 use message_records::{BadReply, REPLY_BYTES, REQUEST_BYTES};
-use posting_sheets::{BadRow, RepliesFault, SheetFault, decode_replies, encode_sheet};
+use posting_sheets::{BadRow, Money, RepliesFault, SheetFault, decode_replies, encode_sheet};
 use std::alloc::{Alloc, Global};
 use std::io::{ErrorKind, Read};
 use std::process::Abort;
@@ -18,11 +18,11 @@ fn encoded<R: Read>(
 }
 
 // A sheet, how many rows are written of it, and how it ends.
-const SHEETS: [(&[u8], usize, Result<u64, SheetFault>); 32] = [
+const SHEETS: [(&[u8], usize, Result<u64, SheetFault>); 39] = [
     (b"", 0, Err(SheetFault::Header)),
     (b"account,teller,number\n", 0, Err(SheetFault::Header)),
     (
-        b"account,teller,number,amount\n1,1,1,5\n",
+        b"account,teller,number,sum\n1,1,1,5\n",
         0,
         Err(SheetFault::Header),
     ),
@@ -107,6 +107,41 @@ const SHEETS: [(&[u8], usize, Result<u64, SheetFault>); 32] = [
         Err(SheetFault::Row(1, BadRow::Delta)),
     ),
     (
+        b"account,teller,number,amount\n1,1,1,12.34\n1,1,2,-7.00\n1,1,3,12\n1,1,4,+99999999.99\n1,1,5,1.5\n",
+        4,
+        Err(SheetFault::Row(5, BadRow::Delta)),
+    ),
+    (
+        b"account,teller,number,amount\n1,1,1,1.500\n",
+        0,
+        Err(SheetFault::Row(1, BadRow::Delta)),
+    ),
+    (
+        b"account,teller,number,amount\n1,1,1,.50\n",
+        0,
+        Err(SheetFault::Row(1, BadRow::Delta)),
+    ),
+    (
+        b"account,teller,number,amount\n1,1,1,5\n1,1,2,\"1,000.00\"\n",
+        1,
+        Err(SheetFault::Row(2, BadRow::Delta)),
+    ),
+    (
+        b"account,teller,number,amount\n1,1,1,100000000\n",
+        0,
+        Err(SheetFault::Row(1, BadRow::Delta)),
+    ),
+    (
+        b"account,teller,number,amount\n1,1,1,100000000.00\n",
+        0,
+        Err(SheetFault::Row(1, BadRow::Delta)),
+    ),
+    (
+        b"account,teller,number,amount,reference\n1,1,1,-.-1,\n",
+        0,
+        Err(SheetFault::Row(1, BadRow::Delta)),
+    ),
+    (
         b"account,teller,number,delta,branch\n1,1,1,5,0\n",
         0,
         Err(SheetFault::Row(1, BadRow::Branch)),
@@ -169,6 +204,10 @@ fn sheets(rt: HostRuntime) {
 const TWO_ROWS: &[u8] =
     b"account,teller,number,delta,reference\n1,1,1,500,\n100001,1,2,-700,rent of May\n";
 
+// The same with decimals.
+const TWO_AMOUNTS: &[u8] =
+    b"account,teller,number,amount,reference\n1,1,1,5.00,\n100001,1,2,-7,rent of May\n";
+
 // What the records of the two rows begin with; spaces follow in each.
 const TWO_RECORDS: [&[u8]; 2] = [
     b"DC01000000000001000000010000010000000001+0000000500",
@@ -188,11 +227,12 @@ fn filled(rt: &(impl Abort + Alloc<A = Global>), fronts: &[&[u8]], size: usize) 
 
 #[test]
 fn two_records(rt: HostRuntime) {
-    let mut sheet = TWO_ROWS;
-    let (end, records) = encoded(&rt, &mut sheet);
-    assert_eq!(rt; end, Ok(2));
     let want = filled(&rt, &TWO_RECORDS, REQUEST_BYTES);
-    assert_eq!(rt; records.as_slice(), want.as_slice());
+    for mut sheet in [TWO_ROWS, TWO_AMOUNTS] {
+        let (end, records) = encoded(&rt, &mut sheet);
+        assert_eq!(rt; end, Ok(2));
+        assert_eq!(rt; records.as_slice(), want.as_slice());
+    }
 }
 
 // The source fails after so many bytes: nothing is written. An interrupted read is made again.
@@ -267,8 +307,29 @@ fn decoded<R: Read>(
     replies: &mut R,
 ) -> (Result<u64, RepliesFault>, Vec<u8>) {
     let mut sheet: Vec<u8> = Vec::new(rt.alloc());
-    let end = decode_replies(rt.alloc(), replies, &mut sheet);
+    let end = decode_replies(rt.alloc(), Money::Cents, replies, &mut sheet);
     (end, sheet)
+}
+
+// The sheet of the three with decimals.
+const DECIMALS: &[u8] = b"outcome,name,account,teller,branch,number,amount,balance
+0,POSTED,100001,1,1,2,-7.00,-7.00
+17,BELOW FLOOR,1,1,1,3,-99999999.99,
+90,MALFORMED,,,,,,
+";
+
+#[test]
+fn replies_in_decimals(rt: HostRuntime) {
+    let replies = filled(&rt, &REPLIES, REPLY_BYTES);
+    let mut sheet: Vec<u8> = Vec::new(rt.alloc());
+    let end = decode_replies(
+        rt.alloc(),
+        Money::Decimals,
+        &mut replies.as_slice(),
+        &mut sheet,
+    );
+    assert_eq!(rt; end, Ok(3));
+    assert_eq!(rt; sheet.as_slice(), DECIMALS);
 }
 
 // The input ends, or fails, after so many bytes.
@@ -305,7 +366,12 @@ fn replies_unwritten(rt: HostRuntime) {
     let want = lines(&rt, 3);
     for most in 0..want.len() + 1 {
         let mut writer = cut_writer(rt.alloc(), most);
-        let end = decode_replies(rt.alloc(), &mut replies.as_slice(), &mut writer);
+        let end = decode_replies(
+            rt.alloc(),
+            Money::Cents,
+            &mut replies.as_slice(),
+            &mut writer,
+        );
         assert_eq!(rt; end, Err(RepliesFault::Write));
         assert_eq!(rt; writer.taken.as_slice(), &want[..most]);
     }

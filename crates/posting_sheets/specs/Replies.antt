@@ -1,5 +1,6 @@
 -- The sheet of replies, and what becomes of the bytes of replies.
-use Rattle.std.specs.Prelude.{◌≡◌, ◌≤◌, ◌<◌, ◌+◌, ℕ, ℤ, List, [], ◌∷◌, ◌++◌, length, take, All, Option, None, Some}
+use Rattle.std.specs.Prelude.{◌≡◌, ◌≤◌, ◌<◌, ◌+◌, ◌/◌, ◌%◌, ℕ, ℤ, pos, negsuc, nat_abs, List, [], ◌∷◌, ◌++◌, length, take, All}
+use Rattle.std.specs.Prelude.{Option, None, Some}
 use Rattle.std.specs.Prelude.{Result, Ok, Err, codes}
 use Rattle.std.specs.Fmt.{decimal, signed_decimal}
 use Rattle.std.specs.List.{flat_map}
@@ -14,33 +15,46 @@ use Rattle.posting_core.specs.believed.Told.{EndsWith, IsEndOfInput, ReadTold}
 use Rattle.posting_core.specs.Told.{HasReadFailed, HasWriteFailed, IsFlush}
 use Rattle.posting_core.specs.Told.{WriteTold}
 use Rattle.posting_sheets.specs.Encoding.{IsPrefixOf}
+use Rattle.posting_sheets.specs.declared.money.Money.{Money}
+use Rattle.posting_sheets.specs.declared.money.Money.TheVariants.{Cents, Decimals}
 use Rattle.posting_sheets.specs.declared.fault.RepliesFault.{RepliesFault}
 use Rattle.posting_sheets.specs.declared.fault.RepliesFault.TheVariants.{Truncated, Reply, Read, Write, Memory}
 
 -- ---- the sheet
 
-abbrev pub heading : List ℕ
-heading = codes "outcome,name,account,teller,branch,number,delta,balance" ++ 10 ∷ []
+abbrev pub heading : Money → List ℕ
+heading Cents = codes "outcome,name,account,teller,branch,number,delta,balance" ++ 10 ∷ []
+heading Decimals = codes "outcome,name,account,teller,branch,number,amount,balance" ++ 10 ∷ []
+
+abbrev pub sign_text : ℤ → List ℕ
+sign_text (pos n) = []
+sign_text (negsuc n) = codes "-"
+
+-- an amount, as -700 in cents, and as -7.00 in decimals
+abbrev pub money_text : Money → ℤ → List ℕ
+money_text Cents z = signed_decimal z
+money_text Decimals z = sign_text z ++ decimal (nat_abs z / 100) ++ codes "." ++ decimal (nat_abs z / 10 % 10)
+    ++ decimal (nat_abs z % 10)
 
 -- the five fields of the request, empty where the bytes that came in were none
-abbrev pub request_text : Option RequestFields → List ℕ
-request_text None = codes ",,,,"
-request_text (Some r) = decimal r.account ++ codes "," ++ decimal r.teller ++ codes "," ++ decimal r.branch
-    ++ codes "," ++ decimal r.number ++ codes "," ++ signed_decimal r.delta
+abbrev pub request_text : Money → Option RequestFields → List ℕ
+request_text money None = codes ",,,,"
+request_text money (Some r) = decimal r.account ++ codes "," ++ decimal r.teller ++ codes "," ++ decimal r.branch
+    ++ codes "," ++ decimal r.number ++ codes "," ++ money_text money r.delta
 
--- the balance in cents, empty where nothing was posted
-abbrev pub balance_text : Option ℤ → List ℕ
-balance_text None = []
-balance_text (Some z) = signed_decimal z
+-- the balance, empty where nothing was posted
+abbrev pub balance_text : Money → Option ℤ → List ℕ
+balance_text money None = []
+balance_text money (Some z) = money_text money z
 
 -- the line of a reply: its code and its name, the request, and the account's new balance
-abbrev pub reply_line : ReplyFields → List ℕ
-reply_line r = decimal (code_of r.outcome) ++ codes "," ++ name_of r.outcome ++ codes ","
-    ++ request_text r.request ++ codes "," ++ balance_text r.balance ++ 10 ∷ []
+abbrev pub reply_line : Money → ReplyFields → List ℕ
+reply_line money r = decimal (code_of r.outcome) ++ codes "," ++ name_of r.outcome ++ codes ","
+    ++ request_text money r.request ++ codes "," ++ balance_text money r.balance ++ 10 ∷ []
 
 -- a header, and a line for each reply
-abbrev pub replies_sheet : List ReplyFields → List ℕ
-replies_sheet replies = heading ++ flat_map reply_line replies
+abbrev pub replies_sheet : Money → List ReplyFields → List ℕ
+replies_sheet money replies = heading money ++ flat_map (reply_line money) replies
 
 -- ---- what becomes of replies
 
@@ -50,43 +64,43 @@ replies_spelling replies = flat_map reply_spelling replies
 
 -- These bytes were read after the replies, and this was written. At Ok there were none; where they were no reply, or too
 -- few for one, the sheet has the replies before them.
-abbrev pub IsDecodedSo : List ReplyFields → List ℕ → Result ℕ RepliesFault → List ℕ → Type 0
-IsDecodedSo replies rest (Ok count) written =
-    (rest ≡ []) × (count ≡ length replies) × (written ≡ replies_sheet replies)
-IsDecodedSo replies rest (Err (Truncated n)) written =
-    (1 ≤ n) × (n < REPLY_BYTES) × (length rest ≡ n) × (written ≡ replies_sheet replies)
-IsDecodedSo replies rest (Err (Reply place bad)) written =
+abbrev pub IsDecodedSo : Money → List ReplyFields → List ℕ → Result ℕ RepliesFault → List ℕ → Type 0
+IsDecodedSo money replies rest (Ok count) written =
+    (rest ≡ []) × (count ≡ length replies) × (written ≡ replies_sheet money replies)
+IsDecodedSo money replies rest (Err (Truncated n)) written =
+    (1 ≤ n) × (n < REPLY_BYTES) × (length rest ≡ n) × (written ≡ replies_sheet money replies)
+IsDecodedSo money replies rest (Err (Reply place bad)) written =
     (length rest ≡ REPLY_BYTES) × (reply_of rest ≡ Err bad) × (place ≡ length replies + 1)
-    × (written ≡ replies_sheet replies)
-IsDecodedSo replies rest (Err Read) written = (length rest < REPLY_BYTES) × (written ≡ replies_sheet replies)
-IsDecodedSo replies rest (Err Write) written = (rest ≡ []) × IsPrefixOf written (replies_sheet replies)
-IsDecodedSo replies rest (Err Memory) written = (rest ≡ []) × IsPrefixOf written (replies_sheet replies)
+    × (written ≡ replies_sheet money replies)
+IsDecodedSo money replies rest (Err Read) written = (length rest < REPLY_BYTES) × (written ≡ replies_sheet money replies)
+IsDecodedSo money replies rest (Err Write) written = (rest ≡ []) × IsPrefixOf written (replies_sheet money replies)
+IsDecodedSo money replies rest (Err Memory) written = (rest ≡ []) × IsPrefixOf written (replies_sheet money replies)
 
 -- what was written of bytes, after so many replies: the line of the reply that they are, or a prefix of it, or
 -- nothing where they are none; and what the sink's calls returned
-abbrev pub IsLineSo : List ℕ → ℕ → (w w' : Option (List ℕ)) → (u u' : Option (List WriteTold))
+abbrev pub IsLineSo : Money → List ℕ → ℕ → (w w' : Option (List ℕ)) → (u u' : Option (List WriteTold))
     → Result (Unit {0}) RepliesFault → Type 0
-IsLineSo bytes before w w' u u' (Ok done) =
-    (r : ReplyFields) × IsReply r × (bytes ≡ reply_spelling r) × Appends w w' (reply_line r) × EndsWith IsFlush u u'
-IsLineSo bytes before w w' u u' (Err (Reply place bad)) =
+IsLineSo money bytes before w w' u u' (Ok done) =
+    (r : ReplyFields) × IsReply r × (bytes ≡ reply_spelling r) × Appends w w' (reply_line money r) × EndsWith IsFlush u u'
+IsLineSo money bytes before w w' u u' (Err (Reply place bad)) =
     (reply_of bytes ≡ Err bad) × (place ≡ before + 1) × Keeps w w' × (u' ≡ u)
-IsLineSo bytes before w w' u u' (Err Write) =
+IsLineSo money bytes before w w' u u' (Err Write) =
     (r : ReplyFields) × IsReply r × (bytes ≡ reply_spelling r)
-    × ((n : ℕ) × (n ≤ length (reply_line r)) × Appends w w' (take n (reply_line r))) × HasWriteFailed u u'
-IsLineSo bytes before w w' u u' (Err Memory) =
+    × ((n : ℕ) × (n ≤ length (reply_line money r)) × Appends w w' (take n (reply_line money r))) × HasWriteFailed u u'
+IsLineSo money bytes before w w' u u' (Err Memory) =
     (r : ReplyFields) × IsReply r × (bytes ≡ reply_spelling r) × Keeps w w' × (u' ≡ u)
-IsLineSo bytes before w w' u u' (Err _) = ⊥
+IsLineSo money bytes before w w' u u' (Err _) = ⊥
 
 -- replies were read, and a sheet of them was written; the reader's known bytes before and after are r and r', the
 -- writer's w and w'
-pub record Decodes (r r' w w' : Option (List ℕ)) (result : Result ℕ RepliesFault) : Type 0 where
+pub record Decodes (money : Money) (r r' w w' : Option (List ℕ)) (result : Result ℕ RepliesFault) : Type 0 where
   pub replies : List ReplyFields
   pub are_replies : All IsReply replies
   pub rest : List ℕ
   pub read : Consumes r r' (replies_spelling replies ++ rest)
   pub written : List ℕ
   pub wrote : Appends w w' written
-  pub decoded : IsDecodedSo replies rest result written
+  pub decoded : IsDecodedSo money replies rest result written
 
 -- A fault of an end comes where that end failed, and the other ends of the input where it was read to its end. What
 -- was written was flushed unless the writer failed. The source's calls are known as q and q', the sink's as u and u'.

@@ -1,6 +1,6 @@
 -- What a sheet states: a text of CSV with a header, and a posting in each row after it.
-use Rattle.std.specs.Prelude.{◌+◌, ◌==◌, ◌&&◌, Bool, ℕ, zero, suc, ℤ, pos, negsuc, List, [], ◌∷◌, ◌++◌}
-use Rattle.std.specs.Prelude.{Option, Some, None, Result, Ok, Err, length, bytes_eq, codes, nat_eq, nat_le}
+use Rattle.std.specs.Prelude.{◌+◌, ◌-◌, ◌*◌, ◌==◌, ◌&&◌, Bool, ℕ, zero, suc, ℤ, pos, negsuc, List, [], ◌∷◌, ◌++◌}
+use Rattle.std.specs.Prelude.{Option, Some, None, Result, Ok, Err, length, bytes_eq, codes, drop, nat_eq, nat_le, take}
 use Rattle.std.specs.Prelude.{if◌then◌else◌, option_and_then, option_map, unwrap_or}
 use Rattle.std.specs.Option.{ok_or}
 use Rattle.csv.specs.Reading.{default_config, records, strip_bom}
@@ -14,6 +14,8 @@ use Rattle.message_records.specs.declared.limits.TheConstants.{REFERENCE_BYTES}
 use Rattle.posting_rules.specs.believed.Numbering.{branch_of_teller}
 use Rattle.branch_loader.specs.Records.{Fields, Records}
 use Rattle.posting_sheets.specs.declared.form.Form.{Form}
+use Rattle.posting_sheets.specs.declared.money.Money.{Money}
+use Rattle.posting_sheets.specs.declared.money.Money.TheVariants.{Cents, Decimals}
 use Rattle.posting_sheets.specs.declared.fault.BadRow.{BadRow}
 use Rattle.posting_sheets.specs.declared.fault.BadRow.TheVariants.{Columns, Account, Teller, Number, Delta}
 use Rattle.posting_sheets.specs.declared.fault.BadRow.TheVariants.{Branch, Reference}
@@ -26,39 +28,50 @@ use Rattle.posting_sheets.specs.declared.fault.SheetFault.TheVariants.{Header, R
 abbrev pub field : ℕ → Fields → List ℕ
 field place fields = unwrap_or (field_at fields place) []
 
+-- the fourth column's name says how the rows write money: in cents, or in decimals
+abbrev pub money_named : List ℕ → Option Money
+money_named name =
+    if bytes_eq name (codes "delta") then Some Cents
+    else if bytes_eq name (codes "amount") then Some Decimals
+    else None
+
 -- the four columns that each sheet has, and then a branch, a reference, or both; the place of one that isn't there
 -- is after the last
-abbrev pub plain : Form
-plain = record { columns = 4; branch = 4; reference = 4 }
+abbrev pub plain : Money → Form
+plain money = record { money = money; columns = 4; branch = 4; reference = 4 }
 
-abbrev pub has_branch : Form
-has_branch = record { columns = 5; branch = 4; reference = 5 }
+abbrev pub has_branch : Money → Form
+has_branch money = record { money = money; columns = 5; branch = 4; reference = 5 }
 
-abbrev pub has_reference : Form
-has_reference = record { columns = 5; branch = 5; reference = 4 }
+abbrev pub has_reference : Money → Form
+has_reference money = record { money = money; columns = 5; branch = 5; reference = 4 }
 
-abbrev pub has_both : Form
-has_both = record { columns = 6; branch = 4; reference = 5 }
+abbrev pub has_both : Money → Form
+has_both money = record { money = money; columns = 6; branch = 4; reference = 5 }
 
--- the record is the header of a form whose last columns have these names; one that isn't there has none
+-- the record is the header of a form whose last columns have these names, whatever its fourth is called; one that
+-- isn't there has none
 abbrev pub is_header : Form → (branch reference : List ℕ) → Fields → Bool
 is_header form branch reference fields =
     nat_eq (length fields) form.columns
     && (bytes_eq (field 0 fields) (codes "account")
     && (bytes_eq (field 1 fields) (codes "teller")
     && (bytes_eq (field 2 fields) (codes "number")
-    && (bytes_eq (field 3 fields) (codes "delta")
     && (bytes_eq (field form.branch fields) branch
-    && bytes_eq (field form.reference fields) reference)))))
+    && bytes_eq (field form.reference fields) reference))))
+
+-- the form of rows that write money so whose header the record is
+abbrev pub form_with : Fields → Money → Option Form
+form_with fields money =
+    if is_header (plain money) [] [] fields then Some (plain money)
+    else if is_header (has_branch money) (codes "branch") [] fields then Some (has_branch money)
+    else if is_header (has_reference money) [] (codes "reference") fields then Some (has_reference money)
+    else if is_header (has_both money) (codes "branch") (codes "reference") fields then Some (has_both money)
+    else None
 
 -- the form whose header the record is
 abbrev pub form_of : Fields → Option Form
-form_of fields =
-    if is_header plain [] [] fields then Some plain
-    else if is_header has_branch (codes "branch") [] fields then Some has_branch
-    else if is_header has_reference [] (codes "reference") fields then Some has_reference
-    else if is_header has_both (codes "branch") (codes "reference") fields then Some has_both
-    else None
+form_of fields = option_and_then (form_with fields) (money_named (field 3 fields))
 
 -- ---- the fields of a row
 
@@ -75,13 +88,31 @@ abbrev pub below_zero : ℕ → ℤ
 below_zero zero = pos 0
 below_zero (suc n) = negsuc n
 
--- the amount that 1 to 10 digits write, with a sign or without one
-abbrev pub delta_of : List ℕ → Option ℤ
-delta_of [] = None
-delta_of (c ∷ cs) =
-    if c == 45 then option_map below_zero (number_up_to 10 cs)
-    else if c == 43 then option_map (λ n. pos n) (number_up_to 10 cs)
-    else option_map (λ n. pos n) (number_up_to 10 (c ∷ cs))
+-- the cents of a decimal without a sign, of which these bytes are the last three: 1 to 8 digits, and then nothing, or
+-- a point and two digits
+abbrev pub cents_by : (text last : List ℕ) → Option ℕ
+cents_by text [] = None
+cents_by text (point ∷ cents) =
+    if point == 46 && nat_eq (length cents) 2
+    then option_and_then (λ n. option_map (λ c. n * 100 + c) (number_up_to 2 cents))
+    (number_up_to 8 (take (length text - 3) text))
+    else option_map (λ n. n * 100) (number_up_to 8 text)
+
+abbrev pub cents_of : List ℕ → Option ℕ
+cents_of text = cents_by text (drop (length text - 3) text)
+
+-- the cents that are written so, without a sign: in cents they are 1 to 10 digits
+abbrev pub cents_written : Money → List ℕ → Option ℕ
+cents_written Cents text = number_up_to 10 text
+cents_written Decimals text = cents_of text
+
+-- the amount that is written so, with a sign or without one
+abbrev pub delta_of : Money → List ℕ → Option ℤ
+delta_of money [] = None
+delta_of money (c ∷ cs) =
+    if c == 45 then option_map below_zero (cents_written money cs)
+    else if c == 43 then option_map (λ n. pos n) (cents_written money cs)
+    else option_map (λ n. pos n) (cents_written money (c ∷ cs))
 
 -- the branch that a field writes, and that of the teller where it is empty
 abbrev pub branch_of : ℕ → List ℕ → Option ℕ
@@ -102,7 +133,7 @@ request_of_fields form fields = do
   account ← ok_or (number_within MAX_ACCOUNT (field 0 fields)) Account
   teller ← ok_or (number_within MAX_TELLER (field 1 fields)) Teller
   number ← ok_or (number_within MAX_NUMBER (field 2 fields)) Number
-  delta ← ok_or (delta_of (field 3 fields)) Delta
+  delta ← ok_or (delta_of form.money (field 3 fields)) Delta
   branch ← ok_or (branch_of teller (field form.branch fields)) Branch
   reference ← ok_or (reference_of (field form.reference fields)) Reference
   Ok (record {

@@ -13,7 +13,8 @@ pub enum BadRow {
     Teller,
     /// The number isn't 1 to 12 digits with a value of 1..=`MAX_NUMBER`.
     Number,
-    /// The delta isn't 1 to 10 digits, with a sign or without one.
+    /// The delta isn't 1 to 10 digits, with a sign or without one; or the amount isn't 1 to 8, with a sign or without
+    /// one, and with a point and two digits after them or without.
     Delta,
     /// The branch isn't 1 to 12 digits with a value of 1..=`MAX_BRANCH`; or there is none, and the teller's isn't in
     /// that range.

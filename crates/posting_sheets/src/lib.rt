@@ -17,8 +17,9 @@
 //! }
 //! ```
 //!
-//! A sheet's header is `account,teller,number,delta`; a column `branch`, a column `reference`, or the one and
-//! then the other may follow. Where a branch is left out, it is the teller's. Amounts are cents.
+//! A sheet's header is `account,teller,number,delta`, with cents, or `account,teller,number,amount`, with decimals as
+//! `-7.00` ([`Money`]); a column `branch`, a column `reference`, or the one and then the other may follow. Where a branch
+//! is left out, it is the teller's.
 //! [`SheetFault`] says why a sheet has no more records: its header, or a row, counted from 1, and which column of it is
 //! wrong ([`BadRow`]); or that an end failed, or that memory was refused. The rows before it are written.
 //! [`RepliesFault`] says the same of replies.
@@ -32,8 +33,10 @@ mod encode;
 mod fault;
 mod form;
 mod line;
+mod money;
 mod row;
 
 pub use decode::decode_replies;
 pub use encode::encode_sheet;
 pub use fault::{BadRow, RepliesFault, SheetFault};
+pub use money::Money;

@@ -1,14 +1,52 @@
 //! The line of a reply.
 ghost use Rattle.std.specs.Prelude.{◌≡◌, IfOk, string_bytes};
-ghost use Rattle.posting_sheets.specs.Replies.{reply_line};
+ghost use Rattle.posting_sheets.specs.Replies.{reply_line, sign_text};
 
+use crate::money::Money;
 use message_records::{Cents, Reply, Request};
 use std::alloc::{AllocError, Global};
 use std::fmt;
 
+// An amount, as the sheet writes money.
+#[derive(Clone, Copy)]
+struct ShownMoney {
+    money: Money,
+    cents: Cents,
+}
+
+impl fmt::Display for ShownMoney {
+    ghost use Rattle.std.specs.Prelude.{Some};
+    ghost use Rattle.posting_sheets.specs.Replies.{money_text};
+
+    ghost output = { λ shown. Some (money_text shown.money shown.cents) };
+
+    fn fmt<W: fmt::Write>(&self, f: &mut fmt::Formatter<W>) -> fmt::Result {
+        let cents = self.cents.get();
+        match self.money {
+            Money::Cents => write!(f, "{cents}"),
+            Money::Decimals => {
+                let sign = sign_of(cents);
+                let size = cents.unsigned_abs();
+                let whole = size / 100;
+                let tens = size / 10 % 10;
+                let ones = size % 10;
+                write!(f, "{sign}{whole}.{tens}{ones}")
+            }
+        }
+    }
+}
+
+// A minus before an amount below zero.
+fn sign_of(cents: i64) -> &'static str
+    ensures { result.now ≡ sign_text cents }
+{
+    if cents < 0 { "-" } else { "" }
+}
+
 // The five fields of a request, empty where there is none.
 #[derive(Clone, Copy)]
 struct ShownRequest {
+    money: Money,
     request: Option<Request>,
 }
 
@@ -16,7 +54,7 @@ impl fmt::Display for ShownRequest {
     ghost use Rattle.std.specs.Prelude.{Some};
     ghost use Rattle.posting_sheets.specs.Replies.{request_text};
 
-    ghost output = { λ shown. Some (request_text shown.request) };
+    ghost output = { λ shown. Some (request_text shown.money shown.request) };
 
     fn fmt<W: fmt::Write>(&self, f: &mut fmt::Formatter<W>) -> fmt::Result {
         let Some(request) = self.request else {
@@ -26,7 +64,10 @@ impl fmt::Display for ShownRequest {
         let teller = request.teller();
         let branch = request.branch();
         let number = request.number();
-        let delta = request.delta();
+        let delta = ShownMoney {
+            money: self.money,
+            cents: request.delta(),
+        };
         write!(f, "{account},{teller},{branch},{number},{delta}")
     }
 }
@@ -34,6 +75,7 @@ impl fmt::Display for ShownRequest {
 // A balance, empty where there is none.
 #[derive(Clone, Copy)]
 struct ShownBalance {
+    money: Money,
     balance: Option<Cents>,
 }
 
@@ -41,11 +83,17 @@ impl fmt::Display for ShownBalance {
     ghost use Rattle.std.specs.Prelude.{Some};
     ghost use Rattle.posting_sheets.specs.Replies.{balance_text};
 
-    ghost output = { λ shown. Some (balance_text shown.balance) };
+    ghost output = { λ shown. Some (balance_text shown.money shown.balance) };
 
     fn fmt<W: fmt::Write>(&self, f: &mut fmt::Formatter<W>) -> fmt::Result {
         match self.balance {
-            Some(balance) => write!(f, "{balance}"),
+            Some(cents) => {
+                let balance = ShownMoney {
+                    money: self.money,
+                    cents,
+                };
+                write!(f, "{balance}")
+            }
             None => write!(f, ""),
         }
     }
@@ -54,6 +102,7 @@ impl fmt::Display for ShownBalance {
 // A reply as a line of the sheet.
 #[derive(Clone, Copy)]
 struct ReplyLine {
+    money: Money,
     reply: Reply,
 }
 
@@ -62,15 +111,17 @@ impl fmt::Display for ReplyLine {
     ghost use Rattle.std.specs.Prelude.{Some};
     ghost use Rattle.posting_sheets.specs.Replies.{reply_line};
 
-    ghost output = { λ line. Some (reply_line line.reply) };
+    ghost output = { λ line. Some (reply_line line.money line.reply) };
 
     fn fmt<W: fmt::Write>(&self, f: &mut fmt::Formatter<W>) -> fmt::Result {
         let outcome = self.reply.outcome();
         let code = outcome.code();
         let request = ShownRequest {
+            money: self.money,
             request: self.reply.request(),
         };
         let balance = ShownBalance {
+            money: self.money,
             balance: self.reply.balance(),
         };
         write!(f, "{code},{outcome},{request},{balance}\n")
@@ -78,8 +129,12 @@ impl fmt::Display for ReplyLine {
 }
 
 /// The line of a reply.
-pub(crate) fn line_of(alloc: Global, reply: &Reply) -> Result<String, AllocError>
-    ensures { IfOk result (λ line. string_bytes line ≡ reply_line reply.now) }
+pub(crate) fn line_of(alloc: Global, money: Money, reply: &Reply) -> Result<String, AllocError>
+    ensures { IfOk result (λ line. string_bytes line ≡ reply_line money reply.now) }
 {
-    ReplyLine { reply: *reply }.to_string(alloc)
+    let line = ReplyLine {
+        money,
+        reply: *reply,
+    };
+    line.to_string(alloc)
 }

@@ -2,11 +2,12 @@
 ghost use Rattle.std.specs.Prelude.{◌≡◌, ◌≤◌, ◌<◌, ◌^◌, nat_abs, length, IfSome};
 ghost use Rattle.csv.specs.Records.{fields_of};
 ghost use Rattle.message_records.specs.believed.Spelling.{filled};
-ghost use Rattle.posting_sheets.specs.Sheets.{branch_of, delta_of, number_up_to, number_within, reference_of};
-ghost use Rattle.posting_sheets.specs.Sheets.{request_of_fields, request_of_row};
+ghost use Rattle.posting_sheets.specs.Sheets.{branch_of, cents_of, cents_written, delta_of, number_up_to};
+ghost use Rattle.posting_sheets.specs.Sheets.{number_within, reference_of, request_of_fields, request_of_row};
 
 use crate::fault::BadRow;
 use crate::form::{Form, field};
+use crate::money::Money;
 use csv::ByteRecord;
 use message_records::{
     Branch, Cents, MAX_DELTA, REFERENCE_BYTES, Reference, Request, Teller, Whole, read_digits,
@@ -32,16 +33,42 @@ fn number_within<const MOST: u64>(digits: &[u8]) -> Option<Whole<1, MOST>>
     Whole::new(number_up_to(digits, 12)?)
 }
 
-// The amount that 1 to 10 digits write, with a sign or without one.
-fn delta_of(text: &[u8]) -> Option<Cents>
-    ensures value { result ≡ delta_of text.now }
+// The cents of a decimal without a sign: 1 to 8 digits, and then nothing, or a point and two digits.
+fn cents_of(text: &[u8]) -> Option<u64>
+    ensures value { result ≡ cents_of text.now }
+    ensures below { IfSome result (λ n. n < 10 ^ 10) }
+{
+    let (whole, last) = text.split_at(text.len().saturating_sub(3));
+    let (point, cents) = last.split_first()?;
+    if *point == b'.' && cents.len() == 2 {
+        let whole = number_up_to(whole, 8)?;
+        Some(whole * 100 + number_up_to(cents, 2)?)
+    } else {
+        Some(number_up_to(text, 8)? * 100)
+    }
+}
+
+// The cents that are written so, without a sign.
+fn cents_written(money: Money, text: &[u8]) -> Option<u64>
+    ensures value { result ≡ cents_written money text.now }
+    ensures below { IfSome result (λ n. n < 10 ^ 10) }
+{
+    match money {
+        Money::Cents => number_up_to(text, 10),
+        Money::Decimals => cents_of(text),
+    }
+}
+
+// The amount that is written so, with a sign or without one.
+fn delta_of(money: Money, text: &[u8]) -> Option<Cents>
+    ensures value { result ≡ delta_of money text.now }
     ensures limit { IfSome result (λ z. nat_abs z ≤ MAX_DELTA) }
 {
     let (sign, digits) = text.split_first()?;
     match sign {
-        b'-' => Cents::new(-(number_up_to(digits, 10)? as i64)),
-        b'+' => Cents::new(number_up_to(digits, 10)? as i64),
-        _ => Cents::new(number_up_to(text, 10)? as i64),
+        b'-' => Cents::new(-(cents_written(money, digits)? as i64)),
+        b'+' => Cents::new(cents_written(money, digits)? as i64),
+        _ => Cents::new(cents_written(money, text)? as i64),
     }
 }
 
@@ -87,7 +114,7 @@ fn request_of_fields(form: Form, fields: &ByteRecord) -> Result<Request, BadRow>
     let account = number_within(field(fields, 0)).ok_or(BadRow::Account)?;
     let teller = number_within(field(fields, 1)).ok_or(BadRow::Teller)?;
     let number = number_within(field(fields, 2)).ok_or(BadRow::Number)?;
-    let delta = delta_of(field(fields, 3)).ok_or(BadRow::Delta)?;
+    let delta = delta_of(form.money, field(fields, 3)).ok_or(BadRow::Delta)?;
     let branch = branch_of(teller, field(fields, form.branch)).ok_or(BadRow::Branch)?;
     let reference = reference_of(field(fields, form.reference)).ok_or(BadRow::Reference)?;
     // Ten digits are within the limit.

@@ -19,4 +19,4 @@ returns c =
     let serve = c.with_command-bank-11.ensures _ serve_app plan c.serve_command.ensures in
     let migrate = c.with_command-bank-12.ensures _ migrate_app serve c.command_on_file-5.ensures in
     let encode = c.with_command-bank-13.ensures _ encode_app migrate c.command_alone.ensures in
-    c.with_command.ensures _ decode_app encode c.command_alone-2.ensures
+    c.with_command.ensures _ decode_app encode c.decode_command.ensures

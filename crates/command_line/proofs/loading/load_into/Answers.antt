@@ -1,6 +1,5 @@
 -- Each way out, by what ended it.
 use Rattle.std.proofs.Common.{◌≡◌, Err, inr, rules}
-use Rattle.std.proofs.lemmas.Result.{err_from_is_err_and}
 use Rattle.command_line.proofs.LoadEnds.{file_not_write, unopened}
 use Rattle.command_line.proofs.loading.load_into.Goals as goal
 

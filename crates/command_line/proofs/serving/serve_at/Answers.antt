@@ -1,6 +1,6 @@
 -- Where it can't be told where the counter listens, nothing is served.
-use Rattle.std.proofs.Common.{rules, ◌≡◌, ap, inl, inr, refl, Err, Ok}
-use Rattle.command_line.specs.{declared.fault.CommandFault.TheVariants.Write, Faults.fault_of_serving}
+use Rattle.std.proofs.Common.{rules, ◌≡◌, ap, inl, refl, Err}
+use Rattle.command_line.specs.{declared.fault.CommandFault.TheVariants.Write}
 use Rattle.command_line.specs.{Working.done_after}
 use Rattle.command_line.proofs.Printed.{part_of}
 use Rattle.command_line.proofs.serving.serve_at.Goals as goal

@@ -15,7 +15,7 @@ use Rattle.posting_sheets.proofs.decode.decode_replies.Goals.{then-filled-eq-REP
 -- the header can't be written
 pub returns-then-is_err-clause-decodes : goal.returns-then-is_err-clause-decodes
 returns-then-is_err-clause-decodes g c =
-    let w = c.write_out.ensures.written in decoded-unheaded _ _ _ w.0 w.1 w.2
+    let w = rw c.heading.ensures at c.write_out.ensures.written in decoded-unheaded _ _ _ _ w.0 w.1 w.2
 
 pub reads-init : goal.reads-init
 reads-init g c =
@@ -24,7 +24,8 @@ reads-init g c =
       few = omega arith;
       room = refl;
       bound = omega arith;
-      decoded = decoded-first _ _ _ (written-all c.write_out.result _ _ _ good c.write_out.ensures.written);
+      decoded = decoded-first _ _ _ _ (written-all c.write_out.result _ _ _ good
+          (rw c.heading.ensures at c.write_out.ensures.written));
       made = made_none _;
       flushed = at_err c.write_out.result good c.write_out.ensures.flushed;
     }
@@ -105,7 +106,7 @@ pub returns-in_err-write_line-clause-ends : goal.returns-in_err-write_line-claus
 returns-in_err-write_line-clause-ends g c =
     let told = err_from_is_err_and c.from_residual.result c.from_residual.ensures.1 in
     rw (told.1, told.2)
-    (broken-ends (g.W.Sink.contents c.reads.writer) (g.W.Sink.contents c.write_line.new.writer)
+    (broken-ends c.args.money (g.W.Sink.contents c.reads.writer) (g.W.Sink.contents c.write_line.new.writer)
     (g.W.Sink.told c.args.writer.now) (g.W.Sink.told c.reads.writer) (g.W.Sink.told c.write_line.new.writer)
     c.reads.count c.fill_buffer.new.buffer c.in_err-write_line.field-0.0 (g.R.Source.remaining c.fill_buffer.new.reader)
     (g.R.Source.told c.args.reader.now) (g.R.Source.told c.fill_buffer.new.reader) c.reads.invariant.flushed

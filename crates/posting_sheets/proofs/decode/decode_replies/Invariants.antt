@@ -12,7 +12,7 @@ invariant-reads g l = record {
   few : l.filled < REPLY_BYTES;
   room : length l.buffer ≡ REPLY_BYTES;
   bound : l.count ≤ l.counter;
-  decoded : IsDecodedUpTo (g.R.Source.remaining l.fn.reader) (g.R.Source.remaining l.reader)
+  decoded : IsDecodedUpTo l.fn.money (g.R.Source.remaining l.fn.reader) (g.R.Source.remaining l.reader)
       (g.W.Sink.contents l.fn.writer) (g.W.Sink.contents l.writer) l.count (take l.filled l.buffer);
   made : HasMade (g.R.Source.told l.fn.reader) (g.R.Source.told l.reader) l.counter;
   flushed : EndsWith IsFlush (g.W.Sink.told l.fn.writer) (g.W.Sink.told l.writer);

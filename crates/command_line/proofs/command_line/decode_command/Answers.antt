@@ -1,0 +1,6 @@
+use Rattle.std.proofs.Common.{codes}
+use Rattle.command_line.specs.CommandLine.{flag_rule}
+use Rattle.command_line.proofs.command_line.decode_command.Goals as goal
+
+pub returns : goal.returns
+returns c = c.with_argument.ensures _ (flag_rule (codes "words")) c.command_alone-decode.ensures c.flag.ensures.rule
