@@ -1,14 +1,18 @@
 -- The rule that is told to be broken: what a transaction says of it is what the call says.
 use Rattle.std.proofs.Common.{Option, Err, sym, subst, arith, inl, inr}
-use Rattle.sqlite.specs.{State.HasCleanDisk, State.Survives, Held.Held, Held.state}
+use Rattle.sqlite.specs.{Effect.Database, State.HasCleanDisk, State.Survives, Held.Held, Held.state}
 use Rattle.sqlite_trees.specs.declared.store.Store.{Ghosts}
 use Rattle.posting_rules.specs.{declared.fault.Fault.Fault, declared.fault.Rule.Rule, believed.Tables.Tables}
-use Rattle.store_rows.specs.believed.{Failures.Additions, View.Shows}
+use Rattle.store_rows.specs.believed.{Failures.Additions, Rules.IsBroken, View.Shows}
 use Rattle.store_rows.specs.declared.fault.TableFault.{TableFault, TheVariants.Sqlite, TheVariants.Damaged}
 use Rattle.bank_transactions.specs.believed.Causes.{Damage, IsBrokenOrMet}
 use Rattle.bank_transactions.specs.{Causes.IsFirstBroken, Doing.Transacts, Doing.TransactsBy}
 use Rattle.bank_transactions.proofs.Blamed.{comes, met_within, same_moment}
 use Rattle.bank_store.specs.{believed.Down.OfDamage, Down.GoesDown}
+
+-- on an honest disk tables that are so break the rule, where the database shows them
+abbrev pub BreaksShown : (Tables → Type 0) → Database → Type 0 → Rule → Type 0
+BreaksShown So db Clean rule = Clean → (t : Tables) → Shows db t → So t → IsBroken rule db
 
 module _ {S X : Type 0} {So : Tables → Type 0} {after : Tables → Tables} {wanted : Tables → X} (g : Ghosts S)
     (old mid new : Held S)
@@ -27,20 +31,17 @@ module _ {S X : Type 0} {So : Tables → Type 0} {after : Tables → Tables} {wa
       subst (λ (f : Fault). OfDamage f (λ rule. HasCleanDisk (state g new) → Met old new rule)) (sym went.0)
       tt
 
-  -- and on tables that are so none is told
-  pub unfit : (Met : Damage S) (e : TableFault) → TransactsBy {X = X} Met g old mid So after wanted (Err e)
+  -- and tables that are so break it
+  pub breaks_shown : (Met : Damage S) (e : TableFault) → TransactsBy {X = X} Met g old mid So after wanted (Err e)
       → GoesDown (state g mid) (state g new) e cause fault
-      → OfDamage fault (λ rule. HasCleanDisk (state g new) → (t : Tables) → Shows (state g old).now t → So t → ⊥)
-  unfit Met (Sqlite error) does went =
-      subst (λ (f : Fault). OfDamage f (λ rule. HasCleanDisk (state g new) → (t : Tables)
-      → Shows (state g old).now t → So t → ⊥)) (sym went.1) tt
-  unfit Met (Damaged rule) does (inl went) =
-      subst (λ (f : Fault). OfDamage f (λ rule. HasCleanDisk (state g new) → (t : Tables)
-      → Shows (state g old).now t → So t → ⊥)) (sym went.1)
+      → OfDamage fault (BreaksShown So (state g old).now (HasCleanDisk (state g new)))
+  breaks_shown Met (Sqlite error) does went =
+      subst (λ (f : Fault). OfDamage f (BreaksShown So (state g old).now (HasCleanDisk (state g new)))) (sym went.1) tt
+  breaks_shown Met (Damaged rule) does (inl went) =
+      subst (λ (f : Fault). OfDamage f (BreaksShown So (state g old).now (HasCleanDisk (state g new)))) (sym went.1)
       (λ clean t shows so. does.told (omega (arith, quiet.clean)) t shows so)
-  unfit Met (Damaged rule) does (inr went) =
-      subst (λ (f : Fault). OfDamage f (λ rule. HasCleanDisk (state g new) → (t : Tables)
-      → Shows (state g old).now t → So t → ⊥)) (sym went.0) tt
+  breaks_shown Met (Damaged rule) does (inr went) =
+      subst (λ (f : Fault). OfDamage f (BreaksShown So (state g old).now (HasCleanDisk (state g new)))) (sym went.0) tt
 
   -- of a call that only reads
   pub consulted : (e : TableFault) → TransactsBy {X = X} (IsFirstBroken g) g old mid So after wanted (Err e)

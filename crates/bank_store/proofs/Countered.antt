@@ -17,9 +17,12 @@ use Rattle.posting_rules.proofs.{Calls.IsChange, Sequence.commands_after, Undama
 use Rattle.posting_batch.specs.believed.Batch.{AreReadyFor}
 use Rattle.posting_batch.proofs.FreeOrdinals.{free_shown}
 use Rattle.store_rows.specs.{believed.View.Shows, declared.fault.TableFault.TableFault, believed.Failures.Committing}
+use Rattle.store_rows.specs.believed.Rules.{IsBroken}
 use Rattle.store_rows.specs.declared.fault.TableFault.TheVariants.{Sqlite, Damaged}
 use Rattle.bank_transactions.specs.{believed.Causes.Damage, believed.Causes.HasFailedBetween, Doing.MayLeaveAfter}
 use Rattle.bank_transactions.specs.{Doing.TransactsBy}
+use Rattle.bank_transactions.specs.believed.Batches.{HasRoomFor}
+use Rattle.bank_transactions.proofs.{KeepsRules.unbroken, SoundRows.no_branch_beyond, SoundRows.no_floor_beyond}
 use Rattle.bank_transactions.proofs.Blamed.{comes, failed_within, same_moment}
 use Rattle.bank_store.specs.{Down.GoesDown, believed.NoneOrAll.LeavesNoneOrAll, believed.Seen.error_in}
 use Rattle.bank_store.specs.{believed.Seen.seen_in}
@@ -43,9 +46,16 @@ none_of_them t log cs are shows =
 abbrev pub HoldsOfLogs : (Tables → Type 0) → Type 0
 HoldsOfLogs Sound = (t : Tables) (log : List Command) → AreCommands log → Show t log → Sound t
 
--- so many records can build on them
-pub of_logs : (count : ℕ) → HoldsOfLogs (AreReadyFor count)
-of_logs count t log are shows = (undamaged t log are shows, free_shown t log count shows)
+-- tables that are ready for so many records have room for them
+pub has_room : (count : ℕ) (t : Tables) → AreReadyFor count t → HasRoomFor count t
+has_room count t ready = record {
+  free = ready.1;
+  branches = λ n none. sym (no_branch_beyond t n ready.0 none);
+  floors = λ n none. sym (no_floor_beyond t n ready.0 none);
+}
+
+pub of_logs : (count : ℕ) → HoldsOfLogs (HasRoomFor count)
+of_logs count t log are shows = has_room count t (undamaged t log are shows, free_shown t log count shows)
 
 module _ {S X : Type 0} {So : Tables → Type 0} {after : Tables → Tables} {wanted : Tables → X} {g : Ghosts S}
     {old new : Held S} {r : Result X TableFault} {Met : Damage S}
@@ -134,11 +144,13 @@ takes {S} {X} {So} {after} {wanted} {g} {old} {new} {x} {Met} holds cs is are D 
       };
     }
 
-pub is_damaged : (Sound : Tables → Type 0) (holds : HoldsOfLogs Sound) (old new : State) (D E : Type 0) → E
-    → (HasCleanDisk new → (t : Tables) → Shows old.now t → Sound t → ⊥)
+-- the rows that it has break a rule
+pub is_damaged : (Sound : Tables → Type 0) (holds : HoldsOfLogs Sound) (old new : State) (D E : Type 0) (rule : Rule) → E
+    → (HasCleanDisk new → (t : Tables) → Shows old.now t → Sound t → IsBroken rule old.now)
     → (HasCleanDisk new → new.now ≡ old.now) → IsDamaged (seen_in old D) (seen_in new E)
-is_damaged Sound holds old new D E down never same = record {
-  never_shown = λ clean log s. never clean s.tables s.are (holds s.tables log s.commands s.shows);
+is_damaged Sound holds old new D E rule down broken same = record {
+  never_shown = λ clean log s. unbroken old.now s.tables s.are (undamaged s.tables log s.commands s.shows) rule
+      (broken clean s.tables s.are (holds s.tables log s.commands s.shows));
   down = down;
   tables = λ clean t shows. subst (λ (db : Database). Shows db t) (sym (same clean)) shows;
 }
@@ -177,7 +189,7 @@ refuses {S} {X} {So} {after} {wanted} {Met} g old mid new holds cs is are D e ca
     by_fault (Sqlite error) it went = failed (Sqlite error) went.0 went.1
     by_fault (Damaged rule) it (inl went) =
         subst Refused (sym went.1)
-        (is_damaged So holds (state g old) (state g new) D (IsSome cause)
+        (is_damaged So holds (state g old) (state g new) D (IsSome cause) rule
         (goes_down cause (Damaged rule) went.0)
         (λ clean t shows sound. it.told (before clean) t shows sound)
         (λ clean. let same = went.2 clean in same.0.now_is ∙ (it.undone (before clean) same.0.was_open).1))

@@ -1,5 +1,5 @@
 -- A call of the bank, as the one record of it: what became of a transaction, or nothing was tried.
-use Rattle.std.proofs.Common.{◌≡◌, List, Option, None, Result, Ok, Err, arith, refl, sym, ap, subst, ◌∙◌, inl, inr}
+use Rattle.std.proofs.Common.{◌≡◌, ℕ, List, Option, None, Result, Ok, Err, arith, refl, sym, ap, subst, ◌∙◌, inl, inr}
 use Rattle.std.specs.Prelude.{IsSome, ◌≢◌}
 use Rattle.sqlite.specs.{State.State, State.HasCleanDisk, State.Survives, Held.Held, Held.state}
 use Rattle.sqlite_trees.specs.declared.store.Store.{Ghosts}
@@ -11,14 +11,15 @@ use Rattle.posting_rules.proofs.Calls.{IsChange}
 use Rattle.posting_rules.proofs.CounterCalls.{call_answered, call_refused, call_spared, call_untried, unchanged_seen}
 use Rattle.store_rows.specs.believed.Failures.{Additions}
 use Rattle.store_rows.specs.declared.fault.TableFault.{TableFault, TheVariants.Sqlite, TheVariants.Damaged}
-use Rattle.bank_transactions.specs.{believed.Additions.AnyRow, Doing.Transacts, Doing.TransactsBy}
+use Rattle.bank_transactions.specs.{Doing.Transacts, Doing.TransactsBy}
+use Rattle.bank_transactions.specs.believed.{Additions.AddsForRecords, Additions.AnyRow, Batches.HasRoomFor}
 use Rattle.bank_transactions.specs.{believed.Causes.Damage, believed.Causes.IsBrokenOrMet, Causes.IsFirstBroken}
-use Rattle.bank_transactions.proofs.Blamed.{between_also}
+use Rattle.bank_transactions.proofs.{Blamed.between_also, KeepsRules.unbroken}
 use Rattle.bank_store.specs.believed.Down.{BreaksRule, IsBankCall, KeepsCause, OfDamage, WasBrokenOrMet, bank_reason}
 use Rattle.bank_store.specs.{Down.GoesDown, Seen.fault_of, declared.bank.Bank.Bank}
 use Rattle.bank_store.specs.believed.Seen.{bank_seen, cause_of, connection_of, database_of}
-use Rattle.bank_store.proofs.Broke.{consulted, transacted}
-use Rattle.bank_store.proofs.Countered.{HoldsOfLogs, failed_between, keeps_file, cause_error, no_error, refuses}
+use Rattle.bank_store.proofs.Broke.{BreaksShown, consulted, transacted}
+use Rattle.bank_store.proofs.Countered.{HoldsOfLogs, failed_between, has_room, keeps_file, cause_error, no_error, refuses}
 
 -- It is refused as the trait says, for its reason; damage leaves the file as it was, and says this; neither
 -- memory nor an earlier fault is told; and what is honest was.
@@ -100,16 +101,20 @@ of_wider Store P Q wide is = tt
 of_wider Down P Q wide is = tt
 of_wider (Broken rule) P Q wide is = wide rule is
 
--- both are so of it
-pub breaks : {S : Type 0} (g : Ghosts S) (Adds : Additions) (So : Tables → Type 0) (old new : Bank S g) (told : Fault)
-    → OfDamage told (WasBrokenOrMet g Adds old new)
-    → OfDamage told (λ rule. HasCleanDisk (state g (connection_of new)) → (t : Tables) → (bank_seen g old).tables t
-    → So t → ⊥)
-    → OfDamage told (BreaksRule g Adds So old new)
-breaks g Adds So old new Memory met unfit = tt
-breaks g Adds So old new Store met unfit = tt
-breaks g Adds So old new Down met unfit = tt
-breaks g Adds So old new (Broken rule) met unfit = record { met = met; unfit = unfit }
+-- of records: both are so of it, and tables that are ready for them break none
+pub breaks : {S : Type 0} (g : Ghosts S) (count : ℕ) (old new : Bank S g) (told : Fault)
+    → OfDamage told (WasBrokenOrMet g (AddsForRecords (database_of g old) count) old new)
+    → OfDamage told (BreaksShown (HasRoomFor count) (database_of g old) (HasCleanDisk (state g (connection_of new))))
+    → OfDamage told (BreaksRule g count old new)
+breaks g count old new Memory met broken = tt
+breaks g count old new Store met broken = tt
+breaks g count old new Down met broken = tt
+breaks g count old new (Broken rule) met broken = record {
+  met = met;
+  broken = broken;
+  unfit = λ clean t shows ready. unbroken (database_of g old) t shows ready.0 rule
+      (broken clean t shows (has_room count t ready));
+}
 
 module _ {S X : Type 0} {So : Tables → Type 0} {after : Tables → Tables} {wanted : Tables → X} (g : Ghosts S)
     (old new : Bank S g) (mid : Held S)

@@ -227,7 +227,7 @@ impl<S: Alter + Drop> Counter for Bank<S> {
     ghost use Rattle.message_records.specs.believed.Records.{RequestFields};
     ghost use Rattle.message_records.specs.declared.fault.Bad.{Bad};
     ghost use Rattle.posting_rules.specs.believed.Entries.{malformed_reply};
-    ghost use Rattle.bank_transactions.specs.believed.Additions.{AddsBranch, AddsForRecords};
+    ghost use Rattle.bank_transactions.specs.believed.Additions.{AddsBranch};
     ghost use Rattle.bank_transactions.specs.believed.Causes.{IsBefore};
     ghost use Rattle.bank_transactions.specs.believed.Stored.{IsStoredBalance, OpensByStored};
     ghost use Rattle.bank_transactions.specs.Stored.{IsStoredNext};
@@ -240,7 +240,7 @@ impl<S: Alter + Drop> Counter for Bank<S> {
     ghost use Rattle.bank_store.specs.believed.Sparing.{SparesOtherTables};
     ghost use Rattle.bank_store.specs.SparedTables.{some_or_none, spared_itself, spared_then};
     ghost use Rattle.sqlite.specs.Effect.{Database};
-    ghost use Rattle.posting_batch.specs.believed.Batch.{AreReadyFor};
+    ghost use Rattle.bank_transactions.specs.believed.Batches.{HasRoomFor};
 
     ghost seen = { λ bank. bank_seen S.Store bank };
 
@@ -272,19 +272,18 @@ impl<S: Alter + Drop> Counter for Bank<S> {
         ensures stored { IfOk result (λ out. (bank_seen S.Store self.new).honest → (r : RequestFields)
             → request_of bytes.now ≡ Ok r
             → RepliesToStored (database_of S.Store self.old) (database_of S.Store self.new) r out) }
-        // Be the tables of a log or not.
+        // Be the tables of a log, damaged or neither.
         ensures leaves { IfOk result (λ out. (bank_seen S.Store self.new).honest → (r : RequestFields)
-            → request_of bytes.now ≡ Ok r → (t : Tables) → (bank_seen S.Store self.old).tables t → AreReadyFor 1 t
+            → request_of bytes.now ≡ Ok r → (t : Tables) → (bank_seen S.Store self.old).tables t → HasRoomFor 1 t
             → LeavesRecords S.Store self.new t moment (bytes.now ∷ []) (out ∷ [])) }
         // Bytes that are no request are told so, whatever rows the file holds, and the bank is as it was.
         ensures malformed { ((bank_seen S.Store self.old).is_down → ⊥) → (bad : Bad)
             → request_of bytes.now ≡ Err bad
             → (result ≡ Ok (reply_spelling malformed_reply)) × (self.new ≡ self.old) }
-        // A key that is taken is the next ordinal's, unless the file has no bank's tables. On tables that are ready no
-        // damage is told.
+        // A key that is taken is the next ordinal's, unless the file has no bank's tables. Where that ordinal is free,
+        // the rows that the file held break the rule.
         ensures own { IfErr result (λ fault. OfDamage fault
-            (BreaksRule S.Store (AddsForRecords (database_of S.Store self.old) 1) (AreReadyFor 1)
-            self.old self.new)) }
+            (BreaksRule S.Store 1 self.old self.new)) }
         ensures spares { SparesOtherTables S.Store self.old self.new }
     {
         range_law(moment);
@@ -315,20 +314,19 @@ impl<S: Alter + Drop> Counter for Bank<S> {
         ensures call { IsBankCall S.Store self.old self.new (posts moment records.now) result }
         ensures none_or_all { LeavesNoneOrAll (bank_seen S.Store self.old) (bank_seen S.Store self.new)
             (posts moment records.now) }
-        // Be the tables of a log or not. A batch in which no record is decided changes nothing, nor what a crash
-        // leaves.
+        // Be the tables of a log, damaged or neither. A batch in which no record is decided changes nothing, nor what
+        // a crash leaves.
         ensures leaves { IfOk result (λ replies. (bank_seen S.Store self.new).honest → (t : Tables)
-            → (bank_seen S.Store self.old).tables t → AreReadyFor (length records.now) t
+            → (bank_seen S.Store self.old).tables t → HasRoomFor (length records.now) t
             → LeavesBatch S.Store self.old self.new t moment records.now replies.items) }
         // Whatever rows the file holds. Records that are all kept change nothing, whatever tables it has.
         ensures stored { IfOk result (λ replies. (bank_seen S.Store self.new).honest
             → RepliesToAllStored (database_of S.Store self.old) (database_of S.Store self.new) moment records.now
             replies.items) }
         // A key that is taken is one of the next ordinals', at most one a record, unless the file has no bank's
-        // tables. On tables that are ready no damage is told.
+        // tables. Where those are free, the rows that the file held break the rule.
         ensures own { IfErr result (λ fault. OfDamage fault
-            (BreaksRule S.Store (AddsForRecords (database_of S.Store self.old) (length records.now))
-            (AreReadyFor (length records.now)) self.old self.new)) }
+            (BreaksRule S.Store (length records.now) self.old self.new)) }
         ensures spares { SparesOtherTables S.Store self.old self.new }
     {
         range_law(moment);

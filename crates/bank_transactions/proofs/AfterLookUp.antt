@@ -7,14 +7,16 @@ use Rattle.sqlite.specs.State.{HasCleanDisk, KeepsCommit}
 use Rattle.sqlite_trees.specs.declared.store.Store.{Ghosts}
 use Rattle.posting_rules.specs.believed.Changes.{replies_past_all, tables_past_all}
 use Rattle.posting_rules.specs.believed.Tables.{Tables}
-use Rattle.posting_batch.specs.believed.Batch.{AreReadyFor}
+use Rattle.bank_transactions.specs.believed.Batches.{HasRoomFor}
 use Rattle.sql_meanings.specs.Calls.{Inside, Says}
 use Rattle.sql_meanings.proofs.Saying.{clean_between, says_then}
-use Rattle.store_rows.specs.{Definitions.IsOtherTable, believed.View.Shows, declared.fault.TableFault.TableFault}
+use Rattle.store_rows.specs.{Definitions.IsOtherTable, believed.Rules.IsBroken, believed.View.Shows}
+use Rattle.store_rows.specs.declared.fault.TableFault.{TableFault}
 use Rattle.bank_transactions.specs.{believed.Additions.AddsForRecords, believed.Batches.DecidesNone}
 use Rattle.bank_transactions.specs.{Doing.Acts, Doing.ReadsWhere, Tries.answer_of, Tries.replies_of}
 use Rattle.bank_transactions.specs.{believed.Stored.RepliesToAllStored, declared.first_try.Tried.Tried}
-use Rattle.bank_transactions.proofs.{Blamed.blames_since, Blamed.comes, Chained.keeps_then, Chained.still_in}
+use Rattle.bank_transactions.proofs.{Blamed.blames_since, Blamed.comes, Chained.keeps_then, Chained.of_bad, Chained.still_in}
+use Rattle.bank_transactions.specs.Causes.{IsFirstBroken}
 
 module _ {S X : Type 0} {g : Ghosts S} {old mid new : Transaction S} {So : Tables → Type 0} {w : Tables → X} {x : X}
     (look : ReadsWhere g old mid So w (Ok x)) where
@@ -23,11 +25,13 @@ module _ {S X : Type 0} {g : Ghosts S} {old mid new : Transaction S} {So : Table
       {r : Result Y TableFault} (count : ℕ)
       → Acts g (AddsForRecords (state g mid.conn.now).now count) mid new Of after wanted r
       → Acts g (AddsForRecords (state g old.conn.now).now count) old new Of after wanted r
-  acts_since {r = r} count acts = record {
+  acts_since {after = after} {wanted = wanted} {r = r} count acts = record {
     says = says_then g old mid new look.says acts.says
         (λ told leaves told' live t shows so.
-        told' (still_in (state g old.conn.now) (state g mid.conn.now) leaves.0.goes_on live) t
-        (subst (λ (db : Database). Shows db t) (sym leaves.0.now) shows) so)
+        of_bad (IsFirstBroken g mid.conn.now new.conn.now) (IsFirstBroken g old.conn.now new.conn.now)
+        (state g new.conn.now) (after t) (wanted t) r (λ rule. subst (IsBroken rule) leaves.0.now)
+        (told' (still_in (state g old.conn.now) (state g mid.conn.now) leaves.0.goes_on live) t
+        (subst (λ (db : Database). Shows db t) (sym leaves.0.now) shows) so))
         (λ leaves leaves' live.
         let on = leaves.0.goes_on in
         let it = leaves' (still_in (state g old.conn.now) (state g mid.conn.now) on live) in (
@@ -47,7 +51,7 @@ module _ {S X : Type 0} {g : Ghosts S} {old mid new : Transaction S} {So : Table
 
     abbrev ActsFrom : Transaction S → Result (List (List ℕ)) TableFault → Type 0
     ActsFrom begun answer = (records : List (List ℕ)) → Made records
-        → Acts g (AddsForRecords (state g begun.conn.now).now (length records)) begun new (AreReadyFor (length records))
+        → Acts g (AddsForRecords (state g begun.conn.now).now (length records)) begun new (HasRoomFor (length records))
         (λ tables. tables_past_all tables moment records) (λ tables. replies_past_all tables moment records) answer
 
     pub says_since : IfSome (answer_of tried) (ActsFrom mid) → IfSome (answer_of tried) (ActsFrom old)
@@ -57,7 +61,7 @@ module _ {S X : Type 0} {g : Ghosts S} {old mid new : Transaction S} {So : Table
     abbrev IsBusy : Transaction S → List (List ℕ) → Type 0
     IsBusy begun replies = HasCleanDisk (state g new.conn.now) → IsTrue (state g begun.conn.now).in_transaction
         → (records : List (List ℕ)) → Made records → (t : Tables) → Shows (state g begun.conn.now).now t
-        → AreReadyFor (length records) t → DecidesNone t moment records → ⊥
+        → HasRoomFor (length records) t → DecidesNone t moment records → ⊥
 
     pub busy_since : IfSome (replies_of tried) (IsBusy mid) → IfSome (replies_of tried) (IsBusy old)
     busy_since is = IfSome_then (replies_of tried) {P = IsBusy mid} {Q = IsBusy old} is

@@ -9,7 +9,7 @@ use Rattle.sql_meanings.proofs.{Saying.says_then, Sparing.spares_itself, Sparing
 use Rattle.store_rows.specs.believed.{Failures.Additions, Sparing.bank_names, View.Shows}
 use Rattle.store_rows.specs.declared.fault.TableFault.{TableFault, TheVariants.Sqlite, TheVariants.Damaged}
 use Rattle.bank_transactions.specs.{believed.Causes.Damage, believed.Causes.IsBrokenOrMet, Causes.IsFirstBroken}
-use Rattle.bank_transactions.specs.Doing.{Acts, CommitsNothing, Does, DoesBy, GoesOnUncommitted, LeavesAndAnswers}
+use Rattle.bank_transactions.specs.Doing.{Acts, CommitsNothing, Does, DoesBy, GoesOnUncommitted, LeavesAndAnswers, Looks}
 use Rattle.bank_transactions.proofs.Blamed.{blames_also, broken_or_met, comes, met_after}
 
 -- ---- what goes on
@@ -36,11 +36,19 @@ keeps_then old mid new (Err e) on then = record {
 
 -- ---- what is told
 
--- no damage of a part is none of the whole
-pub same_fault : {X Y : Type 0} (new end : State) (one two : Tables) (x : X) (y : Y) (e : TableFault)
-    → LeavesAndAnswers new one x (Err e) → LeavesAndAnswers end two y (Err e)
-same_fault new end one two x y (Sqlite e) told = tt
-same_fault new end one two x y (Damaged rule) told = told
+-- damage of a part is damage of the whole
+pub same_fault : {X Y : Type 0} (Bad : Rule → Type 0) (new end : State) (one two : Tables) (x : X) (y : Y) (e : TableFault)
+    → LeavesAndAnswers Bad new one x (Err e) → LeavesAndAnswers Bad end two y (Err e)
+same_fault Bad new end one two x y (Sqlite e) told = tt
+same_fault Bad new end one two x y (Damaged rule) told = told
+
+-- damage that says one thing says another that follows
+pub of_bad : {X : Type 0} (Bad Worse : Rule → Type 0) (new : State) (after : Tables) (wanted : X)
+    (r : Result X TableFault) → ((rule : Rule) → Bad rule → Worse rule) → LeavesAndAnswers Bad new after wanted r
+    → LeavesAndAnswers Worse new after wanted r
+of_bad Bad Worse new after wanted (Ok x) so told = told
+of_bad Bad Worse new after wanted (Err (Sqlite e)) so told = tt
+of_bad Bad Worse new after wanted (Err (Damaged rule)) so told = so rule told
 
 -- ---- parts
 
@@ -63,11 +71,11 @@ does_none stays = record {
 -- one part, and then another
 pub does_then : {S X Y : Type 0} {g : Ghosts S} {Adds : Additions} {old mid new : Transaction S} {So So' : Tables → Type 0}
     {after after' : Tables → Tables}
-    {w : Tables → X} {w' : Tables → Y} {x : X} {r : Result Y TableFault} {Met : Damage S}
-    → DoesBy Met g old mid So after w (Ok x)
+    {w : Tables → X} {w' : Tables → Y} {x : X} {r : Result Y TableFault} {Bad Met : Damage S}
+    → DoesBy Bad Met g old mid So after w (Ok x)
     → Does g Adds mid new So' after' w' r → ((t : Tables) → So t → So' (after t))
     → Does g Adds old new So (λ t. after' (after t)) (λ t. w' (after t)) r
-does_then {S} {X} {Y} {g} {Adds} {old} {mid} {new} {So} {So'} {after} {after'} {w} {w'} {x} {r} {Met} one two ready =
+does_then {S} {X} {Y} {g} {Adds} {old} {mid} {new} {So} {So'} {after} {after'} {w} {w'} {x} {r} {Bad} {Met} one two ready =
     record {
       says = says_then g old mid new one.says two.says
           (λ told leaves told' live t shows so.
@@ -84,14 +92,14 @@ does_then {S} {X} {Y} {g} {Adds} {old} {mid} {new} {So} {So'} {after} {after'} {
 -- an error of a part is that of the whole
 pub does_err : {S X Y : Type 0} {g : Ghosts S} {old new : Transaction S} {So So' : Tables → Type 0}
     {after after' : Tables → Tables}
-    {w : Tables → X} {w' : Tables → Y} {e : TableFault} {Met : Damage S}
-    → DoesBy Met g old new So after w (Err e) → ((t : Tables) → So' t → So t)
-    → DoesBy Met g old new So' after' w' (Err e)
-does_err {S} {X} {Y} {g} {old} {new} {So} {So'} {after} {after'} {w} {w'} {e} {Met} part so = record {
+    {w : Tables → X} {w' : Tables → Y} {e : TableFault} {Bad Met : Damage S}
+    → DoesBy Bad Met g old new So after w (Err e) → ((t : Tables) → So' t → So t)
+    → DoesBy Bad Met g old new So' after' w' (Err e)
+does_err {S} {X} {Y} {g} {old} {new} {So} {So'} {after} {after'} {w} {w'} {e} {Bad} {Met} part so = record {
   says = record {
     same_reference = part.says.same_reference;
-    told = λ clean live t shows it. same_fault (state g new.conn.now) (state g new.conn.now) (after t)
-        (after' t) (w t) (w' t) e
+    told = λ clean live t shows it. same_fault (Bad old.conn.now new.conn.now) (state g new.conn.now)
+        (state g new.conn.now) (after t) (after' t) (w t) (w' t) e
         (part.says.told clean live t shows (so t it));
     leaves = part.says.leaves;
     survives = part.says.survives;
@@ -101,16 +109,17 @@ does_err {S} {X} {Y} {g} {old} {new} {So} {So'} {after} {after'} {w} {w'} {e} {M
 -- the same, said in other words
 pub does_for : {S X : Type 0} {g : Ghosts S} {old new : Transaction S} {So So' : Tables → Type 0}
     {after after' : Tables → Tables}
-    {w w' : Tables → X} {r : Result X TableFault} {Met : Damage S} → DoesBy Met g old new So after w r
+    {w w' : Tables → X} {r : Result X TableFault} {Bad Met : Damage S} → DoesBy Bad Met g old new So after w r
     → ((t : Tables) → So' t → So t × (after t ≡ after' t) × (w t ≡ w' t))
-    → DoesBy Met g old new So' after' w' r
-does_for {S} {X} {g} {old} {new} {So} {So'} {after} {after'} {w} {w'} {r} part same = record {
+    → DoesBy Bad Met g old new So' after' w' r
+does_for {S} {X} {g} {old} {new} {So} {So'} {after} {after'} {w} {w'} {r} {Bad} part same = record {
   says = record {
     same_reference = part.says.same_reference;
     told = λ clean live t shows so.
         let is = same t so in
-        subst (λ (u : Tables). LeavesAndAnswers (state g new.conn.now) u (w' t) r) is.1
-        (subst (λ (x : X). LeavesAndAnswers (state g new.conn.now) (after t) x r) is.2
+        let Told = Bad old.conn.now new.conn.now in
+        subst (λ (u : Tables). LeavesAndAnswers Told (state g new.conn.now) u (w' t) r) is.1
+        (subst (λ (x : X). LeavesAndAnswers Told (state g new.conn.now) (after t) x r) is.2
         (part.says.told clean live t shows is.0));
     leaves = part.says.leaves;
     survives = part.says.survives;
@@ -137,11 +146,11 @@ does_adds {S} {X} {g} {Adds} {Adds'} {old} {new} {So} {after} {w} {r} also part 
 -- the answer of the part tells that of the whole
 pub does_tell : {S X Y : Type 0} {g : Ghosts S} {old new : Transaction S} {So So' : Tables → Type 0}
     {after after' : Tables → Tables}
-    {w : Tables → X} {w' : Tables → Y} {x : X} {y : Y} {Met : Damage S}
-    → DoesBy Met g old new So after w (Ok x)
+    {w : Tables → X} {w' : Tables → Y} {x : X} {y : Y} {Bad Met : Damage S}
+    → DoesBy Bad Met g old new So after w (Ok x)
     → ((t : Tables) → So' t → So t × (x ≡ w t → (after t ≡ after' t) × (y ≡ w' t)))
-    → DoesBy Met g old new So' after' w' (Ok y)
-does_tell {S} {X} {Y} {g} {old} {new} {So} {So'} {after} {after'} {w} {w'} {x} {y} {Met} part so = record {
+    → DoesBy Bad Met g old new So' after' w' (Ok y)
+does_tell {S} {X} {Y} {g} {old} {new} {So} {So'} {after} {after'} {w} {w'} {x} {y} {Bad} {Met} part so = record {
   says = record {
     same_reference = part.says.same_reference;
     told = λ clean live t shows it.
@@ -156,10 +165,10 @@ does_tell {S} {X} {Y} {g} {old} {new} {So} {So'} {after} {after'} {w} {w'} {x} {
 
 -- what is so of the tables in any case needn't be asked for
 pub does_known : {S X : Type 0} {g : Ghosts S} {old new : Transaction S} {So Known : Tables → Type 0}
-    {after : Tables → Tables} {w : Tables → X} {r : Result X TableFault} {Met : Damage S}
+    {after : Tables → Tables} {w : Tables → X} {r : Result X TableFault} {Bad Met : Damage S}
     → (HasCleanDisk (state g new.conn.now) → IsTrue (state g old.conn.now).in_transaction → (t : Tables)
     → Shows (state g old.conn.now).now t → So t → Known t)
-    → DoesBy Met g old new (λ t. So t × Known t) after w r → DoesBy Met g old new So after w r
+    → DoesBy Bad Met g old new (λ t. So t × Known t) after w r → DoesBy Bad Met g old new So after w r
 does_known known part = record {
   says = record {
     same_reference = part.says.same_reference;
@@ -172,8 +181,8 @@ does_known known part = record {
 -- ---- where the answer of the first part counts too
 
 module _ {S X Y : Type 0} {g : Ghosts S} {Adds : Additions} {old mid new : Transaction S} {So So' : Tables → Type 0}
-    {after after' : Tables → Tables} {w : Tables → X} {w' : Tables → Y} {x : X} {Met : Damage S}
-    (one : DoesBy Met g old mid So after w (Ok x)) where
+    {after after' : Tables → Tables} {w : Tables → X} {w' : Tables → Y} {x : X} {Bad Met : Damage S}
+    (one : DoesBy Bad Met g old mid So after w (Ok x)) where
   -- one part, and then another, for tables of which the first answer is known
   knowing : {r : Result Y TableFault} → Does g Adds mid new So' after' w' r
       → ((t : Tables) → So t → x ≡ w t → So' (after t))
@@ -202,15 +211,17 @@ module _ {S X Y : Type 0} {g : Ghosts S} {Adds : Additions} {old mid new : Trans
 
 -- ---- a part that reads and then writes
 
-acts_as : {S X : Type 0} {Met : Damage S} {g : Ghosts S} {Adds : Additions} {old new : Transaction S} {So : Tables → Type 0}
-    {after : Tables → Tables}
-    {w : Tables → X} {r : Result X TableFault}
+acts_as : {S X : Type 0} {Bad Met : Damage S} {g : Ghosts S} {Adds : Additions} {old new : Transaction S}
+    {So : Tables → Type 0} {after : Tables → Tables} {w : Tables → X} {r : Result X TableFault}
+    → ((rule : Rule) → Bad old.conn.now new.conn.now rule → IsFirstBroken g old.conn.now new.conn.now rule)
     → ((rule : Rule) → Met old.conn.now new.conn.now rule → IsBrokenOrMet g Adds old.conn.now new.conn.now rule)
-    → DoesBy Met g old new So after w r → Acts g Adds old new So after w r
-acts_as {S} {X} {Met} {g} {Adds} {old} {new} {So} {after} {w} {r} weaker part = record {
+    → DoesBy Bad Met g old new So after w r → Acts g Adds old new So after w r
+acts_as {S} {X} {Bad} {Met} {g} {Adds} {old} {new} {So} {after} {w} {r} worse weaker part = record {
   says = record {
     same_reference = part.says.same_reference;
-    told = part.says.told;
+    told = λ clean live t shows so.
+        of_bad (Bad old.conn.now new.conn.now) (IsFirstBroken g old.conn.now new.conn.now) (state g new.conn.now)
+        (after t) (w t) r worse (part.says.told clean live t shows so);
     leaves = λ clean live.
         let it = part.says.leaves clean live in
         (it.0, broken_or_met Met g old.conn.now new.conn.now r weaker it.1);
@@ -221,12 +232,12 @@ acts_as {S} {X} {Met} {g} {Adds} {old} {new} {So} {after} {w} {r} weaker part = 
 -- it only read so far
 pub acts_read : {S X : Type 0} {g : Ghosts S} {Adds : Additions} {old new : Transaction S} {So : Tables → Type 0}
     {after : Tables → Tables} {w : Tables → X}
-    {r : Result X TableFault} → DoesBy (IsFirstBroken g) g old new So after w r
+    {r : Result X TableFault} → Looks g old new So after w r
     → Acts g Adds old new So after w r
-acts_read part = acts_as (λ rule it. inl it) part
+acts_read part = acts_as (λ rule it. it) (λ rule it. inl it) part
 
 -- it wrote
 pub acts_wrote : {S X : Type 0} {g : Ghosts S} {Adds : Additions} {old new : Transaction S} {So : Tables → Type 0}
     {after : Tables → Tables} {w : Tables → X}
     {r : Result X TableFault} → Does g Adds old new So after w r → Acts g Adds old new So after w r
-acts_wrote part = acts_as (λ rule it. inr it) part
+acts_wrote part = acts_as (λ rule none. absurd none) (λ rule it. inr it) part

@@ -58,7 +58,7 @@ module _ (t : Tables) where
     map-map (request_filled t) emptied_request o.kept,
   ) refl
 
-  filled_over : (o p : Overlay) → emptied o ≡ emptied p → filled t o ≡ filled t p
+  pub filled_over : (o p : Overlay) → emptied o ≡ emptied p → filled t o ≡ filled t p
   filled_over o p same = sym (filled_again o) ∙ ap (filled t) same ∙ filled_again p
 
 -- slots that change and keep their keys stood in the same order

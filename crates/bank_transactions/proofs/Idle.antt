@@ -4,7 +4,7 @@ use Rattle.std.specs.Prelude.{OnOk, Vec, length}
 use Rattle.sqlite.specs.{Effect.Database, State.HasCleanDisk, Held.Held, Held.state}
 use Rattle.sqlite_trees.specs.declared.store.Store.{Ghosts}
 use Rattle.posting_rules.specs.believed.Tables.{Tables}
-use Rattle.posting_batch.specs.believed.Batch.{AreReadyFor}
+use Rattle.bank_transactions.specs.believed.Batches.{HasRoomFor}
 use Rattle.store_rows.specs.{believed.View.Shows, declared.fault.TableFault.TableFault}
 use Rattle.bank_transactions.specs.{Doing.Ends, believed.Batches.DecidesNone}
 use Rattle.bank_transactions.specs.Batches.{items_of, WritesNothing, KeepsOnly}
@@ -36,13 +36,13 @@ module _ (Made : List (List ℕ) → Type 0) (moment : ℕ) {S : Type 0} (g : Gh
   abbrev IdleWithin : Held S → Held S → Type 0
   IdleWithin begun last = HasCleanDisk (state g last) → (records : List (List ℕ)) → Made records
       → (t : Tables)
-      → Shows (state g begun).now t → AreReadyFor (length records) t → DecidesNone t moment records
+      → Shows (state g begun).now t → HasRoomFor (length records) t → DecidesNone t moment records
       → WritesNothing (state g begun) (state g last) t moment records
 
   -- after it
   abbrev IdleAfter : Held S → Held S → Type 0
   IdleAfter old new = HasCleanDisk (state g new) → (records : List (List ℕ)) → Made records → (t : Tables)
-      → Shows (state g old).now t → AreReadyFor (length records) t → DecidesNone t moment records
+      → Shows (state g old).now t → HasRoomFor (length records) t → DecidesNone t moment records
       → KeepsOnly (state g old) (state g new) t moment records
 
   pub idle_after : {X : Type 0} (old begun last end new : Held S) (answer result : Result X TableFault)

@@ -1,30 +1,26 @@
 -- Records whose slots are filled, judged and written: a single one, and those of a batch.
 use Rattle.std.proofs.Common.{◌≡◌, ℕ, List, length, map, Result, Ok, Err, refl, sym, ap, subst, ◌∙◌}
-use Rattle.sqlite.specs.declared.transaction.Transaction.{Transaction}
+use Rattle.sqlite.specs.{Held.state, State.HasCleanDisk, declared.transaction.Transaction.Transaction}
 use Rattle.sqlite_trees.specs.declared.store.Store.{Ghosts}
 use Rattle.message_records.specs.believed.{Reading.request_of, Records.RequestFields, Spelling.reply_spelling}
 use Rattle.posting_rules.specs.believed.Changes.{tables_past_all, replies_past_all, tables_with, reply_bytes}
-use Rattle.posting_rules.specs.{believed.Tables.Tables, believed.Damage.IsUndamaged}
+use Rattle.posting_rules.specs.believed.Tables.{Tables}
 use Rattle.posting_batch.specs.{declared.batch.Batch.Batch, Judging.overlay_with, Judging.reply_over, Overlay.Overlay}
 use Rattle.posting_batch.specs.{Overlay.tables_over, View.view, View.reads_of, View.IsMadeOf, View.IsFilledFrom}
 use Rattle.posting_batch.specs.Batch.{HasHomes, HasRisingSlots, ChangesRows, AddsFreeRows, filled, covering, no_slots}
-use Rattle.posting_batch.specs.{Batch.IsJudged, believed.Batch.AreReadyFor, believed.Batch.HasFreeOrdinals}
-use Rattle.posting_batch.proofs.Covered.{stands, homes_all}
+use Rattle.posting_batch.specs.{Batch.IsJudged, believed.Batch.HasFreeOrdinals}
+use Rattle.posting_batch.proofs.Covered.{stands}
 use Rattle.posting_batch.proofs.OneRecord.{one_adds, one_back, one_changes, one_filled, one_homes, one_judged}
 use Rattle.posting_batch.proofs.OneRecord.{one_reply, one_rising, one_tables}
-use Rattle.store_rows.specs.{believed.Failures.Additions, declared.fault.TableFault.TableFault}
-use Rattle.bank_transactions.specs.{Causes.IsFirstBroken}
-use Rattle.bank_transactions.specs.Doing.{Acts, Does, DoesBy}
+use Rattle.store_rows.specs.{believed.Failures.Additions, believed.Rules.OfRows, declared.fault.TableFault.TableFault}
+use Rattle.bank_transactions.specs.{believed.Batches.HasRoomFor, Filling.AreHeld, Filling.emptied}
+use Rattle.bank_transactions.specs.Doing.{Acts, Does, Looks, ReadsWhere}
 use Rattle.bank_transactions.proofs.Chained.{acts_read, acts_wrote, does_both, does_but, does_for, does_tell}
-use Rattle.bank_transactions.proofs.Together.{Written}
-
-abbrev pub Ready : Overlay → Tables → Type 0
-Ready o t = IsUndamaged t × HasHomes o
+use Rattle.bank_transactions.proofs.{LookUps.finds_so, ShownSlots.shown_filled, Together.Written, Together.numbers}
 
 -- what judging records comes to, whose slots were these and are filled now
 pub record Judging {X : Type 0} (So : Tables → Type 0) (after : Tables → Tables) (wanted : Tables → X)
     (slots filled_slots judged : Overlay) (x : X) : Type 0 where
-  pub ready : (t : Tables) → So t → Ready slots t
   pub tables : (t : Tables) → So t → filled_slots ≡ filled t slots → tables_over judged t ≡ after t
   pub answers : (t : Tables) → So t → filled_slots ≡ filled t slots → x ≡ wanted t
   pub writes : (t : Tables) → So t → filled_slots ≡ filled t slots → Written judged t
@@ -44,10 +40,7 @@ module _ {X : Type 0} {So : Tables → Type 0} {after : Tables → Tables} {want
   written_so second = does_for second (λ t it. (so.writes t it.0 it.1, so.tables t it.0 it.1, refl))
 
   module _ {S : Type 0} {g : Ghosts S} {old mid : Transaction S}
-      (first : DoesBy (IsFirstBroken g) g old mid (Ready p) (λ t. t) (λ t. filled t p) (Ok p')) where
-    filled_so : DoesBy (IsFirstBroken g) g old mid So (λ t. t) (λ t. filled t p) (Ok p')
-    filled_so = does_for first (λ t it. (so.ready t it, refl, refl))
-
+      (first : Looks g old mid So (λ t. t) (λ t. filled t p) (Ok p')) where
     -- where the count stays, it is the one that was read
     pub counts_none : (t : Tables) → So t → p' ≡ filled t p → (after t).decided ≡ t.decided
         → o.decided ≡ p'.decided
@@ -57,25 +50,28 @@ module _ {X : Type 0} {So : Tables → Type 0} {after : Tables → Tables} {want
     -- nothing is written, and the tables are as they were
     pub answered_idle : {Adds : Additions} → o.decided ≡ p'.decided → Acts g Adds old mid So after wanted (Ok x)
     answered_idle none =
-        acts_read (does_tell first (λ t it. (so.ready t it, λ e. (sym (so.back none t it e), so.answers t it e))))
+        acts_read (does_tell first (λ t it. (it, λ e. (sym (so.back none t it e), so.answers t it e))))
 
     pub answered_written : {Adds : Additions} {new : Transaction S}
         → Does {X = Unit {0}} g Adds mid new (Written o) (λ t. tables_over o t) (λ _. tt {0}) (Ok (tt {0}))
         → Acts g Adds old new So after wanted (Ok x)
     answered_written second =
-        acts_wrote (does_both filled_so (written_so second) (λ t it e. ((it, e), refl, so.answers t it e)))
+        acts_wrote (does_both first (written_so second) (λ t it e. ((it, e), refl, so.answers t it e)))
 
     pub answered_not : {Adds : Additions} {new : Transaction S} {e : TableFault}
         → Does {X = Unit {0}} g Adds mid new (Written o) (λ t. tables_over o t) (λ _. tt {0}) (Err e)
         → Acts {X = X} g Adds old new So after wanted (Err e)
-    answered_not second = acts_wrote (does_but filled_so (written_so second) (λ t it e. (it, e)))
+    answered_not second = acts_wrote (does_but first (written_so second) (λ t it e. (it, e)))
 
 -- ---- a batch
 
-pub ready : (b : Batch) (records : List (List ℕ)) → IsMadeOf b records → (t : Tables)
-    → AreReadyFor (length records) t → Ready (view b.overlay) t
-ready b records made t it =
-    (it.0, subst HasHomes (sym made.overlay) (homes_all (map request_of records)))
+-- the slots are filled from the tables that are shown
+pub fills : {S : Type 0} {g : Ghosts S} {old new : Transaction S} {So : Tables → Type 0} {w : Tables → Overlay}
+    (count : ℕ) (p' p : Overlay) → ReadsWhere g old new So w (Ok p') → emptied p' ≡ emptied p
+    → (HasCleanDisk (state g new.conn.now) → OfRows (λ rows. AreHeld rows p') (state g old.conn.now).now)
+    → ReadsWhere g old new (HasRoomFor count) (λ t. filled t p) (Ok p')
+fills {g = g} {old = old} count p' p reads same held = finds_so reads (λ clean t shows room.
+    shown_filled (state g old.conn.now).now t count p' p shows room same (held clean))
 
 pub judging_all : (b b' : Batch) (records : List (List ℕ)) (m : ℕ) (o : Overlay) (items : List (List ℕ))
     → IsMadeOf b records → reads_of b' ≡ reads_of b
@@ -83,7 +79,7 @@ pub judging_all : (b b' : Batch) (records : List (List ℕ)) (m : ℕ) (o : Over
     → IsJudged o items t m rs)
     → (HasRisingSlots (view b'.overlay) → HasRisingSlots o)
     → (o.decided ≡ b'.overlay.decided → o ≡ view b'.overlay)
-    → Judging (AreReadyFor (length records)) (λ t. tables_past_all t m records)
+    → Judging (HasRoomFor (length records)) (λ t. tables_past_all t m records)
     (λ t. replies_past_all t m records) (view b.overlay) (view b'.overlay) o items
 judging_all b b' records m o items made same judged rising idle =
     let is : (t : Tables) → view b'.overlay ≡ filled t (view b.overlay) → IsFilledFrom b' t records =
@@ -91,15 +87,14 @@ judging_all b b' records m o items made same judged rising idle =
       reads = same ∙ made.reads;
       overlay = e ∙ ap (λ (p : Overlay). filled t p) made.overlay;
     } in
-    let so : (t : Tables) → AreReadyFor (length records) t → view b'.overlay ≡ filled t (view b.overlay)
+    let so : (t : Tables) → HasRoomFor (length records) t → view b'.overlay ≡ filled t (view b.overlay)
     → IsJudged o items t m records =
-    λ t it e. judged t records (is t e) it.1 in
+    λ t it e. judged t records (is t e) it.free in
     record {
-      ready = ready b records made;
       tables = λ t it e. (so t it e).tables;
       answers = λ t it e. (so t it e).answers;
       writes = λ t it e. (
-        it.0,
+        numbers t o.branches (length records) it (so t it e).changes.branches,
         rising (subst HasRisingSlots (sym (is t e).overlay) (stands t (map request_of records)).rising),
         (so t it e).changes,
         (so t it e).adds,
@@ -115,30 +110,26 @@ judging_all b b' records m o items made same judged rising idle =
 pub homes_one : (r : RequestFields) (p : Overlay) → p ≡ covering no_slots (Ok r) → HasHomes p
 homes_one r p made = subst HasHomes (sym made) (one_homes r)
 
-pub ready_one : (r : RequestFields) (p : Overlay) → p ≡ covering no_slots (Ok r) → (t : Tables)
-    → AreReadyFor 1 t → Ready p t
-ready_one r p made t it = (it.0, homes_one r p made)
-
 pub judging_one : (r : RequestFields) (m : ℕ) (p p' o : Overlay) (reply : List ℕ)
     → p ≡ covering no_slots (Ok r) → reply ≡ reply_spelling (reply_over p' (Ok r))
     → o ≡ overlay_with p' m (Ok r)
-    → Judging (AreReadyFor 1) (λ t. tables_with t m r) (λ t. reply_bytes t r) p p' o reply
+    → Judging (HasRoomFor 1) (λ t. tables_with t m r) (λ t. reply_bytes t r) p p' o reply
 judging_one r m p p' o reply made told after =
     let is : (t : Tables) → p' ≡ filled t p → p' ≡ one_filled t m r =
     λ t e. e ∙ ap (λ (q : Overlay). filled t q) made in
     let so : (t : Tables) → p' ≡ filled t p → o ≡ one_judged t m r =
     λ t e. after ∙ ap (λ (q : Overlay). overlay_with q m (Ok r)) (is t e) in
     record {
-      ready = ready_one r p made;
       tables = λ t it e. ap (λ (q : Overlay). tables_over q t) (so t e) ∙ one_tables t m r;
       answers = λ t it e.
           told ∙ ap (λ (q : Overlay). reply_spelling (reply_over q (Ok r))) (is t e) ∙ one_reply t m r;
-      writes = λ t it e. (
-        it.0,
-        subst HasRisingSlots (sym (so t e)) (one_rising t m r),
-        subst (λ (q : Overlay). ChangesRows q t) (sym (so t e)) (one_changes t m r),
-        subst (λ (q : Overlay). AddsFreeRows q t) (sym (so t e)) (one_adds t m r it.1),
-      );
+      writes = λ t it e.
+          let changes = subst (λ (q : Overlay). ChangesRows q t) (sym (so t e)) (one_changes t m r) in (
+            numbers t o.branches 1 it changes.branches,
+            subst HasRisingSlots (sym (so t e)) (one_rising t m r),
+            changes,
+            subst (λ (q : Overlay). AddsFreeRows q t) (sym (so t e)) (one_adds t m r it.free),
+          );
       back = λ none t it e.
           one_back t m r (sym (ap (λ (q : Overlay). q.decided) (so t e)) ∙ none
           ∙ ap (λ (q : Overlay). q.decided) (is t e));

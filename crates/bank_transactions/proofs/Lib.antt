@@ -11,6 +11,7 @@ pub mod NextRow
 pub mod OpeningRows
 pub mod ReadsInTurn
 pub mod SoundRows
+pub mod ShownSlots
 pub mod Statements
 pub mod Transacted
 pub mod LookUps

@@ -10,11 +10,11 @@ use Rattle.sql_meanings.specs.Calls.{Says}
 use Rattle.sql_meanings.proofs.{Saying.says_then, Sparing.spares_itself, Sparing.spares_same}
 use Rattle.store_rows.specs.believed.{Sparing.bank_names, View.Shows, Rules.IsBroken}
 use Rattle.store_rows.specs.declared.fault.TableFault.{TableFault, TheVariants.Sqlite, TheVariants.Damaged}
-use Rattle.bank_transactions.specs.{believed.Causes.IsBefore, Causes.Blames, Causes.IsFirstBroken}
-use Rattle.bank_transactions.specs.Doing.{ChangesNothing, CommitsNothing, DoesBy, LeavesAndAnswers, Reads, ReadsWhere}
+use Rattle.bank_transactions.specs.{believed.Causes.IsBefore, Causes.Blames, Causes.IsFault, Causes.IsFirstBroken}
+use Rattle.bank_transactions.specs.Doing.{ChangesNothing, CommitsNothing, LeavesAndAnswers, Looks, Reads, ReadsWhere}
 use Rattle.bank_transactions.specs.Doing.{Stays}
 use Rattle.bank_transactions.proofs.{Blamed.comes, Blamed.fault_within, Blamed.same_moment, Chained.does_for}
-use Rattle.bank_transactions.proofs.{Chained.keeps_then, KeepsRules.unbroken}
+use Rattle.bank_transactions.proofs.{Chained.keeps_then}
 
 -- what is unchanged stays as it is
 pub stays : (old new : State) → IsUnchanged old new → Stays old new
@@ -154,37 +154,74 @@ reads_pair one two = reads_both one two (λ t so first. so) (λ t so first last.
 
 -- ---- what they do
 
--- of undamaged tables no damage is told, since it is of the rows that were there
+-- damage is of the rows that were there
+look_fault : {S X : Type 0} (g : Ghosts S) (old new : Held S) (t : Tables) (w : X) (e : TableFault)
+    → IsFault (IsFirstBroken g) g old new e → LeavesAndAnswers {X = X} (IsFirstBroken g old new) (state g new) t w (Err e)
+look_fault g old new t w (Sqlite e) why = tt
+look_fault g old new t w (Damaged rule) why = why
+
 looked : {S X : Type 0} (g : Ghosts S) (old new : Held S) (t : Tables) (w : X) (r : Result X TableFault)
-    → Shows (state g old).now t → IsUndamaged t → IfOk r (λ x. x ≡ w)
+    → Shows (state g old).now t → IfOk r (λ x. x ≡ w)
     → ChangesNothing (state g old) (state g new) r × Blames (IsFirstBroken g) g old new r
-    → LeavesAndAnswers (state g new) t w r
-looked g old new t w (Ok x) shows sound told leaves =
+    → LeavesAndAnswers (IsFirstBroken g old new) (state g new) t w r
+looked g old new t w (Ok x) shows told leaves =
     (told, subst (λ (db : Database). Shows db t) (sym leaves.0.now) shows)
-looked g old new t w (Err (Sqlite e)) shows sound told leaves = tt
-looked g old new t w (Err (Damaged rule)) shows sound told leaves =
-    unbroken (state g old).now t shows sound rule leaves.1
+looked g old new t w (Err e) shows told leaves = look_fault g old new t w e leaves.1
 
 look_keeps : {X : Type 0} (old new : State) (r : Result X TableFault) → ChangesNothing old new r
     → CommitsNothing old new r
 look_keeps old new (Ok x) looks = looks.goes_on
 look_keeps old new (Err e) looks = looks
 
+look_leaves : {S X : Type 0} {g : Ghosts S} {old new : Transaction S} {So : Tables → Type 0} {w : Tables → X}
+    {r : Result X TableFault} → ReadsWhere g old new So w r → HasCleanDisk (state g new.conn.now)
+    → CommitsNothing (state g old.conn.now) (state g new.conn.now) r
+    × Blames (IsFirstBroken g) g old.conn.now new.conn.now r
+look_leaves {g = g} {old = old} {new = new} {r = r} reads clean =
+    let it = reads.says.leaves clean in
+    (look_keeps (state g old.conn.now) (state g new.conn.now) r it.0, it.1)
+
 -- a look-up leaves the tables
 pub does_look : {S X : Type 0} {g : Ghosts S} {old new : Transaction S} {So : Tables → Type 0}
-    {w : Tables → X} {r : Result X TableFault} → ReadsWhere g old new So w r
-    → ((t : Tables) → So t → IsUndamaged t) → DoesBy (IsFirstBroken g) g old new So (λ t. t) w r
-does_look {S} {X} {g} {old} {new} {So} {w} {r} reads sound = record {
+    {w : Tables → X} {r : Result X TableFault} → ReadsWhere g old new So w r → Looks g old new So (λ t. t) w r
+does_look {S} {X} {g} {old} {new} {So} {w} {r} reads = record {
   says = record {
     same_reference = reads.says.same_reference;
-    told = λ clean live t shows so. looked g old.conn.now new.conn.now t (w t) r shows (sound t so)
+    told = λ clean live t shows so. looked g old.conn.now new.conn.now t (w t) r shows
         (reads.says.told clean t shows so) (reads.says.leaves clean);
-    leaves = λ clean live. let it =
-        reads.says.leaves clean in (look_keeps (state g old.conn.now) (state g new.conn.now) r it.0, it.1);
+    leaves = λ clean live. look_leaves reads clean;
+    survives = reads.says.survives;
+  };
+}
+
+-- whatever was asked of the tables, what is told is of the rows that were there
+pub does_fail : {S X Y : Type 0} {g : Ghosts S} {old new : Transaction S} {So So' : Tables → Type 0}
+    {after : Tables → Tables} {w : Tables → X} {w' : Tables → Y} {e : TableFault}
+    → ReadsWhere g old new So w (Err e) → Looks g old new So' after w' (Err e)
+does_fail {S} {X} {Y} {g} {old} {new} {So} {So'} {after} {w} {w'} {e} reads = record {
+  says = record {
+    same_reference = reads.says.same_reference;
+    told = λ clean live t shows so. look_fault g old.conn.now new.conn.now (after t) (w' t) e
+        (reads.says.leaves clean).1;
+    leaves = λ clean live. look_leaves reads clean;
+    survives = reads.says.survives;
+  };
+}
+
+-- what was read is what is found in tables that are so
+pub finds_so : {S X Y : Type 0} {g : Ghosts S} {old new : Transaction S} {So So' : Tables → Type 0} {w : Tables → X}
+    {w' : Tables → Y} {x : X} {y : Y} → ReadsWhere g old new So w (Ok x)
+    → (HasCleanDisk (state g new.conn.now) → (t : Tables) → Shows (state g old.conn.now).now t → So' t → y ≡ w' t)
+    → ReadsWhere g old new So' w' (Ok y)
+finds_so reads is = record {
+  says = record {
+    same_reference = reads.says.same_reference;
+    told = is;
+    leaves = reads.says.leaves;
     survives = reads.says.survives;
   };
 }
 
 pub does_read : {S X : Type 0} {g : Ghosts S} {old new : Transaction S} {w : Tables → X} {r : Result X TableFault}
-    → Reads g old new w r → DoesBy (IsFirstBroken g) g old new AreSound (λ t. t) w r
-does_read reads = does_for (does_look reads (λ t sound. sound)) (λ t sound. (sound.undamaged, refl, refl))
+    → Reads g old new w r → Looks g old new AreSound (λ t. t) w r
+does_read reads = does_for (does_look reads) (λ t sound. (sound.undamaged, refl, refl))

@@ -27,10 +27,11 @@ use Rattle.store_rows.proofs.{TheTables.requests}
 use Rattle.sqlite_rules.specs.Lists.{Has}
 use Rattle.bank_transactions.specs.{believed.Additions.AddsRequests, believed.Causes.Damage, Causes.IsFirstBroken}
 use Rattle.bank_transactions.specs.{believed.Stored.HoldsKept, Writing.MayAddRequests}
-use Rattle.bank_transactions.specs.Doing.{Acts, CommitsNothing, Does, DoesBy, ReadsWhere}
+use Rattle.bank_transactions.specs.Doing.{Acts, CommitsNothing, Does, DoesBy, Looks, ReadsWhere}
 use Rattle.bank_transactions.specs.Filling.{AreHeld, AreKnown, RequestHeld, emptied, known}
 use Rattle.bank_transactions.specs.Tries.{IsMadeAgain, may_be_kept}
-use Rattle.bank_transactions.proofs.JudgedSlots.{Judging, Knows, Ready, written_so}
+use Rattle.bank_transactions.proofs.JudgedSlots.{Judging, Knows, written_so}
+use Rattle.bank_transactions.proofs.LookUps.{does_look, finds_so}
 use Rattle.bank_transactions.proofs.Together.{Written}
 use Rattle.bank_transactions.proofs.Chained.{acts_wrote, does_err, does_for, does_known, does_tell, does_then, still_in}
 
@@ -101,40 +102,6 @@ nowhere es p o none own same new =
     same_keys (IsNowhere es) (λ s it. it) (λ s it. it) o.kept p.kept (ap (λ (q : Overlay). q.kept) same)
     (all_nowhere es o.requests o.kept new none own)
 
--- ---- in tables
-
-not_kept : (t : Tables) (n m : ℕ) → find (has_two (pos n) (pos m)) (map request_entry t.requests) ≡ None
-    → kept_in t.requests t.references n m ≡ None
-not_kept t n m none =
-    go (find asks t.requests)
-    (sym (found_by (λ r. r.ordinal) request_entry (λ r. refl) (has_two (pos n) (pos m)) asks (has_both n m)
-    t.requests)
-    ∙ none)
-  where
-    asks : RequestRow → Bool
-    asks r = (eqb r.teller n) && (eqb r.number m)
-
-    go : (o : Option RequestRow) → option_map request_entry o ≡ None
-        → option_map (kept_of_row t.references) o ≡ None
-    go None none = refl
-    go (Some r) none = absurd cc
-
-filled_none : (t : Tables) (slots : List RequestSlot) → AllByRecursion (λ s. s.kept ≡ None) slots
-    → AllByRecursion (IsNowhere (map request_entry t.requests)) slots → map (request_filled t) slots ≡ slots
-filled_none t [] unkept nowhere = refl
-filled_none t (s ∷ slots) unkept nowhere =
-    let none = not_kept t s.teller s.number nowhere.0 ∙ sym unkept.0 in
-    let first : request_filled t s ≡ s = ap (λ (k : Option KeptFields). record s { kept = k }) none in
-    ap (λ (x : RequestSlot). x ∷ map (request_filled t) slots) first
-    ∙ ap (λ (xs : List RequestSlot). s ∷ xs) (filled_none t slots unkept.1 nowhere.1)
-
--- what is known is all
-pub known_all : (t : Tables) (p p' : Overlay) → AllByRecursion (λ s. s.kept ≡ None) p.kept
-    → AllByRecursion (IsNowhere (map request_entry t.requests)) p.kept → p' ≡ known t p → p' ≡ filled t p
-known_all t p p' unkept nowhere is =
-    is ∙ ap (λ (slots : List RequestSlot). record (filled t p) { kept = slots })
-    (sym (filled_none t p.kept unkept nowhere))
-
 -- ---- in rows
 
 held_none : (rows : StoredRows) (slots : List RequestSlot) → AllByRecursion (λ s. s.kept ≡ None) slots
@@ -157,9 +124,6 @@ known_held rows p unkept nowhere it = record {
 }
 
 -- the requests that a file holds
-pub requests_shown : (db : Database) (t : Tables) → Shows db t → HoldsRows db request (map request_entry t.requests)
-requests_shown db t shows = record { sound = shows.sound; holds = holds requests db t shows }
-
 pub requests_held : (db : Database) (rows : StoredRows) → HoldsBank db rows → HoldsRows db request rows.requests
 requests_held db rows has =
     record { sound = has.sound; holds = holds_list db rows has 5 request rows.requests refl refl }
@@ -215,8 +179,8 @@ commits_none old new (Ok x) it = record { was_open = it.opened; committed = λ _
 commits_none old new (Err e) it = it
 
 -- it commits nothing
-pub quiet : {S X : Type 0} {Met : Damage S} {g : Ghosts S} {old new : Transaction S} {So : Tables → Type 0}
-    {after : Tables → Tables} {w : Tables → X} {r : Result X TableFault} → DoesBy Met g old new So after w r
+pub quiet : {S X : Type 0} {Bad Met : Damage S} {g : Ghosts S} {old new : Transaction S} {So : Tables → Type 0}
+    {after : Tables → Tables} {w : Tables → X} {r : Result X TableFault} → DoesBy Bad Met g old new So after w r
     → Says g old new (λ _ _. Unit {0}) (Inside KeepsCommit)
 quiet {g = g} {old = old} {new = new} {r = r} does = record {
   same_reference = does.says.same_reference;
@@ -226,53 +190,45 @@ quiet {g = g} {old = old} {new = new} {r = r} does = record {
 }
 
 -- whatever the tables: one part, and then another
-pub blind : {S X Y : Type 0} {Met : Damage S} {g : Ghosts S} {Adds : Additions} {old mid new : Transaction S}
+pub blind : {S X Y : Type 0} {Bad Met : Damage S} {g : Ghosts S} {Adds : Additions} {old mid new : Transaction S}
     {So So' : Tables → Type 0} {one two : Tables → Tables} {w : Tables → X} {w' : Tables → Y} {x : X}
-    {r : Result Y TableFault} → DoesBy Met g old mid So one w (Ok x) → Does g Adds mid new So' two w' r
+    {r : Result Y TableFault} → DoesBy Bad Met g old mid So one w (Ok x) → Does g Adds mid new So' two w' r
     → Does g Adds old new (λ _. ⊥) (λ t. two (one t)) (λ t. w' (one t)) r
-blind {S} {X} {Y} {Met} {g} {Adds} {old} {mid} {new} {So} {So'} {one} {two} {w} {w'} {x} {r} first second =
-    let a : DoesBy Met g old mid (λ _. ⊥) one w (Ok x) = does_for first (λ t none. absurd none) in
+blind {S} {X} {Y} {Bad} {Met} {g} {Adds} {old} {mid} {new} {So} {So'} {one} {two} {w} {w'} {x} {r} first second =
+    let a : DoesBy Bad Met g old mid (λ _. ⊥) one w (Ok x) = does_for first (λ t none. absurd none) in
     let b : Does g Adds mid new (λ _. ⊥) two w' r = does_for second (λ t none. absurd none) in
     does_then a b (λ t none. none)
 
 module _ {S X : Type 0} {g : Ghosts S} {old mid new : Transaction S} {So : Tables → Type 0}
     {after : Tables → Tables} {wanted : Tables → X} {p p' o : Overlay} {x : X}
-    (so : Judging So after wanted p p' o x)
-    (first : DoesBy (IsFirstBroken g) g old mid (Ready p) (λ t. t) (λ t. known t p) (Ok p'))
+    (so : Judging So after wanted p p' o x) {So' : Tables → Type 0} {w : Tables → Overlay}
+    (first : ReadsWhere g old mid So' w (Ok p'))
     (all : HasCleanDisk (state g new.conn.now) → IsTrue (state g old.conn.now).in_transaction → (t : Tables)
-    → Shows (state g old.conn.now).now t → p' ≡ known t p → p' ≡ filled t p) where
+    → Shows (state g old.conn.now).now t → So t → p' ≡ filled t p) where
   -- the slots are filled as they were found, since none is of a request that was kept
-  found_so : {Adds : Additions} {r : Result (Unit {0}) TableFault}
-      → Does {X = Unit {0}} g Adds mid new (Written o) (λ t. tables_over o t) (λ _. tt {0}) r
-      → HasCleanDisk (state g new.conn.now) → IsTrue (state g old.conn.now).in_transaction → (t : Tables)
-      → Shows (state g old.conn.now).now t → So t → p' ≡ filled t p
-  found_so second clean live t shows it =
-      let before : HasCleanDisk (state g mid.conn.now) = omega (arith, second.says.survives.clean, clean) in
-      all clean live t shows (first.says.told before live t shows (so.ready t it)).0
-
   done_so : {Adds : Additions} {r : Result (Unit {0}) TableFault}
       → Does {X = Unit {0}} g Adds mid new (Written o) (λ t. tables_over o t) (λ _. tt {0}) r
       → Does {X = Unit {0}} g Adds old new (Knows so) after (λ _. tt {0}) r
-  done_so second = does_then (does_for first (λ t it. (so.ready t it.0, refl, refl))) (written_so so second)
-      (λ t it. it)
+  done_so second = does_then (does_look (finds_so {So' = Knows so} {w' = λ t. p'} first (λ clean t shows it. refl)))
+      (written_so so second) (λ t it. it)
 
   -- the records are answered
   pub answered_new : {Adds : Additions}
       → Does {X = Unit {0}} g Adds mid new (Written o) (λ t. tables_over o t) (λ _. tt {0}) (Ok (tt {0}))
       → Acts g Adds old new So after wanted (Ok x)
-  answered_new second = acts_wrote (does_known (found_so second)
+  answered_new second = acts_wrote (does_known all
       (does_tell (done_so second) (λ t it. (it, λ e. (refl, so.answers t it.0 it.1)))))
 
   -- an error of the last part is that of all
   pub unanswered_new : {Adds : Additions} {e : TableFault}
       → Does {X = Unit {0}} g Adds mid new (Written o) (λ t. tables_over o t) (λ _. tt {0}) (Err e)
       → Acts {X = X} g Adds old new So after wanted (Err e)
-  unanswered_new second = acts_wrote (does_known (found_so second) (does_err (done_so second) (λ t it. it)))
+  unanswered_new second = acts_wrote (does_known all (does_err (done_so second) (λ t it. it)))
 
 -- the requests weren't put in, and none may be kept
 pub refused_new : {S X Y : Type 0} {g : Ghosts S} {Adds : Additions} {old mid new : Transaction S}
     {So So' Then : Tables → Type 0} {after one two : Tables → Tables} {wanted : Tables → X} {w : Tables → Y} {x : Y}
-    (fault : TableFault) → may_be_kept fault ≡ false → DoesBy (IsFirstBroken g) g old mid So' one w (Ok x)
+    (fault : TableFault) → may_be_kept fault ≡ false → Looks g old mid So' one w (Ok x)
     → Does {X = Unit {0}} g Adds mid new Then two (λ _. tt {0}) (Err fault)
     → Acts {X = X} g Adds old new So after wanted (Err fault)
 refused_new (Sqlite e) none first second = record {
@@ -289,7 +245,7 @@ refused_new (Damaged rule) none first second = absurd cc
 
 module _ {S : Type 0} {g : Ghosts S} {old mid done : Transaction S} (b : Batch) (p' o : Overlay)
     (rows : List RequestRow) (records : List (List ℕ)) (made : IsMadeOf b records)
-    (look : ReadsWhere g old mid (Ready (view b.overlay)) (λ t. known t (view b.overlay)) (Ok p'))
+    {So : Tables → Type 0} {w : Tables → Overlay} (look : ReadsWhere g old mid So w (Ok p'))
     (kept : p'.kept ≡ (view b.overlay).kept) (keys : blanked o ≡ blanked p')
     (own : KeepsNew p' → KeepsNew o) (whole : has_gap o.kept ≡ false) (are : rows ≡ o.requests)
     (puts : Does {X = Unit {0}} g (AddsRequests (Has rows)) mid done (MayAddRequests rows) (requests_put rows)
@@ -310,13 +266,6 @@ module _ {S : Type 0} {g : Ghosts S} {old mid done : Transaction S} (b : Batch) 
       (still_in (state g old.conn.now) (state g mid.conn.now) stays.goes_on live) es there).0 in
       nowhere es p' o whole (own (keeps_none p' unkept)) keys
       (subst (AllByRecursion (IsNew es)) are new)
-
-  pub all_filled : (t : Tables) → Shows (state g old.conn.now).now t → p' ≡ known t (view b.overlay)
-      → p' ≡ filled t (view b.overlay)
-  all_filled t shows is =
-      let es = map request_entry t.requests in
-      known_all t (view b.overlay) p' (made_empty b records made)
-      (subst (AllByRecursion (IsNowhere es)) kept (all_new es (requests_shown (state g old.conn.now).now t shows))) is
 
   pub all_held : OfRows (λ rows. AreKnown rows p') (state g old.conn.now).now
       → OfRows (λ rows. AreHeld rows p') (state g old.conn.now).now

@@ -34,7 +34,7 @@ write_keeps old new text values (Err e) live (inr undone, why) spared =
 
 added : (old new : State) (table : Table) (taken : Bool) (after : Tables) (r : Result (Unit {0}) TableFault)
     → taken ≡ false → PutsOneRow old new table taken after r
-    → LeavesAndAnswers new after tt r
+    → LeavesAndAnswers (λ rule. ⊥) new after tt r
 added old new table taken after (Ok done) free adds = (refl, adds.1)
 added old new table taken after (Err (Sqlite e)) free adds = tt
 added old new table taken after (Err (Damaged rule)) free adds = let is = adds.1 in cc
@@ -64,7 +64,7 @@ does_add {Adds = Adds} g old new text values table taken more r says own free = 
 
 written : (old new : State) (table : Table) (there : Bool) (after : Tables) (r : Result Bool Error)
     (rule : Rule) → IsTrue there
-    → SetsRow old new table there after r → LeavesAndAnswers new after tt (expected r rule)
+    → SetsRow old new table there after r → LeavesAndAnswers (λ rule. ⊥) new after tt (expected r rule)
 written old new table there after (Ok true) rule is writes = (refl, writes.1)
 written old new table there after (Ok false) rule is writes = let no = writes.0 in cc
 written old new table there after (Err e) rule is writes = tt

@@ -1,5 +1,5 @@
 -- All rows of a batch are written.
-use Rattle.std.proofs.Common.{◌≡◌, ℕ, List, [], ◌∷◌, Option, Some, None, Ok, Result, refl, subst, inl, inr}
+use Rattle.std.proofs.Common.{◌≡◌, ℕ, List, [], ◌∷◌, Option, Some, None, Ok, Result, refl, subst, sym, inl, inr}
 use Rattle.std.specs.Prelude.{ℤ, IsSome, IfSome}
 use Rattle.std.specs.List.{AllByRecursion}
 use Rattle.message_records.specs.{believed.Ranges.whole_within, declared.limits.TheConstants.MAX_BRANCH}
@@ -7,7 +7,6 @@ use Rattle.sqlite.specs.{Order.Row, declared.transaction.Transaction.Transaction
 use Rattle.sqlite_rules.specs.Lists.{Has}
 use Rattle.sqlite_trees.specs.declared.store.Store.{Ghosts}
 use Rattle.posting_rules.specs.declared.rows.{BranchRow.BranchRow, RequestRow.RequestRow}
-use Rattle.posting_rules.specs.believed.Damage.{IsUndamaged}
 use Rattle.posting_rules.specs.believed.Tables.{Tables, row_at, branch_key}
 use Rattle.posting_batch.specs.declared.slots.BranchSlot.{BranchSlot}
 use Rattle.posting_batch.specs.Batch.{HasRisingSlots, ChangesRows, AddsFreeRows}
@@ -19,7 +18,8 @@ use Rattle.store_rows.specs.{believed.Failures.Additions, declared.fault.TableFa
 use Rattle.bank_transactions.specs.believed.Additions.{AddsPostings, AddsReferences, AddsRequests, ChangesRow}
 use Rattle.bank_transactions.specs.{Additions.AddsNew, Doing.Does}
 use Rattle.bank_transactions.proofs.Chained.{does_adds, does_for, does_then}
-use Rattle.bank_transactions.proofs.SoundRows.{no_branch_beyond, within_or_none}
+use Rattle.bank_transactions.proofs.SoundRows.{within_or_none}
+use Rattle.bank_transactions.specs.believed.Batches.{HasRoomFor}
 use Rattle.bank_transactions.specs.Writing.{AreBranchNumbers, MayChangeAccounts, MayChangeTellers, MayAddPostings}
 use Rattle.bank_transactions.specs.Writing.{MayAddReferences, MayAddRequests, MayChangeBranches, MayWriteAfter}
 use Rattle.bank_transactions.specs.Writing.{after_requests}
@@ -30,23 +30,23 @@ not_there : (o : Option BranchRow) → IsSome o → None ≡ o → ⊥
 not_there None there is = absurd cc
 not_there (Some x) there is = absurd cc
 
-number_is : (t : Tables) (n : ℕ) → IsUndamaged t → IsSome (row_at branch_key t.branches n)
+number_is : (t : Tables) (n count : ℕ) → HasRoomFor count t → IsSome (row_at branch_key t.branches n)
     → whole_within 1 MAX_BRANCH n ≡ Some n
-number_is t n sound there = elim (within_or_none n) [
+number_is t n count room there = elim (within_or_none n) [
   | inl is ↦ is
-  | inr none ↦ absurd (not_there (row_at branch_key t.branches n) there (no_branch_beyond t n sound none))
+  | inr none ↦ absurd (not_there (row_at branch_key t.branches n) there (sym (room.branches n none)))
 ]
 
-numbers : (t : Tables) (slots : List BranchSlot) → IsUndamaged t
+pub numbers : (t : Tables) (slots : List BranchSlot) (count : ℕ) → HasRoomFor count t
     → AllByRecursion (λ s. IfSome s.changed (λ z. IsSome (row_at branch_key t.branches s.branch))) slots
     → AreBranchNumbers slots
-numbers t [] sound all = tt
-numbers t (s ∷ slots) sound all = (one s.changed all.0, numbers t slots sound all.1)
+numbers t [] count room all = tt
+numbers t (s ∷ slots) count room all = (one s.changed all.0, numbers t slots count room all.1)
   where
     one : (c : Option ℤ) → IfSome c (λ z. IsSome (row_at branch_key t.branches s.branch))
         → IfSome c (λ z. whole_within 1 MAX_BRANCH s.branch ≡ Some s.branch)
     one None h = tt
-    one (Some z) h = number_is t s.branch sound h
+    one (Some z) h = number_is t s.branch count room h
 
 -- ---- the tables one after another
 
@@ -117,14 +117,14 @@ step {S} {A} {g} {a} {b} {c} {r} {o} {before} {made} {May} {Adds} after same fir
 -- ---- the requests first
 
 abbrev pub Written : Overlay → Tables → Type 0
-Written o t = IsUndamaged t × HasRisingSlots o × ChangesRows o t × AddsFreeRows o t
+Written o t = AreBranchNumbers o.branches × HasRisingSlots o × ChangesRows o t × AddsFreeRows o t
 
 -- the rest may be written after the requests
 after : (o : Overlay) (t : Tables) → Written o t → MayWriteAfter o (requests_put o.requests t)
 after o t so = (
   so.1,
   record { branches = so.2.branches; tellers = so.2.tellers; accounts = so.2.accounts },
-  numbers t o.branches so.0 so.2.branches,
+  so.0,
   so.3.history,
   so.3.references,
 )

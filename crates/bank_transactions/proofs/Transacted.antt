@@ -2,11 +2,11 @@
 use Rattle.std.proofs.Common.{◌≡◌, ℕ, Result, Ok, Err, refl, sym, subst, arith, inl, inr, ◌∙◌}
 use Rattle.std.specs.Prelude.{false, true, IfOk, IsTrue, OnErr, OnOk}
 use Rattle.sqlite.specs.State.{State, HasCleanDisk, IsRolledBack, KeepsCommit, Survives}
-use Rattle.sqlite.specs.{Held.Held, Held.state, Tree.Trees, declared.transaction.Transaction.Transaction}
+use Rattle.sqlite.specs.{Effect.Database, Held.Held, Held.state, Tree.Trees, declared.transaction.Transaction.Transaction}
 use Rattle.sqlite_trees.specs.declared.store.Store.{Ghosts}
 use Rattle.sqlite.proofs.{Callers.survives_begin, StateLemmas.survives_then}
-use Rattle.posting_rules.specs.{believed.Tables.Tables, Sound.AreSound}
-use Rattle.store_rows.specs.believed.{Sparing.SparesOthers, View.Shows, View.ShowsTrees}
+use Rattle.posting_rules.specs.{believed.Tables.Tables, Sound.AreSound, declared.fault.Rule.Rule}
+use Rattle.store_rows.specs.believed.{Rules.IsBroken, Sparing.SparesOthers, View.Shows, View.ShowsTrees}
 use Rattle.store_rows.specs.believed.Failures.{Additions, Committing}
 use Rattle.store_rows.specs.declared.fault.TableFault.{TableFault, TheVariants.Sqlite, TheVariants.Damaged}
 use Rattle.bank_transactions.specs.believed.{Additions.AddsForRecords, Doing.LeavesOthers}
@@ -21,25 +21,29 @@ use Rattle.bank_transactions.proofs.LookUps.{does_read}
 
 -- ---- by what its parts answered, and with what it ended
 
-not_done : {X : Type 0} (last new : State) (after : Tables) (wanted : X) (fault : TableFault)
-    → LeavesAndAnswers last after wanted (Err fault) → Completes new after wanted (Err fault)
-not_done last new after wanted (Sqlite e) told = tt
-not_done last new after wanted (Damaged rule) told = told
+-- damage is of the rows that this database has
+abbrev IsOf : Database → Rule → Type 0
+IsOf db rule = IsBroken rule db
 
-completes : {X : Type 0} (last new : State) (after : Tables) (wanted : X)
+not_done : {X : Type 0} (old last new : State) (after : Tables) (wanted : X) (fault : TableFault)
+    → LeavesAndAnswers (IsOf old.now) last after wanted (Err fault) → Completes old new after wanted (Err fault)
+not_done old last new after wanted (Sqlite e) told = tt
+not_done old last new after wanted (Damaged rule) told = told
+
+completes : {X : Type 0} (old last new : State) (after : Tables) (wanted : X)
     (answer result : Result X TableFault)
-    → IfOk result (λ x. answer ≡ Ok x) → LeavesAndAnswers last after wanted answer
+    → IfOk result (λ x. answer ≡ Ok x) → LeavesAndAnswers (IsOf old.now) last after wanted answer
     → EndsBy last new answer result
-    → Completes new after wanted result
-completes last new after wanted (Ok x) (Ok y) given told ends =
+    → Completes old new after wanted result
+completes old last new after wanted (Ok x) (Ok y) given told ends =
     let same : y ≡ x = (let is = given in cc) in
     let committed = ends.1 after told.1 in
     (same ∙ told.0, committed.0, committed.1)
-completes last new after wanted (Ok x) (Err (Sqlite e)) given told ends = tt
-completes last new after wanted (Ok x) (Err (Damaged rule)) given told ends = absurd ends
-completes {X} last new after wanted (Err fault) result given told ends =
-    subst (λ (r : Result X TableFault). Completes new after wanted r) (sym ends.0)
-    (not_done last new after wanted fault told)
+completes old last new after wanted (Ok x) (Err (Sqlite e)) given told ends = tt
+completes old last new after wanted (Ok x) (Err (Damaged rule)) given told ends = absurd ends
+completes {X} old last new after wanted (Err fault) result given told ends =
+    subst (λ (r : Result X TableFault). Completes old new after wanted r) (sym ends.0)
+    (not_done old last new after wanted fault told)
 
 -- after a fault all is as it was
 pub rolled : (old last new : State) → (IsTrue old.is_open → old.now ≡ old.committed) → KeepsCommit old last
@@ -67,11 +71,11 @@ of_damage old new (Ok x) it = tt
 of_damage old new (Err (Sqlite e)) it = tt
 of_damage old new (Err (Damaged rule)) it = it
 
-left_by : {X : Type 0} (last : State) (after : Tables) (wanted : X) (answer : Result X TableFault)
-    (left : Trees)
-    → LeavesAndAnswers last after wanted answer → MayCommit last answer left → ShowsTrees left after
-left_by last after wanted (Ok x) left told made = made.1 after told.1
-left_by last after wanted (Err fault) left told made = absurd made
+left_by : {X : Type 0} (Bad : Rule → Type 0) (last : State) (after : Tables) (wanted : X)
+    (answer : Result X TableFault) (left : Trees)
+    → LeavesAndAnswers Bad last after wanted answer → MayCommit last answer left → ShowsTrees left after
+left_by Bad last after wanted (Ok x) left told made = made.1 after told.1
+left_by Bad last after wanted (Err fault) left told made = absurd made
 
 -- an answer leaves the tables of other products
 spared_now : {X : Type 0} (old last new : State) (answer result : Result X TableFault)
@@ -116,74 +120,77 @@ module _ {S X : Type 0} {Met : Damage S} {So : Tables → Type 0} {after : Table
     (new : Held S)
     (is : begun.conn.now ≡ record old { in_transaction = true })
     (settled : IsTrue (state g old).is_open → (state g old).now ≡ (state g old).committed)
-    (does : DoesBy Met g begun last So after w answer) (ends : Ends g last.conn.now new answer result) where
-  abbrev start : Held S
-  start = record old { in_transaction = true }
+    (does : DoesBy (IsFirstBroken g) Met g begun last So after w answer) (ends : Ends g last.conn.now new answer result)
+  where
+    abbrev start : Held S
+    start = record old { in_transaction = true }
 
-  clean_before : HasCleanDisk (state g new) → HasCleanDisk (state g last.conn.now)
-  clean_before clean = omega (arith, ends.survives.clean)
+    clean_before : HasCleanDisk (state g new) → HasCleanDisk (state g last.conn.now)
+    clean_before clean = omega (arith, ends.survives.clean)
 
-  told_so : HasCleanDisk (state g last.conn.now) → (t : Tables) → Shows (state g old).now t → So t
-      → LeavesAndAnswers (state g last.conn.now) (after t) (w t) answer
-  told_so clean t shows so = does.says.told clean (rw is refl) t (rw is shows) so
+    told_so : HasCleanDisk (state g last.conn.now) → (t : Tables) → Shows (state g old).now t → So t
+        → LeavesAndAnswers (IsOf (state g old).now) (state g last.conn.now) (after t) (w t) answer
+    told_so clean t shows so =
+        subst (λ (h : Held S). LeavesAndAnswers (IsOf (state g h).now) (state g last.conn.now) (after t) (w t) answer) is
+        (does.says.told clean (rw is refl) t (rw is shows) so)
 
-  kept_so : HasCleanDisk (state g last.conn.now)
-      → CommitsNothing (state g start) (state g last.conn.now) answer
-      × Blames Met g start last.conn.now answer
-  kept_so clean =
-      subst (λ (h : Held S). CommitsNothing (state g h) (state g last.conn.now) answer
-      × Blames Met g h last.conn.now answer) is
-      (does.says.leaves clean (rw is refl))
+    kept_so : HasCleanDisk (state g last.conn.now)
+        → CommitsNothing (state g start) (state g last.conn.now) answer
+        × Blames Met g start last.conn.now answer
+    kept_so clean =
+        subst (λ (h : Held S). CommitsNothing (state g h) (state g last.conn.now) answer
+        × Blames Met g h last.conn.now answer) is
+        (does.says.leaves clean (rw is refl))
 
-  from_start : IsBefore (state g old) (state g start)
-  from_start = record { faults = omega arith; limit = refl }
+    from_start : IsBefore (state g old) (state g start)
+    from_start = record { faults = omega arith; limit = refl }
 
-  within : IsBefore (state g start) (state g last.conn.now)
-  within = subst (λ (h : Held S). IsBefore (state g h) (state g last.conn.now)) is (comes does.says.survives)
+    within : IsBefore (state g start) (state g last.conn.now)
+    within = subst (λ (h : Held S). IsBefore (state g h) (state g last.conn.now)) is (comes does.says.survives)
 
-  stop_so : Survives (state g old) (state g new) (MayLeaveAfter (state g old) So after)
-  stop_so =
-      survives_begin g old (state g new) (MayLeaveAfter (state g old) So after)
-      (subst (λ (h : Held S). Survives (state g h) (state g new) (MayLeaveAfter (state g old) So after)) is
-      (survives_then (state g begun.conn.now) (state g last.conn.now) (state g new) (λ _. ⊥)
-      (MayCommit (state g last.conn.now) answer) (MayLeaveAfter (state g old) So after)
-      (λ clean left none. absurd none)
-      (λ clean left made t shows so.
-      left_by (state g last.conn.now) (after t) (w t) answer left
-      (told_so (clean_before clean) t shows so) made)
-      does.says.survives ends.survives))
-
-  theirs_so : SparesTheirs g old new result
-  theirs_so = record {
-    now = λ clean. spared_now (state g start) (state g last.conn.now) (state g new) answer result ends.given
-        (kept_so (clean_before clean)).0 (ends.told clean);
-    left = survives_begin g old (state g new) (LeavesOthers (state g old).now)
-        (subst (λ (h : Held S). Survives (state g h) (state g new) (LeavesOthers (state g old).now)) is
+    stop_so : Survives (state g old) (state g new) (MayLeaveAfter (state g old) So after)
+    stop_so =
+        survives_begin g old (state g new) (MayLeaveAfter (state g old) So after)
+        (subst (λ (h : Held S). Survives (state g h) (state g new) (MayLeaveAfter (state g old) So after)) is
         (survives_then (state g begun.conn.now) (state g last.conn.now) (state g new) (λ _. ⊥)
-        (MayCommit (state g last.conn.now) answer) (LeavesOthers (state g old).now)
+        (MayCommit (state g last.conn.now) answer) (MayLeaveAfter (state g old) So after)
         (λ clean left none. absurd none)
-        (λ clean left made. spared_left (state g start) (state g last.conn.now) answer left
-        (kept_so (clean_before clean)).0 made)
-        does.says.survives ends.survives));
-  }
+        (λ clean left made t shows so.
+        left_by (IsOf (state g old).now) (state g last.conn.now) (after t) (w t) answer left
+        (told_so (clean_before clean) t shows so) made)
+        does.says.survives ends.survives))
 
-  undone_so : UndoesFaults g old new result
-  undone_so clean = by_end (state g start) (state g last.conn.now) (state g new) answer result settled refl
-      (kept_so (clean_before clean)).0 (ends.told clean)
+    theirs_so : SparesTheirs g old new result
+    theirs_so = record {
+      now = λ clean. spared_now (state g start) (state g last.conn.now) (state g new) answer result ends.given
+          (kept_so (clean_before clean)).0 (ends.told clean);
+      left = survives_begin g old (state g new) (LeavesOthers (state g old).now)
+          (subst (λ (h : Held S). Survives (state g h) (state g new) (LeavesOthers (state g old).now)) is
+          (survives_then (state g begun.conn.now) (state g last.conn.now) (state g new) (λ _. ⊥)
+          (MayCommit (state g last.conn.now) answer) (LeavesOthers (state g old).now)
+          (λ clean left none. absurd none)
+          (λ clean left made. spared_left (state g start) (state g last.conn.now) answer left
+          (kept_so (clean_before clean)).0 made)
+          does.says.survives ends.survives));
+    }
 
-  transacted : Widens Met old start last.conn.now new → TransactsBy Met g old new So after w result
-  transacted wide = record {
-    told = λ clean t shows so.
-        completes (state g last.conn.now) (state g new) (after t) (w t) answer result
-        ends.given (told_so (clean_before clean) t shows so) (ends.told clean);
-    undone = λ clean. of_damage (state g old) (state g new) result (undone_so clean);
-    survives = stop_so;
-    cause = λ clean.
-        blamed Met g old start last.conn.now new answer result from_start within (comes ends.survives) refl
-        (kept_so (clean_before clean)).0 wide (kept_so (clean_before clean)).1 (ends.told clean);
-    mode = ends.mode;
-    spares = theirs_so;
-  }
+    undone_so : UndoesFaults g old new result
+    undone_so clean = by_end (state g start) (state g last.conn.now) (state g new) answer result settled refl
+        (kept_so (clean_before clean)).0 (ends.told clean)
+
+    transacted : Widens Met old start last.conn.now new → TransactsBy Met g old new So after w result
+    transacted wide = record {
+      told = λ clean t shows so.
+          completes (state g old) (state g last.conn.now) (state g new) (after t) (w t) answer result
+          ends.given (told_so (clean_before clean) t shows so) (ends.told clean);
+      undone = λ clean. of_damage (state g old) (state g new) result (undone_so clean);
+      survives = stop_so;
+      cause = λ clean.
+          blamed Met g old start last.conn.now new answer result from_start within (comes ends.survives) refl
+          (kept_so (clean_before clean)).0 wide (kept_so (clean_before clean)).1 (ends.told clean);
+      mode = ends.mode;
+      spares = theirs_so;
+    }
 
 -- of parts that read and then write
 pub transacts : {S X : Type 0} {Adds : Additions} {So : Tables → Type 0} {after : Tables → Tables} {w : Tables → X}
@@ -234,7 +241,7 @@ pub undoes : {S X : Type 0} {Met : Damage S} {So : Tables → Type 0} {after : T
     (end new : Held S)
     → begun.conn.now ≡ record old { in_transaction = true }
     → (IsTrue (state g old).is_open → (state g old).now ≡ (state g old).committed)
-    → DoesBy Met g begun last So after w answer → Ends g last.conn.now end answer result → end ≡ new
+    → DoesBy (IsFirstBroken g) Met g begun last So after w answer → Ends g last.conn.now end answer result → end ≡ new
     → UndoesFaults g old new result
 undoes {result = result} g old begun last end new is settled does ends same =
     subst (λ (h : Held _). UndoesFaults g old h result) same (undone_so g old begun last end is settled does ends)

@@ -9,18 +9,19 @@ use Rattle.sqlite.specs.declared.transaction.Transaction.{Transaction}
 use Rattle.sqlite_trees.specs.declared.store.Store.{Ghosts}
 use Rattle.posting_rules.specs.believed.Changes.{replies_past_all, tables_past_all}
 use Rattle.posting_rules.specs.believed.Tables.{Tables}
-use Rattle.posting_batch.specs.believed.Batch.{AreReadyFor}
+use Rattle.bank_transactions.specs.believed.Batches.{HasRoomFor}
 use Rattle.sql_meanings.specs.Calls.{Inside, Says}
 use Rattle.sql_meanings.proofs.Saying.{survives_both}
 use Rattle.store_rows.specs.believed.Failures.{Additions, Committing}
-use Rattle.store_rows.specs.{believed.Sparing.SparesOthers, believed.View.Shows, declared.fault.TableFault.TableFault}
+use Rattle.store_rows.specs.believed.{Rules.IsBroken, Sparing.SparesOthers, View.Shows}
+use Rattle.store_rows.specs.declared.fault.TableFault.{TableFault}
 use Rattle.store_rows.specs.declared.fault.TableFault.TheVariants.{Sqlite, Damaged}
 use Rattle.bank_transactions.specs.{believed.Additions.AddsForRecords, believed.Batches.DecidesNone}
 use Rattle.bank_transactions.specs.{Batches.KeepsOnly, believed.Doing.LeavesOthers}
 use Rattle.store_rows.specs.Definitions.{IsOtherTable}
 use Rattle.bank_transactions.specs.{believed.Stored.RepliesToAllStored, declared.first_try.Tried.Tried}
 use Rattle.bank_transactions.specs.believed.Causes.{IsBefore}
-use Rattle.bank_transactions.specs.Doing.{Acts, Ends, MayLeaveAfter, Transacts, Undoes}
+use Rattle.bank_transactions.specs.Doing.{Acts, Completes, Ends, MayLeaveAfter, Transacts, Undoes}
 use Rattle.bank_transactions.specs.Tries.{IsAsBefore, answer_of, batch_of, replies_of}
 use Rattle.bank_transactions.specs.Undone.{UndoesFaults}
 use Rattle.bank_transactions.specs.declared.first_try.Tried.TheVariants.{Answered, Again}
@@ -32,6 +33,12 @@ undoes_again : {X : Type 0} (old mid new : State) (r : Result X TableFault) → 
 undoes_again old mid new (Ok x) there same undone = tt
 undoes_again old mid new (Err (Sqlite e)) there same undone = tt
 undoes_again old mid new (Err (Damaged rule)) there same undone = λ still. (there, (undone still).1 ∙ same)
+
+completes_again : {X : Type 0} (old mid new : State) (after : Tables) (wanted : X) (r : Result X TableFault)
+    → mid.now ≡ old.now → Completes mid new after wanted r → Completes old new after wanted r
+completes_again old mid new after wanted (Ok x) same told = told
+completes_again old mid new after wanted (Err (Sqlite e)) same told = tt
+completes_again old mid new after wanted (Err (Damaged rule)) same told = subst (IsBroken rule) same told
 
 module _ {S : Type 0} (g : Ghosts S) (old mid new : Held S) (before : IsAsBefore g old mid) where
   module _ {X : Type 0} {So : Tables → Type 0} {after : Tables → Tables} {w : Tables → X}
@@ -49,7 +56,8 @@ module _ {S : Type 0} (g : Ghosts S) (old mid new : Held S) (before : IsAsBefore
     pub transacts_again : Transacts g (AddsForRecords (state g old).now count) old new So after w r
     transacts_again = record {
       told = λ clean t shows so.
-          does.told clean t (subst (λ (db : Database). Shows db t) (sym (same_rows clean)) shows) so;
+          completes_again (state g old) (state g mid) (state g new) (after t) (w t) r (same_rows clean)
+          (does.told clean t (subst (λ (db : Database). Shows db t) (sym (same_rows clean)) shows) so);
       undone = λ clean.
           undoes_again (state g old) (state g mid) (state g new) r (was_open clean) (same_rows clean)
           (does.undone clean);
@@ -89,10 +97,10 @@ module _ {S : Type 0} (g : Ghosts S) (old mid new : Held S) (before : IsAsBefore
 
     pub idle_again : {X : Type 0} (moment : ℕ) (r : Result X TableFault)
         → OnOk r (HasCleanDisk (state g new) → (records : List (List ℕ)) → Again records → (t : Tables)
-        → Shows (state g mid).now t → AreReadyFor (length records) t → DecidesNone t moment records
+        → Shows (state g mid).now t → HasRoomFor (length records) t → DecidesNone t moment records
         → KeepsOnly (state g mid) (state g new) t moment records)
         → OnOk r (HasCleanDisk (state g new) → (records : List (List ℕ)) → Made records → (t : Tables)
-        → Shows (state g old).now t → AreReadyFor (length records) t → DecidesNone t moment records
+        → Shows (state g old).now t → HasRoomFor (length records) t → DecidesNone t moment records
         → KeepsOnly (state g old) (state g new) t moment records)
     idle_again moment r = on_ok_weaker r (λ idle clean records made t shows so none.
         let same = (same_there records made clean).2 in
@@ -239,12 +247,12 @@ module _ {S : Type 0} (g : Ghosts S) (Made : List (List ℕ) → Type 0) (moment
 
   abbrev ActsFor : Result (List (List ℕ)) TableFault → Type 0
   ActsFor answer = (records : List (List ℕ)) → Made records
-      → Acts g (AddsForRecords (state g begun.conn.now).now (length records)) begun last (AreReadyFor (length records))
+      → Acts g (AddsForRecords (state g begun.conn.now).now (length records)) begun last (HasRoomFor (length records))
       (λ tables. tables_past_all tables moment records) (λ tables. replies_past_all tables moment records) answer
 
   pub tried_says : batch_of tried ≡ None → IfSome (answer_of tried) ActsFor
       → IfSome (answer_of result) (λ answer. (records : List (List ℕ)) → Made records
-      → Transacts g (AddsForRecords (state g old).now (length records)) old new (AreReadyFor (length records))
+      → Transacts g (AddsForRecords (state g old).now (length records)) old new (HasRoomFor (length records))
       (λ tables. tables_past_all tables moment records) (λ tables. replies_past_all tables moment records) answer)
   tried_says none it = ends_tried g last.conn.now end {P = ActsFor} tried result none ends
       (λ answer answered acts its records made.
@@ -259,9 +267,9 @@ module _ {S : Type 0} (g : Ghosts S) (Made : List (List ℕ) → Type 0) (moment
 
   pub tried_busy : IfSome (replies_of tried) (λ replies. HasCleanDisk (state g last.conn.now)
       → IsTrue (state g begun.conn.now).in_transaction → (records : List (List ℕ)) → Made records → (t : Tables)
-      → Shows (state g begun.conn.now).now t → AreReadyFor (length records) t → DecidesNone t moment records → ⊥)
+      → Shows (state g begun.conn.now).now t → HasRoomFor (length records) t → DecidesNone t moment records → ⊥)
       → IfSome (replies_of result) (λ replies. HasCleanDisk (state g new) → (records : List (List ℕ)) → Made records
-      → (t : Tables) → Shows (state g old).now t → AreReadyFor (length records) t → DecidesNone t moment records → ⊥)
+      → (t : Tables) → Shows (state g old).now t → HasRoomFor (length records) t → DecidesNone t moment records → ⊥)
   tried_busy = of_tried tried result ends.given (λ replies busy clean records made t shows so none.
       busy (was_clean_at records made clean) (rw is refl) records made t (rw is shows) so none)
 

@@ -12,7 +12,7 @@ use Rattle.posting_rules.specs.believed.Tables.{Tables}
 use Rattle.posting_rules.specs.declared.fault.Rule.{Rule}
 use Rattle.sql_meanings.specs.Calls.{Says, Inside}
 use Rattle.store_rows.specs.Calls.{OfTables}
-use Rattle.store_rows.specs.believed.Failures.{Additions}
+use Rattle.store_rows.specs.believed.{Failures.Additions, Rules.IsBroken}
 use Rattle.store_rows.specs.believed.Sparing.{SparesOthers}
 use Rattle.store_rows.specs.believed.View.{Shows, ShowsTrees}
 use Rattle.store_rows.specs.declared.fault.TableFault.{TableFault}
@@ -61,11 +61,11 @@ abbrev pub CommitsNothing : {X : Type 0} → State → State → Result X TableF
 CommitsNothing old new (Ok x) = GoesOnUncommitted old new
 CommitsNothing old new (Err fault) = KeepsCommit old new
 
--- the tables are these now, and the answer is this one; they are never reported as damaged
-abbrev pub LeavesAndAnswers : {X : Type 0} → State → Tables → X → Result X TableFault → Type 0
-LeavesAndAnswers new after wanted (Ok x) = (x ≡ wanted) × Shows new.now after
-LeavesAndAnswers new after wanted (Err (Sqlite e)) = ⊤
-LeavesAndAnswers new after wanted (Err (Damaged rule)) = ⊥
+-- the tables are these now, and the answer is this one; damage says this
+abbrev pub LeavesAndAnswers : {X : Type 0} → (Rule → Type 0) → State → Tables → X → Result X TableFault → Type 0
+LeavesAndAnswers Bad new after wanted (Ok x) = (x ≡ wanted) × Shows new.now after
+LeavesAndAnswers Bad new after wanted (Err (Sqlite e)) = ⊤
+LeavesAndAnswers Bad new after wanted (Err (Damaged rule)) = Bad rule
 
 -- what the answer of a write comes to: the row that it writes is there, or this rule is broken
 abbrev pub expected : Result Bool Error → Rule → Result (Unit {0}) TableFault
@@ -73,13 +73,13 @@ expected (Ok true) rule = Ok tt
 expected (Ok false) rule = Err (Damaged rule)
 expected (Err e) rule = Err (Sqlite e)
 
--- tables that are so become these, and the answer is this one; damage says this
-pub record DoesBy {S X : Type 0} (Met : Damage S) (g : Ghosts S) (old new : Transaction S)
+-- tables that are so become these, and the answer is this one; damage says Bad of such tables, and Met of any rows
+pub record DoesBy {S X : Type 0} (Bad Met : Damage S) (g : Ghosts S) (old new : Transaction S)
     (So : Tables → Type 0) (after : Tables → Tables)
     (wanted : Tables → X) (result : Result X TableFault) : Type 0 where
   pub says : Says g old new
       (Inside (OfTables (λ before now tables. So tables
-      → LeavesAndAnswers now (after tables) (wanted tables) result)))
+      → LeavesAndAnswers (Bad old.conn.now new.conn.now) now (after tables) (wanted tables) result)))
       (Inside (λ before now. CommitsNothing before now result
       × Blames Met g old.conn.now new.conn.now result))
 
@@ -90,17 +90,23 @@ pub record Leaves {S X : Type 0} (g : Ghosts S) (old new : Transaction S) (after
       → (tables : Tables) → Shows (state g old.conn.now).now tables
       → Shows (state g new.conn.now).now (after tables))
 
--- a part that only writes, and puts such rows in: damage was met by a statement as it wrote
+-- a part that only writes, and puts such rows in: on tables that are so no damage is told; damage was met by a
+-- statement as it wrote
 abbrev pub Does : {S X : Type 0} → Ghosts S → Additions → Transaction S → Transaction S → (Tables → Type 0)
     → (Tables → Tables) → (Tables → X)
     → Result X TableFault → Type 0
-Does g Adds = DoesBy (HasMetBetween g Adds) g
+Does g Adds = DoesBy (λ old new rule. ⊥) (HasMetBetween g Adds) g
 
--- a part that reads and then writes: damage is of the rows that were there, or was met as it wrote
+-- a part that reads, and a part that reads and then writes: on tables that are so damage is of the rows that were
+-- there; on any rows it is, or it was met as it wrote
+abbrev pub Looks : {S X : Type 0} → Ghosts S → Transaction S → Transaction S → (Tables → Type 0)
+    → (Tables → Tables) → (Tables → X) → Result X TableFault → Type 0
+Looks g = DoesBy (IsFirstBroken g) (IsFirstBroken g) g
+
 abbrev pub Acts : {S X : Type 0} → Ghosts S → Additions → Transaction S → Transaction S → (Tables → Type 0)
     → (Tables → Tables) → (Tables → X)
     → Result X TableFault → Type 0
-Acts g Adds = DoesBy (IsBrokenOrMet g Adds) g
+Acts g Adds = DoesBy (IsFirstBroken g) (IsBrokenOrMet g Adds) g
 
 -- ---- how a transaction ends
 
@@ -129,13 +135,12 @@ pub record Ends {S X : Type 0} (g : Ghosts S) (last new : Held S)
 
 -- ---- a transaction
 
--- the tables are these now, and a crash leaves them; the answer is this one; they are never reported as
--- damaged
-abbrev pub Completes : {X : Type 0} → State → Tables → X → Result X TableFault → Type 0
-Completes new after wanted (Ok x) = (x ≡ wanted) × Shows new.now after
+-- the tables are these now, and a crash leaves them; the answer is this one; damage is of the rows that were there
+abbrev pub Completes : {X : Type 0} → State → State → Tables → X → Result X TableFault → Type 0
+Completes old new after wanted (Ok x) = (x ≡ wanted) × Shows new.now after
     × ((left : Trees) → new.may_leave left → ShowsTrees left after)
-Completes new after wanted (Err (Sqlite e)) = ⊤
-Completes new after wanted (Err (Damaged rule)) = ⊥
+Completes old new after wanted (Err (Sqlite e)) = ⊤
+Completes old new after wanted (Err (Damaged rule)) = IsBroken rule old.now
 
 -- what was met is reported as damaged: as long as the store is open, everything is as it was
 abbrev pub Undoes : {X : Type 0} → State → State → Result X TableFault → Type 0
@@ -155,14 +160,14 @@ pub record SparesTheirs {S X : Type 0} (g : Ghosts S) (old new : Held S) (result
   pub now : HasCleanDisk (state g new) → OnOk result (SparesOthers (state g old).now (state g new).now)
   pub left : Survives (state g old) (state g new) (LeavesOthers (state g old).now)
 
--- Tables that are so become these, and the answer is this one. Damage undoes all. A crash leaves what it could
--- leave before, or what the transaction leaves. An error of `sqlite` is one with which a call of it failed,
--- and damage says this. No transaction goes on. The tables of other products are spared.
+-- Tables that are so become these, and the answer is this one, or the rows that they have break the rule that is
+-- told. Damage undoes all. A crash leaves what it could leave before, or what the transaction leaves. An error of
+-- `sqlite` is one with which a call of it failed, and damage says this. No transaction goes on. The tables of other products are spared.
 pub record TransactsBy {S X : Type 0} (Met : Damage S) (g : Ghosts S) (old new : Held S)
     (So : Tables → Type 0) (after : Tables → Tables)
     (wanted : Tables → X) (result : Result X TableFault) : Type 0 where
   pub told : HasCleanDisk (state g new) → (tables : Tables) → Shows (state g old).now tables → So tables
-      → Completes (state g new) (after tables) (wanted tables) result
+      → Completes (state g old) (state g new) (after tables) (wanted tables) result
   pub undone : HasCleanDisk (state g new) → Undoes (state g old) (state g new) result
   pub survives : Survives (state g old) (state g new) (MayLeaveAfter (state g old) So after)
   pub cause : HasCleanDisk (state g new) → Blames Met g old new result

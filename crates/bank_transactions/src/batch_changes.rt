@@ -3,7 +3,6 @@ ghost use Rattle.std.specs.Mem.{type_size};
 ghost use Rattle.std.specs.Prelude.{◌*◌, ◌^◌, ◌<◌, [], ◌∷◌, List, IfSome, IsTrue, OnOk};
 ghost use Rattle.sqlite.specs.Held.{state};
 ghost use Rattle.sqlite.specs.State.{HasCleanDisk};
-ghost use Rattle.posting_rules.specs.believed.Damage.{IsUndamaged};
 ghost use Rattle.posting_rules.specs.believed.Tables.{Tables};
 ghost use Rattle.posting_batch.specs.Batch.{HasRisingSlots, ChangesRows, AddsFreeRows};
 ghost use Rattle.posting_batch.specs.Overlay.{tables_over, accounts_over, tellers_over, branches_over};
@@ -24,7 +23,7 @@ ghost use Rattle.bank_transactions.specs.InTurn.{postings_in_parts, postings_in_
 ghost use Rattle.bank_transactions.specs.InTurn.{tellers_in_turn};
 ghost use Rattle.bank_transactions.specs.Writing.{MayChangeAccounts, MayChangeTellers, MayChangeBranches};
 ghost use Rattle.bank_transactions.specs.Writing.{MayAddPostings, MayAddRequests, MayAddReferences};
-ghost use Rattle.bank_transactions.specs.Writing.{MayWriteAfter, after_requests, by_change};
+ghost use Rattle.bank_transactions.specs.Writing.{AreBranchNumbers, MayWriteAfter, after_requests, by_change};
 
 use crate::{write_balance, write_decided};
 use message_records::{Branch, Cents};
@@ -262,7 +261,7 @@ pub(crate) fn write_after<S: Alter>(
 /// Writes what a batch has changed, each row once, and how many requests are decided.
 pub fn write<S: Alter>(tx: &mut Transaction<'_, S>, overlay: &Overlay) -> Result<(), TableFault>
     ensures { Does S.Store (AddsNew (view overlay.now)) tx.old tx.new
-        (λ tables. IsUndamaged tables × HasRisingSlots (view overlay.now)
+        (λ tables. AreBranchNumbers (view overlay.now).branches × HasRisingSlots (view overlay.now)
         × ChangesRows (view overlay.now) tables × AddsFreeRows (view overlay.now) tables)
         (λ tables. tables_over (view overlay.now) tables) (λ _. tt) result }
 {

@@ -38,13 +38,12 @@ ghost use Rattle.sqlite.specs.State.{HasCleanDisk};
 ghost use Rattle.sqlite.specs.Held.{state};
 ghost use Rattle.posting_rules.specs.believed.Changes.{tables_past_all, replies_past_all};
 ghost use Rattle.posting_rules.specs.believed.Tables.{Tables};
-ghost use Rattle.posting_batch.specs.believed.Batch.{AreReadyFor};
 ghost use Rattle.posting_batch.specs.View.{reads_of, IsMadeOf};
 ghost use Rattle.store_rows.specs.Definitions.{IsOtherTable};
 ghost use Rattle.store_rows.specs.believed.View.{Shows};
 ghost use Rattle.bank_transactions.specs.believed.Additions.{AddsForRecords};
 ghost use Rattle.bank_transactions.specs.Doing.{Acts, Transacts};
-ghost use Rattle.bank_transactions.specs.believed.Batches.{DecidesNone};
+ghost use Rattle.bank_transactions.specs.believed.Batches.{DecidesNone, HasRoomFor};
 ghost use Rattle.bank_transactions.specs.Batches.{items_of, WritesNothing, KeepsOnly};
 ghost use Rattle.bank_transactions.specs.believed.Stored.{RepliesToAllStored};
 ghost use Rattle.bank_transactions.specs.Undone.{UndoesFaults};
@@ -66,12 +65,12 @@ pub fn answer_batch<S: Alter>(
 ) -> Result<Vec<[u8; REPLY_BYTES]>, TableFault>
     ensures says { (records : List (List ℕ)) → IsMadeOf batch records
         → Acts S.Store (AddsForRecords (state S.Store tx.old.conn.now).now (length records)) tx.old tx.new
-        (AreReadyFor (length records)) (λ tables. tables_past_all tables moment records)
+        (HasRoomFor (length records)) (λ tables. tables_past_all tables moment records)
         (λ tables. replies_past_all tables moment records) (items_of result) }
     ensures count { IfOk result (λ replies. length replies.items ≡ length (reads_of batch)) }
     ensures idle { OnOk result
         (HasCleanDisk (state S.Store tx.new.conn.now) → (records : List (List ℕ)) → IsMadeOf batch records
-        → (tables : Tables) → Shows (state S.Store tx.old.conn.now).now tables → AreReadyFor (length records) tables
+        → (tables : Tables) → Shows (state S.Store tx.old.conn.now).now tables → HasRoomFor (length records) tables
         → DecidesNone tables moment records
         → WritesNothing (state S.Store tx.old.conn.now)
         (state S.Store tx.new.conn.now) tables moment records) }
@@ -98,12 +97,12 @@ fn post_looked_up<S: Alter>(
     requires { conn.old.in_transaction ≡ false }
     ensures says { (records : List (List ℕ)) → IsMadeOf batch records
         → Transacts S.Store (AddsForRecords (state S.Store conn.old).now (length records)) conn.old conn.new
-        (AreReadyFor (length records)) (λ tables. tables_past_all tables moment records)
+        (HasRoomFor (length records)) (λ tables. tables_past_all tables moment records)
         (λ tables. replies_past_all tables moment records) (items_of result) }
     ensures count { IfOk result (λ replies. length replies.items ≡ length (reads_of batch)) }
     ensures idle { OnOk result
         (HasCleanDisk (state S.Store conn.new) → (records : List (List ℕ)) → IsMadeOf batch records
-        → (tables : Tables) → Shows (state S.Store conn.old).now tables → AreReadyFor (length records) tables
+        → (tables : Tables) → Shows (state S.Store conn.old).now tables → HasRoomFor (length records) tables
         → DecidesNone tables moment records
         → KeepsOnly (state S.Store conn.old) (state S.Store conn.new) tables moment records) }
     // Whatever rows the file holds.
@@ -144,12 +143,12 @@ pub fn post_all<S: Alter>(
     requires { conn.old.in_transaction ≡ false }
     ensures says { (records : List (List ℕ)) → IsMadeOf batch records
         → Transacts S.Store (AddsForRecords (state S.Store conn.old).now (length records)) conn.old conn.new
-        (AreReadyFor (length records)) (λ tables. tables_past_all tables moment records)
+        (HasRoomFor (length records)) (λ tables. tables_past_all tables moment records)
         (λ tables. replies_past_all tables moment records) (items_of result) }
     ensures count { IfOk result (λ replies. length replies.items ≡ length (reads_of batch)) }
     ensures idle { OnOk result
         (HasCleanDisk (state S.Store conn.new) → (records : List (List ℕ)) → IsMadeOf batch records
-        → (tables : Tables) → Shows (state S.Store conn.old).now tables → AreReadyFor (length records) tables
+        → (tables : Tables) → Shows (state S.Store conn.old).now tables → HasRoomFor (length records) tables
         → DecidesNone tables moment records
         → KeepsOnly (state S.Store conn.old) (state S.Store conn.new) tables moment records) }
     // Whatever rows the file holds.

@@ -7,13 +7,12 @@ ghost use Rattle.posting_rules.specs.believed.Changes.{tables_past_all, replies_
 ghost use Rattle.posting_rules.specs.believed.LookUps.{kept_in};
 ghost use Rattle.posting_rules.specs.believed.Tables.{Tables};
 ghost use Rattle.posting_batch.specs.Batch.{has_gap};
-ghost use Rattle.posting_batch.specs.believed.Batch.{AreReadyFor};
 ghost use Rattle.posting_batch.specs.View.{reads_of, view, IsMadeOf};
 ghost use Rattle.sql_meanings.specs.Calls.{Inside, Says};
 ghost use Rattle.store_rows.specs.Definitions.{IsOtherTable};
 ghost use Rattle.store_rows.specs.believed.View.{Shows};
 ghost use Rattle.bank_transactions.specs.believed.Additions.{AddsForRecords};
-ghost use Rattle.bank_transactions.specs.believed.Batches.{DecidesNone};
+ghost use Rattle.bank_transactions.specs.believed.Batches.{DecidesNone, HasRoomFor};
 ghost use Rattle.bank_transactions.specs.Doing.{Acts, Reads, Transacts};
 ghost use Rattle.bank_transactions.specs.believed.Stored.{RepliesToAllStored};
 ghost use Rattle.bank_transactions.specs.Tries.{IsAsBefore, IsMadeAgain, answer_of, batch_of, replies_of};
@@ -85,12 +84,12 @@ fn answer_unkept<S: Alter>(
 ) -> Result<Tried, TableFault>
     ensures says { IfSome (answer_of result) (λ answer. (records : List (List ℕ)) → IsMadeOf batch records
         → Acts S.Store (AddsForRecords (state S.Store tx.old.conn.now).now (length records)) tx.old tx.new
-        (AreReadyFor (length records)) (λ tables. tables_past_all tables moment records)
+        (HasRoomFor (length records)) (λ tables. tables_past_all tables moment records)
         (λ tables. replies_past_all tables moment records) answer) }
     ensures count { IfSome (replies_of result) (λ replies. length replies ≡ length (reads_of batch)) }
     ensures busy { IfSome (replies_of result) (λ _. HasCleanDisk (state S.Store tx.new.conn.now)
         → IsTrue (state S.Store tx.old.conn.now).in_transaction → (records : List (List ℕ)) → IsMadeOf batch records
-        → (tables : Tables) → Shows (state S.Store tx.old.conn.now).now tables → AreReadyFor (length records) tables
+        → (tables : Tables) → Shows (state S.Store tx.old.conn.now).now tables → HasRoomFor (length records) tables
         → DecidesNone tables moment records → ⊥) }
     ensures stored { IfSome (replies_of result) (λ replies. HasCleanDisk (state S.Store tx.new.conn.now)
         → IsTrue (state S.Store tx.old.conn.now).in_transaction
@@ -125,12 +124,12 @@ fn answer_new<S: Alter>(
 ) -> Result<Tried, TableFault>
     ensures says { IfSome (answer_of result) (λ answer. (records : List (List ℕ)) → IsMadeOf batch records
         → Acts S.Store (AddsForRecords (state S.Store tx.old.conn.now).now (length records)) tx.old tx.new
-        (AreReadyFor (length records)) (λ tables. tables_past_all tables moment records)
+        (HasRoomFor (length records)) (λ tables. tables_past_all tables moment records)
         (λ tables. replies_past_all tables moment records) answer) }
     ensures count { IfSome (replies_of result) (λ replies. length replies ≡ length (reads_of batch)) }
     ensures busy { IfSome (replies_of result) (λ _. HasCleanDisk (state S.Store tx.new.conn.now)
         → IsTrue (state S.Store tx.old.conn.now).in_transaction → (records : List (List ℕ)) → IsMadeOf batch records
-        → (tables : Tables) → Shows (state S.Store tx.old.conn.now).now tables → AreReadyFor (length records) tables
+        → (tables : Tables) → Shows (state S.Store tx.old.conn.now).now tables → HasRoomFor (length records) tables
         → DecidesNone tables moment records → ⊥) }
     ensures stored { IfSome (replies_of result) (λ replies. HasCleanDisk (state S.Store tx.new.conn.now)
         → IsTrue (state S.Store tx.old.conn.now).in_transaction
@@ -158,12 +157,12 @@ pub(crate) fn try_new<S: Alter>(
     requires made { IsOtherTable (state S.Store conn.old).now.schema None }
     ensures says { IfSome (answer_of result) (λ answer. (records : List (List ℕ)) → IsMadeOf batch records
         → Transacts S.Store (AddsForRecords (state S.Store conn.old).now (length records)) conn.old conn.new
-        (AreReadyFor (length records)) (λ tables. tables_past_all tables moment records)
+        (HasRoomFor (length records)) (λ tables. tables_past_all tables moment records)
         (λ tables. replies_past_all tables moment records) answer) }
     ensures count { IfSome (replies_of result) (λ replies. length replies ≡ length (reads_of batch)) }
     ensures busy { IfSome (replies_of result) (λ _.
         HasCleanDisk (state S.Store conn.new) → (records : List (List ℕ)) → IsMadeOf batch records
-        → (tables : Tables) → Shows (state S.Store conn.old).now tables → AreReadyFor (length records) tables
+        → (tables : Tables) → Shows (state S.Store conn.old).now tables → HasRoomFor (length records) tables
         → DecidesNone tables moment records → ⊥) }
     ensures stored { IfSome (replies_of result) (λ replies. HasCleanDisk (state S.Store conn.new)
         → (records : List (List ℕ)) → IsMadeOf batch records

@@ -4,7 +4,7 @@ ghost use Rattle.posting_rules.specs.believed.Changes.{tables_with, reply_bytes}
 ghost use Rattle.std.specs.Prelude.{IfOk, IsTrue};
 ghost use Rattle.sqlite.specs.Held.{state};
 ghost use Rattle.sqlite.specs.State.{HasCleanDisk};
-ghost use Rattle.posting_batch.specs.believed.Batch.{AreReadyFor};
+ghost use Rattle.bank_transactions.specs.believed.Batches.{HasRoomFor};
 ghost use Rattle.bank_transactions.specs.believed.Additions.{AddsForRecords};
 ghost use Rattle.bank_transactions.specs.Doing.{Acts};
 ghost use Rattle.bank_transactions.specs.believed.Stored.{RepliesToStored};
@@ -25,7 +25,7 @@ pub(crate) fn post_inside<S: Alter>(
     request: &Request,
 ) -> Result<[u8; REPLY_BYTES], TableFault>
     ensures acts { Acts S.Store (AddsForRecords (state S.Store tx.old.conn.now).now 1) tx.old tx.new
-        (AreReadyFor 1) (λ tables. tables_with tables moment request.now)
+        (HasRoomFor 1) (λ tables. tables_with tables moment request.now)
         (λ tables. reply_bytes tables request.now) result }
     ensures stored { IfOk result (λ reply. HasCleanDisk (state S.Store tx.new.conn.now)
         → IsTrue (state S.Store tx.old.conn.now).in_transaction

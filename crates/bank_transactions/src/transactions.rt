@@ -9,7 +9,7 @@ ghost use Rattle.posting_rules.specs.believed.Counter.{opening_for};
 ghost use Rattle.posting_rules.specs.believed.LookUps.{account_balance_in};
 ghost use Rattle.posting_rules.specs.believed.LookUps.{terms_in};
 ghost use Rattle.posting_rules.specs.Sound.{AreSound};
-ghost use Rattle.posting_batch.specs.believed.Batch.{AreReadyFor};
+ghost use Rattle.bank_transactions.specs.believed.Batches.{HasRoomFor};
 ghost use Rattle.bank_transactions.specs.believed.Additions.{AddsBranch, AddsForRecords};
 ghost use Rattle.bank_transactions.specs.Doing.{Consults, Ends, Transacts};
 ghost use Rattle.bank_transactions.specs.believed.Stored.{IsStoredBalance, OpensByStored, RepliesToStored};
@@ -88,7 +88,7 @@ pub fn post<S: Alter>(
 ) -> Result<[u8; REPLY_BYTES], TableFault>
     requires { conn.old.in_transaction ≡ false }
     ensures transacts { Transacts S.Store (AddsForRecords (state S.Store conn.old).now 1) conn.old conn.new
-        (AreReadyFor 1) (λ tables. tables_with tables moment request.now) (λ tables. reply_bytes tables request.now) result }
+        (HasRoomFor 1) (λ tables. tables_with tables moment request.now) (λ tables. reply_bytes tables request.now) result }
     // Whatever rows the file holds.
     ensures stored { IfOk result (λ reply. HasCleanDisk (state S.Store conn.new)
         → RepliesToStored (state S.Store conn.old).now (state S.Store conn.new).now request.now reply) }

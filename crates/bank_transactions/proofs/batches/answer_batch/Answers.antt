@@ -1,18 +1,18 @@
 -- A batch that is filled, judged and written.
-use Rattle.std.proofs.Common.{◌≡◌, Err, rules, arith, refl}
+use Rattle.std.proofs.Common.{◌≡◌, Err, rules, arith, length, refl}
 use Rattle.sqlite.specs.{State.HasCleanDisk, Held.state}
 use Rattle.posting_batch.specs.View.{view}
-use Rattle.bank_transactions.proofs.Chained.{acts_read, does_adds, does_err}
-use Rattle.bank_transactions.proofs.{Added.adds_of_batch, HeldBatch.homes_made, HeldBatch.in_turn, LookUps.does_look}
+use Rattle.bank_transactions.proofs.Chained.{acts_read, does_adds}
+use Rattle.bank_transactions.proofs.{Added.adds_of_batch, HeldBatch.homes_made, HeldBatch.in_turn, LookUps.does_fail, LookUps.does_look}
 use Rattle.bank_transactions.proofs.JudgedSlots.{answered_idle, answered_not, answered_written, counts_none}
-use Rattle.bank_transactions.proofs.JudgedSlots.{judging_all, ready}
+use Rattle.bank_transactions.proofs.JudgedSlots.{fills, judging_all}
 use Rattle.bank_transactions.proofs.batches.answer_batch.Goals.{then-judged-before+in_ok-write, else-judged-before}
 use Rattle.bank_transactions.proofs.batches.answer_batch.Goals as goal
 
 pub returns-in_err-fill-clause-says : goal.returns-in_err-fill-clause-says
 returns-in_err-fill-clause-says g c records made =
     let same : c.from_residual.result ≡ Err c.in_err-fill.field-0.0 = search rules in
-    rw same (acts_read (does_err (does_look c.in_err-fill.ensures.says (λ t so. so.0)) (ready c.args.batch records made)))
+    rw same (acts_read (does_fail c.in_err-fill.ensures.says))
 
 pub returns-in_err-write-clause-says : goal.returns-in_err-write-clause-says
 returns-in_err-write-clause-says g c records made =
@@ -22,7 +22,8 @@ returns-in_err-write-clause-says g c records made =
     c.args.moment (view c.judge-judged.result.overlay) c.judge-judged.result.replies.items made refl
     j.judged j.rising j.idle in
     let fill = c.in_ok-fill.ensures in
-    rw same (answered_not so (does_look fill.says (λ t so. so.0)) (does_adds (λ clean.
+    rw same (answered_not so (does_look (fills (length records) (view c.fill.new.overlay) (view c.args.batch.overlay) fill.says fill.same (λ clean.
+    fill.stored clean (homes_made c.args.batch records made)))) (does_adds (λ clean.
     let before : HasCleanDisk (state g.S.Store c.fill.new.tx.conn.now) = omega
     (arith, c.in_err-write.ensures.says.survives.clean, clean) in
     adds_of_batch c.args.batch records (view c.fill.new.overlay) (view c.judge-judged.result.overlay) _ made
@@ -36,7 +37,9 @@ returns-clause-says g c records made =
     let so = judging_all c.args.batch _ records
     c.args.moment (view c.judge-judged.result.overlay) c.judge-judged.result.replies.items made refl
     j.judged j.rising j.idle in
-    let first = does_look c.in_ok-fill.ensures.says (λ t so. so.0) in
+    let fill = c.in_ok-fill.ensures in
+    let first = does_look (fills (length records) (view c.fill.new.overlay) (view c.args.batch.overlay) fill.says fill.same (λ clean.
+    fill.stored clean (homes_made c.args.batch records made))) in
     rw c.into_replies.ensures (elim c.if-judged-before.branch [
       | then-judged-before+in_ok-write w ↦
           rw w.tx-is (answered_written so first (does_adds (λ clean.
@@ -58,16 +61,17 @@ returns-clause-idle g c clean records made t shows so none =
     let it = judging_all c.args.batch _ records
     c.args.moment (view c.judge-judged.result.overlay) c.judge-judged.result.replies.items made refl
     j.judged j.rising j.idle in
-    let first = does_look fill.says (λ t so. so.0) in
+    let reads = fills (length records) (view c.fill.new.overlay) (view c.args.batch.overlay) fill.says fill.same (λ clean.
+    fill.stored clean (homes_made c.args.batch records made)) in
+    let first = does_look reads in
     elim c.if-judged-before.branch [
       | then-judged-before+in_ok-write w ↦
           let before : HasCleanDisk (state g.S.Store c.fill.new.tx.conn.now) = omega
           (arith, w.in_ok-write.ensures.says.survives.clean, rw w.tx-is at clean) in
-          let told = fill.says.says.told before t shows (ready c.args.batch records made t so) in
+          let told = reads.says.told before t shows so in
           absurd (w.if-judged-before.true (counts_none it first t so told none))
       | else-judged-before w ↦
-          let told = fill.says.says.told (rw w.tx-is at clean) t shows
-          (ready c.args.batch records made t so) in
+          let told = reads.says.told (rw w.tx-is at clean) t shows so in
           rw w.tx-is (record {
             leads = it.back (omega (arith, w.if-judged-before.false)) t so told;
             stays = (fill.says.says.leaves (rw w.tx-is at clean)).0;

@@ -2,14 +2,13 @@
 use Rattle.std.proofs.Common.{◌≡◌, Err, rules}
 use Rattle.posting_batch.specs.View.{IsMadeOf}
 use Rattle.bank_transactions.proofs.AfterLookUp.{busy_since, quiet_since, says_since, stored_since}
-use Rattle.bank_transactions.proofs.{Chained.acts_read, Chained.does_err, JudgedSlots.ready, LookUps.does_look}
+use Rattle.bank_transactions.proofs.{Chained.acts_read, LookUps.does_fail}
 use Rattle.bank_transactions.proofs.first_try.answer_new.Goals as goal
 
 pub returns-in_err-keeps_first-clause-says : goal.returns-in_err-keeps_first-clause-says
 returns-in_err-keeps_first-clause-says g c =
     let same : c.from_residual.result ≡ Err c.in_err-keeps_first.field-0.0 = search rules in
-    rw same (λ records made. acts_read
-    (does_err (does_look c.in_err-keeps_first.ensures (λ t sound. sound)) (λ t it. (ready c.args.batch records made t it).0)))
+    rw same (λ records made. acts_read (does_fail c.in_err-keeps_first.ensures))
 
 pub returns-clause-says : goal.returns-clause-says
 returns-clause-says g c =

@@ -1,13 +1,13 @@
 -- A batch that is answered as if none of its requests were kept.
-use Rattle.std.proofs.Common.{◌≡◌, ◌∙◌, Err, arith, ap, sym, refl, rules}
+use Rattle.std.proofs.Common.{◌≡◌, ◌∙◌, Err, arith, ap, length, sym, refl, rules}
 use Rattle.sqlite.specs.{Held.state, State.HasCleanDisk}
 use Rattle.smallvec.specs.SmallVec.{SmallVec}
 use Rattle.posting_rules.specs.believed.Tables.{Tables}
 use Rattle.posting_batch.specs.{Overlay.Overlay, View.view, declared.slots.RequestSlot.RequestSlot}
-use Rattle.bank_transactions.proofs.{Added.adds_of_batch, JudgedSlots.judging_all, JudgedSlots.ready}
-use Rattle.bank_transactions.proofs.{Chained.acts_read, Chained.does_adds, Chained.does_err, HeldBatch.homes_made}
+use Rattle.bank_transactions.proofs.{Added.adds_of_batch, JudgedSlots.judging_all, ShownSlots.shown_filled}
+use Rattle.bank_transactions.proofs.{Chained.acts_read, Chained.does_adds, HeldBatch.homes_made}
 use Rattle.bank_transactions.proofs.{OwnRows.none_other}
-use Rattle.bank_transactions.proofs.{HeldBatch.in_turn, LookUps.does_look, NewBatch.all_filled, NewBatch.all_held}
+use Rattle.bank_transactions.proofs.{HeldBatch.in_turn, LookUps.does_fail, LookUps.does_look, NewBatch.all_held}
 use Rattle.bank_transactions.proofs.{NewBatch.answered_new, NewBatch.decided_all, NewBatch.is_again, NewBatch.refused_new}
 use Rattle.bank_transactions.proofs.{NewBatch.unanswered_new, Together.all_written, Together.requests_first}
 use Rattle.bank_transactions.proofs.first_try.answer_unkept.Goals as goal
@@ -15,8 +15,7 @@ use Rattle.bank_transactions.proofs.first_try.answer_unkept.Goals as goal
 pub returns-in_err-fill_known-clause-says : goal.returns-in_err-fill_known-clause-says
 returns-in_err-fill_known-clause-says g c =
     let same : c.from_residual.result ≡ Err c.in_err-fill_known.field-0.0 = search rules in
-    rw same (λ records made. acts_read
-    (does_err (does_look c.in_err-fill_known.ensures.says (λ t so. so.0)) (ready c.args.batch records made)))
+    rw same (λ records made. acts_read (does_fail c.in_err-fill_known.ensures.says))
 
 pub returns-then-not-all_decided-clause-again : goal.returns-then-not-all_decided-clause-again
 returns-then-not-all_decided-clause-again g c =
@@ -34,7 +33,7 @@ pub returns-in-Err-2-clause-says : goal.returns-in-Err-2-clause-says
 returns-in-Err-2-clause-says g c records made =
     let fk = c.in_ok-fill_known.ensures in
     let puts = requests_first (view c.judge-judged.result.overlay) c.deref.ensures c.in-Err.ensures.puts in
-    refused_new c.in-Err.fault (search rules) (does_look fk.says (λ t so. so.0)) (does_adds (λ clean.
+    refused_new c.in-Err.fault (search rules) (does_look fk.says) (does_adds (λ clean.
     let first : HasCleanDisk (state g.S.Store c.fill_known.new.tx.conn.now) =
     omega (arith, puts.says.survives.clean, clean) in
     adds_of_batch c.args.batch records (view c.fill_known.new.overlay) (view c.judge-judged.result.overlay) _ made
@@ -53,14 +52,18 @@ returns-in_err-write_after-in-Ok-clause-says g c =
     let end = c.in_err-write_after-in-Ok.ensures in
     let so = judging_all c.args.batch _ records c.args.moment o c.judge-judged.result.replies.items made refl
     j.judged j.rising j.idle in
-    unanswered_new so (does_look fk.says (λ t so. so.0))
-    (λ clean live t shows e.
+    unanswered_new so fk.says
+    (λ clean live t shows room.
     let before : HasCleanDisk (state g.S.Store c.put_requests.new.tx.conn.now) =
     omega (arith, end.says.survives.clean, clean) in
-    all_filled c.args.batch p' o c.deref.result.now records made fk.says
+    let first : HasCleanDisk (state g.S.Store c.fill_known.new.tx.conn.now) =
+    omega (arith, c.in-Ok.ensures.puts.says.survives.clean, before) in
+    shown_filled (state g.S.Store c.args.tx.now.conn.now).now t (length records) p' (view c.args.batch.overlay) shows
+    room fk.same
+    (all_held c.args.batch p' o c.deref.result.now records made fk.says
     (ap (λ (v : SmallVec RequestSlot). v.items) fk.new_rows.3) j.again.keys j.again.own
     (decided_all _ _ _ _ c.all_decided.ensures (search rules)).1 c.deref.ensures c.in-Ok.ensures.puts c.in-Ok.ensures.unknown before live
-    t shows e)
+    (fk.stored first (homes_made c.args.batch records made))))
     (does_adds (λ clean.
     let before : HasCleanDisk (state g.S.Store c.put_requests.new.tx.conn.now) =
     omega (arith, end.says.survives.clean, clean) in
@@ -79,14 +82,18 @@ returns-in_ok-write_after-in-Ok-clause-says g c records made =
     let end = c.in_ok-write_after-in-Ok.ensures in
     let so = judging_all c.args.batch _ records c.args.moment o c.judge-judged.result.replies.items made refl
     j.judged j.rising j.idle in
-    rw c.into_replies.ensures (answered_new so (does_look fk.says (λ t so. so.0))
-    (λ clean live t shows e.
+    rw c.into_replies.ensures (answered_new so fk.says
+    (λ clean live t shows room.
     let before : HasCleanDisk (state g.S.Store c.put_requests.new.tx.conn.now) =
     omega (arith, end.says.survives.clean, clean) in
-    all_filled c.args.batch p' o c.deref.result.now records made fk.says
+    let first : HasCleanDisk (state g.S.Store c.fill_known.new.tx.conn.now) =
+    omega (arith, c.in-Ok.ensures.puts.says.survives.clean, before) in
+    shown_filled (state g.S.Store c.args.tx.now.conn.now).now t (length records) p' (view c.args.batch.overlay) shows
+    room fk.same
+    (all_held c.args.batch p' o c.deref.result.now records made fk.says
     (ap (λ (v : SmallVec RequestSlot). v.items) fk.new_rows.3) j.again.keys j.again.own
     (decided_all _ _ _ _ c.all_decided.ensures (search rules)).1 c.deref.ensures c.in-Ok.ensures.puts c.in-Ok.ensures.unknown before live
-    t shows e)
+    (fk.stored first (homes_made c.args.batch records made))))
     (does_adds (λ clean.
     let before : HasCleanDisk (state g.S.Store c.put_requests.new.tx.conn.now) =
     omega (arith, end.says.survives.clean, clean) in
@@ -108,11 +115,12 @@ returns-in_ok-write_after-in-Ok-clause-busy g c clean live records made t shows 
     omega (arith, c.in_ok-write_after-in-Ok.ensures.says.survives.clean, clean) in
     let first : HasCleanDisk (state g.S.Store c.fill_known.new.tx.conn.now) =
     omega (arith, c.in-Ok.ensures.puts.says.survives.clean, before) in
-    let found = fk.says.says.told first t shows (ready c.args.batch records made t it) in
-    let e = all_filled c.args.batch p' o c.deref.result.now records made fk.says
+    let e = shown_filled (state g.S.Store c.args.tx.now.conn.now).now t (length records) p' (view c.args.batch.overlay)
+    shows it fk.same
+    (all_held c.args.batch p' o c.deref.result.now records made fk.says
     (ap (λ (v : SmallVec RequestSlot). v.items) fk.new_rows.3) j.again.keys j.again.own
     (decided_all _ _ _ _ c.all_decided.ensures (search rules)).1 c.deref.ensures c.in-Ok.ensures.puts c.in-Ok.ensures.unknown before live
-    t shows found in
+    (fk.stored first (homes_made c.args.batch records made))) in
     absurd ((decided_all _ _ _ _ c.all_decided.ensures (search rules)).0 (ap (λ (u : Tables). u.decided) (so.tables t it e) ∙ none
     ∙ sym (ap (λ (q : Overlay). q.decided) e)))
 

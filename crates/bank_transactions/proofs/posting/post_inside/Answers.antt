@@ -4,17 +4,16 @@ use Rattle.sqlite.specs.{Held.state, State.HasCleanDisk}
 use Rattle.posting_batch.specs.{Judging.found_over, Overlay.Overlay, View.view}
 use Rattle.bank_transactions.specs.Filling.{emptied}
 use Rattle.bank_transactions.proofs.JudgedSlots.{answered_idle, answered_not, answered_written, homes_one}
-use Rattle.bank_transactions.proofs.JudgedSlots.{judging_one, ready_one}
-use Rattle.bank_transactions.proofs.Chained.{acts_read, does_adds, does_err}
-use Rattle.bank_transactions.proofs.{Added.adds_of_one, HeldBatch.found_stored, HeldBatch.kept_same, LookUps.does_look}
+use Rattle.bank_transactions.proofs.JudgedSlots.{fills, judging_one}
+use Rattle.bank_transactions.proofs.Chained.{acts_read, does_adds}
+use Rattle.bank_transactions.proofs.{Added.adds_of_one, HeldBatch.found_stored, HeldBatch.kept_same, LookUps.does_fail, LookUps.does_look}
 use Rattle.bank_transactions.proofs.posting.post_inside.Goals.{then-overlay-before+in_ok-write, else-overlay-before}
 use Rattle.bank_transactions.proofs.posting.post_inside.Goals as goal
 
 pub returns-in_err-fill-clause-acts : goal.returns-in_err-fill-clause-acts
 returns-in_err-fill-clause-acts g c =
     let same : c.from_residual.result ≡ Err c.in_err-fill.field-0.0 = search rules in
-    rw same (acts_read (does_err (does_look c.in_err-fill.ensures.says (λ t so. so.0))
-    (ready_one c.args.request.now (view c.for_request-overlay.result) c.for_request-overlay.ensures.covers)))
+    rw same (acts_read (does_fail c.in_err-fill.ensures.says))
 
 pub returns-in_err-write-clause-acts : goal.returns-in_err-write-clause-acts
 returns-in_err-write-clause-acts g c =
@@ -24,7 +23,9 @@ returns-in_err-write-clause-acts g c =
     c.for_request-overlay.ensures.covers c.judge-reply.ensures.reply c.judge-reply.ensures.overlay in
     let fill = c.in_ok-fill.ensures in
     let made = c.for_request-overlay.ensures.covers in
-    rw same (answered_not so (does_look fill.says (λ t so. so.0)) (does_adds (λ clean.
+    rw same (answered_not so (does_look (fills 1 (view c.fill.new.overlay) (view c.for_request-overlay.result) fill.says
+    fill.same (λ clean. fill.stored clean (homes_one c.args.request.now (view c.for_request-overlay.result) made))))
+    (does_adds (λ clean.
     let before : HasCleanDisk (state g.S.Store c.fill.new.tx.conn.now) = omega
     (arith, c.in_err-write.ensures.says.survives.clean, clean) in
     adds_of_one c.args.request.now c.args.moment (view c.for_request-overlay.result) (view c.fill.new.overlay)
@@ -38,7 +39,10 @@ returns-clause-acts g c =
     let so = judging_one c.args.request.now c.args.moment (view c.for_request-overlay.result)
     (view c.fill.new.overlay) (view c.judge-reply.new.self) c.judge-reply.result
     c.for_request-overlay.ensures.covers c.judge-reply.ensures.reply c.judge-reply.ensures.overlay in
-    let first = does_look c.in_ok-fill.ensures.says (λ t so. so.0) in
+    let fill = c.in_ok-fill.ensures in
+    let first = does_look (fills 1 (view c.fill.new.overlay) (view c.for_request-overlay.result) fill.says fill.same
+    (λ clean. fill.stored clean
+    (homes_one c.args.request.now (view c.for_request-overlay.result) c.for_request-overlay.ensures.covers))) in
     elim c.if-overlay-before.branch [
       | then-overlay-before+in_ok-write w ↦
           rw w.tx-is (answered_written so first (does_adds (λ clean.

@@ -13,10 +13,9 @@ use Rattle.posting_rules.specs.believed.Commands.{Post, AreCommands}
 use Rattle.posting_rules.proofs.{Calls.posts, Calls.replies}
 use Rattle.bank_store.proofs.{Causes.still_clean, Countered.of_logs, Countered.takes, bank.BankCounter.submit.Given.Over}
 use Rattle.bank_store.proofs.OtherTables.{spares_done, spares_down, spares_untouched}
-use Rattle.bank_store.proofs.Broke.{unfit}
+use Rattle.bank_store.proofs.Broke.{breaks_shown}
 use Rattle.bank_store.proofs.Refusing.{answered_call, breaks, refused_call, transaction_refused, untried_call, Refusal}
 use Rattle.bank_store.specs.Seen.{fault_of}
-use Rattle.posting_batch.specs.believed.Batch.{AreReadyFor}
 use Rattle.bank_store.proofs.bank.BankCounter.submit.Goals as goal
 
 same_request : {a b : RequestFields} → ◌≡◌ {A = Result RequestFields Bad} (Ok a) (Ok b) → a ≡ b
@@ -95,11 +94,10 @@ returns-in-Err g c =
       stored = tt;
       leaves = tt;
       malformed = λ up bad is. absurd (no_request (sym read ∙ is));
-      own = breaks g.S.Store (AddsForRecords (database_of g.S.Store c.args.self.now) 1) (AreReadyFor 1)
-          c.args.self.now c.go_down.new.self c.go_down.result no.broken
-          (unfit g.S.Store c.args.self.now.conn c.post.new.conn c.go_down.new.self.conn (fault_of c.go_down.new.self)
-          c.go_down.result c.go_down.ensures.survives _ c.in-Err.fault c.in-Err.ensures.transacts
-          c.go_down.ensures.down);
+      own = breaks g.S.Store 1 c.args.self.now c.go_down.new.self c.go_down.result no.broken
+          (breaks_shown g.S.Store c.args.self.now.conn c.post.new.conn c.go_down.new.self.conn
+          (fault_of c.go_down.new.self) c.go_down.result c.go_down.ensures.survives _ c.in-Err.fault
+          c.in-Err.ensures.transacts c.go_down.ensures.down);
       spares = spares_down g.S.Store c.args.self.now c.go_down.new.self c.post.new.conn c.in-Err.fault
           c.go_down.result c.in_ok-up.ensures.up c.in-Err.ensures.transacts.spares
           c.in-Err.ensures.undone

@@ -9,11 +9,10 @@ use Rattle.bank_store.specs.believed.Seen.{database_of}
 use Rattle.bank_store.proofs.{Causes.still_clean, bank.BankCounter.submit_all.Given.Over}
 use Rattle.bank_store.proofs.Countered.{none_or_all, none_or_all_down, of_logs, takes}
 use Rattle.bank_store.proofs.OtherTables.{spares_done, spares_down, spares_untouched}
-use Rattle.bank_store.proofs.Broke.{unfit}
+use Rattle.bank_store.proofs.Broke.{breaks_shown}
 use Rattle.bank_store.proofs.Refusing.{answered_call, breaks, refused_call, spared_call, transaction_refused}
 use Rattle.bank_store.proofs.Refusing.{untried_call}
 use Rattle.bank_store.specs.Seen.{fault_of}
-use Rattle.posting_batch.specs.believed.Batch.{AreReadyFor}
 use Rattle.bank_store.proofs.Refusing.{Refusal}
 use Rattle.bank_transactions.specs.{believed.Additions.AddsForRecords, believed.Causes.IsBrokenOrMet}
 use Rattle.bank_store.proofs.bank.BankCounter.submit_all.Goals as goal
@@ -85,9 +84,8 @@ returns-in-Err g c =
           c.go_down.ensures.survives;
       leaves = tt;
       stored = tt;
-      own = breaks g.S.Store (AddsForRecords (database_of g.S.Store c.args.self.now) (length rs))
-          (AreReadyFor (length rs)) c.args.self.now c.go_down.new.self c.go_down.result no.broken
-          (unfit g.S.Store c.args.self.now.conn c.post_all.new.conn c.go_down.new.self.conn
+      own = breaks g.S.Store (length rs) c.args.self.now c.go_down.new.self c.go_down.result no.broken
+          (breaks_shown g.S.Store c.args.self.now.conn c.post_all.new.conn c.go_down.new.self.conn
           (fault_of c.go_down.new.self) c.go_down.result c.go_down.ensures.survives _ c.in-Err.fault
           (c.in-Err.ensures.says rs c.in_ok-batch.ensures.made) c.go_down.ensures.down);
       spares = spares_down g.S.Store c.args.self.now c.go_down.new.self c.post_all.new.conn c.in-Err.fault
