@@ -1,7 +1,8 @@
 //! The bank over a connection: its calls, and how a fault brings it down.
 ghost use Rattle.posting_rules.specs.declared.fault.Fault.TheVariants as fault;
 ghost use Rattle.std.specs.Prelude.{◌≡◌, ◌≢◌, ◌≤◌, ◌≤ℤ◌, [], ◌∷◌, List, length, Err, IfOk, OnOk, IfErr, IfSome};
-ghost use Rattle.std.specs.Prelude.{None, false, pos};
+ghost use Rattle.std.specs.Prelude.{None, false, pos, ◌+◌, ◌++◌, vec_len, vec_capacity};
+ghost use Rattle.smallvec.specs.SmallVec.{small_vec_len};
 ghost use Rattle.sqlite.specs.State.{Survives};
 ghost use Rattle.sqlite.specs.Held.{state};
 ghost use Rattle.message_records.specs.believed.Spelling.{reply_spelling};
@@ -16,12 +17,12 @@ use crate::laws::{floor_law, range_law};
 use crate::walks::read_outside;
 use arrayvec::ArrayVec;
 use bank_transactions::{
-    note_settled, open_branch, post, post_all, read_balance, read_next_branch,
+    note_settled, open_branch, post_all, post_looked_up, read_balance, read_next_branch,
 };
 use message_records::{
     Account, Branch, Cents, Moment, REPLY_BYTES, REQUEST_BYTES, decode_request, encode_reply,
 };
-use posting_batch::Batch;
+use posting_batch::{Batch, Replies};
 use posting_rules::{
     BranchLine, Counter, Fault, LAST_BRANCH, MAX_ACCOUNTS, Opening, RECORDS_PER_BATCH,
     malformed_reply,
@@ -31,6 +32,14 @@ use std::alloc::Global;
 use std::fmt;
 use store_rows::{BankTable, TableFault, other_table, probe_table};
 use walked_rows::{AHEAD, WalkedRow};
+
+// Puts replies after the others, for which there is room.
+fn put_replies(room: &mut Vec<[u8; REPLY_BYTES]>, replies: &Replies)
+    requires { vec_len room.old + small_vec_len replies.now ≤ vec_capacity room.old }
+    ensures { room.new.items ≡ room.old.items ++ replies.now.items }
+{
+    let _ = room.extend_from_slice(replies);
+}
 
 /// A bank over a connection, with the calls of [`Counter`]. Each call is one transaction, which is committed
 /// before the call answers `Ok` (TPC-B clause 2). Between calls no transaction is open. Amounts are whole
@@ -291,8 +300,9 @@ impl<S: Alter + Drop> Counter for Bank<S> {
         let Ok(request) = decode_request(bytes) else {
             return Ok(encode_reply(&malformed_reply()));
         };
-        match post(self.alloc, &mut self.conn, moment, &request) {
-            Ok(reply) => Ok(reply),
+        let batch = Batch::of_one(self.alloc, request);
+        match post_looked_up(&mut self.conn, moment, batch) {
+            Ok(replies) => Ok(replies[0]),
             Err(fault) => Err(self.go_down(fault)),
         }
     }
@@ -331,9 +341,13 @@ impl<S: Alter + Drop> Counter for Bank<S> {
     {
         range_law(moment);
         self.up()?;
+        let mut replies = Vec::with_capacity(self.alloc, records.len())?;
         let batch = Batch::new(self.alloc, records)?;
         match post_all(&mut self.conn, moment, batch) {
-            Ok(replies) => Ok(replies),
+            Ok(given) => {
+                put_replies(&mut replies, &given);
+                Ok(replies)
+            }
             Err(fault) => Err(self.go_down(fault)),
         }
     }

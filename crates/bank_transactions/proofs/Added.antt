@@ -1,15 +1,15 @@
 -- The rows that records put in are under ordinals that follow the count which the file holds.
-use Rattle.std.proofs.Common.{◌≡◌, ◌∙◌, ℕ, List, [], ◌∷◌, length, map, Ok, refl, sym, ap, subst, inl, inr}
+use Rattle.std.proofs.Common.{◌≡◌, ◌∙◌, ℕ, List, length, map, refl, sym, ap, subst, inl, inr}
 use Rattle.std.proofs.lemmas.List.{length-map}
 use Rattle.std.specs.List.{AllByRecursion}
 use Rattle.sqlite.specs.{Effect.Database, Order.Row}
 use Rattle.sqlite_rules.specs.Lists.{Has}
 use Rattle.sqlite_rules.proofs.ListLemmas.{all_has}
-use Rattle.message_records.specs.believed.{Reading.request_of, Records.RequestFields}
-use Rattle.posting_batch.specs.{believed.Batch.IsNextOrdinal, Judging.overlay_with, Overlay.Overlay, View.IsMadeOf}
+use Rattle.message_records.specs.believed.Reading.{request_of}
+use Rattle.posting_batch.specs.{believed.Batch.IsNextOrdinal, Overlay.Overlay, View.IsMadeOf}
 use Rattle.posting_batch.specs.{View.reads_of, View.view, declared.batch.Batch.Batch}
-use Rattle.posting_batch.specs.Batch.{HasNextOrdinals, covering, no_slots}
-use Rattle.posting_batch.proofs.NextOrdinals.{HasNoRow, next_one, none_covered, none_new}
+use Rattle.posting_batch.specs.Batch.{HasNextOrdinals, no_slots}
+use Rattle.posting_batch.proofs.NextOrdinals.{HasNoRow, none_covered, none_new}
 use Rattle.store_rows.specs.believed.Rules.{OfRows}
 use Rattle.bank_transactions.specs.believed.Additions.{AddsForRecords, FollowsCount}
 use Rattle.bank_transactions.specs.Additions.{AddsNew, adds_so}
@@ -47,7 +47,6 @@ none_filled o p same none = record {
 none_at_first : HasNoRow no_slots
 none_at_first = record { history = refl; requests = refl; references = refl }
 
--- those of a batch
 pub adds_of_batch : (b : Batch) (records : List (List ℕ)) (o judged : Overlay) (db : Database)
     → IsMadeOf b records → emptied o ≡ emptied (view b.overlay) → OfRows (λ rows. HoldsDecided rows o.decided) db
     → (HasNextOrdinals o.decided 0 o → HasNextOrdinals o.decided (length (reads_of b)) judged)
@@ -59,14 +58,3 @@ adds_of_batch b records o judged db made same held next =
     let many : length (reads_of b) ≡ length records = ap length made.reads ∙ length-map records request_of in
     adds_own db o judged (length records) held
     (subst (λ (n : ℕ). HasNextOrdinals o.decided n judged) many (next (none_new o.decided o none)))
-
--- those of a single record
-pub adds_of_one : (r : RequestFields) (m : ℕ) (p o judged : Overlay) (db : Database)
-    → p ≡ covering no_slots (Ok r) → emptied o ≡ emptied p → OfRows (λ rows. HoldsDecided rows o.decided) db
-    → judged ≡ overlay_with o m (Ok r)
-    → (text : List ℕ) (values : Row) → AddsNew judged text values → AddsForRecords db 1 text values
-adds_of_one r m p o judged db made same held after =
-    let none = none_filled o p same
-    (subst HasNoRow (sym made) (none_covered no_slots (Ok r ∷ []) none_at_first)) in
-    adds_own db o judged 1 held (subst (HasNextOrdinals o.decided 1) (sym after)
-    (next_one o m r (none_new o.decided o none)))

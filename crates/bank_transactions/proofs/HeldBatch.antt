@@ -1,48 +1,44 @@
 -- Records whose slots have what the rows hold are answered in tables that have what the rows hold, whatever rows
--- a file holds: those of a batch, and a single one.
-use Rattle.std.proofs.Common.{◌≡◌, ℕ, ℤ, Bool, eqb, List, [], ◌∷◌, map, Option, Some, None, Result, Ok, Err, refl}
-use Rattle.std.proofs.Common.{cond, false, true, sym, ap, subst, ◌∙◌, inl, inr, arith}
+-- a file holds.
+use Rattle.std.proofs.Common.{◌≡◌, ℕ, Bool, eqb, List, [], ◌∷◌, map, Option, Some, None, Result, Ok, Err, refl}
+use Rattle.std.proofs.Common.{true, sym, ap, subst, ◌∙◌, inl, inr, arith}
 use Rattle.std.specs.Prelude.{length, IfOk, IfSome, IsSome, IsTrue, option_and_then, option_map}
 use Rattle.std.specs.List.{AllByRecursion, find}
 use Rattle.std.proofs.lemmas.{Bool.and_parts, Bool.eqb-true, Result.IfOk-weaker}
 use Rattle.message_records.specs.{believed.Reading.request_of, believed.Records.RequestFields, declared.fault.Bad.Bad}
 use Rattle.posting_rules.specs.believed.LookUps.{account_balance_in, balance_of_teller}
-use Rattle.posting_rules.specs.believed.LookUps.{floor_in, found_in, kept_in}
-use Rattle.message_records.specs.declared.records.Outcome.TheVariants.{ReusedNumber}
-use Rattle.posting_rules.specs.believed.Cases.{case_of, is_same, kept_reply, known_case, teller_case}
+use Rattle.posting_rules.specs.believed.LookUps.{floor_in, kept_in}
 use Rattle.posting_rules.specs.believed.Kept.{KeptFields}
-use Rattle.posting_rules.specs.declared.judgments.Verdict.TheVariants.{Again, Unkept}
-use Rattle.posting_batch.specs.Judging.{overlay_after, overlay_with}
 use Rattle.posting_rules.specs.believed.Numbering.{branch_of_account, branch_of_teller}
 use Rattle.posting_rules.specs.believed.Tables.{Tables, branch_key, row_at, teller_key}
-use Rattle.posting_rules.specs.declared.{judgments.Found.Found, rows.BranchRow.BranchRow}
+use Rattle.posting_rules.specs.declared.rows.BranchRow.{BranchRow}
 use Rattle.posting_rules.proofs.Keyed.{by_test}
 use Rattle.posting_batch.specs.{declared.batch.Batch.Batch, declared.slots.RequestSlot.RequestSlot}
-use Rattle.posting_batch.specs.{Judging.found_over, Overlay.Overlay, Placed.IsRising, Placed.number_below}
+use Rattle.posting_batch.specs.{Overlay.Overlay, Placed.IsRising, Placed.number_below}
 use Rattle.posting_batch.specs.{Placed.request_below, View.IsFilledFrom, View.IsMadeOf, View.reads_of, View.view}
 use Rattle.posting_batch.specs.Batch.{CoversAll, CoversRead, HasHomes, HasRisingSlots, account_filled}
 use Rattle.posting_batch.specs.believed.Batch.{HasFreeOrdinals}
-use Rattle.posting_batch.specs.Batch.{IsJudged, branch_filled, covering, covering_all, filled}
+use Rattle.posting_batch.specs.Batch.{IsJudged, branch_filled, covering_all, filled}
 use Rattle.posting_batch.specs.Batch.{floor_filled, no_slots, request_filled, teller_filled}
 use Rattle.posting_batch.specs.Slots.{account_slot_key, branch_slot_key, floor_slot_key, is_for, teller_slot_key}
 use Rattle.posting_batch.proofs.Covered.{Stands, homes_all, stands}
-use Rattle.posting_batch.proofs.{Orders.rising_mapped, Overlaid.found_is, SlotsInOrder.made_all}
+use Rattle.posting_batch.proofs.{Orders.rising_mapped, SlotsInOrder.made_all}
 use Rattle.posting_batch.proofs.ToldTables.{IsOwn, tables_told, told_filled, told_free}
 use Rattle.sql_meanings.specs.believed.Entries.{Entry}
 use Rattle.sql_meanings.proofs.Changes.{found_key}
 use Rattle.sqlite.specs.{Effect.Database, Held.Held, Held.state, State.HasCleanDisk}
 use Rattle.sqlite_trees.specs.declared.store.Store.{Ghosts}
 use Rattle.sqlite_trees.proofs.ListLemmas.{all_weaker, map-map}
-use Rattle.store_rows.specs.believed.Rules.{HoldsBank, OfRows, StoredRows, branch_under, row_under}
-use Rattle.store_rows.specs.believed.{Readings.read_balance, Stored.FindsStored}
+use Rattle.store_rows.specs.believed.Rules.{OfRows, StoredRows, branch_under}
 use Rattle.store_rows.specs.declared.fault.TableFault.{TableFault}
 use Rattle.bank_transactions.specs.{Doing.Ends, Stored.HoldsTellerRow, believed.Batches.DecidesNone}
 use Rattle.bank_transactions.specs.Filling.{AreHeld, AreShown, HasOwnRow, HoldsBranch, RequestHeld, RequestShown}
 use Rattle.bank_transactions.specs.Filling.{emptied, emptied_account, emptied_branch, emptied_floor, emptied_request}
 use Rattle.bank_transactions.specs.Filling.{emptied_teller}
 use Rattle.bank_transactions.specs.believed.Stored.{HasOther, HasRead, HasShown, HasStored, HoldsAccount, HoldsFloor}
-use Rattle.bank_transactions.specs.believed.Stored.{HoldsKept, HoldsTeller, IsStoredFound, RepliesToAllStored}
+use Rattle.bank_transactions.specs.believed.Stored.{HoldsKept, RepliesToAllStored}
 use Rattle.bank_transactions.specs.believed.Stored.{ShowsKept}
+use Rattle.bank_transactions.specs.Batches.{RepliesLookedUp}
 use Rattle.bank_transactions.proofs.{HeldRows.both_held, HeldSlots.at_key}
 
 -- ---- an overlay that is filled again
@@ -230,68 +226,24 @@ in_turn old new b b' records m o items made reads same own held shown judged idl
       stays = λ none. idle (ap (λ (u : Tables). u.decided) is.tables ∙ none);
     }
 
--- what is found for a single request is what the rows hold, and what is kept of it is what is shown
-module _ (db : Database) (r : RequestFields) (slots : Overlay)
-    (same : emptied slots ≡ emptied (covering no_slots (Ok r)))
-    (held : OfRows (λ rows. AreHeld rows slots) db) (shown : AreShown db slots) where
-  stand_so : Stands slots (tables_told 0 slots) (Ok r ∷ [])
-  stand_so = they_stand 0 (Ok r ∷ []) slots same shown.branches
-
-  found_so : found_over slots r ≡ found_in (tables_told 0 slots) r
-  found_so =
-      found_is slots (tables_told 0 slots) r stand_so.fits stand_so.covers.0
-      ∙ ap (λ (t : Tables). found_in t r) stand_so.same
-
-  has_so : (rows : StoredRows) → HoldsBank db rows → HasStored rows (tables_told 0 slots) r
-  has_so rows has =
-      has_request rows slots (tables_told 0 slots) (Ok r ∷ []) stand_so (held rows has) r stand_so.covers.0
-
-  pub found_stored : IsStoredFound db r (found_over slots r)
-  found_stored = record {
-    teller = record {
-      found = λ rows has. subst (λ (f : Found). HoldsTeller rows r.teller f.teller)
-          (sym found_so) (has_so rows has).teller;
-      fits = λ rows has. (has_so rows has).teller_fits;
-    };
-    account = record {
-      found = λ rows has. subst (λ (f : Found). FindsStored (row_under rows.accounts r.account) read_balance
-          (Ok f.account)) (sym found_so) (has_so rows has).account.found;
-      fits = λ rows has. (has_so rows has).account.fits;
-    };
-    above = λ rows has. (has_so rows has).account.above;
-    floor = λ rows has. subst (λ (f : Found). HoldsFloor rows (branch_of_account r.account) f.floor)
-        (sym found_so) (has_so rows has).floor;
-    kept = λ rows has. subst (λ (f : Found). HoldsKept rows r.teller r.number f.kept)
-        (sym found_so) (has_so rows has).kept;
-    decided = λ rows has. (held rows has).decided;
-    shown = subst (λ (f : Found). ShowsKept db r.teller r.number f.kept) (sym found_so)
-        (told_kept (ShowsKept db) slots (tables_told 0 slots) (Ok r ∷ []) stand_so shown.kept r stand_so.covers.0);
-  }
-
--- a request that is kept changes nothing
-module _ (p : Overlay) (m : ℕ) (r : RequestFields) where
-  again_same : (k : KeptFields) (is : Bool)
-      → overlay_after p m r (cond is (Again (kept_reply k r)) (Unkept ReusedNumber)) ≡ p
-  again_same k true = refl
-  again_same k false = refl
-
-  known_same : (kept : Option KeptFields) (f : Found) (teller branch : ℤ) → IsSome kept
-      → overlay_after p m r (known_case kept f r teller branch) ≡ p
-  known_same None f teller branch there = absurd cc
-  known_same (Some k) f teller branch there = again_same k (is_same k r)
-
-  teller_same : (teller : Option (ℤ × ℤ)) (f : Found) → IsSome f.kept
-      → overlay_after p m r (teller_case teller f r) ≡ p
-  teller_same None f there = refl
-  teller_same (Some balances) f there = known_same f.kept f balances.0 balances.1 there
-
-  case_same : (f : Found) → IsSome f.kept → overlay_after p m r (case_of f r) ≡ p
-  unfolding case_of
-  case_same f there = teller_same f.teller f there
-
-pub kept_same : (p o : Overlay) (m : ℕ) (r : RequestFields) → o ≡ overlay_with p m (Ok r)
-    → IsSome (found_over p r).kept → o ≡ p
-kept_same p o m r is there = is ∙ case_same p m r (found_over p r) there
+-- so does one whose requests are all looked up, whatever tables the file has
+pub in_turn_looked_up : (old new : Database) (b b' : Batch) (records : List (List ℕ)) (m : ℕ) (o : Overlay)
+    (items : List (List ℕ)) → IsMadeOf b records → reads_of b' ≡ reads_of b
+    → emptied (view b'.overlay) ≡ emptied (view b.overlay) → AreShown old (view b'.overlay)
+    → OfRows (λ rows. AreHeld rows (view b'.overlay)) old
+    → ((t : Tables) (rs : List (List ℕ)) → IsFilledFrom b' t rs → HasFreeOrdinals t (length rs)
+    → IsJudged o items t m rs)
+    → (o.decided ≡ (view b'.overlay).decided → new ≡ old)
+    → RepliesLookedUp old new m records items
+unfolding in_turn
+in_turn_looked_up old new b b' records m o items made reads same shown held judged idle =
+    let its : List (Result RequestFields Bad) = map request_of records in
+    let slots = view b'.overlay in
+    let stand = they_stand (length records) its slots (same ∙ ap emptied made.overlay) shown.branches in
+    record {
+      told = in_turn old new b b' records m o items made reads same shown.branches held (λ _. shown.kept) judged idle;
+      shown = shown_records old slots _ its stand shown.kept records stand.covers;
+    }
 
 -- every branch that a batch asks for has its slot
 pub homes_made : (b : Batch) (records : List (List ℕ)) → IsMadeOf b records → HasHomes (view b.overlay)

@@ -1,6 +1,7 @@
 -- A batch in a transaction of its own, and one in which nothing is decided.
 use Rattle.std.proofs.Common.{◌≡◌, ℕ, List, Result, Ok, Err, true, ap, sym, subst, ◌∙◌, arith}
-use Rattle.std.specs.Prelude.{OnOk, Vec, length}
+use Rattle.std.specs.Prelude.{OnOk, length}
+use Rattle.smallvec.specs.SmallVec.{SmallVec}
 use Rattle.sqlite.specs.{Effect.Database, State.HasCleanDisk, Held.Held, Held.state}
 use Rattle.sqlite_trees.specs.declared.store.Store.{Ghosts}
 use Rattle.posting_rules.specs.believed.Tables.{Tables}
@@ -10,8 +11,8 @@ use Rattle.bank_transactions.specs.{Doing.Ends, believed.Batches.DecidesNone}
 use Rattle.bank_transactions.specs.Batches.{items_of, WritesNothing, KeepsOnly}
 
 -- the replies without where they lie in memory end the same way
-pub ends_items : {S Z : Type 0} (g : Ghosts S) (last new : Held S)
-    (answer result : Result (Vec (List ℕ) Z) TableFault)
+pub ends_items : {S : Type 0} (g : Ghosts S) (last new : Held S)
+    (answer result : Result (SmallVec (List ℕ)) TableFault)
     → Ends g last new answer result → Ends g last new (items_of answer) (items_of result)
 ends_items g last new (Ok x) (Ok y) ends =
     record { mode = ends.mode; given = ap items_of ends.given; told = ends.told; survives = ends.survives }

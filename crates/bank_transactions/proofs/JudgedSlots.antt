@@ -1,17 +1,15 @@
--- Records whose slots are filled, judged and written: a single one, and those of a batch.
+-- Records whose slots are filled, judged and written.
 use Rattle.std.proofs.Common.{◌≡◌, ℕ, List, length, map, Result, Ok, Err, refl, sym, ap, subst, ◌∙◌}
 use Rattle.sqlite.specs.{Held.state, State.HasCleanDisk, declared.transaction.Transaction.Transaction}
 use Rattle.sqlite_trees.specs.declared.store.Store.{Ghosts}
-use Rattle.message_records.specs.believed.{Reading.request_of, Records.RequestFields, Spelling.reply_spelling}
-use Rattle.posting_rules.specs.believed.Changes.{tables_past_all, replies_past_all, tables_with, reply_bytes}
+use Rattle.message_records.specs.believed.Reading.{request_of}
+use Rattle.posting_rules.specs.believed.Changes.{tables_past_all, replies_past_all}
 use Rattle.posting_rules.specs.believed.Tables.{Tables}
-use Rattle.posting_batch.specs.{declared.batch.Batch.Batch, Judging.overlay_with, Judging.reply_over, Overlay.Overlay}
+use Rattle.posting_batch.specs.{declared.batch.Batch.Batch, Overlay.Overlay}
 use Rattle.posting_batch.specs.{Overlay.tables_over, View.view, View.reads_of, View.IsMadeOf, View.IsFilledFrom}
-use Rattle.posting_batch.specs.Batch.{HasHomes, HasRisingSlots, ChangesRows, AddsFreeRows, filled, covering, no_slots}
+use Rattle.posting_batch.specs.Batch.{HasRisingSlots, filled}
 use Rattle.posting_batch.specs.{Batch.IsJudged, believed.Batch.HasFreeOrdinals}
 use Rattle.posting_batch.proofs.Covered.{stands}
-use Rattle.posting_batch.proofs.OneRecord.{one_adds, one_back, one_changes, one_filled, one_homes, one_judged}
-use Rattle.posting_batch.proofs.OneRecord.{one_reply, one_rising, one_tables}
 use Rattle.store_rows.specs.{believed.Failures.Additions, believed.Rules.OfRows, declared.fault.TableFault.TableFault}
 use Rattle.bank_transactions.specs.{believed.Batches.HasRoomFor, Filling.AreHeld, Filling.emptied}
 use Rattle.bank_transactions.specs.Doing.{Acts, Does, Looks, ReadsWhere}
@@ -103,34 +101,4 @@ judging_all b b' records m o items made same judged rising idle =
           sym (so t it e).tables
           ∙ ap (λ (p : Overlay). tables_over p t) (idle none ∙ (is t e).overlay)
           ∙ (stands t (map request_of records)).same;
-    }
-
--- ---- a single request
-
-pub homes_one : (r : RequestFields) (p : Overlay) → p ≡ covering no_slots (Ok r) → HasHomes p
-homes_one r p made = subst HasHomes (sym made) (one_homes r)
-
-pub judging_one : (r : RequestFields) (m : ℕ) (p p' o : Overlay) (reply : List ℕ)
-    → p ≡ covering no_slots (Ok r) → reply ≡ reply_spelling (reply_over p' (Ok r))
-    → o ≡ overlay_with p' m (Ok r)
-    → Judging (HasRoomFor 1) (λ t. tables_with t m r) (λ t. reply_bytes t r) p p' o reply
-judging_one r m p p' o reply made told after =
-    let is : (t : Tables) → p' ≡ filled t p → p' ≡ one_filled t m r =
-    λ t e. e ∙ ap (λ (q : Overlay). filled t q) made in
-    let so : (t : Tables) → p' ≡ filled t p → o ≡ one_judged t m r =
-    λ t e. after ∙ ap (λ (q : Overlay). overlay_with q m (Ok r)) (is t e) in
-    record {
-      tables = λ t it e. ap (λ (q : Overlay). tables_over q t) (so t e) ∙ one_tables t m r;
-      answers = λ t it e.
-          told ∙ ap (λ (q : Overlay). reply_spelling (reply_over q (Ok r))) (is t e) ∙ one_reply t m r;
-      writes = λ t it e.
-          let changes = subst (λ (q : Overlay). ChangesRows q t) (sym (so t e)) (one_changes t m r) in (
-            numbers t o.branches 1 it changes.branches,
-            subst HasRisingSlots (sym (so t e)) (one_rising t m r),
-            changes,
-            subst (λ (q : Overlay). AddsFreeRows q t) (sym (so t e)) (one_adds t m r it.free),
-          );
-      back = λ none t it e.
-          one_back t m r (sym (ap (λ (q : Overlay). q.decided) (so t e)) ∙ none
-          ∙ ap (λ (q : Overlay). q.decided) (is t e));
     }

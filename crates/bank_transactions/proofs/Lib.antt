@@ -23,6 +23,7 @@ pub mod FilledBatch
 pub mod Together
 pub mod HeldBatch
 pub mod JudgedSlots
+pub mod OneRequest
 pub mod Idle
 pub mod Added
 pub mod NewRequests

@@ -1,15 +1,20 @@
 -- What a batch leaves in which nothing is decided.
-use Rattle.std.specs.Prelude.{◌≡◌, ℕ, List, Result, Ok, Err, Vec}
+use Rattle.std.specs.Prelude.{◌≡◌, ℕ, List, Result, Ok, Err}
+use Rattle.std.specs.List.{AllByRecursion}
+use Rattle.smallvec.specs.SmallVec.{SmallVec}
+use Rattle.message_records.specs.believed.Reading.{request_of}
+use Rattle.sqlite.specs.Effect.{Database}
 use Rattle.sqlite.specs.Tree.{Trees}
 use Rattle.sqlite.specs.State.{State}
 use Rattle.posting_rules.specs.believed.Changes.{tables_past_all}
 use Rattle.posting_rules.specs.believed.Tables.{Tables}
 use Rattle.store_rows.specs.believed.View.{Shows, ShowsTrees}
 use Rattle.store_rows.specs.declared.fault.TableFault.{TableFault}
+use Rattle.bank_transactions.specs.believed.Stored.{HasShown, RepliesToAllStored}
 use Rattle.bank_transactions.specs.Doing.{Stays}
 
 -- the replies, without where they lie in memory
-abbrev pub items_of : {Z : Type 0} → Result (Vec (List ℕ) Z) TableFault → Result (List (List ℕ)) TableFault
+abbrev pub items_of : Result (SmallVec (List ℕ)) TableFault → Result (List (List ℕ)) TableFault
 items_of (Ok replies) = Ok replies.items
 items_of (Err e) = Err e
 
@@ -24,3 +29,9 @@ pub record KeepsOnly (old new : State) (t : Tables) (moment : ℕ) (records : Li
   pub same : new.now ≡ old.now
   pub shows : Shows new.now t
   pub survives : (left : Trees) → new.may_leave left → ShowsTrees left t
+
+-- The replies are those that `RepliesToAllStored` says, in tables that had what is shown to be kept of each request,
+-- whatever tables the database has.
+pub record RepliesLookedUp (old new : Database) (moment : ℕ) (records replies : List (List ℕ)) : Type 0 where
+  pub told : RepliesToAllStored old new moment records replies
+  pub shown : AllByRecursion (λ bytes. HasShown old told.tables (request_of bytes)) records

@@ -10,8 +10,8 @@
 //! ghost use Rattle.std.specs.Prelude.{◌≡◌, false};
 //!
 //! use bank_transactions::post_all;
-//! use message_records::{Moment, REPLY_BYTES, REQUEST_BYTES};
-//! use posting_batch::Batch;
+//! use message_records::{Moment, REQUEST_BYTES};
+//! use posting_batch::{Batch, Replies};
 //! use sqlite::{Alter, Connection};
 //! use std::alloc::Global;
 //! use std::test::Fail;
@@ -20,7 +20,7 @@
 //!     alloc: Global,
 //!     conn: &mut Connection<S>,
 //!     record: &[u8; REQUEST_BYTES],
-//! ) -> Result<Vec<[u8; REPLY_BYTES]>, Fail>
+//! ) -> Result<Replies, Fail>
 //!     requires { conn.old.in_transaction ≡ false }
 //! {
 //!     let batch = Batch::new(alloc, &[*record, *record])?;
@@ -44,7 +44,7 @@ ghost use Rattle.store_rows.specs.believed.View.{Shows};
 ghost use Rattle.bank_transactions.specs.believed.Additions.{AddsForRecords};
 ghost use Rattle.bank_transactions.specs.Doing.{Acts, Transacts};
 ghost use Rattle.bank_transactions.specs.believed.Batches.{DecidesNone, HasRoomFor};
-ghost use Rattle.bank_transactions.specs.Batches.{items_of, WritesNothing, KeepsOnly};
+ghost use Rattle.bank_transactions.specs.Batches.{items_of, WritesNothing, KeepsOnly, RepliesLookedUp};
 ghost use Rattle.bank_transactions.specs.believed.Stored.{RepliesToAllStored};
 ghost use Rattle.bank_transactions.specs.Undone.{UndoesFaults};
 
@@ -52,8 +52,8 @@ use crate::batch_changes::write;
 use crate::first_try::{Tried, try_new};
 use crate::slots::fill;
 use crate::{begin, finish};
-use message_records::{Moment, REPLY_BYTES};
-use posting_batch::Batch;
+use message_records::Moment;
+use posting_batch::{Batch, Replies};
 use sqlite::{Alter, Connection, Transaction};
 use store_rows::{TableFault, other_table};
 
@@ -62,7 +62,7 @@ pub fn answer_batch<S: Alter>(
     tx: &mut Transaction<'_, S>,
     moment: Moment,
     mut batch: Batch,
-) -> Result<Vec<[u8; REPLY_BYTES]>, TableFault>
+) -> Result<Replies, TableFault>
     ensures says { (records : List (List ℕ)) → IsMadeOf batch records
         → Acts S.Store (AddsForRecords (state S.Store tx.old.conn.now).now (length records)) tx.old tx.new
         (HasRoomFor (length records)) (λ tables. tables_past_all tables moment records)
@@ -76,7 +76,7 @@ pub fn answer_batch<S: Alter>(
         (state S.Store tx.new.conn.now) tables moment records) }
     ensures stored { IfOk result (λ replies. HasCleanDisk (state S.Store tx.new.conn.now)
         → (records : List (List ℕ)) → IsMadeOf batch records
-        → RepliesToAllStored (state S.Store tx.old.conn.now).now (state S.Store tx.new.conn.now).now moment records
+        → RepliesLookedUp (state S.Store tx.old.conn.now).now (state S.Store tx.new.conn.now).now moment records
         replies.items) }
 {
     fill(tx, &mut batch.overlay)?;
@@ -88,12 +88,17 @@ pub fn answer_batch<S: Alter>(
     Ok(judged.into_replies())
 }
 
-// Answers a batch in a transaction of its own, each request looked up.
-fn post_looked_up<S: Alter>(
+/// Answers the records that a batch is made of as [`post_all`] does, each request looked up. A single one is answered
+/// so, which costs less than a try that is refused. It takes no memory.
+///
+/// # Errors
+///
+/// As [`open_branch`](crate::open_branch).
+pub fn post_looked_up<S: Alter>(
     conn: &mut Connection<S>,
     moment: Moment,
     batch: Batch,
-) -> Result<Vec<[u8; REPLY_BYTES]>, TableFault>
+) -> Result<Replies, TableFault>
     requires { conn.old.in_transaction ≡ false }
     ensures says { (records : List (List ℕ)) → IsMadeOf batch records
         → Transacts S.Store (AddsForRecords (state S.Store conn.old).now (length records)) conn.old conn.new
@@ -108,7 +113,7 @@ fn post_looked_up<S: Alter>(
     // Whatever rows the file holds.
     ensures stored { IfOk result (λ replies. HasCleanDisk (state S.Store conn.new)
         → (records : List (List ℕ)) → IsMadeOf batch records
-        → RepliesToAllStored (state S.Store conn.old).now (state S.Store conn.new).now moment records
+        → RepliesLookedUp (state S.Store conn.old).now (state S.Store conn.new).now moment records
         replies.items) }
     ensures undone { (records : List (List ℕ)) → IsMadeOf batch records
         → UndoesFaults S.Store conn.old conn.new (items_of result) }
@@ -119,8 +124,7 @@ fn post_looked_up<S: Alter>(
 }
 
 // Whether a batch is tried before its requests are looked up: only where the tables are defined as they are made,
-// so that an INSERT tells of a request that is kept. A single request is looked up, which costs less than a try that
-// is refused.
+// so that an INSERT tells of a request that is kept. A single request is looked up.
 fn is_tried<S: Alter>(conn: &Connection<S>, batch: &Batch) -> bool
     ensures { IsTrue result → IsOtherTable (state S.Store conn.now).now.schema None }
 {
@@ -139,7 +143,7 @@ pub fn post_all<S: Alter>(
     conn: &mut Connection<S>,
     moment: Moment,
     batch: Batch,
-) -> Result<Vec<[u8; REPLY_BYTES]>, TableFault>
+) -> Result<Replies, TableFault>
     requires { conn.old.in_transaction ≡ false }
     ensures says { (records : List (List ℕ)) → IsMadeOf batch records
         → Transacts S.Store (AddsForRecords (state S.Store conn.old).now (length records)) conn.old conn.new

@@ -22,8 +22,8 @@ ghost use Rattle.bank_transactions.specs.Undone.{UndoesFaults};
 use crate::batch_changes::{put_requests, write_after};
 use crate::slots::fill_known;
 use crate::{begin, finish, kept_request};
-use message_records::{Moment, REPLY_BYTES};
-use posting_batch::{Batch, Overlay, RequestSlot};
+use message_records::Moment;
+use posting_batch::{Batch, Overlay, Replies, RequestSlot};
 use sqlite::{Alter, Connection, Constraint, Error, ErrorCode, Transaction};
 use store_rows::{BankTable, TableFault, probe_table};
 
@@ -31,7 +31,7 @@ use store_rows::{BankTable, TableFault, probe_table};
 #[derive(Drop)]
 pub(crate) enum Tried {
     /// The records are answered.
-    Answered(Vec<[u8; REPLY_BYTES]>),
+    Answered(Replies),
     /// One of the requests may be kept. The batch is as it was made.
     Again(Batch),
 }

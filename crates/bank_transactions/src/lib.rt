@@ -1,9 +1,9 @@
 //! What a bank does to its tables: a request, an opening and a look-up, each in one transaction (TPC-B,
 //! clause 1.2). The tables are those of `store_rows` in a SQLite file.
 //!
-//! Each of [`post`], [`open_branch`], [`read_balance`] and [`read_next_branch`] is a whole transaction. It
-//! is called outside of one, and none goes on after it. [`begin`] and [`finish`] stand around parts that are
-//! put together otherwise, as a batch is: [`branch_at`], [`teller_balances`], [`open_balance`],
+//! Each of [`post_all`], [`post_looked_up`], [`open_branch`], [`read_balance`] and [`read_next_branch`] is a whole
+//! transaction. It is called outside of one, and none goes on after it. [`begin`] and [`finish`] stand around parts that are
+//! put together otherwise: [`branch_at`], [`teller_balances`], [`open_balance`],
 //! [`kept_request`] and [`decided`] look up, [`write_balance`] and [`write_decided`] write.
 //!
 //! The function `first_request` of `store_tests`, which a test runs, opens branch 1 with three accounts in a
@@ -12,8 +12,9 @@
 //! ```rust
 //! ghost use Rattle.std.specs.Prelude.{◌≡◌, false};
 //!
-//! use bank_transactions::{open_branch, post};
-//! use message_records::{Account, Branch, Cents, Moment, Number, REPLY_BYTES, Request, Teller};
+//! use bank_transactions::{open_branch, post_looked_up};
+//! use message_records::{Account, Branch, Cents, Moment, Number, Request, Teller};
+//! use posting_batch::{Batch, Replies};
 //! use sqlite::{Alter, Connection};
 //! use std::alloc::Global;
 //! use store_rows::TableFault;
@@ -21,7 +22,7 @@
 //! pub fn first_request<S: Alter>(
 //!     alloc: Global,
 //!     conn: &mut Connection<S>,
-//! ) -> Result<[u8; REPLY_BYTES], TableFault>
+//! ) -> Result<Replies, TableFault>
 //!     requires { conn.old.in_transaction ≡ false }
 //! {
 //!     open_branch(conn, Branch::new(1).unwrap(), 3, None)?;
@@ -33,12 +34,8 @@
 //!         Cents::new(500).unwrap(),
 //!         None,
 //!     );
-//!     post(
-//!         alloc,
-//!         conn,
-//!         Moment::new(1_795_442_400).unwrap(),
-//!         &request.unwrap(),
-//!     )
+//!     let batch = Batch::of_one(alloc, request.unwrap());
+//!     post_looked_up(conn, Moment::new(1_795_442_400).unwrap(), batch)
 //! }
 //! ```
 //!
@@ -57,14 +54,13 @@ mod floors;
 mod look_ups;
 mod new_branch;
 mod next_branch;
-mod posting;
 mod slots;
 mod transactions;
 
 pub use balances::{write_balance, write_decided};
 pub use batch_changes::write;
-pub use batches::{answer_batch, post_all};
+pub use batches::{answer_batch, post_all, post_looked_up};
 pub use look_ups::{branch_at, decided, kept_request, open_balance, teller_balances};
 pub use next_branch::read_next_branch;
 pub use slots::fill;
-pub use transactions::{begin, finish, note_settled, open_branch, post, read_balance};
+pub use transactions::{begin, finish, note_settled, open_branch, read_balance};

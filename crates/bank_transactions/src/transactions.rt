@@ -2,26 +2,22 @@
 ghost use Rattle.std.specs.Prelude.{◌≡◌, ◌≤◌, IfOk, IsTrue, OnOk, true, false};
 ghost use Rattle.sqlite.specs.State.{HasCleanDisk};
 ghost use Rattle.sqlite.specs.Held.{state};
-ghost use Rattle.posting_rules.specs.believed.Changes.{reply_bytes, tables_with};
 ghost use Rattle.posting_rules.specs.Changes.{tables_with_branch};
 ghost use Rattle.posting_rules.specs.believed.Commands.{opened_with};
 ghost use Rattle.posting_rules.specs.believed.Counter.{opening_for};
 ghost use Rattle.posting_rules.specs.believed.LookUps.{account_balance_in};
 ghost use Rattle.posting_rules.specs.believed.LookUps.{terms_in};
 ghost use Rattle.posting_rules.specs.Sound.{AreSound};
-ghost use Rattle.bank_transactions.specs.believed.Batches.{HasRoomFor};
-ghost use Rattle.bank_transactions.specs.believed.Additions.{AddsBranch, AddsForRecords};
+ghost use Rattle.bank_transactions.specs.believed.Additions.{AddsBranch};
 ghost use Rattle.bank_transactions.specs.Doing.{Consults, Ends, Transacts};
-ghost use Rattle.bank_transactions.specs.believed.Stored.{IsStoredBalance, OpensByStored, RepliesToStored};
+ghost use Rattle.bank_transactions.specs.believed.Stored.{IsStoredBalance, OpensByStored};
 ghost use Rattle.bank_transactions.specs.Undone.{UndoesFaults};
 
 use crate::look_ups::open_balance;
 use crate::new_branch::open_inside;
-use crate::posting::post_inside;
-use message_records::{Account, Branch, Cents, Moment, REPLY_BYTES, Request};
+use message_records::{Account, Branch, Cents};
 use posting_rules::{LAST_BRANCH, MAX_ACCOUNTS, Opening};
 use sqlite::{Alter, Connection, Transaction};
-use std::alloc::Global;
 use store_rows::{TableFault, commit};
 
 /// A hook for proofs, with no effect at run time: a connection outside a transaction shows what was committed last,
@@ -68,43 +64,17 @@ pub fn finish<S: Alter, X: Drop>(
     Ok(answer)
 }
 
-/// Answers a request, in one transaction (TPC-B 1.2): the 200 bytes of its reply, whether it was posted or
-/// refused. The moment is that of the posting. What was answered is there after a crash. It takes no memory of
-/// the allocator, which its slots only name.
-///
-/// # Errors
-///
-/// - `TableFault::Sqlite`: a call of `sqlite` failed with this error. Nothing of the request is kept, unless
-///   it was the commit that failed: then a crash may show later that it was.
-/// - `TableFault::Damaged`: the rows that were looked up break this rule, or a statement met that they do as
-///   it wrote.
-///
-/// After each of them everything is as it was, as long as the store is open.
-pub fn post<S: Alter>(
-    alloc: Global,
-    conn: &mut Connection<S>,
-    moment: Moment,
-    request: &Request,
-) -> Result<[u8; REPLY_BYTES], TableFault>
-    requires { conn.old.in_transaction ≡ false }
-    ensures transacts { Transacts S.Store (AddsForRecords (state S.Store conn.old).now 1) conn.old conn.new
-        (HasRoomFor 1) (λ tables. tables_with tables moment request.now) (λ tables. reply_bytes tables request.now) result }
-    // Whatever rows the file holds.
-    ensures stored { IfOk result (λ reply. HasCleanDisk (state S.Store conn.new)
-        → RepliesToStored (state S.Store conn.old).now (state S.Store conn.new).now request.now reply) }
-    ensures undone { UndoesFaults S.Store conn.old conn.new result }
-{
-    let mut tx = begin(conn);
-    let reply = post_inside(alloc, &mut tx, moment, request);
-    finish(tx, reply)
-}
-
 /// Opens a branch with its ten tellers, so many accounts and a floor for them, unless it is open: then it is
 /// said whether it has this count and this floor. One transaction.
 ///
 /// # Errors
 ///
-/// As [`post`].
+/// - `TableFault::Sqlite`: a call of `sqlite` failed with this error. Nothing of the opening is kept, unless
+///   it was the commit that failed: then a crash may show later that it was.
+/// - `TableFault::Damaged`: the rows that were looked up break this rule, or a statement met that they do as
+///   it wrote.
+///
+/// After each of them everything is as it was, as long as the store is open.
 pub fn open_branch<S: Alter>(
     conn: &mut Connection<S>,
     branch: Branch,
@@ -132,7 +102,7 @@ pub fn open_branch<S: Alter>(
 ///
 /// # Errors
 ///
-/// As [`post`].
+/// As [`open_branch`].
 pub fn read_balance<S: Alter>(
     conn: &mut Connection<S>,
     account: Account,

@@ -15,6 +15,5 @@ pub mod Idle
 pub mod Examples
 pub mod SlotsWritten
 pub mod ToldTables
-pub mod OneRecord
 pub mod NextOrdinals
 pub mod Blanked

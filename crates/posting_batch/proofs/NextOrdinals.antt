@@ -111,12 +111,7 @@ after_all first count total o m (read ∷ reads) is it =
 start : (o : Overlay) → HasNextOrdinals o.decided 0 o → Within o.decided 0 o
 start o none = record { rows = none; least = omega arith; most = omega arith }
 
--- the new rows of a single record
-pub next_one : (o : Overlay) (m : ℕ) (r : RequestFields) → HasNextOrdinals o.decided 0 o
-    → HasNextOrdinals o.decided 1 (overlay_with o m (Ok r))
-next_one o m r none = (after_read o.decided 0 o m (Ok r) (start o none)).rows
-
--- and of several
+-- the new rows of records
 pub next_all : (o : Overlay) (m : ℕ) (reads : List (Result RequestFields Bad)) → HasNextOrdinals o.decided 0 o
     → HasNextOrdinals o.decided (length reads) (overlay_with_all o m reads)
 next_all o m reads none = after_all o.decided 0 (length reads) o m reads (omega arith) (start o none)

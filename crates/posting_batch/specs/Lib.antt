@@ -6,4 +6,5 @@ pub mod Overlay
 pub mod Judging
 pub mod Batch
 pub mod Room
+pub mod Reads
 pub mod View

@@ -8,6 +8,7 @@ use Rattle.posting_batch.specs.declared.overlay.Overlay as held
 use Rattle.posting_batch.specs.declared.batch.Batch.{Batch}
 use Rattle.posting_batch.specs.declared.batch.Judged.{Judged}
 use Rattle.posting_batch.specs.Overlay.{Overlay}
+use Rattle.posting_batch.specs.Reads.{reads_in}
 use Rattle.posting_batch.specs.Room.{IsRoomFor}
 use Rattle.posting_batch.specs.Batch.{KeepsNew, blanked, covering_all, no_slots, filled}
 
@@ -39,11 +40,11 @@ pub record IsForRecords (count : ℕ) (o : held.Overlay) : Type 0 where
 
 -- what was read of the records
 abbrev pub reads_of : Batch → List (Result RequestFields Bad)
-reads_of b = b.reads.items
+reads_of b = reads_in b.reads
 
 -- the same, once they are judged
 abbrev pub reads_judged : Judged → List (Result RequestFields Bad)
-reads_judged j = j.reads.items
+reads_judged j = reads_in j.reads
 
 -- the batch is made of these records: there is an empty slot under each key that they can touch
 pub record IsMadeOf (b : Batch) (records : List (List ℕ)) : Type 0 where

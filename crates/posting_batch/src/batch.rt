@@ -1,6 +1,6 @@
 //! A batch of records: made from them, filled from the tables, and judged.
-ghost use Rattle.std.specs.Prelude.{◌≡◌, ◌≤◌, ◌+◌, ◌++◌, ℕ, List, [], map, length, vec_len, vec_capacity};
-ghost use Rattle.std.specs.Prelude.{IfOk};
+ghost use Rattle.std.specs.Prelude.{◌≡◌, ◌≤◌, ◌+◌, ℕ, List, [], ◌∷◌, map, length};
+ghost use Rattle.std.specs.Prelude.{IfOk, Ok};
 ghost use Rattle.smallvec.specs.SmallVec.{HasRoomFor};
 ghost use Rattle.message_records.specs.believed.Reading.{request_of};
 ghost use Rattle.posting_rules.specs.declared.limits.TheConstants.{RECORDS_PER_BATCH};
@@ -8,25 +8,31 @@ ghost use Rattle.posting_rules.specs.believed.Tables.{Tables};
 ghost use Rattle.posting_batch.specs.Batch.{CoversAll, HasNextOrdinals, HasRisingSlots};
 ghost use Rattle.posting_batch.specs.believed.Batch.{HasFreeOrdinals};
 ghost use Rattle.posting_batch.specs.Batch.{IsJudged, blanked};
+ghost use Rattle.posting_batch.specs.Reads.{reads_in};
 
 use crate::cover::decode_all;
 use crate::overlay::Overlay;
-use message_records::{Bad, Moment, REPLY_BYTES, REQUEST_BYTES, Request};
+use crate::reads::Reads;
+use message_records::{Moment, REPLY_BYTES, REQUEST_BYTES, Request};
 use posting_rules::RECORDS_PER_BATCH;
+use smallvec::SmallVec;
 use std::alloc::{AllocError, Global};
+
+/// Replies of 200 bytes. A single one lies in the value itself.
+pub type Replies = SmallVec<[u8; REPLY_BYTES], 1>;
 
 /// Records, a slot for each key that they can touch, and room for all that they come to.
 #[derive(Debug, Drop)]
 pub struct Batch {
-    reads: Vec<Result<Request, Bad>>,
+    reads: Reads,
     /// Its slots are filled from the tables before the records are judged.
     pub overlay: Overlay,
-    replies: Vec<[u8; REPLY_BYTES]>,
+    replies: Replies,
     ghost fresh: { replies.items ≡ [] },
-    ghost room: { length reads.items ≤ vec_capacity replies },
-    ghost requests: { HasRoomFor overlay.requests (length reads.items) },
-    ghost history: { HasRoomFor overlay.history (length reads.items) },
-    ghost references: { HasRoomFor overlay.references (length reads.items) },
+    ghost room: { length (reads_in reads) ≤ replies.capacity },
+    ghost requests: { HasRoomFor overlay.requests (length (reads_in reads)) },
+    ghost history: { HasRoomFor overlay.history (length (reads_in reads)) },
+    ghost references: { HasRoomFor overlay.references (length (reads_in reads)) },
 }
 
 /// A batch whose records are judged: what is to be written, and what is to be answered then.
@@ -36,12 +42,12 @@ pub struct Judged {
     /// The changed rows and the new ones.
     pub overlay: Overlay,
     /// The replies of 200 bytes in order, one to each record.
-    pub replies: Vec<[u8; REPLY_BYTES]>,
-    reads: Vec<Result<Request, Bad>>,
-    ghost room: { length reads.items ≤ vec_capacity replies },
-    ghost requests: { length reads.items ≤ overlay.requests.capacity },
-    ghost history: { length reads.items ≤ overlay.history.capacity },
-    ghost references: { length reads.items ≤ overlay.references.capacity },
+    pub replies: Replies,
+    reads: Reads,
+    ghost room: { length (reads_in reads) ≤ replies.capacity },
+    ghost requests: { length (reads_in reads) ≤ overlay.requests.capacity },
+    ghost history: { length (reads_in reads) ≤ overlay.history.capacity },
+    ghost references: { length (reads_in reads) ≤ overlay.references.capacity },
 }
 
 impl Judged {
@@ -67,7 +73,7 @@ impl Judged {
     }
 
     /// The replies alone.
-    pub fn into_replies(self) -> Vec<[u8; REPLY_BYTES]>
+    pub fn into_replies(self) -> Replies
         ensures { result ≡ self.replies }
     {
         let Judged {
@@ -93,13 +99,28 @@ impl Batch {
         let count = records.len();
         let mut overlay = Overlay::for_records(alloc, count)?;
         let mut reads = Vec::with_capacity(alloc, count)?;
-        let replies = Vec::with_capacity(alloc, count)?;
+        let replies = SmallVec::with_capacity(alloc, count)?;
         decode_all(records, &mut reads, &mut overlay);
         Ok(Batch {
-            reads,
+            reads: Reads::Many(reads),
             overlay,
             replies,
         })
+    }
+
+    /// A batch of a single request, with an empty slot under each key that it can touch. All of it lies in the
+    /// value itself, so that no memory is taken of the allocator.
+    #[must_use]
+    pub fn of_one(alloc: Global, request: Request) -> Self
+        ensures { (bytes : List ℕ) → request_of bytes ≡ Ok request → IsMadeOf result (bytes ∷ []) }
+    {
+        let mut overlay = Overlay::for_one(alloc);
+        overlay.cover(&request);
+        Batch {
+            reads: Reads::One(Ok(request)),
+            overlay,
+            replies: SmallVec::new(alloc),
+        }
     }
 
     /// Judges the records of a batch that is filled, in order (TPC-B 1.2): each sees what the ones before it
@@ -132,7 +153,7 @@ impl Batch {
             mut overlay,
             mut replies,
         } = self;
-        overlay.judge_records(moment, &reads, &mut replies);
+        overlay.judge_records(moment, reads.as_slice(), &mut replies);
         Judged {
             overlay,
             replies,

@@ -3,7 +3,7 @@ ghost use Rattle.std.specs.Prelude.{◌≡◌, ◌≤◌, ◌+◌, ◌++◌, map
 ghost use Rattle.std.specs.Prelude.{Ok};
 ghost use Rattle.smallvec.specs.SmallVec.{HasRoomFor};
 ghost use Rattle.message_records.specs.believed.Reading.{request_of};
-ghost use Rattle.posting_batch.specs.Batch.{covering, covering_all, no_slots, with_branch_slot};
+ghost use Rattle.posting_batch.specs.Batch.{covering, covering_all, with_branch_slot};
 ghost use Rattle.posting_batch.specs.Room.{AddsAtMost, AddsSlots, HasRoomForSlots};
 ghost use Rattle.posting_batch.specs.View.{view};
 
@@ -13,7 +13,6 @@ use crate::slots::{AccountSlot, BranchSlot, FloorSlot, RequestSlot, TellerSlot};
 use message_records::{Bad, REQUEST_BYTES, Request, decode_request};
 use posting_rules::{branch_of_account, branch_of_teller};
 use smallvec::SmallVec;
-use std::alloc::Global;
 
 // Places an empty slot for a branch, for which there is room.
 fn place_branch<const N: usize>(slots: &mut SmallVec<BranchSlot, N>, branch: u64)
@@ -30,8 +29,8 @@ fn place_branch<const N: usize>(slots: &mut SmallVec<BranchSlot, N>, branch: u64
 }
 
 impl Overlay {
-    // Places an empty slot under every key that a request can touch, for which there is room.
-    fn cover(&mut self, request: &Request)
+    /// Places an empty slot under every key that a request can touch, for which there is room.
+    pub(crate) fn cover(&mut self, request: &Request)
         requires room { HasRoomForSlots 1 self.old }
         ensures overlay { view self.new ≡ covering (view self.old) (Ok request.now) }
         ensures slots { AddsSlots self.old self.new }
@@ -64,20 +63,6 @@ impl Overlay {
             kept: None,
         };
         place(&mut self.kept, kept);
-    }
-
-    /// An empty slot under every key that a single request can touch, and room for what it comes to. All of it
-    /// lies in the value itself, so that no memory is taken of the allocator.
-    #[must_use]
-    pub fn for_request(alloc: Global, request: &Request) -> Self
-        ensures covers { view result ≡ covering no_slots (Ok request.now) }
-        ensures history { HasRoomFor result.history 1 }
-        ensures requests { HasRoomFor result.requests 1 }
-        ensures references { HasRoomFor result.references 1 }
-    {
-        let mut overlay = Overlay::for_one(alloc);
-        overlay.cover(request);
-        overlay
     }
 }
 

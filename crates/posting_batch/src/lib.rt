@@ -32,7 +32,7 @@
 //! ```
 //!
 //! Only [`Batch::new`] takes memory, and where that was refused nothing is left. Judging can't fail. A single
-//! record is judged by the same: the slots of [`Overlay::for_request`] lie in the value, and take no memory.
+//! request is a batch too: all of [`Batch::of_one`] lies in the value, and takes no memory.
 //!
 //! Read next: [`Batch`]; `specs/Batch`, what a batch covers and changes; the crate `bank_transactions`, which
 //! fills a batch from the tables of a file and writes it.
@@ -45,11 +45,12 @@ mod cover;
 mod emptying;
 mod overlay;
 mod placement;
+mod reads;
 mod search;
 mod slots;
 
 pub use balances::BalanceRow;
-pub use batch::{Batch, Judged};
+pub use batch::{Batch, Judged, Replies};
 pub use changes::change_at;
 pub use overlay::Overlay;
 pub use search::{balance_at, stored_branch, stored_floor};

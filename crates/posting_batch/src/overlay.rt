@@ -9,6 +9,7 @@ ghost use Rattle.posting_rules.specs.believed.Entries.{posted_entry};
 ghost use Rattle.posting_rules.specs.believed.Kept.{is_kept_with};
 ghost use Rattle.posting_batch.specs.Judging.{reference_after};
 
+use crate::batch::Replies;
 use crate::changes::{change_at, keep_at};
 use crate::search::{balance_at, kept_at, stored_floor};
 use crate::slots::{AccountSlot, BranchSlot, FloorSlot, RequestSlot, TellerSlot};
@@ -229,9 +230,9 @@ impl Overlay {
         }
     }
 
-    /// Judges a request by its slots, for which there is room, and answers it (TPC-B 1.2). What it changes is in
-    /// the slots then, and what is new after the other rows.
-    pub fn judge(&mut self, moment: Moment, request: &Request) -> [u8; REPLY_BYTES]
+    // Judges a request by its slots, for which there is room, and answers it (TPC-B 1.2). What it changes is in
+    // the slots then, and what is new after the other rows.
+    fn judge(&mut self, moment: Moment, request: &Request) -> [u8; REPLY_BYTES]
         requires requests { HasRoomFor self.old.requests 1 }
         requires history { HasRoomFor self.old.history 1 }
         requires references { HasRoomFor self.old.references 1 }
@@ -255,17 +256,17 @@ impl Overlay {
         &mut self,
         moment: Moment,
         reads: &[Result<Request, Bad>],
-        replies: &mut Vec<[u8; REPLY_BYTES]>,
+        replies: &mut Replies,
     )
         requires requests { HasRoomFor self.old.requests (length reads.now) }
         requires history { HasRoomFor self.old.history (length reads.now) }
         requires references { HasRoomFor self.old.references (length reads.now) }
-        requires replies { vec_len replies.old + length reads.now ≤ vec_capacity replies.old }
+        requires replies { HasRoomFor replies.old (length reads.now) }
         ensures overlay { view self.new ≡ overlay_with_all (view self.old) moment reads.now }
         ensures replies { replies.new.items ≡ replies.old.items
             ++ map reply_spelling (replies_over (view self.old) moment reads.now) }
         // No room is lost.
-        ensures room { vec_capacity replies.old ≤ vec_capacity replies.new }
+        ensures room { replies.new.capacity ≡ replies.old.capacity }
         ensures rooms { (self.new.requests.capacity ≡ self.old.requests.capacity)
             × (self.new.history.capacity ≡ self.old.history.capacity)
             × (self.new.references.capacity ≡ self.old.references.capacity) }
@@ -275,7 +276,7 @@ impl Overlay {
                 Ok(request) => self.judge(moment, request),
                 Err(_) => encode_reply(&malformed_reply()),
             };
-            put(replies, reply);
+            put_row(replies, reply);
         }
     }
 }

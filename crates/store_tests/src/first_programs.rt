@@ -68,7 +68,9 @@ fn is_posted_first<S: Alter>(
 ) -> Result<(), Fail> {
     assert!(rt; conn.is_autocommit());
     store_rows::create(conn)?;
-    is_reply(rt, &first_request(rt.alloc(), conn)?, REPLY);
+    let replies = first_request(rt.alloc(), conn)?;
+    assert_eq!(rt; replies.len(), 1);
+    are_posted(rt, &replies);
     Ok(())
 }
 

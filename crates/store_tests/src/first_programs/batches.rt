@@ -2,8 +2,8 @@
 ghost use Rattle.std.specs.Prelude.{◌≡◌, false};
 
 use bank_transactions::post_all;
-use message_records::{Moment, REPLY_BYTES, REQUEST_BYTES};
-use posting_batch::Batch;
+use message_records::{Moment, REQUEST_BYTES};
+use posting_batch::{Batch, Replies};
 use sqlite::{Alter, Connection};
 use std::alloc::Global;
 use std::test::Fail;
@@ -12,7 +12,7 @@ pub fn first_batch<S: Alter>(
     alloc: Global,
     conn: &mut Connection<S>,
     record: &[u8; REQUEST_BYTES],
-) -> Result<Vec<[u8; REPLY_BYTES]>, Fail>
+) -> Result<Replies, Fail>
     requires { conn.old.in_transaction ≡ false }
 {
     let batch = Batch::new(alloc, &[*record, *record])?;

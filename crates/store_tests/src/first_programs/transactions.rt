@@ -1,8 +1,9 @@
 //! The first program of `bank_transactions`.
 ghost use Rattle.std.specs.Prelude.{◌≡◌, false};
 
-use bank_transactions::{open_branch, post};
-use message_records::{Account, Branch, Cents, Moment, Number, REPLY_BYTES, Request, Teller};
+use bank_transactions::{open_branch, post_looked_up};
+use message_records::{Account, Branch, Cents, Moment, Number, Request, Teller};
+use posting_batch::{Batch, Replies};
 use sqlite::{Alter, Connection};
 use std::alloc::Global;
 use store_rows::TableFault;
@@ -10,7 +11,7 @@ use store_rows::TableFault;
 pub fn first_request<S: Alter>(
     alloc: Global,
     conn: &mut Connection<S>,
-) -> Result<[u8; REPLY_BYTES], TableFault>
+) -> Result<Replies, TableFault>
     requires { conn.old.in_transaction ≡ false }
 {
     open_branch(conn, Branch::new(1).unwrap(), 3, None)?;
@@ -22,10 +23,6 @@ pub fn first_request<S: Alter>(
         Cents::new(500).unwrap(),
         None,
     );
-    post(
-        alloc,
-        conn,
-        Moment::new(1_795_442_400).unwrap(),
-        &request.unwrap(),
-    )
+    let batch = Batch::of_one(alloc, request.unwrap());
+    post_looked_up(conn, Moment::new(1_795_442_400).unwrap(), batch)
 }

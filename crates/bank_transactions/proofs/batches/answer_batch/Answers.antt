@@ -3,7 +3,8 @@ use Rattle.std.proofs.Common.{◌≡◌, Err, rules, arith, length, refl}
 use Rattle.sqlite.specs.{State.HasCleanDisk, Held.state}
 use Rattle.posting_batch.specs.View.{view}
 use Rattle.bank_transactions.proofs.Chained.{acts_read, does_adds}
-use Rattle.bank_transactions.proofs.{Added.adds_of_batch, HeldBatch.homes_made, HeldBatch.in_turn, LookUps.does_fail, LookUps.does_look}
+use Rattle.bank_transactions.proofs.{Added.adds_of_batch, HeldBatch.homes_made, HeldBatch.in_turn_looked_up}
+use Rattle.bank_transactions.proofs.LookUps.{does_fail, does_look}
 use Rattle.bank_transactions.proofs.JudgedSlots.{answered_idle, answered_not, answered_written, counts_none}
 use Rattle.bank_transactions.proofs.JudgedSlots.{fills, judging_all}
 use Rattle.bank_transactions.proofs.batches.answer_batch.Goals.{then-judged-before+in_ok-write, else-judged-before}
@@ -87,10 +88,9 @@ returns-clause-stored g c clean records made =
           omega (arith, w.in_ok-write.ensures.says.survives.clean, rw w.tx-is at clean)
       | else-judged-before w ↦ rw w.tx-is at clean
     ] in
-    rw c.into_replies.ensures (in_turn _ _ c.args.batch _ records c.args.moment
+    rw c.into_replies.ensures (in_turn_looked_up _ _ c.args.batch _ records c.args.moment
     (view c.judge-judged.result.overlay) c.judge-judged.result.replies.items made refl fill.same
-    (fill.shown before).branches (fill.stored before (homes_made c.args.batch records made))
-    (λ other. (fill.shown before).kept) c.judge-judged.ensures.judged
+    (fill.shown before) (fill.stored before (homes_made c.args.batch records made)) c.judge-judged.ensures.judged
     (λ none. elim c.if-judged-before.branch [
       | then-judged-before+in_ok-write w ↦ absurd (w.if-judged-before.true none)
       | else-judged-before w ↦ rw w.tx-is ((fill.says.says.leaves before).0.now)

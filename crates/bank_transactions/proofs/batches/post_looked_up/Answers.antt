@@ -1,7 +1,7 @@
 -- The parts of the transaction are one: the batch is answered.
 use Rattle.std.proofs.Common.{length, rules}
 use Rattle.posting_batch.specs.View.{IsMadeOf}
-use Rattle.bank_transactions.specs.believed.Stored.{RepliesToAllStored}
+use Rattle.bank_transactions.specs.Batches.{RepliesLookedUp}
 use Rattle.bank_transactions.proofs.{HeldBatch.stored_after, Transacted.undoes, Idle.ends_items, Idle.idle_after}
 use Rattle.bank_transactions.proofs.Transacted.{of_given, transacts_records}
 use Rattle.bank_transactions.proofs.batches.post_looked_up.Goals as goal
@@ -30,7 +30,7 @@ returns-clause-idle g c =
 pub returns-clause-stored : goal.returns-clause-stored
 returns-clause-stored g c =
     stored_after g.S.Store (IsMadeOf c.args.batch)
-    (λ old new records replies. RepliesToAllStored old new c.args.moment records replies.items) c.args.conn.now
+    (λ old new records replies. RepliesLookedUp old new c.args.moment records replies.items) c.args.conn.now
     c.begin-tx.result.conn.now c.answer_batch-replies.new.tx.conn.now c.finish.new.tx.0 c.conn-1.given.0
     c.answer_batch-replies.result c.finish.result c.begin-tx.ensures.begun c.finish.ensures
     (λ records made. let does = c.answer_batch-replies.ensures.says records made in search rules)

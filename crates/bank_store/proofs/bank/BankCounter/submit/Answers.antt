@@ -1,16 +1,14 @@
 -- What a record comes to.
-use Rattle.std.proofs.Common.{◌≡◌, ℕ, List, [], ◌∷◌, Ok, Err, Result, rules, sym, ap, subst, ◌∙◌}
+use Rattle.std.proofs.Common.{◌≡◌, ℕ, List, [], ◌∷◌, Ok, Err, Result, get_or, length, rules, refl, sym, ap, subst, ◌∙◌}
 use Rattle.std.proofs.lemmas.Result.{err_from_is_err_and}
 use Rattle.std.specs.Prelude.{IsSome}
 use Rattle.message_records.specs.{believed.Reading.request_of, believed.Records.RequestFields, declared.fault.Bad.Bad}
-use Rattle.bank_transactions.specs.believed.{Stored.RepliesToStored, Additions.AddsForRecords, Causes.IsBrokenOrMet}
-use Rattle.sqlite.specs.Held.{state}
-use Rattle.store_rows.specs.believed.View.{Shows}
-use Rattle.posting_rules.specs.believed.Changes.{reply_read, tables_past, tables_read, tables_with}
-use Rattle.posting_rules.specs.believed.Tables.{Tables}
+use Rattle.bank_transactions.specs.{Batches.RepliesLookedUp, believed.Additions.AddsForRecords}
+use Rattle.bank_transactions.specs.believed.Causes.{IsBrokenOrMet}
+use Rattle.bank_transactions.proofs.OneRequest.{one_stored}
+use Rattle.posting_rules.specs.believed.{Changes.tables_past_all, Commands.AreCommands, Runs.posts}
 use Rattle.bank_store.specs.believed.Seen.{database_of}
-use Rattle.posting_rules.specs.believed.Commands.{Post, AreCommands}
-use Rattle.posting_rules.proofs.{Calls.posts, Calls.replies}
+use Rattle.posting_rules.proofs.Records.{all_replies, posts_all}
 use Rattle.bank_store.proofs.{Causes.still_clean, Countered.of_logs, Countered.takes, bank.BankCounter.submit.Given.Over}
 use Rattle.bank_store.proofs.OtherTables.{spares_done, spares_down, spares_untouched}
 use Rattle.bank_store.proofs.Broke.{breaks_shown}
@@ -18,64 +16,70 @@ use Rattle.bank_store.proofs.Refusing.{answered_call, breaks, refused_call, tran
 use Rattle.bank_store.specs.Seen.{fault_of}
 use Rattle.bank_store.proofs.bank.BankCounter.submit.Goals as goal
 
-same_request : {a b : RequestFields} → ◌≡◌ {A = Result RequestFields Bad} (Ok a) (Ok b) → a ≡ b
-same_request is = cc
-
 no_request : {a : RequestFields} {bad : Bad} → ◌≡◌ {A = Result RequestFields Bad} (Ok a) (Err bad) → ⊥
 no_request is = cc
 
+-- the one reply
+only : (items : List (List ℕ)) (d : List ℕ) → length items ≡ 1 → items ≡ get_or items 0 d ∷ []
+only [] d many = absurd cc
+only (y ∷ []) d many = refl
+only (y ∷ z ∷ items) d many = absurd cc
+
+first : {x y : List ℕ} → ◌≡◌ {A = List (List ℕ)} (x ∷ []) (y ∷ []) → x ≡ y
+first is = cc
+
+pub invariant_of-self : goal.invariant_of-self
+invariant_of-self g c =
+    let read : request_of c.args.bytes.now ≡ Ok c.in-Ok.request = search rules in
+    let says = c.post_looked_up.ensures.says (c.args.bytes.now ∷ []) (c.of_one-batch.ensures c.args.bytes.now read) in
+    record { idle = says.mode }
+
 -- what its refusal says
 refused : (g : Over) (c : goal.After-go_down g)
-    → Refusal g.S.Store c.args.self.now c.go_down.new.self (Post c.args.moment c.args.bytes.now ∷ [])
+    → Refusal g.S.Store c.args.self.now c.go_down.new.self (posts c.args.moment (c.args.bytes.now ∷ []))
     (IsBrokenOrMet g.S.Store (AddsForRecords (database_of g.S.Store c.args.self.now) 1))
     c.go_down.result
 refused g c =
     let m = c.args.moment in
-    let bytes = c.args.bytes.now in
-    let read : request_of bytes ≡ Ok c.in-Ok.request = search rules in
-    let are : AreCommands (Post m bytes ∷ []) =
-    ((c.range_law.ensures.most, search rules), tt) in
-    transaction_refused g.S.Store c.args.self.now c.go_down.new.self c.post.new.conn (of_logs 1)
-    (Post m bytes ∷ [])
-    (posts m bytes c.in-Ok.request read) are c.in-Err.fault c.go_down.result c.go_down.ensures.down
+    let rs = c.args.bytes.now ∷ [] in
+    let read : request_of c.args.bytes.now ≡ Ok c.in-Ok.request = search rules in
+    let are : AreCommands (posts m rs) = ((c.range_law.ensures.most, search rules), tt) in
+    transaction_refused g.S.Store c.args.self.now c.go_down.new.self c.post_looked_up.new.conn (of_logs 1)
+    (posts m rs) (posts_all m rs) are c.in-Err.fault c.go_down.result c.go_down.ensures.down
     c.go_down.ensures.survives
-    c.in-Err.ensures.transacts
+    (c.in-Err.ensures.says rs (c.of_one-batch.ensures c.args.bytes.now read))
 
-pub returns-in-Ok-post : goal.returns-in-Ok-post
-returns-in-Ok-post g c =
+pub returns-in-Ok-post_looked_up : goal.returns-in-Ok-post_looked_up
+returns-in-Ok-post_looked_up g c =
     let m = c.args.moment in
-    let bytes = c.args.bytes.now in
-    let read : request_of bytes ≡ Ok c.in-Ok.request = search rules in
-    let are : AreCommands (Post m bytes ∷ []) =
-    ((c.range_law.ensures.most, search rules), tt) in
+    let rs = c.args.bytes.now ∷ [] in
+    let read : request_of c.args.bytes.now ≡ Ok c.in-Ok.request = search rules in
+    let made = c.of_one-batch.ensures c.args.bytes.now read in
+    let it = c.in-Ok-post_looked_up.ensures in
+    let says = it.says rs made in
+    let many : length c.deref.result.now ≡ 1 = ap length c.deref.ensures ∙ it.count ∙ ap length made.reads in
+    let are : AreCommands (posts m rs) = ((c.range_law.ensures.most, search rules), tt) in
     let Down = IsSome c.args.self.now.fault in
-    let says = c.in-Ok-post.ensures.transacts in
     record {
       answer =
-          λ clean log s. (says.told clean s.tables s.are
-          (of_logs 1 s.tables log s.commands s.shows)).0
-          ∙ replies s.tables log bytes c.in-Ok.request read s.shows;
+          λ clean log s. first (sym (only c.deref.result.now _ many) ∙ c.deref.ensures
+          ∙ (says.told clean s.tables s.are (of_logs 1 s.tables log s.commands s.shows)).0
+          ∙ all_replies s.tables log m rs s.shows);
       call =
-          answered_call g.S.Store c.args.self.now _ (Post m bytes ∷ []) _ c.in_ok-up.ensures.up
-          c.in_ok-up.ensures.up
-          (takes (of_logs 1) (Post m bytes ∷ []) (posts m bytes c.in-Ok.request read) are Down Down
-          c.in_ok-up.ensures.up says) (still_clean says.survives);
+          answered_call g.S.Store c.args.self.now _ (posts m rs) _ c.in_ok-up.ensures.up c.in_ok-up.ensures.up
+          (takes (of_logs 1) (posts m rs) (posts_all m rs) are Down Down c.in_ok-up.ensures.up says)
+          (still_clean says.survives);
       frugal = λ same. (let it = same in cc);
       stored = λ clean r is.
-          subst (λ (q : RequestFields). RepliesToStored (database_of g.S.Store c.args.self.now)
-          (state g.S.Store c.post.new.conn).now q c.in-Ok-post.reply)
-          (same_request (sym read ∙ is)) (c.in-Ok-post.ensures.stored clean);
+          one_stored is (subst (RepliesLookedUp _ _ m rs) (sym c.deref.ensures ∙ only c.deref.result.now _ many)
+          (it.stored clean rs made));
       leaves =
           λ clean r is t shows so.
           let told = says.told clean t shows so in
-          let past : tables_with t m c.in-Ok.request ≡ tables_past t m bytes =
-          ap (λ (x : Result RequestFields Bad). tables_read t m x) (sym read) in
           record {
-            tables = subst (λ (u : Tables). Shows (state g.S.Store c.post.new.conn).now u) past told.1;
-            survives = λ trees may. (tables_with t m c.in-Ok.request, told.2 trees may, past);
-            answers =
-                ap (λ (out : List ℕ). out ∷ [])
-                (told.0 ∙ ap (λ (x : Result RequestFields Bad). reply_read t x) (sym read));
+            tables = told.1;
+            survives = λ trees may. (tables_past_all t m rs, told.2 trees may, refl);
+            answers = sym (only c.deref.result.now _ many) ∙ c.deref.ensures ∙ told.0;
           };
       malformed = λ up bad is. absurd (no_request (sym read ∙ is));
       own = tt;
@@ -86,6 +90,8 @@ pub returns-in-Err : goal.returns-in-Err
 returns-in-Err g c =
     let no = refused g c in
     let read : request_of c.args.bytes.now ≡ Ok c.in-Ok.request = search rules in
+    let rs = c.args.bytes.now ∷ [] in
+    let made = c.of_one-batch.ensures c.args.bytes.now read in
     record {
       answer = tt;
       call = refused_call g.S.Store c.args.self.now c.go_down.new.self _ c.go_down.result no
@@ -95,12 +101,12 @@ returns-in-Err g c =
       leaves = tt;
       malformed = λ up bad is. absurd (no_request (sym read ∙ is));
       own = breaks g.S.Store 1 c.args.self.now c.go_down.new.self c.go_down.result no.broken
-          (breaks_shown g.S.Store c.args.self.now.conn c.post.new.conn c.go_down.new.self.conn
+          (breaks_shown g.S.Store c.args.self.now.conn c.post_looked_up.new.conn c.go_down.new.self.conn
           (fault_of c.go_down.new.self) c.go_down.result c.go_down.ensures.survives _ c.in-Err.fault
-          c.in-Err.ensures.transacts c.go_down.ensures.down);
-      spares = spares_down g.S.Store c.args.self.now c.go_down.new.self c.post.new.conn c.in-Err.fault
-          c.go_down.result c.in_ok-up.ensures.up c.in-Err.ensures.transacts.spares
-          c.in-Err.ensures.undone
+          (c.in-Err.ensures.says rs made) c.go_down.ensures.down);
+      spares = spares_down g.S.Store c.args.self.now c.go_down.new.self c.post_looked_up.new.conn c.in-Err.fault
+          c.go_down.result c.in_ok-up.ensures.up (c.in-Err.ensures.says rs made).spares
+          (c.in-Err.ensures.undone rs made)
           c.go_down.ensures.down c.go_down.ensures.undone c.go_down.ensures.survives;
     }
 

@@ -1,5 +1,5 @@
 -- What records come to.
-use Rattle.std.proofs.Common.{length, refl, ap, ◌∙◌}
+use Rattle.std.proofs.Common.{◌≡◌, ◌++◌, ℕ, List, length, refl, sym, ap, subst, ◌∙◌}
 use Rattle.std.specs.Prelude.{IsSome}
 use Rattle.std.proofs.lemmas.{Result.err_from_is_err_and, List.length-map}
 use Rattle.message_records.specs.believed.Reading.{request_of}
@@ -14,11 +14,11 @@ use Rattle.bank_store.proofs.Refusing.{answered_call, breaks, refused_call, spar
 use Rattle.bank_store.proofs.Refusing.{untried_call}
 use Rattle.bank_store.specs.Seen.{fault_of}
 use Rattle.bank_store.proofs.Refusing.{Refusal}
-use Rattle.bank_transactions.specs.{believed.Additions.AddsForRecords, believed.Causes.IsBrokenOrMet}
+use Rattle.bank_transactions.specs.believed.{Additions.AddsForRecords, Causes.IsBrokenOrMet, Stored.RepliesToAllStored}
 use Rattle.bank_store.proofs.bank.BankCounter.submit_all.Goals as goal
 
 -- what its refusal says
-refused : (g : Over) (c : goal.After-go_down g)
+refused : (g : Over) (c : goal.After-drop-replies-in-Err-1 g)
     → Refusal g.S.Store c.args.self.now c.go_down.new.self (posts c.args.moment c.args.records.now)
     (IsBrokenOrMet g.S.Store (AddsForRecords (database_of g.S.Store c.args.self.now) (length c.args.records.now)))
     c.go_down.result
@@ -41,10 +41,13 @@ returns-in-Ok g c =
     let are : AreCommands (posts m rs) =
     are_posts m rs (c.range_law.ensures.most) c.told-records in
     let Down = IsSome c.args.self.now.fault in
+    let same : c.put_replies.new.room.items ≡ c.in-Ok.given.items =
+    c.put_replies.ensures ∙ ap (λ (items : List (List ℕ)). items ++ c.in-Ok.given.items) c.in_ok-replies.ensures.items in
     record {
-      count = c.in-Ok.ensures.count ∙ ap length made.reads ∙ length-map rs request_of;
+      count = ap length same ∙ c.in-Ok.ensures.count ∙ ap length made.reads ∙ length-map rs request_of;
       answer =
-          λ clean log s. (says.told clean s.tables s.are (of_logs (length rs) s.tables log s.commands s.shows)).0
+          λ clean log s. same
+          ∙ (says.told clean s.tables s.are (of_logs (length rs) s.tables log s.commands s.shows)).0
           ∙ all_replies s.tables log m rs s.shows;
       call =
           answered_call g.S.Store c.args.self.now _ (posts m rs) _ c.in_ok-up.ensures.up c.in_ok-up.ensures.up
@@ -58,11 +61,11 @@ returns-in-Ok g c =
             leaves = record {
               tables = told.1;
               survives = λ trees may. (tables_past_all t m rs, told.2 trees may, refl);
-              answers = told.0;
+              answers = same ∙ told.0;
             };
             idle = λ none. let it = c.in-Ok.ensures.idle clean rs made t shows so none in (it.leads, it.same);
           };
-      stored = λ clean. c.in-Ok.ensures.stored clean rs made;
+      stored = λ clean. subst (RepliesToAllStored _ _ m rs) (sym same) (c.in-Ok.ensures.stored clean rs made);
       own = tt;
       spares = spares_done g.S.Store c.args.self.now _ _ c.in_ok-up.ensures.up says.spares;
     }
@@ -100,6 +103,12 @@ returns-in_err-up-clause-call g c =
     untried_call g.S.Store c.args.self.now _ c.from_residual.result p.0 p.1
     (p.2 ∙ c.in_err-up.ensures.down.0) c.in_err-up.ensures.down.1
 
+pub returns-in_err-replies-clause-call : goal.returns-in_err-replies-clause-call
+returns-in_err-replies-clause-call g c =
+    let p = err_from_is_err_and c.from_residual-in_err-replies.result c.from_residual-in_err-replies.ensures.1 in
+    spared_call g.S.Store c.args.self.now _ c.from_residual-in_err-replies.result p.0 p.1 p.2
+    c.in_ok-up.ensures.up
+
 pub returns-in_err-batch-clause-call : goal.returns-in_err-batch-clause-call
 returns-in_err-batch-clause-call g c =
     let p = err_from_is_err_and c.from_residual-in_err-batch.result c.from_residual-in_err-batch.ensures.1 in
@@ -111,3 +120,6 @@ returns-in_err-up-clause-spares g c = spares_untouched g.S.Store c.args.self.now
 
 pub returns-in_err-batch-clause-spares : goal.returns-in_err-batch-clause-spares
 returns-in_err-batch-clause-spares g c = spares_untouched g.S.Store c.args.self.now
+
+pub returns-in_err-replies-clause-spares : goal.returns-in_err-replies-clause-spares
+returns-in_err-replies-clause-spares g c = spares_untouched g.S.Store c.args.self.now

@@ -24,13 +24,13 @@ returns-clause-judged c t records is free =
     let over : HasFreeOrdinals (tables_over old t) (length records) =
     subst (λ (u : Tables). HasFreeOrdinals u (length records)) (sym it.same) free in
     let each = subst (λ (n : ℕ). HasFreeOrdinals (tables_over old t) n) (sym (length-map records request_of)) over in
-    let after = judged m c.judge_records.ensures.overlay (c.deref.ensures.value ∙ is.reads) is.overlay in
+    let after = judged m c.judge_records.ensures.overlay (c.as_slice.ensures ∙ is.reads) is.overlay in
     let told : c.judge_records.new.replies.items ≡ replies_past_all t m records =
     c.judge_records.ensures.replies
     ∙ ap (λ (items : List (List ℕ)). items
-    ++ map reply_spelling (replies_over (view c.args.self.overlay) m c.deref.result.now)) c.args.self.fresh
+    ++ map reply_spelling (replies_over (view c.args.self.overlay) m c.as_slice.result.now)) c.args.self.fresh
     ∙ ap (λ (rs : List (Result RequestFields Bad)). map reply_spelling
-    (replies_over (view c.args.self.overlay) m rs)) (c.deref.ensures.value ∙ is.reads)
+    (replies_over (view c.args.self.overlay) m rs)) (c.as_slice.ensures ∙ is.reads)
     ∙ ap (λ (o : Overlay). map reply_spelling (replies_over o m reads)) is.overlay
     ∙ all_replies old t m records over it.fits it.covers ∙ ap
     (λ (u : Tables). replies_past_all u m records) it.same in
@@ -48,36 +48,36 @@ returns-clause-judged c t records is free =
 pub returns-clause-rising : goal.returns-clause-rising
 returns-clause-rising c rising =
     subst (λ (o : Overlay). HasRisingSlots o) (sym c.judge_records.ensures.overlay)
-    (all_rising (view c.args.self.overlay) c.args.moment c.deref.result.now rising)
+    (all_rising (view c.args.self.overlay) c.args.moment c.as_slice.result.now rising)
 
 pub returns-clause-count : goal.returns-clause-count
 returns-clause-count c =
     let old = view c.args.self.overlay in
-    let reads = c.deref.result.now in
+    let reads = c.as_slice.result.now in
     ap length c.judge_records.ensures.replies
     ∙ ap (λ (items : List (List ℕ)). length (items
     ++ map reply_spelling (replies_over old c.args.moment reads))) c.args.self.fresh
-    ∙ all_answered old c.args.moment reads ∙ ap length c.deref.ensures.value
+    ∙ all_answered old c.args.moment reads ∙ ap length c.as_slice.ensures
 
 pub returns-clause-next : goal.returns-clause-next
 returns-clause-next c none =
     let old = view c.args.self.overlay in
     subst (λ (reads : List (Result RequestFields Bad)).
-    HasNextOrdinals old.decided (length reads) (view c.judge_records.new.self)) c.deref.ensures.value
-    (subst (HasNextOrdinals old.decided (length c.deref.result.now)) (sym c.judge_records.ensures.overlay)
-    (next_all old c.args.moment c.deref.result.now none))
+    HasNextOrdinals old.decided (length reads) (view c.judge_records.new.self)) c.as_slice.ensures
+    (subst (HasNextOrdinals old.decided (length c.as_slice.result.now)) (sym c.judge_records.ensures.overlay)
+    (next_all old c.args.moment c.as_slice.result.now none))
 
 pub returns-clause-counts : goal.returns-clause-counts
 returns-clause-counts c =
     let old = view c.args.self.overlay in
     subst (λ (o : Overlay). o.decided + length old.requests ≡ old.decided + length o.requests)
     (sym c.judge_records.ensures.overlay)
-    (all_rows old c.args.moment c.deref.result.now)
+    (all_rows old c.args.moment c.as_slice.result.now)
 
 pub returns-clause-idle : goal.returns-clause-idle
 returns-clause-idle c none =
     let old = view c.args.self.overlay in
-    let reads = c.deref.result.now in
+    let reads = c.as_slice.result.now in
     let is : view c.judge_records.new.self ≡ overlay_with_all old c.args.moment reads =
     c.judge_records.ensures.overlay in
     is ∙ all_idle old c.args.moment reads (ap (λ (o : Overlay). o.decided) (sym is) ∙ none)
@@ -87,7 +87,7 @@ returns-clause-again c = record {
   reads = refl;
   keys =
       ap blanked c.judge_records.ensures.overlay
-      ∙ blank_all (view c.args.self.overlay) c.args.moment c.deref.result.now;
+      ∙ blank_all (view c.args.self.overlay) c.args.moment c.as_slice.result.now;
   own = λ keeps. subst KeepsNew (sym c.judge_records.ensures.overlay)
-      (keeps_all (view c.args.self.overlay) c.args.moment c.deref.result.now keeps);
+      (keeps_all (view c.args.self.overlay) c.args.moment c.as_slice.result.now keeps);
 }

@@ -1,5 +1,4 @@
-use Rattle.std.proofs.Common.{◌≡◌, ◌≤◌, ◌+◌, ◌-◌, ◌++◌, map, drop, length, vec_len}
-use Rattle.std.specs.Vec.{vec_capacity}
+use Rattle.std.proofs.Common.{◌≡◌, ◌-◌, ◌++◌, map, drop, length}
 use Rattle.smallvec.specs.SmallVec.{HasRoomFor}
 use Rattle.message_records.specs.believed.Spelling.{reply_spelling}
 use Rattle.posting_batch.specs.{Judging.overlay_with_all, Judging.replies_over, View.view}
@@ -13,11 +12,11 @@ invariant-loop-read l = record {
   told : l.replies.items ++ map reply_spelling
       (replies_over (view l.self) l.moment (drop l.read-index l.reads))
       ≡ l.fn.replies.items ++ map reply_spelling (replies_over (view l.fn.self) l.moment l.reads);
-  replies_room : vec_len l.replies + (length l.reads - l.read-index) ≤ vec_capacity l.replies;
+  replies_room : HasRoomFor l.replies (length l.reads - l.read-index);
   requests_room : HasRoomFor l.self.requests (length l.reads - l.read-index);
   history_room : HasRoomFor l.self.history (length l.reads - l.read-index);
   references_room : HasRoomFor l.self.references (length l.reads - l.read-index);
-  capacity : vec_capacity l.fn.replies ≤ vec_capacity l.replies;
+  capacity : l.replies.capacity ≡ l.fn.replies.capacity;
   requests_capacity : l.self.requests.capacity ≡ l.fn.self.requests.capacity;
   history_capacity : l.self.history.capacity ≡ l.fn.self.history.capacity;
   references_capacity : l.self.references.capacity ≡ l.fn.self.references.capacity;
