@@ -2,14 +2,56 @@
 ghost use Rattle.std.specs.Prelude.{◌≡◌};
 ghost use Rattle.branch_loader.specs.declared.follow_fault.FollowFault.TheVariants.{Bank};
 
-use message_records::REPLY_BYTES;
+use message_records::{REPLY_BYTES, decode_reply};
 use posting_core::{Count, Fault};
+use std::fmt;
 
-/// The reply that a request got here, and the one that its entry has.
+/// The reply that a request got here, and the one that its entry has, which is counted from 1.
 #[derive(Clone, Copy, Debug, PartialEq, Eq)]
 pub struct OtherReply {
+    pub entry: Count,
     pub stands: [u8; REPLY_BYTES],
     pub due: [u8; REPLY_BYTES],
+}
+
+// The outcome of a reply, and the new balance where it has one.
+#[derive(Clone, Copy)]
+struct ShownReply {
+    bytes: [u8; REPLY_BYTES],
+}
+
+impl fmt::Display for ShownReply {
+    ghost use Rattle.std.specs.Prelude.{Some};
+    ghost use Rattle.message_records.specs.Reading.{reply_of};
+    ghost use Rattle.branch_loader.specs.Faults.{reply_text};
+
+    ghost output = { λ shown. Some (reply_text (reply_of shown.bytes)) };
+
+    fn fmt<W: fmt::Write>(&self, f: &mut fmt::Formatter<W>) -> fmt::Result {
+        let Ok(reply) = decode_reply(&self.bytes) else {
+            return write!(f, "no reply");
+        };
+        let outcome = reply.outcome();
+        match reply.balance() {
+            Some(balance) => write!(f, "{outcome} {balance}"),
+            None => write!(f, "{outcome}"),
+        }
+    }
+}
+
+/// A text of a line, as `entry 3 stands BELOW FLOOR due POSTED 500`.
+impl fmt::Display for OtherReply {
+    ghost use Rattle.std.specs.Prelude.{Some};
+    ghost use Rattle.branch_loader.specs.Faults.{other_text};
+
+    ghost output = { λ other. Some (other_text other) };
+
+    fn fmt<W: fmt::Write>(&self, f: &mut fmt::Formatter<W>) -> fmt::Result {
+        let entry = self.entry;
+        let stands = ShownReply { bytes: self.stands };
+        let due = ShownReply { bytes: self.due };
+        write!(f, "entry {entry} stands {stands} due {due}")
+    }
 }
 
 /// Why a bank stops following a log before its end, and what holds then.

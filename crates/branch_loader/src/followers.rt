@@ -19,9 +19,11 @@ use posting_core::{
 };
 use std::alloc::{AllocError, Global};
 
-/// The records that are yet to be posted, all at one moment, and the replies of their entries.
+/// The records that are yet to be posted, all at one moment, and the replies of their entries; how many entries were
+/// posted before them.
 #[derive(Drop)]
 pub(crate) struct Waiting {
+    posted: Count,
     moment: Moment,
     records: ArrayVec<[u8; REQUEST_BYTES], RECORDS_PER_BATCH>,
     replies: ArrayVec<[u8; REPLY_BYTES], RECORDS_PER_BATCH>,
@@ -34,24 +36,33 @@ fn are_due(given: &[[u8; REPLY_BYTES]], due: &[[u8; REPLY_BYTES]]) -> bool
     given == due
 }
 
-// The first reply that is another than its entry's.
-fn first_other(given: &[[u8; REPLY_BYTES]], due: &[[u8; REPLY_BYTES]]) -> OtherReply {
+// The first reply that is another than its entry's, where so many entries came before.
+fn first_other(
+    before: Count,
+    given: &[[u8; REPLY_BYTES]],
+    due: &[[u8; REPLY_BYTES]],
+) -> OtherReply {
+    let mut entry = before;
     for (stands, due) in given.iter().zip(due.iter()) {
+        entry = entry.wrapping_add(1);
         if stands != due {
             return OtherReply {
+                entry,
                 stands: *stands,
                 due: *due,
             };
         }
     }
     OtherReply {
+        entry,
         stands: [b' '; REPLY_BYTES],
         due: [b' '; REPLY_BYTES],
     }
 }
 
-// Posts records together, whose entries have these replies.
+// Posts records together, whose entries have these replies, where so many entries came before.
 fn post_together<C: Counter>(
+    before: Count,
     moment: Moment,
     records: &[[u8; REQUEST_BYTES]],
     due: &[[u8; REPLY_BYTES]],
@@ -71,7 +82,7 @@ fn post_together<C: Counter>(
     if are_due(replies.as_slice(), due) {
         Ok(())
     } else {
-        Err(FollowFault::Differs(first_other(replies.as_slice(), due)))
+        Err(FollowFault::Differs(first_other(before, replies.as_slice(), due)))
     }
 }
 
@@ -85,11 +96,13 @@ fn post_waiting<C: Counter>(waiting: &mut Waiting, counter: &mut C) -> Result<()
     ensures moment { waiting.new.moment ≡ waiting.old.moment }
 {
     post_together(
+        waiting.posted,
         waiting.moment,
         waiting.records.as_slice(),
         waiting.replies.as_slice(),
         counter,
     )?;
+    waiting.posted = waiting.posted.wrapping_add(waiting.records.len() as Count);
     waiting.records.clear();
     waiting.replies.clear();
     Ok(())
@@ -137,6 +150,7 @@ impl Waiting {
         ensures { IsWaiting result [] }
     {
         Waiting {
+            posted: 0,
             moment: Moment::new(0).unwrap(),
             records: ArrayVec::new(),
             replies: ArrayVec::new(),
