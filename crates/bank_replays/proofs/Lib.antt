@@ -21,4 +21,5 @@ pub mod InMemory
 pub mod Leaves
 pub mod Exported
 pub mod ExportedLog
+pub mod Logged
 pub mod Planned

@@ -13,4 +13,5 @@ pub mod Came
 pub mod Requests
 pub mod Digests
 pub mod Writing
+pub mod Logs
 pub mod Prefixes

@@ -56,8 +56,8 @@ fn chained(before: &[u8; 32], request: &Request, reply: &Reply, moment: u64) -> 
     hasher.finalize()
 }
 
-// The moment of a posting, zero where there is none.
-fn moment_of(posting: &Option<StoredPosting>) -> u64
+/// The moment of a posting, zero where there is none.
+pub(crate) fn moment_of(posting: &Option<StoredPosting>) -> u64
     ensures { result ≡ moment_of posting.now }
 {
     match posting {

@@ -28,8 +28,8 @@ use report_contents::put_last;
 use sqlite::Alter;
 use walked_rows::KeptRequest;
 
-// Whether a row's ordinal is above this one.
-fn is_after(row: &KeptRequest, after: u64) -> bool
+/// Whether a row's ordinal is above this one.
+pub(crate) fn is_after(row: &KeptRequest, after: u64) -> bool
     ensures { result ≡ is_after after (kept_item row.now) }
 {
     row.request.ordinal.get() > after

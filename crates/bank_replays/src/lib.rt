@@ -27,8 +27,8 @@
 //! [`Replay::Agrees`] has the [`Digest`] of the requests, in which a changed moment, a changed reference, a cut-off
 //! end and a rewritten past show, none of which a replay can see by itself. [`digest`] gives that of the first
 //! requests of any file, to be compared with one that was written down. [`export`] writes the kept requests as the
-//! records that they came as, and [`write_plan`] the open branches as a plan, so that another bank can be given
-//! both. A [`Difference`] is shown as a line, as `account 2 stands 0 due -100`.
+//! records that they came as, [`write_log`] as entries of a log with their replies and moments, and [`write_plan`]
+//! the open branches as a plan, so that another bank can be given them. A [`Difference`] is shown as a line, as `account 2 stands 0 due -100`.
 //!
 //! It asks first whether the file defines its tables as a bank's are made: where it defines one otherwise, its rows may
 //! be read otherwise, and [`Replay::Otherwise`] names it.
@@ -44,6 +44,7 @@ mod fault;
 mod handed;
 mod laws;
 mod lines;
+mod logs;
 mod plan;
 mod ram;
 mod refill;
@@ -59,6 +60,7 @@ pub use digests::digest;
 pub use exports::export;
 pub use fault::ReplayFault;
 pub use laws::given_back_law;
+pub use logs::{count_requests, write_log};
 pub use plan::write_plan;
 pub use replays::replay;
 pub use watch::{Unwatched, Watch};

@@ -1,0 +1,16 @@
+-- The one row of `meta` was handed on.
+use Rattle.std.proofs.Common.{pos, ◌∙◌}
+use Rattle.bank_replays.proofs.{Logged.one_decided, Read.read_any, Read.read_fails}
+use Rattle.bank_replays.proofs.logs.stored_count.Goals as goal
+
+pub returns-in-Ok : goal.returns-in-Ok
+returns-in-Ok g c =
+    let it = c.in-Ok.ensures in
+    record {
+      bank = read_any it.bank _;
+      rows = λ clean version decided has.
+          it.hands.1 ∙ one_decided (pos 0) version decided it.hands.0 (it.hands.2 clean _ has);
+    }
+
+pub returns-in-Err : goal.returns-in-Err
+returns-in-Err g c = record { bank = read_fails _ c.in-Err.ensures.bank; rows = λ clean version decided has. tt }

@@ -1,0 +1,72 @@
+-- The entries of all rows were written, or a prefix of them.
+use Rattle.std.proofs.Common.{rules, ◌≡◌, ◌^◌, ◌-◌, ◌++◌, Err, List, map, length, drop, sym, ap, ◌∙◌}
+use Rattle.std.proofs.lemmas.List.{length-map, take-append-drop}
+use Rattle.posting_rules.specs.declared.fault.Fault.TheVariants.{Memory}
+use Rattle.walked_rows.specs.KeptRows.{KeptItem, kept_item}
+use Rattle.report_contents.proofs.Written.{later_failed, same_all, same_part, whole_part}
+use Rattle.bank_replays.specs.Logs.{entries_after}
+use Rattle.bank_replays.specs.declared.fault.ReplayFault.TheVariants.{Write}
+use Rattle.bank_replays.proofs.{Hands.whole, Logged.entries_of_part}
+use Rattle.bank_replays.proofs.Wrote.{bank_err, end_part, end_wrote, writer_err, writer_ok}
+use Rattle.bank_replays.proofs.logs.write_entries.Goals as goal
+
+pub returns-in_err-count-clause-rows : goal.returns-in_err-count-clause-rows
+returns-in_err-count-clause-rows g c clean all has =
+    let fault = c.in_err-count.field-0.0 in
+    let same : c.from_residual.result ≡ Err fault = search rules in
+    let it = c.in_err-count.ensures.hands in
+    let more = it.2 clean all has in
+    rw same (record {
+      text = entries_of_part _ _ c.args.after (map kept_item it.0) more.0 all more.1 it.1.0;
+      kept = tt;
+    })
+
+pub returns-in_err-count-clause-writer : goal.returns-in_err-count-clause-writer
+returns-in_err-count-clause-writer g c =
+    let fault = c.in_err-count.field-0.0 in
+    let same : c.from_residual.result ≡ Err fault = search rules in
+    rw same (writer_err fault c.in_err-count.ensures.hands.1.1)
+
+pub returns-then-count-clause-rows : goal.returns-then-count-clause-rows
+returns-then-count-clause-rows g c clean all has =
+    let it = c.in_ok-count.ensures.hands in
+    let most = 2 ^ 64 - 1 in
+    let are = ap (λ (l : List KeptItem). l ++ drop most all) (it.3 clean all has) ∙ take-append-drop most all in
+    record {
+      text = entries_of_part _ _ c.args.after (map kept_item it.0) (drop most all) all are
+          (whole_part _ _ (entries_after c.args.after (map kept_item it.0)) it.1.0);
+      kept = tt;
+    }
+
+pub returns-then-count-clause-writer : goal.returns-then-count-clause-writer
+returns-then-count-clause-writer g c = bank_err Memory
+
+pub returns-in_err-put_last-clause-rows : goal.returns-in_err-put_last-clause-rows
+returns-in_err-put_last-clause-rows g c clean all has =
+    let same : c.from_residual-in_err-put_last.result ≡ Err Write = search rules in
+    let it = c.in_ok-count.ensures.hands in
+    let are = whole (2 ^ 64 - 1) (map kept_item it.0) all (it.3 clean all has)
+    (λ is. c.if-count.false (sym (length-map it.0 kept_item ∙ it.2) ∙ is)) in
+    rw same (record {
+      text = same_part _ _ (ap (entries_after c.args.after) are)
+          (end_part _ _ _ _ it.1.0 c.in_err-put_last.ensures.err);
+      kept = tt;
+    })
+
+pub returns-in_err-put_last-clause-writer : goal.returns-in_err-put_last-clause-writer
+returns-in_err-put_last-clause-writer g c =
+    let same : c.from_residual-in_err-put_last.result ≡ Err Write = search rules in
+    rw same (writer_err Write (λ is. later_failed c.in_ok-count.ensures.hands.1.1 c.in_err-put_last.ensures.failed))
+
+pub returns-clause-rows : goal.returns-clause-rows
+returns-clause-rows g c clean all has =
+    let it = c.in_ok-count.ensures.hands in
+    let are = whole (2 ^ 64 - 1) (map kept_item it.0) all (it.3 clean all has)
+    (λ is. c.if-count.false (sym (length-map it.0 kept_item ∙ it.2) ∙ is)) in
+    record {
+      text = same_all _ _ (ap (entries_after c.args.after) are) (end_wrote _ _ _ _ it.1.0 c.in_ok-put_last.ensures.ok);
+      kept = sym it.2 ∙ sym (length-map it.0 kept_item) ∙ ap (λ (l : List KeptItem). length l) are;
+    }
+
+pub returns-clause-writer : goal.returns-clause-writer
+returns-clause-writer g c = writer_ok c.in_ok-count.ensures.hands.1.1 c.in_ok-put_last.ensures.flushed

@@ -1,0 +1,42 @@
+-- The log of a bank as bytes, and how many requests it has.
+use Rattle.std.specs.Prelude.{◌≡◌, ℕ, ℤ, List, [], ◌∷◌, drop, filter, length, Option, Result, Ok, Err, IfOk}
+use Rattle.std.specs.List.{flat_map}
+use Rattle.posting_core.specs.LogEntries.{AnsweredRequest, entry_of}
+use Rattle.posting_core.specs.believed.Batches.{joined}
+use Rattle.walked_rows.specs.KeptRows.{KeptItem}
+use Rattle.walked_rows.specs.declared.metas.StoredMeta.{StoredMeta}
+use Rattle.bank_replays.specs.Requests.{moment_under, reply_in, request_in}
+use Rattle.bank_replays.specs.Writing.{WritesText, is_after}
+use Rattle.bank_replays.specs.declared.fault.ReplayFault.{ReplayFault}
+
+-- a kept row as its entry has it
+abbrev pub logged_in : KeptItem → AnsweredRequest
+logged_in k = record { request = request_in k; reply = reply_in k; moment = moment_under k.posting }
+
+-- the entries of the kept rows after an ordinal, one after another
+abbrev pub entries_after : ℕ → List KeptItem → List ℕ
+entries_after after items = flat_map (λ k. entry_of (logged_in k)) (filter (is_after after) items)
+
+-- how it ended, but for the count
+abbrev pub without_count : Result ℕ ReplayFault → Result (Unit {0}) ReplayFault
+without_count (Ok count) = Ok tt
+without_count (Err fault) = Err fault
+
+-- the entries of rows after an ordinal were written, and so many rows there are
+pub record LogsRows (after : ℕ) (all : List KeptItem) (w w' : Option (List ℕ)) (result : Result ℕ ReplayFault)
+    : Type 0 where
+  pub text : WritesText (entries_after after all) w w' (without_count result)
+  pub kept : IfOk result (λ count. count ≡ length all)
+
+-- all but the first so many entries were written, and so many there are
+pub record LogsEntries (after : ℕ) (entries : List (List ℕ)) (w w' : Option (List ℕ))
+    (result : Result ℕ ReplayFault) : Type 0 where
+  pub text : WritesText (joined (drop after entries)) w w' (without_count result)
+  pub kept : IfOk result (λ count. count ≡ length entries)
+
+-- ---- how many there are
+
+-- the count that the last of some rows of `meta` has, or this one where there is none
+abbrev pub decided_in : ℤ → List StoredMeta → ℤ
+decided_in n [] = n
+decided_in n (m ∷ more) = decided_in m.decided more

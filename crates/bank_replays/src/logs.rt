@@ -1,0 +1,207 @@
+//! The log of a bank: an entry of each kept request.
+ghost use Rattle.std.specs.Prelude.{◌≡◌, ◌∷◌, [], ℤ, pos, List, Err, IfOk, IfSome, OnOk, length, map, ⊤};
+ghost use Rattle.sqlite.specs.State.{HasCleanDisk};
+ghost use Rattle.posting_rules.specs.believed.Commands.{Command};
+ghost use Rattle.posting_rules.specs.believed.Counter.{ShowsLog};
+ghost use Rattle.posting_rules.specs.declared.fault.Fault.TheVariants.{Down};
+ghost use Rattle.posting_core.specs.LogEntries.{entry_of, log_entries};
+ghost use Rattle.store_rows.specs.believed.BankTables.{meta as meta_table};
+ghost use Rattle.walked_rows.specs.KeptRows.{HasKept, KeptItem, kept_item};
+ghost use Rattle.walked_rows.specs.OnlyMeta.{bank_entry};
+ghost use Rattle.walked_rows.specs.Rows.{HasStoredRows};
+ghost use Rattle.bank_store.specs.Leaving.{LeavesAsFound, TakesNone};
+ghost use Rattle.bank_store.specs.believed.Seen.{bank_seen, database_of, file_of};
+ghost use Rattle.bank_store.specs.Seen.{fault_of};
+ghost use Rattle.bank_replays.specs.Came.{moment_of};
+ghost use Rattle.bank_replays.specs.Logs.{LogsEntries, LogsRows, decided_in, entries_after};
+ghost use Rattle.bank_replays.specs.Logs.{logged_in, without_count};
+ghost use Rattle.bank_replays.specs.Reading.{ReadsBank};
+ghost use Rattle.bank_replays.specs.Replays.{HasAnswered};
+ghost use Rattle.bank_replays.specs.Writing.{LeavesWriter, Wrote, WrotePart};
+ghost use Rattle.bank_replays.specs.declared.fault.ReplayFault.TheVariants.{Bank as OfBank};
+
+use crate::chain::{NO_REQUEST, moment_of};
+use crate::exports::is_after;
+use crate::fault::{ReplayFault, told};
+use crate::handed::{Hands, hand_all, hand_first};
+use crate::requests::{reply_of, request_of};
+use crate::writes::put_bytes;
+use bank_store::Bank;
+use posting_core::{ENTRY_BYTES, Sink, encode_entry};
+use posting_rules::{Counter, Fault, Rule};
+use report_contents::put_last;
+use sqlite::Alter;
+use walked_rows::{KeptRequest, StoredMeta};
+
+// The entry of a kept row; none where its numbers are those of no request.
+fn entry_in(row: &KeptRequest) -> Option<[u8; ENTRY_BYTES]>
+    ensures { IfSome result (λ entry. entry ≡ entry_of (logged_in (kept_item row.now))) }
+{
+    let Some(request) = request_of(row) else {
+        return None;
+    };
+    let Some(reply) = reply_of(row, request) else {
+        return None;
+    };
+    Some(encode_entry(&request, &reply, moment_of(&row.posting)))
+}
+
+/// Requests after an ordinal are written as entries.
+#[derive(Drop)]
+pub(crate) struct EntriesAfter {
+    after: u64,
+}
+
+impl<W: Sink> Hands<KeptRequest, W> for EntriesAfter {
+    ghost use Rattle.bank_replays.specs.Prefixes.{all_part, wrote_none};
+
+    ghost Took = { λ way first last rows. Wrote (entries_after way.after (map kept_item rows))
+        (W.contents first) (W.contents last) (W.told first) (W.told last) };
+
+    ghost Part = { λ way first last rows fault. WrotePart (entries_after way.after (map kept_item rows))
+        (W.contents first) (W.contents last) (W.told first) (W.told last) fault };
+
+    ghost none_yet = { λ way writer. wrote_none (W.contents writer) (W.told writer) };
+
+    ghost in_part = { λ way first last rows fault took. all_part (W.contents first) (W.contents last) _ took fault };
+
+    fn hand(&self, row: KeptRequest, writer: &mut W) -> Result<(), ReplayFault> {
+        if !is_after(&row, self.after) {
+            return Ok(());
+        }
+        let Some(entry) = entry_in(&row) else {
+            return Err(NO_REQUEST);
+        };
+        put_bytes(writer, entry.as_slice())
+    }
+}
+
+// Writes the entries of the kept requests after an ordinal, and returns how many requests there are.
+fn write_entries<S: Alter, W: Sink>(
+    bank: &mut Bank<S>,
+    after: u64,
+    writer: &mut W,
+) -> Result<u64, ReplayFault>
+    ensures bank { ReadsBank S.Store bank.old bank.new result }
+    ensures rows { HasCleanDisk (file_of bank.new) → (all : List KeptItem)
+        → HasKept (database_of S.Store bank.old) all
+        → LogsRows after all (W.contents writer.old) (W.contents writer.new) result }
+    ensures writer { LeavesWriter (W.told writer.old) (W.told writer.new) (without_count result) }
+{
+    let way = EntriesAfter { after };
+    let count = hand_first::<S, KeptRequest, W, EntriesAfter>(bank, u64::MAX, &way, writer)?;
+    if count == u64::MAX {
+        // There would be no room for so many rows.
+        return Err(ReplayFault::Bank(Fault::Memory));
+    }
+    put_last(writer, "")?;
+    Ok(count)
+}
+
+/// Writes the kept requests whose ordinals are above a number as entries of a log, 308 bytes each, by their ordinals,
+/// flushes the writer, and returns how many requests are kept: where they are fewer than the number, nothing was
+/// written. A bank that follows the entries after those that it has gets them byte for byte.
+///
+/// # Errors
+///
+/// At each a prefix of the entries was written. None brings the bank down, and none changes the file.
+///
+/// | Error | What happened |
+/// |---|---|
+/// | [`ReplayFault::Write`] | the writer failed, at the flush too, or took no byte |
+/// | [`ReplayFault::Bank`] of `Store` | a read failed: the disk did, or memory or steps were refused |
+/// | of `Down` | the bank was down, and nothing was written |
+/// | of `Damaged` | a row can't be read, or with `Rule::Request` it is that of no request |
+/// | of `Memory` | there would be no room for so many requests |
+pub fn write_log<S: Alter, W: Sink>(
+    bank: &mut Bank<S>,
+    after: u64,
+    writer: &mut W,
+) -> Result<u64, ReplayFault>
+    ensures rows { (bank_seen S.Store bank.new).honest → (all : List KeptItem)
+        → HasKept (database_of S.Store bank.old) all
+        → LogsRows after all (W.contents writer.old) (W.contents writer.new) result }
+    ensures log { (bank_seen S.Store bank.new).honest → (log : List Command)
+        → ShowsLog (bank_seen S.Store bank.old) log
+        → LogsEntries after (log_entries log) (W.contents writer.old) (W.contents writer.new) result }
+    ensures writer { LeavesWriter (W.told writer.old) (W.told writer.new) (without_count result) }
+    ensures bank { TakesNone (bank_seen S.Store bank.old) (bank_seen S.Store bank.new) (HasAnswered result) }
+    ensures down { (bank_seen S.Store bank.old).is_down
+        → (result ≡ Err (OfBank Down)) × (bank.new ≡ bank.old) × (writer.new ≡ writer.old) }
+    ensures up { fault_of bank.new ≡ fault_of bank.old }
+    ensures leaves { LeavesAsFound S.Store bank.old bank.new }
+{
+    if bank.is_down() {
+        return Err(ReplayFault::Bank(Fault::Down));
+    }
+    write_entries(bank, after, writer)
+}
+
+// The count of requests is the one that the last row of `meta` has.
+struct Counting;
+
+impl Hands<StoredMeta, u64> for Counting {
+    ghost use Rattle.std.proofs.Common.{refl};
+
+    ghost Took = { λ way first last rows. pos last ≡ decided_in (pos first) rows };
+
+    ghost Part = { λ way first last rows fault. ⊤ };
+
+    ghost none_yet = { λ way count. refl };
+
+    ghost in_part = { λ way first last rows fault took. tt };
+
+    #[tactic(auto, using(crate::proofs::Logged::decided_last))]
+    fn hand(&self, row: StoredMeta, count: &mut u64) -> Result<(), ReplayFault> {
+        if row.decided < 0 {
+            return Err(ReplayFault::Bank(Fault::Damaged(Rule::Meta)));
+        }
+        *count = row.decided as u64;
+        Ok(())
+    }
+}
+
+// The count of requests that `meta` has.
+fn stored_count<S: Alter>(bank: &mut Bank<S>) -> Result<u64, Fault>
+    ensures bank { ReadsBank S.Store bank.old bank.new result }
+    ensures rows { HasCleanDisk (file_of bank.new) → (version decided : ℤ)
+        → HasStoredRows (database_of S.Store bank.old) meta_table (bank_entry version decided ∷ [])
+        → IfOk result (λ count. pos count ≡ decided) }
+{
+    let mut count = 0;
+    match hand_all::<S, StoredMeta, u64, Counting>(bank, &Counting, &mut count) {
+        Ok(()) => Ok(count),
+        Err(fault) => Err(told(fault)),
+    }
+}
+
+/// How many requests a bank keeps, by the count that its file has.
+///
+/// # Errors
+///
+/// None of them brings the bank down, and none changes the file.
+///
+/// | Error | What happened |
+/// |---|---|
+/// | [`Fault::Store`] | a read failed: the disk did, or memory or steps were refused |
+/// | [`Fault::Down`] | the bank was down, and nothing was read |
+/// | [`Fault::Damaged`] | the row can't be read, or with `Rule::Meta` its count is below zero |
+pub fn count_requests<S: Alter>(bank: &mut Bank<S>) -> Result<u64, Fault>
+    ensures rows { (bank_seen S.Store bank.new).honest → (version decided : ℤ)
+        → HasStoredRows (database_of S.Store bank.old) meta_table (bank_entry version decided ∷ [])
+        → IfOk result (λ count. pos count ≡ decided) }
+    ensures log { (bank_seen S.Store bank.new).honest → (log : List Command)
+        → ShowsLog (bank_seen S.Store bank.old) log
+        → IfOk result (λ count. count ≡ length (log_entries log)) }
+    ensures bank { TakesNone (bank_seen S.Store bank.old) (bank_seen S.Store bank.new) (HasAnswered result) }
+    ensures same { (bank_seen S.Store bank.new).honest
+        → OnOk result (database_of S.Store bank.new ≡ database_of S.Store bank.old) }
+    ensures down { (bank_seen S.Store bank.old).is_down → (result ≡ Err Down) × (bank.new ≡ bank.old) }
+    ensures up { fault_of bank.new ≡ fault_of bank.old }
+    ensures leaves { LeavesAsFound S.Store bank.old bank.new }
+{
+    if bank.is_down() {
+        return Err(Fault::Down);
+    }
+    stored_count(bank)
+}
