@@ -1,3 +1,4 @@
 pub mod Endings
 pub mod Told
 pub mod Spared
+pub mod FollowTold

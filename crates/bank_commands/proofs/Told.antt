@@ -226,6 +226,8 @@ tells_idle (commands.Statement file account) f r w has = tt
 tells_idle (commands.Replay file) f r w has = inl ((f, refl), Keeps-refl w)
 tells_idle (commands.Digest file requests) f r w has = inl ((f, refl), Keeps-refl w)
 tells_idle (commands.Export file after) f r w has = tt
+tells_idle (commands.Log file after) f r w has = tt
+tells_idle (commands.Follow file plan) f r w has = tt
 tells_idle (commands.Plan file) f r w has = tt
 tells_idle (commands.Serve file address connections) f r w has = inl (Keeps-refl w)
 tells_idle (commands.Migrate file) f r w has = inl ((f, refl), Keeps-refl w)
@@ -234,6 +236,7 @@ tells_idle (commands.Decode money) f r w has = absurd has
 
 pub input_left : (c : Command) (r : Option (List ℕ)) → LeavesInput c r r
 input_left (commands.Post file) r = tt
+input_left (commands.Follow file plan) r = tt
 input_left commands.Encode r = tt
 input_left (commands.Decode money) r = tt
 input_left other r = refl
@@ -246,29 +249,32 @@ clock_left other k = refl
 
 -- ---- no command ends the program as a mistake in the words
 
-fault_ends : (f : CommandFault) → (status_of f ≡ System) ⊎ (status_of f ≡ Input)
+fault_ends : (f : CommandFault) → (status_of f ≡ System) ⊎ (status_of f ≡ Input) ⊎ (status_of f ≡ Differs)
 fault_ends fault.Store = inl refl
 fault_ends fault.Memory = inl refl
 fault_ends (fault.Damaged rule) = inl refl
 fault_ends fault.Read = inl refl
 fault_ends fault.Write = inl refl
-fault_ends (fault.Truncated count) = inr refl
-fault_ends (fault.Plan plan) = inr refl
-fault_ends (fault.Postings sheet) = inr refl
-fault_ends (fault.Reply place bad) = inr refl
-fault_ends fault.AlreadyBank = inr refl
-fault_ends fault.NoBank = inr refl
-fault_ends fault.Foreign = inr refl
-fault_ends (fault.Version version) = inr refl
-fault_ends fault.NoBranches = inr refl
-fault_ends (fault.NoAccount account) = inr refl
-fault_ends (fault.NoRequest count) = inr refl
+fault_ends (fault.Truncated count) = inr (inl refl)
+fault_ends (fault.Plan plan) = inr (inl refl)
+fault_ends (fault.Postings sheet) = inr (inl refl)
+fault_ends (fault.Reply place bad) = inr (inl refl)
+fault_ends (fault.NoEntry count) = inr (inl refl)
+fault_ends (fault.Differs other) = inr (inr refl)
+fault_ends fault.AlreadyBank = inr (inl refl)
+fault_ends fault.NoBank = inr (inl refl)
+fault_ends fault.Foreign = inr (inl refl)
+fault_ends (fault.Version version) = inr (inl refl)
+fault_ends fault.NoBranches = inr (inl refl)
+fault_ends (fault.NoAccount account) = inr (inl refl)
+fault_ends (fault.NoRequest count) = inr (inl refl)
 fault_ends fault.Network = inl refl
 
 pub status_is_not_usage : (f : CommandFault) → status_of f ≢ Usage
 status_is_not_usage f other = elim (fault_ends f) [
   | inl system ↦ system_is_not_usage (status_of f) system other
-  | inr input ↦ input_is_not_usage (status_of f) input other
+  | inr (inl input) ↦ input_is_not_usage (status_of f) input other
+  | inr (inr differs) ↦ let bad : Differs ≡ Usage = sym differs ∙ other in cc
 ]
 
 done_is_not_usage : (status : Status) → status ≡ Done → status ≢ Usage
@@ -348,6 +354,8 @@ told_is_not_usage (commands.Digest file requests) r r' w w' status (inl none) = 
 told_is_not_usage (commands.Digest file requests) r r' w w' status (inr told) =
     digested_is_not_usage requests told.0 w w' status told.1
 told_is_not_usage (commands.Export file after) r r' w w' status told = done_is_not_usage status told
+told_is_not_usage (commands.Log file after) r r' w w' status told = done_is_not_usage status told
+told_is_not_usage (commands.Follow file plan) r r' w w' status told = done_is_not_usage status told.0
 told_is_not_usage (commands.Plan file) r r' w w' status told = done_is_not_usage status told
 told_is_not_usage (commands.Serve file address connections) r r' w w' status told = done_is_not_usage status told.0
 told_is_not_usage (commands.Migrate file) r r' w w' status (inl none) = not_a_fault status _ none.0.1

@@ -2,3 +2,4 @@ pub mod Over
 pub mod Commands
 pub mod Replaying
 pub mod Running
+pub mod Following

@@ -28,6 +28,7 @@ use Rattle.command_line.specs.declared.status.Status.{Status}
 use Rattle.command_line.specs.declared.status.Status.TheVariants.{Done, System}
 use Rattle.bank_commands.specs.Commands.{AuditsOver, DrivesBank, EndsPost, Inits, Loads, Migrates, Posts, Serves}
 use Rattle.bank_commands.specs.Commands.{PrintsDrive, PrintsLoad, PrintsServe, StatesOver, TellsLine, migration_line}
+use Rattle.bank_commands.specs.Following.{Follows, LogsOver, PrintsFollow}
 use Rattle.bank_commands.specs.Replaying.{DigestsOver, ExportsOver, PlansOver, PrintsDigest, PrintsReplay}
 use Rattle.bank_commands.specs.Replaying.{ReplaysOver}
 
@@ -68,6 +69,10 @@ DoesOver g conn back IsNamed known r r' w w' k k' (commands.Digest file requests
     DigestsOver g conn back requests w w' None None told
 DoesOver g conn back IsNamed known r r' w w' k k' (commands.Export file after) told =
     ExportsOver g conn back after w w' None None told
+DoesOver g conn back IsNamed known r r' w w' k k' (commands.Log file after) told =
+    LogsOver g conn back after w w' None None told
+DoesOver g conn back IsNamed known r r' w w' k k' (commands.Follow file plan) told =
+    Follows g conn back (IsNamed plan.now) known r r' None None w w' told
 DoesOver g conn back IsNamed known r r' w w' k k' (commands.Plan file) told =
     PlansOver g conn back w w' None None told
 DoesOver g conn back IsNamed known r r' w w' k k' (commands.Migrate file) told = Migrates g conn back w w' told
@@ -76,8 +81,8 @@ DoesOver g conn back IsNamed known r r' w w' k k' commands.Encode told =
 DoesOver g conn back IsNamed known r r' w w' k k' (commands.Decode money) told =
     (back ≡ conn) × DecodesReplies money r r' None None w w' None None told
 
--- ---- how it ends and what it prints, whatever bank is there; the text of `post`, `statement`, `export` and `plan` is
--- the bank's
+-- ---- how it ends and what it prints, whatever bank is there; the text of `post`, `statement`, `export`, `log` and
+-- `plan` is the bank's
 
 -- it told a fault and printed nothing; or else Said holds
 abbrev pub PrintsNone : (w w' : Option (List ℕ)) → Result Status CommandFault → (Said : Type 0) → Type 0
@@ -96,6 +101,8 @@ Tells (commands.Replay file) r r' w w' told =
 Tells (commands.Digest file requests) r r' w w' told =
     PrintsNone w w' told ((found : Result (Option Digest) Fault) × PrintsDigest requests found w w' None None told)
 Tells (commands.Export file after) r r' w w' told = IfOk told (λ status. status ≡ Done)
+Tells (commands.Log file after) r r' w w' told = IfOk told (λ status. status ≡ Done)
+Tells (commands.Follow file plan) r r' w w' told = PrintsFollow w w' told
 Tells (commands.Plan file) r r' w w' told = IfOk told (λ status. status ≡ Done)
 Tells (commands.Serve file address connections) r r' w w' told = PrintsServe w w' told
 Tells (commands.Migrate file) r r' w w' told =
@@ -108,6 +115,7 @@ Tells (commands.Decode money) r r' w w' told = DecodesReplies money r r' None No
 -- the input is as it was, but for the commands that read it
 abbrev pub LeavesInput : Command → (r r' : Option (List ℕ)) → Type 0
 LeavesInput (commands.Post file) r r' = ⊤
+LeavesInput (commands.Follow file plan) r r' = ⊤
 LeavesInput commands.Encode r r' = ⊤
 LeavesInput (commands.Decode money) r r' = ⊤
 LeavesInput _ r r' = r' ≡ r

@@ -6,10 +6,11 @@ ghost use Rattle.bank_commands.specs.Running.{DoesOver, LeavesClock, LeavesInput
 
 use crate::ended::Ended;
 use crate::{
-    audit_over, digest_over, drive_over, export_over, init_over, load_over, migrate_over,
-    plan_over, post_over, replay_over, serve_over, statement_over,
+    audit_over, digest_over, drive_over, export_over, follow_over, init_over, load_over, log_over,
+    migrate_over, plan_over, post_over, replay_over, serve_over, statement_over,
 };
 use bank_replays::Watch;
+use branch_loader::FollowWatch;
 use command_line::{Command, Network, Plans, translate_replies, translate_sheet};
 use counter_http::ServeWatch;
 use posting_core::Clock;
@@ -20,12 +21,12 @@ use std::io::{Read, Write};
 
 /// Does the command with the bank of a connection, whatever the command's file is, and hands the connection back. A
 /// command that needs no bank hands it back as it was given. It reaches plans by their names, the network, and who
-/// watches a replay or the serving, and no file.
+/// watches a replay, a log that is followed or the serving, and no file.
 pub fn command_over<
     S: Alter + Drop,
     P: Plans,
     N: Network,
-    V: Watch + ServeWatch + Drop,
+    V: Watch + ServeWatch + FollowWatch + Drop,
     R: Read,
     W: Write,
     K: Clock,
@@ -64,7 +65,11 @@ pub fn command_over<
         Command::Replay { .. } => replay_over(alloc, conn, output, watch),
         Command::Digest { requests, .. } => digest_over(alloc, conn, requests, output),
         Command::Export { after, .. } => export_over(alloc, conn, after, output),
+        Command::Log { after, .. } => log_over(alloc, conn, after, output),
         Command::Plan { .. } => plan_over(alloc, conn, output),
+        Command::Follow { plan, .. } => {
+            follow_over(alloc, conn, plans, plan, input, output, watch)
+        }
         Command::Serve {
             address,
             connections,

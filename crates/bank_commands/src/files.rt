@@ -83,7 +83,9 @@ pub(crate) fn command_in<S: Start, R: Read, W: Write, K: Clock>(
         | Command::Replay { file }
         | Command::Digest { file, .. }
         | Command::Export { file, .. }
+        | Command::Log { file, .. }
         | Command::Plan { file }
+        | Command::Follow { file, .. }
         | Command::Serve { file, .. }
         | Command::Migrate { file } => (file, true),
     };

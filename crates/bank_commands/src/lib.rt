@@ -2,8 +2,9 @@
 //! makes a bank, [`load_over`] opens its branches, [`post_over`] posts to it, [`drive_over`] posts what the driver
 //! draws, [`serve_over`] posts what comes over HTTP, [`audit_over`] says whether the books agree (TPC-B clause 2),
 //! [`statement_over`] writes the postings of an account, [`replay_over`] says whether the tables are what the rules give,
-//! [`digest_over`] prints the digest of the first requests, [`export_over`] writes the requests as records and
-//! [`plan_over`] the branches as a plan, and [`migrate_over`] carries over a bank of an older version.
+//! [`digest_over`] prints the digest of the first requests, [`export_over`] writes the requests as records, [`log_over`]
+//! as entries of a log and [`plan_over`] the branches as a plan, [`follow_over`] takes a bank along the log of another
+//! one, and [`migrate_over`] carries over a bank of an older version.
 //! Each but `init_over` finds the bank that is there. Each hands the connection back, also where there is no bank.
 //! `encode` and `decode` have no function here: they need no bank, and are `translate_sheet` and `translate_replies` of
 //! `command_line`.
@@ -43,7 +44,7 @@
 //!
 //! `bank_files` opens a connection to files, and `conn.close()` closes it. [`run`] is the whole program: it finds a
 //! command in the words of the command line, looks for the command's file, opens it, does the command and closes it.
-//! `src/files`, 137 lines that are to be read, has the looking, the opening and the closing; no clause reaches them. It
+//! `src/files`, 138 lines that are to be read, has the looking, the opening and the closing; no clause reaches them. It
 //! alone reaches the [`Machine`]: all else is handed plans, a network and a watch, and can open no file.
 //!
 //! `Unknown` is all that a program knows of what its files hold, and supposes that a torn write leaves each byte old or
@@ -58,6 +59,7 @@ mod command;
 mod commands;
 mod ended;
 mod files;
+mod following;
 mod migration;
 mod progress;
 mod replaying;
@@ -69,6 +71,7 @@ pub use command::command_over;
 pub use commands::{drive_over, init_over, load_over, post_over};
 pub use ended::Ended;
 pub use files::{Machine, PlanFiles};
+pub use following::{follow_over, log_over};
 pub use migration::migrate_over;
 pub use replaying::{digest_over, export_over, plan_over, replay_over};
 pub use reports::{audit_over, statement_over};

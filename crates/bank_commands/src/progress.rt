@@ -1,12 +1,13 @@
 //! How far long work is, for who waits at a terminal.
 
 use bank_replays::Watch;
+use branch_loader::FollowWatch;
 use counter_http::ServeWatch;
-use posting_core::Clock;
+use posting_core::{Clock, Count};
 use std::io::Write;
 
-/// Says on standard error how far a replay or the serving is, where that is a terminal: a line that is written over,
-/// once a second at most, and wiped at the end. One that can't be written is given up.
+/// Says on standard error how far a replay, a log that is followed or the serving is, where that is a terminal: a line
+/// that is written over, once a second at most, and wiped at the end. One that can't be written is given up.
 #[derive(Drop)]
 pub(crate) struct Progress<E, K> {
     faults: E,
@@ -35,6 +36,17 @@ impl<E: Write, K: Clock> Progress<E, K> {
             let _ = write!(self.faults, "\r{:>37}\r", "");
         }
     }
+
+    // Whether a line is due: it is another second than that of the last one.
+    fn is_due(&mut self) -> bool {
+        let second = self.clock.now().get();
+        if second == self.second {
+            return false;
+        }
+        self.second = second;
+        self.shown = true;
+        true
+    }
 }
 
 impl<E: Write, K: Clock> Watch for Progress<E, K> {
@@ -43,10 +55,7 @@ impl<E: Write, K: Clock> Watch for Progress<E, K> {
         if ordinal % 1_024 != 0 || !self.is_terminal {
             return;
         }
-        let second = self.clock.now().get();
-        if second != self.second {
-            self.second = second;
-            self.shown = true;
+        if self.is_due() {
             let _ = write!(self.faults, "\rreplayed {ordinal:>12} requests");
         }
     }
@@ -69,5 +78,13 @@ impl<E: Write, K: Clock> ServeWatch for Progress<E, K> {
 
     fn ended(&mut self) {
         self.wipe();
+    }
+}
+
+impl<E: Write, K: Clock> FollowWatch for Progress<E, K> {
+    fn followed(&mut self, entries: Count) {
+        if self.is_terminal && self.is_due() {
+            let _ = write!(self.faults, "\rfollowed {entries:>12} entries");
+        }
     }
 }

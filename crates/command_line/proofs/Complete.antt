@@ -20,9 +20,9 @@ use Rattle.command_line.specs.Words.{HasNumber, HasNumberIfAny, HasText, IsCompl
 use Rattle.command_line.proofs.Levels.{IsPlainLeaf, has_command, has_first, level_passes, value_if_any, value_of}
 use Rattle.command_line.proofs.{Rows.HasValue, Stopped.IsNoHelp, Stopped.walk_stops}
 use Rattle.command_line.proofs.Shapes.{digest_is_plain, drive_is_plain, export_is_plain, file_and_account}
-use Rattle.command_line.proofs.Shapes.{file_and_address, file_and_after, file_and_numbers, file_and_requests}
-use Rattle.command_line.proofs.Shapes.{load_is_plain, one_file, one_is_plain, serve_is_plain, statement_is_plain}
-use Rattle.command_line.proofs.Shapes.{two_files}
+use Rattle.command_line.proofs.Shapes.{file_and_address, file_and_after, file_and_numbers, file_and_plan}
+use Rattle.command_line.proofs.Shapes.{file_and_requests, follow_is_plain, load_is_plain, log_and_after, log_is_plain}
+use Rattle.command_line.proofs.Shapes.{one_file, one_is_plain, serve_is_plain, statement_is_plain, two_files}
 
 -- ---- the arguments of a command
 
@@ -142,10 +142,30 @@ export_completes : CompletesOnFile file_and_after
 export_completes words none =
     let s = file_and_after in (
       has_text s words (codes "file") export_is_plain none (refl, refl),
-      inr (inr (inr (inr (inr (inr (
+      inr (inr (inr (inr (inr (inr (inl (
         refl,
         has_number_if_any s words (codes "after") 0 MAX_REQUESTS export_is_plain none refl refl,
-      )))))),
+      ))))))),
+    )
+
+log_completes : CompletesOnFile log_and_after
+log_completes words none =
+    let s = log_and_after in (
+      has_text s words (codes "file") log_is_plain none (refl, refl),
+      inr (inr (inr (inr (inr (inr (inr (inl (
+        refl,
+        has_number_if_any s words (codes "after") 0 MAX_REQUESTS log_is_plain none refl refl,
+      )))))))),
+    )
+
+follow_completes : CompletesOnFile file_and_plan
+follow_completes words none =
+    let s = file_and_plan in (
+      has_text s words (codes "file") follow_is_plain none (refl, refl),
+      inr (inr (inr (inr (inr (inr (inr (inr (
+        refl,
+        has_text s words (codes "plan") follow_is_plain none (refl, refl),
+      )))))))),
     )
 
 -- ---- the words
@@ -205,14 +225,20 @@ each_completes name other = (
                 (
                   λ named. on_file file_and_after export_completes,
                   (
-                    λ named. one_completes (codes "plan") (inr (inr (inr (inr (inl refl))))),
+                    λ named. on_file log_and_after log_completes,
                     (
-                      λ named. on_file file_and_address serve_completes,
+                      λ named. one_completes (codes "plan") (inr (inr (inr (inr (inl refl))))),
                       (
-                        λ named. one_completes (codes "migrate") (inr (inr (inr (inr (inr refl))))),
+                        λ named. on_file file_and_plan follow_completes,
                         (
-                          λ named words none. inl refl,
-                          (λ named words none. inr (inl refl), (λ named. absurd (is_help name other named), tt)),
+                          λ named. on_file file_and_address serve_completes,
+                          (
+                            λ named. one_completes (codes "migrate") (inr (inr (inr (inr (inr refl))))),
+                            (
+                              λ named words none. inl refl,
+                              (λ named words none. inr (inl refl), (λ named. absurd (is_help name other named), tt)),
+                            ),
+                          ),
                         ),
                       ),
                     ),

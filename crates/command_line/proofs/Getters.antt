@@ -77,7 +77,8 @@ apart {s = s} {t = t} same other =
 no : {own s t : Text} {X : Type 0} → own ≡ s → own ≡ t → bytes_eq s t ≡ false → X
 no is also differs = absurd (apart (sym is ∙ also) differs)
 
--- the values that there are by the name: with `load`, `drive`, `statement`, `serve`, `digest` and `export`
+-- the values that there are by the name: with `load`, `drive`, `statement`, `serve`, `digest`, `export`, `log` and
+-- `follow`
 pub values_by_name : (p : Text × List Row) → HasMoreValues p → (p.0 ≡ codes "load" → HasText (codes "plan") p.1)
     × (p.0 ≡ codes "drive" → HasNumber (codes "seed") 0 MAX_SEED p.1 × HasNumber (codes "count") 1 MAX_DRIVEN p.1)
     × (p.0 ≡ codes "statement" → HasNumber (codes "account") 1 MAX_ACCOUNT p.1)
@@ -85,8 +86,18 @@ pub values_by_name : (p : Text × List Row) → HasMoreValues p → (p.0 ≡ cod
     × HasNumberIfAny (codes "connections") 1 MAX_CONNECTIONS p.1)
     × (p.0 ≡ codes "digest" → HasNumber (codes "requests") 0 MAX_REQUESTS p.1)
     × (p.0 ≡ codes "export" → HasNumberIfAny (codes "after") 0 MAX_REQUESTS p.1)
-values_by_name p (inl h) =
-    (λ _. h.1, λ n. no h.0 n refl, λ n. no h.0 n refl, λ n. no h.0 n refl, λ n. no h.0 n refl, λ n. no h.0 n refl)
+    × (p.0 ≡ codes "log" → HasNumberIfAny (codes "after") 0 MAX_REQUESTS p.1)
+    × (p.0 ≡ codes "follow" → HasText (codes "plan") p.1)
+values_by_name p (inl h) = (
+  λ _. h.1,
+  λ n. no h.0 n refl,
+  λ n. no h.0 n refl,
+  λ n. no h.0 n refl,
+  λ n. no h.0 n refl,
+  λ n. no h.0 n refl,
+  λ n. no h.0 n refl,
+  λ n. no h.0 n refl,
+)
 values_by_name p (inr (inl h)) = (
   λ n. no h.0 n refl,
   λ _. (h.1, h.2),
@@ -94,9 +105,19 @@ values_by_name p (inr (inl h)) = (
   λ n. no h.0 n refl,
   λ n. no h.0 n refl,
   λ n. no h.0 n refl,
+  λ n. no h.0 n refl,
+  λ n. no h.0 n refl,
 )
-values_by_name p (inr (inr (inl h))) =
-    (λ n. no h.0 n refl, λ n. no h.0 n refl, λ _. h.1, λ n. no h.0 n refl, λ n. no h.0 n refl, λ n. no h.0 n refl)
+values_by_name p (inr (inr (inl h))) = (
+  λ n. no h.0 n refl,
+  λ n. no h.0 n refl,
+  λ _. h.1,
+  λ n. no h.0 n refl,
+  λ n. no h.0 n refl,
+  λ n. no h.0 n refl,
+  λ n. no h.0 n refl,
+  λ n. no h.0 n refl,
+)
 values_by_name p (inr (inr (inr (inl h)))) = (
   λ n. no h.0 n refl,
   λ n. no h.0 n refl,
@@ -104,11 +125,49 @@ values_by_name p (inr (inr (inr (inl h)))) = (
   λ _. (h.1, h.2),
   λ n. no h.0 n refl,
   λ n. no h.0 n refl,
+  λ n. no h.0 n refl,
+  λ n. no h.0 n refl,
 )
-values_by_name p (inr (inr (inr (inr (inl h))))) =
-    (λ n. no h.0 n refl, λ n. no h.0 n refl, λ n. no h.0 n refl, λ n. no h.0 n refl, λ _. h.1, λ n. no h.0 n refl)
-values_by_name p (inr (inr (inr (inr (inr h))))) =
-    (λ n. no h.0 n refl, λ n. no h.0 n refl, λ n. no h.0 n refl, λ n. no h.0 n refl, λ n. no h.0 n refl, λ _. h.1)
+values_by_name p (inr (inr (inr (inr (inl h))))) = (
+  λ n. no h.0 n refl,
+  λ n. no h.0 n refl,
+  λ n. no h.0 n refl,
+  λ n. no h.0 n refl,
+  λ _. h.1,
+  λ n. no h.0 n refl,
+  λ n. no h.0 n refl,
+  λ n. no h.0 n refl,
+)
+values_by_name p (inr (inr (inr (inr (inr (inl h)))))) = (
+  λ n. no h.0 n refl,
+  λ n. no h.0 n refl,
+  λ n. no h.0 n refl,
+  λ n. no h.0 n refl,
+  λ n. no h.0 n refl,
+  λ _. h.1,
+  λ n. no h.0 n refl,
+  λ n. no h.0 n refl,
+)
+values_by_name p (inr (inr (inr (inr (inr (inr (inl h))))))) = (
+  λ n. no h.0 n refl,
+  λ n. no h.0 n refl,
+  λ n. no h.0 n refl,
+  λ n. no h.0 n refl,
+  λ n. no h.0 n refl,
+  λ n. no h.0 n refl,
+  λ _. h.1,
+  λ n. no h.0 n refl,
+)
+values_by_name p (inr (inr (inr (inr (inr (inr (inr h))))))) = (
+  λ n. no h.0 n refl,
+  λ n. no h.0 n refl,
+  λ n. no h.0 n refl,
+  λ n. no h.0 n refl,
+  λ n. no h.0 n refl,
+  λ n. no h.0 n refl,
+  λ n. no h.0 n refl,
+  λ _. h.1,
+)
 
 -- ---- numbers
 

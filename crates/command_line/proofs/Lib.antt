@@ -11,3 +11,4 @@ pub mod LoadEnds
 pub mod Printed
 pub mod Filled
 mod Examples
+pub mod FollowEnds

@@ -2,8 +2,8 @@
 use Rattle.std.proofs.Common.{◌≡◌, false, refl, arith, inl, inr}
 use Rattle.clap.specs.{Walk.Text, Simple.Shape, Simple.built_leaf, Simple.inherited, Simple.marked_built}
 use Rattle.clap.specs.Simple.{new_app, on_top, with_leaf_noted, with_rule}
-use Rattle.command_line.specs.CommandLine.{bank_app, digest_app, drive_app, export_app, file_rule, load_app}
-use Rattle.command_line.specs.CommandLine.{serve_app, statement_app}
+use Rattle.command_line.specs.CommandLine.{bank_app, digest_app, drive_app, export_app, file_rule, follow_app}
+use Rattle.command_line.specs.CommandLine.{load_app, log_app, serve_app, statement_app}
 use Rattle.command_line.proofs.{Levels.IsPlainLeaf, Rows.ArePlainRules}
 
 -- a command of the program with what building adds to it
@@ -38,6 +38,14 @@ file_and_requests = leaf_of digest_app.top
 abbrev pub file_and_after : Shape
 file_and_after = leaf_of export_app.top
 
+-- `log`, as built
+abbrev pub log_and_after : Shape
+log_and_after = leaf_of log_app.top
+
+-- `follow`, as built
+abbrev pub file_and_plan : Shape
+file_and_plan = leaf_of follow_app.top
+
 -- ---- their arguments are plain
 
 plain_leaf : (s : Shape) → ArePlainRules s.rules s.rules → s.arg_required_else_help ≡ false
@@ -69,6 +77,18 @@ digest_is_plain = plain_leaf file_and_requests (
 
 pub export_is_plain : IsPlainLeaf file_and_after
 export_is_plain = plain_leaf file_and_after (
+  (inl (refl, omega arith), refl, refl),
+  ((inl (refl, omega arith), refl, refl), ((inr refl, refl, refl), tt)),
+) refl refl refl
+
+pub log_is_plain : IsPlainLeaf log_and_after
+log_is_plain = plain_leaf log_and_after (
+  (inl (refl, omega arith), refl, refl),
+  ((inl (refl, omega arith), refl, refl), ((inr refl, refl, refl), tt)),
+) refl refl refl
+
+pub follow_is_plain : IsPlainLeaf file_and_plan
+follow_is_plain = plain_leaf file_and_plan (
   (inl (refl, omega arith), refl, refl),
   ((inl (refl, omega arith), refl, refl), ((inr refl, refl, refl), tt)),
 ) refl refl refl

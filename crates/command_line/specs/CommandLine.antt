@@ -111,9 +111,17 @@ digest_app = with_rule (with_rule (new_app (codes "digest")) file_rule) requests
 abbrev pub export_app : App
 export_app = with_rule (with_rule (new_app (codes "export")) file_rule) after_rule
 
+-- `log FILE [--after N]`
+abbrev pub log_app : App
+log_app = with_rule (with_rule (new_app (codes "log")) file_rule) after_rule
+
 -- `plan FILE`
 abbrev pub plan_app : App
 plan_app = with_rule (new_app (codes "plan")) file_rule
+
+-- `follow FILE CSV`
+abbrev pub follow_app : App
+follow_app = with_rule (with_rule (new_app (codes "follow")) file_rule) plan_rule
 
 -- `serve FILE ADDR [--connections N]`
 abbrev pub serve_app : App
@@ -145,7 +153,7 @@ bank_alone = let bank = new_app (codes "bank") in record bank {
 -- the commands of `bank`, in the order of its help
 abbrev pub bank_commands : List App
 bank_commands = init_app ∷ load_app ∷ post_app ∷ drive_app ∷ audit_app ∷ statement_app ∷ replay_app ∷ digest_app
-    ∷ export_app ∷ plan_app ∷ serve_app ∷ migrate_app ∷ encode_app ∷ decode_app ∷ []
+    ∷ export_app ∷ log_app ∷ plan_app ∷ follow_app ∷ serve_app ∷ migrate_app ∷ encode_app ∷ decode_app ∷ []
 
 -- the command line `bank` with these commands
 abbrev pub with_commands : App → List App → App

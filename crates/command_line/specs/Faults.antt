@@ -7,7 +7,9 @@ use Rattle.posting_rules.specs.declared.fault.Fault.TheVariants as bank
 use Rattle.posting_core.specs.declared.stream.StreamFault.{StreamFault}
 use Rattle.posting_core.specs.declared.stream.StreamFault.TheVariants as stream
 use Rattle.message_records.specs.Faults.{fault_text as reply_text}
-use Rattle.branch_loader.specs.Faults.{plan_text}
+use Rattle.branch_loader.specs.Faults.{other_text, plan_text}
+use Rattle.branch_loader.specs.declared.follow_fault.FollowFault.{FollowFault}
+use Rattle.branch_loader.specs.declared.follow_fault.FollowFault.TheVariants as follow
 use Rattle.branch_loader.specs.declared.fault.PlanFault.{PlanFault}
 use Rattle.branch_loader.specs.declared.fault.PlanFault.TheVariants as plan
 use Rattle.posting_sheets.specs.Faults.{sheet_text}
@@ -24,9 +26,10 @@ use Rattle.posting_rules.specs.declared.open_fault.OpenFault.TheVariants as open
 use Rattle.command_line.specs.declared.fault.CommandFault.{CommandFault}
 use Rattle.command_line.specs.declared.fault.CommandFault.TheVariants as fault
 use Rattle.command_line.specs.declared.status.Status.{Status}
-use Rattle.command_line.specs.declared.status.Status.TheVariants.{System, Input}
+use Rattle.command_line.specs.declared.status.Status.TheVariants.{Differs, System, Input}
 
--- the system's faults end the program with one status, and what came in with another
+-- the system's faults end the program with one status, what came in with another, and a bank that can't follow with a
+-- third
 abbrev pub status_of : CommandFault → Status
 status_of fault.Store = System
 status_of fault.Memory = System
@@ -37,6 +40,8 @@ status_of (fault.Truncated count) = Input
 status_of (fault.Plan plan) = Input
 status_of (fault.Postings sheet) = Input
 status_of (fault.Reply place bad) = Input
+status_of (fault.NoEntry count) = Input
+status_of (fault.Differs other) = Differs
 status_of fault.AlreadyBank = Input
 status_of fault.NoBank = Input
 status_of fault.Foreign = Input
@@ -46,7 +51,7 @@ status_of (fault.NoAccount account) = Input
 status_of (fault.NoRequest count) = Input
 status_of fault.Network = System
 
--- the text of a fault; that of a plan's, of a sheet's and of a reply's fault is its own
+-- the text of a fault; that of a plan's, of a sheet's and of a reply's fault, and of another reply, is its own
 abbrev pub fault_text : CommandFault → List ℕ
 fault_text fault.Store = codes "store fault"
 fault_text fault.Memory = codes "no memory"
@@ -57,6 +62,8 @@ fault_text (fault.Truncated count) = codes "truncated " ++ decimal count ++ code
 fault_text (fault.Plan plan) = plan_text plan
 fault_text (fault.Postings sheet) = sheet_text sheet
 fault_text (fault.Reply place bad) = codes "reply " ++ decimal place ++ codes " " ++ reply_text bad
+fault_text (fault.NoEntry count) = codes "no entry after " ++ decimal count
+fault_text (fault.Differs other) = other_text other
 fault_text fault.AlreadyBank = codes "already a bank"
 fault_text fault.NoBank = codes "no bank"
 fault_text fault.Foreign = codes "foreign tables"
@@ -108,6 +115,15 @@ fault_of_replies (replies.Reply place bad) = fault.Reply place bad
 fault_of_replies replies.Read = fault.Read
 fault_of_replies replies.Write = fault.Write
 fault_of_replies replies.Memory = fault.Memory
+
+-- why a log was followed no further
+abbrev pub fault_of_following : FollowFault → CommandFault
+fault_of_following (follow.Truncated count) = fault.Truncated count
+fault_of_following follow.Read = fault.Read
+fault_of_following (follow.NoEntry count) = fault.NoEntry count
+fault_of_following (follow.Differs other) = fault.Differs other
+fault_of_following follow.Memory = fault.Memory
+fault_of_following (follow.Bank cause) = fault_of_bank cause
 
 -- why a drive ended before its last record
 abbrev pub fault_of_drive : DriveFault → CommandFault

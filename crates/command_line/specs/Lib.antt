@@ -9,3 +9,4 @@ pub mod Auditing
 pub mod Translating
 pub mod Replaying
 pub mod Prompting
+pub mod Following

@@ -40,6 +40,14 @@ driven_line count driven = line (codes "records " ++ decimal count
     ++ codes " posted " ++ decimal driven.posted
     ++ codes " refused " ++ decimal driven.refused)
 
+-- a bank that is to follow another one has so many requests
+abbrev pub after_line : ℕ → List ℕ
+after_line requests = line (codes "after " ++ decimal requests)
+
+-- so many entries were followed
+abbrev pub followed_line : ℕ → List ℕ
+followed_line entries = line (codes "followed " ++ decimal entries)
+
 -- a bank was carried over from one version to another
 abbrev pub migrated_line : ℤ → ℤ → List ℕ
 migrated_line from to = line (codes "migrated " ++ signed_decimal from ++ codes " to " ++ signed_decimal to)

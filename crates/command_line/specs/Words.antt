@@ -14,8 +14,8 @@ use Rattle.command_line.specs.CommandLine.{MAX_REQUESTS, MAX_SEED, bank_app}
 use Rattle.command_line.specs.declared.limits.TheConstants.{MAX_CONNECTIONS}
 use Rattle.command_line.specs.declared.reading.Command.{Command}
 use Rattle.command_line.specs.declared.reading.Command.TheVariants.{Audit, Decode, Digest, Drive, Encode, Export}
-use Rattle.command_line.specs.declared.reading.Command.TheVariants.{Init, Load, Migrate, Plan, Post, Replay, Serve}
-use Rattle.command_line.specs.declared.reading.Command.TheVariants.{Statement}
+use Rattle.command_line.specs.declared.reading.Command.TheVariants.{Follow, Init, Load, Log, Migrate, Plan, Post}
+use Rattle.command_line.specs.declared.reading.Command.TheVariants.{Replay, Serve, Statement}
 
 -- the number that a text of digits spells; a plus may come before them
 abbrev pub number_of : Text → ℕ
@@ -101,7 +101,11 @@ IsCommandOf p (Digest file requests) = (p.0 ≡ codes "digest") × IsText (codes
     × IsNumber (codes "requests") p.1 requests
 IsCommandOf p (Export file after) = (p.0 ≡ codes "export") × IsText (codes "file") p.1 file.now
     × IsNumberIfAny (codes "after") p.1 after
+IsCommandOf p (Log file after) = (p.0 ≡ codes "log") × IsText (codes "file") p.1 file.now
+    × IsNumberIfAny (codes "after") p.1 after
 IsCommandOf p (Plan file) = (p.0 ≡ codes "plan") × IsText (codes "file") p.1 file.now
+IsCommandOf p (Follow file plan) = (p.0 ≡ codes "follow") × IsText (codes "file") p.1 file.now
+    × IsText (codes "plan") p.1 plan.now
 IsCommandOf p (Serve file address connections) = (p.0 ≡ codes "serve") × IsText (codes "file") p.1 file.now
     × IsText (codes "address") p.1 address.now
     × (connections ≡ spelled (one_of (codes "connections") p.1))
@@ -135,6 +139,8 @@ HasMoreValues p = ((p.0 ≡ codes "load") × HasText (codes "plan") p.1)
     × HasNumberIfAny (codes "connections") 1 MAX_CONNECTIONS p.1)
     ⊎ ((p.0 ≡ codes "digest") × HasNumber (codes "requests") 0 MAX_REQUESTS p.1)
     ⊎ ((p.0 ≡ codes "export") × HasNumberIfAny (codes "after") 0 MAX_REQUESTS p.1)
+    ⊎ ((p.0 ≡ codes "log") × HasNumberIfAny (codes "after") 0 MAX_REQUESTS p.1)
+    ⊎ ((p.0 ≡ codes "follow") × HasText (codes "plan") p.1)
 
 -- it is that of a command on a file, and each of its arguments has a value where it is required
 abbrev pub IsCompleteOnFile : Text × List Row → Type 0

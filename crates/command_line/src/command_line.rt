@@ -2,7 +2,8 @@
 ghost use Rattle.std.specs.Prelude.{◌≡◌, IfOk, false};
 ghost use Rattle.clap.specs.Words.{App, Rule, app_of, new_app, rule_of, with_rule, with_subcommand};
 ghost use Rattle.command_line.specs.CommandLine.{IsApp, bank_alone, bank_app, decode_app, digest_app, drive_app};
-ghost use Rattle.command_line.specs.CommandLine.{export_app, file_rule, flag_rule, init_app, load_app, number_rule, optional_rule};
+ghost use Rattle.command_line.specs.CommandLine.{export_app, file_rule, flag_rule, follow_app, init_app, load_app};
+ghost use Rattle.command_line.specs.CommandLine.{log_app, number_rule, optional_rule};
 ghost use Rattle.command_line.specs.CommandLine.{required_rule, serve_app, statement_app};
 
 use crate::limits::MAX_CONNECTIONS;
@@ -26,7 +27,9 @@ pub fn bank_command<'a>(alloc: Global) -> Result<Command<'a>, AllocError>
     let bank = with_command(bank, command_on_file(alloc, "replay", texts::REPLAY));
     let bank = with_command(bank, digest_command(alloc));
     let bank = with_command(bank, export_command(alloc));
+    let bank = with_command(bank, log_command(alloc));
     let bank = with_command(bank, command_on_file(alloc, "plan", texts::PLAN));
+    let bank = with_command(bank, follow_command(alloc));
     let bank = with_command(bank, serve_command(alloc));
     let bank = with_command(bank, command_on_file(alloc, "migrate", texts::MIGRATE));
     let bank = with_command(bank, command_alone(alloc, "encode", texts::ENCODE));
@@ -137,6 +140,22 @@ fn export_command<'a>(alloc: Global) -> Result<Command<'a>, AllocError>
     let export = command_on_file(alloc, "export", texts::EXPORT);
     let after = optional_number(alloc, "after", "N", 0, u64::MAX, texts::AFTER);
     with_argument(export, after)
+}
+
+fn log_command<'a>(alloc: Global) -> Result<Command<'a>, AllocError>
+    ensures { IfOk result (IsApp log_app) }
+{
+    let log = command_on_file(alloc, "log", texts::LOG);
+    let after = optional_number(alloc, "after", "N", 0, u64::MAX, texts::AFTER);
+    with_argument(log, after)
+}
+
+fn follow_command<'a>(alloc: Global) -> Result<Command<'a>, AllocError>
+    ensures { IfOk result (IsApp follow_app) }
+{
+    let follow = command_on_file(alloc, "follow", texts::FOLLOW);
+    let plan = required_argument(alloc, "plan", "CSV", texts::PLAN_FILE);
+    with_argument(follow, plan)
 }
 
 fn serve_command<'a>(alloc: Global) -> Result<Command<'a>, AllocError>

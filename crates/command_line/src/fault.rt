@@ -2,23 +2,23 @@
 ghost use Rattle.std.specs.Prelude.{◌≡◌};
 ghost use Rattle.std.specs.IoError.{error_kind};
 ghost use Rattle.command_line.specs.Looking.{IsOfLook, IsOfPlanFile, fault_of_look, fault_of_plan_file};
-ghost use Rattle.command_line.specs.Faults.{fault_of_bank, fault_of_drive, fault_of_opening, fault_of_plan};
-ghost use Rattle.command_line.specs.Faults.{fault_of_replies, fault_of_serving, fault_of_sheet, fault_of_stream};
-ghost use Rattle.command_line.specs.Faults.{status_of};
+ghost use Rattle.command_line.specs.Faults.{fault_of_bank, fault_of_drive, fault_of_following, fault_of_opening};
+ghost use Rattle.command_line.specs.Faults.{fault_of_plan, fault_of_replies, fault_of_serving, fault_of_sheet};
+ghost use Rattle.command_line.specs.Faults.{fault_of_stream, status_of};
 
 use crate::status::Status;
-use branch_loader::PlanFault;
+use branch_loader::{FollowFault, OtherReply, PlanFault};
 use counter_http::ListenFault;
 use load_driver::DriveFault;
 use message_records::{Account, BadReply};
-use posting_core::{Fault, OpenFault, Rule, StreamFault};
+use posting_core::{Count, Fault, OpenFault, Rule, StreamFault};
 use posting_sheets::{RepliesFault, SheetFault};
 use std::fmt;
 use std::io::{self, ErrorKind};
 
 /// Why a command ended before its work was done. `{}` writes the text that follows `bank: ` on standard
 /// error, and [`CommandFault::status`] gives the exit status: 3 where the machine or the file failed, 4 where
-/// what came in or the file isn't what the command takes. What was acknowledged before a fault is kept.
+/// what came in or the file isn't what the command takes, 5 where a bank can't follow another one. What was acknowledged before a fault is kept.
 #[derive(Clone, Copy, Debug, PartialEq, Eq)]
 pub enum CommandFault {
     /// Status 3. The store failed, the file is in use by another process, or it can't be opened.
@@ -31,9 +31,9 @@ pub enum CommandFault {
     Read,
     /// Status 3. Standard output failed. Records that were read were submitted.
     Write,
-    /// Status 4. Standard input ended so many bytes into a record, or into a reply. Those before it were answered, or
-    /// written.
-    Truncated(u8),
+    /// Status 4. Standard input ended so many bytes into a record, a reply or an entry. Those before it were answered,
+    /// written or posted.
+    Truncated(u16),
     /// Status 4. The plan is no table of branches and accounts, or can't be read. No branch was opened.
     Plan(PlanFault),
     /// Status 4. The sheet of postings is none, or a row of it. The records of the rows before it were written.
@@ -41,6 +41,10 @@ pub enum CommandFault {
     /// Status 4. The bytes are no reply, which is counted from 1, and this field is the first that shows it. The
     /// lines of those before it were written.
     Reply(u64, BadReply),
+    /// Status 4. What came after so many entries is none. They were posted.
+    NoEntry(Count),
+    /// Status 5. An entry got another reply than the one that it has. Nothing that comes after was posted.
+    Differs(OtherReply),
     /// Status 4. `init` was given a file that has a bank.
     AlreadyBank,
     /// Status 4. There is no such file, or it has no bank.
@@ -84,7 +88,7 @@ impl CommandFault {
         }
     }
 
-    /// How the program ends after this fault: [`Status::System`] or [`Status::Input`].
+    /// How the program ends after this fault: [`Status::System`], [`Status::Input`] or [`Status::Differs`].
     pub fn status(self) -> Status
         ensures { result ≡ status_of self }
     {
@@ -99,6 +103,7 @@ impl CommandFault {
             | CommandFault::Plan(_)
             | CommandFault::Postings(_)
             | CommandFault::Reply(_, _)
+            | CommandFault::NoEntry(_)
             | CommandFault::AlreadyBank
             | CommandFault::NoBank
             | CommandFault::Foreign
@@ -106,6 +111,7 @@ impl CommandFault {
             | CommandFault::NoBranches
             | CommandFault::NoAccount(_)
             | CommandFault::NoRequest(_) => Status::Input,
+            CommandFault::Differs(_) => Status::Differs,
         }
     }
 }
@@ -130,6 +136,8 @@ impl fmt::Display for CommandFault {
             CommandFault::Plan(fault) => write!(f, "{fault}"),
             CommandFault::Postings(fault) => write!(f, "{fault}"),
             CommandFault::Reply(place, bad) => write!(f, "reply {place} {bad}"),
+            CommandFault::NoEntry(count) => write!(f, "no entry after {count}"),
+            CommandFault::Differs(other) => write!(f, "{other}"),
             CommandFault::AlreadyBank => write!(f, "already a bank"),
             CommandFault::NoBank => write!(f, "no bank"),
             CommandFault::Foreign => write!(f, "foreign tables"),
@@ -191,7 +199,7 @@ impl From<StreamFault> for CommandFault {
 
     fn from(fault: StreamFault) -> CommandFault {
         match fault {
-            StreamFault::Truncated(count) => CommandFault::Truncated(count),
+            StreamFault::Truncated(count) => CommandFault::Truncated(u16::from(count)),
             StreamFault::Read => CommandFault::Read,
             StreamFault::Write => CommandFault::Write,
             StreamFault::Bank(fault) => CommandFault::from(fault),
@@ -219,11 +227,27 @@ impl From<RepliesFault> for CommandFault {
 
     fn from(fault: RepliesFault) -> CommandFault {
         match fault {
-            RepliesFault::Truncated(count) => CommandFault::Truncated(count),
+            RepliesFault::Truncated(count) => CommandFault::Truncated(u16::from(count)),
             RepliesFault::Reply(place, bad) => CommandFault::Reply(place, bad),
             RepliesFault::Read => CommandFault::Read,
             RepliesFault::Write => CommandFault::Write,
             RepliesFault::Memory => CommandFault::Memory,
+        }
+    }
+}
+
+/// Why `follow` ended before its input did, or within an entry.
+impl From<FollowFault> for CommandFault {
+    ghost from_gives = { λ following fault. fault ≡ fault_of_following following };
+
+    fn from(fault: FollowFault) -> CommandFault {
+        match fault {
+            FollowFault::Truncated(count) => CommandFault::Truncated(count),
+            FollowFault::Read => CommandFault::Read,
+            FollowFault::NoEntry(count) => CommandFault::NoEntry(count),
+            FollowFault::Differs(other) => CommandFault::Differs(other),
+            FollowFault::Memory => CommandFault::Memory,
+            FollowFault::Bank(fault) => CommandFault::from(fault),
         }
     }
 }

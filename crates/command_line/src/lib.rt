@@ -1,6 +1,6 @@
 //! The command line of the program: which words it takes, and which command on which files, with which
 //! numbers, they ask for; how a command ends (`status`); and what the commands do with any counter
-//! (`driving`, `loading`, `serving`). It opens no file. The words are matched by `clap`, which also lays out
+//! (`driving`, `loading`, `following`, `serving`). It opens no file. The words are matched by `clap`, which also lays out
 //! the help and the faults. The function `first_words` of `bank_trials`, to which its script gives the words
 //! `bank drive bank.db --seed 7 --count 1000`, finds the file, 7 and 1000 in them:
 //!
@@ -27,6 +27,7 @@ mod auditing;
 mod command_line;
 mod driving;
 mod fault;
+mod following;
 mod limits;
 mod lines;
 mod loading;
@@ -41,10 +42,11 @@ mod translating;
 pub use auditing::print_audit;
 pub use driving::drive_into;
 pub use fault::CommandFault;
+pub use following::follow_into;
 pub use limits::MAX_CONNECTIONS;
 pub use lines::{
-    ListeningLine, explain, print_already, print_created, print_driven, print_listening,
-    print_loaded, print_migrated, tell, tell_no_words,
+    ListeningLine, explain, print_after, print_already, print_created, print_driven,
+    print_followed, print_listening, print_loaded, print_migrated, tell, tell_no_words,
 };
 pub use loading::{Plans, load_from, load_into};
 pub use prompting::prompt;

@@ -7,8 +7,8 @@ ghost use Rattle.posting_core.specs.believed.Told.{EndsWith};
 ghost use Rattle.posting_core.specs.Told.{HasWriteFailed, IsFlush};
 ghost use Rattle.command_line.specs.Faults.{status_of};
 ghost use Rattle.command_line.specs.Lines.{IsHelpOrVersion, IsShown, PrintsLine, WritesOut, already_line};
-ghost use Rattle.command_line.specs.Lines.{created_line, driven_line, fault_line, listening_line, loaded_line};
-ghost use Rattle.command_line.specs.Lines.{migrated_line, no_words_line};
+ghost use Rattle.command_line.specs.Lines.{after_line, created_line, driven_line, fault_line, followed_line};
+ghost use Rattle.command_line.specs.Lines.{listening_line, loaded_line, migrated_line, no_words_line};
 ghost use Rattle.command_line.specs.Statuses.{status_of_no_words};
 ghost use Rattle.report_contents.specs.Written.{AppendsPart};
 
@@ -19,7 +19,7 @@ use branch_loader::Loaded;
 use clap::error::ErrorKind;
 use itoa::Buffer;
 use load_driver::Driven;
-use posting_core::{Sink, write_out};
+use posting_core::{Count, Sink, write_out};
 use std::fmt::Write as WriteText;
 use std::io;
 use std::io::Write;
@@ -63,6 +63,26 @@ pub fn print_driven<W: Sink>(count: u64, driven: Driven, output: &mut W) -> Resu
     ensures failed { OnErr result (HasWriteFailed (W.told output.old) (W.told output.new)) }
 {
     print_line(driven_text(count, driven).as_str(), output)
+}
+
+/// Prints how many requests a bank has that is to follow another one, as `after 1000`.
+pub fn print_after<W: Sink>(requests: u64, output: &mut W) -> Result<(), CommandFault>
+    ensures prints { PrintsLine (after_line requests) (W.contents output.old) (W.contents output.new)
+        (W.told output.old) (W.told output.new) result }
+    ensures fault { OnErr result (IsErrOf result CommandFault.Write) }
+    ensures failed { OnErr result (HasWriteFailed (W.told output.old) (W.told output.new)) }
+{
+    print_line(after_text(requests).as_str(), output)
+}
+
+/// Prints how many entries were followed, as `followed 1000`.
+pub fn print_followed<W: Sink>(entries: Count, output: &mut W) -> Result<(), CommandFault>
+    ensures prints { PrintsLine (followed_line entries) (W.contents output.old) (W.contents output.new)
+        (W.told output.old) (W.told output.new) result }
+    ensures fault { OnErr result (IsErrOf result CommandFault.Write) }
+    ensures failed { OnErr result (HasWriteFailed (W.told output.old) (W.told output.new)) }
+{
+    print_line(followed_text(entries).as_str(), output)
 }
 
 /// Prints from which version to which a bank was carried over, as `migrated 1 to 3`.
@@ -154,6 +174,30 @@ fn driven_text(count: u64, driven: Driven) -> ArrayString<LINE>
     line.push_str(digits.format(driven.posted));
     line.push_str(" refused ");
     line.push_str(digits.format(driven.refused));
+    line.push_str("\n");
+    line
+}
+
+// The line that `follow` prints first.
+fn after_text(requests: u64) -> ArrayString<LINE>
+    ensures { result.bytes ≡ after_line requests }
+{
+    let mut digits = Buffer::new();
+    let mut line = ArrayString::new();
+    line.push_str("after ");
+    line.push_str(digits.format(requests));
+    line.push_str("\n");
+    line
+}
+
+// The line that it prints at the end.
+fn followed_text(entries: Count) -> ArrayString<LINE>
+    ensures { result.bytes ≡ followed_line entries }
+{
+    let mut digits = Buffer::new();
+    let mut line = ArrayString::new();
+    line.push_str("followed ");
+    line.push_str(digits.format(entries));
     line.push_str("\n");
     line
 }

@@ -24,6 +24,7 @@ fn prompt_text(command: &Command<'_>) -> &'static str
 {
     match *command {
         Command::Post { .. } => "bank: waiting for records of 100 bytes; end with Ctrl-D\n",
+        Command::Follow { .. } => "bank: waiting for entries of 308 bytes; end with Ctrl-D\n",
         Command::Encode => "bank: waiting for a sheet of postings; end with Ctrl-D\n",
         Command::Decode { .. } => "bank: waiting for replies of 200 bytes; end with Ctrl-D\n",
         _ => "",

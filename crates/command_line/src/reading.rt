@@ -61,9 +61,19 @@ pub enum Command<'a> {
         file: &'a str,
         after: u64,
     },
+    /// Write the requests of the file's bank after so many as entries of a log.
+    Log {
+        file: &'a str,
+        after: u64,
+    },
     /// Write the open branches of the file's bank as a plan.
     Plan {
         file: &'a str,
+    },
+    /// Take the file's bank along the log of another one, whose entries are the standard input, by a plan.
+    Follow {
+        file: &'a str,
+        plan: &'a str,
     },
     /// Serve the file's bank over HTTP at this address, to so many connections, or to all that come.
     Serve {
@@ -187,6 +197,14 @@ fn command_with_values<'a>(name: &str, file: &'a str, values: &ArgMatches<'a>) -
         "export" => {
             let after = number_if_any(values, "after");
             Command::Export { file, after }
+        }
+        "log" => {
+            let after = number_if_any(values, "after");
+            Command::Log { file, after }
+        }
+        "follow" => {
+            let plan = text_in(values, "plan");
+            Command::Follow { file, plan }
         }
         "serve" => {
             let address = text_in(values, "address");

@@ -1,6 +1,6 @@
 //! How a command of the program `bank` ends. One that did its work prints a line, if it has one, and ends
 //! with the status 0 or 5. One that didn't writes `bank: ` and the text of its [`CommandFault`] to standard
-//! error, and ends with the status 3 or 4. Words that are no command end with 2. The function `first_ending`
+//! error, and ends with the status 3 or 4, or 5 of `follow`. Words that are no command end with 2. The function `first_ending`
 //! of `bank_trials`, which its script runs, is the end of `init`:
 //!
 //! ```rust
@@ -35,8 +35,8 @@ pub enum Status {
     System,
     /// 4: what came in, or the file, isn't what the command takes.
     Input,
-    /// 5: `load` did its work, and a branch of the plan is open with another count of accounts; or `replay` did,
-    /// and the tables aren't what the rules give.
+    /// 5: `load` did its work, and a branch of the plan is open with another count of accounts; `replay` did, and the
+    /// tables aren't what the rules give; or `follow` got another reply than an entry's.
     Differs,
     /// 5: `audit` did its work, and the books don't agree (TPC-B clause 2).
     Inconsistent,

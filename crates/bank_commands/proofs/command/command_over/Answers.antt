@@ -1,6 +1,6 @@
 -- What each command did is what was asked for.
 use Rattle.std.proofs.Common.{refl, sym}
-use Rattle.bank_commands.proofs.Told.{prints_none, states_done, written_done}
+use Rattle.bank_commands.proofs.{FollowTold.logs_done, Told.prints_none, Told.states_done, Told.written_done}
 use Rattle.bank_commands.proofs.command.command_over.Goals as goal
 
 pub returns-in-Init : goal.returns-in-Init
@@ -94,6 +94,22 @@ returns-in-Plan g c =
       clock = refl;
       idle = it.idle;
     }
+
+pub returns-in-Log : goal.returns-in-Log
+returns-in-Log g c =
+    let it = c.log_over.ensures in
+    rw c.in-Log.is record {
+      does = it.logs;
+      tells = logs_done _ _ _ _ _ _ c.log_over.result.told it.logs;
+      input = refl;
+      clock = refl;
+      idle = it.idle;
+    }
+
+pub returns-in-Follow : goal.returns-in-Follow
+returns-in-Follow g c =
+    let it = c.follow_over.ensures in
+    rw c.in-Follow.is record { does = it.follows; tells = it.prints; input = tt; clock = refl; idle = it.idle }
 
 pub returns-in-Serve : goal.returns-in-Serve
 returns-in-Serve g c =

@@ -1,7 +1,7 @@
 -- Each command is added in its turn.
 use Rattle.command_line.specs.CommandLine.{audit_app, bank_alone, decode_app, digest_app, drive_app, encode_app}
-use Rattle.command_line.specs.CommandLine.{export_app, init_app, load_app, migrate_app, plan_app, post_app}
-use Rattle.command_line.specs.CommandLine.{replay_app, serve_app, statement_app}
+use Rattle.command_line.specs.CommandLine.{export_app, follow_app, init_app, load_app, log_app, migrate_app}
+use Rattle.command_line.specs.CommandLine.{plan_app, post_app, replay_app, serve_app, statement_app}
 use Rattle.command_line.proofs.command_line.bank_command.Goals as goal
 
 pub returns : goal.returns
@@ -15,8 +15,10 @@ returns c =
     let replay = c.with_command-bank-7.ensures _ replay_app statement c.command_on_file-3.ensures in
     let digest = c.with_command-bank-8.ensures _ digest_app replay c.digest_command.ensures in
     let export = c.with_command-bank-9.ensures _ export_app digest c.export_command.ensures in
-    let plan = c.with_command-bank-10.ensures _ plan_app export c.command_on_file-4.ensures in
-    let serve = c.with_command-bank-11.ensures _ serve_app plan c.serve_command.ensures in
-    let migrate = c.with_command-bank-12.ensures _ migrate_app serve c.command_on_file-5.ensures in
-    let encode = c.with_command-bank-13.ensures _ encode_app migrate c.command_alone.ensures in
+    let log = c.with_command-bank-10.ensures _ log_app export c.log_command.ensures in
+    let plan = c.with_command-bank-11.ensures _ plan_app log c.command_on_file-4.ensures in
+    let follow = c.with_command-bank-12.ensures _ follow_app plan c.follow_command.ensures in
+    let serve = c.with_command-bank-13.ensures _ serve_app follow c.serve_command.ensures in
+    let migrate = c.with_command-bank-14.ensures _ migrate_app serve c.command_on_file-5.ensures in
+    let encode = c.with_command-bank-15.ensures _ encode_app migrate c.command_alone.ensures in
     c.with_command.ensures _ decode_app encode c.decode_command.ensures

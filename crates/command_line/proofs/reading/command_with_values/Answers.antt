@@ -84,6 +84,21 @@ returns-in-export-clause-command c =
     let has = (values_by_name (c.args.name.now, rows_of found) c.requires.more).5 c.in-export.is in
     (c.in-export.is, c.requires.file, c.number_if_any-after.ensures 0 MAX_REQUESTS has)
 
+pub returns-in-log-clause-command : goal.returns-in-log-clause-command
+returns-in-log-clause-command c =
+    let found = found_of c.args.values.now in
+    let has = (values_by_name (c.args.name.now, rows_of found) c.requires.more).6 c.in-log.is in
+    (c.in-log.is, c.requires.file, c.number_if_any-after-in-log.ensures 0 MAX_REQUESTS has)
+
+-- ---- a plan that is followed
+
+pub text_in-plan-requires-in-follow : goal.text_in-plan-requires-in-follow
+text_in-plan-requires-in-follow c =
+    (values_by_name (c.args.name.now, rows_of (found_of c.args.values.now)) c.requires.more).7 c.in-follow.is
+
+pub returns-in-follow-clause-command : goal.returns-in-follow-clause-command
+returns-in-follow-clause-command c = (c.in-follow.is, c.requires.file, c.text_in-plan-in-follow.ensures)
+
 -- ---- an address and a count of connections
 
 pub text_in-address-requires : goal.text_in-address-requires

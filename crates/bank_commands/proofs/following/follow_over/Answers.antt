@@ -1,0 +1,29 @@
+-- The bank that was found is the one that followed.
+use Rattle.std.proofs.{Common.refl, lemmas.Result.err_from_is_err_and}
+use Rattle.command_line.specs.Working.{known_source}
+use Rattle.bank_commands.proofs.{FollowTold.prints_follow, Spared.done_over, Spared.none_over}
+use Rattle.bank_commands.proofs.following.follow_over.Goals as goal
+
+pub returns-in-Err : goal.returns-in-Err
+returns-in-Err g c =
+    let it = c.in-Err.ensures in
+    record {
+      follows = none_over g.S.Store c.args.conn c.in-Err.ended.conn c.in-Err.ended.told it.missed (refl, refl);
+      prints = rw (err_from_is_err_and c.in-Err.ended.told it.missed).1 tt;
+      idle = it.idle;
+    }
+
+pub returns : goal.returns
+returns g c =
+    let it = c.follow_found.ensures in
+    record {
+      follows = done_over g.S.Store c.args.conn c.release.result _ c.in-Ok.bank c.follow_found.new.bank
+          c.in-Ok.ensures.found (c.follow_found.result, c.done-told.ensures, it.follows) it.spares c.release.ensures.same;
+      prints = prints_follow (g.R.Source.remaining c.args.input.now) (g.R.Source.remaining c.follow_found.new.input)
+          (g.R.Source.told c.args.input.now) (g.R.Source.told c.follow_found.new.input)
+          (g.W.Sink.contents c.args.output.now) (g.W.Sink.contents c.follow_found.new.output) _ _ g.S.Store
+          (g.P.Plans.is_named c.args.plans.now c.args.plan.now)
+          (known_source g.P.Plan.Source.remaining g.P.Plan.Source.told) c.in-Ok.bank c.follow_found.new.bank
+          c.follow_found.result c.done-told.result c.done-told.ensures it.follows;
+      idle = c.release.ensures.idle;
+    }

@@ -1,0 +1,32 @@
+-- The bank that was found is the one whose entries were written.
+use Rattle.std.proofs.Common.{refl}
+use Rattle.bank_store.proofs.AsFound.{as_found_spares}
+use Rattle.bank_commands.proofs.Spared.{done_over, none_over}
+use Rattle.bank_commands.proofs.following.log_over.Goals as goal
+
+pub returns-in-Err : goal.returns-in-Err
+returns-in-Err g c =
+    let it = c.in-Err.ensures in
+    record {
+      logs = none_over g.S.Store c.args.conn c.in-Err.ended.conn c.in-Err.ended.told it.missed refl;
+      idle = it.idle;
+    }
+
+pub returns : goal.returns
+returns g c =
+    let it = c.write_log.ensures in
+    record {
+      logs = done_over g.S.Store c.args.conn c.release.result _ c.in-Ok.bank c.write_log.new.bank c.in-Ok.ensures.found (
+        c.write_log.result,
+        c.logged-told.ensures,
+        record {
+          rows = it.rows;
+          log = it.log;
+          writer = it.writer;
+          bank = it.bank;
+          up = it.up;
+          leaves = it.leaves;
+        },
+      ) (as_found_spares g.S.Store c.in-Ok.bank c.write_log.new.bank it.leaves) c.release.ensures.same;
+      idle = c.release.ensures.idle;
+    }

@@ -1,0 +1,105 @@
+-- What the commands that write a log, and that follow one, do over the connection conn, which they hand back as back,
+-- and how they end: told is the status or the fault. r and r' are the known bytes of the input before and after, and w
+-- and w' those of the output; what the calls of these are known to have returned is q and q', and t and t'.
+use Rattle.std.specs.Prelude.{◌≡◌, ◌++◌, ℕ, List, length, Option, Result, Ok, Err, IfOk, OnOk, if◌then◌else◌, nat_lt}
+use Rattle.std.specs.Io.KnownBytes.{Appends, Keeps}
+use Rattle.sqlite.specs.Held.{Held}
+use Rattle.sqlite_trees.specs.declared.store.Store.{Ghosts}
+use Rattle.posting_rules.specs.believed.Commands.{Command}
+use Rattle.posting_rules.specs.believed.Counter.{ShowsLog}
+use Rattle.posting_rules.specs.declared.fault.Fault.{Fault}
+use Rattle.posting_core.specs.LogEntries.{log_entries}
+use Rattle.posting_core.specs.Told.{WriteTold}
+use Rattle.posting_core.specs.believed.Told.{ReadTold}
+use Rattle.walked_rows.specs.KeptRows.{HasKept, KeptItem}
+use Rattle.bank_store.specs.Leaving.{LeavesAsFound, TakesNone}
+use Rattle.bank_store.specs.believed.Down.{bank_reason}
+use Rattle.bank_store.specs.believed.Seen.{bank_seen, database_of}
+use Rattle.bank_store.specs.believed.Sparing.{SparesOtherTables}
+use Rattle.bank_store.specs.Seen.{fault_of}
+use Rattle.bank_store.specs.declared.bank.Bank.{Bank}
+use Rattle.bank_replays.specs.Logs.{LogsEntries, LogsRows, without_count}
+use Rattle.bank_replays.specs.Replays.{HasAnswered}
+use Rattle.bank_replays.specs.Writing.{LeavesWriter}
+use Rattle.bank_replays.specs.declared.fault.ReplayFault.{ReplayFault}
+use Rattle.bank_replays.specs.declared.fault.ReplayFault.TheVariants as written
+use Rattle.command_line.specs.Faults.{fault_of_bank}
+use Rattle.command_line.specs.Following.{FollowsOver}
+use Rattle.command_line.specs.Lines.{after_line, followed_line}
+use Rattle.command_line.specs.Working.{done_after}
+use Rattle.command_line.specs.declared.fault.CommandFault.{CommandFault}
+use Rattle.command_line.specs.declared.fault.CommandFault.TheVariants as faults
+use Rattle.command_line.specs.declared.status.Status.{Status}
+use Rattle.command_line.specs.declared.status.Status.TheVariants.{Done}
+use Rattle.bank_commands.specs.Over.{FindsOver}
+
+-- ---- a log
+
+-- how the entries after the first so many end the command
+abbrev pub ended_by_log : ℕ → Result ℕ ReplayFault → Result Status CommandFault
+ended_by_log after (Ok requests) = if nat_lt requests after then Err (faults.NoRequest after) else Ok Done
+ended_by_log after (Err written.Write) = Err faults.Write
+ended_by_log after (Err (written.Bank cause)) = Err (fault_of_bank cause)
+
+-- they were written, whatever rows the file has
+pub record LogsBank {S : Type 0} (g : Ghosts S) (after : ℕ) (w w' : Option (List ℕ))
+    (t t' : Option (List WriteTold)) (ends : Result ℕ ReplayFault) (old new : Bank S g) : Type 0 where
+  pub rows : (bank_seen g new).honest → (all : List KeptItem) → HasKept (database_of g old) all
+      → LogsRows after all w w' ends
+  pub log : (bank_seen g new).honest → (log : List Command) → ShowsLog (bank_seen g old) log
+      → LogsEntries after (log_entries log) w w' ends
+  pub writer : LeavesWriter t t' (without_count ends)
+  pub bank : TakesNone (bank_seen g old) (bank_seen g new) (HasAnswered ends)
+  pub up : fault_of new ≡ fault_of old
+  pub leaves : LeavesAsFound g old new
+
+abbrev pub LogsOver : {S : Type 0} (g : Ghosts S) → (conn back : Held S) → ℕ → (w w' : Option (List ℕ))
+    → (t t' : Option (List WriteTold)) → Result Status CommandFault → Type 0
+LogsOver g conn back after w w' t t' told =
+    FindsOver g conn back told (w' ≡ w)
+    (λ old new. (ends : Result ℕ ReplayFault) × (told ≡ ended_by_log after ends)
+    × LogsBank g after w w' t t' ends old new)
+
+-- ---- a log is followed
+
+-- the requests of a bank were counted
+pub record CountsBank {S : Type 0} (g : Ghosts S) (counted : Result ℕ Fault) (old new : Bank S g) : Type 0 where
+  pub log : (bank_seen g new).honest → (log : List Command) → ShowsLog (bank_seen g old) log
+      → IfOk counted (λ count. count ≡ length (log_entries log))
+  pub bank : TakesNone (bank_seen g old) (bank_seen g new) (HasAnswered counted)
+  pub same : (bank_seen g new).honest → OnOk counted (database_of g new ≡ database_of g old)
+  pub up : fault_of new ≡ fault_of old
+  pub leaves : LeavesAsFound g old new
+
+-- and then the log was followed; or they couldn't be counted, and nothing was done
+abbrev pub FollowsCounted : {S P : Type 0} (g : Ghosts S) → (IsNamed : P → Type 0)
+    → (known : P → Option (List ℕ) × Option (List ReadTold)) → (r r' : Option (List ℕ))
+    → (q q' : Option (List ReadTold)) → (w w' : Option (List ℕ)) → Result ℕ Fault → (old new : Bank S g)
+    → Result (Unit {0}) CommandFault → Type 0
+FollowsCounted g IsNamed known r r' q q' w w' (Ok requests) old new result =
+    FollowsOver (bank_seen g) (SparesOtherTables g) (bank_reason g) IsNamed known requests r r' q q' w w' old new result
+FollowsCounted g IsNamed known r r' q q' w w' (Err cause) old new result =
+    (result ≡ Err (fault_of_bank cause)) × Keeps w w' × (r' ≡ r) × (new ≡ old)
+
+pub record FollowsFound {S P : Type 0} (g : Ghosts S) (IsNamed : P → Type 0)
+    (known : P → Option (List ℕ) × Option (List ReadTold)) (r r' : Option (List ℕ))
+    (q q' : Option (List ReadTold)) (w w' : Option (List ℕ)) (old new : Bank S g)
+    (result : Result (Unit {0}) CommandFault) : Type 0 where
+  pub counted : Result ℕ Fault
+  pub stood : Bank S g
+  pub counts : CountsBank g counted old stood
+  pub follows : FollowsCounted g IsNamed known r r' q q' w w' counted stood new result
+
+-- IsNamed says of a source that it is the plan's, and known what is known of one
+abbrev pub Follows : {S P : Type 0} (g : Ghosts S) → (conn back : Held S) → (IsNamed : P → Type 0)
+    → (known : P → Option (List ℕ) × Option (List ReadTold)) → (r r' : Option (List ℕ))
+    → (q q' : Option (List ReadTold)) → (w w' : Option (List ℕ)) → Result Status CommandFault → Type 0
+Follows g conn back IsNamed known r r' q q' w w' told =
+    FindsOver g conn back told ((r' ≡ r) × (w' ≡ w))
+    (λ old new. (result : Result (Unit {0}) CommandFault) × (told ≡ done_after result)
+    × FollowsFound g IsNamed known r r' q q' w w' old new result)
+
+-- at Ok both lines were printed, whatever bank is there
+abbrev pub PrintsFollow : (w w' : Option (List ℕ)) → Result Status CommandFault → Type 0
+PrintsFollow w w' told = IfOk told (λ status. (status ≡ Done) × (requests : ℕ) × (entries : ℕ)
+    × Appends w w' (after_line requests ++ followed_line entries))

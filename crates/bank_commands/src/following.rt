@@ -1,0 +1,107 @@
+//! The commands that write the log of a bank, and that take a bank along the log of another one.
+ghost use Rattle.std.specs.Prelude.{◌≡◌, false};
+ghost use Rattle.bank_store.specs.Sparing.{SparesWhileOpen};
+ghost use Rattle.bank_store.specs.believed.Seen.{connection_of};
+ghost use Rattle.command_line.specs.Working.{known_source};
+ghost use Rattle.bank_commands.specs.Following.{Follows, FollowsFound, LogsOver, PrintsFollow, ended_by_log};
+
+use crate::commands::done;
+use crate::ended::{Ended, find};
+use bank_replays::{ReplayFault, Watch, count_requests, write_log};
+use bank_store::Bank;
+use branch_loader::FollowWatch;
+use command_line::{CommandFault, Plans, Status, follow_into};
+use posting_core::{Sink, Source};
+use sqlite::{Alter, Connection};
+use sqlite_trees::store::Store;
+use std::alloc::Global;
+
+/// Writes the requests after the first so many of the bank that is found as entries of a log.
+pub fn log_over<S: Alter + Drop, W: Sink>(
+    alloc: Global,
+    conn: Connection<S>,
+    after: u64,
+    output: &mut W,
+) -> Ended<S>
+    requires { conn.in_transaction ≡ false }
+    ensures logs { LogsOver S.Store conn result.conn after (W.contents output.old) (W.contents output.new)
+        (W.told output.old) (W.told output.new) result.told }
+    ensures idle { result.conn.in_transaction ≡ false }
+{
+    let mut bank = match find(alloc, conn) {
+        Ok(bank) => bank,
+        Err(ended) => return ended,
+    };
+    let told = logged(after, write_log(&mut bank, after, output));
+    Ended {
+        told,
+        conn: bank.release(),
+    }
+}
+
+/// Takes the bank that is found along the log of another one, whose entries are the input, by the plan of a name.
+/// `watch` is told how far it is.
+pub fn follow_over<S: Alter + Drop, P: Plans, R: Source, W: Sink, V: Watch + FollowWatch + Drop>(
+    alloc: Global,
+    conn: Connection<S>,
+    plans: &P,
+    plan: &str,
+    input: &mut R,
+    output: &mut W,
+    mut watch: V,
+) -> Ended<S>
+    requires { conn.in_transaction ≡ false }
+    ensures follows { Follows S.Store conn result.conn (P.is_named plans.now plan.now)
+        (known_source P.Plan.remaining P.Plan.told) (R.remaining input.old) (R.remaining input.new)
+        (R.told input.old) (R.told input.new) (W.contents output.old) (W.contents output.new) result.told }
+    ensures prints { PrintsFollow (W.contents output.old) (W.contents output.new) result.told }
+    ensures idle { result.conn.in_transaction ≡ false }
+{
+    let mut bank = match find(alloc, conn) {
+        Ok(bank) => bank,
+        Err(ended) => return ended,
+    };
+    let told = done(follow_found(alloc, &mut bank, plans, plan, input, output, &mut watch));
+    watch.ended();
+    Ended {
+        told,
+        conn: bank.release(),
+    }
+}
+
+// The same of the bank that was found.
+fn follow_found<S: Alter + Drop, P: Plans, R: Source, W: Sink, V: FollowWatch>(
+    alloc: Global,
+    bank: &mut Bank<S>,
+    plans: &P,
+    plan: &str,
+    input: &mut R,
+    output: &mut W,
+    watch: &mut V,
+) -> Result<(), CommandFault>
+    ensures follows { FollowsFound S.Store (P.is_named plans.now plan.now)
+        (known_source P.Plan.remaining P.Plan.told) (R.remaining input.old) (R.remaining input.new)
+        (R.told input.old) (R.told input.new) (W.contents output.old) (W.contents output.new)
+        bank.old bank.new result }
+    ensures spares { SparesWhileOpen S.Store (connection_of bank.old) (connection_of bank.new) }
+{
+    let requests = count_requests(bank)?;
+    follow_into(alloc, plans, plan, requests, input, bank, output, watch)
+}
+
+// How the program ends after the entries that come after so many.
+fn logged(after: u64, told: Result<u64, ReplayFault>) -> Result<Status, CommandFault>
+    ensures { result ≡ ended_by_log after told }
+{
+    match told {
+        Ok(requests) => {
+            if requests < after {
+                Err(CommandFault::NoRequest(after))
+            } else {
+                Ok(Status::Done)
+            }
+        }
+        Err(ReplayFault::Write) => Err(CommandFault::Write),
+        Err(ReplayFault::Bank(fault)) => Err(CommandFault::from(fault)),
+    }
+}
