@@ -16,6 +16,7 @@
 //!   `line TEXT`         gives it a record and an end of line
 //!   `part TEXT`         gives the next run these bytes
 //!   `from FILE`         gives it what a file holds
+//!   `piped`             gives it what the last run wrote
 //!   `like FILE`         prints whether the last run wrote what a file holds
 //!   `broken END`        gives the next run an `input` that fails, or an `output` that does
 //!   `bank WORD..`       runs the program on these words

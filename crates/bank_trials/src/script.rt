@@ -67,6 +67,7 @@ impl Script {
             "line" => self.give(rt.alloc(), rest, "\n")?,
             "part" => self.input.extend_from_slice(rest.as_bytes())?,
             "from" => self.input = fs::read(rt, rest)?,
+            "piped" => self.input.extend_from_slice(self.output.as_slice())?,
             "typed" => self.typed = true,
             "broken" if rest == "input" => self.fails = Fails::Input,
             "broken" if rest == "output" => self.fails = Fails::Output,

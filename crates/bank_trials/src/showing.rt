@@ -5,7 +5,7 @@ use std::io::Result;
 const LONGEST: usize = 200;
 
 /// Prints each line of what a stream got, and bytes that end no line in pieces of up to 200. The stream's name
-/// comes before each, and how many spaces it ends with after it.
+/// comes before each, and how many spaces it ends with after it. A dot stands for a byte of zero.
 pub fn tell(rt: &HostRuntime, stream: &str, bytes: &[u8]) -> Result<()> {
     for line in bytes.split_inclusive(|byte| *byte == b'\n') {
         match line.strip_suffix(b"\n") {
@@ -26,7 +26,8 @@ fn tell_pieces(rt: &HostRuntime, stream: &str, bytes: &[u8]) -> Result<()> {
 
 fn tell_row(rt: &HostRuntime, stream: &str, bytes: &[u8], mark: &str) -> Result<()> {
     let text = String::from_utf8_lossy(rt.alloc(), bytes)?;
-    print_row(rt, stream, text.as_str(), mark)
+    let shown = text.as_str().replace(rt.alloc(), '\0', ".")?;
+    print_row(rt, stream, shown.as_str(), mark)
 }
 
 fn print_row(rt: &HostRuntime, stream: &str, text: &str, mark: &str) -> Result<()> {
