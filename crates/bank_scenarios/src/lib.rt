@@ -15,7 +15,9 @@ mod scenario;
 mod simulation;
 mod steps;
 mod stored;
+mod sums;
 mod tables;
 
 pub use scenario::play;
-pub use simulation::{Counts, End, Simulation};
+pub use simulation::{Asked, Came, Counts, End, History, Part, Script, Simulation, ask_counter};
+pub use sums::{ExpectedSums, Sums, number, sums_of};

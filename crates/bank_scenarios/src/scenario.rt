@@ -3,7 +3,7 @@ use crate::answers::{Call, make_call};
 use crate::drawn::play_run;
 use crate::steps::{Place, Step, parts_of};
 use crate::stored::Stored;
-use crate::tables::{Query, QueryAnswer, Sums};
+use crate::tables::{Look, Query, QueryAnswer};
 use anyhow::{Context, Result};
 use posting_core::PlainBank;
 use sqlite::{Alter, Connection};
@@ -17,7 +17,7 @@ struct Scenario<S: Alter> {
     plain: PlainBank,
     stored: Stored<S>,
     // The sums over the tables at the last look.
-    looked: Option<Sums>,
+    looked: Option<Look>,
 }
 
 /// Plays a scenario, whose first line says where its bank is: prints that line, and an answer for each step.
@@ -103,17 +103,17 @@ impl<S: Alter + Drop> Scenario<S> {
         match self.stored.query(query, sql) {
             Ok(QueryAnswer::Nothing) => "done".to_string(self.alloc),
             Ok(QueryAnswer::Number(number)) => number.to_string(self.alloc),
-            Ok(QueryAnswer::Looked(sums)) => {
-                self.looked = Some(sums);
+            Ok(QueryAnswer::Looked(look)) => {
+                self.looked = Some(look);
                 "looked".to_string(self.alloc)
             }
-            Ok(QueryAnswer::Compared(sums)) => self.compared(sums).to_string(self.alloc),
+            Ok(QueryAnswer::Compared(look)) => self.compared(look).to_string(self.alloc),
             Err(error) => error.to_string(self.alloc),
         }
     }
 
-    fn compared(&self, sums: Sums) -> &'static str {
-        if self.looked == Some(sums) {
+    fn compared(&self, look: Look) -> &'static str {
+        if self.looked == Some(look) {
             "same"
         } else {
             "changed"

@@ -4,11 +4,12 @@
 mod asking;
 mod counts;
 mod history;
-mod ledger;
 mod lives;
 mod messages;
 mod reports;
 
-pub use asking::End;
+pub use asking::{Asked, Came, End, ask_counter};
 pub use counts::Counts;
+pub use history::{History, Part};
 pub use lives::Simulation;
+pub use messages::Script;

@@ -2,19 +2,23 @@
 use super::history::{Given, Part, moment};
 use super::messages::Script;
 use crate::answers::is_floor;
+use branch_loader::{Plan, load};
 use counter_http::{ServeFault, serve_connection};
+use failing_ends::Pieces;
+use load_driver::{DriveFault, MAX_DRIVEN, drive_records};
 use message_records::{Account, Branch, Cents, REPLY_BYTES, REQUEST_BYTES};
 use posting_core::{
     Counter, Fault, Opening, RECORDS_PER_BATCH, StoredClock, StreamFault, post_stream,
 };
 use std::alloc::{AllocError, Global};
-use std::io::{self, Read};
 
 /// What a bank is asked for.
 #[derive(Clone, Copy)]
 pub enum Asked<'a> {
     /// To open a branch with so many accounts, and with a floor in cents if it has one.
     Open(Branch, u32, Option<i64>),
+    /// To open branches by a plan.
+    Load(&'a [Part]),
     /// Records one by one.
     OneByOne(&'a [Part]),
     /// Records together.
@@ -23,6 +27,8 @@ pub enum Asked<'a> {
     Stream(&'a Script, usize),
     /// The messages of a connection.
     Serve(&'a Script, usize),
+    /// A drive of a seed, whose records these are.
+    Drive(u64, &'a [Part]),
     /// The balance of an account, none if it isn't open.
     Balance(Account, Option<i64>),
 }
@@ -45,14 +51,16 @@ pub struct Came {
 }
 
 impl Came {
-    fn all(parts: usize) -> Came {
+    /// It came to its end.
+    pub fn all(parts: usize) -> Came {
         Came {
             parts,
             end: End::Done,
         }
     }
 
-    fn until(parts: usize, fault: Fault) -> Came {
+    /// A call was refused.
+    pub fn until(parts: usize, fault: Fault) -> Came {
         Came {
             parts,
             end: end_of(fault),
@@ -77,20 +85,6 @@ pub fn end_of(fault: Fault) -> End {
     }
 }
 
-// Gives so many bytes at most in each read.
-#[derive(Drop)]
-struct Pieces<'a> {
-    rest: &'a [u8],
-    most: usize,
-}
-
-impl<'a> Read for Pieces<'a> {
-    fn read(&mut self, buf: &mut [u8]) -> io::Result<usize> {
-        let count = buf.len().min(self.most);
-        self.rest.read(&mut buf[..count])
-    }
-}
-
 fn opened<C: Counter>(bank: &mut C, branch: Branch, accounts: u32, floor: Option<i64>) -> Came {
     let floor = floor.and_then(Cents::new);
     if branch.get() > 9999 || accounts < 1 || accounts > 100_000 || !is_floor(&floor) {
@@ -99,6 +93,34 @@ fn opened<C: Counter>(bank: &mut C, branch: Branch, accounts: u32, floor: Option
     match bank.open_branch(branch, accounts, floor) {
         Ok(Opening::Opened | Opening::Already) => Came::all(1),
         Ok(Opening::Differs) => Came::differs("a branch with other terms"),
+        Err(fault) => Came::until(0, fault),
+    }
+}
+
+// The plan of parts that are branches without floors; none where it is no plan.
+fn plan_of(alloc: Global, parts: &[Part]) -> Option<Plan> {
+    let mut rows = Vec::new(alloc);
+    for part in parts {
+        if let Given::Branch(branch, accounts, _) = part.given {
+            rows.push((branch, accounts, None)).ok()?;
+        }
+    }
+    Plan::from_list(rows).ok()
+}
+
+fn loaded<C: Counter>(alloc: Global, bank: &mut C, parts: &[Part]) -> Came {
+    let Some(plan) = plan_of(alloc, parts) else {
+        return Came::differs("a plan");
+    };
+    match load(&plan, bank) {
+        Ok(loaded) => {
+            let open = loaded.opened.saturating_add(loaded.already) as usize;
+            if open == parts.len() && loaded.differs == 0 {
+                Came::all(open)
+            } else {
+                Came::differs("the branches of a plan")
+            }
+        }
         Err(fault) => Came::until(0, fault),
     }
 }
@@ -201,6 +223,21 @@ fn without_last(output: &[u8]) -> &[u8] {
         .unwrap_or(b"no last answer")
 }
 
+// Each record of a drive is posted.
+fn driven<C: Counter>(alloc: Global, bank: &mut C, seed: u64, parts: &[Part]) -> Came {
+    let count = parts.len() as u64;
+    if count < 1 || count > MAX_DRIVEN {
+        return Came::differs("a drive out of range");
+    }
+    let mut clock = StoredClock::new(Vec::new(alloc));
+    match drive_records(alloc, bank, &mut clock, seed, count) {
+        Ok(driven) if driven.posted == count => Came::all(parts.len()),
+        Ok(_) => Came::differs("a drive"),
+        Err(DriveFault::Bank(fault)) => Came::until(0, fault),
+        Err(_) => Came::differs("a drive that fails"),
+    }
+}
+
 fn balance_is<C: Counter>(bank: &mut C, account: Account, wanted: Option<i64>) -> Came {
     match bank.balance(account) {
         Ok(found) if found.map(|balance| balance.get()) == wanted => Came::all(0),
@@ -213,10 +250,12 @@ fn balance_is<C: Counter>(bank: &mut C, account: Account, wanted: Option<i64>) -
 pub fn ask_counter<C: Counter>(alloc: Global, bank: &mut C, asked: &Asked<'_>) -> Came {
     match asked {
         Asked::Open(branch, accounts, floor) => opened(bank, *branch, *accounts, *floor),
+        Asked::Load(parts) => loaded(alloc, bank, parts),
         Asked::OneByOne(parts) => one_by_one(bank, parts),
         Asked::Together(parts) => together(alloc, bank, parts),
         Asked::Stream(script, most) => streamed(alloc, bank, script, *most),
         Asked::Serve(script, most) => served(alloc, bank, script, *most),
+        Asked::Drive(seed, parts) => driven(alloc, bank, *seed, parts),
         Asked::Balance(account, wanted) => balance_is(bank, *account, *wanted),
     }
 }

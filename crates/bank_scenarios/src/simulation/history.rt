@@ -1,7 +1,7 @@
 //! What a bank is given in a simulation, drawn from a seed, and what comes of each part by the bank in memory.
-use super::ledger::{Entry, Ledger, Sums};
 use crate::answers::is_floor;
 use crate::draws::{Draws, draw_group};
+use crate::sums::{Entry, ExpectedSums, Sums};
 use anyhow::{Context, Result, ensure};
 use message_records::{
     Account, Branch, Cents, Moment, REFERENCE_BYTES, REPLY_BYTES, REQUEST_BYTES, Reply,
@@ -21,20 +21,27 @@ pub enum Given {
 /// A part of what a bank is given, and what comes of it.
 #[derive(Clone, Copy)]
 pub struct Part {
-    pub given: Given,
+    pub(crate) given: Given,
     /// The reply to a record.
     pub reply: [u8; REPLY_BYTES],
-    /// What it decides, if it is a request that wasn't decided before.
-    pub entry: Option<Entry>,
+    // What it decides, if it is a request that wasn't decided before.
+    pub(crate) entry: Option<Entry>,
     /// The sums over the tables after it.
     pub state: Sums,
+}
+
+impl Part {
+    /// The same once more, when the tables have these sums.
+    pub fn again(&self, state: Sums) -> Part {
+        Part { state, ..*self }
+    }
 }
 
 /// The parts, in their order.
 #[derive(Drop)]
 pub struct History {
     parts: Vec<Part>,
-    ledger: Ledger,
+    expected: ExpectedSums,
 }
 
 /// The moment of each record.
@@ -129,12 +136,37 @@ fn lower(record: &mut [u8; REQUEST_BYTES]) {
 }
 
 impl History {
+    fn new(alloc: Global) -> History {
+        History {
+            parts: Vec::new(alloc),
+            expected: ExpectedSums::new(),
+        }
+    }
+
+    /// Branches and their counts of accounts, and records after them.
+    pub fn of(
+        alloc: Global,
+        plan: &[(u64, u32)],
+        records: &[[u8; REQUEST_BYTES]],
+    ) -> Result<History> {
+        let mut history = History::new(alloc);
+        let mut bank = PlainBank::new(alloc);
+        for (branch, accounts) in plan {
+            let opened = Opened {
+                branch: *branch,
+                accounts: *accounts,
+                floor: None,
+                is_first: true,
+            };
+            history.open(&mut bank, &opened)?;
+        }
+        history.post(&mut bank, records)?;
+        Ok(history)
+    }
+
     /// Two rounds, each of branches that are opened and of mixed records after them.
     pub fn draw(alloc: Global, draws: &mut Draws) -> Result<History> {
-        let mut history = History {
-            parts: Vec::new(alloc),
-            ledger: Ledger::new(),
-        };
+        let mut history = History::new(alloc);
         history.fill(draws, &mut PlainBank::new(alloc), &mut Vec::new(alloc))?;
         Ok(history)
     }
@@ -179,7 +211,7 @@ impl History {
         let lowest = floor.and_then(Cents::new);
         ensure!(is_floor(&lowest), "a floor");
         bank.open_branch(branch, accounts, lowest)?;
-        self.ledger.open(signed(branch.get()), accounts, floor);
+        self.expected.open(signed(branch.get()), accounts, floor);
         self.add(
             Given::Branch(branch, accounts, floor),
             [b' '; REPLY_BYTES],
@@ -192,7 +224,7 @@ impl History {
             let reply = bank.submit(moment(), record)?;
             let entry = self.decided_by(record, &reply);
             if let Some(entry) = &entry {
-                self.ledger.decide(entry);
+                self.expected.decide(entry);
             }
             self.add(Given::Record(*record), reply, entry)?;
         }
@@ -202,7 +234,7 @@ impl History {
     // What a reply to a record says that is decided, unless it is that to an earlier record.
     fn decided_by(&self, record: &[u8; REQUEST_BYTES], reply: &[u8; REPLY_BYTES]) -> Option<Entry> {
         let reply = decode_reply(reply).ok()?;
-        let entry = entry_of(&reply, reference_in(record), self.ledger.next_ordinal())?;
+        let entry = entry_of(&reply, reference_in(record), self.expected.next_ordinal())?;
         let is_known = self.parts.iter().any(|part| match &part.entry {
             Some(known) => known.teller == entry.teller && known.number == entry.number,
             None => false,
@@ -211,7 +243,7 @@ impl History {
     }
 
     fn add(&mut self, given: Given, reply: [u8; REPLY_BYTES], entry: Option<Entry>) -> Result<()> {
-        let state = self.ledger.sums();
+        let state = self.expected.sums();
         self.parts.push(Part {
             given,
             reply,
@@ -231,7 +263,7 @@ impl History {
 
     /// Up to so many records from a part on, as far as no branch is opened.
     pub fn records(&self, at: usize, most: usize) -> &[Part] {
-        let after = self.parts.get(at..).unwrap_or(&[]);
+        let after = self.after(at);
         let count = after
             .iter()
             .take(most)
@@ -244,13 +276,18 @@ impl History {
     pub fn state(&self, count: usize) -> Sums {
         match count.checked_sub(1).and_then(|last| self.part(last)) {
             Some(part) => part.state,
-            None => Ledger::new().sums(),
+            None => ExpectedSums::new().sums(),
         }
     }
 
     /// The first so many parts.
     pub fn first(&self, count: usize) -> &[Part] {
         self.parts.get(..count).unwrap_or(&[])
+    }
+
+    /// The parts after so many.
+    pub fn after(&self, count: usize) -> &[Part] {
+        self.parts.get(count..).unwrap_or(&[])
     }
 
     /// The last branch that is opened in so many parts: from there on a record may come again.

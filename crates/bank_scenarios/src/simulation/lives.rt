@@ -2,10 +2,10 @@
 use super::asking::{Asked, Came, End, ask_counter};
 use super::counts::{Counts, add};
 use super::history::{Given, History};
-use super::ledger::{Sums, sums_of};
 use super::messages::Script;
 use super::reports::{audit_after, balance_after, replay_between, state, statement_after};
 use crate::draws::Draws;
+use crate::sums::{Sums, sums_of};
 use anyhow::{Result, bail};
 use bank_store::{Bank, OpenFault, Refused, adopt, create};
 use message_records::Account;

@@ -1,7 +1,7 @@
 //! What balances, statements, audits and replays have to say after parts of a history.
 use super::asking::{End, end_of};
 use super::history::{Given, Part};
-use super::ledger::Entry;
+use crate::sums::Entry;
 use bank_replays::{Replay, Unwatched, replay};
 use bank_reports::{ReportFault, audit, write_statement};
 use bank_store::Bank;

@@ -19,7 +19,8 @@ const TEXTS: [&str; TABLES] = [
     "SELECT coalesce(sum((1 + ordinal % 1009) * (1 + 3 * instr('ABCDEFGHIJKLMNOPQRSTUVWXYZ', substr(reference, 1, 1)) + 5 * instr('ABCDEFGHIJKLMNOPQRSTUVWXYZ', substr(reference, 2, 1)))), 0) FROM request_reference",
 ];
 
-fn number<S: Alter>(conn: &mut Connection<S>, sql: &str) -> Result<i64, Error> {
+/// The number that a query finds.
+pub fn number<S: Alter>(conn: &mut Connection<S>, sql: &str) -> Result<i64, Error> {
     conn.query_row(sql, &[])?.get(0)
 }
 
@@ -69,17 +70,17 @@ fn place_of(letter: u8) -> i64 {
     }
 }
 
-/// The tables of a bank, of which the sums are kept, and how many requests are decided.
+/// The sums that openings and requests lead to, one after another.
 #[derive(Clone, Copy)]
-pub struct Ledger {
+pub struct ExpectedSums {
     sums: Sums,
     decided: i64,
 }
 
-impl Ledger {
+impl ExpectedSums {
     /// A bank without branches: the one row of `meta`.
     pub fn new() -> Self {
-        Ledger {
+        ExpectedSums {
             sums: [1, 0, 0, 0, 0, 0, 0, 0],
             decided: 0,
         }
