@@ -10,10 +10,10 @@ mod sheets;
 mod streams;
 mod verdicts;
 
-use crate::banks::open_both;
 use crate::streams::{FIRST_REPLY, first_record};
 use batches::first_batch;
 use drives::first_drive;
+use failing_ends::open_both;
 use message_records::{Account, Cents, Outcome};
 use posting_core::{Counter, PlainBank, StoredClock};
 use posting_rules::Verdict;

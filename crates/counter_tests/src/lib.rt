@@ -4,8 +4,6 @@
 #![tactic(auto)]
 
 #[cfg(test)]
-mod banks;
-#[cfg(test)]
 mod clocks;
 #[cfg(test)]
 mod draws;

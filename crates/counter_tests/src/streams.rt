@@ -1,9 +1,9 @@
 //! Streams over ends and a bank that fail, at every byte.
-use crate::banks::{FailingBank, open_both};
-use failing_ends::{CutReader, CutWriter};
+use failing_ends::{CutReader, CutWriter, Failing, FailingBank, open_both};
 use message_records::{Account, Moment, REPLY_BYTES, REQUEST_BYTES};
 use posting_core::{
-    Clock, Count, Counter, Fault, PlainBank, StoredClock, StreamFault, post_stream,
+    Clock, Count, Counter, Fault, PlainBank, RECORDS_PER_BATCH, StoredClock, StreamFault,
+    post_stream,
 };
 use std::alloc::{Alloc, Global};
 use std::io::{ErrorKind, Read, Write};
@@ -213,6 +213,8 @@ fn a_store_that_fails(rt: HostRuntime) {
     let mut bank = FailingBank {
         bank: PlainBank::new(rt.alloc()),
         left: 1,
+        most: RECORDS_PER_BATCH,
+        failing: Failing::Store,
         down: false,
     };
     assert!(rt; open_both(&mut bank.bank).is_ok());
