@@ -21,6 +21,7 @@
 //!   `broken END`        gives the next run an `input` that fails, or an `output` that does
 //!   `bank WORD..`       runs the program on these words
 //!   `first NAME FILE..` runs the first program of a library on these files
+//!   `tellers COUNT FILE` serves so many tellers at once, who post to the bank in a file, and replays it
 //!   `simulate SEED COUNT` plays the simulations of so many seeds, and prints what they did
 #![tactic(auto)]
 
@@ -30,6 +31,7 @@ mod script;
 mod script_files;
 mod showing;
 mod simulated;
+mod tellers;
 
 use anyhow::Context;
 use bank_scenarios::play;

@@ -4,6 +4,7 @@ use crate::first_programs;
 use crate::script_files::{compare, look, put, query, run_sql, write_lines};
 use crate::showing::tell;
 use crate::simulated::simulate;
+use crate::tellers::play_tellers;
 use anyhow::{Result, bail};
 use bank_commands::{Machine, run};
 use command_line::Status;
@@ -56,6 +57,7 @@ impl Script {
             "bank" => any(self.run(rt, line)),
             "first" => self.run_first(rt, rest),
             "simulate" => simulate(rt, rest),
+            "tellers" => play_tellers(rt, rest),
             _ => self.prepare(rt, word, rest),
         }
     }
