@@ -1,8 +1,8 @@
 //! What a bank is asked for as a counter.
-use crate::cases::Case;
+use crate::cases::{Case, work_on};
 use crate::readings::post_many;
 use crate::reports::{Cent, post_cent};
-use crate::ways::{Came, work_on};
+use bank_scenarios::{Came, End};
 use bank_store::Bank;
 use message_records::{Account, Cents, REPLY_BYTES};
 use posting_core::{Counter, Fault};
@@ -18,7 +18,7 @@ pub const REPLY: &str = "DR0100000000000001000000010000010000000001+0000000500+0
 
 /// What a bank is asked for.
 #[derive(Clone, Copy)]
-pub enum Asked<'a> {
+pub enum Call<'a> {
     /// What a case has for it.
     Case(&'a Case<'a>),
     /// 1,000 postings.
@@ -55,17 +55,13 @@ fn came_of(done: Result<(), Fault>) -> Came {
     }
 }
 
-// Asks any counter.
-fn ask_counter<C: Counter>(
-    rt: &(impl Abort + Alloc<A = Global>),
-    bank: &mut C,
-    asked: Asked,
-) -> Came {
-    match asked {
-        Asked::Case(case) => work_on(rt, bank, case),
-        Asked::Postings => came_of(post_many(rt, bank)),
-        Asked::Cent(cent) => came_of(post_cent(rt, bank, cent)),
-        Asked::Balance => {
+// Makes a call of any counter.
+fn make_call<C: Counter>(rt: &(impl Abort + Alloc<A = Global>), bank: &mut C, call: Call) -> Came {
+    match call {
+        Call::Case(case) => work_on(rt.alloc(), bank, case).expect(rt, "memory"),
+        Call::Postings => came_of(post_many(rt, bank)),
+        Call::Cent(cent) => came_of(post_cent(rt, bank, cent)),
+        Call::Balance => {
             has_balance(rt, bank);
             Came::all(1)
         }
@@ -76,16 +72,16 @@ fn ask_counter<C: Counter>(
 pub fn ask<S: Alter + Drop>(
     rt: &(impl Abort + Alloc<A = Global>),
     bank: &mut Bank<S>,
-    asked: Asked,
+    call: Call,
 ) -> Came {
-    ask_counter(rt, bank, asked)
+    make_call(rt, bank, call)
 }
 
 /// Asks a bank that doesn't stop.
 pub fn ask_to_the_end<S: Alter + Drop>(
     rt: &(impl Abort + Alloc<A = Global>),
     bank: &mut Bank<S>,
-    asked: Asked,
+    call: Call,
 ) {
-    assert_eq!(rt; ask(rt, bank, asked).fault, None);
+    assert!(rt; ask(rt, bank, call).end == End::Done);
 }

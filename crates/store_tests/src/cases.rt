@@ -1,15 +1,15 @@
-//! What a bank is asked for, as plain data: the calls, what they have to answer, and the tables that they lead to.
-use crate::sums::{Ledger, Sums};
-use message_records::{REPLY_BYTES, REQUEST_BYTES};
-use std::alloc::{Alloc, Global};
-use std::process::Abort;
+//! What a bank is asked for, as plain data: parts of a history, by which calls it gets them, and the tables that they
+//! lead to.
+use bank_scenarios::{Asked, Came, History, Part, Script, Sums, ask_counter};
+use posting_core::Counter;
+use std::alloc::{AllocError, Global};
 
-/// By which calls a bank gets what a case has for it.
+/// By which calls a bank gets the parts of a case.
 #[derive(Clone, Copy, PartialEq, Eq)]
 pub enum Way {
-    /// The branches by a plan.
+    /// Branches by a plan.
     Load,
-    /// The records one by one.
+    /// Records one by one.
     OneByOne,
     /// Together.
     Together,
@@ -22,77 +22,91 @@ pub enum Way {
 }
 
 impl Way {
-    // Whether a crash may leave a part of it.
+    // Whether a crash may leave some of the parts.
     fn is_in_parts(self) -> bool {
-        matches!(self, Way::Load | Way::OneByOne | Way::Stream(_))
+        !matches!(self, Way::Together | Way::Drive)
     }
 }
 
-/// What a bank gets, and what has to come of it.
+/// What a bank gets.
 #[derive(Clone, Copy)]
 pub struct Case<'a> {
     pub way: Way,
-    /// Branches, and how many accounts each has.
-    pub plan: &'a [(u64, u32)],
-    pub records: &'a [[u8; REQUEST_BYTES]],
-    pub replies: &'a [[u8; REPLY_BYTES]],
-    /// The sums over the tables before it, and after each part of which a crash may leave it.
-    pub states: &'a [Sums],
+    pub parts: &'a [Part],
+    /// The sums over the tables before it.
+    pub before: Sums,
 }
 
 impl<'a> Case<'a> {
-    /// The records after so many that were answered.
-    pub fn after(self, answered: usize) -> Case<'a> {
-        let from = answered.min(self.records.len()).min(self.replies.len());
+    /// The parts of a history after so many.
+    pub fn of(way: Way, history: &'a History, count: usize) -> Case<'a> {
         Case {
-            records: &self.records[from..],
-            replies: &self.replies[from..],
+            way,
+            parts: history.after(count),
+            before: history.state(count),
+        }
+    }
+
+    /// The parts after so many that were answered.
+    pub fn after(self, answered: usize) -> Case<'a> {
+        Case {
+            parts: self.parts.get(answered..).unwrap_or(&[]),
+            before: self.state(answered),
             ..self
         }
     }
 
+    // The sums over the tables after so many parts.
+    fn state(&self, count: usize) -> Sums {
+        match count.checked_sub(1).and_then(|last| self.parts.get(last)) {
+            Some(part) => part.state,
+            None => self.before,
+        }
+    }
+
     /// The sums over the tables when all is done.
-    pub fn last(&self) -> Option<&'a Sums> {
-        self.states.last()
+    pub fn last(&self) -> Sums {
+        self.state(self.parts.len())
     }
-}
 
-fn push(rt: &impl Abort, states: &mut Vec<Sums>, ledger: &Ledger) {
-    states.push(ledger.sums()).expect(rt, "memory");
-}
-
-/// The states of a case on a bank in which these branches are open.
-pub fn states_of(
-    rt: &(impl Abort + Alloc<A = Global>),
-    open: &[(u64, u32)],
-    case: &Case,
-) -> Vec<Sums> {
-    let mut states = Vec::new(rt.alloc());
-    let mut ledger = Ledger::new();
-    for (branch, accounts) in open {
-        ledger.open(*branch, *accounts);
-    }
-    push(rt, &mut states, &ledger);
-    for (branch, accounts) in case.plan {
-        ledger.open(*branch, *accounts);
-        push(rt, &mut states, &ledger);
-    }
-    add_replies(rt, &mut states, ledger, case);
-    states
-}
-
-// The states after the replies, each of which posts once.
-fn add_replies(rt: &impl Abort, states: &mut Vec<Sums>, mut ledger: Ledger, case: &Case) {
-    for place in 0..case.replies.len() {
-        let reply = &case.replies[place];
-        if !case.replies[..place].contains(reply) {
-            ledger.post_replied(rt, reply);
+    /// Whether a crash may leave tables with these sums, where so many parts were answered.
+    pub fn may_leave(&self, answered: usize, found: &Sums) -> bool {
+        let all = self.parts.len();
+        for count in answered..=all {
+            let is_left = self.way.is_in_parts() || count == 0 || count == all;
+            if is_left && self.state(count) == *found {
+                return true;
+            }
         }
-        if case.way.is_in_parts() {
-            push(rt, states, &ledger);
+        false
+    }
+}
+
+// What a stream or a connection gets.
+fn script_of(alloc: Global, case: &Case) -> Result<Script, AllocError> {
+    let mut script = Script::new(alloc);
+    match case.way {
+        Way::Stream(_) => script.add_records(case.parts)?,
+        Way::Serve => {
+            for part in case.parts {
+                script.add_post(part)?;
+            }
         }
+        _ => {}
     }
-    if !case.way.is_in_parts() {
-        push(rt, states, &ledger);
-    }
+    Ok(script)
+}
+
+/// Asks a counter for what the case has.
+pub fn work_on<C: Counter>(alloc: Global, bank: &mut C, case: &Case) -> Result<Came, AllocError> {
+    let script = script_of(alloc, case)?;
+    let asked = match case.way {
+        Way::Load => Asked::Load(case.parts),
+        Way::OneByOne => Asked::OneByOne(case.parts),
+        Way::Together => Asked::Together(case.parts),
+        Way::Stream(most) => Asked::Stream(&script, most),
+        Way::Serve => Asked::Serve(&script, usize::MAX),
+        Way::Drive => Asked::Drive(7, case.parts),
+    };
+    Ok(ask_counter(alloc, bank, &asked))
 }

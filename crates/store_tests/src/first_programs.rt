@@ -8,7 +8,7 @@ mod rows;
 mod transactions;
 mod walks;
 
-use crate::calls::{Asked, RECORD, REPLY, ask_to_the_end, is_reply, padded};
+use crate::calls::{Call, RECORD, REPLY, ask_to_the_end, is_reply, padded};
 use crate::tasks::Opened;
 use bank_store::{Bank, Refused, adopt};
 use banks::first_bank;
@@ -115,7 +115,7 @@ fn over_lives<S: Alter + Drop>(
 ) -> Result<(), Fail> {
     assert!(rt; conn.is_autocommit());
     let mut bank = next_life(rt.alloc(), stopped, conn)?;
-    ask_to_the_end(rt, &mut bank, Asked::Balance);
+    ask_to_the_end(rt, &mut bank, Call::Balance);
     Ok(())
 }
 

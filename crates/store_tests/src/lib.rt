@@ -30,8 +30,4 @@ mod sql;
 #[cfg(test)]
 mod stops;
 #[cfg(test)]
-mod sums;
-#[cfg(test)]
 mod tasks;
-#[cfg(test)]
-mod ways;

@@ -1,9 +1,10 @@
 //! Life after life of a bank that is stopped at one of its calls on a file, until all is answered.
-use crate::cases::{Case, Way, states_of};
-use crate::drawn::{records_of, replies_to};
+use crate::cases::{Case, Way};
+use crate::drawn::records_of;
 use crate::files::{ALL_PASS, Ended, Image, Passed, play_on};
 use crate::stops::{made, passed};
 use crate::tasks::{BRANCHES, Task};
+use bank_scenarios::History;
 use std::alloc::{Alloc, Global};
 use std::process::Abort;
 
@@ -52,7 +53,7 @@ fn lives(
 
 // The tables hold all once, and the same records get the same replies and change none.
 fn holds_all(rt: &(impl Abort + Alloc<A = Global>), left: &Image, case: Case) {
-    let task = Task::Again(case, case.records.len());
+    let task = Task::Again(case, case.parts.len());
     let ended = play_on(rt, &left.db, &left.log, ALL_PASS, &[task]);
     assert!(rt; ended.progress.is_done);
 }
@@ -80,26 +81,17 @@ fn live_at_each(
     panic!(rt; "a life that isn't stopped");
 }
 
-// The same things, the last one first.
-fn reversed<T: Copy>(rt: &(impl Abort + Alloc<A = Global>), things: &[T]) -> Vec<T> {
-    let mut all = Vec::new(rt.alloc());
-    for thing in things.iter().rev() {
-        all.push(*thing).expect(rt, "memory");
-    }
-    all
-}
-
 // The records once more in reverse order, twice: they get their replies, and no table changes.
 fn are_answered_in_reverse(rt: &(impl Abort + Alloc<A = Global>), left: &Image, case: Case) {
-    let records = reversed(rt, case.records);
-    let replies = reversed(rt, case.replies);
-    let states = [*case.last().expect(rt, "a state")];
+    let last = case.last();
+    let mut parts = Vec::new(rt.alloc());
+    for part in case.parts.iter().rev() {
+        parts.push(part.again(last)).expect(rt, "memory");
+    }
     let case = Case {
         way: Way::OneByOne,
-        records: &records,
-        replies: &replies,
-        states: &states,
-        ..case
+        parts: &parts,
+        before: last,
     };
     let tasks = [Task::Again(case, 0), Task::Again(case, 0)];
     let ended = play_on(rt, &left.db, &left.log, ALL_PASS, &tasks);
@@ -109,19 +101,8 @@ fn are_answered_in_reverse(rt: &(impl Abort + Alloc<A = Global>), left: &Image, 
 // The first 20 records of the seed 7, of which a read gives one.
 fn live(rt: &(impl Abort + Alloc<A = Global>), stops_db: bool, loses: bool) {
     let records = records_of(rt, BRANCHES, 7, 20);
-    let replies = replies_to(rt, BRANCHES, &records);
-    let case = Case {
-        way: Way::Stream(100),
-        plan: &[],
-        records: &records,
-        replies: &replies,
-        states: &[],
-    };
-    let states = states_of(rt, BRANCHES, &case);
-    let case = Case {
-        states: &states,
-        ..case
-    };
+    let history = History::of(rt.alloc(), BRANCHES, &records).expect(rt, "a history");
+    let case = Case::of(Way::Stream(100), &history, BRANCHES.len());
     let start = made(rt, &[Task::Make(BRANCHES)]);
     let left = live_at_each(rt, &start, case, stops_db, loses);
     are_answered_in_reverse(rt, &left, case);

@@ -1,5 +1,5 @@
 //! Reports to a writer that refuses after so many bytes.
-use crate::calls::{Asked, ask_to_the_end};
+use crate::calls::{Call, ask_to_the_end};
 use crate::readings::one_cent;
 use crate::tasks::{BRANCHES, Task, play_in_memory};
 use bank_reports::{ReportFault, audit, write_statement};
@@ -33,7 +33,7 @@ CONSISTENT
 // The statement of account 1 there.
 const STATEMENT: &[u8] = b"STATEMENT ACCOUNT 000000000001
       ordinal       moment   teller branch          delta        balance reference
-            1         1000        1      1           +500            500 RENT MAY            
+            1            0        1      1           +500            500 RENT MAY            
 closing balance                                                      500
 ";
 
@@ -82,7 +82,7 @@ fn post<S: Alter + Drop>(
         number,
         count,
     };
-    ask_to_the_end(rt, bank, Asked::Cent(cent));
+    ask_to_the_end(rt, bank, Call::Cent(cent));
 }
 
 fn account() -> Account {

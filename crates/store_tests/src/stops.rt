@@ -1,11 +1,12 @@
 //! A machine that stops at each call on one of the files: what is left then, and what a resend gets.
-use crate::calls::{RECORD, REPLY, padded};
-use crate::cases::{Case, Way, states_of};
-use crate::drawn::{ONE_ACCOUNT, records_of, replies_to};
+use crate::calls::{RECORD, REPLY, is_reply, padded};
+use crate::cases::{Case, Way};
+use crate::drawn::{ONE_ACCOUNT, records_of};
 use crate::files::{ALL_PASS, Ended, Image, Passed, play_on};
 use crate::readings::Reading;
 use crate::tasks::{BRANCHES, Progress, Task};
-use message_records::{REPLY_BYTES, REQUEST_BYTES};
+use bank_scenarios::History;
+use message_records::REQUEST_BYTES;
 use std::alloc::{Alloc, Global};
 use std::process::Abort;
 
@@ -107,32 +108,39 @@ fn stop_at_each(rt: &(impl Abort + Alloc<A = Global>), start: &Image, task: Task
     assert!(rt; at_db.saturating_add(at_log) > 0);
 }
 
-// Stops in a case on a bank in which these branches are open.
-fn stop_in(rt: &(impl Abort + Alloc<A = Global>), open: &[(u64, u32)], case: Case) {
-    let states = states_of(rt, open, &case);
-    let case = Case {
-        states: &states,
-        ..case
-    };
+// A history of branches and of records after them.
+fn history_of(
+    rt: &(impl Abort + Alloc<A = Global>),
+    open: &[(u64, u32)],
+    records: &[[u8; REQUEST_BYTES]],
+) -> History {
+    History::of(rt.alloc(), open, records).expect(rt, "a history")
+}
+
+// Stops in a history on a bank in which its branches are open.
+fn stop_in(
+    rt: &(impl Abort + Alloc<A = Global>),
+    open: &[(u64, u32)],
+    way: Way,
+    history: &History,
+) {
     let start = made(rt, &[Task::Make(open)]);
+    let case = Case::of(way, history, open.len());
     stop_at_each(rt, &start, Task::Work(case));
 }
 
 // Stops in records that get these replies.
-fn stop_in_records<'a>(
+fn stop_in_records(
     rt: &(impl Abort + Alloc<A = Global>),
     way: Way,
-    records: &'a [[u8; REQUEST_BYTES]],
-    replies: &'a [[u8; REPLY_BYTES]],
+    records: &[[u8; REQUEST_BYTES]],
+    replies: &[&str],
 ) {
-    let case = Case {
-        way,
-        plan: &[],
-        records,
-        replies,
-        states: &[],
-    };
-    stop_in(rt, BRANCHES, case);
+    let history = history_of(rt, BRANCHES, records);
+    for (part, reply) in history.after(BRANCHES.len()).iter().zip(replies) {
+        is_reply(rt, &part.reply, *reply);
+    }
+    stop_in(rt, BRANCHES, way, &history);
 }
 
 #[test]
@@ -146,47 +154,30 @@ fn a_new_bank_stops(rt: HostRuntime) {
 
 #[test]
 fn a_plan_stops(rt: HostRuntime) {
-    let case = Case {
-        way: Way::Load,
-        plan: BRANCHES,
-        records: &[],
-        replies: &[],
-        states: &[],
-    };
-    stop_in(&rt, &[], case);
+    let history = history_of(&rt, BRANCHES, &[]);
+    stop_in(&rt, &[], Way::Load, &history);
 }
 
 #[test]
 fn a_posting_stops(rt: HostRuntime) {
-    stop_in_records(&rt, Way::OneByOne, &[padded(RECORD)], &[padded(REPLY)]);
+    stop_in_records(&rt, Way::OneByOne, &[padded(RECORD)], &[REPLY]);
 }
 
 #[test]
 fn a_batch_stops(rt: HostRuntime) {
-    let records = RECORDS.map(padded::<100>);
-    let replies = REPLIES.map(padded::<200>);
-    stop_in_records(&rt, Way::Together, &records, &replies);
+    stop_in_records(&rt, Way::Together, &RECORDS.map(padded::<100>), &REPLIES);
 }
 
 // Two messages with the first posting's record.
 #[test]
 fn a_connection_stops(rt: HostRuntime) {
-    let records = [padded(RECORD), padded(RECORD)];
-    stop_in_records(&rt, Way::Serve, &records, &[padded(REPLY), padded(REPLY)]);
+    stop_in_records(&rt, Way::Serve, &[padded(RECORD); 2], &[REPLY; 2]);
 }
 
 // The 50 records of the seed 7 over one account, by a stream or a drive.
 fn stop_in_drive(rt: &(impl Abort + Alloc<A = Global>), way: Way) {
     let records = records_of(rt, ONE_ACCOUNT, 7, 50);
-    let replies = replies_to(rt, ONE_ACCOUNT, &records);
-    let case = Case {
-        way,
-        plan: &[],
-        records: &records,
-        replies: &replies,
-        states: &[],
-    };
-    stop_in(rt, ONE_ACCOUNT, case);
+    stop_in(rt, ONE_ACCOUNT, way, &history_of(rt, ONE_ACCOUNT, &records));
 }
 
 // A read gives 1,300 bytes at most, so that the stream has four batches.
@@ -200,26 +191,13 @@ fn a_drive_stops(rt: HostRuntime) {
     stop_in_drive(&rt, Way::Drive);
 }
 
-// A bank is made, and gets a case.
-fn makes_and_works<'a>(plan: &'a [(u64, u32)], case: Case<'a>) -> [Task<'a>; 2] {
-    [Task::Make(plan), Task::Work(case)]
-}
-
 // A report of a bank with two postings, the first with a reference.
 fn stop_in_report(rt: &(impl Abort + Alloc<A = Global>), reading: Reading) {
     let referenced = "DC02000000000001000000010000010000000001+0000000500RENT MAY";
     let remote = "DC01000000100001000000010000010000000002-0000000700";
-    let reply = "DR0100000000100001000000010000010000000002-0000000700-000000000700POSTED";
-    let records = [padded(referenced), padded(remote)];
-    let replies = [padded(REPLY), padded(reply)];
-    let case = Case {
-        way: Way::OneByOne,
-        plan: &[],
-        records: &records,
-        replies: &replies,
-        states: &[],
-    };
-    let start = made(rt, &makes_and_works(BRANCHES, case));
+    let history = history_of(rt, BRANCHES, &[padded(referenced), padded(remote)]);
+    let case = Case::of(Way::OneByOne, &history, BRANCHES.len());
+    let start = made(rt, &[Task::Make(BRANCHES), Task::Work(case)]);
     stop_at_each(rt, &start, Task::Read(reading));
 }
 

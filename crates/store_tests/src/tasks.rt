@@ -1,13 +1,12 @@
 //! Tasks on the bank of any store, one after another. What a task does with the bank borrows it.
-use crate::calls::{Asked, ask, ask_to_the_end};
+use crate::calls::{Call, ask, ask_to_the_end};
 use crate::cases::{Case, Way};
 use crate::earlier::{EARLIER, FLOORS, Version, migrated, migrated_again};
 use crate::readings::{Reading, is_consistent, read};
 use crate::reports::reports_are_cut;
 use crate::sql::batch;
-use crate::sums::{Ledger, Sums, sums_of};
+use bank_scenarios::{End, ExpectedSums, History, sums_of};
 use bank_store::{Bank, Migrated, OpenFault, Refused, adopt, create};
-use posting_core::Fault;
 use sqlite::{Alter, Connection};
 use std::alloc::{Alloc, AllocError, Global};
 use std::process::Abort;
@@ -111,16 +110,15 @@ struct Worked<S: Alter> {
 }
 
 // The tables are as they may be after so many parts of the case.
-fn is_left<S: Alter>(rt: &impl Abort, conn: &mut Connection<S>, states: &[Sums], parts: usize) {
+fn is_left<S: Alter>(rt: &impl Abort, conn: &mut Connection<S>, case: &Case, parts: usize) {
     let found = sums_of(conn).expect(rt, "the tables");
-    let mut may_be = states.iter().skip(parts);
-    assert!(rt; may_be.any(|state| *state == found), "behind {parts} parts");
+    assert!(rt; case.may_leave(parts, &found), "behind {parts} parts");
 }
 
 // What is done with the tables before the bank is taken up.
 fn prepare<S: Alter>(rt: &impl Abort, conn: &mut Connection<S>, task: Task) {
     match task {
-        Task::Again(case, parts) => is_left(rt, conn, case.states, parts),
+        Task::Again(case, parts) => is_left(rt, conn, &case, parts),
         Task::Limited(rows) => conn.set_step_limit(Some(rows)),
         Task::MakeEarlier(version, beside) => {
             assert_eq!(rt; batch(conn, EARLIER), Ok(()));
@@ -139,12 +137,13 @@ fn work_until<S: Alter + Drop>(
     bank: &mut Bank<S>,
     case: &Case,
 ) -> Progress {
-    let came = ask(rt, bank, Asked::Case(case));
-    assert!(rt; came.fault.is_none() || came.fault == Some(Fault::Store));
-    assert_eq!(rt; bank.cause().is_some(), came.fault.is_some());
+    let came = ask(rt, bank, Call::Case(case));
+    let is_done = came.end == End::Done;
+    assert!(rt; is_done || came.end == End::Stopped);
+    assert_eq!(rt; bank.cause().is_some(), !is_done);
     Progress {
         is_begun: true,
-        is_done: came.fault.is_none(),
+        is_done,
         parts: came.parts,
     }
 }
@@ -155,14 +154,9 @@ fn open_all<S: Alter + Drop>(
     bank: &mut Bank<S>,
     plan: &[(u64, u32)],
 ) {
-    let case = Case {
-        way: Way::Load,
-        plan,
-        records: &[],
-        replies: &[],
-        states: &[],
-    };
-    ask_to_the_end(rt, bank, Asked::Case(&case));
+    let history = History::of(rt.alloc(), plan, &[]).expect(rt, "a history");
+    let case = Case::of(Way::Load, &history, 0);
+    ask_to_the_end(rt, bank, Call::Case(&case));
 }
 
 // What is done with the bank.
@@ -175,11 +169,11 @@ fn act<S: Alter + Drop>(
         Task::Create | Task::Recreate(_) | Task::Migrate(_) => {}
         Task::MakeEarlier(_, _) | Task::MeetForeign(_) => {}
         Task::Make(plan) => open_all(rt, bank, plan),
-        Task::Post => ask_to_the_end(rt, bank, Asked::Postings),
+        Task::Post => ask_to_the_end(rt, bank, Call::Postings),
         Task::Work(case) => return work_until(rt, bank, &case),
         Task::Again(case, _) => {
             assert!(rt; is_consistent(bank));
-            ask_to_the_end(rt, bank, Asked::Case(&case));
+            ask_to_the_end(rt, bank, Call::Case(&case));
         }
         Task::Read(reading) => return read(rt, bank, reading),
         Task::Remigrate(_, _) => return read(rt, bank, Reading::AuditText),
@@ -192,8 +186,8 @@ fn act<S: Alter + Drop>(
 // What is found in the tables after it.
 fn review<S: Alter>(rt: &impl Abort, conn: &mut Connection<S>, task: Task) {
     match task {
-        Task::Again(case, _) => assert_eq!(rt; sums_of(conn).as_ref().ok(), case.last()),
-        Task::Recreate(_) => assert_eq!(rt; sums_of(conn), Ok(Ledger::new().sums())),
+        Task::Again(case, _) => assert_eq!(rt; sums_of(conn).ok(), Some(case.last())),
+        Task::Recreate(_) => assert_eq!(rt; sums_of(conn).ok(), Some(ExpectedSums::new().sums())),
         _ => {}
     }
 }
