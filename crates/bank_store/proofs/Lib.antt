@@ -9,6 +9,7 @@ pub mod FoundEarlier
 pub mod Probed
 pub mod MetaRow
 pub mod Refusing
+pub mod MadeTables
 pub mod Moved
 pub mod NewBank
 pub mod OnlyRow
