@@ -2,7 +2,7 @@
 //! posted to it from standard input.
 #![tactic(auto)]
 
-use bank_commands::{Machine, run, words_of};
+use bank_commands::{Machine, run, tell_reason, words_of};
 use command_line::{Status, tell_no_words};
 use posting_core::SystemClock;
 use sqlite::{Start, Unknown};
@@ -11,7 +11,7 @@ use std::process::ExitCode;
 
 // A run on these words between the standard streams, whatever the files hold.
 fn run_on<S: Start>(rt: &HostRuntime, start: S, words: &[String]) -> Status {
-    run(
+    let status = run(
         Machine::new(rt, start),
         words,
         &mut rt.stdin(),
@@ -19,7 +19,9 @@ fn run_on<S: Start>(rt: &HostRuntime, start: S, words: &[String]) -> Status {
         &mut rt.stdout(),
         &mut rt.stderr(),
         &mut SystemClock::new(rt),
-    )
+    );
+    tell_reason(rt, status, words);
+    status
 }
 
 fn main(rt: HostRuntime) -> ExitCode {

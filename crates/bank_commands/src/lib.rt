@@ -44,8 +44,9 @@
 //!
 //! `bank_files` opens a connection to files, and `conn.close()` closes it. [`run`] is the whole program: it finds a
 //! command in the words of the command line, looks for the command's file, opens it, does the command and closes it.
-//! `src/files`, 138 lines that are to be read, has the looking, the opening and the closing; no clause reaches them. It
-//! alone reaches the [`Machine`]: all else is handed plans, a network and a watch, and can open no file.
+//! `src/files`, to be reviewed by hand, has the looking, the opening and the closing; no clause reaches them. It alone
+//! reaches the [`Machine`]: all else is handed plans, a network and a watch, and can open no file. [`tell_reason`] says
+//! after a run why a file can't be used.
 //!
 //! `Unknown` is all that a program knows of what its files hold, and supposes that a torn write leaves each byte old or
 //! new; `Wary` of `sqlite` in its place doesn't suppose it, and syncs twice a commit.
@@ -62,6 +63,7 @@ mod files;
 mod following;
 mod migration;
 mod progress;
+mod reasons;
 mod replaying;
 mod reports;
 mod running;
@@ -73,6 +75,7 @@ pub use ended::Ended;
 pub use files::{Machine, PlanFiles};
 pub use following::{follow_over, log_over};
 pub use migration::migrate_over;
+pub use reasons::tell_reason;
 pub use replaying::{digest_over, export_over, plan_over, replay_over};
 pub use reports::{audit_over, statement_over};
 pub use running::{run, words_of};

@@ -5,7 +5,7 @@
 //! The program `bank` is one run, between the standard streams and by the system's clock:
 //!
 //! ```rust
-//! use bank_commands::{Machine, run, words_of};
+//! use bank_commands::{Machine, run, tell_reason, words_of};
 //! use command_line::{Status, tell_no_words};
 //! use posting_core::SystemClock;
 //! use sqlite::{Start, Unknown};
@@ -14,7 +14,7 @@
 //!
 //! // A run on these words between the standard streams, whatever the files hold.
 //! fn run_on<S: Start>(rt: &HostRuntime, start: S, words: &[String]) -> Status {
-//!     run(
+//!     let status = run(
 //!         Machine::new(rt, start),
 //!         words,
 //!         &mut rt.stdin(),
@@ -22,7 +22,9 @@
 //!         &mut rt.stdout(),
 //!         &mut rt.stderr(),
 //!         &mut SystemClock::new(rt),
-//!     )
+//!     );
+//!     tell_reason(rt, status, words);
+//!     status
 //! }
 //!
 //! fn main(rt: HostRuntime) -> ExitCode {
