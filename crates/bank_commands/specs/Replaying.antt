@@ -1,13 +1,14 @@
 -- What the commands that replay a bank, and that write its requests and its branches, do over the connection conn,
 -- which they hand back as back, and how they end: told is the status or the fault. w and w' are the known bytes of the
 -- output before and after, and t and t' what its calls are known to have returned.
-use Rattle.std.specs.Prelude.{◌≡◌, ℕ, List, Option, Some, None, Result, Ok, Err}
+use Rattle.std.specs.Prelude.{◌≡◌, ◌≢◌, ℕ, List, Option, Some, None, Result, Ok, Err}
 use Rattle.std.specs.Io.KnownBytes.{Keeps}
 use Rattle.sqlite.specs.Held.{Held}
 use Rattle.sqlite_trees.specs.declared.store.Store.{Ghosts}
 use Rattle.posting_rules.specs.believed.Commands.{Command}
 use Rattle.posting_rules.specs.believed.Counter.{ShowsLog}
-use Rattle.posting_rules.specs.declared.fault.Fault.{Fault}
+use Rattle.posting_rules.specs.declared.fault.{Fault.Fault, Rule.Rule}
+use Rattle.posting_rules.specs.declared.fault.Fault.TheVariants.{Damaged, Memory}
 use Rattle.posting_core.specs.Told.{WriteTold}
 use Rattle.sql_meanings.specs.believed.Entries.{Entry}
 use Rattle.store_rows.specs.believed.BankTables.{branch as branch_table, floor as floor_table}
@@ -17,11 +18,12 @@ use Rattle.bank_store.specs.Leaving.{LeavesAsFound, TakesNone}
 use Rattle.bank_store.specs.believed.Seen.{bank_seen, database_of}
 use Rattle.bank_store.specs.Seen.{fault_of}
 use Rattle.bank_store.specs.declared.bank.Bank.{Bank}
-use Rattle.bank_replays.specs.{DifferenceText.difference_text, Differences.DiffersFrom, Differences.table_of}
+use Rattle.bank_replays.specs.{Damaged.TellsWhy, Damaged.fault_in, DifferenceText.difference_text}
+use Rattle.bank_replays.specs.Differences.{DiffersFrom, table_of}
 use Rattle.bank_replays.specs.Digests.{DigestsFirst, DigestsRows, IsDigestIn, answered_after}
 use Rattle.bank_replays.specs.FileTables.{IsKept}
 use Rattle.bank_replays.specs.Replays.{HasAnswered, OnAgrees, OnDiffers, Replays, TellsTables, other_text}
-use Rattle.bank_replays.specs.Writing.{LeavesWriter, WritesText, plan_text, records_after, records_of}
+use Rattle.bank_replays.specs.Writing.{ExportsRows, LeavesWriter, WritesSound, WritesText, plan_text, records_of}
 use Rattle.bank_replays.specs.declared.chain.Digest.{Digest}
 use Rattle.bank_replays.specs.declared.difference.Replay.{Replay}
 use Rattle.bank_replays.specs.declared.difference.Replay.TheVariants.{Agrees, Differs, Otherwise}
@@ -75,6 +77,7 @@ pub record ReplaysBank {S : Type 0} (g : Ghosts S) (found : Result Replay Fault)
       → OnAgrees found (IsDigestIn all)
   pub differs : (bank_seen g new).honest → OnDiffers found (λ d. (rows : List Entry)
       → HasStoredRows (database_of g old) (table_of d) rows → DiffersFrom rows d)
+  pub why : TellsWhy g (λ fault. fault) old new found
   pub bank : Replays (bank_seen g old) (bank_seen g new) found
   pub up : fault_of new ≡ fault_of old
   pub leaves : LeavesAsFound g old new
@@ -100,6 +103,8 @@ pub record DigestsBank {S : Type 0} (g : Ghosts S) (requests : ℕ) (found : Res
       → DigestsRows requests all found
   pub log : (bank_seen g new).honest → (log : List Command) → ShowsLog (bank_seen g old) log
       → DigestsFirst requests (answered_after log) found
+  pub why : TellsWhy g (λ fault. fault) old new found
+  pub frugal : found ≢ Err Memory
   pub bank : TakesNone (bank_seen g old) (bank_seen g new) (HasAnswered found)
   pub up : fault_of new ≡ fault_of old
   pub leaves : LeavesAsFound g old new
@@ -123,10 +128,11 @@ ended_by_writing (Err (written.Bank cause)) = Err (fault_of_bank cause)
 pub record ExportsBank {S : Type 0} (g : Ghosts S) (after : ℕ) (w w' : Option (List ℕ))
     (t t' : Option (List WriteTold)) (ends : Result (Unit {0}) ReplayFault) (old new : Bank S g) : Type 0 where
   pub rows : (bank_seen g new).honest → (all : List KeptItem) → HasKept (database_of g old) all
-      → WritesText (records_after after all) w w' ends
+      → ExportsRows after all w w' ends
   pub log : (bank_seen g new).honest → (log : List Command) → ShowsLog (bank_seen g old) log
-      → WritesText (records_of after (answered_after log)) w w' ends
+      → WritesSound (records_of after (answered_after log)) w w' ends
   pub writer : LeavesWriter t t' ends
+  pub why : TellsWhy g fault_in old new ends
   pub bank : TakesNone (bank_seen g old) (bank_seen g new) (HasAnswered ends)
   pub up : fault_of new ≡ fault_of old
   pub leaves : LeavesAsFound g old new
@@ -144,7 +150,10 @@ pub record PlansBank {S : Type 0} (g : Ghosts S) (w w' : Option (List ℕ)) (t t
   pub rows : (bank_seen g new).honest → (floors branches : List Entry)
       → HasStoredRows (database_of g old) floor_table floors
       → HasStoredRows (database_of g old) branch_table branches → WritesText (plan_text floors branches) w w' ends
+  pub sound : (bank_seen g new).honest → (log : List Command) → ShowsLog (bank_seen g old) log → (rule : Rule)
+      → ends ≢ Err (written.Bank (Damaged rule))
   pub writer : LeavesWriter t t' ends
+  pub why : TellsWhy g fault_in old new ends
   pub bank : TakesNone (bank_seen g old) (bank_seen g new) (HasAnswered ends)
   pub up : fault_of new ≡ fault_of old
   pub leaves : LeavesAsFound g old new

@@ -9,7 +9,7 @@ use Rattle.walked_rows.specs.Stored.{account_entry, branch_entry, posting_entry,
 use Rattle.walked_rows.specs.StoredBeside.{floor_entry, meta_entry}
 use Rattle.bank_replays.specs.declared.difference.Sides.{Sides}
 use Rattle.bank_replays.specs.Comparing.{Both, DiffersIn, Either, SameRows}
-use Rattle.bank_replays.specs.Differences.{DiffersBetween, TellsIn, due_in, rows_of, stands_in, table_of}
+use Rattle.bank_replays.specs.Differences.{DiffersBetween, TellsIn, due_in, rows_of, table_of}
 use Rattle.bank_replays.specs.{FileTables.FileTables, FileTables.HasTables, FileTables.SameTables}
 use Rattle.bank_replays.specs.NextRows.{DifferFirst}
 use Rattle.bank_replays.specs.declared.difference.Difference.{Difference}

@@ -1,5 +1,5 @@
 -- The digest of requests, one request more, and what is read of a kept row.
-use Rattle.std.proofs.Common.{◌≡◌, ◌+◌, ◌++◌, ℕ, ℤ, pos, List, [], ◌∷◌, map, Option, Some, None, replicate, refl, sym}
+use Rattle.std.proofs.Common.{◌≡◌, ◌≤◌, ◌<◌, ◌+◌, ◌-◌, ◌^◌, ◌++◌, ℕ, ℤ, pos, List, [], ◌∷◌, map, length, Option, Some, None, replicate, refl, sym}
 use Rattle.std.proofs.Common.{ap, subst, ◌∙◌, arith}
 use Rattle.std.specs.Prelude.{nat_abs, option_map, unwrap_or}
 use Rattle.std.proofs.lemmas.List.{length-append, length-map, map-append}
@@ -8,13 +8,16 @@ use Rattle.message_records.specs.declared.records.Outcome.{Outcome}
 use Rattle.message_records.specs.declared.records.Outcome.TheVariants.{Malformed}
 use Rattle.message_records.proofs.SpelledReplies.{outcome_with-code}
 use Rattle.message_records.specs.believed.Records.{ReplyFields, RequestFields, unreferenced}
-use Rattle.posting_rules.specs.believed.Cases.{balance_shown}
+use Rattle.posting_rules.specs.{believed.Cases.balance_shown, declared.fault.Fault.Fault}
+use Rattle.posting_rules.specs.declared.fault.Fault.TheVariants.{Memory}
 use Rattle.walked_rows.specs.{KeptRows.KeptItem, KeptRows.kept_item, Stored.posting_entry}
 use Rattle.walked_rows.specs.{declared.kept.KeptRequest.KeptRequest, declared.postings.StoredPosting.StoredPosting}
 use Rattle.walked_rows.specs.References.{text_after, text_entry}
 use Rattle.walked_rows.proofs.RisingRows.{all-append}
 use Rattle.bank_replays.specs.{Came.CameAs, Came.GotReply, Came.moment_of, declared.chain.Digest.Digest}
-use Rattle.bank_replays.specs.Digests.{GoesOnBy, IsDigestIn, chained, digest_from}
+use Rattle.bank_replays.specs.{Damaged.fault_in, Digests.EndsDigest, Digests.GoesOnBy, Digests.IsDigestIn}
+use Rattle.bank_replays.specs.Digests.{chained, digest_from}
+use Rattle.bank_replays.specs.declared.fault.ReplayFault.{ReplayFault, TheVariants.Bank, TheVariants.Write}
 use Rattle.bank_replays.specs.Requests.{AnsweredRequest, IsAnsweredRow, answered_in, moment_under, outcome_in}
 use Rattle.bank_replays.specs.Requests.{reply_in, request_in}
 
@@ -127,3 +130,14 @@ digest_is first last items all none zeros it is =
       ),
       it.each,
     )
+
+-- a digest of fewer requests than can be counted never ends for want of memory
+pub digest_frugal : {R : Type 0} (first : Digest) (rows : List R) (count : ℕ) (fault : ReplayFault) → count ≤ 2 ^ 64 - 1
+    → first.requests ≡ 0 → EndsDigest first rows fault → (fault ≡ Bank Memory → length rows < count)
+    → fault_in fault ≡ Memory → ⊥
+digest_frugal first rows count Write most none ends few is = ends.0 refl
+digest_frugal first rows count (Bank fault) most none ends few is =
+    let memory = ap (λ (f : Fault). let r : ReplayFault = Bank f in r) is in
+    let many = ends.1 memory in
+    let low = few memory in
+    omega (arith, most, none, many, low)

@@ -1,14 +1,12 @@
 -- Comparisons, one after another.
-use Rattle.std.proofs.Common.{◌≡◌, List, [], ◌∷◌, Option, Some, None, Ok, Err, Result, refl, sym, ap, subst, ◌∙◌, inl, inr}
-use Rattle.std.specs.Prelude.{IsSome}
+use Rattle.std.proofs.Common.{◌≡◌, ◌++◌, List, [], ◌∷◌, Option, Some, None, Ok, Err, Result, refl, sym, ap, subst, ◌∙◌, inl, inr}
 use Rattle.sqlite.specs.Effect.{Database}
 use Rattle.sqlite_trees.specs.declared.store.Store.{Ghosts}
 use Rattle.posting_rules.specs.declared.fault.{Fault.Fault, Rule.Rule}
-use Rattle.posting_rules.specs.declared.fault.Fault.TheVariants.{Down, Memory}
 use Rattle.bank_store.specs.{Walking.Steps, believed.Seen.database_of, declared.bank.Bank.Bank}
 use Rattle.bank_replays.specs.{Comparing.Both, Comparing.Compares, Comparing.Either}
 use Rattle.bank_replays.specs.declared.difference.Difference.{Difference}
-use Rattle.bank_replays.proofs.Read.{clean_before, read_then}
+use Rattle.bank_replays.proofs.{FirstDifference.row_after, Read.clean_before, Read.read_then, Whys.why_then}
 
 module _ {S T : Type 0} {g : Ghosts S} {h : Ghosts T} {One Other : Database → Database → Type 0}
     {First Second : Database → Database → Difference → Type 0} where
@@ -21,7 +19,7 @@ module _ {S T : Type 0} {g : Ghosts S} {h : Ghosts T} {One Other : Database → 
     due = it.due;
     same = λ clean clean_due is. absurd (ended is);
     differs = λ clean clean_due d is. inl (it.differs clean clean_due d is);
-    tried = it.tried;
+    why = it.why;
   }
 
   -- no difference in the first
@@ -45,7 +43,7 @@ module _ {S T : Type 0} {g : Ghosts S} {h : Ghosts T} {One Other : Database → 
         inr (subst (λ (db : Database). Second db (database_of h due) d) (one.bank.still before).0
         (subst (λ (db : Database). Second (database_of g mid) db d) (one.due.still before_due).0
         (two.differs clean clean_due d is)));
-    tried = λ is. subst (λ fault. IsSome fault) one.bank.up (two.tried is);
+    why = why_then one.bank two.bank two.why;
   }
 
   -- what is told in one way is told in another
@@ -58,10 +56,18 @@ module _ {S T : Type 0} {g : Ghosts S} {h : Ghosts T} {One Other : Database → 
     due = it.due;
     same = λ clean clean_due is. then _ _ (it.same clean clean_due is);
     differs = λ clean clean_due d is. so _ _ d (it.differs clean clean_due d is);
-    tried = it.tried;
+    why = it.why;
   }
 
 -- ---- a step of two walks
+
+-- one row more of a walk was given
+pub along_more : {R X : Type 0} (item : R → X) (Breaks : Rule → X → Type 0) (old new start given : List X)
+    (next : Option R) → Steps item Breaks old new (Ok next) → given ++ old ≡ start → (a : R) → next ≡ Some a
+    → (more : List X) × (more ++ new ≡ start)
+along_more item Breaks old new start given next step are a is =
+    let first : old ≡ item a ∷ new = subst (λ o. Steps item Breaks old new (Ok o)) is step in
+    (given ++ item a ∷ [], row_after given (item a) new ∙ ap (λ l. given ++ l) (sym first) ∙ are)
 
 module _ {R X : Type 0} (item : R → X) (Breaks : Rule → X → Type 0) (old new old' new' : List X)
     (stands due : Option R) (one : Steps item Breaks old new (Ok stands))
@@ -91,9 +97,6 @@ some_not_none x r is none = cc
 
 pub ok_not_err : {X E : Type 0} (x : X) (r : Result X E) (e : E) → r ≡ Ok x → r ≡ Err e → ⊥
 ok_not_err x r e is error = cc
-
-pub memory_not_down : {X : Type 0} (r : Result X Fault) → r ≡ Err Memory → r ≡ Err Down → ⊥
-memory_not_down r is down = cc
 
 pub error_is : {X : Type 0} {r : Result X Fault} (e f : Fault) → r ≡ Err e → r ≡ Err f → e ≡ f
 error_is e f is other = cc

@@ -1,8 +1,9 @@
 -- The digest of the first rows, and that of a log.
-use Rattle.std.proofs.Common.{◌≡◌, ◌<◌, ◌≤◌, ℕ, List, map, length, take, Option, Some, None, Result, Ok, Err, sym, ap}
+use Rattle.std.proofs.Common.{◌≡◌, ◌<◌, ◌≤◌, ℕ, List, map, length, take, Option, Some, None, Result, Ok, Err, refl, sym, ap}
 use Rattle.std.proofs.Common.{subst, ◌∙◌, arith}
 use Rattle.std.proofs.lemmas.List.{length-map, length-take, take-map}
-use Rattle.posting_rules.specs.declared.fault.Fault.{Fault}
+use Rattle.posting_rules.specs.declared.fault.{Fault.Fault, Rule.Rule}
+use Rattle.posting_rules.specs.declared.fault.Fault.TheVariants.{Damaged, Down, Memory, Store}
 use Rattle.walked_rows.specs.KeptRows.{KeptItem}
 use Rattle.bank_replays.specs.Digests.{DigestsFirst, DigestsRows, IsDigestIn, IsDigestOf}
 use Rattle.bank_replays.specs.Requests.{AnsweredRequest, answered_in}
@@ -21,14 +22,12 @@ module _ (count : ℕ) (all : List KeptItem) (requests : List AnsweredRequest) (
   count_same = ap (λ (l : List AnsweredRequest). length l) (sym same) ∙ length-map all answered_in
 
   -- the rows are those of a log
-  pub digests_log : (result : Result (Option Digest) Fault) → DigestsRows count all result
-      → DigestsFirst count requests result
-  digests_log (Ok (Some d)) it = (
+  pub digests_log : (d : Option Digest) → DigestsRows count all (Ok d) → DigestsFirst count requests (Ok d)
+  digests_log (Some d) it = (
     omega (arith, it.0, count_same),
     subst (λ (l : List AnsweredRequest). IsDigestOf l d) (sym (take-map answered_in count all) ∙ ap (take count) same) it.1.0,
   )
-  digests_log (Ok None) it = omega (arith, it, count_same)
-  digests_log (Err fault) it = tt
+  digests_log None it = omega (arith, it, count_same)
 
 -- all of them are
 pub agrees_log : (all : List KeptItem) (requests : List AnsweredRequest) → map answered_in all ≡ requests
@@ -37,3 +36,11 @@ agrees_log all requests same (Ok (Agrees d)) is = subst (λ (l : List AnsweredRe
 agrees_log all requests same (Ok (Differs d)) is = tt
 agrees_log all requests same (Ok (Otherwise table)) is = tt
 agrees_log all requests same (Err fault) is = tt
+
+-- a log's are never told to be damaged
+pub digests_err : (count : ℕ) (requests : List AnsweredRequest) (fault : Fault)
+    → ((rule : Rule) → fault ≡ Damaged rule → ⊥) → DigestsFirst count requests (Err fault)
+digests_err count requests Memory sound = tt
+digests_err count requests Store sound = tt
+digests_err count requests Down sound = tt
+digests_err count requests (Damaged rule) sound = sound rule refl

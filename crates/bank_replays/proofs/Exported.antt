@@ -1,13 +1,29 @@
 -- Records of kept rows, one row more, and those of a log.
-use Rattle.std.proofs.Common.{◌≡◌, ◌++◌, ℕ, Bool, true, false, cond, List, [], ◌∷◌, map, filter, Option, sym, ap, ◌∙◌}
-use Rattle.std.proofs.Common.{append-nil}
-use Rattle.std.specs.List.{flat_map}
+use Rattle.std.proofs.Common.{◌≡◌, ◌++◌, ℕ, Bool, true, false, cond, List, [], ◌∷◌, map, filter, Option, Result, Ok, Err}
+use Rattle.std.proofs.Common.{refl, sym, ap, subst, ◌∙◌, append-nil, append_assoc, inl, inr}
+use Rattle.std.specs.{Io.KnownBytes.Appends, Prelude.IfErr, Prelude.OnOk}
+use Rattle.std.specs.List.{AllByRecursion, flat_map}
+use Rattle.std.proofs.KnownBytes.{Appends-nil, Appends-trans}
 use Rattle.std.proofs.lemmas.List.{map-append, Concat.flat_map-append, Elements.filter-append}
 use Rattle.report_contents.specs.Written.{AppendsPart}
-use Rattle.report_contents.proofs.Written.{first_part, same_part}
+use Rattle.report_contents.proofs.Written.{first_part, later_failed, same_all, same_part, then_part}
+use Rattle.posting_core.specs.Told.{HasWriteFailed, WriteTold}
+use Rattle.posting_core.proofs.Telling.{more_more}
+use Rattle.posting_rules.specs.declared.fault.Fault.{Fault}
+use Rattle.posting_rules.specs.declared.fault.Fault.TheVariants.{Damaged, Down, Memory, Store}
+use Rattle.walked_rows.proofs.RisingRows.{all-append}
 use Rattle.message_records.specs.believed.Spelling.{request_spelling}
-use Rattle.walked_rows.specs.{KeptRows.KeptItem, KeptRows.kept_item, declared.kept.KeptRequest.KeptRequest}
+use Rattle.walked_rows.specs.{KeptRows.BreaksKept, KeptRows.KeptItem, KeptRows.kept_item, declared.kept.KeptRequest.KeptRequest}
+use Rattle.posting_rules.specs.declared.fault.Rule.{Rule}
+use Rattle.bank_replays.specs.{Handing.Bars, Handing.Why, Refusing.RefusesExport}
+use Rattle.bank_replays.specs.{Prefixes.memory_is, Prefixes.not_write, Requests.IsRequestRow}
 use Rattle.bank_replays.specs.{Requests.request_in, Writing.is_after, Writing.records_after}
+use Rattle.bank_replays.specs.Writing.{BreaksExport, ExportsRows, IsExported, Puts, WroteRecords, WroteSomeRecords}
+use Rattle.bank_replays.specs.declared.fault.ReplayFault.{ReplayFault, TheVariants.Bank, TheVariants.Write}
+use Rattle.bank_replays.proofs.Wrote.{end_part, end_wrote}
+
+not_both : (b : Bool) → b ≡ true → b ≡ false → ⊥
+not_both b t f = cc
 
 abbrev pub record_of : KeptItem → List ℕ
 record_of k = request_spelling (request_in k)
@@ -39,6 +55,169 @@ module _ (after : ℕ) where
   record_more rows row is =
       ap (λ (t : List ℕ). records_after after (map kept_item rows) ++ t) (sym (one_record (kept_item row) is))
       ∙ records_more rows row
+
+-- ---- what is left of the writer, one row more
+
+module _ (after : ℕ) (rows : List KeptRequest) (row : KeptRequest) {old mid : Option (List ℕ)}
+    {t t' : Option (List WriteTold)} (took : WroteRecords after (map kept_item rows) old mid t t') where
+  each_more : IsExported after (kept_item row) → AllByRecursion (IsExported after) (map kept_item (rows ++ row ∷ []))
+  each_more is =
+      subst (AllByRecursion (IsExported after)) (sym (map-append kept_item rows (row ∷ [])))
+      (all-append (IsExported after) (map kept_item rows) (kept_item row ∷ []) took.each (is, tt))
+
+  -- it isn't after the ordinal
+  pub records_past : is_after after (kept_item row) ≡ false
+      → WroteRecords after (map kept_item (rows ++ row ∷ [])) old mid t t'
+  records_past is = record {
+    wrote = (
+      same_all old mid
+          (sym (append-nil (records_after after (map kept_item rows)))
+          ∙ ap (λ (x : List ℕ). records_after after (map kept_item rows) ++ x) (sym (no_record after (kept_item row) is))
+          ∙ records_more after rows row) took.wrote.0,
+      took.wrote.1,
+    );
+    each = each_more (λ above. absurd (not_both (is_after after (kept_item row)) above is));
+  }
+
+  -- it is that of no request
+  pub records_refused : (fault : Fault) → (fault ≡ Memory → ⊥)
+      → WroteSomeRecords after (map kept_item rows) (kept_item row ∷ []) old mid t t' (Bank fault)
+  records_refused fault other = record {
+    wrote = took.wrote;
+    each = took.each;
+    last = λ is. absurd (not_write fault is);
+    many = λ is. absurd (other (memory_is fault is));
+  }
+
+  module _ (is : is_after after (kept_item row) ≡ true) (request : IsRequestRow (kept_item row)) (bytes : List ℕ)
+      (same : bytes ≡ record_of (kept_item row)) {new : Option (List ℕ)} {t'' : Option (List WriteTold)} where
+    -- it was written
+    pub records_put : (result : Result (Unit {0}) ReplayFault) → Puts bytes mid new t' t'' result
+        → OnOk result (WroteRecords after (map kept_item (rows ++ row ∷ [])) old new t t'')
+    records_put (Ok done) puts = record {
+      wrote = (
+        same_all old new
+            (ap (λ (x : List ℕ). records_after after (map kept_item rows) ++ x) same ∙ record_more after rows row is)
+            (Appends-trans old mid new (records_after after (map kept_item rows)) bytes took.wrote.0 puts.text),
+        more_more took.wrote.1 puts.more,
+      );
+      each = each_more (λ above. request);
+    }
+    records_put (Err fault) puts = tt
+
+    -- or a prefix of it was
+    pub records_part : (result : Result (Unit {0}) ReplayFault) → Puts bytes mid new t' t'' result
+        → IfErr result (λ fault. WroteSomeRecords after (map kept_item rows) (kept_item row ∷ []) old new t t'' fault)
+    records_part (Ok done) puts = tt
+    records_part (Err fault) puts =
+        subst (λ (fault : ReplayFault). WroteSomeRecords after (map kept_item rows) (kept_item row ∷ []) old new t t'' fault)
+        (sym puts.only)
+        (record {
+          wrote = (
+            same_part old new
+                (ap (λ (x : List ℕ). records_after after (map kept_item rows) ++ x)
+                (same ∙ sym (one_record after (kept_item row) is)))
+                (then_part old mid new (records_after after (map kept_item rows)) bytes took.wrote.0 puts.text),
+            later_failed took.wrote.1 puts.failed,
+          );
+          each = took.each;
+          last = λ write. (λ above. request, tt);
+          many = λ memory. absurd cc;
+        })
+
+-- ---- the end
+
+-- where the writer is said to have failed it did
+pub records_failed : {after : ℕ} {items next : List KeptItem} {old new : Option (List ℕ)}
+    {t t' : Option (List WriteTold)} (fault : ReplayFault) → WroteSomeRecords after items next old new t t' fault
+    → fault ≡ Write → HasWriteFailed t t'
+records_failed Write some is = some.wrote.1
+records_failed (Bank fault) some is = absurd (not_write fault is)
+
+as_export : (after : ℕ) (rule : Rule) (k : KeptItem) → Bars kept_item BreaksKept (RefusesExport after) rule k
+    → BreaksExport after rule k
+as_export after rule k (inl breaks) = inl breaks
+as_export after rule k (inr refused) = inr (
+  refused.2.0,
+  subst (λ k. is_after after k ≡ true) (sym refused.1) refused.2.1,
+  λ request. refused.2.2 (subst IsRequestRow refused.1 request),
+)
+
+module _ (after : ℕ) (all : List KeptItem) where
+  -- a fault came at the next of the rows, or at none of them
+  pub exports_part : (Failed WasDown : Type 0) {old new : Option (List ℕ)} {t t' : Option (List WriteTold)}
+      (items next rest : List KeptItem) → items ++ (next ++ rest) ≡ all
+      → (fault : ReplayFault) → WroteSomeRecords after items next old new t t' fault
+      → Why (Bars kept_item BreaksKept (RefusesExport after)) Failed WasDown (next ++ rest) fault
+      → ExportsRows after all old new (Err fault)
+  exports_part Failed WasDown {old} {new} items next rest are Write part why = record {
+    given = items ++ next;
+    rest = rest;
+    are = append_assoc items next rest ∙ are;
+    each = all-append (IsExported after) items next part.each (part.last refl);
+    wrote = same_part old new (sym (records-append after items next)) part.wrote.0;
+    why = tt;
+  }
+  exports_part Failed WasDown {old} {new} items next rest are (Bank Memory) part why = record {
+    given = items;
+    rest = next ++ rest;
+    are = are;
+    each = part.each;
+    wrote = part.wrote.0;
+    why = part.many refl;
+  }
+  exports_part Failed WasDown {old} {new} items next rest are (Bank Store) part why = record {
+    given = items;
+    rest = next ++ rest;
+    are = are;
+    each = part.each;
+    wrote = part.wrote.0;
+    why = tt;
+  }
+  exports_part Failed WasDown {old} {new} items next rest are (Bank Down) part why = record {
+    given = items;
+    rest = next ++ rest;
+    are = are;
+    each = part.each;
+    wrote = part.wrote.0;
+    why = tt;
+  }
+  exports_part Failed WasDown {old} {new} items next rest are (Bank (Damaged rule)) part why = record {
+    given = items;
+    rest = next ++ rest;
+    are = are;
+    each = part.each;
+    wrote = part.wrote.0;
+    why = (why.0, why.1, why.2, as_export after rule why.0 why.3);
+  }
+
+  module _ {old mid new : Option (List ℕ)} {t t' : Option (List WriteTold)} (items : List KeptItem) (are : items ≡ all)
+      (took : WroteRecords after items old mid t t') where
+    -- all were written, and what comes at the end couldn't be
+    pub exports_end : AppendsPart mid new [] → ExportsRows after all old new (Err Write)
+    exports_end end = record {
+      given = items;
+      rest = [];
+      are = append-nil items ∙ are;
+      each = took.each;
+      wrote = end_part old mid new (records_after after items) took.wrote.0 end;
+      why = tt;
+    }
+
+    pub exports_all : Appends mid new [] → ExportsRows after all old new (Ok tt)
+    exports_all end = record {
+      given = items;
+      rest = [];
+      are = append-nil items ∙ are;
+      each = took.each;
+      wrote = end_wrote old mid new (records_after after items) took.wrote.0 end;
+      why = refl;
+    }
+
+-- nothing was written
+pub exports_none : (after : ℕ) (all : List KeptItem) (w : Option (List ℕ)) → ExportsRows after all w w (Err (Bank Down))
+exports_none after all w =
+    record { given = []; rest = all; are = refl; each = tt; wrote = Appends-nil w; why = tt }
 
 -- the records of the first rows are a prefix of those of all
 pub records_of_part : (old new : Option (List ℕ)) (after : ℕ) (items rest all : List KeptItem) → items ++ rest ≡ all

@@ -1,5 +1,5 @@
 -- What two walks gave, and the first rows of theirs that differ.
-use Rattle.std.proofs.Common.{◌≡◌, ◌≢◌, ◌<◌, ◌≤◌, ◌++◌, ℕ, ℤ, pos, Bool, true, false, cond, List, [], ◌∷◌, find, Option, Some, None, Ok}
+use Rattle.std.proofs.Common.{◌≡◌, ◌<◌, ◌≤◌, ◌++◌, ℕ, ℤ, pos, Bool, true, false, List, [], ◌∷◌, find, Option, Some, None, Ok}
 use Rattle.std.proofs.Common.{Less, int_cmp, int_eq, refl, sym, ap, subst, ◌∙◌, inl, inr, arith}
 use Rattle.std.specs.{Prelude.◌≤ℤ◌, Prelude.◌<ℤ◌, Prelude.IsSome, Prelude.option_map, List.AllByRecursion}
 use Rattle.std.proofs.lemmas.{Bool.cases_Bool, Int.ints}
@@ -18,7 +18,7 @@ pub record SameSoFar {X : Type 0} (all others rest rest' : List X) : Type 0 wher
   pub are : given ++ rest ≡ all
   pub are_due : given ++ rest' ≡ others
 
-row_after : {X : Type 0} (xs : List X) (x : X) (more : List X) → (xs ++ x ∷ []) ++ more ≡ xs ++ x ∷ more
+pub row_after : {X : Type 0} (xs : List X) (x : X) (more : List X) → (xs ++ x ∷ []) ++ more ≡ xs ++ x ∷ more
 row_after [] x more = refl
 row_after (y ∷ xs) x more = ap (λ l. y ∷ l) (row_after xs x more)
 

@@ -1,25 +1,23 @@
 -- Requests that are posted again where they were decided get the verdicts that they got.
-use Rattle.std.proofs.Common.{◌≡◌, ◌∙◌, ◌+◌, ◌++◌, ℕ, suc, Bool, true, false, List, [], ◌∷◌, map, drop, length, find}
-use Rattle.std.proofs.Common.{Option, Some, None, Result, Ok, Err, refl, sym, ap, subst, append-nil, inl, inr}
-use Rattle.std.proofs.Common.{arith, cond}
-use Rattle.std.specs.{Prelude.◌&&◌, Prelude.◌==◌, Option.option_map}
+use Rattle.std.proofs.Common.{◌≡◌, ◌∙◌, ◌++◌, ℕ, Bool, List, [], ◌∷◌, map, drop, length}
+use Rattle.std.proofs.Common.{Option, Result, Ok, Err, refl, sym, ap, subst, append-nil, inl, inr}
+use Rattle.std.proofs.Common.{arith}
+use Rattle.std.specs.{Prelude.◌&&◌, Prelude.◌==◌}
 use Rattle.std.proofs.lemmas.{Bool.cases_Bool, List.append_assoc, List.drop-append-le, List.drop_all, List.length-append, List.length-map}
 use Rattle.message_records.specs.believed.{Reading.request_of, Records.RequestFields, Spelling.request_spelling}
-use Rattle.message_records.specs.declared.{fault.Bad.Bad, records.Outcome.Outcome}
-use Rattle.message_records.specs.declared.limits.TheConstants.{REQUEST_BYTES}
+use Rattle.message_records.specs.declared.{fault.Bad.Bad}
 use Rattle.message_records.proofs.Requests.{request_takes}
 use Rattle.posting_core.specs.believed.Stream.{posted_records}
 use Rattle.posting_rules.specs.believed.Cases.{case_of}
 use Rattle.posting_rules.specs.believed.Commands.{AreCommands, Command, Open, Post, Terms, opened}
-use Rattle.posting_rules.specs.believed.Entries.{DecidedRequest, decided, facts, is_posted, kept, kept_fields, posted_entry}
+use Rattle.posting_rules.specs.believed.Entries.{DecidedRequest, decided, facts, is_posted, kept, posted_entry}
 use Rattle.posting_rules.specs.believed.Entries.{posted_sum, refused_entry, with_record, with_verdict}
-use Rattle.posting_rules.specs.believed.Kept.{KeptFields}
 use Rattle.posting_rules.specs.believed.Numbering.{branch_of_account, branch_of_teller}
 use Rattle.posting_rules.specs.believed.Runs.{ArePosts, followed_by}
 use Rattle.posting_rules.specs.declared.judgments.{Found.Found, Verdict.Verdict}
 use Rattle.posting_rules.specs.declared.judgments.Verdict.TheVariants.{Again, Posted, Refused, Unkept}
 use Rattle.bank_replays.specs.Digests.{answered_of, each_answered}
-use Rattle.bank_replays.specs.GivenBack.{AreAlike, GivesBack, record_of, records_since, unmoved}
+use Rattle.bank_replays.specs.GivenBack.{GivesBack, record_of, records_since, unmoved}
 use Rattle.bank_replays.specs.Requests.{AnsweredRequest}
 
 -- ---- what is known of a request doesn't depend on moments

@@ -1,12 +1,17 @@
 -- Rows that are handed on, one more.
-use Rattle.std.proofs.Common.{◌≡◌, ◌≤◌, ◌+◌, ◌++◌, ℕ, List, [], ◌∷◌, map, take, drop, length, Ok, Err, Some, None}
-use Rattle.std.proofs.Common.{refl, sym, ap, ◌∙◌, append-nil, arith}
+use Rattle.std.proofs.Common.{◌≡◌, ◌≤◌, ◌<◌, ◌+◌, ◌++◌, ℕ, List, [], ◌∷◌, map, take, drop, length, Option, Ok, Err, Some, None}
+use Rattle.std.proofs.Common.{refl, sym, ap, subst, ◌∙◌, append-nil, arith, inr}
 use Rattle.std.specs.Prelude.{◌≢◌}
 use Rattle.std.proofs.lemmas.List.{length-append, length-map, length-take, take-append-drop, take-append-le, take_all}
 use Rattle.posting_rules.specs.declared.fault.Rule.{Rule}
 use Rattle.bank_store.specs.Walking.{Steps}
-use Rattle.bank_replays.specs.Handing.{HandsAll, HandsPart, HandsSome}
+use Rattle.posting_rules.specs.declared.fault.Fault.{Fault}
+use Rattle.posting_rules.specs.declared.fault.Fault.TheVariants.{Damaged, Down, Memory, Store}
+use Rattle.bank_replays.specs.Damaged.{Stops}
+use Rattle.bank_replays.specs.Handing.{Bars, HandsAll, HandsSome, IsRefusal, Why}
+use Rattle.bank_replays.specs.Prefixes.{memory_is}
 use Rattle.bank_replays.specs.declared.fault.ReplayFault.{ReplayFault}
+use Rattle.bank_replays.specs.declared.fault.ReplayFault.TheVariants.{Bank, Write}
 
 -- so many rows were handed on, of those that were to come, and these are to come yet
 pub record IsHanded {R X : Type 0} (item : R → X) (Took : List R → Type 0) (Clean : Type 0)
@@ -26,8 +31,46 @@ pub whole : {X : Type 0} (most : ℕ) (xs all : List X) → xs ≡ take most all
 whole {X} most xs all is few =
     is ∙ take_all most all (omega (arith, ap (λ (l : List X). length l) is, length-take most all, few))
 
-module _ {R X : Type 0} (item : R → X) (Took : List R → Type 0) (Part : List R → ReplayFault → Type 0)
-    (Breaks : Rule → X → Type 0)
+-- ---- why no more are handed on
+
+-- the row was refused
+pub why_refused : {R X : Type 0} (item : R → X) (Breaks : Rule → X → Type 0) (Refuses : Rule → R → Type 0)
+    (Failed WasDown : Type 0) (r : R) (fault : ReplayFault) → IsRefusal (λ rule. Refuses rule r) fault → (more : List X)
+    → Why (Bars item Breaks Refuses) Failed WasDown (item r ∷ more) fault
+why_refused item Breaks Refuses Failed WasDown r Write refusal more = tt
+why_refused item Breaks Refuses Failed WasDown r (Bank Memory) refusal more = tt
+why_refused item Breaks Refuses Failed WasDown r (Bank Store) refusal more = absurd refusal
+why_refused item Breaks Refuses Failed WasDown r (Bank Down) refusal more = absurd refusal
+why_refused item Breaks Refuses Failed WasDown r (Bank (Damaged rule)) refusal more =
+    (item r, more, refl, inr (r, refl, refusal))
+
+module _ {R X : Type 0} (item : R → X) (Breaks : Rule → X → Type 0) (Failed WasDown : Type 0) where
+  module _ (Reads : Rule → X → Type 0) (reads : (rule : Rule) (x : X) → Reads rule x → Breaks rule x)
+      (coming left : List X) where
+    -- the walk failed
+    pub why_stopped : (fault : Fault) → Steps {R = R} item Reads coming left (Err fault) → (fault ≡ Store → Failed)
+        → (fault ≡ Down → WasDown) → Why Breaks Failed WasDown coming (Bank fault)
+    why_stopped Memory step failed down = tt
+    why_stopped Store step failed down = failed refl
+    why_stopped Down step failed down = down refl
+    why_stopped (Damaged rule) step failed down = (step.0, step.1, step.2, reads rule step.0 step.3)
+
+  -- so a row that breaks the rule is among all
+  pub why_among : (before coming all : List X) → before ++ coming ≡ all → (fault : Fault)
+      → Why Breaks Failed WasDown coming (Bank fault) → Stops Breaks Failed WasDown all fault
+  why_among before coming all are Memory why = tt
+  why_among before coming all are Store why = why
+  why_among before coming all are Down why = why
+  why_among before coming all are (Damaged rule) why =
+      (before, why.0, why.1, sym are ∙ ap (λ l. before ++ l) why.2, why.3)
+
+pub not_memory : (fault : Fault) → fault ≡ Down → fault ≡ Memory → ⊥
+not_memory fault down memory = cc
+
+-- ---- rows
+
+module _ {R X : Type 0} (item : R → X) (Took : List R → Type 0) (Part : List R → Option R → ReplayFault → Type 0)
+    (WhyNot : List X → ReplayFault → Type 0) (Breaks : Rule → X → Type 0)
     (Clean Later : Type 0) (HasItems : List X → Type 0) (coming rest rest' : List X → List X) (count : ℕ)
     (before : Later → Clean) (it : IsHanded item Took Clean HasItems coming rest count) where
   are_more : (r : R) → (Later → (all : List X) → HasItems all → Steps item Breaks (rest all) (rest' all) (Ok (Some r)))
@@ -51,7 +94,7 @@ module _ {R X : Type 0} (item : R → X) (Took : List R → Type 0) (Part : List
   -- the end
   pub hands_end : (most : ℕ) → count ≤ most
       → (Later → (all : List X) → HasItems all → Steps {R = R} item Breaks (rest all) (rest' all) (Ok None))
-      → HandsSome item Took Part Later HasItems coming most (Ok count)
+      → HandsSome item Took Part WhyNot Later HasItems coming most (Ok count)
   hands_end most low step = (
     it.given,
     it.took,
@@ -64,19 +107,36 @@ module _ {R X : Type 0} (item : R → X) (Took : List R → Type 0) (Part : List
   )
 
   -- the row was refused
-  pub hands_refused : (r : R) (fault : ReplayFault) → Part (it.given ++ r ∷ []) fault
+  pub hands_refused : (most : ℕ) → count < most → (r : R) (fault : ReplayFault) → Part it.given (Some r) fault
+      → ((more : List X) → WhyNot (item r ∷ more) fault)
       → (Later → (all : List X) → HasItems all → Steps item Breaks (rest all) (rest' all) (Ok (Some r)))
-      → HandsPart item Took Part Later HasItems coming fault
-  hands_refused r fault part step =
-      (it.given ++ r ∷ [], part, λ late all items. (rest' all, are_more r step late all items))
+      → HandsSome item Took Part WhyNot Later HasItems coming most (Err fault)
+  hands_refused most few r fault part why step = (
+    it.given,
+    Some r,
+    part,
+    λ is. omega (arith, few, it.many),
+    λ late all items. (
+      rest' all,
+      ap (λ l. map item it.given ++ l) (sym (step late all items)) ∙ it.are (before late) all items,
+      why (rest' all),
+    ),
+  )
 
   -- the walk failed
-  pub hands_part : (fault : ReplayFault) → Part it.given fault
-      → HandsPart item Took Part Later HasItems coming fault
-  hands_part fault part = (it.given, part, λ late all items. (rest all, it.are (before late) all items))
+  pub hands_part : (most : ℕ) (fault : Fault) → (fault ≡ Memory → ⊥) → Part it.given None (Bank fault)
+      → (Later → (all : List X) → HasItems all → WhyNot (rest all) (Bank fault))
+      → HandsSome item Took Part WhyNot Later HasItems coming most (Err (Bank fault))
+  hands_part most fault frugal part why = (
+    it.given,
+    None,
+    part,
+    λ is. absurd (frugal (memory_is fault is)),
+    λ late all items. (rest all, it.are (before late) all items, why late all items),
+  )
 
   -- there are as many as were asked for
-  pub hands_most : HandsSome item Took Part Later HasItems coming count (Ok count)
+  pub hands_most : HandsSome item Took Part WhyNot Later HasItems coming count (Ok count)
   hands_most = (
     it.given,
     it.took,
@@ -89,24 +149,47 @@ module _ {R X : Type 0} (item : R → X) (Took : List R → Type 0) (Part : List
         ∙ ap (take count) (it.are (before late) all items),
   )
 
-module _ {R X : Type 0} (item : R → X) (Took : List R → Type 0) (Part : List R → ReplayFault → Type 0)
-    (Clean : Type 0) (HasItems : List X → Type 0) (most count : ℕ)
-    (it : HandsSome item Took Part Clean HasItems (λ all. all) most (Ok count)) where
-  -- fewer than the most are all
-  pub all_handed : count ≢ most → HandsAll item Took Part Clean HasItems (Ok tt)
-  all_handed few = (
-    it.0,
-    it.1,
-    λ clean all items.
-        whole most (map item it.0) all (it.3 clean all items)
-        (λ is. few (sym (length-map it.0 item ∙ it.2) ∙ is)),
+module _ {R X : Type 0} (item : R → X) (Took : List R → Type 0) (Part : List R → Option R → ReplayFault → Type 0)
+    (WhyNot : List X → ReplayFault → Type 0) (Clean : Type 0) (HasItems : List X → Type 0) (most : ℕ) where
+  -- the bank was down
+  pub hands_down : (fault : Fault) → fault ≡ Down → Part [] None (Bank fault) → ((coming : List X) → WhyNot coming (Bank Down))
+      → HandsSome item Took Part WhyNot Clean HasItems (λ all. all) most (Err (Bank fault))
+  hands_down fault down part why = (
+    [],
+    None,
+    part,
+    λ is. absurd (not_memory fault down (memory_is fault is)),
+    λ clean all items. (all, refl, subst (λ (f : Fault). WhyNot all (Bank f)) (sym down) (why all)),
   )
 
-  -- as many as the most may be but some
-  pub part_handed : (fault : ReplayFault) → Part it.0 fault → HandsAll item Took Part Clean HasItems (Err fault)
-  part_handed fault part = (
-    it.0,
-    part,
-    λ clean all items.
-        (drop most all, ap (λ l. l ++ drop most all) (it.3 clean all items) ∙ take-append-drop most all),
-  )
+  -- a fault came before all were taken
+  pub some_handed : (fault : ReplayFault)
+      → HandsSome item Took Part WhyNot Clean HasItems (λ all. all) most (Err fault)
+      → HandsAll item Took Part WhyNot Clean HasItems (Err fault)
+  some_handed fault it = (it.0, it.1, it.2, tt, it.4)
+
+  module _ (count : ℕ) (it : HandsSome item Took Part WhyNot Clean HasItems (λ all. all) most (Ok count)) where
+    -- fewer than the most are all
+    pub all_handed : count ≢ most → HandsAll item Took Part WhyNot Clean HasItems (Ok tt)
+    all_handed few = (
+      it.0,
+      it.1,
+      λ clean all items.
+          whole most (map item it.0) all (it.3 clean all items)
+          (λ is. few (sym (length-map it.0 item ∙ it.2) ∙ is)),
+    )
+
+    -- as many as the most may be but some
+    pub part_handed : (fault : ReplayFault) → Part it.0 None fault → ((more : List X) → WhyNot more fault)
+        → HandsAll item Took Part WhyNot Clean HasItems (Err fault)
+    part_handed fault part why = (
+      it.0,
+      None,
+      part,
+      tt,
+      λ clean all items. (
+        drop most all,
+        ap (λ l. l ++ drop most all) (it.3 clean all items) ∙ take-append-drop most all,
+        why (drop most all),
+      ),
+    )

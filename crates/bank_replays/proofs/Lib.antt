@@ -11,11 +11,13 @@ pub mod Comparisons
 pub mod Begun
 pub mod GivenBack
 pub mod Hands
+pub mod Whys
 pub mod Refilled
 pub mod SameNumbers
 pub mod Chained
 pub mod Wrote
 pub mod LogRows
+pub mod SoundLogs
 pub mod Digested
 pub mod InMemory
 pub mod Leaves

@@ -52,13 +52,13 @@ logged_is row r y m came got is =
 -- ---- a row more
 
 module _ (after : ℕ) where
-  entries-append : (xs ys : List KeptItem)
+  pub entries-append : (xs ys : List KeptItem)
       → entries_after after (xs ++ ys) ≡ entries_after after xs ++ entries_after after ys
   entries-append xs ys =
       ap (flat_map entry_at) (filter-append (is_after after) xs ys)
       ∙ flat_map-append entry_at (filter (is_after after) xs) (filter (is_after after) ys)
 
-  one_entry : (k : KeptItem) → is_after after k ≡ true → entries_after after (k ∷ []) ≡ entry_at k
+  pub one_entry : (k : KeptItem) → is_after after k ≡ true → entries_after after (k ∷ []) ≡ entry_at k
   one_entry k is = ap (λ (b : Bool). flat_map entry_at (cond b (k ∷ []) [])) is ∙ append-nil (entry_at k)
 
   no_entry : (k : KeptItem) → is_after after k ≡ false → entries_after after (k ∷ []) ≡ []

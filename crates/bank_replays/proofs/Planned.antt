@@ -1,5 +1,6 @@
 -- The lines of a plan, one branch more, and the whole text.
 use Rattle.std.proofs.Common.{◌≡◌, ◌++◌, ℕ, pos, List, [], ◌∷◌, map, Option, Some, None, refl, sym, ap, subst, ◌∙◌}
+use Rattle.std.proofs.Common.{append-nil, append_assoc}
 use Rattle.std.specs.{Prelude.option_map, Io.KnownBytes.Appends}
 use Rattle.std.proofs.{KnownBytes.Appends-trans, lemmas.List.map-append}
 use Rattle.posting_rules.specs.believed.Tables.{row_at}
@@ -33,6 +34,10 @@ module _ (floors : List Entry) where
       ap text_of (map-append (plan_line floors) xs ys)
       ∙ text_of-append (map (plan_line floors) xs) (map (plan_line floors) ys)
 
+  -- the line of one
+  pub one_line : (e : Entry) → plan_line floors e ≡ plan_lines floors (e ∷ [])
+  one_line e = sym (append-nil (plan_line floors e))
+
   -- a branch more
   pub line_more : (rows : List StoredBranch) (row : StoredBranch)
       → plan_lines floors (map branch_entry rows) ++ plan_line floors (branch_entry row)
@@ -46,15 +51,18 @@ module _ (floors : List Entry) where
 
 module _ (old mid : Option (List ℕ)) (those floors items : List Entry) (branches : List Entry)
     (same : those ≡ floors) (names : Appends old mid plan_names) where
-  -- the lines so far
-  pub plan_part : (new : Option (List ℕ)) (rest : List Entry) → items ++ rest ≡ branches
-      → AppendsPart mid new (plan_lines those items) → AppendsPart old new (plan_text floors branches)
-  plan_part new rest are part =
+  -- the lines so far, and a part of the next
+  pub plan_part : (new : Option (List ℕ)) (next rest : List Entry) → items ++ (next ++ rest) ≡ branches
+      → AppendsPart mid new (plan_lines those items ++ plan_lines those next)
+      → AppendsPart old new (plan_text floors branches)
+  plan_part new next rest are part =
       then_part old mid new plan_names (plan_lines floors branches) names
       (same_part mid new
-      (sym (lines-append those items rest) ∙ ap (plan_lines those) are
+      (ap (λ (t : List ℕ). t ++ plan_lines those rest) (sym (lines-append those items next))
+      ∙ sym (lines-append those (items ++ next) rest)
+      ∙ ap (plan_lines those) (append_assoc items next rest ∙ are)
       ∙ ap (λ (l : List Entry). plan_lines l branches) same)
-      (first_part mid new (plan_lines those items) (plan_lines those rest) part))
+      (first_part mid new (plan_lines those items ++ plan_lines those next) (plan_lines those rest) part))
 
   module _ (late new : Option (List ℕ)) (are : items ≡ branches) (lines : Appends mid late (plan_lines those items))
     where

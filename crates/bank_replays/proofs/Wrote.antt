@@ -5,9 +5,10 @@ use Rattle.std.proofs.KnownBytes.{Appends-trans}
 use Rattle.posting_core.specs.believed.Told.{EndsWith}
 use Rattle.posting_core.specs.Told.{HasMore, HasWriteFailed, IsFlush, WriteTold}
 use Rattle.posting_core.proofs.Telling.{more_last, more_more}
-use Rattle.posting_rules.specs.declared.fault.Fault.{Fault}
+use Rattle.posting_rules.specs.declared.{fault.Fault.Fault, fault.Rule.Rule}
 use Rattle.report_contents.specs.Written.{AppendsPart}
 use Rattle.report_contents.proofs.Written.{first_part, later_failed, same_all, same_part, then_part}
+use Rattle.bank_replays.specs.Handing.{IsRefusal}
 use Rattle.bank_replays.specs.Writing.{LeavesWriter, Puts, Wrote, WrotePart}
 use Rattle.bank_replays.specs.declared.fault.ReplayFault.{ReplayFault, TheVariants.Bank, TheVariants.Write}
 
@@ -27,6 +28,12 @@ module _ (old mid new : Option (List ℕ)) {t t' t'' : Option (List WriteTold)} 
     same_part old new same (then_part old mid new a b wrote.0 puts.text),
     λ is. later_failed wrote.1 puts.failed,
   )
+
+-- the writer's fault is no row's
+pub writer_refuses : (Breaks : Rule → Type 0) (result : Result (Unit {0}) ReplayFault)
+    → IfErr result (λ fault. fault ≡ Write) → IfErr result (IsRefusal Breaks)
+writer_refuses Breaks (Ok done) only = tt
+writer_refuses Breaks (Err fault) only = rw only tt
 
 -- what was written is a prefix of more
 pub part_of : (old new : Option (List ℕ)) {t t' : Option (List WriteTold)} {fault : ReplayFault} (a b text : List ℕ)

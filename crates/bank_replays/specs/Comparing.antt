@@ -1,12 +1,12 @@
 -- What a comparison of two banks says, and what it leaves of each.
-use Rattle.std.specs.Prelude.{◌≡◌, ◌⊎◌, ℤ, List, Option, Some, None, Result, Ok, Err, option_map}
+use Rattle.std.specs.Prelude.{◌≡◌, ◌⊎◌, ℤ, List, Option, Some, None, Result, Ok, option_map}
 use Rattle.sqlite.specs.Effect.{Database}
 use Rattle.sqlite.specs.State.{HasCleanDisk}
 use Rattle.sqlite_trees.specs.declared.store.Store.{Ghosts}
 use Rattle.posting_rules.specs.declared.fault.Fault.{Fault}
-use Rattle.posting_rules.specs.declared.fault.Fault.TheVariants.{Down}
-use Rattle.bank_store.specs.believed.Seen.{bank_seen, database_of, file_of}
+use Rattle.bank_store.specs.believed.Seen.{database_of, file_of}
 use Rattle.bank_store.specs.declared.bank.Bank.{Bank}
+use Rattle.bank_replays.specs.Damaged.{TellsWhy}
 use Rattle.bank_replays.specs.NextRows.{DifferFirst, HaveRisingKeys}
 use Rattle.bank_replays.specs.Reading.{ReadsBank}
 use Rattle.bank_replays.specs.declared.difference.Difference.{Difference}
@@ -44,7 +44,7 @@ pub record Compares {S T : Type 0} (g : Ghosts S) (h : Ghosts T) (old new : Bank
       → Same (database_of g old) (database_of h other)
   pub differs : HasCleanDisk (file_of new) → HasCleanDisk (file_of other') → (d : Difference)
       → result ≡ Ok (Some d) → Differ (database_of g old) (database_of h other) d
-  pub tried : result ≡ Err Down → (bank_seen g old).is_down
+  pub why : TellsWhy g (λ fault. fault) old new result
 
 -- both hold of two databases
 abbrev pub Both : (Database → Database → Type 0) → (Database → Database → Type 0) → Database → Database → Type 0

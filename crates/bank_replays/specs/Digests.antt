@@ -1,5 +1,5 @@
 -- The digest of requests in order, each with its reply and its moment.
-use Rattle.std.specs.Prelude.{◌≡◌, ◌≤◌, ◌<◌, ◌+◌, ◌++◌, ℕ, List, [], ◌∷◌, length, map, replicate, take, ⊤}
+use Rattle.std.specs.Prelude.{◌≡◌, ◌≢◌, ◌≤◌, ◌<◌, ◌+◌, ◌-◌, ◌^◌, ◌++◌, ℕ, List, [], ◌∷◌, length, map, replicate, take, ⊤}
 use Rattle.std.specs.Prelude.{Option, Some, None, Result, Ok, Err, if◌then◌else◌}
 use Rattle.std.specs.Int.{to_be_bytes, w64}
 use Rattle.std.specs.List.{AllByRecursion}
@@ -9,9 +9,12 @@ use Rattle.posting_rules.specs.believed.Cases.{kept_reply}
 use Rattle.posting_rules.specs.believed.Commands.{Command}
 use Rattle.posting_rules.specs.believed.Entries.{DecidedRequest, decided, is_posted, kept_fields}
 use Rattle.posting_rules.specs.declared.fault.Fault.{Fault}
+use Rattle.posting_rules.specs.declared.fault.Fault.TheVariants.{Damaged, Memory}
 use Rattle.walked_rows.specs.KeptRows.{KeptItem}
 use Rattle.bank_replays.specs.Requests.{AnsweredRequest, IsAnsweredRow, answered_in}
 use Rattle.bank_replays.specs.declared.chain.Digest.{Digest}
+use Rattle.bank_replays.specs.declared.fault.ReplayFault.{ReplayFault}
+use Rattle.bank_replays.specs.declared.fault.ReplayFault.TheVariants.{Bank, Write}
 
 -- the digest after one request more: SHA-256 of the one before it, the record, the reply and the moment
 abbrev pub chained : List ℕ → AnsweredRequest → List ℕ
@@ -62,12 +65,17 @@ pub record GoesOnBy (first last : Digest) (items : List KeptItem) : Type 0 where
   pub sha256 : last.sha256 ≡ digest_from first.sha256 (map answered_in items)
   pub each : AllByRecursion IsAnsweredRow items
 
+-- why no more rows were digested: the writer has no part in it, and there is memory for as many as can be counted
+abbrev pub EndsDigest : {R : Type 0} → Digest → List R → ReplayFault → Type 0
+EndsDigest first rows fault = (fault ≢ Write) × (fault ≡ Bank Memory → 2 ^ 64 - 1 ≤ first.requests + length rows)
+
 -- ---- what is answered
 
--- the digest of the first so many of these requests, unless there are fewer
+-- the digest of the first so many of these requests, unless there are fewer; they are never told to be damaged
 abbrev pub DigestsFirst : ℕ → List AnsweredRequest → Result (Option Digest) Fault → Type 0
 DigestsFirst count requests (Ok (Some d)) = (count ≤ length requests) × IsDigestOf (take count requests) d
 DigestsFirst count requests (Ok None) = length requests < count
+DigestsFirst count requests (Err (Damaged rule)) = ⊥
 DigestsFirst count requests (Err fault) = ⊤
 
 -- the same of kept rows

@@ -11,7 +11,10 @@ pub mod Comparing
 pub mod Replays
 pub mod Came
 pub mod Requests
+pub mod Damaged
 pub mod Digests
 pub mod Writing
 pub mod Logs
+pub mod Refusing
+pub mod Holding
 pub mod Prefixes

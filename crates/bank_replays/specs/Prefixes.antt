@@ -1,14 +1,19 @@
 -- What holds before the first row is handed on, and of a fault of the bank.
-use Rattle.std.specs.Prelude.{◌≡◌, ⊤, ℕ, List, [], Option}
-use Rattle.std.proofs.Common.{refl, sym, subst}
+use Rattle.std.specs.Prelude.{◌≡◌, ◌≤◌, ◌-◌, ◌^◌, ◌++◌, ⊤, ℕ, List, [], Option, map}
+use Rattle.std.proofs.Common.{refl, sym, subst, arith}
 use Rattle.std.proofs.Math.Nat.{zero-add}
 use Rattle.std.proofs.KnownBytes.{Appends-nil}
+use Rattle.std.proofs.lemmas.List.{length-map}
 use Rattle.posting_core.specs.Told.{WriteTold}
 use Rattle.posting_core.proofs.Telling.{more_none}
 use Rattle.posting_rules.specs.declared.fault.Fault.{Fault}
-use Rattle.report_contents.proofs.Written.{whole_part}
-use Rattle.bank_replays.specs.Digests.{GoesOnBy}
-use Rattle.bank_replays.specs.Writing.{Wrote, WrotePart}
+use Rattle.posting_rules.specs.declared.fault.Fault.TheVariants.{Memory}
+use Rattle.report_contents.proofs.Written.{first_part, whole_part}
+use Rattle.walked_rows.specs.KeptRows.{kept_item}
+use Rattle.walked_rows.specs.declared.kept.KeptRequest.{KeptRequest}
+use Rattle.bank_replays.specs.Digests.{EndsDigest, GoesOnBy}
+use Rattle.bank_replays.specs.Handing.{AreTooMany}
+use Rattle.bank_replays.specs.Writing.{WroteRecords, WroteSomeRecords, Wrote, WrotePart}
 use Rattle.bank_replays.specs.declared.chain.Digest.{Digest}
 use Rattle.bank_replays.specs.declared.fault.ReplayFault.{ReplayFault}
 use Rattle.bank_replays.specs.declared.fault.ReplayFault.TheVariants.{Bank, Write}
@@ -21,15 +26,47 @@ none_after d = record { requests = sym (zero-add d.requests); sha256 = refl; eac
 pub wrote_none : (w : Option (List ℕ)) (t : Option (List WriteTold)) → Wrote [] w w t t
 wrote_none w t = (Appends-nil w, more_none t)
 
+pub records_none : (after : ℕ) (w : Option (List ℕ)) (t : Option (List WriteTold)) → WroteRecords after [] w w t t
+records_none after w t = record { wrote = wrote_none w t; each = tt }
+
 -- it isn't the writer's
 abbrev IsBank : ReplayFault → Type 0
 IsBank Write = ⊥
 IsBank (Bank fault) = ⊤
 
-not_write : (fault : Fault) → (let f : ReplayFault = Bank fault in f) ≡ Write → ⊥
+pub not_write : (fault : Fault) → (let f : ReplayFault = Bank fault in f) ≡ Write → ⊥
 not_write fault is = subst IsBank is tt
 
--- all of a text is a prefix of it
-pub all_part : (old new : Option (List ℕ)) (text : List ℕ) {t t' : Option (List WriteTold)} → Wrote text old new t t'
-    → (fault : Fault) → WrotePart text old new t t' (Bank fault)
-all_part old new text wrote fault = (whole_part old new text wrote.0, λ is. absurd (not_write fault is))
+-- it is for want of memory
+abbrev IsMemory : ReplayFault → Type 0
+IsMemory Write = ⊥
+IsMemory (Bank fault) = fault ≡ Memory
+
+pub memory_is : (fault : Fault) → (let f : ReplayFault = Bank fault in f) ≡ Bank Memory → fault ≡ Memory
+memory_is fault is = subst IsMemory (sym is) refl
+
+-- all of a text is a prefix of it and more
+pub all_part : (old new : Option (List ℕ)) (text more : List ℕ) {t t' : Option (List WriteTold)}
+    → Wrote text old new t t' → (fault : Fault) → WrotePart (text ++ more) old new t t' (Bank fault)
+all_part old new text more wrote fault =
+    (first_part old new text more (whole_part old new text wrote.0), λ is. absurd (not_write fault is))
+
+-- ---- a fault of the bank
+
+pub digest_ends : {R : Type 0} (first : Digest) (rows : List R) (fault : Fault) → (fault ≡ Memory → AreTooMany rows)
+    → EndsDigest first rows (Bank fault)
+digest_ends first rows fault many =
+    (not_write fault, λ is. let all = many (memory_is fault is) in omega (arith, all))
+
+mapped_many : (rows : List KeptRequest) → AreTooMany rows → AreTooMany (map kept_item rows)
+mapped_many rows many = subst (λ (n : ℕ). 2 ^ 64 - 1 ≤ n) (sym (length-map rows kept_item)) many
+
+pub records_end : (after : ℕ) (rows : List KeptRequest) {w w' : Option (List ℕ)} {t t' : Option (List WriteTold)}
+    (fault : Fault) → (fault ≡ Memory → AreTooMany rows) → WroteRecords after (map kept_item rows) w w' t t'
+    → WroteSomeRecords after (map kept_item rows) [] w w' t t' (Bank fault)
+records_end after rows fault many took = record {
+  wrote = took.wrote;
+  each = took.each;
+  last = λ is. tt;
+  many = λ is. mapped_many rows (many (memory_is fault is));
+}

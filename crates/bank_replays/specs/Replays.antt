@@ -1,9 +1,11 @@
 -- What a replay says.
-use Rattle.std.specs.Prelude.{◌++◌, ℕ, List, codes, Some, None, Result, Ok, Err, ⊤}
+use Rattle.std.specs.Prelude.{◌≡◌, ◌++◌, ℕ, List, codes, Some, None, Result, Ok, Err, ⊤}
 use Rattle.sqlite.specs.Schema.{Schema}
 use Rattle.posting_rules.specs.believed.Commands.{Command}
 use Rattle.posting_rules.specs.believed.Counter.{Seen, ShowsLog}
 use Rattle.posting_rules.specs.declared.fault.Fault.{Fault}
+use Rattle.posting_rules.specs.declared.fault.Fault.TheVariants.{Damaged}
+use Rattle.posting_rules.specs.declared.fault.Rule.{Rule}
 use Rattle.bank_store.specs.Leaving.{TakesNone}
 use Rattle.bank_replays.specs.Digests.{IsDigestOf, answered_after}
 use Rattle.bank_replays.specs.declared.chain.Digest.{Digest}
@@ -54,4 +56,6 @@ other_text table = codes "table " ++ ((made table).name ++ codes " is defined ot
 pub record Replays (old new : Seen) (found : Result Replay Fault) : Type 0 where
   -- if it agrees, the requests of a log are digested
   pub log : new.honest → (log : List Command) → ShowsLog old log → OnAgrees found (IsDigestOf (answered_after log))
+  -- and it is never told to be damaged
+  pub sound : (rule : Rule) → found ≡ Err (Damaged rule) → new.honest → (log : List Command) → ShowsLog old log → ⊥
   pub takes : TakesNone old new (HasAnswered found)

@@ -1,22 +1,26 @@
 -- What is written of a bank: its requests as records, and its branches as a plan.
-use Rattle.std.specs.Prelude.{◌≡◌, ◌++◌, ℕ, ℤ, pos, Bool, List, [], ◌∷◌, drop, filter, map, codes}
-use Rattle.std.specs.Prelude.{Option, Some, None, Result, Ok, Err, OnErr, OnOk, int_lt, option_map}
+use Rattle.std.specs.Prelude.{◌≡◌, ◌⊎◌, ◌++◌, ℕ, ℤ, pos, Bool, List, [], ◌∷◌, drop, filter, map, codes}
+use Rattle.std.specs.Prelude.{Option, Some, None, Result, Ok, Err, IfErr, OnErr, OnOk, int_lt, option_map, true, ⊤}
 use Rattle.std.specs.Fmt.{signed_decimal}
-use Rattle.std.specs.List.{flat_map}
+use Rattle.std.specs.List.{AllByRecursion, flat_map}
 use Rattle.std.specs.Io.KnownBytes.{Appends}
 use Rattle.message_records.specs.believed.Spelling.{request_spelling}
 use Rattle.posting_core.specs.believed.Told.{EndsWith}
 use Rattle.posting_core.specs.Told.{HasMore, HasWriteFailed, IsFlush, WriteTold}
+use Rattle.posting_rules.specs.declared.fault.Fault.TheVariants.{Damaged, Down, Memory, Store}
+use Rattle.posting_rules.specs.declared.fault.Rule.{Rule}
+use Rattle.posting_rules.specs.declared.fault.Rule.TheVariants.{Request}
 use Rattle.report_contents.specs.Lines.{text_of}
 use Rattle.report_contents.specs.Written.{AppendsPart}
 use Rattle.sql_meanings.specs.believed.Entries.{Entry}
 use Rattle.store_rows.specs.believed.Columns.{number_at}
-use Rattle.walked_rows.specs.KeptRows.{KeptItem, kept_key}
+use Rattle.walked_rows.specs.KeptRows.{BreaksKept, KeptItem, kept_key}
 use Rattle.walked_rows.specs.Pairs.{row_under}
 use Rattle.walked_rows.specs.declared.floors.StoredFloor.{StoredFloor}
-use Rattle.bank_replays.specs.Requests.{AnsweredRequest, request_in}
+use Rattle.bank_replays.specs.Handing.{AreTooMany}
+use Rattle.bank_replays.specs.Requests.{AnsweredRequest, IsRequestRow, request_in}
 use Rattle.bank_replays.specs.declared.fault.ReplayFault.{ReplayFault}
-use Rattle.bank_replays.specs.declared.fault.ReplayFault.TheVariants.{Write}
+use Rattle.bank_replays.specs.declared.fault.ReplayFault.TheVariants.{Bank, Write}
 
 -- all of a text was written, or at a fault a prefix of it
 abbrev pub WritesText : List ℕ → Option (List ℕ) → Option (List ℕ) → Result (Unit {0}) ReplayFault → Type 0
@@ -30,6 +34,7 @@ pub record Puts (bytes : List ℕ) (old new : Option (List ℕ)) (t t' : Option 
   pub text : WritesText bytes old new result
   pub more : OnOk result (HasMore t t')
   pub failed : OnErr result (HasWriteFailed t t')
+  pub only : IfErr result (λ fault. fault ≡ Write)
 
 -- a text was written, and calls of the writer were made
 abbrev pub Wrote : List ℕ → Option (List ℕ) → Option (List ℕ) → Option (List WriteTold)
@@ -40,6 +45,12 @@ Wrote text old new t t' = Appends old new text × HasMore t t'
 abbrev pub WrotePart : List ℕ → Option (List ℕ) → Option (List ℕ) → Option (List WriteTold)
     → Option (List WriteTold) → ReplayFault → Type 0
 WrotePart text old new t t' fault = AppendsPart old new text × (fault ≡ Write → HasWriteFailed t t')
+
+-- all of it was, and nothing more, before a fault of the bank; or a prefix of it and of more, where the writer failed
+abbrev pub WroteUpTo : (text more : List ℕ) → Option (List ℕ) → Option (List ℕ) → Option (List WriteTold)
+    → Option (List WriteTold) → ReplayFault → Type 0
+WroteUpTo text more old new t t' Write = AppendsPart old new (text ++ more) × HasWriteFailed t t'
+WroteUpTo text more old new t t' (Bank fault) = Wrote text old new t t'
 
 -- what is left of the writer, by what its calls returned: after Ok all is flushed, and where it is said to have
 -- failed its last call did, or it was asked too often
@@ -56,6 +67,64 @@ is_after after k = int_lt (pos after) (kept_key k)
 -- the records of the kept rows after an ordinal, one after another
 abbrev pub records_after : ℕ → List KeptItem → List ℕ
 records_after after items = flat_map (λ k. request_spelling (request_in k)) (filter (is_after after) items)
+
+-- a row after an ordinal is that of a request
+abbrev pub IsExported : ℕ → KeptItem → Type 0
+IsExported after k = is_after after k ≡ true → IsRequestRow k
+
+-- the records of these rows were written
+pub record WroteRecords (after : ℕ) (items : List KeptItem) (old new : Option (List ℕ)) (t t' : Option (List WriteTold))
+    : Type 0 where
+  pub wrote : Wrote (records_after after items) old new t t'
+  pub each : AllByRecursion (IsExported after) items
+
+-- and then this fault came, at the next row if there is one
+pub record WroteSomeRecords (after : ℕ) (items next : List KeptItem) (old new : Option (List ℕ))
+    (t t' : Option (List WriteTold)) (fault : ReplayFault) : Type 0 where
+  pub wrote : WroteUpTo (records_after after items) (records_after after next) old new t t' fault
+  pub each : AllByRecursion (IsExported after) items
+  -- so is the next, where the writer failed at it
+  pub last : fault ≡ Write → AllByRecursion (IsExported after) next
+  pub many : fault ≡ Bank Memory → AreTooMany items
+
+-- the row can't be read, or it is after the ordinal and that of no request
+abbrev pub BreaksExport : ℕ → Rule → KeptItem → Type 0
+BreaksExport after rule k =
+    BreaksKept rule k ⊎ ((rule ≡ Request) × (is_after after k ≡ true) × (IsRequestRow k → ⊥))
+
+-- why no more rows were written: there are no more, or the next one breaks the rule
+abbrev pub WhyNoMore : ℕ → (given rest : List KeptItem) → Result (Unit {0}) ReplayFault → Type 0
+WhyNoMore after given rest (Ok done) = rest ≡ []
+WhyNoMore after given rest (Err Write) = ⊤
+WhyNoMore after given rest (Err (Bank Memory)) = AreTooMany given
+WhyNoMore after given rest (Err (Bank Store)) = ⊤
+WhyNoMore after given rest (Err (Bank Down)) = ⊤
+WhyNoMore after given rest (Err (Bank (Damaged rule))) =
+    (k : KeptItem) × (more : List KeptItem) × (rest ≡ k ∷ more) × BreaksExport after rule k
+
+-- their text was written, or where the writer failed a prefix of it
+abbrev pub WritesUpTo : List ℕ → Option (List ℕ) → Option (List ℕ) → Result (Unit {0}) ReplayFault → Type 0
+WritesUpTo text old new (Ok done) = Appends old new text
+WritesUpTo text old new (Err Write) = AppendsPart old new text
+WritesUpTo text old new (Err (Bank fault)) = Appends old new text
+
+-- of these rows the first were written, as far as they are after the ordinal, and the rest weren't
+pub record ExportsRows (after : ℕ) (all : List KeptItem) (old new : Option (List ℕ))
+    (result : Result (Unit {0}) ReplayFault) : Type 0 where
+  pub given : List KeptItem
+  pub rest : List KeptItem
+  pub are : given ++ rest ≡ all
+  -- each of them that is written is that of a request
+  pub each : AllByRecursion (IsExported after) given
+  pub wrote : WritesUpTo (records_after after given) old new result
+  pub why : WhyNoMore after given rest result
+
+-- a text of a bank that shows a log is never cut short by damage
+abbrev pub WritesSound : List ℕ → Option (List ℕ) → Option (List ℕ) → Result (Unit {0}) ReplayFault → Type 0
+WritesSound text old new (Ok done) = Appends old new text
+WritesSound text old new (Err Write) = AppendsPart old new text
+WritesSound text old new (Err (Bank (Damaged rule))) = ⊥
+WritesSound text old new (Err (Bank fault)) = AppendsPart old new text
 
 -- the records of all but the first so many requests
 abbrev pub records_of : ℕ → List AnsweredRequest → List ℕ

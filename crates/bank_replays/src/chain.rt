@@ -1,5 +1,5 @@
 //! The digest of requests, one after another.
-ghost use Rattle.std.specs.Prelude.{◌≡◌, map, replicate, ⊤};
+ghost use Rattle.std.specs.Prelude.{◌≡◌, map, replicate};
 ghost use Rattle.walked_rows.specs.KeptRows.{kept_item};
 ghost use Rattle.bank_replays.specs.Came.{moment_of};
 ghost use Rattle.bank_replays.specs.Digests.{GoesOnBy, chained};
@@ -70,15 +70,22 @@ pub(crate) fn moment_of(posting: &Option<StoredPosting>) -> u64
 pub(crate) struct Chaining;
 
 impl Hands<KeptRequest, Digest> for Chaining {
-    ghost use Rattle.bank_replays.specs.Prefixes.{none_after};
+    ghost use Rattle.bank_replays.specs.Digests.{EndsDigest};
+    ghost use Rattle.bank_replays.specs.Holding.{answered_held};
+    ghost use Rattle.bank_replays.specs.Prefixes.{digest_ends, none_after};
+    ghost use Rattle.bank_replays.specs.Refusing.{RefusesAnswered};
 
     ghost Took = { λ way first last rows. GoesOnBy first last (map kept_item rows) };
 
-    ghost Part = { λ way first last rows fault. ⊤ };
+    ghost Part = { λ way first last rows next fault. EndsDigest first rows fault };
+
+    ghost Refuses = { λ way. RefusesAnswered };
 
     ghost none_yet = { λ way digest. none_after digest };
 
-    ghost in_part = { λ way first last rows fault took. tt };
+    ghost in_part = { λ way first last rows fault many took. digest_ends first rows fault many };
+
+    ghost held = { λ way. answered_held };
 
     fn hand(&self, row: KeptRequest, digest: &mut Digest) -> Result<(), ReplayFault> {
         let Some(request) = request_of(&row) else {

@@ -1,6 +1,7 @@
 //! Rows that are compared one by one.
 ghost use Rattle.std.specs.Prelude.{◌≡◌, ◌≢◌, ◌↔◌, pos, List, IsTrue, Some};
 ghost use Rattle.sqlite.specs.Effect.{Database};
+ghost use Rattle.bank_replays.specs.Damaged.{AreHeld};
 ghost use Rattle.bank_replays.specs.NextRows.{AreFirst, HaveRisingKeys, Sets};
 
 use crate::difference::{Difference, Sides};
@@ -29,6 +30,9 @@ pub(crate) trait Compared: Handed {
     /// The difference of these two.
     fn difference(sides: Sides<Self>) -> Difference
         ensures { Says result sides };
+
+    /// Those that can't be read are among the rows of a file.
+    ghost held: { AreHeld Self.HasItems Self.Breaks };
 
     /// A file has them by rising keys.
     ghost rise: { (db : Database) (all : List Self.Item) → Self.HasItems db all → HaveRisingKeys Self.key all };
@@ -90,9 +94,12 @@ pub(crate) fn compare_next<R: Compared>(stands: Option<R>, due: Option<R>) -> St
 }
 
 impl Compared for StoredMeta {
+    ghost use Rattle.bank_replays.specs.Holding.{metas_held};
     ghost use Rattle.bank_replays.specs.declared.difference.Difference.TheVariants.{Meta};
 
     ghost Says = { λ d s. d ≡ Meta s };
+
+    ghost held = { metas_held };
 
     ghost rise = { λ db rows has. has.holds.rows.rise };
 
@@ -112,9 +119,12 @@ impl Compared for StoredMeta {
 }
 
 impl Compared for StoredBranch {
+    ghost use Rattle.bank_replays.specs.Holding.{branches_held};
     ghost use Rattle.bank_replays.specs.declared.difference.Difference.TheVariants.{Branch};
 
     ghost Says = { λ d s. d ≡ Branch s };
+
+    ghost held = { branches_held };
 
     ghost rise = { λ db rows has. has.holds.rows.rise };
 
@@ -134,9 +144,12 @@ impl Compared for StoredBranch {
 }
 
 impl Compared for StoredTeller {
+    ghost use Rattle.bank_replays.specs.Holding.{tellers_held};
     ghost use Rattle.bank_replays.specs.declared.difference.Difference.TheVariants.{Teller};
 
     ghost Says = { λ d s. d ≡ Teller s };
+
+    ghost held = { tellers_held };
 
     ghost rise = { λ db rows has. has.holds.rows.rise };
 
@@ -156,9 +169,12 @@ impl Compared for StoredTeller {
 }
 
 impl Compared for StoredAccount {
+    ghost use Rattle.bank_replays.specs.Holding.{accounts_held};
     ghost use Rattle.bank_replays.specs.declared.difference.Difference.TheVariants.{Account};
 
     ghost Says = { λ d s. d ≡ Account s };
+
+    ghost held = { accounts_held };
 
     ghost rise = { λ db rows has. has.holds.rows.rise };
 
@@ -178,9 +194,12 @@ impl Compared for StoredAccount {
 }
 
 impl Compared for StoredPosting {
+    ghost use Rattle.bank_replays.specs.Holding.{history_held};
     ghost use Rattle.bank_replays.specs.declared.difference.Difference.TheVariants.{Posting};
 
     ghost Says = { λ d s. d ≡ Posting s };
+
+    ghost held = { history_held };
 
     ghost rise = { λ db rows has. has.holds.rows.rise };
 
@@ -200,9 +219,12 @@ impl Compared for StoredPosting {
 }
 
 impl Compared for StoredRequest {
+    ghost use Rattle.bank_replays.specs.Holding.{requests_held};
     ghost use Rattle.bank_replays.specs.declared.difference.Difference.TheVariants.{Request};
 
     ghost Says = { λ d s. d ≡ Request s };
+
+    ghost held = { requests_held };
 
     ghost rise = { λ db rows has. has.holds.rows.rise };
 
@@ -222,9 +244,12 @@ impl Compared for StoredRequest {
 }
 
 impl Compared for StoredFloor {
+    ghost use Rattle.bank_replays.specs.Holding.{floors_held};
     ghost use Rattle.bank_replays.specs.declared.difference.Difference.TheVariants.{Floor};
 
     ghost Says = { λ d s. d ≡ Floor s };
+
+    ghost held = { floors_held };
 
     ghost rise = { λ db rows has. has.holds.rows.rise };
 
@@ -244,9 +269,12 @@ impl Compared for StoredFloor {
 }
 
 impl Compared for StoredReference {
+    ghost use Rattle.bank_replays.specs.Holding.{references_held};
     ghost use Rattle.bank_replays.specs.declared.difference.Difference.TheVariants.{Reference};
 
     ghost Says = { λ d s. d ≡ Reference s };
+
+    ghost held = { references_held };
 
     ghost rise = { λ db rows has. has.holds.rows.rise };
 

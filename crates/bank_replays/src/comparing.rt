@@ -1,9 +1,11 @@
 //! The rows of two banks, side by side.
-ghost use Rattle.std.specs.Prelude.{◌≡◌, ◌≢◌, List, None, Some, Ok, Err};
+ghost use Rattle.std.specs.Prelude.{◌≡◌, List, None, Some, Ok, IfErr};
 ghost use Rattle.sqlite.specs.State.{HasCleanDisk};
-ghost use Rattle.posting_rules.specs.declared.fault.Fault.TheVariants.{Down};
+ghost use Rattle.bank_store.specs.Failures.{HasFailedToRead};
 ghost use Rattle.bank_store.specs.Walking.{HasToldFault, items_to_come, lent, lent_state, loan_of};
+ghost use Rattle.bank_store.specs.believed.Seen.{connection_of};
 ghost use Rattle.bank_replays.specs.Comparing.{Both, Compares, DiffersAmong, DiffersIn, Either, SameRows};
+ghost use Rattle.bank_replays.specs.Damaged.{Stops};
 ghost use Rattle.bank_replays.specs.Differences.{DiffersBetween};
 ghost use Rattle.bank_replays.specs.FileTables.{SameTables};
 ghost use Rattle.bank_replays.specs.Reading.{ReadsBank};
@@ -40,7 +42,10 @@ fn compare_rows<S: Alter, T: Alter, R: Compared>(
         (R.WalkedRow.HasItems (lent_state T.Store due.old).now)
         (λ all. items_to_come R.WalkedRow.key R.WalkedRow.item R.WalkedRow.is_given all stood.old)
         (λ all. items_to_come R.WalkedRow.key R.WalkedRow.item R.WalkedRow.is_given all due.old) d }
-    ensures tried { result ≢ Err Down }
+    ensures why { HasCleanDisk (lent_state S.Store stood.new) → (all : List R.WalkedRow.Item)
+        → R.WalkedRow.HasItems (lent_state S.Store stood.old).now all → IfErr result (Stops R.WalkedRow.Breaks
+        (HasFailedToRead S.Store (connection_of (lent stood.old)) (connection_of (lent stood.new))) ⊥
+        (items_to_come R.WalkedRow.key R.WalkedRow.item R.WalkedRow.is_given all stood.old)) }
 {
     'rows: for _ in 0..u64::MAX {
         let stands = stood.next()?;

@@ -1,13 +1,14 @@
 //! The digest of the kept requests.
-ghost use Rattle.std.specs.Prelude.{◌≡◌, List, Err, IfOk, take};
+ghost use Rattle.std.specs.Prelude.{◌≡◌, ◌≢◌, List, Err, IfOk, take};
 ghost use Rattle.sqlite.specs.State.{HasCleanDisk};
 ghost use Rattle.posting_rules.specs.believed.Commands.{Command};
 ghost use Rattle.posting_rules.specs.believed.Counter.{ShowsLog};
-ghost use Rattle.posting_rules.specs.declared.fault.Fault.TheVariants.{Down};
+ghost use Rattle.posting_rules.specs.declared.fault.Fault.TheVariants.{Down, Memory};
 ghost use Rattle.walked_rows.specs.KeptRows.{HasKept, KeptItem};
 ghost use Rattle.bank_store.specs.Leaving.{LeavesAsFound, TakesNone};
 ghost use Rattle.bank_store.specs.believed.Seen.{bank_seen, database_of, file_of};
 ghost use Rattle.bank_store.specs.Seen.{fault_of};
+ghost use Rattle.bank_replays.specs.Damaged.{TellsWhy};
 ghost use Rattle.bank_replays.specs.Digests.{DigestsFirst, DigestsRows, IsDigestIn, answered_after};
 ghost use Rattle.bank_replays.specs.Reading.{ReadsBank};
 ghost use Rattle.bank_replays.specs.Replays.{HasAnswered};
@@ -25,6 +26,7 @@ pub(crate) fn digest_all<S: Alter>(bank: &mut Bank<S>) -> Result<Digest, Fault>
     ensures bank { ReadsBank S.Store bank.old bank.new result }
     ensures rows { HasCleanDisk (file_of bank.new) → (all : List KeptItem)
         → HasKept (database_of S.Store bank.old) all → IfOk result (IsDigestIn all) }
+    ensures why { TellsWhy S.Store (λ fault. fault) bank.old bank.new result }
 {
     let mut digest = Digest::none();
     match hand_all::<S, KeptRequest, Digest, Chaining>(bank, &Chaining, &mut digest) {
@@ -38,6 +40,8 @@ fn digest_first<S: Alter>(bank: &mut Bank<S>, count: u64) -> Result<Digest, Faul
     ensures bank { ReadsBank S.Store bank.old bank.new result }
     ensures rows { HasCleanDisk (file_of bank.new) → (all : List KeptItem)
         → HasKept (database_of S.Store bank.old) all → IfOk result (IsDigestIn (take count all)) }
+    ensures why { TellsWhy S.Store (λ fault. fault) bank.old bank.new result }
+    ensures frugal { result ≢ Err Memory }
 {
     let mut digest = Digest::none();
     match hand_first::<S, KeptRequest, Digest, Chaining>(bank, count, &Chaining, &mut digest) {
@@ -57,12 +61,13 @@ fn digest_first<S: Alter>(bank: &mut Bank<S>, count: u64) -> Result<Digest, Faul
 /// | [`Fault::Store`] | a read failed: the disk did, or memory or steps were refused |
 /// | [`Fault::Down`] | the bank was down, and nothing was read |
 /// | [`Fault::Damaged`] | a row can't be read, or with `Rule::Request` it is that of no request |
-/// | [`Fault::Memory`] | there would be no room for so many requests |
 pub fn digest<S: Alter>(bank: &mut Bank<S>, count: u64) -> Result<Option<Digest>, Fault>
     ensures rows { (bank_seen S.Store bank.new).honest → (all : List KeptItem)
         → HasKept (database_of S.Store bank.old) all → DigestsRows count all result }
     ensures log { (bank_seen S.Store bank.new).honest → (log : List Command)
         → ShowsLog (bank_seen S.Store bank.old) log → DigestsFirst count (answered_after log) result }
+    ensures why { TellsWhy S.Store (λ fault. fault) bank.old bank.new result }
+    ensures frugal { result ≢ Err Memory }
     ensures bank { TakesNone (bank_seen S.Store bank.old) (bank_seen S.Store bank.new) (HasAnswered result) }
     ensures down { (bank_seen S.Store bank.old).is_down → (result ≡ Err Down) × (bank.new ≡ bank.old) }
     ensures up { fault_of bank.new ≡ fault_of bank.old }

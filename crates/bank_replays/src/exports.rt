@@ -8,11 +8,12 @@ ghost use Rattle.walked_rows.specs.KeptRows.{HasKept, KeptItem, kept_item};
 ghost use Rattle.bank_store.specs.Leaving.{LeavesAsFound, TakesNone};
 ghost use Rattle.bank_store.specs.believed.Seen.{bank_seen, database_of, file_of};
 ghost use Rattle.bank_store.specs.Seen.{fault_of};
+ghost use Rattle.bank_replays.specs.Damaged.{TellsWhy, fault_in};
 ghost use Rattle.bank_replays.specs.Digests.{answered_after};
 ghost use Rattle.bank_replays.specs.Reading.{ReadsBank};
 ghost use Rattle.bank_replays.specs.Replays.{HasAnswered};
-ghost use Rattle.bank_replays.specs.Writing.{LeavesWriter, Wrote, WrotePart, WritesText, is_after};
-ghost use Rattle.bank_replays.specs.Writing.{records_after, records_of};
+ghost use Rattle.bank_replays.specs.Writing.{ExportsRows, LeavesWriter, WritesSound, WroteRecords, WroteSomeRecords};
+ghost use Rattle.bank_replays.specs.Writing.{is_after, records_of};
 ghost use Rattle.bank_replays.specs.declared.fault.ReplayFault.TheVariants.{Bank as OfBank};
 
 use crate::chain::NO_REQUEST;
@@ -42,17 +43,24 @@ pub(crate) struct After {
 }
 
 impl<W: Sink> Hands<KeptRequest, W> for After {
-    ghost use Rattle.bank_replays.specs.Prefixes.{all_part, wrote_none};
+    ghost use Rattle.bank_replays.specs.Handing.{refused_of};
+    ghost use Rattle.bank_replays.specs.Holding.{export_held};
+    ghost use Rattle.bank_replays.specs.Prefixes.{records_end, records_none};
+    ghost use Rattle.bank_replays.specs.Refusing.{RefusesExport};
 
-    ghost Took = { λ way first last rows. Wrote (records_after way.after (map kept_item rows))
+    ghost Took = { λ way first last rows. WroteRecords way.after (map kept_item rows)
         (W.contents first) (W.contents last) (W.told first) (W.told last) };
 
-    ghost Part = { λ way first last rows fault. WrotePart (records_after way.after (map kept_item rows))
-        (W.contents first) (W.contents last) (W.told first) (W.told last) fault };
+    ghost Part = { λ way first last rows next fault. WroteSomeRecords way.after (map kept_item rows)
+        (refused_of kept_item next) (W.contents first) (W.contents last) (W.told first) (W.told last) fault };
 
-    ghost none_yet = { λ way writer. wrote_none (W.contents writer) (W.told writer) };
+    ghost Refuses = { λ way. RefusesExport way.after };
 
-    ghost in_part = { λ way first last rows fault took. all_part (W.contents first) (W.contents last) _ took fault };
+    ghost none_yet = { λ way writer. records_none way.after (W.contents writer) (W.told writer) };
+
+    ghost in_part = { λ way first last rows fault many took. records_end way.after rows fault many took };
+
+    ghost held = { λ way. export_held way.after };
 
     fn hand(&self, row: KeptRequest, writer: &mut W) -> Result<(), ReplayFault> {
         if !is_after(&row, self.after) {
@@ -75,8 +83,9 @@ fn export_records<S: Alter, W: Sink>(
     ensures bank { ReadsBank S.Store bank.old bank.new result }
     ensures rows { HasCleanDisk (file_of bank.new) → (all : List KeptItem)
         → HasKept (database_of S.Store bank.old) all
-        → WritesText (records_after after all) (W.contents writer.old) (W.contents writer.new) result }
+        → ExportsRows after all (W.contents writer.old) (W.contents writer.new) result }
     ensures writer { LeavesWriter (W.told writer.old) (W.told writer.new) result }
+    ensures why { TellsWhy S.Store fault_in bank.old bank.new result }
 {
     hand_all::<S, KeptRequest, W, After>(bank, &After { after }, writer)?;
     put_last(writer, "")?;
@@ -89,7 +98,8 @@ fn export_records<S: Alter, W: Sink>(
 ///
 /// # Errors
 ///
-/// At each a prefix of the records was written. None brings the bank down, and none changes the file.
+/// Where the writer failed a prefix of the records was written, and else those of the rows before the one at which
+/// the fault came, all of them. None brings the bank down, and none changes the file.
 ///
 /// | Error | What happened |
 /// |---|---|
@@ -97,7 +107,6 @@ fn export_records<S: Alter, W: Sink>(
 /// | [`ReplayFault::Bank`] of `Store` | a read failed: the disk did, or memory or steps were refused |
 /// | of `Down` | the bank was down, and nothing was written |
 /// | of `Damaged` | a row can't be read, or with `Rule::Request` it is that of no request |
-/// | of `Memory` | there would be no room for so many requests |
 pub fn export<S: Alter, W: Sink>(
     bank: &mut Bank<S>,
     after: u64,
@@ -105,11 +114,12 @@ pub fn export<S: Alter, W: Sink>(
 ) -> Result<(), ReplayFault>
     ensures rows { (bank_seen S.Store bank.new).honest → (all : List KeptItem)
         → HasKept (database_of S.Store bank.old) all
-        → WritesText (records_after after all) (W.contents writer.old) (W.contents writer.new) result }
+        → ExportsRows after all (W.contents writer.old) (W.contents writer.new) result }
     ensures log { (bank_seen S.Store bank.new).honest → (log : List Command)
-        → ShowsLog (bank_seen S.Store bank.old) log → WritesText (records_of after (answered_after log))
+        → ShowsLog (bank_seen S.Store bank.old) log → WritesSound (records_of after (answered_after log))
         (W.contents writer.old) (W.contents writer.new) result }
     ensures writer { LeavesWriter (W.told writer.old) (W.told writer.new) result }
+    ensures why { TellsWhy S.Store fault_in bank.old bank.new result }
     ensures bank { TakesNone (bank_seen S.Store bank.old) (bank_seen S.Store bank.new) (HasAnswered result) }
     ensures down { (bank_seen S.Store bank.old).is_down
         → (result ≡ Err (OfBank Down)) × (bank.new ≡ bank.old) × (writer.new ≡ writer.old) }

@@ -1,5 +1,6 @@
 //! Why what is written of a bank ends early.
 ghost use Rattle.std.specs.Prelude.{◌≡◌};
+ghost use Rattle.bank_replays.specs.Damaged.{fault_in};
 ghost use Rattle.bank_replays.specs.declared.fault.ReplayFault.TheVariants.{Bank, Write};
 
 use posting_rules::Fault;
@@ -43,7 +44,9 @@ impl From<WriteFault> for ReplayFault {
 }
 
 /// The fault of a bank that is read, where nothing is written.
-pub(crate) fn told(fault: ReplayFault) -> Fault {
+pub(crate) fn told(fault: ReplayFault) -> Fault
+    ensures { result ≡ fault_in fault }
+{
     match fault {
         ReplayFault::Bank(fault) => fault,
         ReplayFault::Write => Fault::Memory,

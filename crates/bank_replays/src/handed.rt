@@ -1,10 +1,12 @@
 //! Rows of a bank that are handed on one by one.
-ghost use Rattle.std.specs.Prelude.{◌≡◌, ◌++◌, ◌∷◌, [], List, IfErr, OnOk};
+ghost use Rattle.std.specs.Prelude.{◌≡◌, ◌++◌, ◌∷◌, [], List, Some, None, IfErr, OnOk};
 ghost use Rattle.sqlite.specs.State.{HasCleanDisk};
+ghost use Rattle.bank_store.specs.Failures.{HasFailedToRead};
 ghost use Rattle.bank_store.specs.Room.{TakesFewBytes};
-ghost use Rattle.bank_store.specs.believed.Seen.{database_of, file_of};
+ghost use Rattle.bank_store.specs.believed.Seen.{bank_seen, connection_of, database_of, file_of};
 ghost use Rattle.bank_store.specs.Walking.{HasToldFault, items_to_come, lent, lent_state, loan_of};
-ghost use Rattle.bank_replays.specs.Handing.{HandsAll, HandsSome};
+ghost use Rattle.bank_replays.specs.Damaged.{AreHeld, TellsWhy, fault_in};
+ghost use Rattle.bank_replays.specs.Handing.{AreTooMany, Bars, HandsAll, HandsSome, IsRefusal, Why};
 ghost use Rattle.bank_replays.specs.Reading.{ReadsBank};
 ghost use Rattle.bank_replays.specs.declared.fault.ReplayFault.TheVariants.{Bank as OfBank};
 
@@ -24,27 +26,36 @@ pub(crate) trait Handed: WalkedRow {
 
 /// A way in which rows of a kind are handed, one by one, to what takes them.
 pub(crate) trait Hands<R: WalkedRow, V> {
+    ghost use Rattle.std.specs.Prelude.{Option};
     ghost use Rattle.bank_replays.specs.declared.fault.ReplayFault.{ReplayFault};
     ghost use Rattle.posting_rules.specs.declared.fault.Fault.{Fault};
+    ghost use Rattle.posting_rules.specs.declared.fault.Fault.TheVariants.{Memory};
+    ghost use Rattle.posting_rules.specs.declared.fault.Rule.{Rule};
 
     /// The taker went from the first state to the second by taking these rows, in this order.
     ghost Took: { Self → V → V → List R → Type 0 };
 
-    /// It went there by taking all of these rows but the last, at which this fault came; or all of them, with the
-    /// fault after them.
-    ghost Part: { Self → V → V → List R → ReplayFault → Type 0 };
+    /// It went there by taking these rows, and then this fault came: at the next row, if there is one.
+    ghost Part: { Self → V → V → List R → Option R → ReplayFault → Type 0 };
+
+    /// The row isn't taken, by this rule.
+    ghost Refuses: { Self → Rule → R → Type 0 };
 
     /// Hands on one row more.
     fn hand(&self, row: R, taker: &mut V) -> Result<(), ReplayFault>
         ensures took { (first : V) (rows : List R) → Took self.now first taker.old rows
             → OnOk result (Took self.now first taker.new (rows ++ row ∷ [])) }
         ensures part { (first : V) (rows : List R) → Took self.now first taker.old rows
-            → IfErr result (λ fault. Part self.now first taker.new (rows ++ row ∷ []) fault) };
+            → IfErr result (λ fault. Part self.now first taker.new rows (Some row) fault) }
+        ensures why { IfErr result (IsRefusal (λ rule. Refuses self.now rule row)) };
 
     ghost none_yet: { (way : Self) (taker : V) → Took way taker taker [] };
 
-    ghost in_part: { (way : Self) (first last : V) (rows : List R) (fault : Fault) → Took way first last rows
-        → Part way first last rows (OfBank fault) };
+    ghost in_part: { (way : Self) (first last : V) (rows : List R) (fault : Fault) → (fault ≡ Memory → AreTooMany rows)
+        → Took way first last rows → Part way first last rows None (OfBank fault) };
+
+    /// Those that can't be read or aren't taken are among the rows of a file.
+    ghost held: { (way : Self) → AreHeld R.HasItems (Bars R.item R.Breaks (Refuses way)) };
 }
 
 // Hands on the rows that a walk gives, so many at most, and returns how many they were.
@@ -59,6 +70,8 @@ fn hand_rows<S: Alter, R: Handed, V, P: Hands<R, V>>(
     ensures bank { ReadsBank S.Store (lent walk.old) (lent walk.new) result }
     ensures hands { HandsSome R.WalkedRow.item (P.Took way.now taker.old taker.new)
         (P.Part way.now taker.old taker.new)
+        (Why (Bars R.WalkedRow.item R.WalkedRow.Breaks (P.Refuses way.now))
+        (HasFailedToRead S.Store (connection_of (lent walk.old)) (connection_of (lent walk.new))) ⊥)
         (HasCleanDisk (lent_state S.Store walk.new)) (R.WalkedRow.HasItems (lent_state S.Store walk.old).now)
         (λ all. items_to_come R.WalkedRow.key R.WalkedRow.item R.WalkedRow.is_given all walk.old) most result }
 {
@@ -82,8 +95,12 @@ pub(crate) fn hand_first<S: Alter, R: Handed, V, P: Hands<R, V>>(
     ensures bank { ReadsBank S.Store bank.old bank.new result }
     ensures hands { HandsSome R.WalkedRow.item (P.Took way.now taker.old taker.new)
         (P.Part way.now taker.old taker.new)
+        (Why (Bars R.WalkedRow.item R.WalkedRow.Breaks (P.Refuses way.now))
+        (HasFailedToRead S.Store (connection_of bank.old) (connection_of bank.new))
+        (bank_seen S.Store bank.old).is_down)
         (HasCleanDisk (file_of bank.new)) (R.WalkedRow.HasItems (database_of S.Store bank.old)) (λ all. all)
         most result }
+    ensures why { TellsWhy S.Store fault_in bank.old bank.new result }
 {
     let mut walk = each_row::<S, R>(bank)?;
     hand_rows(&mut walk, most, way, taker)
@@ -98,7 +115,11 @@ pub(crate) fn hand_all<S: Alter, R: Handed, V, P: Hands<R, V>>(
     ensures bank { ReadsBank S.Store bank.old bank.new result }
     ensures hands { HandsAll R.WalkedRow.item (P.Took way.now taker.old taker.new)
         (P.Part way.now taker.old taker.new)
+        (Why (Bars R.WalkedRow.item R.WalkedRow.Breaks (P.Refuses way.now))
+        (HasFailedToRead S.Store (connection_of bank.old) (connection_of bank.new))
+        (bank_seen S.Store bank.old).is_down)
         (HasCleanDisk (file_of bank.new)) (R.WalkedRow.HasItems (database_of S.Store bank.old)) result }
+    ensures why { TellsWhy S.Store fault_in bank.old bank.new result }
 {
     let count = hand_first::<S, R, V, P>(bank, u64::MAX, way, taker)?;
     if count == u64::MAX {

@@ -1,5 +1,5 @@
 //! The log of a bank: an entry of each kept request.
-ghost use Rattle.std.specs.Prelude.{◌≡◌, ◌∷◌, [], ℤ, pos, List, Err, IfOk, IfSome, OnOk, length, map, ⊤};
+ghost use Rattle.std.specs.Prelude.{◌≡◌, ◌++◌, ◌∷◌, [], ℤ, pos, List, Err, IfNone, IfOk, IfSome, OnOk, length, map, ⊤};
 ghost use Rattle.sqlite.specs.State.{HasCleanDisk};
 ghost use Rattle.posting_rules.specs.believed.Commands.{Command};
 ghost use Rattle.posting_rules.specs.believed.Counter.{ShowsLog};
@@ -17,6 +17,7 @@ ghost use Rattle.bank_replays.specs.Logs.{LogsEntries, LogsRows, decided_in, ent
 ghost use Rattle.bank_replays.specs.Logs.{logged_in, without_count};
 ghost use Rattle.bank_replays.specs.Reading.{ReadsBank};
 ghost use Rattle.bank_replays.specs.Replays.{HasAnswered};
+ghost use Rattle.bank_replays.specs.Requests.{IsAnsweredRow};
 ghost use Rattle.bank_replays.specs.Writing.{LeavesWriter, Wrote, WrotePart};
 ghost use Rattle.bank_replays.specs.declared.fault.ReplayFault.TheVariants.{Bank as OfBank};
 
@@ -35,7 +36,8 @@ use walked_rows::{KeptRequest, StoredMeta};
 
 // The entry of a kept row; none where its numbers are those of no request.
 fn entry_in(row: &KeptRequest) -> Option<[u8; ENTRY_BYTES]>
-    ensures { IfSome result (λ entry. entry ≡ entry_of (logged_in (kept_item row.now))) }
+    ensures some { IfSome result (λ entry. entry ≡ entry_of (logged_in (kept_item row.now))) }
+    ensures none { IfNone result (IsAnsweredRow (kept_item row.now) → ⊥) }
 {
     let Some(request) = request_of(row) else {
         return None;
@@ -53,17 +55,26 @@ pub(crate) struct EntriesAfter {
 }
 
 impl<W: Sink> Hands<KeptRequest, W> for EntriesAfter {
+    ghost use Rattle.bank_replays.specs.Handing.{refused_of};
+    ghost use Rattle.bank_replays.specs.Holding.{answered_held};
     ghost use Rattle.bank_replays.specs.Prefixes.{all_part, wrote_none};
+    ghost use Rattle.bank_replays.specs.Refusing.{RefusesAnswered};
 
     ghost Took = { λ way first last rows. Wrote (entries_after way.after (map kept_item rows))
         (W.contents first) (W.contents last) (W.told first) (W.told last) };
 
-    ghost Part = { λ way first last rows fault. WrotePart (entries_after way.after (map kept_item rows))
+    ghost Part = { λ way first last rows next fault.
+        WrotePart (entries_after way.after (map kept_item rows) ++ entries_after way.after (refused_of kept_item next))
         (W.contents first) (W.contents last) (W.told first) (W.told last) fault };
+
+    ghost Refuses = { λ way. RefusesAnswered };
 
     ghost none_yet = { λ way writer. wrote_none (W.contents writer) (W.told writer) };
 
-    ghost in_part = { λ way first last rows fault took. all_part (W.contents first) (W.contents last) _ took fault };
+    ghost in_part = { λ way first last rows fault many took.
+        all_part (W.contents first) (W.contents last) _ _ took fault };
+
+    ghost held = { λ way. answered_held };
 
     fn hand(&self, row: KeptRequest, writer: &mut W) -> Result<(), ReplayFault> {
         if !is_after(&row, self.after) {
@@ -137,28 +148,41 @@ pub fn write_log<S: Alter, W: Sink>(
     write_entries(bank, after, writer)
 }
 
-// The count of requests is the one that the last row of `meta` has.
-struct Counting;
+// The last row of `meta` is kept.
+struct LastMeta;
 
-impl Hands<StoredMeta, u64> for Counting {
+impl Hands<StoredMeta, StoredMeta> for LastMeta {
     ghost use Rattle.std.proofs.Common.{refl};
+    ghost use Rattle.walked_rows.specs.StoredBeside.{meta_entry};
+    ghost use Rattle.bank_replays.specs.Holding.{bars_held, metas_held};
 
-    ghost Took = { λ way first last rows. pos last ≡ decided_in (pos first) rows };
+    ghost Took = { λ way first last rows. last.decided ≡ decided_in first.decided rows };
 
-    ghost Part = { λ way first last rows fault. ⊤ };
+    ghost Part = { λ way first last rows next fault. ⊤ };
 
-    ghost none_yet = { λ way count. refl };
+    ghost Refuses = { λ way rule row. ⊥ };
 
-    ghost in_part = { λ way first last rows fault took. tt };
+    ghost none_yet = { λ way last. refl };
+
+    ghost in_part = { λ way first last rows fault many took. tt };
+
+    ghost held = { λ way. bars_held metas_held meta_entry };
 
     #[tactic(auto, using(crate::proofs::Logged::decided_last))]
-    fn hand(&self, row: StoredMeta, count: &mut u64) -> Result<(), ReplayFault> {
-        if row.decided < 0 {
-            return Err(ReplayFault::Bank(Fault::Damaged(Rule::Meta)));
-        }
-        *count = row.decided as u64;
+    fn hand(&self, row: StoredMeta, last: &mut StoredMeta) -> Result<(), ReplayFault> {
+        *last = row;
         Ok(())
     }
+}
+
+// The count of requests that a row has.
+fn counted(row: &StoredMeta) -> Result<u64, Fault>
+    ensures { IfOk result (λ count. pos count ≡ row.now.decided) }
+{
+    if row.decided < 0 {
+        return Err(Fault::Damaged(Rule::Meta));
+    }
+    Ok(row.decided as u64)
 }
 
 // The count of requests that `meta` has.
@@ -168,9 +192,9 @@ fn stored_count<S: Alter>(bank: &mut Bank<S>) -> Result<u64, Fault>
         → HasStoredRows (database_of S.Store bank.old) meta_table (bank_entry version decided ∷ [])
         → IfOk result (λ count. pos count ≡ decided) }
 {
-    let mut count = 0;
-    match hand_all::<S, StoredMeta, u64, Counting>(bank, &Counting, &mut count) {
-        Ok(()) => Ok(count),
+    let mut last = StoredMeta::default();
+    match hand_all::<S, StoredMeta, StoredMeta, LastMeta>(bank, &LastMeta, &mut last) {
+        Ok(()) => counted(&last),
         Err(fault) => Err(told(fault)),
     }
 }

@@ -1,8 +1,11 @@
 //! The open branches as a plan.
-ghost use Rattle.std.specs.Prelude.{◌≡◌, ◌≤◌, ◌+◌, ◌++◌, List, Err, IfOk, length, map, option_map, ⊤};
+ghost use Rattle.std.specs.Prelude.{◌≡◌, ◌≢◌, ◌≤◌, ◌+◌, ◌++◌, List, Err, IfOk, length, map, option_map, ⊤};
 ghost use Rattle.sqlite.specs.State.{HasCleanDisk};
+ghost use Rattle.posting_rules.specs.believed.Commands.{Command};
+ghost use Rattle.posting_rules.specs.believed.Counter.{ShowsLog};
 ghost use Rattle.posting_rules.specs.believed.Tables.{row_at};
-ghost use Rattle.posting_rules.specs.declared.fault.Fault.TheVariants.{Down};
+ghost use Rattle.posting_rules.specs.declared.fault.Fault.TheVariants.{Damaged, Down};
+ghost use Rattle.posting_rules.specs.declared.fault.Rule.{Rule};
 ghost use Rattle.sql_meanings.specs.believed.Entries.{Entry};
 ghost use Rattle.store_rows.specs.believed.BankTables.{branch as branch_table, floor as floor_table};
 ghost use Rattle.walked_rows.specs.Rows.{HasStoredRows};
@@ -11,6 +14,7 @@ ghost use Rattle.walked_rows.specs.StoredBeside.{floor_entry};
 ghost use Rattle.bank_store.specs.Leaving.{LeavesAsFound, TakesNone};
 ghost use Rattle.bank_store.specs.believed.Seen.{bank_seen, database_of, file_of};
 ghost use Rattle.bank_store.specs.Seen.{fault_of};
+ghost use Rattle.bank_replays.specs.Damaged.{TellsWhy, fault_in};
 ghost use Rattle.bank_replays.specs.Reading.{ReadsBank};
 ghost use Rattle.bank_replays.specs.Replays.{HasAnswered};
 ghost use Rattle.bank_replays.specs.Writing.{LeavesWriter, Wrote, WrotePart, WritesText, branch_of};
@@ -71,14 +75,19 @@ struct Listing;
 
 impl Hands<StoredFloor, Vec<StoredFloor>> for Listing {
     ghost use Rattle.std.proofs.Common.{append-nil, sym};
+    ghost use Rattle.bank_replays.specs.Holding.{bars_held, floors_held};
 
     ghost Took = { λ way first last rows. last.items ≡ first.items ++ rows };
 
-    ghost Part = { λ way first last rows fault. ⊤ };
+    ghost Part = { λ way first last rows next fault. ⊤ };
+
+    ghost Refuses = { λ way rule row. ⊥ };
 
     ghost none_yet = { λ way floors. sym (append-nil floors.items) };
 
-    ghost in_part = { λ way first last rows fault took. tt };
+    ghost in_part = { λ way first last rows fault many took. tt };
+
+    ghost held = { λ way. bars_held floors_held floor_entry };
 
     fn hand(&self, row: StoredFloor, floors: &mut Vec<StoredFloor>) -> Result<(), ReplayFault> {
         match floors.push(row) {
@@ -95,19 +104,27 @@ struct Lines {
 }
 
 impl<W: Sink> Hands<StoredBranch, W> for Lines {
+    ghost use Rattle.bank_replays.specs.Handing.{refused_of};
+    ghost use Rattle.bank_replays.specs.Holding.{bars_held, branches_held};
     ghost use Rattle.bank_replays.specs.Prefixes.{all_part, wrote_none};
 
     ghost Took = { λ way first last rows.
         Wrote (plan_lines (map floor_entry way.floors.items) (map branch_entry rows))
         (W.contents first) (W.contents last) (W.told first) (W.told last) };
 
-    ghost Part = { λ way first last rows fault.
-        WrotePart (plan_lines (map floor_entry way.floors.items) (map branch_entry rows))
+    ghost Part = { λ way first last rows next fault.
+        WrotePart (plan_lines (map floor_entry way.floors.items) (map branch_entry rows)
+        ++ plan_lines (map floor_entry way.floors.items) (refused_of branch_entry next))
         (W.contents first) (W.contents last) (W.told first) (W.told last) fault };
+
+    ghost Refuses = { λ way rule row. ⊥ };
 
     ghost none_yet = { λ way writer. wrote_none (W.contents writer) (W.told writer) };
 
-    ghost in_part = { λ way first last rows fault took. all_part (W.contents first) (W.contents last) _ took fault };
+    ghost in_part = { λ way first last rows fault many took.
+        all_part (W.contents first) (W.contents last) _ _ took fault };
+
+    ghost held = { λ way. bars_held branches_held branch_entry };
 
     fn hand(&self, row: StoredBranch, writer: &mut W) -> Result<(), ReplayFault> {
         let floor = floor_of(self.floors.as_slice(), row.branch.get());
@@ -122,6 +139,7 @@ fn floors_of<S: Alter>(bank: &mut Bank<S>) -> Result<Lines, Fault>
     ensures rows { HasCleanDisk (file_of bank.new) → (floors : List Entry)
         → HasStoredRows (database_of S.Store bank.old) floor_table floors
         → IfOk result (λ lines. map floor_entry lines.floors.items ≡ floors) }
+    ensures why { TellsWhy S.Store (λ fault. fault) bank.old bank.new result }
 {
     let mut floors = Vec::new(bank.alloc());
     match hand_all::<S, StoredFloor, Vec<StoredFloor>, Listing>(bank, &Listing, &mut floors) {
@@ -138,6 +156,7 @@ fn write_branches<S: Alter, W: Sink>(bank: &mut Bank<S>, writer: &mut W) -> Resu
         → HasStoredRows (database_of S.Store bank.old) branch_table branches
         → WritesText (plan_text floors branches) (W.contents writer.old) (W.contents writer.new) result }
     ensures writer { LeavesWriter (W.told writer.old) (W.told writer.new) result }
+    ensures why { TellsWhy S.Store fault_in bank.old bank.new result }
 {
     let lines = floors_of(bank)?;
     put(writer, NAMES)?;
@@ -166,7 +185,10 @@ pub fn write_plan<S: Alter, W: Sink>(bank: &mut Bank<S>, writer: &mut W) -> Resu
         → HasStoredRows (database_of S.Store bank.old) floor_table floors
         → HasStoredRows (database_of S.Store bank.old) branch_table branches
         → WritesText (plan_text floors branches) (W.contents writer.old) (W.contents writer.new) result }
+    ensures sound { (bank_seen S.Store bank.new).honest → (log : List Command)
+        → ShowsLog (bank_seen S.Store bank.old) log → (rule : Rule) → result ≢ Err (OfBank (Damaged rule)) }
     ensures writer { LeavesWriter (W.told writer.old) (W.told writer.new) result }
+    ensures why { TellsWhy S.Store fault_in bank.old bank.new result }
     ensures bank { TakesNone (bank_seen S.Store bank.old) (bank_seen S.Store bank.new) (HasAnswered result) }
     ensures down { (bank_seen S.Store bank.old).is_down
         → (result ≡ Err (OfBank Down)) × (bank.new ≡ bank.old) × (writer.new ≡ writer.old) }

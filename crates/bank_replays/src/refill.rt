@@ -1,7 +1,9 @@
 //! A second bank, filled with what the rows of a bank say. It may be filled with anything: whatever it is
 //! given, its tables are those of a log.
-ghost use Rattle.std.specs.Prelude.{◌≤◌, ◌<◌, ◌≡◌, [], IfOk, OnOk, length, ⊤};
+ghost use Rattle.std.specs.Prelude.{◌≤◌, ◌<◌, ◌≡◌, [], IfErr, IfOk, OnOk, length, ⊤};
+ghost use Rattle.posting_rules.specs.declared.fault.Fault.TheVariants.{Memory};
 ghost use Rattle.bank_replays.specs.Refilling.{ShowsSome};
+ghost use Rattle.bank_replays.specs.declared.fault.ReplayFault.TheVariants.{Bank as OfBank};
 
 use crate::fault::ReplayFault;
 use crate::handed::Hands;
@@ -36,7 +38,8 @@ fn open_planned<T: Alter + Drop>(
     branch: u64,
     planned: Planned,
 ) -> Result<(), ReplayFault>
-    ensures { ShowsSome T.Store bank.old → OnOk result (ShowsSome T.Store bank.new) }
+    ensures shows { ShowsSome T.Store bank.old → OnOk result (ShowsSome T.Store bank.new) }
+    ensures memory { IfErr result (λ fault. fault ≡ OfBank Memory) }
 {
     let Some(branch) = Branch::new(branch) else {
         return Ok(());
@@ -62,7 +65,8 @@ fn post_batch<T: Alter + Drop>(
     batch: &[[u8; REQUEST_BYTES]],
 ) -> Result<(), ReplayFault>
     requires { length batch.now ≤ RECORDS_PER_BATCH }
-    ensures { ShowsSome T.Store bank.old → OnOk result (ShowsSome T.Store bank.new) }
+    ensures shows { ShowsSome T.Store bank.old → OnOk result (ShowsSome T.Store bank.new) }
+    ensures memory { IfErr result (λ fault. fault ≡ OfBank Memory) }
 {
     if batch.is_empty() {
         return Ok(());
@@ -107,6 +111,7 @@ impl<T: Alter + Drop, W: Watch + Drop> Refill<T, W> {
     fn post(&mut self) -> Result<(), ReplayFault>
         ensures shows { ShowsSome T.Store self.old.bank → OnOk result (ShowsSome T.Store self.new.bank) }
         ensures empty { OnOk result (self.new.batch.items ≡ []) }
+        ensures memory { IfErr result (λ fault. fault ≡ OfBank Memory) }
     {
         post_batch(&mut self.bank, self.moment, self.batch.as_slice())?;
         self.batch.clear();
@@ -115,7 +120,8 @@ impl<T: Alter + Drop, W: Watch + Drop> Refill<T, W> {
 
     // Opens a branch, if it is yet to be opened, after all that came before.
     fn open(&mut self, branch: u64) -> Result<(), ReplayFault>
-        ensures { ShowsSome T.Store self.old.bank → OnOk result (ShowsSome T.Store self.new.bank) }
+        ensures shows { ShowsSome T.Store self.old.bank → OnOk result (ShowsSome T.Store self.new.bank) }
+        ensures memory { IfErr result (λ fault. fault ≡ OfBank Memory) }
     {
         let Some(planned) = self.planned.get_mut(branch as usize) else {
             return Ok(());
@@ -133,6 +139,7 @@ impl<T: Alter + Drop, W: Watch + Drop> Refill<T, W> {
     fn make_room(&mut self, moment: Moment) -> Result<(), ReplayFault>
         ensures shows { ShowsSome T.Store self.old.bank → OnOk result (ShowsSome T.Store self.new.bank) }
         ensures room { OnOk result (length self.new.batch.items < RECORDS_PER_BATCH) }
+        ensures memory { IfErr result (λ fault. fault ≡ OfBank Memory) }
     {
         if moment == self.moment && !self.batch.is_full() {
             return Ok(());
@@ -144,7 +151,8 @@ impl<T: Alter + Drop, W: Watch + Drop> Refill<T, W> {
 
     // Posts the rest, and opens the branches that no request needed.
     pub(crate) fn finish(&mut self) -> Result<(), ReplayFault>
-        ensures { ShowsSome T.Store self.old.bank → OnOk result (ShowsSome T.Store self.new.bank) }
+        ensures shows { ShowsSome T.Store self.old.bank → OnOk result (ShowsSome T.Store self.new.bank) }
+        ensures memory { IfErr result (λ fault. fault ≡ OfBank Memory) }
     {
         self.post()?;
         'branches: for branch in 1..=LAST_BRANCH {
@@ -182,13 +190,20 @@ impl<T: Alter + Drop, W: Watch + Drop> Refill<T, W> {
 }
 
 impl<T: Alter + Drop, W: Watch + Drop> Hands<StoredBranch, Refill<T, W>> for Filling {
+    ghost use Rattle.walked_rows.specs.Stored.{branch_entry};
+    ghost use Rattle.bank_replays.specs.Holding.{bars_held, branches_held};
+
     ghost Took = { λ way first last rows. ShowsSome T.Store first.bank → ShowsSome T.Store last.bank };
 
-    ghost Part = { λ way first last rows fault. ⊤ };
+    ghost Part = { λ way first last rows next fault. ⊤ };
+
+    ghost Refuses = { λ way rule row. ⊥ };
 
     ghost none_yet = { λ way refill some. some };
 
-    ghost in_part = { λ way first last rows fault took. tt };
+    ghost in_part = { λ way first last rows fault many took. tt };
+
+    ghost held = { λ way. bars_held branches_held branch_entry };
 
     fn hand(&self, row: StoredBranch, refill: &mut Refill<T, W>) -> Result<(), ReplayFault> {
         if let Some(planned) = refill.planned.get_mut(row.branch.get() as usize) {
@@ -199,13 +214,20 @@ impl<T: Alter + Drop, W: Watch + Drop> Hands<StoredBranch, Refill<T, W>> for Fil
 }
 
 impl<T: Alter + Drop, W: Watch + Drop> Hands<StoredFloor, Refill<T, W>> for Filling {
+    ghost use Rattle.walked_rows.specs.StoredBeside.{floor_entry};
+    ghost use Rattle.bank_replays.specs.Holding.{bars_held, floors_held};
+
     ghost Took = { λ way first last rows. ShowsSome T.Store first.bank → ShowsSome T.Store last.bank };
 
-    ghost Part = { λ way first last rows fault. ⊤ };
+    ghost Part = { λ way first last rows next fault. ⊤ };
+
+    ghost Refuses = { λ way rule row. ⊥ };
 
     ghost none_yet = { λ way refill some. some };
 
-    ghost in_part = { λ way first last rows fault took. tt };
+    ghost in_part = { λ way first last rows fault many took. tt };
+
+    ghost held = { λ way. bars_held floors_held floor_entry };
 
     fn hand(&self, row: StoredFloor, refill: &mut Refill<T, W>) -> Result<(), ReplayFault> {
         if let Some(planned) = refill.planned.get_mut(row.branch.get() as usize) {
@@ -222,13 +244,20 @@ fn had_account(outcome: i64) -> bool {
 }
 
 impl<T: Alter + Drop, W: Watch + Drop> Hands<KeptRequest, Refill<T, W>> for Filling {
+    ghost use Rattle.walked_rows.specs.KeptRows.{kept_item};
+    ghost use Rattle.bank_replays.specs.Holding.{bars_held, read_held};
+
     ghost Took = { λ way first last rows. ShowsSome T.Store first.bank → ShowsSome T.Store last.bank };
 
-    ghost Part = { λ way first last rows fault. ⊤ };
+    ghost Part = { λ way first last rows next fault. ⊤ };
+
+    ghost Refuses = { λ way rule row. ⊥ };
 
     ghost none_yet = { λ way refill some. some };
 
-    ghost in_part = { λ way first last rows fault took. tt };
+    ghost in_part = { λ way first last rows fault many took. tt };
+
+    ghost held = { λ way. bars_held read_held kept_item };
 
     // A request that wasn't posted comes at the moment before it: no row has one of its own.
     fn hand(&self, row: KeptRequest, refill: &mut Refill<T, W>) -> Result<(), ReplayFault> {

@@ -1,16 +1,17 @@
 //! The replay of a bank.
-ghost use Rattle.std.specs.Prelude.{◌≡◌, List, Err, IfOk, OnOk};
+ghost use Rattle.std.specs.Prelude.{◌≡◌, List, Err, IfErr, IfOk, OnOk};
 ghost use Rattle.sqlite.specs.Held.{IsNew};
 ghost use Rattle.sqlite.specs.State.{HasCleanDisk};
 ghost use Rattle.posting_rules.specs.believed.Commands.{Command};
 ghost use Rattle.posting_rules.specs.believed.Counter.{ShowsLog};
-ghost use Rattle.posting_rules.specs.declared.fault.Fault.TheVariants.{Down};
+ghost use Rattle.posting_rules.specs.declared.fault.Fault.TheVariants.{Down, Memory};
 ghost use Rattle.sql_meanings.specs.believed.Entries.{Entry};
 ghost use Rattle.walked_rows.specs.KeptRows.{HasKept, KeptItem};
 ghost use Rattle.walked_rows.specs.Rows.{HasStoredRows};
 ghost use Rattle.bank_store.specs.believed.Seen.{bank_seen, database_of, file_of};
 ghost use Rattle.bank_store.specs.Seen.{fault_of};
 ghost use Rattle.bank_store.specs.Leaving.{LeavesAsFound};
+ghost use Rattle.bank_replays.specs.Damaged.{TellsWhy, fault_in};
 ghost use Rattle.bank_replays.specs.Differences.{DiffersFrom, table_of};
 ghost use Rattle.bank_replays.specs.Digests.{IsDigestIn};
 ghost use Rattle.bank_replays.specs.FileTables.{FileTables, HasTables, IsKept};
@@ -38,6 +39,7 @@ fn fill<S: Alter, T: Alter + Drop, W: Watch + Drop>(
     refill: &mut Refill<T, W>,
 ) -> Result<(), ReplayFault>
     ensures bank { ReadsBank S.Store bank.old bank.new result }
+    ensures why { TellsWhy S.Store fault_in bank.old bank.new result }
     ensures shows { ShowsSome T.Store refill.old.bank → OnOk result (ShowsSome T.Store refill.new.bank) }
 {
     hand_all::<S, StoredBranch, Refill<T, W>, Filling>(bank, &Filling, refill)?;
@@ -53,6 +55,7 @@ fn refilled<S: Alter, T: Alter + Drop, W: Watch + Drop>(
     watch: W,
 ) -> Result<Bank<T>, Fault>
     ensures bank { ReadsBank S.Store bank.old bank.new result }
+    ensures why { TellsWhy S.Store (λ fault. fault) bank.old bank.new result }
     ensures shows { IfOk result (λ filled. ShowsSome T.Store due → ShowsSome T.Store filled) }
 {
     let mut refill = Refill::over(bank.alloc(), due, watch)?;
@@ -74,6 +77,7 @@ fn replay_beside<S: Alter, T: Alter + Drop, W: Watch + Drop>(
     requires clean { IsNeverInDoubt T.Store }
     requires shows { ShowsSome T.Store due }
     ensures bank { ReadsBank S.Store bank.old bank.new result }
+    ensures why { TellsWhy S.Store (λ fault. fault) bank.old bank.new result }
     ensures compared { HasLookedAtRows result }
     ensures agrees { HasCleanDisk (file_of bank.new) → (f : FileTables)
         → HasTables (database_of S.Store bank.old) f
@@ -93,7 +97,8 @@ fn replay_beside<S: Alter, T: Alter + Drop, W: Watch + Drop>(
 // A new bank in a store that holds nothing.
 fn new_bank<T: Alter + Drop>(alloc: Global, conn: Connection<T>) -> Result<Bank<T>, Fault>
     requires { IsNew conn }
-    ensures { IfOk result (ShowsSome T.Store) }
+    ensures shows { IfOk result (ShowsSome T.Store) }
+    ensures memory { IfErr result (λ fault. fault ≡ Memory) }
 {
     match create(alloc, conn) {
         Ok(bank) => Ok(bank),
@@ -115,6 +120,7 @@ fn replay_over<S: Alter, T: Alter + Drop, W: Watch + Drop>(
     requires clean { IsNeverInDoubt T.Store }
     requires new { IsNew conn }
     ensures bank { ReadsBank S.Store bank.old bank.new result }
+    ensures why { TellsWhy S.Store (λ fault. fault) bank.old bank.new result }
     ensures compared { HasLookedAtRows result }
     ensures agrees { HasCleanDisk (file_of bank.new) → (f : FileTables)
         → HasTables (database_of S.Store bank.old) f
@@ -138,7 +144,8 @@ const HELD: Options = Options {
 
 // A database with no table, in pages in memory.
 fn memory_pages(alloc: Global) -> Result<Connection<FileStore<Ram>>, Fault>
-    ensures { IfOk result IsNew }
+    ensures new { IfOk result IsNew }
+    ensures memory { IfErr result (λ fault. fault ≡ Memory) }
 {
     let files = Files {
         log: Ram::new(alloc),
@@ -172,6 +179,7 @@ pub fn replay<S: Alter, W: Watch + Drop>(bank: &mut Bank<S>, watch: W) -> Result
         → HasKept (database_of S.Store bank.old) all → OnAgrees result (IsDigestIn all) }
     ensures differs { (bank_seen S.Store bank.new).honest → OnDiffers result (λ d. (rows : List Entry)
         → HasStoredRows (database_of S.Store bank.old) (table_of d) rows → DiffersFrom rows d) }
+    ensures why { TellsWhy S.Store (λ fault. fault) bank.old bank.new result }
     ensures bank { Replays (bank_seen S.Store bank.old) (bank_seen S.Store bank.new) result }
     ensures down { (bank_seen S.Store bank.old).is_down → (result ≡ Err Down) × (bank.new ≡ bank.old) }
     ensures up { fault_of bank.new ≡ fault_of bank.old }

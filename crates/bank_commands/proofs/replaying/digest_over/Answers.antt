@@ -19,7 +19,15 @@ returns g c =
       digests = done_over g.S.Store c.args.conn c.release.result _ c.in-Ok.bank c.digest.new.bank c.in-Ok.ensures.found (
         c.digest.result,
         c.print_first-told.ensures,
-        record { rows = it.rows; log = it.log; bank = it.bank; up = it.up; leaves = it.leaves },
+        record {
+          rows = it.rows;
+          log = it.log;
+          why = it.why;
+          frugal = it.frugal;
+          bank = it.bank;
+          up = it.up;
+          leaves = it.leaves;
+        },
       ) (as_found_spares g.S.Store c.in-Ok.bank c.digest.new.bank it.leaves) c.release.ensures.same;
       idle = c.release.ensures.idle;
     }

@@ -19,7 +19,15 @@ returns g c =
       plans = done_over g.S.Store c.args.conn c.release.result _ c.in-Ok.bank c.write_plan.new.bank c.in-Ok.ensures.found (
         c.write_plan.result,
         c.written-told.ensures,
-        record { rows = it.rows; writer = it.writer; bank = it.bank; up = it.up; leaves = it.leaves },
+        record {
+          rows = it.rows;
+          sound = it.sound;
+          writer = it.writer;
+          why = it.why;
+          bank = it.bank;
+          up = it.up;
+          leaves = it.leaves;
+        },
       ) (as_found_spares g.S.Store c.in-Ok.bank c.write_plan.new.bank it.leaves) c.release.ensures.same;
       idle = c.release.ensures.idle;
     }

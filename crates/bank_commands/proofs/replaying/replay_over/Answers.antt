@@ -24,6 +24,7 @@ returns g c =
           agrees = it.agrees.1;
           digest = it.digest;
           differs = it.differs;
+          why = it.why;
           bank = it.bank;
           up = it.up;
           leaves = it.leaves;

@@ -1,7 +1,7 @@
 -- There is room for the walks, and what was told of their rows to come is told of all rows of the banks.
 use Rattle.std.proofs.Common.{rules}
 use Rattle.bank_store.proofs.RoomForWalks.{walk_fits}
-use Rattle.bank_replays.proofs.Begun.{differs_of_all}
+use Rattle.bank_replays.proofs.{Begun.differs_of_all, Begun.stops_of_all, Whys.stopped_why}
 use Rattle.bank_replays.proofs.comparing.compare.Goals as goal
 
 pub each_row-requires : goal.each_row-requires
@@ -18,5 +18,7 @@ returns g c = record {
   differs = λ clean clean_due d is.
       differs_of_all c.in_ok-stood.ensures.begins c.in-Ok.ensures.begins g.R.Compared.Says g.met.R.Compared.rise d
       (c.compare_rows.ensures.differs (search rules) (search rules) d is);
-  tried = search rules;
+  why = stopped_why g.R.WalkedRow.Breaks g.R.WalkedRow.HasItems g.met.R.Compared.held c.compare_rows.result
+      (stops_of_all c.in_ok-stood.ensures.begins g.R.WalkedRow.Breaks (search rules) _ c.compare_rows.result
+      c.compare_rows.ensures.why (λ late. search rules));
 }

@@ -2,7 +2,9 @@
 use Rattle.std.proofs.Common.{◌≡◌, [], Some, Err, refl, sym, ap, subst, ◌∙◌}
 use Rattle.std.proofs.lemmas.Result.{err_from_is_err_and}
 use Rattle.posting_rules.specs.declared.fault.Fault.TheVariants.{Memory}
-use Rattle.bank_replays.proofs.Comparisons.{error_is, memory_not_down, not_none, ok_not_err, same_end, same_step}
+use Rattle.bank_transactions.proofs.Blamed.{comes}
+use Rattle.bank_replays.proofs.Comparisons.{along_more, not_none, ok_not_err, same_end, same_step}
+use Rattle.bank_replays.proofs.Hands.{why_among, why_stopped}
 use Rattle.bank_replays.proofs.Comparisons.{one_difference, some_not_none}
 use Rattle.bank_replays.proofs.FirstDifference.{so_far_more, so_far_same, told_first}
 use Rattle.bank_replays.specs.declared.difference.Difference.{Difference}
@@ -16,6 +18,7 @@ rows-init g c = record {
   bank = none_read _ _;
   due = none_read _ _;
   fresh = c.requires.fresh;
+  along = λ clean all has. ([], refl);
   same = λ clean clean_due all others has has_due. record { given = []; are = refl; are_due = refl };
 }
 
@@ -33,8 +36,20 @@ returns-in_err-stands g c =
       due = read_any it.due _;
       same = λ clean clean_due none. absurd (not_none _ fault same none);
       differs = λ clean clean_due d is. absurd (ok_not_err (Some d) _ fault is same);
-      tried = λ is.
-          it.fresh (c.next.ensures.stage.down.1 (c.in_err-stands.was ∙ ap Err (error_is fault _ same is))).0;
+      why = λ clean all has.
+          let step = step_reads c.next.ensures.bank in
+          let before = clean_before step clean in
+          let there = subst (λ db. g.R.WalkedRow.HasItems db all) (sym (it.bank.still before).0) has in
+          let given = it.along before all has in
+          rw same (why_among g.R.WalkedRow.item g.R.WalkedRow.Breaks _ _ given.0 _ _ given.1 fault
+          (why_stopped g.R.WalkedRow.item g.R.WalkedRow.Breaks _ _ g.R.WalkedRow.Breaks (λ rule x breaks. breaks) _ _
+          fault (c.in_err-stands.ensures.told clean all there)
+          (λ is. record {
+            at = c.rows.stood.bank.now.conn;
+            before = comes it.bank.survives;
+            failed = c.in_err-stands.ensures.store clean all there (ap Err is);
+          })
+          (λ is. it.fresh (c.next.ensures.stage.down.1 (c.in_err-stands.was ∙ ap Err is)).0)));
     }
 
 -- the second walk failed
@@ -48,7 +63,7 @@ returns-in_default g c =
       due = read_fails Memory (read_then it.due (step_reads c.next-in-rows.ensures.bank));
       same = λ clean clean_due none. absurd (not_none _ Memory refl none);
       differs = λ clean clean_due d is. absurd (ok_not_err (Some d) _ Memory is refl);
-      tried = memory_not_down _ refl;
+      why = λ clean all has. tt;
     }
 
 -- both ended
@@ -74,7 +89,7 @@ returns-in-Ended g c =
           (subst (λ db. g.R.WalkedRow.HasItems db others) (sym (it.due.still before_due).0) has_due))
           ended.0 ended.1);
       differs = λ clean clean_due d is. absurd (some_not_none d _ is refl);
-      tried = ok_not_err _ _ _ refl;
+      why = λ clean all has. tt;
     }
 
 -- they differ
@@ -104,7 +119,7 @@ returns-in-Differs g c =
             (subst (λ db. g.R.WalkedRow.HasItems db others) (sym (it.due.still before_due).0) has_due))
             set.1;
       };
-      tried = ok_not_err _ _ _ refl;
+      why = λ clean all has. tt;
     }
 
 -- there would be no room
@@ -118,7 +133,7 @@ returns g c =
       due = read_any it.due _;
       same = λ clean clean_due none. absurd (not_none _ Memory refl none);
       differs = λ clean clean_due d is. absurd (ok_not_err (Some d) _ Memory is refl);
-      tried = memory_not_down _ refl;
+      why = λ clean all has. tt;
     }
 
 pub rows-preserved : goal.rows-preserved
@@ -133,6 +148,12 @@ rows-preserved g c =
       bank = read_any (read_then it.bank one) _;
       due = read_any (read_then it.due two) _;
       fresh = c.in_ok-stands.ensures.stage.going;
+      along = λ clean all has.
+          let before = clean_before one clean in
+          let given = it.along before all has in
+          along_more g.R.WalkedRow.item g.R.WalkedRow.Breaks _ _ _ given.0 _
+          (c.in_ok-stands.ensures.told clean all
+          (subst (λ db. g.R.WalkedRow.HasItems db all) (sym (it.bank.still before).0) has)) given.1 set.0 set.2;
       same = λ clean clean_due all others has has_due.
           let before = clean_before one clean in
           let before_due = clean_before two clean_due in

@@ -1,9 +1,11 @@
 -- The digest, or none where there are fewer, and what a log makes of it.
-use Rattle.std.proofs.Common.{rules, ◌≡◌, Bool, Ok, Err, Option, Some, None, false, true, refl}
+use Rattle.std.proofs.Common.{rules, ◌≡◌, ◌∙◌, Bool, Ok, Err, Option, Some, None, false, true, refl, sym, ap}
 use Rattle.posting_rules.specs.declared.fault.Fault.{Fault}
 use Rattle.bank_store.specs.believed.Seen.{bank_seen, database_of}
 use Rattle.bank_store.proofs.{AsFound.idle_as_found, ReadsLeave.idle_takes}
-use Rattle.bank_replays.proofs.Digested.{digests_log, rows_enough, rows_fewer}
+use Rattle.bank_replays.specs.Digests.{answered_after}
+use Rattle.bank_replays.proofs.Digested.{digests_err, digests_log, rows_enough, rows_fewer}
+use Rattle.bank_replays.proofs.{SoundLogs.sound_log, Whys.err_is, Whys.why_err, Whys.why_none}
 use Rattle.bank_replays.proofs.{Leaves.read_leaves, Leaves.read_takes, LogRows.has_kept}
 use Rattle.bank_replays.proofs.{LogRows.kept_answered, LogRows.kept_of, Read.read_any, Read.read_fails}
 use Rattle.bank_replays.specs.declared.chain.Digest.{Digest}
@@ -16,6 +18,8 @@ pub returns-then-is_down : goal.returns-then-is_down
 returns-then-is_down g c = record {
   rows = λ clean all has. tt;
   log = λ clean log shows. tt;
+  why = record { told = λ clean f has. sym c.is_down.ensures ∙ c.if-is_down.true };
+  frugal = λ is. absurd cc;
   bank = idle_takes (bank_seen g.S.Store c.args.bank.now) _;
   down = λ down. (refl, refl);
   up = refl;
@@ -29,7 +33,11 @@ returns-in_err-digest g c =
     let reads = c.in_err-digest.ensures.bank in
     record {
       rows = λ clean all has. rw same tt;
-      log = λ clean log shows. rw same tt;
+      log = λ clean log shows.
+          rw same (digests_err c.args.count (answered_after log) fault
+          (sound_log clean log shows (Err fault) fault c.in_err-digest.ensures.why refl));
+      why = rw same (why_err fault fault refl c.in_err-digest.ensures.why);
+      frugal = λ is. c.in_err-digest.ensures.frugal (ap Err (err_is fault _ (sym same ∙ is)));
       bank = rw same (read_takes {X = Option Digest} (Err fault) (read_fails fault reads));
       down = λ down. absurd (tested_up _ _ c.is_down.ensures c.if-is_down.false down);
       up = reads.up;
@@ -46,10 +54,12 @@ returns-then-digest-count g c =
           c.if-digest-count.true;
       log = λ clean log shows.
           let all = kept_of db shows.tables log shows.are shows.shows in
-          digests_log c.args.count all _ (kept_answered db shows.tables log shows.are shows.shows) (Ok None)
+          digests_log c.args.count all _ (kept_answered db shows.tables log shows.are shows.shows) None
           (rows_fewer c.args.count all c.in_ok-digest.digest
           (c.in_ok-digest.ensures.rows clean all (has_kept db shows.tables log shows.are shows.shows))
           c.if-digest-count.true);
+      why = why_none None;
+      frugal = λ is. absurd cc;
       bank = read_takes {X = Option Digest} {E = Fault} (Ok None) (read_any reads (Ok None));
       down = λ down. absurd (tested_up _ _ c.is_down.ensures c.if-is_down.false down);
       up = reads.up;
@@ -68,8 +78,10 @@ returns g c =
       log = λ clean log shows.
           let all = kept_of db shows.tables log shows.are shows.shows in
           let is = c.in_ok-digest.ensures.rows clean all (has_kept db shows.tables log shows.are shows.shows) in
-          digests_log c.args.count all _ (kept_answered db shows.tables log shows.are shows.shows) (Ok (Some digest))
+          digests_log c.args.count all _ (kept_answered db shows.tables log shows.are shows.shows) (Some digest)
           (rows_enough c.args.count all digest is c.if-digest-count.false, is);
+      why = why_none (Some digest);
+      frugal = λ is. absurd cc;
       bank = read_takes {X = Option Digest} {E = Fault} (Ok (Some digest)) (read_any reads (Ok (Some digest)));
       down = λ down. absurd (tested_up _ _ c.is_down.ensures c.if-is_down.false down);
       up = reads.up;

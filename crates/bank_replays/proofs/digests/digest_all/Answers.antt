@@ -1,5 +1,6 @@
 -- All rows were handed on to the digest of none.
-use Rattle.bank_replays.proofs.{Chained.digest_is, Read.read_any, Read.read_fails}
+use Rattle.std.proofs.Common.{sym}
+use Rattle.bank_replays.proofs.{Chained.digest_is, Read.read_any, Read.read_fails, Whys.why_err, Whys.why_none}
 use Rattle.bank_replays.proofs.digests.digest_all.Goals as goal
 
 pub returns-in-Ok : goal.returns-in-Ok
@@ -10,7 +11,12 @@ returns-in-Ok g c =
       rows = λ clean all has.
           digest_is c.none-digest.result c.hand_all.new.taker _ all c.none-digest.ensures.requests
           c.none-digest.ensures.sha256 it.hands.1 (it.hands.2 clean all has);
+      why = why_none c.hand_all.new.taker;
     }
 
 pub returns-in-Err : goal.returns-in-Err
-returns-in-Err g c = record { bank = read_fails _ c.in-Err.ensures.bank; rows = λ clean all has. tt }
+returns-in-Err g c = record {
+  bank = read_fails _ c.in-Err.ensures.bank;
+  rows = λ clean all has. tt;
+  why = why_err c.in-Err.fault _ (sym c.told.ensures) c.in-Err.ensures.why;
+}

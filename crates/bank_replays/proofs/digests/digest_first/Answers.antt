@@ -1,5 +1,7 @@
--- The first rows were handed on to the digest of none.
-use Rattle.bank_replays.proofs.{Chained.digest_is, Read.read_any, Read.read_fails}
+-- What was digested is the digest of the rows that were read, and why no more were.
+use Rattle.std.proofs.Common.{sym, ◌∙◌, arith}
+use Rattle.bank_replays.proofs.{Chained.digest_frugal, Chained.digest_is, Read.read_any, Read.read_fails}
+use Rattle.bank_replays.proofs.Whys.{err_is, why_err, why_none}
 use Rattle.bank_replays.proofs.digests.digest_first.Goals as goal
 
 pub returns-in-Ok : goal.returns-in-Ok
@@ -10,7 +12,18 @@ returns-in-Ok g c =
       rows = λ clean all has.
           digest_is c.none-digest.result c.hand_first.new.taker _ _ c.none-digest.ensures.requests
           c.none-digest.ensures.sha256 it.hands.1 (it.hands.3 clean all has);
+      why = why_none c.hand_first.new.taker;
+      frugal = λ is. absurd cc;
     }
 
 pub returns-in-Err : goal.returns-in-Err
-returns-in-Err g c = record { bank = read_fails _ c.in-Err.ensures.bank; rows = λ clean all has. tt }
+returns-in-Err g c =
+    let it = c.in-Err.ensures in
+    record {
+      bank = read_fails _ it.bank;
+      rows = λ clean all has. tt;
+      why = why_err c.in-Err.fault _ (sym c.told.ensures) it.why;
+      frugal = λ is.
+          digest_frugal c.none-digest.result it.hands.0 c.args.count c.in-Err.fault (omega (arith, c.ranges.count.fits)) c.none-digest.ensures.requests
+          it.hands.2 it.hands.3 (sym c.told.ensures ∙ err_is _ _ is);
+    }

@@ -1,6 +1,7 @@
 -- The records of a log's requests.
+use Rattle.std.proofs.Common.{refl}
 use Rattle.bank_store.specs.believed.Seen.{database_of}
-use Rattle.bank_replays.proofs.{ExportedLog.writes_log, LogRows.has_kept, LogRows.kept_of}
+use Rattle.bank_replays.proofs.{ExportedLog.writes_log, LogRows.has_kept, LogRows.kept_of, SoundLogs.sound_log}
 use Rattle.bank_replays.proofs.exports.export.Goals as goal
 
 pub returns-clause-log : goal.returns-clause-log
@@ -9,3 +10,4 @@ returns-clause-log g c clean log shows =
     writes_log db shows.tables log shows.are shows.shows c.args.after _ _ _
     (c.export_records.ensures.rows clean (kept_of db shows.tables log shows.are shows.shows)
     (has_kept db shows.tables log shows.are shows.shows))
+    (λ rule is. sound_log clean log shows c.export_records.result _ c.export_records.ensures.why is rule refl)

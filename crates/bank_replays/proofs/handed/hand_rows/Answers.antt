@@ -1,7 +1,10 @@
 -- One row more, and what ends the walk.
-use Rattle.std.proofs.Common.{rules, ◌≡◌, [], Err, refl, sym, subst, ◌∙◌, arith}
+use Rattle.std.proofs.Common.{rules, ◌≡◌, [], Err, refl, sym, ap, subst, ◌∙◌, arith, inl}
+use Rattle.bank_transactions.proofs.Blamed.{comes}
+use Rattle.bank_store.specs.Failures.{HasFailedToRead}
+use Rattle.bank_replays.specs.Handing.{Bars, Why}
 use Rattle.bank_replays.specs.declared.fault.ReplayFault.TheVariants.{Bank}
-use Rattle.bank_replays.proofs.Hands.{hands_end, hands_more, hands_most, hands_part, hands_refused}
+use Rattle.bank_replays.proofs.Hands.{hands_end, hands_more, hands_most, hands_part, hands_refused, why_refused, why_stopped}
 use Rattle.bank_replays.proofs.Read.{clean_before, none_read, read_any, read_fails, read_then, step_reads}
 use Rattle.bank_replays.proofs.handed.hand_rows.Goals as goal
 
@@ -24,13 +27,28 @@ returns-in_err-row g c =
     let it = c.rows.invariant in
     let fault = c.in_err-row.field-0.0 in
     let same : c.from_residual.result ≡ Err (Bank fault) = search rules in
+    let step = step_reads c.next.ensures.bank in
     record {
       same_reference = c.next.ensures.bank.same_reference ∙ it.reference;
-      bank = rw same (read_fails (Bank fault) (read_then it.bank (step_reads c.next.ensures.bank)));
-      hands = rw same (hands_part _ _ (g.P.Hands.Part c.args.way.now c.args.taker.now c.rows.taker)
-          g.R.WalkedRow.Breaks _ _ _ _ _ (λ all. []) _ (clean_before (step_reads c.next.ensures.bank)) it.handed
-          (Bank fault)
-          (g.met.P.Hands.in_part c.args.way.now c.args.taker.now c.rows.taker it.handed.given fault it.handed.took));
+      bank = rw same (read_fails (Bank fault) (read_then it.bank step));
+      hands = rw same (hands_part g.R.WalkedRow.item (g.P.Hands.Took c.args.way.now c.args.taker.now c.rows.taker)
+          (g.P.Hands.Part c.args.way.now c.args.taker.now c.rows.taker) (Why (Bars g.R.WalkedRow.item g.R.WalkedRow.Breaks (g.P.Hands.Refuses c.args.way.now))
+          (HasFailedToRead g.S.Store _ _) ⊥)
+          g.R.WalkedRow.Breaks _ _ _ _ _ (λ all. []) _ (clean_before step) it.handed c.args.most fault
+          (λ is. c.in_err-row.ensures.frugal (ap Err is))
+          (g.met.P.Hands.in_part c.args.way.now c.args.taker.now c.rows.taker it.handed.given fault
+          (λ is. absurd (c.in_err-row.ensures.frugal (ap Err is))) it.handed.took)
+          (λ clean all has.
+          let there = subst (λ db. g.R.WalkedRow.HasItems db all) (sym (it.bank.still (clean_before step clean)).0) has in
+          why_stopped g.R.WalkedRow.item (Bars g.R.WalkedRow.item g.R.WalkedRow.Breaks (g.P.Hands.Refuses c.args.way.now))
+          (HasFailedToRead g.S.Store _ _) ⊥ g.R.WalkedRow.Breaks (λ rule x breaks. inl breaks) _ _ fault
+          (c.in_err-row.ensures.told clean all there)
+          (λ is. record {
+            at = c.rows.walk.bank.now.conn;
+            before = comes it.bank.survives;
+            failed = c.in_err-row.ensures.store clean all there (ap Err is);
+          })
+          (λ is. it.fresh (c.next.ensures.stage.down.1 (c.in_err-row.was ∙ ap Err is)).0)));
     }
 
 -- it ended
@@ -42,7 +60,7 @@ returns-in_default g c =
       same_reference = c.next.ensures.bank.same_reference ∙ it.reference;
       bank = read_any (read_then it.bank step) _;
       hands = hands_end _ (g.P.Hands.Took c.args.way.now c.args.taker.now c.rows.taker)
-          (g.P.Hands.Part c.args.way.now c.args.taker.now c.rows.taker) g.R.WalkedRow.Breaks _ _ _ _ _ _ _
+          (g.P.Hands.Part c.args.way.now c.args.taker.now c.rows.taker) (λ coming fault. Unit {0}) g.R.WalkedRow.Breaks _ _ _ _ _ _ _
           (clean_before step) it.handed c.args.most (omega (arith, c.rows-test.true))
           (λ clean all has. rw c.in_default.is at (c.in_ok-row.ensures.told clean all
           (subst (λ db. g.R.WalkedRow.HasItems db all) (sym (it.bank.still (clean_before step clean)).0) has)));
@@ -58,10 +76,13 @@ returns-in_err-hand g c =
     record {
       same_reference = c.next.ensures.bank.same_reference ∙ it.reference;
       bank = rw same (read_fails fault (read_any {Y = Unit {0}} (read_then it.bank step) (Err fault)));
-      hands = rw same (hands_refused _ (g.P.Hands.Took c.args.way.now c.args.taker.now c.rows.taker)
-          (g.P.Hands.Part c.args.way.now c.args.taker.now c.hand.new.taker) g.R.WalkedRow.Breaks _ _ _ _ _ _ _
-          (clean_before step) it.handed c.in-Some.row fault
+      hands = rw same (hands_refused g.R.WalkedRow.item (g.P.Hands.Took c.args.way.now c.args.taker.now c.rows.taker)
+          (g.P.Hands.Part c.args.way.now c.args.taker.now c.hand.new.taker) (Why (Bars g.R.WalkedRow.item g.R.WalkedRow.Breaks (g.P.Hands.Refuses c.args.way.now))
+          (HasFailedToRead g.S.Store _ _) ⊥) g.R.WalkedRow.Breaks _ _ _ _ _ _ _
+          (clean_before step) it.handed c.args.most (omega (arith, c.rows-test.true)) c.in-Some.row fault
           (c.in_err-hand.ensures.part c.args.taker.now it.handed.given it.handed.took)
+          (λ more. why_refused g.R.WalkedRow.item g.R.WalkedRow.Breaks (g.P.Hands.Refuses c.args.way.now) _ _ _ fault
+          c.in_err-hand.ensures.why more)
           (λ clean all has. rw c.in-Some.is at (c.in_ok-row.ensures.told clean all
           (subst (λ db. g.R.WalkedRow.HasItems db all) (sym (it.bank.still (clean_before step clean)).0) has))));
     }
@@ -74,7 +95,7 @@ returns g c =
     record {
       same_reference = it.reference;
       bank = read_any it.bank _;
-      hands = rw (sym same) (hands_most _ _ (g.P.Hands.Part c.args.way.now c.args.taker.now c.rows.taker)
+      hands = rw (sym same) (hands_most _ _ (g.P.Hands.Part c.args.way.now c.args.taker.now c.rows.taker) (λ coming fault. Unit {0})
           g.R.WalkedRow.Breaks _ _ _ _ _ (λ all. []) _ (λ clean. clean) it.handed);
     }
 
@@ -86,7 +107,8 @@ rows-preserved g c =
       reference = c.next.ensures.bank.same_reference ∙ it.reference;
       bank = read_any (read_then it.bank step) _;
       fresh = c.in_ok-row.ensures.stage.going;
-      handed = hands_more _ _ (λ rows fault. Unit {0}) g.R.WalkedRow.Breaks _ _ _ _ _ _ _ (clean_before step)
+      handed = hands_more _ _ (λ rows next fault. Unit {0}) (λ coming fault. Unit {0}) g.R.WalkedRow.Breaks _ _ _ _ _ _ _
+          (clean_before step)
           it.handed _ c.in-Some.row (c.in_ok-hand.ensures.took c.args.taker.now it.handed.given it.handed.took)
           (λ clean all has. rw c.in-Some.is at (c.in_ok-row.ensures.told clean all
           (subst (λ db. g.R.WalkedRow.HasItems db all) (sym (it.bank.still (clean_before step clean)).0) has)));

@@ -1,5 +1,6 @@
 -- The one row of `meta` was handed on.
-use Rattle.std.proofs.Common.{pos, ◌∙◌}
+use Rattle.std.proofs.Common.{◌∙◌}
+use Rattle.std.proofs.lemmas.Result.{IfOk-weaker}
 use Rattle.bank_replays.proofs.{Logged.one_decided, Read.read_any, Read.read_fails}
 use Rattle.bank_replays.proofs.logs.stored_count.Goals as goal
 
@@ -9,7 +10,9 @@ returns-in-Ok g c =
     record {
       bank = read_any it.bank _;
       rows = λ clean version decided has.
-          it.hands.1 ∙ one_decided (pos 0) version decided it.hands.0 (it.hands.2 clean _ has);
+          IfOk-weaker c.counted.result _ _
+          (λ count is. is ∙ it.hands.1 ∙ one_decided _ version decided it.hands.0 (it.hands.2 clean _ has))
+          c.counted.ensures;
     }
 
 pub returns-in-Err : goal.returns-in-Err

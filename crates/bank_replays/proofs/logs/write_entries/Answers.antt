@@ -1,12 +1,12 @@
 -- The entries of all rows were written, or a prefix of them.
-use Rattle.std.proofs.Common.{rules, ◌≡◌, ◌^◌, ◌-◌, ◌++◌, Err, List, map, length, drop, sym, ap, ◌∙◌}
+use Rattle.std.proofs.Common.{rules, ◌≡◌, ◌^◌, ◌-◌, ◌++◌, Err, List, map, length, drop, sym, ap, ◌∙◌, append_assoc}
 use Rattle.std.proofs.lemmas.List.{length-map, take-append-drop}
 use Rattle.posting_rules.specs.declared.fault.Fault.TheVariants.{Memory}
 use Rattle.walked_rows.specs.KeptRows.{KeptItem, kept_item}
 use Rattle.report_contents.proofs.Written.{later_failed, same_all, same_part, whole_part}
-use Rattle.bank_replays.specs.Logs.{entries_after}
+use Rattle.bank_replays.specs.{Handing.refused_of, Logs.entries_after}
 use Rattle.bank_replays.specs.declared.fault.ReplayFault.TheVariants.{Write}
-use Rattle.bank_replays.proofs.{Hands.whole, Logged.entries_of_part}
+use Rattle.bank_replays.proofs.{Hands.whole, Logged.entries-append, Logged.entries_of_part}
 use Rattle.bank_replays.proofs.Wrote.{bank_err, end_part, end_wrote, writer_err, writer_ok}
 use Rattle.bank_replays.proofs.logs.write_entries.Goals as goal
 
@@ -15,9 +15,12 @@ returns-in_err-count-clause-rows g c clean all has =
     let fault = c.in_err-count.field-0.0 in
     let same : c.from_residual.result ≡ Err fault = search rules in
     let it = c.in_err-count.ensures.hands in
-    let more = it.2 clean all has in
+    let more = it.4 clean all has in
+    let given = map kept_item it.0 in
+    let next = refused_of kept_item it.1 in
     rw same (record {
-      text = entries_of_part _ _ c.args.after (map kept_item it.0) more.0 all more.1 it.1.0;
+      text = entries_of_part _ _ c.args.after (given ++ next) more.0 all (append_assoc given next more.0 ∙ more.1)
+          (same_part _ _ (sym (entries-append c.args.after given next)) it.2.0);
       kept = tt;
     })
 
@@ -25,7 +28,7 @@ pub returns-in_err-count-clause-writer : goal.returns-in_err-count-clause-writer
 returns-in_err-count-clause-writer g c =
     let fault = c.in_err-count.field-0.0 in
     let same : c.from_residual.result ≡ Err fault = search rules in
-    rw same (writer_err fault c.in_err-count.ensures.hands.1.1)
+    rw same (writer_err fault c.in_err-count.ensures.hands.2.1)
 
 pub returns-then-count-clause-rows : goal.returns-then-count-clause-rows
 returns-then-count-clause-rows g c clean all has =

@@ -1,13 +1,14 @@
 -- The plan was written, or a prefix of it.
-use Rattle.std.proofs.Common.{rules, ◌≡◌, Err, map, sym, subst}
+use Rattle.std.proofs.Common.{rules, ◌≡◌, Err, map, refl, sym, subst}
 use Rattle.posting_core.proofs.Telling.{more_more}
 use Rattle.store_rows.specs.believed.BankTables.{branch as branch_table}
 use Rattle.walked_rows.specs.{Rows.HasStoredRows, Stored.branch_entry, StoredBeside.floor_entry}
 use Rattle.report_contents.proofs.Written.{first_part, later_failed}
-use Rattle.bank_replays.specs.Writing.{plan_lines, plan_names}
+use Rattle.bank_replays.specs.{Handing.refused_of, Writing.plan_lines, Writing.plan_names}
 use Rattle.bank_replays.specs.declared.fault.ReplayFault.TheVariants.{Bank, Write}
 use Rattle.bank_replays.proofs.Planned.{plan_all, plan_end, plan_part}
-use Rattle.bank_replays.proofs.{Read.clean_before, Wrote.bank_err, Wrote.writer_err, Wrote.writer_ok}
+use Rattle.bank_replays.proofs.{Read.clean_before, Whys.why_err, Whys.why_memory, Whys.why_none, Whys.why_then}
+use Rattle.bank_replays.proofs.Wrote.{bank_err, writer_err, writer_ok}
 use Rattle.bank_replays.proofs.plan.write_branches.Goals as goal
 
 pub returns-in_err-lines-clause-writer : goal.returns-in_err-lines-clause-writer
@@ -29,16 +30,17 @@ returns-in_err-hand_all-clause-rows g c clean floors branches has_floors has =
     let two = c.in_err-hand_all.ensures in
     let before = clean_before two.bank clean in
     let there = subst (λ db. HasStoredRows db branch_table branches) (sym (one.bank.still before).0) has in
-    let more = two.hands.2 clean branches there in
+    let more = two.hands.4 clean branches there in
     rw same (plan_part _ _ (map floor_entry c.in_ok-lines.lines.floors.items) floors (map branch_entry two.hands.0)
-    branches (one.rows before floors has_floors) c.in_ok-put.ensures.ok _ more.0 more.1 two.hands.1.0)
+    branches (one.rows before floors has_floors) c.in_ok-put.ensures.ok _ (refused_of branch_entry two.hands.1) more.0
+    more.1 two.hands.2.0)
 
 pub returns-in_err-hand_all-clause-writer : goal.returns-in_err-hand_all-clause-writer
 returns-in_err-hand_all-clause-writer g c =
     let fault = c.in_err-hand_all.field-0.0 in
     let same : c.from_residual-in_err-hand_all.result ≡ Err fault = search rules in
     rw same (writer_err fault
-    (λ is. later_failed c.in_ok-put.ensures.more (c.in_err-hand_all.ensures.hands.1.1 is)))
+    (λ is. later_failed c.in_ok-put.ensures.more (c.in_err-hand_all.ensures.hands.2.1 is)))
 
 pub returns-in_err-put_last-clause-rows : goal.returns-in_err-put_last-clause-rows
 returns-in_err-put_last-clause-rows g c clean floors branches has_floors has =
@@ -71,3 +73,30 @@ returns-clause-rows g c clean floors branches has_floors has =
 pub returns-clause-writer : goal.returns-clause-writer
 returns-clause-writer g c =
     writer_ok (more_more c.in_ok-put.ensures.more c.in_ok-hand_all.ensures.hands.1.1) c.in_ok-put_last.ensures.flushed
+
+-- ---- why not all were written
+
+pub returns-in_err-lines-clause-why : goal.returns-in_err-lines-clause-why
+returns-in_err-lines-clause-why g c =
+    let fault = c.in_err-lines.field-0.0 in
+    let same : c.from_residual.result ≡ Err (Bank fault) = search rules in
+    rw same (why_err fault (Bank fault) refl c.in_err-lines.ensures.why)
+
+pub returns-in_err-put-clause-why : goal.returns-in_err-put-clause-why
+returns-in_err-put-clause-why g c =
+    let same : c.from_residual-in_err-put.result ≡ Err Write = search rules in
+    rw same (why_memory Write refl)
+
+pub returns-in_err-hand_all-clause-why : goal.returns-in_err-hand_all-clause-why
+returns-in_err-hand_all-clause-why g c =
+    let fault = c.in_err-hand_all.field-0.0 in
+    let same : c.from_residual-in_err-hand_all.result ≡ Err fault = search rules in
+    rw same (why_then c.in_ok-lines.ensures.bank c.in_err-hand_all.ensures.bank c.in_err-hand_all.ensures.why)
+
+pub returns-in_err-put_last-clause-why : goal.returns-in_err-put_last-clause-why
+returns-in_err-put_last-clause-why g c =
+    let same : c.from_residual-in_err-put_last.result ≡ Err Write = search rules in
+    rw same (why_memory Write refl)
+
+pub returns-clause-why : goal.returns-clause-why
+returns-clause-why g c = why_none tt

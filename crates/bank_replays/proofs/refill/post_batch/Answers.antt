@@ -3,8 +3,8 @@ use Rattle.bank_store.specs.believed.Seen.{bank_seen}
 use Rattle.bank_replays.proofs.Refilled.{shows_more}
 use Rattle.bank_replays.proofs.refill.post_batch.Goals as goal
 
-pub returns : goal.returns
-returns g c some =
+pub returns-clause-shows : goal.returns-clause-shows
+returns-clause-shows g c some =
     let call = c.in-Ok.ensures.call in
     shows_more (bank_seen g.T.Store c.args.bank.now) (bank_seen g.T.Store c.submit_all.new.self) _ call.done
     call.honest some

@@ -7,5 +7,5 @@ use Rattle.bank_replays.proofs.replays.new_bank.Goals as goal
 pub create-requires : goal.create-requires
 create-requires g c = c.requires.autocommit
 
-pub returns-in-Ok : goal.returns-in-Ok
-returns-in-Ok g c = shows_at_first (bank_seen g.T.Store c.in-Ok.bank) [] c.in-Ok.ensures.made.stands
+pub returns-in-Ok-clause-shows : goal.returns-in-Ok-clause-shows
+returns-in-Ok-clause-shows g c = shows_at_first (bank_seen g.T.Store c.in-Ok.bank) [] c.in-Ok.ensures.made.stands

@@ -1,12 +1,18 @@
 -- What a replay says and leaves.
-use Rattle.std.proofs.Common.{rules, ◌≡◌, Bool, Err, None, Some, false, true, refl}
+use Rattle.std.proofs.Common.{rules, ◌≡◌, ◌∙◌, Bool, Err, None, Some, false, true, refl, sym}
+use Rattle.posting_rules.specs.declared.fault.{Fault.Fault, Fault.TheVariants.Damaged, Fault.TheVariants.Memory, Rule.Rule}
 use Rattle.bank_store.specs.believed.Seen.{bank_seen, database_of}
 use Rattle.bank_store.proofs.{AsFound.idle_as_found, ReadsLeave.idle_takes}
 use Rattle.store_rows.specs.Definitions.{IsOtherTable}
 use Rattle.bank_replays.proofs.{AllKept.has_tables, AskedFirst.told_tables}
 use Rattle.bank_replays.proofs.{InMemory.never_in_doubt, Digested.agrees_log, Leaves.read_leaves}
 use Rattle.bank_replays.proofs.{Leaves.read_takes, LogRows.has_kept, LogRows.kept_answered, LogRows.kept_of}
+use Rattle.bank_replays.specs.declared.difference.Replay.TheVariants.{Otherwise}
+use Rattle.bank_replays.proofs.{SoundLogs.sound_log, Whys.err_is, Whys.why_memory, Whys.why_none}
 use Rattle.bank_replays.proofs.replays.replay.Goals as goal
+
+memory_not_damaged : (fault : Fault) (rule : Rule) → fault ≡ Memory → fault ≡ Damaged rule → ⊥
+memory_not_damaged fault rule memory damaged = cc
 
 tested_up : (tested is_down : Bool) → tested ≡ is_down → tested ≡ false → is_down ≡ true → ⊥
 tested_up tested is_down same up down = cc
@@ -16,7 +22,12 @@ returns-then-is_down g c = record {
   agrees = (tt, λ clean kept. tt);
   digest = λ clean all has. tt;
   differs = λ clean. tt;
-  bank = record { log = λ clean log shows. tt; takes = idle_takes (bank_seen g.S.Store c.args.bank.now) _ };
+  why = record { told = λ clean f has. sym c.is_down.ensures ∙ c.if-is_down.true };
+  bank = record {
+    log = λ clean log shows. tt;
+    sound = λ rule is. absurd cc;
+    takes = idle_takes (bank_seen g.S.Store c.args.bank.now) _;
+  };
   down = λ down. (refl, refl);
   up = refl;
   leaves = idle_as_found g.S.Store c.args.bank.now;
@@ -29,7 +40,12 @@ returns-in-Some g c =
       agrees = (rw some at c.other_table.ensures, λ clean kept. tt);
       digest = λ clean all has. tt;
       differs = λ clean. tt;
-      bank = record { log = λ clean log shows. tt; takes = idle_takes (bank_seen g.S.Store c.args.bank.now) _ };
+      why = why_none (Otherwise c.in-Some.table);
+      bank = record {
+        log = λ clean log shows. tt;
+        sound = λ rule is. absurd cc;
+        takes = idle_takes (bank_seen g.S.Store c.args.bank.now) _;
+      };
       down = λ down. absurd (tested_up _ _ c.is_down.ensures c.if-is_down.false down);
       up = refl;
       leaves = idle_as_found g.S.Store c.args.bank.now;
@@ -42,8 +58,10 @@ returns-in_err-pages g c =
       agrees = (rw same tt, λ clean kept. rw same tt);
       digest = λ clean all has. rw same tt;
       differs = λ clean. rw same tt;
+      why = rw same (why_memory c.in_err-pages.field-0.0 c.in_err-pages.ensures.memory);
       bank = record {
         log = λ clean log shows. rw same tt;
+        sound = λ rule is. absurd (memory_not_damaged _ rule c.in_err-pages.ensures.memory (err_is _ _ (sym same ∙ is)));
         takes = idle_takes (bank_seen g.S.Store c.args.bank.now) _;
       };
       down = λ down. absurd (tested_up _ _ c.is_down.ensures c.if-is_down.false down);
@@ -54,7 +72,7 @@ returns-in_err-pages g c =
 pub replay_over-requires : goal.replay_over-requires
 replay_over-requires g c = record {
   clean = record { clean = never_in_doubt (λ file. refl) };
-  new = c.in_ok-pages.ensures;
+  new = c.in_ok-pages.ensures.new;
 }
 
 pub returns : goal.returns
@@ -70,11 +88,14 @@ returns g c =
       );
       digest = says.digest;
       differs = says.differs;
+      why = says.why;
       bank = record {
         log = λ clean log shows.
             agrees_log (kept_of db shows.tables log shows.are shows.shows) _
             (kept_answered db shows.tables log shows.are shows.shows) _
             (says.digest clean _ (has_kept db shows.tables log shows.are shows.shows));
+        sound = λ rule is clean log shows.
+            sound_log clean log shows c.replay_over.result (Damaged rule) says.why is rule refl;
         takes = read_takes _ says.bank;
       };
       down = λ down. absurd (tested_up _ _ c.is_down.ensures c.if-is_down.false down);

@@ -8,6 +8,7 @@ use Rattle.walked_rows.specs.Rows.{HasStoredRows}
 use Rattle.bank_replays.specs.{Differences.rows_of, Differences.table_of, FileTables.SameTables, FileTables.rows_due}
 use Rattle.bank_replays.proofs.{AllTables.has_rows_of, Tables.due_tables}
 use Rattle.bank_replays.proofs.{Read.clean_before, Read.read_any, Read.read_fails, Read.read_then, Tables.same_log}
+use Rattle.bank_replays.proofs.Whys.{why_err, why_none, why_then}
 use Rattle.bank_replays.proofs.replays.replay_beside.Goals as goal
 
 pub returns-in_err-due : goal.returns-in_err-due
@@ -15,6 +16,7 @@ returns-in_err-due g c =
     let same : c.from_residual.result ≡ Err c.in_err-due.field-0.0 = search rules in
     record {
       bank = rw same (read_fails c.in_err-due.field-0.0 c.in_err-due.ensures.bank);
+      why = rw same (why_err c.in_err-due.field-0.0 c.in_err-due.field-0.0 refl c.in_err-due.ensures.why);
       compared = rw same tt;
       agrees = λ clean f has. rw same tt;
       digest = λ clean all has. rw same tt;
@@ -27,6 +29,8 @@ returns-in_err-difference g c =
     let same : c.from_residual-in_err-difference.result ≡ Err fault = search rules in
     record {
       bank = rw same (read_fails fault (read_then c.in_ok-due.ensures.bank c.in_err-difference.ensures.bank));
+      why = rw same (why_err fault fault refl
+          (why_then c.in_ok-due.ensures.bank c.in_err-difference.ensures.bank c.in_err-difference.ensures.why));
       compared = rw same tt;
       agrees = λ clean f has. rw same tt;
       digest = λ clean all has. rw same tt;
@@ -40,6 +44,7 @@ returns-in-Some g c =
     let sure = c.requires.clean.clean in
     record {
       bank = read_any (read_then filled.bank compared.bank) _;
+      why = why_none _;
       compared = tt;
       agrees = λ clean f has. tt;
       digest = λ clean all has. tt;
@@ -67,6 +72,9 @@ returns-in_err-digest_all g c =
       bank = rw same (read_fails fault
           (read_then (read_then c.in_ok-due.ensures.bank c.in_ok-difference.ensures.bank)
           c.in_err-digest_all.ensures.bank));
+      why = rw same (why_err fault fault refl
+          (why_then (read_then c.in_ok-due.ensures.bank c.in_ok-difference.ensures.bank) c.in_err-digest_all.ensures.bank
+          c.in_err-digest_all.ensures.why));
       compared = rw same tt;
       agrees = λ clean f has. rw same tt;
       digest = λ clean all has. rw same tt;
@@ -82,6 +90,7 @@ returns g c =
     let sure = c.requires.clean.clean in
     record {
       bank = read_any (read_then both digested.bank) _;
+      why = why_none _;
       compared = tt;
       agrees = λ clean f has.
           let before = clean_before digested.bank clean in

@@ -1,8 +1,29 @@
--- The digest goes on by the row that was read.
-use Rattle.std.proofs.Common.{ap, ◌∙◌, arith}
-use Rattle.bank_replays.specs.Digests.{chained}
+-- The digest goes on by the row that was read, or the row is refused.
+use Rattle.std.proofs.Common.{ap, refl, ◌∙◌, arith}
+use Rattle.std.proofs.lemmas.List.{length-map}
+use Rattle.posting_rules.specs.declared.fault.{Fault.TheVariants.Damaged, Fault.TheVariants.Memory, Rule.TheVariants.Request}
+use Rattle.walked_rows.specs.KeptRows.{kept_item}
+use Rattle.bank_replays.specs.{Digests.chained, Prefixes.digest_ends, Prefixes.not_write}
 use Rattle.bank_replays.proofs.Chained.{answered_is, one_more}
 use Rattle.bank_replays.proofs.chain.ChainingHandsKeptRequestDigest.hand.Goals as goal
+
+pub returns-in_default-clause-part : goal.returns-in_default-clause-part
+returns-in_default-clause-part c first rows took = digest_ends first rows (Damaged Request) (λ is. absurd cc)
+
+pub returns-in_default-clause-why : goal.returns-in_default-clause-why
+returns-in_default-clause-why c = (refl, λ answered. c.in_default.ensures.none answered.0)
+
+pub returns-in_default-reply_of-clause-part : goal.returns-in_default-reply_of-clause-part
+returns-in_default-reply_of-clause-part c first rows took = digest_ends first rows (Damaged Request) (λ is. absurd cc)
+
+pub returns-in_default-reply_of-clause-why : goal.returns-in_default-reply_of-clause-why
+returns-in_default-reply_of-clause-why c = (refl, λ answered. c.in_default-reply_of.ensures.none answered.1)
+
+pub returns-in_default-checked_add-clause-part : goal.returns-in_default-checked_add-clause-part
+returns-in_default-checked_add-clause-part c first rows took = (
+  not_write Memory,
+  λ is. omega (arith, took.requests, length-map rows kept_item, c.in_default-checked_add.ensures),
+)
 
 pub returns-clause-took : goal.returns-clause-took
 returns-clause-took c first rows took =

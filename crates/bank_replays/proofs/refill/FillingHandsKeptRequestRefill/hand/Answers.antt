@@ -6,10 +6,10 @@ use Rattle.bank_replays.proofs.refill.FillingHandsKeptRequestRefill.hand.Goals.{
 
 pub returns-clause-took : goal.returns-clause-took
 returns-clause-took g c first rows took some =
-    let opened = c.in_ok-open.ensures (c.reach.ensures (took some)) in
+    let opened = c.in_ok-open.ensures.shows (c.reach.ensures (took some)) in
     let both : ShowsSome g.T.Store c.if-had_account.refill.bank =
     elim c.if-had_account.branch [
-      | then-had_account+in_ok-open-2 w ↦ rw w.refill-is (w.in_ok-open-2.ensures opened)
+      | then-had_account+in_ok-open-2 w ↦ rw w.refill-is (w.in_ok-open-2.ensures.shows opened)
       | else-had_account w ↦ rw w.refill-is opened
     ] in
     c.in_ok-make_room.ensures.shows both
