@@ -8,7 +8,7 @@ use Rattle.sqlite_trees.specs.declared.store.Store.{Ghosts}
 use Rattle.posting_rules.specs.believed.Commands.{Command}
 use Rattle.posting_rules.specs.believed.Counter.{ShowsLog}
 use Rattle.posting_rules.specs.declared.fault.Fault.{Fault}
-use Rattle.posting_core.specs.LogEntries.{log_entries}
+use Rattle.posting_core.specs.believed.LogEntries.{log_entries}
 use Rattle.posting_core.specs.Told.{WriteTold}
 use Rattle.posting_core.specs.believed.Told.{ReadTold}
 use Rattle.walked_rows.specs.KeptRows.{HasKept, KeptItem}

@@ -23,8 +23,8 @@ use Rattle.posting_rules.proofs.SettledReplies.{closed_case}
 use Rattle.posting_rules.proofs.SoundEntries.{AreSound, are_sound}
 use Rattle.posting_rules.proofs.Verdicts.{IsVerdict, verdict_is}
 use Rattle.posting_core.specs.Entries.{reply_text}
-use Rattle.posting_core.specs.LogEntries.{AnsweredRequest, answered_after, answered_of, each_answered, entries_of}
-use Rattle.posting_core.specs.LogEntries.{entry_of}
+use Rattle.posting_core.specs.believed.LogEntries.{AnsweredRequest, answered_after, answered_of, each_answered, entries_of}
+use Rattle.posting_core.specs.believed.LogEntries.{entry_of}
 use Rattle.posting_core.specs.believed.Stream.{posted_records}
 use Rattle.bank_lives.specs.Machines.{AreSentOn, ComesFirst, Follows, IsAnsweredAgain, KeepsRequest}
 

@@ -13,7 +13,7 @@ use Rattle.posting_rules.specs.believed.Runs.{ArePosts, followed_by}
 use Rattle.posting_rules.specs.believed.Tables.{AreTablesOf, Tables}
 use Rattle.posting_rules.specs.declared.limits.TheConstants.{MAX_DECIDED}
 use Rattle.posting_core.specs.Entries.{record_text, reply_text}
-use Rattle.posting_core.specs.LogEntries.{AnsweredRequest, answered_after, log_entries}
+use Rattle.posting_core.specs.believed.LogEntries.{AnsweredRequest, answered_after, log_entries}
 use Rattle.posting_core.specs.believed.Stream.{posted_records}
 
 -- the entries of the follower are the first so many of the leader

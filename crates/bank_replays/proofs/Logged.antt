@@ -11,8 +11,8 @@ use Rattle.posting_rules.specs.believed.{Commands.Command, Entries.DecidedReques
 use Rattle.posting_rules.specs.believed.Tables.{AreTablesOf, Tables, request_row_of}
 use Rattle.posting_rules.specs.declared.rows.RequestRow.{RequestRow}
 use Rattle.posting_rules.specs.declared.fault.Fault.{Fault}
-use Rattle.posting_core.specs.LogEntries.{AnsweredRequest, answered_after, answered_of, each_answered, entry_of}
-use Rattle.posting_core.specs.LogEntries.{log_entries}
+use Rattle.posting_core.specs.believed.LogEntries.{AnsweredRequest, answered_after, answered_of, each_answered, entry_of}
+use Rattle.posting_core.specs.believed.LogEntries.{log_entries}
 use Rattle.posting_core.specs.believed.Batches.{joined}
 use Rattle.sql_meanings.specs.believed.Entries.{Entry}
 use Rattle.store_rows.specs.believed.View.{Shows}

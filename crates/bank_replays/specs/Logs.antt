@@ -1,7 +1,7 @@
 -- The log of a bank as bytes, and how many requests it has.
 use Rattle.std.specs.Prelude.{◌≡◌, ℕ, ℤ, List, [], ◌∷◌, drop, filter, length, Option, Result, Ok, Err, IfOk}
 use Rattle.std.specs.List.{flat_map}
-use Rattle.posting_core.specs.LogEntries.{AnsweredRequest, entry_of}
+use Rattle.posting_core.specs.believed.LogEntries.{AnsweredRequest, entry_of}
 use Rattle.posting_core.specs.believed.Batches.{joined}
 use Rattle.walked_rows.specs.KeptRows.{KeptItem}
 use Rattle.walked_rows.specs.declared.metas.StoredMeta.{StoredMeta}

@@ -4,7 +4,7 @@ ghost use Rattle.sqlite.specs.State.{HasCleanDisk};
 ghost use Rattle.posting_rules.specs.believed.Commands.{Command};
 ghost use Rattle.posting_rules.specs.believed.Counter.{ShowsLog};
 ghost use Rattle.posting_rules.specs.declared.fault.Fault.TheVariants.{Down};
-ghost use Rattle.posting_core.specs.LogEntries.{entry_of, log_entries};
+ghost use Rattle.posting_core.specs.believed.LogEntries.{entry_of, log_entries};
 ghost use Rattle.store_rows.specs.believed.BankTables.{meta as meta_table};
 ghost use Rattle.walked_rows.specs.KeptRows.{HasKept, KeptItem, kept_item};
 ghost use Rattle.walked_rows.specs.OnlyMeta.{bank_entry};

@@ -9,7 +9,7 @@ use Rattle.posting_rules.specs.believed.{Commands.Command, Runs.followed_by}
 use Rattle.posting_rules.specs.believed.Counter.{Seen, ShowsLog}
 use Rattle.posting_rules.specs.declared.fault.Fault.{Fault}
 use Rattle.posting_core.specs.Entries.{ArePostsOf, IsEntry, IsNoEntry, new_after, requests_of}
-use Rattle.posting_core.specs.LogEntries.{AnsweredRequest, entries_of, entry_of, log_entries}
+use Rattle.posting_core.specs.believed.LogEntries.{AnsweredRequest, entries_of, entry_of, log_entries}
 use Rattle.posting_core.specs.{believed.Batches.joined, declared.entries.TheConstants.ENTRY_BYTES}
 use Rattle.posting_core.specs.believed.Told.{ReadTold}
 use Rattle.posting_core.proofs.Batched.{chunks_joined, joined-append}

@@ -11,7 +11,7 @@ use Rattle.posting_rules.specs.declared.fault.Fault.{Fault}
 use Rattle.posting_rules.specs.declared.fault.Fault.TheVariants.{Down}
 use Rattle.posting_rules.proofs.{CounterCalls.Takes-append, CounterCalls.takes_none, Sequence.replies_to-append}
 use Rattle.posting_core.specs.Entries.{ArePostsOf, IsEntry, IsMomentOf, IsNoEntry, record_text, reply_text}
-use Rattle.posting_core.specs.LogEntries.{AnsweredRequest, entries_of, entry_of}
+use Rattle.posting_core.specs.believed.LogEntries.{AnsweredRequest, entries_of, entry_of}
 use Rattle.branch_loader.specs.believed.Plans.{Rows}
 use Rattle.branch_loader.specs.declared.followers.Waiting.{Waiting}
 use Rattle.branch_loader.specs.Following.{GaveReplies, HasDiffered, HasFollowed, HasTaken, IsFollowing}

@@ -7,7 +7,7 @@ use Rattle.posting_rules.specs.believed.Commands.{Command}
 use Rattle.posting_rules.specs.believed.Counter.{LeavesOnly, Seen, ShowsLog, ShowsPrefix, StandsAt}
 use Rattle.posting_rules.specs.declared.fault.Fault.{Fault}
 use Rattle.posting_core.specs.Entries.{ArePostsOf, IsEntry, IsNoEntry, new_after, requests_of}
-use Rattle.posting_core.specs.LogEntries.{AnsweredRequest, entries_of, log_entries}
+use Rattle.posting_core.specs.believed.LogEntries.{AnsweredRequest, entries_of, log_entries}
 use Rattle.posting_core.specs.Told.{HasReadFailed}
 use Rattle.posting_core.specs.believed.Batches.{joined}
 use Rattle.posting_core.specs.believed.Told.{EndsWith, IsEndOfInput, ReadTold}

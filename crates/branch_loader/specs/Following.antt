@@ -9,7 +9,7 @@ use Rattle.posting_rules.specs.declared.fault.Fault.{Fault}
 use Rattle.posting_rules.specs.declared.fault.Fault.TheVariants.{Down}
 use Rattle.posting_rules.specs.declared.limits.TheConstants.{RECORDS_PER_BATCH}
 use Rattle.posting_core.specs.Entries.{ArePostsOf, IsEntry, IsMomentOf, IsNoEntry, record_text, reply_text}
-use Rattle.posting_core.specs.LogEntries.{AnsweredRequest, entries_of}
+use Rattle.posting_core.specs.believed.LogEntries.{AnsweredRequest, entries_of}
 use Rattle.branch_loader.specs.Plans.{terms_of}
 use Rattle.branch_loader.specs.believed.Plans.{Row, Rows}
 use Rattle.branch_loader.specs.declared.follow_fault.FollowFault.{FollowFault}

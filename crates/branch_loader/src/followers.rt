@@ -3,7 +3,7 @@ ghost use Rattle.std.specs.Prelude.{◌≡◌, ◌≢◌, ◌≤◌, ◌<◌, �
 ghost use Rattle.std.specs.Prelude.{MatchResult, OnOk, length};
 ghost use Rattle.message_records.specs.believed.Outcomes.{has_balance};
 ghost use Rattle.posting_core.specs.Entries.{IsMomentOf, answered};
-ghost use Rattle.posting_core.specs.LogEntries.{AnsweredRequest};
+ghost use Rattle.posting_core.specs.believed.LogEntries.{AnsweredRequest};
 ghost use Rattle.branch_loader.specs.Following.{AreTexts, HasFollowed, HasRoom, IsFollowing, IsWaiting};
 ghost use Rattle.branch_loader.specs.Following.{Stops, TakesAll, row_of};
 ghost use Rattle.branch_loader.specs.believed.Plans.{Rows};

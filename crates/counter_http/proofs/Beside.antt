@@ -9,7 +9,7 @@ use Rattle.posting_rules.specs.believed.Runs.{followed_by}
 use Rattle.posting_core.specs.{Stream.given, believed.Batches.joined}
 use Rattle.posting_core.specs.believed.Told.{GrowsBy, ReadTold}
 use Rattle.posting_core.specs.Told.{Beside, WriteTold, unknown}
-use Rattle.posting_core.proofs.Followed.{given-append}
+use Rattle.posting_core.proofs.ReadsFollowed.{given-append}
 use Rattle.posting_core.proofs.Telling.{adds-more, adds-none}
 use Rattle.counter_http.specs.Connections.{Known}
 use Rattle.counter_http.specs.together.Standing.{IsGoing, IsParted, StandsAs}

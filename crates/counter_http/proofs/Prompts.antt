@@ -10,7 +10,7 @@ use Rattle.posting_rules.specs.{believed.Commands.Command, believed.Counter.Seen
 use Rattle.posting_core.specs.{Stream.given, believed.Batches.joined}
 use Rattle.posting_core.specs.believed.Told.{GrowsBy, ReadTold}
 use Rattle.posting_core.specs.Told.{Beside, IsThrough, WriteTold, read_told, unknown}
-use Rattle.posting_core.proofs.Followed.{gave_none, gave_some, given-append}
+use Rattle.posting_core.proofs.ReadsFollowed.{gave_none, gave_some, given-append}
 use Rattle.posting_core.proofs.Telling.{adds-more, adds-none}
 use Rattle.counter_http.specs.{Outputs.AnswersWhole, believed.Serving.BeginsWithNoMessage, Next.asked, Next.IsWhole}
 use Rattle.counter_http.specs.{declared.next.Whole.Whole, Turns.TurnIsDealtWith}

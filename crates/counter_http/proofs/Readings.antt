@@ -7,7 +7,7 @@ use Rattle.posting_rules.specs.{believed.Counter.Seen}
 use Rattle.posting_core.specs.Stream.{given}
 use Rattle.posting_core.specs.believed.{Told.EndsWith, Told.GrowsBy, Told.ReadTold}
 use Rattle.posting_core.specs.Told.{Beside, WriteTold, read_told}
-use Rattle.posting_core.proofs.Followed.{gave_none, gave_some}
+use Rattle.posting_core.proofs.ReadsFollowed.{gave_none, gave_some}
 use Rattle.posting_core.proofs.Telling.{adds-more}
 use Rattle.counter_http.specs.Connections.{Known, known_ends}
 use Rattle.counter_http.specs.Next.{IsUnfinished}

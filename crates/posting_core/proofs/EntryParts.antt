@@ -15,7 +15,7 @@ use Rattle.message_records.specs.believed.{Records.RequestFields, Spelling.reply
 use Rattle.message_records.specs.believed.Spelling.{request_spelling}
 use Rattle.message_records.proofs.Prefixes.{length-reply, length-request}
 use Rattle.posting_core.specs.Entries.{IsEntry, is_kept, moment_from}
-use Rattle.posting_core.specs.LogEntries.{AnsweredRequest, entry_of}
+use Rattle.posting_core.specs.believed.LogEntries.{AnsweredRequest, entry_of}
 
 split_same : (x y a b : List ℕ) → length x ≡ length a → x ++ y ≡ a ++ b → (x ≡ a) × (y ≡ b)
 split_same x y a b long same = (

@@ -10,7 +10,7 @@ pub mod Again
 pub mod Prompt
 pub mod Stops
 pub mod Streaming
-pub mod Followed
+pub mod ReadsFollowed
 pub mod StreamedBatches
 pub mod StreamEnds
 pub mod Through

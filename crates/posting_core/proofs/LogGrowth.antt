@@ -23,8 +23,8 @@ use Rattle.posting_rules.specs.believed.{Entries.reply, Kept.KeptFields, Runs.fo
 use Rattle.posting_rules.proofs.AsStated.{decides, replied}
 use Rattle.posting_core.specs.Entries.{ArePostsOf, IsEntry, IsMomentOf, is_kept, knows, new_after, record_text}
 use Rattle.posting_core.specs.Entries.{reply_text, request_in, requests_of}
-use Rattle.posting_core.specs.LogEntries.{AnsweredRequest, answered_after, answered_of, each_answered, entries_of}
-use Rattle.posting_core.specs.LogEntries.{entry_of, log_entries}
+use Rattle.posting_core.specs.believed.LogEntries.{AnsweredRequest, answered_after, answered_of, each_answered, entries_of}
+use Rattle.posting_core.specs.believed.LogEntries.{entry_of, log_entries}
 
 -- ---- the outcome in a reply's bytes
 

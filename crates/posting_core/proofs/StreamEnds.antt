@@ -14,7 +14,7 @@ use Rattle.posting_rules.specs.believed.Runs.{followed_by, posts, replies_to}
 use Rattle.posting_core.specs.believed.Batches.{Batch, IsBatch, IsRecord, joined, moments_of, records_of, posts_of}
 use Rattle.posting_core.specs.believed.Stream.{EndsStream, RepliesAreWritten, IfUp, UnlessDown}
 use Rattle.posting_core.specs.Stream.{FollowReads, StreamsAsRead, read_by, submitted_by}
-use Rattle.posting_core.proofs.{Followed.Following, Prompt.prompt_written, Streaming.Going}
+use Rattle.posting_core.proofs.{ReadsFollowed.Following, Prompt.prompt_written, Streaming.Going}
 use Rattle.posting_core.proofs.Batched.{posts_of_one_more, replies_of_one_more}
 use Rattle.posting_rules.proofs.Remaining.{leaves_still}
 use Rattle.posting_core.proofs.Stops.{refused_stop, stop_all, stop_part, written_part}

@@ -13,7 +13,7 @@ use Rattle.message_records.specs.declared.records.Outcome.TheVariants.{BelowFloo
 use Rattle.message_records.specs.declared.records.Outcome.TheVariants.{WrongBranch}
 use Rattle.posting_rules.specs.believed.Commands.{Command, Open, Post, Terms}
 use Rattle.posting_rules.specs.believed.Runs.{followed_by, replies_to}
-use Rattle.posting_core.specs.LogEntries.{AnsweredRequest, answered_after, entries_of, entry_of, log_entries}
+use Rattle.posting_core.specs.believed.LogEntries.{AnsweredRequest, answered_after, entries_of, entry_of, log_entries}
 use Rattle.posting_core.specs.declared.entries.Entry.{Entry}
 
 abbrev pub answered : Entry → AnsweredRequest

@@ -10,5 +10,4 @@ pub mod Stream
 pub mod Readings
 pub mod Again
 pub mod Sparing
-pub mod LogEntries
 pub mod Entries

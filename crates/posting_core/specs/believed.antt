@@ -2,3 +2,4 @@ pub mod Told
 pub mod Clock
 pub mod Batches
 pub mod Stream
+pub mod LogEntries

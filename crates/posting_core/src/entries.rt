@@ -2,7 +2,7 @@
 ghost use Rattle.std.specs.Prelude.{◌≡◌, ◌≤◌, ◌<◌, ◌+◌, ◌++◌, ℕ, MatchOption, length, slice_index, take};
 ghost use Rattle.message_records.specs.believed.Outcomes.{has_balance};
 ghost use Rattle.posting_core.specs.Entries.{EntriesAreAdded, IsEntry, IsNoEntry, answered, is_kept, moment_from};
-ghost use Rattle.posting_core.specs.LogEntries.{entry_of};
+ghost use Rattle.posting_core.specs.believed.LogEntries.{entry_of};
 
 use message_records::{
     Moment, Outcome, REPLY_BYTES, REQUEST_BYTES, Reply, Request, decode_reply, decode_request,

@@ -34,6 +34,7 @@ mod branches;
 mod clock;
 mod ends;
 mod entries;
+mod followed;
 mod once;
 mod plain_bank;
 mod resends;
@@ -45,6 +46,7 @@ mod walking;
 pub use clock::{Clock, StoredClock};
 pub use ends::{Sink, Source};
 pub use entries::{ENTRY_BYTES, Entry, decode_entry, encode_entry, entries_are_added};
+pub use followed::{ENTRIES_PER_ANSWER, Followed};
 pub use once::{OnceFault, answer_once};
 pub use plain_bank::PlainBank;
 pub use posting_batch::{

@@ -1,6 +1,6 @@
 -- Records that are posted together are commands more.
 use Rattle.std.proofs.Common.{rules, ◌≡◌, ◌++◌, ◌∷◌, [], ℕ, List, Err, length, refl, sym, ap, subst, ◌∙◌, append-nil, arith}
-use Rattle.posting_core.specs.LogEntries.{AnsweredRequest}
+use Rattle.posting_core.specs.believed.LogEntries.{AnsweredRequest}
 use Rattle.branch_loader.specs.Following.{HasFollowed, planned}
 use Rattle.branch_loader.specs.declared.follow_fault.FollowFault.TheVariants.{Bank}
 use Rattle.branch_loader.proofs.Following.{differed, followed_more, no_entry_waits, refused_then, texts_are_posts}

@@ -5,8 +5,8 @@ use Rattle.posting_core.specs.{Told.read_told}
 use Rattle.posting_core.proofs.{Batched.cut_into, Batched.cut_and_moved, StreamedBatches.going_batch}
 use Rattle.posting_core.proofs.{Refused.refused_broken, Refused.up_broken, Output.streams_of, Through.ends_broken}
 use Rattle.posting_core.proofs.{Through.through_batch, Through.through_first}
-use Rattle.posting_core.proofs.Followed.{following_batch, following_first, following_read, following_wrote, gave_none}
-use Rattle.posting_core.proofs.Followed.{gave_some, up_to}
+use Rattle.posting_core.proofs.ReadsFollowed.{following_batch, following_first, following_read, following_wrote, gave_none}
+use Rattle.posting_core.proofs.ReadsFollowed.{gave_some, up_to}
 use Rattle.posting_rules.specs.declared.limits.TheConstants.{RECORDS_PER_BATCH}
 use Rattle.posting_rules.proofs.CounterCalls.{idle_after}
 use Rattle.posting_core.proofs.Streaming.{going_first, going_filled, going_on, nothing_read, at_ok, few_left}

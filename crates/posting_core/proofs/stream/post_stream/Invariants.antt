@@ -1,7 +1,7 @@
 use Rattle.std.proofs.Common.{◌≡◌, ◌<◌, ◌≤◌, ◌*◌, ℕ, List, length, take}
 use Rattle.posting_rules.specs.declared.limits.TheConstants.{RECORDS_PER_BATCH}
 use Rattle.posting_core.specs.{declared.stream.TheConstants.BUFFER, believed.Batches.Batch, Told.IsThrough}
-use Rattle.posting_core.proofs.{Followed.Following, Telling.HasMade, Streaming.Going}
+use Rattle.posting_core.proofs.{ReadsFollowed.Following, Telling.HasMade, Streaming.Going}
 use Rattle.posting_core.proofs.stream.post_stream.Given as goal
 
 -- all whole records that were read are answered, and the rest stands at the front of the buffer; one read was
