@@ -18,3 +18,4 @@ pub mod Refused
 pub mod Output
 pub mod LogGrowth
 pub mod EntryParts
+pub mod LogPlaces

@@ -11,3 +11,4 @@ pub mod Readings
 pub mod Again
 pub mod Sparing
 pub mod Entries
+pub mod Standing

@@ -10,6 +10,8 @@ ghost use Rattle.posting_rules.specs.believed.Tables.{request_row_of};
 ghost use Rattle.posting_batch.specs.Judging.{reference_after};
 ghost use Rattle.posting_core.specs.Appended.{HasOrdinalsTo, rows_from};
 
+mod followed;
+
 use crate::branches::{count_at, floor_at, next_at, put_floor};
 use crate::walking::{NewRow, kept_at, put, put_reference};
 use message_records::{

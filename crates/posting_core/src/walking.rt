@@ -20,12 +20,12 @@ pub(crate) trait NewRow {
         ensures { result ≡ row_of number };
 }
 
-// The reference of the decided request under an ordinal.
-fn reference_at(rows: &[ReferenceRow], ordinal: Ordinal) -> Option<Reference>
+/// The reference of the decided request under an ordinal.
+pub(crate) fn reference_at(rows: &[ReferenceRow], ordinal: u64) -> Option<Reference>
     ensures { result ≡ reference_in rows.now ordinal }
 {
     rows.iter()
-        .find(|row| row.ordinal == ordinal)
+        .find(|row| row.ordinal.get() == ordinal)
         .map(|row| row.reference)
 }
 
@@ -42,7 +42,7 @@ pub(crate) fn kept_at(
         .find(|row| row.teller == teller && row.number == number)
         .map(|row| row
             .decision
-            .kept_with(reference_at(references, row.ordinal)))
+            .kept_with(reference_at(references, row.ordinal.get())))
 }
 
 /// Puts a row after the others, for which there is room, so that the push takes no memory and succeeds.
