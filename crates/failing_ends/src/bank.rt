@@ -1,6 +1,6 @@
 //! A bank that fails.
 use message_records::{Account, Branch, Cents, Moment, REPLY_BYTES, REQUEST_BYTES};
-use posting_core::{BranchLine, Counter, Fault, Opening, PlainBank};
+use posting_core::{BranchLine, Counter, Fault, Followed, Opening, PlainBank};
 
 /// Opens branch 1 with three accounts and branch 2 with two.
 pub fn open_both<C: Counter>(bank: &mut C) -> Result<Opening, Fault> {
@@ -138,5 +138,24 @@ impl Counter for FailingBank {
         }
         self.left -= 1;
         self.bank.next_branch(after)
+    }
+}
+
+impl Followed for FailingBank {
+    fn entries_after(&mut self, after: u64) -> Result<Option<Vec<u8>>, Fault> {
+        if self.down {
+            return Err(Fault::Down);
+        }
+        if self.left == 0 {
+            return match self.failing {
+                Failing::Memory => Err(Fault::Memory),
+                Failing::Store => {
+                    self.down = true;
+                    Err(Fault::Store)
+                }
+            };
+        }
+        self.left -= 1;
+        self.bank.entries_after(after)
     }
 }
