@@ -1,10 +1,12 @@
 """What the scripts around the program share: a run of it, a bank with a plan, a running server and a connection to it."""
+import base64
 import contextlib
 import os
 import random
 import shutil
 import socket
 import sqlite3
+import ssl
 import subprocess
 import sys
 import threading
@@ -17,6 +19,38 @@ HERE = os.path.dirname(os.path.dirname(os.path.abspath(__file__)))
 BANK = os.environ.get("BANK") or os.path.join(HERE, "crates/bank/out/bank")
 
 
+class Failed(Exception):
+    """What is tried isn't as it should be."""
+
+
+def within(seconds, what, is_so):
+    """Waits until it is so, and gives what it was."""
+    end = time.monotonic() + seconds
+    while time.monotonic() < end:
+        it = is_so()
+        if it:
+            return it
+        time.sleep(0.05)
+    raise Failed(f"not within {seconds} s: {what}")
+
+
+def check_books(copy, answered):
+    """The books of a file that nobody has open agree, and each answer, of (teller, number) its reply and the amount of the
+    request, is what stands there. Gives which stand there beside these."""
+    for command, verdict in (("audit", b"CONSISTENT"), ("replay", b"AGREES")):
+        output, faults, status = run(command, copy)
+        if status or verdict not in output.split():
+            raise Failed(f"{command}: {output} {faults}")
+    with contextlib.closing(sqlite3.connect(copy)) as books:
+        rows = books.execute("SELECT tid, number, delta, outcome, balance FROM request")
+        stands = {row[:2]: row[2:] for row in rows}
+    for key, (reply, delta) in answered.items():
+        row = delta, int(reply[4:6]), int(reply[53:66])
+        if stands.get(key) != row:
+            raise Failed(f"teller and number {key} stands {stands.get(key)}, answered {row}")
+    return stands.keys() - answered.keys()
+
+
 def need_program():
     if not os.access(BANK, os.X_OK):
         sys.exit("build the program first: (cd crates/bank && rt run -- --help)")
@@ -27,6 +61,14 @@ def clear(file):
     for end in ("", "-wal"):
         with contextlib.suppress(FileNotFoundError):
             os.remove(file + end)
+
+
+def copy_bank(file, copy):
+    """Copies both files, on which no command may run, in the place of others."""
+    clear(copy)
+    for end in ("", "-wal"):
+        if os.path.exists(file + end):
+            shutil.copy(file + end, copy + end)
 
 
 def make_bank(file, plan):
@@ -115,9 +157,10 @@ class Restarted(threading.Thread):
 class Place:
     """A bank, the counter that serves it, and nginx before it as in examples/nginx.conf, each started again when it ends."""
 
-    def __init__(self, folder, plan):
+    def __init__(self, folder, plan=None):
         self.folder, self.file = folder, folder + "/bank.db"
-        make_bank(self.file, plan)
+        if plan:
+            make_bank(self.file, plan)
         with socket.create_server(("127.0.0.1", 0)) as one, socket.create_server(("127.0.0.1", 0)) as other:
             self.front, self.back = one.getsockname()[1], other.getsockname()[1]
         subprocess.run([HERE + "/tools/nginx_folder.sh", folder, str(self.front), str(self.back)], check=True)
@@ -128,6 +171,9 @@ class Place:
 
     def start(self):
         self.start_counter()
+        self.start_nginx()
+
+    def start_nginx(self):
         self.nginx = Restarted(["nginx", "-p", self.folder, "-c", "nginx.conf", "-g", "daemon off;"])
 
     def stop(self):
@@ -144,11 +190,16 @@ class Place:
         return subprocess.run([BANK, "post", self.file], input=b"".join(records), check=True,
                               stdout=subprocess.PIPE).stdout
 
+    def keep(self, name):
+        """Copies both files, on which no command may run."""
+        copy_bank(self.file, f"{self.folder}/{name}.db")
+
+    def put_back(self, name):
+        copy_bank(f"{self.folder}/{name}.db", self.file)
+
     def copied(self):
-        """A connection to a copy of both files. No command may run on them."""
-        for end in ("", "-wal"):
-            if os.path.exists(self.file + end):
-                shutil.copy(self.file + end, self.folder + "/copy.db" + end)
+        """A connection to a copy of both files."""
+        self.keep("copy")
         return sqlite3.connect(self.folder + "/copy.db")
 
 
@@ -156,6 +207,31 @@ def post(body, close=False):
     """The message that posts a record."""
     last = b"Connection: close\r\n" if close else b""
     return b"POST /post HTTP/1.1\r\nHost: bank\r\nContent-Length: %d\r\n%s\r\n" % (len(body), last) + body
+
+
+# What a posting has that comes from the page of nginx's server.
+FROM_PAGE = (b"Content-Type: application/octet-stream", b"Origin: https://bank")
+
+
+def signed_in(teller, word=b""):
+    """The field with a teller's password, or with another word."""
+    return b"Authorization: Basic " + base64.b64encode(b"teller%d:%s" % (teller, word or b"counter%d" % teller))
+
+
+def with_fields(message, fields):
+    return message.replace(b"Host: bank\r\n", b"\r\n".join((b"Host: bank", *fields, b"")))
+
+
+def tls_of(folder, name=None):
+    """TLS to nginx, with the certificate of somebody if a name is given."""
+    tls = ssl.create_default_context(cafile=folder + "/bank.crt")
+    if name:
+        tls.load_cert_chain(f"{folder}/{name}.crt", folder + "/teller.key")
+    return tls
+
+
+def connect(tls, port):
+    return tls.wrap_socket(socket.create_connection(("127.0.0.1", port), timeout=15), server_hostname="localhost")
 
 
 def read_answer(connection, buffered):
@@ -181,12 +257,13 @@ def read_answer(connection, buffered):
 
 class Sender(threading.Thread):
     """Sends messages in order, each until it has its reply, on a connection that it keeps, or makes anew where that was
-    closed; up to so many are on their way. It gives up when that is so, or when it is told another answer."""
+    closed; up to so many are on their way. It gives up when that is so, or when it is told another answer. Before each
+    it waits for up to so many seconds. It keeps when each reply came."""
 
-    def __init__(self, connect, messages, ahead=1, gives_up=lambda: False):
+    def __init__(self, connect, messages, ahead=1, gives_up=lambda: False, wait=0):
         super().__init__(daemon=True)
-        self.connect, self.messages, self.ahead, self.gives_up = connect, messages, ahead, gives_up
-        self.replies, self.resent, self.fault = [], 0, None
+        self.connect, self.messages, self.ahead, self.gives_up, self.wait = connect, messages, ahead, gives_up, wait
+        self.replies, self.times, self.resent, self.fault = [], [], 0, None
         self.start()
 
     def is_done(self):
@@ -205,7 +282,9 @@ class Sender(threading.Thread):
 
     def converse(self, connection):
         sent, buffered = len(self.replies), b""
-        while len(self.replies) < len(self.messages):
+        while len(self.replies) < len(self.messages) and not self.gives_up():
+            if self.wait:
+                time.sleep(random.uniform(0, self.wait))
             for message in self.messages[sent:len(self.replies) + self.ahead]:
                 connection.sendall(message)
                 sent += 1
@@ -216,4 +295,5 @@ class Sender(threading.Thread):
                 self.fault = f"an answer with status {answer[0]}"
                 return
             self.replies.append(answer[1])
+            self.times.append(time.monotonic())
             buffered = answer[2]

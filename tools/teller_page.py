@@ -315,6 +315,33 @@ def buttons(place, page):
     page.settled()
     same("the answers when a day is sent again", page.browser.run(f"{KEPT}.then(all => all.map(it => it.answer))"), before)
     page.browser.run("(document.getElementById('account').focus(), 0)")
+    taken_over(place, page)
+
+
+def taken_over(place, page):
+    """Another machine takes over, which lacks the last postings and has another teller's in their place."""
+    was = page.answered(2, "5.00", "WAS THERE")[0]
+    place.counter.stop()
+    place.keep("other")
+    place.start_counter()
+    lost = page.answered(2, "7.00", "LOST")[0]
+    place.counter.stop()
+    place.put_back("other")
+    place.posts([record(2, 5, 1, 1, 100)])
+    place.start_counter()
+    page.browser.run("(document.getElementById('account').focus(), document.getElementById('send-again').click(), 0)")
+    page.browser.keys(TAB, ENTER)
+    page.until("all go out again", "document.getElementById('resend').open", False)
+    page.settled()
+    lines = {line[3]: line for line in page.browser.run(LINES)}
+    same("what the other machine has", lines["WAS THERE"], was)
+    same("what it lacked", lines["LOST"][4:],
+         [f"Posted. Its first answer was another: posted, balance {lost[5]}", money(cents_of(lost[5]) + 100)])
+    page.browser.run("(document.getElementById('account').focus(), 0)")
+
+
+def cents_of(text):
+    return int(text.replace("\u202f", "").replace(".", ""))
 
 
 def reused(place, page):
