@@ -2,8 +2,8 @@
 use Rattle.sql_meanings.specs.Names.{ℕ, ℤ, true, false, List, [], length, slice_get, Ok, Some, None, Schema, Table}
 use Rattle.sql_meanings.specs.Names.{Term, col, op2, eval_all, Int, Expr, out-Expr, Expr-F, Inner, first, chosen}
 use Rattle.sql_meanings.specs.Names.{nothing, declared, ungrouped, number, column_named, place_of, passes_checks}
-use Rattle.sql_meanings.specs.Names.{Compare, Eq, Parsed, accepts_program}
-use Rattle.sql_meanings.proofs.{Names.refl, Means.means, ReadTables.ReadsAs, SetRows.ChangesAs}
+use Rattle.sql_meanings.specs.Names.{Compare, Eq, Parsed, accepts_program, Row, Update}
+use Rattle.sql_meanings.proofs.{Names.refl, Means.Means, Means.means, ReadTables.ReadsAs, SetRows.ChangesAs}
 use Rattle.sql_meanings.proofs.{ShownColumns.outputs_at, Statements.HasTable, Texts.IsSelect, Texts.reads_by}
 use Rattle.sqlite_value.specs.declared.keys.Collation.TheVariants.{Binary}
 use Rattle.sql_meanings.specs.believed.Entries.{HasWidth, Entry, stored}
@@ -61,7 +61,12 @@ gets_by {table = table} {text = text} {places = places} is terms test a b key fi
 
 -- ---- UPDATE table SET column = ?2 WHERE key = ?1
 
-pub sets_by : (table : Table) (text : List ℕ) (change : ℤ → Entry → Entry) (project : List Term) (k v : ℤ)
+-- with these parameters the text writes these terms of the row under the key
+pub record WritesAs (table : Table) (text : List ℕ) (params : Row) (project : List Term) : Type 0 where
+  pub means : (schema : Schema) (p tree : ℕ) → HasTable schema table.name p (placed_at table tree)
+      → Means schema text (length params) (Update p (record { lets = []; body = by_key tree project }))
+
+pub writes_by : (table : Table) (text : List ℕ) (project : List Term) (k v : ℤ)
     (P : Parsed)
     (key wanted : List ℕ) (e test a b : Expr) (places : List ℕ) → IsFirst table key
     → first text ≡ Ok P → P.statement ≡ written.Update table.name ((wanted, e) ∷ []) (Some test) []
@@ -76,6 +81,18 @@ pub sets_by : (table : Table) (text : List ℕ) (change : ℤ → Entry → Entr
     → program.program schema [] (write.simple (Inner tree ∷ [])
     (op2 (Compare Eq Binary) (col 1 0) (col 0 0) ∷ []) project)
     ≡ Ok (record { lets = []; body = by_key tree project }))
+    → WritesAs table text (Int k ∷ Int v ∷ []) project
+writes_by table text project k v P key wanted e test a b places tests parsed is plain whole given value
+    equal left right place row typed = record {
+      means = λ schema p tree has. means schema text 2 _ _
+          (update_by_key schema table.name p (placed_at table tree) has text P wanted key e test a b 2 1 0
+          places project (tests tree) _ parsed is plain value equal left right (place tree) (row tree)
+          (key_at schema table.name p [] false) (typed schema p tree has)) refl whole given refl refl;
+    }
+
+-- and so changes a typed row
+pub sets_by : (table : Table) (text : List ℕ) (change : ℤ → Entry → Entry) (project : List Term) (k v : ℤ)
+    → WritesAs table text (Int k ∷ Int v ∷ []) project
     → ((schema : Schema) (p tree : ℕ) → HasTable schema table.name p (placed_at table tree)
     → accepts_program schema [] (by_key tree project) (Int k ∷ Int v ∷ []) ≡ true)
     → ((e : Entry) → HasWidth (width_of table) e
@@ -85,18 +102,13 @@ pub sets_by : (table : Table) (text : List ℕ) (change : ℤ → Entry → Entr
     → ((e : Entry) → HasWidth (width_of table) e → e.key ≡ k → passes_checks table (stored (change v e))
     ≡ true)
     → texts_of table ≡ 0 → ChangesAs table text k (Int v ∷ []) (change v)
-sets_by table text change project k v P key wanted e test a b places tests parsed is plain whole given value
-    equal left right place row typed
-    accepts projects keeps_key keeps_width passes untexted = record {
-      project = project;
-      means = λ schema p tree has. means schema text 2 _ _
-          (update_by_key schema table.name p (placed_at table tree) has text P wanted key e test a b 2 1 0
-          places project (tests tree) _ parsed is plain value equal left right (place tree) (row tree)
-          (key_at schema table.name p [] false) (typed schema p tree has)) refl whole given refl refl;
-      projects = projects;
-      keeps_key = keeps_key;
-      keeps_width = keeps_width;
-      untexted = untexted;
-      accepts = accepts;
-      passes = passes;
-    }
+sets_by table text change project k v writes accepts projects keeps_key keeps_width passes untexted = record {
+  project = project;
+  means = writes.means;
+  projects = projects;
+  keeps_key = keeps_key;
+  keeps_width = keeps_width;
+  untexted = untexted;
+  accepts = accepts;
+  passes = passes;
+}

@@ -18,12 +18,12 @@ met k more e = (Int k ∷ more) ∷ stored e ∷ []
 when_met : (k : ℤ) (more : Row) (e : Entry) → holds (met k more e) (is (col 1 0) (col 0 0)) ≡ has_key k e
 when_met k more e = int_equals e.key k
 
-kept_by : {X : Type 0} (b : Bool) (x : X) (xs : List X)
+pub kept_by : {X : Type 0} (b : Bool) (x : X) (xs : List X)
     → cond (b && true) (x ∷ []) [] ++ xs ≡ cond b (x ∷ xs) xs
 kept_by true x xs = refl
 kept_by false x xs = refl
 
-map_cond : {X Y : Type 0} (f : X → Y) (b : Bool) (x : X) (xs : List X)
+pub map_cond : {X Y : Type 0} (f : X → Y) (b : Bool) (x : X) (xs : List X)
     → map f (cond b (x ∷ xs) xs) ≡ cond b (f x ∷ map f xs) (map f xs)
 map_cond f true x xs = refl
 map_cond f false x xs = refl

@@ -18,6 +18,7 @@ pub mod FreeNames
 pub mod Growing
 pub mod Keyed
 pub mod KeyedAnswers
+pub mod KeyedRows
 pub mod ListedTexts
 pub mod MakeFailures
 pub mod Makeable
@@ -40,6 +41,7 @@ pub mod ReadTables
 pub mod Referring
 pub mod Refusals
 pub mod RisingOrder
+pub mod RowsUnder
 pub mod Saying
 pub mod SeekAnswers
 pub mod SeekTexts
@@ -59,4 +61,5 @@ pub mod TestedAnswers
 pub mod Texts
 pub mod Trees
 pub mod TwoColumns
+pub mod UnderKeys
 pub mod Writing

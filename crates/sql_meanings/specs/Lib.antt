@@ -10,3 +10,4 @@ pub mod StatementAnswers
 pub mod Queries
 pub mod Seeks
 pub mod SeveralRows
+pub mod Under

@@ -12,6 +12,8 @@ pub mod FoundRows
 pub mod GetRequest
 pub mod Getting
 pub mod Lookups
+pub mod Lying
+pub mod LyingRows
 pub mod MadeSoFar
 pub mod MetaRow
 pub mod NewRequests

@@ -33,7 +33,7 @@ use Rattle.store_rows.specs.believed.View.{request_entry, teller_entry}
 -- ---- one column
 
 -- what comes next was read too
-then_ok : {A B : Type 0} (r : Result A Rule) (f : A → Result B Rule) (b : B) → r >>= f ≡ Ok b
+pub then_ok : {A B : Type 0} (r : Result A Rule) (f : A → Result B Rule) (b : B) → r >>= f ≡ Ok b
     → (a : A) × (r ≡ Ok a) × (f a ≡ Ok b)
 then_ok (Ok a) f b is = (a, refl, is)
 then_ok (Err rule) f b is = absurd cc
@@ -115,7 +115,7 @@ pub balance_is : (e : Entry) (z : ℤ) → read_balance e ≡ Ok z → number_at
 balance_is e z is = number_is 0 e.values e.texts z (cents_ok MAX_BALANCE Balance (column (given e) 1) z is).0
 
 -- the columns of a branch, and their ranges
-branch_parts : (row : Row) (b : BranchRow) → branch_of row ≡ Ok b
+pub branch_parts : (row : Row) (b : BranchRow) → branch_of row ≡ Ok b
     → (column row 0 ≡ Int (pos b.branch)) × (column row 1 ≡ Int (pos b.accounts)) × (column row 2 ≡ Int b.balance)
     × IsSoundBranch b
 branch_parts row b is =

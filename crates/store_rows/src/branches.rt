@@ -5,6 +5,7 @@ ghost use Rattle.posting_rules.specs.believed.Damage.{IsSoundBranch};
 ghost use Rattle.posting_rules.specs.believed.Tables.{row_at, branch_key};
 ghost use Rattle.posting_rules.specs.believed.Changes.{with_branch};
 ghost use Rattle.store_rows.specs.Calls.{AddsRow, LooksUp};
+ghost use Rattle.store_rows.specs.Lying.{BranchLies, FindsLying};
 ghost use Rattle.store_rows.specs.believed.Readings.{read_branch};
 ghost use Rattle.store_rows.specs.believed.Rules.{row_under};
 ghost use Rattle.store_rows.specs.believed.BankTables.{branch as table};
@@ -40,7 +41,9 @@ pub fn find_branch<S: Alter>(
     tx: &mut Transaction<'_, S>,
     branch: Branch,
 ) -> Result<Option<BranchRow>, TableFault>
-    ensures { LooksUp S.Store tx.old tx.new (λ rows. row_under rows.branches branch) read_branch result }
+    ensures looks_up { LooksUp S.Store tx.old tx.new (λ rows. row_under rows.branches branch) read_branch result }
+    // Whatever rows the file holds.
+    ensures lies { FindsLying S.Store tx.old tx.new (BranchLies branch) result }
 {
     found(row_under(tx, GET_BRANCH, branch.get()))
 }

@@ -3,6 +3,7 @@ ghost use Rattle.std.specs.Prelude.{◌≤ℤ◌, Some, is_some, pos, IfOk, IfSo
 ghost use Rattle.posting_rules.specs.believed.Tables.{row_at, floor_key};
 ghost use Rattle.posting_rules.specs.believed.Changes.{with_floor};
 ghost use Rattle.store_rows.specs.Calls.{AddsRow, LooksUp};
+ghost use Rattle.store_rows.specs.Lying.{FindsLying, FloorLies};
 ghost use Rattle.store_rows.specs.believed.Readings.{read_floor};
 ghost use Rattle.store_rows.specs.believed.Rules.{row_under};
 ghost use Rattle.store_rows.specs.believed.BankTables.{floor as table};
@@ -39,6 +40,8 @@ pub fn find_floor<S: Alter>(
 ) -> Result<Option<FloorRow>, TableFault>
     ensures looks_up { LooksUp S.Store tx.old tx.new (λ rows. row_under rows.floors branch) read_floor result }
     ensures within { IfOk result (λ found. IfSome found (λ row. row.lowest ≤ℤ pos 0)) }
+    // Whatever rows the file holds.
+    ensures lies { FindsLying S.Store tx.old tx.new (FloorLies branch) result }
 {
     found(row_under(tx, GET_FLOOR, branch.get()))
 }

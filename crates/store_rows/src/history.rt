@@ -4,6 +4,7 @@ ghost use Rattle.sqlite.specs.Values.{bound};
 ghost use Rattle.posting_rules.specs.believed.Tables.{row_at, history_key};
 ghost use Rattle.posting_rules.specs.believed.Changes.{with_history};
 ghost use Rattle.store_rows.specs.Calls.{AddsRow};
+ghost use Rattle.store_rows.specs.Lying.{PutsLying};
 ghost use Rattle.store_rows.specs.believed.BankTables.{history as table};
 ghost use Rattle.store_rows.specs.believed.SeveralRows.{given};
 ghost use Rattle.store_rows.specs.SeveralRows.{AddsRows};
@@ -42,8 +43,10 @@ fn values_of<'a>(row: &HistoryRow) -> [ValueRef<'a>; 6]
 
 /// Adds a posting. `Damaged(Rule::Key)` is an ordinal that is taken.
 pub fn add_history<S: Alter>(tx: &mut Transaction<'_, S>, row: HistoryRow) -> Result<(), TableFault>
-    ensures { AddsRow S.Store tx.old tx.new one.now (given (history_entry row)) table
+    ensures adds { AddsRow S.Store tx.old tx.new one.now (given (history_entry row)) table
         (λ tables. is_some (row_at history_key tables.history row.ordinal)) (with_history row) result }
+    // Whatever rows the file holds.
+    ensures lies { PutsLying S.Store tx.old tx.new table result }
 {
     put_in(tx, ADD_HISTORY, &values_of(&row))
 }
@@ -53,8 +56,10 @@ pub fn add_eight_postings<S: Alter>(
     tx: &mut Transaction<'_, S>,
     rows: &[HistoryRow; 8],
 ) -> Result<(), TableFault>
-    ensures { AddsRows S.Store tx.old tx.new eight.now history_entry table
+    ensures adds { AddsRows S.Store tx.old tx.new eight.now history_entry table
         (λ row tables. is_some (row_at history_key tables.history row.ordinal)) with_history rows.now result }
+    // Whatever rows the file holds.
+    ensures lies { PutsLying S.Store tx.old tx.new table result }
 {
     let [a, b, c, d, e, f, g, h] = rows;
     let values = [

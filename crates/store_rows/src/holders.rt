@@ -4,6 +4,7 @@ ghost use Rattle.store_rows.specs.Calls.{AddsRow, LooksUp, SetsNumber};
 ghost use Rattle.store_rows.specs.Holders.{entry_under, holder_of, holder_table};
 ghost use Rattle.store_rows.specs.Holders.{holder_update, is_there, member_entry, member_insert};
 ghost use Rattle.store_rows.specs.Holders.{with_balance, with_row};
+ghost use Rattle.store_rows.specs.Lying.{BalanceLies, FindsLying, SetsBalance, SetsLying, holder_key};
 ghost use Rattle.store_rows.specs.believed.Readings.{read_balance};
 ghost use Rattle.store_rows.specs.believed.SeveralRows.{given};
 
@@ -36,7 +37,9 @@ pub fn balance_of<S: Alter>(
     tx: &mut Transaction<'_, S>,
     member: Member,
 ) -> Result<Option<Cents>, TableFault>
-    ensures { LooksUp S.Store tx.old tx.new (entry_under member) read_balance result }
+    ensures looks_up { LooksUp S.Store tx.old tx.new (entry_under member) read_balance result }
+    // Whatever rows the file holds.
+    ensures lies { FindsLying S.Store tx.old tx.new (BalanceLies member) result }
 {
     match member {
         Member::Account(account) => found(row_under(tx, GET_ACCOUNT, account.get())),
@@ -50,8 +53,11 @@ pub fn set_balance<S: Alter>(
     holder: Holder,
     balance: Cents,
 ) -> Result<bool, Error>
-    ensures { SetsNumber S.Store tx.old tx.new (holder_table holder) (holder_update holder)
+    ensures sets { SetsNumber S.Store tx.old tx.new (holder_table holder) (holder_update holder)
         (is_there holder) (with_balance holder balance) result }
+    // Whatever rows the file holds.
+    ensures lies { SetsLying S.Store tx.old tx.new (holder_table holder) (holder_key holder)
+        (SetsBalance holder balance) result }
 {
     match holder {
         Holder::Account(account) => write_balance(tx, SET_ACCOUNT, account.get(), balance),

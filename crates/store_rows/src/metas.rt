@@ -6,11 +6,12 @@ ghost use Rattle.sql_meanings.specs.believed.Sparing.{SparesAllBut};
 ghost use Rattle.sql_meanings.specs.StatementAnswers.{TellsRow};
 ghost use Rattle.store_rows.specs.Calls.{OfMeta, SetsNumber};
 ghost use Rattle.sqlite.specs.Held.{state};
-ghost use Rattle.sqlite.specs.State.{HasCleanDisk};
+ghost use Rattle.sqlite.specs.State.{HasCleanDisk, QueriesRowInside};
 ghost use Rattle.sqlite.specs.declared.types.Value.TheVariants.{Int};
 ghost use Rattle.store_rows.specs.believed.Columns.{meta_in};
 ghost use Rattle.store_rows.specs.Columns.{meta_shown};
 ghost use Rattle.store_rows.specs.Failures.{Asks, Changes, Looks};
+ghost use Rattle.store_rows.specs.Lying.{FindsLying, MetaLies, SetsDecided, SetsLying};
 ghost use Rattle.store_rows.specs.Migration.{SetsVersion};
 ghost use Rattle.store_rows.specs.TableAnswers.{FindsMeta};
 ghost use Rattle.store_rows.specs.declared.texts.TheConstants.{SET_META, SET_VERSION};
@@ -58,10 +59,12 @@ impl FromRow for StoredMeta {
 
 // The row of the bank.
 fn meta_row<S: Alter>(tx: &mut Transaction<'_, S>) -> Result<Row, Error>
-    ensures { Says S.Store tx.old tx.new
+    ensures says { Says S.Store tx.old tx.new
         (OfMeta (λ old new rows. TellsRow old new (option_map meta_shown (meta_in rows)) result))
         (λ old new. Asks old new result
         × IfOk result (λ row. ShowsFirst text.now (Int (pos id) ∷ []) old.now (Some row))) }
+    ensures asks { HasCleanDisk (state S.Store tx.new.conn.now) → QueriesRowInside text.now (Int (pos id) ∷ [])
+        (state S.Store tx.old.conn.now) (state S.Store tx.new.conn.now) result }
 {
     row_under(tx, GET_META, META_ID)
 }
@@ -73,6 +76,8 @@ pub fn read_meta<S: Alter>(tx: &mut Transaction<'_, S>) -> Result<Option<StoredM
         (λ old new. Looks old new result) }
     ensures other { HasCleanDisk (state S.Store tx.new.conn.now)
         → IfErr result (TellsOther (state S.Store tx.old.conn.now).now) }
+    // Whatever rows the file holds.
+    ensures lies { FindsLying S.Store tx.old tx.new MetaLies result }
 {
     found(meta_row(tx))
 }
@@ -80,7 +85,9 @@ pub fn read_meta<S: Alter>(tx: &mut Transaction<'_, S>) -> Result<Option<StoredM
 /// Writes how many requests are decided, and reports whether meta has its row.
 pub fn set_decided<S: Alter>(tx: &mut Transaction<'_, S>, decided: u64) -> Result<bool, Error>
     requires { decided ≤ MAX_DECIDED }
-    ensures { SetsNumber S.Store tx.old tx.new table SET_META.now (λ _. true) (with_decided decided) result }
+    ensures sets { SetsNumber S.Store tx.old tx.new table SET_META.now (λ _. true) (with_decided decided) result }
+    // Whatever rows the file holds.
+    ensures lies { SetsLying S.Store tx.old tx.new table id (SetsDecided decided) result }
 {
     write_under(tx, SET_META, META_ID, decided as i64)
 }

@@ -5,6 +5,7 @@ ghost use Rattle.sqlite.specs.State.{HasCleanDisk};
 ghost use Rattle.posting_rules.specs.believed.Tables.{row_at, reference_key};
 ghost use Rattle.posting_rules.specs.believed.Changes.{with_reference};
 ghost use Rattle.store_rows.specs.Calls.{AddsRow, LooksUp};
+ghost use Rattle.store_rows.specs.Lying.{PutsLying};
 ghost use Rattle.store_rows.specs.believed.Readings.{read_reference};
 ghost use Rattle.store_rows.specs.believed.Rules.{row_under};
 ghost use Rattle.store_rows.specs.believed.BankTables.{reference as table};
@@ -53,9 +54,11 @@ pub fn add_reference<S: Alter>(
     tx: &mut Transaction<'_, S>,
     row: ReferenceRow,
 ) -> Result<(), TableFault>
-    ensures { AddsRow S.Store tx.old tx.new statement.now (given (reference_entry row)) table
+    ensures adds { AddsRow S.Store tx.old tx.new statement.now (given (reference_entry row)) table
         (λ tables. is_some (row_at reference_key tables.references row.ordinal))
         (with_reference row.ordinal (Some row.reference)) result }
+    // Whatever rows the file holds.
+    ensures lies { PutsLying S.Store tx.old tx.new table result }
 {
     let key = row.ordinal.get() as i64;
     let text = row.reference.text();

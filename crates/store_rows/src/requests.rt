@@ -7,6 +7,7 @@ ghost use Rattle.sql_meanings.specs.believed.Entries.{has_two};
 ghost use Rattle.posting_rules.specs.believed.Tables.{row_at, request_key};
 ghost use Rattle.posting_rules.specs.believed.Changes.{with_request};
 ghost use Rattle.store_rows.specs.Calls.{AddsRow, LooksUp};
+ghost use Rattle.store_rows.specs.Lying.{PutsLying};
 ghost use Rattle.store_rows.specs.TableAnswers.{Gives};
 ghost use Rattle.store_rows.specs.believed.BankTables.{request as table};
 ghost use Rattle.store_rows.specs.believed.SeveralRows.{given};
@@ -108,6 +109,7 @@ pub fn add_request<S: Alter>(tx: &mut Transaction<'_, S>, row: RequestRow) -> Re
     ensures unknown { OnOk result (HasCleanDisk (state S.Store tx.new.conn.now)
         → IsTrue (state S.Store tx.old.conn.now).in_transaction
         → PutsNew (state S.Store tx.old.conn.now).now (state S.Store tx.new.conn.now).now (row ∷ [])) }
+    ensures lies { PutsLying S.Store tx.old tx.new table result }
 {
     put_in(tx, ADD_REQUEST, &values_of(&row))
 }
@@ -124,6 +126,7 @@ pub fn add_eight_requests<S: Alter>(
     ensures unknown { OnOk result (HasCleanDisk (state S.Store tx.new.conn.now)
         → IsTrue (state S.Store tx.old.conn.now).in_transaction
         → PutsNew (state S.Store tx.old.conn.now).now (state S.Store tx.new.conn.now).now rows.now) }
+    ensures lies { PutsLying S.Store tx.old tx.new table result }
 {
     let [a, b, c, d, e, f, g, h] = rows;
     let values = [

@@ -7,4 +7,4 @@ pub returns : goal.returns
 returns g c =
     does_write g.S.Store _ _ (holder_table c.args.holder) (is_there c.args.holder) _ c.set_balance.result
     c.rule_of-rule.result _ (holder_update c.args.holder) c.rule_of-rule.ensures c.expect_row.ensures
-    c.set_balance.ensures (λ t so. so)
+    c.set_balance.ensures.sets (λ t so. so)

@@ -8,4 +8,4 @@ use Rattle.bank_transactions.proofs.balances.write_decided.Goals as goal
 pub returns : goal.returns
 returns g c =
     does_write g.S.Store _ _ meta (λ t. true) (with_decided c.args.decided) c.set_decided.result Meta _ _ refl
-    c.expect_row.ensures c.set_decided.ensures (λ t so. refl)
+    c.expect_row.ensures c.set_decided.ensures.sets (λ t so. refl)

@@ -21,7 +21,7 @@ pub returns-in_err-row-clause-says : goal.returns-in_err-row-clause-says
 returns-in_err-row-clause-says g c =
     let same : c.from_residual.result ≡ Err c.in_err-row.field-0.0 = search rules in
     rw same (find_failed (λ rows. row_under rows.branches c.args.branch) read_branch
-    (branch_broken _ (has_key (pos c.args.branch)) _) c.in_err-row.ensures)
+    (branch_broken _ (has_key (pos c.args.branch)) _) c.in_err-row.ensures.looks_up)
 
 -- so damage is told where no bank's rows are held
 no_bank : (n : ℕ) (row : Option BranchRow) (is : Bool) → (IfSome row (λ r. r.branch ≡ n) → is ≡ true) → is ≡ false
@@ -31,19 +31,19 @@ no_bank n row is told other rows finds = let it = sym other ∙ told (its_row ro
 pub returns-then-not-is_its-clause-says : goal.returns-then-not-is_its-clause-says
 returns-then-not-is_its-clause-says g c =
     reads_broken Value
-    (find_tells (λ rows. row_under rows.branches c.args.branch) read_branch _ c.in_ok-row.ensures
+    (find_tells (λ rows. row_under rows.branches c.args.branch) read_branch _ c.in_ok-row.ensures.looks_up
     (λ t sound finds. branch_found t c.args.branch sound _ finds))
     (λ clean rows has keeps. no_bank c.args.branch c.in_ok-row.row c.is_its.result c.is_its.ensures.1 c.if-not-is_its.true
     rows (read_so (state g.S.Store c.args.tx.now.conn.now) (state g.S.Store c.find_branch.new.tx.conn.now) _ read_branch
-    (Ok c.in_ok-row.row) (c.in_ok-row.ensures.told clean rows has)))
+    (Ok c.in_ok-row.row) (c.in_ok-row.ensures.looks_up.told clean rows has)))
 
 pub returns-then-not-is_its-clause-stored : goal.returns-then-not-is_its-clause-stored
 returns-then-not-is_its-clause-stored g c clean rows has =
     absurd (no_bank c.args.branch c.in_ok-row.row c.is_its.result c.is_its.ensures.1 c.if-not-is_its.true
     rows (read_so (state g.S.Store c.args.tx.now.conn.now) (state g.S.Store c.find_branch.new.tx.conn.now) _ read_branch
-    (Ok c.in_ok-row.row) (c.in_ok-row.ensures.told clean rows has)))
+    (Ok c.in_ok-row.row) (c.in_ok-row.ensures.looks_up.told clean rows has)))
 
 pub returns-clause-says : goal.returns-clause-says
 returns-clause-says g c =
-    find_tells (λ rows. row_under rows.branches c.args.branch) read_branch _ c.in_ok-row.ensures
+    find_tells (λ rows. row_under rows.branches c.args.branch) read_branch _ c.in_ok-row.ensures.looks_up
     (λ t sound finds. branch_found t c.args.branch sound _ finds)

@@ -15,7 +15,7 @@ use Rattle.bank_transactions.proofs.look_ups.open_balance.Goals as goal
 pub returns-in_err-balance-clause-says : goal.returns-in_err-balance-clause-says
 returns-in_err-balance-clause-says g c =
     let same : c.from_residual.result ≡ Err c.in_err-balance.field-0.0 = search rules in
-    rw same (balance_failed (Account c.args.account) c.in_err-balance.ensures)
+    rw same (balance_failed (Account c.args.account) c.in_err-balance.ensures.looks_up)
 
 pub returns-then-is_some-is_open-clause-says : goal.returns-then-is_some-is_open-clause-says
 returns-then-is_some-is_open-clause-says g c =
@@ -23,23 +23,23 @@ returns-then-is_some-is_open-clause-says g c =
     let some : 1 ≤ n = search rules in
     let most : n ≤ MAX_ACCOUNT = search rules in
     reads_broken broken.Account (reads_pair (find_tells (entry_under (Account n)) read_balance c.in_ok-balance.balance
-    c.in_ok-balance.ensures (λ t sound finds. member_found (Account n) t sound c.in_ok-balance.balance finds))
+    c.in_ok-balance.ensures.looks_up (λ t sound finds. member_found (Account n) t sound c.in_ok-balance.balance finds))
     c.in_ok-branch.ensures.says) (λ clean rows has keeps.
     let mid : HasCleanDisk (state g.S.Store c.balance_of.new.tx.conn.now) =
     omega (arith, c.in_ok-branch.ensures.says.says.survives.clean, clean) in
     let there : HoldsBank (state g.S.Store c.balance_of.new.tx.conn.now).now rows =
-    subst (λ (db : Database). HoldsBank db rows) (sym (c.in_ok-balance.ensures.leaves mid).0.now_is) has in
+    subst (λ (db : Database). HoldsBank db rows) (sym (c.in_ok-balance.ensures.looks_up.leaves mid).0.now_is) has in
     let branch =
     subst (λ (k : ℕ). FindsStored (branch_under rows k) read_branch (Ok c.in_ok-branch.branch))
     c.branch_of_account.ensures (c.in_ok-branch.ensures.stored clean rows there) in
     let same = fitting rows n c.in_ok-balance.balance c.in_ok-branch.branch
-    (c.in_ok-balance.ensures.told mid rows has).0 branch (keeps.1 n some most) in
+    (c.in_ok-balance.ensures.looks_up.told mid rows has).0 branch (keeps.1 n some most) in
     search rules)
 
 pub returns-clause-says : goal.returns-clause-says
 returns-clause-says g c =
     reads_both (find_tells (entry_under (Account c.args.account)) read_balance c.in_ok-balance.balance
-    c.in_ok-balance.ensures
+    c.in_ok-balance.ensures.looks_up
     (λ t sound finds. member_found (Account c.args.account) t sound c.in_ok-balance.balance finds))
     c.in_ok-branch.ensures.says (λ t sound is. sound) (λ t sound is its. is)
 
@@ -49,14 +49,14 @@ returns-then-is_some-is_open-clause-stored g c = tt
 pub returns-in_err-branch-clause-says : goal.returns-in_err-branch-clause-says
 returns-in_err-branch-clause-says g c =
     let same : c.from_residual-in_err-branch.result ≡ Err c.in_err-branch.field-0.0 = search rules in
-    rw same (reads_but (looked_at c.in_ok-balance.ensures) c.in_err-branch.ensures.says)
+    rw same (reads_but (looked_at c.in_ok-balance.ensures.looks_up) c.in_err-branch.ensures.says)
 
 pub returns-clause-stored : goal.returns-clause-stored
 returns-clause-stored g c clean =
     let mid : HasCleanDisk (state g.S.Store c.balance_of.new.tx.conn.now) =
     omega (arith, c.in_ok-branch.ensures.says.says.survives.clean, clean) in
-    let looked = c.in_ok-balance.ensures.told mid in
-    let still = (c.in_ok-balance.ensures.leaves mid).0.now_is in
+    let looked = c.in_ok-balance.ensures.looks_up.told mid in
+    let still = (c.in_ok-balance.ensures.looks_up.leaves mid).0.now_is in
     record {
       found = λ rows has. (looked rows has).0;
       fits = λ rows has.

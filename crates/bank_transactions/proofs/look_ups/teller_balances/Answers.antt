@@ -40,25 +40,25 @@ module _ (old mid : Database) (n number : ℕ) (is : number ≡ branch_of_teller
 pub returns-in_err-balance-clause-says : goal.returns-in_err-balance-clause-says
 returns-in_err-balance-clause-says g c =
     let same : c.from_residual.result ≡ Err c.in_err-balance.field-0.0 = search rules in
-    rw same (balance_failed (member.Teller c.args.teller) c.in_err-balance.ensures)
+    rw same (balance_failed (member.Teller c.args.teller) c.in_err-balance.ensures.looks_up)
 
 pub returns-in-Some-Some-clause-says : goal.returns-in-Some-Some-clause-says
 returns-in-Some-Some-clause-says g c =
     rw (c.in-Some-Some.is-0, c.in-Some-Some.is-1) at
-    (teller_told c.args.teller c.branch_of_teller.result c.in_ok-balance.balance c.branch_of_teller.ensures c.in_ok-balance.ensures
+    (teller_told c.args.teller c.branch_of_teller.result c.in_ok-balance.balance c.branch_of_teller.ensures c.in_ok-balance.ensures.looks_up
     c.in_ok-branch.ensures.says)
 
 pub returns-in-None-None-clause-says : goal.returns-in-None-None-clause-says
 returns-in-None-None-clause-says g c =
     rw c.in-None-None.is-0 at
-    (teller_told c.args.teller c.branch_of_teller.result c.in_ok-balance.balance c.branch_of_teller.ensures c.in_ok-balance.ensures
+    (teller_told c.args.teller c.branch_of_teller.result c.in_ok-balance.balance c.branch_of_teller.ensures c.in_ok-balance.ensures.looks_up
     c.in_ok-branch.ensures.says)
 
 pub returns-in_default-clause-says : goal.returns-in_default-clause-says
 returns-in_default-clause-says g c =
     let above : 1 ≤ c.args.teller = search rules in
     let most : c.args.teller ≤ MAX_TELLER = search rules in
-    teller_alone c.args.teller c.branch_of_teller.result c.in_ok-balance.balance c.branch_of_teller.ensures c.in_ok-balance.ensures
+    teller_alone c.args.teller c.branch_of_teller.result c.in_ok-balance.balance c.branch_of_teller.ensures c.in_ok-balance.ensures.looks_up
     c.in_ok-branch.ensures.says above most c.in_ok-branch.ensures.stored (λ alike.
     elim c.in_default.branch [
       | in_default-via-in-Some+in_default w ↦ one_alone _ _ _ w.in_default.is-0 w.in_default.is-1 alike
@@ -68,7 +68,7 @@ returns-in_default-clause-says g c =
 pub returns-in_err-branch-clause-says : goal.returns-in_err-branch-clause-says
 returns-in_err-branch-clause-says g c =
     let same : c.from_residual-in_err-branch.result ≡ Err c.in_err-branch.field-0.0 = search rules in
-    rw same (reads_but (looked_at c.in_ok-balance.ensures) c.in_err-branch.ensures.says)
+    rw same (reads_but (looked_at c.in_ok-balance.ensures.looks_up) c.in_err-branch.ensures.says)
 
 -- ---- of the stored rows
 
@@ -76,17 +76,17 @@ pub returns-in-Some-Some-clause-stored : goal.returns-in-Some-Some-clause-stored
 returns-in-Some-Some-clause-stored g c clean =
     let mid : HasCleanDisk (state g.S.Store c.balance_of.new.tx.conn.now) =
     omega (arith, c.in_ok-branch.ensures.says.says.survives.clean, clean) in
-    let teller = rw c.in-Some-Some.is-0 at (c.in_ok-balance.ensures.told mid) in
+    let teller = rw c.in-Some-Some.is-0 at (c.in_ok-balance.ensures.looks_up.told mid) in
     let branch = rw c.in-Some-Some.is-1 at (c.in_ok-branch.ensures.stored clean) in
     stored _ _ c.args.teller c.branch_of_teller.result c.branch_of_teller.ensures
-    (c.in_ok-balance.ensures.leaves mid).0.now_is (Some c.in-Some-Some.balance) (Some c.in-Some-Some.branch)
+    (c.in_ok-balance.ensures.looks_up.leaves mid).0.now_is (Some c.in-Some-Some.balance) (Some c.in-Some-Some.branch)
     (λ rows has. (teller rows has).0) branch refl
 
 pub returns-in-None-None-clause-stored : goal.returns-in-None-None-clause-stored
 returns-in-None-None-clause-stored g c clean =
     let mid : HasCleanDisk (state g.S.Store c.balance_of.new.tx.conn.now) =
     omega (arith, c.in_ok-branch.ensures.says.says.survives.clean, clean) in
-    let teller = rw c.in-None-None.is-0 at (c.in_ok-balance.ensures.told mid) in
+    let teller = rw c.in-None-None.is-0 at (c.in_ok-balance.ensures.looks_up.told mid) in
     let branch = rw c.in-None-None.is-1 at (c.in_ok-branch.ensures.stored clean) in
     stored _ _ c.args.teller c.branch_of_teller.result c.branch_of_teller.ensures
-    (c.in_ok-balance.ensures.leaves mid).0.now_is None None (λ rows has. (teller rows has).0) branch refl
+    (c.in_ok-balance.ensures.looks_up.leaves mid).0.now_is None None (λ rows has. (teller rows has).0) branch refl

@@ -13,16 +13,16 @@ use Rattle.bank_transactions.proofs.slots.teller_within.Goals as goal
 pub returns-in_err-balance-clause-says : goal.returns-in_err-balance-clause-says
 returns-in_err-balance-clause-says g c =
     let same : c.from_residual.result ≡ Err c.in_err-balance.field-0.0 = search rules in
-    rw same (balance_failed (Teller c.args.teller) c.in_err-balance.ensures)
+    rw same (balance_failed (Teller c.args.teller) c.in_err-balance.ensures.looks_up)
 
 pub returns-clause-says : goal.returns-clause-says
 returns-clause-says g c =
-    find_tells (entry_under (Teller c.args.teller)) read_balance _ c.in_ok-balance.ensures
+    find_tells (entry_under (Teller c.args.teller)) read_balance _ c.in_ok-balance.ensures.looks_up
     (λ t so finds. member_found (Teller c.args.teller) t so.0 c.in_ok-balance.balance finds)
 
 -- both rows are looked up again
 pub returns-then-is_some-clause-says : goal.returns-then-is_some-clause-says
-returns-then-is_some-clause-says g c = reads_after (looked_at c.in_ok-balance.ensures) c.teller_beside.ensures.says (λ t so. so.0)
+returns-then-is_some-clause-says g c = reads_after (looked_at c.in_ok-balance.ensures.looks_up) c.teller_beside.ensures.says (λ t so. so.0)
 
 pub returns-then-is_some-clause-stored : goal.returns-then-is_some-clause-stored
 returns-then-is_some-clause-stored g c =
@@ -32,10 +32,10 @@ returns-then-is_some-clause-stored g c =
     (λ clean.
     let mid : HasCleanDisk (state g.S.Store c.balance_of.new.tx.conn.now) =
     omega (arith, c.teller_beside.ensures.says.says.survives.clean, clean) in
-    (c.in_ok-balance.ensures.leaves mid).0.now_is)
+    (c.in_ok-balance.ensures.looks_up.leaves mid).0.now_is)
     c.teller_beside.ensures.stored
 
 pub returns-clause-stored : goal.returns-clause-stored
 returns-clause-stored g c clean rows has branch =
     teller_held rows c.args.teller c.in_ok-balance.balance c.args.branch
-    (c.in_ok-balance.ensures.told clean rows has).0 branch (search rules)
+    (c.in_ok-balance.ensures.looks_up.told clean rows has).0 branch (search rules)

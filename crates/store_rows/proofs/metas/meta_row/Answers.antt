@@ -4,8 +4,8 @@ use Rattle.sql_meanings.proofs.Texts.{only_reads}
 use Rattle.store_rows.proofs.{Getting.gets, MetaRow.tells_meta, OtherValue.first_told}
 use Rattle.store_rows.proofs.metas.meta_row.Goals as goal
 
-pub returns : goal.returns
-returns g c = record {
+pub returns-clause-says : goal.returns-clause-says
+returns-clause-says g c = record {
   told = λ clean rows has. tells_meta _ _ rows has c.row_under.result (c.row_under.ensures.told clean);
   leaves = λ clean.
       let only = only_reads gets.meta.is c.args.tx.now.conn.now.schema in (
@@ -16,3 +16,6 @@ returns g c = record {
   same_reference = search rules;
   survives = search rules;
 }
+
+pub returns-clause-asks : goal.returns-clause-asks
+returns-clause-asks g c = c.row_under.ensures.told

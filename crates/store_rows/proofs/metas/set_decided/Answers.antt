@@ -1,10 +1,11 @@
 -- What the write leaves.
 use Rattle.std.proofs.Common.{refl, rules, arith}
-use Rattle.store_rows.proofs.{Lookups.as_integer, MetaRow.tells_decided, SparedTexts.spared_met, SparedTexts.spares}
+use Rattle.store_rows.proofs.{Lookups.as_integer, LyingRows.decided_set, MetaRow.tells_decided}
+use Rattle.store_rows.proofs.{SparedTexts.spared_met, SparedTexts.spares}
 use Rattle.store_rows.proofs.metas.set_decided.Goals as goal
 
-pub returns : goal.returns
-returns g c = record {
+pub returns-clause-sets : goal.returns-clause-sets
+returns-clause-sets g c = record {
   told = λ clean live t shows. tells_decided _ _ t shows c.args.decided c.write_under.result
       (rw (as_integer c.args.decided c.args.decided refl (omega arith)) at
       (c.write_under.ensures.told clean live));
@@ -15,3 +16,7 @@ returns g c = record {
   same_reference = search rules;
   survives = search rules;
 }
+
+pub returns-clause-lies : goal.returns-clause-lies
+returns-clause-lies g c = decided_set g.S.Store _ _ c.args.decided c.write_under.result
+    (rw (as_integer c.args.decided c.args.decided refl (omega arith)) at c.write_under.ensures)

@@ -3,6 +3,7 @@ use Rattle.std.proofs.Common.{List, arith}
 use Rattle.posting_rules.specs.{believed.Tables.request_key, declared.rows.RequestRow.RequestRow}
 use Rattle.store_rows.specs.{Statements.PutsRow, believed.View.request_entry}
 use Rattle.store_rows.specs.{declared.texts.TheConstants.ADD_EIGHT_REQUESTS}
+use Rattle.store_rows.proofs.LyingRows.{requests_put}
 use Rattle.store_rows.proofs.{NewRequests.eight_new, SeveralWrites.HoldsOfEight, SeveralWrites.eight_put}
 use Rattle.store_rows.proofs.{SeveralWrites.of_array, requests.add_eight_requests.Given.Over}
 use Rattle.store_rows.proofs.requests.add_eight_requests.Goals as goal
@@ -31,3 +32,7 @@ returns-clause-adds g c =
 pub returns-clause-unknown : goal.returns-clause-unknown
 returns-clause-unknown g c =
     of_these g c (eight_new g.S.Store c.args.tx.now c.put_in.new.tx c.put_in.result)
+
+pub returns-clause-lies : goal.returns-clause-lies
+returns-clause-lies g c =
+    of_these g c (requests_put g.S.Store c.args.tx.now c.put_in.new.tx c.put_in.result)

@@ -1,0 +1,15 @@
+-- The rows of a table as they lie in its tree, whatever values they have and in whatever order.
+use Rattle.sql_meanings.specs.Names.{ℤ, List, [], filter, Row, Table, Database}
+use Rattle.sqlite.specs.Tree.{has_rowid}
+use Rattle.sql_meanings.specs.believed.Tables.{Defines, tree_of}
+use Rattle.std.specs.Prelude.{◌≡◌, ◌≢◌}
+
+-- the rows of the table that lie under a key
+abbrev pub rows_under : Database → Table → ℤ → List Row
+rows_under db table k = filter (has_rowid k) (db.trees (tree_of db.schema table.name))
+
+-- the schema is as it was, and every other table that it defines has the rows that it had
+pub record OthersStay (old new : Database) (table : Table) : Type 0 where
+  pub schema : new.schema ≡ old.schema
+  pub rows : (other : Table) → other.references ≡ [] → other.name ≢ table.name → Defines old.schema other
+      → (k : ℤ) → rows_under new other k ≡ rows_under old other k
