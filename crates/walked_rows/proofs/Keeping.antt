@@ -7,7 +7,7 @@ use Rattle.sqlite.specs.declared.error.Error.{Error}
 use Rattle.posting_rules.specs.declared.fault.Rule.{Rule}
 use Rattle.sql_meanings.specs.{believed.Entries.Entry, believed.Entries.Rise, Seeks.is_from}
 use Rattle.store_rows.specs.declared.fault.TableFault.{TableFault, TheVariants.Sqlite, TheVariants.Damaged}
-use Rattle.walked_rows.specs.KeptRows.{AreKept, BreaksKept, KeptItem, asked_of, kept_all, kept_item, kept_key}
+use Rattle.walked_rows.specs.KeptRows.{AreKept, BreaksKept, IsOrdinal, KeptItem, asked_of, kept_all, kept_item, kept_key}
 use Rattle.walked_rows.specs.KeptRows.{kept_with}
 use Rattle.walked_rows.specs.Pairs.{Pair, pair_key, pair_with, paired, row_under}
 use Rattle.walked_rows.specs.{References.BreaksReference, StepOutcomes.BreaksFirst, declared.joined.Joined.Joined}
@@ -87,16 +87,19 @@ module _ (postings others base : List Entry) (rise : Rise base) (start : ℤ) wh
   -- the reference of the first can't be read
   pub keeps_none : (Because : Error → Type 0) (done : List KeptRequest) (next : ℤ) (p : Pair) (more : List Pair)
       (broken : Rule) → SoFar done next → done ≡ [] → paired postings (rows_from next base) ≡ p ∷ more
-      → IsSomeAnd (row_under others p.entry.key) (BreaksReference broken)
+      → IsOrdinal p.entry.key → IsSomeAnd (row_under others p.entry.key) (BreaksReference broken)
       → BreaksFirst Because BreaksKept (kept_all postings others (rows_from start base)) (Damaged broken)
-  keeps_none Because done next p more broken so_far none is broke =
+  keeps_none Because done next p more broken so_far none is ordinal broke =
       let it = first_asked postings base rise next p more is in (
         kept_with postings others it.0,
         kept_all postings others (rows_from (it.0.key +ℤ pos 1) base),
         so_far ∙ ap (λ l. map kept_item l ++ kept_all postings others (rows_from next base)) none
             ∙ ap (kept_all postings others) it.2,
-        inr (subst (λ k. IsSomeAnd (row_under others k) (BreaksReference broken))
-            (sym (ap (λ (q : Pair). q.entry.key) it.1)) broke),
+        inr (
+          subst IsOrdinal (sym (ap (λ (q : Pair). q.entry.key) it.1)) ordinal,
+          subst (λ k. IsSomeAnd (row_under others k) (BreaksReference broken))
+              (sym (ap (λ (q : Pair). q.entry.key) it.1)) broke,
+        ),
       )
 
 -- rows of which the pairs are the same are kept with the same

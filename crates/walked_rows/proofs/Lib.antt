@@ -1,4 +1,6 @@
 -- What the walks read.
+pub mod Came
+pub mod Causes
 pub mod EntryShown
 pub mod Filling
 pub mod Gathering
@@ -10,6 +12,7 @@ pub mod OnlyMeta
 pub mod ReferenceRead
 pub mod Rises
 pub mod RisingRows
+pub mod RowsBroken
 pub mod Shown
 pub mod Sought
 pub mod Under

@@ -12,7 +12,7 @@ use Rattle.sql_meanings.proofs.OnlyShowing.{no_rows_error}
 use Rattle.store_rows.specs.believed.Failures.{Asking, HasFailed}
 use Rattle.store_rows.specs.{believed.SeveralRows.given, declared.metas.StoredMeta.StoredMeta}
 use Rattle.walked_rows.specs.OnlyMeta.{TakesOnly, TakesRow, TellsOnly, meta_with}
-use Rattle.walked_rows.specs.Rows.{HasStoredRows, IsWide, LEAST, entry_key, rows_from}
+use Rattle.walked_rows.specs.Rows.{HasStoredRows, IsWide, LEAST, entry_key, holds_rows, rows_from}
 use Rattle.walked_rows.specs.declared.{ahead.TheConstants.AHEAD, texts.TheConstants.METAS_FROM}
 use Rattle.walked_rows.proofs.{Keys.all_left, Sought.all_given, Sought.tells_walk, WalkTexts.walks_metas}
 
@@ -47,7 +47,7 @@ pub tells_only : (old new : State) (checks : List Term) (rows : List Entry)
     → HasStoredRows old.now (meta_with checks) rows → (found : List Row) (m : Option StoredMeta)
     → Shown METAS_FROM.now (Int LEAST ∷ []) old new found → TakesOnly found m → TellsOnly rows m
 tells_only old new checks rows has found m shows takes =
-    let told = tells_walk old new (walks_metas checks) rows has {V = List Row} (λ v. v) LEAST (Ok found) shows in
+    let told = tells_walk old new (walks_metas checks) rows (holds_rows has) {V = List Row} (λ v. v) LEAST (Ok found) shows in
     let all : rows_from LEAST (filter (λ _. true) rows) ≡ rows =
     ap (rows_from LEAST) (all_given rows) ∙ all_left entry_key rows has.least in
     only_told rows found m (told ∙ ap (λ es. map given (take AHEAD es)) all) has.holds.rows.wide takes

@@ -21,7 +21,8 @@ use Rattle.store_rows.specs.declared.fault.TableFault.{TableFault, TheVariants.S
 use Rattle.store_rows.proofs.ShownValues.{places_are, text_shown}
 use Rattle.walked_rows.specs.Pairs.{BreaksUnder, row_under}
 use Rattle.walked_rows.specs.References.{BreaksReference, ReadsFirst, text_entry}
-use Rattle.walked_rows.specs.{Rows.HasStoredRows, declared.texts.TheConstants.REFERENCE_UNDER}
+use Rattle.store_rows.specs.View.{HoldsRows}
+use Rattle.walked_rows.specs.{declared.texts.TheConstants.REFERENCE_UNDER}
 use Rattle.walked_rows.proofs.{EntryShown.same_entry, Sought.store_error}
 
 -- ---- the statement
@@ -98,7 +99,7 @@ module _ (Because : Error → Type 0) (n : ℕ) where
 
 -- ---- what is reported
 
-module _ (old new : State) (all : List Entry) (has : HasStoredRows old.now bank.reference all) (n : ℕ) where
+module _ (old new : State) (all : List Entry) (has : HoldsRows old.now bank.reference all) (n : ℕ) where
   abbrev Asked : Result (List Row) Error → Type 0
   Asked = QueriesAll REFERENCE_UNDER.now (Int (pos n) ∷ []) old new
 

@@ -14,7 +14,8 @@ use Rattle.sql_meanings.proofs.{ReadSeeks.kept_all, ReadSeeks.reads_from, ReadSe
 use Rattle.posting_rules.specs.declared.fault.Rule.{Rule}
 use Rattle.store_rows.specs.believed.SeveralRows.{given}
 use Rattle.store_rows.specs.declared.fault.TableFault.{TableFault, TheVariants.Sqlite, TheVariants.Damaged}
-use Rattle.walked_rows.specs.{Rows.HasStoredRows, Rows.IsWide, Rows.rows_from, StepOutcomes.BreaksFirst}
+use Rattle.store_rows.specs.View.{HoldsRows}
+use Rattle.walked_rows.specs.{Rows.IsWide, Rows.rows_from, StepOutcomes.BreaksFirst}
 use Rattle.walked_rows.specs.declared.ahead.TheConstants.{AHEAD}
 
 -- ---- lists
@@ -74,7 +75,7 @@ store_error old new e (inl fails) = inl fails
 store_error old new e (inr limit) = inr (inr (limit.0, limit.1), limit.2)
 
 module _ (old new : State) (table : Table) (free : table.references ≡ []) (rows : List Entry)
-    (has : HasStoredRows old.now table rows)
+    (has : HoldsRows old.now table rows)
     (text : List ℕ) (project : List Term) {V : Type 0} (items : V → List Row) where
   -- the rows from a number on
   pub tells_from : (k : ℤ)
@@ -131,7 +132,7 @@ pub record Walks (table : Table) (text : List ℕ) : Type 0 where
 -- so it tells them
 pub tells_walk : (old new : State) {table : Table} {text : List ℕ}
     (walk : Walks table text)
-    (rows : List Entry) (has : HasStoredRows old.now table rows) {V : Type 0} (items : V → List Row) (k : ℤ)
+    (rows : List Entry) (has : HoldsRows old.now table rows) {V : Type 0} (items : V → List Row) (k : ℤ)
     (r : Result V Error) → MatchResult r (λ v. Shown text (Int k ∷ []) old new (items v))
     (FailsToQuery text (Int k ∷ []) old new)
     → MatchResult r (λ v. items v ≡ map given (take AHEAD (rows_from k (filter (λ _. true) rows))))

@@ -92,7 +92,7 @@ kept_broken rule ps fs rs h =
         ⊎ HasBroken (BreaksReference rule) fs
     broken e front rest is (inl (inl own)) = inl (front, e, rest, is, own)
     broken e front rest is (inl (inr posting)) = inr (inl (found_broken (BreaksBy posting_of rule) _ ps posting))
-    broken e front rest is (inr reference) = inr (inr (found_broken (BreaksReference rule) _ fs reference))
+    broken e front rest is (inr reference) = inr (inr (found_broken (BreaksReference rule) _ fs reference.1))
 
 -- ---- none of a log's is
 

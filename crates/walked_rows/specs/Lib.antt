@@ -1,5 +1,6 @@
 -- What the walks over the tables of a bank give.
 pub mod Broken
+pub mod Causes
 pub mod Kinds
 pub mod KeptRows
 pub mod KeptKeys
@@ -9,6 +10,8 @@ pub mod StepOutcomes
 pub mod PairKeys
 pub mod Pairs
 pub mod References
+pub mod Requests
+pub mod Came
 pub mod Rising
 pub mod Room
 pub mod Rows

@@ -8,7 +8,8 @@ use Rattle.sql_meanings.specs.believed.Entries.{Entry, has_key}
 use Rattle.posting_rules.specs.declared.fault.Rule.{Rule}
 use Rattle.store_rows.specs.declared.fault.TableFault.{TableFault}
 use Rattle.store_rows.specs.declared.fault.TableFault.TheVariants.{Sqlite, Damaged}
-use Rattle.walked_rows.specs.Rows.{HasStoredRows, rows_after, rows_from}
+use Rattle.store_rows.specs.View.{HoldsRows}
+use Rattle.walked_rows.specs.Rows.{HasStoredRows, holds_rows, rows_after, rows_from}
 use Rattle.walked_rows.specs.declared.joined.Joined.{Joined}
 
 -- a row, and the one beside it
@@ -38,6 +39,24 @@ pub record HasPairs (db : Database) (table other : Table) (pairs : List Pair) : 
   pub has : HasStoredRows db table rows
   pub has_others : HasStoredRows db other others
   pub are : pairs ≡ paired others rows
+
+-- the same, whatever their keys are
+pub record HoldsPairs (db : Database) (table other : Table) (pairs : List Pair) : Type 0 where
+  pub rows : List Entry
+  pub others : List Entry
+  pub has : HoldsRows db table rows
+  pub has_others : HoldsRows db other others
+  pub are : pairs ≡ paired others rows
+
+abbrev pub holds_pairs : {db : Database} {table other : Table} {pairs : List Pair} → HasPairs db table other pairs
+    → HoldsPairs db table other pairs
+holds_pairs has = record {
+  rows = has.rows;
+  others = has.others;
+  has = holds_rows has.has;
+  has_others = holds_rows has.has_others;
+  are = has.are;
+}
 
 -- how a file holds them
 abbrev pub pair_of : {R O : Type 0} → (R → Entry) → (O → Entry) → Joined R O → Pair

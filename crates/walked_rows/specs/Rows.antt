@@ -7,6 +7,7 @@ use Rattle.sqlite.specs.Effect.{Database, IsDatabase}
 use Rattle.sql_meanings.specs.believed.Entries.{Entry, HasWidth}
 use Rattle.sql_meanings.specs.Seeks.{is_from}
 use Rattle.sql_meanings.specs.believed.Tables.{Holds}
+use Rattle.store_rows.specs.View.{HoldsRows}
 
 -- the least number of 64 bits
 abbrev pub LEAST : ℤ
@@ -18,6 +19,11 @@ pub record HasStoredRows (db : Database) (table : Table) (rows : List Entry) : T
   pub holds : Holds db table rows
   -- each key is a number of 64 bits
   pub least : AllByRecursion (λ e. is_from LEAST e ≡ true) rows
+
+-- it holds them, whatever their keys are
+abbrev pub holds_rows : {db : Database} {table : Table} {rows : List Entry} → HasStoredRows db table rows
+    → HoldsRows db table rows
+holds_rows has = record { sound = has.sound; holds = has.holds }
 
 -- each row is of this width
 abbrev pub IsWide : ℕ × ℕ → List Entry → Type 0

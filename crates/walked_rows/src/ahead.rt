@@ -1,15 +1,17 @@
 //! Rows that are read ahead.
-ghost use Rattle.std.specs.Prelude.{◌≡◌, [], ◌++◌, List, map, filter, take, None, IfOk, MatchResult};
+ghost use Rattle.std.specs.Prelude.{◌≡◌, [], ◌++◌, List, map, filter, take, None, IfErr, IfOk, MatchResult};
 ghost use Rattle.sqlite.specs.State.{HasCleanDisk};
 ghost use Rattle.sqlite.specs.Held.{state};
 ghost use Rattle.sql_meanings.specs.believed.Entries.{Entry, Rise};
 ghost use Rattle.sql_meanings.specs.StatementAnswers.{IsStoreError};
 ghost use Rattle.sql_meanings.specs.believed.Tables.{width_of};
 ghost use Rattle.store_rows.specs.believed.SeveralRows.{given};
+ghost use Rattle.walked_rows.specs.Causes.{HasItsCause, IsOfRows};
 ghost use Rattle.walked_rows.specs.Leaving.{OnlyReads};
 ghost use Rattle.walked_rows.specs.StepOutcomes.{BreaksBy, BreaksFirst, ReadsNext};
 ghost use Rattle.walked_rows.specs.Rising.{RisesFrom};
-ghost use Rattle.walked_rows.specs.Rows.{HasStoredRows, IsWide, entry_key, rows_after, rows_from};
+ghost use Rattle.store_rows.specs.View.{HoldsRows};
+ghost use Rattle.walked_rows.specs.Rows.{IsWide, entry_key, rows_after, rows_from};
 
 use crate::stored_row::StoredRow;
 use arrayvec::ArrayVec;
@@ -48,6 +50,7 @@ pub(crate) fn gather<R: StoredRow>(
     ensures ended { IfOk result (λ rest. rows.new.items ≡ [] → rest ≡ None) }
     ensures rises { IfOk result
         (λ rest. RisesFrom from (map (λ r. entry_key (R.StoredRow.kind.entry r)) rows.new.items) rest) }
+    ensures cause { IfErr result IsOfRows }
 {
     rows.clear();
     let mut next = from;
@@ -81,7 +84,7 @@ pub(crate) fn read_ahead<S: Alter, R: StoredRow>(
     rows: &mut ArrayVec<R, AHEAD>,
 ) -> Result<Option<i64>, TableFault>
     ensures told { HasCleanDisk (state S.Store conn.new) → (all : List Entry)
-        → HasStoredRows (state S.Store conn.old).now R.StoredRow.kind.table all
+        → HoldsRows (state S.Store conn.old).now R.StoredRow.kind.table all
         → let given = filter (R.StoredRow.kind.is_given of) all in MatchResult result
         (λ rest. rows_from from given ≡ map R.StoredRow.kind.entry rows.new.items ++ rows_after rest given)
         (BreaksFirst (IsStoreError (state S.Store conn.old) (state S.Store conn.new))
@@ -90,6 +93,8 @@ pub(crate) fn read_ahead<S: Alter, R: StoredRow>(
     ensures rises { IfOk result
         (λ rest. RisesFrom from (map (λ r. entry_key (R.StoredRow.kind.entry r)) rows.new.items) rest) }
     ensures reads { OnlyReads S.Store conn.old conn.new result }
+    ensures cause { HasCleanDisk (state S.Store conn.new)
+        → IfErr result (HasItsCause S.Store conn.old conn.new) }
 {
     match R::seek(conn, of, from) {
         Ok(found) => gather(&found, from, rows),

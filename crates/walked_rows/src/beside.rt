@@ -1,5 +1,5 @@
 //! The rows of a table that are beside those that were read ahead of another one.
-ghost use Rattle.std.specs.Prelude.{◌≡◌, ◌<ℤ◌, ◌++◌, ◌∷◌, List, Ok, pos, map, take, option_map, IfOk, IfSome};
+ghost use Rattle.std.specs.Prelude.{◌≡◌, ◌<ℤ◌, ◌++◌, ◌∷◌, List, Ok, pos, map, take, option_map, IfErr, IfOk, IfSome};
 ghost use Rattle.std.specs.Prelude.{MatchResult};
 ghost use Rattle.sqlite.specs.State.{HasCleanDisk};
 ghost use Rattle.sqlite.specs.Held.{state};
@@ -8,10 +8,12 @@ ghost use Rattle.sql_meanings.specs.believed.Entries.{Entry, Rise};
 ghost use Rattle.sql_meanings.specs.StatementAnswers.{IsStoreError};
 ghost use Rattle.sql_meanings.specs.believed.Tables.{width_of};
 ghost use Rattle.store_rows.specs.believed.SeveralRows.{given};
+ghost use Rattle.walked_rows.specs.Causes.{HasItsCause, IsOfRows};
 ghost use Rattle.walked_rows.specs.Leaving.{OnlyReads};
 ghost use Rattle.walked_rows.specs.Pairs.{BreaksUnder, row_under};
 ghost use Rattle.walked_rows.specs.StepOutcomes.{BreaksBy};
-ghost use Rattle.walked_rows.specs.Rows.{HasStoredRows, IsWide, rows_after, rows_from};
+ghost use Rattle.store_rows.specs.View.{HoldsRows};
+ghost use Rattle.walked_rows.specs.Rows.{IsWide, rows_after, rows_from};
 
 use crate::ahead::{AHEAD, gather};
 use crate::numbers::number_at;
@@ -23,7 +25,8 @@ use store_rows::TableFault;
 
 // The key of the first of the rows that were found.
 fn first_key(found: &[Row]) -> Result<i64, TableFault>
-    ensures { (e : Entry) → (more : List StoredColumns) → found.now ≡ given e ∷ more → result ≡ Ok e.key }
+    ensures told { (e : Entry) → (more : List StoredColumns) → found.now ≡ given e ∷ more → result ≡ Ok e.key }
+    ensures cause { IfErr result IsOfRows }
 {
     match found.first() {
         Some(row) => number_at(row, 0),
@@ -44,6 +47,7 @@ fn gather_beside<O: StoredRow>(
         (λ rest. rows_from from all ≡ map O.StoredRow.kind.entry rows.new.items ++ rows_after rest all)
         (BreaksUnder (λ _. ⊥) (BreaksBy O.StoredRow.kind.reading) from all) }
     ensures beyond { IfOk result (λ rest. IfSome rest (λ k. from <ℤ k)) }
+    ensures cause { IfErr result IsOfRows }
 {
     match gather(found, from, rows) {
         Ok(rest) => Ok(rest),
@@ -67,13 +71,15 @@ pub(crate) fn read_beside<S: Alter, O: StoredRow>(
     rows: &mut ArrayVec<O, AHEAD>,
 ) -> Result<Option<i64>, TableFault>
     ensures told { HasCleanDisk (state S.Store conn.new) → (all : List Entry)
-        → HasStoredRows (state S.Store conn.old).now O.StoredRow.kind.table all
+        → HoldsRows (state S.Store conn.old).now O.StoredRow.kind.table all
         → MatchResult result
         (λ rest. rows_from from all ≡ map O.StoredRow.kind.entry rows.new.items ++ rows_after rest all)
         (BreaksUnder (IsStoreError (state S.Store conn.old) (state S.Store conn.new))
         (BreaksBy O.StoredRow.kind.reading) from all) }
     ensures beyond { IfOk result (λ rest. IfSome rest (λ k. from <ℤ k)) }
     ensures reads { OnlyReads S.Store conn.old conn.new result }
+    ensures cause { HasCleanDisk (state S.Store conn.new)
+        → IfErr result (HasItsCause S.Store conn.old conn.new) }
 {
     match O::seek(conn, None, from) {
         Ok(found) => gather_beside(&found, from, rows),

@@ -1,18 +1,20 @@
 //! Rows with those beside them in another table.
-ghost use Rattle.std.specs.Prelude.{◌≡◌, ◌≤◌, ◌++◌, [], ◌∷◌, ℤ, List, filter, length, map, None, IfOk, OnOk};
+ghost use Rattle.std.specs.Prelude.{◌≡◌, ◌≤◌, ◌++◌, [], ◌∷◌, ℤ, List, filter, length, map, None, IfErr, IfOk, OnOk};
 ghost use Rattle.std.specs.Prelude.{MatchResult};
 ghost use Rattle.std.specs.Bool.{OnFalse, OnTrue};
 ghost use Rattle.sqlite.specs.State.{HasCleanDisk};
 ghost use Rattle.sqlite.specs.Held.{state};
 ghost use Rattle.sql_meanings.specs.believed.Entries.{Entry, Rise};
 ghost use Rattle.sql_meanings.specs.StatementAnswers.{IsStoreError};
+ghost use Rattle.walked_rows.specs.Causes.{HasItsCause};
 ghost use Rattle.walked_rows.specs.Leaving.{OnlyReads, ReadsIfAny};
 ghost use Rattle.walked_rows.specs.StepOutcomes.{BreaksBy, BreaksFirst};
-ghost use Rattle.walked_rows.specs.Pairs.{AreJoined, BreaksPair, BreaksUnder, HasPairs, ComesBefore, Pair};
+ghost use Rattle.walked_rows.specs.Pairs.{AreJoined, BreaksPair, BreaksUnder, ComesBefore, HasPairs, HoldsPairs, Pair};
 ghost use Rattle.walked_rows.specs.Pairs.{pair_key, pair_of, paired};
 ghost use Rattle.walked_rows.specs.Rising.{RisesFrom};
 ghost use Rattle.walked_rows.specs.Room.{RoomFits};
-ghost use Rattle.walked_rows.specs.Rows.{HasStoredRows, entry_key, items_after, items_from, rows_after};
+ghost use Rattle.store_rows.specs.View.{HoldsRows};
+ghost use Rattle.walked_rows.specs.Rows.{entry_key, items_after, items_from, rows_after};
 ghost use Rattle.walked_rows.specs.Rows.{rows_from};
 
 use crate::ahead::{AHEAD, read_ahead};
@@ -103,7 +105,7 @@ fn join_ahead<S: Alter, R: StoredRow, O: StoredRow>(
     requires few { length own.now ≤ AHEAD }
     requires rises { RisesFrom start (map (λ r. entry_key (R.StoredRow.kind.entry r)) own.now) rest }
     ensures told { HasCleanDisk (state S.Store conn.new) → (base others : List Entry) → Rise base
-        → HasStoredRows (state S.Store conn.old).now O.StoredRow.kind.table others
+        → HoldsRows (state S.Store conn.old).now O.StoredRow.kind.table others
         → rows_from start base ≡ map R.StoredRow.kind.entry own.now ++ rows_after rest base
         → MatchResult result
         (AreJoined (pair_of R.StoredRow.kind.entry O.StoredRow.kind.entry) others base start
@@ -116,6 +118,8 @@ fn join_ahead<S: Alter, R: StoredRow, O: StoredRow>(
     ensures some { (r : R) (more : List R) → own.now ≡ r ∷ more
         → start ≡ entry_key (R.StoredRow.kind.entry r) → OnOk result (rows.new.items ≡ [] → ⊥) }
     ensures reads { OnlyReads S.Store conn.old conn.new result }
+    ensures cause { HasCleanDisk (state S.Store conn.new)
+        → IfErr result (HasItsCause S.Store conn.old conn.new) }
 {
     match read_beside::<S, O>(conn, start, beside) {
         Ok(after) => Ok(join(own, rest, beside.as_slice(), after, start, rows)),
@@ -136,7 +140,7 @@ fn join_first<S: Alter, R: StoredRow, O: StoredRow>(
     requires rises { (from : ℤ)
         × RisesFrom from (map (λ r. entry_key (R.StoredRow.kind.entry r)) own.now) rest }
     ensures told { HasCleanDisk (state S.Store conn.new) → (base others : List Entry) → Rise base
-        → HasStoredRows (state S.Store conn.old).now O.StoredRow.kind.table others
+        → HoldsRows (state S.Store conn.old).now O.StoredRow.kind.table others
         → (from : ℤ) → rows_from from base ≡ map R.StoredRow.kind.entry own.now ++ rows_after rest base
         → MatchResult result
         (AreJoined (pair_of R.StoredRow.kind.entry O.StoredRow.kind.entry) others base from
@@ -149,6 +153,8 @@ fn join_first<S: Alter, R: StoredRow, O: StoredRow>(
         → IfOk result (λ next. RisesFrom from
         (map (λ j. entry_key (R.StoredRow.kind.entry j.stored)) rows.new.items) next) }
     ensures reads { ReadsIfAny S.Store conn.old conn.new result }
+    ensures cause { HasCleanDisk (state S.Store conn.new)
+        → IfErr result (HasItsCause S.Store conn.old conn.new) }
 {
     match own.first() {
         Some(first) => {
@@ -162,8 +168,8 @@ fn join_first<S: Alter, R: StoredRow, O: StoredRow>(
     }
 }
 
-// Fills the room of a walk, with room for the rows of each table.
-fn fill_joined<S: Alter, R: StoredRow, O: StoredRow>(
+/// Fills the room of a walk, with room for the rows of each table.
+pub(crate) fn fill_joined<S: Alter, R: StoredRow, O: StoredRow>(
     conn: &mut Connection<S>,
     of: Option<Account>,
     from: i64,
@@ -172,7 +178,7 @@ fn fill_joined<S: Alter, R: StoredRow, O: StoredRow>(
     rows: &mut ArrayVec<Joined<R, O>, AHEAD>,
 ) -> Result<Option<i64>, TableFault>
     ensures told { HasCleanDisk (state S.Store conn.new) → (all : List Pair)
-        → HasPairs (state S.Store conn.old).now R.StoredRow.kind.table O.StoredRow.kind.table all
+        → HoldsPairs (state S.Store conn.old).now R.StoredRow.kind.table O.StoredRow.kind.table all
         → let given = filter (λ p. R.StoredRow.kind.is_given of p.entry) all in MatchResult result
         (λ rest. items_from pair_key from given
         ≡ map (pair_of R.StoredRow.kind.entry O.StoredRow.kind.entry) rows.new.items ++ items_after pair_key
@@ -186,6 +192,8 @@ fn fill_joined<S: Alter, R: StoredRow, O: StoredRow>(
         (λ rest. RisesFrom from (map (λ j. entry_key (R.StoredRow.kind.entry j.stored)) rows.new.items)
         rest) }
     ensures reads { OnlyReads S.Store conn.old conn.new result }
+    ensures cause { HasCleanDisk (state S.Store conn.new)
+        → IfErr result (HasItsCause S.Store conn.old conn.new) }
 {
     match read_ahead(conn, of, from, own) {
         Ok(rest) => join_first::<S, R, O>(conn, own.as_slice(), rest, beside, rows),

@@ -10,10 +10,11 @@ ghost use Rattle.posting_rules.specs.declared.limits.TheConstants.{MAX_DECIDED};
 ghost use Rattle.store_rows.specs.TableAnswers.{Gives};
 ghost use Rattle.store_rows.specs.believed.BankTables.{reference as reference_table};
 ghost use Rattle.store_rows.specs.believed.Readings.{reference};
+ghost use Rattle.walked_rows.specs.Causes.{HasItsCause};
 ghost use Rattle.walked_rows.specs.Leaving.{OnlyReads};
 ghost use Rattle.walked_rows.specs.Pairs.{BreaksUnder, row_under};
 ghost use Rattle.walked_rows.specs.References.{BreaksReference, KeepsAtDamage, ReadsFirst, text_entry};
-ghost use Rattle.walked_rows.specs.Rows.{HasStoredRows};
+ghost use Rattle.store_rows.specs.View.{HoldsRows};
 
 use crate::statements::rows_shown;
 use crate::texts::REFERENCE_UNDER;
@@ -53,12 +54,14 @@ pub(crate) fn reference_under<S: Alter>(
 ) -> Result<Option<Reference>, TableFault>
     requires { ordinal ≤ MAX_DECIDED }
     ensures told { HasCleanDisk (state S.Store conn.new) → (all : List Entry)
-        → HasStoredRows (state S.Store conn.old).now reference_table all
+        → HoldsRows (state S.Store conn.old).now reference_table all
         → MatchResult result
         (λ found. option_map (text_entry ordinal) found ≡ row_under all (pos ordinal))
         (BreaksUnder (IsStoreError (state S.Store conn.old) (state S.Store conn.new))
         BreaksReference (pos ordinal) all) }
     ensures reads { OnlyReads S.Store conn.old conn.new result }
+    ensures cause { HasCleanDisk (state S.Store conn.new)
+        → IfErr result (HasItsCause S.Store conn.old conn.new) }
     ensures damage { HasCleanDisk (state S.Store conn.new)
         → IfErr result (KeepsAtDamage (state S.Store conn.old) (state S.Store conn.new)) }
 {

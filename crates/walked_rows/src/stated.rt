@@ -9,7 +9,8 @@ ghost use Rattle.walked_rows.specs.Leaving.{ReadsIfAny};
 ghost use Rattle.walked_rows.specs.StepOutcomes.{BreaksFirst};
 ghost use Rattle.walked_rows.specs.Pairs.{AreJoined, paired};
 ghost use Rattle.walked_rows.specs.Rising.{RisesFrom};
-ghost use Rattle.walked_rows.specs.Rows.{HasStoredRows, entry_key, rows_after, rows_from};
+ghost use Rattle.store_rows.specs.View.{HoldsRows};
+ghost use Rattle.walked_rows.specs.Rows.{entry_key, rows_after, rows_from};
 ghost use Rattle.walked_rows.specs.Stored.{BreaksStated, posting_entry, stated_pair};
 
 use crate::ahead::{AHEAD, read_ahead};
@@ -50,7 +51,7 @@ fn state_each<S: Alter>(
     requires ended { own.now ≡ [] → rest ≡ None }
     requires rises { RisesFrom from (map (λ r. entry_key (posting_entry r)) own.now) rest }
     ensures told { HasCleanDisk (state S.Store conn.new) → (base others : List Entry) → Rise base
-        → HasStoredRows (state S.Store conn.old).now reference_table others
+        → HoldsRows (state S.Store conn.old).now reference_table others
         → rows_from from base ≡ map posting_entry own.now ++ rows_after rest base
         → MatchResult result (AreJoined stated_pair others base from rows.new.items)
         (BreaksFirst (IsStoreError (state S.Store conn.old) (state S.Store conn.new)) BreaksStated

@@ -1,11 +1,12 @@
 //! Statements that only show rows.
-ghost use Rattle.std.specs.Prelude.{length, MatchResult};
+ghost use Rattle.std.specs.Prelude.{length, IfErr, MatchResult};
 ghost use Rattle.sqlite.specs.Listing.{understood};
 ghost use Rattle.sqlite.specs.Schema.{Schema};
 ghost use Rattle.sqlite.specs.State.{FailsToQuery, HasCleanDisk, Shown};
 ghost use Rattle.sqlite.specs.Held.{state};
 ghost use Rattle.sqlite.specs.Values.{bound};
 ghost use Rattle.sql_meanings.specs.StatementAnswers.{OnlyShows};
+ghost use Rattle.store_rows.specs.believed.Failures.{HasFailed};
 ghost use Rattle.walked_rows.specs.Leaving.{OnlyReads};
 
 use sqlite::types::ValueRef;
@@ -24,6 +25,8 @@ pub(crate) fn rows_shown<S: Alter>(
         (state S.Store conn.new) found.items)
         (FailsToQuery text.now (bound params.now) (state S.Store conn.old) (state S.Store conn.new)) }
     ensures reads { OnlyReads S.Store conn.old conn.new result }
+    ensures failed { HasCleanDisk (state S.Store conn.new)
+        → IfErr result (HasFailed (state S.Store conn.old) (state S.Store conn.new)) }
 {
     conn.query_all(text, params)
 }

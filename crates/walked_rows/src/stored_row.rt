@@ -1,14 +1,16 @@
 //! What a row of one table is, as it is stored.
-ghost use Rattle.std.specs.Prelude.{◌≡◌, ◌≤◌, pos, List, IfOk, MatchResult, filter, map, take};
+ghost use Rattle.std.specs.Prelude.{◌≡◌, ◌≤◌, pos, List, IfErr, IfOk, MatchResult, filter, map, take};
 ghost use Rattle.sqlite.specs.State.{HasCleanDisk};
 ghost use Rattle.sqlite.specs.Held.{state};
 ghost use Rattle.sql_meanings.specs.believed.Entries.{Entry};
 ghost use Rattle.sql_meanings.specs.StatementAnswers.{IsStoreError};
+ghost use Rattle.store_rows.specs.believed.Failures.{HasFailed};
 ghost use Rattle.store_rows.specs.TableAnswers.{Gives};
 ghost use Rattle.store_rows.specs.believed.SeveralRows.{given};
 ghost use Rattle.walked_rows.specs.Kinds.{IsRow, Kind};
 ghost use Rattle.walked_rows.specs.Leaving.{OnlyReads};
-ghost use Rattle.walked_rows.specs.Rows.{HasStoredRows, rows_from};
+ghost use Rattle.store_rows.specs.View.{HoldsRows};
+ghost use Rattle.walked_rows.specs.Rows.{rows_from};
 
 use crate::ahead::AHEAD;
 use message_records::Account;
@@ -32,11 +34,14 @@ pub trait StoredRow: Copy + Default {
     /// The rows with the least keys from one on, at most `AHEAD`.
     fn seek<S: Alter>(conn: &mut Connection<S>, of: Option<Account>, from: i64) -> RowsRead
         ensures told { HasCleanDisk (state S.Store conn.new) → (rows : List Entry)
-            → HasStoredRows (state S.Store conn.old).now kind.table rows
+            → HoldsRows (state S.Store conn.old).now kind.table rows
             → MatchResult result (λ found. found.items
             ≡ map given (take AHEAD (rows_from from (filter (kind.is_given of) rows))))
             (IsStoreError (state S.Store conn.old) (state S.Store conn.new)) }
-        ensures reads { OnlyReads S.Store conn.old conn.new result };
+        ensures reads { OnlyReads S.Store conn.old conn.new result }
+        // Whatever the file holds.
+        ensures failed { HasCleanDisk (state S.Store conn.new)
+            → IfErr result (HasFailed (state S.Store conn.old) (state S.Store conn.new)) };
 
     /// The row's key.
     fn key(&self) -> u64

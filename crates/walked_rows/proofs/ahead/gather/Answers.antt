@@ -3,7 +3,7 @@ use Rattle.std.proofs.Common.{◌<◌, ◌≤◌, ◌+◌, None, length, get_or,
 use Rattle.std.proofs.lemmas.Int.{to_z-of_z}
 use Rattle.walked_rows.specs.{Rows.entry_key, Rows.rows_from, declared.ahead.TheConstants.AHEAD}
 use Rattle.walked_rows.proofs.Gathering.{after_key, full_there, gathers_on, gathers_none, no_more, none_there}
-use Rattle.walked_rows.proofs.Gathering.{some_there}
+use Rattle.walked_rows.proofs.{Causes.next_rows, Gathering.some_there}
 use Rattle.walked_rows.proofs.Rises.{le_from, one_more, rest_after}
 use Rattle.walked_rows.proofs.ahead.gather.Goals as goal
 
@@ -40,6 +40,7 @@ returns-then-is_full g c =
       ended = λ none. absurd (full_there AHEAD c.loop-row.rows.items (lit< tt) (sym c.if-is_full.ensures.value)
           none);
       rises = rw same at c.loop-row.invariant.rises;
+      cause = tt;
     }
 
 pub returns-then-is_empty : goal.returns-then-is_empty
@@ -60,6 +61,7 @@ returns-then-is_empty g c =
           ((rw same at (c.loop-row.invariant.told rows rise wide)) is) c.in-Err.fault none c.in-Err.ensures;
       ended = tt;
       rises = tt;
+      cause = next_rows g.R.StoredRow.kind (to_z w64 c.loop-row.next-bits) row c.in-Err.fault c.in-Err.ensures;
     }
 
 pub returns-in-Err : goal.returns-in-Err
@@ -69,6 +71,7 @@ returns-in-Err g c =
       told = λ rows rise wide is. (rw same at (c.loop-row.invariant.told rows rise wide)) is;
       ended = λ none. absurd (some_there c.loop-row.rows.items (sym c.if-is_empty.ensures) none);
       rises = rw same at c.loop-row.invariant.rises;
+      cause = tt;
     }
 
 pub returns-then-is_empty-2 : goal.returns-then-is_empty-2
@@ -86,6 +89,7 @@ returns-then-is_empty-2 g c =
           rest_after (λ r. entry_key (g.R.StoredRow.kind.entry r)) from items (to_z w64 c.loop-row.next-bits)
           None
           (rw same at c.loop-row.invariant.rises) tt;
+      cause = tt;
     }
 
 pub returns-else-is_empty-2 : goal.returns-else-is_empty-2
@@ -95,4 +99,5 @@ returns-else-is_empty-2 g c =
       told = λ rows rise wide is. (rw same at (c.loop-row.invariant.told rows rise wide)) is;
       ended = λ none. absurd (some_there c.loop-row.rows.items (sym c.if-is_empty-2.ensures) none);
       rises = rw same at c.loop-row.invariant.rises;
+      cause = tt;
     }

@@ -1,11 +1,11 @@
 -- What is read ahead is gathered of what was found. Each clause is named: a search for them takes long.
 use Rattle.std.proofs.Common.{filter, ◌∙◌, w64}
-use Rattle.std.proofs.lemmas.Int.{to_z-of_z}
+use Rattle.std.proofs.lemmas.{Int.to_z-of_z, Result.IfErr-weaker}
 use Rattle.sqlite.specs.Held.{state}
 use Rattle.sql_meanings.specs.{StatementAnswers.IsStoreError, believed.Tables.width_of}
 use Rattle.sql_meanings.proofs.OrderedAnswers.{rise_filter}
 use Rattle.walked_rows.specs.{StepOutcomes.BreaksBy, Rows.rows_from}
-use Rattle.walked_rows.proofs.Leaving.{fails_too, reads_any}
+use Rattle.walked_rows.proofs.{Causes.cause_here, Causes.no_cause, Leaving.fails_too, Leaving.reads_any}
 use Rattle.walked_rows.proofs.Sought.{match_err, never_first, wide_filter}
 use Rattle.walked_rows.proofs.ahead.read_ahead.Goals as goal
 
@@ -28,6 +28,8 @@ returns-in-Ok g c =
       ended = gathered.ended;
       rises = rw whole at gathered.rises;
       reads = reads_any sought.reads c.gather.result;
+      cause = λ clean. IfErr-weaker c.gather.result _ _
+          (no_cause g.S.Store c.args.conn.now c.seek.new.conn) gathered.cause;
     }
 
 pub returns-in-Err : goal.returns-in-Err
@@ -38,4 +40,5 @@ returns-in-Err g c =
       ended = tt;
       rises = tt;
       reads = fails_too sought.reads;
+      cause = λ clean. cause_here g.S.Store c.args.conn.now c.seek.new.conn c.in-Err.e (sought.failed clean);
     }

@@ -13,7 +13,7 @@ returns-in_err-key-in-Err-Damaged-clause-told g c all rise wide is =
     let same = to_z-of_z w64 from c.ranges.from in
     let broke = broken_first (λ _. ⊥) (BreaksBy g.O.StoredRow.kind.reading) (rows_from from all) _ _
     c.in-Err-Damaged.field-0-is ((rw same at (c.in-Err-Damaged.ensures.told all rise wide)) is) in
-    absurd (let h = c.in_err-key-in-Err-Damaged.ensures broke.0 _ (is ∙ ap (λ l. map given (take AHEAD l)) broke.2) in cc)
+    absurd (let h = c.in_err-key-in-Err-Damaged.ensures.told broke.0 _ (is ∙ ap (λ l. map given (take AHEAD l)) broke.2) in cc)
 
 pub returns-then-key-from-clause-told : goal.returns-then-key-from-clause-told
 returns-then-key-from-clause-told g c all rise wide is =
@@ -22,7 +22,7 @@ returns-then-key-from-clause-told g c all rise wide is =
     let broke = broken_first (λ _. ⊥) (BreaksBy g.O.StoredRow.kind.reading) (rows_from from all) _ _
     c.in-Err-Damaged.field-0-is ((rw same at (c.in-Err-Damaged.ensures.told all rise wide)) is) in
     let key : c.in_ok-key-in-Err-Damaged.key ≡ broke.0.key =
-    let h = c.in_ok-key-in-Err-Damaged.ensures broke.0 _ (is ∙ ap (λ l. map given (take AHEAD l)) broke.2) in cc in
+    let h = c.in_ok-key-in-Err-Damaged.ensures.told broke.0 _ (is ∙ ap (λ l. map given (take AHEAD l)) broke.2) in cc in
     let within : c.in_ok-key-in-Err-Damaged.key ≤ℤ from = search rules in
     let low = subst (λ k. k ≤ℤ from) key within in
     subst (λ o. IsSomeAnd o (BreaksBy g.O.StoredRow.kind.reading c.in-Err-Damaged.rule))
@@ -41,7 +41,7 @@ returns-else-key-from-clause-told g c all rise wide is =
     let broke = broken_first (λ _. ⊥) (BreaksBy g.O.StoredRow.kind.reading) (rows_from from all) _ _
     c.in-Err-Damaged.field-0-is ((rw same at (c.in-Err-Damaged.ensures.told all rise wide)) is) in
     let key : c.in_ok-key-in-Err-Damaged.key ≡ broke.0.key =
-    let h = c.in_ok-key-in-Err-Damaged.ensures broke.0 _ (is ∙ ap (λ l. map given (take AHEAD l)) broke.2) in cc in
+    let h = c.in_ok-key-in-Err-Damaged.ensures.told broke.0 _ (is ∙ ap (λ l. map given (take AHEAD l)) broke.2) in cc in
     let it : rows_from from all ≡ rows_from c.in_ok-key-in-Err-Damaged.key all =
     subst (λ k. rows_from from all ≡ rows_from k all) (sym key)
     (from_its_key from all broke.0 broke.1 rise broke.2) in

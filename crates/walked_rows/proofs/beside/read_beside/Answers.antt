@@ -1,12 +1,12 @@
 -- What is read beside other rows is gathered of what was found. Each clause is named: a search for them takes
 -- long.
 use Rattle.std.proofs.Common.{None, ap, map, take, ◌∙◌, w64}
-use Rattle.std.proofs.lemmas.Int.{to_z-of_z}
+use Rattle.std.proofs.lemmas.{Int.to_z-of_z, Result.IfErr-weaker}
 use Rattle.sqlite.specs.Held.{state}
 use Rattle.sql_meanings.specs.StatementAnswers.{IsStoreError}
 use Rattle.store_rows.specs.believed.SeveralRows.{given}
 use Rattle.walked_rows.specs.{StepOutcomes.BreaksBy, Rows.rows_from, declared.ahead.TheConstants.AHEAD}
-use Rattle.walked_rows.proofs.Leaving.{fails_too, reads_any}
+use Rattle.walked_rows.proofs.{Causes.cause_here, Causes.no_cause, Leaving.fails_too, Leaving.reads_any}
 use Rattle.walked_rows.proofs.{Sought.all_pass, Sought.match_err, Under.never_under}
 use Rattle.walked_rows.proofs.beside.read_beside.Goals as goal
 
@@ -29,6 +29,8 @@ returns-in-Ok g c =
           (c.deref.ensures.value ∙ found));
       beyond = rw same at gathered.beyond;
       reads = reads_any sought.reads c.gather_beside.result;
+      cause = λ clean. IfErr-weaker c.gather_beside.result _ _
+          (no_cause g.S.Store c.args.conn.now c.seek.new.conn) gathered.cause;
     }
 
 pub returns-in-Err : goal.returns-in-Err
@@ -38,4 +40,5 @@ returns-in-Err g c =
       told = sought.told;
       beyond = tt;
       reads = fails_too sought.reads;
+      cause = λ clean. cause_here g.S.Store c.args.conn.now c.seek.new.conn c.in-Err.e (sought.failed clean);
     }

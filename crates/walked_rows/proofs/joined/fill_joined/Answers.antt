@@ -1,11 +1,13 @@
 -- The room is filled. Each clause is named: a search for them takes long.
 use Rattle.std.proofs.Common.{filter, inl, sym, subst, rules, w64}
-use Rattle.std.proofs.lemmas.{Int.to_z-of_z, Result.MatchResult-weaker}
+use Rattle.std.proofs.lemmas.{Int.to_z-of_z, Result.IfErr-weaker, Result.MatchResult-weaker}
 use Rattle.sqlite.specs.Held.{state}
 use Rattle.sql_meanings.specs.StatementAnswers.{IsStoreError}
 use Rattle.sql_meanings.proofs.OrderedAnswers.{rise_filter}
-use Rattle.walked_rows.specs.{StepOutcomes.BreaksBy, Pairs.pair_of, Rows.HasStoredRows}
+use Rattle.store_rows.specs.View.{HoldsRows}
+use Rattle.walked_rows.specs.{StepOutcomes.BreaksBy, Pairs.pair_of}
 use Rattle.walked_rows.proofs.Filling.{breaks_given, breaks_own, filled}
+use Rattle.walked_rows.proofs.Causes.{cause_on}
 use Rattle.walked_rows.proofs.Leaving.{clean_between, reads_then, store_on}
 use Rattle.walked_rows.proofs.joined.fill_joined.Goals as goal
 
@@ -29,7 +31,7 @@ returns-in-Ok g c =
           let unchanged = read.reads.same (between clean) in
           let given = g.R.StoredRow.kind.is_given c.args.of in
           let told = rw whole at (read.told (between clean) has.rows has.has) in
-          let others = subst (λ db. HasStoredRows db g.O.StoredRow.kind.table has.others)
+          let others = subst (λ db. HoldsRows db g.O.StoredRow.kind.table has.others)
           (sym unchanged.0.now_is) has.has_others in
           MatchResult-weaker c.join_first.result
           ((rw c.as_slice.ensures.value at (joined.told clean (filter given has.rows) has.others
@@ -43,6 +45,8 @@ returns-in-Ok g c =
       rises =
           (rw c.as_slice.ensures.value at (joined.rises from)) (rw whole at read.rises);
       reads = reads_then read.reads joined.reads;
+      cause = λ clean. IfErr-weaker c.join_first.result _ _
+          (cause_on g.S.Store c.args.conn.now mid new read.reads.survives) (joined.cause clean);
     }
 
 pub returns-in-Err : goal.returns-in-Err
@@ -58,4 +62,5 @@ returns-in-Err g c =
       ended = tt;
       rises = tt;
       reads = read.reads;
+      cause = read.cause;
     }

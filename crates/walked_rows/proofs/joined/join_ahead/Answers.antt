@@ -18,6 +18,7 @@ returns-in-Ok g c =
           (subst (ComesBefore after) at
           (decided_by after c.args.start (rw start at c.in-Ok.ensures.beyond))) none;
       reads = reads_any c.in-Ok.ensures.reads _;
+      cause = λ clean. tt;
     }
 
 pub returns-in-Err : goal.returns-in-Err
@@ -28,4 +29,5 @@ returns-in-Err g c =
       rises = tt;
       some = λ r more is at. tt;
       reads = c.in-Err.ensures.reads;
+      cause = c.in-Err.ensures.cause;
     }

@@ -51,6 +51,7 @@ returns-in-Some g c =
           (λ j. entry_key (entry j.stored)) start at c.join_ahead.new.rows.items c.join_ahead.result
           c.join_ahead.ensures.rises;
       reads = if_any c.join_ahead.ensures.reads;
+      cause = c.join_ahead.ensures.cause;
     }
 
 pub returns-in-None : goal.returns-in-None
@@ -69,4 +70,5 @@ returns-in-None g c =
         mode = λ outside. outside;
         survives = search rules;
       };
+      cause = λ clean. tt;
     }

@@ -1,16 +1,19 @@
 -- One request more.
-use Rattle.std.proofs.Common.{◌≡◌, ◌<◌, ◌+◌, ◌++◌, ℕ, suc, pos, List, ◌∷◌, map, drop, length, get_or, refl, sym, ap}
+use Rattle.std.proofs.Common.{◌≡◌, ◌≤◌, ◌<◌, ◌+◌, ◌++◌, ℕ, suc, pos, List, ◌∷◌, map, drop, length, get_or, refl, sym, ap}
 use Rattle.std.proofs.Common.{subst, ◌∙◌, rules, arith, w64, to_z}
 use Rattle.std.proofs.{Math.Seq.drop-cons, lemmas.Int.to_z-of_z}
 use Rattle.sqlite.specs.Held.{state}
+use Rattle.posting_rules.specs.declared.limits.TheConstants.{MAX_DECIDED}
 use Rattle.sql_meanings.specs.StatementAnswers.{IsStoreError}
 use Rattle.store_rows.specs.believed.BankTables.{reference as reference_table}
-use Rattle.walked_rows.specs.{KeptRows.kept_item, Pairs.paired, Rising.RisesFrom, Rows.HasStoredRows, Rows.entry_key}
+use Rattle.store_rows.specs.View.{HoldsRows}
+use Rattle.walked_rows.specs.{KeptRows.kept_item, Pairs.paired, Rising.RisesFrom, Rows.entry_key}
 use Rattle.walked_rows.specs.{Rows.rows_after, Stored.asked_pair, Stored.request_entry}
 use Rattle.walked_rows.proofs.{Gathering.after_key, Gathering.none_there, Joining.none_left, Keeping.keeps_none}
 use Rattle.walked_rows.proofs.{Keeping.keeps_on, Keeping.kept_after, Rises.one_more, Rises.rest_after}
 use Rattle.walked_rows.proofs.Leaving.{clean_between, fails_too, if_any, same_any, reads_any, reads_on, shows_same}
-use Rattle.walked_rows.proofs.Leaving.{store_on}
+use Rattle.store_rows.specs.declared.fault.TableFault.TheVariants.{Sqlite}
+use Rattle.walked_rows.proofs.{Causes.cause_on, Leaving.store_on}
 use Rattle.walked_rows.proofs.kept.refer_each.Goals as goal
 
 -- those to come begin with the posting
@@ -48,7 +51,7 @@ loop-asked-preserved g c =
       told = λ base postings others rise clean has own_is.
           let before = clean_between g.S.Store mid new c.in-Ok.ensures.reads.survives clean in
           let both = (rw same at (so_far.told base postings others rise before has)) own_is in
-          let there = subst (λ db. HasStoredRows db reference_table others)
+          let there = subst (λ db. HoldsRows db reference_table others)
           (sym (shows_same g.S.Store c.args.conn.now mid (so_far.reads.same before))) has in
           rw c.push.ensures.items
           (keeps_on postings others base rise from c.loop-asked.rows.items next _ (asked_pair r)
@@ -65,7 +68,7 @@ returns-in-Err-Sqlite-clause-told g c clean base postings others rise has own_is
     let so_far = c.loop-asked.invariant.reads in
     let last = c.in-Err-Sqlite.ensures in
     let same = so_far.same (clean_between g.S.Store mid new last.reads.survives clean) in
-    let there = subst (λ db. HasStoredRows db reference_table others)
+    let there = subst (λ db. HoldsRows db reference_table others)
     (sym (shows_same g.S.Store old mid same)) has in
     rw c.in-Err-Sqlite.e-is (store_on g.S.Store old mid new same so_far.survives c.in-Err-Sqlite.e
     (rw c.in-Err-Sqlite.field-0-is at (last.told clean others there)))
@@ -74,6 +77,12 @@ pub returns-in-Err-Sqlite-clause-reads : goal.returns-in-Err-Sqlite-clause-reads
 returns-in-Err-Sqlite-clause-reads g c =
     if_any (fails_too (reads_on c.loop-asked.invariant.reads c.in-Err-Sqlite.ensures.reads))
 
+pub returns-in-Err-Sqlite-clause-cause : goal.returns-in-Err-Sqlite-clause-cause
+returns-in-Err-Sqlite-clause-cause g c clean =
+    rw c.in-Err-Sqlite.e-is (cause_on g.S.Store c.args.conn.now c.loop-asked.conn c.reference_under.new.conn
+    c.loop-asked.invariant.reads.survives (Sqlite c.in-Err-Sqlite.e)
+    (rw c.in-Err-Sqlite.field-0-is at (c.in-Err-Sqlite.ensures.cause clean)))
+
 pub returns-then-is_empty-clause-told : goal.returns-then-is_empty-clause-told
 returns-then-is_empty-clause-told g c clean base postings others rise has own_is =
     let same = to_z-of_z w64 c.args.from c.ranges.from in
@@ -81,7 +90,7 @@ returns-then-is_empty-clause-told g c clean base postings others rise has own_is
     let new = c.reference_under.new.conn in
     let so_far = c.loop-asked.invariant in
     let before = clean_between g.S.Store mid new c.in-Err-Damaged.ensures.reads.survives clean in
-    let there = subst (λ db. HasStoredRows db reference_table others)
+    let there = subst (λ db. HoldsRows db reference_table others)
     (sym (shows_same g.S.Store c.args.conn.now mid (so_far.reads.same before))) has in
     let both = (rw same at (so_far.told base postings others rise before has)) own_is in
     let r = c.asked-item.result in
@@ -93,7 +102,12 @@ returns-then-is_empty-clause-told g c clean base postings others rise has own_is
     (to_z w64 c.loop-asked.next-bits) (asked_pair r)
     (map asked_pair (drop (at + 1) c.args.own.now) ++ paired postings (rows_after c.args.rest base)) _ both.1
     (none_there c.loop-asked.rows.items (sym c.if-is_empty.ensures))
-    (both.0 ∙ ap (λ l. map asked_pair l ++ paired postings (rows_after c.args.rest base)) left)
+    (both.0 ∙ ap (λ l. map asked_pair l ++ paired postings (rows_after c.args.rest base)) left) (
+      r.stored.ordinal,
+      refl,
+      subst (λ n. 1 ≤ n) c.get-ordinal.ensures.value c.get-ordinal.ensures.least,
+      subst (λ n. n ≤ MAX_DECIDED) c.get-ordinal.ensures.value c.get-ordinal.ensures.most,
+    )
     (rw c.in-Err-Damaged.rule-is (rw (c.get-ordinal.ensures.value, c.in-Err-Damaged.field-0-is)
     at (c.in-Err-Damaged.ensures.told clean others there)))
 

@@ -5,7 +5,8 @@ use Rattle.sql_meanings.specs.believed.Entries.{Entry, Rise}
 use Rattle.store_rows.specs.believed.BankTables.{reference as reference_table}
 use Rattle.store_rows.specs.declared.fault.TableFault.{TableFault}
 use Rattle.walked_rows.specs.{KeptRows.AreKept, Leaving.ReadsIfAny, Pairs.paired, Rising.RisesFrom}
-use Rattle.walked_rows.specs.Rows.{HasStoredRows, entry_key, rows_after, rows_from}
+use Rattle.store_rows.specs.View.{HoldsRows}
+use Rattle.walked_rows.specs.Rows.{entry_key, rows_after, rows_from}
 use Rattle.walked_rows.specs.Stored.{asked_pair, request_entry}
 use Rattle.walked_rows.proofs.kept.refer_each.Given as goal
 
@@ -20,7 +21,7 @@ invariant-loop-asked g l =
       rises : RisesFrom l.fn.from (map (λ k. entry_key (request_entry k.request)) l.rows.items) (Some l.next);
       reads : ReadsIfAny {E = TableFault} g.S.Store l.fn.conn l.conn (Ok l.next);
       told : (base postings others : List Entry) → Rise base → HasCleanDisk now
-          → HasStoredRows old.now reference_table others
+          → HoldsRows old.now reference_table others
           → paired postings (rows_from l.fn.from base)
           ≡ map asked_pair l.fn.own ++ paired postings (rows_after l.fn.rest base)
           → (paired postings (rows_from l.next base)

@@ -2,6 +2,8 @@
 use Rattle.std.proofs.Common.{◌≡◌, pos, refl, w64, to_z}
 use Rattle.sqlite.specs.Held.{state}
 use Rattle.store_rows.proofs.Lookups.{as_integer}
+use Rattle.std.proofs.lemmas.Result.{IfErr-weaker}
+use Rattle.walked_rows.proofs.Causes.{cause_here, first_rows, no_cause}
 use Rattle.walked_rows.proofs.Leaving.{fails_too, reads_any}
 use Rattle.walked_rows.proofs.ReferenceRead.{only_references, tells_failure, tells_reference}
 use Rattle.walked_rows.proofs.references.reference_under.Goals as goal
@@ -19,6 +21,15 @@ returns-in-Ok-clause-told g c clean all has =
 
 pub returns-in-Ok-clause-reads : goal.returns-in-Ok-clause-reads
 returns-in-Ok-clause-reads g c = reads_any c.in-Ok.ensures.reads c.first_reference.result
+
+pub returns-in-Ok-clause-cause : goal.returns-in-Ok-clause-cause
+returns-in-Ok-clause-cause g c clean =
+    IfErr-weaker c.first_reference.result _ _ (no_cause g.S.Store c.args.conn.now c.rows_shown.new.conn)
+    (first_rows c.deref.result.now c.first_reference.result c.first_reference.ensures)
+
+pub returns-in-Err-clause-cause : goal.returns-in-Err-clause-cause
+returns-in-Err-clause-cause g c clean =
+    cause_here g.S.Store c.args.conn.now c.rows_shown.new.conn c.in-Err.e (c.in-Err.ensures.failed clean)
 
 pub returns-in-Err-clause-reads : goal.returns-in-Err-clause-reads
 returns-in-Err-clause-reads g c = fails_too c.in-Err.ensures.reads

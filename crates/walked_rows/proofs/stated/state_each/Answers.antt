@@ -3,7 +3,8 @@ use Rattle.std.proofs.Common.{◌≡◌, ◌<◌, ◌+◌, ◌++◌, ℕ, suc, p
 use Rattle.std.proofs.Common.{subst, ◌∙◌, rules, arith, w64, to_z}
 use Rattle.std.proofs.{Math.Seq.drop-cons, lemmas.Int.to_z-of_z}
 use Rattle.store_rows.specs.believed.BankTables.{reference as reference_table}
-use Rattle.walked_rows.specs.{Pairs.pair_with, Pairs.paired, Rising.RisesFrom, Rows.HasStoredRows, Rows.entry_key}
+use Rattle.store_rows.specs.View.{HoldsRows}
+use Rattle.walked_rows.specs.{Pairs.pair_with, Pairs.paired, Rising.RisesFrom, Rows.entry_key}
 use Rattle.walked_rows.specs.{Rows.rows_after, Rows.rows_from, Stored.posting_entry, Stored.stated_pair}
 use Rattle.walked_rows.proofs.{Gathering.after_key, Gathering.none_there, Rises.one_more, Rises.rest_after}
 use Rattle.walked_rows.proofs.Joining.{joins_on, none_left, pair_beside}
@@ -46,7 +47,7 @@ loop-posting-preserved g c =
       told = λ base others rise clean has own_is.
           let before = clean_between g.S.Store mid new c.in-Ok.ensures.reads.survives clean in
           let both = (rw same at (so_far.told base others rise before has)) own_is in
-          let there = subst (λ db. HasStoredRows db reference_table others)
+          let there = subst (λ db. HoldsRows db reference_table others)
           (sym (shows_same g.S.Store c.args.conn.now mid (so_far.reads.same before))) has in
           rw c.push.ensures.items
           (joins_on stated_pair others base rise from c.loop-posting.rows.items next _ (posting_entry r)
@@ -64,7 +65,7 @@ returns-in-Err-Sqlite-clause-told g c clean base others rise has own_is =
     let so_far = c.loop-posting.invariant.reads in
     let last = c.in-Err-Sqlite.ensures in
     let same = so_far.same (clean_between g.S.Store mid new last.reads.survives clean) in
-    let there = subst (λ db. HasStoredRows db reference_table others)
+    let there = subst (λ db. HoldsRows db reference_table others)
     (sym (shows_same g.S.Store old mid same)) has in
     rw c.in-Err-Sqlite.e-is (store_on g.S.Store old mid new same so_far.survives c.in-Err-Sqlite.e
     (rw c.in-Err-Sqlite.field-0-is at (last.told clean others there)))
@@ -80,7 +81,7 @@ returns-then-is_empty-clause-told g c clean base others rise has own_is =
     let new = c.reference_under.new.conn in
     let so_far = c.loop-posting.invariant in
     let before = clean_between g.S.Store mid new c.in-Err-Damaged.ensures.reads.survives clean in
-    let there = subst (λ db. HasStoredRows db reference_table others)
+    let there = subst (λ db. HoldsRows db reference_table others)
     (sym (shows_same g.S.Store c.args.conn.now mid (so_far.reads.same before))) has in
     let both = (rw same at (so_far.told base others rise before has)) own_is in
     let r = c.posting-item.result in

@@ -5,7 +5,8 @@ use Rattle.sql_meanings.specs.believed.Entries.{Entry, Rise}
 use Rattle.store_rows.specs.believed.BankTables.{reference as reference_table}
 use Rattle.store_rows.specs.declared.fault.TableFault.{TableFault}
 use Rattle.walked_rows.specs.{Leaving.ReadsIfAny, Pairs.AreJoined, Rising.RisesFrom}
-use Rattle.walked_rows.specs.Rows.{HasStoredRows, entry_key, rows_after, rows_from}
+use Rattle.store_rows.specs.View.{HoldsRows}
+use Rattle.walked_rows.specs.Rows.{entry_key, rows_after, rows_from}
 use Rattle.walked_rows.specs.Stored.{posting_entry, stated_pair}
 use Rattle.walked_rows.proofs.stated.state_each.Given as goal
 
@@ -20,7 +21,7 @@ invariant-loop-posting g l =
       rises : RisesFrom l.fn.from (map (λ s. entry_key (posting_entry s.posting)) l.rows.items) (Some l.next);
       reads : ReadsIfAny {E = TableFault} g.S.Store l.fn.conn l.conn (Ok l.next);
       told : (base others : List Entry) → Rise base → HasCleanDisk now
-          → HasStoredRows old.now reference_table others
+          → HoldsRows old.now reference_table others
           → rows_from l.fn.from base ≡ map posting_entry l.fn.own ++ rows_after l.fn.rest base
           → (rows_from l.next base
           ≡ map posting_entry (drop l.posting-index l.fn.own) ++ rows_after l.fn.rest base)

@@ -1,7 +1,7 @@
 -- There is room for both tables, the room is filled with them, and no row is left out.
 use Rattle.std.proofs.Common.{◌≡◌, ◌∙◌, true, None, filter, sym, rules, w64}
 use Rattle.std.proofs.lemmas.Int.{to_z-of_z}
-use Rattle.walked_rows.specs.Pairs.{Pair}
+use Rattle.walked_rows.specs.Pairs.{Pair, holds_pairs}
 use Rattle.walked_rows.proofs.Sought.{all_given, all_pass}
 use Rattle.walked_rows.proofs.joined.JoinedWalkedRow.read_some.Goals as goal
 
@@ -23,7 +23,7 @@ returns g c =
           let whole : filter (λ (p : Pair). g.R.StoredRow.kind.is_given None p.entry) all
           ≡ filter (λ (p : Pair). true) all =
           all_pass _ (λ p. g.R.StoredRow.kind.all_given p.entry) all ∙ sym (all_given all) in
-          rw (same, whole) at (filled.told clean all has);
+          rw (same, whole) at (filled.told clean all (holds_pairs has));
       ended = filled.ended;
       rises = rw same at filled.rises;
       reads = filled.reads;

@@ -5,7 +5,9 @@ use Rattle.sqlite.specs.Held.{state}
 use Rattle.sql_meanings.specs.StatementAnswers.{IsStoreError}
 use Rattle.sql_meanings.proofs.OrderedAnswers.{rise_filter}
 use Rattle.store_rows.specs.believed.BankTables.{reference as reference_table}
-use Rattle.walked_rows.specs.{StepOutcomes.BreaksBy, References.BreaksReference, Rows.HasStoredRows}
+use Rattle.store_rows.specs.View.{HoldsRows}
+use Rattle.walked_rows.specs.{StepOutcomes.BreaksBy, References.BreaksReference}
+use Rattle.walked_rows.specs.Rows.{holds_rows}
 use Rattle.walked_rows.specs.Stored.{is_of, posting_of, stated_pair}
 use Rattle.walked_rows.proofs.Filling.{breaks_given, breaks_own, filled}
 use Rattle.walked_rows.proofs.Leaving.{clean_between, reads_then, store_on}
@@ -32,9 +34,9 @@ returns-in-Ok g c =
       told = λ clean all has.
           let unchanged = read.reads.same (between clean) in
           let given = is_of c.args.of in
-          let told = rw whole at (read.told (between clean) has.rows has.has) in
-          let others = subst (λ db. HasStoredRows db reference_table has.others)
-          (sym unchanged.0.now_is) has.has_others in
+          let told = rw whole at (read.told (between clean) has.rows (holds_rows has.has)) in
+          let others = subst (λ db. HoldsRows db reference_table has.others)
+          (sym unchanged.0.now_is) (holds_rows has.has_others) in
           MatchResult-weaker c.state_each.result
           ((rw (c.as_slice.ensures.value, whole) at (stated.told clean
           (filter given has.rows) has.others (rise_filter given has.rows has.has.holds.rows.rise) others)) told)
@@ -56,7 +58,7 @@ returns-in-Err g c =
           breaks_own has.others has.rows (is_of c.args.of) all has.are c.args.from
           (IsStoreError (state g.S.Store c.args.conn.now) (state g.S.Store c.read_ahead.new.conn))
           (BreaksBy posting_of) BreaksReference
-          c.in-Err.fault (rw whole at (read.told clean has.rows has.has));
+          c.in-Err.fault (rw whole at (read.told clean has.rows (holds_rows has.has)));
       ended = tt;
       rises = tt;
       reads = read.reads;
