@@ -8,6 +8,8 @@
 #                                                      records (200,000), opening after them, and `audit`
 #     bench/program.sh replay [POSTINGS [ACCOUNTS]]    `replay` of a million postings on 100,000 accounts, without a disk:
 #                                                      at most three times the processor of `drive`, and two openings' memory
+#     bench/program.sh follow [COUNT]                  `post` of a million records, as of `records`, and then `log` of that
+#                                                      file in a pipe to `follow` of a second one: at most 1.3 times as long
 #
 # It needs Python and GNU time, and stands outside the gate. TMPDIR picks the disk, BANK names another program.
 set -eu
@@ -36,17 +38,22 @@ is_driven() {
     test "$(cat said)" = "records $1 posted $1 refused 0"
 }
 
+# `post` of so many records on two branches of 1,000 accounts.
+posted() {
+    python3 "$here/tools/driver_vectors.py" 7 "$1" 1:1000 2:1000 | awk '{ printf("%-100s", $1) }' >drawn
+    begin 2 1000
+    timed post bank.db <drawn
+    test "$(wc -c <said)" -eq $(($1 * 200))
+    tell post of "$1" records
+}
+
 records() {
     for count in 20000 200000 1000000; do
         begin 2 1000
         timed drive bank.db --seed 7 --count $count
         is_driven $count
         tell drive of $count records
-        python3 "$here/tools/driver_vectors.py" 7 $count 1:1000 2:1000 | awk '{ printf("%-100s", $1) }' >drawn
-        begin 2 1000
-        timed post bank.db <drawn
-        test "$(wc -c <said)" -eq $((count * 200))
-        tell post of $count records
+        posted $count
     done
 }
 
@@ -74,7 +81,18 @@ replay() {
             seconds["replay"] / seconds["drive"], memory["replay"] / memory["post"]) }' drive post replay
 }
 
+follow() {
+    local count=${1:-1000000}
+    posted "$count"
+    "$bank" init second.db >said
+    command time -f '%e %U %S %M' -o log "$bank" log bank.db | timed follow second.db plan.csv
+    cmp <("$bank" digest bank.db "$count") <("$bank" digest second.db "$count")
+    for it in log follow; do tell $it; done
+    awk '{ seconds[FILENAME] = $1 } END { printf("follow: %.2f times as long as post\n", seconds["follow"] / seconds["post"]) }' \
+        post log follow
+}
+
 case "${1:-}" in
-records | branches | replay) what=$1; shift; "$what" "$@" ;;
-*) echo "program.sh: records, branches or replay" >&2; exit 2 ;;
+records | branches | replay | follow) what=$1; shift; "$what" "$@" ;;
+*) echo "program.sh: records, branches, replay or follow" >&2; exit 2 ;;
 esac
