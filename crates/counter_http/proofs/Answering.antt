@@ -13,12 +13,12 @@ use Rattle.posting_core.specs.Told.{Beside, IsReadFailure, read_told}
 use Rattle.posting_core.proofs.Batched.{joined-append}
 use Rattle.counter_http.specs.Connections.{Known}
 use Rattle.counter_http.specs.Next.{IsUnfinished}
-use Rattle.counter_http.specs.together.Standing.{IsGoing, IsParted}
+use Rattle.counter_http.specs.together.Standing.{IsGoing, IsParted, IsRefused}
 use Rattle.counter_http.specs.together.Serving.{AnswersBeforeItsReads}
 use Rattle.counter_http.specs.believed.Answers.{answer_of, asked_by, refusal, unavailable}
 use Rattle.counter_http.specs.believed.Ends.{HasEnded}
 use Rattle.counter_http.specs.believed.Messages.{Closed, Finished, Message, No_body, No_head, Walks, closes, message_text, IsMessage}
-use Rattle.counter_http.specs.believed.Serving.{BeginsWithNoMessage, IsWalked, KeepsConnection}
+use Rattle.counter_http.specs.believed.Serving.{BeginsWithNoMessage, IsBrokenOff, IsWalked, KeepsConnection}
 use Rattle.counter_http.specs.together.Order.{Step, answers_at, of_client, submitted_by}
 use Rattle.counter_http.specs.believed.Turns.{Turn, messages_of, text_in, texts_of}
 use Rattle.counter_http.specs.declared.parting.Parting.TheVariants as parting
@@ -172,30 +172,37 @@ answered_last {i} {k} {l} {c} {c'} {c''} {steps} {buf = buf} {pending = pending}
 
 -- by the bank
 pub answered_unavailable : {i : ℕ} {k l : Known} {c c' c'' : Seen} {steps : List Step} {has_more shown : Bool}
-    {buf pending : List ℕ} (fault : Fault) (m : Message) (rest : List ℕ)
+    {buf pending : List ℕ} (fault : Fault) (moment : ℕ) (m : Message) (rest : List ℕ)
     → IsMessage m → buf ≡ message_text m ++ rest → (c''.honest → c'.honest)
     → IsGoing i k l c c' steps has_more shown buf pending
-    → IsParted i k l c c'' steps (pending ++ unavailable (asked_by m)) (parting.Bank fault)
-answered_unavailable {i} {k} {l} {c} {c'} {c''} {steps} {buf = buf} {pending = pending} fault m rest whole front
+    → IsRefused i k l c c'' steps (pending ++ unavailable (asked_by m)) (record { message = m; moment = moment })
+    (parting.Bank fault)
+answered_unavailable {i} {k} {l} {c} {c'} {c''} {steps} {buf = buf} {pending = pending} fault moment m rest whole front
     honest g =
-    let t : Turn = record { message = m; moment = 0 } in
+    let t : Turn = record { message = m; moment = moment } in
     let same = append-nil steps in
+    let told : IsBrokenOff (of_client i steps) (t ∷ []) (unavailable (asked_by m) ∷ []) =
+    record { stays = g.stays; turn = t; whole = whole; refused_is = refl; last_is = refl } in
     record {
-      lost = t ∷ [];
-      rest = rest;
-      last = unavailable (asked_by m) ∷ [];
-      read = read_one_more k.reader l.reader (of_client i steps) t buf rest g.read front;
-      written = g.written;
-      wrote = g.wrote;
-      parts = record { stays = g.stays; turn = t; whole = whole; refused_is = refl; last_is = refl };
-      answers = λ h log s. text_more g.written pending (unavailable (asked_by m)) (answers_at i log steps) _
-          (g.answers (honest h) log s) refl;
-      more = g.more;
-      left = tt;
-      ends = λ e. g.through (none_left pending (unavailable (asked_by m)) e);
-      prompt = subst (λ (ss : List Step). AnswersBeforeItsReads i k.reads l.reads k.beside l.beside k.writer
-          k.writes c c'' ss (texts_of (of_client i steps ++ t ∷ []) ++ rest)) same
-          (reads_further [] honest (input_more (of_client i steps) t buf rest front) g.prompt);
+      parted = record {
+        lost = t ∷ [];
+        rest = rest;
+        last = unavailable (asked_by m) ∷ [];
+        read = read_one_more k.reader l.reader (of_client i steps) t buf rest g.read front;
+        written = g.written;
+        wrote = g.wrote;
+        parts = told;
+        answers = λ h log s. text_more g.written pending (unavailable (asked_by m)) (answers_at i log steps) _
+            (g.answers (honest h) log s) refl;
+        more = g.more;
+        left = tt;
+        ends = λ e. g.through (none_left pending (unavailable (asked_by m)) e);
+        prompt = subst (λ (ss : List Step). AnswersBeforeItsReads i k.reads l.reads k.beside l.beside k.writer
+            k.writes c c'' ss (texts_of (of_client i steps ++ t ∷ []) ++ rest)) same
+            (reads_further [] honest (input_more (of_client i steps) t buf rest front) g.prompt);
+      };
+      lost = refl;
+      told = told;
     }
 
 -- as no message

@@ -1,11 +1,12 @@
 -- Clients that are served at once, round by round.
 use Rattle.std.proofs.Common.{◌≡◌, ℕ, ◌+◌, ◌-◌, ◌^◌, ◌<◌, ◌≤◌, ◌⊎◌, suc, List, [], ◌∷◌, ◌++◌, length, map, take, Option, Some}
 use Rattle.std.proofs.Common.{Result, Ok, Err, refl, sym, ap, subst, ◌∙◌, append_assoc, append-nil, arith, inl, inr}
-use Rattle.std.specs.Prelude.{◌≢◌, Contains, AllPairs, IfErr, OnOk}
+use Rattle.std.specs.Prelude.{◌≢◌, None, Contains, AllPairs, IfErr, OnOk}
 use Rattle.std.specs.List.{AllByRecursion, AllZip, slice_get}
 use Rattle.std.proofs.Math.Seq.{take-append-add}
 use Rattle.std.proofs.lemmas.List.{length-append, length-map, Concat.flat_map-append}
-use Rattle.std.proofs.lemmas.List.Elements.{All-contains, All-from_recursion, Contains-append_right}
+use Rattle.std.proofs.lemmas.List.Elements.{All-contains, All-contains_itself, All-from_recursion, Contains-append_right}
+use Rattle.std.proofs.lemmas.List.Elements.{recursion_from_All}
 use Rattle.std.proofs.lemmas.List.Kept.{AllPairs-cons}
 use Rattle.posting_rules.specs.declared.fault.Fault.{Fault}
 use Rattle.posting_rules.specs.declared.fault.Fault.TheVariants.{Memory}
@@ -22,43 +23,51 @@ use Rattle.posting_core.specs.believed.Told.{GrowsBy}
 use Rattle.posting_core.proofs.{Stops.stop_all, StreamedBatches.all_more, StreamedBatches.takes_more, Telling.adds-none, Telling.more_more}
 use Rattle.counter_http.specs.Clients.{ClientsTold, Gave}
 use Rattle.counter_http.specs.Connections.{Known}
-use Rattle.counter_http.specs.together.Crowd.{Differ, GoesOn, HaveCome, HaveMoved, IsCrowd, IsHere, Scene, ServesRounds, all_numbers}
+use Rattle.counter_http.specs.together.Crowd.{Differ, GoesOn, HasLeft, HaveCome, HaveMoved, IsCrowd, IsHere, Scene, ServesRounds}
+use Rattle.counter_http.specs.together.Crowd.{WereRefused, all_numbers, fault_of_bank}
 use Rattle.counter_http.specs.together.Order.{IsRound, Round, Step, readings_in, readings_of, steps_in, steps_of, submitted_by}
-use Rattle.counter_http.specs.together.Rounds.{AnswersRound, IsOfOneOf, numbers}
-use Rattle.counter_http.specs.together.Standing.{StandsHere, Writes}
-use Rattle.counter_http.specs.together.Serving.{EndsTogether, HasRefused, IfBank, IsCutOff, IsVisited, IsWhyRefused, OfOthers}
-use Rattle.counter_http.specs.together.Serving.{ServesTogether, Visit, number_of}
+use Rattle.counter_http.specs.together.Rounds.{AnswersRound, IsOfOneOf, fault_in, numbers}
+use Rattle.counter_http.specs.together.Standing.{AreRefused, StandsHere, Writes}
+use Rattle.counter_http.specs.together.Serving.{ClientIsRefused, EndsTogether, HasRefused, IfBank, IsCutOff, IsOfVisit, IsToldTo}
+use Rattle.counter_http.specs.together.Serving.{IsVisited, IsWhyRefused, OfOthers, ServesTogether, Visit, number_of}
 use Rattle.counter_http.specs.declared.client.Client.{Client}
 use Rattle.counter_http.specs.declared.listen_fault.ListenFault.{ListenFault}
 use Rattle.counter_http.specs.declared.listen_fault.ListenFault.TheVariants.{Network, Bank}
 use Rattle.counter_http.proofs.Beside.{served_beside}
-use Rattle.counter_http.proofs.Crowds.{all_first, all_last, all_stay, crowd_moved, moved_grows}
+use Rattle.counter_http.proofs.Crowds.{all_first, all_last, all_stay, crowd_moved, each_weaker, moved_grows}
 use Rattle.counter_http.proofs.Crowds.{pairs_differ, refused_first, refused_last}
 use Rattle.counter_http.proofs.Readings.{number_read, read_here}
+use Rattle.counter_http.proofs.Refused.{refused_written}
 use Rattle.counter_http.proofs.Steps.{OfOther, submitted-append}
 use Rattle.counter_http.proofs.Turning.{readings_append}
 use Rattle.counter_http.proofs.Written.{given_up, number_written, written_here}
 
 -- ---- each client on its own
 
-here_as : {R W : Type 0} {known : R × W → Known} {c c' c'' : Seen} {steps steps' : List Step}
-    {calls : List (ClientsTold (R × W))} (old new : Client R W) → new.number ≡ old.number
+here_as : {R W : Type 0} {known : R × W → Known} {c c' c'' : Seen} {steps steps' : List Step} {fault fault' : Option Fault}
+    {refused refused' : List Step} {calls : List (ClientsTold (R × W))} (old new : Client R W) → new.number ≡ old.number
     → ((k : Known) → StandsHere known k c c' steps old → StandsHere known k c c'' steps' new)
-    → IsHere known c c' steps calls old → IsHere known c c'' steps' calls new
-here_as {calls = calls} old new number stands is = record {
+    → ((k : Known) → StandsHere known k c c' steps old → AreRefused known k c c' steps fault refused old
+    → AreRefused known k c c'' steps' fault' refused' new)
+    → IsHere known c c' steps fault refused calls old → IsHere known c c'' steps' fault' refused' calls new
+here_as {calls = calls} old new number stands told is = record {
   given = is.given;
   came = subst (λ (n : ℕ). Contains calls (Gave n is.given)) (sym number) is.came;
   stands = stands _ is.stands;
+  told = told _ is.stands is.told;
 }
 
 goes_here : {R W : Type 0} {known : R × W → Known} {c c' : Seen} {steps : List Step} {calls : List (ClientsTold (R × W))}
-    (old new : Client R W) → GoesOn known old new → IsHere known c c' steps calls old → IsHere known c c' steps calls new
+    (old new : Client R W) → GoesOn known old new → IsHere known c c' steps None [] calls old
+    → IsHere known c c' steps None [] calls new
 goes_here {known = known} {c} {c'} {steps} {calls} old new (inl same) is =
-    subst (λ (x : Client _ _). IsHere known c c' steps calls x) (sym same) is
-goes_here old new (inr (inl lost)) is = here_as old new lost.number (λ k stands. given_up old new lost stands) is
+    subst (λ (x : Client _ _). IsHere known c c' steps None [] calls x) (sym same) is
+goes_here old new (inr (inl lost)) is =
+    here_as old new lost.number (λ k stands. given_up old new lost stands) (λ k stands told. tt) is
 goes_here old new (inr (inr served)) is =
     here_as old new (number_read served.between new served.reads ∙ number_written old served.between served.writes)
-    (λ k stands. read_here served.between new served.reads (written_here old served.between served.writes stands)) is
+    (λ k stands. read_here served.between new served.reads (written_here old served.between served.writes stands))
+    (λ k stands told. tt) is
 
 goes_number : {R W : Type 0} {known : R × W → Known} (old new : Client R W) → GoesOn known old new
     → new.number ≡ old.number
@@ -67,10 +76,22 @@ goes_number old new (inr (inl lost)) = lost.number
 goes_number old new (inr (inr served)) =
     number_read served.between new served.reads ∙ number_written old served.between served.writes
 
-writes_here : {R W : Type 0} {known : R × W → Known} {c c' : Seen} {steps : List Step} {calls : List (ClientsTold (R × W))}
-    (old new : Client R W) → Writes known old new → IsHere known c c' steps calls old → IsHere known c c' steps calls new
-writes_here old new w is =
-    here_as old new (number_written old new w) (λ k stands. written_here old new w stands) is
+told_written : {R W : Type 0} (known : R × W → Known) (k : Known) (c c' : Seen) (steps : List Step) (fault : Option Fault)
+    (refused : List Step) (old new : Client R W) → Writes known old new
+    → AreRefused known k c c' steps fault refused old → AreRefused known k c c' steps fault refused new
+told_written known k c c' steps None refused old new w told = tt
+told_written known k c c' steps (Some why) [] old new w told = tt
+told_written known k c c' steps (Some why) (s ∷ ss) old new w told = (
+  (λ own. refused_written old new w (told.0 (own ∙ number_written old new w))),
+  told_written known k c c' steps (Some why) ss old new w told.1,
+)
+
+writes_here : {R W : Type 0} {known : R × W → Known} {c c' : Seen} {steps : List Step} {fault : Option Fault}
+    {refused : List Step} {calls : List (ClientsTold (R × W))} (old new : Client R W) → Writes known old new
+    → IsHere known c c' steps fault refused calls old → IsHere known c c' steps fault refused calls new
+writes_here {known = known} {c} {c'} {steps} {fault} {refused} old new w is =
+    here_as old new (number_written old new w) (λ k stands. written_here old new w stands)
+    (λ k stands told. told_written known k c c' steps fault refused old new w told) is
 
 same_numbers : {R W : Type 0} (M : Client R W → Client R W → Type 0)
     → ((x y : Client R W) → M x y → y.number ≡ x.number) → (xs ys : List (Client R W)) → AllZip M xs ys
@@ -91,11 +112,11 @@ all_by M P Q f (x ∷ xs) (y ∷ ys) all h = (f x y all.0 h.0, all_by M P Q f xs
 
 -- the same clients are here, and stand there
 pub crowd_as : {R W : Type 0} {known : R × W → Known} {g t : Option (List (ClientsTold (R × W)))} {c c' : Seen}
-    {steps refused : List Step} {came : ℕ} {here : List (Client R W)} (here' : List (Client R W))
-    (crowd : IsCrowd known g c c' steps refused (record { told = t; came = came; here = here })) → numbers here' ≡ numbers here
-    → AllByRecursion (IsHere known c c' steps crowd.calls) here'
-    → IsCrowd known g c c' steps refused (record { told = t; came = came; here = here' })
-crowd_as {steps = steps} {refused} {came} {here} here' crowd same stand =
+    {steps : List Step} {fault : Option Fault} {refused : List Step} {came : ℕ} {here : List (Client R W)} (here' : List (Client R W))
+    (crowd : IsCrowd known g c c' steps fault refused (record { told = t; came = came; here = here })) → numbers here' ≡ numbers here
+    → AllByRecursion (IsHere known c c' steps fault refused crowd.calls) here'
+    → IsCrowd known g c c' steps fault refused (record { told = t; came = came; here = here' })
+crowd_as {steps = steps} {fault} {refused} {came} {here} here' crowd same stand =
     let all = ap (λ (ns : List ℕ). map number_of crowd.visits ++ ns) (sym same) in
     record {
       calls = crowd.calls;
@@ -112,26 +133,26 @@ crowd_as {steps = steps} {refused} {came} {here} here' crowd same stand =
     }
 
 pub crowd_goes : {R W : Type 0} {known : R × W → Known} {g t : Option (List (ClientsTold (R × W)))} {c c' : Seen}
-    {steps refused : List Step} {came : ℕ} (here here' : List (Client R W)) → AllZip (GoesOn known) here here'
-    → IsCrowd known g c c' steps refused (record { told = t; came = came; here = here })
-    → IsCrowd known g c c' steps refused (record { told = t; came = came; here = here' })
+    {steps : List Step} {came : ℕ} (here here' : List (Client R W)) → AllZip (GoesOn known) here here'
+    → IsCrowd known g c c' steps None [] (record { told = t; came = came; here = here })
+    → IsCrowd known g c c' steps None [] (record { told = t; came = came; here = here' })
 crowd_goes {known = known} {c = c} {c'} {steps} here here' goes crowd =
     crowd_as here' crowd (same_numbers (GoesOn known) goes_number here here' goes)
-    (all_by (GoesOn known) (IsHere known c c' steps crowd.calls) (IsHere known c c' steps crowd.calls) goes_here here here'
+    (all_by (GoesOn known) (IsHere known c c' steps None [] crowd.calls) (IsHere known c c' steps None [] crowd.calls) goes_here here here'
     goes crowd.are_here)
 
 pub crowd_writes : {R W : Type 0} {known : R × W → Known} {g t : Option (List (ClientsTold (R × W)))} {c c' : Seen}
-    {steps refused : List Step} {came : ℕ} (here here' : List (Client R W)) → AllZip (Writes known) here here'
-    → IsCrowd known g c c' steps refused (record { told = t; came = came; here = here })
-    → IsCrowd known g c c' steps refused (record { told = t; came = came; here = here' })
-crowd_writes {known = known} {c = c} {c'} {steps} here here' writes crowd =
+    {steps : List Step} {fault : Option Fault} {refused : List Step} {came : ℕ} (here here' : List (Client R W)) → AllZip (Writes known) here here'
+    → IsCrowd known g c c' steps fault refused (record { told = t; came = came; here = here })
+    → IsCrowd known g c c' steps fault refused (record { told = t; came = came; here = here' })
+crowd_writes {known = known} {c = c} {c'} {steps} {fault} {refused} here here' writes crowd =
     crowd_as here' crowd (same_numbers (Writes known) number_written here here' writes)
-    (all_by (Writes known) (IsHere known c c' steps crowd.calls) (IsHere known c c' steps crowd.calls) writes_here here
+    (all_by (Writes known) (IsHere known c c' steps fault refused crowd.calls) (IsHere known c c' steps fault refused crowd.calls) writes_here here
     here' writes crowd.are_here)
 
 -- no two have the same number
 pub crowd_differs : {R W : Type 0} {known : R × W → Known} {g : Option (List (ClientsTold (R × W)))} {c c' : Seen}
-    {steps refused : List Step} {a : Scene R W} → IsCrowd known g c c' steps refused a → AllPairs (λ (m n : ℕ). m ≢ n) (numbers a.here)
+    {steps : List Step} {fault : Option Fault} {refused : List Step} {a : Scene R W} → IsCrowd known g c c' steps fault refused a → AllPairs (λ (m n : ℕ). m ≢ n) (numbers a.here)
 crowd_differs {a = a} crowd =
     pairs_differ (numbers a.here) (last_of (map number_of crowd.visits) (numbers a.here) crowd.differ)
   where
@@ -151,21 +172,28 @@ others_of n ns (s ∷ ss) apart whose =
     (λ (e : s.client ≡ n). other (sym e), others_of n ns ss apart whose.1)
 
 -- and so those who left were served still
+none_refused : {E : Type 0} (known : E → Known) (c c' : Seen) (steps : List Step) (fault : Option Fault) (refused : List Step)
+    (v : Visit E) → AllByRecursion (OfOther v.number) refused → WereRefused known c c' steps fault refused v
+none_refused known c c' steps None refused v others = tt
+none_refused known c c' steps (Some why) [] v others = tt
+none_refused known c c' steps (Some why) (s ∷ ss) v others =
+    ((λ own. absurd (others.0 own)), none_refused known c c' steps (Some why) ss v others.1)
+
 visited_further : {R W : Type 0} (known : R × W → Known) (c c' c'' : Seen) (steps : List Step)
-    (calls : List (ClientsTold (R × W))) (ns : List ℕ) (more : List Step) (visits : List (Visit (R × W)))
-    → (c''.honest → c'.honest) → AllByRecursion (IsOfOneOf ns) more → Differ (map number_of visits ++ ns)
-    → AllByRecursion (IsVisited known c c' steps calls) visits
-    → AllByRecursion (IsVisited known c c'' (steps ++ more) calls) visits
-visited_further known c c' c'' steps calls ns more [] honest whose differ all = tt
-visited_further known c c' c'' steps calls ns more (v ∷ vs) honest whose differ all = (
-  (
-    all.0.0,
-    served_beside more
-        (others_of v.number ns more
-        (all_last (λ (m : ℕ). v.number ≢ m) (map number_of vs) ns differ.0) whose) honest all.0.1,
-  ),
-  visited_further known c c' c'' steps calls ns more vs honest whose differ.1 all.1,
-)
+    (calls : List (ClientsTold (R × W))) (ns : List ℕ) (more : List Step) (fault : Option Fault) (refused : List Step)
+    (visits : List (Visit (R × W))) → (c''.honest → c'.honest) → AllByRecursion (IsOfOneOf ns) more
+    → AllByRecursion (IsOfOneOf ns) refused → Differ (map number_of visits ++ ns)
+    → AllByRecursion (HasLeft known c c' steps None [] calls) visits
+    → AllByRecursion (HasLeft known c c'' (steps ++ more) fault refused calls) visits
+visited_further known c c' c'' steps calls ns more fault refused [] honest whose too differ all = tt
+visited_further known c c' c'' steps calls ns more fault refused (v ∷ vs) honest whose too differ all =
+    let apart = all_last (λ (m : ℕ). v.number ≢ m) (map number_of vs) ns differ.0 in (
+      (
+        (all.0.0.0, served_beside more (others_of v.number ns more apart whose) honest all.0.0.1),
+        none_refused known c c'' (steps ++ more) fault refused v (others_of v.number ns refused apart too),
+      ),
+      visited_further known c c' c'' steps calls ns more fault refused vs honest whose too differ.1 all.1,
+    )
 
 whose_more : (ms ns : List ℕ) (ss : List Step) → AllByRecursion (IsOfOneOf ns) ss → AllByRecursion (IsOfOneOf (ms ++ ns)) ss
 whose_more ms ns [] whose = tt
@@ -197,30 +225,33 @@ zip_places M (x ∷ xs) (y ∷ ys) same at = (
 pub crowd_round : {C R W : Type 0} (seen : C → Seen) {reason : Fault → C → C → Type 0} {known : R × W → Known}
     {k k' : Option (List ℕ)} {g t : Option (List (ClientsTold (R × W)))} {X : Type 0} (first old new : C)
     (steps : List Step) {came : ℕ} (here here' : List (Client R W)) (result : Result X Fault)
-    → IsCrowd known g (seen first) (seen old) steps [] (record { told = t; came = came; here = here })
+    → IsCrowd known g (seen first) (seen old) steps None [] (record { told = t; came = came; here = here })
     → Takes (seen first) (seen old) (submitted_by steps)
     → (r : AnswersRound seen reason known k k' old new here here' result)
-    → IsCrowd known g (seen first) (seen new) (steps ++ steps_in r.round) r.refused
+    → IsCrowd known g (seen first) (seen new) (steps ++ steps_in r.round) (fault_in result) r.refused
     (record { told = t; came = came; here = here' })
 crowd_round {C} {R} {W} seen {known = known} first old new steps {came = came} here here' result crowd takes r =
     let more = steps_in r.round in
+    let fault = fault_in result in
     let honest : (seen new).honest → (seen old).honest = λ h. r.honest_first (r.honest h) in
     let all = ap (λ (ns : List ℕ). map number_of crowd.visits ++ ns) (sym r.same) in
     let vs = map number_of crowd.visits in
     let Moved : Client R W → Client R W → Type 0 =
     λ x y. (l : Known) → StandsHere known l (seen first) (seen old) steps x
-    → StandsHere known l (seen first) (seen new) (steps ++ more) y in
-    let zip = zip_places Moved here here' r.same (λ p x y is is' l stands. r.stand p x y is is' l first steps takes stands) in
+    → StandsHere known l (seen first) (seen new) (steps ++ more) y
+    × AreRefused known l (seen first) (seen new) (steps ++ more) fault r.refused y in
+    let zip = zip_places Moved here here' r.same (λ p x y is is' l stands.
+    (r.stand p x y is is' l first steps takes stands, r.told p x y is is' l first steps takes stands)) in
     record {
       calls = crowd.calls;
       told = crowd.told;
       visits = crowd.visits;
       closed = crowd.closed;
-      visited = visited_further known (seen first) (seen old) (seen new) steps crowd.calls (numbers here) more crowd.visits honest r.whose crowd.differ crowd.visited;
+      visited = visited_further known (seen first) (seen old) (seen new) steps crowd.calls (numbers here) more fault r.refused crowd.visits honest r.whose r.whose_refused crowd.differ crowd.visited;
       are_here = all_by (λ (x y : Client R W). (y.number ≡ x.number) × Moved x y)
-          (IsHere known (seen first) (seen old) steps crowd.calls)
-          (IsHere known (seen first) (seen new) (steps ++ more) crowd.calls)
-          (λ x y m is. here_as x y m.0 m.1 is) here here' zip crowd.are_here;
+          (IsHere known (seen first) (seen old) steps None [] crowd.calls)
+          (IsHere known (seen first) (seen new) (steps ++ more) fault r.refused crowd.calls)
+          (λ x y m is. here_as x y m.0 (λ l stands. (m.1 l stands).0) (λ l stands told. (m.1 l stands).1) is) here here' zip crowd.are_here;
       differ = subst Differ all crowd.differ;
       below = subst (λ (ns : List ℕ). AllByRecursion (λ (n : ℕ). n < came) ns) all crowd.below;
       whose = subst (λ (ns : List ℕ). AllByRecursion (IsOfOneOf ns) ((steps ++ more) ++ r.refused)) all
@@ -246,7 +277,7 @@ pub record Rounding {C R W : Type 0} (seen : C → Seen) (known : R × W → Kno
   pub takes : Takes (seen old) (seen now) (submitted_by (steps_of rounds))
   pub idle : (seen old).is_down → now ≡ old
   pub few : came ≤ n
-  pub crowd : IsCrowd known g (seen old) (seen now) (steps_of rounds) [] (record { told = t; came = came; here = here })
+  pub crowd : IsCrowd known g (seen old) (seen now) (steps_of rounds) None [] (record { told = t; came = came; here = here })
 
 pub rounding_none : {C R W : Type 0} (seen : C → Seen) {known : R × W → Known} (g : Option (List (ClientsTold (R × W))))
     (k : Option (List ℕ)) (old : C) (n : ℕ) (here : List (Client R W)) → here ≡ []
@@ -280,7 +311,7 @@ rounding_none {C} {R} {W} seen {known} g k old n here none = record {
 pub rounding_on : {C R W : Type 0} {seen : C → Seen} {known : R × W → Known} {g t t' : Option (List (ClientsTold (R × W)))}
     {k k' : Option (List ℕ)} {old now : C} {n came came' turns : ℕ} {here here' : List (Client R W)}
     (s : Rounding seen known g t k k' old now n came here turns)
-    → IsCrowd known g (seen old) (seen now) (steps_of s.rounds) [] (record { told = t'; came = came'; here = here' })
+    → IsCrowd known g (seen old) (seen now) (steps_of s.rounds) None [] (record { told = t'; came = came'; here = here' })
     → came' ≤ n → Rounding seen known g t' k k' old now n came' here' turns
 rounding_on s crowd few = record {
   rounds = s.rounds;
@@ -319,7 +350,7 @@ pub rounding_next : {C R W X : Type 0} (seen : C → Seen) {reason : Fault → C
     {g t t' : Option (List (ClientsTold (R × W)))} {k k' k'' : Option (List ℕ)} (old now new : C) {n came came' turns : ℕ}
     {here here' here'' : List (Client R W)} {x : X} (s : Rounding seen known g t k k' old now n came here turns)
     (r : AnswersRound seen reason known k' k'' now new here here' (Ok x))
-    → IsCrowd known g (seen old) (seen new) (steps_of s.rounds ++ steps_in r.round) r.refused
+    → IsCrowd known g (seen old) (seen new) (steps_of s.rounds ++ steps_in r.round) None r.refused
     (record { told = t'; came = came'; here = here'' })
     → came' ≤ n → Rounding seen known g t' k k'' old new n came' here'' (turns + 1)
 rounding_next seen {known = known} {g = g} {t' = t'} {k} {k'} {k''} old now new {came' = came'} {here'' = here''} s r crowd
@@ -336,9 +367,9 @@ rounding_next seen {known = known} {g = g} {t' = t'} {k} {k'} {k''} old now new 
           (subst (λ (c : _). Takes (seen now) (seen c) (submitted_by (steps_in r.round))) (sym same) r.takes);
       idle = idle_after seen old now s.idle new r.idle;
       few = few;
-      crowd = subst (λ (x : List Step). IsCrowd known g (seen old) (seen new) x []
+      crowd = subst (λ (x : List Step). IsCrowd known g (seen old) (seen new) x None []
           (record { told = t'; came = came'; here = here'' })) (steps_one_more s.rounds r.round)
-          (subst (λ (x : List Step). IsCrowd known g (seen old) (seen new) (steps_of s.rounds ++ steps_in r.round) x
+          (subst (λ (x : List Step). IsCrowd known g (seen old) (seen new) (steps_of s.rounds ++ steps_in r.round) None x
           (record { told = t'; came = came'; here = here'' })) r.ends.0 crowd);
     }
 
@@ -346,9 +377,9 @@ rounding_next seen {known = known} {g = g} {t' = t'} {k} {k'} {k''} old now new 
 
 -- nobody came or left
 pub waited_still : {R W : Type 0} {known : R × W → Known} {g t t' : Option (List (ClientsTold (R × W)))} {c c' : Seen}
-    {steps refused : List Step} {came : ℕ} {here : List (Client R W)} → GrowsBy t t' []
-    → IsCrowd known g c c' steps refused (record { told = t; came = came; here = here })
-    → IsCrowd known g c c' steps refused (record { told = t'; came = came; here = here })
+    {steps : List Step} {fault : Option Fault} {refused : List Step} {came : ℕ} {here : List (Client R W)} → GrowsBy t t' []
+    → IsCrowd known g c c' steps fault refused (record { told = t; came = came; here = here })
+    → IsCrowd known g c c' steps fault refused (record { told = t'; came = came; here = here })
 waited_still waited crowd = crowd_moved (all_stay (record {
   calls = [];
   told = waited;
@@ -377,7 +408,7 @@ pub after_round : {C R W X : Type 0} (seen : C → Seen) {reason : Fault → C �
     (r : AnswersRound seen reason known k' k'' now new here here' result) → AllZip (Writes known) viewed gone
     → ((came : ℕ) → HaveMoved (record { told = t; came = came; here = here'' })
     (record { told = t'; came = came; here = left }))
-    → IsCrowd known g (seen old) (seen new) (steps_of s.rounds ++ steps_in r.round) r.refused
+    → IsCrowd known g (seen old) (seen new) (steps_of s.rounds ++ steps_in r.round) (fault_in result) r.refused
     (record { told = t'; came = came; here = left })
 after_round seen {known = known} old now new {came = came} here here' viewed gone here'' left result same is s r writes
     moved =
@@ -412,10 +443,10 @@ pub rounds_end : {C R W : Type 0} (seen : C → Seen) {reason : Fault → C → 
     {g t : Option (List (ClientsTold (R × W)))} {k k' : Option (List ℕ)} (old new : C) {n came turns : ℕ}
     {here : List (Client R W)} (result : Result (Unit {0}) ListenFault)
     → EndsTogether seen result new new [] → IfErr result (λ fault. IfBank fault (IsOfCall seen reason old new))
-    → OnOk result (came ≡ n)
+    → OnOk result (came ≡ n) → fault_of_bank result ≡ None
     → (s : Rounding seen known g t k k' old new n came here turns) → IsCutOff g t result s.rounds
     → ServesRounds seen reason known g t k k' old new n here result
-rounds_end seen old new {came = came} result ends why done s network = record {
+rounds_end seen {known = known} {g} {t} old new {came = came} {here = here} result ends why done none s network = record {
   rounds = s.rounds;
   are_rounds = s.are_rounds;
   refused = [];
@@ -434,7 +465,8 @@ rounds_end seen old new {came = came} result ends why done s network = record {
   came = came;
   few = s.few;
   done = done;
-  crowd = s.crowd;
+  crowd = subst (λ (f : Option Fault). IsCrowd known g (seen old) (seen new) (steps_of s.rounds) f []
+      (record { told = t; came = came; here = here })) (sym none) s.crowd;
 }
 
 why_now : {C : Type 0} (seen : C → Seen) (reason : Fault → C → C → Type 0) (old now new : C) (cs : List Command)
@@ -449,7 +481,7 @@ pub rounds_broken : {C R W X : Type 0} (seen : C → Seen) {reason : Fault → C
     {g t t' : Option (List (ClientsTold (R × W)))} {k k' k'' : Option (List ℕ)} (old now new : C) {n came came' turns : ℕ}
     {here here' here'' : List (Client R W)} (fault : Fault) (s : Rounding seen known g t k k' old now n came here turns)
     (r : AnswersRound {X = X} seen reason known k' k'' now new here here' (Err fault))
-    → IsCrowd known g (seen old) (seen new) (steps_of s.rounds ++ steps_in r.round) r.refused
+    → IsCrowd known g (seen old) (seen new) (steps_of s.rounds ++ steps_in r.round) (Some fault) r.refused
     (record { told = t'; came = came'; here = here'' })
     → came' ≤ n → ServesRounds seen reason known g t' k k'' old new n here'' (Err (Bank fault))
 rounds_broken seen {reason} {known} {g = g} {t' = t'} {k} {k'} {k''} old now new {came' = came'} {here'' = here''} fault s
@@ -485,7 +517,7 @@ rounds_broken seen {reason} {known} {g = g} {t' = t'} {k} {k'} {k''} old now new
       came = came';
       few = few;
       done = tt;
-      crowd = subst (λ (x : List Step). IsCrowd known g (seen old) (seen new) x r.refused
+      crowd = subst (λ (x : List Step). IsCrowd known g (seen old) (seen new) x (Some fault) r.refused
           (record { told = t'; came = came'; here = here'' })) order crowd;
     }
 
@@ -511,6 +543,49 @@ told_why seen reason old new (Ok done) why = tt
 told_why seen reason old new (Err Network) why = tt
 told_why seen reason old new (Err (Bank fault)) why = inl why
 
+-- each message that was refused is of one of those who left
+numbers_told : {E : Type 0} (known : E → Known) (c c' : Seen) (steps : List Step) (fault : Fault)
+    (visits vs : List (Visit E)) (s : Step) → AllByRecursion (λ (v : Visit E). Contains visits v) vs
+    → AllByRecursion (λ (v : Visit E). s.client ≡ v.number
+    → ClientIsRefused v.number (known v.given) (known v.left) c c' steps fault s.turn v.parting) vs
+    → AllByRecursion (λ (n : ℕ). n ≡ s.client → IsToldTo known c c' steps visits fault s) (map number_of vs)
+numbers_told known c c' steps fault visits [] s these told = tt
+numbers_told known c c' steps fault visits (v ∷ vs) s these told = (
+  (λ own. record { visit = v; one = these.0; whose = own; refused = told.0 (sym own) }),
+  numbers_told known c c' steps fault visits vs s these.1 told.1,
+)
+
+all_told : {E : Type 0} (known : E → Known) (c c' : Seen) (steps : List Step) (fault : Fault) (visits : List (Visit E))
+    (refused : List Step) → AllByRecursion (WereRefused known c c' steps (Some fault) refused) visits
+    → AllByRecursion (IsOfVisit visits) refused → AllByRecursion (IsToldTo known c c' steps visits fault) refused
+all_told known c c' steps fault visits [] told whose = tt
+all_told {E} known c c' steps fault visits (s ∷ ss) told whose =
+    let Told : ℕ → Type 0 = λ n. n ≡ s.client → IsToldTo known c c' steps visits fault s in
+    let Refused : Visit E → Type 0 =
+    λ v. s.client ≡ v.number → ClientIsRefused v.number (known v.given) (known v.left) c c' steps fault s.turn v.parting in
+    let these = recursion_from_All (λ (v : Visit E). Contains visits v) visits (All-contains_itself visits) in (
+      All-contains Told (map number_of visits) s.client
+          (All-from_recursion Told (map number_of visits)
+          (numbers_told known c c' steps fault visits visits s these
+          (each_weaker (WereRefused known c c' steps (Some fault) (s ∷ ss)) Refused (λ v all. all.0) visits told)))
+          whose.0 refl,
+      all_told known c c' steps fault visits ss
+          (each_weaker (WereRefused known c c' steps (Some fault) (s ∷ ss)) (WereRefused known c c' steps (Some fault) ss)
+          (λ v all. all.1) visits told) whose.1,
+    )
+
+told_of : {E : Type 0} (known : E → Known) (c c' : Seen) (steps : List Step) (calls : List (ClientsTold E))
+    (visits : List (Visit E)) (refused : List Step) (result : Result (Unit {0}) ListenFault)
+    → AllByRecursion (HasLeft known c c' steps (fault_of_bank result) refused calls) visits
+    → AllByRecursion (IsOfVisit visits) refused
+    → IfErr result (λ fault. IfBank fault (λ f. AllByRecursion (IsToldTo known c c' steps visits f) refused))
+told_of known c c' steps calls visits refused (Ok done) left whose = tt
+told_of known c c' steps calls visits refused (Err Network) left whose = tt
+told_of known c c' steps calls visits refused (Err (Bank fault)) left whose =
+    all_told known c c' steps fault visits refused
+    (each_weaker (HasLeft known c c' steps (Some fault) refused calls) (WereRefused known c c' steps (Some fault) refused)
+    (λ v left. left.1) visits left) whose
+
 -- connections were closed after that
 cut_off_then : {E : Type 0} {g t t' : Option (List (ClientsTold E))} (result : Result (Unit {0}) ListenFault)
     (rounds : List Round) → HasMore t t' → IsCutOff g t result rounds → IsCutOff g t' result rounds
@@ -528,13 +603,17 @@ pub serves_together : {C R W : Type 0} (seen : C → Seen) {reason : Fault → C
     → ((came : ℕ) → HaveMoved (record { told = t; came = came; here = here }) (record { told = t'; came = came; here = here' }))
     → here' ≡ [] → ServesTogether seen reason known g t' k k' old new n result
 serves_together {C} {R} {W} seen {reason} {known} {g} {t} {t'} old new here here' result s moved none =
-    let after : IsCrowd known g (seen old) (seen new) (steps_of s.rounds) s.refused (record { told = t'; came = s.came; here = here' }) =
+    let after : IsCrowd known g (seen old) (seen new) (steps_of s.rounds) (fault_of_bank result) s.refused (record { told = t'; came = s.came; here = here' }) =
     crowd_moved (moved s.came) s.crowd in
-    let crowd : IsCrowd known g (seen old) (seen new) (steps_of s.rounds) s.refused (record { told = t'; came = s.came; here = [] }) =
-    subst (λ (x : List (Client R W)). IsCrowd known g (seen old) (seen new) (steps_of s.rounds) s.refused
+    let crowd : IsCrowd known g (seen old) (seen new) (steps_of s.rounds) (fault_of_bank result) s.refused (record { told = t'; came = s.came; here = [] }) =
+    subst (λ (x : List (Client R W)). IsCrowd known g (seen old) (seen new) (steps_of s.rounds) (fault_of_bank result) s.refused
     (record { told = t'; came = s.came; here = x })) none after in
     let long : length (all_numbers crowd.visits []) ≡ length crowd.visits =
     ap length (append-nil (map number_of crowd.visits)) ∙ length-map crowd.visits number_of in
+    let Visited : Visit (R × W) → Type 0 = IsVisited known (seen old) (seen new) (steps_of s.rounds) crowd.calls in
+    let whose : AllByRecursion (IsOfVisit crowd.visits) (steps_of s.rounds ++ s.refused) =
+    subst (λ (ns : List ℕ). AllByRecursion (IsOfOneOf ns) (steps_of s.rounds ++ s.refused))
+    (append-nil (map number_of crowd.visits)) crowd.whose in
     record {
       rounds = s.rounds;
       are_rounds = s.are_rounds;
@@ -556,11 +635,13 @@ serves_together {C} {R} {W} seen {reason} {known} {g} {t} {t'} old new here here
       visits = crowd.visits;
       closed = crowd.closed;
       once = visits_differ crowd.visits [] crowd.differ;
-      each = All-from_recursion (IsVisited known (seen old) (seen new) (steps_of s.rounds) crowd.calls) crowd.visits
-          crowd.visited;
+      each = All-from_recursion Visited crowd.visits
+          (each_weaker (HasLeft known (seen old) (seen new) (steps_of s.rounds) (fault_of_bank result) s.refused crowd.calls)
+          Visited (λ v left. left.0) crowd.visits crowd.visited);
       all = sym long ∙ crowd.all;
-      whose = subst (λ (ns : List ℕ). AllByRecursion (IsOfOneOf ns) (steps_of s.rounds ++ s.refused))
-          (append-nil (map number_of crowd.visits)) crowd.whose;
+      refusals = told_of known (seen old) (seen new) (steps_of s.rounds) crowd.calls crowd.visits s.refused result
+          crowd.visited (all_last (IsOfVisit crowd.visits) (steps_of s.rounds) s.refused whose);
+      whose = whose;
       many = omega (arith, long, crowd.many, s.few);
     }
 
@@ -577,7 +658,7 @@ pub all_came : {C R W : Type 0} (seen : C → Seen) {reason : Fault → C → C 
     → ((came : ℕ) → HaveMoved (record { told = t; came = came; here = here }) (record { told = t'; came = came; here = here' }))
     → OnOk result (HaveCome g t' n)
 all_came seen {known = known} {g} {t} {t'} old new {n} here here' result s moved =
-    let after : IsCrowd known g (seen old) (seen new) (steps_of s.rounds) s.refused
+    let after : IsCrowd known g (seen old) (seen new) (steps_of s.rounds) (fault_of_bank result) s.refused
     (record { told = t'; came = s.came; here = here' }) = crowd_moved (moved s.came) s.crowd in
     come_where g t' s.came n result s.done
     (record { calls = after.calls; told = after.told; many = sym after.all ∙ after.many })
@@ -608,6 +689,7 @@ nobody_came seen g k old n = record {
   once = visits_differ [] [] tt;
   each = All-from_recursion _ [] tt;
   all = refl;
+  refusals = tt;
   whose = tt;
   many = omega arith;
 }

@@ -1,5 +1,5 @@
 -- Clients that come in, are served and leave.
-use Rattle.std.proofs.Common.{◌≡◌, ℕ, ◌+◌, ◌<◌, List, [], ◌∷◌, ◌++◌, length, map, take, drop, get_or, Option, None, Bool}
+use Rattle.std.proofs.Common.{◌≡◌, ℕ, ◌+◌, ◌<◌, List, [], ◌∷◌, ◌++◌, length, map, take, drop, get_or, Option, None, Some, Bool}
 use Rattle.std.proofs.Common.{true, refl, sym, ap, subst, ◌∙◌, append_assoc, append-nil, arith, inl, inr}
 use Rattle.std.specs.Prelude.{◌≢◌, ◌⊎◌, Contains}
 use Rattle.std.specs.declared.io.ErrorKind.{ErrorKind}
@@ -9,6 +9,7 @@ use Rattle.std.proofs.lemmas.List.{drop_more, length-append, map-append, take-ap
 use Rattle.std.proofs.lemmas.List.Elements.{All-contains, All-contains_itself, All-from_recursion, Contains-append_left}
 use Rattle.std.proofs.lemmas.List.Elements.{Contains-append_right, recursion_from_All}
 use Rattle.std.proofs.lemmas.List.Kept.{AllPairs-cons}
+use Rattle.posting_rules.specs.declared.fault.Fault.{Fault}
 use Rattle.posting_rules.specs.believed.Counter.{Seen}
 use Rattle.posting_core.specs.believed.Batches.{joined}
 use Rattle.posting_core.specs.Told.{HasMore}
@@ -17,17 +18,19 @@ use Rattle.posting_core.proofs.StreamedBatches.{all_more}
 use Rattle.posting_core.proofs.Telling.{adds-more, adds-none, more_more, more_none}
 use Rattle.counter_http.specs.Clients.{ClientsTold, Closed, Gave, Refused}
 use Rattle.counter_http.specs.Connections.{Known}
-use Rattle.counter_http.specs.together.Crowd.{Closes, Comes, Differ, HaveMoved, IsCrowd, IsHere, Leaves, Moves, Scene, Stays}
-use Rattle.counter_http.specs.together.Crowd.{all_numbers}
+use Rattle.counter_http.specs.together.Crowd.{Closes, Comes, Differ, HasLeft, HaveMoved, IsCrowd, IsHere, Leaves, Moves, Scene}
+use Rattle.counter_http.specs.together.Crowd.{Stays, WereRefused, all_numbers}
 use Rattle.counter_http.specs.together.Order.{Step, of_client}
 use Rattle.counter_http.specs.together.Rounds.{AllDiffer, IsOfOneOf, number_in, numbers}
-use Rattle.counter_http.specs.together.Standing.{IsGoing, IsNew, StandsHere}
-use Rattle.counter_http.specs.together.Serving.{HasRefused, IsVisited, Visit, closed_of, closings, number_of, openings}
+use Rattle.counter_http.specs.together.Standing.{AreRefused, IsGoing, IsNew, IsParting, StandsHere}
+use Rattle.counter_http.specs.together.Serving.{HasRefused, Visit, closed_of, closings, number_of, openings}
 use Rattle.counter_http.specs.believed.Messages.{No_head}
 use Rattle.counter_http.specs.declared.client.Client.{Client}
+use Rattle.counter_http.specs.declared.parting.Parting.{Parting}
 use Rattle.counter_http.specs.declared.parting.Parting.TheVariants as parting
 use Rattle.counter_http.proofs.Beside.{none_read_yet}
 use Rattle.counter_http.proofs.Fronts.{ends_by, going_here, parted_here}
+use Rattle.counter_http.proofs.Refused.{refused_parted}
 use Rattle.counter_http.proofs.Steps.{OfOther, no_answers, none_of}
 use Rattle.counter_http.proofs.Stood.{left_as, lost_as}
 use Rattle.counter_http.proofs.Written.{parted_with}
@@ -88,7 +91,7 @@ pub all_first : {A : Type 0} (P : A → Type 0) (xs ys : List A) → AllByRecurs
 all_first P [] ys all = tt
 all_first P (x ∷ xs) ys all = (all.0, all_first P xs ys all.1)
 
-each_weaker : {A : Type 0} (P Q : A → Type 0) → ((x : A) → P x → Q x) → (xs : List A) → AllByRecursion P xs → AllByRecursion Q xs
+pub each_weaker : {A : Type 0} (P Q : A → Type 0) → ((x : A) → P x → Q x) → (xs : List A) → AllByRecursion P xs → AllByRecursion Q xs
 each_weaker P Q f [] all = tt
 each_weaker P Q f (x ∷ xs) all = (f x all.0, each_weaker P Q f xs all.1)
 
@@ -108,14 +111,16 @@ closings-append (Refused kind ∷ xs) ys = closings-append xs ys
 
 -- ---- those who are here and those who left, as more calls are made
 
-here_told : {R W : Type 0} {known : R × W → Known} {c c' : Seen} {steps : List Step} (calls more : List (ClientsTold (R × W)))
-    (client : Client R W) → IsHere known c c' steps calls client → IsHere known c c' steps (calls ++ more) client
+here_told : {R W : Type 0} {known : R × W → Known} {c c' : Seen} {steps : List Step} {fault : Option Fault}
+    {refused : List Step} (calls more : List (ClientsTold (R × W)))
+    (client : Client R W) → IsHere known c c' steps fault refused calls client → IsHere known c c' steps fault refused (calls ++ more) client
 here_told calls more client is =
-    record { given = is.given; came = Contains-append_left calls more _ is.came; stands = is.stands }
+    record { given = is.given; came = Contains-append_left calls more _ is.came; stands = is.stands; told = is.told }
 
-visited_told : {E : Type 0} (known : E → Known) (c c' : Seen) (steps : List Step) (calls more : List (ClientsTold E))
-    (v : Visit E) → IsVisited known c c' steps calls v → IsVisited known c c' steps (calls ++ more) v
-visited_told known c c' steps calls more v is = (Contains-append_left calls more _ is.0, is.1)
+visited_told : {E : Type 0} (known : E → Known) (c c' : Seen) (steps : List Step) (fault : Option Fault)
+    (refused : List Step) (calls more : List (ClientsTold E))
+    (v : Visit E) → HasLeft known c c' steps fault refused calls v → HasLeft known c c' steps fault refused (calls ++ more) v
+visited_told known c c' steps fault refused calls more v is = ((Contains-append_left calls more _ is.0.0, is.0.1), is.1)
 
 -- ---- a client that came in
 
@@ -146,6 +151,15 @@ new_here {known = known} {c} {c'} steps number given client is others =
       | inr lost ↦ parted_here client parting.Memory is.number_is lost ends is.pending_none
           (lost_as parting.Memory tt (left_as None (record { is = new_going {c = c} {c' = c'} steps true others })) tt)
     ]
+
+-- nothing of it was refused
+none_told : {R W : Type 0} (known : R × W → Known) (k : Known) (c c' : Seen) (steps : List Step) (fault : Option Fault)
+    (refused : List Step) (client : Client R W) → AllByRecursion (OfOther client.number) refused
+    → AreRefused known k c c' steps fault refused client
+none_told known k c c' steps None refused client others = tt
+none_told known k c c' steps (Some why) [] client others = tt
+none_told known k c c' steps (Some why) (s ∷ ss) client others =
+    ((λ own. absurd (others.0 own)), none_told known k c c' steps (Some why) ss client others.1)
 
 not_yet : (ns : List ℕ) (steps : List Step) (came : ℕ) → AllByRecursion (λ (n : ℕ). n < came) ns
     → AllByRecursion (IsOfOneOf ns) steps → AllByRecursion (OfOther came) steps
@@ -179,30 +193,33 @@ numbers_more visits here here' client n is number =
     ∙ sym (append_assoc (map number_of visits) (numbers here) (n ∷ []))
 
 pub crowd_comes : {R W : Type 0} {known : R × W → Known} {g : Option (List (ClientsTold (R × W)))} {c c' : Seen}
-    {steps refused : List Step} {a : Scene R W} (b : Scene R W) → IsCrowd known g c c' steps refused a → Comes a b
-    → IsCrowd known g c c' steps refused b
-crowd_comes {R} {W} {known} {g} {c} {c'} {steps} {refused} {a} b crowd m =
+    {steps : List Step} {fault : Option Fault} {refused : List Step} {a : Scene R W} (b : Scene R W) → IsCrowd known g c c' steps fault refused a → Comes a b
+    → IsCrowd known g c c' steps fault refused b
+crowd_comes {R} {W} {known} {g} {c} {c'} {steps} {fault} {refused} {a} b crowd m =
     let new : ClientsTold (R × W) = Gave a.came m.given in
     let calls = crowd.calls ++ new ∷ [] in
     let all = numbers_more crowd.visits a.here b.here m.client a.came m.here m.is.number_is in
-    let one : IsHere known c c' steps calls m.client = record {
+    let one : IsHere known c c' steps fault refused calls m.client = record {
       given = m.given;
       came = Contains-append_right crowd.calls (new ∷ []) (Gave m.client.number m.given)
           (0, omega arith, ap (λ (n : ℕ). Gave n m.given) (sym m.is.number_is));
       stands = new_here steps a.came m.given m.client m.is
           (not_yet (all_numbers crowd.visits a.here) steps a.came crowd.below
           (all_first (IsOfOneOf (all_numbers crowd.visits a.here)) steps refused crowd.whose));
+      told = none_told known (known m.given) c c' steps fault refused m.client (subst (λ (n : ℕ). AllByRecursion (OfOther n) refused) (sym m.is.number_is)
+          (not_yet (all_numbers crowd.visits a.here) refused a.came crowd.below
+          (all_last (IsOfOneOf (all_numbers crowd.visits a.here)) steps refused crowd.whose)));
     } in
     record {
       calls = calls;
       told = adds-more g a.told b.told crowd.calls (new ∷ []) crowd.told m.told;
       visits = crowd.visits;
       closed = crowd.closed ∙ sym (closings-append crowd.calls (new ∷ []) ∙ append-nil (closings crowd.calls));
-      visited = each_weaker (IsVisited known c c' steps crowd.calls) (IsVisited known c c' steps calls)
-          (visited_told known c c' steps crowd.calls (new ∷ [])) crowd.visits crowd.visited;
-      are_here = subst (λ (x : List (Client R W)). AllByRecursion (IsHere known c c' steps calls) x) (sym m.here)
-          (all_more (IsHere known c c' steps calls) a.here (m.client ∷ [])
-          (each_weaker (IsHere known c c' steps crowd.calls) (IsHere known c c' steps calls)
+      visited = each_weaker (HasLeft known c c' steps fault refused crowd.calls) (HasLeft known c c' steps fault refused calls)
+          (visited_told known c c' steps fault refused crowd.calls (new ∷ [])) crowd.visits crowd.visited;
+      are_here = subst (λ (x : List (Client R W)). AllByRecursion (IsHere known c c' steps fault refused calls) x) (sym m.here)
+          (all_more (IsHere known c c' steps fault refused calls) a.here (m.client ∷ [])
+          (each_weaker (IsHere known c c' steps fault refused crowd.calls) (IsHere known c c' steps fault refused calls)
           (here_told crowd.calls (new ∷ [])) a.here crowd.are_here) (one, tt));
       differ = subst Differ (sym all) (differ_more (all_numbers crowd.visits a.here) a.came crowd.below crowd.differ);
       below = subst (λ (n : ℕ). AllByRecursion (λ (x : ℕ). x < n) (all_numbers crowd.visits b.here)) (sym m.came)
@@ -252,17 +269,30 @@ moved_long xs ys zs n = omega (
   length-append ys (n ∷ zs),
 )
 
+-- it was told what was refused of it
+left_told : {R W : Type 0} (known : R × W → Known) (c c' : Seen) (steps : List Step) (fault : Option Fault)
+    (refused : List Step) (client : Client R W) (given left : R × W) (p : Parting)
+    → IsParting client (left.0, left.1, p) → AreRefused known (known given) c c' steps fault refused client
+    → WereRefused known c c' steps fault refused
+    (record { number = client.number; given = given; left = left; parting = p })
+left_told known c c' steps None refused client given left p is told = tt
+left_told known c c' steps (Some why) [] client given left p is told = tt
+left_told known c c' steps (Some why) (s ∷ ss) client given left p is told = (
+  (λ own. refused_parted client (left.0, left.1, p) is (told.0 own)),
+  left_told known c c' steps (Some why) ss client given left p is told.1,
+)
+
 -- its place is known
 left_one : {R W : Type 0} {known : R × W → Known} {g t' : Option (List (ClientsTold (R × W)))} {c c' : Seen}
-    {steps refused : List Step} (t : Option (List (ClientsTold (R × W)))) (came : ℕ) (before after : List (Client R W))
+    {steps : List Step} {fault : Option Fault} {refused : List Step} (t : Option (List (ClientsTold (R × W)))) (came : ℕ) (before after : List (Client R W))
     (client : Client R W)
-    → IsCrowd known g c c' steps refused (record { told = t; came = came; here = before ++ client ∷ after }) → Closes t t' client
-    → IsCrowd known g c c' steps refused (record { told = t'; came = came; here = before ++ after })
-left_one {R} {W} {known} {g} {t'} {c} {c'} {steps} {refused} t came before after client crowd closes =
+    → IsCrowd known g c c' steps fault refused (record { told = t; came = came; here = before ++ client ∷ after }) → Closes t t' client
+    → IsCrowd known g c c' steps fault refused (record { told = t'; came = came; here = before ++ after })
+left_one {R} {W} {known} {g} {t'} {c} {c'} {steps} {fault} {refused} t came before after client crowd closes =
     let new : ClientsTold (R × W) = Closed client.number closes.left in
     let calls = crowd.calls ++ new ∷ [] in
-    let parts = without (IsHere known c c' steps crowd.calls) before after client crowd.are_here in
-    let one : IsHere known c c' steps crowd.calls client = parts.0 in
+    let parts = without (IsHere known c c' steps fault refused crowd.calls) before after client crowd.are_here in
+    let one : IsHere known c c' steps fault refused crowd.calls client = parts.0 in
     let v : Visit (R × W) = record {
       number = client.number;
       given = one.given;
@@ -281,16 +311,19 @@ left_one {R} {W} {known} {g} {t'} {c} {c'} {steps} {refused} t came before after
       closed = map-append closed_of crowd.visits (v ∷ [])
           ∙ ap (λ (x : List (ℕ × (R × W))). x ++ (client.number, closes.left) ∷ []) crowd.closed
           ∙ sym (closings-append crowd.calls (new ∷ []));
-      visited = all_more (IsVisited known c c' steps calls) crowd.visits (v ∷ [])
-          (each_weaker (IsVisited known c c' steps crowd.calls) (IsVisited known c c' steps calls)
-          (visited_told known c c' steps crowd.calls (new ∷ [])) crowd.visits crowd.visited) (
+      visited = all_more (HasLeft known c c' steps fault refused calls) crowd.visits (v ∷ [])
+          (each_weaker (HasLeft known c c' steps fault refused crowd.calls) (HasLeft known c c' steps fault refused calls)
+          (visited_told known c c' steps fault refused crowd.calls (new ∷ [])) crowd.visits crowd.visited) (
             (
-              Contains-append_left crowd.calls (new ∷ []) _ one.came,
-              parted_with client (closes.left.0, closes.left.1, closes.parting) closes.is one.stands,
+              (
+                Contains-append_left crowd.calls (new ∷ []) _ one.came,
+                parted_with client (closes.left.0, closes.left.1, closes.parting) closes.is one.stands,
+              ),
+              left_told known c c' steps fault refused client one.given closes.left closes.parting closes.is one.told,
             ),
             tt,
           );
-      are_here = each_weaker (IsHere known c c' steps crowd.calls) (IsHere known c c' steps calls)
+      are_here = each_weaker (IsHere known c c' steps fault refused crowd.calls) (IsHere known c c' steps fault refused calls)
           (here_told crowd.calls (new ∷ [])) (before ++ after) parts.1;
       differ = subst Differ (sym numbers_now) (differ_moved vs (numbers before) (numbers after) client.number
           (subst Differ numbers_then crowd.differ));
@@ -315,26 +348,26 @@ left_one {R} {W} {known} {g} {t'} {c} {c'} {steps} {refused} t came before after
     }
 
 pub crowd_leaves : {R W : Type 0} {known : R × W → Known} {g : Option (List (ClientsTold (R × W)))} {c c' : Seen}
-    {steps refused : List Step} {a : Scene R W} (b : Scene R W) → IsCrowd known g c c' steps refused a → Leaves a b
-    → IsCrowd known g c c' steps refused b
-crowd_leaves {R} {W} {known} {g} {c} {c'} {steps} {refused} {a} b crowd m =
-    subst (λ (x : List (Client R W)). IsCrowd known g c c' steps refused (record { told = b.told; came = b.came; here = x }))
+    {steps : List Step} {fault : Option Fault} {refused : List Step} {a : Scene R W} (b : Scene R W) → IsCrowd known g c c' steps fault refused a → Leaves a b
+    → IsCrowd known g c c' steps fault refused b
+crowd_leaves {R} {W} {known} {g} {c} {c'} {steps} {fault} {refused} {a} b crowd m =
+    subst (λ (x : List (Client R W)). IsCrowd known g c c' steps fault refused (record { told = b.told; came = b.came; here = x }))
     (sym m.here)
-    (subst (λ (n : ℕ). IsCrowd known g c c' steps refused (record { told = b.told; came = n; here = m.before ++ m.after }))
+    (subst (λ (n : ℕ). IsCrowd known g c c' steps fault refused (record { told = b.told; came = n; here = m.before ++ m.after }))
     (sym m.came)
     (left_one a.told a.came m.before m.after m.client
-    (subst (λ (x : List (Client R W)). IsCrowd known g c c' steps refused (record { told = a.told; came = a.came; here = x }))
+    (subst (λ (x : List (Client R W)). IsCrowd known g c c' steps fault refused (record { told = a.told; came = a.came; here = x }))
     m.was crowd) m.closes))
 
 -- ---- nobody comes or leaves
 
 waited : {R W : Type 0} {known : R × W → Known} {g t' : Option (List (ClientsTold (R × W)))} {c c' : Seen}
-    {steps refused : List Step} (t : Option (List (ClientsTold (R × W)))) (came : ℕ) (here : List (Client R W))
+    {steps : List Step} {fault : Option Fault} {refused : List Step} (t : Option (List (ClientsTold (R × W)))) (came : ℕ) (here : List (Client R W))
     (more : List (ClientsTold (R × W)))
-    → IsCrowd known g c c' steps refused (record { told = t; came = came; here = here }) → GrowsBy t t' more
+    → IsCrowd known g c c' steps fault refused (record { told = t; came = came; here = here }) → GrowsBy t t' more
     → openings more ≡ [] → closings more ≡ []
-    → IsCrowd known g c c' steps refused (record { told = t'; came = came; here = here })
-waited {R} {W} {known} {g} {t'} {c} {c'} {steps} {refused} t came here more crowd told none_came none_left =
+    → IsCrowd known g c c' steps fault refused (record { told = t'; came = came; here = here })
+waited {R} {W} {known} {g} {t'} {c} {c'} {steps} {fault} {refused} t came here more crowd told none_came none_left =
     let calls = crowd.calls ++ more in
     record {
       calls = calls;
@@ -342,9 +375,9 @@ waited {R} {W} {known} {g} {t'} {c} {c'} {steps} {refused} t came here more crow
       visits = crowd.visits;
       closed = crowd.closed ∙ sym (closings-append crowd.calls more
           ∙ ap (λ (x : List (ℕ × (R × W))). closings crowd.calls ++ x) none_left ∙ append-nil (closings crowd.calls));
-      visited = each_weaker (IsVisited known c c' steps crowd.calls) (IsVisited known c c' steps calls)
-          (visited_told known c c' steps crowd.calls more) crowd.visits crowd.visited;
-      are_here = each_weaker (IsHere known c c' steps crowd.calls) (IsHere known c c' steps calls)
+      visited = each_weaker (HasLeft known c c' steps fault refused crowd.calls) (HasLeft known c c' steps fault refused calls)
+          (visited_told known c c' steps fault refused crowd.calls more) crowd.visits crowd.visited;
+      are_here = each_weaker (IsHere known c c' steps fault refused crowd.calls) (IsHere known c c' steps fault refused calls)
           (here_told crowd.calls more) here crowd.are_here;
       differ = crowd.differ;
       below = crowd.below;
@@ -355,21 +388,21 @@ waited {R} {W} {known} {g} {t'} {c} {c'} {steps} {refused} t came here more crow
     }
 
 pub crowd_stays : {R W : Type 0} {known : R × W → Known} {g : Option (List (ClientsTold (R × W)))} {c c' : Seen}
-    {steps refused : List Step} {a : Scene R W} (b : Scene R W) → IsCrowd known g c c' steps refused a → Stays a b
-    → IsCrowd known g c c' steps refused b
-crowd_stays {R} {W} {known} {g} {c} {c'} {steps} {refused} {a} b crowd m =
-    subst (λ (x : List (Client R W)). IsCrowd known g c c' steps refused (record { told = b.told; came = b.came; here = x }))
+    {steps : List Step} {fault : Option Fault} {refused : List Step} {a : Scene R W} (b : Scene R W) → IsCrowd known g c c' steps fault refused a → Stays a b
+    → IsCrowd known g c c' steps fault refused b
+crowd_stays {R} {W} {known} {g} {c} {c'} {steps} {fault} {refused} {a} b crowd m =
+    subst (λ (x : List (Client R W)). IsCrowd known g c c' steps fault refused (record { told = b.told; came = b.came; here = x }))
     (sym m.here)
-    (subst (λ (n : ℕ). IsCrowd known g c c' steps refused (record { told = b.told; came = n; here = a.here })) (sym m.came)
+    (subst (λ (n : ℕ). IsCrowd known g c c' steps fault refused (record { told = b.told; came = n; here = a.here })) (sym m.came)
     (waited a.told a.came a.here m.calls crowd m.told m.none_came m.none_left))
 
 -- ---- one after another
 
 crowd_by : {R W : Type 0} {known : R × W → Known} {g : Option (List (ClientsTold (R × W)))} {c c' : Seen}
-    {steps refused : List Step} (ms : List (Scene R W)) (a b : Scene R W) → Moves ms a b → IsCrowd known g c c' steps refused a
-    → IsCrowd known g c c' steps refused b
-crowd_by {known = known} {g} {c} {c'} {steps} {refused} [] a b same crowd =
-    subst (λ (x : Scene _ _). IsCrowd known g c c' steps refused x) (sym same) crowd
+    {steps : List Step} {fault : Option Fault} {refused : List Step} (ms : List (Scene R W)) (a b : Scene R W) → Moves ms a b → IsCrowd known g c c' steps fault refused a
+    → IsCrowd known g c c' steps fault refused b
+crowd_by {known = known} {g} {c} {c'} {steps} {fault} {refused} [] a b same crowd =
+    subst (λ (x : Scene _ _). IsCrowd known g c c' steps fault refused x) (sym same) crowd
 crowd_by (m ∷ ms) a b moves crowd =
     crowd_by ms m b moves.1 (elim moves.0 [
       | inl came ↦ crowd_comes m crowd came
@@ -380,7 +413,7 @@ crowd_by (m ∷ ms) a b moves crowd =
     ])
 
 pub crowd_moved : {R W : Type 0} {known : R × W → Known} {g : Option (List (ClientsTold (R × W)))} {c c' : Seen}
-    {steps refused : List Step} {a b : Scene R W} → HaveMoved a b → IsCrowd known g c c' steps refused a → IsCrowd known g c c' steps refused b
+    {steps : List Step} {fault : Option Fault} {refused : List Step} {a b : Scene R W} → HaveMoved a b → IsCrowd known g c c' steps fault refused a → IsCrowd known g c c' steps fault refused b
 crowd_moved {a = a} {b} moved crowd = crowd_by moved.scenes a b moved.moves crowd
 
 pub not_moved : {R W : Type 0} (a : Scene R W) → HaveMoved a a

@@ -226,6 +226,6 @@ pub refused_here : {R W : Type 0} {known : R × W → Known} {k : Known} {c c' c
 refused_here {known = known} {k} {c} {c'} {c''} {steps} old new m head why going is (inl told) honest stands =
     parted_here new (parting.Bank why) told.same.number told.parting (ends_by known told.same.reader told.same.writer)
     (told.told ∙ ap (λ (b : Bool). pending old ++ answer_text (bare 503) b true) is.shows_is)
-    (answered_unavailable why m (drop head.length (unread old)) is.whole is.front honest (going_of old going stands))
+    (answered_unavailable why 0 m (drop head.length (unread old)) is.whole is.front honest (going_of old going stands)).parted
 refused_here {known = known} {k} {c} {c'} {c''} {steps} old new m head why going is (inr lost) honest stands =
     gone_here old new lost (stands_after old honest stands)

@@ -1,6 +1,6 @@
 -- A round: messages that were answered while records were gathered, and those records.
 use Rattle.std.proofs.Common.{ℕ, List, [], ◌++◌, length, Option, Result, Ok, Err, refl, sym, ap, subst}
-use Rattle.std.proofs.Common.{◌∙◌, append-nil, arith}
+use Rattle.std.proofs.Common.{◌∙◌, append_assoc, append-nil, arith}
 use Rattle.std.specs.{List.AllByRecursion}
 use Rattle.posting_rules.specs.declared.fault.Fault.{Fault}
 use Rattle.posting_rules.specs.believed.Commands.{Command}
@@ -11,13 +11,13 @@ use Rattle.posting_core.proofs.Stops.{refused_stop, stop_all, stop_part}
 use Rattle.posting_core.proofs.StreamedBatches.{all_more}
 use Rattle.counter_http.specs.Connections.{Known}
 use Rattle.counter_http.specs.together.Order.{Step, submitted_by}
-use Rattle.counter_http.specs.together.Rounds.{AnswersRound, EndsRound, IsOfOneOf, numbers}
-use Rattle.counter_http.specs.together.Standing.{StandsHere}
+use Rattle.counter_http.specs.together.Rounds.{AnswersRound, EndsRound, IsOfOneOf, fault_in, numbers}
+use Rattle.counter_http.specs.together.Standing.{AreRefused, StandsHere}
 use Rattle.counter_http.specs.together.Submitting.{Gathers, SubmitsBatch}
 use Rattle.counter_http.specs.declared.batch.Batch.{Batch}
 use Rattle.counter_http.specs.declared.client.Client.{Client}
 use Rattle.counter_http.proofs.Gathering.{takes_reads}
-use Rattle.counter_http.proofs.Placed.{beside_then}
+use Rattle.counter_http.proofs.Placed.{beside_then, found_too, takes_then}
 use Rattle.counter_http.proofs.Steps.{submitted-append}
 use Rattle.counter_http.proofs.Submitted.{why_then}
 
@@ -44,7 +44,7 @@ pub round_submitted : {C R W X Y : Type 0} (seen : C → Seen) {reason : Fault �
     (result : Result Y Fault) → Gathers seen reason known old mid here one batch (Ok x)
     → SubmitsBatch seen reason known k k' mid new one two result
     → AnswersRound seen reason known k k' old new here two result
-round_submitted seen {reason} old mid new here one two batch result g s =
+round_submitted seen {reason} {known} old mid new here one two batch result g s =
     let d = s.did in
     let took = takes_reads seen old mid g.reads g.are_reads g.asked.done in
     let both = beside_then seen old mid new here one two g.reads d.posts took g.asked.honest g.beside d.beside in
@@ -58,7 +58,13 @@ round_submitted seen {reason} old mid new here one two batch result g s =
       refused = d.refused;
       whose = both.whose;
       whose_refused = subst (λ (ns : List ℕ). AllByRecursion (IsOfOneOf ns) d.refused) g.beside.same d.whose_refused;
-      told = d.told;
+      told = λ p y y' at at' k first before takes is.
+          let mids = found_too here one p y g.beside.same at in
+          subst (λ (l : List Step). AreRefused known k (seen first) (seen new) l (fault_in result) d.refused y')
+          (append_assoc before g.reads d.posts)
+          (d.told p mids.0 y' mids.1 at' k first (before ++ g.reads)
+          (takes_then seen first old mid before g.reads g.asked.honest takes took)
+          (g.beside.stand p y mids.0 at mids.1 k first before takes is));
       clock = s.clock;
       stood = d.stood;
       honest_first = λ h. g.asked.honest (d.honest_first h);
@@ -89,7 +95,7 @@ round_refused {Y = Y} seen {reason} {known} old new here one batch why g =
       refused = [];
       whose = all_more (IsOfOneOf (numbers here)) g.reads [] g.beside.whose tt;
       whose_refused = tt;
-      told = tt;
+      told = λ p y y' at at' k first before takes is. tt;
       clock = refl;
       stood = f.stood;
       honest_first = f.honest_first;
@@ -117,7 +123,7 @@ round_as y a = record {
   refused = a.refused;
   whose = a.whose;
   whose_refused = a.whose_refused;
-  told = tt;
+  told = a.told;
   clock = a.clock;
   stood = a.stood;
   honest_first = a.honest_first;

@@ -58,6 +58,16 @@ number_there : {R W : Type 0} (here : List (Client R W)) (p : ℕ) (client : Cli
     → slice_get here p ≡ Some client → slice_get (numbers here) p ≡ Some client.number
 number_there here p client at = slice_get-map number_in here p ∙ ap (option_map number_in) at
 
+-- and each has the number of the one before
+pub number_kept : {R W : Type 0} (xs ys : List (Client R W)) (p : ℕ) (x y : Client R W) → numbers ys ≡ numbers xs
+    → slice_get xs p ≡ Some x → slice_get ys p ≡ Some y → y.number ≡ x.number
+number_kept xs ys p x y same at at' =
+    some_number y.number x.number
+    (sym (number_there ys p y at') ∙ ap (λ (ns : List ℕ). slice_get ns p) same ∙ number_there xs p x at)
+  where
+    some_number : (m n : ℕ) → Some m ≡ Some n → m ≡ n
+    some_number m n e = cc e
+
 pub one_of_these : {R W : Type 0} (here : List (Client R W)) (p : ℕ) (client : Client R W)
     → slice_get here p ≡ Some client → Contains (numbers here) client.number
 one_of_these here p client at =

@@ -10,8 +10,8 @@ use Rattle.posting_rules.specs.believed.Runs.{followed_by, posts, replies_to}
 use Rattle.posting_rules.proofs.Sequence.{after-append}
 use Rattle.counter_http.specs.Connections.{Known}
 use Rattle.counter_http.specs.together.Order.{Step, is_posted_under, submitted_by}
-use Rattle.counter_http.specs.together.Rounds.{AllDiffer, IsOfOneOf, IsTurnedAway, TellsRefusal, numbers}
-use Rattle.counter_http.specs.together.Standing.{AnswersRecord, HasEndedWith, StandsHere}
+use Rattle.counter_http.specs.together.Rounds.{AllDiffer, IsOfOneOf, numbers}
+use Rattle.counter_http.specs.together.Standing.{AnswersRecord, AreRefused, HasEndedWith, StandsHere, StandsRefused}
 use Rattle.counter_http.specs.together.Submitting.{AnswersAt, AnswersEach, AreApart, AreGiven, GivesAt, IsElsewhere, RefusesAt}
 use Rattle.counter_http.specs.together.Submitting.{RefusesEach}
 use Rattle.counter_http.specs.believed.Answers.{answer_text, asked_by, bare}
@@ -24,8 +24,9 @@ use Rattle.counter_http.proofs.Answering.{step_of}
 use Rattle.counter_http.proofs.Beside.{stands_beside}
 use Rattle.counter_http.proofs.Fronts.{number_ended, number_of_record, record_step, refused_here}
 use Rattle.counter_http.proofs.Gathering.{given_still}
-use Rattle.counter_http.proofs.Placed.{at_other, at_same, found_too, numbers_apart, numbers_at, one_of_these}
+use Rattle.counter_http.proofs.Placed.{at_other, at_same, found_too, number_kept, numbers_apart, numbers_at, one_of_these}
 use Rattle.counter_http.proofs.Placed.{same_or_not, some_is}
+use Rattle.counter_http.proofs.Refused.{refused_now}
 use Rattle.counter_http.proofs.Steps.{submitted-append}
 
 -- ---- the messages of the records
@@ -271,30 +272,52 @@ refused_elsewhere {R} {W} here here' (s ∷ ss) why p (mid, one, more) all =
     ∙ ap (λ (cs : List (Client R W)). slice_get cs p) one.is
     ∙ at_other here s.place p one.after (λ e. all.0 (sym e))
 
-tells_refusal : {R W : Type 0} {old new : Client R W} {text : List ℕ} (why : Fault)
-    → HasEndedWith old new text (parting.Bank why) → TellsRefusal new.parting why
-tells_refusal why (inl ended) = inl ended.parting
-tells_refusal why (inr lost) = inr lost.parting
+-- a record of the one at a place was refused
+told_one : {R W : Type 0} {known : R × W → Known} {k : Known} {c c' : Seen} {steps : List Step} (moment : ℕ)
+    (here mid here' : List (Client R W)) (s : Sender) (r : List ℕ) (ss : List Sender) (why : Fault) (g : GivesAt here s r)
+    (one : RefusesAt here mid s why) → AllByRecursion (IsElsewhere s.place) ss → RefusesEach mid here' ss why
+    → AllDiffer (numbers here) → numbers here' ≡ numbers here → (p : ℕ) (x x' : Client R W) → slice_get here p ≡ Some x
+    → slice_get here' p ≡ Some x' → StandsHere known k c c' steps x → g.client.number ≡ x'.number
+    → StandsRefused known k c c' steps why (step_at moment g).turn x'
+told_one {R} {W} {known} {k} {c} {c'} {steps} moment here mid here' s r ss why g one apart more all same p x x' at at' is
+    own =
+    elim (same_or_not p s.place) [
+      | inl e ↦
+          let there : slice_get here' s.place ≡ Some one.after =
+          refused_elsewhere mid here' ss why s.place more apart
+          ∙ ap (λ (cs : List (Client R W)). slice_get cs s.place) one.is ∙ at_same here s.place one.before one.after one.at in
+          subst (λ (z : Client R W). StandsRefused known k c c' steps why (step_at moment g).turn z)
+          (same_client here' s.place p x' one.after (sym (ap (λ (n : ℕ). slice_get here' n) e) ∙ at')
+          (ap (λ (n : ℕ). slice_get here' n) e ∙ there) e)
+          (refused_now g.client one.after moment g.gives.is.message s.head why g.gives.going g.gives.is.is
+          (refuses_given here mid s r why g one) (λ h. h)
+          (subst (λ (z : Client R W). StandsHere known k c c' steps z)
+          (same_client here s.place p g.client x g.at at e) is))
+      | inr ne ↦
+          absurd (numbers_apart here s.place p g.client x all g.at at ne
+          (sym (own ∙ number_kept here here' p x x' same at at')))
+    ]
 
 -- each was told
-pub told_each : {R W : Type 0} (moment : ℕ) (here here' : List (Client R W)) (ss : List Sender) (rs : List (List ℕ))
-    (why : Fault) (g : AreGiven here ss rs) → AreApart ss → RefusesEach here here' ss why
-    → AllByRecursion (IsTurnedAway here' why) (steps_at moment here ss rs g)
-told_each moment here here' [] rs why g apart a = tt
-told_each moment here here' (s ∷ ss) [] why g apart a = absurd g
-told_each {R} {W} moment here here' (s ∷ ss) (r ∷ rs) why g apart (mid, one, more) = (
-  record {
-    place = s.place;
-    client = one.after;
-    at = refused_elsewhere mid here' ss why s.place more apart.0
-        ∙ ap (λ (cs : List (Client R W)). slice_get cs s.place) one.is ∙ at_same here s.place one.before one.after one.at;
-    number = number_ended g.0.client one.after (refuses_given here mid s r why g.0 one);
-    told = tells_refusal why one.tells;
-  },
-  subst (λ (l : List Step). AllByRecursion (IsTurnedAway here' why) l)
-      (steps_kept moment here mid s.place one.after ss rs one.is g.1 apart.0)
-      (told_each moment mid here' ss rs why (given_still here mid s.place one.after ss rs one.is g.1 apart.0) apart.1 more),
-)
+pub told_each : {R W : Type 0} {known : R × W → Known} {k : Known} {c c' : Seen} {steps : List Step} (moment : ℕ)
+    (here here' : List (Client R W)) (ss : List Sender) (rs : List (List ℕ)) (why : Fault) (g : AreGiven here ss rs)
+    → AreApart ss → AllDiffer (numbers here) → RefusesEach here here' ss why → (p : ℕ) (x x' : Client R W)
+    → slice_get here p ≡ Some x → slice_get here' p ≡ Some x' → StandsHere known k c c' steps x
+    → AreRefused known k c c' steps (Some why) (steps_at moment here ss rs g) x'
+told_each moment here here' [] rs why g apart all a p x x' at at' is = tt
+told_each moment here here' (s ∷ ss) [] why g apart all a p x x' at at' is = absurd g
+told_each {R} {W} {known} {k} {c} {c'} {steps} moment here here' (s ∷ ss) (r ∷ rs) why g apart all (mid, one, more) p x x'
+    at at' is =
+    let same = numbers_refused here mid s r why g.0 one in
+    let there = found_too here mid p x same at in
+    let later = given_still here mid s.place one.after ss rs one.is g.1 apart.0 in (
+      (λ own. told_one moment here mid here' s r ss why g.0 one apart.0 more all
+          (numbers_all_refused mid here' ss rs why later apart.1 more ∙ same) p x x' at at' is own),
+      subst (λ (l : List Step). AreRefused known k c c' steps (Some why) l x')
+          (steps_kept moment here mid s.place one.after ss rs one.is g.1 apart.0)
+          (told_each moment mid here' ss rs why later apart.1 (differ_still _ _ same all) more p there.0 x' there.1 at'
+          (refused_one here mid s r why g.0 one p x there.0 at there.1 is)),
+    )
 
 -- ---- the chain, one sender more
 

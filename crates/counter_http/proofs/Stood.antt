@@ -115,7 +115,7 @@ IsLoss parting.Read = ⊥
 IsLoss (parting.Bank fault) = ⊥
 IsLoss _ = ⊤
 
-loses : {i : ℕ} {k l : Known} {c c' : Seen} {steps : List Step} (p : Parting) (is : IsLeft i k l c c' steps)
+unfoldable pub loses : {i : ℕ} {k l : Known} {c c' : Seen} {steps : List Step} (p : Parting) (is : IsLeft i k l c c' steps)
     → PartsAs p (HasEnded l.reader k.reads l.reads) (of_client i steps) is.lost is.rest is.last
     → (c'.honest → (log : List Command) → ShowsLog c log
     → IsWrittenAs p (is.written ++ []) (joined (answers_at i log steps ++ is.last)))
@@ -136,12 +136,12 @@ loses p is parts answers left ends = record {
   prompt = is.prompt;
 }
 
-no_more_written : (written text : List ℕ) → written ≡ take (length written) text
+pub no_more_written : (written text : List ℕ) → written ≡ take (length written) text
     → written ++ [] ≡ take (length (written ++ [])) text
 no_more_written written text e =
     append-nil written ∙ e ∙ ap (λ (x : List ℕ). take (length x) text) (sym (append-nil written))
 
-pub lost_as : {i : ℕ} {k l : Known} {c c' : Seen} {steps : List Step} (p : Parting) → IsLoss p
+unfoldable pub lost_as : {i : ℕ} {k l : Known} {c c' : Seen} {steps : List Step} (p : Parting) → IsLoss p
     → IsLeft i k l c c' steps → PartingIsOfItsEnd p k.reads l.reads k.writes l.writes
     → IsParted i k l c c' steps [] p
 lost_as parting.Served loss is ends = absurd loss
@@ -158,7 +158,7 @@ lost_as parting.Stopped loss is ends = loses parting.Stopped is is.stands
 
 -- ---- its connection is closed
 
-pub closed_stopped : {i : ℕ} {k l : Known} {c c' : Seen} {steps : List Step} → IsLeft i k l c c' steps
+unfoldable pub closed_stopped : {i : ℕ} {k l : Known} {c c' : Seen} {steps : List Step} → IsLeft i k l c c' steps
     → ClientIsServed i k l c c' steps parting.Stopped
 closed_stopped is = record {
   lost = is.lost;
@@ -173,7 +173,7 @@ closed_stopped is = record {
   prompt = is.prompt;
 }
 
-pub closed_as : {i : ℕ} {k l : Known} {c c' : Seen} {steps : List Step} {pending : List ℕ} {p : Parting}
+unfoldable pub closed_as : {i : ℕ} {k l : Known} {c c' : Seen} {steps : List Step} {pending : List ℕ} {p : Parting}
     → pending ≡ [] → IsParted i k l c c' steps pending p → ClientIsServed i k l c c' steps p
 closed_as {i} {steps = steps} {pending} {p} none is = record {
   lost = is.lost;
@@ -192,13 +192,13 @@ closed_as {i} {steps = steps} {pending} {p} none is = record {
 -- ---- it is written to
 
 -- what is left of so many more written bytes
-regrouped : (written pending : List ℕ) (n : ℕ)
+pub regrouped : (written pending : List ℕ) (n : ℕ)
     → (written ++ take n pending) ++ drop n pending ≡ written ++ pending
 regrouped written pending n =
     append_assoc written (take n pending) (drop n pending)
     ∙ ap (λ (x : List ℕ). written ++ x) (take-append-drop n pending)
 
-wrote_flushed : (p : Parting) (k l : Known) (v' : Option (List WriteTold)) (pending : List ℕ)
+pub wrote_flushed : (p : Parting) (k l : Known) (v' : Option (List WriteTold)) (pending : List ℕ)
     → MayBeLeft p pending → pending ≢ [] → IsThrough k.writes v'
     → PartingIsOfItsEnd p k.reads l.reads k.writes v'
 wrote_flushed parting.Served k l v' pending left some through = through
@@ -209,7 +209,7 @@ wrote_flushed parting.Memory k l v' pending left some through = tt
 wrote_flushed parting.GivenUp k l v' pending left some through = tt
 wrote_flushed parting.Stopped k l v' pending left some through = tt
 
-still_left : (p : Parting) (pending : List ℕ) (n : ℕ) → MayBeLeft p pending → pending ≢ []
+pub still_left : (p : Parting) (pending : List ℕ) (n : ℕ) → MayBeLeft p pending → pending ≢ []
     → MayBeLeft p (drop n pending)
 still_left parting.Served pending n left some = tt
 still_left parting.Read pending n left some = absurd (some left)
@@ -220,7 +220,7 @@ still_left parting.GivenUp pending n left some = absurd (some left)
 still_left parting.Stopped pending n left some = absurd (some left)
 
 -- so many bytes of what was left were written, and where no more is left they were flushed
-pub wrote_to : {i : ℕ} {k l : Known} {c c' : Seen} {steps : List Step} (p : Option Parting) {has_more shown : Bool}
+unfoldable pub wrote_to : {i : ℕ} {k l : Known} {c c' : Seen} {steps : List Step} (p : Option Parting) {has_more shown : Bool}
     {rest pending : List ℕ} (n : ℕ) (w' : Option (List ℕ)) (v' : Option (List WriteTold))
     → Appends l.writer w' (take n pending) → HasMore l.writes v' → pending ≢ []
     → (drop n pending ≡ [] → EndsWith IsFlush l.writes v')
@@ -265,7 +265,7 @@ prefix_more p written pending text n is =
     prefix_of p (written ++ take n pending) (drop n pending) text
     (subst (λ (x : List ℕ). IsWrittenAs p x text) (sym (regrouped written pending n)) is)
 
-take_written : {i : ℕ} {k l : Known} {c c' : Seen} {steps : List Step} (p : Option Parting)
+pub take_written : {i : ℕ} {k l : Known} {c c' : Seen} {steps : List Step} (p : Option Parting)
     {has_more shown : Bool} {rest pending : List ℕ} (n : ℕ)
     (g : StandsAs p i k l c c' steps has_more shown rest pending)
     → c'.honest → (log : List Command) → ShowsLog c log
@@ -281,7 +281,7 @@ take_written {i} {k} {l} {c} {c'} {steps} (Some p) {pending = pending} n so h lo
     prefix_more p g.written pending (joined (answers_at i log steps ++ g.last)) n (g.answers h log s)
 
 -- some were written, and no more will be
-pub left_after : {i : ℕ} {k l : Known} {c c' : Seen} {steps : List Step} (p : Option Parting)
+unfoldable pub left_after : {i : ℕ} {k l : Known} {c c' : Seen} {steps : List Step} (p : Option Parting)
     {has_more shown : Bool} {rest pending : List ℕ} (n : ℕ) (w' : Option (List ℕ)) (v' : Option (List WriteTold))
     → Appends l.writer w' (take n pending) → HasMore l.writes v'
     → StandsAs p i k l c c' steps has_more shown rest pending

@@ -1,6 +1,6 @@
 -- Calls of a counter that was given records of clients, one call after another.
 use Rattle.std.proofs.Common.{◌≡◌, ℕ, ◌+◌, ◌≤◌, List, [], ◌∷◌, ◌++◌, length, Some, Result, Ok, Err}
-use Rattle.std.proofs.Common.{refl, sym, subst, append-nil, arith, inl, inr}
+use Rattle.std.proofs.Common.{refl, sym, subst, append_assoc, append-nil, arith, inl, inr}
 use Rattle.std.proofs.lemmas.List.{length-append}
 use Rattle.std.specs.{List.AllByRecursion, List.slice_get, Prelude.IfErr}
 use Rattle.posting_rules.specs.declared.fault.Fault.{Fault}
@@ -13,8 +13,8 @@ use Rattle.posting_core.specs.Stream.{IsOfCall}
 use Rattle.posting_core.proofs.StreamedBatches.{all_more}
 use Rattle.counter_http.specs.Connections.{Known}
 use Rattle.counter_http.specs.together.Order.{Step, is_posted_under, submitted_by}
-use Rattle.counter_http.specs.together.Rounds.{AllDiffer, IsOfOneOf, numbers}
-use Rattle.counter_http.specs.together.Standing.{StandsHere}
+use Rattle.counter_http.specs.together.Rounds.{AllDiffer, IsOfOneOf, fault_in, numbers}
+use Rattle.counter_http.specs.together.Standing.{AreRefused, StandsHere}
 use Rattle.counter_http.specs.together.Submitting.{AnswersEach, AreApart, AreGiven, AreSubmitted}
 use Rattle.counter_http.specs.together.Submitting.{RefusesEach}
 use Rattle.counter_http.specs.declared.batch.Sender.{Sender}
@@ -22,7 +22,7 @@ use Rattle.counter_http.specs.declared.client.Client.{Client}
 use Rattle.counter_http.proofs.AnsweredTurns.{why_first}
 use Rattle.counter_http.proofs.Asked.{unchanged_takes}
 use Rattle.counter_http.proofs.Fronts.{stands_after}
-use Rattle.counter_http.proofs.Placed.{beside_none, beside_then}
+use Rattle.counter_http.proofs.Placed.{beside_none, beside_then, found_too, takes_then}
 use Rattle.counter_http.proofs.Posted.{answered_each, numbers_all_answered, numbers_all_refused, refused_each}
 use Rattle.counter_http.proofs.Posted.{steps_at, steps_long, steps_posted, steps_submit, steps_whose, told_each}
 use Rattle.counter_http.proofs.Steps.{submitted-append}
@@ -39,7 +39,7 @@ submitted_nothing seen readings bank here n = record {
   few = omega arith;
   beside = beside_none seen bank bank here (λ h. h);
   whose_refused = tt;
-  told = tt;
+  told = λ p y y' at at' k first before takes is. tt;
   stood = bank;
   honest_first = λ h. h;
   honest = λ h. h;
@@ -65,7 +65,7 @@ spared_all {X = X} seen contents reason readings old new here cs why e it =
       few = omega arith;
       beside = beside_none seen old new here call.honest;
       whose_refused = tt;
-      told = tt;
+      told = λ p y y' at at' k first before takes is. tt;
       stood = new;
       honest_first = call.honest;
       honest = λ h. h;
@@ -111,7 +111,7 @@ module _ {C K R W X : Type 0} (seen : C → Seen) (contents : C → K) (reason :
           (stands_after y call.honest is);
     };
     whose_refused = tt;
-    told = tt;
+    told = λ p y y' at at' k first before takes is. tt;
     stood = new;
     honest_first = call.honest;
     honest = λ h. h;
@@ -123,10 +123,11 @@ module _ {C K R W X : Type 0} (seen : C → Seen) (contents : C → K) (reason :
   }
 
   -- the bank refused it, and each sender was told so
-  pub refused_all : (why : Fault) → IsCounterCall {X = X} seen contents reason old new (posts moment rs) (Err why)
+  pub refused_all : (why : Fault) → AllDiffer (numbers here)
+      → IsCounterCall {X = X} seen contents reason old new (posts moment rs) (Err why)
       → RefusesEach here here' ss why
       → AreSubmitted {X = Unit {0}} seen reason known (moment ∷ []) old new here here' (length rs) (Err why)
-  refused_all why call chain = record {
+  refused_all why all call chain = record {
     posts = [];
     refused = steps_at moment here ss rs g;
     together = tt;
@@ -137,7 +138,10 @@ module _ {C K R W X : Type 0} (seen : C → Seen) (contents : C → K) (reason :
       stand = λ p y y' at at' k first before takes is. refused_beside seen old new here here' ss rs g apart why call.honest chain p y y' at at' k first before is;
     };
     whose_refused = steps_whose moment here ss rs g;
-    told = told_each moment here here' ss rs why g apart chain;
+    told = λ p y y' at at' k first before takes is.
+        subst (λ (l : List Step). AreRefused known k (seen first) (seen new) l (Some why) (steps_at moment here ss rs g) y')
+        (sym (append-nil before))
+        (told_each moment here here' ss rs why g apart all chain p y y' at at' (stands_after y call.honest is));
     stood = old;
     honest_first = λ h. h;
     honest = call.honest;
@@ -169,7 +173,7 @@ module _ {C K R W X : Type 0} (seen : C → Seen) (contents : C → K) (reason :
               refused_beside seen old new here here' ss rs g apart why call.honest chain p y y' at at' k first before is;
         };
         whose_refused = tt;
-        told = tt;
+        told = λ p y y' at at' k first before takes is. tt;
         stood = new;
         honest_first = call.honest;
         honest = λ h. h;
@@ -196,7 +200,7 @@ pub submitted_then : {C R W X Y : Type 0} (seen : C → Seen) {reason : Fault �
     → AreSubmitted seen reason known readings old mid here one n (Ok x)
     → AreSubmitted seen reason known readings mid new one two m result
     → AreSubmitted seen reason known readings old new here two (n + m) result
-submitted_then {C = C} seen {reason} readings old mid new here one two n m result a b =
+submitted_then {C = C} seen {reason} {known} readings old mid new here one two n m result a b =
     let took : Takes (seen old) (seen mid) (submitted_by a.posts) =
     subst (λ (c : C). Takes (seen old) (seen c) (submitted_by a.posts)) (sym a.ends.1) a.takes in
     let honest : (seen mid).honest → (seen old).honest = λ h. a.honest_first (a.honest h) in
@@ -209,7 +213,13 @@ submitted_then {C = C} seen {reason} readings old mid new here one two n m resul
       few = omega (arith, length-append a.posts b.posts, a.few, b.few);
       beside = beside_then seen old mid new here one two a.posts b.posts took honest a.beside b.beside;
       whose_refused = subst (λ (ns : List ℕ). AllByRecursion (IsOfOneOf ns) b.refused) a.beside.same b.whose_refused;
-      told = b.told;
+      told = λ p y y' at at' k first before takes is.
+          let mids = found_too here one p y a.beside.same at in
+          subst (λ (l : List Step). AreRefused known k (seen first) (seen new) l (fault_in result) b.refused y')
+          (append_assoc before a.posts b.posts)
+          (b.told p mids.0 y' mids.1 at' k first (before ++ a.posts)
+          (takes_then seen first old mid before a.posts honest takes took)
+          (a.beside.stand p y mids.0 at mids.1 k first before takes is));
       stood = b.stood;
       honest_first = λ h. honest (b.honest_first h);
       honest = b.honest;

@@ -43,7 +43,7 @@ some_here old new w stands =
     stands_as old.parting new w.parting w.number w.ends w.has_more w.shows w.unread_same w.left
     (wrote_to old.parting w.count w.contents w.told w.wrote w.more w.some (λ e. w.flushed (w.left ∙ e)) stands.is)
 
-failed_more : {old new : Option (List WriteTold)} → HasWriteFailed old new → HasMore old new
+pub failed_more : {old new : Option (List WriteTold)} → HasWriteFailed old new → HasMore old new
 failed_more (inl last) = last_some IsWriteFailure last
 failed_more (inr many) = record { calls = many.earlier ++ many.last; made = many.made }
 

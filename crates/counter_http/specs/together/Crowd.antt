@@ -2,7 +2,7 @@
 -- began and as c' now, steps are the messages that were answered, and of the ends of a client known says what is
 -- known.
 use Rattle.std.specs.Prelude.{◌≡◌, ◌≢◌, ◌⊎◌, ◌<◌, ◌≤◌, ◌+◌, ℕ, List, [], ◌∷◌, ◌++◌, length, map, Option, Result, ⊤, Contains}
-use Rattle.std.specs.Prelude.{IfErr, OnOk}
+use Rattle.std.specs.Prelude.{Err, IfErr, None, OnOk, Some}
 use Rattle.std.specs.List.{AllByRecursion}
 use Rattle.posting_rules.specs.declared.fault.Fault.{Fault}
 use Rattle.posting_rules.specs.believed.Commands.{Command}
@@ -15,10 +15,12 @@ use Rattle.counter_http.specs.Connections.{Known}
 use Rattle.counter_http.specs.together.Order.{Step, Round, IsRound, steps_of, readings_of, submitted_by}
 use Rattle.counter_http.specs.together.Reading.{Reads}
 use Rattle.counter_http.specs.together.Rounds.{IsOfOneOf, numbers}
-use Rattle.counter_http.specs.together.Standing.{IsLost, IsNew, IsParting, StandsHere, Writes}
-use Rattle.counter_http.specs.together.Serving.{EndsTogether, IfBank, IsCutOff, IsVisited, Visit, closed_of, closings, number_of, openings}
+use Rattle.counter_http.specs.together.Standing.{AreRefused, IsLost, IsNew, IsParting, StandsHere, Writes}
+use Rattle.counter_http.specs.together.Serving.{ClientIsRefused, EndsTogether, IfBank, IsCutOff, IsVisited, Visit, closed_of}
+use Rattle.counter_http.specs.together.Serving.{closings, number_of, openings}
 use Rattle.counter_http.specs.declared.client.Client.{Client}
 use Rattle.counter_http.specs.declared.listen_fault.ListenFault.{ListenFault}
+use Rattle.counter_http.specs.declared.listen_fault.ListenFault.TheVariants.{Bank}
 use Rattle.counter_http.specs.declared.parting.Parting.{Parting}
 use Rattle.counter_http.specs.declared.parting.Parting.TheVariants as parting
 
@@ -86,12 +88,27 @@ pub record HaveMoved {R W : Type 0} (a b : Scene R W) : Type 0 where
 
 -- ---- all who came
 
--- one that is here was given by an opening, and stands by the messages that were answered
-pub record IsHere {R W : Type 0} (known : R × W → Known) (c c' : Seen) (steps : List Step)
-    (calls : List (ClientsTold (R × W))) (client : Client R W) : Type 0 where
+-- one that is here was given by an opening, stands by the messages that were answered, and was told that the bank
+-- refused what it refused of it
+pub record IsHere {R W : Type 0} (known : R × W → Known) (c c' : Seen) (steps : List Step) (fault : Option Fault)
+    (refused : List Step) (calls : List (ClientsTold (R × W))) (client : Client R W) : Type 0 where
   pub given : R × W
   pub came : Contains calls (Gave client.number given)
   pub stands : StandsHere known (known given) c c' steps client
+  pub told : AreRefused known (known given) c c' steps fault refused client
+
+-- and so was one that left
+abbrev pub WereRefused : {E : Type 0} → (E → Known) → (c c' : Seen) → List Step → Option Fault → List Step → Visit E
+    → Type 0
+WereRefused known c c' steps None refused v = ⊤
+WereRefused known c c' steps (Some fault) refused v =
+    AllByRecursion (λ s. s.client ≡ v.number
+    → ClientIsRefused v.number (known v.given) (known v.left) c c' steps fault s.turn v.parting) refused
+
+abbrev pub HasLeft : {E : Type 0} → (E → Known) → (c c' : Seen) → List Step → Option Fault → List Step
+    → List (ClientsTold E) → Visit E → Type 0
+HasLeft known c c' steps fault refused calls v =
+    IsVisited known c c' steps calls v × WereRefused known c c' steps fault refused v
 
 abbrev pub all_numbers : {R W : Type 0} → List (Visit (R × W)) → List (Client R W) → List ℕ
 all_numbers visits here = map number_of visits ++ numbers here
@@ -103,13 +120,13 @@ Differ (n ∷ ns) = AllByRecursion (λ m. n ≢ m) ns × Differ ns
 
 -- those who left were served, each once, and the others are here; the bank refused some messages at last, or none
 pub record IsCrowd {R W : Type 0} (known : R × W → Known) (g : Option (List (ClientsTold (R × W)))) (c c' : Seen)
-    (steps refused : List Step) (a : Scene R W) : Type 0 where
+    (steps : List Step) (fault : Option Fault) (refused : List Step) (a : Scene R W) : Type 0 where
   pub calls : List (ClientsTold (R × W))
   pub told : GrowsBy g a.told calls
   pub visits : List (Visit (R × W))
   pub closed : map closed_of visits ≡ closings calls
-  pub visited : AllByRecursion (IsVisited known c c' steps calls) visits
-  pub are_here : AllByRecursion (IsHere known c c' steps calls) a.here
+  pub visited : AllByRecursion (HasLeft known c c' steps fault refused calls) visits
+  pub are_here : AllByRecursion (IsHere known c c' steps fault refused calls) a.here
   pub differ : Differ (all_numbers visits a.here)
   pub below : AllByRecursion (λ n. n < a.came) (all_numbers visits a.here)
   pub whose : AllByRecursion (IsOfOneOf (all_numbers visits a.here)) (steps ++ refused)
@@ -117,6 +134,10 @@ pub record IsCrowd {R W : Type 0} (known : R × W → Known) (g : Option (List (
   pub many : length (all_numbers visits a.here) ≡ a.came
 
 -- ---- round by round
+
+abbrev pub fault_of_bank : Result (Unit {0}) ListenFault → Option Fault
+fault_of_bank (Err (Bank fault)) = Some fault
+fault_of_bank _ = None
 
 -- rounds were served, until the connections were, or a fault came; some clients may be here still
 pub record ServesRounds {C R W : Type 0} (seen : C → Seen) (reason : Fault → C → C → Type 0) (known : R × W → Known)
@@ -141,7 +162,7 @@ pub record ServesRounds {C R W : Type 0} (seen : C → Seen) (reason : Fault →
   pub came : ℕ
   pub few : came ≤ n
   pub done : OnOk result (came ≡ n)
-  pub crowd : IsCrowd known g (seen old) (seen new) (steps_of rounds) refused
+  pub crowd : IsCrowd known g (seen old) (seen new) (steps_of rounds) (fault_of_bank result) refused
       (record { told = g'; came = came; here = here })
 
 -- so many clients were given by openings

@@ -1,6 +1,6 @@
 -- One round of clients that are served at once: what was read from them is answered. The bank is old before and
 -- new after, the clients are here before and here' after, and the clock's known readings are k and k'.
-use Rattle.std.specs.Prelude.{◌≡◌, ◌≢◌, ◌⊎◌, ℕ, List, [], ◌++◌, length, map, Option, Some, Result, Ok, Err, IfErr}
+use Rattle.std.specs.Prelude.{◌≡◌, ◌≢◌, ℕ, List, [], ◌++◌, length, map, Option, None, Some, Result, Ok, Err, IfErr}
 use Rattle.std.specs.Prelude.{AllPairs, Contains}
 use Rattle.std.specs.List.{AllByRecursion, slice_get}
 use Rattle.posting_rules.specs.declared.fault.Fault.{Fault}
@@ -10,10 +10,8 @@ use Rattle.posting_core.specs.Stream.{IsOfCall}
 use Rattle.posting_core.specs.believed.Clock.{AreReadings}
 use Rattle.counter_http.specs.Connections.{Known}
 use Rattle.counter_http.specs.together.Order.{IsRound, Round, Step, steps_in, submitted_by}
-use Rattle.counter_http.specs.together.Standing.{StandsHere}
+use Rattle.counter_http.specs.together.Standing.{AreRefused, StandsHere}
 use Rattle.counter_http.specs.declared.client.Client.{Client}
-use Rattle.counter_http.specs.declared.parting.Parting.{Parting}
-use Rattle.counter_http.specs.declared.parting.Parting.TheVariants as parting
 
 -- ---- who is here
 
@@ -32,16 +30,19 @@ IsOfOneOf ns s = Contains ns s.client
 
 -- ---- who was told
 
-abbrev pub TellsRefusal : Option Parting → Fault → Type 0
-TellsRefusal p fault = (p ≡ Some (parting.Bank fault)) ⊎ (p ≡ Some parting.Memory)
+abbrev pub fault_in : {X : Type 0} → Result X Fault → Option Fault
+fault_in (Ok x) = None
+fault_in (Err fault) = Some fault
 
--- its client is here, and was told that the bank refused it, or memory was refused for that
-pub record IsTurnedAway {R W : Type 0} (here : List (Client R W)) (fault : Fault) (s : Step) : Type 0 where
-  pub place : ℕ
-  pub client : Client R W
-  pub at : slice_get here place ≡ Some client
-  pub number : client.number ≡ s.client
-  pub told : TellsRefusal client.parting fault
+-- a client that stood by the messages so far stands by them and these, and was told that the bank refused what it
+-- refused of it
+abbrev pub AreToldAt : {C R W : Type 0} → (C → Seen) → (R × W → Known) → (old new : C) → (here here' : List (Client R W))
+    → List Step → Option Fault → List Step → Type 0
+AreToldAt {C} {R} {W} seen known old new here here' steps fault refused =
+    (p : ℕ) (client client' : Client R W) → slice_get here p ≡ Some client → slice_get here' p ≡ Some client'
+    → (known_first : Known) (first : C) (before : List Step) → Takes (seen first) (seen old) (submitted_by before)
+    → StandsHere known known_first (seen first) (seen old) before client
+    → AreRefused known known_first (seen first) (seen new) (before ++ steps) fault refused client'
 
 -- ---- a round
 
@@ -61,8 +62,6 @@ pub record AnswersRound {C R W X : Type 0} (seen : C → Seen) (reason : Fault �
   pub whose : AllByRecursion (IsOfOneOf (numbers here)) (steps_in round)
   pub whose_refused : AllByRecursion (IsOfOneOf (numbers here)) refused
   pub clock : AreReadings k k' round.readings
-  -- each client whose record was refused was told so
-  pub told : IfErr result (λ fault. AllByRecursion (IsTurnedAway here' fault) refused)
   -- the bank stood here when it had taken the messages, and it was down then only where it was down before
   pub stood : C
   pub honest_first : (seen stood).honest → (seen old).honest
@@ -84,3 +83,5 @@ pub record AnswersRound {C R W X : Type 0} (seen : C → Seen) (reason : Fault �
       → (known_first : Known) (first : C) (steps : List Step) → Takes (seen first) (seen old) (submitted_by steps)
       → StandsHere known known_first (seen first) (seen old) steps client
       → StandsHere known known_first (seen first) (seen new) (steps ++ steps_in round) client'
+  -- each client whose record was refused was told so
+  pub told : AreToldAt seen known old new here here' (steps_in round) (fault_in result) refused

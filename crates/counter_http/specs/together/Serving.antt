@@ -117,6 +117,23 @@ pub record ClientIsServed (i : ℕ) (k l : Known) (c c' : Seen) (steps : List St
   pub prompt : AnswersBeforeItsReads i k.reads l.reads k.beside l.beside k.writer k.writes c c' steps
       (texts_of (of_client i steps ++ lost) ++ rest)
 
+-- why a client was parted from that was told that the bank refused its message, by this fault: it took all of the 503,
+-- or a part, since its writer failed, memory was refused for that, or the serving ended
+abbrev pub IsOfRefusal : Fault → Parting → Type 0
+IsOfRefusal fault (parting.Bank f) = f ≡ fault
+IsOfRefusal fault parting.Write = ⊤
+IsOfRefusal fault parting.Memory = ⊤
+IsOfRefusal fault parting.Stopped = ⊤
+IsOfRefusal fault _ = ⊥
+
+-- the bank refused this message of it, the next one of what was read, and the last of its answers is a 503
+pub record ClientIsRefused (i : ℕ) (k l : Known) (c c' : Seen) (steps : List Step) (fault : Fault) (turn : Turn)
+    (p : Parting) : Type 0 where
+  pub served : ClientIsServed i k l c c' steps p
+  pub lost : served.lost ≡ turn ∷ []
+  pub told : IsBrokenOff (of_client i steps) served.lost served.last
+  pub why : IsOfRefusal fault p
+
 -- ---- clients one after another, as their connections were closed
 
 -- the client before whom so many came, the ends that it was given by, how it left them, and why it was parted from
@@ -158,6 +175,14 @@ abbrev pub IsVisited : {E : Type 0} → (known : E → Known) → (c c' : Seen) 
 IsVisited known c c' steps calls v =
     Contains calls (Gave v.number v.given)
     × ClientIsServed v.number (known v.given) (known v.left) c c' steps v.parting
+
+-- a message that the bank refused is of one of them, who was told so
+pub record IsToldTo {E : Type 0} (known : E → Known) (c c' : Seen) (steps : List Step) (visits : List (Visit E))
+    (fault : Fault) (s : Step) : Type 0 where
+  pub visit : Visit E
+  pub one : Contains visits visit
+  pub whose : visit.number ≡ s.client
+  pub refused : ClientIsRefused visit.number (known visit.given) (known visit.left) c c' steps fault s.turn visit.parting
 
 -- ---- all of it
 
@@ -220,6 +245,9 @@ pub record ServesTogether {C E : Type 0} (seen : C → Seen) (reason : Fault →
   pub once : AllPairs OfOthers visits
   pub each : All (IsVisited known (seen old) (seen new) (steps_of rounds) calls) visits
   pub all : length visits ≡ length (openings calls)
+  -- each message that was refused is its client's own, who was told so
+  pub refusals : IfErr result (λ fault. IfBank fault
+      (λ f. AllByRecursion (IsToldTo known (seen old) (seen new) (steps_of rounds) visits f) refused))
   -- no message is of anybody else
   pub whose : AllByRecursion (IsOfVisit visits) (steps_of rounds ++ refused)
   pub many : length visits ≤ n

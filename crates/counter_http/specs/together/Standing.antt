@@ -1,7 +1,7 @@
 -- Where a client stands while it is served beside others, and what a function does to it. Of its ends k was known
 -- when it was taken in, and l now. The bank is seen as c when the serving began, and as c' now; steps are the
 -- messages that were answered.
-use Rattle.std.specs.Prelude.{◌≡◌, ◌≢◌, ◌<◌, ℕ, List, [], ◌++◌, length, take, drop, Bool, false, true, Option, Some, None}
+use Rattle.std.specs.Prelude.{◌≡◌, ◌≢◌, ◌<◌, ℕ, List, [], ◌∷◌, ◌++◌, length, take, drop, Bool, false, true, Option, Some, None}
 use Rattle.std.specs.Prelude.{Result, Ok, Err, ⊤, ◌⊎◌}
 use Rattle.std.specs.List.{AllByRecursion}
 use Rattle.std.specs.Io.KnownBytes.{Appends, Consumes}
@@ -14,13 +14,13 @@ use Rattle.posting_core.specs.believed.Told.{EndsWith}
 use Rattle.posting_core.specs.believed.Batches.{joined}
 use Rattle.counter_http.specs.Connections.{Known}
 use Rattle.counter_http.specs.Next.{IsUnfinished}
-use Rattle.counter_http.specs.together.Serving.{AnswersBeforeItsReads, IsWrittenAs, PartingIsOfItsEnd, PartsAs}
+use Rattle.counter_http.specs.together.Serving.{AnswersBeforeItsReads, IsOfRefusal, IsWrittenAs, PartingIsOfItsEnd, PartsAs}
 use Rattle.counter_http.specs.Turns.{IsAsked}
 use Rattle.counter_http.specs.Asking.{said_in}
 use Rattle.counter_http.specs.believed.Answers.{Answer, answer_text, asked_by, bare, is_posting, octets, shows}
 use Rattle.counter_http.specs.believed.Ends.{HasEnded}
 use Rattle.counter_http.specs.believed.Messages.{Message, message_text, IsMessage, closes}
-use Rattle.counter_http.specs.believed.Serving.{KeepsConnection}
+use Rattle.counter_http.specs.believed.Serving.{IsBrokenOff, KeepsConnection}
 use Rattle.counter_http.specs.together.Order.{Step, answers_at, asks_to_read, of_client, submitted_by}
 use Rattle.counter_http.specs.believed.Turns.{Turn, texts_of}
 use Rattle.counter_http.specs.declared.answers.Reading.{Reading}
@@ -96,6 +96,29 @@ pub record StandsHere {R W : Type 0} (known : R × W → Known) (k : Known) (c c
     (client : Client R W) : Type 0 where
   pub is : StandsAs client.parting client.number k (known (client.reader, client.writer)) c c' steps client.has_more
       client.shows_body (unread client) (pending client)
+
+-- ---- what the bank refused
+
+-- no more of its messages are answered, since the bank refused this one
+pub record IsRefused (i : ℕ) (k l : Known) (c c' : Seen) (steps : List Step) (pending : List ℕ) (turn : Turn)
+    (p : Parting) : Type 0 where
+  pub parted : IsParted i k l c c' steps pending p
+  pub lost : parted.lost ≡ turn ∷ []
+  pub told : IsBrokenOff (of_client i steps) parted.lost parted.last
+
+pub record StandsRefused {R W : Type 0} (known : R × W → Known) (k : Known) (c c' : Seen) (steps : List Step)
+    (fault : Fault) (turn : Turn) (client : Client R W) : Type 0 where
+  pub parting : Parting
+  pub parting_is : client.parting ≡ Some parting
+  pub why : IsOfRefusal fault parting
+  pub is : IsRefused client.number k (known (client.reader, client.writer)) c c' steps (pending client) turn parting
+
+-- so it stands by each of its own among these messages
+abbrev pub AreRefused : {R W : Type 0} → (R × W → Known) → Known → (c c' : Seen) → List Step → Option Fault → List Step
+    → Client R W → Type 0
+AreRefused known k c c' steps None refused client = ⊤
+AreRefused known k c c' steps (Some fault) refused client =
+    AllByRecursion (λ s. s.client ≡ client.number → StandsRefused known k c c' steps fault s.turn client) refused
 
 -- ---- what is done for the message at the front
 

@@ -10,7 +10,7 @@ use Rattle.posting_core.specs.Stream.{IsOfCall}
 use Rattle.posting_core.specs.believed.Clock.{AreReadings}
 use Rattle.counter_http.specs.Connections.{Known}
 use Rattle.counter_http.specs.together.Order.{Step, asks_to_read, is_posted_under, submitted_by}
-use Rattle.counter_http.specs.together.Rounds.{EndsRound, IsOfOneOf, IsTurnedAway, numbers}
+use Rattle.counter_http.specs.together.Rounds.{AreToldAt, EndsRound, IsOfOneOf, fault_in, numbers}
 use Rattle.counter_http.specs.together.Standing.{AnswersRecord, GivesRecord, HasEndedWith, StandsHere}
 use Rattle.counter_http.specs.Turns.{IsAsked}
 use Rattle.counter_http.specs.believed.Answers.{answer_text, bare}
@@ -146,7 +146,7 @@ pub record AreSubmitted {C R W X : Type 0} (seen : C → Seen) (reason : Fault �
   pub few : length posts ≤ n
   pub beside : AreBeside seen known old new here here' posts
   pub whose_refused : AllByRecursion (IsOfOneOf (numbers here)) refused
-  pub told : IfErr result (λ fault. AllByRecursion (IsTurnedAway here' fault) refused)
+  pub told : AreToldAt seen known old new here here' posts (fault_in result) refused
   pub stood : C
   pub honest_first : (seen stood).honest → (seen old).honest
   pub honest : (seen new).honest → (seen stood).honest

@@ -24,7 +24,7 @@ pub returns-in_default : goal.returns-in_default
 returns-in_default g c = record {
   submits = refused_all {X = List ℕ} g.C.Counter.seen g.C.Counter.contents g.C.Counter.reason c.args.moment
       c.args.bank.now c.submit.new.self c.args.here.now.items c.refuse_at.new.here.items (c.args.sender ∷ [])
-      (c.args.bytes.now ∷ []) (c.requires.gives, tt) (tt, tt) c.in-Err.fault c.in-Err.ensures.call
+      (c.args.bytes.now ∷ []) (c.requires.gives, tt) (tt, tt) c.in-Err.fault c.requires.others c.in-Err.ensures.call
       (c.refuse_at.new.here.items, c.refuse_at.ensures, refl);
   only = record { client = c.refuse_at.ensures.after; is = c.refuse_at.ensures.is };
   spares = c.in-Err.ensures.spares;

@@ -16,7 +16,7 @@ rounds-init g c = record {
 -- all were served
 pub returns-then-is_empty-clause-serves : goal.returns-then-is_empty-clause-serves
 returns-then-is_empty-clause-serves g c =
-    rounds_end g.C.Counter.seen c.args.bank.now c.rounds.bank (Ok tt) (refl, refl) tt c.if-came-connections.true
+    rounds_end g.C.Counter.seen c.args.bank.now c.rounds.bank (Ok tt) (refl, refl) tt c.if-came-connections.true refl
     c.rounds.invariant.rounding (λ same. absurd (cc same))
 
 -- an opening failed
@@ -29,7 +29,7 @@ returns-in_err-take_in-clause-serves g c =
     let told = err_from_is_err_and c.from_residual.result c.from_residual.ensures.1 in
     let network : c.in_err-take_in.field-0.0 ≡ Network = cc (c.in_err-take_in.ensures.fault) in
     rw (told.1, told.2, network)
-    (rounds_end g.C.Counter.seen c.args.bank.now c.rounds.bank (Err Network) (refl, refl) tt tt s
+    (rounds_end g.C.Counter.seen c.args.bank.now c.rounds.bank (Err Network) (refl, refl) tt tt refl s
     (λ same. inl (cut_off_by c.rounds.invariant.rounding c.wait.ensures c.in_err-take_in.ensures.refused)))
 
 -- no two clients have the same number
@@ -87,5 +87,5 @@ rounds-preserved g c =
 -- there are no more rounds
 pub returns-clause-serves : goal.returns-clause-serves
 returns-clause-serves g c =
-    rounds_end g.C.Counter.seen c.args.bank.now c.rounds.bank (Err Network) (refl, refl) tt tt c.rounds.invariant.rounding
+    rounds_end g.C.Counter.seen c.args.bank.now c.rounds.bank (Err Network) (refl, refl) tt tt refl c.rounds.invariant.rounding
     (λ same. inr (omega (arith, c.rounds.invariant.rounding.many)))

@@ -63,7 +63,7 @@ returns-in-Err g c =
         did = submitted_few (length rs) RECORDS_PER_BATCH c.as_slice-records.ensures.fits
             (refused_all g.C.Counter.seen g.C.Counter.contents g.C.Counter.reason c.now-moment.result c.args.bank.now
             c.submit_all.new.self here c.refuse.new.here.items ss rs given c.requires.gives.apart c.in-Err.fault
-            c.in-Err.ensures.call c.refuse.ensures);
+            c.requires.others c.in-Err.ensures.call c.refuse.ensures);
       };
       spares = c.in-Err.ensures.spares;
     }

@@ -1,0 +1,158 @@
+-- Where a client stands whose message the bank refused.
+use Rattle.std.proofs.Common.{◌≡◌, ℕ, List, [], ◌∷◌, ◌++◌, drop, take, Option, None, Some, Bool, true, refl, sym, ap, subst, ◌∙◌}
+use Rattle.std.proofs.Common.{append-nil, inl, inr}
+use Rattle.std.specs.Prelude.{◌≢◌}
+use Rattle.std.specs.Io.KnownBytes.{Appends}
+use Rattle.posting_rules.specs.declared.fault.Fault.{Fault}
+use Rattle.posting_rules.specs.believed.Counter.{Seen}
+use Rattle.posting_core.specs.Told.{HasMore, HasWriteFailed, IsFlush, IsWriteFailure, WriteTold}
+use Rattle.posting_core.specs.believed.Told.{EndsWith}
+use Rattle.posting_core.proofs.Telling.{more_failed}
+use Rattle.counter_http.specs.Connections.{Known}
+use Rattle.counter_http.specs.together.Order.{Step, of_client}
+use Rattle.counter_http.specs.together.Standing.{HasEndedWith, IsHeadOf, IsParting, IsRefused, StandsHere, StandsRefused}
+use Rattle.counter_http.specs.together.Standing.{Writes, WritesLast, WritesSome, pending, unread}
+use Rattle.counter_http.specs.together.Serving.{ClientIsRefused, IsOfRefusal, PartingIsOfItsEnd}
+use Rattle.counter_http.specs.believed.Answers.{answer_text, asked_by, bare, unavailable}
+use Rattle.counter_http.specs.believed.Messages.{Message}
+use Rattle.counter_http.specs.believed.Serving.{IsBrokenOff}
+use Rattle.counter_http.specs.believed.Turns.{Turn}
+use Rattle.counter_http.specs.declared.client.Client.{Client}
+use Rattle.counter_http.specs.declared.client.Head.{Head}
+use Rattle.counter_http.specs.declared.parting.Parting.{Parting}
+use Rattle.counter_http.specs.declared.parting.Parting.TheVariants as parting
+use Rattle.counter_http.proofs.Answering.{answered_unavailable}
+use Rattle.counter_http.proofs.Fronts.{ends_by, going_of}
+use Rattle.counter_http.proofs.Stood.{IsLeft, IsLoss, closed_as, closed_stopped, left_after, left_as, lost_as, loses, wrote_to}
+use Rattle.counter_http.proofs.Written.{failed_more}
+
+-- ---- where it stands
+
+-- by its fields
+refused_as : {R W : Type 0} {known : R × W → Known} {k : Known} {c c' : Seen} {steps : List Step} {i : ℕ} {l : Known}
+    {left : List ℕ} {turn : Turn} (fault : Fault) (p : Parting) (new : Client R W) → new.parting ≡ Some p → new.number ≡ i
+    → known (new.reader, new.writer) ≡ l → pending new ≡ left → IsOfRefusal fault p
+    → IsRefused i k l c c' steps left turn p → StandsRefused known k c c' steps fault turn new
+refused_as {known = known} {k} {c} {c'} {steps} {i} {l} {left} {turn} fault p new parting_is number ends none why is =
+    record {
+      parting = p;
+      parting_is = parting_is;
+      why = why;
+      is = subst (λ (j : ℕ). IsRefused j k (known (new.reader, new.writer)) c c' steps (pending new) turn p) (sym number)
+          (subst (λ (m : Known). IsRefused i k m c c' steps (pending new) turn p) (sym ends)
+          (subst (λ (x : List ℕ). IsRefused i k l c c' steps x turn p) (sym none) is));
+    }
+
+-- nothing more is written to it
+lost_to : {i : ℕ} {k l : Known} {c c' : Seen} {steps : List Step} {turn : Turn} (p : Parting) → IsLoss p
+    → (is : IsLeft i k l c c' steps) → PartingIsOfItsEnd p k.reads l.reads k.writes l.writes → is.lost ≡ turn ∷ []
+    → IsBrokenOff (of_client i steps) is.lost is.last → IsRefused i k l c c' steps [] turn p
+unfolding lost_as loses
+lost_to parting.Served loss is ends lost told = absurd loss
+lost_to parting.Read loss is ends lost told = absurd loss
+lost_to (parting.Bank fault) loss is ends lost told = absurd loss
+lost_to parting.Write loss is ends lost told =
+    record { parted = lost_as parting.Write loss is ends; lost = lost; told = told }
+lost_to parting.Memory loss is ends lost told =
+    record { parted = lost_as parting.Memory loss is ends; lost = lost; told = told }
+lost_to parting.GivenUp loss is ends lost told =
+    record { parted = lost_as parting.GivenUp loss is ends; lost = lost; told = told }
+lost_to parting.Stopped loss is ends lost told =
+    record { parted = lost_as parting.Stopped loss is ends; lost = lost; told = told }
+
+-- there was no memory for the 503
+forgotten : {i : ℕ} {k l : Known} {c c' : Seen} {steps : List Step} {left : List ℕ} {turn : Turn} {p : Parting}
+    → IsRefused i k l c c' steps left turn p → IsRefused i k l c c' steps [] turn parting.Memory
+unfolding left_as
+forgotten {p = p} is =
+    lost_to parting.Memory tt (left_as (Some p) {has_more = true} {shown = true} {rest = []} (record { is = is.parted })) tt is.lost is.told
+
+pub refused_now : {R W : Type 0} {known : R × W → Known} {k : Known} {c c' c'' : Seen} {steps : List Step}
+    (old new : Client R W) (moment : ℕ) (m : Message) (head : Head) (why : Fault) → old.parting ≡ None
+    → IsHeadOf head (unread old) m
+    → HasEndedWith old new (answer_text (bare 503) head.shows_body true) (parting.Bank why) → (c''.honest → c'.honest)
+    → StandsHere known k c c' steps old
+    → StandsRefused known k c c'' steps why (record { message = m; moment = moment }) new
+refused_now {known = known} old new moment m head why going is (inl told) honest stands =
+    refused_as why (parting.Bank why) new told.parting told.same.number (ends_by known told.same.reader told.same.writer)
+    (told.told ∙ ap (λ (b : Bool). pending old ++ answer_text (bare 503) b true) is.shows_is) refl
+    (answered_unavailable why moment m (drop head.length (unread old)) is.whole is.front honest (going_of old going stands))
+refused_now {known = known} old new moment m head why going is (inr lost) honest stands =
+    refused_as why parting.Memory new lost.parting lost.number (ends_by known lost.reader lost.writer) lost.none tt
+    (forgotten (answered_unavailable why moment m (drop head.length (unread old)) is.whole is.front honest
+    (going_of old going stands)))
+
+-- ---- it is written to
+
+refused_wrote : {i : ℕ} {k l : Known} {c c' : Seen} {steps : List Step} {left : List ℕ} {turn : Turn} {p : Parting} (n : ℕ)
+    (w' : Option (List ℕ)) (v' : Option (List WriteTold)) → Appends l.writer w' (take n left) → HasMore l.writes v'
+    → left ≢ [] → (drop n left ≡ [] → EndsWith IsFlush l.writes v') → IsRefused i k l c c' steps left turn p
+    → IsRefused i k (record l { writer = w'; writes = v' }) c c' steps (drop n left) turn p
+unfolding wrote_to
+refused_wrote {p = p} n w' v' wrote more some flushed is = record {
+  parted = (wrote_to (Some p) {has_more = true} {shown = true} {rest = []} n w' v' wrote more some flushed (record { is = is.parted })).is;
+  lost = is.lost;
+  told = is.told;
+}
+
+refused_failed : {i : ℕ} {k l : Known} {c c' : Seen} {steps : List Step} {left : List ℕ} {turn : Turn} {p : Parting} (n : ℕ)
+    (w' : Option (List ℕ)) (v' : Option (List WriteTold)) → Appends l.writer w' (take n left) → HasWriteFailed l.writes v'
+    → IsRefused i k l c c' steps left turn p
+    → IsRefused i k (record l { writer = w'; writes = v' }) c c' steps [] turn parting.Write
+unfolding left_after left_as
+refused_failed {p = p} n w' v' wrote failed is =
+    lost_to parting.Write tt
+    (left_after (Some p) {has_more = true} {shown = true} {rest = []} n w' v' wrote (failed_more failed) (record { is = is.parted }))
+    (more_failed IsWriteFailure is.parted.more failed) is.lost is.told
+
+pub refused_written : {R W : Type 0} {known : R × W → Known} {k : Known} {c c' : Seen} {steps : List Step} {fault : Fault}
+    {turn : Turn} (old new : Client R W) → Writes known old new → StandsRefused known k c c' steps fault turn old
+    → StandsRefused known k c c' steps fault turn new
+refused_written {known = known} {k} {c} {c'} {steps} {fault} {turn} old new (inl same) is =
+    subst (λ (x : Client _ _). StandsRefused known k c c' steps fault turn x) (sym same) is
+refused_written {fault = fault} old new (inr (inl w)) is =
+    refused_as fault is.parting new (w.parting ∙ is.parting_is) w.number w.ends w.left is.why
+    (refused_wrote w.count w.contents w.told w.wrote w.more w.some (λ e. w.flushed (w.left ∙ e)) is.is)
+refused_written {fault = fault} old new (inr (inr w)) is =
+    refused_as fault parting.Write new w.parting w.number w.ends w.none tt
+    (refused_failed w.count w.contents w.told w.wrote w.failed is.is)
+
+-- ---- its connection is closed
+
+refused_stopped : {i : ℕ} {k l : Known} {c c' : Seen} {steps : List Step} {left : List ℕ} {turn : Turn} {p : Parting}
+    (fault : Fault) → IsRefused i k l c c' steps left turn p
+    → ClientIsRefused i k l c c' steps fault turn parting.Stopped
+unfolding closed_stopped left_as
+refused_stopped {p = p} fault is = record {
+  served = closed_stopped (left_as (Some p) {has_more = true} {shown = true} {rest = []} (record { is = is.parted }));
+  lost = is.lost;
+  told = is.told;
+  why = tt;
+}
+
+refused_over : {i : ℕ} {k l : Known} {c c' : Seen} {steps : List Step} {left : List ℕ} {turn : Turn} {p : Parting}
+    (fault : Fault) → left ≡ [] → IsOfRefusal fault p → IsRefused i k l c c' steps left turn p
+    → ClientIsRefused i k l c c' steps fault turn p
+unfolding closed_as
+refused_over fault none why is =
+    record { served = closed_as none is.parted; lost = is.lost; told = is.told; why = why }
+
+some_same : (p q : Parting) → Some p ≡ Some q → p ≡ q
+some_same p q e = cc e
+
+pub refused_parted : {R W : Type 0} {known : R × W → Known} {k : Known} {c c' : Seen} {steps : List Step} {fault : Fault}
+    {turn : Turn} (client : Client R W) (parts : R × W × Parting) → IsParting client parts
+    → StandsRefused known k c c' steps fault turn client
+    → ClientIsRefused client.number k (known (parts.0, parts.1)) c c' steps fault turn parts.2
+refused_parted {known = known} {k} {c} {c'} {steps} {fault} {turn} client parts is stands =
+    subst (λ (l : Known). ClientIsRefused client.number k l c c' steps fault turn parts.2)
+    (sym (ends_by known is.reader is.writer))
+    (elim is.why [
+      | inl stop ↦
+          subst (λ (q : Parting). ClientIsRefused client.number k (known (client.reader, client.writer)) c c' steps fault
+          turn q) (sym stop) (refused_stopped fault stands.is)
+      | inr over ↦
+          subst (λ (q : Parting). ClientIsRefused client.number k (known (client.reader, client.writer)) c c' steps fault
+          turn q) (some_same stands.parting parts.2 (sym stands.parting_is ∙ over.0))
+          (refused_over fault over.1 stands.why stands.is)
+    ])
