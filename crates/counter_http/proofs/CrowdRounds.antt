@@ -27,7 +27,7 @@ use Rattle.counter_http.specs.together.Crowd.{Differ, GoesOn, HasLeft, HaveCome,
 use Rattle.counter_http.specs.together.Crowd.{WereRefused, all_numbers, fault_of_bank}
 use Rattle.counter_http.specs.together.Order.{IsRound, Round, Step, readings_in, readings_of, steps_in, steps_of, submitted_by}
 use Rattle.counter_http.specs.together.Rounds.{AnswersRound, IsOfOneOf, fault_in, numbers}
-use Rattle.counter_http.specs.together.Standing.{AreRefused, StandsHere, Writes}
+use Rattle.counter_http.specs.together.Standing.{AreRefused, IsUpToDate, StandsHere, Writes, unread}
 use Rattle.counter_http.specs.together.Serving.{ClientIsRefused, EndsTogether, HasRefused, IfBank, IsCutOff, IsOfVisit, IsToldTo}
 use Rattle.counter_http.specs.together.Serving.{IsVisited, IsWhyRefused, OfOthers, ServesTogether, Visit, number_of}
 use Rattle.counter_http.specs.declared.client.Client.{Client}
@@ -36,6 +36,8 @@ use Rattle.counter_http.specs.declared.listen_fault.ListenFault.TheVariants.{Net
 use Rattle.counter_http.proofs.Beside.{served_beside}
 use Rattle.counter_http.proofs.Crowds.{all_first, all_last, all_stay, crowd_moved, each_weaker, moved_grows}
 use Rattle.counter_http.proofs.Crowds.{pairs_differ, refused_first, refused_last}
+use Rattle.counter_http.proofs.ConnectionLoop.{unfinished_none}
+use Rattle.counter_http.proofs.Fronts.{going_of}
 use Rattle.counter_http.proofs.Readings.{number_read, read_here}
 use Rattle.counter_http.proofs.Refused.{refused_written}
 use Rattle.counter_http.proofs.Steps.{OfOther, submitted-append}
@@ -159,6 +161,19 @@ crowd_differs {a = a} crowd =
     last_of : (xs ys : List ℕ) → Differ (xs ++ ys) → Differ ys
     last_of [] ys d = d
     last_of (x ∷ xs) ys d = last_of xs ys d.1
+
+-- where one waits for more, its whole messages are answered
+up_to_date : {R W : Type 0} {known : R × W → Known} {c c' : Seen} {steps : List Step} {fault : Option Fault}
+    {refused : List Step} {calls : List (ClientsTold (R × W))} (client : Client R W)
+    → IsHere known c c' steps fault refused calls client → IsUpToDate client
+up_to_date client is going none =
+    unfinished_none (unread client) ((going_of client going is.stands).waits none)
+
+pub all_up_to_date : {R W : Type 0} {known : R × W → Known} {g : Option (List (ClientsTold (R × W)))} {c c' : Seen}
+    {steps : List Step} {fault : Option Fault} {refused : List Step} {a : Scene R W}
+    → IsCrowd known g c c' steps fault refused a → AllByRecursion IsUpToDate a.here
+all_up_to_date {known = known} {c = c} {c'} {steps} {fault} {refused} {a} crowd =
+    each_weaker (IsHere known c c' steps fault refused crowd.calls) IsUpToDate up_to_date a.here crowd.are_here
 
 -- ---- a round
 

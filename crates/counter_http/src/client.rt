@@ -76,7 +76,7 @@ pub(crate) enum Front {
 }
 
 impl<R: Source + Drop, W: Sink + Drop> Client<R, W> {
-    ghost use Rattle.std.specs.Prelude.{[], ◌++◌, ◌∷◌, List, ℕ, None, Some, Option, OnOk, IfOk, IfSome, true, MatchBool, IfErr, ◌≢◌};
+    ghost use Rattle.std.specs.Prelude.{[], ◌++◌, ◌∷◌, List, ℕ, None, Some, Option, OnOk, IfOk, IfSome, true, false, MatchBool, IfErr, ◌≢◌};
     ghost use Rattle.counter_http.specs.Connections.{known_ends};
     ghost use Rattle.counter_http.specs.together.Standing.{AnswersRecord, IsAnswered, IsLost, IsNew, IsOver, IsParting, Writes};
     ghost use Rattle.counter_http.specs.together.Standing.{GivesRecord, GivesFront, HasAnswered, HasEndedWith, ReadsAnswer, SaysSo};
@@ -140,7 +140,10 @@ impl<R: Source + Drop, W: Sink + Drop> Client<R, W> {
     }
 
     /// It can be gone on with at once, whatever its stream says.
-    pub fn has_more(&self) -> bool {
+    pub fn has_more(&self) -> bool
+        ensures { result ≡ false → self.now.parting ≡ None → self.now.written ≡ length self.now.output.items
+            → self.now.has_more ≡ false }
+    {
         self.has_more && self.parting.is_none() && self.is_written()
     }
 

@@ -1,7 +1,9 @@
 //! Where clients come in, and how they are waited for.
 ghost use Rattle.std.specs.Prelude.{◌∷◌, [], ℕ, List, Option, None};
+ghost use Rattle.std.specs.List.{AllByRecursion};
 ghost use Rattle.posting_core.specs.believed.Told.{GrowsBy};
 ghost use Rattle.counter_http.specs.Clients.{ClientsTold, Closed, opened_told};
+ghost use Rattle.counter_http.specs.together.Standing.{IsUpToDate};
 
 use crate::client::Client;
 use posting_core::{Sink, Source};
@@ -29,7 +31,7 @@ pub trait Clients {
     ghost told: { Self → Option (List (ClientsTold (Self.Reader × Self.Writer))) } = { λ _. None };
 
     /// Waits until a stream is ready, one more client has come where more are to come, or a limit has passed. It
-    /// doesn't wait where a client has more. Where all places are taken, it may give a client up that says
+    /// doesn't wait where a client has more: of the others each whole message that was read is answered. Where all places are taken, it may give a client up that says
     /// nothing, for the next one. It says how it is with each of them, in their order; of those
     /// that it says nothing of nothing is known.
     fn wait(
@@ -38,6 +40,7 @@ pub trait Clients {
         awaits_more: bool,
         readiness: &mut Vec<Readiness>,
     )
+        requires { AllByRecursion IsUpToDate clients.now }
         ensures { GrowsBy (told self.old) (told self.new) [] };
 
     /// The next client, the one before whom so many came; none where nobody waits to be taken in.

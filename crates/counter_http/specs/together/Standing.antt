@@ -20,7 +20,7 @@ use Rattle.counter_http.specs.Asking.{said_in}
 use Rattle.counter_http.specs.believed.Answers.{Answer, answer_text, asked_by, bare, is_posting, octets, shows}
 use Rattle.counter_http.specs.believed.Ends.{HasEnded}
 use Rattle.counter_http.specs.believed.Messages.{Message, message_text, IsMessage, closes}
-use Rattle.counter_http.specs.believed.Serving.{IsBrokenOff, KeepsConnection}
+use Rattle.counter_http.specs.believed.Serving.{BeginsWithNoMessage, IsBrokenOff, KeepsConnection}
 use Rattle.counter_http.specs.together.Order.{Step, answers_at, asks_to_read, of_client, submitted_by}
 use Rattle.counter_http.specs.believed.Turns.{Turn, texts_of}
 use Rattle.counter_http.specs.declared.answers.Reading.{Reading}
@@ -96,6 +96,10 @@ pub record StandsHere {R W : Type 0} (known : R × W → Known) (k : Known) (c c
     (client : Client R W) : Type 0 where
   pub is : StandsAs client.parting client.number k (known (client.reader, client.writer)) c c' steps client.has_more
       client.shows_body (unread client) (pending client)
+
+-- its whole messages are answered, where it goes on and has no more
+abbrev pub IsUpToDate : {R W : Type 0} → Client R W → Type 0
+IsUpToDate client = client.parting ≡ None → client.has_more ≡ false → BeginsWithNoMessage (unread client)
 
 -- ---- what the bank refused
 

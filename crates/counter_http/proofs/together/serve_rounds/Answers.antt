@@ -3,8 +3,8 @@ use Rattle.std.specs.Vec.{with_items}
 use Rattle.std.proofs.lemmas.List.{with_items_is}
 use Rattle.std.proofs.lemmas.Result.{err_from_is_err_and}
 use Rattle.counter_http.specs.declared.listen_fault.ListenFault.TheVariants.{Network}
-use Rattle.counter_http.proofs.CrowdRounds.{after_round, before_round, crowd_differs, cut_off_by, rounding_next, rounding_none}
-use Rattle.counter_http.proofs.CrowdRounds.{rounds_broken, rounds_end, waited_still}
+use Rattle.counter_http.proofs.CrowdRounds.{after_round, all_up_to_date, before_round, crowd_differs, cut_off_by, rounding_next}
+use Rattle.counter_http.proofs.CrowdRounds.{rounding_none, rounds_broken, rounds_end, waited_still}
 use Rattle.counter_http.proofs.together.serve_rounds.Goals as goal
 
 pub rounds-init : goal.rounds-init
@@ -89,3 +89,7 @@ pub returns-clause-serves : goal.returns-clause-serves
 returns-clause-serves g c =
     rounds_end g.C.Counter.seen c.args.bank.now c.rounds.bank (Err Network) (refl, refl) tt tt refl c.rounds.invariant.rounding
     (λ same. inr (omega (arith, c.rounds.invariant.rounding.many)))
+
+-- each whole message that was read is answered, where its client has no more
+pub wait-requires : goal.wait-requires
+wait-requires g c = rw (c.deref.ensures.value) (all_up_to_date c.rounds.invariant.rounding.crowd)
