@@ -1,7 +1,7 @@
 -- A round: messages that were answered while records were gathered, and those records.
 use Rattle.std.proofs.Common.{ℕ, List, [], ◌++◌, length, Option, Result, Ok, Err, refl, sym, ap, subst}
 use Rattle.std.proofs.Common.{◌∙◌, append_assoc, append-nil, arith}
-use Rattle.std.specs.{List.AllByRecursion}
+use Rattle.std.specs.{List.AllByRecursion, Prelude.OnOk}
 use Rattle.posting_rules.specs.declared.fault.Fault.{Fault}
 use Rattle.posting_rules.specs.believed.Commands.{Command}
 use Rattle.posting_rules.specs.believed.Counter.{LeavesOnly, Seen, ShowsPrefix, StandsAt, Takes}
@@ -11,7 +11,7 @@ use Rattle.posting_core.proofs.Stops.{refused_stop, stop_all, stop_part}
 use Rattle.posting_core.proofs.StreamedBatches.{all_more}
 use Rattle.counter_http.specs.Connections.{Known}
 use Rattle.counter_http.specs.together.Order.{Step, submitted_by}
-use Rattle.counter_http.specs.together.Rounds.{AnswersRound, EndsRound, IsOfOneOf, fault_in, numbers}
+use Rattle.counter_http.specs.together.Rounds.{AllMoveOn, AnswersRound, EndsRound, IsOfOneOf, fault_in, numbers}
 use Rattle.counter_http.specs.together.Standing.{AreRefused, StandsHere}
 use Rattle.counter_http.specs.together.Submitting.{Gathers, SubmitsBatch}
 use Rattle.counter_http.specs.declared.batch.Batch.{Batch}
@@ -42,9 +42,10 @@ survives_round seen old stood new steps refused (Err f) takes honest ends h log 
 pub round_submitted : {C R W X Y : Type 0} (seen : C → Seen) {reason : Fault → C → C → Type 0} {known : R × W → Known}
     {k k' : Option (List ℕ)} (old mid new : C) (here one two : List (Client R W)) (batch : Batch) {x : X}
     (result : Result Y Fault) → Gathers seen reason known old mid here one batch (Ok x)
-    → SubmitsBatch seen reason known k k' mid new one two result
+    → (s : SubmitsBatch seen reason known k k' mid new one two (length batch.records.items) result)
+    → OnOk result (AllMoveOn here two s.did.posts)
     → AnswersRound seen reason known k k' old new here two result
-round_submitted seen {reason} {known} old mid new here one two batch result g s =
+round_submitted seen {reason} {known} old mid new here one two batch result g s moves =
     let d = s.did in
     let took = takes_reads seen old mid g.reads g.are_reads g.asked.done in
     let both = beside_then seen old mid new here one two g.reads d.posts took g.asked.honest g.beside d.beside in
@@ -54,7 +55,8 @@ round_submitted seen {reason} {known} old mid new here one two batch result g s 
     d.honest_first) in
     record {
       round = record { reads = g.reads; readings = s.readings; posts = d.posts };
-      is_round = record { reads = g.are_reads; once = s.once; together = d.together; few = d.few };
+      is_round = record { reads = g.are_reads; once = s.once; together = d.together; few = omega (arith, d.few, s.few) };
+      moves = moves;
       refused = d.refused;
       whose = both.whose;
       whose_refused = subst (λ (ns : List ℕ). AllByRecursion (IsOfOneOf ns) d.refused) g.beside.same d.whose_refused;
@@ -92,6 +94,7 @@ round_refused {Y = Y} seen {reason} {known} old new here one batch why g =
     record {
       round = record { reads = g.reads; readings = []; posts = [] };
       is_round = record { reads = g.are_reads; once = omega arith; together = tt; few = omega arith };
+      moves = tt;
       refused = [];
       whose = all_more (IsOfOneOf (numbers here)) g.reads [] g.beside.whose tt;
       whose_refused = tt;
@@ -124,6 +127,7 @@ round_as y a = record {
   whose = a.whose;
   whose_refused = a.whose_refused;
   told = a.told;
+  moves = a.moves;
   clock = a.clock;
   stood = a.stood;
   honest_first = a.honest_first;
@@ -149,6 +153,7 @@ round_err a = record {
   whose = a.whose;
   whose_refused = a.whose_refused;
   told = a.told;
+  moves = tt;
   clock = a.clock;
   stood = a.stood;
   honest_first = a.honest_first;

@@ -1,8 +1,8 @@
 -- Calls of a counter that was given records of clients, one call after another.
-use Rattle.std.proofs.Common.{◌≡◌, ℕ, ◌+◌, ◌≤◌, List, [], ◌∷◌, ◌++◌, length, Some, Result, Ok, Err}
+use Rattle.std.proofs.Common.{◌≡◌, ℕ, ◌+◌, ◌<◌, ◌≤◌, List, [], ◌∷◌, ◌++◌, length, Some, Result, Ok, Err}
 use Rattle.std.proofs.Common.{refl, sym, subst, append_assoc, append-nil, arith, inl, inr}
 use Rattle.std.proofs.lemmas.List.{length-append}
-use Rattle.std.specs.{List.AllByRecursion, List.slice_get, Prelude.IfErr}
+use Rattle.std.specs.{List.AllByRecursion, List.slice_get, Prelude.◌⊎◌, Prelude.IfErr, Prelude.OnOk}
 use Rattle.posting_rules.specs.declared.fault.Fault.{Fault}
 use Rattle.posting_rules.specs.declared.fault.Fault.TheVariants as fault
 use Rattle.posting_rules.specs.believed.{Commands.Command}
@@ -13,7 +13,7 @@ use Rattle.posting_core.specs.Stream.{IsOfCall}
 use Rattle.posting_core.proofs.StreamedBatches.{all_more}
 use Rattle.counter_http.specs.Connections.{Known}
 use Rattle.counter_http.specs.together.Order.{Step, is_posted_under, submitted_by}
-use Rattle.counter_http.specs.together.Rounds.{AllDiffer, IsOfOneOf, fault_in, numbers}
+use Rattle.counter_http.specs.together.Rounds.{AllDiffer, IsOfOneOf, LacksMemory, fault_in, numbers}
 use Rattle.counter_http.specs.together.Standing.{AreRefused, StandsHere}
 use Rattle.counter_http.specs.together.Submitting.{AnswersEach, AreApart, AreGiven, AreSubmitted}
 use Rattle.counter_http.specs.together.Submitting.{RefusesEach}
@@ -24,19 +24,20 @@ use Rattle.counter_http.proofs.Asked.{unchanged_takes}
 use Rattle.counter_http.proofs.Fronts.{stands_after}
 use Rattle.counter_http.proofs.Placed.{beside_none, beside_then, found_too, takes_then}
 use Rattle.counter_http.proofs.Posted.{answered_each, numbers_all_answered, numbers_all_refused, refused_each}
-use Rattle.counter_http.proofs.Posted.{steps_at, steps_long, steps_posted, steps_submit, steps_whose, told_each}
+use Rattle.counter_http.proofs.Posted.{steps_at, steps_long, steps_posted, steps_submit, steps_whose, told_each, told_first}
 use Rattle.counter_http.proofs.Steps.{submitted-append}
 
 -- ---- no record
 
 pub submitted_nothing : {C R W : Type 0} (seen : C → Seen) {reason : Fault → C → C → Type 0} {known : R × W → Known}
-    (readings : List ℕ) (bank : C) (here : List (Client R W)) (n : ℕ)
-    → AreSubmitted {X = Unit {0}} seen reason known readings bank bank here here n (Ok tt)
-submitted_nothing seen readings bank here n = record {
+    (readings : List ℕ) (bank : C) (here : List (Client R W))
+    → AreSubmitted {X = Unit {0}} seen reason known readings bank bank here here 0 (Ok tt)
+submitted_nothing seen readings bank here = record {
   posts = [];
   refused = [];
   together = tt;
   few = omega arith;
+  moves = λ some. absurd (omega (arith, some));
   beside = beside_none seen bank bank here (λ h. h);
   whose_refused = tt;
   told = λ p y y' at at' k first before takes is. tt;
@@ -63,6 +64,7 @@ spared_all {X = X} seen contents reason readings old new here cs why e it =
       refused = [];
       together = tt;
       few = omega arith;
+      moves = λ some. absurd (omega (arith, some));
       beside = beside_none seen old new here call.honest;
       whose_refused = tt;
       told = λ p y y' at at' k first before takes is. tt;
@@ -102,6 +104,7 @@ module _ {C K R W X : Type 0} (seen : C → Seen) (contents : C → K) (reason :
     refused = [];
     together = steps_posted moment here ss rs g;
     few = omega (arith, steps_long moment here ss rs g);
+    moves = λ some. inl (omega (arith, steps_long moment here ss rs g, some));
     beside = record {
       whose = steps_whose moment here ss rs g;
       same = numbers_all_answered here here' ss rs qs g apart chain;
@@ -132,6 +135,7 @@ module _ {C K R W X : Type 0} (seen : C → Seen) (contents : C → K) (reason :
     refused = steps_at moment here ss rs g;
     together = tt;
     few = omega arith;
+    moves = λ some. tt;
     beside = record {
       whose = tt;
       same = numbers_all_refused here here' ss rs why g apart chain;
@@ -166,6 +170,7 @@ module _ {C K R W X : Type 0} (seen : C → Seen) (contents : C → K) (reason :
         refused = [];
         together = tt;
         few = omega arith;
+        moves = λ some. inr (told_first here here' ss rs why e g apart chain some);
         beside = record {
           whose = tt;
           same = numbers_all_refused here here' ss rs why g apart chain;
@@ -195,12 +200,18 @@ why_then seen reason old mid new cs (Err f) takes honest idle (inl call) =
     inl (refused_after seen reason old mid new cs takes honest idle f call)
 why_then seen reason old mid new cs (Err f) takes honest idle (inr own) = inr own
 
+more_posted : {R W X : Type 0} (here : List (Client R W)) (ss ts : List Step) (result : Result X Fault)
+    → OnOk result ((0 < length ts) ⊎ LacksMemory here) → OnOk result ((0 < length (ss ++ ts)) ⊎ LacksMemory here)
+more_posted here ss ts (Ok x) (inl some) = inl (omega (arith, length-append ss ts, some))
+more_posted here ss ts (Ok x) (inr lacks) = inr lacks
+more_posted here ss ts (Err f) none = tt
+
 pub submitted_then : {C R W X Y : Type 0} (seen : C → Seen) {reason : Fault → C → C → Type 0} {known : R × W → Known}
     (readings : List ℕ) (old mid new : C) (here one two : List (Client R W)) (n m : ℕ) {x : X} (result : Result Y Fault)
     → AreSubmitted seen reason known readings old mid here one n (Ok x)
-    → AreSubmitted seen reason known readings mid new one two m result
+    → AreSubmitted seen reason known readings mid new one two m result → (0 < n + m → 0 < m)
     → AreSubmitted seen reason known readings old new here two (n + m) result
-submitted_then {C = C} seen {reason} {known} readings old mid new here one two n m result a b =
+submitted_then {C = C} seen {reason} {known} readings old mid new here one two n m result a b some =
     let took : Takes (seen old) (seen mid) (submitted_by a.posts) =
     subst (λ (c : C). Takes (seen old) (seen c) (submitted_by a.posts)) (sym a.ends.1) a.takes in
     let honest : (seen mid).honest → (seen old).honest = λ h. a.honest_first (a.honest h) in
@@ -211,6 +222,7 @@ submitted_then {C = C} seen {reason} {known} readings old mid new here one two n
       refused = b.refused;
       together = all_more (is_posted_under readings) a.posts b.posts a.together b.together;
       few = omega (arith, length-append a.posts b.posts, a.few, b.few);
+      moves = λ given. more_posted two a.posts b.posts result (b.moves (some given));
       beside = beside_then seen old mid new here one two a.posts b.posts took honest a.beside b.beside;
       whose_refused = subst (λ (ns : List ℕ). AllByRecursion (IsOfOneOf ns) b.refused) a.beside.same b.whose_refused;
       told = λ p y y' at at' k first before takes is.
@@ -232,16 +244,28 @@ submitted_then {C = C} seen {reason} {known} readings old mid new here one two n
       why = why_then seen reason old mid new (submitted_by a.posts) result took honest a.idle b.why;
     }
 
--- fewer are no more
+-- none were submitted before
+pub submitted_after : {C R W X Y : Type 0} (seen : C → Seen) {reason : Fault → C → C → Type 0} {known : R × W → Known}
+    (readings : List ℕ) (old mid new : C) (here one two : List (Client R W)) (m : ℕ) {x : X} (result : Result Y Fault)
+    → AreSubmitted seen reason known readings old mid here one 0 (Ok x)
+    → AreSubmitted seen reason known readings mid new one two m result
+    → AreSubmitted seen reason known readings old new here two m result
+submitted_after seen {reason} {known} readings old mid new here one two m result a b =
+    let same : 0 + m ≡ m = omega arith in
+    subst (λ (n : ℕ). AreSubmitted seen reason known readings old new here two n result) same
+    (submitted_then seen readings old mid new here one two 0 m result a b (λ some. omega (arith, some)))
+
+-- fewer are no more, where one was refused
 pub submitted_few : {C R W X : Type 0} {seen : C → Seen} {reason : Fault → C → C → Type 0} {known : R × W → Known}
-    {readings : List ℕ} {old new : C} {here here' : List (Client R W)} {result : Result X Fault} (n m : ℕ) → n ≤ m
-    → AreSubmitted seen reason known readings old new here here' n result
-    → AreSubmitted seen reason known readings old new here here' m result
+    {readings : List ℕ} {old new : C} {here here' : List (Client R W)} {f : Fault} (n m : ℕ) → n ≤ m
+    → AreSubmitted {X = X} seen reason known readings old new here here' n (Err f)
+    → AreSubmitted {X = X} seen reason known readings old new here here' m (Err f)
 submitted_few n m le a = record {
   posts = a.posts;
   refused = a.refused;
   together = a.together;
   few = omega (arith, a.few, le);
+  moves = λ some. tt;
   beside = a.beside;
   whose_refused = a.whose_refused;
   told = a.told;

@@ -132,7 +132,9 @@ impl Batch {
         requires others { AllDiffer (numbers here.old.items) }
         requires gives { IsBatchOf here.old.items self.now }
         ensures submits { SubmitsBatch C.seen C.reason (known_ends R.remaining R.told R.beside W.contents W.told)
-            (K.readings clock.old) (K.readings clock.new) bank.old bank.new here.old.items here.new.items result }
+            (K.readings clock.old) (K.readings clock.new) bank.old bank.new here.old.items here.new.items
+            (length self.now.records.items) result }
+        ensures none { length self.now.records.items ≡ 0 → here.new.items ≡ here.old.items }
         ensures spares { C.spares bank.old bank.new }
     {
         let records = self.records.as_slice();
@@ -189,7 +191,7 @@ impl Batch {
         requires others { AllDiffer (numbers here.old.items) }
         requires gives { IsBatchOf here.old.items self.now }
         ensures submits { AreSubmitted C.seen C.reason (known_ends R.remaining R.told R.beside W.contents W.told)
-            (moment ∷ []) bank.old bank.new here.old.items here.new.items RECORDS_PER_BATCH result }
+            (moment ∷ []) bank.old bank.new here.old.items here.new.items (length self.now.records.items) result }
         ensures spares { C.spares bank.old bank.new }
     {
         let senders = self.senders.as_slice();

@@ -79,7 +79,8 @@ impl<R: Source + Drop, W: Sink + Drop> Client<R, W> {
     ghost use Rattle.std.specs.Prelude.{[], ◌++◌, ◌∷◌, List, ℕ, None, Some, Option, OnOk, IfOk, IfSome, true, false, MatchBool, IfErr, ◌≢◌};
     ghost use Rattle.counter_http.specs.Connections.{known_ends};
     ghost use Rattle.counter_http.specs.together.Standing.{AnswersRecord, IsAnswered, IsLost, IsNew, IsOver, IsParting, Writes};
-    ghost use Rattle.counter_http.specs.together.Standing.{GivesRecord, GivesFront, HasAnswered, HasEndedWith, ReadsAnswer, SaysSo};
+    ghost use Rattle.counter_http.specs.together.Standing.{GivesRecord, GivesFront, HasAnswered, HasEndedWith, LooksDone, MovesOn};
+    ghost use Rattle.counter_http.specs.together.Standing.{ReadsAnswer, SaysSo, pending};
     ghost use Rattle.counter_http.specs.together.Reading.{Reads};
     ghost use Rattle.counter_http.specs.Telling.{said};
     ghost use Rattle.counter_http.specs.believed.Answers.{answer_text, bare};
@@ -130,7 +131,9 @@ impl<R: Source + Drop, W: Sink + Drop> Client<R, W> {
     }
 
     /// How many bytes of answers it hasn't taken yet.
-    pub fn untaken(&self) -> usize {
+    pub fn untaken(&self) -> usize
+        ensures { result ≡ length (pending self.now) }
+    {
         self.output.len() - self.written
     }
 
@@ -296,6 +299,7 @@ impl<R: Source + Drop, W: Sink + Drop> Client<R, W> {
         ensures answers { IsAnswered C.seen C.reason (known_ends R.remaining R.told R.beside W.contents W.told)
             bank.old bank.new self.old self.new result }
         ensures record { IfOk result (GivesFront self.new) }
+        ensures rests { IfOk result (LooksDone self.old self.new) }
         ensures spares { C.spares bank.old bank.new }
     {
         if !self.has_more || self.parting.is_some() {
@@ -351,6 +355,7 @@ impl<R: Source + Drop, W: Sink + Drop> Client<R, W> {
         ensures answers { IsAnswered C.seen C.reason (known_ends R.remaining R.told R.beside W.contents W.told)
             bank.old bank.new self.old self.new result }
         ensures record { IfOk result (λ found. IfSome found (GivesRecord self.new)) }
+        ensures rests { IfOk result (λ found. found ≡ None → MovesOn self.old self.new) }
         ensures spares { C.spares bank.old bank.new }
     {
         'messages: for _ in 0..MESSAGES_PER_ROUND {

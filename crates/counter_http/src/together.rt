@@ -7,7 +7,7 @@ ghost use Rattle.counter_http.specs.Connections.{known_ends};
 ghost use Rattle.counter_http.specs.together.Crowd.{Closes, GoesOn, HaveCome, HaveMoved, ServesRounds};
 ghost use Rattle.counter_http.specs.together.Rounds.{AllDiffer, AnswersRound, numbers};
 ghost use Rattle.counter_http.specs.together.Standing.{Writes};
-ghost use Rattle.counter_http.specs.together.Submitting.{Gathers, IsBatchOf, IsElsewhere, IsFrom, MayAdd};
+ghost use Rattle.counter_http.specs.together.Submitting.{Gathers, IsBatchOf, IsElsewhere, IsFrom, LooksAt, LooksOver, MayAdd};
 ghost use Rattle.counter_http.specs.together.Serving.{HasRefused, ServesTogether};
 
 use crate::batch::Batch;
@@ -113,6 +113,7 @@ fn gather_at<R: Source + Drop, W: Sink + Drop, C: Counter>(
     ensures gathers { Gathers C.seen C.reason (known_ends R.remaining R.told R.beside W.contents W.told)
         bank.old bank.new here.old.items here.new.items batch.new result }
     ensures adds { MayAdd batch.old batch.new place }
+    ensures looks { OnOk result (LooksAt here.old.items here.new.items place batch.new) }
     ensures spares { C.spares bank.old bank.new }
 {
     match here[place].next_record(alloc, routes, bank)? {
@@ -142,6 +143,7 @@ fn gather<R: Source + Drop, W: Sink + Drop, C: Counter>(
     ensures gathers { Gathers C.seen C.reason (known_ends R.remaining R.told R.beside W.contents W.told)
         bank.old bank.new here.old.items here.new.items batch.new result }
     ensures places { OnOk result (AllByRecursion (IsFrom from) batch.new.senders.items) }
+    ensures looks { OnOk result (LooksOver here.old.items here.new.items from to batch.old batch.new) }
     ensures spares { C.spares bank.old bank.new }
 {
     for place in from..to {

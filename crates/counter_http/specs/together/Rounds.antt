@@ -1,17 +1,19 @@
 -- One round of clients that are served at once: what was read from them is answered. The bank is old before and
 -- new after, the clients are here before and here' after, and the clock's known readings are k and k'.
-use Rattle.std.specs.Prelude.{◌≡◌, ◌≢◌, ℕ, List, [], ◌++◌, length, map, Option, None, Some, Result, Ok, Err, IfErr}
-use Rattle.std.specs.Prelude.{AllPairs, Contains}
+use Rattle.std.specs.Prelude.{◌≡◌, ◌≢◌, ◌⊎◌, ◌<◌, ℕ, List, [], ◌++◌, length, map, Option, None, Some, Result, Ok, Err, IfErr}
+use Rattle.std.specs.Prelude.{AllPairs, Contains, OnOk}
 use Rattle.std.specs.List.{AllByRecursion, slice_get}
 use Rattle.posting_rules.specs.declared.fault.Fault.{Fault}
+use Rattle.posting_rules.specs.declared.fault.Fault.TheVariants.{Memory}
 use Rattle.posting_rules.specs.believed.Commands.{Command}
 use Rattle.posting_rules.specs.believed.Counter.{Seen, StandsAt, LeavesOnly, ShowsPrefix, Takes, Refuses}
 use Rattle.posting_core.specs.Stream.{IsOfCall}
 use Rattle.posting_core.specs.believed.Clock.{AreReadings}
 use Rattle.counter_http.specs.Connections.{Known}
 use Rattle.counter_http.specs.together.Order.{IsRound, Round, Step, steps_in, submitted_by}
-use Rattle.counter_http.specs.together.Standing.{AreRefused, StandsHere}
+use Rattle.counter_http.specs.together.Standing.{AreRefused, MovesOn, StandsHere}
 use Rattle.counter_http.specs.declared.client.Client.{Client}
+use Rattle.counter_http.specs.declared.parting.Parting.TheVariants as parting
 
 -- ---- who is here
 
@@ -43,6 +45,25 @@ AreToldAt {C} {R} {W} seen known old new here here' steps fault refused =
     → (known_first : Known) (first : C) (before : List Step) → Takes (seen first) (seen old) (submitted_by before)
     → StandsHere known known_first (seen first) (seen old) before client
     → AreRefused known known_first (seen first) (seen new) (before ++ steps) fault refused client'
+
+-- ---- what was done
+
+-- memory was refused for one that is here
+pub record LacksMemory {R W : Type 0} (here : List (Client R W)) : Type 0 where
+  pub place : ℕ
+  pub client : Client R W
+  pub at : slice_get here place ≡ Some client
+  pub why : (client.parting ≡ Some parting.Memory) ⊎ (client.parting ≡ Some (parting.Bank Memory))
+
+-- some of so many records were posted, where there were any and no fault came, or memory was refused
+abbrev pub PostsSome : {R W X : Type 0} → ℕ → List Step → List (Client R W) → Result X Fault → Type 0
+PostsSome n posts here result = 0 < n → OnOk result ((0 < length posts) ⊎ LacksMemory here)
+
+-- each client moves on, or others were answered: records were posted, or memory was refused
+abbrev pub AllMoveOn : {R W : Type 0} → (here here' : List (Client R W)) → List Step → Type 0
+AllMoveOn {R} {W} here here' posts =
+    (p : ℕ) (client client' : Client R W) → slice_get here p ≡ Some client → slice_get here' p ≡ Some client'
+    → MovesOn client client' ⊎ ((0 < length posts) ⊎ LacksMemory here')
 
 -- ---- a round
 
@@ -83,5 +104,7 @@ pub record AnswersRound {C R W X : Type 0} (seen : C → Seen) (reason : Fault �
       → (known_first : Known) (first : C) (steps : List Step) → Takes (seen first) (seen old) (submitted_by steps)
       → StandsHere known known_first (seen first) (seen old) steps client
       → StandsHere known known_first (seen first) (seen new) (steps ++ steps_in round) client'
+  -- where no fault came, what could be done was done
+  pub moves : OnOk result (AllMoveOn here here' round.posts)
   -- each client whose record was refused was told so
   pub told : AreToldAt seen known old new here here' (steps_in round) (fault_in result) refused

@@ -25,6 +25,7 @@ use Rattle.counter_http.specs.together.Order.{Step, answers_at, asks_to_read, of
 use Rattle.counter_http.specs.believed.Turns.{Turn, texts_of}
 use Rattle.counter_http.specs.declared.answers.Reading.{Reading}
 use Rattle.counter_http.specs.declared.client.Client.{Client}
+use Rattle.counter_http.specs.declared.client.TheConstants.{UNTAKEN}
 use Rattle.counter_http.specs.declared.client.Front.{Front}
 use Rattle.counter_http.specs.declared.client.Front.TheVariants as front
 use Rattle.counter_http.specs.declared.client.Head.{Head}
@@ -100,6 +101,20 @@ pub record StandsHere {R W : Type 0} (known : R × W → Known) (k : Known) (c c
 -- its whole messages are answered, where it goes on and has no more
 abbrev pub IsUpToDate : {R W : Type 0} → Client R W → Type 0
 IsUpToDate client = client.parting ≡ None → client.has_more ≡ false → BeginsWithNoMessage (unread client)
+
+-- nothing can be done for it now: it waits for bytes, takes many answers first, or is parted from
+abbrev pub Rests : {R W : Type 0} → Client R W → Type 0
+Rests client =
+    (client.has_more ≡ false) ⊎ ((UNTAKEN < length (pending client)) ⊎ ((p : Parting) × (client.parting ≡ Some p)))
+
+-- or some of its bytes were answered
+abbrev pub MovesOn : {R W : Type 0} → Client R W → Client R W → Type 0
+MovesOn old new = Rests new ⊎ (length (unread new) < length (unread old))
+
+abbrev pub LooksDone : {R W : Type 0} → Client R W → Client R W → Front → Type 0
+LooksDone old new front.Nothing = Rests new
+LooksDone old new front.Answered = length (unread new) < length (unread old)
+LooksDone old new (front.Record r) = ⊤
 
 -- ---- what the bank refused
 

@@ -1,6 +1,6 @@
 -- Records that clients sent, which are submitted together or one by one, and what becomes of those clients. The
 -- bank is old before and new after, and the clients are here before and here' after.
-use Rattle.std.specs.Prelude.{◌≡◌, ◌≢◌, ◌⊎◌, ◌≤◌, ◌+◌, ◌-◌, ◌^◌, ℕ, List, [], ◌∷◌, ◌++◌, length, slice_set, Option, Some}
+use Rattle.std.specs.Prelude.{◌≡◌, ◌≢◌, ◌⊎◌, ◌<◌, ◌≤◌, ◌+◌, ◌-◌, ◌^◌, ℕ, List, [], ◌∷◌, ◌++◌, length, slice_set, Option, Some}
 use Rattle.std.specs.Prelude.{Result, IfErr, ⊤, true}
 use Rattle.std.specs.List.{AllByRecursion, slice_get}
 use Rattle.posting_rules.specs.declared.fault.Fault.{Fault}
@@ -10,8 +10,8 @@ use Rattle.posting_core.specs.Stream.{IsOfCall}
 use Rattle.posting_core.specs.believed.Clock.{AreReadings}
 use Rattle.counter_http.specs.Connections.{Known}
 use Rattle.counter_http.specs.together.Order.{Step, asks_to_read, is_posted_under, submitted_by}
-use Rattle.counter_http.specs.together.Rounds.{AreToldAt, EndsRound, IsOfOneOf, fault_in, numbers}
-use Rattle.counter_http.specs.together.Standing.{AnswersRecord, GivesRecord, HasEndedWith, StandsHere}
+use Rattle.counter_http.specs.together.Rounds.{AreToldAt, EndsRound, IsOfOneOf, PostsSome, fault_in, numbers}
+use Rattle.counter_http.specs.together.Standing.{AnswersRecord, GivesRecord, HasEndedWith, MovesOn, StandsHere}
 use Rattle.counter_http.specs.Turns.{IsAsked}
 use Rattle.counter_http.specs.believed.Answers.{answer_text, bare}
 use Rattle.counter_http.specs.declared.batch.Batch.{Batch}
@@ -135,8 +135,8 @@ pub record Gathers {C R W X : Type 0} (seen : C → Seen) (reason : Fault → C 
   pub beside : AreBeside seen known old new here here' reads
   pub gives : IsBatchOf here' batch
 
--- some records were submitted, n at most, and each sender was answered: the bank took posts, stood there, and
--- refused one call then or none
+-- n records were submitted, and each sender was answered: the bank took posts, stood there, and refused one call then
+-- or none
 pub record AreSubmitted {C R W X : Type 0} (seen : C → Seen) (reason : Fault → C → C → Type 0)
     (known : R × W → Known) (readings : List ℕ) (old new : C) (here here' : List (Client R W)) (n : ℕ)
     (result : Result X Fault) : Type 0 where
@@ -144,6 +144,7 @@ pub record AreSubmitted {C R W X : Type 0} (seen : C → Seen) (reason : Fault �
   pub refused : List Step
   pub together : AllByRecursion (is_posted_under readings) posts
   pub few : length posts ≤ n
+  pub moves : PostsSome n posts here' result
   pub beside : AreBeside seen known old new here here' posts
   pub whose_refused : AllByRecursion (IsOfOneOf (numbers here)) refused
   pub told : AreToldAt seen known old new here here' posts (fault_in result) refused
@@ -158,9 +159,30 @@ pub record AreSubmitted {C R W X : Type 0} (seen : C → Seen) (reason : Fault �
 
 -- so they were, under one reading of the clock
 pub record SubmitsBatch {C R W X : Type 0} (seen : C → Seen) (reason : Fault → C → C → Type 0)
-    (known : R × W → Known) (k k' : Option (List ℕ)) (old new : C) (here here' : List (Client R W))
+    (known : R × W → Known) (k k' : Option (List ℕ)) (old new : C) (here here' : List (Client R W)) (n : ℕ)
     (result : Result X Fault) : Type 0 where
   pub readings : List ℕ
   pub once : length readings ≤ 1
   pub clock : AreReadings k k' readings
-  pub did : AreSubmitted seen reason known readings old new here here' RECORDS_PER_BATCH result
+  pub few : n ≤ RECORDS_PER_BATCH
+  pub did : AreSubmitted seen reason known readings old new here here' n result
+
+-- ---- what was looked at
+
+abbrev pub HoldsOne : Batch → Type 0
+HoldsOne batch = 0 < length batch.records.items
+
+-- the one at a place moves on, or the batch holds a record
+pub record LooksAt {R W : Type 0} (here here' : List (Client R W)) (place : ℕ) (batch : Batch) : Type 0 where
+  pub before : Client R W
+  pub after : Client R W
+  pub at : slice_get here place ≡ Some before
+  pub is : here' ≡ slice_set here place after
+  pub moves : MovesOn before after ⊎ HoldsOne batch
+
+-- and so do those at some places, one after another
+pub record LooksOver {R W : Type 0} (here here' : List (Client R W)) (from to : ℕ) (old new : Batch) : Type 0 where
+  pub others : (p : ℕ) → (p < from) ⊎ (to ≤ p) → slice_get here' p ≡ slice_get here p
+  pub keeps : HoldsOne old → HoldsOne new
+  pub moves : (p : ℕ) (client client' : Client R W) → from ≤ p → p < to → slice_get here p ≡ Some client
+      → slice_get here' p ≡ Some client' → MovesOn client client' ⊎ HoldsOne new

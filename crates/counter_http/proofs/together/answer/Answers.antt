@@ -1,5 +1,7 @@
 use Rattle.std.proofs.lemmas.Result.{err_from_is_err_and}
 use Rattle.counter_http.proofs.Gathering.{gathers_then}
+use Rattle.std.proofs.Common.{arith}
+use Rattle.counter_http.proofs.Moves.{all_move}
 use Rattle.counter_http.proofs.OneRound.{round_as, round_err, round_refused, round_submitted}
 use Rattle.counter_http.proofs.together.answer.Goals as goal
 
@@ -28,7 +30,7 @@ returns-in_err-submit-clause-answers g c =
     c.submit.new.bank c.args.here.now.items c.gather-2.new.here.items c.submit.new.here.items c.gather-2.new.batch _
     (gathers_then g.C.Counter.seen c.args.bank.now c.gather.new.bank c.gather-2.new.bank c.args.here.now.items
     c.gather.new.here.items c.gather-2.new.here.items c.gather.new.batch c.gather-2.new.batch _
-    c.in_ok-gather.ensures.gathers c.in_ok-gather-2.ensures.gathers) c.in_err-submit.ensures.submits))
+    c.in_ok-gather.ensures.gathers c.in_ok-gather-2.ensures.gathers) c.in_err-submit.ensures.submits tt))
 
 pub returns-clause-answers : goal.returns-clause-answers
 returns-clause-answers g c =
@@ -36,4 +38,8 @@ returns-clause-answers g c =
     c.submit.new.bank c.args.here.now.items c.gather-2.new.here.items c.submit.new.here.items c.gather-2.new.batch _
     (gathers_then g.C.Counter.seen c.args.bank.now c.gather.new.bank c.gather-2.new.bank c.args.here.now.items
     c.gather.new.here.items c.gather-2.new.here.items c.gather.new.batch c.gather-2.new.batch _
-    c.in_ok-gather.ensures.gathers c.in_ok-gather-2.ensures.gathers) c.in_ok-submit.ensures.submits)
+    c.in_ok-gather.ensures.gathers c.in_ok-gather-2.ensures.gathers) c.in_ok-submit.ensures.submits
+    (all_move c.args.here.now.items c.gather.new.here.items c.gather-2.new.here.items c.submit.new.here.items
+    c.min-first.result c.len-count.result c.new-batch.result c.gather.new.batch c.gather-2.new.batch
+    c.in_ok-submit.ensures.submits.did.posts (omega (arith, c.len-count.ensures)) c.in_ok-gather.ensures.looks
+    c.in_ok-gather-2.ensures.looks c.in_ok-submit.ensures.none c.in_ok-submit.ensures.submits.did.moves))

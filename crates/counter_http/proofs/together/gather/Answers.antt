@@ -1,12 +1,14 @@
-use Rattle.std.proofs.Common.{◌≤◌, Ok, arith}
+use Rattle.std.proofs.Common.{◌≡◌, ◌≤◌, Ok, arith, sym}
 use Rattle.std.proofs.lemmas.Result.{err_from_is_err_and}
 use Rattle.counter_http.proofs.Gathering.{all_from, elsewhere, gathers_err, gathers_nothing, gathers_then}
 use Rattle.counter_http.proofs.Gathering.{passed_at_first, passed_then}
+use Rattle.counter_http.proofs.Moves.{over_more, over_none}
 use Rattle.counter_http.proofs.together.gather.Goals as goal
 
 pub loop-place-init : goal.loop-place-init
 loop-place-init g c = record {
   gathers = gathers_nothing g.C.Counter.seen c.args.bank.now c.args.here.now.items c.args.batch.now c.requires.gives;
+  over = over_none c.args.here.now.items c.args.from c.args.batch.now;
   passed = passed_at_first c.args.from c.args.to c.args.batch.now.senders.items c.requires.order c.requires.beyond;
   spares = g.met.C.Counter.spares_itself c.args.bank.now;
 }
@@ -31,6 +33,9 @@ loop-place-preserved g c =
       gathers = gathers_then g.C.Counter.seen c.args.bank.now c.loop-place.bank c.gather_at.new.bank
           c.args.here.now.items c.loop-place.here.items c.gather_at.new.here.items c.loop-place.batch
           c.gather_at.new.batch (Ok tt) c.loop-place.invariant.gathers c.in_ok-gather_at.ensures.gathers;
+      over = over_more c.args.here.now.items c.loop-place.here.items c.gather_at.new.here.items c.args.from
+          c.loop-place.place c.args.batch.now c.loop-place.batch c.gather_at.new.batch order c.loop-place.invariant.over
+          c.in_ok-gather_at.ensures.looks c.in_ok-gather_at.ensures.adds;
       passed = passed_then c.args.from c.loop-place.place c.args.to c.loop-place.batch c.gather_at.new.batch order
           c.in_ok-gather_at.ensures.adds c.loop-place.invariant.passed;
       spares = g.met.C.Counter.spares_then c.args.bank.now c.loop-place.bank c.gather_at.new.bank
@@ -40,3 +45,7 @@ loop-place-preserved g c =
 pub returns-clause-places : goal.returns-clause-places
 returns-clause-places g c =
     all_from c.args.from c.loop-place.place c.args.to c.loop-place.batch.senders.items c.loop-place.invariant.passed
+
+pub returns-clause-looks : goal.returns-clause-looks
+returns-clause-looks g c =
+    let last : c.args.to ≡ c.loop-place.place = omega arith in rw last c.loop-place.invariant.over

@@ -1,7 +1,8 @@
-use Rattle.std.proofs.Common.{length, refl, slice_set}
+use Rattle.std.proofs.Common.{inl, inr, length, refl, slice_set}
 use Rattle.std.proofs.lemmas.Option.{slice_get_read}
 use Rattle.std.proofs.lemmas.Result.{err_from_is_err_and}
 use Rattle.counter_http.proofs.Gathering.{batch_still, batch_then, gathers_as, gathers_at, gathers_err}
+use Rattle.counter_http.proofs.Moves.{holds_room}
 use Rattle.counter_http.proofs.together.gather_at.Goals as goal
 
 -- the bank refused a call
@@ -41,3 +42,29 @@ returns-in-None-clause-gathers g c =
     c.in_ok-found.ensures.answers
     (batch_still here (slice_set here c.args.place c.next_record.new.self) c.args.place c.next_record.new.self
     c.args.batch.now refl c.requires.gives c.requires.elsewhere))
+
+-- ---- it was looked at
+
+pub returns-in-Some-clause-looks : goal.returns-in-Some-clause-looks
+returns-in-Some-clause-looks g c =
+    let here = c.args.here.now.items in
+    record {
+      before = c.index_mut.result.now;
+      after = c.next_record.new.self;
+      at = slice_get_read here (length here) c.args.place c.index_mut.result.now refl c.requires.within
+          c.index_mut.ensures.value;
+      is = refl;
+      moves = inr (holds_room here c.args.batch.now c.add.new.self c.args.place c.in-Some.found c.requires.gives c.add.ensures);
+    }
+
+pub returns-in-None-clause-looks : goal.returns-in-None-clause-looks
+returns-in-None-clause-looks g c =
+    let here = c.args.here.now.items in
+    record {
+      before = c.index_mut.result.now;
+      after = c.next_record.new.self;
+      at = slice_get_read here (length here) c.args.place c.index_mut.result.now refl c.requires.within
+          c.index_mut.ensures.value;
+      is = refl;
+      moves = inl (c.in_ok-found.ensures.rests c.in-None.is);
+    }

@@ -1,18 +1,22 @@
-use Rattle.std.proofs.Common.{◌∙◌, ℕ, List, [], ◌∷◌, arith, length, refl, subst, sym}
-use Rattle.posting_rules.specs.declared.limits.TheConstants.{RECORDS_PER_BATCH}
+use Rattle.std.proofs.Common.{◌≡◌, ◌∙◌, ℕ, List, [], ◌∷◌, ap, arith, length, refl, subst, sym}
+use Rattle.std.proofs.lemmas.{Bool.eqb-true}
 use Rattle.counter_http.specs.together.Submitting.{AreGiven}
-use Rattle.counter_http.proofs.Submitted.{refused_all, spared_all, submitted_few, submitted_nothing, submitted_then}
+use Rattle.counter_http.proofs.Submitted.{refused_all, spared_all, submitted_after, submitted_nothing}
 use Rattle.counter_http.proofs.Submitted.{taken_all}
 use Rattle.counter_http.proofs.batch.Batch.submit.Goals as goal
 
 -- there is no record
 pub returns-then-is_empty-clause-submits : goal.returns-then-is_empty-clause-submits
-returns-then-is_empty-clause-submits g c = record {
-  readings = [];
-  once = omega arith;
-  clock = refl;
-  did = submitted_nothing g.C.Counter.seen [] c.args.bank.now c.args.here.now.items RECORDS_PER_BATCH;
-}
+returns-then-is_empty-clause-submits g c =
+    let none : length c.as_slice-records.result.now ≡ 0 =
+    eqb-true (length c.as_slice-records.result.now) 0 (sym c.is_empty.ensures ∙ c.if-is_empty.true) in record {
+      readings = [];
+      once = omega arith;
+      clock = refl;
+      few = omega (arith, c.as_slice-records.ensures.fits, ap length c.as_slice-records.ensures.value);
+      did = rw (sym c.as_slice-records.ensures.value, none)
+          (submitted_nothing g.C.Counter.seen [] c.args.bank.now c.args.here.now.items);
+    }
 
 -- the bank took them
 pub returns-in-Ok-clause-submits : goal.returns-in-Ok-clause-submits
@@ -26,7 +30,8 @@ returns-in-Ok-clause-submits g c =
       readings = c.now-moment.result ∷ [];
       once = omega arith;
       clock = (c.now-moment.ensures.0, c.now-moment.ensures.1);
-      did = submitted_few (length rs) RECORDS_PER_BATCH c.as_slice-records.ensures.fits
+      few = omega (arith, c.as_slice-records.ensures.fits, ap length c.as_slice-records.ensures.value);
+      did = rw (sym c.as_slice-records.ensures.value)
           (taken_all g.C.Counter.seen g.C.Counter.contents g.C.Counter.reason c.now-moment.result c.args.bank.now
           c.submit_all.new.self here c.answer.new.here.items ss rs given c.requires.gives.apart c.deref.result.now
           c.in-Ok.replies c.requires.others c.in-Ok.ensures.call
@@ -39,31 +44,30 @@ returns-in-Err-Memory-clause-submits g c = record {
   readings = c.now-moment.result ∷ [];
   once = omega arith;
   clock = (c.now-moment.ensures.0, c.now-moment.ensures.1);
-  did = submitted_then g.C.Counter.seen (c.now-moment.result ∷ []) c.args.bank.now c.submit_all.new.self
-      c.submit_each.new.bank c.args.here.now.items c.args.here.now.items c.submit_each.new.here.items 0
-      RECORDS_PER_BATCH c.submit_each.result
+  few = omega (arith, c.as_slice-records.ensures.fits, ap length c.as_slice-records.ensures.value);
+  did = submitted_after g.C.Counter.seen (c.now-moment.result ∷ []) c.args.bank.now c.submit_all.new.self
+      c.submit_each.new.bank c.args.here.now.items c.args.here.now.items c.submit_each.new.here.items
+      (length c.args.self.now.records.items) c.submit_each.result
       (spared_all g.C.Counter.seen g.C.Counter.contents g.C.Counter.reason (c.now-moment.result ∷ []) c.args.bank.now
       c.submit_all.new.self c.args.here.now.items _ c.in-Err-Memory.field-0
       c.in-Err-Memory.field-0-is c.in-Err-Memory.ensures.call) c.submit_each.ensures.submits;
 }
 
 -- the bank refused them
-pub returns-in-Err : goal.returns-in-Err
-returns-in-Err g c =
+pub returns-in-Err-clause-submits : goal.returns-in-Err-clause-submits
+returns-in-Err-clause-submits g c =
     let ss = c.args.self.now.senders.items in
     let rs = c.as_slice-records.result.now in
     let here = c.args.here.now.items in
     let given : AreGiven here ss rs =
     subst (λ (l : List (List ℕ)). AreGiven here ss l) (sym c.as_slice-records.ensures.value) c.requires.gives.given in
     record {
-      submits = record {
-        readings = c.now-moment.result ∷ [];
-        once = omega arith;
-        clock = (c.now-moment.ensures.0, c.now-moment.ensures.1);
-        did = submitted_few (length rs) RECORDS_PER_BATCH c.as_slice-records.ensures.fits
-            (refused_all g.C.Counter.seen g.C.Counter.contents g.C.Counter.reason c.now-moment.result c.args.bank.now
-            c.submit_all.new.self here c.refuse.new.here.items ss rs given c.requires.gives.apart c.in-Err.fault
-            c.requires.others c.in-Err.ensures.call c.refuse.ensures);
-      };
-      spares = c.in-Err.ensures.spares;
+      readings = c.now-moment.result ∷ [];
+      once = omega arith;
+      clock = (c.now-moment.ensures.0, c.now-moment.ensures.1);
+      few = omega (arith, c.as_slice-records.ensures.fits, ap length c.as_slice-records.ensures.value);
+      did = rw (sym c.as_slice-records.ensures.value)
+          (refused_all g.C.Counter.seen g.C.Counter.contents g.C.Counter.reason c.now-moment.result c.args.bank.now
+          c.submit_all.new.self here c.refuse.new.here.items ss rs given c.requires.gives.apart c.in-Err.fault
+          c.requires.others c.in-Err.ensures.call c.refuse.ensures);
     }

@@ -1,6 +1,5 @@
-use Rattle.std.proofs.Common.{◌<◌, ◌≤◌, ◌+◌, List, [], ◌∷◌, Ok, ap, arith, drop, false, get_or, length, subst}
+use Rattle.std.proofs.Common.{◌≡◌, ◌<◌, ◌≤◌, ◌+◌, List, [], ◌∷◌, Ok, ap, arith, drop, false, get_or, length, subst}
 use Rattle.std.proofs.lemmas.Result.{err_from_is_err_and}
-use Rattle.posting_rules.specs.declared.limits.TheConstants.{RECORDS_PER_BATCH}
 use Rattle.counter_http.specs.together.Submitting.{ChangesAt}
 use Rattle.counter_http.specs.declared.batch.Sender.{Sender}
 use Rattle.counter_http.proofs.Gathering.{apart_front, given_front, given_long, given_still}
@@ -12,7 +11,7 @@ nobody = record { place = 0; head = record { length = 0; shows_body = false; clo
 
 pub loop-i-init : goal.loop-i-init
 loop-i-init g c = record {
-  did = submitted_nothing g.C.Counter.seen (c.args.moment ∷ []) c.args.bank.now c.args.here.now.items 0;
+  did = submitted_nothing g.C.Counter.seen (c.args.moment ∷ []) c.args.bank.now c.args.here.now.items;
   gives = c.requires.gives.given;
   apart = c.requires.gives.apart;
   spares = g.met.C.Counter.spares_itself c.args.bank.now;
@@ -42,12 +41,12 @@ submit_one-requires-clause-gives g c =
 pub returns-in_err-submit_one-clause-submits : goal.returns-in_err-submit_one-clause-submits
 returns-in_err-submit_one-clause-submits g c =
     let told = err_from_is_err_and c.from_residual.result c.from_residual.ensures.1 in
-    let few : c.loop-i.i + 1 ≤ RECORDS_PER_BATCH =
-    omega (arith, c.as_slice-bytes-items.ensures.fits, c.loop-i-test.true) in
-    rw (told.1, told.2) (submitted_few (c.loop-i.i + 1) RECORDS_PER_BATCH few
+    let few : c.loop-i.i + 1 ≤ length c.args.self.now.records.items =
+    omega (arith, ap length c.as_slice-bytes-items.ensures.value, c.loop-i-test.true) in
+    rw (told.1, told.2) (submitted_few (c.loop-i.i + 1) (length c.args.self.now.records.items) few
     (submitted_then g.C.Counter.seen (c.args.moment ∷ []) c.args.bank.now c.loop-i.bank c.submit_one.new.bank
     c.args.here.now.items c.loop-i.here.items c.submit_one.new.here.items c.loop-i.i 1 _ c.loop-i.invariant.did
-    c.in_err-submit_one.ensures.submits))
+    c.in_err-submit_one.ensures.submits (λ some. omega arith)))
 
 pub loop-i-preserved : goal.loop-i-preserved
 loop-i-preserved g c =
@@ -65,10 +64,17 @@ loop-i-preserved g c =
     c.in_ok-submit_one.ensures.only in
     record {
       did = submitted_then g.C.Counter.seen (c.args.moment ∷ []) c.args.bank.now c.loop-i.bank c.submit_one.new.bank
-          c.args.here.now.items mid here' i 1 (Ok tt) c.loop-i.invariant.did c.in_ok-submit_one.ensures.submits;
+          c.args.here.now.items mid here' i 1 (Ok tt) c.loop-i.invariant.did c.in_ok-submit_one.ensures.submits
+          (λ some. omega arith);
       gives = given_still mid here' (get_or ss i nobody).place only.client (drop (i + 1) ss) (drop (i + 1) rs) only.is
           given.1 apart.0;
       apart = apart.1;
       spares = g.met.C.Counter.spares_then c.args.bank.now c.loop-i.bank c.submit_one.new.bank
           c.loop-i.invariant.spares c.in_ok-submit_one.ensures.spares;
     }
+
+pub returns-clause-submits : goal.returns-clause-submits
+returns-clause-submits g c =
+    let last : length c.args.self.now.records.items ≡ c.loop-i.i =
+    omega (arith, ap length c.as_slice-bytes-items.ensures.value, c.loop-i-test.false) in
+    rw last c.loop-i.invariant.did

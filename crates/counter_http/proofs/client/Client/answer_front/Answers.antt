@@ -4,11 +4,13 @@ use Rattle.std.specs.Prelude.{is_some, not}
 use Rattle.counter_http.specs.{Next.IsHopeless, Next.IsUnfinished, Next.IsWhole, Next.asked, Tasks.IsTaskOf}
 use Rattle.counter_http.specs.believed.Answers.{answer_to, asked_by, balance_answer, branch_lines, is_posting, plain}
 use Rattle.counter_http.specs.Telling.{said}
+use Rattle.counter_http.specs.declared.parting.Parting.TheVariants as parting
 use Rattle.counter_http.specs.declared.tasks.Task.TheVariants.{Submit}
 use Rattle.posting_rules.specs.believed.Entries.{balance_after}
 use Rattle.counter_http.proofs.AnsweredTurns.{answers_as, reading_as, submits_as}
 use Rattle.counter_http.proofs.Asked.{answered_nothing, asked_none}
 use Rattle.counter_http.proofs.Fronts.{number_ended}
+use Rattle.counter_http.proofs.Moves.{ended_so, read_so, said_so}
 use Rattle.counter_http.proofs.Replies.{head_of, hopeless_here, read_answered, record_of, says_answered, unfinished_here}
 use Rattle.counter_http.proofs.client.Client.answer_front.Goals as goal
 
@@ -109,3 +111,31 @@ returns-in-Refused-clause-answers g c =
     (asked_none g.C.Counter.seen c.args.bank.now _) (number_ended old c.end_with.new.self c.end_with.ensures)
     (λ k first steps stands. hopeless_here old c.end_with.new.self c.in-Refused.shows _ c.bad_request.ensures
     (none_if old.parting c.is_some.result c.is_some.ensures c.if-is_some.false) is c.end_with.ensures stands)
+
+-- ---- it was looked at
+
+pub returns-in-Say-clause-rests : goal.returns-in-Say-clause-rests
+returns-in-Say-clause-rests g c =
+    let whole : IsWhole (take c.args.self.now.filled c.args.self.now.input.items) c.in-Message.message =
+    rw c.deref.ensures.value at c.in-Message.ensures in
+    said_so c.args.self.now c.say.new.self whole.message (said c.in-Say.response) _ c.say.result
+    (head_of _ whole refl (ap not c.is_head.ensures) refl) c.say.ensures
+
+pub returns-in-Balance-clause-rests : goal.returns-in-Balance-clause-rests
+returns-in-Balance-clause-rests g c =
+    let whole : IsWhole (take c.args.self.now.filled c.args.self.now.input.items) c.in-Message.message =
+    rw c.deref.ensures.value at c.in-Message.ensures in
+    read_so c.args.self.now c.answer_reading.new.self whole.message c.read_balance-read.result _ c.answer_reading.result
+    (head_of _ whole refl (ap not c.is_head.ensures) refl) c.answer_reading.ensures
+
+pub returns-in-Branches-clause-rests : goal.returns-in-Branches-clause-rests
+returns-in-Branches-clause-rests g c =
+    let whole : IsWhole (take c.args.self.now.filled c.args.self.now.input.items) c.in-Message.message =
+    rw c.deref.ensures.value at c.in-Message.ensures in
+    read_so c.args.self.now c.answer_reading-in-Branches.new.self whole.message c.read_branches-read.result _
+    c.answer_reading-in-Branches.result (head_of _ whole refl (ap not c.is_head.ensures) refl)
+    c.answer_reading-in-Branches.ensures
+
+pub returns-in-Refused-clause-rests : goal.returns-in-Refused-clause-rests
+returns-in-Refused-clause-rests g c =
+    ended_so c.args.self.now c.end_with.new.self parting.Served c.end_with.ensures

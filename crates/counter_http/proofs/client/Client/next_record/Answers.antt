@@ -1,4 +1,5 @@
-use Rattle.std.proofs.Common.{Ok, refl}
+use Rattle.std.proofs.Common.{◌<◌, Ok, arith, inl, inr, length, refl}
+use Rattle.counter_http.specs.together.Standing.{unread}
 use Rattle.std.proofs.lemmas.Result.{err_from_is_err_and}
 use Rattle.counter_http.proofs.Asked.{answered_as, answered_nothing, answered_then, asked_none, answered_err}
 use Rattle.counter_http.proofs.client.Client.next_record.Goals as goal
@@ -7,6 +8,7 @@ pub messages-init : goal.messages-init
 messages-init g c = record {
   answered = answered_nothing g.C.Counter.seen c.args.bank.now c.args.bank.now c.args.self.now c.args.self.now (Ok tt)
       (asked_none g.C.Counter.seen c.args.bank.now tt) refl (λ k first steps is. is);
+  few = omega arith;
   spares = g.met.C.Counter.spares_itself c.args.bank.now;
 }
 
@@ -37,10 +39,20 @@ returns-in-Record-clause-answers g c =
     c.in_ok-answer_front.ensures.answers)
 
 pub messages-preserved : goal.messages-preserved
-messages-preserved g c = record {
-  answered = answered_as tt (answered_then g.C.Counter.seen c.args.bank.now c.messages.bank
-      c.answer_front.new.bank c.args.self.now c.messages.self c.answer_front.new.self _ c.messages.invariant.answered
-      c.in_ok-answer_front.ensures.answers);
-  spares = g.met.C.Counter.spares_then c.args.bank.now c.messages.bank c.answer_front.new.bank
-      c.messages.invariant.spares c.in_ok-answer_front.ensures.spares;
-}
+messages-preserved g c =
+    let one : length (unread c.answer_front.new.self) < length (unread c.messages.self) =
+    rw c.in-Answered.is at c.in_ok-answer_front.ensures.rests in record {
+      answered = answered_as tt (answered_then g.C.Counter.seen c.args.bank.now c.messages.bank
+          c.answer_front.new.bank c.args.self.now c.messages.self c.answer_front.new.self _ c.messages.invariant.answered
+          c.in_ok-answer_front.ensures.answers);
+      few = omega (arith, c.messages.invariant.few, one);
+      spares = g.met.C.Counter.spares_then c.args.bank.now c.messages.bank c.answer_front.new.bank
+          c.messages.invariant.spares c.in_ok-answer_front.ensures.spares;
+    }
+
+-- two were answered
+pub returns-clause-rests : goal.returns-clause-rests
+returns-clause-rests g c = λ none. inr (omega (arith, c.messages.invariant.few))
+
+pub returns-in-Nothing-clause-rests : goal.returns-in-Nothing-clause-rests
+returns-in-Nothing-clause-rests g c = λ none. inl (rw c.in-Nothing.is at c.in_ok-answer_front.ensures.rests)
