@@ -23,3 +23,10 @@ pub mod WalkSteps
 pub mod ReadsLeave
 pub mod RoomForWalks
 pub mod StepsKeep
+pub mod KeptEntries
+pub mod LogRows
+pub mod LogEntries
+pub mod PiecesRead
+pub mod ReadThen
+pub mod KeptRead
+pub mod EntriesGiven

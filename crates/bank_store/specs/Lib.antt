@@ -12,6 +12,7 @@ pub mod StoreFaults
 pub mod Seen
 pub mod Walking
 pub mod Walks
+pub mod KeptEntries
 pub mod Failures
 pub mod Leaving
 pub mod Room

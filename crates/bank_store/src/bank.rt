@@ -59,8 +59,8 @@ fn put_replies(room: &mut Vec<[u8; REPLY_BYTES]>, replies: &Replies)
 /// This holds of a disk that returns what was written, as long as nobody else writes the file.
 #[derive(Drop)]
 pub struct Bank<S: Alter> {
-    alloc: Global,
-    conn: Connection<S>,
+    pub(crate) alloc: Global,
+    pub(crate) conn: Connection<S>,
     // What brought it down, none while it is up.
     fault: Option<TableFault>,
     ghost idle: { conn.in_transaction ≡ false },
@@ -87,8 +87,8 @@ impl<S: Alter> Bank<S> {
         }
     }
 
-    // The fault that a bank which is down answers to each call.
-    fn up(&self) -> Result<(), Fault>
+    /// The fault that a bank which is down answers to each call.
+    pub(crate) fn up(&self) -> Result<(), Fault>
         ensures up { OnOk result ((bank_seen S.Store self.now).is_down → ⊥) }
         ensures down { IfErr result (λ f. (f ≡ fault.Down) × (bank_seen S.Store self.now).is_down) }
     {
@@ -127,9 +127,9 @@ impl<S: Alter> Bank<S> {
         }
     }
 
-    // Brings the bank down. Before damage is reported, the store is asked for a table once more: if it
-    // answers, it is open and has undone the call, and otherwise the fault is the store's.
-    fn go_down(&mut self, fault: TableFault) -> Fault
+    /// Brings the bank down. Before damage is reported, the store is asked for a table once more: if it
+    /// answers, it is open and has undone the call, and otherwise the fault is the store's.
+    pub(crate) fn go_down(&mut self, fault: TableFault) -> Fault
         ensures down { GoesDown (state S.Store self.old.conn) (state S.Store self.new.conn) fault
             self.new.fault result }
         ensures survives { Survives (state S.Store self.old.conn) (state S.Store self.new.conn) (λ _. ⊥) }

@@ -57,6 +57,8 @@
 
 mod adoption;
 mod bank;
+mod entries;
+mod followed;
 mod laws;
 mod migration;
 mod new_bank;
@@ -66,6 +68,7 @@ mod walks;
 
 pub use adoption::adopt;
 pub use bank::Bank;
+pub use entries::entry_in;
 pub use laws::{opened_earlier_law, opened_law};
 pub use message_records::{
     Account, Bad, BadReply, Branch, Cents, Moment, Number, Outcome, Reference, Reply, Request,

@@ -1,0 +1,50 @@
+//! A bank in a file whose log another bank can follow.
+ghost use Rattle.std.specs.Prelude.{◌≡◌, [], IfErr, IfOk, OnOk};
+ghost use Rattle.std.specs.Option.{option_map};
+ghost use Rattle.posting_rules.specs.believed.Tables.{Tables};
+ghost use Rattle.posting_core.specs.believed.LogEntries.{entries_given};
+ghost use Rattle.bank_store.specs.KeptEntries.{GivesStored};
+ghost use Rattle.bank_store.specs.Down.{WasBroken};
+ghost use Rattle.bank_store.specs.believed.Down.{AnswersBy, IsBankCall, OfDamage};
+ghost use Rattle.bank_store.specs.believed.Seen.{bank_seen, database_of};
+ghost use Rattle.bank_store.specs.believed.Sparing.{SparesOtherTables};
+
+use crate::bank::Bank;
+use crate::entries::read_log;
+use posting_core::{ENTRIES_PER_ANSWER, ENTRY_BYTES, Followed};
+use posting_rules::{Fault, MAX_DECIDED};
+use sqlite::Alter;
+
+impl<S: Alter + Drop> Followed for Bank<S> {
+    // The rows are looked up by their ordinals, so that an answer costs what it gives. All room is made before the
+    // store is asked, so that `Memory` changes nothing.
+    fn entries_after(&mut self, after: u64) -> Result<Option<Vec<u8>>, Fault>
+        ensures answer { AnswersBy S.Store self.old self.new result
+            (λ log given. option_map (λ bytes. bytes.items) given ≡ entries_given log after) }
+        ensures call { IsBankCall S.Store self.old self.new [] result }
+        ensures tables { OnOk result ((bank_seen S.Store self.new).honest → (t : Tables)
+            → (bank_seen S.Store self.old).tables t → (bank_seen S.Store self.new).tables t) }
+        ensures spares { SparesOtherTables S.Store self.old self.new }
+        // Whatever rows the file holds.
+        ensures stored { IfOk result (λ given. (bank_seen S.Store self.new).honest
+            → GivesStored (database_of S.Store self.old) after (option_map (λ bytes. bytes.items) given)) }
+        ensures still { OnOk result ((bank_seen S.Store self.new).honest
+            → database_of S.Store self.new ≡ database_of S.Store self.old) }
+        ensures broken { IfErr result (λ fault. OfDamage fault (WasBroken S.Store self.old self.new)) }
+    {
+        self.up()?;
+        if after > MAX_DECIDED {
+            return Ok(None);
+        }
+        let mut entries = Vec::with_capacity(self.alloc, ENTRIES_PER_ANSWER * ENTRY_BYTES)?;
+        match read_log(&mut self.conn, after, &mut entries) {
+            Ok(enough) => {
+                if enough {
+                    return Ok(Some(entries));
+                }
+                Ok(None)
+            }
+            Err(fault) => Err(self.go_down(fault)),
+        }
+    }
+}
