@@ -246,7 +246,8 @@ class Firefox(Browser):
         text = ("const done = arguments[arguments.length - 1];"
                 f"Promise.resolve().then(() => ({script})).then(it => done([it]), fault => done(String(fault)))")
         got = self.tell("WebDriver:ExecuteAsyncScript", script=text, args=[], newSandbox=False)["value"]
-        if isinstance(got, str):
+        # None where the page went away meanwhile.
+        if not isinstance(got, list):
             raise BrowserFault(f"{script}: {got}")
         return got[0]
 

@@ -217,7 +217,7 @@ def words(place, page):
     page.settled()
     same("after the branch is open", page.browser.run(LINES)[0][3:], ["EARLY", "Posted", "5.00"])
     page.browser.run("(document.getElementById('sign-out').click(), 0)")
-    page.until("signing out", "document.title", "Signed out")
+    page.patiently(lambda: page.browser.run("document.title === 'Signed out'"))
     page.browser.open(place.address(path="/branches"))
     with open(place.folder + "/access.log", encoding="utf-8") as log:
         holds("who has signed out", log.readlines()[-1], '"GET /branches HTTP/1.1" 401 ')
