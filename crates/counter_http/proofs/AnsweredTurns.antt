@@ -14,7 +14,7 @@ use Rattle.counter_http.specs.declared.fault.ServeFault.TheVariants as told
 use Rattle.counter_http.specs.believed.Answers.{octets, balance_answer, status_words, bare, is_record, submits}
 use Rattle.counter_http.specs.believed.Answers.{answer_on, Asked, Answer, answer_to, answer_text, shows, unavailable}
 use Rattle.counter_http.specs.believed.Answers.{is_posting}
-use Rattle.counter_http.specs.declared.routes.Route.TheVariants.{Posting, Account, Branches, Health}
+use Rattle.counter_http.specs.declared.routes.Route.TheVariants.{Posting, Account, Branches, Health, Log, Plan}
 use Rattle.counter_http.specs.believed.Paths.{route_of, path_of}
 use Rattle.counter_http.proofs.PartsWritten.{bare_of, front_of}
 use Rattle.counter_http.specs.believed.Turns.{commands_if, commands_for, readings_if, readings_for}
@@ -165,6 +165,8 @@ posting_on log a (Some Posting) e =
 posting_on log a (Some Account) e = cc e
 posting_on log a (Some Branches) e = cc e
 posting_on log a (Some Health) e = cc e
+posting_on log a (Some Log) e = cc e
+posting_on log a (Some Plan) e = cc e
 
 pub posting_answer : (log : List Command) (a : Asked) → is_posting a ≡ true
     → answer_to log a ≡ octets (reply_spelling (reply log a.body))

@@ -5,7 +5,7 @@ use Rattle.std.specs.Prelude.{codes, ℤ, pos, negsuc, replicate}
 use Rattle.std.proofs.lemmas.{Bool.cases_lt, Bool.le-ltb, Str.encode_ascii}
 use Rattle.posting_rules.specs.declared.{counter.BranchLine.BranchLine, fault.Fault.Fault}
 use Rattle.posting_rules.specs.declared.{fault.Fault.TheVariants.Memory, limits.TheConstants.LAST_BRANCH}
-use Rattle.posting_rules.specs.{believed.Entries.branch_balance, believed.Entries.decided, Branches.IsNextBranch}
+use Rattle.posting_rules.specs.{Branches.IsNextBranch}
 use Rattle.posting_rules.specs.believed.Commands.{Command, opened, Terms, opened_with}
 use Rattle.posting_rules.specs.believed.Counter.{Seen, IsCounterCall, Takes, Refuses}
 use Rattle.posting_rules.proofs.CounterCalls.{Takes-append, call_idle_after}
@@ -14,7 +14,10 @@ use lib.IntN.{nat_abs}
 use lib.Utf8.{encode}
 use Rattle.std.specs.Fmt.{padded_integral, format_spec, decimal, signed_decimal, char_count}
 use Rattle.counter_http.specs.believed.Answers.{account_line, right_in, branch_line, line_if_open, lines_up_to}
-use Rattle.counter_http.specs.believed.Answers.{branch_lines}
+use Rattle.counter_http.specs.believed.Answers.{balance_line, branch_lines, plan_line, plan_lines, plan_names}
+use Rattle.counter_http.specs.Listing.{listed, listed_line, names_of, shown_line}
+use Rattle.counter_http.specs.declared.lines.Listing.{Listing}
+use Rattle.counter_http.specs.declared.lines.Listing.TheVariants.{Balances, Plan}
 use Rattle.counter_http.specs.Turns.{IsRefusedAt}
 
 -- ---- what the bank did so far: it answered calls that change nothing
@@ -68,42 +71,72 @@ asking_full seen old now a = record {
 abbrev NoneBetween : List Command → ℕ → ℕ → Type 0
 NoneBetween log low high = (b : ℕ) → low < b → b < high → opened log b ≡ None
 
-skipped : (log : List Command) (low high n : ℕ) → NoneBetween log low high → low ≤ n → n < high
-    → lines_up_to log n ≡ lines_up_to log low
-skipped log low high zero none le lt = ap (lines_up_to log) (let e : 0 ≡ low = omega arith in e)
-skipped log low high (suc m) none le lt = elim (cases_lt low (suc m)) [
+skipped : (each : ℕ → Terms → List ℕ) (log : List Command) (low high n : ℕ) → NoneBetween log low high → low ≤ n
+    → n < high → lines_up_to each log n ≡ lines_up_to each log low
+skipped each log low high zero none le lt = ap (lines_up_to each log) (let e : 0 ≡ low = omega arith in e)
+skipped each log low high (suc m) none le lt = elim (cases_lt low (suc m)) [
   | inl more ↦
       let closed : opened log (suc m) ≡ None = none (suc m) more lt in
-      ap (λ (o : Option Terms). lines_up_to log m ++ line_if_open log (suc m) o) closed
-      ∙ append-nil (lines_up_to log m) ∙ skipped log low high m none (omega arith) (omega arith)
-  | inr ge ↦ ap (lines_up_to log) (let e : suc m ≡ low = omega arith in e)
+      ap (λ (o : Option Terms). lines_up_to each log m ++ line_if_open (each (suc m)) o) closed
+      ∙ append-nil (lines_up_to each log m) ∙ skipped each log low high m none (omega arith) (omega arith)
+  | inr ge ↦ ap (lines_up_to each log) (let e : suc m ≡ low = omega arith in e)
 ]
 
-at_branch : (log : List Command) (b accounts : ℕ) (floor : Option ℤ) (balance : ℤ) → 0 < b
-    → opened log b ≡ Some (opened_with accounts floor)
-    → balance ≡ branch_balance (decided log) b
-    → lines_up_to log b ≡ lines_up_to log (b - 1) ++ branch_line b accounts balance
-at_branch log zero accounts floor balance some e z = absurd (omega arith)
-at_branch log (suc m) accounts floor balance some e z =
+at_branch : (each : ℕ → Terms → List ℕ) (log : List Command) (b : ℕ) (terms : Terms) → 0 < b
+    → opened log b ≡ Some terms → lines_up_to each log b ≡ lines_up_to each log (b - 1) ++ each b terms
+at_branch each log zero terms some e = absurd (omega arith)
+at_branch each log (suc m) terms some e =
     let less : m ≡ suc m - 1 = omega arith in
-    ap (λ (o : Option Terms). lines_up_to log m ++ line_if_open log (suc m) o) e
-    ∙ ap (λ (v : ℤ). lines_up_to log m ++ branch_line (suc m) accounts v) (sym z)
-    ∙ ap (λ (k : ℕ). lines_up_to log k ++ branch_line (suc m) accounts balance) less
+    ap (λ (o : Option Terms). lines_up_to each log m ++ line_if_open (each (suc m)) o) e
+    ∙ ap (λ (k : ℕ). lines_up_to each log k ++ each (suc m) terms) less
 
-pub next_line : (log : List Command) (after : ℕ) (line : BranchLine) → IsNextBranch log after (Some line)
-    → lines_up_to log line.branch ≡ lines_up_to log after
-    ++ branch_line line.branch line.accounts line.balance
-next_line log after line is =
+shown_as : (listing : Listing) (log : List Command) (after : ℕ) (line : BranchLine) → IsNextBranch log after (Some line)
+    → listed_line listing log line.branch (opened_with line.accounts line.floor) ≡ shown_line listing line
+shown_as Balances log after line is = ap (branch_line line.branch line.accounts) (sym is.balance)
+shown_as Plan log after line is = refl
+
+next_line : (listing : Listing) (log : List Command) (after : ℕ) (line : BranchLine)
+    → IsNextBranch log after (Some line)
+    → lines_up_to (listed_line listing log) log line.branch
+    ≡ lines_up_to (listed_line listing log) log after ++ shown_line listing line
+next_line listing log after line is =
     let low : after < line.branch = is.above in
-    at_branch log line.branch line.accounts line.floor line.balance (omega arith) is.terms is.balance
-    ∙ ap (λ (t : List ℕ). t ++ branch_line line.branch line.accounts line.balance)
-    (skipped log after line.branch (line.branch - 1) is.none_between (omega arith) (omega arith))
+    let each = listed_line listing log in
+    at_branch each log line.branch (opened_with line.accounts line.floor) (omega arith) is.terms
+    ∙ ap (λ (t : List ℕ). lines_up_to each log (line.branch - 1) ++ t) (shown_as listing log after line is)
+    ∙ ap (λ (t : List ℕ). t ++ shown_line listing line)
+    (skipped each log after line.branch (line.branch - 1) is.none_between (omega arith) (omega arith))
 
-pub all_listed : (log : List Command) (after : ℕ) → IsNextBranch log after None → after ≤ LAST_BRANCH
-    → lines_up_to log after ≡ branch_lines log
+abbrev pub so_far : Listing → List Command → ℕ → List ℕ
+so_far listing log after = names_of listing ++ lines_up_to (listed_line listing log) log after
+
+-- one line more
+pub line_more : (listing : Listing) (log : List Command) (after : ℕ) (line : BranchLine)
+    → IsNextBranch log after (Some line) → (text : List ℕ) → text ≡ shown_line listing line
+    → lines_up_to (listed_line listing log) log after ++ text
+    ≡ lines_up_to (listed_line listing log) log line.branch
+line_more listing log after line is text same =
+    ap (λ (t : List ℕ). lines_up_to (listed_line listing log) log after ++ t) same
+    ∙ sym (next_line listing log after line is)
+
+balances_listed : (log : List Command) (after : ℕ) → IsNextBranch log after None → after ≤ LAST_BRANCH
+    → lines_up_to (balance_line log) log after ≡ branch_lines log
 unfolding branch_lines
-all_listed log after none le =
-    sym (skipped log after (suc LAST_BRANCH) LAST_BRANCH (λ b low high. none b low) le (omega arith))
+balances_listed log after none le =
+    sym (skipped (balance_line log) log after (suc LAST_BRANCH) LAST_BRANCH (λ b low high. none b low) le (omega arith))
+
+plan_listed : (log : List Command) (after : ℕ) → IsNextBranch log after None → after ≤ LAST_BRANCH
+    → plan_names ++ lines_up_to plan_line log after ≡ plan_lines log
+unfolding plan_lines
+plan_listed log after none le =
+    ap (λ (t : List ℕ). plan_names ++ t)
+    (sym (skipped plan_line log after (suc LAST_BRANCH) LAST_BRANCH (λ b low high. none b low) le (omega arith)))
+
+pub all_listed : (listing : Listing) (log : List Command) (after : ℕ) → IsNextBranch log after None
+    → after ≤ LAST_BRANCH
+    → names_of listing ++ lines_up_to (listed_line listing log) log after ≡ listed listing log
+all_listed Balances log after none le = balances_listed log after none le
+all_listed Plan log after none le = plan_listed log after none le
 
 -- ---- a number, right in so many places
 
@@ -152,6 +185,21 @@ line_text b a z y e =
   where
     six : (p s q u r l : List ℕ) → p ++ (s ++ (q ++ (u ++ (r ++ l)))) ≡ p ++ s ++ q ++ u ++ r ++ l
     six p s q u r l = simp append_assoc
+
+-- ---- the lines of a plan
+
+five : (p s q u r l : List ℕ) → p ++ (s ++ (q ++ (u ++ (r ++ l)))) ≡ p ++ s ++ q ++ u ++ r ++ l
+five p s q u r l = simp append_assoc
+
+pub plan_text : (b a k : ℕ) (z y : ℤ) → k ≡ b → y ≡ z
+    → decimal k ++ (codes "," ++ (decimal a ++ (codes "," ++ (signed_decimal y ++ codes "\n"))))
+    ≡ plan_line b (opened_with a (Some z))
+plan_text b a k z y f e =
+    rw (f, e) (five (decimal b) (codes ",") (decimal a) (codes ",") (signed_decimal z) (codes "\n"))
+
+pub plan_text_bare : (b a k : ℕ) → k ≡ b
+    → decimal k ++ (codes "," ++ (decimal a ++ codes ",\n")) ≡ plan_line b (opened_with a None)
+plan_text_bare b a k f = rw f (five (decimal b) (codes ",") (decimal a) (codes ",") [] (codes "\n"))
 
 pub account_text : (a b : ℕ) (z y : ℤ) → b ≡ a → y ≡ z
     → codes "account " ++ (decimal b ++ (codes " balance " ++ (signed_decimal y ++ codes "\n")))

@@ -1,5 +1,5 @@
 -- A listener of which no client was taken in.
-use Rattle.std.proofs.Common.{◌≡◌, ℕ, List, [], ◌∷◌, Option, None, Result, Err, refl, inl, arith}
+use Rattle.std.proofs.Common.{ℕ, List, [], ◌∷◌, Option, Err, refl, inl, arith}
 use Rattle.std.specs.declared.io.ErrorKind.TheVariants.{Interrupted}
 use Rattle.posting_rules.specs.{declared.fault.Fault.Fault, believed.Counter.Seen}
 use Rattle.posting_rules.proofs.CounterCalls.{takes_none}

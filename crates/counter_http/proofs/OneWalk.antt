@@ -5,12 +5,16 @@ use Rattle.std.proofs.Math.Seq.{take-append_seam, drop-append_seam}
 use Rattle.std.proofs.lemmas.{Bool.cases_Bool, List.length-append}
 use Rattle.httparse.specs.Grammar.{RequestHead, print_request}
 use Rattle.httparse.proofs.GrammarLemmas.{request_unique}
-use Rattle.counter_http.specs.{believed.Fields.named_values, believed.Fields.body_length, Outputs.texts_of_all}
+use Rattle.counter_http.specs.{believed.Fields.named_values, believed.Fields.body_length}
 use Rattle.counter_http.specs.believed.Messages.{Message, message_text, IsMessage, closes, Ending, Finished, Closed}
 use Rattle.counter_http.specs.believed.Messages.{No_head, No_body, EndsWalk, Walks}
-use Rattle.std.specs.List.{AllByRecursion}
+use Rattle.std.specs.List.{AllByRecursion, flat_map}
 use Rattle.counter_http.specs.believed.Serving.{KeepsConnection, BeginsWithNoMessage}
 use Rattle.counter_http.proofs.Walking.{no_message, head_some}
+
+-- the bytes of messages
+abbrev pub texts_of_all : List Message → List ℕ
+texts_of_all ms = flat_map message_text ms
 
 -- texts of one length at the front of one text
 front_same : (a b x y : List ℕ) → length a ≡ length b → a ++ x ≡ b ++ y → (a ≡ b) × (x ≡ y)

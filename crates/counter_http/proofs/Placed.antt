@@ -13,7 +13,6 @@ use Rattle.counter_http.specs.together.Standing.{StandsHere}
 use Rattle.counter_http.specs.together.Submitting.{AreBeside}
 use Rattle.counter_http.specs.declared.client.Client.{Client}
 use Rattle.counter_http.proofs.Beside.{stands_beside}
-use Rattle.counter_http.proofs.Fronts.{stands_after}
 use Rattle.counter_http.proofs.Steps.{OfOne, OfOther, submitted-append}
 
 -- ---- places of a list

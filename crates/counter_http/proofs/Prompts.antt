@@ -4,39 +4,40 @@ use Rattle.std.proofs.Common.{Ok, Err, refl, sym, ap, subst, ◌∙◌, arith, i
 use Rattle.std.specs.Prelude.{◌⊎◌, false}
 use Rattle.std.specs.{Io.KnownBytes.Appends, Io.KnownBytes.Consumes, Io.KnownBytes.Keeps, declared.io.Error.Error}
 use Rattle.std.proofs.{KnownBytes.Consumes-kept, KnownBytes.Consumes-nil, lemmas.List.get_or_append_left}
-use Rattle.std.proofs.{lemmas.List.length-append, lemmas.List.length-take-le, lemmas.List.take-append-drop}
+use Rattle.std.proofs.{lemmas.List.Concat.flat_map-append, lemmas.List.length-append, lemmas.List.length-take-le, lemmas.List.take-append-drop}
 use Rattle.std.proofs.{lemmas.List.take-append-le, Math.Seq.get_or-append_seam, Math.Seq.take-append_seam}
 use Rattle.posting_rules.specs.{believed.Commands.Command, believed.Counter.Seen, declared.fault.Fault.Fault}
 use Rattle.posting_core.specs.{Stream.given, believed.Batches.joined}
-use Rattle.posting_core.specs.believed.Told.{GrowsBy, ReadTold}
+use Rattle.posting_core.specs.believed.{Clock.AreReadings, Told.GrowsBy, Told.ReadTold}
 use Rattle.posting_core.specs.Told.{Beside, IsThrough, WriteTold, read_told, unknown}
 use Rattle.posting_core.proofs.ReadsFollowed.{gave_none, gave_some, given-append}
 use Rattle.posting_core.proofs.Telling.{adds-more, adds-none}
 use Rattle.counter_http.specs.{Outputs.AnswersWhole, believed.Serving.BeginsWithNoMessage, Next.asked, Next.IsWhole}
 use Rattle.counter_http.specs.{declared.next.Whole.Whole, Turns.TurnIsDealtWith}
 use Rattle.counter_http.specs.Prompt.{AnswersBeforeReads, HoldsAnswers, IsPrompt}
-use Rattle.counter_http.specs.believed.Turns.{Turn, answers_to, messages_of, text_in, texts_of}
+use Rattle.counter_http.specs.believed.Turns.{Turn, answers_to, moments_in, moments_of, text_in, texts_of}
 use Rattle.counter_http.proofs.ConnectionLoop.{Going, going_first, going_message, going_read, texts_one_more, turn_of}
-use Rattle.counter_http.proofs.{Momentless.momentless, Outputs.stays_all, Outputs.texts_are}
+use Rattle.counter_http.proofs.Turning.{readings_append}
 
 -- ---- what stands written
 
 whole_so_far : {r r' w w' k k' : Option (List ℕ)} {c c' : Seen} {count : ℕ} (rest : List ℕ)
     (g : Going r r' w w' k k' c c' rest count) → BeginsWithNoMessage rest → (log : List Command)
-    → AnswersWhole log (texts_of g.turns ++ rest) (joined (answers_to log g.turns))
+    → AnswersWhole log (moments_of g.turns) (texts_of g.turns ++ rest) (joined (answers_to log g.turns))
 whole_so_far rest g none log = record {
-  messages = messages_of g.turns;
+  turns = g.turns;
   rest = rest;
-  input_is = ap (λ (x : List ℕ). x ++ rest) (texts_are g.turns);
-  stays = stays_all g.turns g.stays;
+  timed = record { later = []; moments_are = sym (append-nil (moments_of g.turns)) };
+  input_is = refl;
+  stays = g.stays;
   no_more = none;
-  text_is = ap joined (momentless log g.turns);
+  text_is = refl;
 }
 
 -- all whole messages that were read are answered
 holds_now : {r r' w w' k k' : Option (List ℕ)} {c c' : Seen} {count : ℕ} {t t' : Option (List WriteTold)}
     (rest : List ℕ) (g : Going r r' w w' k k' c c' rest count) → BeginsWithNoMessage rest → IsThrough t t'
-    → HoldsAnswers w t c c' (texts_of g.turns ++ rest) (record { contents = w'; told = t' })
+    → HoldsAnswers w t c c' (moments_of g.turns) (texts_of g.turns ++ rest) (record { contents = w'; told = t' })
 holds_now {w = w} {w' = w'} rest g none through = record {
   wrote = λ h log shows. (
     joined (answers_to log g.turns),
@@ -46,12 +47,29 @@ holds_now {w = w} {w' = w'} rest g none through = record {
   through = through;
 }
 
-holds_as : {w : Option (List ℕ)} {t : Option (List WriteTold)} {c c' : Seen} {input input' : List ℕ}
-    {sink sink' : Beside} → input ≡ input' → sink ≡ sink' → HoldsAnswers w t c c' input sink
-    → HoldsAnswers w t c c' input' sink'
-holds_as {w} {t} {c} {c'} {input} {input'} {sink} {sink'} one two h =
-    subst (λ (s : Beside). HoldsAnswers w t c c' input' s) two
-    (subst (λ (x : List ℕ). HoldsAnswers w t c c' x sink) one h)
+holds_as : {w : Option (List ℕ)} {t : Option (List WriteTold)} {c c' : Seen} {moments input input' : List ℕ}
+    {sink sink' : Beside} → input ≡ input' → sink ≡ sink' → HoldsAnswers w t c c' moments input sink
+    → HoldsAnswers w t c c' moments input' sink'
+holds_as {w} {t} {c} {c'} {moments} {input} {input'} {sink} {sink'} one two h =
+    subst (λ (s : Beside). HoldsAnswers w t c c' moments input' s) two
+    (subst (λ (x : List ℕ). HoldsAnswers w t c c' moments x sink) one h)
+
+-- the clock was read again later
+whole_later : {log : List Command} {moments input text : List ℕ} (more : List ℕ) → AnswersWhole log moments input text
+    → AnswersWhole log (moments ++ more) input text
+whole_later more a = record {
+  turns = a.turns;
+  rest = a.rest;
+  timed = record {
+    later = a.timed.later ++ more;
+    moments_are = ap (λ (ms : List ℕ). ms ++ more) a.timed.moments_are
+        ∙ append_assoc (moments_of a.turns) a.timed.later more;
+  };
+  input_is = a.input_is;
+  stays = a.stays;
+  no_more = a.no_more;
+  text_is = a.text_is;
+}
 
 -- ---- one read more
 
@@ -65,10 +83,10 @@ before_or_last n m below = grind arith
 
 -- of a read that was made before
 as_before : {w : Option (List ℕ)} {t : Option (List WriteTold)} {c c' : Seen} (reads : List ReadTold)
-    (sinks : List Beside) (input bytes : List ℕ) (x : ReadTold) (sink : Beside) (n : ℕ)
+    (sinks : List Beside) {moments : List ℕ} (input bytes : List ℕ) (x : ReadTold) (sink : Beside) (n : ℕ)
     → given reads ≡ length input → length sinks ≡ length reads → n < length reads
-    → HoldsAnswers w t c c' (take (given (take n reads)) input) (get_or sinks n unknown)
-    → HoldsAnswers w t c c' (take (given (take n (reads ++ x ∷ []))) (input ++ bytes))
+    → HoldsAnswers w t c c' moments (take (given (take n reads)) input) (get_or sinks n unknown)
+    → HoldsAnswers w t c c' moments (take (given (take n (reads ++ x ∷ []))) (input ++ bytes))
     (get_or (sinks ++ sink ∷ []) n unknown)
 as_before reads sinks input bytes x sink n long each below h =
     let few : given (take n reads) ≤ length input = omega (arith, given_front n reads, long) in
@@ -81,10 +99,10 @@ as_before reads sinks input bytes x sink n long each below h =
 
 -- of the read itself
 as_last : {w : Option (List ℕ)} {t : Option (List WriteTold)} {c c' : Seen} (reads : List ReadTold)
-    (sinks : List Beside) (input bytes : List ℕ) (x : ReadTold) (sink : Beside) (n : ℕ)
+    (sinks : List Beside) {moments : List ℕ} (input bytes : List ℕ) (x : ReadTold) (sink : Beside) (n : ℕ)
     → given reads ≡ length input → length sinks ≡ length reads → n ≡ length reads
-    → HoldsAnswers w t c c' input sink
-    → HoldsAnswers w t c c' (take (given (take n (reads ++ x ∷ []))) (input ++ bytes))
+    → HoldsAnswers w t c c' moments input sink
+    → HoldsAnswers w t c c' moments (take (given (take n (reads ++ x ∷ []))) (input ++ bytes))
     (get_or (sinks ++ sink ∷ []) n unknown)
 as_last reads sinks input bytes x sink n long each is h =
     holds_as (sym (ap (λ (m : ℕ). take (given (take m (reads ++ x ∷ []))) (input ++ bytes)) is
@@ -94,10 +112,11 @@ as_last reads sinks input bytes x sink n long each is h =
     ∙ get_or-append_seam sinks sink [] unknown)) h
 
 one_read : {q q' q'' : Option (List ReadTold)} {b b' b'' : Option (List Beside)} {w : Option (List ℕ)}
-    {t : Option (List WriteTold)} {c c' : Seen} (input bytes : List ℕ) (x : ReadTold) (sink : Beside)
-    → AnswersBeforeReads q q' b b' w t c c' input → HoldsAnswers w t c c' input sink
+    {t : Option (List WriteTold)} {c c' : Seen} {moments : List ℕ} (input bytes : List ℕ) (x : ReadTold)
+    (sink : Beside)
+    → AnswersBeforeReads q q' b b' w t c c' moments input → HoldsAnswers w t c c' moments input sink
     → GrowsBy q' q'' (x ∷ []) → GrowsBy b' b'' (sink ∷ []) → given (x ∷ []) ≡ length bytes
-    → AnswersBeforeReads q q'' b b'' w t c c' (input ++ bytes)
+    → AnswersBeforeReads q q'' b b'' w t c c' moments (input ++ bytes)
 one_read {q} {q'} {q''} {b} {b'} {b''} {w} {t} {c} {c'} input bytes x sink p holds told beside long = record {
   reads = p.reads ++ x ∷ [];
   made = adds-more q q' q'' p.reads (x ∷ []) p.made told;
@@ -119,10 +138,10 @@ pub record Prompted (r r' : Option (List ℕ)) (q q' : Option (List ReadTold)) (
     (w w' : Option (List ℕ)) (t : Option (List WriteTold)) (k k' : Option (List ℕ)) (c c' : Seen)
     (rest : List ℕ) (count : ℕ) : Type 0 where
   pub going : Going r r' w w' k k' c c' rest count
-  pub before : AnswersBeforeReads q q' b b' w t c c' (texts_of going.turns ++ rest)
+  pub before : AnswersBeforeReads q q' b b' w t c c' (moments_of going.turns) (texts_of going.turns ++ rest)
 
 pub none_read : (q : Option (List ReadTold)) (b : Option (List Beside)) {w : Option (List ℕ)}
-    {t : Option (List WriteTold)} {c c' : Seen} → AnswersBeforeReads q q b b w t c c' []
+    {t : Option (List WriteTold)} {c c' : Seen} {moments : List ℕ} → AnswersBeforeReads q q b b w t c c' moments []
 none_read q b = record {
   reads = [];
   made = adds-none q;
@@ -135,11 +154,11 @@ none_read q b = record {
 
 -- the bank went on
 goes_to : {q q' : Option (List ReadTold)} {b b' : Option (List Beside)} {w : Option (List ℕ)}
-    {t : Option (List WriteTold)} {c c' c'' : Seen} {input input' : List ℕ} → input ≡ input'
-    → (c''.honest → c'.honest) → AnswersBeforeReads q q' b b' w t c c' input
-    → AnswersBeforeReads q q' b b' w t c c'' input'
-goes_to {q} {q'} {b} {b'} {w} {t} {c} {c'} {c''} same honest p =
-    subst (λ (x : List ℕ). AnswersBeforeReads q q' b b' w t c c'' x) same (record {
+    {t : Option (List WriteTold)} {c c' c'' : Seen} {moments input input' : List ℕ} → input ≡ input'
+    → (c''.honest → c'.honest) → AnswersBeforeReads q q' b b' w t c c' moments input
+    → AnswersBeforeReads q q' b b' w t c c'' moments input'
+goes_to {q} {q'} {b} {b'} {w} {t} {c} {c'} {c''} {moments} same honest p =
+    subst (λ (x : List ℕ). AnswersBeforeReads q q' b b' w t c c'' moments x) same (record {
       reads = p.reads;
       made = p.made;
       long = p.long;
@@ -152,22 +171,54 @@ goes_to {q} {q'} {b} {b'} {w} {t} {c} {c'} {c''} same honest p =
       };
     })
 
+-- and so did the clock
+goes_later : {q q' : Option (List ReadTold)} {b b' : Option (List Beside)} {w : Option (List ℕ)}
+    {t : Option (List WriteTold)} {c c' : Seen} {moments input : List ℕ} (more : List ℕ)
+    → AnswersBeforeReads q q' b b' w t c c' moments input → AnswersBeforeReads q q' b b' w t c c' (moments ++ more) input
+goes_later more p = record {
+  reads = p.reads;
+  made = p.made;
+  long = p.long;
+  sinks = p.sinks;
+  beside = p.beside;
+  each = p.each;
+  answered = λ n below. record {
+    wrote = λ h log shows. let it = (p.answered n below).wrote h log shows in (it.0, whole_later more it.1, it.2);
+    through = (p.answered n below).through;
+  };
+}
+
+moments_as : {q q' : Option (List ReadTold)} {b b' : Option (List Beside)} {w : Option (List ℕ)}
+    {t : Option (List WriteTold)} {c c' : Seen} {moments moments' input : List ℕ} → moments ≡ moments'
+    → AnswersBeforeReads q q' b b' w t c c' moments input → AnswersBeforeReads q q' b b' w t c c' moments' input
+moments_as {q} {q'} {b} {b'} {w} {t} {c} {c'} {moments} {moments'} {input} same p =
+    subst (λ (ms : List ℕ). AnswersBeforeReads q q' b b' w t c c' ms input) same p
+
 -- of all that was read so far
 pub prompt_so_far : {r r' : Option (List ℕ)} {q q' : Option (List ReadTold)} {b b' : Option (List Beside)}
-    {w w' : Option (List ℕ)} {t : Option (List WriteTold)} {k k' : Option (List ℕ)} {c c' c'' : Seen}
-    {rest : List ℕ} {count : ℕ} → (c''.honest → c'.honest)
+    {w w' : Option (List ℕ)} {t : Option (List WriteTold)} {k k' k'' : Option (List ℕ)} {c c' c'' : Seen}
+    {rest : List ℕ} {count : ℕ} (more : List ℕ) → AreReadings k' k'' more → (c''.honest → c'.honest)
     → Prompted r r' q q' b b' w w' t k k' c c' rest count
-    → IsPrompt r r' q q' b b' w t c c''
-prompt_so_far {rest = rest} honest p = record {
+    → IsPrompt r r' q q' b b' w t k k'' c c''
+prompt_so_far {k = k} {k' = k'} {k'' = k''} {rest = rest} more clock honest p = record {
   input = texts_of p.going.turns ++ rest;
   read = p.going.read;
-  before = goes_to refl honest p.before;
+  moments = moments_of p.going.turns ++ more;
+  clock = readings_append k k' k'' (moments_of p.going.turns) more p.going.answered.clock clock;
+  before = goes_later more (goes_to refl honest p.before);
 }
 
 -- nothing was read
 pub prompt_none : {r : Option (List ℕ)} {q : Option (List ReadTold)} {b : Option (List Beside)}
-    {w : Option (List ℕ)} {t : Option (List WriteTold)} {c c' : Seen} → IsPrompt r r q q b b w t c c'
-prompt_none {r = r} {q = q} {b = b} = record { input = []; read = Consumes-nil r; before = none_read q b }
+    {w : Option (List ℕ)} {t : Option (List WriteTold)} {k : Option (List ℕ)} {c c' : Seen}
+    → IsPrompt r r q q b b w t k k c c'
+prompt_none {r = r} {q = q} {b = b} = record {
+  input = [];
+  read = Consumes-nil r;
+  moments = [];
+  clock = refl;
+  before = none_read q b;
+}
 
 -- ---- step by step
 
@@ -256,5 +307,7 @@ message_on seen now new all rest count' p so is on left n d =
       going = going_message seen now new all rest count' p so.going is on left n d;
       before = goes_to (ap (λ (x : List ℕ). texts_of turns ++ x)
           (is.front ∙ ap (λ (x : List ℕ). text_in turn ++ x) (sym left))
-          ∙ sym (texts_one_more turns turn rest)) d.dealt.honest so.before;
+          ∙ sym (texts_one_more turns turn rest)) d.dealt.honest
+          (moments_as (sym (flat_map-append moments_in turns (turn ∷ [])))
+          (goes_later (moments_of (turn ∷ [])) so.before));
     }

@@ -10,9 +10,10 @@ use Rattle.std.proofs.lemmas.Bool.{cases_Bool, cases_eq, cases_lt, le-ltb, ne_eq
 use Rattle.posting_rules.proofs.RowChanges.{eqb-flip}
 use Rattle.matchit.specs.{Rows.RowsOf, Router.RouteOf}
 use Rattle.counter_http.specs.declared.routes.Route.{Route, TheVariants.Posting, TheVariants.Branches, TheVariants.Health}
+use Rattle.counter_http.specs.declared.routes.Route.TheVariants.{Plan}
 use Rattle.matchit.specs.Seek.{step, or_else, param_step, seek, first, has_slash}
 use Rattle.counter_http.specs.believed.Paths.{is_slash, route_named, route_of}
-use Rattle.counter_http.specs.Rows.{fixed, account_row, all_routes}
+use Rattle.counter_http.specs.Rows.{fixed, account_row, all_routes, log_row}
 
 -- the bytes of a text are bytes
 abbrev pub AreBytes : List ℕ → Type 0
@@ -153,10 +154,18 @@ abbrev after_slash : Rs
 after_slash = (codes "account/" ++ 256 ∷ [], account_row.1)
     ∷ (codes "branches", (fixed (codes "/branches") Branches).1)
     ∷ (codes "health", (fixed (codes "/health") Health).1)
+    ∷ (codes "log/" ++ 256 ∷ [], log_row.1)
+    ∷ (codes "plan", (fixed (codes "/plan") Plan).1)
     ∷ (codes "post", (fixed (codes "/post") Posting).1) ∷ []
+
+abbrev after_p : Rs
+after_p = (codes "lan", (fixed (codes "/plan") Plan).1) ∷ (codes "ost", (fixed (codes "/post") Posting).1) ∷ []
 
 ltb_nine : (n : ℕ) → ltb 9 (suc (suc n)) ≡ ltb 7 n
 ltb_nine n = ltb_suc 8 (suc n) ∙ ltb_suc 7 n
+
+ltb_five : (n : ℕ) → ltb 5 (suc (suc n)) ≡ ltb 3 n
+ltb_five n = ltb_suc 4 (suc n) ∙ ltb_suc 3 n
 
 second_account : (q : List ℕ) → AreBytes q
     → option_map value_in (seek 0 after_slash (97 ∷ q)) ≡ route_named (47 ∷ 97 ∷ q)
@@ -182,23 +191,64 @@ second_health q =
     (lit< tt, (lit< tt, (lit< tt, (lit< tt, (lit< tt, tt))))))
     ∙ mapped (bytes_eq q (codes "ealth")) (fixed (codes "/health") Health).1
 
-second_post : (q : List ℕ) → option_map value_in (seek 0 after_slash (112 ∷ q)) ≡ route_named (47 ∷ 112 ∷ q)
-second_post q =
-    ap (option_map value_in) (literal_step after_slash 112 q refl refl
-    ∙ seek_row (codes "ost") (fixed (codes "/post") Posting).1 q (lit< tt, (lit< tt, (lit< tt, tt))))
-    ∙ mapped (bytes_eq q (codes "ost")) (fixed (codes "/post") Posting).1
+second_log : (q : List ℕ) → AreBytes q
+    → option_map value_in (seek 0 after_slash (108 ∷ q)) ≡ route_named (47 ∷ 108 ∷ q)
+second_log q bytes =
+    ap (option_map value_in) (literal_step after_slash 108 q refl refl
+    ∙ seek_account (codes "og/") log_row.1 q (lit< tt, (lit< tt, (lit< tt, tt))) bytes)
+    ∙ mapped (leads (codes "og/") q) log_row.1 ∙ (rw ltb_five refl)
 
-second_other : (c : ℕ) (q : List ℕ) → eqb c 97 ≡ false → eqb c 98 ≡ false → eqb c 104 ≡ false → eqb c 112 ≡ false
+third_plan : (q : List ℕ) → option_map value_in (seek 0 after_p (108 ∷ q)) ≡ route_named (47 ∷ 112 ∷ 108 ∷ q)
+third_plan q =
+    ap (option_map value_in) (literal_step after_p 108 q refl refl
+    ∙ seek_row (codes "an") (fixed (codes "/plan") Plan).1 q (lit< tt, (lit< tt, tt)))
+    ∙ mapped (bytes_eq q (codes "an")) (fixed (codes "/plan") Plan).1
+
+third_post : (q : List ℕ) → option_map value_in (seek 0 after_p (111 ∷ q)) ≡ route_named (47 ∷ 112 ∷ 111 ∷ q)
+third_post q =
+    ap (option_map value_in) (literal_step after_p 111 q refl refl
+    ∙ seek_row (codes "st") (fixed (codes "/post") Posting).1 q (lit< tt, (lit< tt, tt)))
+    ∙ mapped (bytes_eq q (codes "st")) (fixed (codes "/post") Posting).1
+
+third_other : (c : ℕ) (q : List ℕ) → eqb c 108 ≡ false → eqb c 111 ≡ false
+    → option_map value_in (seek 0 after_p (c ∷ q)) ≡ route_named (47 ∷ 112 ∷ c ∷ q)
+third_other c q l o =
+    let l' : eqb 108 c ≡ false = eqb-flip 108 c ∙ l in
+    let o' : eqb 111 c ≡ false = eqb-flip 111 c ∙ o in
+    let none : step c after_p ≡ no_rows = rw (l', o') refl in
+    ap (option_map value_in) (literal_step after_p c q refl refl ∙ ap (λ (rs : Rs). seek 0 rs q) none
+    ∙ seek_none 0 q)
+    ∙ (rw (l, o) refl)
+
+third : (q : List ℕ) → option_map value_in (seek 0 after_p q) ≡ route_named (47 ∷ 112 ∷ q)
+unfolding seek
+third [] = refl
+third (c ∷ q) = elim (cases_eq c 108) [
+  | inl e ↦ subst (λ (x : ℕ). option_map value_in (seek 0 after_p (x ∷ q)) ≡ route_named (47 ∷ 112 ∷ x ∷ q))
+      (sym e) (third_plan q)
+  | inr l ↦ elim (cases_eq c 111) [
+    | inl e ↦ subst (λ (x : ℕ). option_map value_in (seek 0 after_p (x ∷ q)) ≡ route_named (47 ∷ 112 ∷ x ∷ q))
+        (sym e) (third_post q)
+    | inr o ↦ third_other c q (ne_eqb c 108 l) (ne_eqb c 111 o)
+  ]
+]
+
+second_p : (q : List ℕ) → option_map value_in (seek 0 after_slash (112 ∷ q)) ≡ route_named (47 ∷ 112 ∷ q)
+second_p q = ap (option_map value_in) (literal_step after_slash 112 q refl refl) ∙ third q
+
+second_other : (c : ℕ) (q : List ℕ) → eqb c 97 ≡ false → eqb c 98 ≡ false → eqb c 104 ≡ false → eqb c 108 ≡ false
+    → eqb c 112 ≡ false
     → option_map value_in (seek 0 after_slash (c ∷ q)) ≡ route_named (47 ∷ c ∷ q)
-second_other c q a b h p =
+second_other c q a b h l p =
     let a' : eqb 97 c ≡ false = eqb-flip 97 c ∙ a in
     let b' : eqb 98 c ≡ false = eqb-flip 98 c ∙ b in
     let h' : eqb 104 c ≡ false = eqb-flip 104 c ∙ h in
+    let l' : eqb 108 c ≡ false = eqb-flip 108 c ∙ l in
     let p' : eqb 112 c ≡ false = eqb-flip 112 c ∙ p in
-    let none : step c after_slash ≡ no_rows = rw (a', b', h', p') refl in
+    let none : step c after_slash ≡ no_rows = rw (a', b', h', l', p') refl in
     ap (option_map value_in) (literal_step after_slash c q refl refl ∙ ap (λ (rs : Rs). seek 0 rs q) none
     ∙ seek_none 0 q)
-    ∙ (rw (a, b, h, p) refl)
+    ∙ (rw (a, b, h, l, p) refl)
 
 second : (p : List ℕ) → AreBytes p → option_map value_in (seek 0 after_slash p) ≡ route_named (47 ∷ p)
 unfolding seek
@@ -212,10 +262,14 @@ second (c ∷ q) bytes = elim (cases_eq c 97) [
     | inr b ↦ elim (cases_eq c 104) [
       | inl e ↦ subst (λ (x : ℕ). option_map value_in (seek 0 after_slash (x ∷ q))
           ≡ route_named (47 ∷ x ∷ q)) (sym e) (second_health q)
-      | inr h ↦ elim (cases_eq c 112) [
+      | inr h ↦ elim (cases_eq c 108) [
         | inl e ↦ subst (λ (x : ℕ). option_map value_in (seek 0 after_slash (x ∷ q))
-            ≡ route_named (47 ∷ x ∷ q)) (sym e) (second_post q)
-        | inr p ↦ second_other c q (ne_eqb c 97 a) (ne_eqb c 98 b) (ne_eqb c 104 h) (ne_eqb c 112 p)
+            ≡ route_named (47 ∷ x ∷ q)) (sym e) (second_log q bytes.1)
+        | inr l ↦ elim (cases_eq c 112) [
+          | inl e ↦ subst (λ (x : ℕ). option_map value_in (seek 0 after_slash (x ∷ q))
+              ≡ route_named (47 ∷ x ∷ q)) (sym e) (second_p q)
+          | inr p ↦ second_other c q (ne_eqb c 97 a) (ne_eqb c 98 b) (ne_eqb c 104 h) (ne_eqb c 108 l) (ne_eqb c 112 p)
+        ]
       ]
     ]
   ]

@@ -5,14 +5,17 @@ use Rattle.posting_rules.specs.declared.fault.Fault.{Fault}
 use Rattle.posting_core.specs.Told.{WriteTold}
 use Rattle.counter_http.specs.Ends.{SendsAs}
 use Rattle.counter_http.specs.Turns.{IsSentAs, IsTellingOf}
-use Rattle.counter_http.specs.believed.Answers.{Answer, Asked, answer_text, bare, plain, shows, unavailable}
+use Rattle.counter_http.specs.believed.Answers.{Answer, Asked, answer_text, bare, csv, octets, plain, shows}
+use Rattle.counter_http.specs.believed.Answers.{unavailable}
 use Rattle.counter_http.specs.declared.answers.Reading.{Reading}
-use Rattle.counter_http.specs.declared.answers.Reading.TheVariants.{NotFound, Lines}
+use Rattle.counter_http.specs.declared.answers.Reading.TheVariants.{NotFound, Lines, Plan, Entries}
 use Rattle.counter_http.specs.declared.fault.ServeFault.{ServeFault}
 
 abbrev pub said_in : Reading → Answer
 said_in NotFound = bare 404
 said_in (Lines text) = plain (string_bytes text)
+said_in (Plan text) = csv (string_bytes text)
+said_in (Entries entries) = octets entries.items
 
 -- a 503 was told, or the writer failed
 pub record TellsRefusal (w w' : Option (List ℕ)) (v v' : Option (List WriteTold)) (asked : Asked) (why : Fault)

@@ -15,3 +15,4 @@ pub mod Clients
 pub mod Connections
 pub mod Tasks
 pub mod Asking
+pub mod Listing

@@ -2,12 +2,14 @@
 use Rattle.std.specs.Prelude.{◌≡◌, List, Option, true, false}
 use Rattle.posting_rules.specs.believed.Commands.{Command}
 use Rattle.posting_rules.specs.believed.Entries.{balance_after}
-use Rattle.counter_http.specs.believed.Answers.{Asked, answer_on, balance_answer, branch_lines, plain, submits}
+use Rattle.posting_core.specs.believed.LogEntries.{entries_given}
+use Rattle.counter_http.specs.Listing.{listing_answer}
+use Rattle.counter_http.specs.believed.Answers.{Asked, answer_on, balance_answer, entries_answer, submits}
 use Rattle.counter_http.specs.believed.Paths.{path_of, route_of}
 use Rattle.counter_http.specs.Telling.{said}
 use Rattle.counter_http.specs.declared.routes.Route.{Route}
 use Rattle.counter_http.specs.declared.tasks.Task.{Task}
-use Rattle.counter_http.specs.declared.tasks.Task.TheVariants.{Say, Submit, Balance, Branches}
+use Rattle.counter_http.specs.declared.tasks.Task.TheVariants.{Say, Submit, Balance, Branches, Entries}
 
 -- on a route the answer is this, whatever the bank shows; its record is submitted; or the answer is read
 abbrev pub IsTaskOn : Option Route → Asked → Task → Type 0
@@ -17,9 +19,11 @@ IsTaskOn route asked (Submit bytes) = (submits route asked ≡ true) × (bytes.n
 IsTaskOn route asked (Balance account) =
     (submits route asked ≡ false)
     × ((log : List Command) → answer_on log route asked ≡ balance_answer account (balance_after log account))
-IsTaskOn route asked Branches =
+IsTaskOn route asked (Branches listing) =
+    (submits route asked ≡ false) × ((log : List Command) → answer_on log route asked ≡ listing_answer listing log)
+IsTaskOn route asked (Entries after) =
     (submits route asked ≡ false)
-    × ((log : List Command) → answer_on log route asked ≡ plain (branch_lines log))
+    × ((log : List Command) → answer_on log route asked ≡ entries_answer (entries_given log after))
 
 abbrev pub IsTaskOf : Asked → Task → Type 0
 IsTaskOf asked task = IsTaskOn (route_of (path_of asked.target)) asked task

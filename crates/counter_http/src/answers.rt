@@ -1,11 +1,13 @@
 //! The answer to each message.
-ghost use Rattle.std.specs.Prelude.{◌≡◌, ℕ, List, take, true, Err, IfOk};
+ghost use Rattle.std.specs.Prelude.{◌≡◌, ℕ, List, take, true, Err, IfOk, string_bytes};
 ghost use Rattle.std.specs.Io.KnownBytes.{Appends};
 ghost use Rattle.posting_rules.specs.believed.Commands.{Command};
 ghost use Rattle.posting_rules.specs.believed.Counter.{ShowsLog};
 ghost use Rattle.posting_rules.specs.believed.Entries.{balance_after};
 ghost use Rattle.counter_http.specs.believed.Answers.{refusal, answer_text, shows, unavailable, is_posting};
-ghost use Rattle.counter_http.specs.believed.Answers.{balance_answer, branch_lines, plain};
+ghost use Rattle.counter_http.specs.believed.Answers.{balance_answer, entries_answer};
+ghost use Rattle.counter_http.specs.Listing.{answer_with, listing_answer};
+ghost use Rattle.posting_core.specs.believed.LogEntries.{entries_given};
 ghost use Rattle.counter_http.specs.Ends.{SendsAs};
 ghost use Rattle.counter_http.specs.Next.{asked};
 ghost use Rattle.counter_http.specs.Asking.{said_in, SendsReading};
@@ -14,14 +16,14 @@ ghost use Rattle.counter_http.specs.Turns.{IsAsked, IsSentAs, IsTellingOf, TurnI
 
 use crate::fault::ServeFault;
 use crate::fixed::{bad_request, not_found, unavailable};
-use crate::lines::{all_lines, line_of_account};
+use crate::lines::{Listing, all_lines, line_of_account};
 use crate::next::{Whole, is_head};
 use crate::routes::Routes;
 use crate::tasks::{Task, task_of};
 use crate::telling::{Response, tell};
 use http::StatusCode;
 use message_records::{Account, REQUEST_BYTES};
-use posting_core::{Clock, Counter, Fault, Sink};
+use posting_core::{Clock, Counter, Fault, Followed, Sink};
 use std::alloc::Global;
 
 /// Answers a 400, after which the connection ends.
@@ -101,6 +103,10 @@ pub(crate) enum Reading {
     NotFound,
     /// These lines.
     Lines(String),
+    /// These lines of a plan.
+    Plan(String),
+    /// These entries of the log.
+    Entries(Vec<u8>),
 }
 
 impl Reading {
@@ -115,6 +121,18 @@ impl Reading {
                 media: b"text/plain",
                 allow: None,
                 body: lines.as_bytes(),
+            },
+            Reading::Plan(lines) => Response {
+                status: StatusCode::OK,
+                media: b"text/csv",
+                allow: None,
+                body: lines.as_bytes(),
+            },
+            Reading::Entries(entries) => Response {
+                status: StatusCode::OK,
+                media: b"application/octet-stream",
+                allow: None,
+                body: entries.as_slice(),
             },
         }
     }
@@ -143,15 +161,45 @@ pub(crate) fn read_balance<C: Counter>(
     }
 }
 
+// What is answered with lines that are listed so.
+fn listed(listing: Listing, lines: String) -> Reading
+    ensures { said_in result ≡ answer_with listing (string_bytes lines) }
+{
+    match listing {
+        Listing::Balances => Reading::Lines(lines),
+        Listing::Plan => Reading::Plan(lines),
+    }
+}
+
 /// Reads the open branches.
-pub(crate) fn read_branches<C: Counter>(alloc: Global, bank: &mut C) -> Result<Reading, Fault>
+pub(crate) fn read_branches<C: Counter>(
+    alloc: Global,
+    listing: Listing,
+    bank: &mut C,
+) -> Result<Reading, Fault>
     ensures answer { IfOk result (λ reading. (C.seen bank.new).honest
-        → (log : List Command) → ShowsLog (C.seen bank.old) log → said_in reading ≡ plain (branch_lines log)) }
+        → (log : List Command) → ShowsLog (C.seen bank.old) log
+        → said_in reading ≡ listing_answer listing log) }
     ensures asked { IsAsked C.seen C.reason bank.old bank.new result }
     ensures spares { C.spares bank.old bank.new }
 {
-    match all_lines(alloc, bank) {
-        Ok(lines) => Ok(Reading::Lines(lines)),
+    match all_lines(alloc, listing, bank) {
+        Ok(lines) => Ok(listed(listing, lines)),
+        Err(fault) => Err(fault),
+    }
+}
+
+/// Reads the entries of the log after so many.
+pub(crate) fn read_entries<C: Followed>(after: u64, bank: &mut C) -> Result<Reading, Fault>
+    ensures answer { IfOk result (λ reading. (C.seen bank.new).honest
+        → (log : List Command) → ShowsLog (C.seen bank.old) log
+        → said_in reading ≡ entries_answer (entries_given log after)) }
+    ensures asked { IsAsked C.seen C.reason bank.old bank.new result }
+    ensures spares { C.spares bank.old bank.new }
+{
+    match bank.entries_after(after) {
+        Ok(Some(entries)) => Ok(Reading::Entries(entries)),
+        Ok(None) => Ok(Reading::NotFound),
         Err(fault) => Err(fault),
     }
 }
@@ -172,7 +220,7 @@ fn answer_reading<W: Sink>(
 }
 
 /// Answers a message, before anything more is read. A record is submitted under one reading of the clock.
-pub(crate) fn answer_message<W: Sink, K: Clock, C: Counter>(
+pub(crate) fn answer_message<W: Sink, K: Clock, C: Followed>(
     alloc: Global,
     message: &Whole<'_>,
     routes: &Routes,
@@ -192,8 +240,12 @@ pub(crate) fn answer_message<W: Sink, K: Clock, C: Counter>(
             let read = read_balance(alloc, account, bank);
             answer_reading(message, read, writer)
         }
-        Task::Branches => {
-            let read = read_branches(alloc, bank);
+        Task::Branches(listing) => {
+            let read = read_branches(alloc, listing, bank);
+            answer_reading(message, read, writer)
+        }
+        Task::Entries(after) => {
+            let read = read_entries(after, bank);
             answer_reading(message, read, writer)
         }
     }

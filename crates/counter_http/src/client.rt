@@ -2,7 +2,7 @@
 //! hasn't taken yet.
 ghost use Rattle.std.specs.Prelude.{◌≡◌, ◌≤◌, length};
 
-use crate::answers::{Reading, read_balance, read_branches};
+use crate::answers::{Reading, read_balance, read_branches, read_entries};
 use crate::fixed::{bad_request, unavailable};
 use crate::limits::BUFFER;
 use crate::next::{Next, is_head, next_message};
@@ -13,7 +13,7 @@ use crate::telling::{Response, tell};
 use http::StatusCode;
 use message_records::{REPLY_BYTES, REQUEST_BYTES};
 use posting_core::transfer::{fill_buffer_beside, move_to_front};
-use posting_core::{Counter, Fault, Sink, Source};
+use posting_core::{Fault, Followed, Sink, Source};
 use std::alloc::Global;
 use std::io::ErrorKind;
 
@@ -290,7 +290,7 @@ impl<R: Source + Drop, W: Sink + Drop> Client<R, W> {
 
     /// Looks at the front of what was read: a record is given, and any other message is answered. What has
     /// come of a message that isn't whole waits for the rest.
-    fn answer_front<C: Counter>(
+    fn answer_front<C: Followed>(
         &mut self,
         alloc: Global,
         routes: &Routes,
@@ -322,8 +322,12 @@ impl<R: Source + Drop, W: Sink + Drop> Client<R, W> {
                         let read = read_balance(alloc, account, bank);
                         self.answer_reading(read, head)
                     }
-                    Task::Branches => {
-                        let read = read_branches(alloc, bank);
+                    Task::Branches(listing) => {
+                        let read = read_branches(alloc, listing, bank);
+                        self.answer_reading(read, head)
+                    }
+                    Task::Entries(after) => {
+                        let read = read_entries(after, bank);
                         self.answer_reading(read, head)
                     }
                 }
@@ -346,7 +350,7 @@ impl<R: Source + Drop, W: Sink + Drop> Client<R, W> {
     /// # Errors
     ///
     /// The bank refused a call for another cause than memory.
-    pub(crate) fn next_record<C: Counter>(
+    pub(crate) fn next_record<C: Followed>(
         &mut self,
         alloc: Global,
         routes: &Routes,

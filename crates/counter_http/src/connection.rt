@@ -13,7 +13,7 @@ use crate::limits::BUFFER;
 use crate::next::{Next, next_message};
 use crate::routes::Routes;
 use posting_core::transfer::{fill_buffer_beside, move_to_front};
-use posting_core::{Clock, Counter, Sink, Source};
+use posting_core::{Clock, Followed, Sink, Source};
 use std::alloc::Global;
 use std::io::ErrorKind;
 
@@ -21,7 +21,7 @@ use std::io::ErrorKind;
 pub type Served = u128;
 
 // The loop of `serve_connection`.
-fn serve<R: Source, W: Sink, K: Clock, C: Counter>(
+fn serve<R: Source, W: Sink, K: Clock, C: Followed>(
     alloc: Global,
     reader: &mut R,
     writer: &mut W,
@@ -39,7 +39,8 @@ fn serve<R: Source, W: Sink, K: Clock, C: Counter>(
         (W.told writer.old) (W.told writer.new) }
     ensures prompt { IsPrompt (R.remaining reader.old) (R.remaining reader.new) (R.told reader.old)
         (R.told reader.new) (R.beside reader.old) (R.beside reader.new) (W.contents writer.old)
-        (W.told writer.old) (C.seen bank.old) (C.seen bank.new) }
+        (W.told writer.old) (K.readings clock.old) (K.readings clock.new) (C.seen bank.old)
+        (C.seen bank.new) }
     ensures spares { C.spares bank.old bank.new }
 {
     let mut filled = 0;
@@ -90,7 +91,7 @@ fn serve<R: Source, W: Sink, K: Clock, C: Counter>(
 /// where 2^64 - 1 reads were made; `Write` only where the last write or flush failed, where a write took no
 /// byte, or where one was interrupted 2^64 - 1 times in a row. The buffer and the routes are made before
 /// anything is read; after that only the bank and the body of a `GET` take memory.
-pub fn serve_connection<R: Source, W: Sink, K: Clock, C: Counter>(
+pub fn serve_connection<R: Source, W: Sink, K: Clock, C: Followed>(
     alloc: Global,
     reader: &mut R,
     writer: &mut W,
@@ -102,7 +103,7 @@ pub fn serve_connection<R: Source, W: Sink, K: Clock, C: Counter>(
         (K.readings clock.old) (K.readings clock.new) bank.old bank.new result }
     ensures output { OutputsAnswers (R.remaining reader.old) (R.remaining reader.new)
         (R.told reader.old) (R.told reader.new) (W.contents writer.old) (W.contents writer.new)
-        (C.seen bank.old) (C.seen bank.new) result }
+        (K.readings clock.old) (K.readings clock.new) (C.seen bank.old) (C.seen bank.new) result }
     ensures survives { SurvivesServing (R.remaining reader.old) (R.remaining reader.new)
         (W.contents writer.old)
         (W.contents writer.new)
@@ -111,7 +112,8 @@ pub fn serve_connection<R: Source, W: Sink, K: Clock, C: Counter>(
         (W.told writer.old) (W.told writer.new) }
     ensures prompt { IsPrompt (R.remaining reader.old) (R.remaining reader.new) (R.told reader.old)
         (R.told reader.new) (R.beside reader.old) (R.beside reader.new) (W.contents writer.old)
-        (W.told writer.old) (C.seen bank.old) (C.seen bank.new) }
+        (W.told writer.old) (K.readings clock.old) (K.readings clock.new) (C.seen bank.old)
+        (C.seen bank.new) }
     ensures why { IfErr result (λ fault. IfRefused fault (IsOfCall C.seen C.reason bank.old bank.new)) }
     ensures honest { (C.seen bank.new).honest → (C.seen bank.old).honest }
     ensures spares { C.spares bank.old bank.new }

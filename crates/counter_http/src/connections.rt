@@ -41,7 +41,7 @@ use crate::listen_fault::ListenFault;
 use crate::serve_watch::{ServeWatch, Unwatched};
 use crate::tcp_clients::TcpClients;
 use crate::together::serve_together;
-use posting_core::{Clock, Counter};
+use posting_core::{Clock, Followed};
 use std::alloc::{Alloc, Global};
 use std::net::TcpListener;
 use std::time;
@@ -57,7 +57,7 @@ use std::time;
 /// - [`ListenFault::Bank`]: as of [`serve_together`].
 ///
 /// [`MOST_CLIENTS`]: crate::MOST_CLIENTS
-pub fn serve_connections<R: Alloc<A = Global> + time::Clock, K: Clock, C: Counter>(
+pub fn serve_connections<R: Alloc<A = Global> + time::Clock, K: Clock, C: Followed>(
     rt: &R,
     listener: &TcpListener,
     connections: u64,
@@ -80,7 +80,7 @@ pub fn serve_watched<
     R: Alloc<A = Global> + time::Clock,
     V: ServeWatch + Drop,
     K: Clock,
-    C: Counter,
+    C: Followed,
 >(
     rt: &R,
     listener: &TcpListener,

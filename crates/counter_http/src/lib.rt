@@ -1,16 +1,17 @@
 //! The counter over HTTP: messages that are read from a connection are answered one after another, in their
 //! order, by any counter. `POST /post` with the 100 bytes of a record submits it (TPC-B 1.2), and the 200
 //! bytes of its reply come back. `GET /account/1` answers the line `account 1 balance 500`, and
-//! `GET /branches` a line for each open branch, with its number, its count of accounts and its balance. The
+//! `GET /branches` a line for each open branch, with its number, its count of accounts and its balance. Another
+//! bank follows by `GET /log/0`, entries of the log after so many, and `GET /plan`, the branches as a plan. The
 //! function `first_message` of `http_tests`, which a test runs, posts a record, and gives what is answered:
 //!
 //! ```rust
 //! use counter_http::{ServeFault, serve_connection};
 //! use message_records::REQUEST_BYTES;
-//! use posting_core::{Clock, Counter};
+//! use posting_core::{Clock, Followed};
 //! use std::alloc::Global;
 //!
-//! pub fn first_message<C: Counter, K: Clock>(
+//! pub fn first_message<C: Followed, K: Clock>(
 //!     alloc: Global,
 //!     bank: &mut C,
 //!     clock: &mut K,
@@ -57,6 +58,7 @@ mod listen_fault;
 mod next;
 mod parting;
 pub mod patience;
+mod places;
 mod routes;
 mod serve_watch;
 mod stream_ends;

@@ -1,9 +1,10 @@
 //! The lines of accounts and branches.
-ghost use Rattle.std.specs.Prelude.{◌≡◌, ℕ, List, [], IfOk, OnOk, IfErr, OnErr, string_bytes};
+ghost use Rattle.std.specs.Prelude.{◌≡◌, ◌++◌, ℕ, List, [], IfOk, OnOk, IfErr, OnErr, string_bytes};
 ghost use Rattle.posting_core.specs.Stream.{IsOfCall};
-ghost use Rattle.posting_rules.specs.believed.Commands.{Command};
+ghost use Rattle.posting_rules.specs.believed.Commands.{Command, opened_with};
 ghost use Rattle.posting_rules.specs.believed.Counter.{ShowsLog, Takes};
-ghost use Rattle.counter_http.specs.believed.Answers.{account_line, branch_line, branch_lines};
+ghost use Rattle.counter_http.specs.Listing.{listed, names_of, shown_line};
+ghost use Rattle.counter_http.specs.believed.Answers.{account_line, branch_line, plan_line};
 ghost use Rattle.counter_http.specs.Turns.{IsRefusedAt};
 
 use message_records::{Account, Cents};
@@ -34,10 +35,57 @@ fn line_of_branch(alloc: Global, line: &BranchLine) -> Result<String, AllocError
     format!(in alloc; "{branch:>6} {accounts:>7} {balance:>14}\n")
 }
 
+// The line of a branch in a plan.
+fn line_of_plan(alloc: Global, line: &BranchLine) -> Result<String, AllocError>
+    ensures { IfOk result (λ text. string_bytes text ≡ plan_line line.now.branch
+        (opened_with line.now.accounts line.now.floor)) }
+{
+    let branch = line.branch.get();
+    let accounts = line.accounts;
+    let Some(floor) = line.floor else {
+        return format!(in alloc; "{branch},{accounts},\n");
+    };
+    let lowest = floor.get();
+    format!(in alloc; "{branch},{accounts},{lowest}\n")
+}
+
+/// What is listed of the open branches.
+#[derive(Clone, Copy)]
+pub(crate) enum Listing {
+    /// The number of each, its count of accounts and its balance.
+    Balances,
+    /// The number of each, its count of accounts and its floor, below their names.
+    Plan,
+}
+
+// The line of a branch.
+fn line_of(alloc: Global, listing: Listing, line: &BranchLine) -> Result<String, AllocError>
+    ensures { IfOk result (λ text. string_bytes text ≡ shown_line listing line.now) }
+{
+    match listing {
+        Listing::Balances => line_of_branch(alloc, line),
+        Listing::Plan => line_of_plan(alloc, line),
+    }
+}
+
+// The lines, below their names if they have some.
+fn named(alloc: Global, listing: Listing, lines: String) -> Result<String, AllocError>
+    ensures { IfOk result (λ text. string_bytes text ≡ names_of listing ++ string_bytes lines) }
+{
+    match listing {
+        Listing::Balances => Ok(lines),
+        Listing::Plan => format!(in alloc; "branch,accounts,floor\n{lines}"),
+    }
+}
+
 /// The lines of all open branches, ascending.
-pub(crate) fn all_lines<C: Counter>(alloc: Global, bank: &mut C) -> Result<String, Fault>
+pub(crate) fn all_lines<C: Counter>(
+    alloc: Global,
+    listing: Listing,
+    bank: &mut C,
+) -> Result<String, Fault>
     ensures lines { IfOk result (λ body. (C.seen bank.new).honest
-        → (log : List Command) → ShowsLog (C.seen bank.old) log → string_bytes body ≡ branch_lines log) }
+        → (log : List Command) → ShowsLog (C.seen bank.old) log → string_bytes body ≡ listed listing log) }
     ensures done { OnOk result (Takes (C.seen bank.old) (C.seen bank.new) []) }
     ensures up { OnOk result ((C.seen bank.new).is_down → (C.seen bank.old).is_down) }
     ensures why { IfErr result (IsOfCall C.seen C.reason bank.old bank.new) }
@@ -49,8 +97,8 @@ pub(crate) fn all_lines<C: Counter>(alloc: Global, bank: &mut C) -> Result<Strin
     let mut body = String::new(alloc);
     let mut after = 0;
     while let Some(line) = bank.next_branch(after)? {
-        body.push_str(line_of_branch(alloc, &line)?.as_str())?;
+        body.push_str(line_of(alloc, listing, &line)?.as_str())?;
         after = line.branch.get() as u32;
     }
-    Ok(body)
+    Ok(named(alloc, listing, body)?)
 }

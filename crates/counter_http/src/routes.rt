@@ -18,6 +18,10 @@ pub(crate) enum Route {
     Branches,
     /// `/health`: whether the counter answers.
     Health,
+    /// `/log/` and a number: the entries of the log after so many are read.
+    Log,
+    /// `/plan`: the open branches are read as a plan.
+    Plan,
 }
 
 /// The routes.
@@ -53,6 +57,8 @@ fn insert_all(router: &mut Router<Route>) -> Result<(), InsertError>
     router.insert("/account/{id}", Route::Account)?;
     router.insert("/branches", Route::Branches)?;
     router.insert("/health", Route::Health)?;
+    router.insert("/log/{after}", Route::Log)?;
+    router.insert("/plan", Route::Plan)?;
     Ok(())
 }
 

@@ -7,7 +7,9 @@ ghost use Rattle.counter_http.specs.Tasks.{IsTaskOf, IsTaskOn};
 
 use crate::accounts::account_in;
 use crate::fixed::{bad_request, healthy, not_found, not_taken};
+use crate::lines::Listing;
 use crate::next::{Whole, is_head};
+use crate::places::place_in;
 use crate::routes::{Route, Routes, path_of};
 use crate::telling::Response;
 use message_records::{Account, REQUEST_BYTES};
@@ -21,8 +23,10 @@ pub(crate) enum Task<'b> {
     Submit(&'b [u8; REQUEST_BYTES]),
     /// The balance of this account is read.
     Balance(Account),
-    /// The open branches are read.
-    Branches,
+    /// The open branches are read, and listed so.
+    Branches(Listing),
+    /// The entries of the log after so many are read.
+    Entries(u64),
 }
 
 // A method that submits.
@@ -71,7 +75,7 @@ fn branches_task<'b>(message: &Whole<'b>) -> Task<'b>
     ensures { IsTaskOn (Some Route.Branches) (asked message.now) result }
 {
     if is_reading(message.method) {
-        Task::Branches
+        Task::Branches(Listing::Balances)
     } else {
         Task::Say(not_taken(b"GET, HEAD"))
     }
@@ -88,6 +92,31 @@ fn health_task<'b>(message: &Whole<'b>) -> Task<'b>
     }
 }
 
+// At the path of the log.
+fn log_task<'b>(message: &Whole<'b>, path: &[u8]) -> Task<'b>
+    requires { path.now ≡ path_of message.now.target.now }
+    ensures { IsTaskOn (Some Route.Log) (asked message.now) result }
+{
+    if !is_reading(message.method) {
+        return Task::Say(not_taken(b"GET, HEAD"));
+    }
+    match place_in(path) {
+        Some(after) => Task::Entries(after),
+        None => Task::Say(not_found()),
+    }
+}
+
+// Where the branches are read as a plan.
+fn plan_task<'b>(message: &Whole<'b>) -> Task<'b>
+    ensures { IsTaskOn (Some Route.Plan) (asked message.now) result }
+{
+    if is_reading(message.method) {
+        Task::Branches(Listing::Plan)
+    } else {
+        Task::Say(not_taken(b"GET, HEAD"))
+    }
+}
+
 /// What is to be done for a message.
 pub(crate) fn task_of<'b>(message: &Whole<'b>, routes: &Routes) -> Task<'b>
     ensures { IsTaskOf (asked message.now) result }
@@ -99,5 +128,7 @@ pub(crate) fn task_of<'b>(message: &Whole<'b>, routes: &Routes) -> Task<'b>
         Some(Route::Account) => account_task(message, path),
         Some(Route::Branches) => branches_task(message),
         Some(Route::Health) => health_task(message),
+        Some(Route::Log) => log_task(message, path),
+        Some(Route::Plan) => plan_task(message),
     }
 }

@@ -16,7 +16,7 @@ use crate::clients::{Clients, Readiness};
 use crate::listen_fault::ListenFault;
 use crate::parting::Parting;
 use crate::routes::Routes;
-use posting_core::{Clock, Counter, Fault, Sink, Source};
+use posting_core::{Clock, Fault, Followed, Sink, Source};
 use std::alloc::Global;
 
 /// How many clients are served at once.
@@ -98,7 +98,7 @@ fn go_on<R: Source + Drop, W: Sink + Drop>(here: &mut [Client<R, W>], readiness:
 
 // Answers what stands at the front of what was read from the client at a place, and puts its record into the
 // batch, where there is room.
-fn gather_at<R: Source + Drop, W: Sink + Drop, C: Counter>(
+fn gather_at<R: Source + Drop, W: Sink + Drop, C: Followed>(
     alloc: Global,
     routes: &Routes,
     here: &mut Vec<Client<R, W>>,
@@ -126,7 +126,7 @@ fn gather_at<R: Source + Drop, W: Sink + Drop, C: Counter>(
 }
 
 // So it does at some places, one after another.
-fn gather<R: Source + Drop, W: Sink + Drop, C: Counter>(
+fn gather<R: Source + Drop, W: Sink + Drop, C: Followed>(
     alloc: Global,
     routes: &Routes,
     here: &mut Vec<Client<R, W>>,
@@ -153,7 +153,7 @@ fn gather<R: Source + Drop, W: Sink + Drop, C: Counter>(
 }
 
 // Answers messages of each client: their records together, those of the clients from a place on first.
-fn answer<R: Source + Drop, W: Sink + Drop, K: Clock, C: Counter>(
+fn answer<R: Source + Drop, W: Sink + Drop, K: Clock, C: Followed>(
     alloc: Global,
     routes: &Routes,
     here: &mut Vec<Client<R, W>>,
@@ -215,7 +215,7 @@ fn write<R: Source + Drop, W: Sink + Drop>(here: &mut [Client<R, W>])
 }
 
 // Serves clients, round by round.
-fn serve_rounds<D: Clients, K: Clock, C: Counter>(
+fn serve_rounds<D: Clients, K: Clock, C: Followed>(
     alloc: Global,
     door: &mut D,
     connections: u64,
@@ -266,7 +266,7 @@ fn serve_rounds<D: Clients, K: Clock, C: Counter>(
 /// - [`ListenFault::Network`]: an opening failed, or 2^64 - 1 rounds were made.
 /// - [`ListenFault::Bank`]: the bank refused a call for another cause than memory, and this is that call's
 ///   fault; or, with `Memory`, memory was refused before any client was taken in.
-pub fn serve_together<D: Clients, K: Clock, C: Counter>(
+pub fn serve_together<D: Clients, K: Clock, C: Followed>(
     alloc: Global,
     door: &mut D,
     connections: u64,

@@ -2,7 +2,7 @@
 use crate::bank::balances;
 use counter_http::{ServeFault, Served, serve_connection};
 use failing_ends::{CutReader, CutWriter, Failing, FailingBank, open_both};
-use posting_core::{Counter, PlainBank, RECORDS_PER_BATCH, StoredClock};
+use posting_core::{Followed, PlainBank, RECORDS_PER_BATCH, StoredClock};
 use std::alloc::{Alloc, Global};
 use std::io::ErrorKind;
 use std::process::Abort;
@@ -75,7 +75,11 @@ fn play_on(
 }
 
 // Serves one of them, by a clock at the moment 0.
-fn serve<C: Counter>(rt: &(impl Abort + Alloc<A = Global>), connection: &Connection, bank: &mut C) {
+fn serve<C: Followed>(
+    rt: &(impl Abort + Alloc<A = Global>),
+    connection: &Connection,
+    bank: &mut C,
+) {
     let mut reader = CutReader {
         before: connection.before,
         fault: connection.read_fault,

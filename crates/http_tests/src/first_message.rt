@@ -1,10 +1,10 @@
 //! The first program of `counter_http`: its page shows the function. A test runs it.
 use counter_http::{ServeFault, serve_connection};
 use message_records::REQUEST_BYTES;
-use posting_core::{Clock, Counter};
+use posting_core::{Clock, Followed};
 use std::alloc::Global;
 
-pub fn first_message<C: Counter, K: Clock>(
+pub fn first_message<C: Followed, K: Clock>(
     alloc: Global,
     bank: &mut C,
     clock: &mut K,

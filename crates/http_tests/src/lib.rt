@@ -17,6 +17,8 @@ mod first_message;
 #[cfg(test)]
 mod heads;
 #[cfg(test)]
+mod log;
+#[cfg(test)]
 mod messages;
 #[cfg(test)]
 mod refusals;

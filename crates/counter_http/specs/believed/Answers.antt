@@ -13,10 +13,11 @@ use Rattle.posting_rules.specs.declared.limits.TheConstants.{LAST_BRANCH}
 use Rattle.posting_rules.specs.believed.Commands.{Command, opened, Terms}
 use Rattle.posting_rules.specs.believed.Entries.{reply, balance_after, branch_balance, decided}
 use Rattle.message_records.specs.declared.limits.TheConstants.{REQUEST_BYTES}
-use Rattle.counter_http.specs.declared.limits.TheConstants.{ACCOUNT_DIGITS}
+use Rattle.posting_core.specs.believed.LogEntries.{entries_given}
+use Rattle.counter_http.specs.declared.limits.TheConstants.{ACCOUNT_DIGITS, PLACE_DIGITS}
 use Rattle.counter_http.specs.declared.routes.Route.{Route}
-use Rattle.counter_http.specs.declared.routes.Route.TheVariants.{Posting, Account, Branches, Health}
-use Rattle.counter_http.specs.believed.Paths.{path_of, account_in, route_of}
+use Rattle.counter_http.specs.declared.routes.Route.TheVariants.{Posting, Account, Branches, Health, Log, Plan}
+use Rattle.counter_http.specs.believed.Paths.{path_of, account_in, place_in, route_of}
 use Rattle.counter_http.specs.believed.Messages.{Message, closes, Ending, Finished, Closed, No_head, No_body}
 use Rattle.counter_http.specs.believed.Messages.{is_head_request}
 
@@ -47,6 +48,9 @@ plain body = record { code = 200; media = codes "text/plain"; allow = None; body
 
 abbrev pub octets : List ℕ → Answer
 octets body = record { code = 200; media = codes "application/octet-stream"; allow = None; body = body }
+
+abbrev pub csv : List ℕ → Answer
+csv body = record { code = 200; media = codes "text/csv"; allow = None; body = body }
 
 -- an answer that says no more than its code
 abbrev pub bare : ℕ → Answer
@@ -99,17 +103,52 @@ branch_line branch accounts balance =
     right_in 6 (decimal branch) ++ codes " " ++ right_in 7 (decimal accounts) ++ codes " "
     ++ right_in 14 (signed_decimal balance) ++ codes "\n"
 
-abbrev pub line_if_open : List Command → ℕ → Option Terms → List ℕ
-line_if_open log branch None = []
-line_if_open log branch (Some terms) = branch_line branch terms.accounts (branch_balance (decided log) branch)
+abbrev pub line_if_open : (Terms → List ℕ) → Option Terms → List ℕ
+line_if_open line None = []
+line_if_open line (Some terms) = line terms
 
 -- the lines of the open branches up to one, ascending
-abbrev pub lines_up_to : List Command → ℕ → List ℕ
-lines_up_to log zero = []
-lines_up_to log (suc b) = lines_up_to log b ++ line_if_open log (suc b) (opened log (suc b))
+abbrev pub lines_up_to : (ℕ → Terms → List ℕ) → List Command → ℕ → List ℕ
+lines_up_to line log zero = []
+lines_up_to line log (suc b) = lines_up_to line log b ++ line_if_open (line (suc b)) (opened log (suc b))
+
+abbrev pub balance_line : List Command → ℕ → Terms → List ℕ
+balance_line log branch terms = branch_line branch terms.accounts (branch_balance (decided log) branch)
 
 unfoldable pub branch_lines : List Command → List ℕ
-branch_lines log = lines_up_to log LAST_BRANCH
+branch_lines log = lines_up_to (balance_line log) log LAST_BRANCH
+
+abbrev pub floor_text : Option ℤ → List ℕ
+floor_text None = []
+floor_text (Some lowest) = signed_decimal lowest
+
+abbrev pub plan_line : ℕ → Terms → List ℕ
+plan_line branch terms =
+    decimal branch ++ codes "," ++ decimal terms.accounts ++ codes "," ++ floor_text terms.floor ++ codes "\n"
+
+abbrev pub plan_names : List ℕ
+plan_names = codes "branch,accounts,floor\n"
+
+-- the open branches as a plan, which opens the same branches again
+unfoldable pub plan_lines : List Command → List ℕ
+plan_lines log = plan_names ++ lines_up_to plan_line log LAST_BRANCH
+
+-- the number that 1 to 12 digits name, the first not 0 where there are more
+abbrev pub is_place_long : List ℕ → Bool
+is_place_long id =
+    nat_lt 0 (length id) && nat_le (length id) PLACE_DIGITS && (not (get_or id 0 0 == 48) || length id == 1)
+
+abbrev pub place_named : List ℕ → Option ℕ
+place_named id = if is_place_long id then number_of id else None
+
+-- the entries of the log after so many
+abbrev pub entries_answer : Option (List ℕ) → Answer
+entries_answer None = bare 404
+entries_answer (Some entries) = octets entries
+
+abbrev pub log_answer : List Command → Option ℕ → Answer
+log_answer log None = bare 404
+log_answer log (Some after) = entries_answer (entries_given log after)
 
 abbrev pub answer_on : List Command → Option Route → Asked → Answer
 answer_on log None asked = bare 404
@@ -122,6 +161,11 @@ answer_on log (Some Branches) asked =
     if is_reading asked.method then plain (branch_lines log) else not_allowed (codes "GET, HEAD")
 answer_on log (Some Health) asked =
     if is_reading asked.method then plain (codes "ok\n") else not_allowed (codes "GET, HEAD")
+answer_on log (Some Log) asked =
+    if is_reading asked.method then log_answer log (place_named (place_in (path_of asked.target)))
+    else not_allowed (codes "GET, HEAD")
+answer_on log (Some Plan) asked =
+    if is_reading asked.method then csv (plan_lines log) else not_allowed (codes "GET, HEAD")
 
 unfoldable pub answer_to : List Command → Asked → Answer
 answer_to log asked = answer_on log (route_of (path_of asked.target)) asked

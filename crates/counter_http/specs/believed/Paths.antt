@@ -4,7 +4,7 @@ use Rattle.std.specs.Prelude.{codes, bytes_eq, if◌then◌else◌}
 use Rattle.std.specs.List.{list_any, before_first}
 use Rattle.std.specs.Str.{is_utf8}
 use Rattle.counter_http.specs.declared.routes.Route.{Route}
-use Rattle.counter_http.specs.declared.routes.Route.TheVariants.{Posting, Account, Branches, Health}
+use Rattle.counter_http.specs.declared.routes.Route.TheVariants.{Posting, Account, Branches, Health, Log, Plan}
 
 abbrev pub path_of : List ℕ → List ℕ
 path_of target = before_first (λ b. b == 63) target
@@ -12,14 +12,25 @@ path_of target = before_first (λ b. b == 63) target
 abbrev pub is_slash : ℕ → Bool
 is_slash b = b == 47
 
--- `/account/`, and after it one part that isn't empty: a number as it is printed, so that 01 names no account
+-- it begins so, and after that has one part that isn't empty
+abbrev pub is_part_after : List ℕ → List ℕ → Bool
+is_part_after start path =
+    bytes_eq (take (length start) path) start &&
+    (nat_lt (length start) (length path) && not (list_any is_slash (drop (length start) path)))
+
+-- a number as it is printed, so that 01 names no account
 abbrev pub is_account_path : List ℕ → Bool
-is_account_path path =
-    bytes_eq (take 9 path) (codes "/account/") &&
-    (nat_lt 9 (length path) && not (list_any is_slash (drop 9 path)))
+is_account_path path = is_part_after (codes "/account/") path
 
 abbrev pub account_in : List ℕ → List ℕ
 account_in path = drop 9 path
+
+-- so many requests, as the number is printed
+abbrev pub is_log_path : List ℕ → Bool
+is_log_path path = is_part_after (codes "/log/") path
+
+abbrev pub place_in : List ℕ → List ℕ
+place_in path = drop 5 path
 
 -- the route of a text
 abbrev pub route_named : List ℕ → Option Route
@@ -27,7 +38,9 @@ route_named path =
     if bytes_eq path (codes "/post") then Some Posting
     else (if bytes_eq path (codes "/branches") then Some Branches
     else (if bytes_eq path (codes "/health") then Some Health
-    else (if is_account_path path then Some Account else None)))
+    else (if bytes_eq path (codes "/plan") then Some Plan
+    else (if is_account_path path then Some Account
+    else (if is_log_path path then Some Log else None)))))
 
 unfoldable pub route_of : List ℕ → Option Route
 route_of path = if is_utf8 path then route_named path else None

@@ -321,13 +321,13 @@ returns-in-Refused-clause-ends g c =
 -- ---- what was written as each read was made
 
 pub returns-clause-prompt : goal.returns-clause-prompt
-returns-clause-prompt g c = prompt_so_far (λ h. h) c.reads.invariant.prompted
+returns-clause-prompt g c = prompt_so_far [] refl (λ h. h) c.reads.invariant.prompted
 
 pub returns-in-Err-2-clause-prompt : goal.returns-in-Err-2-clause-prompt
 returns-in-Err-2-clause-prompt g c =
     let old = c.reads.buffer in
     let new = c.fill_buffer_beside.new.buffer in
-    prompt_so_far (λ h. h) (read_on _ (take c.reads.filled new) c.fill_buffer_beside.result c.reads.invariant.prompted
+    prompt_so_far [] refl (λ h. h) (read_on _ (take c.reads.filled new) c.fill_buffer_beside.result c.reads.invariant.prompted
     (unfinished_none _ c.reads.invariant.waits) c.reads.invariant.through
     (has_failed old new c.reads.filled c.reads.filled c.fill_buffer_beside.result c.in-Err.e c.in-Err.is
     c.in-Err.ensures.err refl) c.fill_buffer_beside.ensures.tells c.fill_buffer_beside.ensures.beside)
@@ -337,7 +337,7 @@ returns-in-Ok-eq0-clause-prompt g c =
     let n = c.in-Ok-eq0.field-0 in
     let old = c.reads.buffer in
     let new = c.fill_buffer_beside.new.buffer in
-    prompt_so_far (λ h. h) (read_on _ (take c.reads.filled new) c.fill_buffer_beside.result c.reads.invariant.prompted
+    prompt_so_far [] refl (λ h. h) (read_on _ (take c.reads.filled new) c.fill_buffer_beside.result c.reads.invariant.prompted
     (unfinished_none _ c.reads.invariant.waits) c.reads.invariant.through
     (has_read old new c.reads.filled c.reads.filled n c.fill_buffer_beside.result c.in-Ok-eq0.is
     (at_ok _ c.fill_buffer_beside.result n c.in-Ok-eq0.is c.fill_buffer_beside.ensures.fits)
@@ -351,7 +351,7 @@ returns-in-Ok-eq0-2-clause-prompt g c =
     let n = c.in-Ok-eq0.field-0 in
     let old = c.reads.buffer in
     let new = c.fill_buffer_beside.new.buffer in
-    prompt_so_far (λ h. h) (read_on _ (take c.reads.filled new) c.fill_buffer_beside.result c.reads.invariant.prompted
+    prompt_so_far [] refl (λ h. h) (read_on _ (take c.reads.filled new) c.fill_buffer_beside.result c.reads.invariant.prompted
     (unfinished_none _ c.reads.invariant.waits) c.reads.invariant.through
     (has_read old new c.reads.filled c.reads.filled n c.fill_buffer_beside.result c.in-Ok-eq0.is
     (at_ok _ c.fill_buffer_beside.result n c.in-Ok-eq0.is c.fill_buffer_beside.ensures.fits)
@@ -365,7 +365,7 @@ returns-in_err-refuse-in-Ok-eq0-2-clause-prompt g c =
     let n = c.in-Ok-eq0.field-0 in
     let old = c.reads.buffer in
     let new = c.fill_buffer_beside.new.buffer in
-    prompt_so_far (λ h. h) (read_on _ (take c.reads.filled new) c.fill_buffer_beside.result c.reads.invariant.prompted
+    prompt_so_far [] refl (λ h. h) (read_on _ (take c.reads.filled new) c.fill_buffer_beside.result c.reads.invariant.prompted
     (unfinished_none _ c.reads.invariant.waits) c.reads.invariant.through
     (has_read old new c.reads.filled c.reads.filled n c.fill_buffer_beside.result c.in-Ok-eq0.is
     (at_ok _ c.fill_buffer_beside.result n c.in-Ok-eq0.is c.fill_buffer_beside.ensures.fits)
@@ -377,17 +377,19 @@ returns-in_err-refuse-in-Ok-eq0-2-clause-prompt g c =
 pub returns-in_err-answer_message-in-Message-clause-prompt :
     goal.returns-in_err-answer_message-in-Message-clause-prompt
 returns-in_err-answer_message-in-Message-clause-prompt g c =
-    prompt_so_far c.in_err-answer_message-in-Message.ensures.answers.dealt.honest c.messages.invariant.prompted
+    prompt_so_far _ c.in_err-answer_message-in-Message.ensures.answers.clock
+    c.in_err-answer_message-in-Message.ensures.answers.dealt.honest c.messages.invariant.prompted
 
 pub returns-then-message-clause-prompt : goal.returns-then-message-clause-prompt
 returns-then-message-clause-prompt g c =
-    prompt_so_far c.in_ok-answer_message-in-Message.ensures.answers.dealt.honest c.messages.invariant.prompted
+    prompt_so_far _ c.in_ok-answer_message-in-Message.ensures.answers.clock
+    c.in_ok-answer_message-in-Message.ensures.answers.dealt.honest c.messages.invariant.prompted
 
 pub returns-in_err-refuse-in-Refused-clause-prompt : goal.returns-in_err-refuse-in-Refused-clause-prompt
-returns-in_err-refuse-in-Refused-clause-prompt g c = prompt_so_far (λ h. h) c.messages.invariant.prompted
+returns-in_err-refuse-in-Refused-clause-prompt g c = prompt_so_far [] refl (λ h. h) c.messages.invariant.prompted
 
 pub returns-in-Refused-clause-prompt : goal.returns-in-Refused-clause-prompt
-returns-in-Refused-clause-prompt g c = prompt_so_far (λ h. h) c.messages.invariant.prompted
+returns-in-Refused-clause-prompt g c = prompt_so_far [] refl (λ h. h) c.messages.invariant.prompted
 
 -- ---- numbers that fit, and what the calls require
 

@@ -1,10 +1,10 @@
-use Rattle.std.proofs.Common.{◌++◌, ℕ, List, [], Option, Some, refl, ap, subst, sym, ◌∙◌, inl, inr}
+use Rattle.std.proofs.Common.{◌++◌, ℕ, List, [], Option, Some, refl, ap, subst, ◌∙◌, inl, inr}
 use Rattle.std.specs.Prelude.{IfSome}
 use Rattle.std.proofs.lemmas.Result.{err_from_is_err_and}
 use Rattle.posting_rules.specs.{declared.counter.BranchLine.BranchLine, Branches.IsNextBranch, Branches.IsLineAbove}
 use Rattle.posting_rules.proofs.CounterCalls.{call_idle_after, call_refused_after}
-use Rattle.counter_http.specs.believed.Answers.{lines_up_to}
-use Rattle.counter_http.proofs.Listed.{asking_more, asking_refused, asking_full, next_line, all_listed}
+use Rattle.counter_http.specs.Listing.{names_of}
+use Rattle.counter_http.proofs.Listed.{all_listed, asking_full, asking_more, asking_refused, line_more}
 use Rattle.counter_http.proofs.lines.all_lines.Goals as goal
 
 -- the bank refused a call
@@ -15,10 +15,10 @@ returns-in_err-line-clause-fault g c =
     c.loop-body.invariant.asking c.in_err-line.ensures.call.fault c.in_err-line.ensures.call.honest)
 
 -- memory was refused
-pub returns-in_err-line_of_branch-clause-fault : goal.returns-in_err-line_of_branch-clause-fault
-returns-in_err-line_of_branch-clause-fault g c =
-    let p = err_from_is_err_and c.from_residual-in_err-line_of_branch.result
-    c.from_residual-in_err-line_of_branch.ensures.1 in
+pub returns-in_err-line_of-clause-fault : goal.returns-in_err-line_of-clause-fault
+returns-in_err-line_of-clause-fault g c =
+    let p = err_from_is_err_and c.from_residual-in_err-line_of.result
+    c.from_residual-in_err-line_of.ensures.1 in
     rw (p.1, p.2) (asking_full g.C.Counter.seen c.args.bank.now c.next_branch.new.self
     (asking_more g.C.Counter.seen g.C.Counter.contents g.C.Counter.reason c.args.bank.now c.loop-body.bank
     c.next_branch.new.self _ c.loop-body.invariant.asking c.in_ok-line.ensures.call))
@@ -40,8 +40,9 @@ pub returns-clause-lines : goal.returns-clause-lines
 returns-clause-lines g c h log s =
     let i = c.loop-body.invariant in
     let before = c.in_ok-line.ensures.call.honest h in
-    i.lines before log s
-    ∙ all_listed log c.loop-body.after
+    c.in_ok-named.ensures
+    ∙ ap (λ (t : List ℕ). names_of c.args.listing ++ t) (i.lines before log s)
+    ∙ all_listed c.args.listing log c.loop-body.after
     (subst (λ (o : Option BranchLine). IsNextBranch log c.loop-body.after o) c.in_default.is
     (c.in_ok-line.ensures.answer h log (i.asking.takes.shows before log s))) i.within
 
@@ -64,9 +65,8 @@ loop-body-preserved g c =
           (c.in_ok-line.ensures.answer h log (i.asking.takes.shows before log s)) in
           c.in_ok-push_str.ensures.bytes
           ∙ ap (λ (t : List ℕ). t ++ c.as_str.result.now) (i.lines before log s)
-          ∙ ap (λ (t : List ℕ). lines_up_to log c.loop-body.after ++ t)
-          (c.as_str.ensures.value ∙ c.in_ok-line_of_branch.ensures)
-          ∙ sym (next_line log c.loop-body.after c.in-Some.line next);
+          ∙ line_more c.args.listing log c.loop-body.after c.in-Some.line next _
+          (c.as_str.ensures.value ∙ c.in_ok-line_of.ensures);
     })
 
 -- ---- why a call was refused
@@ -80,10 +80,10 @@ returns-in_err-line-clause-why g c =
     c.next_branch.new.self [] asking.takes asking.honest asking.idle c.in_err-line.field-0.0
     g.C.Counter.contents _ c.in_err-line.ensures.call))
 
-pub returns-in_err-line_of_branch-clause-why : goal.returns-in_err-line_of_branch-clause-why
-returns-in_err-line_of_branch-clause-why g c =
-    let p = err_from_is_err_and c.from_residual-in_err-line_of_branch.result
-    c.from_residual-in_err-line_of_branch.ensures.1 in
+pub returns-in_err-line_of-clause-why : goal.returns-in_err-line_of-clause-why
+returns-in_err-line_of-clause-why g c =
+    let p = err_from_is_err_and c.from_residual-in_err-line_of.result
+    c.from_residual-in_err-line_of.ensures.1 in
     rw (p.1, p.2) (inr (refl, c.in_ok-line.ensures.call.up))
 
 pub returns-in_err-push_str-clause-why : goal.returns-in_err-push_str-clause-why
@@ -99,8 +99,8 @@ returns-in_err-line-clause-idle g c =
     call_idle_after g.C.Counter.seen c.args.bank.now c.loop-body.bank c.loop-body.invariant.asking.idle
     g.C.Counter.contents g.C.Counter.reason c.next_branch.new.self _ _ c.next_branch.ensures.call
 
-pub returns-in_err-line_of_branch-clause-idle : goal.returns-in_err-line_of_branch-clause-idle
-returns-in_err-line_of_branch-clause-idle g c =
+pub returns-in_err-line_of-clause-idle : goal.returns-in_err-line_of-clause-idle
+returns-in_err-line_of-clause-idle g c =
     call_idle_after g.C.Counter.seen c.args.bank.now c.loop-body.bank c.loop-body.invariant.asking.idle
     g.C.Counter.contents g.C.Counter.reason c.next_branch.new.self _ _ c.next_branch.ensures.call
 
@@ -121,8 +121,8 @@ returns-in_err-line-clause-spares g c =
     g.met.C.Counter.spares_then c.args.bank.now c.loop-body.bank c.next_branch.new.self
     c.loop-body.invariant.spares c.in_err-line.ensures.spares
 
-pub returns-in_err-line_of_branch-clause-spares : goal.returns-in_err-line_of_branch-clause-spares
-returns-in_err-line_of_branch-clause-spares g c =
+pub returns-in_err-line_of-clause-spares : goal.returns-in_err-line_of-clause-spares
+returns-in_err-line_of-clause-spares g c =
     g.met.C.Counter.spares_then c.args.bank.now c.loop-body.bank c.next_branch.new.self
     c.loop-body.invariant.spares c.in_ok-line.ensures.spares
 
@@ -133,5 +133,31 @@ returns-in_err-push_str-clause-spares g c =
 
 pub returns-clause-spares : goal.returns-clause-spares
 returns-clause-spares g c =
+    g.met.C.Counter.spares_then c.args.bank.now c.loop-body.bank c.next_branch.new.self
+    c.loop-body.invariant.spares c.in_ok-line.ensures.spares
+
+-- ---- memory for the names was refused
+
+pub returns-in_err-named-clause-fault : goal.returns-in_err-named-clause-fault
+returns-in_err-named-clause-fault g c =
+    let p = err_from_is_err_and c.from_residual-in_err-named.result
+    c.from_residual-in_err-named.ensures.1 in
+    rw (p.1, p.2) (asking_full g.C.Counter.seen c.args.bank.now c.next_branch.new.self
+    (asking_more g.C.Counter.seen g.C.Counter.contents g.C.Counter.reason c.args.bank.now c.loop-body.bank
+    c.next_branch.new.self _ c.loop-body.invariant.asking c.in_ok-line.ensures.call))
+
+pub returns-in_err-named-clause-why : goal.returns-in_err-named-clause-why
+returns-in_err-named-clause-why g c =
+    let p = err_from_is_err_and c.from_residual-in_err-named.result
+    c.from_residual-in_err-named.ensures.1 in
+    rw (p.1, p.2) (inr (refl, c.in_ok-line.ensures.call.up))
+
+pub returns-in_err-named-clause-idle : goal.returns-in_err-named-clause-idle
+returns-in_err-named-clause-idle g c =
+    call_idle_after g.C.Counter.seen c.args.bank.now c.loop-body.bank c.loop-body.invariant.asking.idle
+    g.C.Counter.contents g.C.Counter.reason c.next_branch.new.self _ _ c.next_branch.ensures.call
+
+pub returns-in_err-named-clause-spares : goal.returns-in_err-named-clause-spares
+returns-in_err-named-clause-spares g c =
     g.met.C.Counter.spares_then c.args.bank.now c.loop-body.bank c.next_branch.new.self
     c.loop-body.invariant.spares c.in_ok-line.ensures.spares

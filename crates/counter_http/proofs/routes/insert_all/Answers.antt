@@ -9,4 +9,6 @@ returns c =
     let b = c.in_ok-insert-2.ensures in
     let d = c.in_ok-insert-3.ensures in
     let e = c.in_ok-insert-4.ensures in
-    rw (d.1, b.1, a.1, c.requires) at e.1
+    let f = c.in_ok-insert-5.ensures in
+    let h = c.in_ok-insert-6.ensures in
+    rw (f.1, e.1, d.1, b.1, a.1, c.requires) at h.1

@@ -1,6 +1,6 @@
 use Rattle.std.proofs.Common.{rules, ◌≡◌, Option, Some, ap, subst, sym, ◌∙◌}
 use Rattle.counter_http.specs.{declared.routes.Route.Route, declared.routes.Route.TheVariants.Account, Next.asked}
-use Rattle.counter_http.specs.declared.routes.Route.TheVariants.{Health}
+use Rattle.counter_http.specs.declared.routes.Route.TheVariants.{Health, Log, Plan}
 use Rattle.counter_http.specs.{believed.Paths.route_of, Tasks.IsTaskOn}
 use Rattle.counter_http.proofs.tasks.task_of.Goals as goal
 
@@ -21,3 +21,21 @@ returns-in-Some-Health c =
     ∙ ap route_of c.path_of-path.ensures in
     subst (λ (o : Option Route). IsTaskOn o (asked c.args.message.now) c.health_task.result) route
     c.health_task.ensures
+
+-- the path is that of the log
+pub returns-in-Some-Log : goal.returns-in-Some-Log
+returns-in-Some-Log c =
+    let log : c.in-Some-Log.field-0 ≡ Log = search rules in
+    let route = sym (c.in-Some-Log.is ∙ ap (λ (r : Route). Some r) log) ∙ c.find.ensures
+    ∙ ap route_of c.path_of-path.ensures in
+    subst (λ (o : Option Route). IsTaskOn o (asked c.args.message.now) c.log_task.result) route
+    c.log_task.ensures
+
+-- the path is that of the plan
+pub returns-in-Some-Plan : goal.returns-in-Some-Plan
+returns-in-Some-Plan c =
+    let plan : c.in-Some-Plan.field-0 ≡ Plan = search rules in
+    let route = sym (c.in-Some-Plan.is ∙ ap (λ (r : Route). Some r) plan) ∙ c.find.ensures
+    ∙ ap route_of c.path_of-path.ensures in
+    subst (λ (o : Option Route). IsTaskOn o (asked c.args.message.now) c.plan_task.result) route
+    c.plan_task.ensures

@@ -2,7 +2,9 @@ use Rattle.std.proofs.Common.{◌≡◌, ◌∙◌, refl, sym, ap, Bool, false, 
 use Rattle.std.proofs.lemmas.{Bool.true≢false}
 use Rattle.std.specs.Prelude.{is_some, not}
 use Rattle.counter_http.specs.{Next.IsHopeless, Next.IsUnfinished, Next.IsWhole, Next.asked, Tasks.IsTaskOf}
-use Rattle.counter_http.specs.believed.Answers.{answer_to, asked_by, balance_answer, branch_lines, is_posting, plain}
+use Rattle.posting_core.specs.believed.LogEntries.{entries_given}
+use Rattle.counter_http.specs.Listing.{listing_answer}
+use Rattle.counter_http.specs.believed.Answers.{answer_to, asked_by, balance_answer, entries_answer, is_posting}
 use Rattle.counter_http.specs.Telling.{said}
 use Rattle.counter_http.specs.declared.parting.Parting.TheVariants as parting
 use Rattle.counter_http.specs.declared.tasks.Task.TheVariants.{Submit}
@@ -85,9 +87,26 @@ returns-in-Branches-clause-answers g c =
     (none_if c.args.self.now.parting c.is_some.result c.is_some.ensures c.if-is_some.false)
     (ap is_posting (sym whole.asks) ∙ submits_as a false c.in-Branches.ensures.0) c.read_branches-read.ensures.asked
     (reading_as (g.C.Counter.seen c.read_branches-read.new.bank).honest (g.C.Counter.seen c.args.bank.now)
-    c.read_branches-read.result (λ log. plain (branch_lines log)) (asked_by whole.message)
+    c.read_branches-read.result (λ log. listing_answer c.in-Branches.listing log) (asked_by whole.message)
     (λ log. ap (answer_to log) (sym whole.asks) ∙ answers_as a log _ (c.in-Branches.ensures.1 log))
     c.read_branches-read.ensures.answer)
+
+-- the entries of the log after a place
+pub returns-in-Entries-clause-answers : goal.returns-in-Entries-clause-answers
+returns-in-Entries-clause-answers g c =
+    let whole : IsWhole (take c.args.self.now.filled c.args.self.now.input.items) c.in-Message.message =
+    rw c.deref.ensures.value at c.in-Message.ensures in
+    let a = asked c.in-Message.message in
+    read_answered g.C.Counter.seen c.args.bank.now c.read_entries-read.new.bank c.args.self.now
+    c.answer_reading-in-Entries.new.self whole.message _ c.read_entries-read.result
+    c.answer_reading-in-Entries.result c.answer_reading-in-Entries.ensures
+    (head_of _ whole refl (ap not c.is_head.ensures) refl)
+    (none_if c.args.self.now.parting c.is_some.result c.is_some.ensures c.if-is_some.false)
+    (ap is_posting (sym whole.asks) ∙ submits_as a false c.in-Entries.ensures.0) c.read_entries-read.ensures.asked
+    (reading_as (g.C.Counter.seen c.read_entries-read.new.bank).honest (g.C.Counter.seen c.args.bank.now)
+    c.read_entries-read.result (λ log. entries_answer (entries_given log c.in-Entries.after)) (asked_by whole.message)
+    (λ log. ap (answer_to log) (sym whole.asks) ∙ answers_as a log _ (c.in-Entries.ensures.1 log))
+    c.read_entries-read.ensures.answer)
 
 -- the rest is waited for
 pub returns-in-Unfinished-clause-answers : goal.returns-in-Unfinished-clause-answers
@@ -135,6 +154,14 @@ returns-in-Branches-clause-rests g c =
     read_so c.args.self.now c.answer_reading-in-Branches.new.self whole.message c.read_branches-read.result _
     c.answer_reading-in-Branches.result (head_of _ whole refl (ap not c.is_head.ensures) refl)
     c.answer_reading-in-Branches.ensures
+
+pub returns-in-Entries-clause-rests : goal.returns-in-Entries-clause-rests
+returns-in-Entries-clause-rests g c =
+    let whole : IsWhole (take c.args.self.now.filled c.args.self.now.input.items) c.in-Message.message =
+    rw c.deref.ensures.value at c.in-Message.ensures in
+    read_so c.args.self.now c.answer_reading-in-Entries.new.self whole.message c.read_entries-read.result _
+    c.answer_reading-in-Entries.result (head_of _ whole refl (ap not c.is_head.ensures) refl)
+    c.answer_reading-in-Entries.ensures
 
 pub returns-in-Refused-clause-rests : goal.returns-in-Refused-clause-rests
 returns-in-Refused-clause-rests g c =
