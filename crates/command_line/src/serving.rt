@@ -6,7 +6,7 @@ ghost use Rattle.posting_core.specs.Told.{HasWriteFailed};
 
 use crate::{CommandFault, ListeningLine, print_listening};
 use counter_http::{ServeWatch, serve_watched};
-use posting_core::{Clock, Counter, Sink};
+use posting_core::{Clock, Followed, Sink};
 use std::net::TcpListener;
 use std::{io, time};
 
@@ -27,7 +27,7 @@ impl Network for HostRuntime {
 }
 
 /// Binds the address, prints where it listens, and serves so many clients by a bank.
-pub fn listen<N: Network, V: ServeWatch + Drop, C: Counter, W: Sink, K: Clock>(
+pub fn listen<N: Network, V: ServeWatch + Drop, C: Followed, W: Sink, K: Clock>(
     network: &N,
     address: &str,
     connections: u64,
@@ -77,7 +77,7 @@ fn bind<N: Network>(
 }
 
 // Prints where a bound listener listens, and serves so many of its clients by a bank.
-fn serve_at<N: Network, V: ServeWatch + Drop, C: Counter, W: Sink, K: Clock>(
+fn serve_at<N: Network, V: ServeWatch + Drop, C: Followed, W: Sink, K: Clock>(
     network: &N,
     listener: &TcpListener,
     line: &ListeningLine,

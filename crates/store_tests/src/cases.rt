@@ -1,7 +1,7 @@
 //! What a bank is asked for, as plain data: parts of a history, by which calls it gets them, and the tables that they
 //! lead to.
 use bank_scenarios::{Asked, Came, History, Part, Script, Sums, ask_counter};
-use posting_core::Counter;
+use posting_core::Followed;
 use std::alloc::{AllocError, Global};
 
 /// By which calls a bank gets the parts of a case.
@@ -98,7 +98,7 @@ fn script_of(alloc: Global, case: &Case) -> Result<Script, AllocError> {
 }
 
 /// Asks a counter for what the case has.
-pub fn work_on<C: Counter>(alloc: Global, bank: &mut C, case: &Case) -> Result<Came, AllocError> {
+pub fn work_on<C: Followed>(alloc: Global, bank: &mut C, case: &Case) -> Result<Came, AllocError> {
     let script = script_of(alloc, case)?;
     let asked = match case.way {
         Way::Load => Asked::Load(case.parts),

@@ -8,7 +8,7 @@ use failing_ends::Pieces;
 use load_driver::{DriveFault, MAX_DRIVEN, drive_records};
 use message_records::{Account, Branch, Cents, REPLY_BYTES, REQUEST_BYTES};
 use posting_core::{
-    Counter, Fault, Opening, RECORDS_PER_BATCH, StoredClock, StreamFault, post_stream,
+    Counter, Fault, Followed, Opening, RECORDS_PER_BATCH, StoredClock, StreamFault, post_stream,
 };
 use std::alloc::{AllocError, Global};
 
@@ -196,7 +196,7 @@ fn streamed<C: Counter>(alloc: Global, bank: &mut C, script: &Script, most: usiz
     }
 }
 
-fn served<C: Counter>(alloc: Global, bank: &mut C, script: &Script, most: usize) -> Came {
+fn served<C: Followed>(alloc: Global, bank: &mut C, script: &Script, most: usize) -> Came {
     let mut reader = Pieces {
         rest: script.input.as_slice(),
         most,
@@ -247,7 +247,7 @@ fn balance_is<C: Counter>(bank: &mut C, account: Account, wanted: Option<i64>) -
 }
 
 /// Asks any counter.
-pub fn ask_counter<C: Counter>(alloc: Global, bank: &mut C, asked: &Asked<'_>) -> Came {
+pub fn ask_counter<C: Followed>(alloc: Global, bank: &mut C, asked: &Asked<'_>) -> Came {
     match asked {
         Asked::Open(branch, accounts, floor) => opened(bank, *branch, *accounts, *floor),
         Asked::Load(parts) => loaded(alloc, bank, parts),
