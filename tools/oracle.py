@@ -346,6 +346,7 @@ def audit(file):
 
 PHRASES = {200: b"OK", 400: b"Bad Request", 404: b"Not Found", 405: b"Method Not Allowed", 503: b"Service Unavailable"}
 BYTES, TEXT = b"application/octet-stream", b"text/plain"
+ENTRIES_PER_ANSWER = 192
 
 
 def answer(code, media, body, allow=b"", closes=False, shows=True):
@@ -369,7 +370,8 @@ def routed(book, method, target, body):
             return bare(405, b"POST")
         return (200, BYTES, book.answer(0, body), b"") if len(body) == 100 else bare(400)
     account = re.fullmatch(rb"/account/([^/]+)", path, re.DOTALL)
-    if path not in (b"/branches", b"/health") and not account or not is_utf8(path):
+    log = re.fullmatch(rb"/log/([^/]+)", path, re.DOTALL)
+    if path not in (b"/branches", b"/health", b"/plan") and not account and not log or not is_utf8(path):
         return bare(404)
     if method not in (b"GET", b"HEAD"):
         return bare(405, b"GET, HEAD")
@@ -378,9 +380,23 @@ def routed(book, method, target, body):
     if path == b"/branches":
         rows = sorted(book.rows["branch"].items())
         return 200, TEXT, b"".join(b"%6d %7d %14d\n" % (bid, *row) for bid, row in rows), b""
+    if path == b"/plan":
+        return 200, b"text/csv", plan_of(book), b""
+    if log:
+        number = log.group(1)
+        first = int(number) if re.fullmatch(rb"0|[1-9][0-9]{0,11}", number) else book.decided + 1
+        entries = [entry_of(*kept) for kept in requests_of(book.rows)][first:first + ENTRIES_PER_ANSWER]
+        return (200, BYTES, b"".join(entries), b"") if first <= book.decided else bare(404)
     number = account.group(1)
     balance = book.rows["account"].get(int(number)) if re.fullmatch(rb"[1-9][0-9]{0,11}", number) else None
     return (200, TEXT, b"account %s balance %d\n" % (number, *balance), b"") if balance else bare(404)
+
+
+def plan_of(book):
+    """The open branches as a plan."""
+    floors = book.rows["branch_floor"]
+    lines = (f"{bid},{row[0]},{floors[bid][0] if bid in floors else ''}\n" for bid, row in sorted(book.rows["branch"].items()))
+    return b"branch,accounts,floor\n" + "".join(lines).encode()
 
 
 def is_utf8(text):
