@@ -249,6 +249,18 @@ def digest_lines(requests):
     return [f"{'requests':<12}{len(requests):>20}", f"{'digest':<12}{chain.hex()}"]
 
 
+def plan_text(tables):
+    """The plan that the branches are."""
+    floors = tables["branch_floor"]
+    rows = [f"{bid},{row[0]},{floors.get(bid, ('',))[0]}\n" for bid, row in sorted(tables["branch"].items())]
+    return "branch,accounts,floor\n" + "".join(rows)
+
+
+def plan_line(tables):
+    """The line of a replay for the plan."""
+    return f"{'plan':<12}{hashlib.sha256(plan_text(tables).encode()).hexdigest()}"
+
+
 def unread(table, row):
     """The rule that a row breaks which can't be read, 0 if it can be."""
     key, *rest = row
@@ -296,7 +308,7 @@ def replay(file):
     line = difference(tables, made_anew(tables))
     if line:
         return ([line], 3) if line.startswith("bank: ") else ([line, "DIFFERS"], 5)
-    return digest_lines(list(requests_of(tables))) + ["AGREES"], 0
+    return digest_lines(list(requests_of(tables))) + [plan_line(tables), "AGREES"], 0
 
 
 # ---- an audit by SQL

@@ -126,10 +126,11 @@ class Bank:
         return conn
 
     def replay(self):
-        """The answer to the step: requests and digest, or the first difference, or the fault."""
+        """The answer to the step: requests, digest and the plan's, or the first difference, or the fault."""
         lines, status = oracle.replay(self.tables())
         if status == 0:
-            return f"agrees: requests {lines[0].split()[-1]} digest {lines[1].split()[-1]}"
+            requests, digest, plan = (line.split()[-1] for line in lines[:3])
+            return f"agrees: requests {requests} digest {digest} plan {plan}"
         return lines[0].removeprefix("bank: ")
 
     def step(self, word, rest):

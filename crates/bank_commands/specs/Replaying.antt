@@ -20,9 +20,9 @@ use Rattle.bank_store.specs.Seen.{fault_of}
 use Rattle.bank_store.specs.declared.bank.Bank.{Bank}
 use Rattle.bank_replays.specs.{Damaged.TellsWhy, Damaged.fault_in, DifferenceText.difference_text}
 use Rattle.bank_replays.specs.Differences.{DiffersFrom, table_of}
-use Rattle.bank_replays.specs.Digests.{DigestsFirst, DigestsRows, IsDigestIn, answered_after}
+use Rattle.bank_replays.specs.Digests.{DigestsFirst, DigestsRows, answered_after}
 use Rattle.bank_replays.specs.FileTables.{IsKept}
-use Rattle.bank_replays.specs.Replays.{HasAnswered, OnAgrees, OnDiffers, Replays, TellsTables, other_text}
+use Rattle.bank_replays.specs.Replays.{AreDigestsIn, HasAnswered, OnAgrees, OnDiffers, Replays, TellsTables, other_text}
 use Rattle.bank_replays.specs.Writing.{ExportsRows, LeavesWriter, WritesSound, WritesText, plan_text, records_of}
 use Rattle.bank_replays.specs.declared.chain.Digest.{Digest}
 use Rattle.bank_replays.specs.declared.difference.Replay.{Replay}
@@ -56,11 +56,11 @@ TellsFault fault w w' told = (told ≡ Err fault) × Keeps w w'
 
 -- ---- a replay
 
--- the digest and the verdict were printed; or the line of the difference or of the table, and the verdict
+-- the digests and the verdict were printed; or the line of the difference or of the table, and the verdict
 abbrev pub PrintsReplay : Result Replay Fault → (w w' : Option (List ℕ)) → (t t' : Option (List WriteTold))
     → Result Status CommandFault → Type 0
-PrintsReplay (Ok (Agrees d)) w w' t t' told =
-    TellsText statuses.Done (agreeing_lines d.requests d.sha256) w w' t t' told
+PrintsReplay (Ok (Agrees a)) w w' t t' told =
+    TellsText statuses.Done (agreeing_lines a.digest.requests a.digest.sha256 a.plan) w w' t t' told
 PrintsReplay (Ok (Differs d)) w w' t t' told =
     TellsText statuses.Differs (differing_lines (difference_text d)) w w' t t' told
 PrintsReplay (Ok (Otherwise table)) w w' t t' told =
@@ -73,8 +73,7 @@ pub record ReplaysBank {S : Type 0} (g : Ghosts S) (found : Result Replay Fault)
   pub tables : TellsTables (database_of g old).schema found
   pub agrees : (bank_seen g new).honest → IsKept (database_of g old)
       → OnAgrees found (λ d. (log : List Command) × ShowsLog (bank_seen g old) log)
-  pub digest : (bank_seen g new).honest → (all : List KeptItem) → HasKept (database_of g old) all
-      → OnAgrees found (IsDigestIn all)
+  pub digest : (bank_seen g new).honest → OnAgrees found (AreDigestsIn (database_of g old))
   pub differs : (bank_seen g new).honest → OnDiffers found (λ d. (rows : List Entry)
       → HasStoredRows (database_of g old) (table_of d) rows → DiffersFrom rows d)
   pub why : TellsWhy g (λ fault. fault) old new found

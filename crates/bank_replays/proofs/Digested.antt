@@ -4,10 +4,16 @@ use Rattle.std.proofs.Common.{subst, ◌∙◌, arith}
 use Rattle.std.proofs.lemmas.List.{length-map, length-take, take-map}
 use Rattle.posting_rules.specs.declared.fault.{Fault.Fault, Rule.Rule}
 use Rattle.posting_rules.specs.declared.fault.Fault.TheVariants.{Damaged, Down, Memory, Store}
+use Rattle.sqlite.specs.Effect.{Database}
+use Rattle.posting_rules.specs.believed.{Commands.Command, Tables.AreTablesOf, Tables.Tables}
+use Rattle.store_rows.specs.believed.View.{Shows, branch_entry, floor_entry}
 use Rattle.walked_rows.specs.KeptRows.{KeptItem}
+use Rattle.walked_rows.proofs.Shown.{has_branches, has_floors}
 use Rattle.bank_replays.specs.Digests.{DigestsFirst, DigestsRows, IsDigestIn, IsDigestOf}
 use Rattle.bank_replays.specs.Requests.{AnsweredRequest, answered_in}
-use Rattle.bank_replays.specs.{Replays.OnAgrees, declared.chain.Digest.Digest, declared.difference.Replay.Replay}
+use Rattle.bank_replays.specs.Replays.{AreDigestsIn, AreDigestsOf, OnAgrees}
+use Rattle.bank_replays.specs.{declared.chain.Digest.Digest, declared.difference.Replay.Replay}
+use Rattle.bank_replays.proofs.LogRows.{has_kept, kept_answered, kept_of}
 use Rattle.bank_replays.specs.declared.difference.Replay.TheVariants.{Agrees, Differs, Otherwise}
 
 module _ (count : ℕ) (all : List KeptItem) (d : Digest) (is : IsDigestIn (take count all) d) where
@@ -29,13 +35,18 @@ module _ (count : ℕ) (all : List KeptItem) (requests : List AnsweredRequest) (
   )
   digests_log None it = omega (arith, it, count_same)
 
--- all of them are
-pub agrees_log : (all : List KeptItem) (requests : List AnsweredRequest) → map answered_in all ≡ requests
-    → (result : Result Replay Fault) → OnAgrees result (IsDigestIn all) → OnAgrees result (IsDigestOf requests)
-agrees_log all requests same (Ok (Agrees d)) is = subst (λ (l : List AnsweredRequest). IsDigestOf l d) same is.0
-agrees_log all requests same (Ok (Differs d)) is = tt
-agrees_log all requests same (Ok (Otherwise table)) is = tt
-agrees_log all requests same (Err fault) is = tt
+-- all of them are, and the plan is that of the tables
+module _ (db : Database) (log : List Command) (t : Tables) (in_file : Shows db t) (shows : AreTablesOf t log) where
+  pub agrees_log : (result : Result Replay Fault) → OnAgrees result (AreDigestsIn db) → OnAgrees result (AreDigestsOf log t)
+  agrees_log (Ok (Agrees a)) are = record {
+    requests = subst (λ (l : List AnsweredRequest). IsDigestOf l a.digest) (kept_answered db t log in_file shows)
+        (are.requests (kept_of db t log in_file shows) (has_kept db t log in_file shows)).0;
+    plan = are.plan (map floor_entry t.floors) (map branch_entry t.branches) (has_floors db t in_file)
+        (has_branches db t in_file);
+  }
+  agrees_log (Ok (Differs d)) are = tt
+  agrees_log (Ok (Otherwise table)) are = tt
+  agrees_log (Err fault) are = tt
 
 -- a log's are never told to be damaged
 pub digests_err : (count : ℕ) (requests : List AnsweredRequest) (fault : Fault)

@@ -8,12 +8,13 @@ pub mod DifferenceText
 pub mod GivenBack
 pub mod Handing
 pub mod Comparing
-pub mod Replays
 pub mod Came
 pub mod Requests
 pub mod Damaged
 pub mod Digests
 pub mod Writing
+pub mod PlanDigests
+pub mod Replays
 pub mod Logs
 pub mod Refusing
 pub mod Holding

@@ -1,9 +1,11 @@
 -- What holds before the first row is handed on, and of a fault of the bank.
 use Rattle.std.specs.Prelude.{◌≡◌, ◌≤◌, ◌-◌, ◌^◌, ◌++◌, ⊤, ℕ, List, [], Option, map}
-use Rattle.std.proofs.Common.{refl, sym, subst, arith}
+use Rattle.std.proofs.Common.{append-nil, refl, sym, subst, arith}
 use Rattle.std.proofs.Math.Nat.{zero-add}
 use Rattle.std.proofs.KnownBytes.{Appends-nil}
 use Rattle.std.proofs.lemmas.List.{length-map}
+use Rattle.sha2.specs.Hashers.{Holds256}
+use Rattle.sha2.specs.declared.Sha256.{Sha256}
 use Rattle.posting_core.specs.Told.{WriteTold}
 use Rattle.posting_core.proofs.Telling.{more_none}
 use Rattle.posting_rules.specs.declared.fault.Fault.{Fault}
@@ -28,6 +30,10 @@ wrote_none w t = (Appends-nil w, more_none t)
 
 pub records_none : (after : ℕ) (w : Option (List ℕ)) (t : Option (List WriteTold)) → WroteRecords after [] w w t t
 records_none after w t = record { wrote = wrote_none w t; each = tt }
+
+-- nothing was hashed yet
+pub hashed_none : (hasher : Sha256) (message : List ℕ) → Holds256 hasher message → Holds256 hasher (message ++ [])
+hashed_none hasher message holds = subst (Holds256 hasher) (sym (append-nil message)) holds
 
 -- it isn't the writer's
 abbrev IsBank : ReplayFault → Type 0

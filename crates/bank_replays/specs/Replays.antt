@@ -1,14 +1,18 @@
 -- What a replay says.
 use Rattle.std.specs.Prelude.{◌≡◌, ◌++◌, ℕ, List, codes, Some, None, Result, Ok, Err, ⊤}
-use Rattle.sqlite.specs.Schema.{Schema}
+use Rattle.sha2.specs.Sha256.{sha256}
+use Rattle.sqlite.specs.{Effect.Database, Schema.Schema}
 use Rattle.posting_rules.specs.believed.Commands.{Command}
 use Rattle.posting_rules.specs.believed.Counter.{Seen, ShowsLog}
+use Rattle.posting_rules.specs.believed.Tables.{Tables}
 use Rattle.posting_rules.specs.declared.fault.Fault.{Fault}
 use Rattle.posting_rules.specs.declared.fault.Fault.TheVariants.{Damaged}
 use Rattle.posting_rules.specs.declared.fault.Rule.{Rule}
 use Rattle.bank_store.specs.Leaving.{TakesNone}
-use Rattle.bank_replays.specs.Digests.{IsDigestOf, answered_after}
-use Rattle.bank_replays.specs.declared.chain.Digest.{Digest}
+use Rattle.walked_rows.specs.KeptRows.{HasKept, KeptItem}
+use Rattle.bank_replays.specs.Digests.{IsDigestIn, IsDigestOf, answered_after}
+use Rattle.bank_replays.specs.PlanDigests.{IsPlanDigestIn, plan_of}
+use Rattle.bank_replays.specs.declared.difference.Agreed.{Agreed}
 use Rattle.bank_replays.specs.declared.difference.Difference.{Difference}
 use Rattle.bank_replays.specs.declared.difference.Replay.{Replay}
 use Rattle.bank_replays.specs.declared.difference.Replay.TheVariants.{Agrees, Differs, Otherwise}
@@ -20,30 +24,30 @@ abbrev pub HasAnswered : {X E : Type 0} → Result X E → Type 0
 HasAnswered (Ok x) = ⊤
 HasAnswered (Err fault) = ⊥
 
--- if it agrees, this holds of the digest
-abbrev pub OnAgrees : Result Replay Fault → (Digest → Type 0) → Type 0
-OnAgrees (Ok (Agrees d)) P = P d
+-- if it agrees, this holds of the digests
+abbrev pub OnAgrees : Result Replay Fault → (Agreed → Type 0) → Type 0
+OnAgrees (Ok (Agrees a)) P = P a
 OnAgrees (Ok (Differs d)) P = ⊤
 OnAgrees (Ok (Otherwise table)) P = ⊤
 OnAgrees (Err fault) P = ⊤
 
 -- if it differs, this holds of the difference
 abbrev pub OnDiffers : Result Replay Fault → (Difference → Type 0) → Type 0
-OnDiffers (Ok (Agrees d)) P = ⊤
+OnDiffers (Ok (Agrees a)) P = ⊤
 OnDiffers (Ok (Differs d)) P = P d
 OnDiffers (Ok (Otherwise table)) P = ⊤
 OnDiffers (Err fault) P = ⊤
 
 -- rows were compared
 abbrev pub HasLookedAtRows : Result Replay Fault → Type 0
-HasLookedAtRows (Ok (Agrees d)) = ⊤
+HasLookedAtRows (Ok (Agrees a)) = ⊤
 HasLookedAtRows (Ok (Differs d)) = ⊤
 HasLookedAtRows (Ok (Otherwise table)) = ⊥
 HasLookedAtRows (Err fault) = ⊤
 
 -- Rows are compared only where each table is defined as a bank's is made; else this is the first that isn't.
 abbrev pub TellsTables : Schema → Result Replay Fault → Type 0
-TellsTables schema (Ok (Agrees d)) = IsOtherTable schema None
+TellsTables schema (Ok (Agrees a)) = IsOtherTable schema None
 TellsTables schema (Ok (Differs d)) = IsOtherTable schema None
 TellsTables schema (Ok (Otherwise table)) = IsOtherTable schema (Some table)
 TellsTables schema (Err fault) = ⊤
@@ -52,10 +56,21 @@ TellsTables schema (Err fault) = ⊤
 abbrev pub other_text : BankTable → List ℕ
 other_text table = codes "table " ++ ((made table).name ++ codes " is defined otherwise")
 
+-- the digests of a file's kept requests, and of its plan
+pub record AreDigestsIn (db : Database) (a : Agreed) : Type 0 where
+  pub requests : (all : List KeptItem) → HasKept db all → IsDigestIn all a.digest
+  pub plan : IsPlanDigestIn db a.plan
+
+-- those of a log that led to these tables
+pub record AreDigestsOf (log : List Command) (t : Tables) (a : Agreed) : Type 0 where
+  pub requests : IsDigestOf (answered_after log) a.digest
+  pub plan : a.plan ≡ sha256 (plan_of t)
+
 -- a bank was replayed
 pub record Replays (old new : Seen) (found : Result Replay Fault) : Type 0 where
-  -- if it agrees, the requests of a log are digested
-  pub log : new.honest → (log : List Command) → ShowsLog old log → OnAgrees found (IsDigestOf (answered_after log))
+  -- if it agrees, the requests of a log are digested, and its plan
+  pub log : new.honest → (log : List Command) → (shown : ShowsLog old log)
+      → OnAgrees found (AreDigestsOf log shown.tables)
   -- and it is never told to be damaged
   pub sound : (rule : Rule) → found ≡ Err (Damaged rule) → new.honest → (log : List Command) → ShowsLog old log → ⊥
   pub takes : TakesNone old new (HasAnswered found)

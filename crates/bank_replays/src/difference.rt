@@ -43,11 +43,19 @@ impl fmt::Display for OtherTable {
     }
 }
 
+/// What can be written down of a bank that agrees: the digest of its requests, and SHA-256 of the plan of its branches
+/// ([`write_plan`](crate::write_plan)).
+#[derive(Clone, Copy, Debug, PartialEq, Eq)]
+pub struct Agreed {
+    pub digest: Digest,
+    pub plan: [u8; 32],
+}
+
 /// What a replay says of a bank.
 #[derive(Clone, Copy, Debug, PartialEq, Eq)]
 pub enum Replay {
-    /// Its tables are what the rules give, and it keeps requests with this digest.
-    Agrees(Digest),
+    /// Its tables are what the rules give, and it has these digests.
+    Agrees(Agreed),
     /// They aren't. This is the first difference.
     Differs(Difference),
     /// Its file defines this table otherwise than a bank's is made, and the rows weren't looked at.

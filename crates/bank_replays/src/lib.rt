@@ -25,10 +25,11 @@
 //! agrees is tested, and not proved.
 //!
 //! [`Replay::Agrees`] has the [`Digest`] of the requests, in which a changed moment, a changed reference, a cut-off
-//! end and a rewritten past show, none of which a replay can see by itself. [`digest`] gives that of the first
-//! requests of any file, to be compared with one that was written down. [`export`] writes the kept requests as the
-//! records that they came as, [`write_log`] as entries of a log with their replies and moments, and [`write_plan`]
-//! the open branches as a plan, so that another bank can be given them. A [`Difference`] is shown as a line, as `account 2 stands 0 due -100`.
+//! end and a rewritten past show, none of which a replay can see by itself; and that of the plan, in which a branch, its
+//! accounts and its floor show. [`digest`] gives that of the first requests of any file, to be compared with one that
+//! was written down. [`export`] writes the kept requests as the records that they came as, [`write_log`] as entries of a
+//! log with their replies and moments, and [`write_plan`] the open branches as a plan, so that another bank can be given
+//! them. A [`Difference`] is shown as a line, as `account 2 stands 0 due -100`.
 //!
 //! It asks first whether the file defines its tables as a bank's are made: where it defines one otherwise, its rows may
 //! be read otherwise, and [`Replay::Otherwise`] names it.
@@ -46,6 +47,7 @@ mod laws;
 mod lines;
 mod logs;
 mod plan;
+mod plan_digests;
 mod ram;
 mod refill;
 mod replays;
@@ -55,7 +57,7 @@ mod watch;
 mod writes;
 
 pub use chain::Digest;
-pub use difference::{Difference, OtherTable, Replay, Sides};
+pub use difference::{Agreed, Difference, OtherTable, Replay, Sides};
 pub use digests::digest;
 pub use exports::export;
 pub use fault::ReplayFault;

@@ -18,7 +18,7 @@ ghost use Rattle.bank_replays.specs.Damaged.{TellsWhy, fault_in};
 ghost use Rattle.bank_replays.specs.Reading.{ReadsBank};
 ghost use Rattle.bank_replays.specs.Replays.{HasAnswered};
 ghost use Rattle.bank_replays.specs.Writing.{LeavesWriter, Wrote, WrotePart, WritesText, branch_of};
-ghost use Rattle.bank_replays.specs.Writing.{line_with, lowest_of, plan_lines, plan_text, text_of_floor};
+ghost use Rattle.bank_replays.specs.Writing.{line_with, lowest_of, plan_line, plan_lines, plan_text, text_of_floor};
 ghost use Rattle.bank_replays.specs.declared.fault.ReplayFault.TheVariants.{Bank as OfBank};
 
 use crate::fault::{ReplayFault, told};
@@ -32,8 +32,8 @@ use report_contents::{put, put_last};
 use sqlite::Alter;
 use walked_rows::{StoredBranch, StoredFloor};
 
-// The first line.
-const NAMES: &str = "branch,accounts,floor\n";
+/// The first line.
+pub(crate) const NAMES: &str = "branch,accounts,floor\n";
 
 // Appends a floor, if there is one.
 fn push_floor(line: &mut Line, floor: Option<i64>)
@@ -97,10 +97,18 @@ impl Hands<StoredFloor, Vec<StoredFloor>> for Listing {
     }
 }
 
-// Branches are written as lines, each with its floor of these.
+/// Branches are written as lines, each with its floor of these.
 #[derive(Drop)]
-struct Lines {
+pub(crate) struct Lines {
     floors: Vec<StoredFloor>,
+}
+
+/// The line of a branch, with its floor.
+pub(crate) fn plan_line(lines: &Lines, row: &StoredBranch) -> Line
+    ensures { result.bytes ≡ plan_line (map floor_entry lines.now.floors.items) (branch_entry row.now) }
+{
+    let floor = floor_of(lines.floors.as_slice(), row.branch.get());
+    line_of(row, floor)
 }
 
 impl<W: Sink> Hands<StoredBranch, W> for Lines {
@@ -127,14 +135,13 @@ impl<W: Sink> Hands<StoredBranch, W> for Lines {
     ghost held = { λ way. bars_held branches_held branch_entry };
 
     fn hand(&self, row: StoredBranch, writer: &mut W) -> Result<(), ReplayFault> {
-        let floor = floor_of(self.floors.as_slice(), row.branch.get());
-        put(writer, line_of(&row, floor).as_str())?;
+        put(writer, plan_line(self, &row).as_str())?;
         Ok(())
     }
 }
 
-// The floors of branches.
-fn floors_of<S: Alter>(bank: &mut Bank<S>) -> Result<Lines, Fault>
+/// The floors of branches.
+pub(crate) fn floors_of<S: Alter>(bank: &mut Bank<S>) -> Result<Lines, Fault>
     ensures bank { ReadsBank S.Store bank.old bank.new result }
     ensures rows { HasCleanDisk (file_of bank.new) → (floors : List Entry)
         → HasStoredRows (database_of S.Store bank.old) floor_table floors

@@ -6,24 +6,23 @@ ghost use Rattle.posting_rules.specs.believed.Commands.{Command};
 ghost use Rattle.posting_rules.specs.believed.Counter.{ShowsLog};
 ghost use Rattle.posting_rules.specs.declared.fault.Fault.TheVariants.{Down, Memory};
 ghost use Rattle.sql_meanings.specs.believed.Entries.{Entry};
-ghost use Rattle.walked_rows.specs.KeptRows.{HasKept, KeptItem};
 ghost use Rattle.walked_rows.specs.Rows.{HasStoredRows};
 ghost use Rattle.bank_store.specs.believed.Seen.{bank_seen, database_of, file_of};
 ghost use Rattle.bank_store.specs.Seen.{fault_of};
 ghost use Rattle.bank_store.specs.Leaving.{LeavesAsFound};
 ghost use Rattle.bank_replays.specs.Damaged.{TellsWhy, fault_in};
 ghost use Rattle.bank_replays.specs.Differences.{DiffersFrom, table_of};
-ghost use Rattle.bank_replays.specs.Digests.{IsDigestIn};
 ghost use Rattle.bank_replays.specs.FileTables.{FileTables, HasTables, IsKept};
 ghost use Rattle.bank_replays.specs.Reading.{ReadsBank};
 ghost use Rattle.bank_replays.specs.Refilling.{IsNeverInDoubt, ShowsSome};
-ghost use Rattle.bank_replays.specs.Replays.{HasLookedAtRows, OnAgrees, OnDiffers, Replays, TellsTables};
+ghost use Rattle.bank_replays.specs.Replays.{AreDigestsIn, HasLookedAtRows, OnAgrees, OnDiffers, Replays, TellsTables};
 
 use crate::comparing::compare_all;
-use crate::difference::Replay;
+use crate::difference::{Agreed, Replay};
 use crate::digests::digest_all;
 use crate::fault::{ReplayFault, told};
 use crate::handed::hand_all;
+use crate::plan_digests::digest_plan;
 use crate::ram::Ram;
 use crate::refill::{Filling, Refill};
 use crate::watch::Watch;
@@ -82,8 +81,7 @@ fn replay_beside<S: Alter, T: Alter + Drop, W: Watch + Drop>(
     ensures agrees { HasCleanDisk (file_of bank.new) → (f : FileTables)
         → HasTables (database_of S.Store bank.old) f
         → OnAgrees result (λ d. (log : List Command) × ShowsLog (bank_seen S.Store bank.old) log) }
-    ensures digest { HasCleanDisk (file_of bank.new) → (all : List KeptItem)
-        → HasKept (database_of S.Store bank.old) all → OnAgrees result (IsDigestIn all) }
+    ensures digest { HasCleanDisk (file_of bank.new) → OnAgrees result (AreDigestsIn (database_of S.Store bank.old)) }
     ensures differs { HasCleanDisk (file_of bank.new) → OnDiffers result (λ d. (rows : List Entry)
         → HasStoredRows (database_of S.Store bank.old) (table_of d) rows → DiffersFrom rows d) }
 {
@@ -91,7 +89,18 @@ fn replay_beside<S: Alter, T: Alter + Drop, W: Watch + Drop>(
     if let Some(difference) = compare_all(bank, &mut due)? {
         return Ok(Replay::Differs(difference));
     }
-    Ok(Replay::Agrees(digest_all(bank)?))
+    Ok(Replay::Agrees(digest_both(bank)?))
+}
+
+// The digests of a bank.
+fn digest_both<S: Alter>(bank: &mut Bank<S>) -> Result<Agreed, Fault>
+    ensures bank { ReadsBank S.Store bank.old bank.new result }
+    ensures rows { HasCleanDisk (file_of bank.new) → IfOk result (AreDigestsIn (database_of S.Store bank.old)) }
+    ensures why { TellsWhy S.Store (λ fault. fault) bank.old bank.new result }
+{
+    let digest = digest_all(bank)?;
+    let plan = digest_plan(bank)?;
+    Ok(Agreed { digest, plan })
 }
 
 // A new bank in a store that holds nothing.
@@ -125,8 +134,7 @@ fn replay_over<S: Alter, T: Alter + Drop, W: Watch + Drop>(
     ensures agrees { HasCleanDisk (file_of bank.new) → (f : FileTables)
         → HasTables (database_of S.Store bank.old) f
         → OnAgrees result (λ d. (log : List Command) × ShowsLog (bank_seen S.Store bank.old) log) }
-    ensures digest { HasCleanDisk (file_of bank.new) → (all : List KeptItem)
-        → HasKept (database_of S.Store bank.old) all → OnAgrees result (IsDigestIn all) }
+    ensures digest { HasCleanDisk (file_of bank.new) → OnAgrees result (AreDigestsIn (database_of S.Store bank.old)) }
     ensures differs { HasCleanDisk (file_of bank.new) → OnDiffers result (λ d. (rows : List Entry)
         → HasStoredRows (database_of S.Store bank.old) (table_of d) rows → DiffersFrom rows d) }
 {
@@ -158,7 +166,7 @@ fn memory_pages(alloc: Global) -> Result<Connection<FileStore<Ram>>, Fault>
 }
 
 /// Replays a bank whose file defines its tables as a bank's are made: a second bank is made in memory and given what
-/// the file's rows say, and all tables of the two are compared. Where they agree, the requests are digested. `watch`
+/// the file's rows say, and all tables of the two are compared. Where they agree, the requests and the plan are digested. `watch`
 /// is told how far it is.
 ///
 /// # Errors
@@ -167,7 +175,7 @@ fn memory_pages(alloc: Global) -> Result<Connection<FileStore<Ram>>, Fault>
 ///
 /// | Error | What happened |
 /// |---|---|
-/// | [`Fault::Memory`] | memory was refused to the second bank |
+/// | [`Fault::Memory`] | memory was refused to the second bank, or for the floors |
 /// | [`Fault::Store`] | a read failed: the disk did, or memory or steps were refused |
 /// | [`Fault::Down`] | the bank was down, and nothing was read |
 /// | [`Fault::Damaged`] | a row can't be read: a number of it is out of its column's range, or a reference is none |
@@ -175,8 +183,8 @@ pub fn replay<S: Alter, W: Watch + Drop>(bank: &mut Bank<S>, watch: W) -> Result
     ensures agrees { TellsTables (database_of S.Store bank.old).schema result
         × ((bank_seen S.Store bank.new).honest → IsKept (database_of S.Store bank.old)
         → OnAgrees result (λ d. (log : List Command) × ShowsLog (bank_seen S.Store bank.old) log)) }
-    ensures digest { (bank_seen S.Store bank.new).honest → (all : List KeptItem)
-        → HasKept (database_of S.Store bank.old) all → OnAgrees result (IsDigestIn all) }
+    ensures digest { (bank_seen S.Store bank.new).honest
+        → OnAgrees result (AreDigestsIn (database_of S.Store bank.old)) }
     ensures differs { (bank_seen S.Store bank.new).honest → OnDiffers result (λ d. (rows : List Entry)
         → HasStoredRows (database_of S.Store bank.old) (table_of d) rows → DiffersFrom rows d) }
     ensures why { TellsWhy S.Store (λ fault. fault) bank.old bank.new result }

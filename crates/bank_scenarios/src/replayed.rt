@@ -1,5 +1,5 @@
 //! What the replay of a bank in tables says.
-use bank_replays::{Digest, OtherTable, Replay, Unwatched, replay};
+use bank_replays::{Agreed, OtherTable, Replay, Unwatched, replay};
 use bank_store::Bank;
 use sqlite::Alter;
 use std::alloc::{AllocError, Global};
@@ -14,16 +14,17 @@ fn digits_of(alloc: Global, sha256: &[u8]) -> Result<String, AllocError> {
     Ok(digits)
 }
 
-fn agreed(alloc: Global, digest: &Digest) -> Result<String, AllocError> {
-    let digits = digits_of(alloc, &digest.sha256)?;
-    let requests = digest.requests;
-    format!(in alloc; "agrees: requests {requests} digest {digits}")
+fn agreed(alloc: Global, found: &Agreed) -> Result<String, AllocError> {
+    let digits = digits_of(alloc, &found.digest.sha256)?;
+    let plan = digits_of(alloc, &found.plan)?;
+    let requests = found.digest.requests;
+    format!(in alloc; "agrees: requests {requests} digest {digits} plan {plan}")
 }
 
-/// Replays the bank, and returns how many requests it keeps and their digest, or the first difference.
+/// Replays the bank, and returns how many requests it keeps, their digest and the plan's, or the first difference.
 pub fn replayed<S: Alter>(alloc: Global, bank: &mut Bank<S>) -> Result<String, AllocError> {
     match replay(bank, Unwatched) {
-        Ok(Replay::Agrees(digest)) => agreed(alloc, &digest),
+        Ok(Replay::Agrees(found)) => agreed(alloc, &found),
         Ok(Replay::Differs(difference)) => difference.to_string(alloc),
         Ok(Replay::Otherwise(table)) => OtherTable(table).to_string(alloc),
         Err(fault) => fault.to_string(alloc),

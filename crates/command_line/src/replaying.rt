@@ -30,17 +30,18 @@ pub fn print_digest<W: Sink>(
     print_line(text.as_str(), output)
 }
 
-/// Prints the same of all requests, and that a replay agreed.
+/// Prints the same of all requests, the digest of the plan, and that a replay agreed.
 pub fn print_agreeing<W: Sink>(
     alloc: Global,
     requests: u64,
     sha256: &[u8; 32],
+    plan: &[u8; 32],
     output: &mut W,
 ) -> Result<(), CommandFault>
-    ensures { PrintsText (agreeing_lines requests sha256.now) (W.contents output.old) (W.contents output.new)
+    ensures { PrintsText (agreeing_lines requests sha256.now plan.now) (W.contents output.old) (W.contents output.new)
         (W.told output.old) (W.told output.new) result }
 {
-    let Ok(text) = agreeing_text(alloc, requests, sha256) else {
+    let Ok(text) = agreeing_text(alloc, requests, sha256, plan) else {
         return Err(CommandFault::Memory);
     };
     print_line(text.as_str(), output)
@@ -81,11 +82,19 @@ fn requests_text(alloc: Global, requests: u64) -> Result<String, AllocError>
 }
 
 // The lines of a replay that agreed.
-fn agreeing_text(alloc: Global, requests: u64, sha256: &[u8; 32]) -> Result<String, AllocError>
-    ensures { IfOk result (λ text. string_bytes text ≡ agreeing_lines requests sha256.now) }
+fn agreeing_text(
+    alloc: Global,
+    requests: u64,
+    sha256: &[u8; 32],
+    plan: &[u8; 32],
+) -> Result<String, AllocError>
+    ensures { IfOk result (λ text. string_bytes text ≡ agreeing_lines requests sha256.now plan.now) }
 {
+    let digits = hex::encode(alloc, plan)?;
     let mut text = digest_text(alloc, requests, sha256)?;
-    text.push_str("AGREES\n")?;
+    text.push_str("plan        ")?;
+    text.push_str(digits.as_str())?;
+    text.push_str("\nAGREES\n")?;
     Ok(text)
 }
 

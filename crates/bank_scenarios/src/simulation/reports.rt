@@ -2,7 +2,7 @@
 use super::asking::{End, end_of};
 use super::history::{Given, Part};
 use crate::sums::Entry;
-use bank_replays::{Replay, Unwatched, replay};
+use bank_replays::{Agreed, Replay, Unwatched, replay};
 use bank_reports::{ReportFault, audit, write_statement};
 use bank_store::Bank;
 use message_records::Account;
@@ -159,9 +159,8 @@ pub fn replay_between<S: Alter>(bank: &mut Bank<S>, first: &[Part], all: &[Part]
     let (least, _, _) = totals(first);
     let (most, _, _) = totals(all);
     match replay(bank, Unwatched) {
-        Ok(Replay::Agrees(digest)) if digest.requests >= least && digest.requests <= most => {
-            End::Done
-        }
+        Ok(Replay::Agrees(Agreed { digest, .. }))
+            if digest.requests >= least && digest.requests <= most => { End::Done }
         Ok(_) => End::Differs("a replay"),
         Err(fault) => end_of(fault),
     }

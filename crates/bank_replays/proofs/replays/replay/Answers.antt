@@ -6,7 +6,7 @@ use Rattle.bank_store.proofs.{AsFound.idle_as_found, ReadsLeave.idle_takes}
 use Rattle.store_rows.specs.Definitions.{IsOtherTable}
 use Rattle.bank_replays.proofs.{AllKept.has_tables, AskedFirst.told_tables}
 use Rattle.bank_replays.proofs.{InMemory.never_in_doubt, Digested.agrees_log, Leaves.read_leaves}
-use Rattle.bank_replays.proofs.{Leaves.read_takes, LogRows.has_kept, LogRows.kept_answered, LogRows.kept_of}
+use Rattle.bank_replays.proofs.{Leaves.read_takes}
 use Rattle.bank_replays.specs.declared.difference.Replay.TheVariants.{Otherwise}
 use Rattle.bank_replays.proofs.{SoundLogs.sound_log, Whys.err_is, Whys.why_memory, Whys.why_none}
 use Rattle.bank_replays.proofs.replays.replay.Goals as goal
@@ -20,7 +20,7 @@ tested_up tested is_down same up down = cc
 pub returns-then-is_down : goal.returns-then-is_down
 returns-then-is_down g c = record {
   agrees = (tt, λ clean kept. tt);
-  digest = λ clean all has. tt;
+  digest = λ clean. tt;
   differs = λ clean. tt;
   why = record { told = λ clean f has. sym c.is_down.ensures ∙ c.if-is_down.true };
   bank = record {
@@ -38,7 +38,7 @@ returns-in-Some g c =
     let some : c.other_table.result ≡ Some c.in-Some.table = search rules in
     record {
       agrees = (rw some at c.other_table.ensures, λ clean kept. tt);
-      digest = λ clean all has. tt;
+      digest = λ clean. tt;
       differs = λ clean. tt;
       why = why_none (Otherwise c.in-Some.table);
       bank = record {
@@ -56,7 +56,7 @@ returns-in_err-pages g c =
     let same : c.from_residual.result ≡ Err c.in_err-pages.field-0.0 = search rules in
     record {
       agrees = (rw same tt, λ clean kept. rw same tt);
-      digest = λ clean all has. rw same tt;
+      digest = λ clean. rw same tt;
       differs = λ clean. rw same tt;
       why = rw same (why_memory c.in_err-pages.field-0.0 c.in_err-pages.ensures.memory);
       bank = record {
@@ -91,9 +91,7 @@ returns g c =
       why = says.why;
       bank = record {
         log = λ clean log shows.
-            agrees_log (kept_of db shows.tables log shows.are shows.shows) _
-            (kept_answered db shows.tables log shows.are shows.shows) _
-            (says.digest clean _ (has_kept db shows.tables log shows.are shows.shows));
+            agrees_log db log shows.tables shows.are shows.shows _ (says.digest clean);
         sound = λ rule is clean log shows.
             sound_log clean log shows c.replay_over.result (Damaged rule) says.why is rule refl;
         takes = read_takes _ says.bank;

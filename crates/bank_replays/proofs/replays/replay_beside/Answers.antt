@@ -3,9 +3,9 @@
 use Rattle.std.proofs.Common.{rules, ◌≡◌, Err, refl, sym, subst}
 use Rattle.sqlite.specs.Effect.{Database}
 use Rattle.bank_store.specs.believed.Seen.{connection_of, file_of}
-use Rattle.walked_rows.specs.KeptRows.{HasKept}
 use Rattle.walked_rows.specs.Rows.{HasStoredRows}
 use Rattle.bank_replays.specs.{Differences.rows_of, Differences.table_of, FileTables.SameTables, FileTables.rows_due}
+use Rattle.bank_replays.specs.Replays.{AreDigestsIn}
 use Rattle.bank_replays.proofs.{AllTables.has_rows_of, Tables.due_tables}
 use Rattle.bank_replays.proofs.{Read.clean_before, Read.read_any, Read.read_fails, Read.read_then, Tables.same_log}
 use Rattle.bank_replays.proofs.Whys.{why_err, why_none, why_then}
@@ -19,7 +19,7 @@ returns-in_err-due g c =
       why = rw same (why_err c.in_err-due.field-0.0 c.in_err-due.field-0.0 refl c.in_err-due.ensures.why);
       compared = rw same tt;
       agrees = λ clean f has. rw same tt;
-      digest = λ clean all has. rw same tt;
+      digest = λ clean. rw same tt;
       differs = λ clean. rw same tt;
     }
 
@@ -33,7 +33,7 @@ returns-in_err-difference g c =
           (why_then c.in_ok-due.ensures.bank c.in_err-difference.ensures.bank c.in_err-difference.ensures.why));
       compared = rw same tt;
       agrees = λ clean f has. rw same tt;
-      digest = λ clean all has. rw same tt;
+      digest = λ clean. rw same tt;
       differs = λ clean. rw same tt;
     }
 
@@ -47,7 +47,7 @@ returns-in-Some g c =
       why = why_none _;
       compared = tt;
       agrees = λ clean f has. tt;
-      digest = λ clean all has. tt;
+      digest = λ clean. tt;
       differs = λ clean rows has.
           let earlier = clean_before compared.bank clean in
           let it = filled.shows c.requires.shows (sure (connection_of c.in_ok-due.due)) in
@@ -64,20 +64,20 @@ returns-in-Some g c =
           };
     }
 
-pub returns-in_err-digest_all : goal.returns-in_err-digest_all
-returns-in_err-digest_all g c =
-    let fault = c.in_err-digest_all.field-0.0 in
-    let same : c.from_residual-in_err-digest_all.result ≡ Err fault = search rules in
+pub returns-in_err-digest_both : goal.returns-in_err-digest_both
+returns-in_err-digest_both g c =
+    let fault = c.in_err-digest_both.field-0.0 in
+    let same : c.from_residual-in_err-digest_both.result ≡ Err fault = search rules in
     record {
       bank = rw same (read_fails fault
           (read_then (read_then c.in_ok-due.ensures.bank c.in_ok-difference.ensures.bank)
-          c.in_err-digest_all.ensures.bank));
+          c.in_err-digest_both.ensures.bank));
       why = rw same (why_err fault fault refl
-          (why_then (read_then c.in_ok-due.ensures.bank c.in_ok-difference.ensures.bank) c.in_err-digest_all.ensures.bank
-          c.in_err-digest_all.ensures.why));
+          (why_then (read_then c.in_ok-due.ensures.bank c.in_ok-difference.ensures.bank) c.in_err-digest_both.ensures.bank
+          c.in_err-digest_both.ensures.why));
       compared = rw same tt;
       agrees = λ clean f has. rw same tt;
-      digest = λ clean all has. rw same tt;
+      digest = λ clean. rw same tt;
       differs = λ clean. rw same tt;
     }
 
@@ -85,7 +85,7 @@ pub returns : goal.returns
 returns g c =
     let filled = c.in_ok-due.ensures in
     let compared = c.in_ok-difference.ensures in
-    let digested = c.in_ok-digest_all.ensures in
+    let digested = c.in_ok-digest_both.ensures in
     let both = read_then filled.bank compared.bank in
     let sure = c.requires.clean.clean in
     record {
@@ -100,8 +100,7 @@ returns g c =
           (compared.same before (sure (connection_of c.compare_all.new.due)) (rw c.in_default.is refl)) in
           let it = filled.shows c.requires.shows (sure (connection_of c.in_ok-due.due)) in
           (it.0, same_log (file_of c.args.bank.now) due _ _ f has same it.0 it.1);
-      digest = λ clean all has.
-          digested.rows clean all
-          (subst (λ (d : Database). HasKept d all) (sym (both.still (clean_before digested.bank clean)).0) has);
+      digest = λ clean.
+          subst AreDigestsIn (both.still (clean_before digested.bank clean)).0 (digested.rows clean);
       differs = λ clean. tt;
     }

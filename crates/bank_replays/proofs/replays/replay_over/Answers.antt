@@ -11,6 +11,6 @@ returns-in_err-due g c =
       why = rw same (why_memory c.in_err-due.field-0.0 c.in_err-due.ensures.memory);
       compared = rw same tt;
       agrees = λ clean f has. rw same tt;
-      digest = λ clean all has. rw same tt;
+      digest = λ clean. rw same tt;
       differs = λ clean. rw same tt;
     }
