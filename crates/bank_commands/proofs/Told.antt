@@ -231,6 +231,7 @@ tells_idle (commands.Follow file plan) f r w has = tt
 tells_idle (commands.Plan file) f r w has = tt
 tells_idle (commands.Serve file address connections) f r w has = inl (Keeps-refl w)
 tells_idle (commands.Migrate file) f r w has = inl ((f, refl), Keeps-refl w)
+tells_idle (commands.Why file) f r w has = inl ((f, refl), Keeps-refl w)
 tells_idle commands.Encode f r w has = absurd has
 tells_idle (commands.Decode money) f r w has = absurd has
 
@@ -360,5 +361,7 @@ told_is_not_usage (commands.Plan file) r r' w w' status told = done_is_not_usage
 told_is_not_usage (commands.Serve file address connections) r r' w w' status told = done_is_not_usage status told.0
 told_is_not_usage (commands.Migrate file) r r' w w' status (inl none) = not_a_fault status _ none.0.1
 told_is_not_usage (commands.Migrate file) r r' w w' status (inr told) = done_is_not_usage status told.1.0
+told_is_not_usage (commands.Why file) r r' w w' status (inl none) = not_a_fault status _ none.0.1
+told_is_not_usage (commands.Why file) r r' w w' status (inr told) = done_is_not_usage status told.0
 told_is_not_usage commands.Encode r r' w w' status told = encoded_is_not_usage told.sheet status told.ended
 told_is_not_usage (commands.Decode money) r r' w w' status told = decoded_is_not_usage told.replies status told.ended

@@ -32,7 +32,7 @@ use Rattle.store_rows.specs.declared.metas.TheConstants.{VERSION}
 use Rattle.command_line.specs.Auditing.{Prints}
 use Rattle.command_line.specs.Faults.{IsOfFile, fault_of_bank, fault_of_stream}
 use Rattle.command_line.specs.Lines.{already_line, created_line, driven_line, listening_line, loaded_line}
-use Rattle.command_line.specs.Lines.{migrated_line}
+use Rattle.command_line.specs.Lines.{migrated_line, usable_line}
 use Rattle.command_line.specs.Statuses.{status_of_loaded}
 use Rattle.command_line.specs.Working.{DrivesOver, LoadsOver, ServesOver}
 use Rattle.command_line.specs.declared.fault.CommandFault.{CommandFault}
@@ -119,6 +119,12 @@ abbrev pub AuditsOver : {S : Type 0} (g : Ghosts S) → (conn back : Held S) →
 AuditsOver g conn back w w' told =
     FindsOver g conn back told (w' ≡ w)
     (λ old new. (found : Result Audit Fault) × Prints found w w' told × AuditsBank g found old new)
+
+-- a bank was found, and nothing was done with it
+abbrev pub LooksOver : {S : Type 0} (g : Ghosts S) → (conn back : Held S) → (w w' : Option (List ℕ))
+    → Result Status CommandFault → Type 0
+LooksOver g conn back w w' told =
+    FindsOver g conn back told (w' ≡ w) (λ old new. (new ≡ old) × TellsLine w w' usable_line told)
 
 -- how a statement of this account ends the command
 abbrev pub stated_by : ℕ → Result (Unit {0}) ReportFault → Result Status CommandFault

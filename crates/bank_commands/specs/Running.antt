@@ -17,7 +17,7 @@ use Rattle.bank_replays.specs.declared.difference.Replay.{Replay}
 use Rattle.command_line.specs.Auditing.{Prints}
 use Rattle.command_line.specs.CommandLine.{bank_app}
 use Rattle.command_line.specs.Faults.{status_of}
-use Rattle.command_line.specs.Lines.{IsHelpOrVersion, created_line, fault_line}
+use Rattle.command_line.specs.Lines.{IsHelpOrVersion, created_line, fault_line, usable_line}
 use Rattle.command_line.specs.Prompting.{prompt_line}
 use Rattle.command_line.specs.Translating.{DecodesReplies, EncodesSheet}
 use Rattle.command_line.specs.Words.{IsReadFrom}
@@ -26,8 +26,9 @@ use Rattle.command_line.specs.declared.reading.Command.{Command}
 use Rattle.command_line.specs.declared.reading.Command.TheVariants as commands
 use Rattle.command_line.specs.declared.status.Status.{Status}
 use Rattle.command_line.specs.declared.status.Status.TheVariants.{Done, System}
-use Rattle.bank_commands.specs.Commands.{AuditsOver, DrivesBank, EndsPost, Inits, Loads, Migrates, Posts, Serves}
-use Rattle.bank_commands.specs.Commands.{PrintsDrive, PrintsLoad, PrintsServe, StatesOver, TellsLine, migration_line}
+use Rattle.bank_commands.specs.Commands.{AuditsOver, DrivesBank, EndsPost, Inits, Loads, LooksOver, Migrates, Posts}
+use Rattle.bank_commands.specs.Commands.{PrintsDrive, PrintsLoad, PrintsServe, Serves, StatesOver, TellsLine}
+use Rattle.bank_commands.specs.Commands.{migration_line}
 use Rattle.bank_commands.specs.Following.{Follows, LogsOver, PrintsFollow}
 use Rattle.bank_commands.specs.Replaying.{DigestsOver, ExportsOver, PlansOver, PrintsDigest, PrintsReplay}
 use Rattle.bank_commands.specs.Replaying.{ReplaysOver}
@@ -76,6 +77,7 @@ DoesOver g conn back IsNamed known r r' w w' k k' (commands.Follow file plan) to
 DoesOver g conn back IsNamed known r r' w w' k k' (commands.Plan file) told =
     PlansOver g conn back w w' None None told
 DoesOver g conn back IsNamed known r r' w w' k k' (commands.Migrate file) told = Migrates g conn back w w' told
+DoesOver g conn back IsNamed known r r' w w' k k' (commands.Why file) told = LooksOver g conn back w w' told
 DoesOver g conn back IsNamed known r r' w w' k k' commands.Encode told =
     (back ≡ conn) × EncodesSheet r r' None None w w' None None told
 DoesOver g conn back IsNamed known r r' w w' k k' (commands.Decode money) told =
@@ -107,6 +109,7 @@ Tells (commands.Plan file) r r' w w' told = IfOk told (λ status. status ≡ Don
 Tells (commands.Serve file address connections) r r' w w' told = PrintsServe w w' told
 Tells (commands.Migrate file) r r' w w' told =
     PrintsNone w w' told ((migrated : Migrated) × TellsLine w w' (migration_line migrated) told)
+Tells (commands.Why file) r r' w w' told = PrintsNone w w' told (TellsLine w w' usable_line told)
 Tells commands.Encode r r' w w' told = EncodesSheet r r' None None w w' None None told
 Tells (commands.Decode money) r r' w w' told = DecodesReplies money r r' None None w w' None None told
 

@@ -7,7 +7,7 @@ ghost use Rattle.bank_commands.specs.Running.{DoesOver, LeavesClock, LeavesInput
 use crate::ended::Ended;
 use crate::{
     audit_over, digest_over, drive_over, export_over, follow_over, init_over, load_over, log_over,
-    migrate_over, plan_over, post_over, replay_over, serve_over, statement_over,
+    migrate_over, plan_over, post_over, replay_over, serve_over, statement_over, why_over,
 };
 use bank_replays::Watch;
 use branch_loader::FollowWatch;
@@ -79,6 +79,7 @@ pub fn command_over<
             serve_over(alloc, conn, network, address, most, watch, output, clock)
         }
         Command::Migrate { .. } => migrate_over(alloc, conn, output),
+        Command::Why { .. } => why_over(alloc, conn, output),
         Command::Encode => Ended {
             told: translate_sheet(alloc, input, output),
             conn,

@@ -1,30 +1,40 @@
 //! A command over the files of a bank. **Not verified, review by hand**: no clause ties a connection to the path that it
 //! was opened at, and none can name a closed file, so that the contract says only how a command ends and what it prints. All that is done with the bank is done by [`command_over`].
+ghost use Rattle.std.specs.Prelude.{◌≡◌, false, IfSome};
+ghost use Rattle.command_line.specs.Lines.{usable_line};
 ghost use Rattle.command_line.specs.Words.{AreInRange};
-ghost use Rattle.bank_commands.specs.Running.{LeavesClock, LeavesInput, Tells};
+ghost use Rattle.bank_commands.specs.Commands.{TellsLine};
+ghost use Rattle.bank_commands.specs.Running.{LeavesClock, LeavesInput, PrintsNone, Tells};
 
 use crate::command::command_over;
 use crate::ended::Ended;
+use crate::opened::tell_opened;
 use crate::progress::Progress;
+use crate::reasons::look_into;
+use crate::reports::why_over;
 use bank_files::open;
 use command_line::{Command, CommandFault, Plans, Status, translate_replies, translate_sheet};
 use posting_core::{Clock, SystemClock};
-use sqlite::Start;
+use sqlite::{Connection, Error, ErrorCode, FileFrom, FileStore, Start};
 use std::alloc::Global;
+use std::cell::Cell;
 use std::fs::{self, File};
 use std::io::{IsTerminal, Read, Write};
+use std::time::Instant;
 
 /// The machine that a run is on, with its files, its network and its memory. Only this file reaches them.
 #[derive(Drop)]
 pub struct Machine<'r, S> {
     rt: &'r HostRuntime,
     start: S,
+    is_full: &'r Cell<bool>,
 }
 
 impl<'r, S: Start> Machine<'r, S> {
-    /// The machine of a program, of whose files `start` says what is known.
-    pub fn new(rt: &'r HostRuntime, start: S) -> Machine<'r, S> {
-        Machine { rt, start }
+    /// The machine of a program, of whose files `start` says what is known. `is_full` is set where a write of the run
+    /// finds no room.
+    pub fn new(rt: &'r HostRuntime, start: S, is_full: &'r Cell<bool>) -> Machine<'r, S> {
+        Machine { rt, start, is_full }
     }
 
     /// Its memory.
@@ -70,10 +80,11 @@ pub(crate) fn command_in<S: Start, R: Read, W: Write, K: Clock>(
     ensures input { LeavesInput command.now (R.remaining input.old) (R.remaining input.new) }
     ensures clock { LeavesClock command.now (K.readings clock.old) (K.readings clock.new) }
 {
-    let Machine { rt, start } = machine;
+    let Machine { rt, start, is_full } = machine;
     let (file, finds_bank) = match *command {
         Command::Encode => return translate_sheet(rt.alloc(), input, output),
         Command::Decode { money } => return translate_replies(rt.alloc(), money, input, output),
+        Command::Why { file } => return why_in(rt, file, output),
         Command::Init { file } => (file, false),
         Command::Load { file, .. }
         | Command::Post { file }
@@ -92,9 +103,12 @@ pub(crate) fn command_in<S: Start, R: Read, W: Write, K: Clock>(
     if finds_bank {
         look_for(rt, file)?;
     }
-    let Ok(conn) = open(rt, file, start) else {
+    spare_others(rt, file)?;
+    let begun = Instant::now(rt).ok();
+    let Some(mut conn) = opened(rt, file, start, is_full) else {
         return Err(CommandFault::Store);
     };
+    tell_opened(rt, command, file, &mut conn, begun);
     let watch = Progress::new(rt.stderr(), rt.stderr().is_terminal(), SystemClock::new(rt));
     let Ended { told, conn } = command_over(
         rt.alloc(),
@@ -107,11 +121,48 @@ pub(crate) fn command_in<S: Start, R: Read, W: Write, K: Clock>(
         output,
         clock,
     );
-    // What was committed is kept even if this fails, so that no fault is reported.
-    if let Err((_, store)) = conn.close_files() {
-        drop(store.close());
-    }
+    close(conn, is_full);
     told
+}
+
+// The connection to a file; none where it can't be opened, with a note if the disk is full.
+fn opened<S: Start>(
+    rt: &HostRuntime,
+    file: &str,
+    start: S,
+    is_full: &Cell<bool>,
+) -> Option<Connection<FileStore<FileFrom<S>>>>
+    ensures { IfSome result (λ conn. conn.in_transaction ≡ false) }
+{
+    match open(rt, file, start) {
+        Ok(conn) => Some(conn),
+        Err(error) => {
+            is_full.set(error == Error::SqliteFailure(ErrorCode::DiskFull));
+            None
+        }
+    }
+}
+
+// Closes the files, with a note if a write found no room. What was committed is kept even if this fails, so that no
+// fault is reported.
+fn close<S: Start>(conn: Connection<FileStore<FileFrom<S>>>, is_full: &Cell<bool>) {
+    let tally = match conn.close_files() {
+        Ok(files) => files.tally(),
+        Err((_, store)) => store.close().tally(),
+    };
+    is_full.set(tally.refused > 0);
+}
+
+// Says whether the file's bank can be used, and changes no file.
+fn why_in<W: Write>(rt: &HostRuntime, file: &str, output: &mut W) -> Result<Status, CommandFault>
+    ensures { PrintsNone (W.contents output.old) (W.contents output.new) result
+        (TellsLine (W.contents output.old) (W.contents output.new) usable_line result) }
+{
+    look_for(rt, file)?;
+    let Ok(conn) = look_into(rt, file) else {
+        return Err(CommandFault::Store);
+    };
+    why_over(rt.alloc(), conn, output).told
 }
 
 // Looks whether a bank can be in the file: it holds more than a byte, or there is a log beside it that holds
@@ -127,6 +178,29 @@ fn look_for(rt: &HostRuntime, file: &str) -> Result<(), CommandFault> {
         return Ok(());
     }
     Err(CommandFault::NoBank)
+}
+
+// Looks whether the file can hold a database: one of more than a byte, with no log, begins as such. An open would put a
+// log beside any other.
+fn spare_others(rt: &HostRuntime, file: &str) -> Result<(), CommandFault> {
+    let Ok(log) = format!(in rt.alloc(); "{file}-wal") else {
+        return Err(CommandFault::Memory);
+    };
+    let (Ok(found), Err(_)) = (fs::metadata(rt, file), fs::metadata(rt, log.as_str())) else {
+        return Ok(());
+    };
+    if found.len() > 1 && !begins_as_database(rt, file) {
+        return Err(CommandFault::Store);
+    }
+    Ok(())
+}
+
+fn begins_as_database(rt: &HostRuntime, file: &str) -> bool {
+    let mut first = [0u8; 16];
+    match fs::open(rt, file) {
+        Ok(mut file) => file.read_exact(&mut first).is_ok() && first == *b"SQLite format 3\0",
+        Err(_) => false,
+    }
 }
 
 // The length of a file that is there.

@@ -4,7 +4,7 @@
 //! [`statement_over`] writes the postings of an account, [`replay_over`] says whether the tables are what the rules give,
 //! [`digest_over`] prints the digest of the first requests, [`export_over`] writes the requests as records, [`log_over`]
 //! as entries of a log and [`plan_over`] the branches as a plan, [`follow_over`] takes a bank along the log of another
-//! one, and [`migrate_over`] carries over a bank of an older version.
+//! one, [`migrate_over`] carries over a bank of an older version, and [`why_over`] says that a bank can be used.
 //! Each but `init_over` finds the bank that is there. Each hands the connection back, also where there is no bank.
 //! `encode` and `decode` have no function here: they need no bank, and are `translate_sheet` and `translate_replies` of
 //! `command_line`.
@@ -62,6 +62,7 @@ mod ended;
 mod files;
 mod following;
 mod migration;
+mod opened;
 mod progress;
 mod reasons;
 mod replaying;
@@ -77,6 +78,6 @@ pub use following::{follow_over, log_over};
 pub use migration::migrate_over;
 pub use reasons::tell_reason;
 pub use replaying::{digest_over, export_over, plan_over, replay_over};
-pub use reports::{audit_over, statement_over};
+pub use reports::{audit_over, statement_over, why_over};
 pub use running::{run, words_of};
 pub use serving::serve_over;

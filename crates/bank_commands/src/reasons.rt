@@ -1,26 +1,41 @@
 //! Why a file can't be used as a bank's, as well as the system tells. **Not verified, review by hand**: no clause says
-//! what a machine answers. It writes to standard error alone, and opens the file as a command does.
+//! what a machine answers. It writes to standard error alone, and changes no file: what a file holds is looked at in
+//! copies of it and of its log, in memory.
+ghost use Rattle.std.specs.Prelude.{◌≡◌, false, IfOk, IsTrue};
+ghost use Rattle.sqlite_disk.specs.Memory.{memory_is_usable};
 
 use bank_files::open_over;
 use command_line::{Command, Status, read_words};
-use sqlite::{Error, Unknown};
+use sqlite::{Connection, Error, ErrorCode, FileStore, Files, Options, Unknown};
+use sqlite_disk::{Disk, Memory};
+use sqlite_pager::Pager;
 use sqlite_std_file::OpenError;
-use std::fs::{self, Metadata};
-use std::io::{self, IsTerminal, Read, Write};
+use sqlite_store::Unopened;
+use sqlite_value::row::Row;
+use sqlite_value::value::ValueRef;
+use sqlite_wal::probe_page_size;
+use std::alloc::{AllocError, Global};
+use std::fs::{self, Metadata, OpenOptions};
+use std::io::{self, ErrorKind, IsTerminal, Write};
+use std::os::fd::AsRawFd;
 use std::os::unix::fs::MetadataExt;
 use std::{env, fmt};
 
 /// What is wrong with a file.
-#[derive(Clone, Copy, Debug)]
-enum Reason {
+#[derive(Debug, Drop)]
+pub(crate) enum Reason {
     System(io::Error),
+    Full,
+    Missing,
     Folder,
     Names(u64),
+    ReadOnly,
     NoDatabase,
     Encoding,
     AutoVacuum,
     Opening(OpenError),
     Database(Error),
+    Object(String),
 }
 
 impl From<io::Error> for Reason {
@@ -29,15 +44,9 @@ impl From<io::Error> for Reason {
     }
 }
 
-impl From<OpenError> for Reason {
-    fn from(error: OpenError) -> Reason {
-        Reason::Opening(error)
-    }
-}
-
-impl From<Error> for Reason {
-    fn from(error: Error) -> Reason {
-        Reason::Database(error)
+impl From<AllocError> for Reason {
+    fn from(_: AllocError) -> Reason {
+        Reason::Opening(OpenError::OutOfMemory)
     }
 }
 
@@ -45,24 +54,34 @@ impl fmt::Display for Reason {
     fn fmt<W: fmt::Write>(&self, f: &mut fmt::Formatter<W>) -> fmt::Result {
         match self {
             Reason::System(error) => write!(f, "{error}"),
+            Reason::Full => f.write_str("the disk is full"),
+            Reason::Missing => f.write_str("it can't be made: look at its folder"),
             Reason::Folder => f.write_str("it is a folder"),
             Reason::Names(count) => write!(
                 f,
                 "it has {count} names (hard links), and may have one"
+            ),
+            Reason::ReadOnly => f.write_str(
+                "it may only be read: copy it and its -wal, and read the copies",
             ),
             Reason::NoDatabase => f.write_str("it is no SQLite database"),
             Reason::Encoding => f.write_str("it is a database in UTF-16"),
             Reason::AutoVacuum => f.write_str("it is a database with auto_vacuum"),
             Reason::Opening(error) => write!(f, "{error}"),
             Reason::Database(error) => write!(f, "{error}"),
+            Reason::Object(name) => write!(
+                f,
+                "it has something that this program can't read: {name}"
+            ),
         }
     }
 }
 
 /// Where a run ended as it does at a store fault, says in a line on standard error what is wrong with the command's
-/// file, if anybody asks: standard error is a terminal, or the environment has `BANK_WHY`.
-pub fn tell_reason(rt: &HostRuntime, status: Status, words: &[String]) {
-    if status != Status::System || !is_asked(rt) {
+/// file, if anybody asks: by `why`, at a terminal, or by `BANK_WHY` in the environment. `is_full` says whether a write
+/// of the run found no room.
+pub fn tell_reason(rt: &HostRuntime, status: Status, words: &[String], is_full: bool) {
+    if status != Status::System {
         return;
     }
     let Ok(command) = read_words(rt.alloc(), words) else {
@@ -71,14 +90,18 @@ pub fn tell_reason(rt: &HostRuntime, status: Status, words: &[String]) {
     let Some(file) = file_of(&command) else {
         return;
     };
+    if !matches!(command, Command::Why { .. }) && !is_asked(rt) {
+        return;
+    }
     let mut faults = rt.stderr();
-    let _ = match look_into(rt, file) {
-        Ok(()) => writeln!(faults, "bank: {file}: it can be opened now"),
-        Err(reason) => writeln!(faults, "bank: {file}: {reason}"),
+    let _ = match reason_of(rt, file, is_full) {
+        None => writeln!(faults, "bank: {file}: it can be opened now"),
+        Some(reason) => writeln!(faults, "bank: {file}: {reason}"),
     };
 }
 
-fn is_asked(rt: &HostRuntime) -> bool {
+/// Whether more than a fault's line is wanted on standard error.
+pub(crate) fn is_asked(rt: &HostRuntime) -> bool {
     rt.stderr().is_terminal() || env::var(rt, "BANK_WHY").is_ok()
 }
 
@@ -98,23 +121,47 @@ fn file_of<'a>(command: &Command<'a>) -> Option<&'a str> {
         | Command::Digest { file, .. }
         | Command::Export { file, .. }
         | Command::Log { file, .. }
-        | Command::Plan { file } => Some(file),
+        | Command::Plan { file }
+        | Command::Why { file } => Some(file),
     }
 }
 
-// Whether a file can be used as a bank's. It is opened only where its first bytes are those of a database, since an open
-// puts a log beside it.
-fn look_into(rt: &HostRuntime, path: &str) -> Result<(), Reason> {
-    look_at(&fs::metadata(rt, path)?)?;
-    if let Some(header) = header_of(rt, path)? {
-        look_at_header(&header)?;
-        let files = sqlite_std_file::open(rt, path, Unknown)?;
-        open_over(rt.alloc(), files, 0)?.close()?;
+fn reason_of(rt: &HostRuntime, file: &str, is_full: bool) -> Option<Reason> {
+    if is_full {
+        return Some(Reason::Full);
     }
-    Ok(())
+    match look_into(rt, file) {
+        Ok(_) => None,
+        Err(reason) => Some(reason),
+    }
 }
 
-fn look_at(found: &Metadata) -> Result<(), Reason> {
+/// A connection to the file's database in memory, if the file can be used as a bank's.
+pub(crate) fn look_into(
+    rt: &HostRuntime,
+    path: &str,
+) -> Result<Connection<FileStore<Memory>>, Reason>
+    ensures { IfOk result (λ conn. conn.in_transaction ≡ false) }
+{
+    look_at(rt, path)?;
+    let log = format!(in rt.alloc(); "{path}-wal")?;
+    if length_of(rt, log.as_str())? == 0 {
+        look_at_header(fs::read(rt, path)?.as_slice())?;
+    }
+    look_for_others(rt, path, log.as_str())?;
+    match open_over(rt.alloc(), copies(rt, path, log.as_str())?, 0) {
+        Ok(conn) => Ok(conn),
+        Err(error) => Err(why_refused(rt, path, log.as_str(), error)?),
+    }
+}
+
+// What its entry in its folder tells.
+fn look_at(rt: &HostRuntime, path: &str) -> Result<(), Reason> {
+    let found: Metadata = match fs::metadata(rt, path) {
+        Ok(found) => found,
+        Err(error) if error.kind() == ErrorKind::NotFound => return Err(Reason::Missing),
+        Err(error) => return Err(Reason::System(error)),
+    };
     if found.is_dir() {
         return Err(Reason::Folder);
     }
@@ -124,24 +171,121 @@ fn look_at(found: &Metadata) -> Result<(), Reason> {
     }
 }
 
-// The header of a database, where the file has so many bytes.
-fn header_of(rt: &HostRuntime, path: &str) -> io::Result<Option<[u8; 100]>> {
-    let mut file = fs::open(rt, path)?;
-    let mut header = [0u8; 100];
-    match file.read_exact(&mut header) {
-        Ok(()) => Ok(Some(header)),
-        Err(_) => Ok(None),
+// The length of a file, which is 0 where there is none.
+fn length_of(rt: &HostRuntime, path: &str) -> io::Result<u64> {
+    match fs::metadata(rt, path) {
+        Ok(found) => Ok(found.len()),
+        Err(error) if error.kind() == ErrorKind::NotFound => Ok(0),
+        Err(error) => Err(error),
     }
 }
 
-fn look_at_header(header: &[u8; 100]) -> Result<(), Reason> {
-    if !header.starts_with(b"SQLite format 3\0") {
+// What a file with no log begins with.
+fn look_at_header(bytes: &[u8]) -> Result<(), Reason> {
+    if bytes.len() < 100 || !bytes.starts_with(b"SQLite format 3\0") {
         Err(Reason::NoDatabase)
-    } else if header[59] > 1 {
+    } else if bytes[59] > 1 {
         Err(Reason::Encoding)
-    } else if header[52..56] != [0, 0, 0, 0] {
+    } else if bytes[52..56] != [0, 0, 0, 0] {
         Err(Reason::AutoVacuum)
     } else {
         Ok(())
     }
+}
+
+// Whether it may be written, and nobody else has it open. Where its log is there, no file is made by an open.
+fn look_for_others(rt: &HostRuntime, path: &str, log: &str) -> Result<(), Reason> {
+    let file = match OpenOptions::new().read(true).write(true).open(rt, path) {
+        Ok(file) => file,
+        Err(error) => return Err(unwritable(error)),
+    };
+    if fs::metadata(rt, log).is_err() {
+        return match os::try_lock_range(file.as_raw_fd(), os::RangeLock::Exclusive, 1 << 30, 512) {
+            0 => Ok(()),
+            _ => Err(Reason::Opening(OpenError::Busy)),
+        };
+    }
+    match sqlite_std_file::open(rt, path, Unknown) {
+        Ok(_) => Ok(()),
+        Err(OpenError::Io(error)) => Err(unwritable(error)),
+        Err(error) => Err(Reason::Opening(error)),
+    }
+}
+
+fn unwritable(error: io::Error) -> Reason {
+    match error.kind() {
+        ErrorKind::PermissionDenied | ErrorKind::ReadOnlyFilesystem => Reason::ReadOnly,
+        _ => Reason::System(error),
+    }
+}
+
+// The file and its log, copied into memory.
+fn copies(rt: &HostRuntime, path: &str, log: &str) -> Result<Files<Memory>, Reason>
+    ensures log { IfOk result (λ files. IsTrue (memory_is_usable files.log)) }
+    ensures db { IfOk result (λ files. IsTrue (memory_is_usable files.db)) }
+{
+    let log = if length_of(rt, log)? == 0 {
+        Memory::new(rt.alloc())
+    } else {
+        copy_of(rt, log)?
+    };
+    Ok(Files {
+        log,
+        db: copy_of(rt, path)?,
+    })
+}
+
+fn copy_of(rt: &HostRuntime, path: &str) -> Result<Memory, Reason>
+    ensures { IfOk result (λ copy. IsTrue (memory_is_usable copy)) }
+{
+    let bytes = fs::read(rt, path)?;
+    let mut copy = Memory::new(rt.alloc());
+    copy.write_at(0, bytes.as_slice())?;
+    copy.sync()?;
+    Ok(copy)
+}
+
+// Why the copies hold no database: an object of its schema, if it is one.
+fn why_refused(rt: &HostRuntime, path: &str, log: &str, error: Error) -> Result<Reason, Reason> {
+    if error != Error::SqliteFailure(ErrorCode::NotADatabase) {
+        return Ok(Reason::Database(error));
+    }
+    match refused_object(rt.alloc(), copies(rt, path, log)?) {
+        Some(name) => Ok(Reason::Object(name)),
+        None => Ok(Reason::Database(error)),
+    }
+}
+
+// The name of the first object of the schema that can't be made by its text.
+fn refused_object(alloc: Global, mut files: Files<Memory>) -> Option<String>
+    requires log { IsTrue (memory_is_usable files.log) }
+    requires db { IsTrue (memory_is_usable files.db) }
+{
+    let size = probe_page_size(&mut files).ok()??;
+    let pager = Pager::new(alloc, files, size, Options::new(0)).ok()?;
+    let mut unopened = Unopened::new(alloc, pager, &[]).ok()?;
+    let rows = unopened.read_catalog().ok()?;
+    let mut conn = Connection::open_in_memory(alloc).ok()?;
+    for row in rows.as_slice() {
+        if let Some((name, text)) = object_of(row) {
+            if conn.execute_batch(text).is_err() {
+                return format!(in alloc; "{name}").ok();
+            }
+        }
+    }
+    None
+}
+
+// The name of a row of the schema, and the text that makes it; none for what SQLite makes by itself.
+fn object_of(row: &Row) -> Option<(&str, &str)> {
+    let (ValueRef::Text(name), ValueRef::Text(text)) = (row.get(2), row.get(5)) else {
+        return None;
+    };
+    if name.starts_with(b"sqlite_") {
+        return None;
+    }
+    Some((
+        std::str::from_utf8(name).ok()?,
+        std::str::from_utf8(text).ok()?,
+    ))
 }

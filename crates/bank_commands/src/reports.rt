@@ -1,11 +1,12 @@
-//! The commands that audit a bank, and that write the statement of an account.
+//! The commands that audit a bank, that write the statement of an account, and that say that a bank can be used.
 ghost use Rattle.std.specs.Prelude.{◌≡◌, IsErrOf, false};
 ghost use Rattle.posting_core.specs.Told.{HasWriteFailed};
-ghost use Rattle.bank_commands.specs.Commands.{AuditsOver, StatesOver, stated_by};
+ghost use Rattle.bank_commands.specs.Commands.{AuditsOver, LooksOver, StatesOver, stated_by};
 
+use crate::commands::done;
 use crate::ended::{Ended, find};
 use bank_reports::{ReportFault, audit, write_statement};
-use command_line::{CommandFault, Status, print_audit};
+use command_line::{CommandFault, Status, print_audit, print_usable};
 use message_records::Account;
 use posting_core::Sink;
 use sqlite::{Alter, Connection};
@@ -53,6 +54,30 @@ pub fn statement_over<S: Alter + Drop, W: Sink>(
         Err(ended) => return ended,
     };
     let told = stated(account, write_statement(&mut bank, account, output));
+    Ended {
+        told,
+        conn: bank.release(),
+    }
+}
+
+/// Prints that the bank can be used, where one is found.
+pub fn why_over<S: Alter + Drop, W: Sink>(
+    alloc: Global,
+    conn: Connection<S>,
+    output: &mut W,
+) -> Ended<S>
+    requires { conn.in_transaction ≡ false }
+    ensures looks { LooksOver S.Store conn result.conn (W.contents output.old) (W.contents output.new)
+        result.told }
+    ensures unprinted { IsErrOf result.told CommandFault.Write
+        → HasWriteFailed (W.told output.old) (W.told output.new) }
+    ensures idle { result.conn.in_transaction ≡ false }
+{
+    let bank = match find(alloc, conn) {
+        Ok(bank) => bank,
+        Err(ended) => return ended,
+    };
+    let told = done(print_usable(output));
     Ended {
         told,
         conn: bank.release(),

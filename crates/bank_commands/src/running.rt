@@ -9,13 +9,15 @@
 //! use command_line::{Status, tell_no_words};
 //! use posting_core::SystemClock;
 //! use sqlite::{Start, Unknown};
+//! use std::cell::Cell;
 //! use std::io::IsTerminal;
 //! use std::process::ExitCode;
 //!
 //! // A run on these words between the standard streams, whatever the files hold.
 //! fn run_on<S: Start>(rt: &HostRuntime, start: S, words: &[String]) -> Status {
+//!     let is_full = Cell::new(false);
 //!     let status = run(
-//!         Machine::new(rt, start),
+//!         Machine::new(rt, start, &is_full),
 //!         words,
 //!         &mut rt.stdin(),
 //!         rt.stdin().is_terminal(),
@@ -23,7 +25,7 @@
 //!         &mut rt.stderr(),
 //!         &mut SystemClock::new(rt),
 //!     );
-//!     tell_reason(rt, status, words);
+//!     tell_reason(rt, status, words, is_full.get());
 //!     status
 //! }
 //!

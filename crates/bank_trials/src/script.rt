@@ -11,6 +11,7 @@ use command_line::Status;
 use posting_core::StoredClock;
 use sqlite::{Start, Unknown};
 use std::alloc::{AllocError, Global};
+use std::cell::Cell;
 use std::fs;
 use std::io::{self, Read, Write};
 
@@ -154,8 +155,9 @@ fn run_between<S: Start, R: Read, W: Write>(
 ) -> (Status, Vec<u8>) {
     let mut faults = Vec::new(rt.alloc());
     let mut clock = StoredClock::new(Vec::new(rt.alloc()));
+    let is_full = Cell::new(false);
     let status = run(
-        Machine::new(rt, start),
+        Machine::new(rt, start, &is_full),
         words,
         input,
         typed,

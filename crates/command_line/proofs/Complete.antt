@@ -22,7 +22,8 @@ use Rattle.command_line.proofs.{Rows.HasValue, Stopped.IsNoHelp, Stopped.walk_st
 use Rattle.command_line.proofs.Shapes.{digest_is_plain, drive_is_plain, export_is_plain, file_and_account}
 use Rattle.command_line.proofs.Shapes.{file_and_address, file_and_after, file_and_numbers, file_and_plan}
 use Rattle.command_line.proofs.Shapes.{file_and_requests, follow_is_plain, load_is_plain, log_and_after, log_is_plain}
-use Rattle.command_line.proofs.Shapes.{one_file, one_is_plain, serve_is_plain, statement_is_plain, two_files}
+use Rattle.command_line.proofs.Shapes.{one_file, one_is_plain, other_file, serve_is_plain, statement_is_plain}
+use Rattle.command_line.proofs.Shapes.{two_files, why_is_plain}
 
 -- ---- the arguments of a command
 
@@ -88,6 +89,12 @@ file_completes name is words none =
 
 one_completes : (name : Text) → IsOfOneFile name → Completes (one_file name)
 one_completes name is = on_file (one_file name) (file_completes name is)
+
+why_completes : CompletesOnFile other_file
+why_completes words none = (
+  has_text other_file words (codes "file") why_is_plain none (refl, refl),
+  inl (inr (inr (inr (inr (inr (inr refl)))))),
+)
 
 load_completes : CompletesOnFile two_files
 load_completes words none =
@@ -233,10 +240,13 @@ each_completes name other = (
                         (
                           λ named. on_file file_and_address serve_completes,
                           (
-                            λ named. one_completes (codes "migrate") (inr (inr (inr (inr (inr refl))))),
+                            λ named. one_completes (codes "migrate") (inr (inr (inr (inr (inr (inl refl)))))),
                             (
-                              λ named words none. inl refl,
-                              (λ named words none. inr (inl refl), (λ named. absurd (is_help name other named), tt)),
+                              λ named. on_file other_file why_completes,
+                              (
+                                λ named words none. inl refl,
+                                (λ named words none. inr (inl refl), (λ named. absurd (is_help name other named), tt)),
+                              ),
                             ),
                           ),
                         ),

@@ -3,7 +3,7 @@ use Rattle.std.proofs.Common.{◌≡◌, false, refl, arith, inl, inr}
 use Rattle.clap.specs.{Walk.Text, Simple.Shape, Simple.built_leaf, Simple.inherited, Simple.marked_built}
 use Rattle.clap.specs.Simple.{new_app, on_top, with_leaf_noted, with_rule}
 use Rattle.command_line.specs.CommandLine.{bank_app, digest_app, drive_app, export_app, file_rule, follow_app}
-use Rattle.command_line.specs.CommandLine.{load_app, log_app, serve_app, statement_app}
+use Rattle.command_line.specs.CommandLine.{load_app, log_app, serve_app, statement_app, why_app}
 use Rattle.command_line.proofs.{Levels.IsPlainLeaf, Rows.ArePlainRules}
 
 -- a command of the program with what building adds to it
@@ -13,6 +13,10 @@ leaf_of s = built_leaf (inherited (on_top with_leaf_noted (on_top marked_built b
 -- a command with a file alone, as built
 abbrev pub one_file : Text → Shape
 one_file name = leaf_of (with_rule (new_app name) file_rule).top
+
+-- `why`, as built
+abbrev pub other_file : Shape
+other_file = leaf_of why_app.top
 
 -- `load`, as built
 abbrev pub two_files : Shape
@@ -55,6 +59,10 @@ plain_leaf s plain no_help no_subcommand negates =
 
 pub one_is_plain : (name : Text) → IsPlainLeaf (one_file name)
 one_is_plain name = plain_leaf (one_file name)
+    ((inl (refl, omega arith), refl, refl), ((inr refl, refl, refl), tt)) refl refl refl
+
+pub why_is_plain : IsPlainLeaf other_file
+why_is_plain = plain_leaf other_file
     ((inl (refl, omega arith), refl, refl), ((inr refl, refl, refl), tt)) refl refl refl
 
 pub load_is_plain : IsPlainLeaf two_files

@@ -132,6 +132,11 @@ serve_app =
 abbrev pub migrate_app : App
 migrate_app = with_rule (new_app (codes "migrate")) file_rule
 
+-- `why FILE`, which is called `faults` too
+abbrev pub why_app : App
+why_app = let why = with_rule (new_app (codes "why")) file_rule in
+    record why { top = record why.top { aliases = codes "faults" ∷ [] } }
+
 -- `encode`, which takes no argument
 abbrev pub encode_app : App
 encode_app = new_app (codes "encode")
@@ -153,7 +158,7 @@ bank_alone = let bank = new_app (codes "bank") in record bank {
 -- the commands of `bank`, in the order of its help
 abbrev pub bank_commands : List App
 bank_commands = init_app ∷ load_app ∷ post_app ∷ drive_app ∷ audit_app ∷ statement_app ∷ replay_app ∷ digest_app
-    ∷ export_app ∷ log_app ∷ plan_app ∷ follow_app ∷ serve_app ∷ migrate_app ∷ encode_app ∷ decode_app ∷ []
+    ∷ export_app ∷ log_app ∷ plan_app ∷ follow_app ∷ serve_app ∷ migrate_app ∷ why_app ∷ encode_app ∷ decode_app ∷ []
 
 -- the command line `bank` with these commands
 abbrev pub with_commands : App → List App → App

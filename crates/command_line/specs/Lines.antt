@@ -28,6 +28,10 @@ line text = text ++ 10 ∷ []
 abbrev pub created_line : List ℕ
 created_line = line (codes "created")
 
+-- a bank can be used
+abbrev pub usable_line : List ℕ
+usable_line = line (codes "nothing is wrong")
+
 -- so many branches of a plan got each answer
 abbrev pub loaded_line : Loaded → List ℕ
 loaded_line loaded = line (codes "opened " ++ decimal loaded.opened

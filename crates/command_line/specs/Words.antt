@@ -15,7 +15,7 @@ use Rattle.command_line.specs.declared.limits.TheConstants.{MAX_CONNECTIONS}
 use Rattle.command_line.specs.declared.reading.Command.{Command}
 use Rattle.command_line.specs.declared.reading.Command.TheVariants.{Audit, Decode, Digest, Drive, Encode, Export}
 use Rattle.command_line.specs.declared.reading.Command.TheVariants.{Follow, Init, Load, Log, Migrate, Plan, Post}
-use Rattle.command_line.specs.declared.reading.Command.TheVariants.{Replay, Serve, Statement}
+use Rattle.command_line.specs.declared.reading.Command.TheVariants.{Replay, Serve, Statement, Why}
 
 -- the number that a text of digits spells; a plus may come before them
 abbrev pub number_of : Text → ℕ
@@ -110,6 +110,7 @@ IsCommandOf p (Serve file address connections) = (p.0 ≡ codes "serve") × IsTe
     × IsText (codes "address") p.1 address.now
     × (connections ≡ spelled (one_of (codes "connections") p.1))
 IsCommandOf p (Migrate file) = (p.0 ≡ codes "migrate") × IsText (codes "file") p.1 file.now
+IsCommandOf p (Why file) = (p.0 ≡ codes "why") × IsText (codes "file") p.1 file.now
 IsCommandOf p Encode = p.0 ≡ codes "encode"
 IsCommandOf p (Decode money) = (p.0 ≡ codes "decode") × (money ≡ money_in p.1)
 
@@ -127,7 +128,7 @@ IsReadFrom words command = IsSomeAnd (subcommand_of bank_app words) (λ p. IsCom
 -- the name is that of a command with a file alone
 abbrev pub IsOfOneFile : Text → Type 0
 IsOfOneFile name = (name ≡ codes "init") ⊎ (name ≡ codes "post") ⊎ (name ≡ codes "audit") ⊎ (name ≡ codes "replay")
-    ⊎ (name ≡ codes "plan") ⊎ (name ≡ codes "migrate")
+    ⊎ (name ≡ codes "plan") ⊎ (name ≡ codes "migrate") ⊎ (name ≡ codes "why")
 
 -- it is that of one with more, each of which has a value where it is required
 abbrev pub HasMoreValues : Text × List Row → Type 0

@@ -4,7 +4,7 @@ ghost use Rattle.clap.specs.Words.{App, Rule, app_of, new_app, rule_of, with_rul
 ghost use Rattle.command_line.specs.CommandLine.{IsApp, bank_alone, bank_app, decode_app, digest_app, drive_app};
 ghost use Rattle.command_line.specs.CommandLine.{export_app, file_rule, flag_rule, follow_app, init_app, load_app};
 ghost use Rattle.command_line.specs.CommandLine.{log_app, number_rule, optional_rule};
-ghost use Rattle.command_line.specs.CommandLine.{required_rule, serve_app, statement_app};
+ghost use Rattle.command_line.specs.CommandLine.{required_rule, serve_app, statement_app, why_app};
 
 use crate::limits::MAX_CONNECTIONS;
 use crate::texts::{self, CommandTexts};
@@ -32,6 +32,7 @@ pub fn bank_command<'a>(alloc: Global) -> Result<Command<'a>, AllocError>
     let bank = with_command(bank, follow_command(alloc));
     let bank = with_command(bank, serve_command(alloc));
     let bank = with_command(bank, command_on_file(alloc, "migrate", texts::MIGRATE));
+    let bank = with_command(bank, why_command(alloc));
     let bank = with_command(bank, command_alone(alloc, "encode", texts::ENCODE));
     with_command(bank, decode_command(alloc))
 }
@@ -172,6 +173,13 @@ fn serve_command<'a>(alloc: Global) -> Result<Command<'a>, AllocError>
         texts::CONNECTIONS,
     );
     with_argument(with_argument(serve, address), connections)
+}
+
+// `help` shows it under the name `faults` too.
+fn why_command<'a>(alloc: Global) -> Result<Command<'a>, AllocError>
+    ensures { IfOk result (IsApp why_app) }
+{
+    command_on_file(alloc, "why", texts::WHY)?.alias("faults")
 }
 
 fn decode_command<'a>(alloc: Global) -> Result<Command<'a>, AllocError>

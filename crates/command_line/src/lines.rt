@@ -8,7 +8,7 @@ ghost use Rattle.posting_core.specs.Told.{HasWriteFailed, IsFlush};
 ghost use Rattle.command_line.specs.Faults.{status_of};
 ghost use Rattle.command_line.specs.Lines.{IsHelpOrVersion, IsShown, PrintsLine, WritesOut, already_line};
 ghost use Rattle.command_line.specs.Lines.{after_line, created_line, driven_line, fault_line, followed_line};
-ghost use Rattle.command_line.specs.Lines.{listening_line, loaded_line, migrated_line, no_words_line};
+ghost use Rattle.command_line.specs.Lines.{listening_line, loaded_line, migrated_line, no_words_line, usable_line};
 ghost use Rattle.command_line.specs.Statuses.{status_of_no_words};
 ghost use Rattle.report_contents.specs.Written.{AppendsPart};
 
@@ -42,6 +42,16 @@ pub fn print_created<W: Sink>(output: &mut W) -> Result<(), CommandFault>
     ensures failed { OnErr result (HasWriteFailed (W.told output.old) (W.told output.new)) }
 {
     print_line("created\n", output)
+}
+
+/// Prints `nothing is wrong`.
+pub fn print_usable<W: Sink>(output: &mut W) -> Result<(), CommandFault>
+    ensures prints { PrintsLine usable_line (W.contents output.old) (W.contents output.new)
+        (W.told output.old) (W.told output.new) result }
+    ensures fault { OnErr result (IsErrOf result CommandFault.Write) }
+    ensures failed { OnErr result (HasWriteFailed (W.told output.old) (W.told output.new)) }
+{
+    print_line("nothing is wrong\n", output)
 }
 
 /// Prints how many branches of a plan got each answer, as `opened 2 already 0 differs 0`.

@@ -85,6 +85,10 @@ pub enum Command<'a> {
     Migrate {
         file: &'a str,
     },
+    /// Say whether the file's bank can be used, and if not, why.
+    Why {
+        file: &'a str,
+    },
     /// Make records of the sheet of postings of standard input.
     Encode,
     /// Make a sheet of the replies of standard input, which writes money so.
@@ -164,6 +168,7 @@ fn command_on_file<'a>(name: &str, values: &ArgMatches<'a>) -> Command<'a>
         "replay" => Command::Replay { file },
         "plan" => Command::Plan { file },
         "migrate" => Command::Migrate { file },
+        "why" => Command::Why { file },
         _ => command_with_values(name, file, values),
     }
 }

@@ -127,6 +127,17 @@ returns-in-Migrate g c =
       idle = it.idle;
     }
 
+pub returns-in-Why : goal.returns-in-Why
+returns-in-Why g c =
+    let it = c.why_over.ensures in
+    rw c.in-Why.is record {
+      does = it.looks;
+      tells = prints_none _ _ _ _ c.why_over.result.told it.looks.0 (λ _ _ did. did.1.1);
+      input = refl;
+      clock = refl;
+      idle = it.idle;
+    }
+
 -- ---- a command that needs no bank
 
 pub returns-in-Encode : goal.returns-in-Encode

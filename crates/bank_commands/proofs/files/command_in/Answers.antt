@@ -11,10 +11,25 @@ pub returns-in-Decode : goal.returns-in-Decode
 returns-in-Decode g c =
     rw c.in-Decode.is record { tells = c.translate_replies.ensures; input = tt; clock = refl }
 
+pub returns-in-Why : goal.returns-in-Why
+returns-in-Why g c =
+    rw c.in-Why.is record { tells = c.why_in.ensures; input = refl; clock = refl }
+
 pub returns-in_err-look_for : goal.returns-in_err-look_for
 returns-in_err-look_for g c =
     let f = c.in_err-look_for.field-0.0 in
     let same : c.from_residual.result ≡ Err f = search rules in
+    let has : HasFile c.args.command.now = search rules in
+    record {
+      tells = rw same (tells_idle _ f _ _ has);
+      input = input_left c.args.command.now _;
+      clock = clock_left c.args.command.now _;
+    }
+
+pub returns-in_err-spare_others : goal.returns-in_err-spare_others
+returns-in_err-spare_others g c =
+    let f = c.in_err-spare_others.field-0.0 in
+    let same : c.from_residual-in_err-spare_others.result ≡ Err f = search rules in
     let has : HasFile c.args.command.now = search rules in
     record {
       tells = rw same (tells_idle _ f _ _ has);
@@ -31,7 +46,7 @@ returns-in_default g c =
       clock = clock_left c.args.command.now _;
     }
 
-pub returns-in-Err : goal.returns-in-Err
-returns-in-Err g c =
+pub returns : goal.returns
+returns g c =
     let it = c.command_over-told.ensures in
     record { tells = it.tells; input = it.input; clock = it.clock }

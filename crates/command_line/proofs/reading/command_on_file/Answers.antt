@@ -23,6 +23,9 @@ returns-in-plan-clause-command c = (c.in-plan.is, c.text_in-file.ensures)
 pub returns-in-migrate-clause-command : goal.returns-in-migrate-clause-command
 returns-in-migrate-clause-command c = (c.in-migrate.is, c.text_in-file.ensures)
 
+pub returns-in-why-clause-command : goal.returns-in-why-clause-command
+returns-in-why-clause-command c = (c.in-why.is, c.text_in-file.ensures)
+
 -- none of the names of a command with one file
 pub command_with_values-requires : goal.command_with_values-requires
 command_with_values-requires c = record {
@@ -32,7 +35,8 @@ command_with_values-requires c = record {
     | inl (inr (inr (inl audit))) ↦ absurd (c.in_default.not-audit audit)
     | inl (inr (inr (inr (inl replay)))) ↦ absurd (c.in_default.not-replay replay)
     | inl (inr (inr (inr (inr (inl plan))))) ↦ absurd (c.in_default.not-plan plan)
-    | inl (inr (inr (inr (inr (inr migrate))))) ↦ absurd (c.in_default.not-migrate migrate)
+    | inl (inr (inr (inr (inr (inr (inl migrate)))))) ↦ absurd (c.in_default.not-migrate migrate)
+    | inl (inr (inr (inr (inr (inr (inr why)))))) ↦ absurd (c.in_default.not-why why)
     | inr more ↦ more
   ];
   file = c.text_in-file.ensures;
