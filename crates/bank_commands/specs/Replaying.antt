@@ -20,7 +20,8 @@ use Rattle.bank_store.specs.Seen.{fault_of}
 use Rattle.bank_store.specs.declared.bank.Bank.{Bank}
 use Rattle.bank_replays.specs.{Damaged.TellsWhy, Damaged.fault_in, DifferenceText.difference_text}
 use Rattle.bank_replays.specs.Differences.{DiffersFrom, table_of}
-use Rattle.bank_replays.specs.Digests.{DigestsFirst, DigestsRows, answered_after}
+use Rattle.posting_core.specs.believed.LogEntries.{answered_after}
+use Rattle.bank_replays.specs.Digests.{DigestsFirst, DigestsRows}
 use Rattle.bank_replays.specs.FileTables.{IsKept}
 use Rattle.bank_replays.specs.Replays.{AreDigestsIn, HasAnswered, OnAgrees, OnDiffers, Replays, TellsTables, other_text}
 use Rattle.bank_replays.specs.Writing.{ExportsRows, LeavesWriter, WritesSound, WritesText, plan_text, records_of}

@@ -10,10 +10,11 @@ use Rattle.store_rows.specs.believed.View.{Shows, branch_entry, floor_entry}
 use Rattle.walked_rows.specs.KeptRows.{KeptItem}
 use Rattle.walked_rows.proofs.Shown.{has_branches, has_floors}
 use Rattle.bank_replays.specs.Digests.{DigestsFirst, DigestsRows, IsDigestIn, IsDigestOf}
-use Rattle.bank_replays.specs.Requests.{AnsweredRequest, answered_in}
+use Rattle.posting_core.specs.believed.LogEntries.{AnsweredRequest}
+use Rattle.bank_store.specs.KeptEntries.{answered_in}
+use Rattle.bank_store.proofs.LogRows.{has_kept, kept_answered, kept_of}
 use Rattle.bank_replays.specs.Replays.{AreDigestsIn, AreDigestsOf, OnAgrees}
 use Rattle.bank_replays.specs.{declared.chain.Digest.Digest, declared.difference.Replay.Replay}
-use Rattle.bank_replays.proofs.LogRows.{has_kept, kept_answered, kept_of}
 use Rattle.bank_replays.specs.declared.difference.Replay.TheVariants.{Agrees, Differs, Otherwise}
 
 module _ (count : ℕ) (all : List KeptItem) (d : Digest) (is : IsDigestIn (take count all) d) where

@@ -16,8 +16,10 @@ use Rattle.message_records.specs.believed.Spelling.{request_spelling}
 use Rattle.walked_rows.specs.{KeptRows.BreaksKept, KeptRows.KeptItem, KeptRows.kept_item, declared.kept.KeptRequest.KeptRequest}
 use Rattle.posting_rules.specs.declared.fault.Rule.{Rule}
 use Rattle.bank_replays.specs.{Handing.Bars, Handing.Why, Refusing.RefusesExport}
-use Rattle.bank_replays.specs.{Prefixes.memory_is, Prefixes.not_write, Requests.IsRequestRow}
-use Rattle.bank_replays.specs.{Requests.request_in, Writing.is_after, Writing.records_after}
+use Rattle.walked_rows.specs.Requests.{IsRequestRow}
+use Rattle.bank_replays.specs.{Prefixes.memory_is, Prefixes.not_write}
+use Rattle.walked_rows.specs.Requests.{request_in}
+use Rattle.bank_replays.specs.{Writing.is_after, Writing.records_after}
 use Rattle.bank_replays.specs.Writing.{BreaksExport, ExportsRows, IsExported, Puts, WroteRecords, WroteSomeRecords}
 use Rattle.bank_replays.specs.declared.fault.ReplayFault.{ReplayFault, TheVariants.Bank, TheVariants.Write}
 use Rattle.bank_replays.proofs.Wrote.{end_part, end_wrote}

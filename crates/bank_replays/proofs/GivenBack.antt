@@ -16,9 +16,9 @@ use Rattle.posting_rules.specs.believed.Numbering.{branch_of_account, branch_of_
 use Rattle.posting_rules.specs.believed.Runs.{ArePosts, followed_by}
 use Rattle.posting_rules.specs.declared.judgments.{Found.Found, Verdict.Verdict}
 use Rattle.posting_rules.specs.declared.judgments.Verdict.TheVariants.{Again, Posted, Refused, Unkept}
-use Rattle.bank_replays.specs.Digests.{answered_of, each_answered}
+use Rattle.posting_core.specs.believed.LogEntries.{answered_of, each_answered}
 use Rattle.bank_replays.specs.GivenBack.{GivesBack, record_of, records_since, unmoved}
-use Rattle.bank_replays.specs.Requests.{AnsweredRequest}
+use Rattle.posting_core.specs.believed.LogEntries.{AnsweredRequest}
 
 -- ---- what is known of a request doesn't depend on moments
 

@@ -16,7 +16,6 @@ pub mod Refilled
 pub mod SameNumbers
 pub mod Chained
 pub mod Wrote
-pub mod LogRows
 pub mod SoundLogs
 pub mod Digested
 pub mod InMemory

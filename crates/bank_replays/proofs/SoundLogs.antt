@@ -17,7 +17,8 @@ use Rattle.walked_rows.proofs.Unbroken.{no_reference, no_request, no_teller, spl
 use Rattle.bank_store.specs.{believed.Seen.bank_seen, believed.Seen.database_of, believed.Seen.file_of}
 use Rattle.bank_store.specs.declared.bank.Bank.{Bank}
 use Rattle.bank_replays.specs.Damaged.{BreaksAnswered, HasBrokenRow, Tells, TellsWhy}
-use Rattle.bank_replays.specs.{FileTables.rows_due, Requests.IsAnsweredRow}
+use Rattle.walked_rows.specs.Requests.{IsAnsweredRow}
+use Rattle.bank_replays.specs.{FileTables.rows_due}
 use Rattle.bank_replays.proofs.Tables.{due_tables}
 
 -- ---- kept requests

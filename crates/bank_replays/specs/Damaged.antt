@@ -17,7 +17,7 @@ use Rattle.bank_store.specs.Failures.{HasFailedToRead}
 use Rattle.bank_store.specs.believed.Seen.{bank_seen, connection_of, database_of, file_of}
 use Rattle.bank_store.specs.declared.bank.Bank.{Bank}
 use Rattle.bank_replays.specs.FileTables.{FileTables, HasTables}
-use Rattle.bank_replays.specs.Requests.{IsAnsweredRow}
+use Rattle.walked_rows.specs.Requests.{IsAnsweredRow}
 use Rattle.bank_replays.specs.declared.fault.ReplayFault.{ReplayFault}
 use Rattle.bank_replays.specs.declared.fault.ReplayFault.TheVariants.{Bank as OfBank, Write}
 

@@ -1,17 +1,16 @@
 -- The digest of requests in order, each with its reply and its moment.
 use Rattle.std.specs.Prelude.{◌≡◌, ◌≢◌, ◌≤◌, ◌<◌, ◌+◌, ◌-◌, ◌^◌, ◌++◌, ℕ, List, [], ◌∷◌, length, map, replicate, take, ⊤}
-use Rattle.std.specs.Prelude.{Option, Some, None, Result, Ok, Err, if◌then◌else◌}
+use Rattle.std.specs.Prelude.{Option, Some, None, Result, Ok, Err}
 use Rattle.std.specs.Int.{to_be_bytes, w64}
 use Rattle.std.specs.List.{AllByRecursion}
 use Rattle.sha2.specs.Sha256.{sha256}
 use Rattle.message_records.specs.believed.Spelling.{reply_spelling, request_spelling}
-use Rattle.posting_rules.specs.believed.Cases.{kept_reply}
-use Rattle.posting_rules.specs.believed.Commands.{Command}
-use Rattle.posting_rules.specs.believed.Entries.{DecidedRequest, decided, is_posted, kept_fields}
 use Rattle.posting_rules.specs.declared.fault.Fault.{Fault}
 use Rattle.posting_rules.specs.declared.fault.Fault.TheVariants.{Damaged, Memory}
 use Rattle.walked_rows.specs.KeptRows.{KeptItem}
-use Rattle.bank_replays.specs.Requests.{AnsweredRequest, IsAnsweredRow, answered_in}
+use Rattle.posting_core.specs.believed.LogEntries.{AnsweredRequest}
+use Rattle.walked_rows.specs.Requests.{IsAnsweredRow}
+use Rattle.bank_store.specs.KeptEntries.{answered_in}
 use Rattle.bank_replays.specs.declared.chain.Digest.{Digest}
 use Rattle.bank_replays.specs.declared.fault.ReplayFault.{ReplayFault}
 use Rattle.bank_replays.specs.declared.fault.ReplayFault.TheVariants.{Bank, Write}
@@ -29,25 +28,6 @@ digest_from before (a ∷ more) = digest_from (chained before a) more
 -- the digest of requests, which begins with 32 zeros
 abbrev pub digest_of : List AnsweredRequest → List ℕ
 digest_of = digest_from (replicate 32 0)
-
--- ---- of a log
-
--- a decided request with the reply that it got, and the moment of its posting, zero where it wasn't posted
-abbrev pub answered_of : DecidedRequest → AnsweredRequest
-answered_of e = record {
-  request = e.request;
-  reply = kept_reply (kept_fields e) e.request;
-  moment = if is_posted e then e.moment else 0;
-}
-
--- decided requests, of which the newest comes first, the oldest first
-abbrev pub each_answered : List DecidedRequest → List AnsweredRequest
-each_answered [] = []
-each_answered (e ∷ es) = each_answered es ++ answered_of e ∷ []
-
--- the requests of a log
-abbrev pub answered_after : List Command → List AnsweredRequest
-answered_after log = each_answered (decided log)
 
 -- so many, with this digest
 abbrev pub IsDigestOf : List AnsweredRequest → Digest → Type 0

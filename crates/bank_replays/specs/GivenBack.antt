@@ -5,7 +5,7 @@ use Rattle.posting_core.specs.believed.Stream.{posted_records}
 use Rattle.posting_rules.specs.believed.Commands.{AreCommands, Command, opened}
 use Rattle.posting_rules.specs.believed.Entries.{DecidedRequest, decided}
 use Rattle.posting_rules.specs.believed.Runs.{ArePosts, followed_by}
-use Rattle.bank_replays.specs.{Digests.answered_after, Requests.AnsweredRequest}
+use Rattle.posting_core.specs.believed.LogEntries.{answered_after, AnsweredRequest}
 
 -- a decided request, its moment aside
 abbrev pub unmoved : DecidedRequest → DecidedRequest

@@ -11,7 +11,7 @@ use Rattle.sqlite.specs.Effect.{Database}
 use Rattle.posting_rules.specs.declared.fault.Rule.{Rule}
 use Rattle.bank_replays.specs.{Damaged.AreHeld, Damaged.BreaksAnswered, Handing.Bars}
 use Rattle.bank_replays.specs.Refusing.{RefusesAnswered, RefusesExport}
-use Rattle.bank_replays.specs.Requests.{IsAnsweredRow, IsRequestRow}
+use Rattle.walked_rows.specs.Requests.{IsAnsweredRow, IsRequestRow}
 
 pub metas_held : AreHeld (λ db rows. HasStoredRows db meta rows) (BreaksBy meta_of)
 metas_held db f has = (f.metas, has.metas, λ rule h. inl h)

@@ -8,8 +8,6 @@ pub mod DifferenceText
 pub mod GivenBack
 pub mod Handing
 pub mod Comparing
-pub mod Came
-pub mod Requests
 pub mod Damaged
 pub mod Digests
 pub mod Writing

@@ -1,21 +1,16 @@
 -- The log of a bank as bytes, and how many requests it has.
 use Rattle.std.specs.Prelude.{◌≡◌, ℕ, ℤ, List, [], ◌∷◌, drop, filter, length, Option, Result, Ok, Err, IfOk}
 use Rattle.std.specs.List.{flat_map}
-use Rattle.posting_core.specs.believed.LogEntries.{AnsweredRequest, entry_of}
 use Rattle.posting_core.specs.believed.Batches.{joined}
 use Rattle.walked_rows.specs.KeptRows.{KeptItem}
 use Rattle.walked_rows.specs.declared.metas.StoredMeta.{StoredMeta}
-use Rattle.bank_replays.specs.Requests.{moment_under, reply_in, request_in}
+use Rattle.bank_store.specs.KeptEntries.{entry_in}
 use Rattle.bank_replays.specs.Writing.{WritesText, is_after}
 use Rattle.bank_replays.specs.declared.fault.ReplayFault.{ReplayFault}
 
--- a kept row as its entry has it
-abbrev pub logged_in : KeptItem → AnsweredRequest
-logged_in k = record { request = request_in k; reply = reply_in k; moment = moment_under k.posting }
-
 -- the entries of the kept rows after an ordinal, one after another
 abbrev pub entries_after : ℕ → List KeptItem → List ℕ
-entries_after after items = flat_map (λ k. entry_of (logged_in k)) (filter (is_after after) items)
+entries_after after items = flat_map entry_in (filter (is_after after) items)
 
 -- how it ended, but for the count
 abbrev pub without_count : Result ℕ ReplayFault → Result (Unit {0}) ReplayFault

@@ -4,7 +4,7 @@ use Rattle.posting_rules.specs.declared.fault.Rule.{Rule}
 use Rattle.posting_rules.specs.declared.fault.Rule.TheVariants.{Request}
 use Rattle.walked_rows.specs.KeptRows.{kept_item}
 use Rattle.walked_rows.specs.declared.kept.KeptRequest.{KeptRequest}
-use Rattle.bank_replays.specs.Requests.{IsAnsweredRow, IsRequestRow}
+use Rattle.walked_rows.specs.Requests.{IsAnsweredRow, IsRequestRow}
 use Rattle.bank_replays.specs.Writing.{is_after}
 
 -- that of no request with its reply isn't digested

@@ -9,8 +9,9 @@ use Rattle.posting_rules.specs.declared.fault.Fault.{Fault}
 use Rattle.posting_rules.specs.declared.fault.Fault.TheVariants.{Damaged}
 use Rattle.posting_rules.specs.declared.fault.Rule.{Rule}
 use Rattle.bank_store.specs.Leaving.{TakesNone}
+use Rattle.posting_core.specs.believed.LogEntries.{answered_after}
 use Rattle.walked_rows.specs.KeptRows.{HasKept, KeptItem}
-use Rattle.bank_replays.specs.Digests.{IsDigestIn, IsDigestOf, answered_after}
+use Rattle.bank_replays.specs.Digests.{IsDigestIn, IsDigestOf}
 use Rattle.bank_replays.specs.PlanDigests.{IsPlanDigestIn, plan_of}
 use Rattle.bank_replays.specs.declared.difference.Agreed.{Agreed}
 use Rattle.bank_replays.specs.declared.difference.Difference.{Difference}

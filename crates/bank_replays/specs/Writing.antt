@@ -18,7 +18,8 @@ use Rattle.walked_rows.specs.KeptRows.{BreaksKept, KeptItem, kept_key}
 use Rattle.walked_rows.specs.Pairs.{row_under}
 use Rattle.walked_rows.specs.declared.floors.StoredFloor.{StoredFloor}
 use Rattle.bank_replays.specs.Handing.{AreTooMany}
-use Rattle.bank_replays.specs.Requests.{AnsweredRequest, IsRequestRow, request_in}
+use Rattle.posting_core.specs.believed.LogEntries.{AnsweredRequest}
+use Rattle.walked_rows.specs.Requests.{IsRequestRow, request_in}
 use Rattle.bank_replays.specs.declared.fault.ReplayFault.{ReplayFault}
 use Rattle.bank_replays.specs.declared.fault.ReplayFault.TheVariants.{Bank, Write}
 

@@ -1,16 +1,14 @@
 //! The digest of requests, one after another.
 ghost use Rattle.std.specs.Prelude.{◌≡◌, map, replicate};
 ghost use Rattle.walked_rows.specs.KeptRows.{kept_item};
-ghost use Rattle.bank_replays.specs.Came.{moment_of};
 ghost use Rattle.bank_replays.specs.Digests.{GoesOnBy, chained};
 
 use crate::fault::ReplayFault;
 use crate::handed::Hands;
-use crate::requests::{reply_of, request_of};
 use message_records::{Reply, Request, encode_reply, encode_request};
 use posting_rules::{Fault, Rule};
 use sha2::{Digest as Hasher, Sha256};
-use walked_rows::{KeptRequest, StoredPosting};
+use walked_rows::{KeptRequest, moment_of, reply_of, request_of};
 
 /// The row is that of no request.
 pub(crate) const NO_REQUEST: ReplayFault = ReplayFault::Bank(Fault::Damaged(Rule::Request));
@@ -54,16 +52,6 @@ fn chained(before: &[u8; 32], request: &Request, reply: &Reply, moment: u64) -> 
     let seconds = moment.to_be_bytes();
     hasher.update(seconds.as_slice());
     hasher.finalize()
-}
-
-/// The moment of a posting, zero where there is none.
-pub(crate) fn moment_of(posting: &Option<StoredPosting>) -> u64
-    ensures { result ≡ moment_of posting.now }
-{
-    match posting {
-        Some(posting) => posting.moment.get(),
-        None => 0,
-    }
 }
 
 /// Requests are digested, one after the other.

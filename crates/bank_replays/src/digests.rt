@@ -9,7 +9,8 @@ ghost use Rattle.bank_store.specs.Leaving.{LeavesAsFound, TakesNone};
 ghost use Rattle.bank_store.specs.believed.Seen.{bank_seen, database_of, file_of};
 ghost use Rattle.bank_store.specs.Seen.{fault_of};
 ghost use Rattle.bank_replays.specs.Damaged.{TellsWhy};
-ghost use Rattle.bank_replays.specs.Digests.{DigestsFirst, DigestsRows, IsDigestIn, answered_after};
+ghost use Rattle.posting_core.specs.believed.LogEntries.{answered_after};
+ghost use Rattle.bank_replays.specs.Digests.{DigestsFirst, DigestsRows, IsDigestIn};
 ghost use Rattle.bank_replays.specs.Reading.{ReadsBank};
 ghost use Rattle.bank_replays.specs.Replays.{HasAnswered};
 

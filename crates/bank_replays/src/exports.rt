@@ -9,7 +9,7 @@ ghost use Rattle.bank_store.specs.Leaving.{LeavesAsFound, TakesNone};
 ghost use Rattle.bank_store.specs.believed.Seen.{bank_seen, database_of, file_of};
 ghost use Rattle.bank_store.specs.Seen.{fault_of};
 ghost use Rattle.bank_replays.specs.Damaged.{TellsWhy, fault_in};
-ghost use Rattle.bank_replays.specs.Digests.{answered_after};
+ghost use Rattle.posting_core.specs.believed.LogEntries.{answered_after};
 ghost use Rattle.bank_replays.specs.Reading.{ReadsBank};
 ghost use Rattle.bank_replays.specs.Replays.{HasAnswered};
 ghost use Rattle.bank_replays.specs.Writing.{ExportsRows, LeavesWriter, WritesSound, WroteRecords, WroteSomeRecords};
@@ -19,7 +19,6 @@ ghost use Rattle.bank_replays.specs.declared.fault.ReplayFault.TheVariants.{Bank
 use crate::chain::NO_REQUEST;
 use crate::fault::ReplayFault;
 use crate::handed::{Hands, hand_all};
-use crate::requests::request_of;
 use crate::writes::put_bytes;
 use bank_store::Bank;
 use message_records::encode_request;
@@ -27,7 +26,7 @@ use posting_core::Sink;
 use posting_rules::{Counter, Fault};
 use report_contents::put_last;
 use sqlite::Alter;
-use walked_rows::KeptRequest;
+use walked_rows::{KeptRequest, request_of};
 
 /// Whether a row's ordinal is above this one.
 pub(crate) fn is_after(row: &KeptRequest, after: u64) -> bool

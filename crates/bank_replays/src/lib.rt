@@ -51,7 +51,6 @@ mod plan_digests;
 mod ram;
 mod refill;
 mod replays;
-mod requests;
 mod shown;
 mod watch;
 mod writes;

@@ -1,10 +1,10 @@
 //! The log of a bank: an entry of each kept request.
-ghost use Rattle.std.specs.Prelude.{◌≡◌, ◌++◌, ◌∷◌, [], ℤ, pos, List, Err, IfNone, IfOk, IfSome, OnOk, length, map, ⊤};
+ghost use Rattle.std.specs.Prelude.{◌≡◌, ◌++◌, ◌∷◌, [], ℤ, pos, List, Err, IfOk, OnOk, length, map, ⊤};
 ghost use Rattle.sqlite.specs.State.{HasCleanDisk};
 ghost use Rattle.posting_rules.specs.believed.Commands.{Command};
 ghost use Rattle.posting_rules.specs.believed.Counter.{ShowsLog};
 ghost use Rattle.posting_rules.specs.declared.fault.Fault.TheVariants.{Down};
-ghost use Rattle.posting_core.specs.believed.LogEntries.{entry_of, log_entries};
+ghost use Rattle.posting_core.specs.believed.LogEntries.{log_entries};
 ghost use Rattle.store_rows.specs.believed.BankTables.{meta as meta_table};
 ghost use Rattle.walked_rows.specs.KeptRows.{HasKept, KeptItem, kept_item};
 ghost use Rattle.walked_rows.specs.OnlyMeta.{bank_entry};
@@ -12,41 +12,24 @@ ghost use Rattle.walked_rows.specs.Rows.{HasStoredRows};
 ghost use Rattle.bank_store.specs.Leaving.{LeavesAsFound, TakesNone};
 ghost use Rattle.bank_store.specs.believed.Seen.{bank_seen, database_of, file_of};
 ghost use Rattle.bank_store.specs.Seen.{fault_of};
-ghost use Rattle.bank_replays.specs.Came.{moment_of};
 ghost use Rattle.bank_replays.specs.Logs.{LogsEntries, LogsRows, decided_in, entries_after};
-ghost use Rattle.bank_replays.specs.Logs.{logged_in, without_count};
+ghost use Rattle.bank_replays.specs.Logs.{without_count};
 ghost use Rattle.bank_replays.specs.Reading.{ReadsBank};
 ghost use Rattle.bank_replays.specs.Replays.{HasAnswered};
-ghost use Rattle.bank_replays.specs.Requests.{IsAnsweredRow};
 ghost use Rattle.bank_replays.specs.Writing.{LeavesWriter, Wrote, WrotePart};
 ghost use Rattle.bank_replays.specs.declared.fault.ReplayFault.TheVariants.{Bank as OfBank};
 
-use crate::chain::{NO_REQUEST, moment_of};
+use crate::chain::NO_REQUEST;
 use crate::exports::is_after;
 use crate::fault::{ReplayFault, told};
 use crate::handed::{Hands, hand_all, hand_first};
-use crate::requests::{reply_of, request_of};
 use crate::writes::put_bytes;
-use bank_store::Bank;
-use posting_core::{ENTRY_BYTES, Sink, encode_entry};
+use bank_store::{Bank, entry_in};
+use posting_core::Sink;
 use posting_rules::{Counter, Fault, Rule};
 use report_contents::put_last;
 use sqlite::Alter;
 use walked_rows::{KeptRequest, StoredMeta};
-
-// The entry of a kept row; none where its numbers are those of no request.
-fn entry_in(row: &KeptRequest) -> Option<[u8; ENTRY_BYTES]>
-    ensures some { IfSome result (λ entry. entry ≡ entry_of (logged_in (kept_item row.now))) }
-    ensures none { IfNone result (IsAnsweredRow (kept_item row.now) → ⊥) }
-{
-    let Some(request) = request_of(row) else {
-        return None;
-    };
-    let Some(reply) = reply_of(row, request) else {
-        return None;
-    };
-    Some(encode_entry(&request, &reply, moment_of(&row.posting)))
-}
 
 /// Requests after an ordinal are written as entries.
 #[derive(Drop)]

@@ -7,7 +7,6 @@ ghost use Rattle.bank_replays.specs.declared.fault.ReplayFault.TheVariants.{Bank
 
 use crate::fault::ReplayFault;
 use crate::handed::Hands;
-use crate::requests::request_of;
 use crate::watch::Watch;
 use arrayvec::ArrayVec;
 use bank_store::Bank;
@@ -18,7 +17,7 @@ use posting_rules::{
 };
 use sqlite::Alter;
 use std::alloc::{AllocError, Global};
-use walked_rows::{KeptRequest, StoredBranch, StoredFloor};
+use walked_rows::{KeptRequest, StoredBranch, StoredFloor, request_of};
 
 const NO_MEMORY: ReplayFault = ReplayFault::Bank(Fault::Memory);
 

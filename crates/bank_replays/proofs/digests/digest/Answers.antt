@@ -3,11 +3,13 @@ use Rattle.std.proofs.Common.{rules, ◌≡◌, ◌∙◌, Bool, Ok, Err, Option
 use Rattle.posting_rules.specs.declared.fault.Fault.{Fault}
 use Rattle.bank_store.specs.believed.Seen.{bank_seen, database_of}
 use Rattle.bank_store.proofs.{AsFound.idle_as_found, ReadsLeave.idle_takes}
-use Rattle.bank_replays.specs.Digests.{answered_after}
+use Rattle.posting_core.specs.believed.LogEntries.{answered_after}
 use Rattle.bank_replays.proofs.Digested.{digests_err, digests_log, rows_enough, rows_fewer}
 use Rattle.bank_replays.proofs.{SoundLogs.sound_log, Whys.err_is, Whys.why_err, Whys.why_none}
-use Rattle.bank_replays.proofs.{Leaves.read_leaves, Leaves.read_takes, LogRows.has_kept}
-use Rattle.bank_replays.proofs.{LogRows.kept_answered, LogRows.kept_of, Read.read_any, Read.read_fails}
+use Rattle.bank_store.proofs.LogRows.{has_kept}
+use Rattle.bank_replays.proofs.{Leaves.read_leaves, Leaves.read_takes}
+use Rattle.bank_store.proofs.LogRows.{kept_answered, kept_of}
+use Rattle.bank_replays.proofs.{Read.read_any, Read.read_fails}
 use Rattle.bank_replays.specs.declared.chain.Digest.{Digest}
 use Rattle.bank_replays.proofs.digests.digest.Goals as goal
 

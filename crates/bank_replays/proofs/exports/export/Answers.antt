@@ -1,7 +1,8 @@
 -- The records of a log's requests.
 use Rattle.std.proofs.Common.{refl}
 use Rattle.bank_store.specs.believed.Seen.{database_of}
-use Rattle.bank_replays.proofs.{ExportedLog.writes_log, LogRows.has_kept, LogRows.kept_of, SoundLogs.sound_log}
+use Rattle.bank_store.proofs.LogRows.{has_kept, kept_of}
+use Rattle.bank_replays.proofs.{ExportedLog.writes_log, SoundLogs.sound_log}
 use Rattle.bank_replays.proofs.exports.export.Goals as goal
 
 pub returns-clause-log : goal.returns-clause-log

@@ -1,6 +1,7 @@
 -- The entries of a log.
 use Rattle.bank_store.specs.believed.Seen.{database_of}
-use Rattle.bank_replays.proofs.{Logged.logs_log, LogRows.has_kept, LogRows.kept_of}
+use Rattle.bank_store.proofs.LogRows.{has_kept, kept_of}
+use Rattle.bank_replays.proofs.{Logged.logs_log}
 use Rattle.bank_replays.proofs.logs.write_log.Goals as goal
 
 pub returns-clause-log : goal.returns-clause-log

@@ -4,7 +4,8 @@ use Rattle.std.proofs.lemmas.List.{length-map}
 use Rattle.posting_rules.specs.declared.fault.{Fault.TheVariants.Damaged, Fault.TheVariants.Memory, Rule.TheVariants.Request}
 use Rattle.walked_rows.specs.KeptRows.{kept_item}
 use Rattle.bank_replays.specs.{Digests.chained, Prefixes.digest_ends, Prefixes.not_write}
-use Rattle.bank_replays.proofs.Chained.{answered_is, one_more}
+use Rattle.bank_store.proofs.KeptEntries.{answered_is}
+use Rattle.bank_replays.proofs.Chained.{one_more}
 use Rattle.bank_replays.proofs.chain.ChainingHandsKeptRequestDigest.hand.Goals as goal
 
 pub returns-in_default-clause-part : goal.returns-in_default-clause-part

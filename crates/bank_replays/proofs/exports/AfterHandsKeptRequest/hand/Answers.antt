@@ -3,8 +3,10 @@ use Rattle.std.proofs.Common.{rules, ◌≡◌, Bool, true, false, not, refl, sy
 use Rattle.message_records.specs.believed.Spelling.{request_spelling}
 use Rattle.walked_rows.specs.KeptRows.{kept_item}
 use Rattle.posting_rules.specs.declared.fault.{Fault.TheVariants.Damaged, Rule.TheVariants.Request}
-use Rattle.bank_replays.specs.{Requests.request_in, Writing.is_after}
-use Rattle.bank_replays.proofs.{Chained.request_is, Exported.records_part, Exported.records_put}
+use Rattle.walked_rows.specs.Requests.{request_in}
+use Rattle.bank_replays.specs.{Writing.is_after}
+use Rattle.walked_rows.proofs.Came.{request_is}
+use Rattle.bank_replays.proofs.{Exported.records_part, Exported.records_put}
 use Rattle.bank_replays.proofs.{Exported.records_refused, Wrote.writer_refuses}
 use Rattle.bank_replays.proofs.exports.AfterHandsKeptRequest.hand.Given.{Over}
 use Rattle.bank_replays.proofs.exports.AfterHandsKeptRequest.hand.Goals as goal

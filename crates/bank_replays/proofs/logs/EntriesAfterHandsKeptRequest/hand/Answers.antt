@@ -3,7 +3,8 @@ use Rattle.std.proofs.Common.{rules, ◌≡◌, ◌++◌, ℕ, List, Bool, true,
 use Rattle.posting_rules.specs.declared.fault.{Fault.TheVariants.Damaged, Rule.TheVariants.Request}
 use Rattle.walked_rows.specs.KeptRows.{kept_item}
 use Rattle.bank_replays.specs.{Logs.entries_after, Prefixes.all_part, Writing.is_after}
-use Rattle.bank_replays.proofs.Logged.{entry_at, entry_more, one_entry}
+use Rattle.bank_store.specs.KeptEntries.{entry_in}
+use Rattle.bank_replays.proofs.Logged.{entry_more, one_entry}
 use Rattle.bank_replays.proofs.{Wrote.puts_part, Wrote.puts_took, Wrote.writer_refuses}
 use Rattle.bank_replays.proofs.logs.EntriesAfterHandsKeptRequest.hand.Given.{Over}
 use Rattle.bank_replays.proofs.logs.EntriesAfterHandsKeptRequest.hand.Goals as goal
@@ -23,7 +24,7 @@ module _ (g : Over) (c : goal.After-put_bytes g) where
   after_is : is_after c.args.self.now.after (kept_item c.args.row) ≡ true
   after_is = sym c.is_after.ensures ∙ search (rules, not_not)
 
-  bytes_are : c.as_slice.result.now ≡ entry_at (kept_item c.args.row)
+  bytes_are : c.as_slice.result.now ≡ entry_in (kept_item c.args.row)
   bytes_are = search rules
 
 pub returns-clause-took : goal.returns-clause-took
