@@ -17,8 +17,8 @@ BreaksShown So db Clean rule = Clean → (t : Tables) → Shows db t → So t �
 module _ {S X : Type 0} {So : Tables → Type 0} {after : Tables → Tables} {wanted : Tables → X} (g : Ghosts S)
     (old mid new : Held S)
     (cause : Option TableFault) (fault : Fault) (quiet : Survives (state g mid) (state g new) (λ _. ⊥)) where
-  of_damage : (Met : Damage S) → ((rule : Rule) → Met old mid rule → Met old new rule) → (e : TableFault)
-      → TransactsBy {X = X} Met g old mid So after wanted (Err e)
+  of_damage : {Adds : Additions} (Met : Damage S) → ((rule : Rule) → Met old mid rule → Met old new rule) → (e : TableFault)
+      → TransactsBy {X = X} Met Adds g old mid So after wanted (Err e)
       → GoesDown (state g mid) (state g new) e cause fault
       → OfDamage fault (λ rule. HasCleanDisk (state g new) → Met old new rule)
   of_damage Met wide (Sqlite error) does went =
@@ -32,7 +32,8 @@ module _ {S X : Type 0} {So : Tables → Type 0} {after : Tables → Tables} {wa
       tt
 
   -- and tables that are so break it
-  pub breaks_shown : (Met : Damage S) (e : TableFault) → TransactsBy {X = X} Met g old mid So after wanted (Err e)
+  pub breaks_shown : {Adds : Additions} (Met : Damage S) (e : TableFault)
+      → TransactsBy {X = X} Met Adds g old mid So after wanted (Err e)
       → GoesDown (state g mid) (state g new) e cause fault
       → OfDamage fault (BreaksShown So (state g old).now (HasCleanDisk (state g new)))
   breaks_shown Met (Sqlite error) does went =
@@ -44,7 +45,8 @@ module _ {S X : Type 0} {So : Tables → Type 0} {after : Tables → Tables} {wa
       subst (λ (f : Fault). OfDamage f (BreaksShown So (state g old).now (HasCleanDisk (state g new)))) (sym went.0) tt
 
   -- of a call that only reads
-  pub consulted : (e : TableFault) → TransactsBy {X = X} (IsFirstBroken g) g old mid So after wanted (Err e)
+  pub consulted : {Adds : Additions} (e : TableFault)
+      → TransactsBy {X = X} (IsFirstBroken g) Adds g old mid So after wanted (Err e)
       → GoesDown (state g mid) (state g new) e cause fault
       → OfDamage fault (λ rule. HasCleanDisk (state g new) → IsFirstBroken g old new rule)
   consulted e does went = of_damage (IsFirstBroken g) (λ rule it. it) e does went

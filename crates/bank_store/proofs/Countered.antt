@@ -1,5 +1,5 @@
 -- A transaction on a connection, as a call of a counter.
-use Rattle.std.proofs.Common.{◌≡◌, ℕ, List, length, Option, Some, None, Result, Ok, Err, refl, sym, subst, ◌∙◌, arith}
+use Rattle.std.proofs.Common.{◌≡◌, ◌≤◌, ℕ, List, length, Option, Some, None, Result, Ok, Err, refl, sym, subst, ◌∙◌, arith}
 use Rattle.std.proofs.Common.{inl, inr}
 use Rattle.std.specs.Prelude.{IsSome}
 use Rattle.std.proofs.Math.Seq.{take-length}
@@ -9,7 +9,11 @@ use Rattle.sqlite_trees.specs.declared.store.Store.{Ghosts}
 use Rattle.sqlite.proofs.StateLemmas.{survives_then}
 use Rattle.posting_rules.specs.{declared.fault.Fault.Fault, declared.fault.Rule.Rule, believed.Runs.followed_by}
 use Rattle.posting_rules.specs.declared.fault.Fault.TheVariants as told
-use Rattle.posting_rules.specs.believed.Commands.{Command, AreCommands}
+use Rattle.posting_rules.specs.believed.Commands.{Command, AreCommands, Terms}
+use Rattle.posting_rules.specs.declared.limits.TheConstants.{MAX_ACCOUNTS}
+use Rattle.posting_rules.proofs.ChangesByKey.{sound_tables}
+use Rattle.bank_transactions.specs.believed.Openings.{IsReadyToOpen}
+use Rattle.bank_transactions.proofs.OpeningRows.{room_sound}
 use Rattle.posting_rules.specs.believed.Counter.{ShowsLog, ShowsPrefix, Takes, IsCutShort, IsDamaged, Refuses}
 use Rattle.posting_rules.specs.believed.Counter.{TellsDamage}
 use Rattle.posting_rules.specs.believed.Tables.{Tables, AreTablesOf as Show}
@@ -17,6 +21,7 @@ use Rattle.posting_rules.proofs.{Calls.IsChange, Sequence.commands_after, Undama
 use Rattle.posting_batch.specs.believed.Batch.{AreReadyFor}
 use Rattle.posting_batch.proofs.FreeOrdinals.{free_shown}
 use Rattle.store_rows.specs.{believed.View.Shows, declared.fault.TableFault.TableFault, believed.Failures.Committing}
+use Rattle.store_rows.specs.believed.Failures.{Additions}
 use Rattle.store_rows.specs.believed.Rules.{IsBroken}
 use Rattle.store_rows.specs.declared.fault.TableFault.TheVariants.{Sqlite, Damaged}
 use Rattle.bank_transactions.specs.{believed.Causes.Damage, believed.Causes.HasFailedBetween, Doing.MayLeaveAfter}
@@ -57,10 +62,14 @@ has_room count t ready = record {
 pub of_logs : (count : ℕ) → HoldsOfLogs (HasRoomFor count)
 of_logs count t log are shows = has_room count t (undamaged t log are shows, free_shown t log count shows)
 
+pub ready_to_open : (branch : ℕ) (terms : Terms) → 1 ≤ branch → terms.accounts ≤ MAX_ACCOUNTS
+    → HoldsOfLogs (IsReadyToOpen branch terms)
+ready_to_open branch terms low few t log are shows = room_sound t branch terms low few (sound_tables t log are shows)
+
 module _ {S X : Type 0} {So : Tables → Type 0} {after : Tables → Tables} {wanted : Tables → X} {g : Ghosts S}
-    {old new : Held S} {r : Result X TableFault} {Met : Damage S}
+    {old new : Held S} {r : Result X TableFault} {Met : Damage S} {Adds : Additions}
     (holds : HoldsOfLogs So) (cs : List Command) (is : IsChange after cs)
-    (does : TransactsBy Met g old new So after wanted r) where
+    (does : TransactsBy Met Adds g old new So after wanted r) where
   -- a call that a fault ended: what a crash leaves is what it could leave before, or all of the call
   pub cut_short : AreCommands cs → (end : State) (D E : Type 0) → E
       → Survives (state g old) end (MayLeaveAfter (state g old) So after)
@@ -99,10 +108,10 @@ module _ {S X : Type 0} {So : Tables → Type 0} {after : Tables → Tables} {wa
 
 -- the same after a fault that brought the bank down
 pub none_or_all_down : {S X : Type 0} {So : Tables → Type 0} {after : Tables → Tables} {wanted : Tables → X}
-    {Met : Damage S} (g : Ghosts S) (old mid new : Held S)
+    {Met : Damage S} {Adds : Additions} (g : Ghosts S) (old mid new : Held S)
     (r : Result X TableFault) (holds : HoldsOfLogs So) (cs : List Command) (is : IsChange after cs)
     (D E : Type 0)
-    → TransactsBy {X = X} Met g old mid So after wanted r → Survives (state g mid) (state g new) (λ _. ⊥)
+    → TransactsBy {X = X} Met Adds g old mid So after wanted r → Survives (state g mid) (state g new) (λ _. ⊥)
     → LeavesNoneOrAll (seen_in (state g old) D) (seen_in (state g new) E) cs
 none_or_all_down {S} {X} {So} {after} {wanted} g old mid new r holds cs is D E does quiet =
     none_or_all holds cs is does (state g new) D E
@@ -113,11 +122,11 @@ none_or_all_down {S} {X} {So} {after} {wanted} g old mid new r holds cs is D E d
 -- a call that was answered
 pub takes : {S X : Type 0} {So : Tables → Type 0} {after : Tables → Tables} {wanted : Tables → X}
     {g : Ghosts S} {old new : Held S} {x : X}
-    {Met : Damage S} (holds : HoldsOfLogs So)
+    {Met : Damage S} {Adds : Additions} (holds : HoldsOfLogs So)
     (cs : List Command) → IsChange after cs → AreCommands cs → (D E : Type 0) → (E → ⊥)
-    → TransactsBy Met g old new So after wanted (Ok x)
+    → TransactsBy Met Adds g old new So after wanted (Ok x)
     → Takes (seen_in (state g old) D) (seen_in (state g new) E) cs
-takes {S} {X} {So} {after} {wanted} {g} {old} {new} {x} {Met} holds cs is are D E up does =
+takes {S} {X} {So} {after} {wanted} {g} {old} {new} {x} {Met} {Adds} holds cs is are D E up does =
     let told =
     λ (clean : HasCleanDisk (state g new)) (log : List Command) (s : ShowsLog (seen_in (state g old) D) log).
     does.told clean s.tables s.are (holds s.tables log s.commands s.shows) in
@@ -160,13 +169,13 @@ goes_down cause fault e = subst (λ (o : Option TableFault). IsSome o) (sym e) r
 
 -- a call that a fault ended, and that brought the bank down
 pub refuses : {S X : Type 0} {So : Tables → Type 0} {after : Tables → Tables} {wanted : Tables → X}
-    {Met : Damage S} (g : Ghosts S) (old mid new : Held S) (holds : HoldsOfLogs So)
+    {Met : Damage S} {Adds : Additions} (g : Ghosts S) (old mid new : Held S) (holds : HoldsOfLogs So)
     (cs : List Command) (is : IsChange after cs) → AreCommands cs
     → (D : Type 0) (e : TableFault) (cause : Option TableFault) (fault : Fault)
-    → TransactsBy {X = X} Met g old mid So after wanted (Err e)
+    → TransactsBy {X = X} Met Adds g old mid So after wanted (Err e)
     → GoesDown (state g mid) (state g new) e cause fault → Survives (state g mid) (state g new) (λ _. ⊥)
     → Refuses fault (seen_in (state g old) D) (seen_in (state g new) (IsSome cause)) cs
-refuses {S} {X} {So} {after} {wanted} {Met} g old mid new holds cs is are D e cause fault does down quiet =
+refuses {S} {X} {So} {after} {wanted} {Met} {Adds} g old mid new holds cs is are D e cause fault does down quiet =
     by_fault e does down
   where
     before : HasCleanDisk (state g new) → HasCleanDisk (state g mid)
@@ -184,7 +193,7 @@ refuses {S} {X} {So} {after} {wanted} {Met} g old mid new holds cs is are D e ca
         (MayLeaveAfter (state g old) So after)
         (λ clean db h. h) (λ clean db none. absurd none) does.survives quiet))
 
-    by_fault : (f : TableFault) → TransactsBy {X = X} Met g old mid So after wanted (Err f)
+    by_fault : (f : TableFault) → TransactsBy {X = X} Met Adds g old mid So after wanted (Err f)
         → GoesDown (state g mid) (state g new) f cause fault → Refused fault
     by_fault (Sqlite error) it went = failed (Sqlite error) went.0 went.1
     by_fault (Damaged rule) it (inl went) =
@@ -197,8 +206,8 @@ refuses {S} {X} {So} {after} {wanted} {Met} g old mid new holds cs is are D e ca
 
 -- where rows are told to be damaged, all that the file holds is as it was
 pub keeps_file : {S X : Type 0} {So : Tables → Type 0} {after : Tables → Tables} {wanted : Tables → X}
-    {Met : Damage S} (g : Ghosts S) (old mid new : Held S) (e : TableFault)
-    (cause : Option TableFault) (fault : Fault) → TransactsBy {X = X} Met g old mid So after wanted (Err e)
+    {Met : Damage S} {Adds : Additions} (g : Ghosts S) (old mid new : Held S) (e : TableFault)
+    (cause : Option TableFault) (fault : Fault) → TransactsBy {X = X} Met Adds g old mid So after wanted (Err e)
     → GoesDown (state g mid) (state g new) e cause fault
     → Survives (state g mid) (state g new) (λ _. ⊥) → TellsDamage fault → HasCleanDisk (state g new)
     → (state g new).now ≡ (state g old).now
@@ -218,9 +227,9 @@ same_error cause x e is says = let it = rw is at says in cc
 
 -- the error that is cause is one with which a call of `sqlite` failed
 module _ {S X : Type 0} {So : Tables → Type 0} {after : Tables → Tables} {wanted : Tables → X}
-    {Met : Damage S} (g : Ghosts S) (old mid new : Held S) (cause : Option TableFault)
+    {Met : Damage S} {Adds : Additions} (g : Ghosts S) (old mid new : Held S) (cause : Option TableFault)
     (fault : Fault) (quiet : Survives (state g mid) (state g new) (λ _. ⊥)) where
-  pub failed_between : (e : TableFault) → TransactsBy {X = X} Met g old mid So after wanted (Err e)
+  pub failed_between : (e : TableFault) → TransactsBy {X = X} Met Adds g old mid So after wanted (Err e)
       → GoesDown (state g mid) (state g new) e cause fault
       → HasCleanDisk (state g new) → (x : Error) → error_in cause ≡ Some x → HasFailedBetween g old new x
   failed_between (Sqlite error) does went clean x says =

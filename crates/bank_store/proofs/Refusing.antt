@@ -1,21 +1,23 @@
 -- A call of the bank, as the one record of it: what became of a transaction, or nothing was tried.
-use Rattle.std.proofs.Common.{◌≡◌, ℕ, List, Option, None, Result, Ok, Err, arith, refl, sym, ap, subst, ◌∙◌, inl, inr}
+use Rattle.std.proofs.Common.{◌≡◌, ℕ, List, length, Option, None, Result, Ok, Err, arith, refl, sym, ap, subst, ◌∙◌, inl, inr}
 use Rattle.std.specs.Prelude.{IsSome, ◌≢◌}
 use Rattle.sqlite.specs.{State.State, State.HasCleanDisk, State.Survives, Held.Held, Held.state}
 use Rattle.sqlite_trees.specs.declared.store.Store.{Ghosts}
 use Rattle.posting_rules.specs.{declared.fault.Fault.Fault, declared.fault.Rule.Rule, believed.Tables.Tables}
 use Rattle.posting_rules.specs.declared.fault.Fault.TheVariants.{Memory, Store, Down, Damaged as Broken}
-use Rattle.posting_rules.specs.believed.Commands.{Command, AreCommands}
+use Rattle.posting_rules.specs.believed.Commands.{Command, AreCommands, Terms}
 use Rattle.posting_rules.specs.believed.Counter.{Refuses, Takes, TellsDamage}
 use Rattle.posting_rules.proofs.Calls.{IsChange}
 use Rattle.posting_rules.proofs.CounterCalls.{call_answered, call_refused, call_spared, call_untried, unchanged_seen}
 use Rattle.store_rows.specs.believed.Failures.{Additions}
 use Rattle.store_rows.specs.declared.fault.TableFault.{TableFault, TheVariants.Sqlite, TheVariants.Damaged}
 use Rattle.bank_transactions.specs.{Doing.Transacts, Doing.TransactsBy}
-use Rattle.bank_transactions.specs.believed.{Additions.AddsForRecords, Additions.AnyRow, Batches.HasRoomFor}
+use Rattle.bank_transactions.specs.believed.{Additions.AddsBranch, Additions.AddsForRecords, Additions.AnyRow}
+use Rattle.bank_transactions.specs.believed.{Batches.HasRoomFor, Openings.IsReadyToOpen}
 use Rattle.bank_transactions.specs.{believed.Causes.Damage, believed.Causes.IsBrokenOrMet, Causes.IsFirstBroken}
 use Rattle.bank_transactions.proofs.{Blamed.between_also, KeepsRules.unbroken}
-use Rattle.bank_store.specs.believed.Down.{BreaksRule, IsBankCall, KeepsCause, OfDamage, WasBrokenOrMet, bank_reason}
+use Rattle.bank_store.specs.believed.Down.{BreaksOpening, BreaksRule, IsBankCall, KeepsCause, OfDamage}
+use Rattle.bank_store.specs.believed.Down.{WasBrokenOrMet, bank_reason}
 use Rattle.bank_store.specs.{Down.GoesDown, Seen.fault_of, declared.bank.Bank.Bank}
 use Rattle.bank_store.specs.believed.Seen.{bank_seen, cause_of, connection_of, database_of}
 use Rattle.bank_store.proofs.Broke.{BreaksShown, consulted, transacted}
@@ -102,19 +104,31 @@ of_wider Down P Q wide is = tt
 of_wider (Broken rule) P Q wide is = wide rule is
 
 -- of records: both are so of it, and tables that are ready for them break none
-pub breaks : {S : Type 0} (g : Ghosts S) (count : ℕ) (old new : Bank S g) (told : Fault)
-    → OfDamage told (WasBrokenOrMet g (AddsForRecords (database_of g old) count) old new)
-    → OfDamage told (BreaksShown (HasRoomFor count) (database_of g old) (HasCleanDisk (state g (connection_of new))))
-    → OfDamage told (BreaksRule g count old new)
-breaks g count old new Memory met broken = tt
-breaks g count old new Store met broken = tt
-breaks g count old new Down met broken = tt
-breaks g count old new (Broken rule) met broken = record {
+pub breaks : {S : Type 0} (g : Ghosts S) (records : List (List ℕ)) (old new : Bank S g) (told : Fault)
+    → OfDamage told (WasBrokenOrMet g (AddsForRecords (database_of g old) records) old new)
+    → OfDamage told (BreaksShown (HasRoomFor (length records)) (database_of g old)
+    (HasCleanDisk (state g (connection_of new))))
+    → OfDamage told (BreaksRule g records old new)
+breaks g records old new Memory met broken = tt
+breaks g records old new Store met broken = tt
+breaks g records old new Down met broken = tt
+breaks g records old new (Broken rule) met broken = record {
   met = met;
   broken = broken;
   unfit = λ clean t shows ready. unbroken (database_of g old) t shows ready.0 rule
-      (broken clean t shows (has_room count t ready));
+      (broken clean t shows (has_room (length records) t ready));
 }
+
+-- of an opening
+pub breaks_opening : {S : Type 0} (g : Ghosts S) (branch : ℕ) (terms : Terms) (old new : Bank S g) (told : Fault)
+    → OfDamage told (WasBrokenOrMet g (AddsBranch branch terms) old new)
+    → OfDamage told (BreaksShown (IsReadyToOpen branch terms) (database_of g old)
+    (HasCleanDisk (state g (connection_of new))))
+    → OfDamage told (BreaksOpening g branch terms old new)
+breaks_opening g branch terms old new Memory met broken = tt
+breaks_opening g branch terms old new Store met broken = tt
+breaks_opening g branch terms old new Down met broken = tt
+breaks_opening g branch terms old new (Broken rule) met broken = record { met = met; broken = broken }
 
 module _ {S X : Type 0} {So : Tables → Type 0} {after : Tables → Tables} {wanted : Tables → X} (g : Ghosts S)
     (old new : Bank S g) (mid : Held S)
@@ -122,10 +136,10 @@ module _ {S X : Type 0} {So : Tables → Type 0} {after : Tables → Tables} {wa
     (e : TableFault) (told : Fault)
     (down : GoesDown (state g mid) (state g (connection_of new)) e (fault_of new) told)
     (quiet : Survives (state g mid) (state g (connection_of new)) (λ _. ⊥)) where
-  refusal : (Met : Damage S)
+  refusal : (Met : Damage S) {Adds : Additions}
       → ((rule : Rule) → Met (connection_of old) (connection_of new) rule
       → IsBrokenOrMet g AnyRow (connection_of old) (connection_of new) rule)
-      → TransactsBy {X = X} Met g (connection_of old) mid So after wanted (Err e)
+      → TransactsBy {X = X} Met Adds g (connection_of old) mid So after wanted (Err e)
       → OfDamage told (λ rule. HasCleanDisk (state g (connection_of new))
       → Met (connection_of old) (connection_of new) rule)
       → Refusal g old new cs Met told
@@ -151,8 +165,8 @@ module _ {S X : Type 0} {So : Tables → Type 0} {after : Tables → Tables} {wa
       }
 
   -- of a call that only reads
-  pub consult_refused : TransactsBy {X = X} (IsFirstBroken g) g (connection_of old) mid So after wanted
-      (Err e)
+  pub consult_refused : {Adds : Additions}
+      → TransactsBy {X = X} (IsFirstBroken g) Adds g (connection_of old) mid So after wanted (Err e)
       → Refusal g old new cs (IsFirstBroken g) told
   consult_refused does =
       refusal (IsFirstBroken g) (λ rule it. inl it) does

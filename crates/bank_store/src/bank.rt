@@ -236,12 +236,11 @@ impl<S: Alter + Drop> Counter for Bank<S> {
     ghost use Rattle.message_records.specs.believed.Records.{RequestFields};
     ghost use Rattle.message_records.specs.declared.fault.Bad.{Bad};
     ghost use Rattle.posting_rules.specs.believed.Entries.{malformed_reply};
-    ghost use Rattle.bank_transactions.specs.believed.Additions.{AddsBranch};
     ghost use Rattle.bank_transactions.specs.believed.Causes.{IsBefore};
     ghost use Rattle.bank_transactions.specs.believed.Stored.{IsStoredBalance, OpensByStored};
     ghost use Rattle.bank_transactions.specs.Stored.{IsStoredNext};
-    ghost use Rattle.bank_transactions.specs.believed.Stored.{RepliesToAllStored, RepliesToStored};
-    ghost use Rattle.bank_store.specs.believed.Down.{AnswersBy, BreaksRule, IsBankCall, OfDamage, WasBrokenOrMet};
+    ghost use Rattle.bank_transactions.specs.believed.Answered.{AnswersAll, AnswersOne};
+    ghost use Rattle.bank_store.specs.believed.Down.{AnswersBy, BreaksOpening, BreaksRule, IsBankCall, OfDamage};
     ghost use Rattle.bank_store.specs.Down.{WasBroken};
     ghost use Rattle.bank_store.specs.believed.Down.{bank_reason};
     ghost use Rattle.bank_store.specs.believed.NoneOrAll.{LeavesBatch, LeavesNoneOrAll, LeavesRecords};
@@ -280,7 +279,7 @@ impl<S: Alter + Drop> Counter for Bank<S> {
         // Whatever rows the file holds. A request that is kept changes nothing, whatever tables it has.
         ensures stored { IfOk result (λ out. (bank_seen S.Store self.new).honest → (r : RequestFields)
             → request_of bytes.now ≡ Ok r
-            → RepliesToStored (database_of S.Store self.old) (database_of S.Store self.new) r out) }
+            → AnswersOne (database_of S.Store self.old) (database_of S.Store self.new) bytes.now r out) }
         // Be the tables of a log, damaged or neither.
         ensures leaves { IfOk result (λ out. (bank_seen S.Store self.new).honest → (r : RequestFields)
             → request_of bytes.now ≡ Ok r → (t : Tables) → (bank_seen S.Store self.old).tables t → HasRoomFor 1 t
@@ -292,7 +291,7 @@ impl<S: Alter + Drop> Counter for Bank<S> {
         // A key that is taken is the next ordinal's, unless the file has no bank's tables. Where that ordinal is free,
         // the rows that the file held break the rule.
         ensures own { IfErr result (λ fault. OfDamage fault
-            (BreaksRule S.Store 1 self.old self.new)) }
+            (BreaksRule S.Store (bytes.now ∷ []) self.old self.new)) }
         ensures spares { SparesOtherTables S.Store self.old self.new }
     {
         range_law(moment);
@@ -331,12 +330,12 @@ impl<S: Alter + Drop> Counter for Bank<S> {
             → LeavesBatch S.Store self.old self.new t moment records.now replies.items) }
         // Whatever rows the file holds. Records that are all kept change nothing, whatever tables it has.
         ensures stored { IfOk result (λ replies. (bank_seen S.Store self.new).honest
-            → RepliesToAllStored (database_of S.Store self.old) (database_of S.Store self.new) moment records.now
+            → AnswersAll (database_of S.Store self.old) (database_of S.Store self.new) moment records.now
             replies.items) }
         // A key that is taken is one of the next ordinals', at most one a record, unless the file has no bank's
         // tables. Where those are free, the rows that the file held break the rule.
         ensures own { IfErr result (λ fault. OfDamage fault
-            (BreaksRule S.Store (length records.now) self.old self.new)) }
+            (BreaksRule S.Store records.now self.old self.new)) }
         ensures spares { SparesOtherTables S.Store self.old self.new }
     {
         range_law(moment);
@@ -371,9 +370,10 @@ impl<S: Alter + Drop> Counter for Bank<S> {
             → OpensByStored (database_of S.Store self.old) (database_of S.Store self.new) branch
             (opened_with count floor) opening) }
         // A key that is taken is the branch's own, one of its tellers', of its accounts' or its floor's, unless the
-        // file has no bank's tables. It changes no row that is there, so that none can be missing.
+        // file has no bank's tables. It changes no row that is there, so that none can be missing. Where those keys
+        // are free, the rows that the file held break the rule.
         ensures own { IfErr result (λ fault. OfDamage fault
-            (WasBrokenOrMet S.Store (AddsBranch branch (opened_with count floor)) self.old self.new)) }
+            (BreaksOpening S.Store branch (opened_with count floor) self.old self.new)) }
         ensures spares { SparesOtherTables S.Store self.old self.new }
     {
         range_law(branch);

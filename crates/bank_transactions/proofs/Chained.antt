@@ -11,6 +11,8 @@ use Rattle.store_rows.specs.declared.fault.TableFault.{TableFault, TheVariants.S
 use Rattle.bank_transactions.specs.{believed.Causes.Damage, believed.Causes.IsBrokenOrMet, Causes.IsFirstBroken}
 use Rattle.bank_transactions.specs.Doing.{Acts, CommitsNothing, Does, DoesBy, GoesOnUncommitted, LeavesAndAnswers, Looks}
 use Rattle.bank_transactions.proofs.Blamed.{blames_also, broken_or_met, comes, met_after}
+use Rattle.bank_transactions.proofs.Wrote.{writes_also, writes_none, writes_then}
+use Rattle.std.proofs.lemmas.Result.{on_ok_weaker}
 
 -- ---- what goes on
 
@@ -63,6 +65,7 @@ does_none stays = record {
     leaves = λ clean live. (
       record { opened = λ h. h; committed = refl; mode = refl; spares = spares_itself bank_names _ },
       tt,
+      writes_none _ _,
     );
     survives = stays;
   };
@@ -72,7 +75,7 @@ does_none stays = record {
 pub does_then : {S X Y : Type 0} {g : Ghosts S} {Adds : Additions} {old mid new : Transaction S} {So So' : Tables → Type 0}
     {after after' : Tables → Tables}
     {w : Tables → X} {w' : Tables → Y} {x : X} {r : Result Y TableFault} {Bad Met : Damage S}
-    → DoesBy Bad Met g old mid So after w (Ok x)
+    → DoesBy Bad Met Adds g old mid So after w (Ok x)
     → Does g Adds mid new So' after' w' r → ((t : Tables) → So t → So' (after t))
     → Does g Adds old new So (λ t. after' (after t)) (λ t. w' (after t)) r
 does_then {S} {X} {Y} {g} {Adds} {old} {mid} {new} {So} {So'} {after} {after'} {w} {w'} {x} {r} {Bad} {Met} one two ready =
@@ -86,15 +89,16 @@ does_then {S} {X} {Y} {g} {Adds} {old} {mid} {new} {So} {So'} {after} {after'} {
           let last = leaves' (still_in (state g old.conn.now) (state g mid.conn.now) on live) in (
             keeps_then (state g old.conn.now) (state g mid.conn.now) (state g new.conn.now) r on last.0,
             met_after Adds g old.conn.now mid.conn.now new.conn.now r (comes one.says.survives) last.1,
+            on_ok_weaker r (writes_then Adds _ _ _ (leaves live).2) last.2,
           ));
     }
 
 -- an error of a part is that of the whole
 pub does_err : {S X Y : Type 0} {g : Ghosts S} {old new : Transaction S} {So So' : Tables → Type 0}
     {after after' : Tables → Tables}
-    {w : Tables → X} {w' : Tables → Y} {e : TableFault} {Bad Met : Damage S}
-    → DoesBy Bad Met g old new So after w (Err e) → ((t : Tables) → So' t → So t)
-    → DoesBy Bad Met g old new So' after' w' (Err e)
+    {w : Tables → X} {w' : Tables → Y} {e : TableFault} {Bad Met : Damage S} {Adds : Additions}
+    → DoesBy Bad Met Adds g old new So after w (Err e) → ((t : Tables) → So' t → So t)
+    → DoesBy Bad Met Adds g old new So' after' w' (Err e)
 does_err {S} {X} {Y} {g} {old} {new} {So} {So'} {after} {after'} {w} {w'} {e} {Bad} {Met} part so = record {
   says = record {
     same_reference = part.says.same_reference;
@@ -109,9 +113,10 @@ does_err {S} {X} {Y} {g} {old} {new} {So} {So'} {after} {after'} {w} {w'} {e} {B
 -- the same, said in other words
 pub does_for : {S X : Type 0} {g : Ghosts S} {old new : Transaction S} {So So' : Tables → Type 0}
     {after after' : Tables → Tables}
-    {w w' : Tables → X} {r : Result X TableFault} {Bad Met : Damage S} → DoesBy Bad Met g old new So after w r
+    {w w' : Tables → X} {r : Result X TableFault} {Bad Met : Damage S} {Adds : Additions}
+    → DoesBy Bad Met Adds g old new So after w r
     → ((t : Tables) → So' t → So t × (after t ≡ after' t) × (w t ≡ w' t))
-    → DoesBy Bad Met g old new So' after' w' r
+    → DoesBy Bad Met Adds g old new So' after' w' r
 does_for {S} {X} {g} {old} {new} {So} {So'} {after} {after'} {w} {w'} {r} {Bad} part same = record {
   says = record {
     same_reference = part.says.same_reference;
@@ -138,7 +143,7 @@ does_adds {S} {X} {g} {Adds} {Adds'} {old} {new} {So} {after} {w} {r} also part 
     told = part.says.told;
     leaves = λ clean live.
         let it = part.says.leaves clean live in
-        (it.0, blames_also g old.conn.now new.conn.now r (also clean) it.1);
+        (it.0, blames_also g old.conn.now new.conn.now r (also clean) it.1, on_ok_weaker r (writes_also (also clean)) it.2);
     survives = part.says.survives;
   };
 }
@@ -146,10 +151,10 @@ does_adds {S} {X} {g} {Adds} {Adds'} {old} {new} {So} {after} {w} {r} also part 
 -- the answer of the part tells that of the whole
 pub does_tell : {S X Y : Type 0} {g : Ghosts S} {old new : Transaction S} {So So' : Tables → Type 0}
     {after after' : Tables → Tables}
-    {w : Tables → X} {w' : Tables → Y} {x : X} {y : Y} {Bad Met : Damage S}
-    → DoesBy Bad Met g old new So after w (Ok x)
+    {w : Tables → X} {w' : Tables → Y} {x : X} {y : Y} {Bad Met : Damage S} {Adds : Additions}
+    → DoesBy Bad Met Adds g old new So after w (Ok x)
     → ((t : Tables) → So' t → So t × (x ≡ w t → (after t ≡ after' t) × (y ≡ w' t)))
-    → DoesBy Bad Met g old new So' after' w' (Ok y)
+    → DoesBy Bad Met Adds g old new So' after' w' (Ok y)
 does_tell {S} {X} {Y} {g} {old} {new} {So} {So'} {after} {after'} {w} {w'} {x} {y} {Bad} {Met} part so = record {
   says = record {
     same_reference = part.says.same_reference;
@@ -165,10 +170,10 @@ does_tell {S} {X} {Y} {g} {old} {new} {So} {So'} {after} {after'} {w} {w'} {x} {
 
 -- what is so of the tables in any case needn't be asked for
 pub does_known : {S X : Type 0} {g : Ghosts S} {old new : Transaction S} {So Known : Tables → Type 0}
-    {after : Tables → Tables} {w : Tables → X} {r : Result X TableFault} {Bad Met : Damage S}
+    {after : Tables → Tables} {w : Tables → X} {r : Result X TableFault} {Bad Met : Damage S} {Adds : Additions}
     → (HasCleanDisk (state g new.conn.now) → IsTrue (state g old.conn.now).in_transaction → (t : Tables)
     → Shows (state g old.conn.now).now t → So t → Known t)
-    → DoesBy Bad Met g old new (λ t. So t × Known t) after w r → DoesBy Bad Met g old new So after w r
+    → DoesBy Bad Met Adds g old new (λ t. So t × Known t) after w r → DoesBy Bad Met Adds g old new So after w r
 does_known known part = record {
   says = record {
     same_reference = part.says.same_reference;
@@ -182,7 +187,7 @@ does_known known part = record {
 
 module _ {S X Y : Type 0} {g : Ghosts S} {Adds : Additions} {old mid new : Transaction S} {So So' : Tables → Type 0}
     {after after' : Tables → Tables} {w : Tables → X} {w' : Tables → Y} {x : X} {Bad Met : Damage S}
-    (one : DoesBy Bad Met g old mid So after w (Ok x)) where
+    (one : DoesBy Bad Met Adds g old mid So after w (Ok x)) where
   -- one part, and then another, for tables of which the first answer is known
   knowing : {r : Result Y TableFault} → Does g Adds mid new So' after' w' r
       → ((t : Tables) → So t → x ≡ w t → So' (after t))
@@ -215,7 +220,7 @@ acts_as : {S X : Type 0} {Bad Met : Damage S} {g : Ghosts S} {Adds : Additions} 
     {So : Tables → Type 0} {after : Tables → Tables} {w : Tables → X} {r : Result X TableFault}
     → ((rule : Rule) → Bad old.conn.now new.conn.now rule → IsFirstBroken g old.conn.now new.conn.now rule)
     → ((rule : Rule) → Met old.conn.now new.conn.now rule → IsBrokenOrMet g Adds old.conn.now new.conn.now rule)
-    → DoesBy Bad Met g old new So after w r → Acts g Adds old new So after w r
+    → DoesBy Bad Met Adds g old new So after w r → Acts g Adds old new So after w r
 acts_as {S} {X} {Bad} {Met} {g} {Adds} {old} {new} {So} {after} {w} {r} worse weaker part = record {
   says = record {
     same_reference = part.says.same_reference;
@@ -224,7 +229,7 @@ acts_as {S} {X} {Bad} {Met} {g} {Adds} {old} {new} {So} {after} {w} {r} worse we
         (after t) (w t) r worse (part.says.told clean live t shows so);
     leaves = λ clean live.
         let it = part.says.leaves clean live in
-        (it.0, broken_or_met Met g old.conn.now new.conn.now r weaker it.1);
+        (it.0, broken_or_met Met g old.conn.now new.conn.now r weaker it.1, it.2);
     survives = part.says.survives;
   };
 }
@@ -232,7 +237,7 @@ acts_as {S} {X} {Bad} {Met} {g} {Adds} {old} {new} {So} {after} {w} {r} worse we
 -- it only read so far
 pub acts_read : {S X : Type 0} {g : Ghosts S} {Adds : Additions} {old new : Transaction S} {So : Tables → Type 0}
     {after : Tables → Tables} {w : Tables → X}
-    {r : Result X TableFault} → Looks g old new So after w r
+    {r : Result X TableFault} → Looks g Adds old new So after w r
     → Acts g Adds old new So after w r
 acts_read part = acts_as (λ rule it. it) (λ rule it. inl it) part
 

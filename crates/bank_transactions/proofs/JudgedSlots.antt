@@ -37,8 +37,8 @@ module _ {X : Type 0} {So : Tables → Type 0} {after : Tables → Tables} {want
       → Does {X = Unit {0}} g Adds mid new Knows after (λ _. tt {0}) r
   written_so second = does_for second (λ t it. (so.writes t it.0 it.1, so.tables t it.0 it.1, refl))
 
-  module _ {S : Type 0} {g : Ghosts S} {old mid : Transaction S}
-      (first : Looks g old mid So (λ t. t) (λ t. filled t p) (Ok p')) where
+  module _ {S : Type 0} {g : Ghosts S} {Adds : Additions} {old mid : Transaction S}
+      (first : Looks g Adds old mid So (λ t. t) (λ t. filled t p) (Ok p')) where
     -- where the count stays, it is the one that was read
     pub counts_none : (t : Tables) → So t → p' ≡ filled t p → (after t).decided ≡ t.decided
         → o.decided ≡ p'.decided
@@ -46,17 +46,17 @@ module _ {X : Type 0} {So : Tables → Type 0} {after : Tables → Tables} {want
         ∙ sym (ap (λ (q : Overlay). q.decided) e)
 
     -- nothing is written, and the tables are as they were
-    pub answered_idle : {Adds : Additions} → o.decided ≡ p'.decided → Acts g Adds old mid So after wanted (Ok x)
+    pub answered_idle : o.decided ≡ p'.decided → Acts g Adds old mid So after wanted (Ok x)
     answered_idle none =
         acts_read (does_tell first (λ t it. (it, λ e. (sym (so.back none t it e), so.answers t it e))))
 
-    pub answered_written : {Adds : Additions} {new : Transaction S}
+    pub answered_written : {new : Transaction S}
         → Does {X = Unit {0}} g Adds mid new (Written o) (λ t. tables_over o t) (λ _. tt {0}) (Ok (tt {0}))
         → Acts g Adds old new So after wanted (Ok x)
     answered_written second =
         acts_wrote (does_both first (written_so second) (λ t it e. ((it, e), refl, so.answers t it e)))
 
-    pub answered_not : {Adds : Additions} {new : Transaction S} {e : TableFault}
+    pub answered_not : {new : Transaction S} {e : TableFault}
         → Does {X = Unit {0}} g Adds mid new (Written o) (λ t. tables_over o t) (λ _. tt {0}) (Err e)
         → Acts {X = X} g Adds old new So after wanted (Err e)
     answered_not second = acts_wrote (does_but first (written_so second) (λ t it e. (it, e)))

@@ -40,7 +40,8 @@ leaves_add g old new table taken more (Err e) says = record { shown = tt }
 -- one part, and then another
 pub leaves_then : {S X Y : Type 0} {g : Ghosts S} {old mid new : Transaction S} {So So' : Tables → Type 0}
     {one two after after' : Tables → Tables} {w : Tables → X} {w' : Tables → Y} {x : X} {r : Result Y TableFault}
-    {Bad Met : Damage S} {Adds : Additions} → DoesBy Bad Met g old mid So one w (Ok x) → Does g Adds mid new So' two w' r
+    {Bad Met : Damage S} {Adds Adds' : Additions} → DoesBy Bad Met Adds g old mid So one w (Ok x)
+    → Does g Adds' mid new So' two w' r
     → Leaves {X = X} g old mid after (Ok x) → Leaves g mid new after' r
     → Leaves g old new (λ t. after' (after t)) r
 leaves_then {S} {X} {Y} {g} {old} {mid} {new} {r = Ok y} first second left more = record {

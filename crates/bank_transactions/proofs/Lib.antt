@@ -26,7 +26,10 @@ pub mod JudgedSlots
 pub mod OneRequest
 pub mod Idle
 pub mod Added
+pub mod Unkept
+pub mod OwnKeys
 pub mod NewRequests
 pub mod Tries
+pub mod Wrote
 pub mod NewBatch
 pub mod AfterLookUp

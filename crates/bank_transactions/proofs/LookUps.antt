@@ -8,11 +8,12 @@ use Rattle.posting_rules.specs.{believed.Damage.IsUndamaged, Sound.AreSound, bel
 use Rattle.posting_rules.specs.declared.fault.Rule.{Rule}
 use Rattle.sql_meanings.specs.Calls.{Says}
 use Rattle.sql_meanings.proofs.{Saying.says_then, Sparing.spares_itself, Sparing.spares_same}
-use Rattle.store_rows.specs.believed.{Sparing.bank_names, View.Shows, Rules.IsBroken}
+use Rattle.store_rows.specs.believed.{Failures.Additions, Sparing.bank_names, View.Shows, Rules.IsBroken}
 use Rattle.store_rows.specs.declared.fault.TableFault.{TableFault, TheVariants.Sqlite, TheVariants.Damaged}
 use Rattle.bank_transactions.specs.{believed.Causes.IsBefore, Causes.Blames, Causes.IsFault, Causes.IsFirstBroken}
 use Rattle.bank_transactions.specs.Doing.{ChangesNothing, CommitsNothing, LeavesAndAnswers, Looks, Reads, ReadsWhere}
-use Rattle.bank_transactions.specs.Doing.{Stays}
+use Rattle.bank_transactions.specs.Doing.{Stays, WritesIfOk}
+use Rattle.bank_transactions.proofs.Wrote.{writes_same}
 use Rattle.bank_transactions.proofs.{Blamed.comes, Blamed.fault_within, Blamed.same_moment, Chained.does_for}
 use Rattle.bank_transactions.proofs.{Chained.keeps_then}
 
@@ -173,37 +174,48 @@ look_keeps : {X : Type 0} (old new : State) (r : Result X TableFault) → Change
 look_keeps old new (Ok x) looks = looks.goes_on
 look_keeps old new (Err e) looks = looks
 
-look_leaves : {S X : Type 0} {g : Ghosts S} {old new : Transaction S} {So : Tables → Type 0} {w : Tables → X}
-    {r : Result X TableFault} → ReadsWhere g old new So w r → HasCleanDisk (state g new.conn.now)
+-- it wrote nothing
+look_writes : {X : Type 0} (Adds : Additions) (old new : State) (r : Result X TableFault)
+    → ChangesNothing old new r → WritesIfOk Adds old new r
+look_writes Adds old new (Ok x) looks = writes_same Adds old.now new.now looks.now
+look_writes Adds old new (Err e) looks = tt
+
+look_leaves : {S X : Type 0} (Adds : Additions) {g : Ghosts S} {old new : Transaction S} {So : Tables → Type 0}
+    {w : Tables → X} {r : Result X TableFault} → ReadsWhere g old new So w r → HasCleanDisk (state g new.conn.now)
     → CommitsNothing (state g old.conn.now) (state g new.conn.now) r
     × Blames (IsFirstBroken g) g old.conn.now new.conn.now r
-look_leaves {g = g} {old = old} {new = new} {r = r} reads clean =
-    let it = reads.says.leaves clean in
-    (look_keeps (state g old.conn.now) (state g new.conn.now) r it.0, it.1)
+    × WritesIfOk Adds (state g old.conn.now) (state g new.conn.now) r
+look_leaves Adds {g = g} {old = old} {new = new} {r = r} reads clean =
+    let it = reads.says.leaves clean in (
+      look_keeps (state g old.conn.now) (state g new.conn.now) r it.0,
+      it.1,
+      look_writes Adds (state g old.conn.now) (state g new.conn.now) r it.0,
+    )
 
 -- a look-up leaves the tables
-pub does_look : {S X : Type 0} {g : Ghosts S} {old new : Transaction S} {So : Tables → Type 0}
-    {w : Tables → X} {r : Result X TableFault} → ReadsWhere g old new So w r → Looks g old new So (λ t. t) w r
-does_look {S} {X} {g} {old} {new} {So} {w} {r} reads = record {
+pub does_look : {S X : Type 0} {Adds : Additions} {g : Ghosts S} {old new : Transaction S} {So : Tables → Type 0}
+    {w : Tables → X} {r : Result X TableFault} → ReadsWhere g old new So w r
+    → Looks g Adds old new So (λ t. t) w r
+does_look {S} {X} {Adds} {g} {old} {new} {So} {w} {r} reads = record {
   says = record {
     same_reference = reads.says.same_reference;
     told = λ clean live t shows so. looked g old.conn.now new.conn.now t (w t) r shows
         (reads.says.told clean t shows so) (reads.says.leaves clean);
-    leaves = λ clean live. look_leaves reads clean;
+    leaves = λ clean live. look_leaves Adds reads clean;
     survives = reads.says.survives;
   };
 }
 
 -- whatever was asked of the tables, what is told is of the rows that were there
-pub does_fail : {S X Y : Type 0} {g : Ghosts S} {old new : Transaction S} {So So' : Tables → Type 0}
-    {after : Tables → Tables} {w : Tables → X} {w' : Tables → Y} {e : TableFault}
-    → ReadsWhere g old new So w (Err e) → Looks g old new So' after w' (Err e)
-does_fail {S} {X} {Y} {g} {old} {new} {So} {So'} {after} {w} {w'} {e} reads = record {
+pub does_fail : {S X Y : Type 0} {Adds : Additions} {g : Ghosts S} {old new : Transaction S}
+    {So So' : Tables → Type 0} {after : Tables → Tables} {w : Tables → X} {w' : Tables → Y} {e : TableFault}
+    → ReadsWhere g old new So w (Err e) → Looks g Adds old new So' after w' (Err e)
+does_fail {S} {X} {Y} {Adds} {g} {old} {new} {So} {So'} {after} {w} {w'} {e} reads = record {
   says = record {
     same_reference = reads.says.same_reference;
     told = λ clean live t shows so. look_fault g old.conn.now new.conn.now (after t) (w' t) e
         (reads.says.leaves clean).1;
-    leaves = λ clean live. look_leaves reads clean;
+    leaves = λ clean live. look_leaves Adds reads clean;
     survives = reads.says.survives;
   };
 }
@@ -222,6 +234,6 @@ finds_so reads is = record {
   };
 }
 
-pub does_read : {S X : Type 0} {g : Ghosts S} {old new : Transaction S} {w : Tables → X} {r : Result X TableFault}
-    → Reads g old new w r → Looks g old new AreSound (λ t. t) w r
+pub does_read : {S X : Type 0} {Adds : Additions} {g : Ghosts S} {old new : Transaction S} {w : Tables → X}
+    {r : Result X TableFault} → Reads g old new w r → Looks g Adds old new AreSound (λ t. t) w r
 does_read reads = does_for (does_look reads) (λ t sound. (sound.undamaged, refl, refl))

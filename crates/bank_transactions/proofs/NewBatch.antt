@@ -179,8 +179,8 @@ commits_none old new (Ok x) it = record { was_open = it.opened; committed = λ _
 commits_none old new (Err e) it = it
 
 -- it commits nothing
-pub quiet : {S X : Type 0} {Bad Met : Damage S} {g : Ghosts S} {old new : Transaction S} {So : Tables → Type 0}
-    {after : Tables → Tables} {w : Tables → X} {r : Result X TableFault} → DoesBy Bad Met g old new So after w r
+pub quiet : {S X : Type 0} {Bad Met : Damage S} {Adds : Additions} {g : Ghosts S} {old new : Transaction S} {So : Tables → Type 0}
+    {after : Tables → Tables} {w : Tables → X} {r : Result X TableFault} → DoesBy Bad Met Adds g old new So after w r
     → Says g old new (λ _ _. Unit {0}) (Inside KeepsCommit)
 quiet {g = g} {old = old} {new = new} {r = r} does = record {
   same_reference = does.says.same_reference;
@@ -192,10 +192,10 @@ quiet {g = g} {old = old} {new = new} {r = r} does = record {
 -- whatever the tables: one part, and then another
 pub blind : {S X Y : Type 0} {Bad Met : Damage S} {g : Ghosts S} {Adds : Additions} {old mid new : Transaction S}
     {So So' : Tables → Type 0} {one two : Tables → Tables} {w : Tables → X} {w' : Tables → Y} {x : X}
-    {r : Result Y TableFault} → DoesBy Bad Met g old mid So one w (Ok x) → Does g Adds mid new So' two w' r
+    {r : Result Y TableFault} → DoesBy Bad Met Adds g old mid So one w (Ok x) → Does g Adds mid new So' two w' r
     → Does g Adds old new (λ _. ⊥) (λ t. two (one t)) (λ t. w' (one t)) r
 blind {S} {X} {Y} {Bad} {Met} {g} {Adds} {old} {mid} {new} {So} {So'} {one} {two} {w} {w'} {x} {r} first second =
-    let a : DoesBy Bad Met g old mid (λ _. ⊥) one w (Ok x) = does_for first (λ t none. absurd none) in
+    let a : DoesBy Bad Met Adds g old mid (λ _. ⊥) one w (Ok x) = does_for first (λ t none. absurd none) in
     let b : Does g Adds mid new (λ _. ⊥) two w' r = does_for second (λ t none. absurd none) in
     does_then a b (λ t none. none)
 
@@ -228,7 +228,7 @@ module _ {S X : Type 0} {g : Ghosts S} {old mid new : Transaction S} {So : Table
 -- the requests weren't put in, and none may be kept
 pub refused_new : {S X Y : Type 0} {g : Ghosts S} {Adds : Additions} {old mid new : Transaction S}
     {So So' Then : Tables → Type 0} {after one two : Tables → Tables} {wanted : Tables → X} {w : Tables → Y} {x : Y}
-    (fault : TableFault) → may_be_kept fault ≡ false → Looks g old mid So' one w (Ok x)
+    (fault : TableFault) → may_be_kept fault ≡ false → Looks g Adds old mid So' one w (Ok x)
     → Does {X = Unit {0}} g Adds mid new Then two (λ _. tt {0}) (Err fault)
     → Acts {X = X} g Adds old new So after wanted (Err fault)
 refused_new (Sqlite e) none first second = record {

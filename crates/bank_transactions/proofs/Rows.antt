@@ -24,7 +24,9 @@ use Rattle.store_rows.specs.believed.Inserts.{eight_postings_insert, eight_reque
 use Rattle.store_rows.specs.believed.Inserts.{reference_insert, request_insert}
 use Rattle.store_rows.specs.declared.holders.Holder.TheVariants.{Account, Teller, Branch}
 use Rattle.bank_transactions.specs.believed.Additions.{AddsEach, AddsPostings, AddsReferences, AddsRequests}
-use Rattle.bank_transactions.specs.{Doing.Does, InTurn.ArePlaced}
+use Rattle.bank_transactions.specs.{Additions.ChangesEach, Doing.Does, InTurn.ArePlaced}
+use Rattle.bank_transactions.specs.believed.Additions.{WritesUnder}
+use Rattle.sqlite.specs.Order.{Row}
 use Rattle.bank_transactions.proofs.{Chained.does_for, Statements.does_add}
 use Rattle.posting_rules.specs.ChangesByKey as steps
 use Rattle.posting_rules.specs.believed.Tables.{Tables, row_at, branch_key, teller_key, account_key, history_key}
@@ -143,6 +145,11 @@ requests_added news says =
     bank.request news (record { among = inr (inl refl); rows = news; are = refl; each = all_in news }) says
 
 -- ---- slots
+
+-- what is written under the key of one slot
+pub one_changed : {A : Type 0} (update : List ℕ) (key : A → ℕ) (s : A) (text : List ℕ) (values : Row)
+    → WritesUnder update (key s) text values → ChangesEach update key (s ∷ []) text values
+one_changed update key s text values it = (s, inl refl, it)
 
 -- one slot
 slot_made : {A R : Type 0} (slot_key : A → ℕ) (key : R → ℕ) (changed : A → Option ℤ) (set : ℤ → R → R)

@@ -1,7 +1,8 @@
 -- Slots that have what the rows hold have what the tables show that a file shows, damaged or not: a row that is read
 -- at all is read as it is.
 use Rattle.std.proofs.Common.{◌≡◌, ◌∙◌, ℕ, ℤ, pos, Bool, true, false, cond, List, [], ◌∷◌, map, find, Option, Some, None}
-use Rattle.std.proofs.Common.{Result, Ok, Err, refl, sym, ap, subst, inl, inr}
+use Rattle.std.proofs.Common.{Result, Ok, Err, refl, sym, ap, subst, inl, inr, arith, ◌≤◌}
+use Rattle.std.proofs.lemmas.Bool.Decides.{nat_tests}
 use Rattle.std.specs.Prelude.{◌&&◌, nat_le, option_and_then}
 use Rattle.std.proofs.lemmas.Iterator.Adapters.{option_map_id}
 use Rattle.sqlite.specs.{Effect.Database, Order.Row, Order.column, declared.types.Value.TheVariants.Int}
@@ -13,7 +14,9 @@ use Rattle.message_records.specs.declared.limits.TheConstants.{MAX_NUMBER, MAX_T
 use Rattle.message_records.specs.declared.records.Outcome.{Outcome}
 use Rattle.message_records.proofs.SpelledReplies.{outcome_with-code}
 use Rattle.posting_rules.specs.believed.Kept.{DecisionFields, KeptFields, is_kept_with, kept_with}
+use Rattle.posting_rules.specs.believed.Commands.{Terms}
 use Rattle.posting_rules.specs.believed.LookUps.{account_balance_in, balance_of_account, balance_of_teller, floor_in}
+use Rattle.posting_rules.specs.believed.LookUps.{count_of_branch, terms_in, terms_of_branch}
 use Rattle.posting_rules.specs.believed.LookUps.{kept_in, kept_of_row, lowest_of, reference_in, text_of_reference}
 use Rattle.posting_rules.specs.believed.Tables.{Tables, row_at, account_key, branch_key, floor_key, reference_key}
 use Rattle.posting_rules.specs.believed.Tables.{request_key, teller_key}
@@ -41,6 +44,7 @@ use Rattle.store_rows.proofs.{GetRequest.has_both, RowLists.found_by, RowLists.f
 use Rattle.store_rows.proofs.Readings.{balance_is, branch_is, floor_is}
 use Rattle.bank_transactions.specs.believed.Batches.{HasRoomFor}
 use Rattle.bank_transactions.specs.believed.Stored.{HoldsDecided, HoldsFloor, HoldsKept, HoldsPart, HoldsReference}
+use Rattle.bank_transactions.specs.believed.Stored.{HoldsTerms}
 use Rattle.bank_transactions.specs.Filling.{AccountHeld, AreHeld, BranchHeld, FloorHeld, HoldsBranch, RequestHeld}
 use Rattle.bank_transactions.specs.Filling.{TellerHeld, emptied}
 use Rattle.bank_transactions.proofs.{HeldBatch.filled_over, SoundRows.within_or_none}
@@ -299,3 +303,43 @@ pub shown_filled : (db : Database) (t : Tables) (count : ℕ) (p' p : Overlay) �
     → emptied p' ≡ emptied p → OfRows (λ rows. AreHeld rows p') db → p' ≡ filled t p
 shown_filled db t count p' p shows room same held =
     held_filled t room p' (held (stored_rows t) (holds_shown db t shows)) ∙ filled_over t p' p same
+
+-- what a branch was opened with, of a file that shows these tables
+pub shown_terms : (db : Database) (t : Tables) (b : ℕ) → 1 ≤ b → b ≤ MAX_BRANCH → (terms : Option Terms) → Shows db t
+    → OfRows (λ rows. HoldsTerms rows b terms) db → terms ≡ terms_in t b
+shown_terms db t b low high terms shows held =
+    of_terms terms (held (stored_rows t) (holds_shown db t shows))
+  where
+    within : whole_within 1 MAX_BRANCH b ≡ Some b
+    within = let test : (nat_le 1 b && nat_le b MAX_BRANCH) ≡ true = grind (arith, nat_tests) in rw test refl
+
+    branch_is_at : branch_under (stored_rows t) b ≡ option_map branch_entry (row_at branch_key t.branches b)
+    branch_is_at = ap (option_and_then (row_under (stored_rows t).branches)) within
+        ∙ found_row branch_key branch_entry (λ _. refl) b t.branches
+
+    floor_is_at : floor_under (stored_rows t) b ≡ option_map floor_entry (row_at floor_key t.floors b)
+    floor_is_at = ap (option_and_then (row_under (stored_rows t).floors)) within
+        ∙ found_row floor_key floor_entry (λ _. refl) b t.floors
+
+    count_same : (r x : BranchRow) → read_branch (branch_entry r) ≡ Ok x → x.accounts ≡ count_of_branch r
+    count_same r x is = ap count_of_branch (same_branch r x is)
+
+    no_row : (o : Option BranchRow) → None ≡ option_map branch_entry o → o ≡ None
+    no_row None is = refl
+    no_row (Some r) is = absurd cc
+
+    with_count : (o : Option BranchRow) (terms : Terms) → Some terms.accounts ≡ option_map count_of_branch o
+        → terms.floor ≡ floor_in t b → Some terms ≡ option_map (terms_of_branch (floor_in t b)) o
+    with_count None terms count floor = absurd cc
+    with_count (Some r) terms count floor =
+        let same : terms.accounts ≡ count_of_branch r = cc in
+        rw (sym same, sym floor) refl
+
+    of_terms : (terms : Option Terms) → HoldsTerms (stored_rows t) b terms → terms ≡ terms_in t b
+    of_terms None none = sym (ap (option_map (terms_of_branch (floor_in t b)))
+        (no_row (row_at branch_key t.branches b) (sym none ∙ branch_is_at)))
+    of_terms (Some terms) holds = with_count (row_at branch_key t.branches b) terms
+        (part_if branch_entry count_of_branch read_branch (λ r. r.accounts) count_same
+        (row_at branch_key t.branches b) _ branch_is_at (Some terms.accounts) holds.0)
+        (part_if floor_entry lowest_of read_floor lowest_of same_floor (row_at floor_key t.floors b) _
+        floor_is_at terms.floor holds.1)

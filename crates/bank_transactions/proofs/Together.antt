@@ -15,8 +15,9 @@ use Rattle.posting_batch.specs.Overlay.{requests_put, references_put, tables_ove
 use Rattle.posting_batch.specs.Slots.{account_slot_key, teller_slot_key, branch_slot_key}
 use Rattle.posting_batch.proofs.Orders.{rising_keys}
 use Rattle.store_rows.specs.{believed.Failures.Additions, declared.fault.TableFault.TableFault}
-use Rattle.bank_transactions.specs.believed.Additions.{AddsPostings, AddsReferences, AddsRequests, ChangesRow}
-use Rattle.bank_transactions.specs.{Additions.AddsNew, Doing.Does}
+use Rattle.store_rows.specs.believed.Inserts.{account_update, branch_update, teller_update}
+use Rattle.bank_transactions.specs.believed.Additions.{AddsPostings, AddsReferences, AddsRequests}
+use Rattle.bank_transactions.specs.{Additions.AddsNew, Additions.ChangesEach, Doing.Does}
 use Rattle.bank_transactions.proofs.Chained.{does_adds, does_for, does_then}
 use Rattle.bank_transactions.proofs.SoundRows.{within_or_none}
 use Rattle.bank_transactions.specs.believed.Batches.{HasRoomFor}
@@ -74,22 +75,25 @@ to_branches o t = branches_over o.branches (to_tellers o t)
 abbrev pub to_postings : Overlay → Tables → Tables
 to_postings o t = history_put o.history (to_branches o t)
 
-pub accounts : (o : Overlay) → GoesAfter o (λ t. t) accounts_over MayChangeAccounts (λ slots. ChangesRow) o.accounts
+pub accounts : (o : Overlay) → GoesAfter o (λ t. t) accounts_over MayChangeAccounts
+    (ChangesEach account_update account_slot_key) o.accounts
 accounts o = record {
   may = λ t so. (rising_keys account_slot_key o.accounts so.0.accounts, so.1.accounts);
-  adds = λ text values it. inr (inr (inr it));
+  adds = λ text values it. inr (inr (inr (inl it)));
 }
 
-pub tellers : (o : Overlay) → GoesAfter o (to_accounts o) tellers_over MayChangeTellers (λ slots. ChangesRow) o.tellers
+pub tellers : (o : Overlay) → GoesAfter o (to_accounts o) tellers_over MayChangeTellers
+    (ChangesEach teller_update teller_slot_key) o.tellers
 tellers o = record {
   may = λ t so. (rising_keys teller_slot_key o.tellers so.0.tellers, so.1.tellers);
-  adds = λ text values it. inr (inr (inr it));
+  adds = λ text values it. inr (inr (inr (inr (inl it))));
 }
 
-pub branches : (o : Overlay) → GoesAfter o (to_tellers o) branches_over MayChangeBranches (λ slots. ChangesRow) o.branches
+pub branches : (o : Overlay) → GoesAfter o (to_tellers o) branches_over MayChangeBranches
+    (ChangesEach branch_update branch_slot_key) o.branches
 branches o = record {
   may = λ t so. ((rising_keys branch_slot_key o.branches so.0.branches, so.1.branches), so.2);
-  adds = λ text values it. inr (inr (inr it));
+  adds = λ text values it. inr (inr (inr (inr (inr (inl it)))));
 }
 
 pub postings : (o : Overlay) → GoesAfter o (to_branches o) history_put MayAddPostings (λ rows. AddsPostings (Has rows))

@@ -1,5 +1,5 @@
 -- A transaction from its start to its end: what it tells, what a crash may leave of it, and why it failed.
-use Rattle.std.proofs.Common.{◌≡◌, ℕ, Result, Ok, Err, refl, sym, subst, arith, inl, inr, ◌∙◌}
+use Rattle.std.proofs.Common.{◌≡◌, ℕ, List, Result, Ok, Err, refl, sym, subst, arith, inl, inr, ◌∙◌}
 use Rattle.std.specs.Prelude.{false, true, IfOk, IsTrue, OnErr, OnOk}
 use Rattle.sqlite.specs.State.{State, HasCleanDisk, IsRolledBack, KeepsCommit, Survives}
 use Rattle.sqlite.specs.{Effect.Database, Held.Held, Held.state, Tree.Trees, declared.transaction.Transaction.Transaction}
@@ -7,16 +7,19 @@ use Rattle.sqlite_trees.specs.declared.store.Store.{Ghosts}
 use Rattle.sqlite.proofs.{Callers.survives_begin, StateLemmas.survives_then}
 use Rattle.posting_rules.specs.{believed.Tables.Tables, Sound.AreSound, declared.fault.Rule.Rule}
 use Rattle.store_rows.specs.believed.{Rules.IsBroken, Sparing.SparesOthers, View.Shows, View.ShowsTrees}
-use Rattle.store_rows.specs.believed.Failures.{Additions, Committing}
+use Rattle.store_rows.specs.believed.{Failures.Additions, Failures.Committing, Made.WritesOnly}
 use Rattle.store_rows.specs.declared.fault.TableFault.{TableFault, TheVariants.Sqlite, TheVariants.Damaged}
-use Rattle.bank_transactions.specs.believed.{Additions.AddsForRecords, Doing.LeavesOthers}
-use Rattle.bank_transactions.specs.believed.Causes.{Damage, IsBefore}
+use Rattle.bank_transactions.specs.believed.Doing.{LeavesOthers}
+use Rattle.bank_transactions.specs.believed.Causes.{Damage, IsBefore, IsBrokenOrMet}
 use Rattle.bank_transactions.specs.Causes.{Blames, IsFirstBroken}
 use Rattle.bank_transactions.specs.Doing.{Acts, LeavesAndAnswers, Completes, DoesBy, Ends, EndsBy, CommitsNothing}
 use Rattle.bank_transactions.specs.Doing.{MayLeaveAfter, MayCommit, Reads, Undoes, Consults, SparesTheirs, Transacts}
-use Rattle.bank_transactions.specs.{Doing.TransactsBy, Undone.IsUndone, Undone.UndoesFaults}
+use Rattle.bank_transactions.specs.{Doing.TransactsBy, Doing.WritesIfOk, Undone.IsUndone, Undone.UndoesFaults}
 use Rattle.bank_transactions.proofs.Blamed.{Widens, comes, commit_fails, fault_within, met_within, same_moment}
-use Rattle.bank_transactions.proofs.Blamed.{then_moment}
+use Rattle.bank_transactions.proofs.Blamed.{between_also, broken_or_met, then_moment}
+use Rattle.bank_transactions.proofs.Wrote.{writes_also}
+use Rattle.std.proofs.lemmas.Result.{on_ok_weaker}
+use Rattle.sqlite.specs.Order.{Row}
 use Rattle.bank_transactions.proofs.LookUps.{does_read}
 
 -- ---- by what its parts answered, and with what it ended
@@ -85,6 +88,14 @@ spared_now old last new (Ok x) (Ok y) given leaves ends = subst (SparesOthers ol
 spared_now old last new (Err e) (Ok y) given leaves ends = absurd (let is = given in cc)
 spared_now old last new answer (Err e) given leaves ends = tt
 
+-- and was made of what there was
+wrote_by : {X : Type 0} (Adds : Additions) (old last new : State) (answer result : Result X TableFault)
+    → IfOk result (λ x. answer ≡ Ok x) → WritesIfOk Adds old last answer → EndsBy last new answer result
+    → WritesIfOk Adds old new result
+wrote_by Adds old last new (Ok x) (Ok y) given wrote ends = subst (WritesOnly Adds old.now) (sym ends.0) wrote
+wrote_by Adds old last new (Err e) (Ok y) given wrote ends = absurd (let is = given in cc)
+wrote_by Adds old last new answer (Err e) given wrote ends = tt
+
 -- and so does what its commit may leave
 spared_left : {X : Type 0} (old last : State) (answer : Result X TableFault) (left : Trees)
     → CommitsNothing old last answer → MayCommit last answer left → LeavesOthers old.now left
@@ -115,12 +126,12 @@ blamed {S} {X} Met g old start last new (Err fault) result first then end live l
 -- ---- the whole transaction
 
 -- the connection, the transaction as it begins and after its parts, the connection after it
-module _ {S X : Type 0} {Met : Damage S} {So : Tables → Type 0} {after : Tables → Tables} {w : Tables → X}
-    {answer result : Result X TableFault} (g : Ghosts S) (old : Held S) (begun last : Transaction S)
+module _ {S X : Type 0} {Met : Damage S} {Adds : Additions} {So : Tables → Type 0} {after : Tables → Tables}
+    {w : Tables → X} {answer result : Result X TableFault} (g : Ghosts S) (old : Held S) (begun last : Transaction S)
     (new : Held S)
     (is : begun.conn.now ≡ record old { in_transaction = true })
     (settled : IsTrue (state g old).is_open → (state g old).now ≡ (state g old).committed)
-    (does : DoesBy (IsFirstBroken g) Met g begun last So after w answer) (ends : Ends g last.conn.now new answer result)
+    (does : DoesBy (IsFirstBroken g) Met Adds g begun last So after w answer) (ends : Ends g last.conn.now new answer result)
   where
     abbrev start : Held S
     start = record old { in_transaction = true }
@@ -136,10 +147,10 @@ module _ {S X : Type 0} {Met : Damage S} {So : Tables → Type 0} {after : Table
 
     kept_so : HasCleanDisk (state g last.conn.now)
         → CommitsNothing (state g start) (state g last.conn.now) answer
-        × Blames Met g start last.conn.now answer
+        × Blames Met g start last.conn.now answer × WritesIfOk Adds (state g start) (state g last.conn.now) answer
     kept_so clean =
         subst (λ (h : Held S). CommitsNothing (state g h) (state g last.conn.now) answer
-        × Blames Met g h last.conn.now answer) is
+        × Blames Met g h last.conn.now answer × WritesIfOk Adds (state g h) (state g last.conn.now) answer) is
         (does.says.leaves clean (rw is refl))
 
     from_start : IsBefore (state g old) (state g start)
@@ -178,7 +189,7 @@ module _ {S X : Type 0} {Met : Damage S} {So : Tables → Type 0} {after : Table
     undone_so clean = by_end (state g start) (state g last.conn.now) (state g new) answer result settled refl
         (kept_so (clean_before clean)).0 (ends.told clean)
 
-    transacted : Widens Met old start last.conn.now new → TransactsBy Met g old new So after w result
+    transacted : Widens Met old start last.conn.now new → TransactsBy Met Adds g old new So after w result
     transacted wide = record {
       told = λ clean t shows so.
           completes (state g old) (state g last.conn.now) (state g new) (after t) (w t) answer result
@@ -190,6 +201,8 @@ module _ {S X : Type 0} {Met : Damage S} {So : Tables → Type 0} {after : Table
           (kept_so (clean_before clean)).0 wide (kept_so (clean_before clean)).1 (ends.told clean);
       mode = ends.mode;
       spares = theirs_so;
+      wrote = λ clean. wrote_by Adds (state g start) (state g last.conn.now) (state g new) answer result ends.given
+          (kept_so (clean_before clean)).2 (ends.told clean);
     }
 
 -- of parts that read and then write
@@ -208,19 +221,37 @@ transacts {S} {X} {Adds} {So} {after} {w} {answer} {result} g old begun last end
           (from_start g old begun last end is settled does ends) (comes ends.survives) met)
     ]))
 
--- the same where records put rows in
+-- the same where the rows that were there say what is put in
 pub transacts_records : {S X : Type 0} {So : Tables → Type 0} {after : Tables → Tables} {w : Tables → X}
-    {answer result : Result X TableFault} (count : ℕ) (g : Ghosts S) (old : Held S) (begun last : Transaction S)
+    {answer result : Result X TableFault} (Adds : Database → Additions) (g : Ghosts S) (old : Held S) (begun last : Transaction S)
     (end new : Held S)
     → begun.conn.now ≡ record old { in_transaction = true }
     → (IsTrue (state g old).is_open → (state g old).now ≡ (state g old).committed)
-    → Acts g (AddsForRecords (state g begun.conn.now).now count) begun last So after w answer
+    → Acts g (Adds (state g begun.conn.now).now) begun last So after w answer
     → Ends g last.conn.now end answer result → end ≡ new
-    → Transacts g (AddsForRecords (state g old).now count) old new So after w result
-transacts_records {S} {X} {So} {after} {w} {answer} count g old begun last end new is settled does ends same =
+    → Transacts g (Adds (state g old).now) old new So after w result
+transacts_records {S} {X} {So} {after} {w} {answer} Adds g old begun last end new is settled does ends same =
     transacts g old begun last end new is settled
-    (subst (λ (h : Held S). Acts g (AddsForRecords (state g h).now count) begun last So after w answer) is does)
+    (subst (λ (h : Held S). Acts g (Adds (state g h).now) begun last So after w answer) is does)
     ends same
+
+-- it puts in no other rows than these
+pub transacts_also : {S X : Type 0} {Adds Adds' : Additions} {g : Ghosts S} {old new : Held S} {So : Tables → Type 0}
+    {after : Tables → Tables} {w : Tables → X} {result : Result X TableFault}
+    → ((text : List ℕ) (values : Row) → Adds text values → Adds' text values)
+    → Transacts g Adds old new So after w result → Transacts g Adds' old new So after w result
+transacts_also {S} {X} {Adds} {Adds'} {g} {old} {new} {So} {after} {w} {result} also it = record {
+  told = it.told;
+  undone = it.undone;
+  survives = it.survives;
+  cause = λ clean. broken_or_met (IsBrokenOrMet g Adds) g old new result (λ rule why. elim why [
+    | inl broken ↦ inl broken
+    | inr met ↦ inr (between_also g old new rule also met)
+  ]) (it.cause clean);
+  mode = it.mode;
+  spares = it.spares;
+  wrote = λ clean. on_ok_weaker result (writes_also also) (it.wrote clean);
+}
 
 -- of parts that only read
 pub consults : {S X : Type 0} {w : Tables → X} {answer result : Result X TableFault} (g : Ghosts S)
@@ -236,12 +267,13 @@ consults {S} {X} {w} {answer} {result} g old begun last end new is settled reads
     (does_read reads) ends (λ rule it. it))
 
 -- after a fault all is undone, whatever the parts do
-pub undoes : {S X : Type 0} {Met : Damage S} {So : Tables → Type 0} {after : Tables → Tables} {w : Tables → X}
+pub undoes : {S X : Type 0} {Met : Damage S} {Adds : Additions} {So : Tables → Type 0} {after : Tables → Tables} {w : Tables → X}
     {answer result : Result X TableFault} (g : Ghosts S) (old : Held S) (begun last : Transaction S)
     (end new : Held S)
     → begun.conn.now ≡ record old { in_transaction = true }
     → (IsTrue (state g old).is_open → (state g old).now ≡ (state g old).committed)
-    → DoesBy (IsFirstBroken g) Met g begun last So after w answer → Ends g last.conn.now end answer result → end ≡ new
+    → DoesBy (IsFirstBroken g) Met Adds g begun last So after w answer → Ends g last.conn.now end answer result
+    → end ≡ new
     → UndoesFaults g old new result
 undoes {result = result} g old begun last end new is settled does ends same =
     subst (λ (h : Held _). UndoesFaults g old h result) same (undone_so g old begun last end is settled does ends)

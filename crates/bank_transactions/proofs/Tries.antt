@@ -1,8 +1,9 @@
 -- A try that was given up, and then a call: it is as if there had been the call alone.
-use Rattle.std.proofs.Common.{◌≡◌, ◌∙◌, ℕ, List, Result, Ok, Err, refl, sym, ap, subst, arith}
+use Rattle.std.proofs.Common.{◌≡◌, ◌∙◌, ℕ, List, Result, Ok, Err, refl, sym, ap, subst, arith, inl, inr}
 use Rattle.std.specs.Prelude.{false, true, length, None, IfOk, IfSome, IsTrue, OnOk}
 use Rattle.std.proofs.lemmas.Result.{IfOk-weaker, on_err_weaker, on_ok_weaker}
-use Rattle.sqlite.specs.{Effect.Database, Held.Held, Held.state, Tree.Trees, declared.error.Error.Error}
+use Rattle.sqlite.specs.{Effect.Database, Held.Held, Held.state, Order.Row, Tree.Trees}
+use Rattle.sqlite.specs.declared.error.Error.{Error}
 use Rattle.sqlite.specs.State.{Fails, IsRolledBack, IsUnchanged, KeepsCommit, State, HasCleanDisk, Survives}
 use Rattle.sqlite.proofs.{Callers.survives_begin, StateLemmas.survives_then}
 use Rattle.sqlite.specs.declared.transaction.Transaction.{Transaction}
@@ -13,20 +14,23 @@ use Rattle.bank_transactions.specs.believed.Batches.{HasRoomFor}
 use Rattle.sql_meanings.specs.Calls.{Inside, Says}
 use Rattle.sql_meanings.proofs.Saying.{survives_both}
 use Rattle.store_rows.specs.believed.Failures.{Additions, Committing}
-use Rattle.store_rows.specs.believed.{Rules.IsBroken, Sparing.SparesOthers, View.Shows}
+use Rattle.store_rows.specs.believed.{Made.WritesOnly, Rules.IsBroken, Sparing.SparesOthers, View.Shows}
 use Rattle.store_rows.specs.declared.fault.TableFault.{TableFault}
 use Rattle.store_rows.specs.declared.fault.TableFault.TheVariants.{Sqlite, Damaged}
-use Rattle.bank_transactions.specs.{believed.Additions.AddsForRecords, believed.Batches.DecidesNone}
+use Rattle.bank_transactions.specs.believed.{Additions.AddsForRecords, Additions.FollowsCount, Batches.DecidesNone}
+use Rattle.bank_transactions.specs.Additions.{AddsTried, adds_so}
 use Rattle.bank_transactions.specs.{Batches.KeepsOnly, believed.Doing.LeavesOthers}
 use Rattle.store_rows.specs.Definitions.{IsOtherTable}
 use Rattle.bank_transactions.specs.{believed.Stored.RepliesToAllStored, declared.first_try.Tried.Tried}
+use Rattle.bank_transactions.specs.believed.Stored.{HasOther, ShowsKept}
+use Rattle.bank_transactions.proofs.OwnRows.{none_other}
 use Rattle.bank_transactions.specs.believed.Causes.{IsBefore}
 use Rattle.bank_transactions.specs.Doing.{Acts, Completes, Ends, MayLeaveAfter, Transacts, Undoes}
 use Rattle.bank_transactions.specs.Tries.{IsAsBefore, answer_of, batch_of, replies_of}
 use Rattle.bank_transactions.specs.Undone.{UndoesFaults}
 use Rattle.bank_transactions.specs.declared.first_try.Tried.TheVariants.{Answered, Again}
 use Rattle.bank_transactions.proofs.Blamed.{blames_since, comes, same_moment, then_moment}
-use Rattle.bank_transactions.proofs.Transacted.{rolled, transacts_records, undoes}
+use Rattle.bank_transactions.proofs.Transacted.{rolled, transacts_also, transacts_records, undoes}
 
 undoes_again : {X : Type 0} (old mid new : State) (r : Result X TableFault) → IsTrue old.is_open
     → mid.now ≡ old.now → Undoes mid new r → Undoes old new r
@@ -42,8 +46,8 @@ completes_again old mid new after wanted (Err (Damaged rule)) same told = subst 
 
 module _ {S : Type 0} (g : Ghosts S) (old mid new : Held S) (before : IsAsBefore g old mid) where
   module _ {X : Type 0} {So : Tables → Type 0} {after : Tables → Tables} {w : Tables → X}
-      {r : Result X TableFault} (count : ℕ)
-      (does : Transacts g (AddsForRecords (state g mid).now count) mid new So after w r) where
+      {r : Result X TableFault} (records : List (List ℕ))
+      (does : Transacts g (AddsForRecords (state g mid).now records) mid new So after w r) where
     there : HasCleanDisk (state g new) → HasCleanDisk (state g mid)
     there clean = omega (arith, does.survives.clean)
 
@@ -53,7 +57,7 @@ module _ {S : Type 0} (g : Ghosts S) (old mid new : Held S) (before : IsAsBefore
     was_open : HasCleanDisk (state g new) → IsTrue (state g old).is_open
     was_open clean = (before.same (there clean)).1
 
-    pub transacts_again : Transacts g (AddsForRecords (state g old).now count) old new So after w r
+    pub transacts_again : Transacts g (AddsForRecords (state g old).now records) old new So after w r
     transacts_again = record {
       told = λ clean t shows so.
           completes_again (state g old) (state g mid) (state g new) (after t) (w t) r (same_rows clean)
@@ -67,8 +71,10 @@ module _ {S : Type 0} (g : Ghosts S) (old mid new : Held S) (before : IsAsBefore
           (λ clean left may t shows so.
           may t (subst (λ (db : Database). Shows db t) (sym (same_rows clean)) shows) so)
           before.survives does.survives;
-      cause = λ clean. blames_since (λ (db : Database). AddsForRecords db count) g old mid new (comes before.survives)
-          (same_rows clean) r (does.cause clean);
+      cause = λ clean. blames_since (λ (db : Database). AddsForRecords db records) g old mid new
+          (comes before.survives) (same_rows clean) r (does.cause clean);
+      wrote = λ clean. subst (λ (db : Database).
+          OnOk r (WritesOnly (AddsForRecords db records) db (state g new).now)) (same_rows clean) (does.wrote clean);
       mode = does.mode;
       spares = record {
         now = λ clean. subst (λ (db : Database). OnOk r (SparesOthers db (state g new).now)) (same_rows clean)
@@ -176,9 +182,20 @@ module _ {S : Type 0} (g : Ghosts S) (old : Held S) (begun last : Transaction S)
     };
     mode = mode;
     spares = record { now = λ clean. tt; left = quiet_so _ };
+    wrote = λ clean. tt;
   }
 
 -- ---- a try that has answered
+
+-- what it puts in is what records may, since the tables are a bank's
+tried_own : (db : Database) (records : List (List ℕ)) → IsOtherTable db.schema None → (text : List ℕ) (values : Row)
+    → AddsTried db records text values → AddsForRecords db records text values
+tried_own db records as_made text values (inl it) = inl it
+tried_own db records as_made text values (inr (inl it)) = inr (inl (adds_so _ _
+    (λ r. FollowsCount db (length records) r.ordinal × Unit {0})
+    (λ r. FollowsCount db (length records) r.ordinal × (HasOther db → ShowsKept db r.teller r.number None))
+    (λ r so. (so.0, λ other. absurd (none_other db as_made other))) text values it))
+tried_own db records as_made text values (inr (inr it)) = inr (inr it)
 
 -- its replies are those of the parts
 pub of_tried : {P Q : List (List ℕ) → Type 0} (tried result : Result Tried TableFault)
@@ -247,17 +264,19 @@ module _ {S : Type 0} (g : Ghosts S) (Made : List (List ℕ) → Type 0) (moment
 
   abbrev ActsFor : Result (List (List ℕ)) TableFault → Type 0
   ActsFor answer = (records : List (List ℕ)) → Made records
-      → Acts g (AddsForRecords (state g begun.conn.now).now (length records)) begun last (HasRoomFor (length records))
+      → Acts g (AddsTried (state g begun.conn.now).now records) begun last (HasRoomFor (length records))
       (λ tables. tables_past_all tables moment records) (λ tables. replies_past_all tables moment records) answer
 
-  pub tried_says : batch_of tried ≡ None → IfSome (answer_of tried) ActsFor
+  pub tried_says : IsOtherTable (state g old).now.schema None → batch_of tried ≡ None
+      → IfSome (answer_of tried) ActsFor
       → IfSome (answer_of result) (λ answer. (records : List (List ℕ)) → Made records
-      → Transacts g (AddsForRecords (state g old).now (length records)) old new (HasRoomFor (length records))
+      → Transacts g (AddsForRecords (state g old).now records) old new (HasRoomFor (length records))
       (λ tables. tables_past_all tables moment records) (λ tables. replies_past_all tables moment records) answer)
-  tried_says none it = ends_tried g last.conn.now end {P = ActsFor} tried result none ends
+  tried_says as_made none it = ends_tried g last.conn.now end {P = ActsFor} tried result none ends
       (λ answer answered acts its records made.
-      transacts_records (length records) g old begun last end new is settled (acts records made) its
-      (same records made)) it
+      transacts_also (tried_own (state g old).now records as_made)
+      (transacts_records (λ (db : Database). AddsTried db records) g old begun last end new is settled
+      (acts records made) its (same records made))) it
 
   pub tried_undone : batch_of tried ≡ None → IfSome (answer_of tried) ActsFor
       → IfSome (answer_of result) (λ answer. (records : List (List ℕ)) → Made records → UndoesFaults g old new answer)

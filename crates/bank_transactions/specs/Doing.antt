@@ -12,7 +12,7 @@ use Rattle.posting_rules.specs.believed.Tables.{Tables}
 use Rattle.posting_rules.specs.declared.fault.Rule.{Rule}
 use Rattle.sql_meanings.specs.Calls.{Says, Inside}
 use Rattle.store_rows.specs.Calls.{OfTables}
-use Rattle.store_rows.specs.believed.{Failures.Additions, Rules.IsBroken}
+use Rattle.store_rows.specs.believed.{Failures.Additions, Made.WritesOnly, Rules.IsBroken}
 use Rattle.store_rows.specs.believed.Sparing.{SparesOthers}
 use Rattle.store_rows.specs.believed.View.{Shows, ShowsTrees}
 use Rattle.store_rows.specs.declared.fault.TableFault.{TableFault}
@@ -73,15 +73,19 @@ expected (Ok true) rule = Ok tt
 expected (Ok false) rule = Err (Damaged rule)
 expected (Err e) rule = Err (Sqlite e)
 
+-- after `Ok`, statements that put such rows in, or change one, made what there is
+abbrev pub WritesIfOk : {X : Type 0} → Additions → State → State → Result X TableFault → Type 0
+WritesIfOk Adds old new result = OnOk result (WritesOnly Adds old.now new.now)
+
 -- tables that are so become these, and the answer is this one; damage says Bad of such tables, and Met of any rows
-pub record DoesBy {S X : Type 0} (Bad Met : Damage S) (g : Ghosts S) (old new : Transaction S)
+pub record DoesBy {S X : Type 0} (Bad Met : Damage S) (Adds : Additions) (g : Ghosts S) (old new : Transaction S)
     (So : Tables → Type 0) (after : Tables → Tables)
     (wanted : Tables → X) (result : Result X TableFault) : Type 0 where
   pub says : Says g old new
       (Inside (OfTables (λ before now tables. So tables
       → LeavesAndAnswers (Bad old.conn.now new.conn.now) now (after tables) (wanted tables) result)))
       (Inside (λ before now. CommitsNothing before now result
-      × Blames Met g old.conn.now new.conn.now result))
+      × Blames Met g old.conn.now new.conn.now result × WritesIfOk Adds before now result))
 
 -- whatever tables are shown, after `Ok` they are these
 pub record Leaves {S X : Type 0} (g : Ghosts S) (old new : Transaction S) (after : Tables → Tables)
@@ -95,18 +99,18 @@ pub record Leaves {S X : Type 0} (g : Ghosts S) (old new : Transaction S) (after
 abbrev pub Does : {S X : Type 0} → Ghosts S → Additions → Transaction S → Transaction S → (Tables → Type 0)
     → (Tables → Tables) → (Tables → X)
     → Result X TableFault → Type 0
-Does g Adds = DoesBy (λ old new rule. ⊥) (HasMetBetween g Adds) g
+Does g Adds = DoesBy (λ old new rule. ⊥) (HasMetBetween g Adds) Adds g
 
 -- a part that reads, and a part that reads and then writes: on tables that are so damage is of the rows that were
 -- there; on any rows it is, or it was met as it wrote
-abbrev pub Looks : {S X : Type 0} → Ghosts S → Transaction S → Transaction S → (Tables → Type 0)
+abbrev pub Looks : {S X : Type 0} → Ghosts S → Additions → Transaction S → Transaction S → (Tables → Type 0)
     → (Tables → Tables) → (Tables → X) → Result X TableFault → Type 0
-Looks g = DoesBy (IsFirstBroken g) (IsFirstBroken g) g
+Looks g Adds = DoesBy (IsFirstBroken g) (IsFirstBroken g) Adds g
 
 abbrev pub Acts : {S X : Type 0} → Ghosts S → Additions → Transaction S → Transaction S → (Tables → Type 0)
     → (Tables → Tables) → (Tables → X)
     → Result X TableFault → Type 0
-Acts g Adds = DoesBy (IsFirstBroken g) (IsBrokenOrMet g Adds) g
+Acts g Adds = DoesBy (IsFirstBroken g) (IsBrokenOrMet g Adds) Adds g
 
 -- ---- how a transaction ends
 
@@ -162,8 +166,9 @@ pub record SparesTheirs {S X : Type 0} (g : Ghosts S) (old new : Held S) (result
 
 -- Tables that are so become these, and the answer is this one, or the rows that they have break the rule that is
 -- told. Damage undoes all. A crash leaves what it could leave before, or what the transaction leaves. An error of
--- `sqlite` is one with which a call of it failed, and damage says this. No transaction goes on. The tables of other products are spared.
-pub record TransactsBy {S X : Type 0} (Met : Damage S) (g : Ghosts S) (old new : Held S)
+-- `sqlite` is one with which a call of it failed, and damage says this. No transaction goes on. The tables of other
+-- products are spared. After an answer, statements that put such rows in, or change one, made what there is.
+pub record TransactsBy {S X : Type 0} (Met : Damage S) (Adds : Additions) (g : Ghosts S) (old new : Held S)
     (So : Tables → Type 0) (after : Tables → Tables)
     (wanted : Tables → X) (result : Result X TableFault) : Type 0 where
   pub told : HasCleanDisk (state g new) → (tables : Tables) → Shows (state g old).now tables → So tables
@@ -173,15 +178,16 @@ pub record TransactsBy {S X : Type 0} (Met : Damage S) (g : Ghosts S) (old new :
   pub cause : HasCleanDisk (state g new) → Blames Met g old new result
   pub mode : new.in_transaction ≡ false
   pub spares : SparesTheirs g old new result
+  pub wrote : HasCleanDisk (state g new) → WritesIfOk Adds (state g old) (state g new) result
 
 -- damage is of the rows that the file held as the transaction began, or a statement met it as it wrote: one that
 -- puts such rows in, or changes one
 abbrev pub Transacts : {S X : Type 0} → Ghosts S → Additions → Held S → Held S → (Tables → Type 0) → (Tables → Tables)
     → (Tables → X)
     → Result X TableFault → Type 0
-Transacts g Adds = TransactsBy (IsBrokenOrMet g Adds) g
+Transacts g Adds = TransactsBy (IsBrokenOrMet g Adds) Adds g
 
 -- a transaction that only reads: damage is of the rows that the file held as it began
 abbrev pub Consults : {S X : Type 0} → Ghosts S → Held S → Held S → (Tables → Type 0) → (Tables → X)
     → Result X TableFault → Type 0
-Consults g old new So = TransactsBy (IsFirstBroken g) g old new So (λ tables. tables)
+Consults g old new So = TransactsBy (IsFirstBroken g) (λ text values. ⊥) g old new So (λ tables. tables)

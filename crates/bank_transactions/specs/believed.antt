@@ -1,5 +1,7 @@
 pub mod Causes
 pub mod Doing
+pub mod Openings
 pub mod Stored
 pub mod Additions
+pub mod Answered
 pub mod Batches

@@ -4,7 +4,9 @@ ghost use Rattle.std.specs.Prelude.{◌≡◌, ◌≤◌, ⊤};
 ghost use Rattle.posting_rules.specs.believed.Changes.{with_decided};
 ghost use Rattle.store_rows.specs.believed.Failures.{IsUpdateOf};
 ghost use Rattle.store_rows.specs.Holders.{HasRow, holder_update, with_balance};
-ghost use Rattle.bank_transactions.specs.believed.Additions.{ChangesRow};
+ghost use Rattle.store_rows.specs.Lying.{holder_key};
+ghost use Rattle.store_rows.specs.believed.Inserts.{meta_key, meta_update};
+ghost use Rattle.bank_transactions.specs.believed.Additions.{WritesUnder};
 ghost use Rattle.bank_transactions.specs.Doing.{Does, expected};
 
 use message_records::Cents;
@@ -39,7 +41,8 @@ pub fn write_balance<S: Alter>(
     holder: Holder,
     balance: Cents,
 ) -> Result<(), TableFault>
-    ensures { Does S.Store ChangesRow tx.old tx.new (HasRow holder) (with_balance holder balance) (λ _. tt) result }
+    ensures { Does S.Store (WritesUnder (holder_update holder) (holder_key holder)) tx.old tx.new (HasRow holder)
+        (with_balance holder balance) (λ _. tt) result }
 {
     let rule = rule_of(&holder);
     expect_row(set_balance(tx, holder, balance), rule)
@@ -48,7 +51,8 @@ pub fn write_balance<S: Alter>(
 /// Writes how many requests are decided.
 pub fn write_decided<S: Alter>(tx: &mut Transaction<'_, S>, decided: u64) -> Result<(), TableFault>
     requires { decided ≤ MAX_DECIDED }
-    ensures { Does S.Store ChangesRow tx.old tx.new (λ _. ⊤) (with_decided decided) (λ _. tt) result }
+    ensures { Does S.Store (WritesUnder meta_update meta_key) tx.old tx.new (λ _. ⊤) (with_decided decided) (λ _. tt)
+        result }
 {
     expect_row(set_decided(tx, decided), Rule::Meta)
 }

@@ -10,13 +10,15 @@ ghost use Rattle.posting_batch.specs.Overlay.{history_put, requests_put, referen
 ghost use Rattle.posting_batch.specs.View.{view};
 ghost use Rattle.sqlite_rules.specs.Lists.{Has};
 ghost use Rattle.store_rows.specs.believed.Failures.{Additions};
-ghost use Rattle.store_rows.specs.Holders.{HasRow, with_balance};
+ghost use Rattle.posting_batch.specs.Slots.{account_slot_key, branch_slot_key, teller_slot_key};
+ghost use Rattle.store_rows.specs.Holders.{HasRow, holder_update, with_balance};
+ghost use Rattle.store_rows.specs.Lying.{holder_key};
+ghost use Rattle.store_rows.specs.believed.Inserts.{account_update, branch_update, teller_update};
 ghost use Rattle.store_rows.specs.SeveralRows.{PutsNew};
 ghost use Rattle.bank_transactions.specs.believed.Additions.{AddsPostings, AddsReferences};
-ghost use Rattle.bank_transactions.specs.Additions.{AddsAlike, AddsNew};
-ghost use Rattle.bank_transactions.specs.believed.Additions.{ChangesRow};
-ghost use Rattle.bank_transactions.specs.believed.Additions.{AddsRequests};
-ghost use Rattle.bank_transactions.specs.Additions.{adds_each, adds_same};
+ghost use Rattle.bank_transactions.specs.Additions.{AddsAlike, AddsNew, ChangesEach};
+ghost use Rattle.bank_transactions.specs.believed.Additions.{AddsRequests, WritesUnder};
+ghost use Rattle.bank_transactions.specs.Additions.{adds_each, changes_each};
 ghost use Rattle.bank_transactions.specs.Doing.{Does};
 ghost use Rattle.bank_transactions.specs.InTurn.{InParts, InTurn, accounts_in_turn, branches_in_turn};
 ghost use Rattle.bank_transactions.specs.InTurn.{postings_in_parts, postings_in_turn, references_in_turn};
@@ -75,7 +77,8 @@ fn write_change<S: Alter>(
     holder: Holder,
     changed: Option<Cents>,
 ) -> Result<(), TableFault>
-    ensures { Does S.Store ChangesRow tx.old tx.new (λ tables. IfSome changed (λ _. HasRow holder tables))
+    ensures { Does S.Store (WritesUnder (holder_update holder) (holder_key holder)) tx.old tx.new
+        (λ tables. IfSome changed (λ _. HasRow holder tables))
         (λ tables. by_change changed (λ balance. with_balance holder balance tables) tables)
         (λ _. tt) result }
 {
@@ -90,7 +93,7 @@ impl Change for AccountSlot {
 
     ghost May = { MayChangeAccounts };
 
-    ghost Adds = { λ _. ChangesRow };
+    ghost Adds = { ChangesEach account_update account_slot_key };
 
     fn make<S: Alter>(&self, tx: &mut Transaction<'_, S>) -> Result<(), TableFault> {
         write_change(tx, Holder::Account(self.account), self.changed)
@@ -98,7 +101,7 @@ impl Change for AccountSlot {
 
     ghost in_turn = { accounts_in_turn };
 
-    ghost alike = { adds_same };
+    ghost alike = { changes_each _ _ };
 }
 
 impl Change for TellerSlot {
@@ -106,7 +109,7 @@ impl Change for TellerSlot {
 
     ghost May = { MayChangeTellers };
 
-    ghost Adds = { λ _. ChangesRow };
+    ghost Adds = { ChangesEach teller_update teller_slot_key };
 
     fn make<S: Alter>(&self, tx: &mut Transaction<'_, S>) -> Result<(), TableFault> {
         write_change(tx, Holder::Teller(self.teller), self.changed)
@@ -114,7 +117,7 @@ impl Change for TellerSlot {
 
     ghost in_turn = { tellers_in_turn };
 
-    ghost alike = { adds_same };
+    ghost alike = { changes_each _ _ };
 }
 
 impl Change for BranchSlot {
@@ -122,7 +125,7 @@ impl Change for BranchSlot {
 
     ghost May = { MayChangeBranches };
 
-    ghost Adds = { λ _. ChangesRow };
+    ghost Adds = { ChangesEach branch_update branch_slot_key };
 
     fn make<S: Alter>(&self, tx: &mut Transaction<'_, S>) -> Result<(), TableFault> {
         // A number that is none of branches has no row to change: `May` refuses such a slot by its
@@ -135,7 +138,7 @@ impl Change for BranchSlot {
 
     ghost in_turn = { branches_in_turn };
 
-    ghost alike = { adds_same };
+    ghost alike = { changes_each _ _ };
 }
 
 impl Change for HistoryRow {

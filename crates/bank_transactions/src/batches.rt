@@ -64,7 +64,7 @@ pub fn answer_batch<S: Alter>(
     mut batch: Batch,
 ) -> Result<Replies, TableFault>
     ensures says { (records : List (List ℕ)) → IsMadeOf batch records
-        → Acts S.Store (AddsForRecords (state S.Store tx.old.conn.now).now (length records)) tx.old tx.new
+        → Acts S.Store (AddsForRecords (state S.Store tx.old.conn.now).now records) tx.old tx.new
         (HasRoomFor (length records)) (λ tables. tables_past_all tables moment records)
         (λ tables. replies_past_all tables moment records) (items_of result) }
     ensures count { IfOk result (λ replies. length replies.items ≡ length (reads_of batch)) }
@@ -101,7 +101,7 @@ pub fn post_looked_up<S: Alter>(
 ) -> Result<Replies, TableFault>
     requires { conn.old.in_transaction ≡ false }
     ensures says { (records : List (List ℕ)) → IsMadeOf batch records
-        → Transacts S.Store (AddsForRecords (state S.Store conn.old).now (length records)) conn.old conn.new
+        → Transacts S.Store (AddsForRecords (state S.Store conn.old).now records) conn.old conn.new
         (HasRoomFor (length records)) (λ tables. tables_past_all tables moment records)
         (λ tables. replies_past_all tables moment records) (items_of result) }
     ensures count { IfOk result (λ replies. length replies.items ≡ length (reads_of batch)) }
@@ -146,7 +146,7 @@ pub fn post_all<S: Alter>(
 ) -> Result<Replies, TableFault>
     requires { conn.old.in_transaction ≡ false }
     ensures says { (records : List (List ℕ)) → IsMadeOf batch records
-        → Transacts S.Store (AddsForRecords (state S.Store conn.old).now (length records)) conn.old conn.new
+        → Transacts S.Store (AddsForRecords (state S.Store conn.old).now records) conn.old conn.new
         (HasRoomFor (length records)) (λ tables. tables_past_all tables moment records)
         (λ tables. replies_past_all tables moment records) (items_of result) }
     ensures count { IfOk result (λ replies. length replies.items ≡ length (reads_of batch)) }

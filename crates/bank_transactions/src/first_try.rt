@@ -11,6 +11,7 @@ ghost use Rattle.posting_batch.specs.View.{reads_of, view, IsMadeOf};
 ghost use Rattle.sql_meanings.specs.Calls.{Inside, Says};
 ghost use Rattle.store_rows.specs.Definitions.{IsOtherTable};
 ghost use Rattle.store_rows.specs.believed.View.{Shows};
+ghost use Rattle.bank_transactions.specs.Additions.{AddsTried};
 ghost use Rattle.bank_transactions.specs.believed.Additions.{AddsForRecords};
 ghost use Rattle.bank_transactions.specs.believed.Batches.{DecidesNone, HasRoomFor};
 ghost use Rattle.bank_transactions.specs.Doing.{Acts, Reads, Transacts};
@@ -83,7 +84,7 @@ fn answer_unkept<S: Alter>(
     mut batch: Batch,
 ) -> Result<Tried, TableFault>
     ensures says { IfSome (answer_of result) (λ answer. (records : List (List ℕ)) → IsMadeOf batch records
-        → Acts S.Store (AddsForRecords (state S.Store tx.old.conn.now).now (length records)) tx.old tx.new
+        → Acts S.Store (AddsTried (state S.Store tx.old.conn.now).now records) tx.old tx.new
         (HasRoomFor (length records)) (λ tables. tables_past_all tables moment records)
         (λ tables. replies_past_all tables moment records) answer) }
     ensures count { IfSome (replies_of result) (λ replies. length replies ≡ length (reads_of batch)) }
@@ -123,7 +124,7 @@ fn answer_new<S: Alter>(
     batch: Batch,
 ) -> Result<Tried, TableFault>
     ensures says { IfSome (answer_of result) (λ answer. (records : List (List ℕ)) → IsMadeOf batch records
-        → Acts S.Store (AddsForRecords (state S.Store tx.old.conn.now).now (length records)) tx.old tx.new
+        → Acts S.Store (AddsTried (state S.Store tx.old.conn.now).now records) tx.old tx.new
         (HasRoomFor (length records)) (λ tables. tables_past_all tables moment records)
         (λ tables. replies_past_all tables moment records) answer) }
     ensures count { IfSome (replies_of result) (λ replies. length replies ≡ length (reads_of batch)) }
@@ -156,7 +157,7 @@ pub(crate) fn try_new<S: Alter>(
     requires mode { conn.old.in_transaction ≡ false }
     requires made { IsOtherTable (state S.Store conn.old).now.schema None }
     ensures says { IfSome (answer_of result) (λ answer. (records : List (List ℕ)) → IsMadeOf batch records
-        → Transacts S.Store (AddsForRecords (state S.Store conn.old).now (length records)) conn.old conn.new
+        → Transacts S.Store (AddsForRecords (state S.Store conn.old).now records) conn.old conn.new
         (HasRoomFor (length records)) (λ tables. tables_past_all tables moment records)
         (λ tables. replies_past_all tables moment records) answer) }
     ensures count { IfSome (replies_of result) (λ replies. length replies ≡ length (reads_of batch)) }

@@ -1,5 +1,5 @@
 //! A branch comes with its ten tellers and its accounts.
-ghost use Rattle.std.specs.Prelude.{◌≡◌, ◌≤◌, ◌<◌, ◌+◌, ℕ, IfOk, IsTrue, Some, None, false};
+ghost use Rattle.std.specs.Prelude.{◌≡◌, ◌≤◌, ◌<◌, ◌+◌, ℕ, IfOk, IfSome, IsTrue, Some, None, false};
 ghost use Rattle.sqlite.specs.Held.{state};
 ghost use Rattle.sqlite.specs.State.{HasCleanDisk};
 ghost use Rattle.posting_rules.specs.believed.Changes.{tables_opened, with_floor};
@@ -7,10 +7,10 @@ ghost use Rattle.posting_rules.specs.Changes.{tables_with_branch};
 ghost use Rattle.posting_rules.specs.believed.Commands.{opened_with};
 ghost use Rattle.posting_rules.specs.believed.Counter.{opening_for};
 ghost use Rattle.posting_rules.specs.believed.LookUps.{terms_in};
-ghost use Rattle.posting_rules.specs.Sound.{AreSound};
 ghost use Rattle.posting_rules.specs.believed.Tables.{row_at, branch_key, floor_key};
 ghost use Rattle.bank_transactions.specs.believed.Additions.{AddsBranch, AddsFloor, AddsOne, AddsRange};
 ghost use Rattle.bank_transactions.specs.Doing.{Acts, Does, Leaves, Reads};
+ghost use Rattle.bank_transactions.specs.believed.Openings.{HasRoomToOpen, IsReadyToOpen};
 ghost use Rattle.bank_transactions.specs.NewRows.{tables_staffed, with_new, with_new_rows, is_taken, last_of};
 ghost use Rattle.bank_transactions.specs.believed.Stored.{AnswersStored, OpensByStored};
 
@@ -83,8 +83,9 @@ fn add_its_floor<S: Alter>(
     branch: Branch,
     floor: Option<Cents>,
 ) -> Result<(), TableFault>
-    ensures does { Does S.Store (AddsFloor branch floor) tx.old tx.new (λ tables. row_at floor_key tables.floors branch ≡ None)
-        (with_floor branch floor) (λ _. tt) result }
+    ensures does { Does S.Store (AddsFloor branch floor) tx.old tx.new
+        (λ tables. IfSome floor (λ _. row_at floor_key tables.floors branch ≡ None)) (with_floor branch floor)
+        (λ _. tt) result }
     ensures leaves { Leaves S.Store tx.old tx.new (with_floor branch floor) result }
 {
     let Some(lowest) = floor else {
@@ -102,7 +103,8 @@ fn add_branch_with_rows<S: Alter>(
     requires branch { branch ≤ LAST_BRANCH }
     requires few { count ≤ MAX_ACCOUNTS }
     ensures does { Does S.Store (AddsBranch branch (opened_with count None)) tx.old tx.new
-        (λ tables. AreSound tables × (row_at branch_key tables.branches branch ≡ None))
+        (λ tables. HasRoomToOpen branch (opened_with count None) tables
+        × (row_at branch_key tables.branches branch ≡ None))
         (λ tables. tables_staffed tables branch count) (λ _. tt) result }
     ensures leaves { Leaves S.Store tx.old tx.new (λ tables. tables_staffed tables branch count) result }
 {
@@ -128,7 +130,8 @@ fn add_whole_branch<S: Alter>(
     requires branch { branch ≤ LAST_BRANCH }
     requires few { count ≤ MAX_ACCOUNTS }
     ensures does { Does S.Store (AddsBranch branch (opened_with count floor)) tx.old tx.new
-        (λ tables. AreSound tables × (row_at branch_key tables.branches branch ≡ None))
+        (λ tables. HasRoomToOpen branch (opened_with count floor) tables
+        × (row_at branch_key tables.branches branch ≡ None))
         (λ tables. tables_opened tables branch (opened_with count floor)) (λ _. tt) result }
     ensures leaves { Leaves S.Store tx.old tx.new (λ tables. tables_opened tables branch (opened_with count floor)) result }
 {
@@ -156,6 +159,7 @@ fn opening_of<S: Alter>(
 ) -> Result<Opening, TableFault>
     ensures says { Reads S.Store tx.old tx.new
         (λ tables. opening_for (terms_in tables branch) (opened_with count floor.now)) result }
+    ensures above { 1 ≤ branch }
     ensures stored { IfOk result (λ opening. HasCleanDisk (state S.Store tx.new.conn.now)
         → AnswersStored (state S.Store tx.old.conn.now).now branch (opened_with count floor.now) opening) }
 {
@@ -175,7 +179,8 @@ pub(crate) fn open_inside<S: Alter>(
 ) -> Result<Opening, TableFault>
     requires branch { branch ≤ LAST_BRANCH }
     requires few { count ≤ MAX_ACCOUNTS }
-    ensures acts { Acts S.Store (AddsBranch branch (opened_with count floor)) tx.old tx.new AreSound
+    ensures acts { Acts S.Store (AddsBranch branch (opened_with count floor)) tx.old tx.new
+        (IsReadyToOpen branch (opened_with count floor))
         (λ tables. tables_with_branch tables branch (opened_with count floor))
         (λ tables. opening_for (terms_in tables branch) (opened_with count floor)) result }
     ensures stored { IfOk result (λ opening. HasCleanDisk (state S.Store tx.new.conn.now)

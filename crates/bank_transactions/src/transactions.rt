@@ -8,6 +8,7 @@ ghost use Rattle.posting_rules.specs.believed.Counter.{opening_for};
 ghost use Rattle.posting_rules.specs.believed.LookUps.{account_balance_in};
 ghost use Rattle.posting_rules.specs.believed.LookUps.{terms_in};
 ghost use Rattle.posting_rules.specs.Sound.{AreSound};
+ghost use Rattle.bank_transactions.specs.believed.Openings.{IsReadyToOpen};
 ghost use Rattle.bank_transactions.specs.believed.Additions.{AddsBranch};
 ghost use Rattle.bank_transactions.specs.Doing.{Consults, Ends, Transacts};
 ghost use Rattle.bank_transactions.specs.believed.Stored.{IsStoredBalance, OpensByStored};
@@ -84,7 +85,8 @@ pub fn open_branch<S: Alter>(
     requires mode { conn.old.in_transaction ≡ false }
     requires branch { branch ≤ LAST_BRANCH }
     requires few { count ≤ MAX_ACCOUNTS }
-    ensures transacts { Transacts S.Store (AddsBranch branch (opened_with count floor)) conn.old conn.new AreSound
+    ensures transacts { Transacts S.Store (AddsBranch branch (opened_with count floor)) conn.old conn.new
+        (IsReadyToOpen branch (opened_with count floor))
         (λ tables. tables_with_branch tables branch (opened_with count floor))
         (λ tables. opening_for (terms_in tables branch) (opened_with count floor)) result }
     // Whatever rows the file holds.

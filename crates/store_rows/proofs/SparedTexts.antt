@@ -1,30 +1,85 @@
 -- What each text that writes leaves of the tables of other products, whatever file it runs on.
-use Rattle.std.proofs.Common.{◌≡◌, ℕ, List, [], ◌∷◌, Bool, true, false, Ok, Err, Result, refl, cond}
+use Rattle.std.proofs.Common.{◌≡◌, ℕ, List, [], ◌∷◌, Bool, true, false, Ok, Err, Result, refl, cond, inl, inr}
+use Rattle.std.proofs.lemmas.Bool.{cases_Bool}
 use Rattle.std.specs.{Prelude.OnOk, List.AllByRecursion}
 use Rattle.sqlite.specs.{Order.Row, Schema.Schema, Table.Table, declared.error.Error.Error}
-use Rattle.sqlite.specs.State.{State, Executes}
+use Rattle.sqlite.specs.Clock.{timed}
+use Rattle.sqlite.specs.Command.TheVariants.{Insert, Update}
+use Rattle.sqlite.specs.State.{State, Executes, ExecutesIn, IsStatement, Runs, Writes, shows_rows, text_of}
+use Rattle.sqlite_resolve.specs.declared.compiled.Compiled.{Compiled}
 use Rattle.sqlite_tied.specs.Compute.{everything}
 use Rattle.sql_meanings.specs.believed.Sparing.{IsNot, SparesAllBut, sequence_name}
 use Rattle.sql_meanings.specs.believed.StatementAnswers.{is_taken_key}
-use Rattle.sql_meanings.proofs.Sparing.{IsInsertInto, IsUpdateOf, insert_leaves, insert_of, spares_more}
-use Rattle.sql_meanings.proofs.Sparing.{update_leaves, update_of}
+use Rattle.sql_meanings.proofs.Sparing.{IsInsertInto, IsUpdateOf, insert_leaves, insert_of, insert_understood}
+use Rattle.sql_meanings.proofs.Sparing.{spares_more, update_leaves, update_of, update_understood}
 use Rattle.store_rows.specs.believed.BankTables as bank
-use Rattle.store_rows.specs.{believed.Sparing.SparesOthers, believed.Sparing.bank_names, Sparing.SparesIfOk}
+use Rattle.store_rows.specs.{believed.Made.Makes, believed.Sparing.SparesOthers, believed.Sparing.bank_names}
+use Rattle.store_rows.specs.Sparing.{MakesIfOk, SparesIfOk}
 use Rattle.store_rows.specs.{Statements.MeetsOne, Statements.PutsIn, declared.fault.TableFault.TableFault}
 use Rattle.store_rows.specs.declared.fault.TableFault.TheVariants.{Sqlite, Damaged}
 use Rattle.store_rows.specs.declared.texts.TheConstants as text
 use Rattle.posting_rules.specs.declared.fault.Rule.TheVariants.{Key}
 
--- the text, run in whatever file, spares the tables of other products
+-- the text, run in whatever file, spares the tables of other products, and makes what there is
 abbrev pub Spares : List ℕ → Type 1
 Spares text = (old new : State) (params : Row) (count : ℕ) → Executes text params old new (Ok count)
-    → SparesOthers old.now new.now
+    → SparesOthers old.now new.now × Makes text params old.now new.now
+
+-- ---- what a statement that is done makes
+
+-- it ran its command
+ran : (text : List ℕ) (old new : State) (params : Row) (count : ℕ) → Executes text params old new (Ok count)
+    → (c : Compiled) × (it : IsStatement old text params c)
+    × Runs old new c.returning c.command (text_of text c) (timed params c.formats it.now) count
+unfolding ExecutesIn
+ran text old new params count h = (
+  h.0,
+  h.1,
+  elim (cases_Bool (shows_rows false h.0)) [
+    | inl shows ↦ absurd (let e = (rw shows at h.2).0 in cc)
+    | inr runs ↦ rw runs at h.2
+  ],
+)
+
+module _ (text name : List ℕ) where
+  made_by_insert : IsInsertInto text name → (old new : State) (params : Row) (count : ℕ)
+      → Executes text params old new (Ok count) → Makes text params old.now new.now
+  made_by_insert is old new params count h =
+      let it = ran text old new params count h in
+      let on = insert_understood old.now.schema name text is it.0 it.1.is in
+      let w : Writes old new it.0.returning (Insert on.place on.from) (text_of text it.0)
+      (timed params it.0.formats it.1.now) count = rw on.is at it.2 in
+      record {
+        statement = it.0;
+        is = it.1.is;
+        time = it.1.now;
+        limit = old.step_limit;
+        tally = w.tally;
+        does = rw on.is w.changed;
+      }
+
+  made_by_update : IsUpdateOf text name → (old new : State) (params : Row) (count : ℕ)
+      → Executes text params old new (Ok count) → Makes text params old.now new.now
+  made_by_update is old new params count h =
+      let it = ran text old new params count h in
+      let on = update_understood old.now.schema name text is it.0 it.1.is in
+      let w : Writes old new it.0.returning (Update on.place on.query) (text_of text it.0)
+      (timed params it.0.formats it.1.now) count = rw on.is at it.2 in
+      record {
+        statement = it.0;
+        is = it.1.is;
+        time = it.1.now;
+        limit = old.step_limit;
+        tally = w.tally;
+        does = rw on.is w.changed;
+      }
 
 module _ (text : List ℕ) (spares : Spares text) (old new : State) (params : Row) where
   -- a number was written
-  pub spared_met : (answer : Result Bool Error) → MeetsOne text params old new answer → SparesIfOk old new answer
+  pub spared_met : (answer : Result Bool Error) → MeetsOne text params old new answer
+      → SparesIfOk old new answer × MakesIfOk text params old new answer
   spared_met (Ok met) h = spares old new params h.0 h.1.0
-  spared_met (Err e) h = tt
+  spared_met (Err e) h = (tt, tt)
 
   no_error : (b : Bool) (e : Error)
       → ◌≡◌ {A = Result (Unit {0}) TableFault} (Ok tt) (cond b (Err (Damaged Key)) (Err (Sqlite e))) → ⊥
@@ -32,10 +87,11 @@ module _ (text : List ℕ) (spares : Spares text) (old new : State) (params : Ro
   no_error false e same = absurd (cc)
 
   -- a row was put in
-  pub spared_put : (r : Result (Unit {0}) TableFault) → PutsIn text params old new r → SparesIfOk old new r
+  pub spared_put : (r : Result (Unit {0}) TableFault) → PutsIn text params old new r
+      → SparesIfOk old new r × MakesIfOk text params old new r
   spared_put (Ok done) (Ok count, ran, same) = spares old new params count ran.0
   spared_put (Ok done) (Err e, ran, same) = absurd (no_error (is_taken_key e) e same)
-  spared_put (Err e) h = tt
+  spared_put (Err e) h = (tt, tt)
 
 -- the names of a table of a bank and of the one in which SQLite counts are among those of a bank
 abbrev Among : List ℕ → Type 0
@@ -44,15 +100,19 @@ Among name = (schema : Schema) (t : Table) → AllByRecursion (IsNot schema t) b
 
 module _ (text name : List ℕ) (among : Among name) where
   set_by : IsUpdateOf text name → Spares text
-  set_by is old new params count h =
-      spares_more (name ∷ []) bank_names old.now new.now (λ t apart. ((among old.now.schema t apart).1, tt))
-      (update_leaves old new text name params count h is)
+  set_by is old new params count h = (
+    spares_more (name ∷ []) bank_names old.now new.now (λ t apart. ((among old.now.schema t apart).1, tt))
+        (update_leaves old new text name params count h is),
+    made_by_update text name is old new params count h,
+  )
 
   put_by : IsInsertInto text name → Spares text
-  put_by is old new params count h =
-      spares_more (sequence_name ∷ name ∷ []) bank_names old.now new.now
-      (λ t apart. let both = among old.now.schema t apart in (both.0, (both.1, tt)))
-      (insert_leaves old new text name params count h is)
+  put_by is old new params count h = (
+    spares_more (sequence_name ∷ name ∷ []) bank_names old.now new.now
+        (λ t apart. let both = among old.now.schema t apart in (both.0, (both.1, tt)))
+        (insert_leaves old new text name params count h is),
+    made_by_insert text name is old new params count h,
+  )
 
 abbrev meta : Among bank.meta.name
 meta schema t apart = (apart.0, apart.1.0)

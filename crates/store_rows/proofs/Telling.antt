@@ -34,15 +34,18 @@ module _ {S : Type 0} (g : Ghosts S) (old new : Transaction S) where
     survives = says.survives;
   }
 
-  -- a write reports what its statement leaves, of its tables and of the others
-  pub tells_tables : {Ran Left Spared : State → State → Type 0} {Told : State → State → Tables → Type 0}
+  -- a write reports what its statement leaves, of its tables and of the others, and what it made
+  pub tells_tables : {Ran Left Spared Made : State → State → Type 0} {Told : State → State → Tables → Type 0}
       → ((before after : State) (t : Tables) → Shows before.now t → Ran before after → Told before after t)
-      → ((before after : State) → Ran before after → Spared before after)
+      → ((before after : State) → Ran before after → Spared before after × Made before after)
       → Says g old new (Inside Ran) (Inside Left)
-      → Says g old new (Inside (OfTables Told)) (Inside (λ before after. Left before after × Spared before after))
+      → Says g old new (Inside (OfTables Told))
+      (Inside (λ before after. Left before after × Spared before after × Made before after))
   tells_tables tells spares says = record {
     same_reference = says.same_reference;
     told = λ clean live t shows. tells _ _ t shows (says.told clean live);
-    leaves = λ clean live. (says.leaves clean live, spares _ _ (says.told clean live));
+    leaves = λ clean live.
+        let both = spares _ _ (says.told clean live) in
+        (says.leaves clean live, both.0, both.1);
     survives = says.survives;
   }

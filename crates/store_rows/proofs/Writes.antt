@@ -11,6 +11,7 @@ use Rattle.posting_rules.specs.believed.Tables.{Tables, row_at}
 use Rattle.sql_meanings.specs.{Calls.Inside, Calls.Says, believed.Entries.Entry}
 use Rattle.sql_meanings.proofs.SetRows.{ChangesAs}
 use Rattle.store_rows.specs.{Calls.AddsRow, Calls.SetsNumber, believed.Failures.inserts, believed.SeveralRows.given}
+use Rattle.store_rows.specs.believed.SeveralRows.{under}
 use Rattle.store_rows.specs.{declared.fault.TableFault.TableFault, declared.statements.TheConstants.MAX_KEY}
 use Rattle.store_rows.specs.Failures.{Puts as PutLeaves}
 use Rattle.store_rows.specs.Statements.{PutsIn, PutsRow, RunsUnder}
@@ -28,7 +29,7 @@ Sets kind text with =
     (S : Type 0) (g : Ghosts S) (old new : Transaction S) (k : ℕ) → k ≤ MAX_KEY
     → (z : ℤ) (answer : Result Bool Error)
     → RunsUnder g old new text k z answer
-    → SetsNumber g old new (table_of kind) text (λ t. is_some (row_at kind.key (kind.rows t) k)) (with k z)
+    → SetsNumber g old new (table_of kind) text (under k z) (λ t. is_some (row_at kind.key (kind.rows t) k)) (with k z)
     answer
 
 -- a call that runs the text puts the row in so

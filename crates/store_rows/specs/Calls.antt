@@ -15,7 +15,7 @@ use Rattle.sql_meanings.specs.believed.Entries.{Entry}
 use Rattle.store_rows.specs.Failures.{Changes, Looks, Puts}
 use Rattle.store_rows.specs.TableAnswers.{PutsOneRow, Finds, SetsRow}
 use Rattle.store_rows.specs.believed.Rules.{OfRows, StoredRows}
-use Rattle.store_rows.specs.Sparing.{SparesIfOk}
+use Rattle.store_rows.specs.Sparing.{MakesIfOk, SparesIfOk}
 use Rattle.store_rows.specs.believed.BankTables.{meta}
 use Rattle.store_rows.specs.believed.View.{Shows}
 use Rattle.store_rows.specs.View.{HoldsRows}
@@ -40,24 +40,27 @@ LooksUp g old new stored read result =
     Says g old new (OfStored (λ old new rows. Finds old new (stored rows) read result))
     (λ old new. Looks old new result)
 
--- By this text a number of a row of the table is written, if there is such a row, and the tables are these
--- after it. The tables of other products are as they were, whatever rows there are.
-abbrev pub SetsNumber : {S : Type 0} → Ghosts S → Transaction S → Transaction S → Table → List ℕ
+-- By this text, with these values, a number of a row of the table is written, if there is such a row, and the tables
+-- are these after it. The tables of other products are as they were, and the text made what there is, whatever rows
+-- there are.
+abbrev pub SetsNumber : {S : Type 0} → Ghosts S → Transaction S → Transaction S → Table → List ℕ → Row
     → (Tables → Bool)
     → (Tables → Tables) → Result Bool Error → Type 0
-SetsNumber g old new table text there after result =
+SetsNumber g old new table text values there after result =
     Says g old new (Inside
     (OfTables (λ old new tables. SetsRow old new table (there tables) (after tables) result)))
-    (Inside (λ old new. Changes text old new result × SparesIfOk old new result))
+    (Inside (λ old new. Changes text values old new result × SparesIfOk old new result
+    × MakesIfOk text values old new result))
 
 -- By this text, with these values, a row of the table is put in, unless its key is taken, and the tables are these
--- after it. The tables of other products are as they were, whatever rows there are.
+-- after it. The tables of other products are as they were, and the text made what there is, whatever rows there are.
 abbrev pub AddsRow : {S : Type 0} → Ghosts S → Transaction S → Transaction S → List ℕ → Row → Table
     → (Tables → Bool) → (Tables → Tables) → Result (Unit {0}) TableFault → Type 0
 AddsRow g old new text values table taken after result =
     Says g old new (Inside
     (OfTables (λ old new tables. PutsOneRow old new table (taken tables) (after tables) result)))
-    (Inside (λ old new. Puts text values old new result × SparesIfOk old new result))
+    (Inside (λ old new. Puts text values old new result × SparesIfOk old new result
+    × MakesIfOk text values old new result))
 
 -- Whether the probe of a table is understood, on an honest disk, and so what is there of the table. Only a
 -- fault shuts the store, and a crash leaves nothing new.

@@ -56,11 +56,11 @@ abbrev pub Looks : {X : Type 0} → State → State → Result X TableFault → 
 Looks old new (Ok x) = IsUnchanged old new
 Looks old new (Err fault) = WriteFails old new × HasReason old new fault
 
--- a change of a row: the transaction goes on, or an error leaves it as it was or rolls it back
-abbrev pub Changes : List ℕ → State → State → Result Bool Error → Type 0
-Changes text old new (Ok there) = StateShows old new new.now old.committed true
-    × (there ≡ false → (values : Row) × MeetsNone text values old new)
-Changes text old new (Err e) = WriteFails old new × HasFailed old new e
+-- a change of a row by this text, with these values: the transaction goes on, or an error leaves it as it was or rolls it back
+abbrev pub Changes : List ℕ → Row → State → State → Result Bool Error → Type 0
+Changes text values old new (Ok there) = StateShows old new new.now old.committed true
+    × (there ≡ false → MeetsNone text values old new)
+Changes text values old new (Err e) = WriteFails old new × HasFailed old new e
 
 -- the same of rows that are put in by one of the texts, with these values
 abbrev pub Puts : {X : Type 0} → List ℕ → Row → State → State → Result X TableFault → Type 0

@@ -13,6 +13,7 @@ use Rattle.sql_meanings.specs.Calls.{Inside, Says}
 use Rattle.store_rows.specs.Columns.{meta_shown}
 use Rattle.store_rows.specs.believed.Failures.{inserts}
 use Rattle.store_rows.specs.believed.Shown.{ShowsFirst}
+use Rattle.store_rows.specs.believed.SeveralRows.{under}
 use Rattle.store_rows.specs.Failures.{Changes, Puts}
 use Rattle.store_rows.specs.Faults.{added}
 use Rattle.store_rows.specs.declared.fault.TableFault.{TableFault}
@@ -32,8 +33,8 @@ MeetsOne text params old new (Err e) = ExecutesInside 0 text params old new (Err
 abbrev pub RunsUnder : {S : Type 0} → Ghosts S → Transaction S → Transaction S → List ℕ → ℕ → ℤ
     → Result Bool Error → Type 0
 RunsUnder g old new text key number result =
-    Says g old new (Inside (λ old new. MeetsOne text (Int (pos key) ∷ Int number ∷ []) old new result))
-    (Inside (λ old new. Changes text old new result))
+    Says g old new (Inside (λ old new. MeetsOne text (under key number) old new result))
+    (Inside (λ old new. Changes text (under key number) old new result))
 
 -- the text was run with these values, and the answer is reported as that of an INSERT
 abbrev pub PutsIn : List ℕ → Row → State → State → Result (Unit {0}) TableFault → Type 0

@@ -2,6 +2,7 @@ pub mod BankTables
 pub mod Columns
 pub mod Failures
 pub mod Inserts
+pub mod Made
 pub mod Readings
 pub mod Rules
 pub mod SeveralRows

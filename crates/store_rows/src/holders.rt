@@ -6,7 +6,7 @@ ghost use Rattle.store_rows.specs.Holders.{holder_update, is_there, member_entry
 ghost use Rattle.store_rows.specs.Holders.{with_balance, with_row};
 ghost use Rattle.store_rows.specs.Lying.{BalanceLies, FindsLying, SetsBalance, SetsLying, holder_key};
 ghost use Rattle.store_rows.specs.believed.Readings.{read_balance};
-ghost use Rattle.store_rows.specs.believed.SeveralRows.{given};
+ghost use Rattle.store_rows.specs.believed.SeveralRows.{given, under};
 
 use crate::fault::TableFault;
 use crate::found::found;
@@ -54,7 +54,7 @@ pub fn set_balance<S: Alter>(
     balance: Cents,
 ) -> Result<bool, Error>
     ensures sets { SetsNumber S.Store tx.old tx.new (holder_table holder) (holder_update holder)
-        (is_there holder) (with_balance holder balance) result }
+        (under (holder_key holder) balance) (is_there holder) (with_balance holder balance) result }
     // Whatever rows the file holds.
     ensures lies { SetsLying S.Store tx.old tx.new (holder_table holder) (holder_key holder)
         (SetsBalance holder balance) result }

@@ -18,6 +18,7 @@ ghost use Rattle.store_rows.specs.declared.texts.TheConstants.{SET_META, SET_VER
 ghost use Rattle.store_rows.specs.believed.BankTables.{meta as table};
 ghost use Rattle.store_rows.specs.Statements.{TellsOther};
 ghost use Rattle.store_rows.specs.believed.Shown.{ShowsFirst};
+ghost use Rattle.store_rows.specs.believed.SeveralRows.{under};
 ghost use Rattle.store_rows.specs.declared.metas.TheConstants.{META_ID as id};
 ghost use Rattle.store_rows.specs.declared.texts.TheConstants.{GET_META as text};
 
@@ -85,7 +86,8 @@ pub fn read_meta<S: Alter>(tx: &mut Transaction<'_, S>) -> Result<Option<StoredM
 /// Writes how many requests are decided, and reports whether meta has its row.
 pub fn set_decided<S: Alter>(tx: &mut Transaction<'_, S>, decided: u64) -> Result<bool, Error>
     requires { decided ≤ MAX_DECIDED }
-    ensures sets { SetsNumber S.Store tx.old tx.new table SET_META.now (λ _. true) (with_decided decided) result }
+    ensures sets { SetsNumber S.Store tx.old tx.new table SET_META.now (under id (pos decided)) (λ _. true)
+        (with_decided decided) result }
     // Whatever rows the file holds.
     ensures lies { SetsLying S.Store tx.old tx.new table id (SetsDecided decided) result }
 {
@@ -96,7 +98,7 @@ pub fn set_decided<S: Alter>(tx: &mut Transaction<'_, S>, decided: u64) -> Resul
 pub fn set_version<S: Alter>(tx: &mut Transaction<'_, S>, version: i64) -> Result<bool, Error>
     ensures { Says S.Store tx.old tx.new
         (Inside (λ old new. SetsVersion version old new result))
-        (Inside (λ old new. Changes SET_VERSION.now old new result
+        (Inside (λ old new. Changes SET_VERSION.now (under id version) old new result
         × OnOk result (SparesAllBut (table.name ∷ []) old.now new.now))) }
 {
     write_under(tx, SET_VERSION, META_ID, version)

@@ -1,9 +1,9 @@
 -- How a bank goes down, the error that it keeps, and what every call of it promises.
-use Rattle.std.specs.Prelude.{◌≡◌, ℕ, List, Some, None, IsSome, Result, ⊤}
+use Rattle.std.specs.Prelude.{◌≡◌, ℕ, List, length, Some, None, IsSome, Result, ⊤}
 use Rattle.sqlite.specs.State.{HasCleanDisk}
 use Rattle.sqlite.specs.declared.error.Error.{Error}
 use Rattle.sqlite_trees.specs.declared.store.Store.{Ghosts}
-use Rattle.posting_rules.specs.believed.Commands.{Command}
+use Rattle.posting_rules.specs.believed.Commands.{Command, Terms}
 use Rattle.posting_rules.specs.believed.Counter.{Answers, IsCounterCall}
 use Rattle.posting_rules.specs.declared.fault.Fault.{Fault}
 use Rattle.posting_rules.specs.declared.fault.Fault.TheVariants as told
@@ -12,8 +12,9 @@ use Rattle.posting_rules.specs.declared.fault.Rule.{Rule}
 use Rattle.posting_batch.specs.believed.Batch.{AreReadyFor}
 use Rattle.store_rows.specs.believed.Failures.{Additions}
 use Rattle.store_rows.specs.believed.Rules.{IsBroken}
-use Rattle.bank_transactions.specs.believed.Additions.{AddsForRecords, AnyRow}
+use Rattle.bank_transactions.specs.believed.Additions.{AddsBranch, AddsForRecords, AnyRow}
 use Rattle.bank_transactions.specs.believed.Batches.{HasRoomFor}
+use Rattle.bank_transactions.specs.believed.Openings.{IsReadyToOpen}
 use Rattle.bank_transactions.specs.believed.Causes.{HasFailedBetween, IsBrokenOrMet}
 use Rattle.bank_store.specs.believed.Seen.{bank_seen, cause_of, connection_of, database_of, file_of}
 use Rattle.bank_store.specs.declared.bank.Bank.{Bank}
@@ -38,12 +39,21 @@ abbrev pub WasBrokenOrMet : {S : Type 0} (g : Ghosts S) → Additions → Bank S
 WasBrokenOrMet g Adds old new rule =
     HasCleanDisk (file_of new) → IsBrokenOrMet g Adds (connection_of old) (connection_of new) rule
 
--- so of so many records: they do, where tables with room for these were shown, so that those weren't ready for them
-pub record BreaksRule {S : Type 0} (g : Ghosts S) (count : ℕ) (old new : Bank S g) (rule : Rule) : Type 0 where
-  pub met : WasBrokenOrMet g (AddsForRecords (database_of g old) count) old new rule
-  pub broken : HasCleanDisk (file_of new) → (t : Tables) → (bank_seen g old).tables t → HasRoomFor count t
-      → IsBroken rule (database_of g old)
-  pub unfit : HasCleanDisk (file_of new) → (t : Tables) → (bank_seen g old).tables t → AreReadyFor count t → ⊥
+-- so of records: they do, where tables with room for these were shown, so that those weren't ready for them
+pub record BreaksRule {S : Type 0} (g : Ghosts S) (records : List (List ℕ)) (old new : Bank S g) (rule : Rule)
+    : Type 0 where
+  pub met : WasBrokenOrMet g (AddsForRecords (database_of g old) records) old new rule
+  pub broken : HasCleanDisk (file_of new) → (t : Tables) → (bank_seen g old).tables t
+      → HasRoomFor (length records) t → IsBroken rule (database_of g old)
+  pub unfit : HasCleanDisk (file_of new) → (t : Tables) → (bank_seen g old).tables t
+      → AreReadyFor (length records) t → ⊥
+
+-- so of an opening: they do, where tables were shown in which the branch is open, or none of its keys was taken
+pub record BreaksOpening {S : Type 0} (g : Ghosts S) (branch : ℕ) (terms : Terms) (old new : Bank S g) (rule : Rule)
+    : Type 0 where
+  pub met : WasBrokenOrMet g (AddsBranch branch terms) old new rule
+  pub broken : HasCleanDisk (file_of new) → (t : Tables) → (bank_seen g old).tables t
+      → IsReadyToOpen branch terms t → IsBroken rule (database_of g old)
 
 -- ---- a call
 

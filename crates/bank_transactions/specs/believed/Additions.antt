@@ -1,12 +1,14 @@
 -- Which rows a call puts in, under which keys: its own; and which it changes.
-use Rattle.std.specs.Prelude.{◌≡◌, ◌<◌, ◌⊎◌, ◌+◌, ℕ, ℤ, pos, List, [], ◌∷◌, Option, Some}
+use Rattle.std.specs.Prelude.{◌≡◌, ◌<◌, ◌⊎◌, ◌+◌, ℕ, ℤ, pos, List, [], ◌∷◌, length, Option, None, Some, Ok}
 use Rattle.std.specs.List.{AllByRecursion}
 use Rattle.sqlite.specs.Effect.{Database}
 use Rattle.sqlite.specs.Order.{Row}
 use Rattle.sqlite_rules.specs.Lists.{Has}
+use Rattle.message_records.specs.believed.Reading.{request_of}
+use Rattle.message_records.specs.believed.Records.{RequestFields}
 use Rattle.posting_rules.specs.believed.Changes.{new_account, new_teller}
 use Rattle.posting_rules.specs.believed.Commands.{Terms}
-use Rattle.posting_rules.specs.believed.Numbering.{first_account, first_teller}
+use Rattle.posting_rules.specs.believed.Numbering.{branch_of_account, branch_of_teller, first_account, first_teller}
 use Rattle.posting_rules.specs.believed.Tables.{branch_row_of}
 use Rattle.posting_rules.specs.declared.limits.TheConstants.{TELLERS_PER_BRANCH}
 use Rattle.posting_rules.specs.declared.rows.HistoryRow.{HistoryRow}
@@ -14,16 +16,16 @@ use Rattle.posting_rules.specs.declared.rows.ReferenceRow.{ReferenceRow}
 use Rattle.posting_rules.specs.declared.rows.RequestRow.{RequestRow}
 use Rattle.posting_batch.specs.believed.Batch.{IsNextOrdinal}
 use Rattle.sql_meanings.specs.believed.Entries.{Entry}
-use Rattle.posting_rules.specs.declared.fault.Rule.{Rule}
-use Rattle.store_rows.specs.believed.Failures.{Additions, IsUpdateOf}
+use Rattle.store_rows.specs.believed.Failures.{Additions}
 use Rattle.store_rows.specs.believed.Rules.{OfRows}
-use Rattle.store_rows.specs.believed.SeveralRows.{given, given_each}
+use Rattle.store_rows.specs.believed.SeveralRows.{given, given_each, under}
 use Rattle.store_rows.specs.believed.View.{account_entry, branch_entry, floor_entry, history_entry, reference_entry}
 use Rattle.store_rows.specs.believed.View.{request_entry, teller_entry}
 use Rattle.store_rows.specs.believed.Inserts.{account_insert, branch_insert, eight_postings_insert}
 use Rattle.store_rows.specs.believed.Inserts.{eight_requests_insert, floor_insert, posting_insert}
 use Rattle.store_rows.specs.believed.Inserts.{reference_insert, request_insert, teller_insert}
-use Rattle.bank_transactions.specs.believed.Stored.{HoldsDecided}
+use Rattle.store_rows.specs.believed.Inserts.{account_update, branch_update, meta_key, meta_update, teller_update}
+use Rattle.bank_transactions.specs.believed.Stored.{HasOther, HoldsDecided, ShowsKept}
 use Rattle.bank_transactions.specs.declared.new_branch.NewRows.{NewRows}
 use Rattle.bank_transactions.specs.declared.new_branch.NewRows.TheVariants.{Tellers, Accounts}
 
@@ -55,15 +57,37 @@ abbrev pub FollowsCount : Database → ℕ → ℕ → Type 0
 FollowsCount db count ordinal = OfRows (λ rows.
     (decided : ℕ) × HoldsDecided rows decided × IsNextOrdinal decided count ordinal) db
 
--- a balance, or how many requests are decided, is written
-abbrev pub ChangesRow : Additions
-ChangesRow text values = (rule : Rule) × IsUpdateOf rule text
+-- by this text a number is written into the row under the key
+abbrev pub WritesUnder : List ℕ → ℕ → Additions
+WritesUnder update key text values = (text ≡ update) × (number : ℤ) × (values ≡ under key number)
 
--- so many records: postings, requests and references, each under such an ordinal, and what a posting changes
-abbrev pub AddsForRecords : Database → ℕ → Additions
-AddsForRecords db count text values = AddsPostings (λ r. FollowsCount db count r.ordinal) text values
-    ⊎ (AddsRequests (λ r. FollowsCount db count r.ordinal) text values
-    ⊎ (AddsReferences (λ r. FollowsCount db count r.ordinal) text values ⊎ ChangesRow text values))
+-- one of the records asks for this
+abbrev pub AskFor : List (List ℕ) → (RequestFields → Type 0) → Type 0
+AskFor records P = (bytes : List ℕ) × Has records bytes × (r : RequestFields) × (request_of bytes ≡ Ok r) × P r
+
+-- its account's balance is written, its teller's, or that of the branch of either
+abbrev pub WritesFor : RequestFields → Additions
+WritesFor r text values = WritesUnder account_update r.account text values
+    ⊎ (WritesUnder teller_update r.teller text values
+    ⊎ (WritesUnder branch_update (branch_of_teller r.teller) text values
+    ⊎ WritesUnder branch_update (branch_of_account r.account) text values))
+
+-- that of one of the records is, or how many requests are decided
+abbrev pub ChangesFor : List (List ℕ) → Additions
+ChangesFor records text values =
+    AskFor records (λ r. WritesFor r text values) ⊎ WritesUnder meta_update meta_key text values
+
+-- records: postings, requests that are so and references, each under such an ordinal, and what a posting changes
+abbrev pub AddsWhere : Database → List (List ℕ) → (RequestRow → Type 0) → Additions
+AddsWhere db records IsSo text values =
+    AddsPostings (λ r. FollowsCount db (length records) r.ordinal) text values
+    ⊎ (AddsRequests (λ r. FollowsCount db (length records) r.ordinal × IsSo r) text values
+    ⊎ (AddsReferences (λ r. FollowsCount db (length records) r.ordinal) text values
+    ⊎ ChangesFor records text values))
+
+-- on tables that are no bank's the look-up of such a request showed none that is kept
+abbrev pub AddsForRecords : Database → List (List ℕ) → Additions
+AddsForRecords db records = AddsWhere db records (λ r. HasOther db → ShowsKept db r.teller r.number None)
 
 -- ---- the rows of a branch
 

@@ -1,5 +1,5 @@
--- Rows that are put in one after another, by one statement.
-use Rattle.std.specs.Prelude.{◌++◌, List, ◌∷◌, map}
+-- The values by which rows are put in, one after another by one statement, and by which a number is written.
+use Rattle.std.specs.Prelude.{◌++◌, ℕ, ℤ, pos, List, [], ◌∷◌, map}
 use Rattle.std.specs.List.{flat_map}
 use Rattle.sqlite.specs.Order.{Row}
 use Rattle.sqlite.specs.declared.types.Value.TheVariants.{Int}
@@ -12,3 +12,7 @@ given e = Int e.key ∷ (numbers e.values ++ texts_held e.texts)
 -- the values by which rows are handed in, one after another
 abbrev pub given_each : {R : Type 0} → (R → Entry) → List R → Row
 given_each entry rows = flat_map given (map entry rows)
+
+-- the values by which a number is written into the row under a key
+abbrev pub under : ℕ → ℤ → Row
+under key number = Int (pos key) ∷ Int number ∷ []

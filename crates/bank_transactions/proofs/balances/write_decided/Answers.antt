@@ -1,11 +1,13 @@
 -- What the write of the count leaves.
-use Rattle.std.proofs.Common.{true, refl}
+use Rattle.std.proofs.Common.{true, pos, refl}
 use Rattle.posting_rules.specs.{believed.Changes.with_decided, declared.fault.Rule.TheVariants.Meta}
-use Rattle.store_rows.specs.believed.BankTables.{meta}
+use Rattle.store_rows.specs.believed.{BankTables.meta, Inserts.meta_key, Inserts.meta_update, SeveralRows.under}
+use Rattle.bank_transactions.specs.believed.Additions.{WritesUnder}
 use Rattle.bank_transactions.proofs.Statements.{does_write}
 use Rattle.bank_transactions.proofs.balances.write_decided.Goals as goal
 
 pub returns : goal.returns
 returns g c =
-    does_write g.S.Store _ _ meta (λ t. true) (with_decided c.args.decided) c.set_decided.result Meta _ _ refl
-    c.expect_row.ensures c.set_decided.ensures.sets (λ t so. refl)
+    does_write {Adds = WritesUnder meta_update meta_key} g.S.Store _ _ meta (λ t. true)
+    (with_decided c.args.decided) c.set_decided.result Meta _ meta_update (under meta_key (pos c.args.decided))
+    (refl, pos c.args.decided, refl) refl c.expect_row.ensures c.set_decided.ensures.sets (λ t so. refl)

@@ -60,5 +60,6 @@ returns g c =
     let s3 = step (branches o) c.deref-3.ensures s2 c.in_ok-make_all-3.ensures in
     let s4 = step (postings o) c.deref-4.ensures s3 c.in_ok-make_rows.ensures in
     let s5 = step (references o) c.deref-5.ensures s4 c.in_ok-make_all-4.ensures in
-    does_for (does_then s5 (does_adds (λ clean text values it. inr (inr (inr it))) c.write_decided.ensures) (λ t so. tt))
+    does_for (does_then s5 (does_adds (λ clean text values it. inr (inr (inr (inr (inr (inr it))))))
+    c.write_decided.ensures) (λ t so. tt))
     (λ t so. (so, counted o.decided _, refl))

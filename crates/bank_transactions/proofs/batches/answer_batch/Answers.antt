@@ -3,7 +3,8 @@ use Rattle.std.proofs.Common.{◌≡◌, Err, rules, arith, length, refl}
 use Rattle.sqlite.specs.{State.HasCleanDisk, Held.state}
 use Rattle.posting_batch.specs.View.{view}
 use Rattle.bank_transactions.proofs.Chained.{acts_read, does_adds}
-use Rattle.bank_transactions.proofs.{Added.adds_of_batch, HeldBatch.homes_made, HeldBatch.in_turn_looked_up}
+use Rattle.bank_transactions.proofs.{Added.adds_looked_up, HeldBatch.homes_made, HeldBatch.in_turn_looked_up}
+use Rattle.bank_transactions.proofs.HeldBatch.{new_unkept}
 use Rattle.bank_transactions.proofs.LookUps.{does_fail, does_look}
 use Rattle.bank_transactions.proofs.JudgedSlots.{answered_idle, answered_not, answered_written, counts_none}
 use Rattle.bank_transactions.proofs.JudgedSlots.{fills, judging_all}
@@ -27,9 +28,11 @@ returns-in_err-write-clause-says g c records made =
     fill.stored clean (homes_made c.args.batch records made)))) (does_adds (λ clean.
     let before : HasCleanDisk (state g.S.Store c.fill.new.tx.conn.now) = omega
     (arith, c.in_err-write.ensures.says.survives.clean, clean) in
-    adds_of_batch c.args.batch records (view c.fill.new.overlay) (view c.judge-judged.result.overlay) _ made
+    adds_looked_up c.args.batch records (view c.fill.new.overlay) (view c.judge-judged.result.overlay) _ made
     fill.same
-    (λ rows has. (fill.stored before (homes_made c.args.batch records made) rows has).decided) j.next)
+    (λ rows has. (fill.stored before (homes_made c.args.batch records made) rows has).decided) j.next j.again.keys
+    (new_unkept _ c.args.batch _ records c.args.moment (view c.judge-judged.result.overlay)
+    c.judge-judged.result.replies.items made refl fill.same (fill.shown before) j.judged))
     c.in_err-write.ensures))
 
 pub returns-clause-says : goal.returns-clause-says
@@ -39,20 +42,23 @@ returns-clause-says g c records made =
     c.args.moment (view c.judge-judged.result.overlay) c.judge-judged.result.replies.items made refl
     j.judged j.rising j.idle in
     let fill = c.in_ok-fill.ensures in
-    let first = does_look (fills (length records) (view c.fill.new.overlay) (view c.args.batch.overlay) fill.says fill.same (λ clean.
-    fill.stored clean (homes_made c.args.batch records made))) in
+    let reads = fills (length records) (view c.fill.new.overlay) (view c.args.batch.overlay) fill.says fill.same (λ clean.
+    fill.stored clean (homes_made c.args.batch records made)) in
     rw c.into_replies.ensures (elim c.if-judged-before.branch [
       | then-judged-before+in_ok-write w ↦
-          rw w.tx-is (answered_written so first (does_adds (λ clean.
+          rw w.tx-is (answered_written so (does_look reads) (does_adds (λ clean.
           let before : HasCleanDisk (state g.S.Store c.fill.new.tx.conn.now) = omega
           (arith, w.in_ok-write.ensures.says.survives.clean, clean) in
-          adds_of_batch c.args.batch records (view c.fill.new.overlay) (view c.judge-judged.result.overlay) _
+          adds_looked_up c.args.batch records (view c.fill.new.overlay) (view c.judge-judged.result.overlay) _
           made c.in_ok-fill.ensures.same
           (λ rows has. (c.in_ok-fill.ensures.stored before (homes_made c.args.batch records made) rows has).decided)
-          j.next)
+          j.next j.again.keys
+          (new_unkept _ c.args.batch _ records c.args.moment (view c.judge-judged.result.overlay)
+          c.judge-judged.result.replies.items made refl c.in_ok-fill.ensures.same (c.in_ok-fill.ensures.shown before)
+          j.judged))
           w.in_ok-write.ensures))
       | else-judged-before w ↦
-          rw w.tx-is (answered_idle so first (omega (arith, w.if-judged-before.false)))
+          rw w.tx-is (answered_idle so (does_look reads) (omega (arith, w.if-judged-before.false)))
     ])
 
 pub returns-clause-idle : goal.returns-clause-idle
@@ -64,7 +70,7 @@ returns-clause-idle g c clean records made t shows so none =
     j.judged j.rising j.idle in
     let reads = fills (length records) (view c.fill.new.overlay) (view c.args.batch.overlay) fill.says fill.same (λ clean.
     fill.stored clean (homes_made c.args.batch records made)) in
-    let first = does_look reads in
+    let first = does_look {Adds = λ text values. ⊥} reads in
     elim c.if-judged-before.branch [
       | then-judged-before+in_ok-write w ↦
           let before : HasCleanDisk (state g.S.Store c.fill.new.tx.conn.now) = omega

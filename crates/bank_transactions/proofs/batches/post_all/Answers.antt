@@ -17,7 +17,7 @@ pub returns-in-Again-clause-says : goal.returns-in-Again-clause-says
 returns-in-Again-clause-says g c records made =
     let again = rw c.in-Again.is at c.in_ok-replies.ensures.again in
     transacts_again g.S.Store c.args.conn.now c.try_new.new.conn c.post_looked_up-in-Again.new.conn again.1
-    (length records) (c.post_looked_up-in-Again.ensures.says records (again.0.made records made))
+    records (c.post_looked_up-in-Again.ensures.says records (again.0.made records made))
 
 pub returns-in-Again-clause-count : goal.returns-in-Again-clause-count
 returns-in-Again-clause-count g c =

@@ -1,6 +1,8 @@
 -- The parts of the transaction are one: the batch is answered.
 use Rattle.std.proofs.Common.{length, rules}
 use Rattle.posting_batch.specs.View.{IsMadeOf}
+use Rattle.sqlite.specs.Effect.{Database}
+use Rattle.bank_transactions.specs.believed.Additions.{AddsForRecords}
 use Rattle.bank_transactions.specs.Batches.{RepliesLookedUp}
 use Rattle.bank_transactions.proofs.{HeldBatch.stored_after, Transacted.undoes, Idle.ends_items, Idle.idle_after}
 use Rattle.bank_transactions.proofs.Transacted.{of_given, transacts_records}
@@ -8,7 +10,7 @@ use Rattle.bank_transactions.proofs.batches.post_looked_up.Goals as goal
 
 pub returns-clause-says : goal.returns-clause-says
 returns-clause-says g c records made =
-    transacts_records (length records) g.S.Store c.args.conn.now c.begin-tx.result c.answer_batch-replies.new.tx
+    transacts_records (λ (db : Database). AddsForRecords db records) g.S.Store c.args.conn.now c.begin-tx.result c.answer_batch-replies.new.tx
     c.finish.new.tx.0 _ c.begin-tx.ensures.begun c.begin-tx.ensures.settled
     (c.answer_batch-replies.ensures.says records made)
     (ends_items g.S.Store _ _ c.answer_batch-replies.result c.finish.result c.finish.ensures) (search rules)

@@ -4,7 +4,7 @@ use Rattle.sqlite.specs.{Held.state, State.HasCleanDisk}
 use Rattle.smallvec.specs.SmallVec.{SmallVec}
 use Rattle.posting_rules.specs.believed.Tables.{Tables}
 use Rattle.posting_batch.specs.{Overlay.Overlay, View.view, declared.slots.RequestSlot.RequestSlot}
-use Rattle.bank_transactions.proofs.{Added.adds_of_batch, JudgedSlots.judging_all, ShownSlots.shown_filled}
+use Rattle.bank_transactions.proofs.{Added.adds_tried, JudgedSlots.judging_all, ShownSlots.shown_filled}
 use Rattle.bank_transactions.proofs.{Chained.acts_read, Chained.does_adds, HeldBatch.homes_made}
 use Rattle.bank_transactions.proofs.{OwnRows.none_other}
 use Rattle.bank_transactions.proofs.{HeldBatch.in_turn, LookUps.does_fail, LookUps.does_look, NewBatch.all_held}
@@ -36,9 +36,9 @@ returns-in-Err-2-clause-says g c records made =
     refused_new c.in-Err.fault (search rules) (does_look fk.says) (does_adds (λ clean.
     let first : HasCleanDisk (state g.S.Store c.fill_known.new.tx.conn.now) =
     omega (arith, puts.says.survives.clean, clean) in
-    adds_of_batch c.args.batch records (view c.fill_known.new.overlay) (view c.judge-judged.result.overlay) _ made
+    adds_tried c.args.batch records (view c.fill_known.new.overlay) (view c.judge-judged.result.overlay) _ made
     fk.same (λ rows has. (fk.stored first (homes_made c.args.batch records made) rows has).decided)
-    c.judge-judged.ensures.next) puts)
+    c.judge-judged.ensures.next c.judge-judged.ensures.again.keys) puts)
 
 pub returns-in_err-write_after-in-Ok-clause-says : goal.returns-in_err-write_after-in-Ok-clause-says
 returns-in_err-write_after-in-Ok-clause-says g c =
@@ -69,8 +69,8 @@ returns-in_err-write_after-in-Ok-clause-says g c =
     omega (arith, end.says.survives.clean, clean) in
     let first : HasCleanDisk (state g.S.Store c.fill_known.new.tx.conn.now) =
     omega (arith, c.in-Ok.ensures.puts.says.survives.clean, before) in
-    adds_of_batch c.args.batch records p' o _ made fk.same
-    (λ rows has. (fk.stored first (homes_made c.args.batch records made) rows has).decided) j.next)
+    adds_tried c.args.batch records p' o _ made fk.same
+    (λ rows has. (fk.stored first (homes_made c.args.batch records made) rows has).decided) j.next j.again.keys)
     (all_written o (requests_first o c.deref.ensures c.in-Ok.ensures.puts) end)))
 
 pub returns-in_ok-write_after-in-Ok-clause-says : goal.returns-in_ok-write_after-in-Ok-clause-says
@@ -99,8 +99,8 @@ returns-in_ok-write_after-in-Ok-clause-says g c records made =
     omega (arith, end.says.survives.clean, clean) in
     let first : HasCleanDisk (state g.S.Store c.fill_known.new.tx.conn.now) =
     omega (arith, c.in-Ok.ensures.puts.says.survives.clean, before) in
-    adds_of_batch c.args.batch records p' o _ made fk.same
-    (λ rows has. (fk.stored first (homes_made c.args.batch records made) rows has).decided) j.next)
+    adds_tried c.args.batch records p' o _ made fk.same
+    (λ rows has. (fk.stored first (homes_made c.args.batch records made) rows has).decided) j.next j.again.keys)
     (all_written o (requests_first o c.deref.ensures c.in-Ok.ensures.puts) end)))
 
 pub returns-in_ok-write_after-in-Ok-clause-busy : goal.returns-in_ok-write_after-in-Ok-clause-busy

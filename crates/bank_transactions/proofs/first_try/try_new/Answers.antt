@@ -30,7 +30,7 @@ returns-clause-says g c =
     tried_says g.S.Store (IsMadeOf c.args.batch) c.args.moment c.args.conn.now c.begin-tx.result
     c.answer_new-tried.new.tx c.finish.new.tx.0 c.conn-2-1.given.0 c.answer_new-tried.result c.finish.result
     c.begin-tx.ensures.begun c.begin-tx.ensures.settled (rw same at c.finish.ensures)
-    (λ records made. search rules) none c.answer_new-tried.ensures.says
+    (λ records made. search rules) c.requires.made none c.answer_new-tried.ensures.says
 
 pub returns-clause-undone : goal.returns-clause-undone
 returns-clause-undone g c =

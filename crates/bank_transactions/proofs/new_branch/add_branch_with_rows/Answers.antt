@@ -5,7 +5,8 @@ use Rattle.std.specs.Prelude.{is_some, pos}
 use Rattle.sqlite.specs.declared.transaction.Transaction.{Transaction}
 use Rattle.sqlite_trees.specs.declared.store.Store.{Ghosts}
 use Rattle.posting_rules.specs.declared.rows.BranchRow.{BranchRow}
-use Rattle.posting_rules.specs.{believed.Changes.with_branch, Sound.AreSound, believed.Commands.opened_with}
+use Rattle.posting_rules.specs.{believed.Changes.with_branch, believed.Commands.opened_with}
+use Rattle.bank_transactions.specs.believed.Openings.{HasRoomToOpen}
 use Rattle.posting_rules.specs.believed.Numbering.{first_teller, first_account}
 use Rattle.posting_rules.specs.believed.Tables.{Tables, row_at, branch_key, branch_row_of}
 use Rattle.store_rows.specs.{Calls.AddsRow, believed.Inserts.branch_insert, declared.fault.TableFault.TableFault}
@@ -22,7 +23,7 @@ use Rattle.bank_transactions.proofs.new_branch.add_branch_with_rows.Goals as goa
 -- a branch that isn't open
 module _ (b count : ℕ) where
   abbrev IsNew : Tables → Type 0
-  IsNew t = AreSound t × (row_at branch_key t.branches b ≡ None)
+  IsNew t = HasRoomToOpen b (opened_with count None) t × (row_at branch_key t.branches b ≡ None)
 
   -- its row is put in
   abbrev branched : Tables → Tables
@@ -49,15 +50,14 @@ module _ (b count : ℕ) where
 
     -- and its tellers after it
     staff : {z : Transaction S} {r : Result (Unit {0}) TableFault} (teller : ℕ) → teller ≡ first_teller b
-        → 1 ≤ b
         → Does {X = Unit {0}} g Its x y IsNew branched (λ _. tt {0}) (Ok (tt {0}))
         → Does g (AddsRange Tellers teller 10) y z
         (λ t. (n : ℕ) → n < 10 → is_taken Tellers (teller + n) (with_new_rows Tellers teller n t) ≡ false)
         (with_new_rows Tellers teller 10) (λ _. tt) r
         → Does g Its x z IsNew (λ t. with_new_rows Tellers teller 10 (branched t)) (λ _. tt) r
-    staff teller from above first second = does_then first (does_adds (λ clean text values own.
+    staff teller from first second = does_then first (does_adds (λ clean text values own.
         inr (inl (subst (λ (n : ℕ). AddsRange Tellers n 10 text values) from own))) second)
-        (λ t new n lt. next_teller t b count teller (first_account b) from refl new.0 above new.1 n lt)
+        (λ t new n lt. next_teller t b count teller (first_account b) from refl new.0 n lt)
 
 pub returns-in_err-add_branch-clause-does : goal.returns-in_err-add_branch-clause-does
 returns-in_err-add_branch-clause-does g c =
@@ -71,24 +71,23 @@ returns-in_err-add_rows-clause-does g c =
     let teller = c.first_teller-teller in
     let same : c.from_residual-in_err-add_rows.result ≡ Err c.in_err-add_rows.field-0.0 = search rules in
     let first = put b c.args.count c.zero.result c.zero.ensures c.in_ok-add_branch.ensures in
-    rw same (does_err (staff b c.args.count teller.result teller.ensures.value teller.ensures.least
-    first c.in_err-add_rows.ensures.does) (λ t new. new))
+    rw same (does_err (staff b c.args.count teller.result teller.ensures.value first
+    c.in_err-add_rows.ensures.does) (λ t new. new))
 
 pub returns-clause-does : goal.returns-clause-does
 returns-clause-does g c =
     let b = c.args.branch in
     let count = c.args.count in
     let teller = c.first_teller-teller in
-    let above = teller.ensures.least in
     let start = c.first_account-account.ensures.value in
     let first = put b count c.zero.result c.zero.ensures c.in_ok-add_branch.ensures in
     does_for (does_then
-    (staff b count teller.result teller.ensures.value above first c.in_ok-add_rows.ensures.does)
+    (staff b count teller.result teller.ensures.value first c.in_ok-add_rows.ensures.does)
     (does_adds (λ clean text values own. inr (inr (inl (subst (λ (m : ℕ).
     AddsRange Accounts (first_account b) m text values) c.from.ensures
     (subst (λ (n : ℕ). AddsRange Accounts n c.from.result text values) start own))))) c.add_rows-2.ensures.does)
-    (λ t new k lt. next_account t b count _ _ teller.ensures.value start new.0 above
-    new.1 k c.requires.few (subst (λ m. k < m) c.from.ensures lt)))
+    (λ t new k lt. next_account t b count _ _ teller.ensures.value start new.0 k
+    (subst (λ m. k < m) c.from.ensures lt)))
     (λ t new. (
       new,
       opened_is t b count _ _ teller.ensures.value start c.from.result c.from.ensures,
@@ -122,13 +121,12 @@ returns-clause-leaves g c =
     let b = c.args.branch in
     let count = c.args.count in
     let teller = c.first_teller-teller in
-    let above = teller.ensures.least in
     let start = c.first_account-account.ensures.value in
     let first = put b count c.zero.result c.zero.ensures c.in_ok-add_branch.ensures in
     let one = left b count c.zero.result c.zero.ensures c.in_ok-add_branch.ensures in
     let two = c.in_ok-add_rows.ensures in
     let three = c.add_rows-2.ensures in
     leaves_for (leaves_then
-    (staff b count teller.result teller.ensures.value above first two.does) three.does
+    (staff b count teller.result teller.ensures.value first two.does) three.does
     (leaves_then first two.does one two.leaves) three.leaves)
     (λ t. opened_is t b count _ _ teller.ensures.value start c.from.result c.from.ensures)

@@ -2,11 +2,17 @@
 use Rattle.std.proofs.Common.{◌≡◌, ℕ, ℤ, List, Option, Err, None, rules, refl, inl, inr}
 use Rattle.sqlite.specs.Order.{Row}
 use Rattle.bank_transactions.specs.believed.Additions.{AddsBranch}
-use Rattle.posting_rules.specs.{believed.Commands.opened_with, declared.limits.TheConstants.TELLERS_PER_BRANCH}
-use Rattle.posting_rules.proofs.ChangesByKey.{opening_floor_is_free}
+use Rattle.posting_rules.specs.believed.{Commands.opened_with, Tables.Tables}
+use Rattle.bank_transactions.specs.believed.Openings.{HasRoomToOpen}
+use Rattle.bank_transactions.proofs.OpeningRows.{floor_apart}
 use Rattle.bank_transactions.proofs.Chained.{does_adds, does_err, does_for, does_then}
 use Rattle.bank_transactions.proofs.Left.{leaves_err, leaves_then}
 use Rattle.bank_transactions.proofs.new_branch.add_whole_branch.Goals as goal
+
+-- where there is room with a floor there is without one
+without_floor : (b count : ℕ) (floor : Option ℤ) (t : Tables) → HasRoomToOpen b (opened_with count floor) t
+    → HasRoomToOpen b (opened_with count None) t
+without_floor b count floor t room = record { tellers = room.tellers; accounts = room.accounts; floor = tt }
 
 -- what is put in without a floor is put in with one too
 with_its_floor : (b count : ℕ) (floor : Option ℤ) (text : List ℕ) (values : Row)
@@ -20,15 +26,17 @@ pub returns-in_err-add_branch_with_rows-clause-does : goal.returns-in_err-add_br
 returns-in_err-add_branch_with_rows-clause-does g c =
     let same : c.from_residual.result ≡ Err c.in_err-add_branch_with_rows.field-0.0 = search rules in
     rw same (does_err (does_adds (λ clean. with_its_floor c.args.branch c.args.count c.args.floor)
-    c.in_err-add_branch_with_rows.ensures.does) (λ t new. new))
+    c.in_err-add_branch_with_rows.ensures.does) (λ t new. (without_floor _ _ _ t new.0, new.1)))
 
 pub returns-clause-does : goal.returns-clause-does
 returns-clause-does g c =
     let b = c.args.branch in
     let count = c.args.count in
-    does_for (does_then c.in_ok-add_branch_with_rows.ensures.does
+    let floor = c.args.floor in
+    does_for (does_then (does_for (does_adds (λ clean. with_its_floor b count floor)
+    c.in_ok-add_branch_with_rows.ensures.does) (λ t new. ((without_floor b count floor t new.0, new.1), refl, refl)))
     (does_adds (λ clean text values own. inr (inr (inr own))) c.add_its_floor.ensures.does)
-    (λ t new. opening_floor_is_free t b (opened_with count None) TELLERS_PER_BRANCH count new.0 new.1))
+    (λ t new. floor_apart t b count floor new.0.floor))
     (λ t new. (new, refl, refl))
 
 pub returns-in_err-add_branch_with_rows-clause-leaves : goal.returns-in_err-add_branch_with_rows-clause-leaves

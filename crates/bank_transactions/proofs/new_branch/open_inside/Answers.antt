@@ -1,14 +1,20 @@
 -- What is answered where a branch is open, and what is added where it isn't.
-use Rattle.std.proofs.Common.{◌≡◌, ℕ, Option, None, Some, Err, rules, refl, sym, ◌∙◌, arith, subst}
+use Rattle.std.proofs.Common.{◌≡◌, ◌≤◌, ℕ, Option, None, Some, Ok, Err, rules, refl, sym, ◌∙◌, ap, arith, subst}
 use Rattle.posting_rules.specs.{believed.Changes.tables_opened, Changes.opened_where, Changes.tables_with_branch}
 use Rattle.posting_rules.specs.{believed.Commands.Terms, believed.Commands.opened_with, believed.Counter.opening_for}
 use Rattle.posting_rules.specs.{believed.LookUps.floor_in, believed.LookUps.terms_of_branch}
 use Rattle.posting_rules.specs.{declared.counter.Opening.TheVariants.Opened, declared.rows.BranchRow.BranchRow}
 use Rattle.posting_rules.specs.believed.Tables.{Tables, row_at, branch_key}
 use Rattle.std.specs.Option.{option_map}
-use Rattle.bank_transactions.proofs.Chained.{acts_read, acts_wrote, does_both, does_but, does_err}
-use Rattle.bank_transactions.proofs.Chained.{does_tell, still_in}
-use Rattle.bank_transactions.proofs.LookUps.{does_read}
+use Rattle.bank_transactions.proofs.Chained.{acts_read, acts_wrote, does_both, does_but, does_tell, still_in}
+use Rattle.bank_transactions.proofs.{LookUps.does_fail, LookUps.does_look, LookUps.finds_so, ShownSlots.shown_terms}
+use Rattle.bank_transactions.specs.believed.{Openings.IsReadyToOpen, Stored.AnswersStored}
+use Rattle.bank_transactions.specs.Doing.{ReadsWhere}
+use Rattle.message_records.specs.declared.limits.TheConstants.{MAX_BRANCH}
+use Rattle.posting_rules.specs.believed.LookUps.{terms_in}
+use Rattle.posting_rules.specs.declared.counter.Opening.{Opening}
+use Rattle.sqlite.specs.declared.transaction.Transaction.{Transaction}
+use Rattle.sqlite_trees.specs.declared.store.Store.{Ghosts}
 use Rattle.sqlite.specs.{Effect.Database, Held.state, State.HasCleanDisk}
 use Rattle.store_rows.specs.believed.View.{Shows}
 use Rattle.bank_transactions.proofs.new_branch.open_inside.Goals as goal
@@ -30,18 +36,29 @@ opened_now : (t : Tables) (b : ℕ) (terms : Terms) → row_at branch_key t.bran
     → tables_opened t b terms ≡ tables_with_branch t b terms
 opened_now t b terms is = rw is refl
 
+-- what was looked up is what tables show, whatever they are
+looked : {S : Type 0} {g : Ghosts S} {old mid : Transaction S} {So : Tables → Type 0} {w : Tables → Opening}
+    (b : ℕ) (terms : Terms) (opening : Opening) → 1 ≤ b → b ≤ MAX_BRANCH → ReadsWhere g old mid So w (Ok opening)
+    → (HasCleanDisk (state g mid.conn.now) → AnswersStored (state g old.conn.now).now b terms opening)
+    → ReadsWhere g old mid (IsReadyToOpen b terms) (λ t. opening_for (terms_in t b) terms) (Ok opening)
+looked {g = g} {old = old} b terms opening low high reads stored = finds_so reads (λ clean t shows ready.
+    let it = stored clean in
+    it.is ∙ ap (λ (f : Option Terms). opening_for f terms)
+    (shown_terms (state g old.conn.now).now t b low high it.first shows it.stored))
+
 pub returns-in_err-opening-clause-acts : goal.returns-in_err-opening-clause-acts
 returns-in_err-opening-clause-acts g c =
     let same : c.from_residual.result ≡ Err c.in_err-opening.field-0.0 = search rules in
-    rw same (acts_read (does_err (does_read c.in_err-opening.ensures.says) (λ t sound. sound)))
+    rw same (acts_read (does_fail c.in_err-opening.ensures.says))
 
 pub returns-in_default-clause-acts : goal.returns-in_default-clause-acts
 returns-in_default-clause-acts g c =
     let b = c.args.branch in
     let terms = opened_with c.args.count c.args.floor in
-    acts_read (does_tell (does_read c.in_ok-opening.ensures.says)
-    (λ t sound. (
-      sound,
+    acts_read (does_tell (does_look (looked b terms _ c.in_ok-opening.ensures.above (omega arith) c.in_ok-opening.ensures.says
+    c.in_ok-opening.ensures.stored))
+    (λ t ready. (
+      ready,
       λ found. (
         stays_open t b terms (row_at branch_key t.branches b)
             (λ opened. c.in_default.not-Opened (found ∙ sym opened)),
@@ -55,24 +72,23 @@ returns-in_err-add_whole_branch-in-Opened-clause-acts g c =
     let terms = opened_with c.args.count c.args.floor in
     let same : c.from_residual-in_err-add_whole_branch-in-Opened.result
     ≡ Err c.in_err-add_whole_branch-in-Opened.field-0.0 = search rules in
-    rw same (acts_wrote (does_but
-    (does_read c.in_ok-opening.ensures.says)
+    rw same (acts_wrote (does_but (does_look (looked b terms _ c.in_ok-opening.ensures.above (omega arith) c.in_ok-opening.ensures.says
+    c.in_ok-opening.ensures.stored))
     c.in_err-add_whole_branch-in-Opened.ensures.does
-    (λ t sound found. (
-      sound,
-      not_there t b terms (row_at branch_key t.branches b) (sym c.in-Opened.is ∙ found),
-    ))))
+    (λ t ready found.
+    let at = not_there t b terms (row_at branch_key t.branches b) (sym c.in-Opened.is ∙ found) in
+    (ready at, at))))
 
 pub returns-in_ok-add_whole_branch-in-Opened-clause-acts : goal.returns-in_ok-add_whole_branch-in-Opened-clause-acts
 returns-in_ok-add_whole_branch-in-Opened-clause-acts g c =
     let b = c.args.branch in
     let terms = opened_with c.args.count c.args.floor in
-    acts_wrote (does_both
-    (does_read c.in_ok-opening.ensures.says)
+    acts_wrote (does_both (does_look (looked b terms _ c.in_ok-opening.ensures.above (omega arith) c.in_ok-opening.ensures.says
+    c.in_ok-opening.ensures.stored))
     c.in_ok-add_whole_branch-in-Opened.ensures.does
-    (λ t sound found.
+    (λ t ready found.
     let at = not_there t b terms (row_at branch_key t.branches b) (sym c.in-Opened.is ∙ found) in
-    ((sound, at), opened_now t b terms at, sym c.in-Opened.is ∙ found)))
+    ((ready at, at), opened_now t b terms at, sym c.in-Opened.is ∙ found)))
 
 -- ---- of whatever rows the file holds
 

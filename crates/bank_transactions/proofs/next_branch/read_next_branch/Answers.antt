@@ -17,5 +17,6 @@ returns-clause-within g c =
 pub returns-clause-undone : goal.returns-clause-undone
 returns-clause-undone g c =
     undoes g.S.Store c.args.conn.now c.begin-tx.result c.branch_after-next.new.tx c.finish.new.tx.0
-    c.conn-1.given.0 c.begin-tx.ensures.begun c.begin-tx.ensures.settled (does_read c.branch_after-next.ensures.says)
+    c.conn-1.given.0 c.begin-tx.ensures.begun c.begin-tx.ensures.settled (does_read {Adds = λ text values. ⊥}
+    c.branch_after-next.ensures.says)
     c.finish.ensures (search rules)

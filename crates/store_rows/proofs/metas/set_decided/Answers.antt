@@ -9,10 +9,15 @@ returns-clause-sets g c = record {
   told = λ clean live t shows. tells_decided _ _ t shows c.args.decided c.write_under.result
       (rw (as_integer c.args.decided c.args.decided refl (omega arith)) at
       (c.write_under.ensures.told clean live));
-  leaves = λ clean live. (
-    c.write_under.ensures.leaves clean live,
-    spared_met _ spares.set_meta _ _ _ c.write_under.result (c.write_under.ensures.told clean live),
-  );
+  leaves = λ clean live.
+      let both = spared_met _ spares.set_meta _ _ _ c.write_under.result
+      (rw (as_integer c.args.decided c.args.decided refl (omega arith)) at
+      (c.write_under.ensures.told clean live)) in (
+        rw (as_integer c.args.decided c.args.decided refl (omega arith)) at
+            (c.write_under.ensures.leaves clean live),
+        both.0,
+        both.1,
+      );
   same_reference = search rules;
   survives = search rules;
 }

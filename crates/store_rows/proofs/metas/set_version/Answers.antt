@@ -8,7 +8,7 @@ returns g c = record {
   told = λ clean live. tells_version _ _ c.args.version c.write_under.result
       (rw (to_z-of_z w64 c.args.version c.ranges.version) at (c.write_under.ensures.told clean live));
   leaves = λ clean live. (
-    c.write_under.ensures.leaves clean live,
+    rw (to_z-of_z w64 c.args.version c.ranges.version) at (c.write_under.ensures.leaves clean live),
     version_spared _ _ _ c.write_under.result (c.write_under.ensures.told clean live),
   );
   same_reference = search rules;

@@ -19,8 +19,13 @@ returns g c = record {
     refl,
   );
   leaves = λ clean live.
-      let ran = c.in_ok-count.ensures.runs clean live in
-      (kept_inside _ _ _ _ (Ok c.in_ok-count.count) ran, λ none. (_, (c.in_ok-count.count, ran, none)));
+      let ran = rw (
+        c.params-to_sql.ensures,
+        c.params-to_sql-2.ensures,
+        as_integer c.args.key c.args.key refl (omega arith),
+        to_z-of_z w64 c.args.number c.ranges.number,
+      ) at (c.in_ok-count.ensures.runs clean live) in
+      (kept_inside _ _ _ _ (Ok c.in_ok-count.count) ran, λ none. (c.in_ok-count.count, ran, none));
   same_reference = search rules;
   survives = search rules;
 }

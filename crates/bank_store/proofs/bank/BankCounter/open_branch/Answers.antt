@@ -3,10 +3,13 @@ use Rattle.std.proofs.Common.{◌≤◌, [], ◌∷◌, ◌∙◌}
 use Rattle.std.proofs.lemmas.Result.{err_from_is_err_and}
 use Rattle.std.specs.Prelude.{IsSome}
 use Rattle.posting_rules.specs.believed.Commands.{Open, AreCommands, opened_with}
-use Rattle.posting_rules.proofs.{Calls.opens, Calls.answers, ChangesByKey.sound_tables}
-use Rattle.bank_store.proofs.{Causes.still_clean, Countered.takes, bank.BankCounter.open_branch.Given.Over}
+use Rattle.posting_rules.proofs.{Calls.opens, Calls.answers}
+use Rattle.bank_store.proofs.{Broke.breaks_shown, Causes.still_clean, Countered.ready_to_open, Countered.takes}
+use Rattle.bank_store.proofs.bank.BankCounter.open_branch.Given.{Over}
+use Rattle.bank_store.specs.Seen.{fault_of}
 use Rattle.bank_store.proofs.OtherTables.{spares_done, spares_down, spares_untouched}
-use Rattle.bank_store.proofs.Refusing.{answered_call, refused_call, transaction_refused, untried_call, Refusal}
+use Rattle.bank_store.proofs.Refusing.{answered_call, breaks_opening, refused_call, transaction_refused}
+use Rattle.bank_store.proofs.Refusing.{untried_call, Refusal}
 use Rattle.bank_transactions.specs.{believed.Additions.AddsBranch, believed.Causes.IsBrokenOrMet}
 use Rattle.bank_store.proofs.bank.BankCounter.open_branch.Goals as goal
 
@@ -21,7 +24,8 @@ refused g c =
     let above : 1 ≤ b = c.range_law.ensures.least in
     let are : AreCommands (Open b terms ∷ []) =
     ((above, c.requires.branch, c.requires.some, c.requires.few, c.floor_law.ensures), tt) in
-    transaction_refused g.S.Store c.args.self.now c.go_down.new.self c.open_branch.new.conn sound_tables
+    transaction_refused g.S.Store c.args.self.now c.go_down.new.self c.open_branch.new.conn
+    (ready_to_open b terms above c.requires.few)
     (Open b terms ∷ [])
     (opens b terms above c.requires.few) are c.in-Err.fault c.go_down.result c.go_down.ensures.down
     c.go_down.ensures.survives
@@ -39,12 +43,12 @@ returns-in-Ok g c =
     record {
       answer =
           λ clean log s. (says.told clean s.tables s.are
-          (sound_tables s.tables log s.commands s.shows)).0
+          (ready_to_open b terms above c.requires.few s.tables log s.commands s.shows)).0
           ∙ answers s.tables log b terms s.shows;
       call =
           answered_call g.S.Store c.args.self.now _ (Open b terms ∷ []) _ c.in_ok-up.ensures.up
           c.in_ok-up.ensures.up
-          (takes sound_tables (Open b terms ∷ []) (opens b terms above c.requires.few) are Down Down
+          (takes (ready_to_open b terms above c.requires.few) (Open b terms ∷ []) (opens b terms above c.requires.few) are Down Down
           c.in_ok-up.ensures.up says) (still_clean says.survives);
       frugal = λ same. (let it = same in cc);
       stored = c.in-Ok.ensures.stored;
@@ -61,7 +65,11 @@ returns-in-Err g c =
           c.in_ok-up.ensures.up;
       frugal = λ same. no.frugal (let it = same in cc);
       stored = tt;
-      own = no.broken;
+      own = breaks_opening g.S.Store c.args.branch (opened_with c.args.count c.args.floor) c.args.self.now
+          c.go_down.new.self c.go_down.result no.broken
+          (breaks_shown g.S.Store c.args.self.now.conn c.open_branch.new.conn c.go_down.new.self.conn
+          (fault_of c.go_down.new.self) c.go_down.result c.go_down.ensures.survives _ c.in-Err.fault
+          c.in-Err.ensures.transacts c.go_down.ensures.down);
       spares = spares_down g.S.Store c.args.self.now c.go_down.new.self c.open_branch.new.conn c.in-Err.fault
           c.go_down.result c.in_ok-up.ensures.up c.in-Err.ensures.transacts.spares
           c.in-Err.ensures.undone

@@ -37,7 +37,7 @@ invariant_of-self g c =
 -- what its refusal says
 refused : (g : Over) (c : goal.After-go_down g)
     → Refusal g.S.Store c.args.self.now c.go_down.new.self (posts c.args.moment (c.args.bytes.now ∷ []))
-    (IsBrokenOrMet g.S.Store (AddsForRecords (database_of g.S.Store c.args.self.now) 1))
+    (IsBrokenOrMet g.S.Store (AddsForRecords (database_of g.S.Store c.args.self.now) (c.args.bytes.now ∷ [])))
     c.go_down.result
 refused g c =
     let m = c.args.moment in
@@ -70,9 +70,11 @@ returns-in-Ok-post_looked_up g c =
           (takes (of_logs 1) (posts m rs) (posts_all m rs) are Down Down c.in_ok-up.ensures.up says)
           (still_clean says.survives);
       frugal = λ same. (let it = same in cc);
-      stored = λ clean r is.
-          one_stored is (subst (RepliesLookedUp _ _ m rs) (sym c.deref.ensures ∙ only c.deref.result.now _ many)
-          (it.stored clean rs made));
+      stored = λ clean r is. record {
+        told = one_stored is (subst (RepliesLookedUp _ _ m rs) (sym c.deref.ensures ∙ only c.deref.result.now _ many)
+            (it.stored clean rs made));
+        wrote = says.wrote clean;
+      };
       leaves =
           λ clean r is t shows so.
           let told = says.told clean t shows so in
@@ -100,7 +102,7 @@ returns-in-Err g c =
       stored = tt;
       leaves = tt;
       malformed = λ up bad is. absurd (no_request (sym read ∙ is));
-      own = breaks g.S.Store 1 c.args.self.now c.go_down.new.self c.go_down.result no.broken
+      own = breaks g.S.Store rs c.args.self.now c.go_down.new.self c.go_down.result no.broken
           (breaks_shown g.S.Store c.args.self.now.conn c.post_looked_up.new.conn c.go_down.new.self.conn
           (fault_of c.go_down.new.self) c.go_down.result c.go_down.ensures.survives _ c.in-Err.fault
           (c.in-Err.ensures.says rs made) c.go_down.ensures.down);

@@ -20,7 +20,7 @@ use Rattle.bank_store.proofs.bank.BankCounter.submit_all.Goals as goal
 -- what its refusal says
 refused : (g : Over) (c : goal.After-drop-replies-in-Err-1 g)
     → Refusal g.S.Store c.args.self.now c.go_down.new.self (posts c.args.moment c.args.records.now)
-    (IsBrokenOrMet g.S.Store (AddsForRecords (database_of g.S.Store c.args.self.now) (length c.args.records.now)))
+    (IsBrokenOrMet g.S.Store (AddsForRecords (database_of g.S.Store c.args.self.now) c.args.records.now))
     c.go_down.result
 refused g c =
     let m = c.args.moment in
@@ -65,7 +65,10 @@ returns-in-Ok g c =
             };
             idle = λ none. let it = c.in-Ok.ensures.idle clean rs made t shows so none in (it.leads, it.same);
           };
-      stored = λ clean. subst (RepliesToAllStored _ _ m rs) (sym same) (c.in-Ok.ensures.stored clean rs made);
+      stored = λ clean. record {
+        told = subst (RepliesToAllStored _ _ m rs) (sym same) (c.in-Ok.ensures.stored clean rs made);
+        wrote = says.wrote clean;
+      };
       own = tt;
       spares = spares_done g.S.Store c.args.self.now _ _ c.in_ok-up.ensures.up says.spares;
     }
@@ -87,7 +90,7 @@ returns-in-Err g c =
           c.go_down.ensures.survives;
       leaves = tt;
       stored = tt;
-      own = breaks g.S.Store (length rs) c.args.self.now c.go_down.new.self c.go_down.result no.broken
+      own = breaks g.S.Store rs c.args.self.now c.go_down.new.self c.go_down.result no.broken
           (breaks_shown g.S.Store c.args.self.now.conn c.post_all.new.conn c.go_down.new.self.conn
           (fault_of c.go_down.new.self) c.go_down.result c.go_down.ensures.survives _ c.in-Err.fault
           (c.in-Err.ensures.says rs c.in_ok-batch.ensures.made) c.go_down.ensures.down);
