@@ -2,7 +2,7 @@
 use Rattle.std.proofs.Common.{◌≡◌, ℕ, List, Option, Result, Ok, Err}
 use Rattle.std.specs.{Prelude.OnErr, Result.IsErrOf}
 use Rattle.posting_rules.specs.{believed.Counter.Seen, declared.fault.Fault.Fault}
-use Rattle.posting_core.specs.{LogEntries.AnsweredRequest, Told.WriteTold}
+use Rattle.posting_core.specs.{believed.LogEntries.AnsweredRequest, Told.WriteTold}
 use Rattle.branch_loader.specs.{Followed.Did, believed.Plans.Rows, declared.follow_fault.FollowFault.FollowFault}
 use Rattle.branch_loader.specs.declared.follow_fault.FollowFault.TheVariants.{Bank, Differs, Memory, NoEntry, Read}
 use Rattle.branch_loader.specs.declared.follow_fault.FollowFault.TheVariants.{Truncated}

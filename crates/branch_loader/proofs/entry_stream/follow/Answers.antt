@@ -2,7 +2,7 @@
 use Rattle.std.proofs.Common.{◌≡◌, ◌≤◌, ◌<◌, ◌++◌, ◌∙◌, [], List, ℕ, inl, inr, refl, sym, ap, arith, length, take}
 use Rattle.std.proofs.KnownBytes.{Consumes-nil}
 use Rattle.std.proofs.lemmas.{List.length-append, List.length-map, List.length-take-le, Result.err_from_is_err_and}
-use Rattle.posting_core.specs.{LogEntries.entries_of, LogEntries.entry_of, believed.Batches.joined}
+use Rattle.posting_core.specs.{believed.Batches.joined, believed.LogEntries.entries_of, believed.LogEntries.entry_of}
 use Rattle.posting_core.proofs.{Batched.chunks_whole, Streaming.at_ok, Streaming.nothing_read}
 use Rattle.posting_core.proofs.Telling.{made_many, made_none, made_one, other_kind, read_ended, read_failed}
 use Rattle.branch_loader.proofs.{Followed.broke_off, Followed.cut_up, Followed.entries-append, Followed.followed_grows}

@@ -2,7 +2,7 @@
 use Rattle.std.proofs.Common.{◌≡◌, ◌<◌, ◌≤◌, ◌*◌, ◌++◌, List, [], length, take}
 use Rattle.std.specs.{Io.KnownBytes.Consumes, List.AllByRecursion}
 use Rattle.posting_rules.specs.declared.limits.TheConstants.{RECORDS_PER_BATCH}
-use Rattle.posting_core.specs.{Entries.IsEntry, LogEntries.AnsweredRequest, LogEntries.entries_of, believed.Batches.joined}
+use Rattle.posting_core.specs.{Entries.IsEntry, believed.Batches.joined, believed.LogEntries.AnsweredRequest, believed.LogEntries.entries_of}
 use Rattle.posting_core.proofs.Telling.{HasMade}
 use Rattle.branch_loader.specs.{Following.HasFollowed, Following.IsWaiting, declared.entry_stream.TheConstants.BUFFER}
 use Rattle.branch_loader.proofs.entry_stream.follow.Given as goal
