@@ -6,12 +6,16 @@ use Rattle.sqlite.specs.{Effect.Database, State.State, State.HasCleanDisk, State
 use Rattle.sqlite.proofs.StateLemmas.{survives_then}
 use Rattle.sqlite_trees.specs.declared.store.Store.{Ghosts}
 use Rattle.posting_rules.specs.{believed.Tables.Tables, declared.fault.Rule.Rule}
-use Rattle.store_rows.specs.believed.{Rules.IsBroken, Sparing.SparesOthers, View.Shows}
+use Rattle.store_rows.specs.believed.{Failures.Additions, Made.WritesOnly, Rules.IsBroken, Sparing.SparesOthers, View.Shows}
 use Rattle.store_rows.specs.declared.fault.TableFault.{TableFault, TheVariants.Sqlite, TheVariants.Damaged}
 use Rattle.bank_transactions.specs.{Causes.IsFault, Causes.IsFirstBroken, Doing.Completes, Doing.MayLeaveAfter}
 use Rattle.bank_transactions.specs.{Doing.TransactsBy, Doing.Undoes, Undone.IsUndone, believed.Doing.LeavesOthers}
 use Rattle.bank_transactions.proofs.Blamed.{blames_after, comes}
 use Rattle.bank_store.specs.Walks.{IsStill, IsUntouchedIfOpen}
+
+-- no row is put in or changed
+abbrev Nothing : Additions
+Nothing text values = ⊥
 
 -- what a crash leaves no more than before, it leaves no more than before or so
 quiet_also : (old new : State) (P : Trees → Type 0) → Survives old new (λ _. ⊥) → Survives old new P
@@ -36,7 +40,7 @@ module _ {S X : Type 0} {So : Tables → Type 0} {wanted : Tables → X} (g : Gh
       → (HasCleanDisk (state g new) → IsUntouchedIfOpen (state g old) (state g new))
       → Survives (state g old) (state g new) (λ _. ⊥)
       → (HasCleanDisk (state g new) → IsFault (IsFirstBroken g) g old new fault)
-      → TransactsBy {X = X} (IsFirstBroken g) g old new So (λ t. t) wanted (Err fault)
+      → TransactsBy {X = X} (IsFirstBroken g) Nothing g old new So (λ t. t) wanted (Err fault)
   reads_failed old new fault outside untouched quiet cause = record {
     told = λ clean t shows so. completes fault (cause clean) t;
     undone = λ clean. undoes fault (undone_by (state g old) (state g new) (untouched clean));
@@ -44,6 +48,7 @@ module _ {S X : Type 0} {So : Tables → Type 0} {wanted : Tables → X} (g : Gh
     cause = cause;
     mode = outside;
     spares = record { now = λ clean. tt; left = quiet_also (state g old) (state g new) _ quiet };
+    wrote = λ clean. tt;
   }
     where
       completes : (f : TableFault) → IsFault (IsFirstBroken g) g old new f → (t : Tables)
@@ -59,7 +64,7 @@ module _ {S X : Type 0} {So : Tables → Type 0} {wanted : Tables → X} (g : Gh
   -- reads that were answered, and the transaction
   module _ (old mid new : Held S) (quiet : Survives (state g old) (state g mid) (λ _. ⊥))
       (still : HasCleanDisk (state g mid) → IsStill (state g old) (state g mid)) (r : Result X TableFault)
-      (two : TransactsBy {X = X} (IsFirstBroken g) g mid new So (λ t. t) wanted r) where
+      (two : TransactsBy {X = X} (IsFirstBroken g) Nothing g mid new So (λ t. t) wanted r) where
     before : HasCleanDisk (state g new) → HasCleanDisk (state g mid)
     before clean = omega (arith, two.survives.clean, clean)
 
@@ -79,7 +84,7 @@ module _ {S X : Type 0} {So : Tables → Type 0} {wanted : Tables → X} (g : Gh
     undoes_since clean (Err (Damaged rule)) is =
         λ shown. let it = is shown in (subst IsTrue (still (before clean)).3 it.0, it.1 ∙ same clean)
 
-    pub reads_then : TransactsBy {X = X} (IsFirstBroken g) g old new So (λ t. t) wanted r
+    pub reads_then : TransactsBy {X = X} (IsFirstBroken g) Nothing g old new So (λ t. t) wanted r
     reads_then = record {
       told = λ clean t shows so.
           completes_since clean t r
@@ -102,6 +107,8 @@ module _ {S X : Type 0} {So : Tables → Type 0} {wanted : Tables → X} (g : Gh
             (λ clean left may. subst (λ (db : Database). LeavesOthers db left) (same clean) may)
             quiet two.spares.left;
       };
+      wrote = λ clean. on_ok_weaker r
+          (subst (λ (db : Database). WritesOnly Nothing db (state g new).now) (same clean)) (two.wrote clean);
     }
 
     -- what it undid is undone
@@ -119,8 +126,8 @@ module _ {S X : Type 0} {So : Tables → Type 0} {wanted : Tables → X} (g : Gh
 module _ {S X Y : Type 0} {So : Tables → Type 0} {wanted : Tables → X} {asked : Tables → Y} (g : Ghosts S)
     (old new : Held S) where
   pub answered_by : (x : X) (y : Y) → ((t : Tables) → x ≡ wanted t → y ≡ asked t)
-      → TransactsBy (IsFirstBroken g) g old new So (λ t. t) wanted (Ok x)
-      → TransactsBy (IsFirstBroken g) g old new So (λ t. t) asked (Ok y)
+      → TransactsBy (IsFirstBroken g) Nothing g old new So (λ t. t) wanted (Ok x)
+      → TransactsBy (IsFirstBroken g) Nothing g old new So (λ t. t) asked (Ok y)
   answered_by x y same one = record {
     told = λ clean t shows so. let it = one.told clean t shows so in (same t it.0, it.1, it.2);
     undone = λ clean. tt;
@@ -128,11 +135,12 @@ module _ {S X Y : Type 0} {So : Tables → Type 0} {wanted : Tables → X} {aske
     cause = λ clean. tt;
     mode = one.mode;
     spares = record { now = one.spares.now; left = one.spares.left };
+    wrote = one.wrote;
   }
 
   pub failed_by : (fault : TableFault)
-      → TransactsBy {X = X} (IsFirstBroken g) g old new So (λ t. t) wanted (Err fault)
-      → TransactsBy {X = Y} (IsFirstBroken g) g old new So (λ t. t) asked (Err fault)
+      → TransactsBy {X = X} (IsFirstBroken g) Nothing g old new So (λ t. t) wanted (Err fault)
+      → TransactsBy {X = Y} (IsFirstBroken g) Nothing g old new So (λ t. t) asked (Err fault)
   failed_by fault one = record {
     told = λ clean t shows so. completes fault t (one.told clean t shows so);
     undone = λ clean. undoes fault (one.undone clean);
@@ -140,6 +148,7 @@ module _ {S X Y : Type 0} {So : Tables → Type 0} {wanted : Tables → X} {aske
     cause = one.cause;
     mode = one.mode;
     spares = record { now = λ clean. tt; left = one.spares.left };
+    wrote = λ clean. tt;
   }
     where
       completes : (f : TableFault) (t : Tables) → Completes {X = X} (state g old) (state g new) t (wanted t) (Err f)

@@ -11,6 +11,6 @@ returns-clause-says g c =
 
 pub returns-clause-undone : goal.returns-clause-undone
 returns-clause-undone g c =
-    undoes g.S.Store c.args.conn.now c.begin-tx.result c.decided-count.new.tx c.finish.new.tx.0
+    undoes {Adds = λ text values. ⊥} g.S.Store c.args.conn.now c.begin-tx.result c.decided-count.new.tx c.finish.new.tx.0
     c.conn-1.given.0 c.begin-tx.ensures.begun c.begin-tx.ensures.settled (does_read c.decided-count.ensures.says)
     c.finish.ensures (search rules)
