@@ -6,10 +6,10 @@ use Rattle.counter_http.specs.believed.Messages.{Message}
 use Rattle.counter_http.specs.believed.Turns.{Turn, answers_to, commands_for, commands_if, commands_in, messages_of}
 use Rattle.counter_http.specs.believed.Turns.{moments_in, moments_of, readings_if}
 
-head_same : {X : Type 0} {x y : X} {xs ys : List X} → x ∷ xs ≡ y ∷ ys → x ≡ y
+pub head_same : {X : Type 0} {x y : X} {xs ys : List X} → x ∷ xs ≡ y ∷ ys → x ≡ y
 head_same is = cc
 
-tail_same : {X : Type 0} {x y : X} {xs ys : List X} → x ∷ xs ≡ y ∷ ys → xs ≡ ys
+pub tail_same : {X : Type 0} {x y : X} {xs ys : List X} → x ∷ xs ≡ y ∷ ys → xs ≡ ys
 tail_same is = cc
 
 -- one message, and what is read of the clock after it

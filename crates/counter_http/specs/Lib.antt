@@ -16,3 +16,4 @@ pub mod Connections
 pub mod Tasks
 pub mod Asking
 pub mod Listing
+pub mod Momentless
