@@ -13,7 +13,8 @@
 # line.
 #
 # STOP and START are the commands that stop and start the counter, OPEN is one that succeeds once it answers, within
-# SECONDS_TO_OPEN, and BANK is the program; without them it is the service of examples/bank.service, and 300 seconds.
+# SECONDS_TO_OPEN, and BANK is the program; without them it is the service of examples/bank.service, and 300 seconds. On a
+# machine that follows (examples/standby.service) no counter stops: docs/USING.md has what STOP, START and OPEN are there.
 set -eu -o pipefail
 export LC_ALL=C
 stop="${STOP:-systemctl stop bank}"

@@ -18,11 +18,12 @@ root="$work/bank-$version"
 umask 022
 
 install -D -m 755 "$bank" "$root/usr/bin/bank"
+install -m 755 examples/standby.sh "$root/usr/bin/bank-standby"
 mkdir -p "$root"/{DEBIAN,etc} "$root"/usr/share/{bash-completion/completions,doc/bank,man/man1} "$root/lib/systemd/system"
 examples/man_page.sh "$bank" | gzip -9n >"$root/usr/share/man/man1/bank.1.gz"
 install -m 644 examples/completion.bash "$root/usr/share/bash-completion/completions/bank"
 install -m 644 examples/bank.nft "$root/etc/"
-for unit in bank bank-alarm teller; do
+for unit in bank bank-alarm@ standby teller; do
     sed s,/usr/local/bin/,/usr/bin/, "examples/$unit.service" >"$root/lib/systemd/system/$unit.service"
 done
 cp -r README.md LICENSE-* docs/USING.md docs/RUNBOOK.md examples "$root/usr/share/doc/bank/"
@@ -53,7 +54,7 @@ END
 cat >"$root/DEBIAN/prerm" <<'END'
 #!/bin/sh
 set -e
-if [ -d /run/systemd/system ] && [ "$1" = remove ]; then systemctl stop teller bank; fi
+if [ -d /run/systemd/system ] && [ "$1" = remove ]; then systemctl stop teller bank standby; fi
 END
 chmod 755 "$root/DEBIAN/postinst" "$root/DEBIAN/prerm"
 dpkg-deb --root-owner-group --build "$root" "$folder/bank_${version}_amd64.deb"

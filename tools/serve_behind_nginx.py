@@ -5,51 +5,25 @@ is consistent. Half of the tellers show a certificate, and half a password; who 
 the page of this server, is refused. It needs the built program, nginx and openssl, is bounded in count and time, and
 stands outside the gate.
     tools/serve_behind_nginx.py [KILLS [RECORDS A TELLER]]"""
-import base64
 import random
-import socket
-import ssl
 import subprocess
 import sys
 import tempfile
 import time
 
-from serve_client import BANK, Place, Sender, need_program, post, read_answer, record
+from serve_client import (BANK, FROM_PAGE, Place, Sender, connect, need_program, post, read_answer, record, signed_in,
+                          tls_of, with_fields)
 
 PLAN = [(1, 3), (2, 2)]
 ACCOUNTS = [1, 2, 3, 100001, 100002]
 # No run takes longer than this, in seconds.
 LONGEST = 300
-# What a posting has that comes from the page of this server.
-FROM_PAGE = (b"Content-Type: application/octet-stream", b"Origin: https://bank")
-
-
-def signed_in(teller, word=b""):
-    """The field with a teller's password, or with another word."""
-    return b"Authorization: Basic " + base64.b64encode(b"teller%d:%s" % (teller, word or b"counter%d" % teller))
-
-
-def with_fields(message, fields):
-    return message.replace(b"Host: bank\r\n", b"\r\n".join((b"Host: bank", *fields, b"")))
-
-
-def tls_of(folder, teller=None):
-    """TLS, with the certificate of a teller if one is given."""
-    tls = ssl.create_default_context(cafile=folder + "/bank.crt")
-    if teller:
-        tls.load_cert_chain(f"{folder}/teller{teller}.crt", folder + "/teller.key")
-    return tls
-
-
-def connect(tls, port):
-    return tls.wrap_socket(socket.create_connection(("127.0.0.1", port), timeout=15), server_hostname="localhost")
-
 
 def teller_of(folder, port, teller, count, end):
     """A teller's records, and who sends them."""
     draw, branch = random.Random(teller), 1 if teller <= 10 else 2
     records = [record(ACCOUNTS[(teller + i) % 5], teller, branch, i + 1, draw.randint(-9999, 9999)) for i in range(count)]
-    tls = tls_of(folder, teller if teller % 2 else None)
+    tls = tls_of(folder, f"teller{teller}" if teller % 2 else None)
     fields = FROM_PAGE if teller % 2 else (signed_in(teller), *FROM_PAGE)
     messages = [with_fields(post(body), fields) for body in records]
     return records, Sender(lambda: connect(tls, port), messages, gives_up=lambda: time.monotonic() > end)
@@ -57,7 +31,7 @@ def teller_of(folder, port, teller, count, end):
 
 def strangers(folder, port):
     """What is sent by one who may not: a name, TLS, the message, and the statuses with which it is refused."""
-    nobody, certified = tls_of(folder), tls_of(folder, 1)
+    nobody, certified, standby = tls_of(folder), tls_of(folder, "teller1"), tls_of(folder, "standby")
     own, others = post(record(1, 2, 1, 9999, 1)), post(record(1, 4, 1, 9999, 1))
     signed, (content, origin) = signed_in(2), FROM_PAGE
     return [
@@ -67,11 +41,17 @@ def strangers(folder, port):
         ("another teller's record", nobody, with_fields(others, (signed, *FROM_PAGE)), (403,)),
         ("a certificate of teller 1, a record of teller 2", certified, with_fields(own, FROM_PAGE), (403,)),
         ("the same, and teller 2's name", certified, with_fields(own, (signed, *FROM_PAGE)), (403,)),
+        ("a follower's posting", standby, with_fields(own, FROM_PAGE), (403,)),
         ("no record", nobody, with_fields(post(b"DC01"), (signed, *FROM_PAGE)), (403,)),
         ("a form's content", nobody, with_fields(own, (signed, b"Content-Type: text/plain", origin)), (403,)),
         ("no origin", nobody, with_fields(own, (signed, content)), (403,)),
         ("another server's page", nobody, with_fields(own, (signed, content, b"Origin: https://bank.example")), (403,)),
         ("a page without TLS", nobody, with_fields(own, (signed, content, b"Origin: http://bank")), (403,)),
+    ] + [
+        (path.decode() + " for " + who, tls, b"GET %s HTTP/1.1\r\nHost: bank\r\n%s\r\n" % (path, more), (401, 403))
+        for path in (b"/log/0", b"/plan", b"/%6cog/0", b"/branches/../plan", b"//log/0", b"/log/0?x")
+        for who, tls, more in (("nobody", nobody, b""), ("a password", nobody, signed + b"\r\n"),
+                               ("a teller's certificate", certified, b""))
     ] + [
         ("another spelling of the path", nobody,
          with_fields(others.replace(b"/post", path), (signed, *FROM_PAGE)), (400, 403, 404))

@@ -1,7 +1,7 @@
 #!/usr/bin/env bash
 # Tries what README, docs/USING.md and examples/ show, with the built program: README's minute as a script and pasted
 # into a terminal, the reports in SQL, the evening's copy, a recovery and the migration, each with what they refuse; and
-# what `bank serve` answers to curl.
+# what `bank serve` answers to curl; a bank that follows another one.
 #
 #     tools/try_examples.sh [TIMES]
 #
@@ -11,7 +11,12 @@ top="$(cd "$(dirname "$0")/.." && pwd)"
 times="${1:-10}"
 bank="$top/crates/bank/out/bank"
 work="$(mktemp -d)"
-trap 'rm -rf "$work"' EXIT
+server=
+stop() {
+    for it in $server $(cat follower); do kill "$it" || true; done 2>/dev/null
+    rm -rf "$work"
+}
+trap stop EXIT
 cd "$work"
 
 fail() {
@@ -170,3 +175,52 @@ same "$(ask -w '%{num_connects} ' "$base/account/1" "$base/account/2" "$base/acc
     'account 1 balance 500 1 account 2 balance 0 0 account 3 balance 0 0 ' "a kept connection"
 wait "$server" || fail "serve ended with status $?"
 echo "curl"
+
+# A bank that follows, the evening of its machine, and a leader that has less.
+leads() {
+    rm -f leads
+    "$bank" serve "$1" 127.0.0.1:0 >leads &
+    server=$!
+    until grep -qs listening leads; do sleep 0.1; done
+    base=http://$(cut -d ' ' -f 2 leads)
+}
+followed() {
+    for _ in $(seq 300); do
+        if [ "$(cat second.db.followed 2>/dev/null)" = "$1" ]; then return; fi
+        sleep 0.1
+    done
+    fail "second.db has not followed to $1: $(cat follows)"
+}
+cat >second.sh <<END
+case "\$1" in
+    start)
+        BANK="$bank" "$top/examples/standby.sh" "\$(cat leader)" second.db 2>>follows &
+        echo \$! >follower
+        ;;
+    stop) kill "\$(cat follower)" && while kill -0 "\$(cat follower)" 2>/dev/null; do sleep 0.1; done ;;
+esac
+END
+"$bank" drive curl.db --seed 5 --count 500 >/dev/null
+count=$(($("$bank" export curl.db | wc -c) / 100))
+leads curl.db
+echo "$base" >leader
+bash second.sh start
+followed "$count"
+STOP="bash second.sh stop" START="bash second.sh start" OPEN="test -e second.db.followed" BANK="$bank" \
+    "$top/examples/evening.sh" second.db safe/second >said 2>&1 || fail "an evening of a bank that follows: $(cat said)"
+printf '%-100s' DC01000000000001000000010000019000000001+0000000500 >record
+ask --data-binary @record -o reply "$base/post"
+followed $((count + 1))
+bash second.sh stop
+kill "$server"
+wait "$server" || true
+count=$((count + 1))
+cmp <("$bank" digest curl.db "$count") <("$bank" digest second.db "$count") || fail "second.db has other requests"
+"$bank" init less.db >/dev/null
+leads less.db
+status=0
+BANK="$bank" "$top/examples/standby.sh" "$base" second.db >said 2>&1 || status=$?
+kill "$server"
+wait "$server" || true
+same "$status" 4 "following a leader that has less ($(cat said))"
+echo "standby.sh"
