@@ -35,8 +35,8 @@ returns-in-Ok g c =
       why = why_none _;
     }
 
-pub returns-in-Err : goal.returns-in-Err
-returns-in-Err g c =
+pub returns : goal.returns
+returns g c =
     let one = c.in_ok-floors_of.ensures in
     let two = c.in-Err.ensures in
     record {
