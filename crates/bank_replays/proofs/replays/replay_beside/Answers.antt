@@ -101,6 +101,6 @@ returns g c =
           let it = filled.shows c.requires.shows (sure (connection_of c.in_ok-due.due)) in
           (it.0, same_log (file_of c.args.bank.now) due _ _ f has same it.0 it.1);
       digest = λ clean.
-          subst (λ (d : Database). AreDigestsIn d _) (both.still (clean_before digested.bank clean)).0 (digested.rows clean);
+          subst (λ (d : Database). AreDigestsIn d c.in_ok-digest_both.field-0) (both.still (clean_before digested.bank clean)).0 (digested.rows clean);
       differs = λ clean. tt;
     }
