@@ -6,15 +6,10 @@ ghost use Rattle.sqlite_disk.specs.Memory.{memory_is_usable};
 
 use bank_files::open_over;
 use command_line::{Command, Status, read_words};
-use sqlite::{Connection, Error, ErrorCode, FileStore, Files, Options, Unknown};
+use sqlite::{Connection, Error, FileStore, Files, Unknown};
 use sqlite_disk::{Disk, Memory};
-use sqlite_pager::Pager;
 use sqlite_std_file::OpenError;
-use sqlite_store::Unopened;
-use sqlite_value::row::Row;
-use sqlite_value::value::ValueRef;
-use sqlite_wal::probe_page_size;
-use std::alloc::{AllocError, Global};
+use std::alloc::AllocError;
 use std::fs::{self, Metadata, OpenOptions};
 use std::io::{self, ErrorKind, IsTerminal, Write};
 use std::os::fd::AsRawFd;
@@ -35,7 +30,6 @@ pub(crate) enum Reason {
     AutoVacuum,
     Opening(OpenError),
     Database(Error),
-    Object(String),
 }
 
 impl From<io::Error> for Reason {
@@ -69,10 +63,6 @@ impl fmt::Display for Reason {
             Reason::AutoVacuum => f.write_str("it is a database with auto_vacuum"),
             Reason::Opening(error) => write!(f, "{error}"),
             Reason::Database(error) => write!(f, "{error}"),
-            Reason::Object(name) => write!(
-                f,
-                "it has something that this program can't read: {name}"
-            ),
         }
     }
 }
@@ -151,7 +141,7 @@ pub(crate) fn look_into(
     look_for_others(rt, path, log.as_str())?;
     match open_over(rt.alloc(), copies(rt, path, log.as_str())?, 0) {
         Ok(conn) => Ok(conn),
-        Err(error) => Err(why_refused(rt, path, log.as_str(), error)?),
+        Err(error) => Err(Reason::Database(error)),
     }
 }
 
@@ -243,49 +233,4 @@ fn copy_of(rt: &HostRuntime, path: &str) -> Result<Memory, Reason>
     copy.write_at(0, bytes.as_slice())?;
     copy.sync()?;
     Ok(copy)
-}
-
-// Why the copies hold no database: an object of its schema, if it is one.
-fn why_refused(rt: &HostRuntime, path: &str, log: &str, error: Error) -> Result<Reason, Reason> {
-    if error != Error::SqliteFailure(ErrorCode::NotADatabase) {
-        return Ok(Reason::Database(error));
-    }
-    match refused_object(rt.alloc(), copies(rt, path, log)?) {
-        Some(name) => Ok(Reason::Object(name)),
-        None => Ok(Reason::Database(error)),
-    }
-}
-
-// The name of the first object of the schema that can't be made by its text.
-fn refused_object(alloc: Global, mut files: Files<Memory>) -> Option<String>
-    requires log { IsTrue (memory_is_usable files.log) }
-    requires db { IsTrue (memory_is_usable files.db) }
-{
-    let size = probe_page_size(&mut files).ok()??;
-    let pager = Pager::new(alloc, files, size, Options::new(0)).ok()?;
-    let mut unopened = Unopened::new(alloc, pager, &[]).ok()?;
-    let rows = unopened.read_catalog().ok()?;
-    let mut conn = Connection::open_in_memory(alloc).ok()?;
-    for row in rows.as_slice() {
-        if let Some((name, text)) = object_of(row) {
-            if conn.execute_batch(text).is_err() {
-                return format!(in alloc; "{name}").ok();
-            }
-        }
-    }
-    None
-}
-
-// The name of a row of the schema, and the text that makes it; none for what SQLite makes by itself.
-fn object_of(row: &Row) -> Option<(&str, &str)> {
-    let (ValueRef::Text(name), ValueRef::Text(text)) = (row.get(2), row.get(5)) else {
-        return None;
-    };
-    if name.starts_with(b"sqlite_") {
-        return None;
-    }
-    Some((
-        std::str::from_utf8(name).ok()?,
-        std::str::from_utf8(text).ok()?,
-    ))
 }

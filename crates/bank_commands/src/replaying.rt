@@ -5,7 +5,7 @@ ghost use Rattle.bank_commands.specs.Replaying.{ReplaysOver, ended_by_writing, e
 
 use crate::ended::{Ended, find};
 use bank_replays::{
-    Agreed, Digest, OtherTable, Replay, ReplayFault, Watch, digest, export, replay, write_plan,
+    Digest, OtherTable, Replay, ReplayFault, Watch, digest, export, replay, write_plan,
 };
 use command_line::{CommandFault, Status, print_agreeing, print_differing, print_digest};
 use posting_core::{Fault, Sink};
@@ -13,8 +13,8 @@ use sqlite::{Alter, Connection};
 use sqlite_trees::store::Store;
 use std::alloc::Global;
 
-/// Replays the bank that is found, and prints the digests of its requests and of its plan, or the first difference. `watch` is told how
-/// far it is.
+/// Replays the bank that is found, and prints the digests of its requests and of its plan, or the first difference.
+/// `watch` is told how far it is.
 pub fn replay_over<S: Alter + Drop, W: Sink, P: Watch + Drop>(
     alloc: Global,
     conn: Connection<S>,
@@ -119,8 +119,15 @@ fn print_replay<W: Sink>(
         Err(fault) => return Err(CommandFault::from(fault)),
     };
     match found {
-        Replay::Agrees(Agreed { digest, plan }) => {
-            let printed = print_agreeing(alloc, digest.requests, &digest.sha256, &plan, output);
+        Replay::Agrees(agreed) => {
+            let digest = agreed.digest;
+            let printed = print_agreeing(
+                alloc,
+                digest.requests,
+                &digest.sha256,
+                &agreed.plan,
+                output,
+            );
             ended(Status::Done, printed)
         }
         Replay::Differs(difference) => {
