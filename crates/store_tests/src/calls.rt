@@ -5,7 +5,7 @@ use crate::reports::{Cent, post_cent};
 use bank_scenarios::{Came, End};
 use bank_store::Bank;
 use message_records::{Account, Cents, REPLY_BYTES};
-use posting_core::{Counter, Fault};
+use posting_core::{Counter, Fault, Followed};
 use sqlite::Alter;
 use std::alloc::{Alloc, Global};
 use std::process::Abort;
@@ -56,7 +56,7 @@ fn came_of(done: Result<(), Fault>) -> Came {
 }
 
 // Makes a call of any counter.
-fn make_call<C: Counter>(rt: &(impl Abort + Alloc<A = Global>), bank: &mut C, call: Call) -> Came {
+fn make_call<C: Followed>(rt: &(impl Abort + Alloc<A = Global>), bank: &mut C, call: Call) -> Came {
     match call {
         Call::Case(case) => work_on(rt.alloc(), bank, case).expect(rt, "memory"),
         Call::Postings => came_of(post_many(rt, bank)),
