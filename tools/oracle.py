@@ -396,7 +396,7 @@ def routed(book, method, target, body):
         return 200, b"text/csv", plan_of(book), b""
     if log:
         number = log.group(1)
-        first = int(number) if re.fullmatch(rb"0|[1-9][0-9]{0,11}", number) else book.decided + 1
+        first = int(number) if re.fullmatch(rb"0|[1-9][0-9]{0,12}", number) else book.decided + 1
         entries = [entry_of(*kept) for kept in requests_of(book.rows)][first:first + ENTRIES_PER_ANSWER]
         return (200, BYTES, b"".join(entries), b"") if first <= book.decided else bare(404)
     number = account.group(1)

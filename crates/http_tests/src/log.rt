@@ -132,7 +132,8 @@ const OTHERS: &[(&[u8], &[u8], &[u8])] = &[
     (b"GET /log/01 HTTP/1.1\r\n\r\n", NOT_FOUND, b""),
     (b"GET /log/1x HTTP/1.1\r\n\r\n", NOT_FOUND, b""),
     (b"GET /log/-1 HTTP/1.1\r\n\r\n", NOT_FOUND, b""),
-    (b"GET /log/999999999999 HTTP/1.1\r\n\r\n", NOT_FOUND, b""),
+    (b"GET /log/9999999999999 HTTP/1.1\r\n\r\n", NOT_FOUND, b""),
+    (b"GET /log/10000000000000 HTTP/1.1\r\n\r\n", NOT_FOUND, b""),
     (
         b"GET /log/18446744073709551617 HTTP/1.1\r\n\r\n",
         NOT_FOUND,

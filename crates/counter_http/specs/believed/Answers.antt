@@ -133,7 +133,7 @@ plan_names = codes "branch,accounts,floor\n"
 unfoldable pub plan_lines : List Command → List ℕ
 plan_lines log = plan_names ++ lines_up_to plan_line log LAST_BRANCH
 
--- the number that 1 to 12 digits name, the first not 0 where there are more
+-- the number that 1 to 13 digits name, the first not 0 where there are more
 abbrev pub is_place_long : List ℕ → Bool
 is_place_long id =
     nat_lt 0 (length id) && nat_le (length id) PLACE_DIGITS && (not (get_or id 0 0 == 48) || length id == 1)
