@@ -1,10 +1,10 @@
 -- A stream of entries, step by step, and what it leaves.
-use Rattle.std.proofs.Common.{◌≡◌, ◌⊎◌, inl, inr, ℕ, ◌+◌, ◌-◌, ◌*◌, ◌/◌, ◌<◌, ◌≤◌, List, [], ◌∷◌, ◌++◌, length, take, drop}
-use Rattle.std.proofs.Common.{Option, Err, refl, sym, ap, subst, ◌∙◌, append_assoc, arith}
+use Rattle.std.proofs.Common.{◌≡◌, ◌⊎◌, inl, inr, ℕ, ◌+◌, ◌-◌, ◌*◌, ◌/◌, ◌^◌, ◌<◌, ◌≤◌, List, [], ◌∷◌, ◌++◌, length, take}
+use Rattle.std.proofs.Common.{Option, Err, refl, sym, ap, subst, drop, ◌∙◌, append_assoc, arith}
 use Rattle.std.specs.{Prelude.◌%◌, List.AllByRecursion, Simd.first_chunks}
 use Rattle.std.specs.Io.KnownBytes.{Consumes, Keeps}
 use Rattle.std.proofs.KnownBytes.{Consumes-trans}
-use Rattle.std.proofs.lemmas.List.{drop-take, length-append, length-take-le, map-append, take_at}
+use Rattle.std.proofs.lemmas.List.{drop-take, length-append, length-map, length-take-le, map-append, take_at}
 use Rattle.posting_rules.specs.believed.{Commands.Command, Runs.followed_by}
 use Rattle.posting_rules.specs.believed.Counter.{Seen, ShowsLog}
 use Rattle.posting_rules.specs.declared.fault.Fault.{Fault}
@@ -23,6 +23,7 @@ use Rattle.branch_loader.specs.declared.follow_fault.FollowFault.{FollowFault}
 use Rattle.branch_loader.specs.declared.follow_fault.FollowFault.TheVariants.{Bank, Differs, Memory, NoEntry, Read}
 use Rattle.branch_loader.specs.declared.follow_fault.FollowFault.TheVariants.{Truncated}
 use Rattle.branch_loader.specs.declared.entry_stream.TheConstants.{BUFFER}
+use Rattle.branch_loader.specs.declared.followers.Waiting.{Waiting}
 use Rattle.branch_loader.proofs.Following.{posts-append}
 
 -- ---- what was read
@@ -139,23 +140,24 @@ module _ {C : Type 0} (seen : C → Seen) (spares : C → C → Type 0) (reason 
         (it.followed.taken.takes.stands (it.honest h) log stood));
   }
 
-  pub stops_leaves : (fault : FollowFault) → Stops seen spares reason rows old new entries fault
-      → LeavesFollowed (seen old) (seen new) rows entries
-  stops_leaves (Bank fault) it = refused_leaves fault it
-  stops_leaves (Differs other) it = taken_leaves it.commands it.taken
-  stops_leaves (Truncated n) it = absurd it
-  stops_leaves Read it = absurd it
-  stops_leaves (NoEntry n) it = absurd it
-  stops_leaves Memory it = absurd it
+  pub stops_leaves : length entries < 2 ^ 128 → (fault : FollowFault)
+      → Stops seen spares reason rows old new entries fault → LeavesFollowed (seen old) (seen new) rows entries
+  stops_leaves few (Bank fault) it = refused_leaves fault it
+  stops_leaves few (Differs other) it = taken_leaves (it few).commands (it few).taken
+  stops_leaves few (Truncated n) it = absurd it
+  stops_leaves few Read it = absurd it
+  stops_leaves few (NoEntry n) it = absurd it
+  stops_leaves few Memory it = absurd it
 
-  pub stops_did : (fault : FollowFault) → Stops seen spares reason rows old new entries fault
+  pub stops_did : length entries < 2 ^ 128 → (fault : FollowFault)
+      → Stops seen spares reason rows old new entries fault
       → Did seen spares reason rows old new entries (Err fault)
-  stops_did (Bank fault) it = it
-  stops_did (Differs other) it = it
-  stops_did (Truncated n) it = absurd it
-  stops_did Read it = absurd it
-  stops_did (NoEntry n) it = absurd it
-  stops_did Memory it = absurd it
+  stops_did few (Bank fault) it = it
+  stops_did few (Differs other) it = it few
+  stops_did few (Truncated n) it = absurd it
+  stops_did few Read it = absurd it
+  stops_did few (NoEntry n) it = absurd it
+  stops_did few Memory it = absurd it
 
   -- to the end, the log has the entries that were new
   pub followed_grows : AllByRecursion IsEntry entries → HasFollowed seen spares rows old new entries
@@ -176,10 +178,24 @@ next_whole n (x ∷ xs) text more all = next_whole n xs text more all.1
 
 module _ {C : Type 0} (seen : C → Seen) (spares : C → C → Type 0) (reason : Fault → C → C → Type 0) (rows : Rows)
     (r r' : Option (List ℕ)) (q q' : Option (List ReadTold)) (old new : C) (given : List AnsweredRequest)
-    (texts : List (List ℕ)) (bytes left : List ℕ) (before : ℕ)
+    (texts : List (List ℕ)) (bytes left : List ℕ) (before : ℕ) (w : Waiting)
     (read : Consumes r r' (joined (entries_of given) ++ bytes)) (cut : bytes ≡ joined texts ++ left)
     (whole : AllByRecursion (λ t. length t ≡ 308) texts) (are : AllByRecursion IsEntry given)
-    (many : before ≡ length given) where
+    (many : before ≡ length given) (few : before + length texts < 2 ^ 128) where
+  -- as many as were taken can be counted
+  few_taken : (entries : List AnsweredRequest) (rest : List (List ℕ)) → entries_of entries ++ rest ≡ texts
+      → length (given ++ entries) < 2 ^ 128
+  few_taken entries rest same =
+      omega (
+        arith,
+        few,
+        many,
+        length-append given entries,
+        length-map entries entry_of,
+        length-append (entries_of entries) rest,
+        ap (λ (l : List (List ℕ)). length l) same,
+      )
+
   stopped : (fault : FollowFault) (entries : List AnsweredRequest) (rest : List (List ℕ)) → AllByRecursion IsEntry entries
       → entries_of entries ++ rest ≡ texts → Stops seen spares reason rows old new (given ++ entries) fault
       → EndsFollowing (Err fault) r' q q' (length (given ++ entries)) (joined rest ++ left)
@@ -190,12 +206,12 @@ module _ {C : Type 0} (seen : C → Seen) (spares : C → C → Type 0) (reason 
     rest = joined rest ++ left;
     read = read_entries r r' given entries bytes (joined rest ++ left) read (cut ∙ texts_apart entries texts rest left same);
     ends = ends;
-    did = stops_did seen spares reason rows old new (given ++ entries) fault stops;
-    survives = stops_leaves seen spares reason rows old new (given ++ entries) fault stops;
+    did = stops_did seen spares reason rows old new (given ++ entries) (few_taken entries rest same) fault stops;
+    survives = stops_leaves seen spares reason rows old new (given ++ entries) (few_taken entries rest same) fault stops;
     grows = tt;
   }
 
-  pub broke_off : (fault : FollowFault) → TakesAll seen spares reason rows old new given texts before (Err fault)
+  pub broke_off : (fault : FollowFault) → TakesAll seen spares reason rows old new given texts before w (Err fault)
       → FollowsLog seen spares reason rows r r' q q' old new (Err fault)
   broke_off (Bank fault) it = stopped (Bank fault) it.0 it.1 it.2 it.3 it.4 tt
   broke_off (Differs other) it = stopped (Differs other) it.0 it.1 it.2 it.3 it.4 tt

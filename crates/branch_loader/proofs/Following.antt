@@ -1,9 +1,9 @@
 -- How a bank stands after some entries, one call more, and how it stops.
 use Rattle.std.proofs.Common.{◌≡◌, ◌+◌, ◌++◌, ◌∙◌, ℕ, List, [], ◌∷◌, length, map, Result, Ok, Err, refl, sym}
-use Rattle.std.proofs.Common.{ap, subst, append-nil, append_assoc}
-use Rattle.std.specs.Prelude.{◌≢◌, MatchResult, Option}
+use Rattle.std.proofs.Common.{ap, subst, append-nil, append_assoc, arith}
+use Rattle.std.specs.Prelude.{MatchResult, Option}
 use Rattle.std.specs.List.{AllByRecursion}
-use Rattle.std.proofs.lemmas.List.{append_cancel_left, length-map, map-append}
+use Rattle.std.proofs.lemmas.List.{length-append, length-map, map-append}
 use Rattle.posting_rules.specs.believed.{Commands.Command, Commands.Open, Commands.Post, Commands.Terms}
 use Rattle.posting_rules.specs.believed.Counter.{IsCounterCall, Seen, ShowsLog}
 use Rattle.posting_rules.specs.believed.{Runs.followed_by, Runs.posts, Runs.replies_to}
@@ -14,11 +14,13 @@ use Rattle.posting_core.specs.Entries.{ArePostsOf, IsEntry, IsMomentOf, IsNoEntr
 use Rattle.posting_core.specs.believed.LogEntries.{AnsweredRequest, entries_of, entry_of}
 use Rattle.branch_loader.specs.believed.Plans.{Rows}
 use Rattle.branch_loader.specs.declared.followers.Waiting.{Waiting}
-use Rattle.branch_loader.specs.Following.{GaveReplies, HasDiffered, HasFollowed, HasTaken, IsFollowing}
-use Rattle.branch_loader.specs.Following.{AreTexts, IsRefusedFollowing, IsWaiting, Stops, TakesAll, TakesSome, planned}
+use Rattle.branch_loader.specs.Following.{AreCounted, AreTexts, GaveReplies, HasDiffered, HasFollowed, HasPosted}
+use Rattle.branch_loader.specs.Following.{HasTaken, IsFirstOther, IsFollowing, IsRefusedFollowing, IsWaiting, Stops}
+use Rattle.branch_loader.specs.Following.{TakesAll, TakesSome, planned}
 use Rattle.branch_loader.specs.declared.follow_fault.FollowFault.{FollowFault}
 use Rattle.branch_loader.specs.declared.follow_fault.FollowFault.TheVariants.{Bank, Differs, Memory, NoEntry, Read}
 use Rattle.branch_loader.specs.declared.follow_fault.FollowFault.TheVariants.{Truncated}
+use Rattle.branch_loader.specs.declared.follow_fault.OtherReply.{OtherReply}
 
 -- ---- commands
 
@@ -38,6 +40,23 @@ none_waits : (records : List (List ℕ)) (left : List AnsweredRequest) → recor
     → left ≡ []
 none_waits records [] are none = refl
 none_waits records (a ∷ more) are none = absurd cc
+
+-- ---- the first that is another
+
+-- behind replies that were due
+pub other_behind : (n : ℕ) (front given due : List (List ℕ)) (other : OtherReply) → IsFirstOther n given due other
+    → n ≡ length front → IsFirstOther 0 (front ++ given) (front ++ due) other
+other_behind n front given due other it many = record {
+  alike = front ++ it.alike;
+  given_after = it.given_after;
+  due_after = it.due_after;
+  given_are = ap (λ (l : List (List ℕ)). front ++ l) it.given_are
+      ∙ sym (append_assoc front it.alike (other.stands ∷ it.given_after));
+  due_are = ap (λ (l : List (List ℕ)). front ++ l) it.due_are
+      ∙ sym (append_assoc front it.alike (other.due ∷ it.due_after));
+  differ = it.differ;
+  entry = omega (arith, it.entry, many, length-append front it.alike);
+}
 
 -- ---- one call more
 
@@ -100,17 +119,22 @@ module _ {C : Type 0} (seen : C → Seen) (spares : C → C → Type 0) (rows : 
       }
 
       -- it gave others
-      pub differed : ((seen new).honest → (log : List Command) → ShowsLog (seen mid) log
-          → replies_to log cs ≢ map reply_text entries)
-          → HasDiffered seen spares rows old new (done ++ entries)
-      differed other = record {
+      pub differed : (other : OtherReply) → ((seen new).honest → (log : List Command) → ShowsLog (seen mid) log
+          → IsFirstOther (length done) (replies_to log cs) (map reply_text entries) other)
+          → HasDiffered seen spares rows old new (done ++ entries) other
+      differed other first = record {
         commands = it.commands ++ cs;
         taken = taken_more;
-        other = λ h log shows same.
-            other h (followed_by log it.commands) (shown_then h log shows)
-            (append_cancel_left (map reply_text done) (replies_to (followed_by log it.commands) cs)
-            (map reply_text entries)
-            (sym (replies_then h log shows) ∙ same ∙ map-append reply_text done entries));
+        first = λ h log shows.
+            let behind =
+            other_behind (length done) (map reply_text done) (replies_to (followed_by log it.commands) cs)
+            (map reply_text entries) other (first h (followed_by log it.commands) (shown_then h log shows))
+            (sym (length-map done reply_text)) in
+            subst (λ (l : List (List ℕ)). IsFirstOther 0 l (map reply_text (done ++ entries)) other)
+            (sym (replies_then h log shows))
+            (subst (λ (l : List (List ℕ)). IsFirstOther 0
+            (map reply_text done ++ replies_to (followed_by log it.commands) cs) l other)
+            (sym (map-append reply_text done entries)) behind);
       }
 
     -- it refused them
@@ -202,19 +226,19 @@ no_entry_waits m records replies entries it none = none_waits records entries it
 module _ {C : Type 0} (seen : C → Seen) (spares : C → C → Type 0) (reason : Fault → C → C → Type 0) (rows : Rows)
     (old new : C) (given : List AnsweredRequest) where
   -- all of them were followed, and nothing waits
-  pub following_none : (w : Waiting) → HasFollowed seen spares rows old new given → IsWaiting w []
+  pub following_none : (w : Waiting) → HasPosted seen spares rows old new given w → IsWaiting w []
       → IsFollowing seen spares rows old new given w
-  following_none w followed waits =
-      record { done = given; left = []; all = append-nil given; followed = followed; waits = waits }
+  following_none w posted waits =
+      record { done = given; left = []; all = append-nil given; posted = posted; waits = waits }
 
   pub opened_then : (w : Waiting) (result : Result (Unit {0}) FollowFault)
       → MatchResult result (λ done. HasFollowed seen spares rows old new given)
       (Stops seen spares reason rows old new given)
-      → IsWaiting w []
+      → AreCounted w.posted given → IsWaiting w []
       → MatchResult result (λ done. IsFollowing seen spares rows old new given w)
       (Stops seen spares reason rows old new given)
-  opened_then w (Ok done) it waits = following_none w it waits
-  opened_then w (Err fault) it waits = it
+  opened_then w (Ok done) it counted waits = following_none w (record { followed = it; counted = counted }) waits
+  opened_then w (Err fault) it counted waits = it
 
   -- the same, where what was done is done ++ left
   pub followed_same : (done left : List AnsweredRequest) → done ++ left ≡ given
@@ -229,12 +253,15 @@ module _ {C : Type 0} (seen : C → Seen) (spares : C → C → Type 0) (reason 
   -- one more waits
   pub following_more : (w w' : Waiting) (a : AnsweredRequest) → IsFollowing seen spares rows old new given w
       → ((entries : List AnsweredRequest) → IsWaiting w entries → IsWaiting w' (entries ++ a ∷ []))
-      → IsFollowing seen spares rows old new (given ++ a ∷ []) w'
-  following_more w w' a it more = record {
+      → w'.posted ≡ w.posted → IsFollowing seen spares rows old new (given ++ a ∷ []) w'
+  following_more w w' a it more same = record {
     done = it.done;
     left = it.left ++ a ∷ [];
     all = sym (append_assoc it.done it.left (a ∷ [])) ∙ ap (λ (l : List AnsweredRequest). l ++ a ∷ []) it.all;
-    followed = it.followed;
+    posted = record {
+      followed = it.posted.followed;
+      counted = λ few. same ∙ it.posted.counted few;
+    };
     waits = more it.left it.waits;
   }
 
@@ -246,16 +273,16 @@ entries-snoc [] a one two = (two, tt)
 entries-snoc (x ∷ xs) a one two = (one.0, entries-snoc xs a one.1 two)
 
 module _ {C : Type 0} (seen : C → Seen) (spares : C → C → Type 0) (reason : Fault → C → C → Type 0)
-    (old mid new : C) (plan : Rows) (texts : List (List ℕ)) (w w' : Waiting)
-    (some : TakesSome seen spares old mid plan texts w) where
+    (old mid new : C) (plan : Rows) (none : Waiting) (texts : List (List ℕ)) (w w' : Waiting)
+    (some : TakesSome seen spares old mid plan none texts w) where
   -- one more
   pub some_more : (text : List ℕ) (a : AnsweredRequest) → IsEntry a → entry_of a ≡ text
       → ((first : C) (rows : Rows) (given : List AnsweredRequest) → plan ≡ rows
       → IsFollowing seen spares rows first mid given w
       → IsFollowing seen spares rows first new (given ++ a ∷ []) w')
-      → TakesSome seen spares old new plan (texts ++ text ∷ []) w'
-  some_more text a is same more first rows given planned followed =
-      let it = some first rows given planned followed in (
+      → TakesSome seen spares old new plan none (texts ++ text ∷ []) w'
+  some_more text a is same more first rows given planned posted =
+      let it = some first rows given planned posted in (
         it.0 ++ a ∷ [],
         entries-snoc it.0 a it.1 is,
         map-append entry_of it.0 (a ∷ [])
@@ -267,28 +294,28 @@ module _ {C : Type 0} (seen : C → Seen) (spares : C → C → Type 0) (reason 
       )
 
   module _ (all : List (List ℕ)) (before : ℕ) (first : C) (rows : Rows) (given : List AnsweredRequest)
-      (planned : plan ≡ rows) (followed : HasFollowed seen spares rows first old given) where
+      (planned : plan ≡ rows) (before_all : HasPosted seen spares rows first old given none) where
     -- all of them
     pub took_all : texts ≡ all
         → ((given : List AnsweredRequest) → IsFollowing seen spares rows first mid given w
-        → HasFollowed seen spares rows first new given)
-        → TakesAll seen spares reason rows first new given all before (Ok tt)
+        → HasPosted seen spares rows first new given w')
+        → TakesAll seen spares reason rows first new given all before w' (Ok tt)
     took_all same posted =
-        let it = some first rows given planned followed in
+        let it = some first rows given planned before_all in
         (it.0, it.1, it.2 ∙ same, posted (given ++ it.0) it.3)
 
     -- it stopped at one of them
     pub took_some : (rest : List (List ℕ)) (fault : FollowFault) → texts ++ rest ≡ all
         → ((given : List AnsweredRequest) → IsFollowing seen spares rows first mid given w
         → Stops seen spares reason rows first new given fault)
-        → TakesAll seen spares reason rows first new given all before (Err fault)
+        → TakesAll seen spares reason rows first new given all before w' (Err fault)
     took_some rest fault same stops =
-        let it = some first rows given planned followed in
+        let it = some first rows given planned before_all in
         stopped fault it.0 it.1 (ap (λ (l : List (List ℕ)). l ++ rest) it.2 ∙ same) (stops (given ++ it.0) it.3)
       where
         stopped : (fault : FollowFault) (entries : List AnsweredRequest) → AllByRecursion IsEntry entries
             → entries_of entries ++ rest ≡ all → Stops seen spares reason rows first new (given ++ entries) fault
-            → TakesAll seen spares reason rows first new given all before (Err fault)
+            → TakesAll seen spares reason rows first new given all before w' (Err fault)
         stopped (Bank fault) entries are same stops = (entries, rest, are, same, stops)
         stopped (Differs other) entries are same stops = (entries, rest, are, same, stops)
         stopped (Truncated n) entries are same stops = absurd stops
@@ -300,26 +327,26 @@ module _ {C : Type 0} (seen : C → Seen) (spares : C → C → Type 0) (reason 
     pub took_up_to : (text : List ℕ) (rest : List (List ℕ)) (count : ℕ) → texts ++ text ∷ rest ≡ all
         → count ≡ before + length texts → IsNoEntry text
         → ((given : List AnsweredRequest) → IsFollowing seen spares rows first mid given w
-        → HasFollowed seen spares rows first new given)
-        → TakesAll seen spares reason rows first new given all before (Err (NoEntry count))
-    took_up_to text rest count same many none posted =
-        let it = some first rows given planned followed in (
+        → HasPosted seen spares rows first new given w')
+        → TakesAll seen spares reason rows first new given all before w' (Err (NoEntry count))
+    took_up_to text rest count same many no_entry posted =
+        let it = some first rows given planned before_all in (
           it.0,
           text,
           rest,
           it.1,
           ap (λ (l : List (List ℕ)). l ++ text ∷ rest) it.2 ∙ same,
-          posted (given ++ it.0) it.3,
+          (posted (given ++ it.0) it.3).followed,
           many ∙ ap (λ (n : ℕ). before + n)
               (ap (λ (l : List (List ℕ)). length l) (sym it.2) ∙ length-map it.0 entry_of),
-          none,
+          no_entry,
         )
 
     -- the rest was posted, or it stopped there
     pub took_last : (result : Result (Unit {0}) FollowFault) → texts ≡ all
         → ((given : List AnsweredRequest) → IsFollowing seen spares rows first mid given w
-        → MatchResult result (λ done. HasFollowed seen spares rows first new given)
+        → MatchResult result (λ done. HasPosted seen spares rows first new given w')
         (Stops seen spares reason rows first new given))
-        → TakesAll seen spares reason rows first new given all before result
+        → TakesAll seen spares reason rows first new given all before w' result
     took_last (Ok done) same posted = took_all same posted
     took_last (Err fault) same stops = took_some [] fault (append-nil texts ∙ same) stops

@@ -37,7 +37,7 @@ abbrev pub Did : {C : Type 0} → (C → Seen) → (C → C → Type 0) → (Fau
     → List AnsweredRequest → Result ℕ FollowFault → Type 0
 Did seen spares reason rows old new entries (Err (Bank fault)) =
     IsRefusedFollowing seen spares reason rows old new entries fault
-Did seen spares reason rows old new entries (Err (Differs other)) = HasDiffered seen spares rows old new entries
+Did seen spares reason rows old new entries (Err (Differs other)) = HasDiffered seen spares rows old new entries other
 Did seen spares reason rows old new entries result = HasFollowed seen spares rows old new entries
 
 -- it shows a log that has these entries

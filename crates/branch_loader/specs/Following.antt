@@ -1,5 +1,5 @@
 -- What following a log does: what the bank took of its entries, and how it stops.
-use Rattle.std.specs.Prelude.{◌≡◌, ◌≢◌, ◌<◌, ◌+◌, ◌==◌, ◌++◌, ℕ, List, ◌∷◌, map, length, Option, option_map}
+use Rattle.std.specs.Prelude.{◌≡◌, ◌≢◌, ◌<◌, ◌+◌, ◌^◌, ◌==◌, ◌++◌, ℕ, List, ◌∷◌, map, length, Option, option_map}
 use Rattle.std.specs.Prelude.{Result, Ok, Err}
 use Rattle.std.specs.List.{AllByRecursion, find}
 use Rattle.posting_rules.specs.believed.Commands.{Command, Terms}
@@ -14,6 +14,7 @@ use Rattle.branch_loader.specs.Plans.{terms_of}
 use Rattle.branch_loader.specs.believed.Plans.{Row, Rows}
 use Rattle.branch_loader.specs.declared.follow_fault.FollowFault.{FollowFault}
 use Rattle.branch_loader.specs.declared.follow_fault.FollowFault.TheVariants.{Bank, Differs, NoEntry}
+use Rattle.branch_loader.specs.declared.follow_fault.OtherReply.{OtherReply}
 use Rattle.branch_loader.specs.declared.followers.Waiting.{Waiting}
 
 -- ---- what is planned
@@ -42,6 +43,10 @@ IsWaiting w entries = AreTexts w.moment w.records.items w.replies.items entries
 abbrev pub HasRoom : Waiting → Type 0
 HasRoom w = (length w.records.items < RECORDS_PER_BATCH) × (length w.replies.items < RECORDS_PER_BATCH)
 
+-- so many they are, where they can be counted
+abbrev pub AreCounted : ℕ → List AnsweredRequest → Type 0
+AreCounted count entries = length entries < 2 ^ 128 → count ≡ length entries
+
 -- it took the commands that some entries are: openings as planned, and posts of the entries at their moments
 pub record HasTaken {C : Type 0} (seen : C → Seen) (spares : C → C → Type 0) (rows : Rows) (old new : C)
     (entries : List AnsweredRequest) (commands : List Command) : Type 0 where
@@ -64,13 +69,19 @@ pub record HasFollowed {C : Type 0} (seen : C → Seen) (spares : C → C → Ty
   pub taken : HasTaken seen spares rows old new entries commands
   pub replies : GaveReplies (seen old) (seen new) entries commands
 
+-- it took all of these, as its count of them says
+pub record HasPosted {C : Type 0} (seen : C → Seen) (spares : C → C → Type 0) (rows : Rows) (old new : C)
+    (entries : List AnsweredRequest) (w : Waiting) : Type 0 where
+  pub followed : HasFollowed seen spares rows old new entries
+  pub counted : AreCounted w.posted entries
+
 -- it took all of these but the last, which wait
 pub record IsFollowing {C : Type 0} (seen : C → Seen) (spares : C → C → Type 0) (rows : Rows) (old new : C)
     (given : List AnsweredRequest) (w : Waiting) : Type 0 where
   pub done : List AnsweredRequest
   pub left : List AnsweredRequest
   pub all : done ++ left ≡ given
-  pub followed : HasFollowed seen spares rows old new done
+  pub posted : HasPosted seen spares rows old new done w
   pub waits : IsWaiting w left
 
 -- ---- how it stops
@@ -93,43 +104,56 @@ pub record IsRefusedFollowing {C : Type 0} (seen : C → Seen) (spares : C → C
   pub untried : fault ≡ Down → new ≡ stood
   pub others : spares old new
 
--- it took them, and gave another reply than an entry's
+-- The first reply that was given and is another than the one that is due. So many entries came before, and they are
+-- counted from 1.
+pub record IsFirstOther (before : ℕ) (given due : List (List ℕ)) (other : OtherReply) : Type 0 where
+  pub alike : List (List ℕ)
+  pub given_after : List (List ℕ)
+  pub due_after : List (List ℕ)
+  pub given_are : given ≡ alike ++ other.stands ∷ given_after
+  pub due_are : due ≡ alike ++ other.due ∷ due_after
+  pub differ : other.stands ≢ other.due
+  pub entry : other.entry ≡ before + length alike + 1
+
+-- it took them, and this is the first reply that is another than its entry's
 pub record HasDiffered {C : Type 0} (seen : C → Seen) (spares : C → C → Type 0) (rows : Rows) (old new : C)
-    (entries : List AnsweredRequest) : Type 0 where
+    (entries : List AnsweredRequest) (other : OtherReply) : Type 0 where
   pub commands : List Command
   pub taken : HasTaken seen spares rows old new entries commands
-  pub other : (seen new).honest → (log : List Command) → ShowsLog (seen old) log
-      → replies_to log commands ≢ map reply_text entries
+  pub first : (seen new).honest → (log : List Command) → ShowsLog (seen old) log
+      → IsFirstOther 0 (replies_to log commands) (map reply_text entries) other
 
--- why it stops where entries are posted, and what was done with those that were given
+-- why it stops where entries are posted, and what was done with those that were given, if they can be counted
 abbrev pub Stops : {C : Type 0} → (C → Seen) → (C → C → Type 0) → (Fault → C → C → Type 0) → Rows → (old new : C)
     → List AnsweredRequest → FollowFault → Type 0
 Stops seen spares reason rows old new entries (Bank fault) =
     IsRefusedFollowing seen spares reason rows old new entries fault
-Stops seen spares reason rows old new entries (Differs other) = HasDiffered seen spares rows old new entries
+Stops seen spares reason rows old new entries (Differs other) =
+    length entries < 2 ^ 128 → HasDiffered seen spares rows old new entries other
 Stops seen spares reason rows old new entries fault = ⊥
 
 -- ---- some entries
 
--- these texts are entries, and after those that were given they were followed, but for the last, which wait
-abbrev pub TakesSome : {C : Type 0} → (C → Seen) → (C → C → Type 0) → (old new : C) → Rows → List (List ℕ) → Waiting
-    → Type 0
-TakesSome {C} seen spares old new plan texts w = (first : C) (rows : Rows) (given : List AnsweredRequest) → plan ≡ rows
-    → HasFollowed seen spares rows first old given
+-- These texts are entries, and after those that were given they were followed, but for the last, which wait. So many
+-- were posted before.
+abbrev pub TakesSome : {C : Type 0} → (C → Seen) → (C → C → Type 0) → (old new : C) → Rows → Waiting → List (List ℕ)
+    → Waiting → Type 0
+TakesSome {C} seen spares old new plan none texts w = (first : C) (rows : Rows) (given : List AnsweredRequest)
+    → plan ≡ rows → HasPosted seen spares rows first old given none
     → (entries : List AnsweredRequest) × AllByRecursion IsEntry entries × (entries_of entries ≡ texts)
     × IsFollowing seen spares rows first new (given ++ entries) w
 
 -- all of the texts are entries, and were followed after those that were given; or the first of them, and the next is
--- none, or it stopped at the last of them. So many were followed before.
+-- none, or it stopped at the last of them. So many were followed before, and w is what waits then.
 abbrev pub TakesAll : {C : Type 0} → (C → Seen) → (C → C → Type 0) → (Fault → C → C → Type 0) → Rows → (old new : C)
-    → List AnsweredRequest → List (List ℕ) → ℕ → Result (Unit {0}) FollowFault → Type 0
-TakesAll seen spares reason rows old new given texts before (Ok done) =
+    → List AnsweredRequest → List (List ℕ) → ℕ → Waiting → Result (Unit {0}) FollowFault → Type 0
+TakesAll seen spares reason rows old new given texts before w (Ok done) =
     (entries : List AnsweredRequest) × AllByRecursion IsEntry entries × (entries_of entries ≡ texts)
-    × HasFollowed seen spares rows old new (given ++ entries)
-TakesAll seen spares reason rows old new given texts before (Err (NoEntry count)) =
+    × HasPosted seen spares rows old new (given ++ entries) w
+TakesAll seen spares reason rows old new given texts before w (Err (NoEntry count)) =
     (entries : List AnsweredRequest) × (text : List ℕ) × (rest : List (List ℕ)) × AllByRecursion IsEntry entries
     × (entries_of entries ++ text ∷ rest ≡ texts) × HasFollowed seen spares rows old new (given ++ entries)
     × (count ≡ before + length entries) × IsNoEntry text
-TakesAll seen spares reason rows old new given texts before (Err fault) =
+TakesAll seen spares reason rows old new given texts before w (Err fault) =
     (entries : List AnsweredRequest) × (rest : List (List ℕ)) × AllByRecursion IsEntry entries
     × (entries_of entries ++ rest ≡ texts) × Stops seen spares reason rows old new (given ++ entries) fault

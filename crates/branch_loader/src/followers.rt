@@ -1,11 +1,11 @@
 //! Entries of a log are posted at their moments, and branches of a plan are opened where the first entry needs them.
-ghost use Rattle.std.specs.Prelude.{◌≡◌, ◌≢◌, ◌≤◌, ◌<◌, ◌+◌, ◌^◌, ◌++◌, ◌∷◌, [], List, IfOk, IfSome, IsTrue, ◌↔◌};
+ghost use Rattle.std.specs.Prelude.{◌≡◌, ◌≤◌, ◌<◌, ◌+◌, ◌^◌, ◌++◌, ◌∷◌, [], List, IfNone, IfOk, IfSome};
 ghost use Rattle.std.specs.Prelude.{MatchResult, OnOk, length};
 ghost use Rattle.message_records.specs.believed.Outcomes.{has_balance};
 ghost use Rattle.posting_core.specs.Entries.{IsMomentOf, answered};
 ghost use Rattle.posting_core.specs.believed.LogEntries.{AnsweredRequest};
-ghost use Rattle.branch_loader.specs.Following.{AreTexts, HasFollowed, HasRoom, IsFollowing, IsWaiting};
-ghost use Rattle.branch_loader.specs.Following.{Stops, TakesAll, row_of};
+ghost use Rattle.branch_loader.specs.Following.{AreCounted, AreTexts, HasFollowed, HasPosted, HasRoom, IsFirstOther};
+ghost use Rattle.branch_loader.specs.Following.{IsFollowing, IsWaiting, Stops, TakesAll, row_of};
 ghost use Rattle.branch_loader.specs.believed.Plans.{Rows};
 ghost use Rattle.branch_loader.specs.Plans.{IsRow};
 
@@ -29,35 +29,26 @@ pub(crate) struct Waiting {
     replies: ArrayVec<[u8; REPLY_BYTES], RECORDS_PER_BATCH>,
 }
 
-// Whether these are the replies of the entries.
-fn are_due(given: &[[u8; REPLY_BYTES]], due: &[[u8; REPLY_BYTES]]) -> bool
-    ensures { IsTrue result ↔ (given.now ≡ due.now) }
-{
-    given == due
-}
-
 // The first reply that is another than its entry's, where so many entries came before.
 fn first_other(
     before: Count,
     given: &[[u8; REPLY_BYTES]],
     due: &[[u8; REPLY_BYTES]],
-) -> OtherReply {
-    let mut entry = before;
-    for (stands, due) in given.iter().zip(due.iter()) {
-        entry = entry.wrapping_add(1);
-        if stands != due {
-            return OtherReply {
-                entry,
-                stands: *stands,
-                due: *due,
-            };
+) -> Option<OtherReply>
+    ensures none { length given.now ≡ length due.now → IfNone result (given.now ≡ due.now) }
+    ensures other { before + length given.now < 2 ^ 128
+        → IfSome result (IsFirstOther before given.now due.now) }
+{
+    for i in 0..given.len().min(due.len()) {
+        if given[i] != due[i] {
+            return Some(OtherReply {
+                entry: before.wrapping_add(i as Count).wrapping_add(1),
+                stands: given[i],
+                due: due[i],
+            });
         }
     }
-    OtherReply {
-        entry,
-        stands: [b' '; REPLY_BYTES],
-        due: [b' '; REPLY_BYTES],
-    }
+    None
 }
 
 // Posts records together, whose entries have these replies, where so many entries came before.
@@ -70,7 +61,7 @@ fn post_together<C: Counter>(
 ) -> Result<(), FollowFault>
     requires { length records.now ≤ RECORDS_PER_BATCH }
     ensures { (first : C) (rows : Rows) (done entries : List AnsweredRequest)
-        → HasFollowed C.seen C.spares rows first counter.old done
+        → HasFollowed C.seen C.spares rows first counter.old done → AreCounted before done
         → AreTexts moment records.now due.now entries
         → MatchResult result (λ _. HasFollowed C.seen C.spares rows first counter.new (done ++ entries))
         (Stops C.seen C.spares C.reason rows first counter.new (done ++ entries)) }
@@ -79,10 +70,9 @@ fn post_together<C: Counter>(
         return Ok(());
     }
     let replies = counter.submit_all(moment, records)?;
-    if are_due(replies.as_slice(), due) {
-        Ok(())
-    } else {
-        Err(FollowFault::Differs(first_other(before, replies.as_slice(), due)))
+    match first_other(before, replies.as_slice(), due) {
+        None => Ok(()),
+        Some(other) => Err(FollowFault::Differs(other)),
     }
 }
 
@@ -90,7 +80,7 @@ fn post_together<C: Counter>(
 fn post_waiting<C: Counter>(waiting: &mut Waiting, counter: &mut C) -> Result<(), FollowFault>
     ensures follows { (first : C) (rows : Rows) (given : List AnsweredRequest)
         → IsFollowing C.seen C.spares rows first counter.old given waiting.old
-        → MatchResult result (λ _. HasFollowed C.seen C.spares rows first counter.new given)
+        → MatchResult result (λ _. HasPosted C.seen C.spares rows first counter.new given waiting.new)
         (Stops C.seen C.spares C.reason rows first counter.new given) }
     ensures empty { OnOk result (IsWaiting waiting.new []) }
     ensures moment { waiting.new.moment ≡ waiting.old.moment }
@@ -147,7 +137,8 @@ fn open_planned<C: Counter>(plan: &Plan, branch: u64, counter: &mut C) -> Result
 impl Waiting {
     // Nothing waits.
     pub(crate) fn none() -> Waiting
-        ensures { IsWaiting result [] }
+        ensures waits { IsWaiting result [] }
+        ensures posted { result.posted ≡ 0 }
     {
         Waiting {
             posted: 0,
@@ -160,9 +151,10 @@ impl Waiting {
     // An entry waits, too.
     fn push(&mut self, entry: &Entry)
         requires { HasRoom self.old }
-        ensures { (entries : List AnsweredRequest) → IsWaiting self.old entries
+        ensures waits { (entries : List AnsweredRequest) → IsWaiting self.old entries
             → IsMomentOf (answered entry.now) self.old.moment
             → IsWaiting self.new (entries ++ answered entry.now ∷ []) }
+        ensures posted { self.new.posted ≡ self.old.posted }
     {
         self.records.push(encode_request(&entry.request));
         self.replies.push(encode_reply(&entry.reply));
@@ -196,7 +188,8 @@ fn had_account(outcome: Outcome) -> bool {
 impl<'p> Follower<'p> {
     // No entry was followed yet.
     pub(crate) fn over(alloc: Global, plan: &'p Plan) -> Result<Follower<'p>, AllocError>
-        ensures { IfOk result (λ follower. (follower.plan.now ≡ plan.now) × IsWaiting follower.waiting []) }
+        ensures { IfOk result (λ follower. (follower.plan.now ≡ plan.now) × IsWaiting follower.waiting []
+            × (follower.waiting.posted ≡ 0)) }
     {
         let looked = vec![in alloc; false; LAST_BRANCH as usize + 1]?;
         Ok(Follower {
@@ -210,7 +203,7 @@ impl<'p> Follower<'p> {
     pub(crate) fn post<C: Counter>(&mut self, counter: &mut C) -> Result<(), FollowFault>
         ensures follows { (first : C) (rows : Rows) (given : List AnsweredRequest)
             → self.old.plan.now ≡ rows → IsFollowing C.seen C.spares rows first counter.old given self.old.waiting
-            → MatchResult result (λ _. HasFollowed C.seen C.spares rows first counter.new given)
+            → MatchResult result (λ _. HasPosted C.seen C.spares rows first counter.new given self.new.waiting)
             (Stops C.seen C.spares C.reason rows first counter.new given) }
         ensures empty { OnOk result (IsWaiting self.new.waiting []) }
         ensures plan { self.new.plan.now ≡ self.old.plan.now }
@@ -305,8 +298,9 @@ impl<'p> Follower<'p> {
         requires waits { IsWaiting self.old.waiting [] }
         requires few { before + length entries.now < 2 ^ 128 }
         ensures follows { (first : C) (rows : Rows) (given : List AnsweredRequest)
-            → self.old.plan.now ≡ rows → HasFollowed C.seen C.spares rows first counter.old given
-            → TakesAll C.seen C.spares C.reason rows first counter.new given entries.now before result }
+            → self.old.plan.now ≡ rows → HasPosted C.seen C.spares rows first counter.old given self.old.waiting
+            → TakesAll C.seen C.spares C.reason rows first counter.new given entries.now before self.new.waiting
+            result }
         ensures empty { OnOk result (IsWaiting self.new.waiting []) }
         ensures plan { self.new.plan.now ≡ self.old.plan.now }
     {

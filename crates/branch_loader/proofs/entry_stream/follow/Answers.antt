@@ -47,8 +47,11 @@ reads-init g c = record {
   made = made_none _;
   plan = c.in-Ok.ensures.0;
   waits = c.in-Ok.ensures.1;
-  followed = followed_none g.C.Counter.seen g.C.Counter.spares c.args.plan.now c.args.bank.now
-      (g.met.C.Counter.spares_itself c.args.bank.now);
+  posted = record {
+    followed = followed_none g.C.Counter.seen g.C.Counter.spares c.args.plan.now c.args.bank.now
+        (g.met.C.Counter.spares_itself c.args.bank.now);
+    counted = λ few. c.in-Ok.ensures.2;
+  };
 }
 
 -- the reader was asked too often
@@ -64,9 +67,9 @@ returns g c =
         inr (made_many it.made (omega arith)),
         few_left c.reads.filled c.reads.buffer it.few it.room,
       );
-      did = it.followed;
+      did = it.posted.followed;
       survives = followed_leaves g.C.Counter.seen g.C.Counter.spares g.C.Counter.reason c.args.plan.now c.args.bank.now
-          c.reads.bank it.entries it.followed;
+          c.reads.bank it.entries it.posted.followed;
       grows = tt;
     }
 
@@ -87,9 +90,9 @@ returns-in-Err-2 g c =
             (other_kind c.kind.result c.in-Err.e c.if-eq.ensures c.kind.ensures),
         few_left c.reads.filled c.fill_buffer.new.buffer it.few long,
       );
-      did = it.followed;
+      did = it.posted.followed;
       survives = followed_leaves g.C.Counter.seen g.C.Counter.spares g.C.Counter.reason c.args.plan.now c.args.bank.now
-          c.reads.bank it.entries it.followed;
+          c.reads.bank it.entries it.posted.followed;
       grows = tt;
     }
 
@@ -113,11 +116,11 @@ returns-in-Ok-eq0 g c =
         rw empty refl,
         it.count_is,
       );
-      did = it.followed;
+      did = it.posted.followed;
       survives = followed_leaves g.C.Counter.seen g.C.Counter.spares g.C.Counter.reason c.args.plan.now c.args.bank.now
-          c.reads.bank it.entries it.followed;
+          c.reads.bank it.entries it.posted.followed;
       grows = followed_grows g.C.Counter.seen g.C.Counter.spares g.C.Counter.reason c.args.plan.now c.args.bank.now
-          c.reads.bank it.entries it.are it.followed;
+          c.reads.bank it.entries it.are it.posted.followed;
     }
 
 pub returns-in-Ok-eq0-2 : goal.returns-in-Ok-eq0-2
@@ -141,9 +144,9 @@ returns-in-Ok-eq0-2 g c =
         it.few,
         length-take-le c.reads.filled c.fill_buffer.new.buffer within,
       );
-      did = it.followed;
+      did = it.posted.followed;
       survives = followed_leaves g.C.Counter.seen g.C.Counter.spares g.C.Counter.reason c.args.plan.now c.args.bank.now
-          c.reads.bank it.entries it.followed;
+          c.reads.bank it.entries it.posted.followed;
       grows = tt;
     }
 
@@ -164,10 +167,12 @@ returns-in_err-take_all g c =
     let bytes = take c.match-fill_buffer.filled c.fill_buffer.new.buffer in
     rw (told.1, told.2)
     (broke_off g.C.Counter.seen g.C.Counter.spares g.C.Counter.reason c.args.plan.now _ _ _ _ c.args.bank.now
-    c.take_all.new.counter it.entries c.as_chunks.result.0.now bytes c.as_chunks.result.1.now c.reads.count on.0
+    c.take_all.new.counter it.entries c.as_chunks.result.0.now bytes c.as_chunks.result.1.now c.reads.count
+    c.take_all.new.self.waiting on.0
     (cut_up bytes c.as_chunks.result.0.now c.as_chunks.result.1.now c.as_chunks.ensures.front c.as_chunks.ensures.back)
-    (rw c.as_chunks.ensures.front (chunks_whole 308 _ bytes (omega arith))) it.are it.count_is fault
-    (c.in_err-take_all.ensures.follows c.args.bank.now c.args.plan.now it.entries it.plan it.followed))
+    (rw c.as_chunks.ensures.front (chunks_whole 308 _ bytes (omega arith))) it.are it.count_is
+    (omega (arith, c.as_chunks.ensures.front_len, it.bound, long)) fault
+    (c.in_err-take_all.ensures.follows c.args.bank.now c.args.plan.now it.entries it.plan it.posted))
 
 pub reads-preserved : goal.reads-preserved
 reads-preserved g c =
@@ -188,7 +193,7 @@ reads-preserved g c =
           let after = w.move_to_front.new.buffer in
           let len : length bytes ≡ c.match-fill_buffer.filled =
           length-take-le c.match-fill_buffer.filled c.fill_buffer.new.buffer on.1 in
-          let took = w.in_ok-take_all.ensures.follows c.args.bank.now c.args.plan.now it.entries it.plan it.followed in
+          let took = w.in_ok-take_all.ensures.follows c.args.bank.now c.args.plan.now it.entries it.plan it.posted in
           let moved =
           moved_up c.fill_buffer.new.buffer after c.match-fill_buffer.filled left on.1 w.as_chunks.ensures.back_len
           w.move_to_front.ensures in
@@ -211,7 +216,7 @@ reads-preserved g c =
             made = made_one _ _ it.made c.fill_buffer.ensures.tells refl;
             plan = w.in_ok-take_all.ensures.plan ∙ it.plan;
             waits = w.in_ok-take_all.ensures.empty;
-            followed = took.3;
+            posted = took.3;
           })
       | else-filled-ge-ENTRY_BYTES w ↦
           let low = w.if-filled-ge-ENTRY_BYTES.false in
@@ -226,6 +231,6 @@ reads-preserved g c =
             made = made_one _ _ it.made c.fill_buffer.ensures.tells refl;
             plan = it.plan;
             waits = it.waits;
-            followed = it.followed;
+            posted = it.posted;
           })
     ]

@@ -4,7 +4,7 @@ use Rattle.std.specs.{Io.KnownBytes.Consumes, List.AllByRecursion}
 use Rattle.posting_rules.specs.declared.limits.TheConstants.{RECORDS_PER_BATCH}
 use Rattle.posting_core.specs.{Entries.IsEntry, believed.Batches.joined, believed.LogEntries.AnsweredRequest, believed.LogEntries.entries_of}
 use Rattle.posting_core.proofs.Telling.{HasMade}
-use Rattle.branch_loader.specs.{Following.HasFollowed, Following.IsWaiting, declared.entry_stream.TheConstants.BUFFER}
+use Rattle.branch_loader.specs.{Following.HasPosted, Following.IsWaiting, declared.entry_stream.TheConstants.BUFFER}
 use Rattle.branch_loader.proofs.entry_stream.follow.Given as goal
 
 abbrev pub invariant-reads : goal.invariant-reads
@@ -20,5 +20,5 @@ invariant-reads g l = record {
   made : HasMade (g.R.Source.told l.fn.reader) (g.R.Source.told l.reader) l.counter;
   plan : l.follower.plan.now ≡ l.fn.plan;
   waits : IsWaiting l.follower.waiting [];
-  followed : HasFollowed g.C.Counter.seen g.C.Counter.spares l.fn.plan l.fn.bank l.bank entries;
+  posted : HasPosted g.C.Counter.seen g.C.Counter.spares l.fn.plan l.fn.bank l.bank entries l.follower.waiting;
 }

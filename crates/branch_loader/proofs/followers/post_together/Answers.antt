@@ -1,8 +1,12 @@
 -- Records that are posted together are commands more.
-use Rattle.std.proofs.Common.{rules, ◌≡◌, ◌++◌, ◌∷◌, [], ℕ, List, Err, length, refl, sym, ap, subst, ◌∙◌, append-nil, arith}
+use Rattle.std.proofs.Common.{rules, ◌≡◌, ◌+◌, ◌++◌, ◌∷◌, [], ℕ, List, Err, length, map, refl, sym, ap, subst, ◌∙◌}
+use Rattle.std.proofs.Common.{append-nil, arith}
+use Rattle.std.proofs.lemmas.List.{length-append, length-map}
+use Rattle.posting_core.specs.Entries.{record_text, reply_text}
 use Rattle.posting_core.specs.believed.LogEntries.{AnsweredRequest}
-use Rattle.branch_loader.specs.Following.{HasFollowed, planned}
+use Rattle.branch_loader.specs.Following.{HasFollowed, IsFirstOther, planned}
 use Rattle.branch_loader.specs.declared.follow_fault.FollowFault.TheVariants.{Bank}
+use Rattle.branch_loader.specs.declared.follow_fault.OtherReply.{OtherReply}
 use Rattle.branch_loader.proofs.Following.{differed, followed_more, no_entry_waits, refused_then, texts_are_posts}
 use Rattle.branch_loader.proofs.followers.post_together.Goals as goal
 
@@ -11,7 +15,7 @@ no_texts [] zero = refl
 no_texts (text ∷ more) zero = absurd (omega (arith, zero))
 
 pub returns-then-is_empty : goal.returns-then-is_empty
-returns-then-is_empty g c first rows done entries it texts =
+returns-then-is_empty g c first rows done entries it counted texts =
     let zero : length c.args.records.now ≡ 0 = grind arith in
     let none = no_texts c.args.records.now zero in
     subst (λ (l : List AnsweredRequest). HasFollowed g.C.Counter.seen g.C.Counter.spares rows first c.args.counter.now l)
@@ -20,7 +24,7 @@ returns-then-is_empty g c first rows done entries it texts =
     it
 
 pub returns-in_err-replies : goal.returns-in_err-replies
-returns-in_err-replies g c first rows done entries it texts =
+returns-in_err-replies g c first rows done entries it counted texts =
     let fault = c.in_err-replies.field-0.0 in
     let same : c.from_residual.result ≡ Err (Bank fault) = search rules in
     rw same (refused_then g.C.Counter.seen g.C.Counter.spares rows first c.args.counter.now c.submit_all.new.self
@@ -28,24 +32,50 @@ returns-in_err-replies g c first rows done entries it texts =
     (texts_are_posts (planned rows) c.args.moment c.args.records.now _ entries texts)
     g.C.Counter.contents g.C.Counter.reason fault c.in_err-replies.ensures.call c.in_err-replies.ensures.spares)
 
-pub returns-then-are_due : goal.returns-then-are_due
-returns-then-are_due g c first rows done entries it texts =
+same_other : (n n' : ℕ) (given given' due due' : List (List ℕ)) (other : OtherReply) → IsFirstOther n given due other
+    → n ≡ n' → given ≡ given' → due ≡ due' → IsFirstOther n' given' due' other
+same_other n n' given given' due due' other it count one two = record {
+  alike = it.alike;
+  given_after = it.given_after;
+  due_after = it.due_after;
+  given_are = sym one ∙ it.given_are;
+  due_are = sym two ∙ it.due_are;
+  differ = it.differ;
+  entry = it.entry ∙ ap (λ (k : ℕ). k + length it.alike + 1) count;
+}
+
+-- as many replies are due as records were posted
+as_many : (entries : List AnsweredRequest) (records replies due : List (List ℕ)) → records ≡ map record_text entries
+    → due ≡ map reply_text entries → length replies ≡ length records → length replies ≡ length due
+as_many entries records replies due ours theirs same =
+    same ∙ ap (λ (l : List (List ℕ)). length l) ours ∙ length-map entries record_text
+    ∙ sym (ap (λ (l : List (List ℕ)). length l) theirs ∙ length-map entries reply_text)
+
+pub returns-in-None : goal.returns-in-None
+returns-in-None g c first rows done entries it counted texts =
     let given = c.in_ok-replies.ensures in
     followed_more g.C.Counter.seen g.C.Counter.spares rows first c.args.counter.now c.submit_all.new.self
     (g.met.C.Counter.spares_then first c.args.counter.now c.submit_all.new.self) done entries it _
     (texts_are_posts (planned rows) c.args.moment c.args.records.now _ entries texts)
     g.C.Counter.contents g.C.Counter.reason _ given.call given.spares
-    (λ h log shows. sym (given.answer h log shows) ∙ sym c.as_slice.ensures.value ∙ c.are_due.ensures.0 c.if-are_due.true
+    (λ h log shows. sym (given.answer h log shows) ∙ sym c.as_slice.ensures.value
+    ∙ c.in-None.ensures.none (rw c.as_slice.ensures.value (as_many entries _ _ _ texts.records_are texts.replies_are given.count))
     ∙ texts.replies_are)
 
 pub returns : goal.returns
-returns g c first rows done entries it texts =
+returns g c first rows done entries it counted texts few =
     let given = c.in_ok-replies.ensures in
+    let replies = c.in_ok-replies.replies.items in
+    let due = c.args.due.now in
+    let same : length replies ≡ length due = as_many entries _ _ _ texts.records_are texts.replies_are given.count in
+    let all : length (done ++ entries) ≡ length done + length due = length-append done entries
+    ∙ ap (λ (n : ℕ). length done + n) (sym (ap (λ (l : List (List ℕ)). length l) texts.replies_are ∙ length-map entries reply_text)) in
+    let before : c.args.before ≡ length done = counted (omega (arith, few, all)) in
+    let shown : length c.as_slice.result.now ≡ length replies = ap (λ (l : List (List ℕ)). length l) c.as_slice.ensures.value in
+    let other = c.in-Some.ensures.other (omega (arith, few, all, before, same, shown)) in
     differed g.C.Counter.seen g.C.Counter.spares rows first c.args.counter.now c.submit_all.new.self
     (g.met.C.Counter.spares_then first c.args.counter.now c.submit_all.new.self) done entries it _
     (texts_are_posts (planned rows) c.args.moment c.args.records.now _ entries texts)
-    g.C.Counter.contents g.C.Counter.reason _ given.call given.spares
-    (λ h log shows same.
-    let is = c.are_due.ensures.1 (c.as_slice.ensures.value ∙ given.answer h log shows ∙ same ∙ sym texts.replies_are) in
-    let out = c.if-are_due.false in
-    cc)
+    g.C.Counter.contents g.C.Counter.reason _ given.call given.spares c.in-Some.other
+    (λ h log shows. same_other _ _ _ _ _ _ c.in-Some.other other before
+    (c.as_slice.ensures.value ∙ given.answer h log shows) texts.replies_are)

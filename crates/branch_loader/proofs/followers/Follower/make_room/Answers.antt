@@ -16,6 +16,7 @@ returns-in_err-post g c =
 
 pub returns-clause-follows : goal.returns-clause-follows
 returns-clause-follows g c first rows given is it =
+    let posted = c.in_ok-post.ensures.follows first rows given is it in
     following_none g.C.Counter.seen g.C.Counter.spares g.C.Counter.reason rows first
-    c.post.new.counter given _ (c.in_ok-post.ensures.follows first rows given is it)
+    c.post.new.counter given _ (record { followed = posted.followed; counted = posted.counted })
     (none_waits_at _ _ _ _ c.in_ok-post.ensures.empty)

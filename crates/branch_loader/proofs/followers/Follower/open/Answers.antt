@@ -18,7 +18,8 @@ returns g c = record {
       opened_then g.C.Counter.seen g.C.Counter.spares g.C.Counter.reason rows first c.open_planned.new.counter given _
       c.open_planned.result
       (c.open_planned.ensures first rows given (c.in_ok-post.ensures.plan ∙ is)
-      (c.in_ok-post.ensures.follows first rows given is it))
+      (c.in_ok-post.ensures.follows first rows given is it).followed)
+      (c.in_ok-post.ensures.follows first rows given is it).counted
       c.in_ok-post.ensures.empty;
   plan = c.in_ok-post.ensures.plan;
 }

@@ -72,7 +72,8 @@ returns g c =
           following_more g.C.Counter.seen g.C.Counter.spares g.C.Counter.reason rows first c.make_room.new.counter given
           c.make_room.new.self.waiting c.push.new.self (answered c.args.entry.now)
           (made.follows first rows given (planned ∙ is) both)
-          (λ entries waits. c.push.ensures entries waits
-          (subst (λ (m : ℕ). IsMomentOf (answered c.args.entry.now) m) (sym made.moment) c.moment_for-moment.ensures));
+          (λ entries waits. c.push.ensures.waits entries waits
+          (subst (λ (m : ℕ). IsMomentOf (answered c.args.entry.now) m) (sym made.moment) c.moment_for-moment.ensures))
+          c.push.ensures.posted;
       plan = made.plan ∙ planned;
     }

@@ -1,0 +1,5 @@
+-- What waits was posted, whatever the plan is.
+use Rattle.branch_loader.proofs.followers.Follower.post.Goals as goal
+
+pub returns-clause-follows : goal.returns-clause-follows
+returns-clause-follows g c first rows given is it = c.post_waiting.ensures.follows first rows given it
