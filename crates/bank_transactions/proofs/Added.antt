@@ -8,7 +8,6 @@ use Rattle.sqlite_rules.specs.Lists.{Has}
 use Rattle.sqlite_rules.proofs.ListLemmas.{all_has}
 use Rattle.message_records.specs.{believed.Reading.request_of, believed.Records.RequestFields}
 use Rattle.posting_rules.specs.declared.rows.RequestRow.{RequestRow}
-use Rattle.posting_rules.specs.believed.Numbering.{branch_of_account, branch_of_teller}
 use Rattle.posting_batch.specs.{believed.Batch.IsNextOrdinal, Overlay.Overlay, View.IsMadeOf}
 use Rattle.posting_batch.specs.{View.reads_of, View.view, declared.batch.Batch.Batch}
 use Rattle.posting_batch.specs.Batch.{HasNextOrdinals, blanked, no_slots}

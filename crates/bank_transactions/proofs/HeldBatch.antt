@@ -2,16 +2,15 @@
 -- a file holds.
 use Rattle.std.proofs.Common.{◌≡◌, ℕ, Bool, eqb, List, [], ◌∷◌, map, Option, Some, None, Result, Ok, Err, refl}
 use Rattle.std.proofs.Common.{true, sym, ap, subst, ◌∙◌, inl, inr, arith}
-use Rattle.std.specs.Prelude.{length, IfOk, IfSome, IsSome, IsTrue, option_and_then, option_map}
+use Rattle.std.specs.Prelude.{length, IfOk, IfSome, IsSome, IsTrue, option_map}
 use Rattle.std.specs.List.{AllByRecursion, find}
-use Rattle.std.proofs.lemmas.{Bool.and_parts, Bool.eqb-true, Result.IfOk-weaker}
+use Rattle.std.proofs.lemmas.{Bool.and_parts, Bool.eqb-true}
 use Rattle.message_records.specs.{believed.Reading.request_of, believed.Records.RequestFields, declared.fault.Bad.Bad}
 use Rattle.posting_rules.specs.believed.LookUps.{account_balance_in, balance_of_teller}
 use Rattle.posting_rules.specs.believed.LookUps.{floor_in, kept_in}
 use Rattle.posting_rules.specs.believed.Kept.{KeptFields}
 use Rattle.posting_rules.specs.believed.Numbering.{branch_of_account, branch_of_teller}
 use Rattle.posting_rules.specs.believed.Tables.{Tables, branch_key, row_at, teller_key}
-use Rattle.posting_rules.specs.declared.rows.BranchRow.{BranchRow}
 use Rattle.posting_rules.proofs.Keyed.{by_test}
 use Rattle.posting_batch.specs.{declared.batch.Batch.Batch, declared.slots.RequestSlot.RequestSlot}
 use Rattle.posting_batch.specs.{Overlay.Overlay, Placed.IsRising, Placed.number_below}
@@ -23,16 +22,14 @@ use Rattle.posting_batch.specs.Batch.{floor_filled, no_slots, request_filled, te
 use Rattle.posting_batch.specs.Slots.{account_slot_key, branch_slot_key, floor_slot_key, is_for, teller_slot_key}
 use Rattle.posting_batch.proofs.Covered.{Stands, homes_all, stands}
 use Rattle.posting_batch.proofs.{Orders.rising_mapped, SlotsInOrder.made_all}
-use Rattle.posting_batch.proofs.ToldTables.{IsOwn, tables_told, told_filled, told_free}
-use Rattle.sql_meanings.specs.believed.Entries.{Entry}
-use Rattle.sql_meanings.proofs.Changes.{found_key}
+use Rattle.posting_batch.proofs.ToldTables.{tables_told, told_filled, told_free}
 use Rattle.sqlite.specs.{Effect.Database, Held.Held, Held.state, State.HasCleanDisk}
 use Rattle.sqlite_trees.specs.declared.store.Store.{Ghosts}
-use Rattle.sqlite_trees.proofs.ListLemmas.{all_weaker, map-map}
-use Rattle.store_rows.specs.believed.Rules.{OfRows, StoredRows, branch_under}
+use Rattle.sqlite_trees.proofs.ListLemmas.{map-map}
+use Rattle.store_rows.specs.believed.Rules.{OfRows, StoredRows}
 use Rattle.store_rows.specs.declared.fault.TableFault.{TableFault}
-use Rattle.bank_transactions.specs.{Doing.Ends, Stored.HoldsTellerRow, believed.Batches.DecidesNone}
-use Rattle.bank_transactions.specs.Filling.{AreHeld, AreShown, HasOwnRow, HoldsBranch, RequestHeld, RequestShown}
+use Rattle.bank_transactions.specs.{Doing.Ends, Stored.HoldsTellerRow}
+use Rattle.bank_transactions.specs.Filling.{AreHeld, AreShown, HasOwnRow, HoldsBranch, RequestShown}
 use Rattle.bank_transactions.specs.Filling.{emptied, emptied_account, emptied_branch, emptied_floor, emptied_request}
 use Rattle.bank_transactions.specs.Filling.{emptied_teller}
 use Rattle.bank_transactions.specs.believed.Stored.{HasOther, HasRead, HasShown, HasStored, HoldsAccount, HoldsFloor}

@@ -4,7 +4,7 @@ use Rattle.std.specs.Prelude.{IfOk}
 use Rattle.sqlite.specs.{Effect.Database, Held.Held, Held.state, declared.transaction.Transaction.Transaction}
 use Rattle.sqlite.specs.State.{State, HasCleanDisk, IsUnchanged, Survives}
 use Rattle.sqlite_trees.specs.declared.store.Store.{Ghosts}
-use Rattle.posting_rules.specs.{believed.Damage.IsUndamaged, Sound.AreSound, believed.Tables.Tables}
+use Rattle.posting_rules.specs.{Sound.AreSound, believed.Tables.Tables}
 use Rattle.posting_rules.specs.declared.fault.Rule.{Rule}
 use Rattle.sql_meanings.specs.Calls.{Says}
 use Rattle.sql_meanings.proofs.{Saying.says_then, Sparing.spares_itself, Sparing.spares_same}

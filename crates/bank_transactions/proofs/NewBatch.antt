@@ -1,6 +1,6 @@
 -- A batch whose requests were put in first: none of them was kept, so that its slots have what the tables have.
 use Rattle.std.proofs.Common.{◌≡◌, ◌∙◌, ℕ, eqb, pos, false, true, not, Bool, List, [], ◌∷◌, map, Option, Some, None, Result, Ok}
-use Rattle.std.proofs.Common.{Err, find, option_map, refl, sym, ap, subst, arith}
+use Rattle.std.proofs.Common.{Err, find, refl, sym, ap, subst, arith}
 use Rattle.std.proofs.lemmas.Bool.{and_parts, eq-eqb, eqb-true}
 use Rattle.std.specs.Prelude.{◌&&◌, ◌≢◌, IfSome, IsSome, IsTrue, is_none}
 use Rattle.std.specs.List.{AllByRecursion}
@@ -9,26 +9,25 @@ use Rattle.sqlite.specs.State.{State, HasCleanDisk, KeepsCommit}
 use Rattle.sqlite_trees.specs.declared.store.Store.{Ghosts}
 use Rattle.sqlite_trees.proofs.ListLemmas.{map-map}
 use Rattle.message_records.specs.believed.Reading.{request_of}
-use Rattle.posting_rules.specs.believed.{Kept.KeptFields, LookUps.kept_in, LookUps.kept_of_row, Tables.Tables}
+use Rattle.posting_rules.specs.believed.{Kept.KeptFields, Tables.Tables}
 use Rattle.posting_rules.specs.declared.rows.RequestRow.{RequestRow}
 use Rattle.posting_batch.specs.{declared.batch.Batch.Batch, declared.slots.RequestSlot.RequestSlot}
 use Rattle.posting_batch.specs.{Slots.empty_request, View.IsMadeOf, View.reads_of, View.view}
-use Rattle.posting_batch.specs.Batch.{IsAmong, KeepsNew, blanked, filled, has_gap, request_filled}
+use Rattle.posting_batch.specs.Batch.{IsAmong, KeepsNew, blanked, filled, has_gap}
 use Rattle.posting_batch.specs.Overlay.{Overlay, requests_put, tables_over}
 use Rattle.posting_batch.proofs.{Blanked.blank_made, Blanked.made_unkept}
 use Rattle.sql_meanings.specs.{Calls.Inside, Calls.Says, believed.Entries.Entry, believed.Entries.has_two}
 use Rattle.sql_meanings.proofs.{Changes.found_all, Changes.found_passes, NewPairs.neither}
 use Rattle.store_rows.specs.{believed.BankTables.request, believed.Failures.Additions, SeveralRows.IsNew}
 use Rattle.store_rows.specs.{SeveralRows.PutsNew, View.HoldsRows, declared.fault.TableFault.TableFault}
-use Rattle.store_rows.specs.believed.{Rules.HoldsBank, Rules.OfRows, Rules.StoredRows, View.Shows, View.request_entry}
+use Rattle.store_rows.specs.believed.{Rules.HoldsBank, Rules.OfRows, Rules.StoredRows, View.Shows}
 use Rattle.store_rows.specs.declared.fault.TableFault.TheVariants.{Sqlite, Damaged}
-use Rattle.store_rows.proofs.{GetRequest.has_both, RowLists.found_by, StoredRows.holds_list, TableKinds.holds}
-use Rattle.store_rows.proofs.{TheTables.requests}
+use Rattle.store_rows.proofs.{StoredRows.holds_list, TableKinds.holds}
 use Rattle.sqlite_rules.specs.Lists.{Has}
-use Rattle.bank_transactions.specs.{believed.Additions.AddsRequests, believed.Causes.Damage, Causes.IsFirstBroken}
+use Rattle.bank_transactions.specs.{believed.Additions.AddsRequests, believed.Causes.Damage}
 use Rattle.bank_transactions.specs.{believed.Stored.HoldsKept, Writing.MayAddRequests}
 use Rattle.bank_transactions.specs.Doing.{Acts, CommitsNothing, Does, DoesBy, Looks, ReadsWhere}
-use Rattle.bank_transactions.specs.Filling.{AreHeld, AreKnown, RequestHeld, emptied, known}
+use Rattle.bank_transactions.specs.Filling.{AreHeld, AreKnown, RequestHeld, emptied}
 use Rattle.bank_transactions.specs.Tries.{IsMadeAgain, may_be_kept}
 use Rattle.bank_transactions.proofs.JudgedSlots.{Judging, Knows, written_so}
 use Rattle.bank_transactions.proofs.LookUps.{does_look, finds_so}

@@ -1,18 +1,18 @@
 -- A single request that was looked up is answered by what the rows hold, whatever rows a file holds.
-use Rattle.std.proofs.Common.{◌≡◌, ◌∙◌, ℕ, ℤ, Bool, true, false, cond, List, [], ◌∷◌, Option, Some, None, Result, Ok}
+use Rattle.std.proofs.Common.{◌≡◌, ◌∙◌, ℕ, ℤ, Bool, true, false, cond, List, [], ◌∷◌, Option, Some, None, Ok}
 use Rattle.std.proofs.Common.{refl, ap, subst}
 use Rattle.std.specs.Prelude.{IsSome}
 use Rattle.sqlite.specs.Effect.{Database}
-use Rattle.message_records.specs.{believed.Reading.request_of, believed.Records.RequestFields, declared.fault.Bad.Bad}
+use Rattle.message_records.specs.{believed.Reading.request_of, believed.Records.RequestFields}
 use Rattle.message_records.specs.declared.records.Outcome.TheVariants.{ReusedNumber}
 use Rattle.posting_rules.specs.believed.Cases.{case_of, is_same, kept_reply, known_case, teller_case}
-use Rattle.posting_rules.specs.believed.Changes.{reply_bytes, reply_read, tables_after, tables_read, tables_with}
+use Rattle.posting_rules.specs.believed.Changes.{reply_bytes, reply_read, tables_after, tables_read}
 use Rattle.posting_rules.specs.believed.Kept.{KeptFields}
 use Rattle.posting_rules.specs.believed.{LookUps.found_in, Tables.Tables}
 use Rattle.posting_rules.specs.declared.judgments.{Found.Found, Verdict.TheVariants.Again, Verdict.TheVariants.Unkept}
 use Rattle.store_rows.specs.believed.Rules.{HoldsBank, StoredRows}
 use Rattle.bank_transactions.specs.Batches.{RepliesLookedUp}
-use Rattle.bank_transactions.specs.believed.Stored.{HasRead, HasShown, HasStored, IsStoredFound, RepliesToStored, ShowsKept}
+use Rattle.bank_transactions.specs.believed.Stored.{HasRead, HasShown, HasStored, IsStoredFound, RepliesToStored}
 
 -- a request that is kept changes nothing
 module _ (t : Tables) (m : ℕ) (r : RequestFields) where

@@ -15,9 +15,9 @@ use Rattle.message_records.specs.declared.records.Outcome.{Outcome}
 use Rattle.message_records.proofs.SpelledReplies.{outcome_with-code}
 use Rattle.posting_rules.specs.believed.Kept.{DecisionFields, KeptFields, is_kept_with, kept_with}
 use Rattle.posting_rules.specs.believed.Commands.{Terms}
-use Rattle.posting_rules.specs.believed.LookUps.{account_balance_in, balance_of_account, balance_of_teller, floor_in}
+use Rattle.posting_rules.specs.believed.LookUps.{balance_of_account, balance_of_teller, floor_in}
 use Rattle.posting_rules.specs.believed.LookUps.{count_of_branch, terms_in, terms_of_branch}
-use Rattle.posting_rules.specs.believed.LookUps.{kept_in, kept_of_row, lowest_of, reference_in, text_of_reference}
+use Rattle.posting_rules.specs.believed.LookUps.{kept_of_row, lowest_of, reference_in, text_of_reference}
 use Rattle.posting_rules.specs.believed.Tables.{Tables, row_at, account_key, branch_key, floor_key, reference_key}
 use Rattle.posting_rules.specs.believed.Tables.{request_key, teller_key}
 use Rattle.posting_rules.specs.declared.fault.Rule.{Rule}
@@ -43,9 +43,9 @@ use Rattle.store_rows.specs.declared.{metas.StoredMeta.StoredMeta, metas.TheCons
 use Rattle.store_rows.proofs.{GetRequest.has_both, RowLists.found_by, RowLists.found_row, StoredRows.holds_shown}
 use Rattle.store_rows.proofs.Readings.{balance_is, branch_is, floor_is}
 use Rattle.bank_transactions.specs.believed.Batches.{HasRoomFor}
-use Rattle.bank_transactions.specs.believed.Stored.{HoldsDecided, HoldsFloor, HoldsKept, HoldsPart, HoldsReference}
+use Rattle.bank_transactions.specs.believed.Stored.{HoldsDecided, HoldsKept, HoldsPart, HoldsReference}
 use Rattle.bank_transactions.specs.believed.Stored.{HoldsTerms}
-use Rattle.bank_transactions.specs.Filling.{AccountHeld, AreHeld, BranchHeld, FloorHeld, HoldsBranch, RequestHeld}
+use Rattle.bank_transactions.specs.Filling.{AccountHeld, AreHeld, BranchHeld, FloorHeld, RequestHeld}
 use Rattle.bank_transactions.specs.Filling.{TellerHeld, emptied}
 use Rattle.bank_transactions.proofs.{HeldBatch.filled_over, SoundRows.within_or_none}
 

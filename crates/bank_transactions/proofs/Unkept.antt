@@ -1,16 +1,16 @@
 -- A request that records put into tables was none that the tables kept.
-use Rattle.std.proofs.Common.{◌≡◌, ℕ, ◌+◌, eqb, nat_lt, List, [], ◌∷◌, Bool, true, Option, Some, None, Result, Ok, Err}
+use Rattle.std.proofs.Common.{◌≡◌, ℕ, eqb, nat_lt, List, [], ◌∷◌, Bool, true, Option, Some, None, Result, Ok, Err}
 use Rattle.std.proofs.Common.{find, refl, sym, subst, inl, inr}
 use Rattle.std.specs.Prelude.{◌⊎◌, ◌&&◌}
 use Rattle.std.proofs.lemmas.Bool.{cases_Bool, Decides.eqb_tells}
 use Rattle.std.specs.Option.{option_map}
 use Rattle.sqlite_rules.specs.Lists.{Has}
 use Rattle.message_records.specs.{believed.Reading.request_of, declared.fault.Bad.Bad, believed.Records.RequestFields}
-use Rattle.posting_rules.specs.believed.{Cases.case_of, Changes.row_put, LookUps.found_in, LookUps.kept_in}
+use Rattle.posting_rules.specs.believed.{Cases.case_of, Changes.row_put, LookUps.found_in}
 use Rattle.posting_rules.specs.believed.Changes.{tables_after, tables_past_all, tables_read, with_branch_balance}
 use Rattle.posting_rules.specs.believed.Changes.{with_account_balance, with_decided, with_history, with_reference}
 use Rattle.posting_rules.specs.believed.Changes.{with_request, with_teller_balance}
-use Rattle.posting_rules.specs.believed.Tables.{Tables, request_key, row_at}
+use Rattle.posting_rules.specs.believed.Tables.{Tables, request_key}
 use Rattle.posting_rules.specs.declared.{judgments.Verdict.Verdict, rows.RequestRow.RequestRow}
 use Rattle.posting_rules.specs.declared.judgments.Verdict.TheVariants.{Unkept, Again, Refused, Posted}
 use Rattle.posting_batch.specs.{Batch.PutsFree, Overlay.each_put}

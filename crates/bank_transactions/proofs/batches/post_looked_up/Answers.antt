@@ -1,5 +1,5 @@
 -- The parts of the transaction are one: the batch is answered.
-use Rattle.std.proofs.Common.{length, rules}
+use Rattle.std.proofs.Common.{rules}
 use Rattle.posting_batch.specs.View.{IsMadeOf}
 use Rattle.sqlite.specs.Effect.{Database}
 use Rattle.bank_transactions.specs.believed.Additions.{AddsForRecords}

@@ -1,10 +1,10 @@
 -- The row that was found is the branch's, or it is of no bank's table.
-use Rattle.std.proofs.Common.{◌≡◌, ℕ, Option, Some, None, Bool, false, true, Ok, Err, pos, rules, ap, sym, subst, ◌∙◌}
+use Rattle.std.proofs.Common.{◌≡◌, ℕ, Option, Some, None, Bool, false, true, Ok, Err, pos, rules, sym, ◌∙◌}
 use Rattle.std.specs.Prelude.{IfSome}
-use Rattle.sqlite.specs.{Effect.Database, Held.state}
+use Rattle.sqlite.specs.{Held.state}
 use Rattle.posting_rules.specs.declared.{fault.Rule.TheVariants.Value, rows.BranchRow.BranchRow}
 use Rattle.sql_meanings.specs.believed.Entries.{has_key}
-use Rattle.store_rows.specs.believed.{Readings.read_branch, Rules.HoldsBank, Rules.StoredRows, Rules.row_under}
+use Rattle.store_rows.specs.believed.{Readings.read_branch, Rules.StoredRows, Rules.row_under}
 use Rattle.store_rows.specs.believed.Stored.{FindsStored}
 use Rattle.bank_transactions.proofs.{Broken.branch_broken, LookUps.reads_broken, OwnRows.its_number}
 use Rattle.bank_transactions.proofs.ReadsInTurn.{find_failed, find_tells, read_so}

@@ -1,5 +1,5 @@
 -- A branch, then its tellers, then its accounts.
-use Rattle.std.proofs.Common.{◌≡◌, ◌+◌, ◌<◌, ◌≤◌, ℕ, ℤ, None, Ok, Err, Result, false, rules, refl, ap, subst, inl}
+use Rattle.std.proofs.Common.{◌≡◌, ◌+◌, ◌<◌, ℕ, ℤ, None, Ok, Err, Result, false, rules, refl, ap, subst, inl}
 use Rattle.std.proofs.Common.{inr}
 use Rattle.std.specs.Prelude.{is_some, pos}
 use Rattle.sqlite.specs.declared.transaction.Transaction.{Transaction}
