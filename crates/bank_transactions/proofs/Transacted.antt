@@ -1,5 +1,5 @@
 -- A transaction from its start to its end: what it tells, what a crash may leave of it, and why it failed.
-use Rattle.std.proofs.Common.{◌≡◌, ℕ, List, Result, Ok, Err, refl, sym, subst, arith, inl, inr, ◌∙◌}
+use Rattle.std.proofs.Common.{◌≡◌, ℕ, List, Result, Ok, Err, refl, sym, ap, subst, arith, inl, inr, ◌∙◌}
 use Rattle.std.specs.Prelude.{false, true, IfOk, IsTrue, OnErr, OnOk}
 use Rattle.sqlite.specs.State.{State, HasCleanDisk, IsRolledBack, KeepsCommit, Survives}
 use Rattle.sqlite.specs.{Effect.Database, Held.Held, Held.state, Tree.Trees, declared.transaction.Transaction.Transaction}
@@ -12,7 +12,8 @@ use Rattle.store_rows.specs.declared.fault.TableFault.{TableFault, TheVariants.S
 use Rattle.bank_transactions.specs.believed.Doing.{LeavesOthers}
 use Rattle.bank_transactions.specs.believed.Causes.{Damage, IsBefore, IsBrokenOrMet}
 use Rattle.bank_transactions.specs.Causes.{Blames, IsFirstBroken}
-use Rattle.bank_transactions.specs.Doing.{Acts, LeavesAndAnswers, Completes, DoesBy, Ends, EndsBy, CommitsNothing}
+use Rattle.bank_transactions.specs.Doing.{Acts, ChangesNothing, LeavesAndAnswers, Completes, DoesBy, Ends, EndsBy}
+use Rattle.bank_transactions.specs.Doing.{CommitsNothing}
 use Rattle.bank_transactions.specs.Doing.{MayLeaveAfter, MayCommit, Reads, Undoes, Consults, SparesTheirs, Transacts}
 use Rattle.bank_transactions.specs.{Doing.TransactsBy, Doing.WritesIfOk, Undone.IsUndone, Undone.UndoesFaults}
 use Rattle.bank_transactions.proofs.Blamed.{Widens, comes, commit_fails, fault_within, met_within, same_moment}
@@ -265,6 +266,37 @@ consults {S} {X} {w} {answer} {result} g old begun last end new is settled reads
     (transacted {Met = IsFirstBroken g} {So = AreSound} {after = λ t. t}
     {w = w} g old begun last end is settled
     (does_read reads) ends (λ rule it. it))
+
+-- what the commit of what was read may leave is what was there
+read_left : {X : Type 0} (old last : State) (answer : Result X TableFault) (left : Trees)
+    → ChangesNothing old last answer → MayCommit last answer left → left ≡ old.now.trees
+read_left old last (Ok x) left stays made = made.0 ∙ ap (λ (db : Database). db.trees) stays.now
+read_left old last (Err e) left stays made = absurd made
+
+pub commits_read : {S X : Type 0} {w : Tables → X} {answer result : Result X TableFault} (g : Ghosts S)
+    (old : Held S) (begun last : Transaction S) (end new : Held S)
+    → begun.conn.now ≡ record old { in_transaction = true }
+    → Reads g begun last w answer → Ends g last.conn.now end answer result → end ≡ new
+    → Survives (state g old) (state g new) (λ left. left ≡ (state g old).now.trees)
+commits_read {S} {X} {w} {answer} {result} g old begun last end new is reads ends same =
+    subst (λ (h : Held S). Survives (state g old) (state g h) IsFound) same
+    (survives_begin g old (state g end) IsFound
+    (subst (λ (h : Held S). Survives (state g h) (state g end) IsFound) is
+    (survives_then (state g begun.conn.now) (state g last.conn.now) (state g end) (λ _. ⊥)
+    (MayCommit (state g last.conn.now) answer) IsFound (λ clean left none. absurd none)
+    (λ clean left made. read_left start (state g last.conn.now) answer left
+    (from_start (omega (arith, ends.survives.clean, clean))) made)
+    reads.says.survives ends.survives)))
+  where
+    IsFound : Trees → Type 0
+    IsFound left = left ≡ (state g old).now.trees
+
+    start : State
+    start = state g (record old { in_transaction = true })
+
+    from_start : HasCleanDisk (state g last.conn.now) → ChangesNothing start (state g last.conn.now) answer
+    from_start clean =
+        subst (λ (h : Held S). ChangesNothing (state g h) (state g last.conn.now) answer) is (reads.says.leaves clean).0
 
 -- after a fault all is undone, whatever the parts do
 pub undoes : {S X : Type 0} {Met : Damage S} {Adds : Additions} {So : Tables → Type 0} {after : Tables → Tables} {w : Tables → X}

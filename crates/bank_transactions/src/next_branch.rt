@@ -1,6 +1,6 @@
 //! The open branches of the tables, one after another.
 ghost use Rattle.std.specs.Prelude.{◌≡◌, OnOk, IfOk, IfSome, None, false};
-ghost use Rattle.sqlite.specs.State.{HasCleanDisk};
+ghost use Rattle.sqlite.specs.State.{HasCleanDisk, Survives};
 ghost use Rattle.sqlite.specs.Held.{state};
 ghost use Rattle.posting_rules.specs.Branches.{IsLineAbove, line_of};
 ghost use Rattle.posting_rules.specs.Sound.{AreSound};
@@ -76,6 +76,9 @@ pub fn read_next_branch<S: Alter>(
         → IsStoredNext (state S.Store conn.old).now after next) }
     ensures still { OnOk result (HasCleanDisk (state S.Store conn.new)
         → (state S.Store conn.new).now ≡ (state S.Store conn.old).now) }
+    // A crash leaves what it could leave before, or what the file held.
+    ensures left { Survives (state S.Store conn.old) (state S.Store conn.new)
+        (λ left. left ≡ (state S.Store conn.old).now.trees) }
     ensures undone { UndoesFaults S.Store conn.old conn.new result }
 {
     let mut tx = begin(conn);

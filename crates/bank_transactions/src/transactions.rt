@@ -1,6 +1,6 @@
 //! Each call is one transaction. A commit writes nothing where nothing was changed.
 ghost use Rattle.std.specs.Prelude.{◌≡◌, ◌≤◌, IfOk, IsTrue, OnOk, true, false};
-ghost use Rattle.sqlite.specs.State.{HasCleanDisk};
+ghost use Rattle.sqlite.specs.State.{HasCleanDisk, Survives};
 ghost use Rattle.sqlite.specs.Held.{state};
 ghost use Rattle.posting_rules.specs.Changes.{tables_with_branch};
 ghost use Rattle.posting_rules.specs.believed.Commands.{opened_with};
@@ -117,6 +117,9 @@ pub fn read_balance<S: Alter>(
         → IsStoredBalance (state S.Store conn.old).now account balance) }
     ensures still { OnOk result (HasCleanDisk (state S.Store conn.new)
         → (state S.Store conn.new).now ≡ (state S.Store conn.old).now) }
+    // A crash leaves what it could leave before, or what the file held.
+    ensures left { Survives (state S.Store conn.old) (state S.Store conn.new)
+        (λ left. left ≡ (state S.Store conn.old).now.trees) }
     ensures undone { UndoesFaults S.Store conn.old conn.new result }
 {
     let mut tx = begin(conn);
