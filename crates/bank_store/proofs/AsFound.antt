@@ -1,18 +1,18 @@
 -- A bank whose database is left as it was found, stands where it stood, and spares the tables of other products.
-use Rattle.std.proofs.Common.{List, arith, inl, refl, sym, subst}
+use Rattle.std.proofs.Common.{Result, Ok, Err, arith, inl, inr, refl, sym, subst, ◌∙◌, ◌≡◌}
 use Rattle.std.specs.Prelude.{IsTrue}
-use Rattle.sqlite.specs.{Effect.Database, State.HasCleanDisk, State.Survives}
-use Rattle.sqlite.proofs.StateLemmas.{survives_weaker}
+use Rattle.sqlite.specs.{Effect.Database, Held.Held, Held.state, State.HasCleanDisk, State.Survives, Tree.Trees}
+use Rattle.sqlite.proofs.StateLemmas.{survives_then, survives_weaker}
 use Rattle.sqlite_trees.specs.declared.store.Store.{Ghosts}
-use Rattle.posting_rules.specs.believed.Commands.{Command}
-use Rattle.posting_rules.specs.believed.Counter.{StandsAt}
+use Rattle.posting_rules.specs.declared.fault.Fault.{Fault}
 use Rattle.sql_meanings.proofs.Sparing.{spares_itself}
 use Rattle.store_rows.specs.believed.Sparing.{SparesOthers, bank_names}
-use Rattle.store_rows.specs.believed.View.{Shows}
-use Rattle.bank_store.specs.{Leaving.LeavesAsFound, Leaving.StandsWhileOpen, Sparing.SparesWhileOpen}
-use Rattle.bank_store.specs.{Walks.IsUntouchedIfOpen, declared.bank.Bank.Bank}
-use Rattle.bank_store.specs.believed.Seen.{bank_seen, connection_of, database_of, file_of}
-use Rattle.bank_store.proofs.ReadsLeave.{quiet_leaves}
+use Rattle.store_rows.specs.believed.View.{Shows, ShowsTrees}
+use Rattle.store_rows.proofs.ShownOnce.{to_trees}
+use Rattle.bank_transactions.specs.Undone.{IsUndone}
+use Rattle.bank_store.specs.Leaving.{CommitsAsFound, LeavesAsFound, OnlyReads, StandsWhileOpen}
+use Rattle.bank_store.specs.{Sparing.SparesWhileOpen, Walks.IsUntouchedIfOpen, declared.bank.Bank.Bank}
+use Rattle.bank_store.specs.believed.Seen.{connection_of, database_of, file_of}
 
 module _ {S : Type 0} (g : Ghosts S) where
   -- nothing was done
@@ -36,23 +36,87 @@ module _ {S : Type 0} (g : Ghosts S) where
     untouched_as_found undone quiet =
         record { now = λ clean is_open. (undone clean is_open).now_is; left = quiet }
 
-    module _ (leaves : LeavesAsFound g old new) where
-      pub as_found_stands : ((bank_seen g new).is_down → (bank_seen g old).is_down) → StandsWhileOpen g old new
-      as_found_stands up clean standing is_open log at = record {
+    -- nothing was committed
+    pub as_found_commits : LeavesAsFound g old new → CommitsAsFound g old new
+    as_found_commits leaves = record {
+      now = leaves.now;
+      left = survives_weaker (file_of old) (file_of new) (λ _. ⊥) _ (λ clean db none. absurd none) leaves.left;
+    }
+
+  pub idle_commits : (bank : Bank S g) → CommitsAsFound g bank bank
+  idle_commits bank = as_found_commits bank bank (idle_as_found bank)
+
+  -- a call that only reads tried nothing
+  pub idle_reads : {X : Type 0} (bank : Bank S g) (r : Result X Fault) → OnlyReads g bank bank r
+  idle_reads bank (Ok x) = record { still = λ clean. refl; leaves = idle_commits bank }
+  idle_reads bank (Err fault) = record { still = tt; leaves = idle_commits bank }
+
+  module _ (old new : Bank S g) where
+    -- the database that was found may be committed, and then rows were read, or the bank went down
+    pub commits_then : (mid : Held S)
+        → (HasCleanDisk (state g mid) → IsTrue (state g mid).is_open → (state g mid).now ≡ database_of g old)
+        → Survives (file_of old) (state g mid) (λ trees. trees ≡ (database_of g old).trees)
+        → (HasCleanDisk (file_of new) → IsUntouchedIfOpen (state g mid) (file_of new))
+        → Survives (state g mid) (file_of new) (λ _. ⊥) → CommitsAsFound g old new
+    commits_then mid now left undone quiet = record {
+      now = λ clean is_open.
+          let same = undone clean is_open in
+          same.now_is ∙ now (omega (arith, quiet.clean, clean)) same.was_open;
+      left = survives_then (file_of old) (state g mid) (file_of new) IsFound (λ _. ⊥) IsFound (λ clean db h. h)
+          (λ clean db none. absurd none) left quiet;
+    }
+      where
+        IsFound : Trees → Type 0
+        IsFound trees = trees ≡ (database_of g old).trees
+
+    -- a call that only reads was answered
+    pub reads_done : {X : Type 0} (x : X) → (HasCleanDisk (file_of new) → database_of g new ≡ database_of g old)
+        → Survives (file_of old) (file_of new) (λ trees. trees ≡ (database_of g old).trees)
+        → OnlyReads g old new (Ok x)
+    reads_done x still left =
+        record { still = still; leaves = record { now = λ clean is_open. still clean; left = left } }
+
+    -- it was refused, and the bank went down
+    pub reads_down : {X : Type 0} (mid : Held S) (fault : Fault)
+        → (HasCleanDisk (state g mid) → IsUndone (file_of old) (state g mid))
+        → Survives (file_of old) (state g mid) (λ trees. trees ≡ (database_of g old).trees)
+        → (HasCleanDisk (file_of new) → IsUntouchedIfOpen (state g mid) (file_of new))
+        → Survives (state g mid) (file_of new) (λ _. ⊥) → OnlyReads {X = X} g old new (Err fault)
+    reads_down mid fault undone left back quiet = record {
+      still = tt;
+      leaves = commits_then mid (λ clean is_open. (undone clean is_open).1) left back quiet;
+    }
+
+    module _ (leaves : CommitsAsFound g old new) where
+      pub commits_stands : StandsWhileOpen g old new
+      commits_stands clean up is_open log at = record {
         shows = record {
           commands = at.shows.commands;
           tables = at.shows.tables;
           are = subst (λ (db : Database). Shows db at.shows.tables) (sym (leaves.now clean is_open)) at.shows.are;
           shows = at.shows.shows;
         };
-        up = λ down. at.up (up down);
-        survives = quiet_leaves (file_of old) (file_of new) (Unit {0}) leaves.left clean log at.survives;
+        up = up;
+        survives = λ trees may. elim (leaves.left.crash clean trees may) [
+          | inl earlier ↦ at.survives trees earlier
+          | inr found ↦ (
+            at.shows.tables,
+            subst (λ (left : Trees). ShowsTrees left at.shows.tables) (sym found)
+                (to_trees (database_of g old) at.shows.tables at.shows.are),
+            at.shows.shows,
+          )
+        ];
       }
 
-      pub as_found_spares : SparesWhileOpen g (connection_of old) (connection_of new)
-      as_found_spares = record {
+      pub commits_spares : SparesWhileOpen g (connection_of old) (connection_of new)
+      commits_spares = record {
         now = λ clean is_open.
             subst (λ (db : Database). SparesOthers (database_of g old) db) (sym (leaves.now clean is_open))
             (spares_itself bank_names (database_of g old));
-        left = survives_weaker (file_of old) (file_of new) (λ _. ⊥) _ (λ clean db none. absurd none) leaves.left;
+        left = survives_weaker (file_of old) (file_of new) _ _
+            (λ clean db found. (database_of g old, found, spares_itself bank_names (database_of g old)))
+            leaves.left;
       }
+
+    pub as_found_spares : LeavesAsFound g old new → SparesWhileOpen g (connection_of old) (connection_of new)
+    as_found_spares leaves = commits_spares (as_found_commits old new leaves)

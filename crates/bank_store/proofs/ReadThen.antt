@@ -1,11 +1,11 @@
 -- Reads outside a transaction, and after them a transaction that only reads.
-use Rattle.std.proofs.Common.{◌≡◌, ◌∙◌, Ok, Err, Result, refl, sym, subst, arith, inl, inr}
-use Rattle.std.specs.Prelude.{IsTrue, OnErr, OnOk, false}
+use Rattle.std.proofs.Common.{◌≡◌, ◌∙◌, Ok, Err, Result, sym, ap, subst, arith, inl, inr}
+use Rattle.std.specs.Prelude.{IsTrue, OnErr, false}
 use Rattle.std.proofs.lemmas.Result.{on_ok_weaker}
 use Rattle.sqlite.specs.{Effect.Database, State.State, State.HasCleanDisk, State.Survives, Held.Held, Held.state, Tree.Trees}
 use Rattle.sqlite.proofs.StateLemmas.{survives_then}
 use Rattle.sqlite_trees.specs.declared.store.Store.{Ghosts}
-use Rattle.posting_rules.specs.{believed.Tables.Tables, declared.fault.Rule.Rule}
+use Rattle.posting_rules.specs.{believed.Tables.Tables}
 use Rattle.store_rows.specs.believed.{Failures.Additions, Made.WritesOnly, Rules.IsBroken, Sparing.SparesOthers, View.Shows}
 use Rattle.store_rows.specs.declared.fault.TableFault.{TableFault, TheVariants.Sqlite, TheVariants.Damaged}
 use Rattle.bank_transactions.specs.{Causes.IsFault, Causes.IsFirstBroken, Doing.Completes, Doing.MayLeaveAfter}
@@ -18,7 +18,7 @@ abbrev Nothing : Additions
 Nothing text values = ⊥
 
 -- what a crash leaves no more than before, it leaves no more than before or so
-quiet_also : (old new : State) (P : Trees → Type 0) → Survives old new (λ _. ⊥) → Survives old new P
+pub quiet_also : (old new : State) (P : Trees → Type 0) → Survives old new (λ _. ⊥) → Survives old new P
 quiet_also old new P quiet = record {
   clean = quiet.clean;
   shield = quiet.shield;
@@ -121,6 +121,12 @@ module _ {S X : Type 0} {So : Tables → Type 0} {wanted : Tables → X} (g : Gh
         since (Ok x) is = tt
         since (Err f) is =
             λ shown. let it = is shown in (subst IsTrue (still (before clean)).3 it.0, it.1 ∙ same clean)
+
+    -- its commit leaves what was read
+    pub left_since : Survives (state g mid) (state g new) (λ left. left ≡ (state g mid).now.trees)
+        → Survives (state g old) (state g new) (λ left. left ≡ (state g old).now.trees)
+    left_since left = survives_then (state g old) (state g mid) (state g new) (λ _. ⊥) _ _
+        (λ clean db none. absurd none) (λ clean db is. is ∙ ap (λ (d : Database). d.trees) (same clean)) quiet left
 
 -- what is made of its answer
 module _ {S X Y : Type 0} {So : Tables → Type 0} {wanted : Tables → X} {asked : Tables → Y} (g : Ghosts S)

@@ -1,11 +1,10 @@
 -- What reads leave of a bank that stands at a log.
 use Rattle.std.proofs.Common.{List, [], sym, subst, inl, inr, arith}
-use Rattle.std.specs.Prelude.{IsTrue}
 use Rattle.sqlite.specs.{Effect.Database, State.State, State.HasCleanDisk, State.Survives}
 use Rattle.posting_rules.specs.{believed.Commands.Command, believed.Tables.AreTablesOf}
-use Rattle.posting_rules.specs.believed.Counter.{Seen, ShowsLog, StandsAt, Takes, LeavesOnly}
+use Rattle.posting_rules.specs.believed.Counter.{Seen, ShowsLog, Takes, LeavesOnly}
 use Rattle.store_rows.specs.believed.View.{Shows}
-use Rattle.bank_store.specs.{Leaving.TakesNone, believed.Seen.seen_in, Walks.IsStill, Walks.IsUntouchedIfOpen}
+use Rattle.bank_store.specs.{Leaving.TakesNone, believed.Seen.seen_in, Walks.IsStill}
 
 -- where the connection sees what it saw, all stands as it stood
 pub takes_then : (old mid new : State) (D E F : Type 0) → Takes (seen_in old D) (seen_in mid E) []
@@ -49,21 +48,6 @@ quiet_leaves old new D quiet clean log only = λ trees may. elim (quiet.crash cl
   | inl earlier ↦ only trees earlier
   | inr none ↦ absurd none
 ]
-
--- as long as the store is open, it stands where it stood
-pub untouched_stands : (old new : State) (D E : Type 0) → IsUntouchedIfOpen old new
-    → Survives old new (λ _. ⊥) → (E → D) → HasCleanDisk new → IsTrue new.is_open
-    → (log : List Command) → StandsAt (seen_in old D) log → StandsAt (seen_in new E) log
-untouched_stands old new D E untouched quiet up clean is_open log at = record {
-  shows = record {
-    commands = at.shows.commands;
-    tables = at.shows.tables;
-    are = subst (λ (db : Database). Shows db at.shows.tables) (sym (untouched is_open).now_is) at.shows.are;
-    shows = at.shows.shows;
-  };
-  up = λ down. at.up (up down);
-  survives = quiet_leaves old new D quiet clean log at.survives;
-}
 
 -- ---- what reads leave
 

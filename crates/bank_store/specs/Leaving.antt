@@ -1,10 +1,11 @@
 -- What reads leave of a bank, whatever they answered.
-use Rattle.std.specs.Prelude.{◌≡◌, List, [], IsTrue}
+use Rattle.std.specs.Prelude.{◌≡◌, List, [], IsTrue, OnOk, Result}
 use Rattle.sqlite.specs.State.{HasCleanDisk, Survives}
 use Rattle.sqlite_trees.specs.declared.store.Store.{Ghosts}
 use Rattle.posting_rules.specs.believed.Commands.{Command}
 use Rattle.posting_rules.specs.believed.Counter.{Seen, LeavesOnly, StandsAt, Takes}
 use Rattle.posting_rules.specs.believed.Tables.{AreTablesOf}
+use Rattle.posting_rules.specs.declared.fault.Fault.{Fault}
 use Rattle.bank_store.specs.believed.Seen.{bank_seen, database_of, file_of}
 use Rattle.bank_store.specs.declared.bank.Bank.{Bank}
 
@@ -29,3 +30,14 @@ StandsWhileOpen g old new =
 pub record LeavesAsFound {S : Type 0} (g : Ghosts S) (old new : Bank S g) : Type 0 where
   pub now : HasCleanDisk (file_of new) → IsTrue (file_of new).is_open → database_of g new ≡ database_of g old
   pub left : Survives (file_of old) (file_of new) (λ _. ⊥)
+
+-- The same of calls that commit what they read: a crash leaves what it could leave before, or the database that was
+-- found.
+pub record CommitsAsFound {S : Type 0} (g : Ghosts S) (old new : Bank S g) : Type 0 where
+  pub now : HasCleanDisk (file_of new) → IsTrue (file_of new).is_open → database_of g new ≡ database_of g old
+  pub left : Survives (file_of old) (file_of new) (λ trees. trees ≡ (database_of g old).trees)
+
+-- and once it was answered, the database is that one, be the store open or not
+pub record OnlyReads {S X : Type 0} (g : Ghosts S) (old new : Bank S g) (result : Result X Fault) : Type 0 where
+  pub still : OnOk result (HasCleanDisk (file_of new) → database_of g new ≡ database_of g old)
+  pub leaves : CommitsAsFound g old new

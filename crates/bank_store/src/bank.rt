@@ -236,15 +236,15 @@ impl<S: Alter + Drop> Counter for Bank<S> {
     ghost use Rattle.message_records.specs.believed.Records.{RequestFields};
     ghost use Rattle.message_records.specs.declared.fault.Bad.{Bad};
     ghost use Rattle.posting_rules.specs.believed.Entries.{malformed_reply};
-    ghost use Rattle.bank_transactions.specs.believed.Causes.{IsBefore};
     ghost use Rattle.bank_transactions.specs.believed.Stored.{IsStoredBalance, OpensByStored};
     ghost use Rattle.bank_transactions.specs.Stored.{IsStoredNext};
     ghost use Rattle.bank_transactions.specs.believed.Answered.{AnswersAll, AnswersOne};
     ghost use Rattle.bank_store.specs.believed.Down.{AnswersBy, BreaksOpening, BreaksRule, IsBankCall, OfDamage};
     ghost use Rattle.bank_store.specs.Down.{WasBroken};
     ghost use Rattle.bank_store.specs.believed.Down.{bank_reason};
+    ghost use Rattle.bank_store.specs.Leaving.{OnlyReads};
     ghost use Rattle.bank_store.specs.believed.NoneOrAll.{LeavesBatch, LeavesNoneOrAll, LeavesRecords};
-    ghost use Rattle.bank_store.specs.believed.Seen.{bank_seen, database_of, file_of};
+    ghost use Rattle.bank_store.specs.believed.Seen.{bank_seen, database_of};
     ghost use Rattle.bank_store.specs.believed.Sparing.{SparesOtherTables};
     ghost use Rattle.bank_store.specs.SparedTables.{some_or_none, spared_itself, spared_then};
     ghost use Rattle.sqlite.specs.Effect.{Database};
@@ -393,9 +393,7 @@ impl<S: Alter + Drop> Counter for Bank<S> {
         // Whatever rows the file holds.
         ensures stored { IfOk result (λ balance. (bank_seen S.Store self.new).honest
             → IsStoredBalance (database_of S.Store self.old) account balance) }
-        ensures still { OnOk result ((bank_seen S.Store self.new).honest
-            → database_of S.Store self.new ≡ database_of S.Store self.old) }
-        ensures later { OnOk result (IsBefore (file_of self.old) (file_of self.new)) }
+        ensures reads { OnlyReads S.Store self.old self.new result }
         // It writes nothing, so that the rows which the file held break the rule.
         ensures broken { IfErr result (λ fault. OfDamage fault (WasBroken S.Store self.old self.new)) }
         ensures spares { SparesOtherTables S.Store self.old self.new }
@@ -416,8 +414,7 @@ impl<S: Alter + Drop> Counter for Bank<S> {
         // Whatever rows the file holds.
         ensures stored { IfOk result (λ line. (bank_seen S.Store self.new).honest
             → IsStoredNext (database_of S.Store self.old) after line) }
-        ensures still { OnOk result ((bank_seen S.Store self.new).honest
-            → database_of S.Store self.new ≡ database_of S.Store self.old) }
+        ensures reads { OnlyReads S.Store self.old self.new result }
         ensures broken { IfErr result (λ fault. OfDamage fault (WasBroken S.Store self.old self.new)) }
         ensures spares { SparesOtherTables S.Store self.old self.new }
     {

@@ -155,6 +155,8 @@ fn count_decided<S: Alter>(conn: &mut Connection<S>) -> Result<u64, TableFault>
         → OfRows (λ rows. HoldsDecided rows decided) (state S.Store conn.old).now) }
     ensures still { OnOk result (HasCleanDisk (state S.Store conn.new)
         → (state S.Store conn.new).now ≡ (state S.Store conn.old).now) }
+    ensures left { Survives (state S.Store conn.old) (state S.Store conn.new)
+        (λ left. left ≡ (state S.Store conn.old).now.trees) }
     ensures undone { UndoesFaults S.Store conn.old conn.new result }
 {
     let mut tx = begin(conn);
@@ -181,6 +183,8 @@ pub(crate) fn read_log<S: Alter>(
         (state S.Store conn.old).now) }
     ensures still { OnOk result (HasCleanDisk (state S.Store conn.new)
         → (state S.Store conn.new).now ≡ (state S.Store conn.old).now) }
+    ensures left { Survives (state S.Store conn.old) (state S.Store conn.new)
+        (λ left. left ≡ (state S.Store conn.old).now.trees) }
     ensures undone { UndoesFaults S.Store conn.old conn.new result }
 {
     read_entries(conn, after, entries)?;

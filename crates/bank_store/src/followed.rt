@@ -5,6 +5,7 @@ ghost use Rattle.posting_rules.specs.believed.Tables.{Tables};
 ghost use Rattle.posting_core.specs.believed.LogEntries.{entries_given};
 ghost use Rattle.bank_store.specs.KeptEntries.{GivesStored};
 ghost use Rattle.bank_store.specs.Down.{WasBroken};
+ghost use Rattle.bank_store.specs.Leaving.{OnlyReads};
 ghost use Rattle.bank_store.specs.believed.Down.{AnswersBy, IsBankCall, OfDamage};
 ghost use Rattle.bank_store.specs.believed.Seen.{bank_seen, database_of};
 ghost use Rattle.bank_store.specs.believed.Sparing.{SparesOtherTables};
@@ -28,8 +29,7 @@ impl<S: Alter + Drop> Followed for Bank<S> {
         // Whatever rows the file holds.
         ensures stored { IfOk result (λ given. (bank_seen S.Store self.new).honest
             → GivesStored (database_of S.Store self.old) after (option_map (λ bytes. bytes.items) given)) }
-        ensures still { OnOk result ((bank_seen S.Store self.new).honest
-            → database_of S.Store self.new ≡ database_of S.Store self.old) }
+        ensures reads { OnlyReads S.Store self.old self.new result }
         ensures broken { IfErr result (λ fault. OfDamage fault (WasBroken S.Store self.old self.new)) }
     {
         self.up()?;

@@ -1,13 +1,12 @@
 -- The entries were read, and then the count.
-use Rattle.std.proofs.Common.{◌≡◌, ◌≤◌, ◌∙◌, ℕ, List, Ok, Err, Result, Bool, refl, sym, ap, subst, rules, arith}
+use Rattle.std.proofs.Common.{◌≡◌, ◌∙◌, ℕ, Ok, Err, ap, subst, rules, arith}
 use Rattle.std.specs.Prelude.{nat_le}
-use Rattle.sqlite.specs.{Effect.Database, Held.state, State.HasCleanDisk}
+use Rattle.sqlite.specs.{Held.state, State.HasCleanDisk}
 use Rattle.store_rows.specs.believed.Rules.{OfRows}
-use Rattle.store_rows.specs.declared.fault.TableFault.{TableFault}
 use Rattle.bank_transactions.specs.believed.Stored.{HoldsDecided}
 use Rattle.bank_store.proofs.KeptRead.{decided_once}
-use Rattle.bank_store.proofs.ReadThen.{answered_by, failed_by, reads_failed, reads_then, undone_by, undone_since}
-use Rattle.bank_store.proofs.entries.read_log.Given.{Over}
+use Rattle.bank_store.proofs.ReadThen.{answered_by, failed_by, left_since, quiet_also, reads_failed, reads_then}
+use Rattle.bank_store.proofs.ReadThen.{undone_by, undone_since}
 use Rattle.bank_store.proofs.entries.read_log.Goals as goal
 
 -- the entries weren't read
@@ -23,6 +22,7 @@ returns-in_err-read_entries g c =
       told = tt;
       stored = tt;
       still = tt;
+      left = quiet_also (state g.S.Store old) (state g.S.Store new) _ it.survives;
       undone = λ clean. undone_by (state g.S.Store old) (state g.S.Store new) (it.undone clean);
     })
 
@@ -42,6 +42,7 @@ returns-in_err-decided g c =
       told = tt;
       stored = tt;
       still = tt;
+      left = left_since g.S.Store old mid new c.read_entries.ensures.survives one.same (Err fault) two.says two.left;
       undone = undone_since g.S.Store old mid new c.read_entries.ensures.survives one.same (Err fault) two.says
           two.undone;
     })
@@ -67,5 +68,6 @@ returns g c =
           (λ rows has decided holds. ap (nat_le c.args.after)
           (decided_once rows n decided (two.stored clean rows has) holds));
       still = λ clean. two.still clean ∙ (one.same (clean_mid clean)).0;
+      left = left_since g.S.Store old mid new c.read_entries.ensures.survives one.same (Ok n) two.says two.left;
       undone = λ clean. tt;
     }

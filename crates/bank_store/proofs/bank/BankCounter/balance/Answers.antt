@@ -3,11 +3,12 @@ use Rattle.std.proofs.Common.{[], ◌∙◌}
 use Rattle.std.proofs.lemmas.Result.{err_from_is_err_and}
 use Rattle.std.specs.Prelude.{IsSome}
 use Rattle.posting_rules.proofs.{Calls.stays, Looked.balance_shown, ChangesByKey.sound_tables}
-use Rattle.bank_store.proofs.{Countered.takes, Causes.still_clean, bank.BankCounter.balance.Given.Over}
+use Rattle.bank_store.proofs.AsFound.{idle_reads, reads_done, reads_down}
+use Rattle.bank_store.proofs.{Countered.takes, Causes.still_clean}
+use Rattle.bank_store.proofs.bank.BankCounter.balance.Given.{Over}
 use Rattle.bank_store.proofs.OtherTables.{spares_done, spares_down, spares_untouched}
 use Rattle.bank_store.proofs.Refusing.{answered_call, consult_refused, refused_call, untried_call, Refusal}
 use Rattle.bank_transactions.specs.Causes.{IsFirstBroken}
-use Rattle.bank_transactions.proofs.Blamed.{comes}
 use Rattle.bank_store.proofs.bank.BankCounter.balance.Goals as goal
 
 -- what its refusal says
@@ -33,11 +34,9 @@ returns-in-Ok-clause-call g c =
 pub returns-in-Ok-clause-stored : goal.returns-in-Ok-clause-stored
 returns-in-Ok-clause-stored g c = c.in-Ok.ensures.stored
 
-pub returns-in-Ok-clause-still : goal.returns-in-Ok-clause-still
-returns-in-Ok-clause-still g c = c.in-Ok.ensures.still
-
-pub returns-in-Ok-clause-later : goal.returns-in-Ok-clause-later
-returns-in-Ok-clause-later g c = comes c.in-Ok.ensures.says.survives
+pub returns-in-Ok-clause-reads : goal.returns-in-Ok-clause-reads
+returns-in-Ok-clause-reads g c =
+    reads_done g.S.Store c.args.self.now _ c.in-Ok.balance c.in-Ok.ensures.still c.in-Ok.ensures.left
 
 pub returns-in-Err-clause-call : goal.returns-in-Err-clause-call
 returns-in-Err-clause-call g c =
@@ -46,6 +45,14 @@ returns-in-Err-clause-call g c =
 
 pub returns-in-Err-clause-broken : goal.returns-in-Err-clause-broken
 returns-in-Err-clause-broken g c = (refused g c).broken
+
+pub returns-in-Err-clause-reads : goal.returns-in-Err-clause-reads
+returns-in-Err-clause-reads g c =
+    reads_down g.S.Store c.args.self.now c.go_down.new.self c.read_balance.new.conn c.go_down.result
+    c.in-Err.ensures.undone c.in-Err.ensures.left c.go_down.ensures.undone c.go_down.ensures.survives
+
+pub returns-in_err-up-clause-reads : goal.returns-in_err-up-clause-reads
+returns-in_err-up-clause-reads g c = idle_reads g.S.Store c.args.self.now c.from_residual.result
 
 pub returns-in_err-up-clause-call : goal.returns-in_err-up-clause-call
 returns-in_err-up-clause-call g c =

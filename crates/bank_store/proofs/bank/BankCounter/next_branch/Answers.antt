@@ -4,6 +4,7 @@ use Rattle.std.specs.Prelude.{IsSome}
 use Rattle.std.proofs.lemmas.Result.{err_from_is_err_and}
 use Rattle.posting_rules.proofs.{Calls.stays, NextBranch.next_shown, ChangesByKey.sound_tables}
 use Rattle.store_rows.specs.Columns.{branch_above}
+use Rattle.bank_store.proofs.AsFound.{idle_reads, reads_done, reads_down}
 use Rattle.bank_store.proofs.{Causes.still_clean, Countered.takes, bank.BankCounter.next_branch.Given.Over}
 use Rattle.bank_store.proofs.OtherTables.{spares_done, spares_down, spares_untouched}
 use Rattle.bank_store.proofs.Refusing.{answered_call, consult_refused, refused_call, untried_call, Refusal}
@@ -36,7 +37,7 @@ returns-in-Ok g c =
           answered_call g.S.Store c.args.self.now _ [] _ c.in_ok-up.ensures.up c.in_ok-up.ensures.up
           (takes sound_tables [] stays tt Down Down c.in_ok-up.ensures.up says) (still_clean says.survives);
       stored = c.in-Ok.ensures.stored;
-      still = c.in-Ok.ensures.still;
+      reads = reads_done g.S.Store c.args.self.now _ c.in-Ok.next c.in-Ok.ensures.still c.in-Ok.ensures.left;
       frugal = λ same. (let it = same in cc);
       broken = tt;
       spares = spares_done g.S.Store c.args.self.now _ _ c.in_ok-up.ensures.up says.spares;
@@ -52,7 +53,9 @@ returns-in-Err g c =
           c.in_ok-up.ensures.up;
       frugal = λ same. no.frugal (let it = same in cc);
       stored = tt;
-      still = tt;
+      reads = reads_down g.S.Store c.args.self.now c.go_down.new.self c.read_next_branch.new.conn
+          c.go_down.result c.in-Err.ensures.undone c.in-Err.ensures.left c.go_down.ensures.undone
+          c.go_down.ensures.survives;
       broken = no.broken;
       spares = spares_down g.S.Store c.args.self.now c.go_down.new.self c.read_next_branch.new.conn
           c.in-Err.fault c.go_down.result c.in_ok-up.ensures.up c.in-Err.ensures.says.spares
@@ -65,6 +68,9 @@ returns-in_err-up-clause-call g c =
     let p = err_from_is_err_and c.from_residual.result c.from_residual.ensures.1 in
     untried_call g.S.Store c.args.self.now [] c.from_residual.result p.0 p.1
     (p.2 ∙ c.in_err-up.ensures.down.0) c.in_err-up.ensures.down.1
+
+pub returns-in_err-up-clause-reads : goal.returns-in_err-up-clause-reads
+returns-in_err-up-clause-reads g c = idle_reads g.S.Store c.args.self.now c.from_residual.result
 
 pub returns-in_err-up-clause-spares : goal.returns-in_err-up-clause-spares
 returns-in_err-up-clause-spares g c = spares_untouched g.S.Store c.args.self.now

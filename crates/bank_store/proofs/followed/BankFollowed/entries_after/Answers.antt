@@ -1,5 +1,5 @@
 -- What the entries after a number come to.
-use Rattle.std.proofs.Common.{◌≡◌, ◌≤◌, ◌<◌, ◌∙◌, [], ℕ, List, Option, Some, None, Ok, Err, true, false, length, refl, sym, ap, subst, rules, arith, cond}
+use Rattle.std.proofs.Common.{◌≡◌, ◌<◌, ◌∙◌, [], ℕ, None, true, false, sym, subst, arith}
 use Rattle.std.proofs.lemmas.Result.{err_from_is_err_and}
 use Rattle.std.specs.Prelude.{IsSome, nat_le}
 use Rattle.std.proofs.lemmas.Bool.Decides.{nat_tests}
@@ -7,9 +7,9 @@ use Rattle.sqlite.specs.Effect.{Database}
 use Rattle.walked_rows.specs.KeptRows.{holds_kept}
 use Rattle.bank_store.specs.believed.Seen.{database_of}
 use Rattle.bank_store.proofs.LogRows.{has_kept, kept_of}
-use Rattle.posting_rules.proofs.{Calls.stays, ChangesByKey.sound_tables, Undamaged.undamaged}
-use Rattle.posting_core.specs.believed.LogEntries.{entries_given, log_entries}
+use Rattle.posting_rules.proofs.{Calls.stays, ChangesByKey.sound_tables}
 use Rattle.store_rows.specs.believed.View.{Shows}
+use Rattle.bank_store.proofs.AsFound.{idle_reads, reads_done, reads_down}
 use Rattle.bank_store.proofs.{Countered.takes, Causes.still_clean}
 use Rattle.bank_store.proofs.OtherTables.{spares_done, spares_down, spares_untouched}
 use Rattle.bank_store.proofs.Refusing.{answered_call, consult_refused, refused_call, spared_call, untried_call}
@@ -34,6 +34,13 @@ returns-in_err-entries-clause-call g c =
     spared_call g.S.Store c.args.self.now [] c.from_residual-in_err-entries.result p.0 p.1 p.2
     c.in_ok-up.ensures.up
 
+pub returns-in_err-up-clause-reads : goal.returns-in_err-up-clause-reads
+returns-in_err-up-clause-reads g c = idle_reads g.S.Store c.args.self.now c.from_residual.result
+
+pub returns-in_err-entries-clause-reads : goal.returns-in_err-entries-clause-reads
+returns-in_err-entries-clause-reads g c =
+    idle_reads g.S.Store c.args.self.now c.from_residual-in_err-entries.result
+
 pub returns-in_err-entries-clause-spares : goal.returns-in_err-entries-clause-spares
 returns-in_err-entries-clause-spares g c = spares_untouched g.S.Store c.args.self.now
 
@@ -46,7 +53,7 @@ returns-then-after-gt-MAX_DECIDED g c = record {
   tables = λ clean t shown. shown;
   spares = spares_untouched g.S.Store c.args.self.now;
   stored = λ clean low. absurd (omega (arith, low, c.if-after-gt-MAX_DECIDED.true));
-  still = λ clean. refl;
+  reads = idle_reads g.S.Store c.args.self.now _;
   broken = tt;
 }
 
@@ -63,7 +70,8 @@ returns g c =
           c.go_down.result c.in_ok-up.ensures.up c.in-Err.ensures.says.spares c.in-Err.ensures.undone
           c.go_down.ensures.down c.go_down.ensures.undone c.go_down.ensures.survives;
       stored = tt;
-      still = tt;
+      reads = reads_down g.S.Store c.args.self.now c.go_down.new.self c.read_log.new.conn c.go_down.result
+          c.in-Err.ensures.undone c.in-Err.ensures.left c.go_down.ensures.undone c.go_down.ensures.survives;
       broken = no.broken;
     }
 
@@ -88,7 +96,7 @@ returns-then-enough g c =
       tables = λ clean t shown. subst (λ (db : Database). Shows db t) (sym (it.still clean)) shown;
       spares = spares_done g.S.Store c.args.self.now _ _ up it.says.spares;
       stored = λ clean all has. rw c.in_ok-entries.ensures.items at (it.told clean all has);
-      still = it.still;
+      reads = reads_done g.S.Store c.args.self.now _ _ it.still it.left;
       broken = tt;
     }
 
@@ -107,6 +115,6 @@ returns-in-Ok g c =
       spares = spares_done g.S.Store c.args.self.now _ _ up it.says.spares;
       stored = λ clean low rows has decided holds.
           fewer c.args.after decided (sym (it.stored clean rows has decided holds) ∙ c.if-enough.false);
-      still = it.still;
+      reads = reads_done g.S.Store c.args.self.now _ _ it.still it.left;
       broken = tt;
     }
