@@ -1,5 +1,5 @@
 -- What a statement says of a bank, and of any file, and what it leaves of its writer.
-use Rattle.std.specs.Prelude.{◌≡◌, ◌≢◌, ◌⊎◌, ℕ, List, map, Option, None, Result, Err, IsSome, IsTrue, OnErr, OnOk}
+use Rattle.std.specs.Prelude.{◌≡◌, ◌≢◌, ◌⊎◌, ℕ, List, map, Option, None, Result, Err, IsSome, OnErr, OnOk}
 use Rattle.std.specs.Io.KnownBytes.{Appends}
 use Rattle.sqlite_trees.specs.declared.store.Store.{Ghosts}
 use Rattle.posting_rules.specs.believed.Commands.{Command}
@@ -18,7 +18,7 @@ use Rattle.walked_rows.specs.Pairs.{HasPairs, Pair, paired}
 use Rattle.report_contents.specs.Written.{AppendsPart}
 use Rattle.bank_store.specs.believed.Down.{KeepsCause}
 use Rattle.bank_store.specs.Down.{WasBroken}
-use Rattle.bank_store.specs.believed.Seen.{bank_seen, connection_of, database_of, file_of}
+use Rattle.bank_store.specs.believed.Seen.{bank_seen, connection_of, database_of}
 use Rattle.bank_store.specs.declared.bank.Bank.{Bank}
 use Rattle.bank_reports.specs.declared.fault.ReportFault.{ReportFault}
 use Rattle.bank_reports.specs.declared.fault.ReportFault.TheVariants.{Bank as OfBank, NoAccount, Write}
@@ -67,8 +67,6 @@ pub record StatesFile {S : Type 0} (g : Ghosts S) (old new : Bank S g) (account 
   pub store : told ≡ Err (OfBank Store) → (rows : List Pair)
       → HasPairs (database_of g old) history_table reference_table rows
       → HasFailedToRead g (connection_of old) (connection_of new)
-  -- as long as the store is open, the file holds what it held
-  pub still : IsTrue (file_of new).is_open → database_of g new ≡ database_of g old
 
 -- the bank is down after a statement: it refused the balance, or was down before
 pub record RefusesBalance {S : Type 0} (g : Ghosts S) (old new : Bank S g)

@@ -7,11 +7,10 @@ ghost use Rattle.posting_core.specs.Told.{HasWriteFailed, IsFlush};
 ghost use Rattle.store_rows.specs.believed.BankTables.{history as history_table, reference as reference_table};
 ghost use Rattle.walked_rows.specs.Pairs.{HasPairs, Pair};
 ghost use Rattle.walked_rows.specs.Stored.{is_stated_of};
-ghost use Rattle.bank_store.specs.believed.Seen.{bank_seen, connection_of, database_of, file_of};
-ghost use Rattle.bank_store.specs.Sparing.{SparesWhileOpen};
+ghost use Rattle.bank_store.specs.believed.Seen.{bank_seen, database_of, file_of};
 ghost use Rattle.bank_reports.specs.declared.fault.ReportFault.TheVariants.{Bank as OfBank, NoAccount, Write};
 ghost use Rattle.bank_reports.specs.Leaving.{ReadsRows, TellsDown};
-ghost use Rattle.bank_store.specs.Leaving.{StandsWhileOpen};
+ghost use Rattle.bank_store.specs.Leaving.{CommitsAsFound};
 ghost use Rattle.bank_reports.specs.Postings.{WritesStatement};
 ghost use Rattle.bank_reports.specs.Statements.{LeavesWriter, RefusesBalance, States, StatesFile};
 
@@ -78,8 +77,7 @@ pub fn write_statement<S: Alter + Drop, W: Sink>(
     ensures frugal { result ≢ Err (OfBank Memory) }
     ensures down { TellsDown (bank_seen S.Store bank.old).is_down (result ≡ Err (OfBank Down))
         ((bank.new ≡ bank.old) × (writer.new ≡ writer.old)) }
-    ensures stands { StandsWhileOpen S.Store bank.old bank.new }
-    ensures spares { SparesWhileOpen S.Store (connection_of bank.old) (connection_of bank.new) }
+    ensures leaves { CommitsAsFound S.Store bank.old bank.new }
 {
     if bank.is_down() {
         return Err(ReportFault::Bank(Fault::Down));

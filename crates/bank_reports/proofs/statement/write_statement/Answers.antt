@@ -18,8 +18,8 @@ use Rattle.bank_reports.proofs.OnLogs.{account_rows, has_stated, stated_rows}
 use Rattle.bank_reports.proofs.ReportEnds.{damaged_not_down, down_not_store, not_both, not_missing, not_write, of_err}
 use Rattle.bank_reports.proofs.ReportEnds.{of_ok, refused_before, refused_down, refused_leaves, refused_sound}
 use Rattle.bank_reports.proofs.ReportEnds.{same_fault, written_of}
-use Rattle.bank_store.proofs.ReadsLeave.{clean_before, idle_takes, reads_after, untouched_stands}
-use Rattle.bank_store.proofs.Spared.{call_spares, idle_spares, read_spares}
+use Rattle.bank_store.proofs.{AsFound.commits_then, AsFound.idle_commits, ReadsLeave.idle_takes, ReadsLeave.reads_after}
+use Rattle.bank_transactions.proofs.Blamed.{comes}
 use Rattle.bank_reports.proofs.StatementReports.{ToldOfLog, log_part, log_sound, log_whole}
 use Rattle.bank_reports.proofs.statement.write_statement.Goals as goal
 
@@ -49,8 +49,7 @@ returns-then-is_down g c =
       };
       frugal = search rules;
       down = record { down = λ down. refl; tried = λ is. was; idle = λ is. (refl, refl) };
-      stands = λ clean up is_open log at. at;
-      spares = idle_spares g.S.Store c.args.bank.now.conn;
+      leaves = idle_commits g.S.Store c.args.bank.now;
     }
 
 -- ---- where the balance was refused
@@ -100,8 +99,7 @@ returns-in_err-balance g c =
         tried = tried;
         idle = λ is. absurd (was_up (tried is));
       };
-      stands = λ clean up. absurd (up went_down);
-      spares = call_spares g.S.Store c.args.bank.now c.balance.new.self says.spares;
+      leaves = says.reads.leaves;
     }
 
 -- ---- where the account isn't open
@@ -128,7 +126,6 @@ returns-in_default g c =
         tables = λ found. absurd (found refl);
         absent = λ none. rw c.in_default.is at (says.stored clean);
         store = λ is. absurd (not_missing _ _ is refl);
-        still = λ is_open. says.still clean;
       };
       refused = λ down. absurd (says.call.up down);
       writer = record { silent = λ none. refl; flushed = tt; failed = λ write. absurd (not_both _ write refl) };
@@ -138,8 +135,7 @@ returns-in_default g c =
         tried = λ is. absurd (not_missing _ _ is refl);
         idle = λ is. absurd (not_missing _ _ is refl);
       };
-      stands = λ clean up is_open log at. says.call.done.stands clean log at;
-      spares = call_spares g.S.Store c.args.bank.now c.balance.new.self says.spares;
+      leaves = says.reads.leaves;
     }
 
 -- ---- where the lines were begun
@@ -156,7 +152,7 @@ rows_at : (g : Over) (c : goal.After-write_lines g)
     → HasPairs (database_of g.S.Store c.args.bank.now) history_table reference_table rows
     → HasPairs (database_of g.S.Store c.balance.new.self) history_table reference_table rows
 rows_at g c clean rows has =
-    let same = c.in_ok-balance.ensures.still (clean_at g c clean) in
+    let same = c.in_ok-balance.ensures.reads.still (clean_at g c clean) in
     subst (λ db. HasPairs db history_table reference_table rows) (sym same) has
 
 stated : (g : Over) (c : goal.After-write_lines g)
@@ -217,8 +213,7 @@ returns g c =
         absent = λ none. absurd (says.reads.found none);
         store = λ is rows has.
             failed_later g.S.Store c.args.bank.now.conn c.balance.new.self.conn c.write_lines.new.bank.conn
-            before.later (says.reads.store is clean rows (rows_at g c clean rows has));
-        still = λ is_open. (says.reads.undone clean is_open).now_is ∙ before.still (clean_at g c clean);
+            (comes before.reads.leaves.left) (says.reads.store is clean rows (rows_at g c clean rows has));
       };
       refused = λ down. absurd (down_before down);
       writer = record {
@@ -235,10 +230,6 @@ returns g c =
         tried = λ is. absurd (before.call.up (says.reads.tried is));
         idle = λ is. absurd (before.call.up (says.reads.tried is));
       };
-      stands = λ clean up is_open log at.
-          untouched_stands mid new _ _ (says.reads.undone clean) says.reads.survives says.reads.up clean
-          is_open log (before.call.done.stands (clean_before mid new says.reads.survives clean) log at);
-      spares = read_spares g.S.Store c.args.bank.now.conn c.balance.new.self.conn c.write_lines.new.bank.conn
-          (call_spares g.S.Store c.args.bank.now c.balance.new.self before.spares) says.reads.undone
-          says.reads.survives;
+      leaves = commits_then g.S.Store c.args.bank.now c.write_lines.new.bank c.balance.new.self.conn
+          before.reads.leaves.now before.reads.leaves.left says.reads.undone says.reads.survives;
     }
