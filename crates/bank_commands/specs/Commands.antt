@@ -24,7 +24,7 @@ use Rattle.bank_store.specs.declared.bank.Bank.{Bank}
 use Rattle.bank_store.specs.declared.migration.Migrated.{Migrated}
 use Rattle.bank_store.specs.declared.migration.Migrated.TheVariants.{Already, Moved}
 use Rattle.bank_reports.specs.Audits.{Audits, AuditsFile}
-use Rattle.bank_store.specs.Leaving.{LeavesAsFound, StandsWhileOpen}
+use Rattle.bank_store.specs.Leaving.{CommitsAsFound, LeavesAsFound}
 use Rattle.bank_reports.specs.Statements.{RefusesBalance, States, StatesFile}
 use Rattle.bank_reports.specs.declared.fault.ReportFault.{ReportFault}
 use Rattle.bank_reports.specs.declared.fault.ReportFault.TheVariants as report
@@ -144,7 +144,7 @@ pub record StatesBank {S : Type 0} (g : Ghosts S) (account : ℕ) (w w' : Option
   pub flushed : OnOk stated (EndsWith IsFlush t t')
   pub failed : stated ≡ Err report.Write → HasWriteFailed t t'
   pub frugal : stated ≢ Err (report.Bank Memory)
-  pub stands : StandsWhileOpen g old new
+  pub leaves : CommitsAsFound g old new
 
 abbrev pub StatesOver : {S : Type 0} (g : Ghosts S) → (conn back : Held S) → ℕ → (w w' : Option (List ℕ))
     → (t t' : Option (List WriteTold)) → Result Status CommandFault → Type 0

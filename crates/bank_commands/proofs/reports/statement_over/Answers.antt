@@ -1,5 +1,6 @@
 -- The bank that was found is the one whose account was stated.
 use Rattle.std.proofs.Common.{refl}
+use Rattle.bank_store.proofs.AsFound.{commits_spares}
 use Rattle.bank_commands.proofs.Spared.{done_over, none_over}
 use Rattle.bank_commands.proofs.reports.statement_over.Goals as goal
 
@@ -25,8 +26,8 @@ returns g c =
           flushed = it.writer.flushed;
           failed = it.writer.failed;
           frugal = it.frugal;
-          stands = it.stands;
+          leaves = it.leaves;
         },
-      ) it.spares c.release.ensures.same;
+      ) (commits_spares g.S.Store c.in-Ok.bank c.write_statement.new.bank it.leaves) c.release.ensures.same;
       idle = c.release.ensures.idle;
     }
