@@ -22,7 +22,7 @@ use Rattle.posting_core.specs.believed.LogEntries.{AnsweredRequest}
 
 -- ---- what is known of a request doesn't depend on moments
 
-sum_unmoved : (test : RequestFields → Bool) (es : List DecidedRequest)
+pub sum_unmoved : (test : RequestFields → Bool) (es : List DecidedRequest)
     → posted_sum test (map unmoved es) ≡ posted_sum test es
 sum_unmoved test [] = refl
 sum_unmoved test (e ∷ es) = elim (cases_Bool (is_posted e && test e.request)) [
@@ -30,14 +30,14 @@ sum_unmoved test (e ∷ es) = elim (cases_Bool (is_posted e && test e.request)) 
   | inr f ↦ rw f (sum_unmoved test es)
 ]
 
-kept_unmoved : (es : List DecidedRequest) (t n : ℕ) → kept (map unmoved es) t n ≡ kept es t n
+pub kept_unmoved : (es : List DecidedRequest) (t n : ℕ) → kept (map unmoved es) t n ≡ kept es t n
 kept_unmoved [] t n = refl
 kept_unmoved (e ∷ es) t n = elim (cases_Bool ((e.request.teller == t) && (e.request.number == n))) [
   | inl t ↦ rw t refl
   | inr f ↦ rw f (kept_unmoved es t n)
 ]
 
-facts_unmoved : (o : ℕ → Option Terms) (es : List DecidedRequest) (r : RequestFields)
+pub facts_unmoved : (o : ℕ → Option Terms) (es : List DecidedRequest) (r : RequestFields)
     → facts o (map unmoved es) r ≡ facts o es r
 facts_unmoved o es r = rw (
   sum_unmoved (λ q. q.teller == r.teller) es,
@@ -51,7 +51,7 @@ facts_opened : (o o' : ℕ → Option Terms) → ((b : ℕ) → o b ≡ o' b) �
     → facts o es r ≡ facts o' es r
 facts_opened o o' same es r = rw (same (branch_of_teller r.teller), same (branch_of_account r.account)) refl
 
-facts_alike : (o o' : ℕ → Option Terms) (es es' : List DecidedRequest) → ((b : ℕ) → o b ≡ o' b)
+pub facts_alike : (o o' : ℕ → Option Terms) (es es' : List DecidedRequest) → ((b : ℕ) → o b ≡ o' b)
     → map unmoved es ≡ map unmoved es' → (r : RequestFields) → facts o es r ≡ facts o' es' r
 facts_alike o o' es es' opens same r =
     sym (facts_unmoved o es r) ∙ ap (λ l. facts o l r) same ∙ facts_unmoved o es' r ∙ facts_opened o o' opens es' r

@@ -24,3 +24,11 @@ pub mod Exported
 pub mod ExportedLog
 pub mod Logged
 pub mod Planned
+pub mod SameVerdicts
+pub mod Followed
+pub mod FollowedRows
+pub mod SameRows
+pub mod Filled
+pub mod PlanRows
+pub mod FilledBank
+pub mod TakenRows

@@ -1,7 +1,7 @@
 -- A bank that is given commands shows a log after them, if it did before.
 use Rattle.std.proofs.Common.{List}
 use Rattle.posting_rules.specs.{believed.Commands.Command, believed.Runs.followed_by}
-use Rattle.posting_rules.specs.believed.Counter.{Seen, ShowsLog, StandsAt, Takes}
+use Rattle.posting_rules.specs.believed.Counter.{Seen, ShowsLog, Takes}
 
 abbrev pub SeenSome : Seen → Type 0
 SeenSome seen = seen.honest → (log : List Command) × ShowsLog seen log
@@ -11,6 +11,3 @@ pub shows_more : (old new : Seen) (commands : List Command) → Takes old new co
 shows_more old new commands takes before some honest =
     let it = some (before honest) in
     (followed_by it.0 commands, takes.shows honest it.0 it.1)
-
-pub shows_at_first : (seen : Seen) (log : List Command) → (seen.honest → StandsAt seen log) → SeenSome seen
-shows_at_first seen log stands honest = (log, (stands honest).shows)

@@ -1,6 +1,8 @@
 -- What a replay of a bank in a file says.
 pub mod Reading
 pub mod FileTables
+pub mod Following
+pub mod FollowedRows
 pub mod Refilling
 pub mod NextRows
 pub mod Differences

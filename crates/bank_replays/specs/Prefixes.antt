@@ -1,5 +1,5 @@
 -- What holds before the first row is handed on, and of a fault of the bank.
-use Rattle.std.specs.Prelude.{◌≡◌, ◌≤◌, ◌-◌, ◌^◌, ◌++◌, ⊤, ℕ, List, [], Option, map}
+use Rattle.std.specs.Prelude.{◌≡◌, ◌≤◌, ◌-◌, ◌^◌, ◌++◌, ⊤, ℕ, List, [], ◌∷◌, Option, map}
 use Rattle.std.proofs.Common.{append-nil, refl, sym, subst, arith}
 use Rattle.std.proofs.Math.Nat.{zero-add}
 use Rattle.std.proofs.KnownBytes.{Appends-nil}
@@ -14,6 +14,12 @@ use Rattle.report_contents.proofs.Written.{first_part, whole_part}
 use Rattle.walked_rows.specs.KeptRows.{kept_item}
 use Rattle.walked_rows.specs.declared.kept.KeptRequest.{KeptRequest}
 use Rattle.bank_replays.specs.Digests.{EndsDigest, GoesOnBy}
+use Rattle.sqlite_trees.specs.declared.store.Store.{Ghosts}
+use Rattle.posting_rules.specs.believed.Entries.{DecidedRequest}
+use Rattle.bank_replays.specs.FollowedRows.{AreRowsOf}
+use Rattle.bank_replays.specs.Following.{Follows}
+use Rattle.bank_replays.specs.Refilling.{FollowsRows, Plans}
+use Rattle.bank_replays.specs.declared.refill.{Planned.Planned, Refill.Refill}
 use Rattle.bank_replays.specs.Handing.{AreTooMany}
 use Rattle.bank_replays.specs.Writing.{WroteRecords, WroteSomeRecords, Wrote, WrotePart}
 use Rattle.bank_replays.specs.declared.chain.Digest.{Digest}
@@ -56,6 +62,23 @@ pub all_part : (old new : Option (List ℕ)) (text more : List ℕ) {t t' : Opti
     → Wrote text old new t t' → (fault : Fault) → WrotePart (text ++ more) old new t t' (Bank fault)
 all_part old new text more wrote fault =
     (first_part old new text more (whole_part old new text wrote.0), λ is. absurd (not_write fault is))
+
+-- nothing was planned, and no request was taken
+pub plans_none : {S W R : Type 0} {g : Ghosts S} (branch_of : R → ℕ) (change : R → Planned → Planned)
+    (refill : Refill S W g) → Plans g branch_of change refill refill []
+plans_none branch_of change refill = record { bank = refl; batch = refl; count = refl; each = λ b low. refl }
+
+pub no_row : {X : Type 0} (xs : List X) (x : X) → [] ≡ xs ++ x ∷ [] → ⊥
+no_row [] x is = absurd cc
+no_row (y ∷ xs) x is = absurd cc
+
+no_rows : (es : List DecidedRequest) → AreRowsOf [] es → es ≡ []
+no_rows [] are = refl
+no_rows (e ∷ es) are = absurd (no_row are.0 are.1 are.2)
+
+pub follows_none : {S W : Type 0} {g : Ghosts S} (refill : Refill S W g) → FollowsRows g refill refill []
+follows_none refill sure plan es is are rows log holds follows =
+    (log, holds, subst (λ (es : List DecidedRequest). Follows plan es log) (sym (no_rows es rows)) follows)
 
 -- ---- a fault of the bank
 

@@ -67,6 +67,10 @@ pub record AreDigestsOf (log : List Command) (t : Tables) (a : Agreed) : Type 0 
   pub requests : IsDigestOf (answered_after log) a.digest
   pub plan : a.plan ≡ sha256 (plan_of t)
 
+-- no log leads to its tables
+abbrev pub IsOfNoLog : Seen → Type 0
+IsOfNoLog seen = (log : List Command) → ShowsLog seen log → ⊥
+
 -- a bank was replayed
 pub record Replays (old new : Seen) (found : Result Replay Fault) : Type 0 where
   -- if it agrees, the requests of a log are digested, and its plan
@@ -74,4 +78,6 @@ pub record Replays (old new : Seen) (found : Result Replay Fault) : Type 0 where
       → OnAgrees found (AreDigestsOf log shown.tables)
   -- and it is never told to be damaged
   pub sound : (rule : Rule) → found ≡ Err (Damaged rule) → new.honest → (log : List Command) → ShowsLog old log → ⊥
+  -- nor does it differ
+  pub same : new.honest → OnDiffers found (λ d. IsOfNoLog old)
   pub takes : TakesNone old new (HasAnswered found)

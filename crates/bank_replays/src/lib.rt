@@ -20,9 +20,9 @@
 //! }
 //! ```
 //!
-//! How the second bank is filled needs no proof: whatever it is given, its tables are those of a log, and a file
-//! with the same rows shows that log too. So a file that agrees is never a wrong one. That a bank's own file
-//! agrees is tested, and not proved.
+//! Whatever the second bank is given, its tables are those of a log, and a file with the same rows shows that log
+//! too. So a file that agrees is never a wrong one. Given the rows of a log, it shows one with the same rows, in
+//! whatever order branches were opened. So a file that shows a log never differs.
 //!
 //! [`Replay::Agrees`] has the [`Digest`] of the requests, in which a changed moment, a changed reference, a cut-off
 //! end and a rewritten past show, none of which a replay can see by itself; and that of the plan, in which a branch, its

@@ -1,5 +1,5 @@
 //! The replay of a bank.
-ghost use Rattle.std.specs.Prelude.{◌≡◌, List, Err, IfErr, IfOk, OnOk};
+ghost use Rattle.std.specs.Prelude.{◌≡◌, [], List, Err, IfErr, IfOk, OnOk};
 ghost use Rattle.sqlite.specs.Held.{IsNew};
 ghost use Rattle.sqlite.specs.State.{HasCleanDisk};
 ghost use Rattle.posting_rules.specs.believed.Commands.{Command};
@@ -14,8 +14,9 @@ ghost use Rattle.bank_replays.specs.Damaged.{TellsWhy, fault_in};
 ghost use Rattle.bank_replays.specs.Differences.{DiffersFrom, table_of};
 ghost use Rattle.bank_replays.specs.FileTables.{FileTables, HasTables, IsKept};
 ghost use Rattle.bank_replays.specs.Reading.{ReadsBank};
-ghost use Rattle.bank_replays.specs.Refilling.{IsNeverInDoubt, ShowsSome};
-ghost use Rattle.bank_replays.specs.Replays.{AreDigestsIn, HasLookedAtRows, OnAgrees, OnDiffers, Replays, TellsTables};
+ghost use Rattle.bank_replays.specs.Refilling.{IsNeverInDoubt, IsUnplanned, ShowsSameRows, ShowsSome};
+ghost use Rattle.bank_replays.specs.Replays.{AreDigestsIn, HasLookedAtRows, IsOfNoLog, OnAgrees, OnDiffers, Replays};
+ghost use Rattle.bank_replays.specs.Replays.{TellsTables};
 
 use crate::comparing::compare_all;
 use crate::difference::{Agreed, Replay};
@@ -40,6 +41,9 @@ fn fill<S: Alter, T: Alter + Drop, W: Watch + Drop>(
     ensures bank { ReadsBank S.Store bank.old bank.new result }
     ensures why { TellsWhy S.Store fault_in bank.old bank.new result }
     ensures shows { ShowsSome T.Store refill.old.bank → OnOk result (ShowsSome T.Store refill.new.bank) }
+    ensures same { HasCleanDisk (file_of bank.new) → IsNeverInDoubt T.Store → IsUnplanned T.Store refill.old
+        → ShowsLog (bank_seen T.Store refill.old.bank) []
+        → OnOk result (ShowsSameRows S.Store T.Store bank.old refill.new.bank) }
 {
     hand_all::<S, StoredBranch, Refill<T, W>, Filling>(bank, &Filling, refill)?;
     hand_all::<S, StoredFloor, Refill<T, W>, Filling>(bank, &Filling, refill)?;
@@ -56,6 +60,8 @@ fn refilled<S: Alter, T: Alter + Drop, W: Watch + Drop>(
     ensures bank { ReadsBank S.Store bank.old bank.new result }
     ensures why { TellsWhy S.Store (λ fault. fault) bank.old bank.new result }
     ensures shows { IfOk result (λ filled. ShowsSome T.Store due → ShowsSome T.Store filled) }
+    ensures same { HasCleanDisk (file_of bank.new) → IsNeverInDoubt T.Store → ShowsLog (bank_seen T.Store due) []
+        → IfOk result (ShowsSameRows S.Store T.Store bank.old) }
 {
     let mut refill = Refill::over(bank.alloc(), due, watch)?;
     match fill(bank, &mut refill) {
@@ -74,7 +80,7 @@ fn replay_beside<S: Alter, T: Alter + Drop, W: Watch + Drop>(
     watch: W,
 ) -> Result<Replay, Fault>
     requires clean { IsNeverInDoubt T.Store }
-    requires shows { ShowsSome T.Store due }
+    requires shows { ShowsLog (bank_seen T.Store due) [] }
     ensures bank { ReadsBank S.Store bank.old bank.new result }
     ensures why { TellsWhy S.Store (λ fault. fault) bank.old bank.new result }
     ensures compared { HasLookedAtRows result }
@@ -84,6 +90,7 @@ fn replay_beside<S: Alter, T: Alter + Drop, W: Watch + Drop>(
     ensures digest { HasCleanDisk (file_of bank.new) → OnAgrees result (AreDigestsIn (database_of S.Store bank.old)) }
     ensures differs { HasCleanDisk (file_of bank.new) → OnDiffers result (λ d. (rows : List Entry)
         → HasStoredRows (database_of S.Store bank.old) (table_of d) rows → DiffersFrom rows d) }
+    ensures same { HasCleanDisk (file_of bank.new) → OnDiffers result (λ d. IsOfNoLog (bank_seen S.Store bank.old)) }
 {
     let mut due = refilled(bank, due, watch)?;
     if let Some(difference) = compare_all(bank, &mut due)? {
@@ -106,7 +113,7 @@ fn digest_both<S: Alter>(bank: &mut Bank<S>) -> Result<Agreed, Fault>
 // A new bank in a store that holds nothing.
 fn new_bank<T: Alter + Drop>(alloc: Global, conn: Connection<T>) -> Result<Bank<T>, Fault>
     requires { IsNew conn }
-    ensures shows { IfOk result (ShowsSome T.Store) }
+    ensures shows { IsNeverInDoubt T.Store → IfOk result (λ bank. ShowsLog (bank_seen T.Store bank) []) }
     ensures memory { IfErr result (λ fault. fault ≡ Memory) }
 {
     match create(alloc, conn) {
@@ -137,6 +144,7 @@ fn replay_over<S: Alter, T: Alter + Drop, W: Watch + Drop>(
     ensures digest { HasCleanDisk (file_of bank.new) → OnAgrees result (AreDigestsIn (database_of S.Store bank.old)) }
     ensures differs { HasCleanDisk (file_of bank.new) → OnDiffers result (λ d. (rows : List Entry)
         → HasStoredRows (database_of S.Store bank.old) (table_of d) rows → DiffersFrom rows d) }
+    ensures same { HasCleanDisk (file_of bank.new) → OnDiffers result (λ d. IsOfNoLog (bank_seen S.Store bank.old)) }
 {
     let due = new_bank(bank.alloc(), conn)?;
     replay_beside(bank, due, watch)

@@ -8,3 +8,7 @@ returns-clause-shows g c some =
     let call = c.in-Ok.ensures.call in
     shows_more (bank_seen g.T.Store c.args.bank.now) (bank_seen g.T.Store c.submit_all.new.self) _ call.done
     call.honest some
+
+pub returns-clause-posts : goal.returns-clause-posts
+returns-clause-posts g c sure log shows =
+    c.in-Ok.ensures.call.done.shows (sure.clean c.submit_all.new.self.conn) log shows

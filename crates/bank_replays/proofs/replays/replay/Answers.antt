@@ -26,6 +26,7 @@ returns-then-is_down g c = record {
   bank = record {
     log = λ clean log shows. tt;
     sound = λ rule is. absurd cc;
+    same = λ clean. tt;
     takes = idle_takes (bank_seen g.S.Store c.args.bank.now) _;
   };
   down = λ down. (refl, refl);
@@ -44,6 +45,7 @@ returns-in-Some g c =
       bank = record {
         log = λ clean log shows. tt;
         sound = λ rule is. absurd cc;
+        same = λ clean. tt;
         takes = idle_takes (bank_seen g.S.Store c.args.bank.now) _;
       };
       down = λ down. absurd (tested_up _ _ c.is_down.ensures c.if-is_down.false down);
@@ -62,6 +64,7 @@ returns-in_err-pages g c =
       bank = record {
         log = λ clean log shows. rw same tt;
         sound = λ rule is. absurd (memory_not_damaged _ rule c.in_err-pages.ensures.memory (err_is _ _ (sym same ∙ is)));
+        same = λ clean. rw same tt;
         takes = idle_takes (bank_seen g.S.Store c.args.bank.now) _;
       };
       down = λ down. absurd (tested_up _ _ c.is_down.ensures c.if-is_down.false down);
@@ -94,6 +97,7 @@ returns g c =
             agrees_log db log shows.tables shows.are shows.shows _ (says.digest clean);
         sound = λ rule is clean log shows.
             sound_log clean log shows c.replay_over.result (Damaged rule) says.why is rule refl;
+        same = says.same;
         takes = read_takes _ says.bank;
       };
       down = λ down. absurd (tested_up _ _ c.is_down.ensures c.if-is_down.false down);

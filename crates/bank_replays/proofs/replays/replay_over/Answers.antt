@@ -13,4 +13,5 @@ returns-in_err-due g c =
       agrees = λ clean f has. rw same tt;
       digest = λ clean. rw same tt;
       differs = λ clean. rw same tt;
+      same = λ clean. rw same tt;
     }

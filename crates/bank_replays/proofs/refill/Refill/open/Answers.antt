@@ -1,5 +1,17 @@
 -- What came before is posted first.
+use Rattle.std.proofs.Common.{rules, ◌≡◌, ◌∙◌, sym, ap}
+use Rattle.bank_replays.specs.Refilling.{planned_at}
+use Rattle.bank_replays.proofs.Filled.{opened_more, opened_none}
 use Rattle.bank_replays.proofs.refill.Refill.open.Goals as goal
 
 pub returns-clause-shows : goal.returns-clause-shows
 returns-clause-shows g c some = c.open_planned.ensures.shows (c.in_ok-post.ensures.shows some)
+
+pub returns-clause-holds : goal.returns-clause-holds
+returns-clause-holds g c sure plan is log holds =
+    opened_more plan is log c.args.branch c.post.new.self _ c.planned_at-yet.result
+    (c.planned_at-yet.ensures ∙ ap (λ items. planned_at items c.args.branch) c.deref.ensures.value
+    ∙ ap (λ planned. planned_at planned.items c.args.branch) (sym c.in_ok-post.ensures.planned))
+    c.if-yet-eq0.false c.in_ok-post.ensures.empty c.in_ok-post.ensures.empty c.plan_at.ensures
+    (c.in_ok-post.ensures.holds sure plan log holds) c.open_planned.result
+    (λ can shows. c.open_planned.ensures.opens sure can log shows)

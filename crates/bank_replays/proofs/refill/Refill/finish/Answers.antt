@@ -1,0 +1,27 @@
+-- The branches so far are open, and the rest is posted.
+use Rattle.bank_replays.proofs.Filled.{all_open, below_first, below_more}
+use Rattle.bank_replays.proofs.refill.Refill.finish.Goals as goal
+
+pub branches-init : goal.branches-init
+branches-init g c = record {
+  some = λ some. some;
+  below = λ sure plan is log holds. below_first plan is log c.args.self.now holds;
+}
+
+pub branches-preserved : goal.branches-preserved
+branches-preserved g c = record {
+  some = λ some. c.in_ok-open.ensures.shows (c.branches.invariant.some some);
+  below = λ sure plan is log holds.
+      let it = c.branches.invariant.below sure plan is log holds in
+      below_more plan is log c.branches.self c.open.new.self c.branches.branch it
+      (c.in_ok-open.ensures.holds sure plan is it.now it.holds);
+}
+
+pub returns-clause-shows : goal.returns-clause-shows
+returns-clause-shows g c some = c.post.ensures.shows (c.branches.invariant.some some)
+
+pub returns-clause-rest : goal.returns-clause-rest
+returns-clause-rest g c sure plan is log holds =
+    all_open plan is log c.branches.self c.post.new.self c.branches.branch c.branches-test.false
+    (c.branches.invariant.below sure plan is log holds) c.post.result
+    (λ now held. c.post.ensures.holds sure plan now held) c.post.ensures.empty

@@ -1,0 +1,54 @@
+-- Branches are opened, and then there is room for the record.
+use Rattle.std.proofs.Common.{◌≡◌, ◌∙◌, List, sym, ap, subst}
+use Rattle.posting_rules.specs.believed.Commands.{Command}
+use Rattle.posting_rules.specs.believed.Numbering.{branch_of_account, branch_of_teller}
+use Rattle.bank_replays.specs.Following.{prepared}
+use Rattle.bank_replays.specs.Refilling.{Holds, IsMomentOf, ShowsSome}
+use Rattle.bank_replays.proofs.Filled.{prepared_both, prepared_home, pushed}
+use Rattle.bank_replays.proofs.refill.Refill.take.Goals as goal
+use Rattle.bank_replays.proofs.refill.Refill.take.Goals.{else-had, in-None, in-Some, then-had+in_ok-open-2}
+
+pub returns-clause-shows : goal.returns-clause-shows
+returns-clause-shows g c some =
+    let one = c.in_ok-open.ensures.shows some in
+    let two : ShowsSome g.T.Store c.if-had.self.bank =
+    elim c.if-had.branch [
+      | then-had+in_ok-open-2 w ↦ rw w.self-is (w.in_ok-open-2.ensures.shows one)
+      | else-had w ↦ rw w.self-is one
+    ] in
+    c.in_ok-make_room.ensures.shows two
+
+pub returns-clause-holds : goal.returns-clause-holds
+returns-clause-holds g c sure plan is log holds =
+    let r = c.args.request.now in
+    let home : c.branch_of_teller.result ≡ branch_of_teller r.teller =
+    c.branch_of_teller.ensures ∙ ap branch_of_teller c.teller.ensures in
+    let one = c.in_ok-open.ensures.holds sure plan is log holds in
+    let two : Holds g.T.Store plan (prepared plan c.args.had c.args.request.now log) c.if-had.self =
+    elim c.if-had.branch [
+      | then-had+in_ok-open-2 w ↦
+          rw w.self-is (subst (λ (l : List Command). Holds g.T.Store plan l w.open-then-had.new.self)
+          (prepared_both plan c.args.had r log c.branch_of_teller.result w.branch_of_account.result home w.if-had.true
+          (w.branch_of_account.ensures ∙ ap branch_of_account w.account.ensures))
+          (w.in_ok-open-2.ensures.holds sure plan is _ one))
+      | else-had w ↦
+          rw w.self-is (subst (λ (l : List Command). Holds g.T.Store plan l c.open.new.self)
+          (prepared_home plan c.args.had r log c.branch_of_teller.result 0 home w.if-had.false) one)
+    ] in
+    let three = c.in_ok-make_room.ensures.holds sure plan _ two in
+    let own : IsMomentOf c.make_room.new.self.moment c.args.posting =
+    elim c.match-posting.branch [
+      | in-Some w ↦ rw w.in-Some.is (sym (c.in_ok-make_room.ensures.moment ∙ w.moment-is))
+      | in-None w ↦ rw w.in-None.is tt
+    ] in
+    record {
+      moment = c.make_room.new.self.moment;
+      bytes = c.encode_request.result;
+      is = own;
+      reads = c.encode_request.ensures.read_again;
+      holds = record {
+        has = pushed c.make_room.new.self.bank _ c.make_room.new.self.moment c.make_room.new.self.batch.items
+            c.push.new.self.items c.encode_request.result c.push.ensures.items three.has;
+        yet = three.yet;
+      };
+    }
