@@ -19,8 +19,8 @@ bank="${BANK:-bank}"
 leader="${1:?the address of the leader}"
 file="${2:?the bank that follows}"
 options=("${@:3}")
-# Bytes of an entry, and the most that one answer has.
-entry=308 most=192
+# Bytes of an entry, the most entries that one answer has, and how many answers are asked for at once.
+entry=308 most=192 answers=1
 work="$(mktemp -d)"
 follower=
 stop() {
@@ -42,18 +42,38 @@ ends() {
     exit "$1"
 }
 
-# The entries after the first so many, and behind them the plan, which has the branch of each.
-fetch() {
-    rm -f "$work"/{entries,new.plan}
-    local codes fault=0
+# What the leader answers, over one connection, up to the first fault.
+ask() {
     codes="$(curl --silent --show-error --fail --fail-early --max-time 60 --write-out '%{http_code} ' "${options[@]}" \
-        --output "$work/entries" "$leader/log/$1" --output "$work/new.plan" "$leader/plan" 2>"$work/fault")" || fault=$?
-    if [ "${codes%% *}" = 404 ]; then ends 4 "the leader keeps fewer than $1 requests, or has no log"; fi
-    if [ "$fault" != 0 ]; then
-        say "no answer of $leader: $(tail -1 "$work/fault")"
-        return 1
+        "$@" 2>"$work/fault")"
+}
+no_answer() {
+    say "no answer of $leader: $(tail -1 "$work/fault")"
+    return 1
+}
+
+# The entries after the first so many, and behind them the plan, which has the branch of each. An answer that isn't full
+# has the last ones: what comes after it may have been asked for later.
+fetch() {
+    rm -f "$work"/{entries,part.*,new.plan}
+    local asked=() place
+    for ((place = 0; place < answers; place++)); do
+        asked+=(--output "$work/part.$place" "$leader/log/$(($1 + place * most))")
+    done
+    if ! ask "${asked[@]}"; then
+        case "$codes" in
+            404*) ends 4 "the leader keeps fewer than $1 requests, or has no log" ;;
+            *"200 404 ") ;;
+            *) no_answer || return ;;
+        esac
     fi
-    touch "$work/entries"
+    ask --output "$work/new.plan" "$leader/plan" || no_answer || return
+    for ((place = 0; place < answers; place++)); do
+        # There is no file of an answer without a body.
+        touch "$work/part.$place"
+        cat "$work/part.$place" >>"$work/entries"
+        if (($(stat -c %s "$work/part.$place") < entry * most)); then break; fi
+    done
     got=$(($(stat -c %s "$work/entries") / entry))
 }
 
@@ -85,8 +105,12 @@ follows() {
                 at=$((at + got))
                 said=
                 echo "$at" >"$file.followed"
-                if ((got == most)); then continue; fi
+                if ((got == answers * most)); then
+                    answers=16
+                    continue
+                fi
             fi
+            answers=1
             sleep 1
         done
     fi

@@ -129,24 +129,29 @@ class Restarted(threading.Thread):
 
     def __init__(self, words):
         super().__init__(daemon=True)
-        self.words, self.starts, self.ends, self.process = words, 0, False, None
+        self.words, self.starts, self.ends, self.lock = words, 0, False, threading.Lock()
+        self.begin()
         self.start()
+
+    def begin(self):
+        """Starts the program, unless it is to end."""
+        with self.lock:
+            if not self.ends:
+                self.process = subprocess.Popen(self.words, stdout=subprocess.DEVNULL, stderr=subprocess.DEVNULL,
+                                                start_new_session=True)
+                self.starts += 1
 
     def run(self):
         while not self.ends:
-            self.process = subprocess.Popen(self.words, stdout=subprocess.DEVNULL, stderr=subprocess.DEVNULL,
-                                            start_new_session=True)
-            self.starts += 1
             self.process.wait()
             self.kill()
             time.sleep(0.1)
+            self.begin()
 
     def kill(self):
         """Kills the program and what it started, and nothing else: the session is its own."""
-        try:
+        with self.lock, contextlib.suppress(ProcessLookupError):
             os.killpg(self.process.pid, 9)
-        except ProcessLookupError:
-            pass
 
     def stop(self):
         self.ends = True
