@@ -150,6 +150,13 @@ impl<R: Source + Drop, W: Sink + Drop> Client<R, W> {
         self.has_more && self.parting.is_none() && self.is_written()
     }
 
+    /// Nothing of it is left to be answered now.
+    pub(crate) fn is_idle(&self) -> bool
+        ensures { result ≡ true → self.now.has_more ≡ false }
+    {
+        !self.has_more
+    }
+
     /// Nothing more is done for it.
     pub fn is_over(&self) -> bool
         ensures { result ≡ true → IsOver self.now }

@@ -31,6 +31,8 @@ pub struct TcpClients<'l, T, V: Drop> {
     watch: Watched<V>,
     // Somebody may wait at the listener.
     is_waited_for: bool,
+    // A client was ready when clients were looked at last.
+    is_busy: bool,
     // Of each client that was here when all were looked at last and is here still, in their order: whoever came
     // since then stands behind them.
     patience: Vec<Patience>,
@@ -89,6 +91,7 @@ impl<'l, T: Clock, V: ServeWatch + Drop> TcpClients<'l, T, V> {
             time,
             watch: Watched::new(watch),
             is_waited_for: true,
+            is_busy: false,
             patience: Vec::new(alloc),
             closing: Vec::new(alloc),
             places: Vec::new(alloc),
@@ -204,7 +207,8 @@ impl<'l, T: Clock, V: ServeWatch + Drop> TcpClients<'l, T, V> {
     }
 
     // Asks the system, for so long at most unless a client has more, and tells of each client how it is: of those that
-    // weren't picked, that they wait. Answers whether there was room to ask and to tell.
+    // weren't picked, that they wait. Where some are busy all are asked without waiting, since to wait for hundreds costs
+    // as much as half a posting. Answers whether there was room to ask and to tell.
     fn look(
         &mut self,
         clients: &[TcpClient],
@@ -220,7 +224,8 @@ impl<'l, T: Clock, V: ServeWatch + Drop> TcpClients<'l, T, V> {
             Some(it) => it.has_more(),
             None => false,
         });
-        let timeout = if has_more { 0 } else { millis(left) };
+        let at_once = has_more || (all && self.is_busy);
+        let timeout = if at_once { 0 } else { millis(left) };
         poll(self.asked.as_mut_slice(), timeout);
         self.is_waited_for = self.is_ready(0);
         for _client in clients {
@@ -229,6 +234,7 @@ impl<'l, T: Clock, V: ServeWatch + Drop> TcpClients<'l, T, V> {
                 return false;
             }
         }
+        let mut is_busy = false;
         for (nth, place) in self.places.iter().enumerate() {
             let has_more = match clients.get(*place) {
                 Some(it) => it.has_more(),
@@ -238,8 +244,10 @@ impl<'l, T: Clock, V: ServeWatch + Drop> TcpClients<'l, T, V> {
                 if let Some(it) = readiness.get_mut(*place) {
                     *it = Readiness::Ready;
                 }
+                is_busy = true;
             }
         }
+        self.is_busy = is_busy;
         true
     }
 

@@ -116,6 +116,9 @@ fn gather_at<R: Source + Drop, W: Sink + Drop, C: Followed>(
     ensures looks { OnOk result (LooksAt here.old.items here.new.items place batch.new) }
     ensures spares { C.spares bank.old bank.new }
 {
+    if here[place].is_idle() {
+        return Ok(());
+    }
     match here[place].next_record(alloc, routes, bank)? {
         Some(found) => {
             batch.add(place, &found);

@@ -1,9 +1,15 @@
-use Rattle.std.proofs.Common.{inl, inr, length, refl, slice_set}
+use Rattle.std.proofs.Common.{inl, inr, length, refl, slice_set, sym, ap, ◌∙◌}
+use Rattle.std.proofs.lemmas.List.{set-get_or}
 use Rattle.std.proofs.lemmas.Option.{slice_get_read}
 use Rattle.std.proofs.lemmas.Result.{err_from_is_err_and}
-use Rattle.counter_http.proofs.Gathering.{batch_still, batch_then, gathers_as, gathers_at, gathers_err}
+use Rattle.counter_http.proofs.Gathering.{batch_still, batch_then, gathers_as, gathers_at, gathers_err, gathers_nothing}
 use Rattle.counter_http.proofs.Moves.{holds_room}
 use Rattle.counter_http.proofs.together.gather_at.Goals as goal
+
+-- nothing of it is left
+pub returns-then-is_idle-clause-gathers : goal.returns-then-is_idle-clause-gathers
+returns-then-is_idle-clause-gathers g c =
+    gathers_nothing g.C.Counter.seen c.args.bank.now c.args.here.now.items c.args.batch.now c.requires.gives
 
 -- the bank refused a call
 pub returns-in_err-found-clause-gathers : goal.returns-in_err-found-clause-gathers
@@ -44,6 +50,18 @@ returns-in-None-clause-gathers g c =
     c.args.batch.now refl c.requires.gives c.requires.elsewhere))
 
 -- ---- it was looked at
+
+pub returns-then-is_idle-clause-looks : goal.returns-then-is_idle-clause-looks
+returns-then-is_idle-clause-looks g c =
+    let here = c.args.here.now.items in
+    let client = c.index.result.now in
+    record {
+      before = client;
+      after = client;
+      at = slice_get_read here (length here) c.args.place client refl c.requires.within c.index.ensures;
+      is = sym (ap (λ x. slice_set here c.args.place x) c.index.ensures ∙ set-get_or here c.args.place client);
+      moves = inl (inl (inl (c.is_idle.ensures c.if-is_idle.true)));
+    }
 
 pub returns-in-Some-clause-looks : goal.returns-in-Some-clause-looks
 returns-in-Some-clause-looks g c =
